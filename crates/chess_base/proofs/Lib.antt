@@ -1,0 +1,17 @@
+pub mod OverSquares
+pub mod Counts
+pub mod MenAfter
+pub mod MenFacts
+pub mod MoveKinds
+pub mod Landing
+pub mod Changes
+pub mod Castlings
+pub mod Writes
+pub mod StaysSound
+pub mod TakesBack
+pub mod CountsAfter
+pub mod FaultsLemmas
+pub mod InitialIsSound
+pub mod Lengths
+pub mod RanksText
+pub mod DeviceLaws

@@ -1,0 +1,13 @@
+pub mod Squares
+pub mod Men
+pub mod Attacks
+pub mod Sound
+pub mod Moves
+pub mod Faults
+pub mod Initial
+pub mod MoveList
+pub mod Laws
+pub mod Before
+pub mod Letters
+pub mod Writing
+pub mod Devices

@@ -1,0 +1,64 @@
+-- The one FEN that is written for a position (PGN standard of 1994, section 16.1).
+use Rattle.std.specs.Prelude.{ℕ, zero, suc, ◌+◌, ◌*◌, ◌/◌, ◌%◌, List, [], ◌∷◌, ◌++◌, map, take, drop, Option, Some, None, decimal, codes}
+use Rattle.std.specs.List.{join_with_byte}
+use Rattle.chess_base.specs.declared.man.Man.{Man}
+use Rattle.chess_base.specs.declared.man.Colour.{Colour}
+use Rattle.chess_base.specs.declared.man.Colour.TheVariants.{White, Black}
+use Rattle.chess_base.specs.declared.man.Rights.{Rights}
+use Rattle.chess_base.specs.declared.setup.Setup.{Setup}
+use Rattle.chess_base.specs.Letters.{letter, byte}
+
+-- a run of empty squares
+abbrev pub run_text : ℕ → List ℕ
+run_text zero = []
+run_text (suc n) = (byte "0" + suc n) ∷ []
+
+-- the squares of a rank behind a run of empty squares
+abbrev pub row_text : ℕ → List (Option Man) → List ℕ
+row_text empty [] = run_text empty
+row_text empty (None ∷ row) = row_text (suc empty) row
+row_text empty (Some man ∷ row) = run_text empty ++ letter man ∷ row_text 0 row
+
+abbrev pub rank_text : List (Option Man) → List ℕ
+rank_text row = row_text 0 row
+
+-- the lowest ranks, so many, the highest of them first
+abbrev pub ranks_down : ℕ → List (Option Man) → List (List (Option Man))
+ranks_down zero men = []
+ranks_down (suc rank) men = take 8 (drop (8 * rank) men) ∷ ranks_down rank men
+
+abbrev pub ranks_text : ℕ → List (Option Man) → List ℕ
+ranks_text n men = join_with_byte (byte "/") (map rank_text (ranks_down n men))
+
+-- all eight, with a stroke between
+unfoldable pub placement_text : List (Option Man) → List ℕ
+placement_text men = ranks_text 8 men
+
+abbrev pub side_text : Colour → List ℕ
+side_text White = codes "w"
+side_text Black = codes "b"
+
+-- a letter where a right is held
+abbrev pub right_text : Option ℕ → ℕ → List ℕ
+right_text None c = []
+right_text (Some corner) c = c ∷ []
+
+abbrev pub or_dash : List ℕ → List ℕ
+or_dash [] = codes "-"
+or_dash (c ∷ cs) = c ∷ cs
+
+-- in the order KQkq
+abbrev pub rights_text : Rights → List ℕ
+rights_text r = or_dash (right_text r.white.king_side (byte "K") ++ right_text r.white.queen_side (byte "Q") ++ right_text r.black.king_side (byte "k") ++ right_text r.black.queen_side (byte "q"))
+
+-- the file's letter and the rank's digit
+abbrev pub square_text : ℕ → List ℕ
+square_text square = (byte "a" + square % 8) ∷ (byte "1" + square / 8) ∷ []
+
+abbrev pub target_text : Option ℕ → List ℕ
+target_text None = codes "-"
+target_text (Some square) = square_text square
+
+-- six fields, with one space between
+abbrev pub fen : Setup → List ℕ
+fen p = join_with_byte (byte " ") (placement_text p.men ∷ side_text p.side ∷ rights_text p.rights ∷ target_text p.target ∷ decimal p.halfmove ∷ decimal p.fullmove ∷ [])

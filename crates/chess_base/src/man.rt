@@ -1,0 +1,73 @@
+//! Colours, men, castling rights and moves.
+
+ghost use Rattle.std.specs.Prelude.{◌≡◌};
+ghost use Rattle.chess_base.specs.Men.{other, is_of, is_man, same_kind, same_colour};
+
+use crate::square::Square;
+
+/// The two players and their men (Laws of Chess 2023, article 1.1).
+#[derive(Clone, Copy, Debug, PartialEq, Eq)]
+pub enum Colour {
+    White,
+    Black,
+}
+
+impl Colour {
+    /// The opponent's colour.
+    pub fn other(self) -> Self
+        ensures { result ≡ other self }
+    {
+        match self {
+            Colour::White => Colour::Black,
+            Colour::Black => Colour::White,
+        }
+    }
+}
+
+/// The kinds of men (Laws of Chess 2023, article 2.2).
+#[derive(Clone, Copy, Debug, PartialEq, Eq)]
+pub enum Kind {
+    King,
+    Queen,
+    Rook,
+    Bishop,
+    Knight,
+    Pawn,
+}
+
+/// A man of one colour and kind.
+#[derive(Clone, Copy, Debug, PartialEq, Eq)]
+pub struct Man {
+    pub colour: Colour,
+    pub kind: Kind,
+}
+
+/// The side to which a king castles (Laws of Chess 2023, article 3.8.2): towards the h-file, or towards the a-file.
+#[derive(Clone, Copy, Debug, PartialEq, Eq)]
+pub enum CastlingSide {
+    KingSide,
+    QueenSide,
+}
+
+/// A colour's castling rights: on each side of the king, the square of the rook with which it may castle.
+#[derive(Clone, Copy, Debug, PartialEq, Eq)]
+pub struct ColourRights {
+    pub king_side: Option<Square>,
+    pub queen_side: Option<Square>,
+}
+
+/// The castling rights of both colours (Laws of Chess 2023, article 3.8.2.1). In FEN, White's are `K` and `Q`, Black's `k` and `q`.
+#[derive(Clone, Copy, Debug, PartialEq, Eq)]
+pub struct Rights {
+    pub white: ColourRights,
+    pub black: ColourRights,
+}
+
+/// A move: its start and end squares, and what a pawn becomes on its last rank (Laws of Chess 2023, article 3.7).
+/// Castling is named by the king's squares, en passant by the pawn's.
+#[derive(Clone, Copy, Debug, PartialEq, Eq)]
+pub struct Move {
+    pub from: Square,
+    pub to: Square,
+    pub promotion: Option<Kind>,
+}

@@ -1,0 +1,142 @@
+//! Positions, always sound, and the rules of chess on them.
+
+ghost use Rattle.std.specs.Prelude.{◌≡◌, ◌↔◌, IsTrue, IsOk, IfOk, IfErr};
+ghost use Rattle.chess_base.specs.Men.{man_at};
+ghost use Rattle.chess_base.specs.Attacks.{is_attacked};
+ghost use Rattle.chess_base.specs.Moves.{is_legal, after};
+ghost use Rattle.chess_base.specs.Sound.{IsSound};
+ghost use Rattle.chess_base.specs.Faults.{setup_fault};
+ghost use Rattle.chess_base.specs.Initial.{initial_setup};
+
+use crate::attack::{is_attacked, is_in_check};
+use crate::initial::initial_men;
+use crate::man::{Colour, ColourRights, Man, Move, Rights};
+use crate::rules::{
+    fullmove_after, halfmove_after, has_pattern, men_after, rights_after, target_after,
+};
+use crate::setup::Setup;
+use crate::sound::{SetupFault, setup_fault};
+use crate::square::Square;
+use std::marker::Model;
+
+/// A position, always sound: it meets `IsSound` of specs/Sound. In contracts it is its `Setup`.
+#[derive(Clone, Copy, PartialEq, Eq)]
+pub struct Position {
+    setup: Setup,
+}
+
+impl Model for Position {
+    ghost use Rattle.chess_base.specs.declared.setup.Setup.{Setup};
+
+    ghost Value = { Setup };
+
+    ghost use Rattle.chess_base.specs.Sound.{IsSound};
+
+    ghost view = { λ p. p.setup };
+
+    ghost invariant = { λ p. IsSound p.setup };
+
+    ghost inverse = { λ v. record { setup = v } };
+}
+
+impl Position {
+    /// The position that a setup is, if it is sound; else the first condition that fails.
+    pub fn new(setup: Setup) -> Result<Self, SetupFault>
+        ensures sound { IsOk result ↔ IsSound setup }
+        ensures value { IfOk result (λ p. p ≡ setup) }
+        ensures fault { IfErr result (λ f. Some f ≡ setup_fault setup) }
+    {
+        match setup_fault(&setup) {
+            None => Ok(Position { setup }),
+            Some(fault) => Err(fault),
+        }
+    }
+
+    /// The initial position (Laws of Chess 2023, article 2.3).
+    pub fn initial() -> Self
+        ensures { result ≡ initial_setup }
+    {
+        Position {
+            setup: Setup {
+                men: initial_men(),
+                side: Colour::White,
+                rights: Rights {
+                    white: ColourRights {
+                        king_side: Some(Square::new(7)),
+                        queen_side: Some(Square::new(0)),
+                    },
+                    black: ColourRights {
+                        king_side: Some(Square::new(63)),
+                        queen_side: Some(Square::new(56)),
+                    },
+                },
+                target: None,
+                halfmove: 0,
+                fullmove: 1,
+            },
+        }
+    }
+
+    /// The position that a sound setup is.
+    pub fn from_sound(setup: Setup) -> Self
+        requires { IsSound setup }
+        ensures { result ≡ setup }
+    {
+        Position { setup }
+    }
+
+    /// All that the position holds.
+    pub fn setup(&self) -> &Setup
+        ensures value { result.now ≡ self.now }
+        ensures sound { IsSound result.now }
+    {
+        &self.setup
+    }
+
+    /// The colour on move.
+    pub fn side(&self) -> Colour
+        ensures { result ≡ self.now.side }
+    {
+        self.setup.side
+    }
+
+    /// The man on a square, if there is one.
+    pub fn at(&self, square: Square) -> Option<Man>
+        ensures { result ≡ man_at self.now.men square }
+    {
+        self.setup.men[square.index()]
+    }
+
+    /// Whether some man of that colour attacks the square (Laws of Chess 2023, articles 3.1 to 3.8).
+    pub fn attacked(&self, square: Square, by: Colour) -> bool
+        ensures { result ≡ is_attacked self.now.men square by }
+    {
+        is_attacked(&self.setup.men, square, by)
+    }
+
+    /// Whether the move is legal (Laws of Chess 2023, article 3).
+    #[tactic(auto, unfolding(crate::specs::Moves::is_legal, crate::specs::Moves::after))]
+    pub fn is_legal(&self, m: Move) -> bool
+        ensures { result ≡ is_legal self.now m }
+    {
+        has_pattern(&self.setup, &m) && !is_in_check(&men_after(&self.setup, &m), self.setup.side)
+    }
+
+    /// The position after a legal move, which is sound too: `after_is_sound`.
+    #[tactic(auto, unfolding(crate::specs::Moves::after))]
+    pub fn after(&self, m: Move) -> Self
+        requires { IsTrue (is_legal self.now m) }
+        ensures { result ≡ after self.now m }
+    {
+        Position {
+            setup: Setup {
+                men: men_after(&self.setup, &m),
+                side: self.setup.side.other(),
+                rights: rights_after(&self.setup, &m),
+                target: target_after(&self.setup, &m),
+                halfmove: halfmove_after(&self.setup, &m),
+                fullmove: fullmove_after(self.setup.side, self.setup.fullmove),
+            },
+        }
+    }
+}

@@ -1,0 +1,31 @@
+//! What a position holds, sound or not, and what a move of it does not keep.
+
+use crate::man::{Colour, Man, Rights};
+use crate::square::Square;
+
+/// What a position holds (the six fields of FEN, PGN standard of 1994, section 16.1), sound or not.
+#[derive(Clone, Copy, Debug, PartialEq, Eq)]
+pub struct Setup {
+    /// The men, by the number of their square.
+    pub men: [Option<Man>; 64],
+    /// The colour on move.
+    pub side: Colour,
+    pub rights: Rights,
+    /// The square that a pawn's double advance has just crossed (Laws of Chess 2023, article 3.7).
+    pub target: Option<Square>,
+    /// Half-moves since the last capture or pawn move; it stops at 999,999.
+    pub halfmove: u32,
+    /// The number of the move, from 1; it stops at 999,999.
+    pub fullmove: u32,
+}
+
+/// What a move does not keep: the captured man, en passant too, and the rest as it was before the move.
+#[derive(Clone, Copy, Debug, PartialEq, Eq)]
+pub struct Saved {
+    /// The man that was captured, en passant too.
+    pub captured: Option<Man>,
+    pub rights: Rights,
+    pub target: Option<Square>,
+    pub halfmove: u32,
+    pub fullmove: u32,
+}
