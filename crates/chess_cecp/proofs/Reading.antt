@@ -1,0 +1,165 @@
+-- The reads of one call for the next line.
+use Rattle.std.proofs.Common.{◌≡◌, ℕ, ◌+◌, ◌-◌, ◌<◌, ◌≤◌, inl, inr, Bool, true, false, List, [], ◌∷◌, ◌++◌, length, take, Some, None, Ok, Err, refl, sym, ap, ◌∙◌, arith, append_assoc, append-nil, length-append, nat_eq, nat_lt}
+use Rattle.std.proofs.Math.Seq.{take-append_seam}
+use Rattle.chess_cecp.proofs.Parts.{line_ended, ten_step, byte_step}
+use Rattle.std.specs.Io.KnownBytes.{Consumes}
+use Rattle.std.specs.Bool.{MatchBool}
+use Rattle.chess_base.specs.Devices.{InputState, GavePiece, FailedToRead, risen}
+use Rattle.chess_base.proofs.DeviceLaws.{consumes_more, consumes_none, consumes_kept}
+use Rattle.chess_cecp.specs.Lines.{LineSeen, Held, nothing_held, lines_from, lines_held, line_of, HasNoEnd}
+use Rattle.chess_cecp.specs.Next.{before_piece, Waits, work, NextLine, HeldLine}
+
+-- after some reads: what was given, and that what is held stands for it
+pub record SoFar (n : ℕ) (r r' : InputState) (held held' : Held) (given : List ℕ) : Type 0 where
+  pub bytes : Consumes r.known_bytes r'.known_bytes given
+  pub waits : Waits n r r' held given
+  pub lines : (told : Bool) (rest : List ℕ) → lines_held n told held (given ++ rest) ≡ lines_held n told held' rest
+  pub failures : r'.failure_count ≡ r.failure_count
+  pub ends : r'.end_count ≡ r.end_count
+  pub work : work r' held' ≤ work r held
+
+at_true : (b : Bool) (P Q : Type 0) → b ≡ true → P → MatchBool b P Q
+at_true true P Q e p = p
+at_true false P Q e p = cc
+
+at_false : (b : Bool) (P Q : Type 0) → b ≡ false → Q → MatchBool b P Q
+at_false true P Q e p = cc
+at_false false P Q e p = p
+
+-- where the held bytes have no line, none of the bytes so far is past one
+whole_so_far : (n : ℕ) (r r' : InputState) (h h' h'' : Held) (given : List ℕ) → SoFar n r r' h h' given → HeldLine n h' h'' None → lines_held n false h given ≡ []
+whole_so_far n r r' h h' h'' given s f = ap (lines_held n false h) (sym (append-nil given)) ∙ s.lines false [] ∙ f.0
+
+-- what is held after a piece
+lines_on : (n : ℕ) (r r' : InputState) (h h' h'' : Held) (given piece : List ℕ) → SoFar n r r' h h' given → HeldLine n h' h'' None → (told : Bool) (rest : List ℕ)
+    → lines_held n told h ((given ++ piece) ++ rest) ≡ lines_from n told h''.part (piece ++ rest)
+lines_on n r r' h h' h'' given piece s f told rest =
+    ap (lines_held n told h) (append_assoc given piece rest) ∙ s.lines told (piece ++ rest) ∙ f.2 told (piece ++ rest)
+    ∙ ap (λ v. lines_from n told h''.part (v ++ (piece ++ rest))) f.1
+
+before_last : (given piece : List ℕ) (last : ℕ) → last ≡ length piece → before_piece last (given ++ piece) ≡ given
+before_last given piece last e =
+    let len : length (given ++ piece) ≡ length given + length piece = length-append given piece in
+    let at : length (given ++ piece) - last ≡ length given = omega arith in
+    ap (λ v. take v (given ++ piece)) at ∙ take-append_seam given piece
+
+waits_on : (n : ℕ) (r r' r'' : InputState) (h h' h'' : Held) (given piece : List ℕ) → SoFar n r r' h h' given → HeldLine n h' h'' None → GavePiece r' r'' piece → Waits n r r'' h (given ++ piece)
+waits_on n r r' r'' h h' h'' given piece s f p =
+    let len : length (given ++ piece) ≡ length given + length piece = length-append given piece in
+    let last = p.last in
+    inr (omega arith, ap (lines_held n false h) (before_last given piece r''.last_len p.last) ∙ whole_so_far n r r' h h' h'' given s f)
+
+pub start : (n : ℕ) (r : InputState) (h : Held) → SoFar n r r h h []
+start n r h = record { bytes = consumes_none r.known_bytes; waits = inl (refl, refl); lines = λ told rest. refl; failures = refl; ends = refl; work = omega arith }
+
+pub piece_on : (n : ℕ) (r r' r'' : InputState) (h h' h'' : Held) (given piece : List ℕ) → SoFar n r r' h h' given → HeldLine n h' h'' None → GavePiece r' r'' piece → 0 < length piece → length piece ≤ 1024
+    → SoFar n r r'' h (record { part = h''.part; coming = piece }) (given ++ piece)
+piece_on n r r' r'' h h' h'' given piece s f p some few = record {
+  bytes = consumes_more r.known_bytes r'.known_bytes r''.known_bytes given piece s.bytes p.bytes;
+  waits = waits_on n r r' r'' h h' h'' given piece s f p;
+  lines = lines_on n r r' h h' h'' given piece s f;
+  failures = p.failures ∙ s.failures;
+  ends = p.ends ∙ (let e : nat_eq (length piece) 0 ≡ false = grind arith in rw e refl) ∙ s.ends;
+  work = (let a = p.falls in let b = s.work in omega arith);
+}
+
+told_end : (r r' : InputState) (piece : List ℕ) → GavePiece r r' piece → piece ≡ [] → r'.end_count ≡ risen r.end_count
+told_end r r' piece p e = p.ends ∙ rw e refl
+
+pub nothing_left : (n : ℕ) (told : Bool) → lines_from n told [] [] ≡ []
+unfolding lines_from
+nothing_left n true = refl
+nothing_left n false = refl
+
+false_left : (n : ℕ) (part : List ℕ) → lines_from n false part [] ≡ []
+unfolding lines_from
+false_left n part = refl
+
+last_left : (n : ℕ) (part : List ℕ) → 0 < length part → lines_from n true part [] ≡ line_of n false part ∷ []
+unfolding lines_from
+last_left n part h = let e : nat_lt 0 (length part) ≡ true = grind arith in rw e refl
+
+lines_end : (n : ℕ) (r r' : InputState) (h h' h'' : Held) (given piece : List ℕ) → SoFar n r r' h h' given → HeldLine n h' h'' None → piece ≡ [] → (told : Bool)
+    → lines_held n told h (given ++ piece) ≡ lines_from n told h''.part []
+lines_end n r r' h h' h'' given piece s f e told =
+    ap (lines_held n told h) (sym (append-nil (given ++ piece))) ∙ lines_on n r r' h h' h'' given piece s f told [] ∙ ap (λ v. lines_from n told h''.part (v ++ [])) e
+
+pub both_empty : (a b : List ℕ) → a ≡ [] → b ≡ [] → record { part = a; coming = b } ≡ nothing_held
+both_empty a b e f = ap (λ (v : List ℕ). let h : Held = record { part = v; coming = b } in h) e ∙ ap (λ (v : List ℕ). let h : Held = record { part = []; coming = v } in h) f
+
+pub end_none : (E : Type 0) (n : ℕ) (r r' r'' : InputState) (h h' h'' h3 : Held) (given piece : List ℕ) → SoFar n r r' h h' given → HeldLine n h' h'' None → GavePiece r' r'' piece → piece ≡ [] → h''.part ≡ [] → h3 ≡ nothing_held
+    → NextLine {E = E} n r r'' h h3 (Ok None)
+end_none E n r r' r'' h h' h'' h3 given piece s f p e empty left = (
+  given ++ piece,
+  consumes_more r.known_bytes r'.known_bytes r''.known_bytes given piece s.bytes p.bytes,
+  waits_on n r r' r'' h h' h'' given piece s f p,
+  record {
+    lines = λ told. lines_end n r r' h h' h'' given piece s f e told ∙ ap (λ v. lines_from n told v []) empty ∙ nothing_left n told;
+    rest = left;
+    at_end = p.at_end (ap length e);
+    failures = p.failures ∙ s.failures;
+    ends = told_end r' r'' piece p e ∙ ap risen s.ends;
+  },
+)
+
+pub end_last : (E : Type 0) (n : ℕ) (r r' r'' : InputState) (h h' h'' h3 : Held) (given piece : List ℕ) (line : LineSeen) → SoFar n r r' h h' given → HeldLine n h' h'' None → GavePiece r' r'' piece → piece ≡ [] → 0 < length h''.part
+    → line ≡ line_of n false h''.part → h3 ≡ nothing_held → NextLine {E = E} n r r'' h h3 (Ok (Some line))
+end_last E n r r' r'' h h' h'' h3 given piece line s f p e some is left =
+    let ended : line.ended ≡ false = ap (λ (l : LineSeen). l.ended) is ∙ line_ended n false h''.part in (
+      given ++ piece,
+      consumes_more r.known_bytes r'.known_bytes r''.known_bytes given piece s.bytes p.bytes,
+      waits_on n r r' r'' h h' h'' given piece s f p,
+      at_false line.ended _ _ ended (record {
+        whole = lines_end n r r' h h' h'' given piece s f e false ∙ false_left n h''.part;
+        lines = lines_end n r r' h h' h'' given piece s f e true ∙ last_left n h''.part some ∙ ap (λ v. v ∷ []) (sym is);
+        rest = left;
+        at_end = p.at_end (ap length e);
+        failures = p.failures ∙ s.failures;
+        ends = told_end r' r'' piece p e ∙ ap risen s.ends;
+      }),
+    )
+
+pub got_line : (E : Type 0) (n : ℕ) (r r' : InputState) (h h' h'' : Held) (given : List ℕ) (line : LineSeen) → SoFar n r r' h h' given → HeldLine n h' h'' (Some line) → NextLine {E = E} n r r' h h'' (Ok (Some line))
+got_line E n r r' h h' h'' given line s f = (
+  given,
+  s.bytes,
+  s.waits,
+  at_true line.ended _ _ f.0 (record {
+    lines = λ told rest. s.lines told rest ∙ f.2 told rest;
+    failures = s.failures;
+    ends = s.ends;
+    falls = (let a = s.work in let b = f.1 in omega arith);
+  }),
+)
+
+waits_kept : (n : ℕ) (r r' r'' : InputState) (h : Held) (given : List ℕ) → Waits n r r' h given → r''.last_len ≡ r'.last_len → Waits n r r'' h given
+waits_kept n r r' r'' h given w e =
+    elim w [ inl (a, b) ↦ inl (a, e ∙ b) | inr (a, b) ↦ inr (omega arith, ap (λ v. lines_held n false h (before_piece v given)) e ∙ b) ]
+
+pub got_fault : {E : Type 0} (n : ℕ) (r r' r'' : InputState) (h h' h'' : Held) (given coming : List ℕ) (e : E) → SoFar n r r' h h' given → HeldLine n h' h'' None → FailedToRead r' r'' → coming ≡ []
+    → NextLine {E = E} n r r'' h (record { part = h''.part; coming = coming }) (Err e)
+got_fault n r r' r'' h h' h'' given coming e s f p none = (
+  given,
+  rw (← append-nil given) (consumes_more r.known_bytes r'.known_bytes r''.known_bytes given [] s.bytes (consumes_kept r'.known_bytes r''.known_bytes p.bytes)),
+  waits_kept n r r' r'' h given s.waits p.last,
+  record {
+    whole = whole_so_far n r r' h h' h'' given s f;
+    lines = λ told rest. s.lines told rest ∙ f.2 told rest ∙ ap (λ v. lines_from n told h''.part (v ++ rest)) (f.1 ∙ sym none);
+    failures = p.failures ∙ ap risen s.failures;
+    ends = p.ends ∙ s.ends;
+  },
+)
+
+piece_on_part : (n : ℕ) (told : Bool) (part piece rest : List ℕ) → HasNoEnd piece → lines_from n told part (piece ++ rest) ≡ lines_from n told (part ++ piece) rest
+piece_on_part n told part [] rest h = ap (λ v. lines_from n told v rest) (sym (append-nil part))
+piece_on_part n told part (c ∷ cs) rest h =
+    byte_step n told part c (cs ++ rest) h.0 ∙ piece_on_part n told (part ++ c ∷ []) cs rest h.1 ∙ ap (λ v. lines_from n told v rest) (append_assoc part (c ∷ []) cs)
+
+pub law_ended : (n : ℕ) (told : Bool) (piece rest : List ℕ) → HasNoEnd piece → lines_from n told [] (piece ++ 10 ∷ rest) ≡ line_of n true piece ∷ lines_from n told [] rest
+law_ended n told piece rest h = piece_on_part n told [] piece (10 ∷ rest) h ∙ ten_step n told piece 10 rest refl
+
+pub law_last : (n : ℕ) (piece : List ℕ) → HasNoEnd piece → 0 < length piece → lines_from n true [] piece ≡ line_of n false piece ∷ []
+law_last n piece h some = ap (lines_from n true []) (sym (append-nil piece)) ∙ piece_on_part n true [] piece [] h ∙ last_left n piece some
+
+pub law_not_told : (n : ℕ) (piece : List ℕ) → HasNoEnd piece → lines_from n false [] piece ≡ []
+law_not_told n piece h = ap (lines_from n false []) (sym (append-nil piece)) ∙ piece_on_part n false [] piece [] h ∙ false_left n piece

@@ -1,0 +1,73 @@
+-- Rows whose text is a refusal change nothing.
+use Rattle.std.proofs.Common.{◌≡◌, ℕ, ◌==◌, ◌||◌, inl, inr, Bool, true, false, List, [], ◌∷◌, ◌++◌, get_or, codes, refl, sym, ap, if◌then◌else◌, length, Option, None, Some}
+use Rattle.std.specs.Prelude.{nat_le}
+use Rattle.chess_base.specs.declared.man.Move.{Move}
+use Rattle.chess_base.specs.Initial.{initial_setup}
+use Rattle.chess_base.specs.Moves.{is_legal}
+use Rattle.chess_cecp.specs.Lines.{LineSeen}
+use Rattle.chess_cecp.specs.Coordinates.{move_named}
+use Rattle.chess_cecp.specs.Commands.{command_of, argument_of}
+use Rattle.chess_cecp.specs.Game.{State, Seen, from_start, played, taken_back, current}
+use Rattle.chess_cecp.specs.declared.command.Command.{Command}
+use Rattle.chess_cecp.specs.declared.command.Command.TheVariants.{New, UserMove, BareMove, Undo, Ping, ShowFen, Quit, Nothing, BadNumber, Unknown}
+use Rattle.chess_cecp.specs.Session.{Row, row, row_on, says, refuses, becomes, named_row, move_row, undo_row, stands, IsRefusal, answer_to, next_state}
+
+-- the first bytes of refusals: E, I and t
+abbrev pub begins_refusal : List ℕ → Bool
+begins_refusal text = (get_or text 0 0 == 69) || (get_or text 0 0 == 73) || (get_or text 0 0 == 116)
+
+refusal_begins : (text : List ℕ) → IsRefusal text → begins_refusal text ≡ true
+refusal_begins text (inl (rest, is)) = ap begins_refusal (sym is)
+refusal_begins text (inr (inl (rest, is))) = ap begins_refusal (sym is)
+refusal_begins text (inr (inr (rest, is))) = ap begins_refusal (sym is)
+
+-- the row changes nothing, if its text is a refusal
+abbrev pub KeepsRefused : State → Row → Type 0
+KeepsRefused s r = IsRefusal r.text → r.next ≡ s
+
+-- a row whose text begins otherwise
+accepted : (s : State) (r : Row) → begins_refusal r.text ≡ false → KeepsRefused s r
+accepted s r e h = let t : begins_refusal r.text ≡ true = refusal_begins r.text h in cc
+
+-- a row that changes nothing
+kept : (s : State) (text : List ℕ) → KeepsRefused s (says s text)
+kept s text h = refl
+
+by_test : (b : Bool) (s : State) (x y : Row) → KeepsRefused s x → KeepsRefused s y → KeepsRefused s (if b then x else y)
+by_test true s x y h k = h
+by_test false s x y h k = k
+
+named_keeps : (s : State) (text : List ℕ) (o : Option Move) → KeepsRefused s (named_row s text o)
+named_keeps s text None = λ h. refl
+named_keeps s text (Some m) =
+    by_test (is_legal (current s) m) s (becomes (played s m)) (refuses s (codes "Illegal move: ") text) (accepted s (becomes (played s m)) refl) (λ h. refl)
+
+move_keeps : (limit : ℕ) (s : State) (text : List ℕ) → KeepsRefused s (move_row limit s text)
+move_keeps limit s text =
+    by_test (nat_le limit (length s.moves)) s (refuses s (codes "Error (game too long): ") text) (named_row s text (move_named text)) (λ h. refl)
+    (named_keeps s text (move_named text))
+
+row_keeps : (limit : ℕ) (s : State) (text argument : List ℕ) (command : Command) → KeepsRefused s (row limit s text argument command)
+row_keeps limit s text argument New = accepted s (becomes (from_start initial_setup)) refl
+row_keeps limit s text argument UserMove = move_keeps limit s argument
+row_keeps limit s text argument BareMove = move_keeps limit s text
+row_keeps limit s text argument Undo =
+    by_test (nat_le 1 (length s.moves)) s (becomes (taken_back s 1)) (refuses s (codes "Error (command not legal now): ") (codes "undo"))
+    (accepted s (becomes (taken_back s 1)) refl)
+    (λ h. refl)
+row_keeps limit s text argument (Ping n) = λ h. refl
+row_keeps limit s text argument ShowFen = λ h. refl
+row_keeps limit s text argument Quit = λ h. refl
+row_keeps limit s text argument Nothing = λ h. refl
+row_keeps limit s text argument BadNumber = λ h. refl
+row_keeps limit s text argument Unknown = λ h. refl
+
+pub refused_keeps : (seen : Seen) (line : LineSeen) → IsRefusal (answer_to seen line) → next_state seen line ≡ seen
+unfolding answer_to next_state
+refused_keeps seen line h =
+    ap (λ v. record { limit = seen.limit; state = v })
+    (by_test line.too_long seen.state (refuses seen.state (codes "Error (line too long): ") line.text)
+    (row seen.limit seen.state line.text (argument_of line.text) (command_of line.text))
+    (λ k. refl)
+    (row_keeps seen.limit seen.state line.text (argument_of line.text) (command_of line.text))
+    h)

@@ -1,0 +1,74 @@
+-- Blanks and a byte 13 at the ends of a list.
+use Rattle.std.proofs.Common.{◌≡◌, ℕ, ◌+◌, ◌-◌, ◌<◌, ◌≤◌, ◌&&◌, Bool, true, false, List, [], ◌∷◌, ◌++◌, length, get_or, take, drop, refl, sym, ap, ◌∙◌, ◌==◌, ◌≢◌, arith, add-one, drop-cons}
+use Rattle.std.proofs.Math.Seq.{take-length}
+use Rattle.std.proofs.lemmas.Grind.{common_steps}
+use Rattle.chess_cecp.specs.Lines.{is_blank, all_blank, without_front_blanks, without_end_blanks, without_return}
+
+and_false : (b : Bool) → (b && false) ≡ false
+and_false true = refl
+and_false false = refl
+
+all_with : (xs : List ℕ) (b : ℕ) → is_blank b ≡ true → all_blank (xs ++ b ∷ []) ≡ all_blank xs
+all_with [] b h = rw h refl
+all_with (c ∷ cs) b h = rw (all_with cs b h) refl
+
+all_without : (xs : List ℕ) (b : ℕ) → is_blank b ≡ false → all_blank (xs ++ b ∷ []) ≡ false
+all_without [] b h = rw h refl
+all_without (c ∷ cs) b h = rw (all_without cs b h) (and_false (is_blank c))
+
+pub end_blank : (xs : List ℕ) (b : ℕ) → is_blank b ≡ true → without_end_blanks (xs ++ b ∷ []) ≡ without_end_blanks xs
+end_blank [] b h = rw h refl
+end_blank (c ∷ cs) b h = rw (all_with cs b h, end_blank cs b h) refl
+
+pub end_solid : (xs : List ℕ) (b : ℕ) → is_blank b ≡ false → without_end_blanks (xs ++ b ∷ []) ≡ xs ++ b ∷ []
+end_solid [] b h = rw h refl
+end_solid (c ∷ cs) b h = rw (all_without cs b h, and_false (is_blank c), end_solid cs b h) refl
+
+pub return_cut : (xs : List ℕ) (b : ℕ) → b ≡ 13 → without_return (xs ++ b ∷ []) ≡ xs
+return_cut [] b h = rw h refl
+return_cut (c ∷ []) b h = rw h refl
+return_cut (c ∷ d ∷ cs) b h = ap (λ v. c ∷ v) (return_cut (d ∷ cs) b h)
+
+pub return_kept : (xs : List ℕ) (b : ℕ) → (b == 13) ≡ false → without_return (xs ++ b ∷ []) ≡ xs ++ b ∷ []
+return_kept [] b h = rw h refl
+return_kept (c ∷ []) b h = rw h refl
+return_kept (c ∷ d ∷ cs) b h = ap (λ v. c ∷ v) (return_kept (d ∷ cs) b h)
+
+-- a list by its last element
+pub by_last : (xs : List ℕ) (i : ℕ) → i < length xs → take (i + 1) xs ≡ take i xs ++ get_or xs i 0 ∷ []
+by_last xs i h = grind (arith, common_steps)
+
+pub front_step : (xs : List ℕ) (i : ℕ) → i < length xs → is_blank (get_or xs i 0) ≡ true → without_front_blanks (drop (i + 1) xs) ≡ without_front_blanks (drop i xs)
+front_step xs i h b = rw (add-one, drop-cons xs i 0) (rw b refl)
+
+pub front_stop : (xs : List ℕ) (i : ℕ) → i < length xs → is_blank (get_or xs i 0) ≡ false → without_front_blanks (drop i xs) ≡ drop i xs
+front_stop xs i h b = rw (drop-cons xs i 0) (rw b refl)
+
+last_of : (xs : List ℕ) (i : ℕ) → 0 < i → i ≤ length xs → take i xs ≡ take (i - 1) xs ++ get_or xs (i - 1) 0 ∷ []
+last_of xs i h k =
+    let e : (i - 1) + 1 ≡ i = omega arith in
+    ap (λ v. take v xs) (sym e) ∙ by_last xs (i - 1) (omega arith)
+
+pub end_step : (xs : List ℕ) (i : ℕ) → 0 < i → i ≤ length xs → is_blank (get_or xs (i - 1) 0) ≡ true → without_end_blanks (take i xs) ≡ without_end_blanks (take (i - 1) xs)
+end_step xs i h k b = ap without_end_blanks (last_of xs i h k) ∙ end_blank (take (i - 1) xs) (get_or xs (i - 1) 0) b
+
+pub end_stop : (xs : List ℕ) (i : ℕ) → 0 < i → i ≤ length xs → is_blank (get_or xs (i - 1) 0) ≡ false → without_end_blanks (take i xs) ≡ take i xs
+end_stop xs i h k b = ap without_end_blanks (last_of xs i h k) ∙ end_solid (take (i - 1) xs) (get_or xs (i - 1) 0) b ∙ sym (last_of xs i h k)
+
+pub return_then : (xs : List ℕ) → 0 < length xs → get_or xs (length xs - 1) 0 ≡ 13 → take (length xs - 1) xs ≡ without_return xs
+return_then xs h b =
+    let n = length xs in
+    sym (ap without_return (sym (take-length xs) ∙ last_of xs n h (omega arith)) ∙ return_cut (take (n - 1) xs) (get_or xs (n - 1) 0) b)
+
+pub return_else : (xs : List ℕ) → 0 < length xs → (get_or xs (length xs - 1) 0 ≢ 13) → xs ≡ without_return xs
+return_else xs h b =
+    let n = length xs in
+    let e : xs ≡ take (n - 1) xs ++ get_or xs (n - 1) 0 ∷ [] = sym (take-length xs) ∙ last_of xs n h (omega arith) in
+    e ∙ sym (ap without_return e ∙ return_kept (take (n - 1) xs) (get_or xs (n - 1) 0) (grind arith))
+
+pub empty_by_length : (xs : List ℕ) → length xs ≡ 0 → xs ≡ []
+empty_by_length [] h = refl
+empty_by_length (c ∷ cs) h = absurd (omega arith)
+
+pub zero_end : (xs : List ℕ) (i : ℕ) → i ≤ 0 → take i xs ≡ without_end_blanks (take i xs)
+zero_end xs i h = let e : i ≡ 0 = omega arith in rw e refl

@@ -1,0 +1,5 @@
+use Rattle.chess_cecp.proofs.Refusals.{refused_keeps}
+use Rattle.chess_cecp.proofs.laws.refusals_change_nothing.Goals as goal
+
+pub returns : goal.returns
+returns c = refused_keeps

@@ -1,0 +1,80 @@
+-- What a call for the next line does.
+use Rattle.std.specs.Prelude.{◌≡◌, ℕ, ◌+◌, ◌-◌, ◌*◌, ◌<◌, ◌≤◌, ◌⊎◌, Bool, true, false, List, [], ◌∷◌, ◌++◌, length, take, Option, None, Some, Result, Ok, Err}
+use Rattle.std.specs.Bool.{MatchBool}
+use Rattle.std.specs.Io.KnownBytes.{Consumes, IsAtEnd}
+use Rattle.chess_base.specs.Devices.{InputState, risen, GavePiece, FailedToRead}
+use Rattle.chess_cecp.specs.Lines.{LineSeen, Held, nothing_held, lines_from, lines_held}
+
+-- bytes less the last piece
+abbrev pub before_piece : ℕ → List ℕ → List ℕ
+before_piece len bytes = take (length bytes - len) bytes
+
+-- nothing was read while a whole line was held: there was no read, or none was whole before the last one
+abbrev pub Waits : ℕ → InputState → InputState → Held → List ℕ → Type 0
+Waits n r r' held given =
+    ((given ≡ []) × (r'.last_len ≡ r.last_len))
+    ⊎ ((r'.last_len ≤ length given) × (lines_held n false held (before_piece r'.last_len given) ≡ []))
+
+-- how much can still be read and is held, in a unit that falls with each line; a piece has at most 1024 bytes
+abbrev pub work : InputState → Held → ℕ
+work r held = r.pieces_left * 1025 + length held.coming
+
+-- a line that byte 10 ended
+pub record GotLine (n : ℕ) (r r' : InputState) (held held' : Held) (given : List ℕ) (line : LineSeen) : Type 0 where
+  pub lines : (told : Bool) (rest : List ℕ) → lines_held n told held (given ++ rest) ≡ line ∷ lines_held n told held' rest
+  pub failures : r'.failure_count ≡ r.failure_count
+  pub ends : r'.end_count ≡ r.end_count
+  pub falls : work r' held' < work r held
+
+-- what followed the last byte 10, once the end was told
+pub record GotLast (n : ℕ) (r r' : InputState) (held held' : Held) (given : List ℕ) (line : LineSeen) : Type 0 where
+  pub whole : lines_held n false held given ≡ []
+  pub lines : lines_held n true held given ≡ line ∷ []
+  pub rest : held' ≡ nothing_held
+  pub at_end : IsAtEnd r'.known_bytes
+  pub failures : r'.failure_count ≡ r.failure_count
+  pub ends : r'.end_count ≡ risen r.end_count
+
+-- the end was told, and nothing was left
+pub record GotNone (n : ℕ) (r r' : InputState) (held held' : Held) (given : List ℕ) : Type 0 where
+  pub lines : (told : Bool) → lines_held n told held given ≡ []
+  pub rest : held' ≡ nothing_held
+  pub at_end : IsAtEnd r'.known_bytes
+  pub failures : r'.failure_count ≡ r.failure_count
+  pub ends : r'.end_count ≡ risen r.end_count
+
+-- a read failed, and what was read is held
+pub record GotFault (n : ℕ) (r r' : InputState) (held held' : Held) (given : List ℕ) : Type 0 where
+  pub whole : lines_held n false held given ≡ []
+  pub lines : (told : Bool) (rest : List ℕ) → lines_held n told held (given ++ rest) ≡ lines_held n told held' rest
+  pub failures : r'.failure_count ≡ risen r.failure_count
+  pub ends : r'.end_count ≡ r.end_count
+
+abbrev pub Got : {E : Type 0} → ℕ → InputState → InputState → Held → Held → List ℕ → Result (Option LineSeen) E → Type 0
+Got n r r' held held' given (Ok (Some line)) =
+    MatchBool line.ended (GotLine n r r' held held' given line) (GotLast n r r' held held' given line)
+Got n r r' held held' given (Ok None) = GotNone n r r' held held' given
+Got n r r' held held' given (Err e) = GotFault n r r' held held' given
+
+-- a call for the next line read these bytes, none of them while a whole line was held, and gave this
+abbrev pub NextLine : {E : Type 0} → ℕ → InputState → InputState → Held → Held → Result (Option LineSeen) E → Type 0
+NextLine n r r' held held' result =
+    (given : List ℕ) × Consumes r.known_bytes r'.known_bytes given × Waits n r r' held given × Got n r r' held held' given result
+
+-- the two ways to spell what has come of a line and is alike for all that follows
+abbrev pub SameLines : ℕ → List ℕ → List ℕ → Type 0
+SameLines n part part' = (told : Bool) (bytes : List ℕ) → lines_from n told part bytes ≡ lines_from n told part' bytes
+
+-- the search of what is held for a line
+abbrev pub HeldLine : ℕ → Held → Held → Option LineSeen → Type 0
+HeldLine n held held' (Some line) =
+    (line.ended ≡ true) × (length held'.coming < length held.coming)
+    × ((told : Bool) (rest : List ℕ) → lines_held n told held rest ≡ line ∷ lines_held n told held' rest)
+HeldLine n held held' None =
+    (lines_held n false held [] ≡ []) × (held'.coming ≡ [])
+    × ((told : Bool) (rest : List ℕ) → lines_held n told held rest ≡ lines_held n told held' rest)
+
+-- a piece was read into an empty window, or a read failed
+abbrev pub Filled : {E : Type 0} → InputState → InputState → Result ℕ E → List ℕ → Type 0
+Filled r r' (Ok n) coming = (n ≡ length coming) × (n ≤ 1024) × GavePiece r r' coming
+Filled r r' (Err e) coming = (coming ≡ []) × FailedToRead r r'

@@ -1,0 +1,98 @@
+-- What a run of a session promises.
+use Rattle.std.specs.Prelude.{◌≡◌, ℕ, ◌+◌, ◌<◌, Bool, true, false, List, [], ◌∷◌, ◌++◌, length, Result, Ok, Err}
+use Rattle.std.specs.Option.{IfSome}
+use Rattle.std.specs.Io.KnownBytes.{Consumes, Appends, IsAtEnd}
+use Rattle.chess_base.specs.Devices.{InputState, OutputState, risen, Begins}
+use Rattle.chess_cecp.specs.Lines.{LineSeen, lines_heard, lines, whole}
+use Rattle.chess_cecp.specs.Next.{before_piece}
+use Rattle.chess_cecp.specs.Game.{Seen}
+use Rattle.chess_cecp.specs.Session.{answer_to, is_quit, standing, answers, has_quit}
+use Rattle.chess_cecp.specs.declared.run.End.{End}
+use Rattle.chess_cecp.specs.declared.run.End.TheVariants.{Quit, InputEnded}
+use Rattle.chess_cecp.specs.declared.run.Fault.{Fault}
+use Rattle.chess_cecp.specs.declared.run.Fault.TheVariants.{Read, Write}
+
+-- what passed in a call: the bytes that the reader gave, whether it told its end, and the bytes that the writer took
+pub record Transcript : Type 0 where
+  pub given : List ℕ
+  pub told : Bool
+  pub taken : List ℕ
+
+abbrev pub risen_if : Bool → ℕ → ℕ
+risen_if true n = risen n
+risen_if false n = n
+
+-- the transcript is that of the devices, as far as they tell
+pub record FitsDevices (r r' : InputState) (w w' : OutputState) (t : Transcript) (read_failed write_failed : Bool) : Type 0 where
+  pub given : Consumes r.known_bytes r'.known_bytes t.given
+  pub taken : Appends w.known_bytes w'.known_bytes t.taken
+  pub told : r'.end_count ≡ risen_if t.told r.end_count
+  pub reads : r'.failure_count ≡ risen_if read_failed r.failure_count
+  pub writes : w'.failure_count ≡ risen_if write_failed w.failure_count
+
+-- the lines that were given: an unended last one counts where the end was told
+abbrev pub lines_given : Transcript → List LineSeen
+lines_given t = lines_heard 1024 t.told t.given
+
+-- these lines were answered by this text, up to a `quit`, and the state is the one after them
+pub record Answered (s s' : Seen) (text : List ℕ) (ls : List LineSeen) : Type 0 where
+  pub taken : text ≡ answers s ls
+  pub state : s' ≡ standing s ls
+
+-- all lines that were given were answered, up to a `quit`
+abbrev pub AnsweredAll : Seen → Seen → Transcript → Type 0
+AnsweredAll s s' t = Answered s s' t.taken (lines_given t)
+
+-- where the bytes that were still to come were known, all their lines were answered, up to a `quit`, however they
+-- were cut; and whether one of them is a `quit`
+abbrev pub AnsweredKnown : InputState → Seen → Seen → Transcript → Bool → Type 0
+AnsweredKnown r s s' t quit = IfSome r.known_bytes (λ xs. Answered s s' t.taken (lines 1024 xs) × (has_quit (lines 1024 xs) ≡ quit))
+
+-- where the bytes that were still to come were known, these lines are the first of theirs
+abbrev pub FirstOfKnown : InputState → List LineSeen → Type 0
+FirstOfKnown r ls = IfSome r.known_bytes (λ xs. (behind : List LineSeen) × (lines 1024 xs ≡ ls ++ behind))
+
+-- the line behind those before, none of them `quit`, is the one at which the call ended: nothing was read while
+-- a whole line was unanswered, so before the last piece fewer lines were whole
+pub record EndsAt (t : Transcript) (last_len : ℕ) (before : List LineSeen) (line : LineSeen) (after : List LineSeen) : Type 0 where
+  pub lines : lines_given t ≡ before ++ line ∷ after
+  pub no_quit : has_quit before ≡ false
+  pub on_demand : length (whole 1024 (before_piece last_len t.given)) < length before + 1
+
+-- an end by the first `quit`
+abbrev pub ByQuit : Seen → Seen → Transcript → ℕ → Type 0
+ByQuit s s' t last_len =
+    (before : List LineSeen) × (line : LineSeen) × (after : List LineSeen)
+    × EndsAt t last_len before line after × (is_quit line ≡ true) × AnsweredAll s s' t
+
+-- an end by the input's end
+pub record ByEnd (s s' : Seen) (t : Transcript) (r' : InputState) : Type 0 where
+  pub told : t.told ≡ true
+  pub at_end : IsAtEnd r'.known_bytes
+  pub no_quit : has_quit (lines_given t) ≡ false
+  pub all : AnsweredAll s s' t
+
+-- an end by a read that failed: the lines that byte 10 ended were answered
+pub record ByRead (r : InputState) (s s' : Seen) (t : Transcript) : Type 0 where
+  pub told : t.told ≡ false
+  pub no_quit : has_quit (whole 1024 t.given) ≡ false
+  pub taken : t.taken ≡ answers s (whole 1024 t.given)
+  pub state : s' ≡ standing s (whole 1024 t.given)
+  pub first : FirstOfKnown r (whole 1024 t.given)
+
+-- an end by a write or a flush that failed: a beginning of the answer to the line was written, and its change stands
+abbrev pub ByWrite : InputState → Seen → Seen → Transcript → ℕ → Type 0
+ByWrite r s s' t last_len =
+    (before : List LineSeen) × (line : LineSeen) × (after : List LineSeen) × (start : List ℕ)
+    × EndsAt t last_len before line after
+    × Begins start (answer_to (standing s before) line)
+    × (t.taken ≡ answers s before ++ start)
+    × (s' ≡ standing s (before ++ line ∷ []))
+    × FirstOfKnown r (before ++ line ∷ [])
+
+-- the whole promise: what was answered, of the session, the devices and the transcript
+abbrev pub Ran : InputState → InputState → OutputState → OutputState → Seen → Seen → Transcript → Result End Fault → Type 0
+Ran r r' w w' s s' t (Ok Quit) = FitsDevices r r' w w' t false false × ByQuit s s' t r'.last_len × AnsweredKnown r s s' t true
+Ran r r' w w' s s' t (Ok InputEnded) = FitsDevices r r' w w' t false false × ByEnd s s' t r' × AnsweredKnown r s s' t false
+Ran r r' w w' s s' t (Err Read) = FitsDevices r r' w w' t true false × ByRead r s s' t
+Ran r r' w w' s s' t (Err Write) = FitsDevices r r' w w' t false true × ByWrite r s s' t r'.last_len

@@ -1,0 +1,112 @@
+-- What a session answers: the table of commands.
+use Rattle.std.specs.Prelude.{◌⊎◌, ℕ, ◌||◌, ◌&&◌, not, nat_le, if◌then◌else◌, Bool, true, false, List, [], ◌∷◌, ◌++◌, length, codes, decimal, Option, None, Some}
+use Rattle.chess_base.specs.Devices.{Begins}
+use Rattle.chess_base.specs.declared.man.Move.{Move}
+use Rattle.chess_base.specs.Initial.{initial_setup}
+use Rattle.chess_base.specs.Moves.{is_legal}
+use Rattle.chess_base.specs.Writing.{fen}
+use Rattle.chess_cecp.specs.Lines.{LineSeen}
+use Rattle.chess_cecp.specs.Coordinates.{move_named}
+use Rattle.chess_cecp.specs.Commands.{command_of, argument_of}
+use Rattle.chess_cecp.specs.Game.{State, Seen, from_start, played, taken_back, current}
+use Rattle.chess_cecp.specs.declared.command.Command.{Command}
+use Rattle.chess_cecp.specs.declared.command.Command.TheVariants.{New, UserMove, BareMove, Undo, Ping, ShowFen, Quit, Nothing, BadNumber, Unknown}
+
+-- a text behind another, and byte 10
+abbrev pub line_text : List ℕ → List ℕ → List ℕ
+line_text front text = front ++ (text ++ 10 ∷ [])
+
+-- one row of the table: the text of the answer, and the game after it
+pub record Row : Type 0 where
+  pub text : List ℕ
+  pub next : State
+
+-- a text is answered, and nothing changes
+abbrev pub says : State → List ℕ → Row
+says s text = record { text = text; next = s }
+
+-- the command is refused with this line, and nothing changes
+abbrev pub refuses : State → List ℕ → List ℕ → Row
+refuses s front text = says s (line_text front text)
+
+-- the game changes, in silence
+abbrev pub becomes : State → Row
+becomes s = record { text = []; next = s }
+
+-- the move that a text names, if it names one, is played where it is legal
+abbrev pub named_row : State → List ℕ → Option Move → Row
+named_row s text None = refuses s (codes "Illegal move: ") text
+named_row s text (Some m) = if is_legal (current s) m then becomes (played s m) else refuses s (codes "Illegal move: ") text
+
+-- a move with this text is asked for
+abbrev pub move_row : ℕ → State → List ℕ → Row
+move_row limit s text =
+    if nat_le limit (length s.moves) then refuses s (codes "Error (game too long): ") text
+    else named_row s text (move_named text)
+
+abbrev pub undo_row : State → Row
+undo_row s = if nat_le 1 (length s.moves) then becomes (taken_back s 1) else refuses s (codes "Error (command not legal now): ") (codes "undo")
+
+-- the table: the row of a command, in this game, for a line with this text and this argument in it
+abbrev pub row : ℕ → State → List ℕ → List ℕ → Command → Row
+row limit s text argument New = becomes (from_start initial_setup)
+row limit s text argument UserMove = move_row limit s argument
+row limit s text argument BareMove = move_row limit s text
+row limit s text argument Undo = undo_row s
+row limit s text argument (Ping n) = says s (line_text (codes "pong ") (decimal n))
+row limit s text argument ShowFen = says s (line_text (codes "# fen ") (fen (current s)))
+row limit s text argument Quit = says s []
+row limit s text argument Nothing = says s []
+row limit s text argument BadNumber = refuses s (codes "Error (bad number): ") text
+row limit s text argument Unknown = refuses s (codes "Error (unknown command): ") text
+
+-- the row of a line; one that is too long is refused by its first bytes
+abbrev pub row_on : Seen → LineSeen → Row
+row_on seen line =
+    if line.too_long then refuses seen.state (codes "Error (line too long): ") line.text
+    else row seen.limit seen.state line.text (argument_of line.text) (command_of line.text)
+
+-- the session after a row: its limit stays
+abbrev pub stands : Seen → Row → Seen
+stands seen r = record { limit = seen.limit; state = r.next }
+
+-- the session after a line
+unfoldable pub next_state : Seen → LineSeen → Seen
+next_state seen line = stands seen (row_on seen line)
+
+-- the answer to a line
+unfoldable pub answer_to : Seen → LineSeen → List ℕ
+answer_to seen line = (row_on seen line).text
+
+-- the texts of refusals
+abbrev pub IsRefusal : List ℕ → Type 0
+IsRefusal text = Begins (codes "Error") text ⊎ (Begins (codes "Illegal move") text ⊎ Begins (codes "tellusererror") text)
+
+abbrev pub is_quit_command : Command → Bool
+is_quit_command New = false
+is_quit_command UserMove = false
+is_quit_command BareMove = false
+is_quit_command Undo = false
+is_quit_command (Ping n) = false
+is_quit_command ShowFen = false
+is_quit_command Quit = true
+is_quit_command Nothing = false
+is_quit_command BadNumber = false
+is_quit_command Unknown = false
+
+unfoldable pub is_quit : LineSeen → Bool
+is_quit line = not line.too_long && is_quit_command (command_of line.text)
+
+-- the session after lines, up to the first `quit`
+abbrev pub standing : Seen → List LineSeen → Seen
+standing seen [] = seen
+standing seen (line ∷ rest) = if is_quit line then next_state seen line else standing (next_state seen line) rest
+
+-- the answers to lines, up to the first `quit`
+abbrev pub answers : Seen → List LineSeen → List ℕ
+answers seen [] = []
+answers seen (line ∷ rest) = if is_quit line then answer_to seen line else answer_to seen line ++ answers (next_state seen line) rest
+
+abbrev pub has_quit : List LineSeen → Bool
+has_quit [] = false
+has_quit (line ∷ rest) = is_quit line || has_quit rest

@@ -1,0 +1,117 @@
+//! What a line commands.
+
+ghost use Rattle.std.specs.Prelude.{◌≡◌, ◌+◌, ◌≤◌, ◌++◌, length};
+ghost use Rattle.chess_cecp.specs.Lines.{is_blank};
+ghost use Rattle.chess_cecp.specs.Commands.{command_of, command_by, word_of, argument_of, number_of};
+
+use crate::coordinate::move_named;
+use crate::trim::is_blank;
+
+/// The kinds of command (CECP, version 2; `showfen` is this project's own). A command's text stands in its line.
+#[derive(Clone, Copy, Debug, PartialEq, Eq)]
+pub enum Command {
+    /// `new`
+    New,
+    /// `usermove M`
+    UserMove,
+    /// A line that is a move, without `usermove`.
+    BareMove,
+    /// `undo`
+    Undo,
+    /// `ping N`, with a number of one to nine digits.
+    Ping(u32),
+    /// `showfen`
+    ShowFen,
+    /// `quit`
+    Quit,
+    /// An empty line.
+    Nothing,
+    /// A command that takes a number, with something else.
+    BadNumber,
+    /// Anything else.
+    Unknown,
+}
+
+// The first word, and what follows it and the blanks behind it.
+#[tactic(auto, unfolding(crate::specs::Commands::argument_of))]
+fn split_word(text: &[u8]) -> (&[u8], &[u8])
+    ensures word { result.0.now ≡ word_of text.now }
+    ensures argument { result.1.now ≡ argument_of text.now }
+    ensures short { length result.1.now ≤ length text.now }
+{
+    let mut end = 0;
+    while end < text.len() && !is_blank(text[end]) {
+        end += 1;
+    }
+    let mut from = end;
+    while from < text.len() && is_blank(text[from]) {
+        from += 1;
+    }
+    (&text[..end], &text[from..])
+}
+
+// What follows the first word.
+pub(crate) fn argument(text: &[u8]) -> &[u8]
+    ensures value { result.now ≡ argument_of text.now }
+    ensures short { length result.now ≤ length text.now }
+{
+    split_word(text).1
+}
+
+// The number that one to nine digits write.
+#[tactic(auto, unfolding(crate::specs::Commands::number_of))]
+fn read_number(text: &[u8]) -> Option<u32>
+    ensures { result ≡ number_of text.now }
+{
+    if text.is_empty() || text.len() > 9 {
+        return None;
+    }
+    let mut number = 0;
+    for byte in text {
+        if *byte < b'0' || *byte > b'9' {
+            return None;
+        }
+        number = number * 10 + (*byte - b'0') as u32;
+    }
+    Some(number)
+}
+
+fn ping(argument: &[u8]) -> Command
+    ensures { result ≡ Rattle.chess_cecp.specs.Commands.ping_of (number_of argument.now) }
+{
+    match read_number(argument) {
+        Some(number) => Command::Ping(number),
+        None => Command::BadNumber,
+    }
+}
+
+/// What a line with this text commands. The text is that of a line: blanks at both ends are cut.
+#[tactic(auto, unfolding(crate::specs::Commands::command_of))]
+pub fn read_command(text: &[u8]) -> Command
+    ensures { result ≡ command_of text.now }
+{
+    let (word, argument) = split_word(text);
+    if word.is_empty() {
+        Command::Nothing
+    } else if word == b"new".as_slice() {
+        Command::New
+    } else if word == b"usermove".as_slice() {
+        if argument.is_empty() {
+            Command::Unknown
+        } else {
+            Command::UserMove
+        }
+    } else if word == b"undo".as_slice() {
+        Command::Undo
+    } else if word == b"ping".as_slice() {
+        ping(argument)
+    } else if word == b"showfen".as_slice() {
+        Command::ShowFen
+    } else if word == b"quit".as_slice() {
+        Command::Quit
+    } else if move_named(text).is_some() {
+        Command::BareMove
+    } else {
+        Command::Unknown
+    }
+}

@@ -1,0 +1,21 @@
+//! The Chess Engine Communication Protocol, version 2, from the side of an arbiter: lines, commands, and a session that
+//! answers them.
+#![tactic(auto)]
+
+mod command;
+mod coordinate;
+mod game;
+mod laws;
+mod lines;
+mod run;
+mod session;
+mod trim;
+
+pub use command::{Command, read_command};
+pub use laws::{lines_are_pieces, refusals_change_nothing};
+pub use lines::{Line, Lines};
+pub use run::{End, Fault, run_session};
+pub use session::{Go, Session};
+
+#[cfg(test)]
+mod tests;

@@ -1,0 +1,252 @@
+//! The lines of a stream, in whatever pieces it comes.
+
+ghost use Rattle.std.specs.Prelude.{◌≡◌, ◌+◌, ◌≤◌, ◌==◌, [], ◌∷◌, ◌++◌, length, take, true, false, MatchOption, MatchResult};
+ghost use Rattle.chess_base.specs.Devices.{GavePiece, FailedToRead};
+ghost use Rattle.chess_cecp.specs.Lines.{line_of, nothing_held, trimmed};
+ghost use Rattle.chess_cecp.specs.Next.{NextLine, SameLines, HeldLine, Filled};
+
+use crate::trim::trim;
+use arrayvec::ArrayVec;
+use chess_base::device::{Input, ReadFault};
+use std::marker::Model;
+
+/// A line: its text, or of one that is too long its first 64 bytes; and whether byte 10 ended it.
+#[derive(Drop)]
+pub struct Line<const N: usize> {
+    text: ArrayVec<u8, N>,
+    is_too_long: bool,
+    is_ended: bool,
+}
+
+impl<const N: usize> Model for Line<N> {
+    ghost use Rattle.chess_cecp.specs.Lines.{LineSeen};
+
+    ghost Value = { LineSeen };
+
+    ghost view = { λ l. record {
+      text = l.text.items;
+      too_long = l.is_too_long;
+      ended = l.is_ended;
+    } };
+}
+
+impl<const N: usize> Line<N> {
+    /// Its text: without its end, one byte 13 before that, and blanks at both ends. Of a line that is too long, its
+    /// first 64 bytes as they came.
+    pub fn text(&self) -> &[u8]
+        ensures value { result.now ≡ self.now.text }
+        ensures short { length result.now ≤ N }
+    {
+        self.text.as_slice()
+    }
+
+    /// Whether it had more than N bytes before its end.
+    pub fn is_too_long(&self) -> bool
+        ensures { result ≡ self.now.too_long }
+    {
+        self.is_too_long
+    }
+
+    /// Whether byte 10 ended it; else the input's end did.
+    pub fn is_ended(&self) -> bool
+        ensures { result ≡ self.now.ended }
+    {
+        self.is_ended
+    }
+}
+
+// What has come of a line. Of more than N bytes only the first N are kept.
+#[derive(Drop)]
+struct Part<const N: usize> {
+    bytes: ArrayVec<u8, N>,
+    is_too_long: bool,
+}
+
+impl<const N: usize> Model for Part<N> {
+    ghost use Rattle.std.specs.Prelude.{◌≡◌, ◌≤◌, List, ℕ, length, true, false};
+    ghost use Rattle.chess_cecp.specs.Lines.{kept_part};
+
+    ghost Value = { List ℕ };
+
+    ghost view = { λ p. kept_part p.bytes.items p.is_too_long };
+
+    ghost invariant = { λ p. (p.is_too_long ≡ true → length p.bytes.items ≡ N) × (length p.bytes.items ≤ N) × (64 ≤ N) };
+}
+
+impl<const N: usize> Part<N> {
+    fn new() -> Self
+        requires { 64 ≤ N }
+        ensures { result ≡ [] }
+    {
+        Part {
+            bytes: ArrayVec::new(),
+            is_too_long: false,
+        }
+    }
+
+    fn is_empty(&self) -> bool
+        ensures { result ≡ (length self.now == 0) }
+    {
+        self.bytes.is_empty()
+    }
+
+    fn add(&mut self, byte: u8)
+        ensures { SameLines N (self.old ++ byte ∷ []) self.new }
+    {
+        if self.bytes.is_full() {
+            self.is_too_long = true;
+        } else {
+            self.bytes.push(byte);
+        }
+    }
+
+    fn finish(&mut self, is_ended: bool) -> Line<N>
+        ensures line { result ≡ line_of N is_ended self.old }
+        ensures empty { self.new ≡ [] }
+    {
+        let text = kept_text(&self.bytes, self.is_too_long);
+        let is_too_long = self.is_too_long;
+        self.bytes.clear();
+        self.is_too_long = false;
+        Line {
+            text,
+            is_too_long,
+            is_ended,
+        }
+    }
+}
+
+// What a line says whose first bytes are kept.
+fn kept_text<const N: usize>(bytes: &ArrayVec<u8, N>, is_too_long: bool) -> ArrayVec<u8, N>
+    requires { is_too_long ≡ true → 64 ≤ length bytes.now.items }
+    ensures long { is_too_long ≡ true → result.items ≡ take 64 bytes.now.items }
+    ensures short { is_too_long ≡ false → result.items ≡ trimmed bytes.now.items }
+{
+    let kept = if is_too_long {
+        &bytes.as_slice()[..64]
+    } else {
+        trim(bytes.as_slice())
+    };
+    let mut text = ArrayVec::new();
+    if text.try_extend_from_slice(kept).is_err() {
+        unreachable!();
+    }
+    text
+}
+
+const PIECE: usize = 1024;
+
+// The bytes that were read and not looked at.
+#[derive(Drop)]
+struct Window {
+    piece: [u8; PIECE],
+    from: usize,
+    to: usize,
+}
+
+impl Model for Window {
+    ghost use Rattle.std.specs.Prelude.{◌≡◌, ◌≤◌, List, ℕ, length, slice_range};
+
+    ghost Value = { List ℕ };
+
+    ghost view = { λ w. slice_range w.piece w.from w.to };
+
+    ghost invariant = { λ w. (w.from ≤ w.to) × (w.to ≤ 1024) };
+}
+
+impl Window {
+    fn new() -> Self
+        ensures { result ≡ [] }
+    {
+        Window {
+            piece: [0; PIECE],
+            from: 0,
+            to: 0,
+        }
+    }
+
+    fn take_byte(&mut self) -> Option<u8>
+        ensures { MatchOption result ((self.old ≡ []) × (self.new ≡ [])) (λ byte. self.old ≡ byte ∷ self.new) }
+    {
+        if self.from == self.to {
+            return None;
+        }
+        let byte = self.piece[self.from];
+        self.from += 1;
+        Some(byte)
+    }
+
+    fn fill<R: Input>(&mut self, reader: &mut R) -> Result<usize, ReadFault>
+        ensures { Filled (R.seen reader.old) (R.seen reader.new) result self.new }
+    {
+        self.from = 0;
+        self.to = 0;
+        let count = reader.read(&mut self.piece)?;
+        self.to = count;
+        Ok(count)
+    }
+}
+
+/// The lines of a stream, each of at most N bytes; what was read and not handed out is held.
+#[derive(Drop)]
+pub struct Lines<const N: usize> {
+    part: Part<N>,
+    window: Window,
+}
+
+impl<const N: usize> Model for Lines<N> {
+    ghost use Rattle.chess_cecp.specs.Lines.{Held};
+
+    ghost Value = { Held };
+
+    ghost view = { λ l. record {
+      part = l.part;
+      coming = l.window;
+    } };
+}
+
+impl<const N: usize> Lines<N> {
+    /// Nothing was read yet.
+    pub fn new() -> Self
+        requires { 64 ≤ N }
+        ensures { result ≡ nothing_held }
+    {
+        Lines {
+            part: Part::new(),
+            window: Window::new(),
+        }
+    }
+
+    // Looks in what is held for a line that byte 10 ended.
+    fn held_line(&mut self) -> Option<Line<N>>
+        ensures { HeldLine N self.old self.new result }
+    {
+        while let Some(byte) = self.window.take_byte() {
+            if byte == b'\n' {
+                return Some(self.part.finish(true));
+            }
+            self.part.add(byte);
+        }
+        None
+    }
+
+    /// The next line, or `None` where the input ended and nothing was left. It reads only where it holds no whole line.
+    ///
+    /// # Errors
+    /// Where a read failed; what was read before stays, and the next call goes on behind it.
+    pub fn next<R: Input>(&mut self, reader: &mut R) -> Result<Option<Line<N>>, ReadFault>
+        ensures { NextLine N (R.seen reader.old) (R.seen reader.new) self.old self.new result }
+    {
+        loop {
+            if let Some(line) = self.held_line() {
+                return Ok(Some(line));
+            }
+            if self.window.fill(reader)? == 0 {
+                if self.part.is_empty() {
+                    return Ok(None);
+                }
+                return Ok(Some(self.part.finish(false)));
+            }
+        }
+    }
+}

@@ -1,0 +1,56 @@
+//! A session over a reader and a writer.
+
+ghost use Rattle.chess_cecp.specs.Game.{IsPlayable};
+ghost use Rattle.chess_cecp.specs.Run.{Transcript, Ran};
+
+use crate::lines::Lines;
+use crate::session::{Go, Session};
+use chess_base::device::{Input, Output};
+
+/// How a session ended.
+#[derive(Clone, Copy, Debug, PartialEq, Eq)]
+pub enum End {
+    /// By the command `quit`.
+    Quit,
+    /// By the end of the input.
+    InputEnded,
+}
+
+/// Why a session broke off: a call of that device failed.
+#[derive(Clone, Copy, Debug, PartialEq, Eq)]
+pub enum Fault {
+    Read,
+    Write,
+}
+
+/// Answers the lines of a stream, one after the other, up to the first `quit` or the end. The next line is read only
+/// once the answer to the one before was written and flushed.
+///
+/// # Errors
+/// Where a call of the reader or of the writer failed. After a failed read all whole lines were answered; after a
+/// failed write the change of its line stands, and a beginning of the answer was written.
+pub fn run_session<R: Input, W: Output>(
+    reader: &mut R,
+    writer: &mut W,
+    session: &mut Session,
+) -> Result<End, Fault>
+    ensures { (t : Transcript) × Ran (R.seen reader.old) (R.seen reader.new) (W.seen writer.old) (W.seen writer.new)
+        session.old session.new t result }
+{
+    let mut lines: Lines<1024> = Lines::new();
+    loop {
+        let line = match lines.next(reader) {
+            Ok(Some(line)) => line,
+            Ok(None) => return Ok(End::InputEnded),
+            Err(_) => return Err(Fault::Read),
+        };
+        match session.answer(&line, writer) {
+            Ok(Go::On) => {}
+            Ok(Go::Quit) => return Ok(End::Quit),
+            Err(_) => return Err(Fault::Write),
+        }
+        if !line.is_ended() {
+            return Ok(End::InputEnded);
+        }
+    }
+}

@@ -1,0 +1,199 @@
+//! A session: one game, and the answers to lines.
+
+ghost use Rattle.std.specs.Prelude.{◌≡◌, ◌+◌, ◌≤◌, ◌++◌, ◌∷◌, [], if◌then◌else◌, IfOk, length, codes, decimal};
+ghost use Rattle.arrayvec.specs.ArrayVec.{array_vec_len};
+ghost use Rattle.chess_base.specs.Devices.{Puts};
+ghost use Rattle.chess_base.specs.Writing.{fen};
+ghost use Rattle.chess_cecp.specs.Game.{opened, current, IsPlayable};
+ghost use Rattle.chess_cecp.specs.Coordinates.{move_named as named_by};
+ghost use Rattle.chess_cecp.specs.Session.{row, row_on, move_row, named_row, undo_row, stands, next_state, answer_to, is_quit, is_quit_command, line_text};
+
+use crate::command::{Command, argument, read_command};
+use crate::coordinate::move_named;
+use crate::game::Game;
+use crate::lines::Line;
+use arrayvec::ArrayVec;
+use chess_base::device::{Output, WriteFault, put};
+use chess_base::{Position, write_fen};
+use itoa::Buffer;
+use std::alloc::{AllocError, Global};
+use std::marker::Model;
+
+/// Whether a session goes on after a line.
+#[derive(Clone, Copy, Debug, PartialEq, Eq)]
+pub enum Go {
+    On,
+    Quit,
+}
+
+// The text of an answer, put together before it is written: an echoed line of 1,024 bytes and the words before it.
+const ANSWER_LEN: usize = 1100;
+
+type Answer = ArrayVec<u8, ANSWER_LEN>;
+
+/// A session over one game. In contracts it is the game's start, the moves that stand and what was declared, and the
+/// number of half-moves that can stand.
+#[derive(Drop)]
+pub struct Session {
+    game: Game,
+}
+
+impl Model for Session {
+    ghost use Rattle.chess_cecp.specs.Game.{Seen};
+
+    ghost Value = { Seen };
+
+    ghost view = { λ s. s.game };
+}
+
+// A text behind another, and byte 10.
+fn write_line(answer: &mut Answer, front: &[u8], text: &[u8])
+    requires { array_vec_len answer.old + length front.now + length text.now + 1 ≤ 1100 }
+    ensures { answer.new.items ≡ answer.old.items ++ line_text front.now text.now }
+{
+    answer.try_extend_from_slice(front).unwrap();
+    answer.try_extend_from_slice(text).unwrap();
+    answer.push(b'\n');
+}
+
+fn write_pong(answer: &mut Answer, number: u32)
+    requires { array_vec_len answer.old ≤ 1000 }
+    ensures { answer.new.items ≡ answer.old.items ++ line_text (codes "pong ") (decimal number) }
+{
+    let mut buffer = Buffer::new();
+    write_line(answer, b"pong ", buffer.format(number).as_bytes());
+}
+
+impl Session {
+    /// A session as `new` leaves it: the initial position, no moves, nothing declared. All memory is taken here, for
+    /// `limit` half-moves.
+    ///
+    /// # Errors
+    /// Where there is no memory; what was taken is given back.
+    pub fn open(alloc: Global, limit: u32) -> Result<Self, AllocError>
+        requires some { 1 ≤ limit }
+        requires few { limit ≤ 20000 }
+        ensures { IfOk result (λ s. s ≡ opened limit) }
+    {
+        Ok(Session {
+            game: Game::open(alloc, limit as usize)?,
+        })
+    }
+
+    /// The position on the board: the one that the start and the moves that stand give.
+    pub fn position(&self) -> Position
+        ensures value { result ≡ current self.now.state }
+        ensures playable { IsPlayable self.now }
+    {
+        self.game.position()
+    }
+
+    // Plays the move that a text names.
+    fn play(&mut self, text: &[u8], answer: &mut Answer)
+        requires short { length text.now ≤ 1024 }
+        requires empty { answer.old.items ≡ [] }
+        ensures next { self.new ≡ stands self.old (move_row self.old.limit self.old.state text.now) }
+        ensures text { answer.new.items ≡ (move_row self.old.limit self.old.state text.now).text }
+    {
+        if self.game.is_full() {
+            write_line(answer, b"Error (game too long): ", text);
+            return;
+        }
+        let is_played = match move_named(text) {
+            Some(m) => self.game.try_play(m),
+            None => false,
+        };
+        if !is_played {
+            write_line(answer, b"Illegal move: ", text);
+        }
+    }
+
+    fn undo(&mut self, answer: &mut Answer)
+        requires { answer.old.items ≡ [] }
+        ensures next { self.new ≡ stands self.old (undo_row self.old.state) }
+        ensures text { answer.new.items ≡ (undo_row self.old.state).text }
+    {
+        if !self.game.take_back() {
+            write_line(answer, b"Error (command not legal now): ", b"undo");
+        }
+    }
+
+    fn show_fen(&self, answer: &mut Answer)
+        requires { answer.old.items ≡ [] }
+        ensures { answer.new.items ≡ line_text (codes "# fen ") (fen (current self.now.state)) }
+    {
+        let fen = write_fen(&self.game.position());
+        write_line(answer, b"# fen ", fen.as_slice());
+    }
+
+    // Does what a row of the table says.
+    fn obey(&mut self, command: Command, text: &[u8], argument: &[u8], answer: &mut Answer)
+        requires short { length text.now ≤ 1024 }
+        requires short_argument { length argument.now ≤ 1024 }
+        requires empty { answer.old.items ≡ [] }
+        ensures next { self.new ≡ stands self.old (row self.old.limit self.old.state text.now argument.now command) }
+        ensures text { answer.new.items ≡ (row self.old.limit self.old.state text.now argument.now command).text }
+    {
+        match command {
+            Command::New => self.game.restart(),
+            Command::UserMove => self.play(argument, answer),
+            Command::BareMove => self.play(text, answer),
+            Command::Undo => self.undo(answer),
+            Command::Ping(number) => write_pong(answer, number),
+            Command::ShowFen => self.show_fen(answer),
+            Command::Quit | Command::Nothing => {}
+            Command::BadNumber => write_line(answer, b"Error (bad number): ", text),
+            Command::Unknown => write_line(answer, b"Error (unknown command): ", text),
+        }
+    }
+
+    // Does what the row of a line says, and answers whether the session goes on.
+    #[tactic(auto, unfolding(crate::specs::Session::next_state, crate::specs::Session::answer_to, crate::specs::Session::is_quit))]
+    fn obey_line(&mut self, line: &Line<1024>, answer: &mut Answer) -> Go
+        requires { answer.old.items ≡ [] }
+        ensures next { self.new ≡ next_state self.old line.now }
+        ensures text { answer.new.items ≡ answer_to self.old line.now }
+        ensures go { result ≡ (if is_quit line.now then Go.Quit else Go.On) }
+    {
+        let text = line.text();
+        if line.is_too_long() {
+            write_line(answer, b"Error (line too long): ", text);
+            return Go::On;
+        }
+        let command = read_command(text);
+        self.obey(command, text, argument(text), answer);
+        go_after(command)
+    }
+
+    /// Answers a line: the game changes, the answer is written in one piece, and the writer is flushed.
+    ///
+    /// # Errors
+    /// Where a write or the flush failed. The change stands, and a beginning of the answer was written.
+    pub fn answer<W: Output>(&mut self, line: &Line<1024>, writer: &mut W) -> Result<Go, WriteFault>
+        ensures next { self.new ≡ next_state self.old line.now }
+        ensures written { Puts (W.seen writer.old) (W.seen writer.new) result (answer_to self.old line.now) }
+        ensures go { IfOk result (λ go. go ≡ (if is_quit line.now then Go.Quit else Go.On)) }
+    {
+        let mut answer = Answer::new();
+        let go = self.obey_line(line, &mut answer);
+        send(writer, answer.as_slice())?;
+        Ok(go)
+    }
+}
+
+// Writes a text, and flushes.
+fn send<W: Output>(writer: &mut W, text: &[u8]) -> Result<(), WriteFault>
+    ensures { Puts (W.seen writer.old) (W.seen writer.new) result text.now }
+{
+    put(writer, text)?;
+    writer.flush()
+}
+
+fn go_after(command: Command) -> Go
+    ensures { result ≡ (if is_quit_command command then Go.Quit else Go.On) }
+{
+    match command {
+        Command::Quit => Go::Quit,
+        _ => Go::On,
+    }
+}

@@ -1,0 +1,49 @@
+//! What a line says, without what stands round it.
+
+ghost use Rattle.std.specs.Prelude.{◌≡◌, ◌≤◌, ◌||◌, ◌==◌, length};
+ghost use Rattle.chess_cecp.specs.Lines.{is_blank, without_return, without_front_blanks, without_end_blanks, trimmed};
+
+pub(crate) fn is_blank(byte: u8) -> bool
+    ensures { result ≡ is_blank byte }
+{
+    byte == b' ' || byte == b'\t'
+}
+
+fn cut_return(text: &[u8]) -> &[u8]
+    ensures { result.now ≡ without_return text.now }
+{
+    if !text.is_empty() && text[text.len() - 1] == b'\r' {
+        &text[..text.len() - 1]
+    } else {
+        text
+    }
+}
+
+fn cut_front(text: &[u8]) -> &[u8]
+    ensures { result.now ≡ without_front_blanks text.now }
+{
+    let mut from = 0;
+    while from < text.len() && is_blank(text[from]) {
+        from += 1;
+    }
+    &text[from..]
+}
+
+fn cut_end(text: &[u8]) -> &[u8]
+    ensures { result.now ≡ without_end_blanks text.now }
+{
+    let mut to = text.len();
+    while to > 0 && is_blank(text[to - 1]) {
+        to -= 1;
+    }
+    &text[..to]
+}
+
+/// The text of a piece, without one byte 13 at its end, and blanks at both ends.
+#[tactic(auto, using(crate::proofs::Parts::trimmed_short), unfolding(crate::specs::Lines::trimmed))]
+pub fn trim(piece: &[u8]) -> &[u8]
+    ensures text { result.now ≡ trimmed piece.now }
+    ensures short { length result.now ≤ length piece.now }
+{
+    cut_end(cut_front(cut_return(piece)))
+}
