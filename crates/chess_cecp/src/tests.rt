@@ -1,1 +1,352 @@
+use crate::command::{Command, read_command};
+use crate::laws::{lines_are_pieces, refusals_change_nothing};
+use crate::lines::Lines;
+use crate::run::{End, Fault, run_session};
+use crate::session::Session;
+use chess_base::device::{Counted, GatedReader, GatedWriter, PieceReader, PieceWriter};
+use chess_base::{Position, Square, write_fen};
+use std::alloc::Global;
+use std::cell::Cell;
+use std::process::Abort;
+use std::test::Fail;
 
+/// A run of a session: what it reads, what it writes, and how it ends.
+struct Run {
+    input: &'static [u8],
+    answers: &'static [u8],
+    end: End,
+}
+
+// The rows of the first stage, and what stands beside them.
+const RUNS: [Run; 16] = [
+    Run {
+        input: b"new\ne2e4\nping 7\nundo\nshowfen\nquit\nshowfen\n",
+        answers: b"pong 7\n# fen rnbqkbnr/pppppppp/8/8/8/8/PPPPPPPP/RNBQKBNR w KQkq - 0 1\n",
+        end: End::Quit,
+    },
+    Run {
+        input: b"",
+        answers: b"",
+        end: End::InputEnded,
+    },
+    Run {
+        input: b"ping 7",
+        answers: b"pong 7\n",
+        end: End::InputEnded,
+    },
+    Run {
+        input: b"ping 007\r\n \tping 1234567890\nping\nping x\nping 999999999\n",
+        answers: b"pong 7\nError (bad number): ping 1234567890\nError (bad number): ping\nError (bad number): ping x\npong 999999999\n",
+        end: End::InputEnded,
+    },
+    Run {
+        input: b"usermove e2e5\nusermove\nusermove \t \nusermove  e2 e4\n",
+        answers: b"Illegal move: e2e5\nError (unknown command): usermove\nError (unknown command): usermove\nIllegal move: e2 e4\n",
+        end: End::InputEnded,
+    },
+    Run {
+        input: b"new\nundo\nundo x\ne2e4\nshowfen\n",
+        answers: b"Error (command not legal now): undo\nError (command not legal now): undo\n# fen rnbqkbnr/pppppppp/8/8/4P3/8/PPPP1PPP/RNBQKBNR b KQkq e3 0 1\n",
+        end: End::InputEnded,
+    },
+    // A refused move leaves the game as it was; `new` does not.
+    Run {
+        input: b"e2e4\ne2e4\nshowfen\nnew\nshowfen now\n",
+        answers: b"Illegal move: e2e4\n# fen rnbqkbnr/pppppppp/8/8/4P3/8/PPPP1PPP/RNBQKBNR b KQkq e3 0 1\n# fen rnbqkbnr/pppppppp/8/8/8/8/PPPPPPPP/RNBQKBNR w KQkq - 0 1\n",
+        end: End::InputEnded,
+    },
+    // Blank lines, and bytes that are no text.
+    Run {
+        input: b"\n\r\n  \t\n\xC3\xA9\n\0\nNew\n",
+        answers: b"Error (unknown command): \xC3\xA9\nError (unknown command): \0\nError (unknown command): New\n",
+        end: End::InputEnded,
+    },
+    // What has no move's shape is no command; what has it and is not legal is no move.
+    Run {
+        input: b"e2e4k\ne2i4\ne2e4qq\ne2e4q\na7a8Q+\n?\n",
+        answers: b"Error (unknown command): e2e4k\nError (unknown command): e2i4\nError (unknown command): e2e4qq\nIllegal move: e2e4q\nIllegal move: a7a8Q+\nError (unknown command): ?\n",
+        end: End::InputEnded,
+    },
+    // Marks at the end of a move are passed over.
+    Run {
+        input: b"e2e4!?\nusermove e7e5#\nundo\nshowfen\n",
+        answers: b"# fen rnbqkbnr/pppppppp/8/8/4P3/8/PPPP1PPP/RNBQKBNR b KQkq e3 0 1\n",
+        end: End::InputEnded,
+    },
+    // Castling on the king's side: 1. e4 e5 2. Nf3 Nf6 3. Bc4 Bc5 4. O-O.
+    Run {
+        input: b"e2e4\ne7e5\ng1f3\ng8f6\nf1c4\nf8c5\ne1g1\nshowfen\nundo\nshowfen\n",
+        answers: b"# fen rnbqk2r/pppp1ppp/5n2/2b1p3/2B1P3/5N2/PPPP1PPP/RNBQ1RK1 b kq - 5 4\n# fen rnbqk2r/pppp1ppp/5n2/2b1p3/2B1P3/5N2/PPPP1PPP/RNBQK2R w KQkq - 4 4\n",
+        end: End::InputEnded,
+    },
+    // En passant, at once and too late: 1. e4 a6 2. e5 d5 3. exd6; and 1. e4 a6 2. e5 d5 3. h3 h6 4. exd6.
+    Run {
+        input: b"e2e4\na7a6\ne4e5\nd7d5\ne5d6\nshowfen\nundo\nh2h3\nh7h6\ne5d6\n",
+        answers: b"# fen rnbqkbnr/1pp1pppp/p2P4/8/8/8/PPPP1PPP/RNBQKBNR b KQkq - 0 3\nIllegal move: e5d6\n",
+        end: End::InputEnded,
+    },
+    // Promotion: the pawn that started on a2 takes on b7 and a8, and becomes a knight.
+    Run {
+        input: b"a2a4\nb7b5\na4b5\na7a6\nb5b6\na6a5\nb6b7\na5a4\nb7a8\nb7a8k\nb7a8n\nshowfen\n",
+        answers: b"Illegal move: b7a8\nError (unknown command): b7a8k\n# fen Nnbqkbnr/2pppppp/8/8/p7/8/1PPPPPPP/RNBQKBNR b KQk - 0 5\n",
+        end: End::InputEnded,
+    },
+    // A pinned man, and a king that stays in check: 1. e4 e5 2. Qh5 Nc6 3. Qxf7+.
+    Run {
+        input: b"e2e4\ne7e5\nd1h5\nf7f6\nb8c6\nh5f7\na7a6\ne8f7\nshowfen\n",
+        answers: b"Illegal move: f7f6\nIllegal move: a7a6\n# fen r1bq1bnr/pppp1kpp/2n5/4p3/4P3/8/PPPP1PPP/RNB1KBNR w KQ - 0 4\n",
+        end: End::InputEnded,
+    },
+    Run {
+        input: b"quit now\nping 1\n",
+        answers: b"",
+        end: End::Quit,
+    },
+    Run {
+        input: b"ping 1\nquit",
+        answers: b"pong 1\n",
+        end: End::Quit,
+    },
+];
+
+// Runs a session of `limit` half-moves on an input in pieces, where calls of the devices fail.
+fn check(
+    rt: &impl Abort,
+    mut session: Session,
+    mut reader: Counted<PieceReader<'_>>,
+    mut writer: Counted<PieceWriter>,
+    answers: &[u8],
+    end: Result<End, Fault>,
+) {
+    let ended = run_session(&mut reader, &mut writer, &mut session);
+    assert_eq!(rt; ended, end);
+    assert_eq!(rt; writer.writer().bytes.as_slice(), answers);
+}
+
+fn pieces(input: &[u8], cut: usize, fails_at: u64) -> Counted<PieceReader<'_>> {
+    Counted::reading(PieceReader::new(input, cut.max(1), fails_at))
+}
+
+fn taking(alloc: Global, cut: usize, fails_at: u64) -> Counted<PieceWriter> {
+    Counted::writing(PieceWriter::new(alloc, cut, fails_at))
+}
+
+#[test]
+fn runs_however_they_are_cut(rt: HostRuntime) -> Result<(), Fail> {
+    for run in &RUNS {
+        for cut in 1..=run.input.len() {
+            let session = Session::open(rt.alloc(), 100)?;
+            let writer = taking(rt.alloc(), cut, 0);
+            check(
+                &rt,
+                session,
+                pieces(run.input, cut, 0),
+                writer,
+                run.answers,
+                Ok(run.end),
+            );
+        }
+        let session = Session::open(rt.alloc(), 100)?;
+        let writer = taking(rt.alloc(), 1024, 0);
+        check(
+            &rt,
+            session,
+            pieces(run.input, 1024, 0),
+            writer,
+            run.answers,
+            Ok(run.end),
+        );
+    }
+    Ok(())
+}
+
+#[test]
+fn no_more_moves_than_the_limit(rt: HostRuntime) -> Result<(), Fail> {
+    let session = Session::open(rt.alloc(), 3)?;
+    let writer = taking(rt.alloc(), 100, 0);
+    check(
+        &rt,
+        session,
+        pieces(b"e2e4\ne7e5\ng1f3\nb8c6\nusermove x\nundo\nb1c3\n", 100, 0),
+        writer,
+        b"Error (game too long): b8c6\nError (game too long): x\n",
+        Ok(End::InputEnded),
+    );
+    Ok(())
+}
+
+// Each line is `ping 1`, so the answers to n whole lines are n times `pong 1`.
+#[test]
+fn a_read_that_fails_at_each_place(rt: HostRuntime) -> Result<(), Fail> {
+    let input = b"ping 1\nping 1\nping 1\n";
+    let answers = b"pong 1\npong 1\npong 1\n";
+    for cut in 1..8 {
+        for calls in 0..22 {
+            let given = input.len().min(cut * calls);
+            let whole = given / 7 * 7;
+            let end = if cut * calls < input.len() + cut {
+                Err(Fault::Read)
+            } else {
+                Ok(End::InputEnded)
+            };
+            let session = Session::open(rt.alloc(), 1)?;
+            let writer = taking(rt.alloc(), 100, 0);
+            check(
+                &rt,
+                session,
+                pieces(input, cut, calls as u64 + 1),
+                writer,
+                &answers[..whole.min(21)],
+                end,
+            );
+        }
+    }
+    Ok(())
+}
+
+// Of each answer of 7 bytes, a writer that takes 2 at a time takes 2, 2, 2 and 1, and is then flushed: five calls.
+#[test]
+fn a_write_that_fails_at_each_place(rt: HostRuntime) -> Result<(), Fail> {
+    let input = b"ping 1\nping 1\nping 1\n";
+    let answers = b"pong 1\npong 1\npong 1\n";
+    for calls in 0..15 {
+        let taken = calls / 5 * 7 + (calls % 5 * 2).min(7);
+        let session = Session::open(rt.alloc(), 1)?;
+        let writer = taking(rt.alloc(), 2, calls as u64 + 1);
+        check(
+            &rt,
+            session,
+            pieces(input, 100, 0),
+            writer,
+            &answers[..taken.min(21)],
+            Err(Fault::Write),
+        );
+    }
+    let session = Session::open(rt.alloc(), 1)?;
+    let writer = taking(rt.alloc(), 0, 0);
+    check(
+        &rt,
+        session,
+        pieces(input, 100, 0),
+        writer,
+        b"",
+        Err(Fault::Write),
+    );
+    Ok(())
+}
+
+#[test]
+fn a_move_stands_where_writing_breaks_off(rt: HostRuntime) -> Result<(), Fail> {
+    let mut session = Session::open(rt.alloc(), 100)?;
+    let mut reader = pieces(b"e2e4\nshowfen\n", 100, 0);
+    let mut writer = taking(rt.alloc(), 3, 3);
+    let ended = run_session(&mut reader, &mut writer, &mut session);
+    assert_eq!(rt; ended, Err(Fault::Write));
+    assert_eq!(rt; writer.writer().bytes.as_slice(), b"# f".as_slice());
+    let position = session.position();
+    assert_eq!(rt; position.at(Square::new(12)), None);
+    assert_eq!(rt;
+        write_fen(&position).as_slice(),
+        b"rnbqkbnr/pppppppp/8/8/4P3/8/PPPP1PPP/RNBQKBNR b KQkq e3 0 1".as_slice()
+    );
+    Ok(())
+}
+
+#[test]
+fn an_answer_is_flushed_before_more_is_read(rt: HostRuntime) -> Result<(), Fail> {
+    let flushed = Cell::new(0);
+    let mut reader = Counted::reading(GatedReader::new(b"ping 1\nping 2\nquit\n", &flushed));
+    let mut writer = Counted::writing(GatedWriter::new(rt.alloc(), &flushed));
+    let mut session = Session::open(rt.alloc(), 1)?;
+    let ended = run_session(&mut reader, &mut writer, &mut session);
+    assert_eq!(rt; ended, Ok(End::Quit));
+    assert_eq!(rt;
+        writer.writer().bytes.as_slice(),
+        b"pong 1\npong 2\n".as_slice()
+    );
+    Ok(())
+}
+
+#[test]
+fn lines_of_1024_bytes_and_more(rt: HostRuntime) -> Result<(), Fail> {
+    let zs = [b'z'; 1024];
+    let mut input = Vec::new(rt.alloc());
+    // A line of 1,024 bytes; one byte more, byte 13 that makes it one more, and one more at the input's end.
+    let ends: [&[u8]; 4] = [b"\n", b"z\n", b"\r\nping 3\n", b"z"];
+    for end in ends {
+        input.extend_from_slice(&zs)?;
+        input.extend_from_slice(end)?;
+    }
+    let mut answers = Vec::new(rt.alloc());
+    let texts: [(&[u8], usize, &[u8]); 4] = [
+        (b"Error (unknown command): ", 1024, b"\n"),
+        (b"Error (line too long): ", 64, b"\n"),
+        (b"Error (line too long): ", 64, b"\npong 3\n"),
+        (b"Error (line too long): ", 64, b"\n"),
+    ];
+    for (front, shown, behind) in texts {
+        answers.extend_from_slice(front)?;
+        answers.extend_from_slice(&zs[..shown.min(1024)])?;
+        answers.extend_from_slice(behind)?;
+    }
+    for cut in [1, 1000, 1024, 5000] {
+        let session = Session::open(rt.alloc(), 1)?;
+        let writer = taking(rt.alloc(), cut, 0);
+        check(
+            &rt,
+            session,
+            pieces(input.as_slice(), cut, 0),
+            writer,
+            answers.as_slice(),
+            Ok(End::InputEnded),
+        );
+    }
+    Ok(())
+}
+
+#[test]
+fn what_was_read_stays_after_a_fault(rt: HostRuntime) -> Result<(), Fail> {
+    let mut reader = pieces(b" ab \r\ncd", 3, 2);
+    let mut lines: Lines<64> = Lines::new();
+    assert!(rt; lines.next(&mut reader).is_err());
+    let Ok(Some(line)) = lines.next(&mut reader) else {
+        return Err(Fail::from("a line"));
+    };
+    assert_eq!(rt; line.text(), b"ab".as_slice());
+    assert!(rt; line.is_ended() && !line.is_too_long());
+    let Ok(Some(last)) = lines.next(&mut reader) else {
+        return Err(Fail::from("a last line"));
+    };
+    assert_eq!(rt; last.text(), b"cd".as_slice());
+    assert!(rt; !last.is_ended());
+    assert!(rt; matches!(&lines.next(&mut reader), Ok(None)));
+    Ok(())
+}
+
+#[test]
+fn commands_are_told_by_their_first_word(rt: HostRuntime) {
+    let commands: [(&[u8], Command); 9] = [
+        (b"", Command::Nothing),
+        (b"new game", Command::New),
+        (b"usermove\te7e8q", Command::UserMove),
+        (b"e7e8q", Command::BareMove),
+        (b"undo", Command::Undo),
+        (b"ping 000000012", Command::Ping(12)),
+        (b"ping -1", Command::BadNumber),
+        (b"showfen", Command::ShowFen),
+        (b"quit", Command::Quit),
+    ];
+    for (text, command) in commands {
+        assert_eq!(rt; read_command(text), command);
+    }
+    assert_eq!(rt; read_command(b"newgame"), Command::Unknown);
+}
+
+#[test]
+fn a_session_opens_at_the_initial_position(rt: HostRuntime) -> Result<(), Fail> {
+    lines_are_pieces();
+    refusals_change_nothing();
+    let session = Session::open(rt.alloc(), 20_000)?;
+    assert!(rt; session.position() == Position::initial());
+    Ok(())
+}
