@@ -56,7 +56,7 @@ unfoldable pub pawn_moves : Setup → Move → Bool
 pawn_moves p m =
     promotion_fits (rank m.to == first_rank (other p.side)) m.promotion && (pawn_advances p m || pawn_captures p m)
 
--- a man other than a pawn goes to a square that it attacks and no man of its own colour holds (3.1.1)
+-- a man other than a pawn goes to a square that it attacks and no man of its own colour holds (3.1)
 unfoldable pub man_moves : Setup → Move → Bool
 man_moves p m = is_none m.promotion && attacks p.men m.from m.to && not (is_of p.side (man_at p.men m.to))
 

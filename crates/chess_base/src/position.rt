@@ -40,7 +40,8 @@ impl Model for Position {
 }
 
 impl Position {
-    /// The position that a setup is, if it is sound; else the first condition that fails.
+    /// The position that a setup is, if it is sound; else the first condition that fails, in the order counters, kings,
+    /// pawns, men, castling, target, check.
     pub fn new(setup: Setup) -> Result<Self, SetupFault>
         ensures sound { IsOk result ↔ IsSound setup }
         ensures value { IfOk result (λ p. p ≡ setup) }
@@ -107,14 +108,16 @@ impl Position {
         self.setup.men[square.index()]
     }
 
-    /// Whether some man of that colour attacks the square (Laws of Chess 2023, articles 3.1 to 3.8).
+    /// Whether some man of that colour attacks the square, also one that may not move because it shields its king (Laws
+    /// of Chess 2023, articles 3.1 to 3.8).
     pub fn attacked(&self, square: Square, by: Colour) -> bool
         ensures { result ≡ is_attacked self.now.men square by }
     {
         is_attacked(&self.setup.men, square, by)
     }
 
-    /// Whether the move is legal (Laws of Chess 2023, article 3).
+    /// Whether the side on move may make this move: its man goes so, and its king is not attacked afterwards (Laws of
+    /// Chess 2023, articles 3.1 to 3.9).
     #[tactic(auto, unfolding(crate::specs::Moves::is_legal, crate::specs::Moves::after))]
     pub fn is_legal(&self, m: Move) -> bool
         ensures { result ≡ is_legal self.now m }

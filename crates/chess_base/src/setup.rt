@@ -10,12 +10,13 @@ pub struct Setup {
     pub men: [Option<Man>; 64],
     /// The colour on move.
     pub side: Colour,
+    /// The castling rights.
     pub rights: Rights,
     /// The square that a pawn's double advance has just crossed (Laws of Chess 2023, article 3.7).
     pub target: Option<Square>,
     /// Half-moves since the last capture or pawn move; it stops at 999,999.
     pub halfmove: u32,
-    /// The number of the move, from 1; it stops at 999,999.
+    /// The number of the move, from 1, one more after each of Black's; it stops at 999,999.
     pub fullmove: u32,
 }
 
@@ -24,8 +25,12 @@ pub struct Setup {
 pub struct Saved {
     /// The man that was captured, en passant too.
     pub captured: Option<Man>,
+    /// The castling rights before the move.
     pub rights: Rights,
+    /// The target before the move.
     pub target: Option<Square>,
+    /// The halfmove clock before the move, in half-moves.
     pub halfmove: u32,
+    /// The fullmove number before the move.
     pub fullmove: u32,
 }

@@ -73,7 +73,7 @@ impl<W: Write> Counted<W> {
 
 // A count after one more, which stays at its largest.
 #[tactic(auto, unfolding(crate::specs::Devices::risen))]
-fn count_up(count: u64) -> u64
+pub(crate) fn count_up(count: u64) -> u64
     ensures { result ≡ risen count }
 {
     count.saturating_add(1)

@@ -1,7 +1,10 @@
 //! A reader and a writer over memory, for tests of what was written and flushed when more was asked for.
 
-ghost use Rattle.std.specs.Prelude.{◌≡◌, [], ◌<◌, ◌≤◌, length};
+ghost use Rattle.std.specs.Prelude.{◌≡◌, [], ◌<◌, ◌≤◌, length, IfOk};
+ghost use Rattle.std.specs.Io.{WritesAtMost};
+ghost use Rattle.std.specs.Io.KnownBytes.{WriteAppends};
 
+use crate::device::counted::count_up;
 use std::alloc::Global;
 use std::cell::Cell;
 use std::io::{Error, ErrorKind, Read, Result, Write};
@@ -53,7 +56,7 @@ impl Read for GatedReader<'_> {
         if self.flushed.get() < self.given {
             return Err(Error::from(ErrorKind::Other));
         }
-        self.given = self.given.saturating_add(1);
+        self.given = count_up(self.given);
         let count = line_len(self.rest).min(buf.len());
         let (piece, rest) = self.rest.split_at(count);
         buf[..count].copy_from_slice(piece);
@@ -99,7 +102,11 @@ impl Write for GatedWriter<'_> {
 
     ghost contents = { λ w. Some w.bytes.items };
 
-    fn write(&mut self, buf: &[u8]) -> Result<usize> {
+    fn write(&mut self, buf: &[u8]) -> Result<usize>
+        ensures bound { WritesAtMost result buf.now }
+        ensures bytes { WriteAppends (Some self.old.bytes.items) (Some self.new.bytes.items) result buf.now }
+        ensures whole { IfOk result (λ n. n ≡ length buf.now) }
+    {
         self.bytes.extend_from_slice(buf)?;
         Ok(buf.len())
     }

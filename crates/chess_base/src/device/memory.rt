@@ -1,7 +1,11 @@
 //! A reader and a writer over memory, for tests: they cut pieces as told, fail at one call, and go on.
 
-ghost use Rattle.std.specs.Prelude.{◌≡◌, [], ◌<◌};
+ghost use Rattle.std.specs.Prelude.{◌≡◌, [], ◌<◌, ◌↔◌, min, length, IsErr, IfOk, IfErr};
+ghost use Rattle.std.specs.Io.{ReadsAtMost, WritesAtMost};
+ghost use Rattle.std.specs.Io.KnownBytes.{ReadConsumes, WriteAppends, Keeps};
+ghost use Rattle.chess_base.specs.Devices.{risen};
 
+use crate::device::counted::count_up;
 use std::alloc::Global;
 use std::io::{Error, ErrorKind, Read, Result, Write};
 
@@ -43,8 +47,14 @@ impl Read for PieceReader<'_> {
 
     ghost remaining = { λ r. Some r.rest.now };
 
-    fn read(&mut self, buf: &mut [u8]) -> Result<usize> {
-        self.calls = self.calls.saturating_add(1);
+    fn read(&mut self, buf: &mut [u8]) -> Result<usize>
+        ensures bound { ReadsAtMost result buf.new }
+        ensures bytes { ReadConsumes (Some self.old.rest.now) (Some self.new.rest.now) result buf.new }
+        ensures calls { self.new.calls ≡ risen self.old.calls }
+        ensures fails { IsErr result ↔ (self.new.calls ≡ self.old.fails_at) }
+        ensures cut { IfOk result (λ n. n ≡ min self.old.cut (min (length buf.old) (length self.old.rest.now))) }
+    {
+        self.calls = count_up(self.calls);
         if self.calls == self.fails_at {
             return Err(Error::from(ErrorKind::Other));
         }
@@ -92,8 +102,14 @@ impl Write for PieceWriter {
 
     ghost contents = { λ w. Some w.bytes.items };
 
-    fn write(&mut self, buf: &[u8]) -> Result<usize> {
-        self.calls = self.calls.saturating_add(1);
+    fn write(&mut self, buf: &[u8]) -> Result<usize>
+        ensures bound { WritesAtMost result buf.now }
+        ensures bytes { WriteAppends (Some self.old.bytes.items) (Some self.new.bytes.items) result buf.now }
+        ensures calls { self.new.calls ≡ risen self.old.calls }
+        ensures fails { self.new.calls ≡ self.old.fails_at → IsErr result }
+        ensures cut { IfOk result (λ n. n ≡ min self.old.cut (length buf.now)) }
+    {
+        self.calls = count_up(self.calls);
         if self.calls == self.fails_at {
             return Err(Error::from(ErrorKind::Other));
         }
@@ -102,8 +118,12 @@ impl Write for PieceWriter {
         Ok(count)
     }
 
-    fn flush(&mut self) -> Result<()> {
-        self.calls = self.calls.saturating_add(1);
+    fn flush(&mut self) -> Result<()>
+        ensures bytes { Keeps (Some self.old.bytes.items) (Some self.new.bytes.items) }
+        ensures calls { self.new.calls ≡ risen self.old.calls }
+        ensures fails { IsErr result ↔ (self.new.calls ≡ self.old.fails_at) }
+    {
+        self.calls = count_up(self.calls);
         if self.calls == self.fails_at {
             return Err(Error::from(ErrorKind::Other));
         }
