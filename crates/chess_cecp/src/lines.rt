@@ -14,8 +14,8 @@ use std::marker::Model;
 #[derive(Drop)]
 pub struct Line<const N: usize> {
     text: ArrayVec<u8, N>,
-    is_too_long: bool,
-    is_ended: bool,
+    too_long: bool,
+    ended: bool,
 }
 
 impl<const N: usize> Model for Line<N> {
@@ -25,8 +25,8 @@ impl<const N: usize> Model for Line<N> {
 
     ghost view = { λ l. record {
       text = l.text.items;
-      too_long = l.is_too_long;
-      ended = l.is_ended;
+      too_long = l.too_long;
+      ended = l.ended;
     } };
 }
 
@@ -44,14 +44,14 @@ impl<const N: usize> Line<N> {
     pub fn is_too_long(&self) -> bool
         ensures { result ≡ self.now.too_long }
     {
-        self.is_too_long
+        self.too_long
     }
 
     /// Whether byte 10 ended it; else the input's end did.
     pub fn is_ended(&self) -> bool
         ensures { result ≡ self.now.ended }
     {
-        self.is_ended
+        self.ended
     }
 }
 
@@ -110,8 +110,8 @@ impl<const N: usize> Part<N> {
         self.is_too_long = false;
         Line {
             text,
-            is_too_long,
-            is_ended,
+            too_long: is_too_long,
+            ended: is_ended,
         }
     }
 }
