@@ -2,6 +2,7 @@
 #![tactic(auto)]
 
 mod board;
+mod listing;
 mod moving;
 mod plain;
 

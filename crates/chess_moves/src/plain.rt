@@ -4,8 +4,8 @@ ghost use Rattle.std.specs.Prelude.{◌≡◌};
 ghost use Rattle.chess_base.specs.Initial.{initial_setup};
 
 use crate::board::{Board, MoveList};
+use crate::listing::legal_moves;
 use crate::moving::{move_back, move_on};
-use arrayvec::ArrayVec;
 use chess_base::attack::is_in_check;
 use chess_base::before::saved_of;
 use chess_base::{Move, Position, Saved, Setup};
@@ -55,7 +55,7 @@ impl Board for Plain {
     }
 
     fn legal_moves(&self) -> MoveList {
-        ArrayVec::new()
+        legal_moves(&self.setup)
     }
 
     fn in_check(&self) -> bool {
