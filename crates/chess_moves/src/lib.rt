@@ -8,3 +8,6 @@ mod plain;
 
 pub use board::{Board, MoveList, make_then_take_back};
 pub use plain::Plain;
+
+#[cfg(test)]
+mod tests;
