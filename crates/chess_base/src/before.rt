@@ -14,9 +14,9 @@ use crate::rules::{
 use crate::setup::{Saved, Setup};
 use crate::square::Square;
 
-/// The square of the man that the move captures, if it captures one.
+// The square of the man that the move captures, if it captures one.
 #[tactic(auto, unfolding(crate::specs::Before::captured_square))]
-pub fn captured_square(setup: &Setup, m: &Move) -> Option<Square>
+fn captured_square(setup: &Setup, m: &Move) -> Option<Square>
     requires { IsSound setup.now }
     ensures { result ≡ captured_square setup.now m.now }
 {

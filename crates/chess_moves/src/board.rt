@@ -23,8 +23,8 @@ pub trait Board {
     ghost position: { Self → Setup };
 
     /// Leaves the board at that position.
-    fn set(&mut self, target: &Position)
-        ensures position { position self.new ≡ target.now }
+    fn set(&mut self, to: &Position)
+        ensures position { position self.new ≡ to.now }
         ensures sound { IsSound (position self.new) };
 
     /// The position that the board is at.

@@ -46,8 +46,8 @@ impl Plain {
 impl Board for Plain {
     ghost position = { λ b. b };
 
-    fn set(&mut self, target: &Position) {
-        self.setup = *target.setup();
+    fn set(&mut self, to: &Position) {
+        self.setup = *to.setup();
     }
 
     fn position(&self) -> Position {
