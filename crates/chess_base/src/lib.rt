@@ -1,13 +1,14 @@
 //! Squares, men, moves and sound positions, the rules of chess said plainly, FEN; and what gives and takes bytes.
 #![tactic(auto)]
 
-mod attack;
+pub mod attack;
+pub mod before;
 pub mod device;
 mod initial;
 mod laws;
 mod man;
 mod position;
-mod rules;
+pub mod rules;
 mod setup;
 mod sound;
 mod square;

@@ -8,11 +8,11 @@ ghost use Rattle.chess_base.specs.Sound.{IsSound};
 ghost use Rattle.chess_base.specs.Faults.{setup_fault};
 ghost use Rattle.chess_base.specs.Initial.{initial_setup};
 
-use crate::attack::{is_attacked, is_in_check};
+use crate::attack::is_attacked;
 use crate::initial::initial_men;
 use crate::man::{Colour, ColourRights, Man, Move, Rights};
 use crate::rules::{
-    fullmove_after, halfmove_after, has_pattern, men_after, rights_after, target_after,
+    fullmove_after, halfmove_after, is_legal, men_after, rights_after, target_after,
 };
 use crate::setup::Setup;
 use crate::sound::{SetupFault, setup_fault};
@@ -118,11 +118,10 @@ impl Position {
 
     /// Whether the side on move may make this move: its man goes so, and its king is not attacked afterwards (Laws of
     /// Chess 2023, articles 3.1 to 3.9).
-    #[tactic(auto, unfolding(crate::specs::Moves::is_legal, crate::specs::Moves::after))]
     pub fn is_legal(&self, m: Move) -> bool
         ensures { result ≡ is_legal self.now m }
     {
-        has_pattern(&self.setup, &m) && !is_in_check(&men_after(&self.setup, &m), self.setup.side)
+        is_legal(&self.setup, &m)
     }
 
     /// The position after a legal move, which is sound too: `after_is_sound`.

@@ -1,0 +1,6 @@
+pub mod Backwards
+pub mod Steps
+pub mod Gathered
+pub mod Reach
+pub mod Parts
+pub mod Room

@@ -1,0 +1,67 @@
+//! What a board is.
+
+ghost use Rattle.std.specs.Prelude.{◌≡◌, IsTrue};
+ghost use Rattle.std.specs.List.{All};
+ghost use Rattle.chess_base.specs.Attacks.{is_in_check};
+ghost use Rattle.chess_base.specs.Before.{before, saved_of};
+ghost use Rattle.chess_base.specs.MoveList.{moves};
+ghost use Rattle.chess_base.specs.Moves.{after, is_legal};
+ghost use Rattle.chess_base.specs.Sound.{IsSound};
+ghost use Rattle.chess_moves.specs.Made.{WasMade, IsMade};
+
+use arrayvec::ArrayVec;
+use chess_base::{Move, Position, Saved};
+
+/// Moves in a list: at most 16 men move, and each has at most 56 moves.
+pub type MoveList = ArrayVec<Move, 896>;
+
+/// A board: one position at a time, always sound, that goes forward and back by moves.
+pub trait Board {
+    ghost use Rattle.chess_base.specs.declared.setup.Setup.{Setup};
+
+    /// The position that the board is at.
+    ghost position: { Self → Setup };
+
+    /// Leaves the board at that position.
+    fn set(&mut self, to: &Position)
+        ensures position { position self.new ≡ to.now }
+        ensures sound { IsSound (position self.new) };
+
+    /// The position that the board is at.
+    fn position(&self) -> Position
+        ensures value { result ≡ position self.now }
+        ensures sound { IsSound (position self.now) };
+
+    /// All legal moves, each once, rising by start square, end square and promotion (none, queen, rook, bishop, knight).
+    fn legal_moves(&self) -> MoveList
+        ensures moves { result.items ≡ moves (position self.now) }
+        ensures legal { All (λ m. IsTrue (is_legal (position self.now) m)) result.items };
+
+    /// Whether the side on move is in check (Laws of Chess 2023, article 3.9.1).
+    fn in_check(&self) -> bool
+        ensures { result ≡ is_in_check (position self.now).men (position self.now).side };
+
+    /// Makes a legal move, and gives what it does not keep.
+    fn make(&mut self, m: Move) -> Saved
+        requires { IsTrue (is_legal (position self.old) m) }
+        ensures position { position self.new ≡ after (position self.old) m }
+        ensures saved { result ≡ saved_of (position self.old) m }
+        ensures made { WasMade (position self.old) m result (position self.new) };
+
+    /// Takes back the move that was made last, by what `make` gave for it.
+    fn take_back(&mut self, m: Move, saved: Saved)
+        requires { IsMade (position self.old) m saved }
+        ensures position { position self.new ≡ before (position self.old) m saved }
+        ensures back { (p : Setup) → WasMade p m saved (position self.old) → position self.new ≡ p }
+        ensures sound { IsSound (position self.new) };
+}
+
+/// The law of every board: making a legal move and taking it back leaves the very position.
+pub fn make_then_take_back<B: Board>(board: &mut B, m: Move)
+    requires { IsTrue (is_legal (B.position board.old) m) }
+    ensures { B.position board.new ≡ B.position board.old }
+{
+    let again = m;
+    let saved = board.make(m);
+    board.take_back(again, saved);
+}

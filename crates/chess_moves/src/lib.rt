@@ -1,0 +1,13 @@
+//! Boards: all legal moves of a position in order, and a position that goes forward and back without loss.
+#![tactic(auto)]
+
+mod board;
+mod listing;
+mod moving;
+mod plain;
+
+pub use board::{Board, MoveList, make_then_take_back};
+pub use plain::Plain;
+
+#[cfg(test)]
+mod tests;
