@@ -4,3 +4,4 @@ pub mod Gathered
 pub mod Reach
 pub mod Parts
 pub mod Room
+pub mod SomeMove

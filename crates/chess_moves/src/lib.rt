@@ -7,6 +7,7 @@ mod moving;
 mod plain;
 
 pub use board::{Board, MoveList, make_then_take_back};
+pub use listing::has_legal_move;
 pub use plain::Plain;
 
 #[cfg(test)]

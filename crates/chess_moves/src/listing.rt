@@ -1,6 +1,6 @@
 //! The list of legal moves, man by man and end square by end square.
 
-ghost use Rattle.std.specs.Prelude.{◌≡◌, ◌+◌, ◌≤◌, ◌++◌, length};
+ghost use Rattle.std.specs.Prelude.{◌≡◌, ◌+◌, ◌≤◌, ◌++◌, length, nat_lt};
 ghost use Rattle.arrayvec.specs.ArrayVec.{array_vec_len};
 ghost use Rattle.chess_base.specs.MoveList.{moves};
 ghost use Rattle.chess_base.specs.Sound.{IsSound};
@@ -104,4 +104,22 @@ pub(crate) fn legal_moves(setup: &Setup) -> MoveList
         }
     }
     list
+}
+
+/// Whether a sound position has a legal move. It looks no further than the first man that has one.
+pub fn has_legal_move(setup: &Setup) -> bool
+    requires { IsSound setup.now }
+    ensures { result ≡ nat_lt 0 (length (moves setup.now)) }
+{
+    for number in 0..64 {
+        let from = Square::new(number);
+        let mut list = MoveList::new();
+        if is_of(setup.side, setup.men[from.index()]) {
+            add_moves_from(setup, from, &mut list);
+        }
+        if !list.is_empty() {
+            return true;
+        }
+    }
+    false
 }
