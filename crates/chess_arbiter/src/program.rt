@@ -6,6 +6,7 @@ ghost use Rattle.chess_arbiter.specs.Program.{asks_for_session, status_of, Serve
 use arrayvec::ArrayString;
 use chess_base::device::{Input, Output, put};
 use chess_cecp::{End, Fault, Session, run_session};
+use chess_moves::Plain;
 use std::alloc::Global;
 use std::fmt::Write;
 use std::process::Processes;
@@ -70,7 +71,7 @@ fn serve<R: Input, W: Output>(
 ) -> Result<End, ProgramFault>
     ensures { Served (R.seen input.old) (R.seen input.new) (W.seen output.old) (W.seen output.new) result }
 {
-    let Ok(mut session) = Session::open(alloc, SESSION_LIMIT) else {
+    let Ok(mut session) = Session::open(alloc, Plain::new(), SESSION_LIMIT) else {
         return Err(ProgramFault::NoMemory);
     };
     match run_session(input, output, &mut session) {

@@ -7,10 +7,12 @@ use Rattle.chess_base.specs.Moves.{is_legal}
 use Rattle.chess_cecp.specs.Lines.{LineSeen}
 use Rattle.chess_cecp.specs.Coordinates.{move_named}
 use Rattle.chess_cecp.specs.Commands.{command_of, argument_of}
-use Rattle.chess_cecp.specs.Game.{State, Seen, from_start, played, taken_back, current}
+use Rattle.chess_cecp.specs.Game.{State, Seen, from_start, played, taken_back, current, is_over, verdict_at}
+use Rattle.chess_cecp.specs.declared.game.Verdict.{Verdict}
+use Rattle.chess_cecp.specs.declared.game.Verdict.TheVariants.{WhiteMates, BlackMates, Stalemate}
 use Rattle.chess_cecp.specs.declared.command.Command.{Command}
-use Rattle.chess_cecp.specs.declared.command.Command.TheVariants.{New, UserMove, BareMove, Undo, Ping, ShowFen, Quit, Nothing, BadNumber, Unknown}
-use Rattle.chess_cecp.specs.Session.{Row, row, row_on, says, refuses, becomes, named_row, move_row, undo_row, stands, IsRefusal, answer_to, next_state}
+use Rattle.chess_cecp.specs.declared.command.Command.TheVariants.{New, UserMove, BareMove, Undo, Ping, ShowFen, ShowMoves, Quit, Nothing, BadNumber, Unknown}
+use Rattle.chess_cecp.specs.Session.{Row, row, row_on, says, refuses, becomes, becomes_judged, verdict_line, named_row, move_row, undo_row, stands, IsRefusal, answer_to, next_state}
 
 -- the first bytes of refusals: E, I and t
 abbrev pub begins_refusal : List ℕ → Bool
@@ -37,15 +39,28 @@ by_test : (b : Bool) (s : State) (x y : Row) → KeepsRefused s x → KeepsRefus
 by_test true s x y h k = h
 by_test false s x y h k = k
 
+verdict_begins : (o : Option Verdict) → begins_refusal (verdict_line o) ≡ false
+verdict_begins None = refl
+verdict_begins (Some WhiteMates) = refl
+verdict_begins (Some BlackMates) = refl
+verdict_begins (Some Stalemate) = refl
+
 named_keeps : (s : State) (text : List ℕ) (o : Option Move) → KeepsRefused s (named_row s text o)
 named_keeps s text None = λ h. refl
 named_keeps s text (Some m) =
-    by_test (is_legal (current s) m) s (becomes (played s m)) (refuses s (codes "Illegal move: ") text) (accepted s (becomes (played s m)) refl) (λ h. refl)
+    by_test (is_legal (current s) m) s (becomes_judged (played s m)) (refuses s (codes "Illegal move: ") text)
+    (accepted s (becomes_judged (played s m)) (verdict_begins (verdict_at (current (played s m)))))
+    (λ h. refl)
+
+-- the row of a move where the game is not over
+abbrev room_row : ℕ → State → List ℕ → Row
+room_row limit s text = if nat_le limit (length s.moves) then refuses s (codes "Error (game too long): ") text else named_row s text (move_named text)
 
 move_keeps : (limit : ℕ) (s : State) (text : List ℕ) → KeepsRefused s (move_row limit s text)
 move_keeps limit s text =
-    by_test (nat_le limit (length s.moves)) s (refuses s (codes "Error (game too long): ") text) (named_row s text (move_named text)) (λ h. refl)
-    (named_keeps s text (move_named text))
+    by_test (is_over s) s (refuses s (codes "Illegal move (game over): ") text) (room_row limit s text) (λ h. refl)
+    (by_test (nat_le limit (length s.moves)) s (refuses s (codes "Error (game too long): ") text) (named_row s text (move_named text)) (λ h. refl)
+    (named_keeps s text (move_named text)))
 
 row_keeps : (limit : ℕ) (s : State) (text argument : List ℕ) (command : Command) → KeepsRefused s (row limit s text argument command)
 row_keeps limit s text argument New = accepted s (becomes (from_start initial_setup)) refl
@@ -57,6 +72,7 @@ row_keeps limit s text argument Undo =
     (λ h. refl)
 row_keeps limit s text argument (Ping n) = λ h. refl
 row_keeps limit s text argument ShowFen = λ h. refl
+row_keeps limit s text argument ShowMoves = λ h. refl
 row_keeps limit s text argument Quit = λ h. refl
 row_keeps limit s text argument Nothing = λ h. refl
 row_keeps limit s text argument BadNumber = λ h. refl

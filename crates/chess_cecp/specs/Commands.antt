@@ -6,7 +6,7 @@ use Rattle.chess_base.specs.Letters.{byte}
 use Rattle.chess_cecp.specs.Lines.{is_blank, without_front_blanks}
 use Rattle.chess_cecp.specs.Coordinates.{move_named}
 use Rattle.chess_cecp.specs.declared.command.Command.{Command}
-use Rattle.chess_cecp.specs.declared.command.Command.TheVariants.{New, UserMove, BareMove, Undo, Ping, ShowFen, Quit, Nothing, BadNumber, Unknown}
+use Rattle.chess_cecp.specs.declared.command.Command.TheVariants.{New, UserMove, BareMove, Undo, Ping, ShowFen, ShowMoves, Quit, Nothing, BadNumber, Unknown}
 
 -- the bytes up to the first blank
 abbrev pub word_of : List ℕ → List ℕ
@@ -42,6 +42,7 @@ command_by word argument text =
     else if bytes_eq word (codes "undo") then Undo
     else if bytes_eq word (codes "ping") then ping_of (number_of argument)
     else if bytes_eq word (codes "showfen") then ShowFen
+    else if bytes_eq word (codes "showmoves") then ShowMoves
     else if bytes_eq word (codes "quit") then Quit
     else if is_some (move_named text) then BareMove
     else Unknown

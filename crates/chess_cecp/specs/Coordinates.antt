@@ -1,11 +1,12 @@
 -- Moves named by their squares: the start square, the end square, and for a promotion a letter.
-use Rattle.std.specs.Prelude.{ℕ, ◌+◌, ◌-◌, ◌*◌, ◌==◌, nat_le, Bool, ◌&&◌, ◌||◌, if◌then◌else◌, List, [], ◌∷◌, length, take, find, Option, None, Some, option_and_then}
+use Rattle.std.specs.Prelude.{ℕ, ◌+◌, ◌-◌, ◌*◌, ◌==◌, nat_le, Bool, ◌&&◌, ◌||◌, if◌then◌else◌, List, [], ◌∷◌, ◌++◌, length, take, find, Option, None, Some, option_and_then}
 use Rattle.std.specs.List.{suffix_len}
 use Rattle.std.specs.Option.{option_map}
 use Rattle.chess_base.specs.declared.man.Kind.{Kind}
 use Rattle.chess_base.specs.declared.man.Kind.TheVariants.{Queen, Rook, Bishop, Knight}
 use Rattle.chess_base.specs.declared.man.Move.{Move}
 use Rattle.chess_base.specs.Letters.{byte, white_letter}
+use Rattle.chess_base.specs.Writing.{square_text}
 
 -- the marks + # ! ?, which say something of a move and don't name it
 abbrev pub is_mark : ℕ → Bool
@@ -51,3 +52,14 @@ squares_named (f ∷ r ∷ g ∷ s ∷ rest) = option_and_then (λ from. option_
 -- the move that a text names
 unfoldable pub move_named : List ℕ → Option Move
 move_named text = squares_named (unmarked text)
+
+abbrev pub small_letter : Kind → ℕ
+small_letter k = white_letter k + 32
+
+abbrev pub promotion_text : Option Kind → List ℕ
+promotion_text None = []
+promotion_text (Some k) = small_letter k ∷ []
+
+-- the coordinate text of a move
+abbrev pub coordinate : Move → List ℕ
+coordinate m = square_text m.from ++ (square_text m.to ++ promotion_text m.promotion)

@@ -1,14 +1,16 @@
--- What a game keeps: each move that stands, and the position that it gave.
-use Rattle.std.specs.Prelude.{◌≡◌, List, [], ◌∷◌, map, IsTrue}
+-- What a game keeps of each move that stands.
+use Rattle.std.specs.Prelude.{◌≡◌, List, [], ◌∷◌, map}
 use Rattle.chess_base.specs.declared.man.Move.{Move}
 use Rattle.chess_base.specs.declared.setup.Setup.{Setup}
-use Rattle.chess_base.specs.Moves.{is_legal, after}
-use Rattle.chess_cecp.specs.declared.game.Played.{Played}
+use Rattle.chess_moves.specs.Made.{WasMade}
+use Rattle.chess_cecp.specs.Game.{verdict_at}
+use Rattle.chess_cecp.specs.declared.game.Place.{Place}
 
-abbrev pub moves_of : List Played → List Move
+abbrev pub moves_of : List Place → List Move
 moves_of places = map (λ x. x.made) places
 
--- each move is legal in the position before it, and gave the position beside it
-abbrev pub Follows : Setup → List Played → Type 0
+-- each move was made in the position before it: beside it stand what that saved, the position that it gave, and the
+-- verdict on that
+abbrev pub Follows : Setup → List Place → Type 0
 Follows p [] = Unit {0}
-Follows p (x ∷ xs) = IsTrue (is_legal p x.made) × (x.reached ≡ after p x.made) × Follows x.reached xs
+Follows p (x ∷ xs) = WasMade p x.made x.saved x.reached × (x.verdict ≡ verdict_at x.reached) × Follows x.reached xs

@@ -3,14 +3,18 @@ use Rattle.std.specs.Prelude.{◌⊎◌, ℕ, ◌||◌, ◌&&◌, not, nat_le, i
 use Rattle.chess_base.specs.Devices.{Begins}
 use Rattle.chess_base.specs.declared.man.Move.{Move}
 use Rattle.chess_base.specs.Initial.{initial_setup}
+use Rattle.std.specs.List.{flat_map}
 use Rattle.chess_base.specs.Moves.{is_legal}
+use Rattle.chess_base.specs.MoveList.{moves}
 use Rattle.chess_base.specs.Writing.{fen}
 use Rattle.chess_cecp.specs.Lines.{LineSeen}
-use Rattle.chess_cecp.specs.Coordinates.{move_named}
+use Rattle.chess_cecp.specs.Coordinates.{move_named, coordinate}
 use Rattle.chess_cecp.specs.Commands.{command_of, argument_of}
-use Rattle.chess_cecp.specs.Game.{State, Seen, from_start, played, taken_back, current}
+use Rattle.chess_cecp.specs.Game.{State, Seen, from_start, played, taken_back, current, is_over, verdict_at}
+use Rattle.chess_cecp.specs.declared.game.Verdict.{Verdict}
+use Rattle.chess_cecp.specs.declared.game.Verdict.TheVariants.{WhiteMates, BlackMates, Stalemate}
 use Rattle.chess_cecp.specs.declared.command.Command.{Command}
-use Rattle.chess_cecp.specs.declared.command.Command.TheVariants.{New, UserMove, BareMove, Undo, Ping, ShowFen, Quit, Nothing, BadNumber, Unknown}
+use Rattle.chess_cecp.specs.declared.command.Command.TheVariants.{New, UserMove, BareMove, Undo, Ping, ShowFen, ShowMoves, Quit, Nothing, BadNumber, Unknown}
 
 -- a text behind another, and byte 10
 abbrev pub line_text : List ℕ → List ℕ → List ℕ
@@ -33,15 +37,34 @@ refuses s front text = says s (line_text front text)
 abbrev pub becomes : State → Row
 becomes s = record { text = []; next = s }
 
+-- the line of a verdict, if there is one
+abbrev pub verdict_line : Option Verdict → List ℕ
+verdict_line None = []
+verdict_line (Some WhiteMates) = line_text (codes "1-0 {White mates}") []
+verdict_line (Some BlackMates) = line_text (codes "0-1 {Black mates}") []
+verdict_line (Some Stalemate) = line_text (codes "1/2-1/2 {Stalemate}") []
+
+-- the game changes, and the verdict on it is answered
+abbrev pub becomes_judged : State → Row
+becomes_judged s = record { text = verdict_line (verdict_at (current s)); next = s }
+
+-- a move behind a space; the line that lists moves
+abbrev pub shown : Move → List ℕ
+shown m = 32 ∷ coordinate m
+
+unfoldable pub moves_line : List Move → List ℕ
+moves_line ms = line_text (codes "# moves ") (decimal (length ms) ++ flat_map shown ms)
+
 -- the move that a text names, if it names one, is played where it is legal
 abbrev pub named_row : State → List ℕ → Option Move → Row
 named_row s text None = refuses s (codes "Illegal move: ") text
-named_row s text (Some m) = if is_legal (current s) m then becomes (played s m) else refuses s (codes "Illegal move: ") text
+named_row s text (Some m) = if is_legal (current s) m then becomes_judged (played s m) else refuses s (codes "Illegal move: ") text
 
 -- a move with this text is asked for
 abbrev pub move_row : ℕ → State → List ℕ → Row
 move_row limit s text =
-    if nat_le limit (length s.moves) then refuses s (codes "Error (game too long): ") text
+    if is_over s then refuses s (codes "Illegal move (game over): ") text
+    else if nat_le limit (length s.moves) then refuses s (codes "Error (game too long): ") text
     else named_row s text (move_named text)
 
 abbrev pub undo_row : State → Row
@@ -55,6 +78,7 @@ row limit s text argument BareMove = move_row limit s text
 row limit s text argument Undo = undo_row s
 row limit s text argument (Ping n) = says s (line_text (codes "pong ") (decimal n))
 row limit s text argument ShowFen = says s (line_text (codes "# fen ") (fen (current s)))
+row limit s text argument ShowMoves = says s (moves_line (moves (current s)))
 row limit s text argument Quit = says s []
 row limit s text argument Nothing = says s []
 row limit s text argument BadNumber = refuses s (codes "Error (bad number): ") text
@@ -89,6 +113,7 @@ is_quit_command BareMove = false
 is_quit_command Undo = false
 is_quit_command (Ping n) = false
 is_quit_command ShowFen = false
+is_quit_command ShowMoves = false
 is_quit_command Quit = true
 is_quit_command Nothing = false
 is_quit_command BadNumber = false

@@ -7,7 +7,7 @@ ghost use Rattle.chess_cecp.specs.Commands.{command_of, command_by, word_of, arg
 use crate::coordinate::move_named;
 use crate::trim::is_blank;
 
-/// The kinds of command (CECP, version 2; `showfen` is this project's own). A command's text stands in its line.
+/// The kinds of command (CECP, version 2; `showfen` and `showmoves` are this project's own). A command's text stands in its line.
 #[derive(Clone, Copy, Debug, PartialEq, Eq)]
 pub enum Command {
     /// `new`
@@ -22,6 +22,8 @@ pub enum Command {
     Ping(u32),
     /// `showfen`
     ShowFen,
+    /// `showmoves`
+    ShowMoves,
     /// `quit`
     Quit,
     /// An empty line.
@@ -107,6 +109,8 @@ pub fn read_command(text: &[u8]) -> Command
         ping(argument)
     } else if word == b"showfen".as_slice() {
         Command::ShowFen
+    } else if word == b"showmoves".as_slice() {
+        Command::ShowMoves
     } else if word == b"quit".as_slice() {
         Command::Quit
     } else if move_named(text).is_some() {

@@ -1,9 +1,14 @@
 //! Moves named by their squares.
 
-ghost use Rattle.std.specs.Prelude.{◌≡◌};
-ghost use Rattle.chess_cecp.specs.Coordinates.{is_mark, unmarked, square_at, promotion_kind, promotion_at, squares_named, move_named};
+ghost use Rattle.std.specs.Prelude.{◌≡◌, ◌++◌, ◌≤◌, length};
+ghost use Rattle.arrayvec.specs.ArrayVec.{array_vec_len};
+ghost use Rattle.chess_cecp.specs.Coordinates.{is_mark, unmarked, square_at, promotion_kind, promotion_at, squares_named, move_named, coordinate, small_letter};
 
+use arrayvec::ArrayVec;
 use chess_base::{Kind, Move, Square};
+
+// The coordinate text of a move.
+pub(crate) type CoordinateText = ArrayVec<u8, 5>;
 
 fn is_mark(byte: u8) -> bool
     ensures { result ≡ is_mark byte }
@@ -78,4 +83,34 @@ pub(crate) fn move_named(text: &[u8]) -> Option<Move>
     ensures { result ≡ move_named text.now }
 {
     squares_named(unmarked(text))
+}
+
+// The letter of the kind that a pawn becomes.
+fn small_letter(kind: Kind) -> u8
+    ensures { result ≡ small_letter kind }
+{
+    match kind {
+        Kind::King => b'k',
+        Kind::Queen => b'q',
+        Kind::Rook => b'r',
+        Kind::Bishop => b'b',
+        Kind::Knight => b'n',
+        Kind::Pawn => b'p',
+    }
+}
+
+/// The coordinate text of a move: its start square, its end square, and for a promotion one letter of `qrbn`.
+pub(crate) fn coordinate(m: &Move) -> CoordinateText
+    ensures text { result.items ≡ coordinate m.now }
+    ensures len { array_vec_len result ≤ 5 }
+{
+    let mut text = CoordinateText::new();
+    text.push(b'a' + m.from.file());
+    text.push(b'1' + m.from.rank());
+    text.push(b'a' + m.to.file());
+    text.push(b'1' + m.to.rank());
+    if let Some(kind) = m.promotion {
+        text.push(small_letter(kind));
+    }
+    text
 }

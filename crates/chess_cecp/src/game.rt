@@ -3,61 +3,111 @@
 ghost use Rattle.std.specs.Prelude.{◌≡◌, ◌≤◌, ◌<◌, IsTrue, IfOk, length, nat_le, if◌then◌else◌};
 ghost use Rattle.chess_base.specs.Moves.{is_legal};
 ghost use Rattle.chess_base.specs.Initial.{initial_setup};
-ghost use Rattle.chess_cecp.specs.Game.{from_start, played, taken_back, current, opened, IsPlayable};
+ghost use Rattle.chess_base.specs.MoveList.{moves};
+ghost use Rattle.chess_cecp.specs.Game.{from_start, played, taken_back, current, opened, is_over, IsPlayable, verdict_at};
 
-use chess_base::{Move, Position};
+use chess_base::{Colour, Move, Position, Saved};
+use chess_moves::{Board, MoveList, has_legal_move};
 use std::alloc::{AllocError, Global};
 use std::marker::Model;
 
-// A move that was played, and the position that it gave.
-#[derive(Clone, Copy, PartialEq, Eq)]
-pub(crate) struct Played {
-    pub(crate) made: Move,
-    pub(crate) reached: Position,
+/// Why a game is over by what stands on the board (Laws of Chess 2023, article 5).
+#[derive(Clone, Copy, Debug, PartialEq, Eq)]
+pub enum Verdict {
+    WhiteMates,
+    BlackMates,
+    Stalemate,
 }
 
-// A game of at most `limit` moves. In contracts it is its start, the moves that stand, and what was declared.
+// A move that was played: what it did not keep, the position that it gave, and the verdict on that.
+#[derive(Clone, Copy, PartialEq, Eq)]
+pub(crate) struct Place {
+    pub(crate) made: Move,
+    pub(crate) saved: Saved,
+    pub(crate) reached: Position,
+    pub(crate) verdict: Option<Verdict>,
+}
+
+// A game of at most `limit` moves on a board. In contracts it is its start, the moves that stand, and what was
+// declared.
 #[derive(Drop)]
-pub(crate) struct Game {
+pub(crate) struct Game<B: Board> {
+    board: B,
     start: Position,
-    played: Vec<Played>,
+    start_verdict: Option<Verdict>,
+    places: Vec<Place>,
     limit: usize,
 }
 
-impl Model for Game {
+impl<B: Board> Model for Game<B> {
     ghost use Rattle.chess_cecp.specs.Game.{Seen};
 
     ghost Value = { Seen };
 
-    ghost use Rattle.std.specs.Prelude.{◌≤◌, map, None, vec_len, vec_capacity};
+    ghost use Rattle.std.specs.Prelude.{◌≡◌, ◌≤◌, None, vec_len, vec_capacity};
+    ghost use Rattle.chess_cecp.specs.Game.{last, verdict_at};
     ghost use Rattle.chess_cecp.specs.Places.{moves_of, Follows};
 
     ghost view = { λ g. record {
       limit = g.limit;
-      state = record { start = g.start; moves = moves_of g.played.items; declared = None };
+      state = record { start = g.start; moves = moves_of g.places.items; declared = None };
     } };
 
-    ghost invariant = { λ g. (Follows g.start g.played.items) × (vec_len g.played ≤ g.limit) × (g.limit ≤ vec_capacity g.played) };
+    ghost invariant = { λ g. (Follows g.start g.places.items) × (B.position g.board ≡ last g.start (moves_of g.places.items))
+        × (g.start_verdict ≡ verdict_at g.start) × (vec_len g.places ≤ g.limit) × (g.limit ≤ vec_capacity g.places) };
 }
 
-impl Game {
-    // The initial position with no moves. All places for moves are made here.
-    pub(crate) fn open(alloc: Global, limit: usize) -> Result<Self, AllocError>
+// The verdict on the position of a board.
+#[tactic(auto, unfolding(crate::specs::Game::verdict_at))]
+fn verdict_on<B: Board>(board: &B) -> Option<Verdict>
+    ensures { result ≡ verdict_at (B.position board.now) }
+{
+    let position = board.position();
+    if has_legal_move(position.setup()) {
+        None
+    } else if board.in_check() {
+        Some(mates(position.side().other()))
+    } else {
+        Some(Verdict::Stalemate)
+    }
+}
+
+fn mates(colour: Colour) -> Verdict
+    ensures { result ≡ Rattle.chess_cecp.specs.Game.mates colour }
+{
+    match colour {
+        Colour::White => Verdict::WhiteMates,
+        Colour::Black => Verdict::BlackMates,
+    }
+}
+
+impl<B: Board + Drop> Game<B> {
+    // The initial position with no moves, wherever the board was. All places for moves are made here.
+    pub(crate) fn open(alloc: Global, mut board: B, limit: usize) -> Result<Self, AllocError>
         ensures { IfOk result (λ g. g ≡ opened limit) }
     {
+        let start = Position::initial();
+        board.set(&start);
+        let start_verdict = verdict_on(&board);
         Ok(Game {
-            start: Position::initial(),
-            played: Vec::with_capacity(alloc, limit)?,
+            board,
+            start,
+            start_verdict,
+            places: Vec::with_capacity(alloc, limit)?,
             limit,
         })
     }
+}
 
+impl<B: Board> Game<B> {
     // The initial position with no moves, and nothing declared.
     pub(crate) fn restart(&mut self)
         ensures { self.new ≡ record { limit = self.old.limit; state = from_start initial_setup } }
     {
         self.start = Position::initial();
-        self.played.clear();
+        self.board.set(&self.start);
+        self.start_verdict = verdict_on(&self.board);
+        self.places.clear();
     }
 
     // The position on the board.
@@ -66,17 +116,39 @@ impl Game {
         ensures playable { IsPlayable self.now }
     {
         let _sound = self.start.setup();
-        match self.played.as_slice().last() {
-            Some(played) => played.reached,
-            None => self.start,
+        self.board.position()
+    }
+
+    // All legal moves, in order.
+    pub(crate) fn legal_moves(&self) -> MoveList
+        ensures { result.items ≡ moves (current self.now.state) }
+    {
+        self.board.legal_moves()
+    }
+
+    // Why the game is over by what stands on the board, if it is.
+    pub(crate) fn verdict(&self) -> Option<Verdict>
+        ensures value { result ≡ verdict_at (current self.now.state) }
+        ensures undeclared { self.now.state.declared ≡ None }
+    {
+        match self.places.as_slice().last() {
+            Some(place) => place.verdict,
+            None => self.start_verdict,
         }
+    }
+
+    // Whether the game is over: there is a verdict, or a result was declared.
+    pub(crate) fn is_over(&self) -> bool
+        ensures { result ≡ is_over self.now.state }
+    {
+        self.verdict().is_some()
     }
 
     // Whether as many moves stand as can.
     pub(crate) fn is_full(&self) -> bool
         ensures { result ≡ nat_le self.now.limit (length self.now.state.moves) }
     {
-        self.played.len() >= self.limit
+        self.places.len() >= self.limit
     }
 
     // Plays a move where it is legal, and answers whether it is.
@@ -85,13 +157,18 @@ impl Game {
         ensures legal { result ≡ is_legal (current self.old.state) m }
         ensures game { self.new ≡ (if is_legal (current self.old.state) m then record { limit = self.old.limit; state = played self.old.state m } else self.old) }
     {
-        let position = self.position();
         let (judged, made) = (m, m);
-        if !position.is_legal(judged) {
+        if !self.board.position().is_legal(judged) {
             return false;
         }
-        let reached = position.after(made);
-        if self.played.push(Played { made: m, reached }).is_err() {
+        let saved = self.board.make(made);
+        let place = Place {
+            made: m,
+            saved,
+            reached: self.board.position(),
+            verdict: verdict_on(&self.board),
+        };
+        if self.places.push(place).is_err() {
             unreachable!();
         }
         true
@@ -102,6 +179,12 @@ impl Game {
         ensures some { result ≡ nat_le 1 (length self.old.state.moves) }
         ensures game { self.new ≡ (if nat_le 1 (length self.old.state.moves) then record { limit = self.old.limit; state = taken_back self.old.state 1 } else self.old) }
     {
-        self.played.pop().is_some()
+        match self.places.pop() {
+            None => false,
+            Some(place) => {
+                self.board.take_back(place.made, place.saved);
+                true
+            }
+        }
     }
 }

@@ -6,6 +6,7 @@ ghost use Rattle.chess_cecp.specs.Run.{Transcript, Ran};
 use crate::lines::Lines;
 use crate::session::{Go, Session};
 use chess_base::device::{Input, Output};
+use chess_moves::Board;
 
 /// How a session ended.
 #[derive(Clone, Copy, Debug, PartialEq, Eq)]
@@ -29,10 +30,10 @@ pub enum Fault {
 /// # Errors
 /// Where a call of the reader or of the writer failed. After a failed read all whole lines were answered; after a
 /// failed write the change of its line stands, and a beginning of the answer was written.
-pub fn run_session<R: Input, W: Output>(
+pub fn run_session<R: Input, W: Output, B: Board>(
     reader: &mut R,
     writer: &mut W,
-    session: &mut Session,
+    session: &mut Session<B>,
 ) -> Result<End, Fault>
     ensures { (t : Transcript) × Ran (R.seen reader.old) (R.seen reader.new) (W.seen writer.old) (W.seen writer.new)
         session.old session.new t result }

@@ -1,20 +1,22 @@
 //! A session: one game, and the answers to lines.
 
-ghost use Rattle.std.specs.Prelude.{◌≡◌, ◌+◌, ◌≤◌, ◌++◌, ◌∷◌, [], if◌then◌else◌, IfOk, length, codes, decimal};
+ghost use Rattle.std.specs.List.{flat_map};
+ghost use Rattle.std.specs.Prelude.{◌≡◌, ◌+◌, ◌*◌, ◌≤◌, ◌++◌, ◌∷◌, [], if◌then◌else◌, IfOk, length, codes, decimal};
 ghost use Rattle.arrayvec.specs.ArrayVec.{array_vec_len};
 ghost use Rattle.chess_base.specs.Devices.{Puts};
 ghost use Rattle.chess_base.specs.Writing.{fen};
 ghost use Rattle.chess_cecp.specs.Game.{opened, current, IsPlayable};
 ghost use Rattle.chess_cecp.specs.Coordinates.{move_named as named_by};
-ghost use Rattle.chess_cecp.specs.Session.{row, row_on, move_row, named_row, undo_row, stands, next_state, answer_to, is_quit, is_quit_command, line_text};
+ghost use Rattle.chess_cecp.specs.Session.{row, row_on, move_row, named_row, undo_row, moves_line, shown, verdict_line, stands, next_state, answer_to, is_quit, is_quit_command, line_text};
 
 use crate::command::{Command, argument, read_command};
-use crate::coordinate::move_named;
-use crate::game::Game;
+use crate::coordinate::{coordinate, move_named};
+use crate::game::{Game, Verdict};
 use crate::lines::Line;
 use arrayvec::ArrayVec;
 use chess_base::device::{Output, WriteFault, put};
-use chess_base::{Position, write_fen};
+use chess_base::{Move, Position, write_fen};
+use chess_moves::Board;
 use itoa::Buffer;
 use std::alloc::{AllocError, Global};
 use std::marker::Model;
@@ -26,19 +28,20 @@ pub enum Go {
     Quit,
 }
 
-// The text of an answer, put together before it is written: an echoed line of 1,024 bytes and the words before it.
-const ANSWER_LEN: usize = 1100;
+// The most bytes of an answer, which is put together before it is written: `# moves`, a number, and six bytes for each
+// of 896 moves; or an echoed line of 1,024 bytes and the words before it.
+const ANSWER_LEN: usize = 5500;
 
 type Answer = ArrayVec<u8, ANSWER_LEN>;
 
 /// A session over one game. In contracts it is the game's start, the moves that stand and what was declared, and the
 /// number of half-moves that can stand.
 #[derive(Drop)]
-pub struct Session {
-    game: Game,
+pub struct Session<B: Board> {
+    game: Game<B>,
 }
 
-impl Model for Session {
+impl<B: Board> Model for Session<B> {
     ghost use Rattle.chess_cecp.specs.Game.{Seen};
 
     ghost Value = { Seen };
@@ -48,7 +51,7 @@ impl Model for Session {
 
 // A text behind another, and byte 10.
 fn write_line(answer: &mut Answer, front: &[u8], text: &[u8])
-    requires { array_vec_len answer.old + length front.now + length text.now + 1 ≤ 1100 }
+    requires { array_vec_len answer.old + length front.now + length text.now + 1 ≤ 5500 }
     ensures { answer.new.items ≡ answer.old.items ++ line_text front.now text.now }
 {
     answer.try_extend_from_slice(front).unwrap();
@@ -64,22 +67,67 @@ fn write_pong(answer: &mut Answer, number: u32)
     write_line(answer, b"pong ", buffer.format(number).as_bytes());
 }
 
-impl Session {
-    /// A session as `new` leaves it: the initial position, no moves, nothing declared. All memory is taken here, for
-    /// `limit` half-moves.
+// The line of a verdict, if there is one.
+fn write_verdict(answer: &mut Answer, verdict: Option<Verdict>)
+    requires { array_vec_len answer.old ≤ 1000 }
+    ensures { answer.new.items ≡ answer.old.items ++ verdict_line verdict }
+{
+    match verdict {
+        None => {}
+        Some(Verdict::WhiteMates) => write_line(answer, b"1-0 {White mates}", b""),
+        Some(Verdict::BlackMates) => write_line(answer, b"0-1 {Black mates}", b""),
+        Some(Verdict::Stalemate) => write_line(answer, b"1/2-1/2 {Stalemate}", b""),
+    }
+}
+
+// The line that lists moves.
+#[tactic(auto, unfolding(crate::specs::Session::moves_line))]
+fn write_moves(answer: &mut Answer, moves: &[Move])
+    requires few { length moves.now ≤ 896 }
+    requires empty { answer.old.items ≡ [] }
+    ensures { answer.new.items ≡ moves_line moves.now }
+{
+    let mut buffer = Buffer::new();
+    answer.try_extend_from_slice(b"# moves ").unwrap();
+    answer
+        .try_extend_from_slice(buffer.format(moves.len()).as_bytes())
+        .unwrap();
+    write_each(answer, moves);
+    answer.push(b'\n');
+}
+
+// Each move behind a space.
+fn write_each(answer: &mut Answer, moves: &[Move])
+    requires { array_vec_len answer.old + 6 * length moves.now ≤ 5500 }
+    ensures text { answer.new.items ≡ answer.old.items ++ flat_map shown moves.now }
+    ensures len { array_vec_len answer.new ≤ array_vec_len answer.old + 6 * length moves.now }
+{
+    for m in moves {
+        answer.push(b' ');
+        answer
+            .try_extend_from_slice(coordinate(m).as_slice())
+            .unwrap();
+    }
+}
+
+impl<B: Board + Drop> Session<B> {
+    /// A session as `new` leaves it: the initial position, no moves, nothing declared, wherever the board was. All
+    /// memory is taken here, for `limit` half-moves.
     ///
     /// # Errors
-    /// Where there is no memory; what was taken is given back.
-    pub fn open(alloc: Global, limit: u32) -> Result<Self, AllocError>
+    /// Where there is no memory; what was taken is given back, and the board is dropped.
+    pub fn open(alloc: Global, board: B, limit: u32) -> Result<Self, AllocError>
         requires some { 1 ≤ limit }
         requires few { limit ≤ 20000 }
         ensures { IfOk result (λ s. s ≡ opened limit) }
     {
         Ok(Session {
-            game: Game::open(alloc, limit as usize)?,
+            game: Game::open(alloc, board, limit as usize)?,
         })
     }
+}
 
+impl<B: Board> Session<B> {
     /// The position on the board: the one that the start and the moves that stand give.
     pub fn position(&self) -> Position
         ensures value { result ≡ current self.now.state }
@@ -95,6 +143,10 @@ impl Session {
         ensures next { self.new ≡ stands self.old (move_row self.old.limit self.old.state text.now) }
         ensures text { answer.new.items ≡ (move_row self.old.limit self.old.state text.now).text }
     {
+        if self.game.is_over() {
+            write_line(answer, b"Illegal move (game over): ", text);
+            return;
+        }
         if self.game.is_full() {
             write_line(answer, b"Error (game too long): ", text);
             return;
@@ -103,7 +155,9 @@ impl Session {
             Some(m) => self.game.try_play(m),
             None => false,
         };
-        if !is_played {
+        if is_played {
+            write_verdict(answer, self.game.verdict());
+        } else {
             write_line(answer, b"Illegal move: ", text);
         }
     }
@@ -141,6 +195,7 @@ impl Session {
             Command::Undo => self.undo(answer),
             Command::Ping(number) => write_pong(answer, number),
             Command::ShowFen => self.show_fen(answer),
+            Command::ShowMoves => write_moves(answer, self.game.legal_moves().as_slice()),
             Command::Quit | Command::Nothing => {}
             Command::BadNumber => write_line(answer, b"Error (bad number): ", text),
             Command::Unknown => write_line(answer, b"Error (unknown command): ", text),

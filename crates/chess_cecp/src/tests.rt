@@ -4,7 +4,8 @@ use crate::lines::Lines;
 use crate::run::{End, Fault, run_session};
 use crate::session::Session;
 use chess_base::device::{Counted, GatedReader, GatedWriter, PieceReader, PieceWriter};
-use chess_base::{Position, Square, write_fen};
+use chess_base::{Move, Position, Square, write_fen};
+use chess_moves::{Board, Plain};
 use std::alloc::Global;
 use std::cell::Cell;
 use std::process::Abort;
@@ -18,7 +19,7 @@ struct Run {
 }
 
 // The rows of the first stage, and what stands beside them.
-const RUNS: [Run; 16] = [
+const RUNS: [Run; 20] = [
     Run {
         input: b"new\ne2e4\nping 7\nundo\nshowfen\nquit\nshowfen\n",
         answers: b"pong 7\n# fen rnbqkbnr/pppppppp/8/8/8/8/PPPPPPPP/RNBQKBNR w KQkq - 0 1\n",
@@ -97,6 +98,30 @@ const RUNS: [Run; 16] = [
         answers: b"Illegal move: f7f6\nIllegal move: a7a6\n# fen r1bq1bnr/pppp1kpp/2n5/4p3/4P3/8/PPPP1PPP/RNB1KBNR w KQ - 0 4\n",
         end: End::InputEnded,
     },
+    // All legal moves, in order; and none.
+    Run {
+        input: b"new\nshowmoves\n",
+        answers: b"# moves 20 b1a3 b1c3 g1f3 g1h3 a2a3 a2a4 b2b3 b2b4 c2c3 c2c4 d2d3 d2d4 e2e3 e2e4 f2f3 f2f4 g2g3 g2g4 h2h3 h2h4\n",
+        end: End::InputEnded,
+    },
+    // Black mates in two moves; the game is over until the move is taken back.
+    Run {
+        input: b"new\nf2f3\ne7e5\ng2g4\nd8h4\na2a3\nusermove x\nshowmoves\nundo\nd8e7\na2a3\nnew\na2a3\n",
+        answers: b"0-1 {Black mates}\nIllegal move (game over): a2a3\nIllegal move (game over): x\n# moves 0\n",
+        end: End::InputEnded,
+    },
+    // White mates in four: 1. e4 e5 2. Bc4 Nc6 3. Qh5 Nf6 4. Qxf7#.
+    Run {
+        input: b"e2e4\ne7e5\nf1c4\nb8c6\nd1h5\ng8f6\nh5f7\ne8f7\nundo\nundo\nundo\nshowfen\n",
+        answers: b"1-0 {White mates}\nIllegal move (game over): e8f7\n# fen r1bqkbnr/pppp1ppp/2n5/4p3/2B1P3/8/PPPP1PPP/RNBQK1NR w KQkq - 2 3\n",
+        end: End::InputEnded,
+    },
+    // Stalemate in ten, by Sam Loyd: 10. Qe6.
+    Run {
+        input: b"e2e3\na7a5\nd1h5\na8a6\nh5a5\nh7h5\nh2h4\na6h6\na5c7\nf7f6\nc7d7\ne8f7\nd7b7\nd8d3\nb7b8\nd3h7\nb8c8\nf7g6\nc8e6\nshowfen\n",
+        answers: b"1/2-1/2 {Stalemate}\n# fen 5bnr/4p1pq/4Qpkr/7p/7P/4P3/PPPP1PP1/RNB1KBNR b KQ - 2 10\n",
+        end: End::InputEnded,
+    },
     Run {
         input: b"quit now\nping 1\n",
         answers: b"",
@@ -112,7 +137,7 @@ const RUNS: [Run; 16] = [
 // Runs a session of `limit` half-moves on an input in pieces, where calls of the devices fail.
 fn check(
     rt: &impl Abort,
-    mut session: Session,
+    mut session: Session<Plain>,
     mut reader: Counted<PieceReader<'_>>,
     mut writer: Counted<PieceWriter>,
     answers: &[u8],
@@ -135,7 +160,7 @@ fn taking(alloc: Global, cut: usize, fails_at: u64) -> Counted<PieceWriter> {
 fn runs_however_they_are_cut(rt: HostRuntime) -> Result<(), Fail> {
     for run in &RUNS {
         for cut in 1..=run.input.len() {
-            let session = Session::open(rt.alloc(), 100)?;
+            let session = Session::open(rt.alloc(), Plain::new(), 100)?;
             let writer = taking(rt.alloc(), cut, 0);
             check(
                 &rt,
@@ -146,7 +171,7 @@ fn runs_however_they_are_cut(rt: HostRuntime) -> Result<(), Fail> {
                 Ok(run.end),
             );
         }
-        let session = Session::open(rt.alloc(), 100)?;
+        let session = Session::open(rt.alloc(), Plain::new(), 100)?;
         let writer = taking(rt.alloc(), 1024, 0);
         check(
             &rt,
@@ -162,7 +187,7 @@ fn runs_however_they_are_cut(rt: HostRuntime) -> Result<(), Fail> {
 
 #[test]
 fn no_more_moves_than_the_limit(rt: HostRuntime) -> Result<(), Fail> {
-    let session = Session::open(rt.alloc(), 3)?;
+    let session = Session::open(rt.alloc(), Plain::new(), 3)?;
     let writer = taking(rt.alloc(), 100, 0);
     check(
         &rt,
@@ -189,7 +214,7 @@ fn a_read_that_fails_at_each_place(rt: HostRuntime) -> Result<(), Fail> {
             } else {
                 Ok(End::InputEnded)
             };
-            let session = Session::open(rt.alloc(), 1)?;
+            let session = Session::open(rt.alloc(), Plain::new(), 1)?;
             let writer = taking(rt.alloc(), 100, 0);
             check(
                 &rt,
@@ -211,7 +236,7 @@ fn a_write_that_fails_at_each_place(rt: HostRuntime) -> Result<(), Fail> {
     let answers = b"pong 1\npong 1\npong 1\n";
     for calls in 0..15 {
         let taken = calls / 5 * 7 + (calls % 5 * 2).min(7);
-        let session = Session::open(rt.alloc(), 1)?;
+        let session = Session::open(rt.alloc(), Plain::new(), 1)?;
         let writer = taking(rt.alloc(), 2, calls as u64 + 1);
         check(
             &rt,
@@ -222,7 +247,7 @@ fn a_write_that_fails_at_each_place(rt: HostRuntime) -> Result<(), Fail> {
             Err(Fault::Write),
         );
     }
-    let session = Session::open(rt.alloc(), 1)?;
+    let session = Session::open(rt.alloc(), Plain::new(), 1)?;
     let writer = taking(rt.alloc(), 0, 0);
     check(
         &rt,
@@ -237,7 +262,7 @@ fn a_write_that_fails_at_each_place(rt: HostRuntime) -> Result<(), Fail> {
 
 #[test]
 fn a_move_stands_where_writing_breaks_off(rt: HostRuntime) -> Result<(), Fail> {
-    let mut session = Session::open(rt.alloc(), 100)?;
+    let mut session = Session::open(rt.alloc(), Plain::new(), 100)?;
     let mut reader = pieces(b"e2e4\nshowfen\n", 100, 0);
     let mut writer = taking(rt.alloc(), 3, 3);
     let ended = run_session(&mut reader, &mut writer, &mut session);
@@ -257,7 +282,7 @@ fn an_answer_is_flushed_before_more_is_read(rt: HostRuntime) -> Result<(), Fail>
     let flushed = Cell::new(0);
     let mut reader = Counted::reading(GatedReader::new(b"ping 1\nping 2\nquit\n", &flushed));
     let mut writer = Counted::writing(GatedWriter::new(rt.alloc(), &flushed));
-    let mut session = Session::open(rt.alloc(), 1)?;
+    let mut session = Session::open(rt.alloc(), Plain::new(), 1)?;
     let ended = run_session(&mut reader, &mut writer, &mut session);
     assert_eq!(rt; ended, Ok(End::Quit));
     assert_eq!(rt;
@@ -290,7 +315,7 @@ fn lines_of_1024_bytes_and_more(rt: HostRuntime) -> Result<(), Fail> {
         answers.extend_from_slice(behind)?;
     }
     for cut in [1, 1000, 1024, 5000] {
-        let session = Session::open(rt.alloc(), 1)?;
+        let session = Session::open(rt.alloc(), Plain::new(), 1)?;
         let writer = taking(rt.alloc(), cut, 0);
         check(
             &rt,
@@ -325,7 +350,7 @@ fn what_was_read_stays_after_a_fault(rt: HostRuntime) -> Result<(), Fail> {
 
 #[test]
 fn commands_are_told_by_their_first_word(rt: HostRuntime) {
-    let commands: [(&[u8], Command); 9] = [
+    let commands: [(&[u8], Command); 10] = [
         (b"", Command::Nothing),
         (b"new game", Command::New),
         (b"usermove\te7e8q", Command::UserMove),
@@ -334,6 +359,7 @@ fn commands_are_told_by_their_first_word(rt: HostRuntime) {
         (b"ping 000000012", Command::Ping(12)),
         (b"ping -1", Command::BadNumber),
         (b"showfen", Command::ShowFen),
+        (b"showmoves", Command::ShowMoves),
         (b"quit", Command::Quit),
     ];
     for (text, command) in commands {
@@ -346,7 +372,17 @@ fn commands_are_told_by_their_first_word(rt: HostRuntime) {
 fn a_session_opens_at_the_initial_position(rt: HostRuntime) -> Result<(), Fail> {
     lines_are_pieces();
     refusals_change_nothing();
-    let session = Session::open(rt.alloc(), 20_000)?;
+    let mut board = Plain::new();
+    let e4 = Move {
+        from: Square::new(12),
+        to: Square::new(28),
+        promotion: None,
+    };
+    let (judged, made) = (e4, e4);
+    let initial = Position::initial();
+    assert!(rt; initial.is_legal(judged));
+    board.set(&initial.after(made));
+    let session = Session::open(rt.alloc(), board, 20_000)?;
     assert!(rt; session.position() == Position::initial());
     Ok(())
 }

@@ -1,11 +1,21 @@
-use Rattle.std.proofs.Common.{arith, ◌-◌}
-use Rattle.std.specs.Vec.{vec_len}
-use Rattle.chess_cecp.proofs.Kept.{follows_fewer}
+use Rattle.std.proofs.Common.{arith}
+use Rattle.chess_cecp.specs.Game.{last}
+use Rattle.chess_cecp.specs.Places.{moves_of}
+use Rattle.chess_cecp.proofs.Kept.{taken, fewer}
 use Rattle.chess_cecp.proofs.game.Game.take_back.Goals as goal
 
-pub invariant_of-self : goal.invariant_of-self
-invariant_of-self c = (
-  rw c.pop.ensures.rest (follows_fewer (vec_len c.self.inside.played - 1) c.self.inside.start c.self.inside.played.items c.self.invariant.0),
+pub take_back-requires : goal.take_back-requires
+take_back-requires g c = (
+  last c.self.inside.start (moves_of c.pop.new.self.items),
+  taken c.self.inside.start c.self.inside.places.items c.pop.new.self.items c.in-Some.place _ c.self.invariant.0 c.in-Some.ensures.items c.self.invariant.1,
+)
+
+pub invariant_of-self-in-Some : goal.invariant_of-self-in-Some
+invariant_of-self-in-Some g c = (
+  fewer c.self.inside.start c.self.inside.places.items c.pop.new.self.items c.in-Some.place c.self.invariant.0 c.in-Some.ensures.items,
+  c.take_back.ensures.back (last c.self.inside.start (moves_of c.pop.new.self.items))
+      (taken c.self.inside.start c.self.inside.places.items c.pop.new.self.items c.in-Some.place _ c.self.invariant.0 c.in-Some.ensures.items c.self.invariant.1),
+  c.self.invariant.2,
   omega arith,
   omega arith,
 )
