@@ -56,12 +56,15 @@ pub trait Board {
         ensures sound { IsSound (position self.new) };
 }
 
-/// The law of every board: making a legal move and taking it back leaves the very position.
-pub fn make_then_take_back<B: Board>(board: &mut B, m: Move)
+/// The law of every board: a legal move that is made and taken back leaves the very position. It gives the position in between.
+pub fn make_then_take_back<B: Board>(board: &mut B, m: Move) -> Position
     requires { IsTrue (is_legal (B.position board.old) m) }
-    ensures { B.position board.new ≡ B.position board.old }
+    ensures between { result ≡ after (B.position board.old) m }
+    ensures back { B.position board.new ≡ B.position board.old }
 {
     let again = m;
     let saved = board.make(m);
+    let between = board.position();
     board.take_back(again, saved);
+    between
 }
