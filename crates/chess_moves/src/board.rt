@@ -46,7 +46,8 @@ pub trait Board {
         requires { IsTrue (is_legal (position self.old) m) }
         ensures position { position self.new ≡ after (position self.old) m }
         ensures saved { result ≡ saved_of (position self.old) m }
-        ensures made { WasMade (position self.old) m result (position self.new) };
+        ensures made { WasMade (position self.old) m result (position self.new) }
+        ensures sound { IsSound (position self.new) };
 
     /// Takes back the move that was made last, by what `make` gave for it.
     fn take_back(&mut self, m: Move, saved: Saved)
