@@ -77,8 +77,16 @@ fn move_men_back(setup: &mut Setup, m: &Move, saved: &Saved)
     let rook = man_of(colour, Kind::Rook);
     put(&mut setup.men, Some(landed_on), None);
     put(&mut setup.men, castled_rook_to(colour, castling), None);
-    put(&mut setup.men, captured_from(colour, m, saved), saved.captured);
-    put(&mut setup.men, castled_rook_from(colour, saved, castling), rook);
+    put(
+        &mut setup.men,
+        captured_from(colour, m, saved),
+        saved.captured,
+    );
+    put(
+        &mut setup.men,
+        castled_rook_from(colour, saved, castling),
+        rook,
+    );
     put(&mut setup.men, Some(m.from), man);
 }
 
