@@ -10,7 +10,8 @@ use std::process::ExitCode;
 use std::time::{Duration, Instant};
 use std::{env, io};
 
-const USAGE: &str = "usage: bench DEPTH [FEN..], with DEPTH from 0 to 255; no FEN is the initial position, and no other can be read yet";
+const USAGE: &str =
+    "usage: bench DEPTH [FEN..], with DEPTH from 0 to 255; no FEN is the initial position, and no other can be read yet";
 
 // How many lines of so many legal moves there are.
 fn count_lines<B: Board>(board: &mut B, depth: u8) -> u64

@@ -46,7 +46,8 @@ pub trait Board {
         requires { IsTrue (is_legal (position self.old) m) }
         ensures position { position self.new ≡ after (position self.old) m }
         ensures saved { result ≡ saved_of (position self.old) m }
-        ensures made { WasMade (position self.old) m result (position self.new) };
+        ensures made { WasMade (position self.old) m result (position self.new) }
+        ensures sound { IsSound (position self.new) };
 
     /// Takes back the move that was made last, by what `make` gave for it.
     fn take_back(&mut self, m: Move, saved: Saved)
@@ -56,12 +57,15 @@ pub trait Board {
         ensures sound { IsSound (position self.new) };
 }
 
-/// The law of every board: making a legal move and taking it back leaves the very position.
-pub fn make_then_take_back<B: Board>(board: &mut B, m: Move)
+/// The law of every board: a legal move that is made and taken back leaves the very position. It gives the position in between.
+pub fn make_then_take_back<B: Board>(board: &mut B, m: Move) -> Position
     requires { IsTrue (is_legal (B.position board.old) m) }
-    ensures { B.position board.new ≡ B.position board.old }
+    ensures between { result ≡ after (B.position board.old) m }
+    ensures back { B.position board.new ≡ B.position board.old }
 {
     let again = m;
     let saved = board.make(m);
+    let between = board.position();
     board.take_back(again, saved);
+    between
 }

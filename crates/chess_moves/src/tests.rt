@@ -1,6 +1,6 @@
 ghost use Rattle.std.specs.Prelude.{◌≡◌, OnOk};
 
-use crate::board::Board;
+use crate::board::{Board, make_then_take_back};
 use crate::plain::Plain;
 use chess_base::{Colour, ColourRights, Kind, Man, Position, Rights, Setup, Square};
 use std::test::Fail;
@@ -98,5 +98,18 @@ fn plain_counts_lines_from_kiwipete(rt: HostRuntime) -> Result<(), Fail> {
     let kiwipete = position_of(KIWIPETE).ok_or("sound")?;
     let counts = line_counts(&mut Plain::new(), &kiwipete)?;
     assert_eq!(rt; counts, (48, 2_039, 97_862));
+    Ok(())
+}
+
+#[test]
+fn what_is_made_is_the_position_after(rt: HostRuntime) -> Result<(), Fail> {
+    let kiwipete = position_of(KIWIPETE).ok_or("sound")?;
+    let mut board = Plain::new();
+    board.set(&kiwipete);
+    let moves = board.legal_moves();
+    for m in moves.as_slice() {
+        assert!(rt; make_then_take_back(&mut board, *m) == kiwipete.after(*m));
+    }
+    assert!(rt; board.position() == kiwipete);
     Ok(())
 }
