@@ -6,7 +6,7 @@ use Rattle.chess_base.specs.declared.man.Colour.{Colour}
 use Rattle.chess_base.specs.declared.man.Colour.TheVariants.{White, Black}
 use Rattle.chess_base.specs.declared.man.Rights.{Rights}
 use Rattle.chess_base.specs.declared.setup.Setup.{Setup}
-use Rattle.chess_base.specs.Letters.{letter, byte}
+use Rattle.chess_base.specs.Letters.{letter, byte, space, stroke}
 
 -- a run of empty squares
 abbrev pub run_text : ℕ → List ℕ
@@ -28,7 +28,7 @@ ranks_down zero men = []
 ranks_down (suc rank) men = take 8 (drop (8 * rank) men) ∷ ranks_down rank men
 
 abbrev pub ranks_text : ℕ → List (Option Man) → List ℕ
-ranks_text n men = join_with_byte (byte "/") (map rank_text (ranks_down n men))
+ranks_text n men = join_with_byte stroke (map rank_text (ranks_down n men))
 
 -- all eight, with a stroke between
 unfoldable pub placement_text : List (Option Man) → List ℕ
@@ -61,4 +61,4 @@ target_text (Some square) = square_text square
 
 -- six fields, with one space between
 abbrev pub fen : Setup → List ℕ
-fen p = join_with_byte (byte " ") (placement_text p.men ∷ side_text p.side ∷ rights_text p.rights ∷ target_text p.target ∷ decimal p.halfmove ∷ decimal p.fullmove ∷ [])
+fen p = join_with_byte space (placement_text p.men ∷ side_text p.side ∷ rights_text p.rights ∷ target_text p.target ∷ decimal p.halfmove ∷ decimal p.fullmove ∷ [])
