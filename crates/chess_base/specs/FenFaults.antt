@@ -1,5 +1,5 @@
--- The first fault of a text, and what it says of the text.
-use Rattle.std.specs.Prelude.{◌≡◌, ◌≢◌, ◌⊎◌, ℕ, List, ◌∷◌, length, Option, Some, None, Result, Ok, Err}
+-- What the fault of a text says of the text, as a relation.
+use Rattle.std.specs.Prelude.{◌≡◌, ◌≢◌, ◌⊎◌, ℕ, List, ◌∷◌, length, Option, Some}
 use Rattle.chess_base.specs.declared.man.Colour.{Colour}
 use Rattle.chess_base.specs.declared.setup.Setup.{Setup}
 use Rattle.chess_base.specs.Men.{Men}
@@ -8,7 +8,6 @@ use Rattle.chess_base.specs.declared.fault.FenFault.{FenFault}
 use Rattle.chess_base.specs.declared.fault.FenFault.TheVariants.{Fields, Placement, Side, Castling, EnPassant, Counters}
 use Rattle.chess_base.specs.Texts.{fields_of}
 use Rattle.chess_base.specs.Writing.{side_text}
-use Rattle.chess_base.specs.Reading.{fen_reading}
 use Rattle.chess_base.specs.Spelling.{SpellsPlacement, IsCastling, SpellsTarget, SpellsCounters, SpellsFen}
 
 -- a field that spells something

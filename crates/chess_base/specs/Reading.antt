@@ -1,4 +1,5 @@
--- What a text describes, field by field, and the position that it spells.
+-- What a text describes, field by field, and the position that it spells, or its first fault. This project's own beside
+-- the standard: the counters may be left out, and a fullmove number of 0 is read as 1.
 use Rattle.std.specs.Prelude.{◌≡◌, ℕ, max, List, [], ◌∷◌, Option, Some, None, Result, Ok, Err, ◌==◌, if◌then◌else◌}
 use Rattle.std.specs.Option.{ok_or}
 use Rattle.chess_base.specs.declared.man.Colour.{Colour}

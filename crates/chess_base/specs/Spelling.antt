@@ -1,10 +1,11 @@
--- Which texts spell a position.
-use Rattle.std.specs.Prelude.{◌≡◌, ℕ, ◌+◌, ◌/◌, ◌<◌, ◌≤◌, ◌⊎◌, List, [], ◌∷◌, ◌++◌, length, replicate, Option, Some, None, IfSome, IsSome, IsTrue, ◌↔◌, codes, max, ◌==◌}
+-- Which texts spell a position, as a relation (PGN standard of 1994, section 16.1.3).
+use Rattle.std.specs.Prelude.{◌≡◌, ℕ, ◌+◌, ◌<◌, ◌≤◌, ◌⊎◌, List, [], ◌∷◌, ◌++◌, length, replicate, Option, Some, None, IfSome, IsSome, IsTrue, ◌↔◌, codes, max, ◌==◌}
 use Rattle.std.specs.List.{slice_split, AllZip, AllByRecursion}
 use Rattle.std.specs.Str.Parse.{digits_value}
 use Rattle.chess_base.specs.declared.man.Man.{Man}
 use Rattle.chess_base.specs.declared.man.Colour.TheVariants.{White, Black}
 use Rattle.chess_base.specs.declared.man.CastlingSide.TheVariants.{KingSide, QueenSide}
+use Rattle.chess_base.specs.Squares.{rank}
 use Rattle.chess_base.specs.Sound.{right_of, home_square, rook_file}
 use Rattle.chess_base.specs.declared.setup.Setup.{Setup}
 use Rattle.chess_base.specs.Letters.{letter, byte, stroke}
@@ -58,7 +59,7 @@ pub record SpellsRights (text : List ℕ) (p : Setup) : Type 0 where
 
 -- a dash for none; else a square of the third or the sixth rank
 abbrev pub SpellsTarget : List ℕ → Option ℕ → Type 0
-SpellsTarget text target = (text ≡ target_text target) × IfSome target (λ square. (square / 8 ≡ 2) ⊎ (square / 8 ≡ 5))
+SpellsTarget text target = (text ≡ target_text target) × IfSome target (λ square. (rank square ≡ 2) ⊎ (rank square ≡ 5))
 
 -- one to six digits
 abbrev pub SpellsNumber : List ℕ → ℕ → Type 0

@@ -1,15 +1,13 @@
--- What the fields of a FEN stand for.
-use Rattle.std.specs.Prelude.{◌≡◌, ◌≢◌, ℕ, codes, count_by, ◌+◌, ◌-◌, ◌*◌, Bool, false, ◌&&◌, ◌||◌, List, [], ◌∷◌, ◌++◌, length, map, find, replicate, Option, Some, None, nat_lt, nat_le, ◌==◌, if◌then◌else◌, option_and_then}
+-- What the fields of a FEN stand for (PGN standard of 1994, section 16.1.3). This project's own beside the standard:
+-- several spaces between fields and at both ends, digits of empty squares one behind another, letters of rights in any
+-- order, leading zeros.
+use Rattle.std.specs.Prelude.{◌≡◌, ◌≢◌, ℕ, codes, count_by, ◌+◌, ◌-◌, ◌*◌, Bool, false, ◌&&◌, ◌||◌, List, [], ◌∷◌, ◌++◌, length, replicate, Option, Some, None, nat_lt, nat_le, ◌==◌, if◌then◌else◌, option_and_then}
 use Rattle.std.specs.List.{slice_split, list_all, list_any, filter}
 use Rattle.std.specs.Borrow.{Bor}
 use Rattle.chess_base.specs.declared.fen.fields.Fields.{Fields}
 use Rattle.std.specs.Option.{option_map}
 use Rattle.chess_base.specs.declared.man.Man.{Man}
 use Rattle.chess_base.specs.Letters.{byte, space, stroke, dash, man_with_letter}
-use Rattle.chess_base.specs.declared.man.Kind.{Kind}
-use Rattle.chess_base.specs.declared.man.Kind.TheVariants.{Pawn, Knight, Bishop, Rook, Queen, King}
-use Rattle.chess_base.specs.declared.man.Colour.{Colour}
-use Rattle.chess_base.specs.declared.man.Colour.TheVariants.{White, Black}
 
 -- ---- numbers
 

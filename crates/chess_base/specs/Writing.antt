@@ -1,11 +1,12 @@
 -- The one FEN that is written for a position (PGN standard of 1994, section 16.1).
-use Rattle.std.specs.Prelude.{ℕ, zero, suc, ◌+◌, ◌*◌, ◌/◌, ◌%◌, List, [], ◌∷◌, ◌++◌, map, take, drop, Option, Some, None, decimal, codes}
+use Rattle.std.specs.Prelude.{ℕ, zero, suc, ◌+◌, ◌*◌, List, [], ◌∷◌, ◌++◌, map, take, drop, Option, Some, None, decimal, codes}
 use Rattle.std.specs.List.{join_with_byte}
 use Rattle.chess_base.specs.declared.man.Man.{Man}
 use Rattle.chess_base.specs.declared.man.Colour.{Colour}
 use Rattle.chess_base.specs.declared.man.Colour.TheVariants.{White, Black}
 use Rattle.chess_base.specs.declared.man.Rights.{Rights}
 use Rattle.chess_base.specs.declared.setup.Setup.{Setup}
+use Rattle.chess_base.specs.Squares.{file, rank}
 use Rattle.chess_base.specs.Letters.{letter, byte, space, stroke}
 
 -- a run of empty squares
@@ -53,7 +54,7 @@ rights_text r = or_dash (right_text r.white.king_side (byte "K") ++ right_text r
 
 -- the file's letter and the rank's digit
 abbrev pub square_text : ℕ → List ℕ
-square_text square = (byte "a" + square % 8) ∷ (byte "1" + square / 8) ∷ []
+square_text square = (byte "a" + file square) ∷ (byte "1" + rank square) ∷ []
 
 abbrev pub target_text : Option ℕ → List ℕ
 target_text None = codes "-"
