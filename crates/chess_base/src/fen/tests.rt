@@ -207,7 +207,7 @@ fn known_positions_are_judged(rt: HostRuntime) {
 
 #[test]
 fn texts_of_any_form_are_judged(rt: HostRuntime) {
-    let rows: [(&[u8], Wanted); 37] = [
+    let rows: [(&[u8], Wanted); 38] = [
         // What is read beside what is written.
         (
             b"4k3/8/8/8/8/8/8/4K2R  w  K -",
@@ -311,6 +311,10 @@ fn texts_of_any_form_are_judged(rt: HostRuntime) {
         (
             b"4k3/8/8/8/8/8/8/K3K3 w - - 0 1x",
             Wanted::Refused(FenFault::Counters),
+        ),
+        (
+            b"4k3/8/8/8/8/8/8/K3K3 w - - 0 1",
+            Wanted::Refused(FenFault::Kings),
         ),
         (
             b"P3k3/8/8/8/8/8/8/K3K3 w K - 0 1",
