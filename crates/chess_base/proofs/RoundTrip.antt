@@ -159,20 +159,20 @@ run_read (suc n) before rest h =
     let k : (48 + suc n) - 48 ≡ suc n = omega arith in
     ap (option_and_then (λ s. rank_after (before ++ s) rest)) (squares-digit (48 + suc n) (omega arith) (omega arith) ∙ ap (λ m. Some (replicate m None)) k)
 
-row_read : (row : List (Option Man)) (n : ℕ) (before : List (Option Man)) → n + length row ≤ 8 → rank_after before (row_text n row) ≡ rank_after ((before ++ replicate n None) ++ row) []
+row_read : (squares : List (Option Man)) (n : ℕ) (before : List (Option Man)) → n + length squares ≤ 8 → rank_after before (row_text n squares) ≡ rank_after ((before ++ replicate n None) ++ squares) []
 row_read [] n before h = ap (rank_after before) (sym (append-nil (run_text n))) ∙ run_read n before [] (omega arith) ∙ ap (λ r. rank_after r []) (sym (append-nil (before ++ replicate n None)))
-row_read (None ∷ row) n before h =
+row_read (None ∷ squares) n before h =
     let k : suc n ≡ n + 1 = omega arith in
-    row_read row (suc n) before (omega arith)
-    ∙ ap (λ r. rank_after r []) (ap (λ r. (before ++ r) ++ row) (ap (λ m. replicate m None) k ∙ replicate_next n None) ∙ ap (λ r. r ++ row) (sym (append_assoc before (replicate n None) (None ∷ []))) ∙ append_assoc (before ++ replicate n None) (None ∷ []) row)
-row_read (Some man ∷ row) n before h =
-    run_read n before (letter man ∷ row_text 0 row) (omega arith)
-    ∙ ap (option_and_then (λ s. rank_after ((before ++ replicate n None) ++ s) (row_text 0 row))) (squares-letter man)
-    ∙ row_read row 0 ((before ++ replicate n None) ++ Some man ∷ []) (omega arith)
-    ∙ ap (λ r. rank_after r []) (ap (λ r. r ++ row) (append-nil ((before ++ replicate n None) ++ Some man ∷ [])) ∙ append_assoc (before ++ replicate n None) (Some man ∷ []) row)
+    row_read squares (suc n) before (omega arith)
+    ∙ ap (λ r. rank_after r []) (ap (λ r. (before ++ r) ++ squares) (ap (λ m. replicate m None) k ∙ replicate_next n None) ∙ ap (λ r. r ++ squares) (sym (append_assoc before (replicate n None) (None ∷ []))) ∙ append_assoc (before ++ replicate n None) (None ∷ []) squares)
+row_read (Some man ∷ squares) n before h =
+    run_read n before (letter man ∷ row_text 0 squares) (omega arith)
+    ∙ ap (option_and_then (λ s. rank_after ((before ++ replicate n None) ++ s) (row_text 0 squares))) (squares-letter man)
+    ∙ row_read squares 0 ((before ++ replicate n None) ++ Some man ∷ []) (omega arith)
+    ∙ ap (λ r. rank_after r []) (ap (λ r. r ++ squares) (append-nil ((before ++ replicate n None) ++ Some man ∷ [])) ∙ append_assoc (before ++ replicate n None) (Some man ∷ []) squares)
 
-pub rank-text : (row : List (Option Man)) → length row ≡ 8 → rank_of (rank_text row) ≡ Some row
-rank-text row eight = row_read row 0 [] (omega arith) ∙ ap (λ n. cond (eqb n 8) (Some row) None) eight
+pub rank-text : (squares : List (Option Man)) → length squares ≡ 8 → rank_of (rank_text squares) ≡ Some squares
+rank-text squares eight = row_read squares 0 [] (omega arith) ∙ ap (λ n. cond (eqb n 8) (Some squares) None) eight
 
 -- ---- placement
 
@@ -192,10 +192,10 @@ letter_from : (colour : Colour) (kind : Kind) → 48 ≤ letter_by colour kind
 letter_from White kind = white_from kind
 letter_from Black kind = omega (arith, white_from kind)
 
-row_from : (row : List (Option Man)) (n : ℕ) → From 48 (row_text n row)
+row_from : (squares : List (Option Man)) (n : ℕ) → From 48 (row_text n squares)
 row_from [] n = subst (From 48) (append-nil (run_text n)) (run_from n [] tt)
-row_from (None ∷ row) n = row_from row (suc n)
-row_from (Some man ∷ row) n = run_from n (letter man ∷ row_text 0 row) (letter_from man.colour man.kind, row_from row 0)
+row_from (None ∷ squares) n = row_from squares (suc n)
+row_from (Some man ∷ squares) n = run_from n (letter man ∷ row_text 0 squares) (letter_from man.colour man.kind, row_from squares 0)
 
 rows_from : (n : ℕ) (men : List (Option Man)) → AllByRecursion (From 48) (map rank_text (ranks_down n men))
 rows_from zero men = tt
@@ -204,12 +204,12 @@ rows_from (suc n) men = (row_from (take 8 (drop (8 * n) men)) 0, rows_from n men
 ranks_read : (n : ℕ) (men above : List (Option Man)) → 8 * n ≤ length men → stacked above (map rank_text (ranks_down n men)) ≡ Some (take (8 * n) men ++ above)
 ranks_read zero men above h = refl
 ranks_read (suc n) men above h =
-    let row : List (Option Man) = take 8 (drop (8 * n) men) in
-    let eight : length row ≡ 8 = omega (arith, length-take 8 (drop (8 * n) men), length-drop (8 * n) men) in
+    let squares : List (Option Man) = take 8 (drop (8 * n) men) in
+    let eight : length squares ≡ 8 = omega (arith, length-take 8 (drop (8 * n) men), length-drop (8 * n) men) in
     let at : 8 * suc n ≡ 8 * n + 8 = omega arith in
-    ap (option_and_then (λ r. stacked (r ++ above) (map rank_text (ranks_down n men)))) (rank-text row eight)
-    ∙ ranks_read n men (row ++ above) (omega arith)
-    ∙ ap Some (sym (append_assoc (take (8 * n) men) row above) ∙ ap (λ r. r ++ above) (sym (ap (λ k. take k men) at ∙ take-add (8 * n) 8 men)))
+    ap (option_and_then (λ r. stacked (r ++ above) (map rank_text (ranks_down n men)))) (rank-text squares eight)
+    ∙ ranks_read n men (squares ++ above) (omega arith)
+    ∙ ap Some (sym (append_assoc (take (8 * n) men) squares above) ∙ ap (λ r. r ++ above) (sym (ap (λ k. take k men) at ∙ take-add (8 * n) 8 men)))
 
 pub placement-text : (men : List (Option Man)) → length men ≡ 64 → placement_of (placement_text men) ≡ Some men
 unfolding placement_text
