@@ -15,3 +15,13 @@ pub mod InitialIsSound
 pub mod Lengths
 pub mod RanksText
 pub mod DeviceLaws
+pub mod Ranks
+pub mod Splits
+pub mod Placements
+pub mod SpelledRanks
+pub mod Joined
+pub mod RoundTrip
+pub mod SpelledRights
+pub mod SpelledFields
+pub mod SpelledFen
+pub mod WrittenFen

@@ -1,6 +1,6 @@
--- The letters of men (PGN standard of 1994, section 16.1.3.1).
+-- The bytes of a FEN: the letters of men (PGN standard of 1994, section 16.1.3.1), and what stands between.
 use Prim.Native.String.{String as Text}
-use Rattle.std.specs.Prelude.{ℕ, ◌+◌, List, [], ◌∷◌, codes}
+use Rattle.std.specs.Prelude.{ℕ, ◌+◌, ◌==◌, List, [], ◌∷◌, ◌++◌, map, find, Option, codes}
 use Rattle.chess_base.specs.declared.man.Man.{Man}
 use Rattle.chess_base.specs.declared.man.Kind.{Kind}
 use Rattle.chess_base.specs.declared.man.Kind.TheVariants.{Pawn, Knight, Bishop, Rook, Queen, King}
@@ -14,6 +14,15 @@ first_of (c ∷ cs) = c
 -- the byte of a text of one letter
 abbrev pub byte : Text → ℕ
 byte text = first_of (codes text)
+
+abbrev pub space : ℕ
+space = byte " "
+
+abbrev pub stroke : ℕ
+stroke = byte "/"
+
+abbrev pub dash : ℕ
+dash = byte "-"
 
 abbrev pub white_letter : Kind → ℕ
 white_letter Pawn = byte "P"
@@ -30,3 +39,13 @@ letter_by Black kind = white_letter kind + 32
 
 abbrev pub letter : Man → ℕ
 letter m = letter_by m.colour m.kind
+
+abbrev pub kinds : List Kind
+kinds = Pawn ∷ Knight ∷ Bishop ∷ Rook ∷ Queen ∷ King ∷ []
+
+abbrev pub all_men : List Man
+all_men = map (λ k. record { colour = White; kind = k }) kinds ++ map (λ k. record { colour = Black; kind = k }) kinds
+
+-- the man with this letter, if there is one
+abbrev pub man_with_letter : ℕ → Option Man
+man_with_letter c = find (λ m. letter m == c) all_men

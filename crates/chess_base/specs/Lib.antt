@@ -10,4 +10,8 @@ pub mod Laws
 pub mod Before
 pub mod Letters
 pub mod Writing
+pub mod Texts
+pub mod Reading
+pub mod Spelling
+pub mod FenFaults
 pub mod Devices

@@ -1,12 +1,13 @@
 -- The one FEN that is written for a position (PGN standard of 1994, section 16.1).
-use Rattle.std.specs.Prelude.{ℕ, zero, suc, ◌+◌, ◌*◌, ◌/◌, ◌%◌, List, [], ◌∷◌, ◌++◌, map, take, drop, Option, Some, None, decimal, codes}
+use Rattle.std.specs.Prelude.{ℕ, zero, suc, ◌+◌, ◌*◌, List, [], ◌∷◌, ◌++◌, map, take, drop, Option, Some, None, decimal, codes}
 use Rattle.std.specs.List.{join_with_byte}
 use Rattle.chess_base.specs.declared.man.Man.{Man}
 use Rattle.chess_base.specs.declared.man.Colour.{Colour}
 use Rattle.chess_base.specs.declared.man.Colour.TheVariants.{White, Black}
 use Rattle.chess_base.specs.declared.man.Rights.{Rights}
 use Rattle.chess_base.specs.declared.setup.Setup.{Setup}
-use Rattle.chess_base.specs.Letters.{letter, byte}
+use Rattle.chess_base.specs.Squares.{file, rank}
+use Rattle.chess_base.specs.Letters.{letter, byte, space, stroke}
 
 -- a run of empty squares
 abbrev pub run_text : ℕ → List ℕ
@@ -28,7 +29,7 @@ ranks_down zero men = []
 ranks_down (suc rank) men = take 8 (drop (8 * rank) men) ∷ ranks_down rank men
 
 abbrev pub ranks_text : ℕ → List (Option Man) → List ℕ
-ranks_text n men = join_with_byte (byte "/") (map rank_text (ranks_down n men))
+ranks_text n men = join_with_byte stroke (map rank_text (ranks_down n men))
 
 -- all eight, with a stroke between
 unfoldable pub placement_text : List (Option Man) → List ℕ
@@ -53,7 +54,7 @@ rights_text r = or_dash (right_text r.white.king_side (byte "K") ++ right_text r
 
 -- the file's letter and the rank's digit
 abbrev pub square_text : ℕ → List ℕ
-square_text square = (byte "a" + square % 8) ∷ (byte "1" + square / 8) ∷ []
+square_text square = (byte "a" + file square) ∷ (byte "1" + rank square) ∷ []
 
 abbrev pub target_text : Option ℕ → List ℕ
 target_text None = codes "-"
@@ -61,4 +62,4 @@ target_text (Some square) = square_text square
 
 -- six fields, with one space between
 abbrev pub fen : Setup → List ℕ
-fen p = join_with_byte (byte " ") (placement_text p.men ∷ side_text p.side ∷ rights_text p.rights ∷ target_text p.target ∷ decimal p.halfmove ∷ decimal p.fullmove ∷ [])
+fen p = join_with_byte space (placement_text p.men ∷ side_text p.side ∷ rights_text p.rights ∷ target_text p.target ∷ decimal p.halfmove ∷ decimal p.fullmove ∷ [])

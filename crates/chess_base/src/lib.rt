@@ -4,6 +4,8 @@
 pub mod attack;
 pub mod before;
 pub mod device;
+mod fault;
+mod fen;
 mod initial;
 mod laws;
 mod man;
@@ -12,15 +14,14 @@ pub mod rules;
 mod setup;
 mod sound;
 mod square;
-mod writing;
 
-pub use laws::{after_is_sound, before_undoes_after};
+pub use fault::FenFault;
+pub use fen::{FenText, read_fen, write_fen};
+pub use laws::{after_is_sound, before_undoes_after, written_is_spelled};
 pub use man::{CastlingSide, Colour, ColourRights, Kind, Man, Move, Rights};
 pub use position::Position;
 pub use setup::{Saved, Setup};
-pub use sound::SetupFault;
 pub use square::Square;
-pub use writing::{FenText, write_fen};
 
 #[cfg(test)]
 mod tests;

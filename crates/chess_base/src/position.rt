@@ -9,13 +9,14 @@ ghost use Rattle.chess_base.specs.Faults.{setup_fault};
 ghost use Rattle.chess_base.specs.Initial.{initial_setup};
 
 use crate::attack::is_attacked;
+use crate::fault::FenFault;
 use crate::initial::initial_men;
 use crate::man::{Colour, ColourRights, Man, Move, Rights};
 use crate::rules::{
     fullmove_after, halfmove_after, is_legal, men_after, rights_after, target_after,
 };
 use crate::setup::Setup;
-use crate::sound::{SetupFault, setup_fault};
+use crate::sound::setup_fault;
 use crate::square::Square;
 use std::marker::Model;
 
@@ -42,7 +43,7 @@ impl Model for Position {
 impl Position {
     /// The position that a setup is, if it is sound; else the first condition that fails, in the order counters, kings,
     /// pawns, men, castling, target, check.
-    pub fn new(setup: Setup) -> Result<Self, SetupFault>
+    pub fn new(setup: Setup) -> Result<Self, FenFault>
         ensures sound { IsOk result ↔ IsSound setup }
         ensures value { IfOk result (λ p. p ≡ setup) }
         ensures fault { IfErr result (λ f. Some f ≡ setup_fault setup) }

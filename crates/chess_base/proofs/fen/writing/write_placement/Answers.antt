@@ -1,7 +1,7 @@
 use Rattle.std.proofs.Common.{◌≡◌, ◌-◌, ◌+◌, ◌*◌, take, drop, refl, ap, arith}
 use Rattle.chess_base.specs.Writing.{placement_text}
 use Rattle.chess_base.proofs.RanksText.{more_ranks}
-use Rattle.chess_base.proofs.writing.write_placement.Goals as goal
+use Rattle.chess_base.proofs.fen.writing.write_placement.Goals as goal
 
 pub loop-rank-init : goal.loop-rank-init
 unfolding placement_text

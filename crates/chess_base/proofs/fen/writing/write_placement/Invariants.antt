@@ -1,7 +1,7 @@
 use Rattle.std.proofs.Common.{◌≡◌, ◌+◌, ◌*◌, ◌≤◌, ◌++◌}
 use Rattle.arrayvec.specs.ArrayVec.{array_vec_len}
 use Rattle.chess_base.specs.Writing.{ranks_text, placement_text}
-use Rattle.chess_base.proofs.writing.write_placement.Given as goal
+use Rattle.chess_base.proofs.fen.writing.write_placement.Given as goal
 
 -- what is left completes the text
 abbrev pub invariant-loop-rank : goal.invariant-loop-rank

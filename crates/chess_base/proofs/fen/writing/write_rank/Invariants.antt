@@ -1,7 +1,7 @@
 use Rattle.std.proofs.Common.{◌≡◌, ◌+◌, ◌≤◌, ◌++◌, drop}
 use Rattle.arrayvec.specs.ArrayVec.{array_vec_len}
 use Rattle.chess_base.specs.Writing.{row_text}
-use Rattle.chess_base.proofs.writing.write_rank.Given as goal
+use Rattle.chess_base.proofs.fen.writing.write_rank.Given as goal
 
 -- what is left completes the text
 abbrev pub invariant-loop-square : goal.invariant-loop-square

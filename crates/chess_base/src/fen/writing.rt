@@ -2,10 +2,10 @@
 
 ghost use Rattle.std.specs.Prelude.{◌≡◌, ℕ, ◌+◌, ◌*◌, ◌<◌, ◌≤◌, ◌^◌, ◌∷◌, [], ◌++◌, length, decimal};
 ghost use Rattle.arrayvec.specs.ArrayVec.{array_vec_len};
-ghost use Rattle.chess_base.specs.Letters.{letter};
 ghost use Rattle.chess_base.specs.Writing.{run_text, rank_text, placement_text, side_text, right_text, rights_text, target_text, fen};
 
-use crate::man::{Colour, Kind, Man, Rights};
+use crate::fen::letters::letter_of;
+use crate::man::{Colour, Man, Rights};
 use crate::position::Position;
 use crate::square::Square;
 use arrayvec::ArrayVec;
@@ -13,24 +13,6 @@ use itoa::Buffer;
 
 /// The text of a FEN, of at most 95 bytes.
 pub type FenText = ArrayVec<u8, 100>;
-
-// The letter of a man: White's are capital, Black's small.
-fn letter_of(man: Man) -> u8
-    ensures { result ≡ letter man }
-{
-    let upper = match man.kind {
-        Kind::Pawn => b'P',
-        Kind::Knight => b'N',
-        Kind::Bishop => b'B',
-        Kind::Rook => b'R',
-        Kind::Queen => b'Q',
-        Kind::King => b'K',
-    };
-    match man.colour {
-        Colour::White => upper,
-        Colour::Black => upper + 32,
-    }
-}
 
 // A run of empty squares.
 fn write_run(out: &mut FenText, empty: u8)

@@ -1,0 +1,28 @@
+//! What is wrong with the text or the setup of a position.
+
+/// Why a text spells no position, or a setup is none: the first fault in the order fields, placement, side, spelling
+/// of the rights, spelling of the target, counters, kings, pawns, men, homes of the rights, men round the target, check.
+#[derive(Clone, Copy, Debug, PartialEq, Eq)]
+pub enum FenFault {
+    /// The first field is not eight ranks of eight squares.
+    Placement,
+    /// The second field is neither `w` nor `b`.
+    Side,
+    /// The third field spells no rights, or a right stands without its king or its rook at home.
+    Castling,
+    /// The fourth field spells no target, or the target is not the empty square behind an enemy pawn's double advance.
+    EnPassant,
+    /// A counter is no number of one to six digits; or the halfmove clock is above 999,999, or the fullmove number not
+    /// from 1 to 999,999.
+    Counters,
+    /// A colour has not exactly one king.
+    Kings,
+    /// A pawn stands on the first or last rank.
+    Pawns,
+    /// A colour has more than 16 men.
+    Men,
+    /// The side that is not on move is in check.
+    Check,
+    /// The text has neither four nor six fields.
+    Fields,
+}
