@@ -1,6 +1,10 @@
 -- Rows whose text is a refusal change nothing.
 use Rattle.std.proofs.Common.{◌≡◌, ℕ, ◌==◌, ◌||◌, inl, inr, Bool, true, false, List, [], ◌∷◌, ◌++◌, get_or, codes, refl, sym, ap, if◌then◌else◌, length, Option, None, Some}
-use Rattle.std.specs.Prelude.{nat_le}
+use Rattle.std.specs.Prelude.{nat_le, nat_lt, Result, Ok, Err}
+use Rattle.std.specs.Str.{bytes_eq}
+use Rattle.chess_base.specs.declared.fault.FenFault.{FenFault}
+use Rattle.chess_base.specs.declared.setup.Setup.{Setup}
+use Rattle.chess_base.specs.Reading.{fen_reading}
 use Rattle.chess_base.specs.declared.man.Move.{Move}
 use Rattle.chess_base.specs.Initial.{initial_setup}
 use Rattle.chess_base.specs.Moves.{is_legal}
@@ -11,8 +15,8 @@ use Rattle.chess_cecp.specs.Game.{State, Seen, from_start, played, taken_back, c
 use Rattle.chess_cecp.specs.declared.game.Verdict.{Verdict}
 use Rattle.chess_cecp.specs.declared.game.Verdict.TheVariants.{WhiteMates, BlackMates, Stalemate}
 use Rattle.chess_cecp.specs.declared.command.Command.{Command}
-use Rattle.chess_cecp.specs.declared.command.Command.TheVariants.{New, UserMove, BareMove, Undo, Ping, ShowFen, ShowMoves, Quit, Nothing, BadNumber, Unknown}
-use Rattle.chess_cecp.specs.Session.{Row, row, row_on, says, refuses, becomes, becomes_judged, verdict_line, named_row, move_row, undo_row, stands, IsRefusal, answer_to, next_state}
+use Rattle.chess_cecp.specs.declared.command.Command.TheVariants.{New, SetBoard, UserMove, BareMove, Undo, Ping, Protover, Variant, Go, ShowFen, ShowMoves, Quit, Silent, BadNumber, Unknown}
+use Rattle.chess_cecp.specs.Session.{Row, row, row_on, says, refuses, becomes, becomes_judged, verdict_line, setboard_row, feature_text, line_text, named_row, move_row, undo_row, stands, IsRefusal, answer_to, next_state}
 
 -- the first bytes of refusals: E, I and t
 abbrev pub begins_refusal : List ℕ → Bool
@@ -62,8 +66,13 @@ move_keeps limit s text =
     (by_test (nat_le limit (length s.moves)) s (refuses s (codes "Error (game too long): ") text) (named_row s text (move_named text)) (λ h. refl)
     (named_keeps s text (move_named text)))
 
+setboard_keeps : (s : State) (r : Result Setup FenFault) → KeepsRefused s (setboard_row s r)
+setboard_keeps s (Ok start) = accepted s (becomes_judged (from_start start)) (verdict_begins (verdict_at (current (from_start start))))
+setboard_keeps s (Err fault) = λ h. refl
+
 row_keeps : (limit : ℕ) (s : State) (text argument : List ℕ) (command : Command) → KeepsRefused s (row limit s text argument command)
 row_keeps limit s text argument New = accepted s (becomes (from_start initial_setup)) refl
+row_keeps limit s text argument SetBoard = setboard_keeps s (fen_reading argument)
 row_keeps limit s text argument UserMove = move_keeps limit s argument
 row_keeps limit s text argument BareMove = move_keeps limit s text
 row_keeps limit s text argument Undo =
@@ -71,10 +80,14 @@ row_keeps limit s text argument Undo =
     (accepted s (becomes (taken_back s 1)) refl)
     (λ h. refl)
 row_keeps limit s text argument (Ping n) = λ h. refl
+row_keeps limit s text argument (Protover n) = by_test (nat_lt n 2) s (says s []) (says s (line_text feature_text [])) (λ h. refl) (λ h. refl)
+row_keeps limit s text argument Variant =
+    by_test (bytes_eq argument (codes "normal")) s (says s []) (refuses s (codes "Error (unsupported variant): ") text) (λ h. refl) (λ h. refl)
+row_keeps limit s text argument Go = λ h. refl
 row_keeps limit s text argument ShowFen = λ h. refl
 row_keeps limit s text argument ShowMoves = λ h. refl
 row_keeps limit s text argument Quit = λ h. refl
-row_keeps limit s text argument Nothing = λ h. refl
+row_keeps limit s text argument Silent = λ h. refl
 row_keeps limit s text argument BadNumber = λ h. refl
 row_keeps limit s text argument Unknown = λ h. refl
 

@@ -1,12 +1,12 @@
 -- What a line commands (Chess Engine Communication Protocol, version 2).
-use Rattle.std.specs.Prelude.{ℕ, ◌+◌, ◌-◌, ◌*◌, ◌==◌, ◌&&◌, nat_lt, nat_le, if◌then◌else◌, Bool, List, [], ◌∷◌, length, drop, codes, Option, None, Some, is_some}
-use Rattle.std.specs.List.{list_all}
+use Rattle.std.specs.Prelude.{ℕ, ◌+◌, ◌-◌, ◌*◌, ◌==◌, ◌&&◌, ◌||◌, nat_lt, nat_le, if◌then◌else◌, Bool, List, [], ◌∷◌, length, drop, codes, Option, None, Some, is_some}
+use Rattle.std.specs.List.{list_all, list_any}
 use Rattle.std.specs.Str.{bytes_eq}
 use Rattle.chess_base.specs.Letters.{byte}
 use Rattle.chess_cecp.specs.Lines.{is_blank, without_front_blanks}
 use Rattle.chess_cecp.specs.Coordinates.{move_named}
 use Rattle.chess_cecp.specs.declared.command.Command.{Command}
-use Rattle.chess_cecp.specs.declared.command.Command.TheVariants.{New, UserMove, BareMove, Undo, Ping, ShowFen, ShowMoves, Quit, Nothing, BadNumber, Unknown}
+use Rattle.chess_cecp.specs.declared.command.Command.TheVariants.{New, SetBoard, UserMove, BareMove, Undo, Ping, Protover, Variant, Go, ShowFen, ShowMoves, Quit, Silent, BadNumber, Unknown}
 
 -- the bytes up to the first blank
 abbrev pub word_of : List ℕ → List ℕ
@@ -33,14 +33,42 @@ abbrev pub ping_of : Option ℕ → Command
 ping_of (Some n) = Ping n
 ping_of None = BadNumber
 
+abbrev pub protover_of : Option ℕ → Command
+protover_of (Some n) = Protover n
+protover_of None = BadNumber
+
+-- one of these names
+abbrev pub is_named : List ℕ → List (List ℕ) → Bool
+is_named word names = list_any (bytes_eq word) names
+
+-- commands to an engine that plays, which an arbiter hears in silence: how it is to play, and of opponent, clocks and offers
+abbrev pub playing_words : List (List ℕ)
+playing_words =
+    codes "xboard" ∷ codes "accepted" ∷ codes "rejected" ∷ codes "force" ∷ codes "random" ∷ codes "hard" ∷ codes "easy" ∷ codes "post" ∷ codes "nopost"
+    ∷ codes "computer" ∷ []
+
+abbrev pub clock_words : List (List ℕ)
+clock_words =
+    codes "name" ∷ codes "rating" ∷ codes "ics" ∷ codes "level" ∷ codes "st" ∷ codes "sd" ∷ codes "time" ∷ codes "otim" ∷ codes "draw" ∷ codes "?" ∷ []
+
+unfoldable pub is_told_of_playing : List ℕ → Bool
+is_told_of_playing word = is_named word playing_words
+
+unfoldable pub is_told_of_clocks : List ℕ → Bool
+is_told_of_clocks word = is_named word clock_words
+
 -- the command that a first word names, with this argument; a word that is no command's name may be a move
 abbrev pub command_by : List ℕ → List ℕ → List ℕ → Command
 command_by word argument text =
-    if bytes_eq word [] then Nothing
+    if bytes_eq word [] || is_told_of_playing word || is_told_of_clocks word then Silent
     else if bytes_eq word (codes "new") then New
+    else if bytes_eq word (codes "setboard") then SetBoard
     else if bytes_eq word (codes "usermove") then (if length argument == 0 then Unknown else UserMove)
     else if bytes_eq word (codes "undo") then Undo
     else if bytes_eq word (codes "ping") then ping_of (number_of argument)
+    else if bytes_eq word (codes "protover") then protover_of (number_of argument)
+    else if bytes_eq word (codes "variant") then Variant
+    else if bytes_eq word (codes "go") then Go
     else if bytes_eq word (codes "showfen") then ShowFen
     else if bytes_eq word (codes "showmoves") then ShowMoves
     else if bytes_eq word (codes "quit") then Quit

@@ -1,11 +1,16 @@
 -- What a session answers: the table of commands.
-use Rattle.std.specs.Prelude.{◌⊎◌, ℕ, ◌||◌, ◌&&◌, not, nat_le, if◌then◌else◌, Bool, true, false, List, [], ◌∷◌, ◌++◌, length, codes, decimal, Option, None, Some}
+use Rattle.std.specs.Prelude.{◌⊎◌, ℕ, ◌||◌, ◌&&◌, not, nat_le, nat_lt, if◌then◌else◌, Bool, true, false, List, [], ◌∷◌, ◌++◌, length, codes, decimal, Option, None, Some, Result, Ok, Err}
+use Rattle.std.specs.Str.{bytes_eq}
 use Rattle.chess_base.specs.Devices.{Begins}
+use Rattle.chess_base.specs.declared.fault.FenFault.{FenFault}
+use Rattle.chess_base.specs.declared.fault.FenFault.TheVariants.{Fields, Placement, Side, Castling, EnPassant, Counters, Kings, Pawns, Men, Check}
 use Rattle.chess_base.specs.declared.man.Move.{Move}
+use Rattle.chess_base.specs.declared.setup.Setup.{Setup}
 use Rattle.chess_base.specs.Initial.{initial_setup}
 use Rattle.std.specs.List.{flat_map}
 use Rattle.chess_base.specs.Moves.{is_legal}
 use Rattle.chess_base.specs.MoveList.{moves}
+use Rattle.chess_base.specs.Reading.{fen_reading}
 use Rattle.chess_base.specs.Writing.{fen}
 use Rattle.chess_cecp.specs.Lines.{LineSeen}
 use Rattle.chess_cecp.specs.Coordinates.{move_named, coordinate}
@@ -14,7 +19,7 @@ use Rattle.chess_cecp.specs.Game.{State, Seen, from_start, played, taken_back, c
 use Rattle.chess_cecp.specs.declared.game.Verdict.{Verdict}
 use Rattle.chess_cecp.specs.declared.game.Verdict.TheVariants.{WhiteMates, BlackMates, Stalemate}
 use Rattle.chess_cecp.specs.declared.command.Command.{Command}
-use Rattle.chess_cecp.specs.declared.command.Command.TheVariants.{New, UserMove, BareMove, Undo, Ping, ShowFen, ShowMoves, Quit, Nothing, BadNumber, Unknown}
+use Rattle.chess_cecp.specs.declared.command.Command.TheVariants.{New, SetBoard, UserMove, BareMove, Undo, Ping, Protover, Variant, Go, ShowFen, ShowMoves, Quit, Silent, BadNumber, Unknown}
 
 -- a text behind another, and byte 10
 abbrev pub line_text : List ℕ → List ℕ → List ℕ
@@ -55,6 +60,28 @@ shown m = 32 ∷ coordinate m
 unfoldable pub moves_line : List Move → List ℕ
 moves_line ms = line_text (codes "# moves ") (decimal (length ms) ++ flat_map shown ms)
 
+-- the name of a fault of a FEN
+abbrev pub fault_name : FenFault → List ℕ
+fault_name Fields = codes "fields"
+fault_name Placement = codes "placement"
+fault_name Side = codes "side"
+fault_name Castling = codes "castling"
+fault_name EnPassant = codes "en passant"
+fault_name Counters = codes "counters"
+fault_name Kings = codes "kings"
+fault_name Pawns = codes "pawns"
+fault_name Men = codes "men"
+fault_name Check = codes "check"
+
+-- the game starts anew from the position that a FEN spells; a FEN that spells none is refused by its first fault
+abbrev pub setboard_row : State → Result Setup FenFault → Row
+setboard_row s (Ok start) = becomes_judged (from_start start)
+setboard_row s (Err fault) = refuses s (codes "tellusererror Illegal position (") (fault_name fault ++ codes ")")
+
+-- what the arbiter tells of itself to an interface that speaks version 2
+unfoldable pub feature_text : List ℕ
+feature_text = codes "feature ping=1 setboard=1 playother=0 san=0 usermove=1 time=1 draw=1 sigint=0 sigterm=0 reuse=1 analyze=0 colors=0 debug=1 myname=\"CECP arbiter\" variants=\"normal\" done=1"
+
 -- the move that a text names, if it names one, is played where it is legal
 abbrev pub named_row : State → List ℕ → Option Move → Row
 named_row s text None = refuses s (codes "Illegal move: ") text
@@ -73,14 +100,18 @@ undo_row s = if nat_le 1 (length s.moves) then becomes (taken_back s 1) else ref
 -- the table: the row of a command, in this game, for a line with this text and this argument in it
 abbrev pub row : ℕ → State → List ℕ → List ℕ → Command → Row
 row limit s text argument New = becomes (from_start initial_setup)
+row limit s text argument SetBoard = setboard_row s (fen_reading argument)
 row limit s text argument UserMove = move_row limit s argument
 row limit s text argument BareMove = move_row limit s text
 row limit s text argument Undo = undo_row s
 row limit s text argument (Ping n) = says s (line_text (codes "pong ") (decimal n))
+row limit s text argument (Protover n) = if nat_lt n 2 then says s [] else says s (line_text feature_text [])
+row limit s text argument Variant = if bytes_eq argument (codes "normal") then says s [] else refuses s (codes "Error (unsupported variant): ") text
+row limit s text argument Go = refuses s (codes "Error (the arbiter plays no side): ") (codes "go")
 row limit s text argument ShowFen = says s (line_text (codes "# fen ") (fen (current s)))
 row limit s text argument ShowMoves = says s (moves_line (moves (current s)))
 row limit s text argument Quit = says s []
-row limit s text argument Nothing = says s []
+row limit s text argument Silent = says s []
 row limit s text argument BadNumber = refuses s (codes "Error (bad number): ") text
 row limit s text argument Unknown = refuses s (codes "Error (unknown command): ") text
 
@@ -108,14 +139,18 @@ IsRefusal text = Begins (codes "Error") text ⊎ (Begins (codes "Illegal move") 
 
 abbrev pub is_quit_command : Command → Bool
 is_quit_command New = false
+is_quit_command SetBoard = false
 is_quit_command UserMove = false
 is_quit_command BareMove = false
 is_quit_command Undo = false
 is_quit_command (Ping n) = false
+is_quit_command (Protover n) = false
+is_quit_command Variant = false
+is_quit_command Go = false
 is_quit_command ShowFen = false
 is_quit_command ShowMoves = false
 is_quit_command Quit = true
-is_quit_command Nothing = false
+is_quit_command Silent = false
 is_quit_command BadNumber = false
 is_quit_command Unknown = false
 

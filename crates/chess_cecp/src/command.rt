@@ -2,7 +2,7 @@
 
 ghost use Rattle.std.specs.Prelude.{◌≡◌, ◌+◌, ◌≤◌, ◌++◌, length};
 ghost use Rattle.chess_cecp.specs.Lines.{is_blank};
-ghost use Rattle.chess_cecp.specs.Commands.{command_of, command_by, word_of, argument_of, number_of};
+ghost use Rattle.chess_cecp.specs.Commands.{command_of, command_by, word_of, argument_of, number_of, ping_of, protover_of, is_told_of_playing, is_told_of_clocks};
 
 use crate::coordinate::move_named;
 use crate::trim::is_blank;
@@ -20,14 +20,22 @@ pub enum Command {
     Undo,
     /// `ping N`, with a number of one to nine digits.
     Ping(u32),
+    /// `protover N`, with a number of one to nine digits: the version of the protocol that the interface speaks.
+    Protover(u32),
+    /// `setboard FEN`
+    SetBoard,
+    /// `variant NAME`
+    Variant,
+    /// `go`
+    Go,
     /// `showfen`
     ShowFen,
     /// `showmoves`
     ShowMoves,
     /// `quit`
     Quit,
-    /// An empty line.
-    Nothing,
+    /// A command that is answered by silence, such as `xboard` or `force`, and an empty line.
+    Silent,
     /// A command that takes a number, with something else.
     BadNumber,
     /// Anything else.
@@ -79,12 +87,55 @@ fn read_number(text: &[u8]) -> Option<u32>
 }
 
 fn ping(argument: &[u8]) -> Command
-    ensures { result ≡ Rattle.chess_cecp.specs.Commands.ping_of (number_of argument.now) }
+    ensures { result ≡ ping_of (number_of argument.now) }
 {
     match read_number(argument) {
         Some(number) => Command::Ping(number),
         None => Command::BadNumber,
     }
+}
+
+fn protover(argument: &[u8]) -> Command
+    ensures { result ≡ protover_of (number_of argument.now) }
+{
+    match read_number(argument) {
+        Some(number) => Command::Protover(number),
+        None => Command::BadNumber,
+    }
+}
+
+// Whether the word is a command that tells how an engine is to play, which an arbiter hears in silence.
+#[tactic(auto, unfolding(crate::specs::Commands::is_told_of_playing))]
+fn is_told_of_playing(word: &[u8]) -> bool
+    ensures { result ≡ is_told_of_playing word.now }
+{
+    word == b"xboard".as_slice()
+        || word == b"accepted".as_slice()
+        || word == b"rejected".as_slice()
+        || word == b"force".as_slice()
+        || word == b"random".as_slice()
+        || word == b"hard".as_slice()
+        || word == b"easy".as_slice()
+        || word == b"post".as_slice()
+        || word == b"nopost".as_slice()
+        || word == b"computer".as_slice()
+}
+
+// Whether the word is a command that tells of the opponent, the clocks or an offer, which an arbiter hears in silence.
+#[tactic(auto, unfolding(crate::specs::Commands::is_told_of_clocks))]
+fn is_told_of_clocks(word: &[u8]) -> bool
+    ensures { result ≡ is_told_of_clocks word.now }
+{
+    word == b"name".as_slice()
+        || word == b"rating".as_slice()
+        || word == b"ics".as_slice()
+        || word == b"level".as_slice()
+        || word == b"st".as_slice()
+        || word == b"sd".as_slice()
+        || word == b"time".as_slice()
+        || word == b"otim".as_slice()
+        || word == b"draw".as_slice()
+        || word == b"?".as_slice()
 }
 
 /// What a line with this text commands. The text is that of a line: blanks at both ends are cut.
@@ -93,10 +144,12 @@ pub fn read_command(text: &[u8]) -> Command
     ensures { result ≡ command_of text.now }
 {
     let (word, argument) = split_word(text);
-    if word.is_empty() {
-        Command::Nothing
+    if word.is_empty() || is_told_of_playing(word) || is_told_of_clocks(word) {
+        Command::Silent
     } else if word == b"new".as_slice() {
         Command::New
+    } else if word == b"setboard".as_slice() {
+        Command::SetBoard
     } else if word == b"usermove".as_slice() {
         if argument.is_empty() {
             Command::Unknown
@@ -107,6 +160,12 @@ pub fn read_command(text: &[u8]) -> Command
         Command::Undo
     } else if word == b"ping".as_slice() {
         ping(argument)
+    } else if word == b"protover".as_slice() {
+        protover(argument)
+    } else if word == b"variant".as_slice() {
+        Command::Variant
+    } else if word == b"go".as_slice() {
+        Command::Go
     } else if word == b"showfen".as_slice() {
         Command::ShowFen
     } else if word == b"showmoves".as_slice() {

@@ -2,7 +2,6 @@
 
 ghost use Rattle.std.specs.Prelude.{◌≡◌, ◌≤◌, ◌<◌, IsTrue, IfOk, length, nat_le, if◌then◌else◌};
 ghost use Rattle.chess_base.specs.Moves.{is_legal};
-ghost use Rattle.chess_base.specs.Initial.{initial_setup};
 ghost use Rattle.chess_base.specs.MoveList.{moves};
 ghost use Rattle.chess_cecp.specs.Game.{from_start, played, taken_back, current, opened, is_over, IsPlayable, verdict_at};
 
@@ -100,12 +99,12 @@ impl<B: Board + Drop> Game<B> {
 }
 
 impl<B: Board> Game<B> {
-    // The initial position with no moves, and nothing declared.
-    pub(crate) fn restart(&mut self)
-        ensures { self.new ≡ record { limit = self.old.limit; state = from_start initial_setup } }
+    // A start with no moves, and nothing declared.
+    pub(crate) fn restart(&mut self, start: &Position)
+        ensures { self.new ≡ record { limit = self.old.limit; state = from_start start.now } }
     {
-        self.start = Position::initial();
-        self.board.set(&self.start);
+        self.start = *start;
+        self.board.set(start);
         self.start_verdict = verdict_on(&self.board);
         self.places.clear();
     }

@@ -4,10 +4,12 @@ ghost use Rattle.std.specs.List.{flat_map};
 ghost use Rattle.std.specs.Prelude.{◌≡◌, ◌+◌, ◌*◌, ◌≤◌, ◌++◌, ◌∷◌, [], if◌then◌else◌, IfOk, length, codes, decimal};
 ghost use Rattle.arrayvec.specs.ArrayVec.{array_vec_len};
 ghost use Rattle.chess_base.specs.Devices.{Puts};
+ghost use Rattle.chess_base.specs.Reading.{fen_reading};
 ghost use Rattle.chess_base.specs.Writing.{fen};
+ghost use Rattle.std.specs.Str.{bytes_eq};
 ghost use Rattle.chess_cecp.specs.Game.{opened, current, IsPlayable};
 ghost use Rattle.chess_cecp.specs.Coordinates.{move_named as named_by};
-ghost use Rattle.chess_cecp.specs.Session.{row, row_on, move_row, named_row, undo_row, moves_line, shown, verdict_line, stands, next_state, answer_to, is_quit, is_quit_command, line_text};
+ghost use Rattle.chess_cecp.specs.Session.{row, row_on, move_row, named_row, undo_row, moves_line, shown, verdict_line, setboard_row, fault_name, feature_text, stands, next_state, answer_to, is_quit, is_quit_command, line_text};
 
 use crate::command::{Command, argument, read_command};
 use crate::coordinate::{coordinate, move_named};
@@ -15,7 +17,7 @@ use crate::game::{Game, Verdict};
 use crate::lines::Line;
 use arrayvec::ArrayVec;
 use chess_base::device::{Output, WriteFault, put};
-use chess_base::{Move, Position, write_fen};
+use chess_base::{FenFault, Move, Position, read_fen, write_fen};
 use chess_moves::Board;
 use itoa::Buffer;
 use std::alloc::{AllocError, Global};
@@ -65,6 +67,59 @@ fn write_pong(answer: &mut Answer, number: u32)
 {
     let mut buffer = Buffer::new();
     write_line(answer, b"pong ", buffer.format(number).as_bytes());
+}
+
+// What the arbiter tells of itself: it takes `setboard`, answers `ping`, and knows normal chess alone.
+const FEATURES: &[u8] =
+    b"feature ping=1 setboard=1 playother=0 san=0 usermove=1 time=1 draw=1 sigint=0 sigterm=0 reuse=1 analyze=0 colors=0 debug=1 myname=\"CECP arbiter\" variants=\"normal\" done=1";
+
+// The line that tells it.
+#[tactic(auto, unfolding(crate::specs::Session::feature_text))]
+fn write_features(answer: &mut Answer)
+    requires { answer.old.items ≡ [] }
+    ensures { answer.new.items ≡ line_text feature_text [] }
+{
+    write_line(answer, FEATURES, b"");
+}
+
+fn fault_name(fault: FenFault) -> &'static [u8]
+    ensures value { result.now ≡ fault_name fault }
+    ensures short { length result.now ≤ 10 }
+{
+    match fault {
+        FenFault::Fields => b"fields",
+        FenFault::Placement => b"placement",
+        FenFault::Side => b"side",
+        FenFault::Castling => b"castling",
+        FenFault::EnPassant => b"en passant",
+        FenFault::Counters => b"counters",
+        FenFault::Kings => b"kings",
+        FenFault::Pawns => b"pawns",
+        FenFault::Men => b"men",
+        FenFault::Check => b"check",
+    }
+}
+
+// The refusal of a FEN, by the name of its fault.
+fn write_illegal_position(answer: &mut Answer, fault: FenFault)
+    requires { answer.old.items ≡ [] }
+    ensures { answer.new.items ≡ line_text (codes "tellusererror Illegal position (") (fault_name fault ++ codes ")") }
+{
+    answer
+        .try_extend_from_slice(b"tellusererror Illegal position (")
+        .unwrap();
+    write_line(answer, fault_name(fault), b")");
+}
+
+// The refusal of each variant but normal chess.
+fn write_variant(answer: &mut Answer, variant: &[u8], text: &[u8])
+    requires short { length text.now ≤ 1024 }
+    requires empty { answer.old.items ≡ [] }
+    ensures { answer.new.items ≡ (if bytes_eq variant.now (codes "normal") then [] else line_text (codes "Error (unsupported variant): ") text.now) }
+{
+    if variant != b"normal".as_slice() {
+        write_line(answer, b"Error (unsupported variant): ", text);
+    }
 }
 
 // The line of a verdict, if there is one.
@@ -162,6 +217,21 @@ impl<B: Board> Session<B> {
         }
     }
 
+    // Starts the game anew from the position that a FEN spells.
+    fn set_board(&mut self, fen: &[u8], answer: &mut Answer)
+        requires { answer.old.items ≡ [] }
+        ensures next { self.new ≡ stands self.old (setboard_row self.old.state (fen_reading fen.now)) }
+        ensures text { answer.new.items ≡ (setboard_row self.old.state (fen_reading fen.now)).text }
+    {
+        match read_fen(fen) {
+            Ok(start) => {
+                self.game.restart(&start);
+                write_verdict(answer, self.game.verdict());
+            }
+            Err(fault) => write_illegal_position(answer, fault),
+        }
+    }
+
     fn undo(&mut self, answer: &mut Answer)
         requires { answer.old.items ≡ [] }
         ensures next { self.new ≡ stands self.old (undo_row self.old.state) }
@@ -189,14 +259,22 @@ impl<B: Board> Session<B> {
         ensures text { answer.new.items ≡ (row self.old.limit self.old.state text.now argument.now command).text }
     {
         match command {
-            Command::New => self.game.restart(),
+            Command::New => self.game.restart(&Position::initial()),
+            Command::SetBoard => self.set_board(argument, answer),
             Command::UserMove => self.play(argument, answer),
             Command::BareMove => self.play(text, answer),
             Command::Undo => self.undo(answer),
             Command::Ping(number) => write_pong(answer, number),
+            Command::Protover(version) => {
+                if version >= 2 {
+                    write_features(answer);
+                }
+            }
+            Command::Variant => write_variant(answer, argument, text),
+            Command::Go => write_line(answer, b"Error (the arbiter plays no side): ", b"go"),
             Command::ShowFen => self.show_fen(answer),
             Command::ShowMoves => write_moves(answer, self.game.legal_moves().as_slice()),
-            Command::Quit | Command::Nothing => {}
+            Command::Quit | Command::Silent => {}
             Command::BadNumber => write_line(answer, b"Error (bad number): ", text),
             Command::Unknown => write_line(answer, b"Error (unknown command): ", text),
         }

@@ -19,7 +19,7 @@ struct Run {
 }
 
 // The rows of the first stage, and what stands beside them.
-const RUNS: [Run; 20] = [
+const RUNS: [Run; 30] = [
     Run {
         input: b"new\ne2e4\nping 7\nundo\nshowfen\nquit\nshowfen\n",
         answers: b"pong 7\n# fen rnbqkbnr/pppppppp/8/8/8/8/PPPPPPPP/RNBQKBNR w KQkq - 0 1\n",
@@ -64,8 +64,8 @@ const RUNS: [Run; 20] = [
     },
     // What has no move's shape is no command; what has it and is not legal is no move.
     Run {
-        input: b"e2e4k\ne2i4\ne2e4qq\ne2e4q\na7a8Q+\n?\n",
-        answers: b"Error (unknown command): e2e4k\nError (unknown command): e2i4\nError (unknown command): e2e4qq\nIllegal move: e2e4q\nIllegal move: a7a8Q+\nError (unknown command): ?\n",
+        input: b"e2e4k\ne2i4\ne2e4qq\ne2e4q\na7a8Q+\n??\n",
+        answers: b"Error (unknown command): e2e4k\nError (unknown command): e2i4\nError (unknown command): e2e4qq\nIllegal move: e2e4q\nIllegal move: a7a8Q+\nError (unknown command): ??\n",
         end: End::InputEnded,
     },
     // Marks at the end of a move are passed over.
@@ -121,6 +121,66 @@ const RUNS: [Run; 20] = [
         input: b"e2e3\na7a5\nd1h5\na8a6\nh5a5\nh7h5\nh2h4\na6h6\na5c7\nf7f6\nc7d7\ne8f7\nd7b7\nd8d3\nb7b8\nd3h7\nb8c8\nf7g6\nc8e6\nshowfen\n",
         answers: b"1/2-1/2 {Stalemate}\n# fen 5bnr/4p1pq/4Qpkr/7p/7P/4P3/PPPP1PP1/RNB1KBNR b KQ - 2 10\n",
         end: End::InputEnded,
+    },
+    // Two men leave the rank.
+    Run {
+        input: b"setboard 7k/8/8/K2pP2r/8/8/8/8 w - d6 0 1\nusermove e5d6\n",
+        answers: b"Illegal move: e5d6\n",
+        end: End::InputEnded,
+    },
+    // Queenside castling with b1 attacked.
+    Run {
+        input: b"setboard 4k3/8/8/8/8/8/1r6/R3K3 w Q - 0 1\nusermove e1c1\nshowfen\n",
+        answers: b"# fen 4k3/8/8/8/8/8/1r6/2KR4 b - - 1 1\n",
+        end: End::InputEnded,
+    },
+    // A start with a verdict.
+    Run {
+        input: b"setboard 7k/5Q2/6K1/8/8/8/8/8 b - - 0 1\nh8g8\nundo\n",
+        answers: b"1/2-1/2 {Stalemate}\nIllegal move (game over): h8g8\nError (command not legal now): undo\n",
+        end: End::InputEnded,
+    },
+    // A start that is mate, and mate by a move to a last rank.
+    Run {
+        input: b"setboard 7k/6Q1/6K1/8/8/8/8/8 b - - 0 1\nsetboard 7k/8/6K1/8/8/8/8/R7 w - - 149 200\na1a8\n",
+        answers: b"1-0 {White mates}\n1-0 {White mates}\n",
+        end: End::InputEnded,
+    },
+    // Promotion.
+    Run {
+        input: b"setboard 8/4P3/8/8/8/2k5/8/4K3 w - - 0 1\ne7e8\ne7e8k\nshowmoves\ne7e8q\nshowfen\n",
+        answers: b"Illegal move: e7e8\nError (unknown command): e7e8k\n# moves 8 e1d1 e1f1 e1e2 e1f2 e7e8q e7e8r e7e8b e7e8n\n# fen 4Q3/8/8/8/8/2k5/8/4K3 b - - 0 1\n",
+        end: End::InputEnded,
+    },
+    // Refused starts leave the game as it was.
+    Run {
+        input: b"new\ne2e4\nsetboard 4k3/8/8/8/8/8/8/K3K3 w - - 0 1\nsetboard 4k3/8/8/8/8/8/8/4K2R w KQ - 0 1\nshowfen\n",
+        answers: b"tellusererror Illegal position (kings)\ntellusererror Illegal position (castling)\n# fen rnbqkbnr/pppppppp/8/8/4P3/8/PPPP1PPP/RNBQKBNR b KQkq e3 0 1\n",
+        end: End::InputEnded,
+    },
+    // Each fault of a FEN has its one name, and the game stays.
+    Run {
+        input: b"d2d4\nsetboard\nsetboard 4k3/8/8/8/8/8/8/K3K3 x - - 0\nsetboard 4k3/9/8/8/8/8/8/4K3 w - - 0 1\nsetboard 4k3/8/8/8/8/8/8/K3K3 x - - 0 1\nsetboard 4k3/8/8/8/8/8/8/4K2R w KK - 0 1\nsetboard 4k3/8/8/8/8/8/8/4K3 w - e3 0 1\nsetboard 4k3/8/8/8/8/8/8/4K3 w - - 1234567 1\nsetboard P3k3/8/8/8/8/8/8/4K3 w - - 0 1\nsetboard 4k3/8/8/8/8/N7/PPPPPPPP/RNBQKBNR w - - 0 1\nsetboard 4k3/8/8/8/8/8/8/4R1K1 w - - 0 1\nsetboard 4k3/8/8/8/8/8/8/4K3\tw - - 0 1\nsetboard 4k3/8/8/8/8/8/8/4K3 w - - 0 1 1\nshowfen\n",
+        answers: b"tellusererror Illegal position (fields)\ntellusererror Illegal position (fields)\ntellusererror Illegal position (placement)\ntellusererror Illegal position (side)\ntellusererror Illegal position (castling)\ntellusererror Illegal position (en passant)\ntellusererror Illegal position (counters)\ntellusererror Illegal position (pawns)\ntellusererror Illegal position (men)\ntellusererror Illegal position (check)\ntellusererror Illegal position (fields)\ntellusererror Illegal position (fields)\n# fen rnbqkbnr/pppppppp/8/8/3P4/8/PPP1PPPP/RNBQKBNR b KQkq d3 0 1\n",
+        end: End::InputEnded,
+    },
+    // What is read is written in one spelling.
+    Run {
+        input: b"setboard 4k3/8/8/8/8/8/8/4K2R  w  K -\nshowfen\nsetboard 4k3/44/8/8/8/8/4P3/4K3 b - - 0 0\nshowfen\nsetboard r3k2r/8/8/8/8/8/8/R3K2R w qkQK - 3 7\nshowfen\n",
+        answers: b"# fen 4k3/8/8/8/8/8/8/4K2R w K - 0 1\n# fen 4k3/8/8/8/8/8/4P3/4K3 b - - 0 1\n# fen r3k2r/8/8/8/8/8/8/R3K2R w KQkq - 3 7\n",
+        end: End::InputEnded,
+    },
+    // The handshake.
+    Run {
+        input: b"xboard\nprotover 2\naccepted done\nprotover 1\nprotover 0\nprotover x\nprotover\nvariant normal\nvariant atomic\nvariant\ngo\ngo now\nforce\nlevel 40 5 0\n?\n\n",
+        answers: b"feature ping=1 setboard=1 playother=0 san=0 usermove=1 time=1 draw=1 sigint=0 sigterm=0 reuse=1 analyze=0 colors=0 debug=1 myname=\"CECP arbiter\" variants=\"normal\" done=1\nError (bad number): protover x\nError (bad number): protover\nError (unsupported variant): variant atomic\nError (unsupported variant): variant\nError (the arbiter plays no side): go\nError (the arbiter plays no side): go\n",
+        end: End::InputEnded,
+    },
+    // How an interface begins, and what it tells an engine on its way.
+    Run {
+        input: b"xboard\nprotover 2\naccepted ping\naccepted setboard\naccepted usermove\nrejected debug\naccepted done\nnew\nrandom\nlevel 40 5 0\npost\nhard\neasy\nnopost\ncomputer\nname GNU Chess\nrating 2000 1900\nics -\nst 5\nsd 6\ntime 30000\notim 30000\nforce\nping 1\nsetboard rnbqkbnr/pppppppp/8/8/4P3/8/PPPP1PPP/RNBQKBNR b KQkq e3 0 1\nusermove e7e5\ndraw\nping 2\nquit\n",
+        answers: b"feature ping=1 setboard=1 playother=0 san=0 usermove=1 time=1 draw=1 sigint=0 sigterm=0 reuse=1 analyze=0 colors=0 debug=1 myname=\"CECP arbiter\" variants=\"normal\" done=1\npong 1\npong 2\n",
+        end: End::Quit,
     },
     Run {
         input: b"quit now\nping 1\n",
@@ -350,8 +410,8 @@ fn what_was_read_stays_after_a_fault(rt: HostRuntime) -> Result<(), Fail> {
 
 #[test]
 fn commands_are_told_by_their_first_word(rt: HostRuntime) {
-    let commands: [(&[u8], Command); 10] = [
-        (b"", Command::Nothing),
+    let commands: [(&[u8], Command); 16] = [
+        (b"", Command::Silent),
         (b"new game", Command::New),
         (b"usermove\te7e8q", Command::UserMove),
         (b"e7e8q", Command::BareMove),
@@ -360,12 +420,41 @@ fn commands_are_told_by_their_first_word(rt: HostRuntime) {
         (b"ping -1", Command::BadNumber),
         (b"showfen", Command::ShowFen),
         (b"showmoves", Command::ShowMoves),
+        (b"setboard", Command::SetBoard),
+        (b"protover 2", Command::Protover(2)),
+        (b"variant normal", Command::Variant),
+        (b"go", Command::Go),
+        (b"xboard", Command::Silent),
+        (b"?", Command::Silent),
         (b"quit", Command::Quit),
     ];
     for (text, command) in commands {
         assert_eq!(rt; read_command(text), command);
     }
     assert_eq!(rt; read_command(b"newgame"), Command::Unknown);
+}
+
+// The numbers of legal moves in four well-known test positions.
+#[test]
+fn moves_of_test_positions_are_counted(rt: HostRuntime) -> Result<(), Fail> {
+    let input =
+        b"setboard r3k2r/p1ppqpb1/bn2pnp1/3PN3/1p2P3/2N2Q1p/PPPBBPPP/R3K2R w KQkq - 0 1\nshowmoves\nsetboard 8/2p5/3p4/KP5r/1R3p1k/8/4P1P1/8 w - - 0 1\nshowmoves\nsetboard r3k2r/Pppp1ppp/1b3nbN/nP6/BBP1P3/q4N2/Pp1P2PP/R2Q1RK1 w kq - 0 1\nshowmoves\nsetboard rnbq1k1r/pp1Pbppp/2p5/8/2B5/8/PPP1NnPP/RNBQK2R w KQ - 1 8\nshowmoves\n";
+    let mut session = Session::open(rt.alloc(), Plain::new(), 100)?;
+    let mut reader = pieces(input, 1000, 0);
+    let mut writer = taking(rt.alloc(), 1000, 0);
+    let ended = run_session(&mut reader, &mut writer, &mut session);
+    assert_eq!(rt; ended, Ok(End::InputEnded));
+    let counts: [&[u8]; 4] = [
+        b"# moves 48 ",
+        b"# moves 14 ",
+        b"# moves 6 ",
+        b"# moves 44 ",
+    ];
+    let answers = writer.writer().bytes.as_slice();
+    for (line, count) in answers.split(|byte| *byte == b'\n').zip(counts) {
+        assert!(rt; line.starts_with(count));
+    }
+    Ok(())
 }
 
 #[test]
