@@ -4,14 +4,15 @@
 
 ghost use Rattle.std.specs.Prelude.{◌≡◌};
 
-use chess_base::Position;
+use chess_base::{Position, read_fen};
 use chess_moves::{Board, Plain};
+use std::alloc::{AllocError, Global};
 use std::process::ExitCode;
 use std::time::{Duration, Instant};
 use std::{env, io};
 
 const USAGE: &str =
-    "usage: bench DEPTH [FEN..], with DEPTH from 0 to 255; no FEN is the initial position, and no other can be read yet";
+    "usage: bench DEPTH [FEN..], with DEPTH from 0 to 255; no FEN is the initial position";
 
 // How many lines of so many legal moves there are.
 fn count_lines<B: Board>(board: &mut B, depth: u8) -> u64
@@ -31,14 +32,25 @@ fn count_lines<B: Board>(board: &mut B, depth: u8) -> u64
 }
 
 // The position that the words of a FEN spell. No words are the initial position.
-fn start_of(fen: &[String]) -> Option<Position> {
-    fen.is_empty().then(Position::initial)
+fn start_of(alloc: Global, fen: &[String]) -> io::Result<Option<Position>> {
+    if fen.is_empty() {
+        return Ok(Some(Position::initial()));
+    }
+    let mut text = Vec::new(alloc);
+    for word in fen {
+        text.extend_from_slice(word.as_bytes())?;
+        text.push(b' ').map_err(AllocError::from)?;
+    }
+    Ok(read_fen(text.as_slice()).ok())
 }
 
 // What the words ask for: the start and the depth.
-fn task_of(words: &[String]) -> Option<(Position, u8)> {
-    let (depth, fen) = words.split_first()?;
-    Some((start_of(fen)?, depth.parse().ok()?))
+fn task_of(alloc: Global, words: &[String]) -> io::Result<Option<(Position, u8)>> {
+    let Some((depth, fen)) = words.split_first() else {
+        return Ok(None);
+    };
+    let start = start_of(alloc, fen)?;
+    Ok(start.zip(depth.parse().ok()))
 }
 
 // How many a second that is, with a millisecond at least.
@@ -57,7 +69,7 @@ fn words_of(rt: &HostRuntime) -> io::Result<Vec<String>> {
 
 fn run(rt: &HostRuntime) -> io::Result<ExitCode> {
     let words = words_of(rt)?;
-    let Some((start, depth)) = task_of(&words) else {
+    let Some((start, depth)) = task_of(rt.alloc(), words.as_slice())? else {
         eprintln!(rt; "{USAGE}")?;
         return Ok(ExitCode::from(2));
     };

@@ -1,12 +1,12 @@
 -- The places of a game: what a move adds, and what taking one back leaves.
-use Rattle.std.proofs.Common.{◌≡◌, ℕ, zero, suc, ◌+◌, ◌-◌, ◌<◌, List, [], ◌∷◌, ◌++◌, length, get_or, take, ◌≤◌, Bool, true, false, if◌then◌else◌, Option, None, Some, Result, Ok, Err, is_ok, is_err, slice_get, refl, sym, ap, ◌∙◌, subst, IsTrue, arith}
+use Rattle.std.proofs.Common.{◌≡◌, ℕ, suc, ◌-◌, ◌<◌, List, [], ◌∷◌, ◌++◌, length, get_or, ◌≤◌, false, if◌then◌else◌, None, Some, Result, Ok, Err, is_ok, is_err, slice_get, refl, sym, ap, ◌∙◌, subst, arith}
 use Rattle.std.proofs.lemmas.Option.{get_or_from_slice_get, slice_get-get_or}
 use Rattle.std.proofs.lemmas.List.{length-map}
 use Rattle.chess_base.specs.Sound.{IsSound}
 use Rattle.chess_base.specs.declared.setup.Setup.{Setup}
 use Rattle.chess_base.specs.Moves.{after}
 use Rattle.chess_moves.specs.Made.{WasMade}
-use Rattle.chess_cecp.specs.Game.{last, current, verdict_at, IsLine, IsPlayable, Seen}
+use Rattle.chess_cecp.specs.Game.{last, verdict_at, IsLine, IsPlayable, Seen}
 use Rattle.chess_cecp.specs.Places.{moves_of, Follows}
 use Rattle.chess_cecp.specs.declared.game.Place.{Place}
 

@@ -1,5 +1,5 @@
 -- Rows whose text is a refusal change nothing.
-use Rattle.std.proofs.Common.{◌≡◌, ℕ, ◌==◌, ◌||◌, inl, inr, Bool, true, false, List, [], ◌∷◌, ◌++◌, get_or, codes, refl, sym, ap, if◌then◌else◌, length, Option, None, Some}
+use Rattle.std.proofs.Common.{◌≡◌, ℕ, ◌==◌, ◌||◌, inl, inr, Bool, true, false, List, [], get_or, codes, refl, sym, ap, if◌then◌else◌, length, Option, None, Some}
 use Rattle.std.specs.Prelude.{nat_le, nat_lt, Result, Ok, Err}
 use Rattle.std.specs.Str.{bytes_eq}
 use Rattle.chess_base.specs.declared.fault.FenFault.{FenFault}
@@ -16,7 +16,7 @@ use Rattle.chess_cecp.specs.declared.game.Verdict.{Verdict}
 use Rattle.chess_cecp.specs.declared.game.Verdict.TheVariants.{WhiteMates, BlackMates, Stalemate}
 use Rattle.chess_cecp.specs.declared.command.Command.{Command}
 use Rattle.chess_cecp.specs.declared.command.Command.TheVariants.{New, SetBoard, UserMove, BareMove, Undo, Ping, Protover, Variant, Go, ShowFen, ShowMoves, Quit, Silent, BadNumber, Unknown}
-use Rattle.chess_cecp.specs.Session.{Row, row, row_on, says, refuses, becomes, becomes_judged, verdict_line, setboard_row, feature_text, line_text, named_row, move_row, undo_row, stands, IsRefusal, answer_to, next_state}
+use Rattle.chess_cecp.specs.Session.{Row, row, says, refuses, becomes, becomes_judged, verdict_line, setboard_row, feature_text, line_text, named_row, move_row, IsRefusal, answer_to, next_state}
 
 -- the first bytes of refusals: E, I and t
 abbrev pub begins_refusal : List ℕ → Bool
