@@ -62,7 +62,3 @@ pub overfull : (text : List ℕ) (row squares : List (Option Man)) (file i c : �
 overfull text row squares file i c so_far h at is more =
     sym (too_long (take file row ++ squares) (drop (i + 1) text) (omega (arith, length-append (take file row) squares, length-take file row, so_far.eight, so_far.within)))
     ∙ sym (one_more text (take file row) squares i h (ap squares_of (sym at) ∙ is)) ∙ so_far.rest
-
-pub no_squares : (text : List ℕ) (row : List (Option Man)) (file i c : ℕ) → RankSoFar text row file i → i < length text → c ≡ get_or text i 0 → squares_of c ≡ None → None ≡ rank_of text
-no_squares text row file i c so_far h at is =
-    sym (at_drop_more (rank_after (take file row)) text i 0 h ∙ ap (option_and_then (λ s. rank_after (take file row ++ s) (drop (i + 1) text))) (ap squares_of (sym at) ∙ is)) ∙ so_far.rest

@@ -1,6 +1,6 @@
 -- The places of a game: what a move adds, and what taking one back leaves.
-use Rattle.std.proofs.Common.{◌≡◌, ℕ, suc, ◌-◌, ◌<◌, List, [], ◌∷◌, ◌++◌, length, get_or, ◌≤◌, false, if◌then◌else◌, None, Some, Result, Ok, Err, is_ok, is_err, slice_get, refl, sym, ap, ◌∙◌, subst, arith}
-use Rattle.std.proofs.lemmas.Option.{get_or_from_slice_get, slice_get-get_or}
+use Rattle.std.proofs.Common.{◌≡◌, ℕ, suc, ◌-◌, ◌<◌, List, [], ◌∷◌, ◌++◌, length, get_or, ◌≤◌, false, if◌then◌else◌, None, Some, Result, Ok, Err, is_ok, is_err, slice_get, sym, ap, ◌∙◌, subst, arith}
+use Rattle.std.proofs.lemmas.Option.{get_or_from_slice_get}
 use Rattle.std.proofs.lemmas.List.{length-map}
 use Rattle.chess_base.specs.Sound.{IsSound}
 use Rattle.chess_base.specs.declared.setup.Setup.{Setup}
@@ -31,17 +31,6 @@ last_place p (y ∷ ys) x f is = subst (IsLast p (y ∷ ys)) (get_or_from_slice_
 
 pub verdict-now : (p : Setup) (xs : List Place) (x : Place) → Follows p xs → slice_get xs (length xs - 1) ≡ Some x → x.verdict ≡ verdict_at (last p (moves_of xs))
 verdict-now p xs x f is = let l = last_place p xs x f is in l.verdict ∙ ap verdict_at l.reached
-
-none_last : (xs : List Place) (d : Place) → slice_get xs (length xs - 1) ≡ None → xs ≡ []
-none_last [] d is = refl
-none_last (x ∷ xs) d is =
-    let there : length (x ∷ xs) - 1 < length (x ∷ xs) = omega arith in
-    let some : slice_get (x ∷ xs) (length (x ∷ xs) - 1) ≡ Some (get_or (x ∷ xs) (length (x ∷ xs) - 1) d) = slice_get-get_or (x ∷ xs) (length (x ∷ xs) - 1) d there in cc
-
--- without a place the line ends at its start
-pub start-now : (p : Setup) (xs : List Place) → slice_get xs (length xs - 1) ≡ None → last p (moves_of xs) ≡ p
-start-now p [] is = refl
-start-now p (x ∷ xs) is = let none = none_last (x ∷ xs) x is in cc
 
 -- the moves that are kept are a line
 pub kept_line : (p : Setup) (xs : List Place) → Follows p xs → IsLine p (moves_of xs)

@@ -1,11 +1,11 @@
 -- The reads of one call for the next line.
-use Rattle.std.proofs.Common.{◌≡◌, ℕ, ◌+◌, ◌-◌, ◌<◌, ◌≤◌, inl, inr, Bool, true, false, List, [], ◌∷◌, ◌++◌, length, take, Some, None, Ok, Err, refl, sym, ap, ◌∙◌, arith, append_assoc, append-nil, length-append, nat_eq, nat_lt}
+use Rattle.std.proofs.Common.{◌≡◌, ℕ, ◌+◌, ◌-◌, ◌<◌, ◌≤◌, inl, inr, Bool, true, false, List, [], ◌∷◌, ◌++◌, length, take, Some, None, Ok, refl, sym, ap, ◌∙◌, arith, append_assoc, append-nil, length-append, nat_eq, nat_lt}
 use Rattle.std.proofs.Math.Seq.{take-append_seam}
 use Rattle.chess_cecp.proofs.Parts.{line_ended, ten_step, byte_step}
 use Rattle.std.specs.Io.KnownBytes.{Consumes}
 use Rattle.std.specs.Bool.{MatchBool}
-use Rattle.chess_base.specs.Devices.{InputState, GavePiece, FailedToRead, risen}
-use Rattle.chess_base.proofs.DeviceLaws.{consumes_more, consumes_none, consumes_kept}
+use Rattle.chess_base.specs.Devices.{InputState, GavePiece, risen}
+use Rattle.chess_base.proofs.DeviceLaws.{consumes_more, consumes_none}
 use Rattle.chess_cecp.specs.Lines.{LineSeen, Held, nothing_held, lines_from, lines_held, line_of, HasNoEnd}
 use Rattle.chess_cecp.specs.Next.{before_piece, Waits, work, NextLine, HeldLine}
 
@@ -17,10 +17,6 @@ pub record SoFar (n : ℕ) (r r' : InputState) (held held' : Held) (given : List
   pub failures : r'.failure_count ≡ r.failure_count
   pub ends : r'.end_count ≡ r.end_count
   pub work : work r' held' ≤ work r held
-
-at_true : (b : Bool) (P Q : Type 0) → b ≡ true → P → MatchBool b P Q
-at_true true P Q e p = p
-at_true false P Q e p = cc
 
 at_false : (b : Bool) (P Q : Type 0) → b ≡ false → Q → MatchBool b P Q
 at_false true P Q e p = cc
@@ -118,37 +114,6 @@ end_last E n r r' r'' h h' h'' h3 given piece line s f p e some is left =
         ends = told_end r' r'' piece p e ∙ ap risen s.ends;
       }),
     )
-
-pub got_line : (E : Type 0) (n : ℕ) (r r' : InputState) (h h' h'' : Held) (given : List ℕ) (line : LineSeen) → SoFar n r r' h h' given → HeldLine n h' h'' (Some line) → NextLine {E = E} n r r' h h'' (Ok (Some line))
-got_line E n r r' h h' h'' given line s f = (
-  given,
-  s.bytes,
-  s.waits,
-  at_true line.ended _ _ f.0 (record {
-    lines = λ told rest. s.lines told rest ∙ f.2 told rest;
-    failures = s.failures;
-    ends = s.ends;
-    falls = (let a = s.work in let b = f.1 in omega arith);
-  }),
-)
-
-waits_kept : (n : ℕ) (r r' r'' : InputState) (h : Held) (given : List ℕ) → Waits n r r' h given → r''.last_len ≡ r'.last_len → Waits n r r'' h given
-waits_kept n r r' r'' h given w e =
-    elim w [ inl (a, b) ↦ inl (a, e ∙ b) | inr (a, b) ↦ inr (omega arith, ap (λ v. lines_held n false h (before_piece v given)) e ∙ b) ]
-
-pub got_fault : {E : Type 0} (n : ℕ) (r r' r'' : InputState) (h h' h'' : Held) (given coming : List ℕ) (e : E) → SoFar n r r' h h' given → HeldLine n h' h'' None → FailedToRead r' r'' → coming ≡ []
-    → NextLine {E = E} n r r'' h (record { part = h''.part; coming = coming }) (Err e)
-got_fault n r r' r'' h h' h'' given coming e s f p none = (
-  given,
-  rw (← append-nil given) (consumes_more r.known_bytes r'.known_bytes r''.known_bytes given [] s.bytes (consumes_kept r'.known_bytes r''.known_bytes p.bytes)),
-  waits_kept n r r' r'' h given s.waits p.last,
-  record {
-    whole = whole_so_far n r r' h h' h'' given s f;
-    lines = λ told rest. s.lines told rest ∙ f.2 told rest ∙ ap (λ v. lines_from n told h''.part (v ++ rest)) (f.1 ∙ sym none);
-    failures = p.failures ∙ ap risen s.failures;
-    ends = p.ends ∙ s.ends;
-  },
-)
 
 piece_on_part : (n : ℕ) (told : Bool) (part piece rest : List ℕ) → HasNoEnd piece → lines_from n told part (piece ++ rest) ≡ lines_from n told (part ++ piece) rest
 piece_on_part n told part [] rest h = ap (λ v. lines_from n told v rest) (sym (append-nil part))

@@ -1,8 +1,8 @@
 -- Blanks and a byte 13 at the ends of a list.
-use Rattle.std.proofs.Common.{◌≡◌, ℕ, ◌+◌, ◌-◌, ◌<◌, ◌≤◌, ◌&&◌, Bool, true, false, List, [], ◌∷◌, ◌++◌, length, get_or, take, drop, refl, sym, ap, ◌∙◌, ◌==◌, ◌≢◌, arith, add-one, drop-cons}
+use Rattle.std.proofs.Common.{◌≡◌, ℕ, ◌+◌, ◌-◌, ◌<◌, ◌≤◌, ◌&&◌, Bool, true, false, List, [], ◌∷◌, ◌++◌, length, get_or, take, refl, sym, ap, ◌∙◌, ◌==◌, ◌≢◌, arith}
 use Rattle.std.proofs.Math.Seq.{take-length}
 use Rattle.std.proofs.lemmas.Grind.{common_steps}
-use Rattle.chess_cecp.specs.Lines.{is_blank, all_blank, without_front_blanks, without_end_blanks, without_return}
+use Rattle.chess_cecp.specs.Lines.{is_blank, all_blank, without_end_blanks, without_return}
 
 and_false : (b : Bool) → (b && false) ≡ false
 and_false true = refl
@@ -37,12 +37,6 @@ return_kept (c ∷ d ∷ cs) b h = ap (λ v. c ∷ v) (return_kept (d ∷ cs) b 
 -- a list by its last element
 pub by_last : (xs : List ℕ) (i : ℕ) → i < length xs → take (i + 1) xs ≡ take i xs ++ get_or xs i 0 ∷ []
 by_last xs i h = grind (arith, common_steps)
-
-pub front_step : (xs : List ℕ) (i : ℕ) → i < length xs → is_blank (get_or xs i 0) ≡ true → without_front_blanks (drop (i + 1) xs) ≡ without_front_blanks (drop i xs)
-front_step xs i h b = rw (add-one, drop-cons xs i 0) (rw b refl)
-
-pub front_stop : (xs : List ℕ) (i : ℕ) → i < length xs → is_blank (get_or xs i 0) ≡ false → without_front_blanks (drop i xs) ≡ drop i xs
-front_stop xs i h b = rw (drop-cons xs i 0) (rw b refl)
 
 last_of : (xs : List ℕ) (i : ℕ) → 0 < i → i ≤ length xs → take i xs ≡ take (i - 1) xs ++ get_or xs (i - 1) 0 ∷ []
 last_of xs i h k =

@@ -1,8 +1,8 @@
 -- What a line commands (Chess Engine Communication Protocol, version 2).
-use Rattle.std.specs.Prelude.{ℕ, ◌+◌, ◌-◌, ◌*◌, ◌==◌, ◌&&◌, ◌||◌, nat_lt, nat_le, if◌then◌else◌, Bool, List, [], ◌∷◌, length, drop, codes, Option, None, Some, is_some}
+use Rattle.std.specs.Prelude.{ℕ, ◌==◌, ◌&&◌, ◌||◌, nat_lt, nat_le, if◌then◌else◌, Bool, List, [], ◌∷◌, length, drop, codes, Option, None, Some, is_some}
 use Rattle.std.specs.List.{list_all, list_any}
 use Rattle.std.specs.Str.{bytes_eq}
-use Rattle.chess_base.specs.Letters.{byte}
+use Rattle.chess_base.specs.Texts.{is_digit, value_after}
 use Rattle.chess_cecp.specs.Lines.{is_blank, without_front_blanks}
 use Rattle.chess_cecp.specs.Coordinates.{move_named}
 use Rattle.chess_cecp.specs.declared.command.Command.{Command}
@@ -16,14 +16,6 @@ word_of (c ∷ cs) = if is_blank c then [] else c ∷ word_of cs
 -- what follows the first word and the blanks after it
 unfoldable pub argument_of : List ℕ → List ℕ
 argument_of text = without_front_blanks (drop (length (word_of text)) text)
-
-abbrev pub is_digit : ℕ → Bool
-is_digit c = nat_le (byte "0") c && nat_le c (byte "9")
-
--- the value of digits behind a number
-abbrev pub value_after : ℕ → List ℕ → ℕ
-value_after n [] = n
-value_after n (c ∷ cs) = value_after (n * 10 + (c - byte "0")) cs
 
 -- the number that one to nine digits write
 unfoldable pub number_of : List ℕ → Option ℕ

@@ -78,10 +78,10 @@ fn read_number(text: &[u8]) -> Option<u32>
     }
     let mut number = 0;
     for byte in text {
-        if *byte < b'0' || *byte > b'9' {
+        if !byte.is_ascii_digit() {
             return None;
         }
-        number = number * 10 + (*byte - b'0') as u32;
+        number = 10 * number + u32::from(*byte - b'0');
     }
     Some(number)
 }

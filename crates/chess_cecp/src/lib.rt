@@ -2,6 +2,7 @@
 //! answers them.
 #![tactic(auto)]
 
+mod answer;
 mod command;
 mod coordinate;
 mod game;

@@ -1,25 +1,23 @@
 //! A session: one game, and the answers to lines.
 
-ghost use Rattle.std.specs.List.{flat_map};
-ghost use Rattle.std.specs.Prelude.{◌≡◌, ◌+◌, ◌*◌, ◌≤◌, ◌++◌, ◌∷◌, [], if◌then◌else◌, IfOk, length, codes, decimal};
-ghost use Rattle.arrayvec.specs.ArrayVec.{array_vec_len};
+ghost use Rattle.std.specs.Prelude.{◌≡◌, ◌≤◌, [], if◌then◌else◌, IfOk, length, codes};
 ghost use Rattle.chess_base.specs.Devices.{Puts};
 ghost use Rattle.chess_base.specs.Reading.{fen_reading};
 ghost use Rattle.chess_base.specs.Writing.{fen};
-ghost use Rattle.std.specs.Str.{bytes_eq};
 ghost use Rattle.chess_cecp.specs.Game.{opened, current, IsPlayable};
-ghost use Rattle.chess_cecp.specs.Coordinates.{move_named as named_by};
-ghost use Rattle.chess_cecp.specs.Session.{row, row_on, move_row, named_row, undo_row, moves_line, shown, verdict_line, setboard_row, fault_name, feature_text, stands, next_state, answer_to, is_quit, is_quit_command, line_text};
+ghost use Rattle.chess_cecp.specs.Session.{row, move_row, undo_row, setboard_row, stands, next_state, answer_to, is_quit, is_quit_command, line_text};
 
+use crate::answer::{
+    Answer, write_features, write_illegal_position, write_line, write_moves, write_pong,
+    write_variant, write_verdict,
+};
 use crate::command::{Command, argument, read_command};
-use crate::coordinate::{coordinate, move_named};
-use crate::game::{Game, Verdict};
+use crate::coordinate::move_named;
+use crate::game::Game;
 use crate::lines::Line;
-use arrayvec::ArrayVec;
 use chess_base::device::{Output, WriteFault, put};
-use chess_base::{FenFault, Move, Position, read_fen, write_fen};
+use chess_base::{Position, read_fen, write_fen};
 use chess_moves::Board;
-use itoa::Buffer;
 use std::alloc::{AllocError, Global};
 use std::marker::Model;
 
@@ -29,12 +27,6 @@ pub enum Go {
     On,
     Quit,
 }
-
-// The most bytes of an answer, which is put together before it is written: `# moves`, a number, and six bytes for each
-// of 896 moves; or an echoed line of 1,024 bytes and the words before it.
-const ANSWER_LEN: usize = 5500;
-
-type Answer = ArrayVec<u8, ANSWER_LEN>;
 
 /// A session over one game. In contracts it is the game's start, the moves that stand and what was declared, and the
 /// number of half-moves that can stand.
@@ -49,120 +41,6 @@ impl<B: Board> Model for Session<B> {
     ghost Value = { Seen };
 
     ghost view = { λ s. s.game };
-}
-
-// A text behind another, and byte 10.
-fn write_line(answer: &mut Answer, front: &[u8], text: &[u8])
-    requires { array_vec_len answer.old + length front.now + length text.now + 1 ≤ 5500 }
-    ensures { answer.new.items ≡ answer.old.items ++ line_text front.now text.now }
-{
-    answer.try_extend_from_slice(front).unwrap();
-    answer.try_extend_from_slice(text).unwrap();
-    answer.push(b'\n');
-}
-
-fn write_pong(answer: &mut Answer, number: u32)
-    requires { array_vec_len answer.old ≤ 1000 }
-    ensures { answer.new.items ≡ answer.old.items ++ line_text (codes "pong ") (decimal number) }
-{
-    let mut buffer = Buffer::new();
-    write_line(answer, b"pong ", buffer.format(number).as_bytes());
-}
-
-// What the arbiter tells of itself: it takes `setboard`, answers `ping`, and knows normal chess alone.
-const FEATURES: &[u8] =
-    b"feature ping=1 setboard=1 playother=0 san=0 usermove=1 time=1 draw=1 sigint=0 sigterm=0 reuse=1 analyze=0 colors=0 debug=1 myname=\"CECP arbiter\" variants=\"normal\" done=1";
-
-// The line that tells it.
-#[tactic(auto, unfolding(crate::specs::Session::feature_text))]
-fn write_features(answer: &mut Answer)
-    requires { answer.old.items ≡ [] }
-    ensures { answer.new.items ≡ line_text feature_text [] }
-{
-    write_line(answer, FEATURES, b"");
-}
-
-fn fault_name(fault: FenFault) -> &'static [u8]
-    ensures value { result.now ≡ fault_name fault }
-    ensures short { length result.now ≤ 10 }
-{
-    match fault {
-        FenFault::Fields => b"fields",
-        FenFault::Placement => b"placement",
-        FenFault::Side => b"side",
-        FenFault::Castling => b"castling",
-        FenFault::EnPassant => b"en passant",
-        FenFault::Counters => b"counters",
-        FenFault::Kings => b"kings",
-        FenFault::Pawns => b"pawns",
-        FenFault::Men => b"men",
-        FenFault::Check => b"check",
-    }
-}
-
-// The refusal of a FEN, by the name of its fault.
-fn write_illegal_position(answer: &mut Answer, fault: FenFault)
-    requires { answer.old.items ≡ [] }
-    ensures { answer.new.items ≡ line_text (codes "tellusererror Illegal position (") (fault_name fault ++ codes ")") }
-{
-    answer
-        .try_extend_from_slice(b"tellusererror Illegal position (")
-        .unwrap();
-    write_line(answer, fault_name(fault), b")");
-}
-
-// The refusal of each variant but normal chess.
-fn write_variant(answer: &mut Answer, variant: &[u8], text: &[u8])
-    requires short { length text.now ≤ 1024 }
-    requires empty { answer.old.items ≡ [] }
-    ensures { answer.new.items ≡ (if bytes_eq variant.now (codes "normal") then [] else line_text (codes "Error (unsupported variant): ") text.now) }
-{
-    if variant != b"normal".as_slice() {
-        write_line(answer, b"Error (unsupported variant): ", text);
-    }
-}
-
-// The line of a verdict, if there is one.
-fn write_verdict(answer: &mut Answer, verdict: Option<Verdict>)
-    requires { array_vec_len answer.old ≤ 1000 }
-    ensures { answer.new.items ≡ answer.old.items ++ verdict_line verdict }
-{
-    match verdict {
-        None => {}
-        Some(Verdict::WhiteMates) => write_line(answer, b"1-0 {White mates}", b""),
-        Some(Verdict::BlackMates) => write_line(answer, b"0-1 {Black mates}", b""),
-        Some(Verdict::Stalemate) => write_line(answer, b"1/2-1/2 {Stalemate}", b""),
-    }
-}
-
-// The line that lists moves.
-#[tactic(auto, unfolding(crate::specs::Session::moves_line))]
-fn write_moves(answer: &mut Answer, moves: &[Move])
-    requires few { length moves.now ≤ 896 }
-    requires empty { answer.old.items ≡ [] }
-    ensures { answer.new.items ≡ moves_line moves.now }
-{
-    let mut buffer = Buffer::new();
-    answer.try_extend_from_slice(b"# moves ").unwrap();
-    answer
-        .try_extend_from_slice(buffer.format(moves.len()).as_bytes())
-        .unwrap();
-    write_each(answer, moves);
-    answer.push(b'\n');
-}
-
-// Each move behind a space.
-fn write_each(answer: &mut Answer, moves: &[Move])
-    requires { array_vec_len answer.old + 6 * length moves.now ≤ 5500 }
-    ensures text { answer.new.items ≡ answer.old.items ++ flat_map shown moves.now }
-    ensures len { array_vec_len answer.new ≤ array_vec_len answer.old + 6 * length moves.now }
-{
-    for m in moves {
-        answer.push(b' ');
-        answer
-            .try_extend_from_slice(coordinate(m).as_slice())
-            .unwrap();
-    }
 }
 
 impl<B: Board + Drop> Session<B> {

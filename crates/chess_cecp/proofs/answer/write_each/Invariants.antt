@@ -2,7 +2,7 @@ use Rattle.std.proofs.Common.{◌≡◌, ◌+◌, ◌*◌, ◌≤◌, ◌++◌, 
 use Rattle.arrayvec.specs.ArrayVec.{array_vec_len}
 use Rattle.std.specs.List.{flat_map}
 use Rattle.chess_cecp.specs.Session.{shown}
-use Rattle.chess_cecp.proofs.session.write_each.Given as goal
+use Rattle.chess_cecp.proofs.answer.write_each.Given as goal
 
 abbrev pub invariant-loop-m : goal.invariant-loop-m
 invariant-loop-m l = record {

@@ -1,0 +1,134 @@
+//! The texts of answers, put together before they are written.
+
+ghost use Rattle.std.specs.List.{flat_map};
+ghost use Rattle.std.specs.Prelude.{◌≡◌, ◌+◌, ◌*◌, ◌≤◌, ◌++◌, [], if◌then◌else◌, length, codes, decimal};
+ghost use Rattle.std.specs.Str.{bytes_eq};
+ghost use Rattle.arrayvec.specs.ArrayVec.{array_vec_len};
+ghost use Rattle.chess_cecp.specs.Session.{moves_line, shown, verdict_line, fault_name, feature_text, line_text};
+
+use crate::coordinate::coordinate;
+use crate::game::Verdict;
+use arrayvec::ArrayVec;
+use chess_base::{FenFault, Move};
+use itoa::Buffer;
+
+// The most bytes of an answer, which is put together before it is written: `# moves`, a number, and six bytes for each
+// of 896 moves; or an echoed line of 1,024 bytes and the words before it.
+const ANSWER_LEN: usize = 5500;
+
+// The text of an answer.
+pub(crate) type Answer = ArrayVec<u8, ANSWER_LEN>;
+
+// A text behind another, and byte 10.
+pub(crate) fn write_line(answer: &mut Answer, front: &[u8], text: &[u8])
+    requires { array_vec_len answer.old + length front.now + length text.now + 1 ≤ 5500 }
+    ensures { answer.new.items ≡ answer.old.items ++ line_text front.now text.now }
+{
+    answer.try_extend_from_slice(front).unwrap();
+    answer.try_extend_from_slice(text).unwrap();
+    answer.push(b'\n');
+}
+
+pub(crate) fn write_pong(answer: &mut Answer, number: u32)
+    requires { array_vec_len answer.old ≤ 1000 }
+    ensures { answer.new.items ≡ answer.old.items ++ line_text (codes "pong ") (decimal number) }
+{
+    let mut buffer = Buffer::new();
+    write_line(answer, b"pong ", buffer.format(number).as_bytes());
+}
+
+// What the arbiter tells of itself: it takes `setboard`, answers `ping`, and knows normal chess alone.
+const FEATURES: &[u8] =
+    b"feature ping=1 setboard=1 playother=0 san=0 usermove=1 time=1 draw=1 sigint=0 sigterm=0 reuse=1 analyze=0 colors=0 debug=1 myname=\"CECP arbiter\" variants=\"normal\" done=1";
+
+// The line that tells it.
+#[tactic(auto, unfolding(crate::specs::Session::feature_text))]
+pub(crate) fn write_features(answer: &mut Answer)
+    requires { answer.old.items ≡ [] }
+    ensures { answer.new.items ≡ line_text feature_text [] }
+{
+    write_line(answer, FEATURES, b"");
+}
+
+fn fault_name(fault: FenFault) -> &'static [u8]
+    ensures value { result.now ≡ fault_name fault }
+    ensures short { length result.now ≤ 10 }
+{
+    match fault {
+        FenFault::Fields => b"fields",
+        FenFault::Placement => b"placement",
+        FenFault::Side => b"side",
+        FenFault::Castling => b"castling",
+        FenFault::EnPassant => b"en passant",
+        FenFault::Counters => b"counters",
+        FenFault::Kings => b"kings",
+        FenFault::Pawns => b"pawns",
+        FenFault::Men => b"men",
+        FenFault::Check => b"check",
+    }
+}
+
+// The refusal of a FEN, by the name of its fault.
+pub(crate) fn write_illegal_position(answer: &mut Answer, fault: FenFault)
+    requires { answer.old.items ≡ [] }
+    ensures { answer.new.items ≡ line_text (codes "tellusererror Illegal position (") (fault_name fault ++ codes ")") }
+{
+    answer
+        .try_extend_from_slice(b"tellusererror Illegal position (")
+        .unwrap();
+    write_line(answer, fault_name(fault), b")");
+}
+
+// The refusal of each variant but normal chess.
+pub(crate) fn write_variant(answer: &mut Answer, variant: &[u8], text: &[u8])
+    requires short { length text.now ≤ 1024 }
+    requires empty { answer.old.items ≡ [] }
+    ensures { answer.new.items ≡ (if bytes_eq variant.now (codes "normal") then [] else line_text (codes "Error (unsupported variant): ") text.now) }
+{
+    if variant != b"normal".as_slice() {
+        write_line(answer, b"Error (unsupported variant): ", text);
+    }
+}
+
+// The line of a verdict, if there is one.
+pub(crate) fn write_verdict(answer: &mut Answer, verdict: Option<Verdict>)
+    requires { array_vec_len answer.old ≤ 1000 }
+    ensures { answer.new.items ≡ answer.old.items ++ verdict_line verdict }
+{
+    match verdict {
+        None => {}
+        Some(Verdict::WhiteMates) => write_line(answer, b"1-0 {White mates}", b""),
+        Some(Verdict::BlackMates) => write_line(answer, b"0-1 {Black mates}", b""),
+        Some(Verdict::Stalemate) => write_line(answer, b"1/2-1/2 {Stalemate}", b""),
+    }
+}
+
+// The line that lists moves.
+#[tactic(auto, unfolding(crate::specs::Session::moves_line))]
+pub(crate) fn write_moves(answer: &mut Answer, moves: &[Move])
+    requires few { length moves.now ≤ 896 }
+    requires empty { answer.old.items ≡ [] }
+    ensures { answer.new.items ≡ moves_line moves.now }
+{
+    let mut buffer = Buffer::new();
+    answer.try_extend_from_slice(b"# moves ").unwrap();
+    answer
+        .try_extend_from_slice(buffer.format(moves.len()).as_bytes())
+        .unwrap();
+    write_each(answer, moves);
+    answer.push(b'\n');
+}
+
+// Each move behind a space.
+fn write_each(answer: &mut Answer, moves: &[Move])
+    requires { array_vec_len answer.old + 6 * length moves.now ≤ 5500 }
+    ensures text { answer.new.items ≡ answer.old.items ++ flat_map shown moves.now }
+    ensures len { array_vec_len answer.new ≤ array_vec_len answer.old + 6 * length moves.now }
+{
+    for m in moves {
+        answer.push(b' ');
+        answer
+            .try_extend_from_slice(coordinate(m).as_slice())
+            .unwrap();
+    }
+}
