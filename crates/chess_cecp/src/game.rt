@@ -43,17 +43,15 @@ impl<B: Board> Model for Game<B> {
 
     ghost Value = { Seen };
 
-    ghost use Rattle.std.specs.Prelude.{◌≡◌, ◌≤◌, None, vec_len, vec_capacity};
-    ghost use Rattle.chess_cecp.specs.Game.{last, verdict_at};
-    ghost use Rattle.chess_cecp.specs.Places.{moves_of, Follows};
+    ghost use Rattle.std.specs.Prelude.{None, vec_len, vec_capacity};
+    ghost use Rattle.chess_cecp.specs.Places.{moves_of, IsKept, HasRoom};
 
     ghost view = { λ g. record {
       limit = g.limit;
       state = record { start = g.start; moves = moves_of g.places.items; declared = None };
     } };
 
-    ghost invariant = { λ g. (Follows g.start g.places.items) × (B.position g.board ≡ last g.start (moves_of g.places.items))
-        × (g.start_verdict ≡ verdict_at g.start) × (vec_len g.places ≤ g.limit) × (g.limit ≤ vec_capacity g.places) };
+    ghost invariant = { λ g. IsKept g.start g.start_verdict g.places.items (B.position g.board) × HasRoom (vec_len g.places) g.limit (vec_capacity g.places) };
 }
 
 // The verdict on the position of a board.
