@@ -1,0 +1,82 @@
+-- How a game ends by what stands on the board and by its line (Laws of Chess 2023, articles 5.1.1, 5.2.1, 5.2.2, 9.6),
+-- and what a player may claim (articles 9.2 and 9.3).
+use Rattle.std.specs.Prelude.{ℕ, ◌+◌, ◌%◌, ◌==◌, nat_le, nat_lt, Bool, true, false, not, ◌&&◌, ◌||◌, if◌then◌else◌, List, length, count_by, codes, Option, None, Some}
+use Rattle.std.specs.List.{list_any}
+use Rattle.chess_base.specs.declared.man.Colour.{Colour}
+use Rattle.chess_base.specs.declared.man.Colour.TheVariants.{White, Black}
+use Rattle.chess_base.specs.declared.man.Kind.{Kind}
+use Rattle.chess_base.specs.declared.man.Kind.TheVariants.{Queen, Rook, Bishop, Knight, Pawn}
+use Rattle.chess_base.specs.declared.man.Man.{Man}
+use Rattle.chess_base.specs.declared.man.Move.{Move}
+use Rattle.chess_base.specs.declared.setup.Setup.{Setup}
+use Rattle.chess_base.specs.Attacks.{is_in_check}
+use Rattle.chess_base.specs.Men.{Men, man_at, other, same_colour, same_kind}
+use Rattle.chess_base.specs.MoveList.{moves}
+use Rattle.chess_base.specs.Squares.{file, rank, some_square}
+use Rattle.chess_game.specs.Line.{last}
+use Rattle.chess_game.specs.Same.{rep}
+use Rattle.chess_game.specs.declared.results.Outcome.{Outcome}
+use Rattle.chess_game.specs.declared.results.Outcome.TheVariants.{WhiteWins, BlackWins, Draw}
+use Rattle.chess_game.specs.declared.ends.Verdict.{Verdict}
+use Rattle.chess_game.specs.declared.ends.Verdict.TheVariants.{WhiteMates, BlackMates, Stalemate, InsufficientMaterial, FivefoldRepetition, SeventyFiveMoves}
+use Rattle.chess_game.specs.declared.ends.Claims.{Claims}
+
+-- the colour of a square: a1 is black (2.1)
+abbrev pub square_colour : ℕ → Colour
+square_colour s = if (file s + rank s) % 2 == 0 then Black else White
+
+abbrev pub is_kind : Kind → Option Man → Bool
+is_kind k None = false
+is_kind k (Some x) = same_kind k x.kind
+
+-- a man with which mate is always possible: a pawn, rook or queen
+abbrev pub is_heavy : Option Man → Bool
+is_heavy o = is_kind Pawn o || is_kind Rook o || is_kind Queen o
+
+abbrev pub is_minor : Option Man → Bool
+is_minor o = is_kind Bishop o || is_kind Knight o
+
+-- a bishop stands on a square of this colour
+unfoldable pub has_bishop_on : Colour → Men → Bool
+has_bishop_on c men = some_square (λ s. same_colour c (square_colour s) && is_kind Bishop (man_at men s))
+
+-- no pawn, rook or queen, and at most one bishop or knight in all, or no knight and all bishops on squares of one colour (5.2.2)
+unfoldable pub is_bare : Men → Bool
+is_bare men =
+    not (list_any is_heavy men)
+    && (nat_le (count_by is_minor men) 1 || (not (list_any (is_kind Knight) men) && not (has_bishop_on White men && has_bishop_on Black men)))
+
+abbrev pub mates : Colour → Verdict
+mates White = WhiteMates
+mates Black = BlackMates
+
+-- the first end that holds at the end of the line: without a legal move mate in check, else stalemate; bare material; the
+-- position for the fifth time; 75 moves of each side, 150 half-moves, without a pawn move or capture
+unfoldable pub verdict : Setup → List Move → Option Verdict
+verdict start ms =
+    let p = last start ms in
+    if length (moves p) == 0 then (if is_in_check p.men p.side then Some (mates (other p.side)) else Some Stalemate)
+    else if is_bare p.men then Some InsufficientMaterial
+    else if nat_le 5 (rep start ms) then Some FivefoldRepetition
+    else if nat_le 150 p.halfmove then Some SeventyFiveMoves
+    else None
+
+abbrev pub verdict_outcome : Verdict → Outcome
+verdict_outcome WhiteMates = WhiteWins
+verdict_outcome BlackMates = BlackWins
+verdict_outcome Stalemate = Draw
+verdict_outcome InsufficientMaterial = Draw
+verdict_outcome FivefoldRepetition = Draw
+verdict_outcome SeventyFiveMoves = Draw
+
+abbrev pub verdict_comment : Verdict → List ℕ
+verdict_comment WhiteMates = codes "White mates"
+verdict_comment BlackMates = codes "Black mates"
+verdict_comment Stalemate = codes "Stalemate"
+verdict_comment InsufficientMaterial = codes "Insufficient material"
+verdict_comment FivefoldRepetition = codes "Fivefold repetition"
+verdict_comment SeventyFiveMoves = codes "75-move rule"
+
+-- the position for the third time; 50 moves of each side without a pawn move or capture (9.2, 9.3)
+abbrev pub claims : Setup → List Move → Claims
+claims start ms = record { threefold = nat_le 3 (rep start ms); fifty_moves = nat_le 100 (last start ms).halfmove }

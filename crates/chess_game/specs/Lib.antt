@@ -1,0 +1,6 @@
+pub mod Line
+pub mod Same
+pub mod Results
+pub mod Ends
+pub mod Game
+pub mod Places

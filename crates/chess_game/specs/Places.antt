@@ -1,0 +1,40 @@
+-- What a game keeps of its start and of each move that stands.
+use Rattle.std.specs.Prelude.{◌≡◌, ◌≤◌, ◌<◌, ℕ, List, [], ◌∷◌, length, take, map, Option, None}
+use Rattle.chess_base.specs.declared.man.Move.{Move}
+use Rattle.chess_base.specs.declared.setup.Setup.{Setup}
+use Rattle.chess_moves.specs.Made.{WasMade}
+use Rattle.chess_game.specs.Line.{last}
+use Rattle.chess_game.specs.Same.{live_target}
+use Rattle.chess_game.specs.Ends.{verdict}
+use Rattle.chess_game.specs.declared.ends.Verdict.{Verdict}
+use Rattle.chess_game.specs.declared.repetition.Known.{Known}
+use Rattle.chess_game.specs.declared.game.Place.{Place}
+
+abbrev pub moves_of : List Place → List Move
+moves_of places = map (λ x. x.made) places
+
+-- beside a position stands its live target
+abbrev pub IsKnown : Known → Type 0
+IsKnown k = k.live_target ≡ live_target k.position
+
+-- each move was made in the position before it: beside it stand what that saved and the position that it gave
+abbrev pub Follows : Setup → List Place → Type 0
+Follows p [] = Unit {0}
+Follows p (x ∷ xs) = WasMade p x.made x.saved x.reached.position × IsKnown x.reached × Follows x.reached.position xs
+
+-- from this start the places follow, and the board is at the position at the end of the line
+pub record IsKept (start : Known) (places : List Place) (board : Setup) : Type 0 where
+  pub known : IsKnown start
+  pub follows : Follows start.position places
+  pub at_end : board ≡ last start.position (moves_of places)
+
+-- this is the verdict, and none came before the last move
+pub record IsJudged (start : Setup) (moves : List Move) (v : Option Verdict) : Type 0 where
+  pub now : v ≡ verdict start moves
+  pub unended : (k : ℕ) → k < length moves → verdict start (take k moves) ≡ None
+
+-- no more places are taken than the limit, and there is memory for as many
+pub record HasRoom (taken limit capacity : ℕ) : Type 0 where
+  pub few : taken ≤ limit
+  pub made : limit ≤ capacity
+  pub bound : limit ≤ 20000

@@ -1,0 +1,48 @@
+-- When two positions are the same, and how often a position occurred (Laws of Chess 2023, article 9.2.3).
+use Rattle.std.specs.Prelude.{ℕ, ◌==◌, Bool, true, false, ◌&&◌, if◌then◌else◌, List, count_by, Option, None, Some}
+use Rattle.std.specs.List.{list_any}
+use Rattle.chess_base.specs.declared.man.Man.{Man}
+use Rattle.chess_base.specs.declared.man.Move.{Move}
+use Rattle.chess_base.specs.declared.man.Rights.{Rights}
+use Rattle.chess_base.specs.declared.man.ColourRights.{ColourRights}
+use Rattle.chess_base.specs.declared.setup.Setup.{Setup}
+use Rattle.chess_base.specs.Men.{Men, man_at, same_colour, same_kind}
+use Rattle.chess_base.specs.Squares.{each_square}
+use Rattle.chess_base.specs.Moves.{is_en_passant}
+use Rattle.chess_base.specs.MoveList.{moves}
+use Rattle.chess_game.specs.Line.{line, last}
+
+-- men of the same kind and colour stand there, or none does
+abbrev pub same_man : Option Man → Option Man → Bool
+same_man None None = true
+same_man None (Some y) = false
+same_man (Some x) None = false
+same_man (Some x) (Some y) = same_colour x.colour y.colour && same_kind x.kind y.kind
+
+-- on each square
+unfoldable pub same_men : Men → Men → Bool
+same_men men others = each_square (λ s. same_man (man_at men s) (man_at others s))
+
+abbrev pub same_square : Option ℕ → Option ℕ → Bool
+same_square None None = true
+same_square None (Some t) = false
+same_square (Some s) None = false
+same_square (Some s) (Some t) = s == t
+
+abbrev pub same_colour_rights : ColourRights → ColourRights → Bool
+same_colour_rights r q = same_square r.king_side q.king_side && same_square r.queen_side q.queen_side
+
+unfoldable pub same_rights : Rights → Rights → Bool
+same_rights r q = same_colour_rights r.white q.white && same_colour_rights r.black q.black
+
+-- the target, where some legal move captures en passant on it; else there is nothing to tell from it
+unfoldable pub live_target : Setup → Option ℕ
+live_target p = if list_any (λ m. is_en_passant p m) (moves p) then p.target else None
+
+-- the same side on move, the same men on the same squares, the same rights, and the same pawn to capture en passant
+unfoldable pub same : Setup → Setup → Bool
+same p q = same_colour p.side q.side && same_men p.men q.men && same_rights p.rights q.rights && same_square (live_target p) (live_target q)
+
+-- how many positions of the game, from its start to the present one, are the same as the present one
+unfoldable pub rep : Setup → List Move → ℕ
+rep start ms = count_by (λ p. same p (last start ms)) (line start ms)

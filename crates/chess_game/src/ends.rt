@@ -1,0 +1,149 @@
+//! How a game ends by what stands on the board and by its line, and what may be claimed.
+
+ghost use Rattle.std.specs.Prelude.{◌≡◌, ◌≤◌, ◌<◌, length, count_by};
+ghost use Rattle.std.specs.List.{list_any};
+ghost use Rattle.chess_game.specs.Ends.{is_kind, is_heavy, is_minor, has_bishop_on, is_bare, square_colour, mates, verdict_outcome, verdict_comment};
+
+use crate::results::Outcome;
+use chess_base::{Colour, Kind, Man};
+
+/// Why a game is over by what stands on the board and by its line, the first that holds in this order.
+#[derive(Clone, Copy, Debug, PartialEq, Eq)]
+pub enum Verdict {
+    /// Black is mated (Laws of Chess 2023, article 5.1.1).
+    WhiteMates,
+    /// White is mated (article 5.1.1).
+    BlackMates,
+    /// The side on move has no legal move and is not in check (article 5.2.1).
+    Stalemate,
+    /// Neither side has the men to mate with (article 5.2.2): no pawn, rook or queen, and at most one bishop or knight, or
+    /// bishops alone, all on squares of one colour.
+    InsufficientMaterial,
+    /// The position is there for the fifth time (article 9.6.1).
+    FivefoldRepetition,
+    /// 75 moves of each side without a pawn move or a capture (article 9.6.2).
+    SeventyFiveMoves,
+}
+
+impl Verdict {
+    /// The outcome that it gives.
+    pub fn outcome(self) -> Outcome
+        ensures { result ≡ verdict_outcome self }
+    {
+        match self {
+            Verdict::WhiteMates => Outcome::WhiteWins,
+            Verdict::BlackMates => Outcome::BlackWins,
+            Verdict::Stalemate
+            | Verdict::InsufficientMaterial
+            | Verdict::FivefoldRepetition
+            | Verdict::SeventyFiveMoves => Outcome::Draw,
+        }
+    }
+
+    /// The comment that stands in braces behind its outcome.
+    pub fn comment(self) -> &'static [u8]
+        ensures value { result.now ≡ verdict_comment self }
+        ensures short { length result.now ≤ 60 }
+    {
+        match self {
+            Verdict::WhiteMates => b"White mates",
+            Verdict::BlackMates => b"Black mates",
+            Verdict::Stalemate => b"Stalemate",
+            Verdict::InsufficientMaterial => b"Insufficient material",
+            Verdict::FivefoldRepetition => b"Fivefold repetition",
+            Verdict::SeventyFiveMoves => b"75-move rule",
+        }
+    }
+}
+
+/// What the player on move may claim a draw by.
+#[derive(Clone, Copy, Debug, PartialEq, Eq)]
+pub struct Claims {
+    /// The position is there for at least the third time (Laws of Chess 2023, article 9.2).
+    pub threefold: bool,
+    /// At least 50 moves of each side without a pawn move or a capture (article 9.3).
+    pub fifty_moves: bool,
+}
+
+// The verdict that the side of that colour mates.
+pub(crate) fn mates(colour: Colour) -> Verdict
+    ensures { result ≡ mates colour }
+{
+    match colour {
+        Colour::White => Verdict::WhiteMates,
+        Colour::Black => Verdict::BlackMates,
+    }
+}
+
+fn is_kind(kind: Kind, man: Option<Man>) -> bool
+    ensures { result ≡ is_kind kind man }
+{
+    match man {
+        None => false,
+        Some(man) => man.kind == kind,
+    }
+}
+
+fn is_heavy(man: Option<Man>) -> bool
+    ensures { result ≡ is_heavy man }
+{
+    is_kind(Kind::Pawn, man) || is_kind(Kind::Rook, man) || is_kind(Kind::Queen, man)
+}
+
+fn is_minor(man: Option<Man>) -> bool
+    ensures { result ≡ is_minor man }
+{
+    is_kind(Kind::Bishop, man) || is_kind(Kind::Knight, man)
+}
+
+fn square_colour(number: u8) -> Colour
+    requires { number < 64 }
+    ensures { result ≡ square_colour number }
+{
+    if (number % 8 + number / 8) % 2 == 0 {
+        Colour::Black
+    } else {
+        Colour::White
+    }
+}
+
+#[tactic(auto, unfolding(crate::specs::Ends::has_bishop_on))]
+fn has_bishop_on(colour: Colour, men: &[Option<Man>; 64]) -> bool
+    ensures { result ≡ has_bishop_on colour men.now }
+{
+    let mut is_found = false;
+    for number in 0..64 {
+        is_found = is_found
+            || (square_colour(number) == colour && is_kind(Kind::Bishop, men[number as usize]));
+    }
+    is_found
+}
+
+fn has_heavy(men: &[Option<Man>; 64]) -> bool
+    ensures { result ≡ list_any is_heavy men.now }
+{
+    men.iter().any(|man| is_heavy(*man))
+}
+
+fn has_knight(men: &[Option<Man>; 64]) -> bool
+    ensures { result ≡ list_any (is_kind Kind.Knight) men.now }
+{
+    men.iter().any(|man| is_kind(Kind::Knight, *man))
+}
+
+fn minor_count(men: &[Option<Man>; 64]) -> usize
+    ensures { result ≡ count_by is_minor men.now }
+{
+    men.iter().filter(|man| is_minor(**man)).count()
+}
+
+// Whether the men are too few to mate with.
+#[tactic(auto, unfolding(crate::specs::Ends::is_bare))]
+pub(crate) fn is_bare(men: &[Option<Man>; 64]) -> bool
+    ensures { result ≡ is_bare men.now }
+{
+    !has_heavy(men)
+        && (minor_count(men) <= 1
+            || (!has_knight(men)
+                && !(has_bishop_on(Colour::White, men) && has_bishop_on(Colour::Black, men))))
+}

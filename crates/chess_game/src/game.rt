@@ -1,0 +1,351 @@
+//! One game: the moves that stand, and the positions that they gave.
+
+ghost use Rattle.std.specs.Prelude.{◌≡◌, ◌≤◌, ◌<◌, ◌+◌, IfOk, None, Some, length, take, slice_get};
+ghost use Rattle.std.specs.Option.{option_map};
+ghost use Rattle.chess_game.specs.Line.{last};
+ghost use Rattle.chess_game.specs.Same.{rep};
+ghost use Rattle.chess_game.specs.Ends.{verdict, claims};
+ghost use Rattle.chess_game.specs.Game.{at, from_start, with_declared, current, verdict_now, outcome_now, opened, is_over, is_full, play_refusal, unless_refused, after_play, last_move, after_take_back, declare_refusal, after_declare, IsPlayable};
+ghost use Rattle.chess_game.specs.Places.{moves_of, IsKnown, Follows, IsKept};
+
+use crate::ends::{Claims, Verdict, is_bare, mates};
+use crate::repetition::Known;
+use crate::results::{Declared, Comment, Outcome};
+use chess_base::{Move, Position, Saved};
+use chess_moves::{Board, has_legal_move};
+use std::alloc::{AllocError, Global};
+use std::marker::Model;
+
+/// Why a move is not played.
+#[derive(Clone, Copy, Debug, PartialEq, Eq)]
+pub enum PlayRefusal {
+    /// The game is over, by a verdict or a declared result.
+    Over,
+    /// As many half-moves stand as can.
+    TooLong,
+    /// The move is not legal in the present position.
+    Illegal,
+}
+
+/// No move stands that could be taken back.
+#[derive(Clone, Copy, Debug, PartialEq, Eq)]
+pub struct NoMove;
+
+/// The verdict on the game has another outcome than the one to be declared.
+#[derive(Clone, Copy, Debug, PartialEq, Eq)]
+pub struct BoardSaysOtherwise;
+
+// A move that was played: what it did not keep, and the position that it gave.
+#[derive(Clone, Copy, PartialEq, Eq)]
+pub(crate) struct Place {
+    pub(crate) made: Move,
+    pub(crate) saved: Saved,
+    pub(crate) reached: Known,
+}
+
+/// A game of at most `limit` half-moves on a board. In contracts it is its limit and its state: the start, the moves that
+/// stand, and what was declared.
+#[derive(Drop)]
+pub struct Game<B: Board> {
+    board: B,
+    start: Known,
+    places: Vec<Place>,
+    verdict: Option<Verdict>,
+    declared: Option<Declared>,
+    limit: u32,
+}
+
+impl<B: Board> Model for Game<B> {
+    ghost use Rattle.chess_game.specs.Game.{Seen};
+
+    ghost Value = { Seen };
+
+    ghost use Rattle.std.specs.Prelude.{vec_len, vec_capacity};
+    ghost use Rattle.chess_game.specs.Places.{moves_of, IsKept, IsJudged, HasRoom};
+
+    ghost view = { λ g. record {
+      limit = g.limit;
+      state = record { start = g.start.position; moves = moves_of g.places.items; declared = g.declared };
+    } };
+
+    ghost invariant = { λ g. IsKept g.start g.places.items (B.position g.board) × IsJudged g.start.position (moves_of g.places.items) g.verdict × HasRoom (vec_len g.places) g.limit (vec_capacity g.places) };
+}
+
+// How many positions from the start on are the same as the present one. It looks back to the last capture or pawn move,
+// since no earlier position has the same men.
+#[tactic(auto, unfolding(crate::specs::Same::rep))]
+fn repetitions(start: &Known, places: &[Place]) -> usize
+    requires start { IsKnown start.now }
+    requires follows { Follows start.now.position places.now }
+    ensures value { result ≡ rep start.now.position (moves_of places.now) }
+    ensures few { result ≤ length places.now + 1 }
+{
+    let now = match places.last() {
+        Some(place) => place.reached,
+        None => *start,
+    };
+    let mut count = 0;
+    let mut left = places.len();
+    while left > 0 {
+        left -= 1;
+        let reached = &places[left].reached;
+        if reached.is_same(&now) {
+            count += 1;
+        }
+        if reached.position.setup().halfmove == 0 {
+            return count;
+        }
+    }
+    if start.is_same(&now) {
+        count += 1;
+    }
+    count
+}
+
+// The verdict on a game that is kept so.
+#[tactic(auto, unfolding(crate::specs::Ends::verdict))]
+fn verdict_on<B: Board>(board: &B, start: &Known, places: &[Place]) -> Option<Verdict>
+    requires { IsKept start.now places.now (B.position board.now) }
+    ensures { result ≡ verdict start.now.position (moves_of places.now) }
+{
+    let position = board.position();
+    let setup = position.setup();
+    if !has_legal_move(setup) {
+        if board.in_check() {
+            Some(mates(setup.side.other()))
+        } else {
+            Some(Verdict::Stalemate)
+        }
+    } else if is_bare(&setup.men) {
+        Some(Verdict::InsufficientMaterial)
+    } else if repetitions(start, places) >= 5 {
+        Some(Verdict::FivefoldRepetition)
+    } else if setup.halfmove >= 150 {
+        Some(Verdict::SeventyFiveMoves)
+    } else {
+        None
+    }
+}
+
+impl<B: Board + Drop> Game<B> {
+    /// The initial position with no moves, wherever the board was. All memory is taken here.
+    ///
+    /// # Errors
+    /// Where there is no memory; what was taken is given back, and the board is dropped.
+    pub fn open(alloc: Global, mut board: B, limit: u32) -> Result<Self, AllocError>
+        requires some { 1 ≤ limit }
+        requires few { limit ≤ 20000 }
+        ensures { IfOk result (λ g. g ≡ opened limit) }
+    {
+        board.set(&Position::initial());
+        let start = Known::on(&board);
+        let places = Vec::with_capacity(alloc, limit as usize)?;
+        let verdict = verdict_on(&board, &start, places.as_slice());
+        Ok(Game {
+            board,
+            start,
+            places,
+            verdict,
+            declared: None,
+            limit,
+        })
+    }
+}
+
+impl<B: Board> Game<B> {
+    /// Begins anew from a start: no moves, nothing declared.
+    pub fn restart(&mut self, start: &Position)
+        ensures { self.new ≡ at self.old (from_start start.now) }
+    {
+        self.board.set(start);
+        self.start = Known::on(&self.board);
+        self.places.clear();
+        self.declared = None;
+        self.verdict = verdict_on(&self.board, &self.start, self.places.as_slice());
+    }
+
+    /// Plays a move.
+    ///
+    /// # Errors
+    /// The first reason against it, in the order of `PlayRefusal`. The game stays as it was.
+    pub fn play(&mut self, m: Move) -> Result<(), PlayRefusal>
+        ensures answer { result ≡ unless_refused (play_refusal self.old m) }
+        ensures game { self.new ≡ after_play self.old m (play_refusal self.old m) }
+    {
+        if self.is_over() {
+            return Err(PlayRefusal::Over);
+        }
+        if self.is_full() {
+            return Err(PlayRefusal::TooLong);
+        }
+        let (judged, made) = (m, m);
+        if !self.board.position().is_legal(judged) {
+            return Err(PlayRefusal::Illegal);
+        }
+        let saved = self.board.make(made);
+        let place = Place {
+            made: m,
+            saved,
+            reached: Known::on(&self.board),
+        };
+        if self.places.push(place).is_err() {
+            unreachable!();
+        }
+        self.verdict = verdict_on(&self.board, &self.start, self.places.as_slice());
+        Ok(())
+    }
+
+    /// Takes the last move back and clears what was declared; gives the move.
+    ///
+    /// # Errors
+    /// Where no move stands. The game stays as it was.
+    pub fn take_back(&mut self) -> Result<Move, NoMove>
+        ensures answer { result ≡ last_move self.old.state.moves }
+        ensures game { self.new ≡ after_take_back self.old }
+    {
+        match self.places.pop() {
+            None => Err(NoMove),
+            Some(place) => {
+                let made = place.made;
+                self.board.take_back(made, place.saved);
+                self.verdict = None;
+                self.declared = None;
+                Ok(place.made)
+            }
+        }
+    }
+
+    /// Declares a result, in place of what was declared before.
+    ///
+    /// # Errors
+    /// Where there is a verdict with another outcome. The game stays as it was.
+    pub fn declare(
+        &mut self,
+        outcome: Outcome,
+        comment: Comment,
+    ) -> Result<(), BoardSaysOtherwise>
+        ensures answer { result ≡ unless_refused (declare_refusal self.old outcome) }
+        ensures game { self.new ≡ after_declare self.old (record { outcome = outcome; comment = comment }) }
+    {
+        if let Some(verdict) = self.verdict && !verdict.outcome().is(outcome) {
+            return Err(BoardSaysOtherwise);
+        }
+        self.declared = Some(Declared { outcome, comment });
+        Ok(())
+    }
+
+    /// Forgets what was declared.
+    pub fn clear_declared(&mut self)
+        ensures { self.new ≡ at self.old (with_declared self.old.state None) }
+    {
+        self.declared = None;
+    }
+
+    /// The position from which the game starts.
+    pub fn start(&self) -> Position
+        ensures { result ≡ self.now.state.start }
+    {
+        self.start.position
+    }
+
+    /// The present position: the one that the start and the moves that stand give.
+    pub fn position(&self) -> Position
+        ensures value { result ≡ current self.now.state }
+        ensures playable { IsPlayable self.now }
+    {
+        let _sound = self.start.position.setup();
+        self.board.position()
+    }
+
+    /// The position after the first `ply` half-moves; at 0 the start.
+    pub fn position_at(&self, ply: usize) -> Position
+        requires { ply ≤ length self.now.state.moves }
+        ensures { result ≡ last self.now.state.start (take ply self.now.state.moves) }
+    {
+        if ply == 0 {
+            self.start.position
+        } else {
+            self.places[ply - 1].reached.position
+        }
+    }
+
+    /// How many half-moves stand.
+    pub fn ply(&self) -> usize
+        ensures { result ≡ length self.now.state.moves }
+    {
+        self.places.len()
+    }
+
+    /// The half-move with that number, from 0 on.
+    pub fn move_at(&self, ply: usize) -> Move
+        requires { ply < length self.now.state.moves }
+        ensures { slice_get self.now.state.moves ply ≡ Some result }
+    {
+        self.places[ply].made
+    }
+
+    /// The board, at the present position.
+    pub fn board(&self) -> &B
+        ensures { B.position result.now ≡ current self.now.state }
+    {
+        &self.board
+    }
+
+    /// How many positions from the start on are the same as the present one, itself among them (Laws of Chess 2023,
+    /// article 9.2.3).
+    pub fn repetitions(&self) -> u32
+        ensures { result ≡ rep self.now.state.start self.now.state.moves }
+    {
+        repetitions(&self.start, self.places.as_slice()) as u32
+    }
+
+    /// What the player on move may claim a draw by.
+    pub fn claims(&self) -> Claims
+        ensures { result ≡ claims self.now.state.start self.now.state.moves }
+    {
+        let position = self.board.position();
+        Claims {
+            threefold: self.repetitions() >= 3,
+            fifty_moves: position.setup().halfmove >= 100,
+        }
+    }
+
+    /// Why the game is over by its board and its line, if it is.
+    pub fn verdict(&self) -> Option<Verdict>
+        ensures { result ≡ verdict_now self.now.state }
+    {
+        self.verdict
+    }
+
+    /// What was declared, if it still stands.
+    pub fn declared(&self) -> Option<&Declared>
+        ensures { option_map (λ d. d.now) result ≡ self.now.state.declared }
+    {
+        self.declared.as_ref()
+    }
+
+    /// The outcome of the verdict, else the one that was declared, else `Unfinished`.
+    pub fn outcome(&self) -> Outcome
+        ensures { result ≡ outcome_now self.now.state }
+    {
+        match (self.verdict, &self.declared) {
+            (Some(verdict), _) => verdict.outcome(),
+            (None, Some(declared)) => declared.outcome,
+            (None, None) => Outcome::Unfinished,
+        }
+    }
+
+    /// Whether the game is over: there is a verdict, or a result was declared.
+    pub fn is_over(&self) -> bool
+        ensures { result ≡ is_over self.now.state }
+    {
+        self.verdict.is_some() || self.declared.is_some()
+    }
+
+    /// Whether as many half-moves stand as can.
+    pub fn is_full(&self) -> bool
+        ensures { result ≡ is_full self.now }
+    {
+        self.places.len() >= self.limit as usize
+    }
+}

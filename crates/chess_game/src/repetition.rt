@@ -1,0 +1,112 @@
+//! When positions are the same.
+
+ghost use Rattle.std.specs.Prelude.{◌≡◌};
+ghost use Rattle.std.specs.List.{list_any};
+ghost use Rattle.chess_base.specs.Moves.{is_en_passant};
+ghost use Rattle.chess_game.specs.Same.{same_man, same_men, same_square, same_colour_rights, same_rights, live_target, same};
+ghost use Rattle.chess_game.specs.Places.{IsKnown};
+
+use chess_base::rules::is_en_passant;
+use chess_base::{ColourRights, Man, Move, Position, Rights, Setup, Square};
+use chess_moves::Board;
+
+// A position with its live target, which is told once.
+#[derive(Clone, Copy, PartialEq, Eq)]
+pub(crate) struct Known {
+    pub(crate) position: Position,
+    pub(crate) live_target: Option<Square>,
+}
+
+impl Known {
+    // The position of a board.
+    pub(crate) fn on<B: Board>(board: &B) -> Self
+        ensures position { result.position ≡ B.position board.now }
+        ensures known { IsKnown result }
+    {
+        Known {
+            position: board.position(),
+            live_target: live_target(board),
+        }
+    }
+
+    // Whether the two positions are the same (Laws of Chess 2023, article 9.2.3).
+    #[tactic(auto, unfolding(crate::specs::Same::same))]
+    pub(crate) fn is_same(&self, other: &Known) -> bool
+        requires this { IsKnown self.now }
+        requires other { IsKnown other.now }
+        ensures { result ≡ same self.now.position other.now.position }
+    {
+        let (this, that) = (self.position.setup(), other.position.setup());
+        this.side == that.side
+            && same_men(&this.men, &that.men)
+            && same_rights(&this.rights, &that.rights)
+            && same_square(self.live_target, other.live_target)
+    }
+}
+
+// The target, where some legal move captures en passant on it.
+#[tactic(auto, unfolding(crate::specs::Same::live_target))]
+fn live_target<B: Board>(board: &B) -> Option<Square>
+    ensures { result ≡ live_target (B.position board.now) }
+{
+    let position = board.position();
+    let setup = position.setup();
+    setup.target?;
+    if captures_en_passant(setup, board.legal_moves().as_slice()) {
+        setup.target
+    } else {
+        None
+    }
+}
+
+// Whether one of the moves captures en passant.
+fn captures_en_passant(setup: &Setup, moves: &[Move]) -> bool
+    ensures { result ≡ list_any (λ m. is_en_passant setup.now m) moves.now }
+{
+    moves.iter().any(|m| is_en_passant(setup, m))
+}
+
+fn same_man(this: Option<Man>, that: Option<Man>) -> bool
+    ensures { result ≡ same_man this that }
+{
+    match (this, that) {
+        (None, None) => true,
+        (Some(x), Some(y)) => x.colour == y.colour && x.kind == y.kind,
+        _ => false,
+    }
+}
+
+#[tactic(auto, unfolding(crate::specs::Same::same_men))]
+fn same_men(this: &[Option<Man>; 64], that: &[Option<Man>; 64]) -> bool
+    ensures { result ≡ same_men this.now that.now }
+{
+    for number in 0..64 {
+        if !same_man(this[number], that[number]) {
+            return false;
+        }
+    }
+    true
+}
+
+fn same_square(this: Option<Square>, that: Option<Square>) -> bool
+    ensures { result ≡ same_square this that }
+{
+    match (this, that) {
+        (None, None) => true,
+        (Some(s), Some(t)) => s == t,
+        _ => false,
+    }
+}
+
+fn same_colour_rights(this: &ColourRights, that: &ColourRights) -> bool
+    ensures { result ≡ same_colour_rights this.now that.now }
+{
+    same_square(this.king_side, that.king_side) && same_square(this.queen_side, that.queen_side)
+}
+
+#[tactic(auto, unfolding(crate::specs::Same::same_rights))]
+fn same_rights(this: &Rights, that: &Rights) -> bool
+    ensures { result ≡ same_rights this.now that.now }
+{
+    same_colour_rights(&this.white, &that.white) && same_colour_rights(&this.black, &that.black)
+}
