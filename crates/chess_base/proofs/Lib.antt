@@ -10,6 +10,7 @@ pub mod Writes
 pub mod StaysSound
 pub mod TakesBack
 pub mod CountsAfter
+pub mod ReserveAfter
 pub mod FaultsLemmas
 pub mod InitialIsSound
 pub mod Lengths

@@ -6,6 +6,7 @@ pub mod Moves
 pub mod Faults
 pub mod Initial
 pub mod MoveList
+pub mod Reserve
 pub mod Laws
 pub mod Before
 pub mod Letters

@@ -17,7 +17,7 @@ mod square;
 
 pub use fault::FenFault;
 pub use fen::{FenText, read_fen, write_fen};
-pub use laws::{after_is_sound, before_undoes_after, written_is_spelled};
+pub use laws::{after_is_sound, before_undoes_after, reserve_never_grows, written_is_spelled};
 pub use man::{CastlingSide, Colour, ColourRights, Kind, Man, Move, Rights};
 pub use position::Position;
 pub use setup::{Saved, Setup};

@@ -1,0 +1,21 @@
+-- What captures and pawn moves use up, the moves from which the 50 move rule counts (Laws of Chess 2023, article 9.3).
+use Rattle.std.specs.Prelude.{ℕ, ◌+◌, Option, Some, None, sum, if◌then◌else◌}
+use Rattle.chess_base.specs.declared.man.Colour.{Colour}
+use Rattle.chess_base.specs.declared.man.Kind.TheVariants.{Pawn}
+use Rattle.chess_base.specs.declared.man.Man.{Man}
+use Rattle.chess_base.specs.Squares.{rank, gap}
+use Rattle.chess_base.specs.Men.{Men, man_at, same_kind, other, first_rank}
+use Rattle.chess_base.specs.Moves.{from_below}
+
+-- how many ranks a pawn of colour c on s is from its last one
+abbrev pub ranks_to_go : Colour → ℕ → ℕ
+ranks_to_go c s = gap (rank s) (first_rank (other c))
+
+-- a man counts one, and a pawn one more for each rank that it has to go
+abbrev pub weight : ℕ → Option Man → ℕ
+weight s None = 0
+weight s (Some x) = if same_kind Pawn x.kind then 1 + ranks_to_go x.colour s else 1
+
+-- the weights of what stands on the 64 squares, together
+unfoldable pub reserve : Men → ℕ
+reserve men = sum (from_below 64 (λ s. weight s (man_at men s)))
