@@ -1,3 +1,5 @@
 mod Below
 mod Kept
+mod Judged
 mod Counting
+mod ForGood

@@ -10,8 +10,8 @@ ghost use Rattle.chess_game.specs.Places.{moves_of, IsKnown, Follows, IsKept};
 
 use crate::ends::{Claims, Verdict, is_bare, mates};
 use crate::repetition::Known;
-use crate::results::{Declared, Comment, Outcome};
-use chess_base::{Move, Position, Saved};
+use crate::results::{Comment, Declared, Outcome};
+use chess_base::{Move, Position, Saved, reserve_never_grows};
 use chess_moves::{Board, has_legal_move};
 use std::alloc::{AllocError, Global};
 use std::marker::Model;
@@ -71,8 +71,22 @@ impl<B: Board> Model for Game<B> {
     ghost invariant = { λ g. IsKept g.start g.places.items (B.position g.board) × IsJudged g.start.position (moves_of g.places.items) g.verdict × HasRoom (vec_len g.places) g.limit (vec_capacity g.places) };
 }
 
+// The present position.
+fn present(start: &Known, places: &[Place]) -> Known
+    requires start { IsKnown start.now }
+    requires follows { Follows start.now.position places.now }
+    ensures known { IsKnown result }
+    ensures position { result.position ≡ last start.now.position (moves_of places.now) }
+{
+    if places.is_empty() {
+        *start
+    } else {
+        places[places.len() - 1].reached
+    }
+}
+
 // How many positions from the start on are the same as the present one. It looks back to the last capture or pawn move,
-// since no earlier position has the same men.
+// since no position before one comes back after it.
 #[tactic(auto, unfolding(crate::specs::Same::rep))]
 fn repetitions(start: &Known, places: &[Place]) -> usize
     requires start { IsKnown start.now }
@@ -80,26 +94,19 @@ fn repetitions(start: &Known, places: &[Place]) -> usize
     ensures value { result ≡ rep start.now.position (moves_of places.now) }
     ensures few { result ≤ length places.now + 1 }
 {
-    let now = match places.last() {
-        Some(place) => place.reached,
-        None => *start,
-    };
+    reserve_never_grows();
+    let now = present(start, places);
     let mut count = 0;
     let mut left = places.len();
     while left > 0 {
         left -= 1;
         let reached = &places[left].reached;
-        if reached.is_same(&now) {
-            count += 1;
-        }
+        count += reached.times_same(&now);
         if reached.position.setup().halfmove == 0 {
             return count;
         }
     }
-    if start.is_same(&now) {
-        count += 1;
-    }
-    count
+    count + start.times_same(&now)
 }
 
 // The verdict on a game that is kept so.
@@ -219,15 +226,13 @@ impl<B: Board> Game<B> {
     ///
     /// # Errors
     /// Where there is a verdict with another outcome. The game stays as it was.
-    pub fn declare(
-        &mut self,
-        outcome: Outcome,
-        comment: Comment,
-    ) -> Result<(), BoardSaysOtherwise>
+    pub fn declare(&mut self, outcome: Outcome, comment: Comment) -> Result<(), BoardSaysOtherwise>
         ensures answer { result ≡ unless_refused (declare_refusal self.old outcome) }
         ensures game { self.new ≡ after_declare self.old (record { outcome = outcome; comment = comment }) }
     {
-        if let Some(verdict) = self.verdict && !verdict.outcome().is(outcome) {
+        if let Some(verdict) = self.verdict
+            && !verdict.outcome().is(outcome)
+        {
             return Err(BoardSaysOtherwise);
         }
         self.declared = Some(Declared { outcome, comment });

@@ -1,6 +1,6 @@
 //! When positions are the same.
 
-ghost use Rattle.std.specs.Prelude.{◌≡◌};
+ghost use Rattle.std.specs.Prelude.{◌≡◌, cond};
 ghost use Rattle.std.specs.List.{list_any};
 ghost use Rattle.chess_base.specs.Moves.{is_en_passant};
 ghost use Rattle.chess_game.specs.Same.{same_man, same_men, same_square, same_colour_rights, same_rights, live_target, same};
@@ -41,6 +41,15 @@ impl Known {
             && same_men(&this.men, &that.men)
             && same_rights(&this.rights, &that.rights)
             && same_square(self.live_target, other.live_target)
+    }
+
+    // 1 where the two positions are the same, else 0.
+    pub(crate) fn times_same(&self, other: &Known) -> usize
+        requires this { IsKnown self.now }
+        requires other { IsKnown other.now }
+        ensures { result ≡ cond (same self.now.position other.now.position) 1 0 }
+    {
+        if self.is_same(other) { 1 } else { 0 }
     }
 }
 

@@ -1,6 +1,6 @@
 //! Results of a game, and their comments.
 
-ghost use Rattle.std.specs.Prelude.{◌≡◌, ◌≤◌, length};
+ghost use Rattle.std.specs.Prelude.{◌≡◌, ◌≤◌, length, map};
 ghost use Rattle.chess_game.specs.Results.{outcome_text, same_outcome, comment_byte, cut_comment};
 
 use arrayvec::ArrayVec;
@@ -64,11 +64,9 @@ impl Comment {
     pub fn cut(text: &[u8]) -> Self
         ensures { result ≡ cut_comment text.now }
     {
-        let mut kept = ArrayVec::new();
-        for byte in text.iter().take(COMMENT_LEN) {
-            kept.push(comment_byte(*byte));
+        Comment {
+            text: comment_bytes(&text[..COMMENT_LEN.min(text.len())]),
         }
-        Comment { text: kept }
     }
 
     /// Its bytes.
@@ -78,6 +76,18 @@ impl Comment {
     {
         self.text.as_slice()
     }
+}
+
+// The bytes as a comment holds them.
+fn comment_bytes(bytes: &[u8]) -> ArrayVec<u8, 60>
+    requires { length bytes.now ≤ 60 }
+    ensures { result.items ≡ map comment_byte bytes.now }
+{
+    let mut kept = ArrayVec::new();
+    for byte in bytes {
+        kept.push(comment_byte(*byte));
+    }
+    kept
 }
 
 // The byte as a comment holds it.

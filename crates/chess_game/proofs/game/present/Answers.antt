@@ -1,0 +1,14 @@
+use Rattle.std.proofs.Common.{◌<◌, length, arith}
+use Rattle.std.proofs.lemmas.Grind.{common_steps}
+use Rattle.chess_game.proofs.Kept.{at_end}
+use Rattle.chess_game.proofs.game.present.Goals as goal
+
+pub returns-else-is_empty-clause-known : goal.returns-else-is_empty-clause-known
+returns-else-is_empty-clause-known c =
+    let some : 0 < length c.args.places.now = grind (arith, common_steps) in
+    (at_end c.args.start.now.position c.args.places.now c.index-places-places.result c.requires.follows some).known
+
+pub returns-else-is_empty-clause-position : goal.returns-else-is_empty-clause-position
+returns-else-is_empty-clause-position c =
+    let some : 0 < length c.args.places.now = grind (arith, common_steps) in
+    (at_end c.args.start.now.position c.args.places.now c.index-places-places.result c.requires.follows some).reached
