@@ -4,7 +4,7 @@ use Rattle.chess_base.specs.Devices.{InputState, OutputState}
 use Rattle.chess_cecp.specs.declared.run.End.{End}
 use Rattle.chess_cecp.specs.declared.run.Fault.{Fault}
 use Rattle.chess_cecp.specs.declared.run.Fault.TheVariants.{Write}
-use Rattle.chess_cecp.specs.Game.{Seen, opened}
+use Rattle.chess_game.specs.Game.{Seen, opened}
 use Rattle.chess_cecp.specs.Run.{Transcript, Ran}
 use Rattle.chess_arbiter.specs.Program.{Served}
 use Rattle.chess_arbiter.specs.declared.program.ProgramFault.TheVariants.{WriteFailed}

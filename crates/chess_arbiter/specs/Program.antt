@@ -6,7 +6,7 @@ use Rattle.std.specs.Bool.{MatchBool}
 use Rattle.chess_base.specs.Devices.{InputState, OutputState}
 use Rattle.chess_cecp.specs.declared.run.End.{End}
 use Rattle.chess_cecp.specs.declared.run.Fault.TheVariants.{Read, Write}
-use Rattle.chess_cecp.specs.Game.{Seen, opened}
+use Rattle.chess_game.specs.Game.{Seen, opened}
 use Rattle.chess_cecp.specs.Run.{Transcript, Ran}
 use Rattle.chess_arbiter.specs.declared.program.ProgramFault.{ProgramFault}
 use Rattle.chess_arbiter.specs.declared.program.ProgramFault.TheVariants.{ReadFailed, WriteFailed, NoMemory, WrongWords}

@@ -2,6 +2,5 @@ pub mod Trims
 pub mod Parts
 pub mod Reading
 pub mod Words
-pub mod Kept
 pub mod RunLemmas
 pub mod Refusals

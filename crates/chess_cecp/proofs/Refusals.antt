@@ -11,12 +11,17 @@ use Rattle.chess_base.specs.Moves.{is_legal}
 use Rattle.chess_cecp.specs.Lines.{LineSeen}
 use Rattle.chess_cecp.specs.Coordinates.{move_named}
 use Rattle.chess_cecp.specs.Commands.{command_of, argument_of}
-use Rattle.chess_cecp.specs.Game.{State, Seen, from_start, played, taken_back, current, is_over, verdict_at}
-use Rattle.chess_cecp.specs.declared.game.Verdict.{Verdict}
-use Rattle.chess_cecp.specs.declared.game.Verdict.TheVariants.{WhiteMates, BlackMates, Stalemate}
+use Rattle.chess_game.specs.Ends.{verdict_outcome, verdict_comment, claims}
+use Rattle.chess_game.specs.Game.{State, Seen, from_start, played, taken_back, with_declared, current, verdict_now, is_over, is_other}
+use Rattle.chess_game.specs.declared.ends.Verdict.{Verdict}
+use Rattle.chess_game.specs.declared.results.Declared.{Declared}
+use Rattle.chess_game.specs.declared.results.Outcome.{Outcome}
+use Rattle.chess_game.specs.declared.results.Outcome.TheVariants.{WhiteWins, BlackWins, Draw, Unfinished}
+use Rattle.chess_game.specs.declared.ends.Claims.{Claims}
+use Rattle.chess_cecp.specs.Declaring.{declared_by, result_text, state_text}
 use Rattle.chess_cecp.specs.declared.command.Command.{Command}
-use Rattle.chess_cecp.specs.declared.command.Command.TheVariants.{New, SetBoard, UserMove, BareMove, Undo, Ping, Protover, Variant, Go, ShowFen, ShowMoves, Quit, Silent, BadNumber, Unknown}
-use Rattle.chess_cecp.specs.Session.{Row, row, says, refuses, becomes, becomes_judged, verdict_line, setboard_row, feature_text, line_text, named_row, move_row, IsRefusal, answer_to, next_state}
+use Rattle.chess_cecp.specs.declared.command.Command.TheVariants.{New, SetBoard, UserMove, BareMove, Undo, Remove, Declare, Claim, Ping, Protover, Variant, Go, ShowFen, ShowMoves, ShowState, Quit, Silent, BadNumber, Unknown}
+use Rattle.chess_cecp.specs.Session.{Row, row, says, refuses, becomes, becomes_judged, result_line, verdict_line, result_row, draws, claimed, claim_row, setboard_row, feature_text, line_text, named_row, move_row, IsRefusal, answer_to, next_state}
 
 -- the first bytes of refusals: E, I and t
 abbrev pub begins_refusal : List ℕ → Bool
@@ -43,17 +48,22 @@ by_test : (b : Bool) (s : State) (x y : Row) → KeepsRefused s x → KeepsRefus
 by_test true s x y h k = h
 by_test false s x y h k = k
 
+result_begins : (o : Outcome) (comment : List ℕ) → begins_refusal (result_line o comment) ≡ false
+unfolding result_line result_text
+result_begins WhiteWins comment = refl
+result_begins BlackWins comment = refl
+result_begins Draw comment = refl
+result_begins Unfinished comment = refl
+
 verdict_begins : (o : Option Verdict) → begins_refusal (verdict_line o) ≡ false
 verdict_begins None = refl
-verdict_begins (Some WhiteMates) = refl
-verdict_begins (Some BlackMates) = refl
-verdict_begins (Some Stalemate) = refl
+verdict_begins (Some v) = result_begins (verdict_outcome v) (verdict_comment v)
 
 named_keeps : (s : State) (text : List ℕ) (o : Option Move) → KeepsRefused s (named_row s text o)
 named_keeps s text None = λ h. refl
 named_keeps s text (Some m) =
     by_test (is_legal (current s) m) s (becomes_judged (played s m)) (refuses s (codes "Illegal move: ") text)
-    (accepted s (becomes_judged (played s m)) (verdict_begins (verdict_at (current (played s m)))))
+    (accepted s (becomes_judged (played s m)) (verdict_begins (verdict_now (played s m))))
     (λ h. refl)
 
 -- the row of a move where the game is not over
@@ -67,8 +77,24 @@ move_keeps limit s text =
     (named_keeps s text (move_named text)))
 
 setboard_keeps : (s : State) (r : Result Setup FenFault) → KeepsRefused s (setboard_row s r)
-setboard_keeps s (Ok start) = accepted s (becomes_judged (from_start start)) (verdict_begins (verdict_at (current (from_start start))))
+setboard_keeps s (Ok start) = accepted s (becomes_judged (from_start start)) (verdict_begins (verdict_now (from_start start)))
 setboard_keeps s (Err fault) = λ h. refl
+
+result_keeps : (s : State) (text : List ℕ) (d : Option Declared) → KeepsRefused s (result_row s text d)
+result_keeps s text None = λ h. refl
+result_keeps s text (Some d) =
+    by_test (is_other (verdict_now s) d.outcome) s (refuses s (codes "Error (the board says otherwise): ") text) (becomes (with_declared s (Some d)))
+    (λ h. refl)
+    (accepted s (becomes (with_declared s (Some d))) refl)
+
+draws_keeps : (s : State) (comment : List ℕ) → KeepsRefused s (draws s comment)
+draws_keeps s comment = accepted s (draws s comment) (result_begins Draw comment)
+
+claimed_keeps : (s : State) (c : Claims) → KeepsRefused s (claimed s c)
+claimed_keeps s c =
+    by_test c.threefold s (draws s (codes "Threefold repetition")) (if c.fifty_moves then draws s (codes "50-move rule") else refuses s (codes "Error (no claim): ") (codes "claim"))
+    (draws_keeps s (codes "Threefold repetition"))
+    (by_test c.fifty_moves s (draws s (codes "50-move rule")) (refuses s (codes "Error (no claim): ") (codes "claim")) (draws_keeps s (codes "50-move rule")) (λ h. refl))
 
 row_keeps : (limit : ℕ) (s : State) (text argument : List ℕ) (command : Command) → KeepsRefused s (row limit s text argument command)
 row_keeps limit s text argument New = accepted s (becomes (from_start initial_setup)) refl
@@ -79,6 +105,13 @@ row_keeps limit s text argument Undo =
     by_test (nat_le 1 (length s.moves)) s (becomes (taken_back s 1)) (refuses s (codes "Error (command not legal now): ") (codes "undo"))
     (accepted s (becomes (taken_back s 1)) refl)
     (λ h. refl)
+row_keeps limit s text argument Remove =
+    by_test (nat_le 2 (length s.moves)) s (becomes (taken_back s 2)) (refuses s (codes "Error (command not legal now): ") (codes "remove"))
+    (accepted s (becomes (taken_back s 2)) refl)
+    (λ h. refl)
+row_keeps limit s text argument Declare = result_keeps s text (declared_by argument)
+row_keeps limit s text argument Claim =
+    by_test (is_over s) s (refuses s (codes "Error (command not legal now): ") (codes "claim")) (claimed s (claims s.start s.moves)) (λ h. refl) (claimed_keeps s (claims s.start s.moves))
 row_keeps limit s text argument (Ping n) = λ h. refl
 row_keeps limit s text argument (Protover n) = by_test (nat_lt n 2) s (says s []) (says s (line_text feature_text [])) (λ h. refl) (λ h. refl)
 row_keeps limit s text argument Variant =
@@ -86,6 +119,7 @@ row_keeps limit s text argument Variant =
 row_keeps limit s text argument Go = λ h. refl
 row_keeps limit s text argument ShowFen = λ h. refl
 row_keeps limit s text argument ShowMoves = λ h. refl
+row_keeps limit s text argument ShowState = λ h. refl
 row_keeps limit s text argument Quit = λ h. refl
 row_keeps limit s text argument Silent = λ h. refl
 row_keeps limit s text argument BadNumber = λ h. refl

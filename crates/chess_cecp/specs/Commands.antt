@@ -6,7 +6,7 @@ use Rattle.chess_base.specs.Texts.{is_digit, value_after}
 use Rattle.chess_cecp.specs.Lines.{is_blank, without_front_blanks}
 use Rattle.chess_cecp.specs.Coordinates.{move_named}
 use Rattle.chess_cecp.specs.declared.command.Command.{Command}
-use Rattle.chess_cecp.specs.declared.command.Command.TheVariants.{New, SetBoard, UserMove, BareMove, Undo, Ping, Protover, Variant, Go, ShowFen, ShowMoves, Quit, Silent, BadNumber, Unknown}
+use Rattle.chess_cecp.specs.declared.command.Command.TheVariants.{New, SetBoard, UserMove, BareMove, Undo, Remove, Declare, Claim, Ping, Protover, Variant, Go, ShowFen, ShowMoves, ShowState, Quit, Silent, BadNumber, Unknown}
 
 -- the bytes up to the first blank
 abbrev pub word_of : List ℕ → List ℕ
@@ -57,12 +57,16 @@ command_by word argument text =
     else if bytes_eq word (codes "setboard") then SetBoard
     else if bytes_eq word (codes "usermove") then (if length argument == 0 then Unknown else UserMove)
     else if bytes_eq word (codes "undo") then Undo
+    else if bytes_eq word (codes "remove") then Remove
+    else if bytes_eq word (codes "result") then Declare
+    else if bytes_eq word (codes "claim") then Claim
     else if bytes_eq word (codes "ping") then ping_of (number_of argument)
     else if bytes_eq word (codes "protover") then protover_of (number_of argument)
     else if bytes_eq word (codes "variant") then Variant
     else if bytes_eq word (codes "go") then Go
     else if bytes_eq word (codes "showfen") then ShowFen
     else if bytes_eq word (codes "showmoves") then ShowMoves
+    else if bytes_eq word (codes "showstate") then ShowState
     else if bytes_eq word (codes "quit") then Quit
     else if is_some (move_named text) then BareMove
     else Unknown

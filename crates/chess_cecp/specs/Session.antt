@@ -5,6 +5,7 @@ use Rattle.chess_base.specs.Devices.{Begins}
 use Rattle.chess_base.specs.declared.fault.FenFault.{FenFault}
 use Rattle.chess_base.specs.declared.fault.FenFault.TheVariants.{Fields, Placement, Side, Castling, EnPassant, Counters, Kings, Pawns, Men, Check}
 use Rattle.chess_base.specs.declared.man.Move.{Move}
+use Rattle.chess_game.specs.declared.results.Outcome.{Outcome}
 use Rattle.chess_base.specs.declared.setup.Setup.{Setup}
 use Rattle.chess_base.specs.Initial.{initial_setup}
 use Rattle.std.specs.List.{flat_map}
@@ -15,11 +16,15 @@ use Rattle.chess_base.specs.Writing.{fen}
 use Rattle.chess_cecp.specs.Lines.{LineSeen}
 use Rattle.chess_cecp.specs.Coordinates.{move_named, coordinate}
 use Rattle.chess_cecp.specs.Commands.{command_of, argument_of}
-use Rattle.chess_cecp.specs.Game.{State, Seen, from_start, played, taken_back, current, is_over, verdict_at}
-use Rattle.chess_cecp.specs.declared.game.Verdict.{Verdict}
-use Rattle.chess_cecp.specs.declared.game.Verdict.TheVariants.{WhiteMates, BlackMates, Stalemate}
+use Rattle.chess_cecp.specs.Declaring.{declared_by, result_text, state_text}
+use Rattle.chess_game.specs.Ends.{verdict_outcome, verdict_comment, claims}
+use Rattle.chess_game.specs.Game.{State, Seen, from_start, played, taken_back, with_declared, current, verdict_now, is_over, is_other}
+use Rattle.chess_game.specs.declared.ends.Claims.{Claims}
+use Rattle.chess_game.specs.declared.ends.Verdict.{Verdict}
+use Rattle.chess_game.specs.declared.results.Declared.{Declared}
+use Rattle.chess_game.specs.declared.results.Outcome.TheVariants.{Draw}
 use Rattle.chess_cecp.specs.declared.command.Command.{Command}
-use Rattle.chess_cecp.specs.declared.command.Command.TheVariants.{New, SetBoard, UserMove, BareMove, Undo, Ping, Protover, Variant, Go, ShowFen, ShowMoves, Quit, Silent, BadNumber, Unknown}
+use Rattle.chess_cecp.specs.declared.command.Command.TheVariants.{New, SetBoard, UserMove, BareMove, Undo, Remove, Declare, Claim, Ping, Protover, Variant, Go, ShowFen, ShowMoves, ShowState, Quit, Silent, BadNumber, Unknown}
 
 -- a text behind another, and byte 10
 abbrev pub line_text : List ℕ → List ℕ → List ℕ
@@ -42,16 +47,18 @@ refuses s front text = says s (line_text front text)
 abbrev pub becomes : State → Row
 becomes s = record { text = []; next = s }
 
+-- the line of a result
+unfoldable pub result_line : Outcome → List ℕ → List ℕ
+result_line o comment = line_text (result_text o comment) []
+
 -- the line of a verdict, if there is one
 abbrev pub verdict_line : Option Verdict → List ℕ
 verdict_line None = []
-verdict_line (Some WhiteMates) = line_text (codes "1-0 {White mates}") []
-verdict_line (Some BlackMates) = line_text (codes "0-1 {Black mates}") []
-verdict_line (Some Stalemate) = line_text (codes "1/2-1/2 {Stalemate}") []
+verdict_line (Some v) = result_line (verdict_outcome v) (verdict_comment v)
 
 -- the game changes, and the verdict on it is answered
 abbrev pub becomes_judged : State → Row
-becomes_judged s = record { text = verdict_line (verdict_at (current s)); next = s }
+becomes_judged s = record { text = verdict_line (verdict_now s); next = s }
 
 -- a move behind a space; the line that lists moves
 abbrev pub shown : Move → List ℕ
@@ -97,6 +104,29 @@ move_row limit s text =
 abbrev pub undo_row : State → Row
 undo_row s = if nat_le 1 (length s.moves) then becomes (taken_back s 1) else refuses s (codes "Error (command not legal now): ") (codes "undo")
 
+abbrev pub remove_row : State → Row
+remove_row s = if nat_le 2 (length s.moves) then becomes (taken_back s 2) else refuses s (codes "Error (command not legal now): ") (codes "remove")
+
+-- a result is declared, unless the text declares none or there is a verdict with another outcome
+abbrev pub result_row : State → List ℕ → Option Declared → Row
+result_row s text None = refuses s (codes "Error (bad result): ") text
+result_row s text (Some d) =
+    if is_other (verdict_now s) d.outcome then refuses s (codes "Error (the board says otherwise): ") text
+    else becomes (with_declared s (Some d))
+
+-- a draw is declared and answered
+abbrev pub draws : State → List ℕ → Row
+draws s comment = record { text = result_line Draw comment; next = with_declared s (Some (record { outcome = Draw; comment = comment })) }
+
+abbrev pub claimed : State → Claims → Row
+claimed s c =
+    if c.threefold then draws s (codes "Threefold repetition")
+    else if c.fifty_moves then draws s (codes "50-move rule")
+    else refuses s (codes "Error (no claim): ") (codes "claim")
+
+abbrev pub claim_row : State → Row
+claim_row s = if is_over s then refuses s (codes "Error (command not legal now): ") (codes "claim") else claimed s (claims s.start s.moves)
+
 -- the table: the row of a command, in this game, for a line with this text and this argument in it
 abbrev pub row : ℕ → State → List ℕ → List ℕ → Command → Row
 row limit s text argument New = becomes (from_start initial_setup)
@@ -104,12 +134,16 @@ row limit s text argument SetBoard = setboard_row s (fen_reading argument)
 row limit s text argument UserMove = move_row limit s argument
 row limit s text argument BareMove = move_row limit s text
 row limit s text argument Undo = undo_row s
+row limit s text argument Remove = remove_row s
+row limit s text argument Declare = result_row s text (declared_by argument)
+row limit s text argument Claim = claim_row s
 row limit s text argument (Ping n) = says s (line_text (codes "pong ") (decimal n))
 row limit s text argument (Protover n) = if nat_lt n 2 then says s [] else says s (line_text feature_text [])
 row limit s text argument Variant = if bytes_eq argument (codes "normal") then says s [] else refuses s (codes "Error (unsupported variant): ") text
 row limit s text argument Go = refuses s (codes "Error (the arbiter plays no side): ") (codes "go")
 row limit s text argument ShowFen = says s (line_text (codes "# fen ") (fen (current s)))
 row limit s text argument ShowMoves = says s (moves_line (moves (current s)))
+row limit s text argument ShowState = says s (line_text (codes "# state ply ") (state_text s))
 row limit s text argument Quit = says s []
 row limit s text argument Silent = says s []
 row limit s text argument BadNumber = refuses s (codes "Error (bad number): ") text
@@ -143,12 +177,16 @@ is_quit_command SetBoard = false
 is_quit_command UserMove = false
 is_quit_command BareMove = false
 is_quit_command Undo = false
+is_quit_command Remove = false
+is_quit_command Declare = false
+is_quit_command Claim = false
 is_quit_command (Ping n) = false
 is_quit_command (Protover n) = false
 is_quit_command Variant = false
 is_quit_command Go = false
 is_quit_command ShowFen = false
 is_quit_command ShowMoves = false
+is_quit_command ShowState = false
 is_quit_command Quit = true
 is_quit_command Silent = false
 is_quit_command BadNumber = false

@@ -4,12 +4,16 @@ ghost use Rattle.std.specs.List.{flat_map};
 ghost use Rattle.std.specs.Prelude.{◌≡◌, ◌+◌, ◌*◌, ◌≤◌, ◌++◌, [], if◌then◌else◌, length, codes, decimal};
 ghost use Rattle.std.specs.Str.{bytes_eq};
 ghost use Rattle.arrayvec.specs.ArrayVec.{array_vec_len};
-ghost use Rattle.chess_cecp.specs.Session.{moves_line, shown, verdict_line, fault_name, feature_text, line_text};
+ghost use Rattle.std.specs.Option.{option_map};
+ghost use Rattle.chess_cecp.specs.Declaring.{result_text, verdict_text, declared_text, state_text};
+ghost use Rattle.chess_cecp.specs.Session.{moves_line, shown, result_line, verdict_line, fault_name, feature_text, line_text};
 
 use crate::coordinate::coordinate;
-use crate::game::Verdict;
+use crate::declaring::claims_text;
 use arrayvec::ArrayVec;
 use chess_base::{FenFault, Move};
+use chess_game::{Declared, Game, Outcome, Verdict};
+use chess_moves::Board;
 use itoa::Buffer;
 
 // The most bytes of an answer, which is put together before it is written: `# moves`, a number, and six bytes for each
@@ -95,12 +99,98 @@ pub(crate) fn write_verdict(answer: &mut Answer, verdict: Option<Verdict>)
     requires { array_vec_len answer.old ≤ 1000 }
     ensures { answer.new.items ≡ answer.old.items ++ verdict_line verdict }
 {
-    match verdict {
-        None => {}
-        Some(Verdict::WhiteMates) => write_line(answer, b"1-0 {White mates}", b""),
-        Some(Verdict::BlackMates) => write_line(answer, b"0-1 {Black mates}", b""),
-        Some(Verdict::Stalemate) => write_line(answer, b"1/2-1/2 {Stalemate}", b""),
+    if let Some(verdict) = verdict {
+        write_result(answer, verdict.outcome(), verdict.comment());
     }
+}
+
+// A text.
+fn write_text(answer: &mut Answer, text: &[u8])
+    requires { array_vec_len answer.old + length text.now ≤ 5500 }
+    ensures text { answer.new.items ≡ answer.old.items ++ text.now }
+    ensures len { array_vec_len answer.new ≡ array_vec_len answer.old + length text.now }
+{
+    answer.try_extend_from_slice(text).unwrap();
+}
+
+// An outcome and its comment in braces.
+#[tactic(auto, unfolding(crate::specs::Declaring::result_text))]
+fn write_result_text(answer: &mut Answer, outcome: Outcome, comment: &[u8])
+    requires { array_vec_len answer.old + length comment.now + 10 ≤ 5500 }
+    ensures text { answer.new.items ≡ answer.old.items ++ result_text outcome comment.now }
+    ensures len { array_vec_len answer.new ≤ array_vec_len answer.old + length comment.now + 10 }
+{
+    write_text(answer, outcome.text());
+    write_text(answer, b" {");
+    write_text(answer, comment);
+    write_text(answer, b"}");
+}
+
+// The line of a result.
+#[tactic(auto, unfolding(crate::specs::Session::result_line))]
+pub(crate) fn write_result(answer: &mut Answer, outcome: Outcome, comment: &[u8])
+    requires { array_vec_len answer.old + length comment.now + 11 ≤ 5500 }
+    ensures { answer.new.items ≡ answer.old.items ++ result_line outcome comment.now }
+{
+    write_result_text(answer, outcome, comment);
+    answer.push(b'\n');
+}
+
+// A number behind a text.
+fn write_number(answer: &mut Answer, front: &[u8], number: u64)
+    requires { array_vec_len answer.old + length front.now + 20 ≤ 5500 }
+    ensures text { answer.new.items ≡ answer.old.items ++ (front.now ++ decimal number) }
+    ensures len { array_vec_len answer.new ≤ array_vec_len answer.old + length front.now + 20 }
+{
+    let mut buffer = Buffer::new();
+    write_text(answer, front);
+    write_text(answer, buffer.format(number).as_bytes());
+}
+
+// A verdict, or that there is none.
+fn write_verdict_text(answer: &mut Answer, verdict: Option<Verdict>)
+    requires { array_vec_len answer.old + 70 ≤ 5500 }
+    ensures text { answer.new.items ≡ answer.old.items ++ verdict_text verdict }
+    ensures len { array_vec_len answer.new ≤ array_vec_len answer.old + 70 }
+{
+    match verdict {
+        Some(verdict) => write_result_text(answer, verdict.outcome(), verdict.comment()),
+        None => write_text(answer, b"none"),
+    }
+}
+
+// What was declared, or that nothing was.
+fn write_declared_text(answer: &mut Answer, declared: Option<&Declared>)
+    requires { array_vec_len answer.old + 70 ≤ 5500 }
+    ensures text { answer.new.items ≡ answer.old.items ++ declared_text (option_map (λ d. d.now) declared.entry) }
+    ensures len { array_vec_len answer.new ≤ array_vec_len answer.old + 70 }
+{
+    match declared {
+        Some(declared) => write_result_text(answer, declared.outcome, declared.comment.as_bytes()),
+        None => write_text(answer, b"none"),
+    }
+}
+
+// The line that tells the state of a game.
+#[tactic(auto, unfolding(crate::specs::Declaring::state_text))]
+pub(crate) fn write_state<B: Board>(answer: &mut Answer, game: &Game<B>)
+    requires { answer.old.items ≡ [] }
+    ensures { answer.new.items ≡ line_text (codes "# state ply ") (state_text game.now.state) }
+{
+    write_number(answer, b"# state ply ", game.ply() as u64);
+    write_number(answer, b" rep ", u64::from(game.repetitions()));
+    write_number(
+        answer,
+        b" clock ",
+        u64::from(game.position().setup().halfmove),
+    );
+    write_text(answer, b" claims ");
+    write_text(answer, claims_text(game.claims()));
+    write_text(answer, b" verdict ");
+    write_verdict_text(answer, game.verdict());
+    write_text(answer, b" declared ");
+    write_declared_text(answer, game.declared());
+    answer.push(b'\n');
 }
 
 // The line that lists moves.

@@ -7,7 +7,7 @@ ghost use Rattle.chess_cecp.specs.Commands.{command_of, command_by, word_of, arg
 use crate::coordinate::move_named;
 use crate::trim::is_blank;
 
-/// The kinds of command (CECP, version 2; `showfen` and `showmoves` are this project's own). A command's text stands in its line.
+/// The kinds of command (CECP, version 2; `claim`, `showfen`, `showmoves` and `showstate` are this project's own). A command's text stands in its line.
 #[derive(Clone, Copy, Debug, PartialEq, Eq)]
 pub enum Command {
     /// `new`
@@ -18,6 +18,12 @@ pub enum Command {
     BareMove,
     /// `undo`
     Undo,
+    /// `remove`
+    Remove,
+    /// `result R {C}`, or anything else behind `result`.
+    Declare,
+    /// `claim`
+    Claim,
     /// `ping N`, with a number of one to nine digits.
     Ping(u32),
     /// `protover N`, with a number of one to nine digits: the version of the protocol that the interface speaks.
@@ -32,6 +38,8 @@ pub enum Command {
     ShowFen,
     /// `showmoves`
     ShowMoves,
+    /// `showstate`
+    ShowState,
     /// `quit`
     Quit,
     /// A command that is answered by silence, such as `xboard` or `force`, and an empty line.
@@ -58,6 +66,13 @@ fn split_word(text: &[u8]) -> (&[u8], &[u8])
         from += 1;
     }
     (&text[..end], &text[from..])
+}
+
+// The first word.
+pub(crate) fn first_word(text: &[u8]) -> &[u8]
+    ensures { result.now ≡ word_of text.now }
+{
+    split_word(text).0
 }
 
 // What follows the first word.
@@ -158,6 +173,12 @@ pub fn read_command(text: &[u8]) -> Command
         }
     } else if word == b"undo".as_slice() {
         Command::Undo
+    } else if word == b"remove".as_slice() {
+        Command::Remove
+    } else if word == b"result".as_slice() {
+        Command::Declare
+    } else if word == b"claim".as_slice() {
+        Command::Claim
     } else if word == b"ping".as_slice() {
         ping(argument)
     } else if word == b"protover".as_slice() {
@@ -170,6 +191,8 @@ pub fn read_command(text: &[u8]) -> Command
         Command::ShowFen
     } else if word == b"showmoves".as_slice() {
         Command::ShowMoves
+    } else if word == b"showstate".as_slice() {
+        Command::ShowState
     } else if word == b"quit".as_slice() {
         Command::Quit
     } else if move_named(text).is_some() {

@@ -5,7 +5,7 @@
 mod answer;
 mod command;
 mod coordinate;
-mod game;
+mod declaring;
 mod laws;
 mod lines;
 mod run;

@@ -1,6 +1,6 @@
 //! A session over a reader and a writer.
 
-ghost use Rattle.chess_cecp.specs.Game.{IsPlayable};
+ghost use Rattle.chess_game.specs.Game.{IsPlayable};
 ghost use Rattle.chess_cecp.specs.Run.{Transcript, Ran};
 
 use crate::lines::Lines;

@@ -1,22 +1,25 @@
 //! A session: one game, and the answers to lines.
 
-ghost use Rattle.std.specs.Prelude.{◌≡◌, ◌≤◌, [], if◌then◌else◌, IfOk, length, codes};
+ghost use Rattle.std.specs.Prelude.{◌≡◌, ◌≤◌, [], if◌then◌else◌, IfOk, false, length, codes};
 ghost use Rattle.chess_base.specs.Devices.{Puts};
 ghost use Rattle.chess_base.specs.Reading.{fen_reading};
 ghost use Rattle.chess_base.specs.Writing.{fen};
-ghost use Rattle.chess_cecp.specs.Game.{opened, current, IsPlayable};
-ghost use Rattle.chess_cecp.specs.Session.{row, move_row, undo_row, setboard_row, stands, next_state, answer_to, is_quit, is_quit_command, line_text};
+ghost use Rattle.chess_game.specs.Game.{opened, current, is_over, IsPlayable};
+ghost use Rattle.chess_game.specs.Results.{cut_comment};
+ghost use Rattle.chess_cecp.specs.Declaring.{declared_by};
+ghost use Rattle.chess_cecp.specs.Session.{row, move_row, undo_row, remove_row, result_row, draws, claim_row, setboard_row, stands, next_state, answer_to, is_quit, is_quit_command, line_text};
 
 use crate::answer::{
     Answer, write_features, write_illegal_position, write_line, write_moves, write_pong,
-    write_variant, write_verdict,
+    write_result, write_state, write_variant, write_verdict,
 };
 use crate::command::{Command, argument, read_command};
 use crate::coordinate::move_named;
-use crate::game::Game;
+use crate::declaring::declared_by;
 use crate::lines::Line;
 use chess_base::device::{Output, WriteFault, put};
 use chess_base::{Position, read_fen, write_fen};
+use chess_game::{Comment, Game, Outcome};
 use chess_moves::Board;
 use std::alloc::{AllocError, Global};
 use std::marker::Model;
@@ -36,7 +39,7 @@ pub struct Session<B: Board> {
 }
 
 impl<B: Board> Model for Session<B> {
-    ghost use Rattle.chess_cecp.specs.Game.{Seen};
+    ghost use Rattle.chess_game.specs.Game.{Seen};
 
     ghost Value = { Seen };
 
@@ -55,7 +58,7 @@ impl<B: Board + Drop> Session<B> {
         ensures { IfOk result (λ s. s ≡ opened limit) }
     {
         Ok(Session {
-            game: Game::open(alloc, board, limit as usize)?,
+            game: Game::open(alloc, board, limit)?,
         })
     }
 }
@@ -85,7 +88,7 @@ impl<B: Board> Session<B> {
             return;
         }
         let is_played = match move_named(text) {
-            Some(m) => self.game.try_play(m),
+            Some(m) => self.game.play(m).is_ok(),
             None => false,
         };
         if is_played {
@@ -115,8 +118,75 @@ impl<B: Board> Session<B> {
         ensures next { self.new ≡ stands self.old (undo_row self.old.state) }
         ensures text { answer.new.items ≡ (undo_row self.old.state).text }
     {
-        if !self.game.take_back() {
+        if self.game.take_back().is_err() {
             write_line(answer, b"Error (command not legal now): ", b"undo");
+        }
+    }
+
+    // Takes two half-moves back.
+    fn remove(&mut self, answer: &mut Answer)
+        requires { answer.old.items ≡ [] }
+        ensures next { self.new ≡ stands self.old (remove_row self.old.state) }
+        ensures text { answer.new.items ≡ (remove_row self.old.state).text }
+    {
+        if self.game.ply() < 2 {
+            write_line(answer, b"Error (command not legal now): ", b"remove");
+            return;
+        }
+        let _last = self.game.take_back();
+        let _before = self.game.take_back();
+    }
+
+    // Declares the result that the argument of `result` tells.
+    fn declare(&mut self, text: &[u8], argument: &[u8], answer: &mut Answer)
+        requires short { length text.now ≤ 1024 }
+        requires empty { answer.old.items ≡ [] }
+        ensures next { self.new ≡ stands self.old (result_row self.old.state text.now (declared_by argument.now)) }
+        ensures text { answer.new.items ≡ (result_row self.old.state text.now (declared_by argument.now)).text }
+    {
+        let Some(declared) = declared_by(argument) else {
+            write_line(answer, b"Error (bad result): ", text);
+            return;
+        };
+        if self
+            .game
+            .declare(declared.outcome, declared.comment)
+            .is_err()
+        {
+            write_line(answer, b"Error (the board says otherwise): ", text);
+        }
+    }
+
+    // Declares a draw, and answers it.
+    fn draw(&mut self, comment: &[u8], answer: &mut Answer)
+        requires open_game { is_over self.old.state ≡ false }
+        requires clean { cut_comment comment.now ≡ comment.now }
+        requires short { length comment.now ≤ 60 }
+        requires empty { answer.old.items ≡ [] }
+        ensures next { self.new ≡ stands self.old (draws self.old.state comment.now) }
+        ensures text { answer.new.items ≡ (draws self.old.state comment.now).text }
+    {
+        let _declared = self.game.declare(Outcome::Draw, Comment::cut(comment));
+        write_result(answer, Outcome::Draw, comment);
+    }
+
+    // Judges a claim of a draw in the present position.
+    fn claim(&mut self, answer: &mut Answer)
+        requires { answer.old.items ≡ [] }
+        ensures next { self.new ≡ stands self.old (claim_row self.old.state) }
+        ensures text { answer.new.items ≡ (claim_row self.old.state).text }
+    {
+        if self.game.is_over() {
+            write_line(answer, b"Error (command not legal now): ", b"claim");
+            return;
+        }
+        let claims = self.game.claims();
+        if claims.threefold {
+            self.draw(b"Threefold repetition", answer);
+        } else if claims.fifty_moves {
+            self.draw(b"50-move rule", answer);
+        } else {
+            write_line(answer, b"Error (no claim): ", b"claim");
         }
     }
 
@@ -142,6 +212,9 @@ impl<B: Board> Session<B> {
             Command::UserMove => self.play(argument, answer),
             Command::BareMove => self.play(text, answer),
             Command::Undo => self.undo(answer),
+            Command::Remove => self.remove(answer),
+            Command::Declare => self.declare(text, argument, answer),
+            Command::Claim => self.claim(answer),
             Command::Ping(number) => write_pong(answer, number),
             Command::Protover(version) => {
                 if version >= 2 {
@@ -151,7 +224,8 @@ impl<B: Board> Session<B> {
             Command::Variant => write_variant(answer, argument, text),
             Command::Go => write_line(answer, b"Error (the arbiter plays no side): ", b"go"),
             Command::ShowFen => self.show_fen(answer),
-            Command::ShowMoves => write_moves(answer, self.game.legal_moves().as_slice()),
+            Command::ShowMoves => write_moves(answer, self.game.board().legal_moves().as_slice()),
+            Command::ShowState => write_state(answer, &self.game),
             Command::Quit | Command::Silent => {}
             Command::BadNumber => write_line(answer, b"Error (bad number): ", text),
             Command::Unknown => write_line(answer, b"Error (unknown command): ", text),

@@ -1,0 +1,72 @@
+-- Results as they are declared and told, and what `showstate` tells of a game.
+use Rattle.std.specs.Prelude.{ℕ, ◌-◌, ◌==◌, ◌&&◌, nat_le, Bool, true, false, if◌then◌else◌, List, [], ◌∷◌, ◌++◌, length, take, drop, slice_index_or, codes, decimal, Option, None, Some}
+use Rattle.std.specs.Option.{option_map}
+use Rattle.std.specs.Str.{bytes_eq}
+use Rattle.chess_base.specs.Letters.{byte}
+use Rattle.chess_game.specs.Ends.{verdict_outcome, verdict_comment, claims}
+use Rattle.chess_game.specs.Game.{State, current, verdict_now}
+use Rattle.chess_game.specs.Results.{outcome_text, cut_comment}
+use Rattle.chess_game.specs.Same.{rep}
+use Rattle.chess_game.specs.declared.ends.Claims.{Claims}
+use Rattle.chess_game.specs.declared.ends.Verdict.{Verdict}
+use Rattle.chess_game.specs.declared.results.Declared.{Declared}
+use Rattle.chess_game.specs.declared.results.Outcome.{Outcome}
+use Rattle.chess_game.specs.declared.results.Outcome.TheVariants.{WhiteWins, BlackWins, Draw, Unfinished}
+use Rattle.chess_cecp.specs.Commands.{word_of, argument_of}
+
+-- the outcome that a word names
+unfoldable pub outcome_named : List ℕ → Option Outcome
+outcome_named word =
+    if bytes_eq word (outcome_text WhiteWins) then Some WhiteWins
+    else if bytes_eq word (outcome_text BlackWins) then Some BlackWins
+    else if bytes_eq word (outcome_text Draw) then Some Draw
+    else if bytes_eq word (outcome_text Unfinished) then Some Unfinished
+    else None
+
+-- what stands between the brace at a text's start and the one at its end
+abbrev pub inside_braces : List ℕ → List ℕ
+inside_braces text = take (length text - 2) (drop 1 text)
+
+-- the comment behind an outcome: none, or a text in braces
+unfoldable pub comment_told : List ℕ → Option (List ℕ)
+comment_told text =
+    if length text == 0 then Some []
+    else if nat_le 2 (length text) && (slice_index_or text 0 0 == byte "{") && (slice_index_or text (length text - 1) 0 == byte "}") then Some (inside_braces text)
+    else None
+
+abbrev pub declared_as : Option Outcome → Option (List ℕ) → Option Declared
+declared_as None comment = None
+declared_as (Some o) None = None
+declared_as (Some o) (Some comment) = Some (record { outcome = o; comment = cut_comment comment })
+
+-- the result that the argument of `result` declares, if it declares one
+unfoldable pub declared_by : List ℕ → Option Declared
+declared_by argument = declared_as (outcome_named (word_of argument)) (comment_told (argument_of argument))
+
+-- an outcome and its comment in braces
+unfoldable pub result_text : Outcome → List ℕ → List ℕ
+result_text o comment = outcome_text o ++ (codes " {" ++ (comment ++ codes "}"))
+
+abbrev pub verdict_text : Option Verdict → List ℕ
+verdict_text None = codes "none"
+verdict_text (Some v) = result_text (verdict_outcome v) (verdict_comment v)
+
+abbrev pub declared_text : Option Declared → List ℕ
+declared_text None = codes "none"
+declared_text (Some d) = result_text d.outcome d.comment
+
+abbrev pub claims_by : Bool → Bool → List ℕ
+claims_by true true = codes "threefold+50"
+claims_by true false = codes "threefold"
+claims_by false true = codes "50"
+claims_by false false = codes "none"
+
+abbrev pub claims_text : Claims → List ℕ
+claims_text c = claims_by c.threefold c.fifty_moves
+
+-- half-moves that stand, repetitions, the halfmove clock, claims, verdict and declared result
+unfoldable pub state_text : State → List ℕ
+state_text s =
+    decimal (length s.moves) ++ (codes " rep " ++ (decimal (rep s.start s.moves) ++ (codes " clock " ++ (decimal (current s).halfmove
+    ++ (codes " claims " ++ (claims_text (claims s.start s.moves) ++ (codes " verdict " ++ (verdict_text (verdict_now s)
+    ++ (codes " declared " ++ declared_text s.declared)))))))))

@@ -1,0 +1,69 @@
+//! Results as they are declared and told.
+
+ghost use Rattle.std.specs.Prelude.{◌≡◌, ◌≤◌, length};
+ghost use Rattle.std.specs.Option.{option_map};
+ghost use Rattle.chess_cecp.specs.Declaring.{outcome_named, comment_told, declared_by, claims_text};
+
+use crate::command::{argument, first_word};
+use chess_game::{Claims, Comment, Declared, Outcome};
+
+// The outcome that a word names.
+#[tactic(auto, unfolding(crate::specs::Declaring::outcome_named))]
+fn outcome_named(word: &[u8]) -> Option<Outcome>
+    ensures { result ≡ outcome_named word.now }
+{
+    if word == Outcome::WhiteWins.text() {
+        Some(Outcome::WhiteWins)
+    } else if word == Outcome::BlackWins.text() {
+        Some(Outcome::BlackWins)
+    } else if word == Outcome::Draw.text() {
+        Some(Outcome::Draw)
+    } else if word == Outcome::Unfinished.text() {
+        Some(Outcome::Unfinished)
+    } else {
+        None
+    }
+}
+
+// The comment behind an outcome: none, or a text in braces.
+#[tactic(auto, unfolding(crate::specs::Declaring::comment_told))]
+fn comment_told(text: &[u8]) -> Option<&[u8]>
+    ensures { option_map (λ c. c.now) result ≡ comment_told text.now }
+{
+    let len = text.len();
+    if len == 0 {
+        Some(text)
+    } else if len >= 2 && text[0] == b'{' && text[len - 1] == b'}' {
+        Some(&text[1..len - 1])
+    } else {
+        None
+    }
+}
+
+// The result that the argument of `result` declares, if it declares one.
+#[tactic(auto, unfolding(crate::specs::Declaring::declared_by))]
+pub(crate) fn declared_by(text: &[u8]) -> Option<Declared>
+    ensures { result ≡ declared_by text.now }
+{
+    let outcome = outcome_named(first_word(text))?;
+    match comment_told(argument(text)) {
+        Some(comment) => Some(Declared {
+            outcome,
+            comment: Comment::cut(comment),
+        }),
+        None => None,
+    }
+}
+
+// The claims as they are told.
+pub(crate) fn claims_text(claims: Claims) -> &'static [u8]
+    ensures value { result.now ≡ claims_text claims }
+    ensures short { length result.now ≤ 12 }
+{
+    match (claims.threefold, claims.fifty_moves) {
+        (true, true) => b"threefold+50",
+        (true, false) => b"threefold",
+        (false, true) => b"50",
+        (false, false) => b"none",
+    }
+}
