@@ -194,6 +194,82 @@ const RUNS: [Run; 30] = [
     },
 ];
 
+// Games to their ends: verdicts, claims, declared results.
+const GAMES: [Run; 12] = [
+    // Mate, and what comes after it.
+    Run {
+        input: b"new\nf2f3\ne7e5\ng2g4\nd8h4\na2a3\nresult 1-0 {x}\nclaim\nresult 0-1 {x}\nshowstate\n",
+        answers: b"0-1 {Black mates}\nIllegal move (game over): a2a3\nError (the board says otherwise): result 1-0 {x}\nError (command not legal now): claim\n# state ply 4 rep 1 clock 1 claims none verdict 0-1 {Black mates} declared 0-1 {x}\n",
+        end: End::InputEnded,
+    },
+    // Mate comes before 75 moves; a bishop is too little.
+    Run {
+        input: b"setboard 7k/8/6K1/8/8/8/8/R7 w - - 149 200\na1a8\nsetboard 8/8/4k3/8/8/3BK3/8/8 w - - 0 1\nd3c4\nsetboard 4k3/8/8/8/8/8/8/R3K3 w - - 149 100\na1a2\nshowstate\n",
+        answers: b"1-0 {White mates}\n1/2-1/2 {Insufficient material}\nIllegal move (game over): d3c4\n1/2-1/2 {75-move rule}\n# state ply 1 rep 1 clock 150 claims 50 verdict 1/2-1/2 {75-move rule} declared none\n",
+        end: End::InputEnded,
+    },
+    // A target that no pawn can capture on makes no difference.
+    Run {
+        input: b"setboard rnbqkbnr/pppppppp/8/8/4P3/8/PPPP1PPP/RNBQKBNR b KQkq e3 0 1\ng8f6\ng1f3\nf6g8\nf3g1\nshowfen\nshowstate\n",
+        answers: b"# fen rnbqkbnr/pppppppp/8/8/4P3/8/PPPP1PPP/RNBQKBNR b KQkq - 4 3\n# state ply 4 rep 2 clock 4 claims none verdict none declared none\n",
+        end: End::InputEnded,
+    },
+    // One on which a pawn can capture does, and so do lost rights.
+    Run {
+        input: b"setboard 4k3/8/8/8/3pP3/8/8/4K2R b K e3 0 1\ne8d8\ne1f1\nd8e8\nf1e1\nshowstate\ne8d8\nh1h2\nd8e8\nh2h1\nshowstate\n",
+        answers: b"# state ply 4 rep 1 clock 4 claims none verdict none declared none\n# state ply 8 rep 2 clock 8 claims none verdict none declared none\n",
+        end: End::InputEnded,
+    },
+    // Three times, claimed.
+    Run {
+        input: b"new\ng1f3\ng8f6\nf3g1\nf6g8\ng1f3\ng8f6\nf3g1\nf6g8\nshowstate\nclaim\nshowstate\ng1f3\n",
+        answers: b"# state ply 8 rep 3 clock 8 claims threefold verdict none declared none\n1/2-1/2 {Threefold repetition}\n# state ply 8 rep 3 clock 8 claims threefold verdict none declared 1/2-1/2 {Threefold repetition}\nIllegal move (game over): g1f3\n",
+        end: End::InputEnded,
+    },
+    // Five times.
+    Run {
+        input: b"new\ng1f3\ng8f6\nf3g1\nf6g8\ng1f3\ng8f6\nf3g1\nf6g8\ng1f3\ng8f6\nf3g1\nf6g8\ng1f3\ng8f6\nf3g1\nf6g8\nundo\nshowstate\n",
+        answers: b"1/2-1/2 {Fivefold repetition}\n# state ply 15 rep 4 clock 15 claims threefold verdict none declared none\n",
+        end: End::InputEnded,
+    },
+    // Half-moves taken back.
+    Run {
+        input: b"new\nundo\ne2e4\nremove\nremove now\nshowfen\ne7e5\ng1f3\nremove\nshowfen\n",
+        answers: b"Error (command not legal now): undo\nError (command not legal now): remove\nError (command not legal now): remove\n# fen rnbqkbnr/pppppppp/8/8/4P3/8/PPPP1PPP/RNBQKBNR b KQkq e3 0 1\n# fen rnbqkbnr/pppppppp/8/8/4P3/8/PPPP1PPP/RNBQKBNR b KQkq e3 0 1\n",
+        end: End::InputEnded,
+    },
+    // Results that are declared.
+    Run {
+        input: b"new\nresult 1/2-1/2 {a{b}c}\nshowstate\ne2e4\nclaim\nresult 2-0\nresult *  {\x7F}\nshowstate\ne2e4\n",
+        answers: b"# state ply 0 rep 1 clock 0 claims none verdict none declared 1/2-1/2 {a?b?c}\nIllegal move (game over): e2e4\nError (command not legal now): claim\nError (bad result): result 2-0\n# state ply 0 rep 1 clock 0 claims none verdict none declared * {?}\nIllegal move (game over): e2e4\n",
+        end: End::InputEnded,
+    },
+    // And that are not.
+    Run {
+        input: b"result\nresult 1-0 x\nresult 1-0 {\nresult 1-0 }{\nresult 1-0{x}\nresult 1-0 {x} y\nresult {x}\nresult 1-0 }\ne2e4\nresult 0-1\nshowstate\nundo\nshowstate\nresult 1-0 {}\nshowstate\n",
+        answers: b"Error (bad result): result\nError (bad result): result 1-0 x\nError (bad result): result 1-0 {\nError (bad result): result 1-0 }{\nError (bad result): result 1-0{x}\nError (bad result): result 1-0 {x} y\nError (bad result): result {x}\nError (bad result): result 1-0 }\n# state ply 1 rep 1 clock 0 claims none verdict none declared 0-1 {}\n# state ply 0 rep 1 clock 0 claims none verdict none declared none\n# state ply 0 rep 1 clock 0 claims none verdict none declared 1-0 {}\n",
+        end: End::InputEnded,
+    },
+    // Fifty moves, claimed; and 75 at the start.
+    Run {
+        input: b"setboard 4k3/8/8/8/8/8/8/R3K3 w - - 99 80\nclaim\na1a2\nclaim\nsetboard 4k3/8/8/8/8/8/8/R3K3 w - - 150 100\n",
+        answers: b"Error (no claim): claim\n1/2-1/2 {50-move rule}\n1/2-1/2 {75-move rule}\n",
+        end: End::InputEnded,
+    },
+    // Both claims.
+    Run {
+        input: b"setboard 4k3/8/8/8/8/8/8/R3K3 w - - 92 80\na1a2\ne8d8\na2a1\nd8e8\na1a2\ne8d8\na2a1\nd8e8\nshowstate\nclaim\n",
+        answers: b"# state ply 8 rep 3 clock 100 claims threefold+50 verdict none declared none\n1/2-1/2 {Threefold repetition}\n",
+        end: End::InputEnded,
+    },
+    // A comment keeps its first 60 bytes.
+    Run {
+        input: b"result 1-0 {0123456789012345678901234567890123456789012345678901234567890}\nshowstate\n",
+        answers: b"# state ply 0 rep 1 clock 0 claims none verdict none declared 1-0 {012345678901234567890123456789012345678901234567890123456789}\n",
+        end: End::InputEnded,
+    },
+];
+
 // Runs a session of `limit` half-moves on an input in pieces, where calls of the devices fail.
 fn check(
     rt: &impl Abort,
@@ -216,31 +292,38 @@ fn taking(alloc: Global, cut: usize, fails_at: u64) -> Counted<PieceWriter> {
     Counted::writing(PieceWriter::new(alloc, cut, fails_at))
 }
 
+// Runs a session on an input in pieces of that length, over devices that don't fail.
+fn check_run(rt: &impl Abort, alloc: Global, run: &Run, cut: usize) -> Result<(), Fail> {
+    let session = Session::open(alloc, Plain::new(), 100)?;
+    let writer = taking(alloc, cut, 0);
+    check(
+        rt,
+        session,
+        pieces(run.input, cut, 0),
+        writer,
+        run.answers,
+        Ok(run.end),
+    );
+    Ok(())
+}
+
 #[test]
 fn runs_however_they_are_cut(rt: HostRuntime) -> Result<(), Fail> {
     for run in &RUNS {
         for cut in 1..=run.input.len() {
-            let session = Session::open(rt.alloc(), Plain::new(), 100)?;
-            let writer = taking(rt.alloc(), cut, 0);
-            check(
-                &rt,
-                session,
-                pieces(run.input, cut, 0),
-                writer,
-                run.answers,
-                Ok(run.end),
-            );
+            check_run(&rt, rt.alloc(), run, cut)?;
         }
-        let session = Session::open(rt.alloc(), Plain::new(), 100)?;
-        let writer = taking(rt.alloc(), 1024, 0);
-        check(
-            &rt,
-            session,
-            pieces(run.input, 1024, 0),
-            writer,
-            run.answers,
-            Ok(run.end),
-        );
+        check_run(&rt, rt.alloc(), run, 1024)?;
+    }
+    Ok(())
+}
+
+#[test]
+fn games_in_pieces(rt: HostRuntime) -> Result<(), Fail> {
+    for run in &GAMES {
+        for cut in [1, 2, 3, 1024] {
+            check_run(&rt, rt.alloc(), run, cut)?;
+        }
     }
     Ok(())
 }
