@@ -6,7 +6,7 @@ ghost use Rattle.chess_base.specs.Letters.{white_letter};
 ghost use Rattle.chess_base.specs.Moves.{is_legal};
 ghost use Rattle.chess_base.specs.Writing.{square_text};
 ghost use Rattle.chess_text.specs.Parts.{when, parts_text};
-ghost use Rattle.chess_text.specs.San.{castling_text, told_start, pawn_parts, officer_parts, is_rival, rival_starts, promotes_as_a_pawn, move_text, check_mark, san};
+ghost use Rattle.chess_text.specs.San.{castling_text, some_on_file, some_on_rank, said, told_start, pawn_parts, officer_parts, is_rival, rival_starts, promotes_as_a_pawn, move_text, check_mark, san};
 
 use crate::described::{Described, describe};
 use arrayvec::ArrayVec;
@@ -23,15 +23,36 @@ pub struct ToldStart {
     pub rank: bool,
 }
 
+fn some_on_file(file: u8, squares: &[Square]) -> bool
+    ensures { result ≡ some_on_file file squares.now }
+{
+    squares.iter().any(|square| square.file() == file)
+}
+
+fn some_on_rank(rank: u8, squares: &[Square]) -> bool
+    ensures { result ≡ some_on_rank rank squares.now }
+{
+    squares.iter().any(|square| square.rank() == rank)
+}
+
+fn said(file: bool, rank: bool) -> ToldStart
+    ensures { result ≡ said file rank }
+{
+    ToldStart { file, rank }
+}
+
 // What has to be said of a start square beside the starts of other moves that the text would spell without it.
 fn told_start(from: Square, others: &[Square]) -> ToldStart
     ensures { result ≡ told_start from others.now }
 {
-    let alone_on_file = !others.iter().any(|s| s.file() == from.file());
-    let alone_on_rank = !others.iter().any(|s| s.rank() == from.rank());
-    ToldStart {
-        file: !others.is_empty() && (alone_on_file || !alone_on_rank),
-        rank: !others.is_empty() && !alone_on_file,
+    if let [] = others {
+        said(false, false)
+    } else if !some_on_file(from.file(), others) {
+        said(true, false)
+    } else if !some_on_rank(from.rank(), others) {
+        said(false, true)
+    } else {
+        said(true, true)
     }
 }
 
@@ -162,6 +183,7 @@ fn move_text(setup: &Setup, moves: &[Move], d: &Described) -> SanText
 fn write_mark<B: Board>(board: &B, text: &mut SanText)
     requires room { array_vec_len text.old < 7 }
     ensures text { text.new.items ≡ text.old.items ++ check_mark (B.position board.now) }
+    ensures len { array_vec_len text.new ≤ array_vec_len text.old + 1 }
 {
     if board.in_check() {
         let position = board.position();
@@ -182,15 +204,16 @@ pub fn san<B: Board>(board: &mut B, m: Move) -> SanText
     ensures len { array_vec_len result ≤ 7 }
     ensures back { B.position board.new ≡ B.position board.old }
 {
-    let (first, second) = (m, m);
+    let again = m;
     let position = board.position();
-    let Some(d) = describe(position.setup(), &m) else {
+    let setup = position.setup();
+    let Some(d) = describe(setup, &m) else {
         return SanText::new();
     };
     let moves = board.legal_moves();
-    let mut text = move_text(position.setup(), moves.as_slice(), &d);
-    let saved = board.make(first);
+    let mut text = move_text(setup, moves.as_slice(), &d);
+    let saved = board.make(m);
     write_mark(board, &mut text);
-    board.take_back(second, saved);
+    board.take_back(again, saved);
     text
 }
