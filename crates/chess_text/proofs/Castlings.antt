@@ -10,7 +10,7 @@ use Rattle.chess_text.specs.Parts.{parts_at}
 use Rattle.chess_text.specs.Moves.{castling_texts}
 use Rattle.chess_text.specs.Forms.{same_side}
 
-abbrev names_side : List ℕ → CastlingSide → Bool
+abbrev pub names_side : List ℕ → CastlingSide → Bool
 names_side text w = list_any (bytes_eq text) (castling_texts w)
 
 -- a text of castling to that side is of no other form

@@ -4,3 +4,9 @@ pub mod Castlings
 pub mod FormFacts
 pub mod Legal
 pub mod SanWritten
+pub mod AllMoves
+pub mod Marks
+pub mod Told
+pub mod Pawns
+pub mod Alone
+pub mod CoordinateLaw
