@@ -33,7 +33,7 @@ filter-none : {A : Type 0} (q : A → Bool) (xs : List A) → ((x : A) → q x �
 filter-none q [] h = refl
 filter-none q (x ∷ xs) h = rw (h x) (filter-none q xs h)
 
-any-filter : {A : Type 0} (q t : A → Bool) (xs : List A) → list_any t (filter q xs) ≡ list_any (λ x. q x && t x) xs
+pub any-filter : {A : Type 0} (q t : A → Bool) (xs : List A) → list_any t (filter q xs) ≡ list_any (λ x. q x && t x) xs
 any-filter q t [] = refl
 any-filter q t (x ∷ xs) =
     elim (cases_Bool (q x)) [

@@ -18,7 +18,7 @@ pub record IsCastling (text : List ℕ) (w : CastlingSide) : Type 0 where
   pub no_parts : parts_at text ≡ None
   pub names : (v : CastlingSide) → names_side text v ≡ same_side w v
 
-letters_kingside : IsCastling (codes "O-O") KingSide
+pub letters_kingside : IsCastling (codes "O-O") KingSide
 letters_kingside = record { no_parts = refl; names = by_side }
   where
     by_side : (v : CastlingSide) → names_side (codes "O-O") v ≡ same_side KingSide v
@@ -32,7 +32,7 @@ digits_kingside = record { no_parts = refl; names = by_side }
     by_side KingSide = refl
     by_side QueenSide = refl
 
-letters_queenside : IsCastling (codes "O-O-O") QueenSide
+pub letters_queenside : IsCastling (codes "O-O-O") QueenSide
 letters_queenside = record { no_parts = refl; names = by_side }
   where
     by_side : (v : CastlingSide) → names_side (codes "O-O-O") v ≡ same_side QueenSide v

@@ -10,3 +10,5 @@ pub mod Told
 pub mod Pawns
 pub mod Alone
 pub mod CoordinateLaw
+pub mod Solid
+pub mod SanLaw
