@@ -11,4 +11,5 @@ pub mod Pawns
 pub mod Alone
 pub mod CoordinateLaw
 pub mod Solid
+pub mod Words
 pub mod SanLaw

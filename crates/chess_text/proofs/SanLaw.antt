@@ -1,9 +1,9 @@
 -- The SAN of a legal move spells it alone.
-use Rattle.std.proofs.Common.{◌≡◌, ℕ, ◌<◌, ◌≤◌, inl, inr, Bool, true, false, not, ◌&&◌, ◌||◌, cond, List, [], ◌∷◌, ◌++◌, map, Option, Some, None, is_none, refl, sym, ap, subst, ◌∙◌, arith, ◌==◌}
+use Rattle.std.proofs.Common.{◌≡◌, ℕ, ◌<◌, ◌≤◌, inl, inr, Bool, true, false, not, ◌&&◌, ◌||◌, cond, List, [], ◌∷◌, ◌++◌, length, map, Option, Some, None, is_none, refl, sym, ap, subst, ◌∙◌, arith, ◌==◌}
 use Rattle.std.specs.Prelude.{IfSome, IsTrue}
 use Rattle.std.specs.Option.{option_map}
 use Rattle.std.proofs.lemmas.Bool.{cases_Bool, and_parts, and_from, or_cases, or_left, or_right, eqb-true, eq-eqb, both_ways, not_from_true}
-use Rattle.std.specs.List.{list_any, filter}
+use Rattle.std.specs.List.{list_any, list_all, filter}
 use Rattle.chess_base.specs.declared.man.CastlingSide.{CastlingSide}
 use Rattle.chess_base.specs.declared.man.CastlingSide.TheVariants.{KingSide, QueenSide}
 use Rattle.chess_base.specs.declared.man.Kind.{Kind}
@@ -21,7 +21,7 @@ use Rattle.chess_text.specs.declared.parts.Parts.{Parts}
 use Rattle.chess_text.specs.declared.parts.Promotion.{Promotion}
 use Rattle.chess_text.specs.declared.reading.Reading.TheVariants as reads
 use Rattle.chess_text.specs.declared.writing.ToldStart.{ToldStart}
-use Rattle.chess_text.specs.Laws.{SpellsAlone}
+use Rattle.chess_text.specs.Laws.{SpellsAlone, is_san_byte, begins_with_letter}
 use Rattle.chess_text.specs.Parts.{AreParts, IsOfficer, CanPromote, unmarked, parts_text}
 use Rattle.chess_text.specs.Moves.{captures, described, passes, admits, has_equals, promotes_so, is_form, fits, is_by_squares, is_by_letter, is_straight, is_from_file, shape, spells_described, spells, reading}
 use Rattle.chess_text.specs.Forms.{same_side}
@@ -32,6 +32,7 @@ use Rattle.chess_text.proofs.Castlings.{IsCastling, letters_kingside, letters_qu
 use Rattle.chess_text.proofs.Legal.{MovesAs, IsMove, legal_move, told_of, described_is, castling_says}
 use Rattle.chess_text.proofs.Pawns.{pawn_of, pawn_stands, Advance, advances_on_file, same_advance, advances_without, advances_straight, captures_ahead, same_ahead}
 use Rattle.chess_text.proofs.Solid.{bare_parts, bare_castling, bare_marked}
+use Rattle.chess_text.proofs.Words.{IsWord, Word, file_letter, man_letter, parts_bytes, castling_word, castling_bytes, marked_word}
 use Rattle.chess_text.proofs.Told.{told_admits, told_apart}
 
 -- ---- castling
@@ -314,10 +315,30 @@ officer_alone p m n k officer none legal g fit = by_start (n.from == m.from) ref
 
 -- ---- the text
 
+pawn_word : (c : Bool) (from to : ℕ) (o : Option Kind) → IsWord (parts_text (pawn_named c from to (written true false o)))
+pawn_word true from to None = record { short = omega arith; long = omega arith; letter = file_letter from }
+pawn_word true from to (Some k) = record { short = omega arith; long = omega arith; letter = file_letter from }
+pawn_word false from to None = record { short = omega arith; long = omega arith; letter = file_letter to }
+pawn_word false from to (Some k) = record { short = omega arith; long = omega arith; letter = file_letter to }
+
+officer_word : (k : Kind) (start : ToldStart) (c : Bool) (from to : ℕ) → IsWord (parts_text (officer_named k start c from to))
+officer_word k start c from to = by_said start.file start.rank c
+  where
+    by_said : (f r c : Bool) → IsWord (parts_text (officer_named k (record { file = f; rank = r }) c from to))
+    by_said true true true = record { short = omega arith; long = omega arith; letter = man_letter k }
+    by_said true true false = record { short = omega arith; long = omega arith; letter = man_letter k }
+    by_said true false true = record { short = omega arith; long = omega arith; letter = man_letter k }
+    by_said true false false = record { short = omega arith; long = omega arith; letter = man_letter k }
+    by_said false true true = record { short = omega arith; long = omega arith; letter = man_letter k }
+    by_said false true false = record { short = omega arith; long = omega arith; letter = man_letter k }
+    by_said false false true = record { short = omega arith; long = omega arith; letter = man_letter k }
+    by_said false false false = record { short = omega arith; long = omega arith; letter = man_letter k }
+
 -- the text without its mark has these parts, which fit the move alone
 record HasParts (p : Setup) (m : Move) (k : Kind) (q : Parts) : Type 0 where
   are : AreParts q
   form : is_form q ≡ true
+  word : IsWord (parts_text q)
   fits_it : fits q (told_of p m k) ≡ true
   alone : (n : Move) → is_legal p n ≡ true → (g : IsMove p n) → fits q (told_of p n g.man) ≡ true → n ≡ m
 
@@ -325,6 +346,7 @@ pawn_parts_of : (p : Setup) (m : Move) → IsSound p → (h : IsMove p m) → h.
 pawn_parts_of p m sound h is = record {
   are = pawn_are_parts (captures p m) m.from m.to m.promotion h.to_in h.promotion_is;
   form = pawn_form (captures p m) m.from m.to (written true false m.promotion);
+  word = pawn_word (captures p m) m.from m.to m.promotion;
   fits_it = pawn_fits p m (captures p m) refl (pawn_on_file p m sound h is);
   alone = λ n legal g fit. pawn_alone p m n (captures p m) sound h is g refl fit;
 }
@@ -334,6 +356,7 @@ officer_parts_of : (p : Setup) (m : Move) (k : Kind) → IsOfficer k → castlin
 officer_parts_of p m k officer walks none f t = record {
   are = officer_are_parts k (told_start m.from (rivals p m k)) (captures p m) m.from m.to officer f t;
   form = officer_form k (told_start m.from (rivals p m k)) (captures p m) m.from m.to;
+  word = officer_word k (told_start m.from (rivals p m k)) (captures p m) m.from m.to;
   fits_it = officer_fits p m k (told_start m.from (rivals p m k)) walks;
   alone = λ n legal g fit. officer_alone p m n k officer none legal g fit;
 }
@@ -363,53 +386,68 @@ san_text : (p : Setup) (m : Move) (h : IsMove p m) → san p m ≡ text_by_castl
 unfolding san
 san_text p m h = ap (san_as p m) (described_is p m h)
 
--- what the law says of a text
-abbrev Law : Setup → Move → List ℕ → Type 0
-Law p m text = (shape text ≡ true) × SpellsAlone p text m
+-- what the laws say of a text
+record Law (p : Setup) (m : Move) (text : List ℕ) : Type 0 where
+  has_shape : shape text ≡ true
+  alone : SpellsAlone p text m
 
 castling_law : (p : Setup) (m : Move) (text : List ℕ) (w : CastlingSide) → IsMove p m → castling p m ≡ Some w → unmarked text ≡ castling_text w → Law p m text
 castling_law p m text w h e bare =
-    let is : IsCastling (unmarked text) w = rw bare (castling_is w) in (
-      shape_castling text w is,
-      (
+    let is : IsCastling (unmarked text) w = rw bare (castling_is w) in
+    record {
+      has_shape = shape_castling text w is;
+      alone = (
         spells_move p text m h ∙ spelled_castling text w (told_of p m h.man) is ∙ ap (passes (same_side w)) e ∙ same_side-self w,
         λ n legal s.
         let g = legal_move p n legal in
         let to = castles_so w (castling p n) (sym (spells_move p text n g ∙ spelled_castling text w (told_of p n g.man) is) ∙ s) in
         same_castling p m n w h g e to,
-      ),
-    )
+      );
+    }
 
 walk_law : (p : Setup) (m : Move) (text : List ℕ) (q : Parts) (h : IsMove p m) → HasParts p m h.man q → unmarked text ≡ parts_text q → Law p m text
-walk_law p m text q h parts bare = (
-  shape_parts text q bare parts.are parts.form,
-  (
+walk_law p m text q h parts bare = record {
+  has_shape = shape_parts text q bare parts.are parts.form;
+  alone = (
     spells_move p text m h ∙ spelled_parts text q (told_of p m h.man) bare parts.are ∙ parts.fits_it,
     λ n legal s.
     let g = legal_move p n legal in
     parts.alone n legal g (sym (spells_move p text n g ∙ spelled_parts text q (told_of p n g.man) bare parts.are) ∙ s),
-  ),
-)
+  );
+}
 
 law_by : (p : Setup) (m : Move) (text : List ℕ) → IsSound p → (h : IsMove p m) → (o : Option CastlingSide) → castling p m ≡ o
-    → text ≡ text_by_castling o (rivals p m h.man) (told_of p m h.man) ++ check_mark (after p m) → Law p m text
-law_by p m text sound h (Some w) e is =
-    castling_law p m text w h e (ap unmarked is ∙ bare_marked (after p m) (castling_text w) (bare_castling w))
+    → text ≡ text_by_castling o (rivals p m h.man) (told_of p m h.man) ++ check_mark (after p m) → Law p m text × Word text
+law_by p m text sound h (Some w) e is = (
+  castling_law p m text w h e (ap unmarked is ∙ bare_marked (after p m) (castling_text w) (bare_castling w)),
+  marked_word (after p m) (castling_text w) text (castling_word w) (castling_bytes w) is,
+)
 law_by p m text sound h None e is =
     let q = walk_parts (rivals p m h.man) (told_of p m h.man) in
-    let parts = walk_has_parts p m sound h e in
-    walk_law p m text q h parts (ap unmarked is ∙ bare_marked (after p m) (parts_text q) (bare_parts q parts.are.to_is))
+    let parts = walk_has_parts p m sound h e in (
+      walk_law p m text q h parts (ap unmarked is ∙ bare_marked (after p m) (parts_text q) (bare_parts q parts.are.to_is)),
+      marked_word (after p m) (parts_text q) text parts.word (parts_bytes q parts.are) is,
+    )
 
-law : (p : Setup) (m : Move) → IsSound p → is_legal p m ≡ true → Law p m (san p m)
+law : (p : Setup) (m : Move) → IsSound p → is_legal p m ≡ true → Law p m (san p m) × Word (san p m)
 law p m sound legal =
     let h = legal_move p m legal in
     law_by p m (san p m) sound h (castling p m) refl (san_text p m h)
 
 pub san_alone : (p : Setup) (m : Move) → IsSound p → IsTrue (is_legal p m) → SpellsAlone p (san p m) m
-san_alone p m sound legal = (law p m sound legal).1
+san_alone p m sound legal = (law p m sound legal).0.alone
 
 pub san_shape : (p : Setup) (m : Move) → IsSound p → IsTrue (is_legal p m) → IsTrue (shape (san p m))
-san_shape p m sound legal = (law p m sound legal).0
+san_shape p m sound legal = (law p m sound legal).0.has_shape
 
 pub san_read : (p : Setup) (m : Move) → IsSound p → IsTrue (is_legal p m) → reading p (san p m) ≡ reads.Move m
 san_read p m sound legal = read_alone p (san p m) m legal (san_shape p m sound legal) (san_alone p m sound legal)
+
+pub san_short : (p : Setup) (m : Move) → IsSound p → IsTrue (is_legal p m) → (2 ≤ length (san p m)) × (length (san p m) ≤ 7)
+san_short p m sound legal = let w = (law p m sound legal).1 in (w.short, w.long)
+
+pub san_bytes : (p : Setup) (m : Move) → IsSound p → IsTrue (is_legal p m) → IsTrue (list_all (λ c. is_san_byte c) (san p m))
+san_bytes p m sound legal = (law p m sound legal).1.bytes
+
+pub san_letter : (p : Setup) (m : Move) → IsSound p → IsTrue (is_legal p m) → IsTrue (begins_with_letter (san p m))
+san_letter p m sound legal = (law p m sound legal).1.letter

@@ -1,5 +1,5 @@
 -- The laws of the texts, each as one statement.
-use Rattle.std.specs.Prelude.{◌≡◌, ℕ, ◌≤◌, ◌<◌, ◌==◌, nat_le, Bool, ◌&&◌, ◌||◌, true, List, length, Some, IsTrue}
+use Rattle.std.specs.Prelude.{◌≡◌, ℕ, ◌≤◌, ◌==◌, nat_le, Bool, false, ◌&&◌, ◌||◌, List, [], ◌∷◌, length, Some, IsTrue}
 use Rattle.std.specs.List.{list_all}
 use Rattle.chess_base.specs.declared.man.Move.{Move}
 use Rattle.chess_base.specs.declared.setup.Setup.{Setup}
@@ -25,6 +25,31 @@ SanHasShape = (p : Setup) → (m : Move) → IsSound p → IsTrue (is_legal p m)
 
 abbrev pub SanIsReadBack : Type 0
 SanIsReadBack = (p : Setup) → (m : Move) → IsSound p → IsTrue (is_legal p m) → reading p (san p m) ≡ reads.Move m
+
+-- letters, digits, and what else stands in SAN
+abbrev pub is_letter : ℕ → Bool
+is_letter c = (nat_le (byte "A") c && nat_le c (byte "Z")) || (nat_le (byte "a") c && nat_le c (byte "z"))
+
+abbrev pub is_digit : ℕ → Bool
+is_digit c = nat_le (byte "0") c && nat_le c (byte "9")
+
+abbrev pub is_san_byte : ℕ → Bool
+is_san_byte c = is_letter c || is_digit c || (c == byte "+") || (c == byte "#") || (c == byte "=") || (c == byte "-")
+
+abbrev pub begins_with_letter : List ℕ → Bool
+begins_with_letter [] = false
+begins_with_letter (c ∷ cs) = is_letter c
+
+-- what is written for a legal move has two to seven bytes, each of them one of these, and begins with a letter, as no number and
+-- no outcome of a game does
+abbrev pub SanIsShort : Type 0
+SanIsShort = (p : Setup) → (m : Move) → IsSound p → IsTrue (is_legal p m) → (2 ≤ length (san p m)) × (length (san p m) ≤ 7)
+
+abbrev pub SanHasBytes : Type 0
+SanHasBytes = (p : Setup) → (m : Move) → IsSound p → IsTrue (is_legal p m) → IsTrue (list_all (λ c. is_san_byte c) (san p m))
+
+abbrev pub SanBeginsWithLetter : Type 0
+SanBeginsWithLetter = (p : Setup) → (m : Move) → IsSound p → IsTrue (is_legal p m) → IsTrue (begins_with_letter (san p m))
 
 -- the same of coordinates
 abbrev pub CoordinateSpellsItsMove : Type 0

@@ -10,7 +10,7 @@ mod reading;
 mod writing;
 
 pub use coordinates::{CoordinateText, coordinate};
-pub use laws::{coordinate_spells_its_move, san_spells_its_move, texts_have_parts};
+pub use laws::{coordinate_spells_its_move, san_is_a_word, san_spells_its_move, texts_have_parts};
 pub use reading::{Reading, has_move_shape, read_move};
 pub use writing::{SanText, san};
 
