@@ -21,7 +21,7 @@ filter-flat_map : {A B : Type 0} (q : B → Bool) (f : A → List B) (xs : List 
 filter-flat_map q f [] = refl
 filter-flat_map q f (x ∷ xs) = filter-append q (f x) (flat_map f xs) ∙ ap (λ ys. filter q (f x) ++ ys) (filter-flat_map q f xs)
 
-filter-both : {A : Type 0} (q t : A → Bool) (xs : List A) → filter t (filter q xs) ≡ filter (λ x. q x && t x) xs
+pub filter-both : {A : Type 0} (q t : A → Bool) (xs : List A) → filter t (filter q xs) ≡ filter (λ x. q x && t x) xs
 filter-both q t [] = refl
 filter-both q t (x ∷ xs) =
     elim (cases_Bool (q x)) [
@@ -145,7 +145,7 @@ unfolding all_triples
 only-triple t m f b k e alone =
     let other : (n : Move) → n ≢ m → t n ≡ false = λ n differs. false_from_ne_true (t n) (λ passed. differs (alone n passed)) in
     let away : (a : ℕ) → a ≢ m.from → filter t (flat_map (λ b. map (triple a b) promotions) squares) ≡ [] = λ a differs.
-        filter-flat_map t (λ b. map (triple a b) promotions) squares ∙ none-squares (λ b. kept t a b) (λ b. none-kept t a b (λ k. other (triple a b k) (λ same. differs (ap (λ (n : Move). n.from) same)))) in
+    filter-flat_map t (λ b. map (triple a b) promotions) squares ∙ none-squares (λ b. kept t a b) (λ b. none-kept t a b (λ k. other (triple a b k) (λ same. differs (ap (λ (n : Move). n.from) same)))) in
     let aside : (b : ℕ) → b ≢ m.to → kept t m.from b ≡ [] = λ b differs. none-kept t m.from b (λ k. other (triple m.from b k) (λ same. differs (ap (λ (n : Move). n.to) same))) in
     filter-flat_map t (λ a. flat_map (λ b. map (triple a b) promotions) squares) squares
     ∙ only-square (λ a. filter t (flat_map (λ b. map (triple a b) promotions) squares)) m.from f away

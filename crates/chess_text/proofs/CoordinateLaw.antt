@@ -145,9 +145,9 @@ coordinate_alone p m sound legal =
     let are = are_parts p m h in (
       spells_move p (coordinate m) m h ∙ spelled_parts (coordinate m) (squares_named m) (told_of p m h.man) at are ∙ fits_itself p m h.man,
       λ n n_legal e.
-      let g = legal_move p n n_legal in
-      let same = fits_alone p m n g.man (sym (spells_move p (coordinate m) n g ∙ spelled_parts (coordinate m) (squares_named m) (told_of p n g.man) at are) ∙ e) in
-      move_is n m same.from same.to same.promotion,
+          let g = legal_move p n n_legal in
+          let same = fits_alone p m n g.man (sym (spells_move p (coordinate m) n g ∙ spelled_parts (coordinate m) (squares_named m) (told_of p n g.man) at are) ∙ e) in
+          move_is n m same.from same.to same.promotion,
     )
 
 form_of_squares : (m : Move) → is_form (squares_named m) ≡ true

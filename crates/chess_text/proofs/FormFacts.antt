@@ -1,6 +1,6 @@
 -- What a text is read as tells its shape and what it spells.
 use Rattle.std.proofs.Common.{◌≡◌, ℕ, inl, inr, Bool, true, false, ◌&&◌, ◌||◌, not, cond, List, [], ◌∷◌, Option, Some, None, is_some, is_none, refl, sym, ap, ◌∙◌, ◌==◌}
-use Rattle.std.proofs.lemmas.Bool.{and_right, cases_Bool}
+use Rattle.std.proofs.lemmas.Bool.{and_parts, and_right, cases_Bool}
 use Rattle.std.proofs.lemmas.List.Elements.{filter_agree}
 use Rattle.std.specs.List.{list_any, filter}
 use Rattle.std.specs.Str.{bytes_eq}
@@ -9,17 +9,20 @@ use Rattle.chess_base.specs.declared.man.CastlingSide.TheVariants.{KingSide, Que
 use Rattle.chess_base.specs.declared.man.Kind.{Kind}
 use Rattle.chess_base.specs.declared.man.Move.{Move}
 use Rattle.chess_base.specs.declared.setup.Setup.{Setup}
-use Rattle.chess_base.specs.MoveList.{moves}
+use Rattle.chess_base.specs.Moves.{is_legal}
+use Rattle.chess_base.specs.MoveList.{all_triples, moves}
 use Rattle.chess_base.specs.Squares.{file, rank}
 use Rattle.chess_text.specs.declared.described.Described.{Described}
 use Rattle.chess_text.specs.declared.form.Form.{Form}
 use Rattle.chess_text.specs.declared.form.Form.TheVariants.{Castling, Walk}
 use Rattle.chess_text.specs.declared.parts.Parts.{Parts}
 use Rattle.chess_text.specs.declared.parts.Promotion.{Promotion}
+use Rattle.chess_text.specs.declared.reading.Reading.{Reading}
 use Rattle.chess_text.specs.declared.reading.Reading.TheVariants as reads
 use Rattle.chess_text.specs.Parts.{unmarked, parts_at, parts_of}
-use Rattle.chess_text.specs.Moves.{castling_texts, is_castling_text, passes, is_form, fits, is_by_squares, is_by_letter, is_straight, is_from_file, shape, spells_described, spells, described, one_of, reading}
+use Rattle.chess_text.specs.Moves.{castling_texts, is_castling_text, passes, is_form, fits, is_by_squares, is_by_letter, is_straight, is_from_file, shape, spells_described, spells, described, one_of, reading, IsLegalReading}
 use Rattle.chess_text.specs.Forms.{castling_named, form_of_parts, form_at, form_of, same_side, form_fits, is_spelled}
+use Rattle.chess_text.proofs.AllMoves.{filter-both}
 use Rattle.chess_text.proofs.Castlings.{IsCastling, castling_from_name}
 
 -- ---- the shape
@@ -115,3 +118,35 @@ unfolding reading
 reading_nothing p text e =
     let none : shape text ≡ false = shape-form text ∙ ap is_some e in
     rw none refl
+
+-- ---- what is read is legal
+
+first_kept : (test : Move → Bool) (ms : List Move) (m : Move) (rest : List Move) → filter test ms ≡ m ∷ rest → test m ≡ true
+first_kept test [] m rest e = absurd cc
+first_kept test (n ∷ ms) m rest e = by_test (λ h. first_kept test ms m rest h) (test n) refl e
+  where
+    by_test : (filter test ms ≡ m ∷ rest → test m ≡ true) → (t : Bool) → test n ≡ t → cond t (n ∷ filter test ms) (filter test ms) ≡ m ∷ rest → test m ≡ true
+    by_test later true t e = let same : n ≡ m = cc in ap test (sym same) ∙ t
+    by_test later false t e = later e
+
+filter-again : (q t : Move → Bool) (ms : List Move) (m : Move) (rest : List Move) → filter t (filter q ms) ≡ m ∷ rest → q m ≡ true
+filter-again q t ms m rest e = (and_parts (q m) (t m) (first_kept (λ x. q x && t x) ms m rest (sym (filter-both q t ms) ∙ e))).0
+
+one_is : (ms : List Move) (m : Move) → one_of ms ≡ reads.Move m → ms ≡ m ∷ []
+one_is [] m e = absurd cc
+one_is (n ∷ []) m e = let same : n ≡ m = cc in ap (λ x. x ∷ []) same
+one_is (n ∷ o ∷ ms) m e = absurd cc
+
+read_legal : (p : Setup) (text : List ℕ) (m : Move) → reading p text ≡ reads.Move m → is_legal p m ≡ true
+unfolding reading moves
+read_legal p text m e = by_shape (shape text) refl e
+  where
+    by_shape : (t : Bool) → shape text ≡ t → cond t (one_of (filter (λ m. spells p text m) (moves p))) reads.NotAMove ≡ reads.Move m → is_legal p m ≡ true
+    by_shape true is e = filter-again (λ m. is_legal p m) (λ m. spells p text m) all_triples m [] (one_is (filter (λ m. spells p text m) (moves p)) m e)
+    by_shape false is e = absurd cc
+
+pub reads_legal : (p : Setup) (text : List ℕ) (r : Reading) → r ≡ reading p text → IsLegalReading p r
+reads_legal p text (reads.Move m) e = read_legal p text m (sym e)
+reads_legal p text reads.Ambiguous e = tt
+reads_legal p text reads.NoSuch e = tt
+reads_legal p text reads.NotAMove e = tt

@@ -126,7 +126,7 @@ straight_fits : (p : Setup) (m n : Move) (l : Kind) → fits (pawn_named false m
 unfolding fits is_by_squares is_by_letter is_straight is_from_file
 straight_fits p m n l e =
     let straight : (same_kind Pawn l && (file n.from == file n.to) && (m.to == n.to) && promotes_so (written true false m.promotion) n.promotion) ≡ true =
-        elim (or_cases (same_kind Pawn l && (file n.from == file n.to) && (m.to == n.to) && promotes_so (written true false m.promotion) n.promotion) false e) [ inl h ↦ h | inr h ↦ absurd cc ] in
+    elim (or_cases (same_kind Pawn l && (file n.from == file n.to) && (m.to == n.to) && promotes_so (written true false m.promotion) n.promotion) false e) [ inl h ↦ h | inr h ↦ absurd cc ] in
     let e3 = and_parts (same_kind Pawn l && (file n.from == file n.to) && (m.to == n.to)) (promotes_so (written true false m.promotion) n.promotion) straight in
     let e2 = and_parts (same_kind Pawn l && (file n.from == file n.to)) (m.to == n.to) e3.0 in
     let e1 = and_parts (same_kind Pawn l) (file n.from == file n.to) e2.0 in
@@ -252,13 +252,13 @@ officer_goes : (p : Setup) (m n : Move) (k l : Kind) (start : ToldStart) (c : Bo
 unfolding fits is_by_squares is_by_letter is_straight is_from_file
 officer_goes p m n k l start c e =
     let by_letter : (same_kind k l && is_none (castling p n) && admits (if_said start.file (file m.from)) (file n.from) && admits (if_said start.rank (rank m.from)) (rank n.from) && (not c || captures p n) && (m.to == n.to) && true) ≡ true =
-        elim (or_cases ((same_kind k l && is_none (castling p n) && admits (if_said start.file (file m.from)) (file n.from) && admits (if_said start.rank (rank m.from)) (rank n.from) && (not c || captures p n) && (m.to == n.to) && true) || false) false e) [
-          | inr h ↦ absurd cc
-          | inl h ↦ elim (or_cases (same_kind k l && is_none (castling p n) && admits (if_said start.file (file m.from)) (file n.from) && admits (if_said start.rank (rank m.from)) (rank n.from) && (not c || captures p n) && (m.to == n.to) && true) false h) [
-            | inr g ↦ absurd cc
-            | inl g ↦ g
-          ]
-        ] in
+    elim (or_cases ((same_kind k l && is_none (castling p n) && admits (if_said start.file (file m.from)) (file n.from) && admits (if_said start.rank (rank m.from)) (rank n.from) && (not c || captures p n) && (m.to == n.to) && true) || false) false e) [
+      | inr h ↦ absurd cc
+      | inl h ↦ elim (or_cases (same_kind k l && is_none (castling p n) && admits (if_said start.file (file m.from)) (file n.from) && admits (if_said start.rank (rank m.from)) (rank n.from) && (not c || captures p n) && (m.to == n.to) && true) false h) [
+        | inr g ↦ absurd cc
+        | inl g ↦ g
+      ]
+    ] in
     let e5 = and_parts (same_kind k l && is_none (castling p n) && admits (if_said start.file (file m.from)) (file n.from) && admits (if_said start.rank (rank m.from)) (rank n.from) && (not c || captures p n) && (m.to == n.to)) true by_letter in
     let e4 = and_parts (same_kind k l && is_none (castling p n) && admits (if_said start.file (file m.from)) (file n.from) && admits (if_said start.rank (rank m.from)) (rank n.from) && (not c || captures p n)) (m.to == n.to) e5.0 in
     let e3 = and_parts (same_kind k l && is_none (castling p n) && admits (if_said start.file (file m.from)) (file n.from) && admits (if_said start.rank (rank m.from)) (rank n.from)) (not c || captures p n) e4.0 in
@@ -399,9 +399,9 @@ castling_law p m text w h e bare =
       alone = (
         spells_move p text m h ∙ spelled_castling text w (told_of p m h.man) is ∙ ap (passes (same_side w)) e ∙ same_side-self w,
         λ n legal s.
-        let g = legal_move p n legal in
-        let to = castles_so w (castling p n) (sym (spells_move p text n g ∙ spelled_castling text w (told_of p n g.man) is) ∙ s) in
-        same_castling p m n w h g e to,
+            let g = legal_move p n legal in
+            let to = castles_so w (castling p n) (sym (spells_move p text n g ∙ spelled_castling text w (told_of p n g.man) is) ∙ s) in
+            same_castling p m n w h g e to,
       );
     }
 
@@ -411,8 +411,8 @@ walk_law p m text q h parts bare = record {
   alone = (
     spells_move p text m h ∙ spelled_parts text q (told_of p m h.man) bare parts.are ∙ parts.fits_it,
     λ n legal s.
-    let g = legal_move p n legal in
-    parts.alone n legal g (sym (spells_move p text n g ∙ spelled_parts text q (told_of p n g.man) bare parts.are) ∙ s),
+        let g = legal_move p n legal in
+        parts.alone n legal g (sym (spells_move p text n g ∙ spelled_parts text q (told_of p n g.man) bare parts.are) ∙ s),
   );
 }
 

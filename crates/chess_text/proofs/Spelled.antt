@@ -20,5 +20,5 @@ several test ms i x (Some m) h at e found t =
     let passes : test (get_or ms i x) ≡ true = ap test (sym at) ∙ t in
     let more : filter test (take (i + 1) ms) ≡ m ∷ get_or ms i x ∷ [] = filter_more test ms i x h ∙ rw (e, passes) refl in
     let whole : filter test ms ≡ (m ∷ get_or ms i x ∷ []) ++ filter test (drop (i + 1) ms) =
-        ap (filter test) (sym (take-append-drop (i + 1) ms)) ∙ filter-append test (take (i + 1) ms) (drop (i + 1) ms) ∙ ap (λ v. v ++ filter test (drop (i + 1) ms)) more in
+    ap (filter test) (sym (take-append-drop (i + 1) ms)) ∙ filter-append test (take (i + 1) ms) (drop (i + 1) ms) ∙ ap (λ v. v ++ filter test (drop (i + 1) ms)) more in
     ap one_of (sym whole)

@@ -1,5 +1,5 @@
 -- The texts of moves: which moves a text spells (PGN standard of 1994, section 8.2.3), and the coordinate text.
-use Rattle.std.specs.Prelude.{ℕ, ◌+◌, ◌==◌, Bool, true, false, not, ◌&&◌, ◌||◌, if◌then◌else◌, List, [], ◌∷◌, ◌++◌, Option, Some, None, is_some, is_none, codes}
+use Rattle.std.specs.Prelude.{ℕ, ◌+◌, ◌==◌, Bool, true, false, not, ◌&&◌, ◌||◌, if◌then◌else◌, List, [], ◌∷◌, ◌++◌, Option, Some, None, is_some, is_none, IsTrue, codes}
 use Rattle.std.specs.List.{list_any, filter}
 use Rattle.std.specs.Str.{bytes_eq}
 use Rattle.chess_base.specs.declared.man.CastlingSide.{CastlingSide}
@@ -11,7 +11,7 @@ use Rattle.chess_base.specs.declared.man.Move.{Move}
 use Rattle.chess_base.specs.declared.setup.Setup.{Setup}
 use Rattle.chess_base.specs.Letters.{white_letter}
 use Rattle.chess_base.specs.Men.{man_at, is_of, other, same_kind}
-use Rattle.chess_base.specs.Moves.{castling, is_en_passant}
+use Rattle.chess_base.specs.Moves.{castling, is_en_passant, is_legal}
 use Rattle.chess_base.specs.MoveList.{moves}
 use Rattle.chess_base.specs.Squares.{file, rank}
 use Rattle.chess_base.specs.Writing.{square_text}
@@ -128,6 +128,13 @@ one_of (m ∷ n ∷ ms) = reads.Ambiguous
 -- what a text is in a position: of its legal moves those that it spells
 unfoldable pub reading : Setup → List ℕ → Reading
 reading p text = if shape text then one_of (filter (λ m. spells p text m) (moves p)) else reads.NotAMove
+
+-- a move that is read is legal
+abbrev pub IsLegalReading : Setup → Reading → Type 0
+IsLegalReading p (reads.Move m) = IsTrue (is_legal p m)
+IsLegalReading p reads.Ambiguous = Unit {0}
+IsLegalReading p reads.NoSuch = Unit {0}
+IsLegalReading p reads.NotAMove = Unit {0}
 
 -- ---- the coordinate text
 

@@ -2,7 +2,7 @@
 
 ghost use Rattle.std.specs.Prelude.{◌≡◌};
 ghost use Rattle.std.specs.List.{filter};
-ghost use Rattle.chess_text.specs.Moves.{shape, one_of, reading};
+ghost use Rattle.chess_text.specs.Moves.{shape, one_of, reading, IsLegalReading};
 ghost use Rattle.chess_text.specs.Forms.{is_spelled};
 
 use crate::form::{Form, is_spelled, read_form};
@@ -52,7 +52,8 @@ fn one_spelled(form: &Form, setup: &Setup, moves: &[Move]) -> Reading
 /// What a text is in the board's position: of the legal moves it may spell one, several or none. Whether a mark `+` or `#` is
 /// true isn't asked; en passant is a capture.
 pub fn read_move<B: Board>(board: &B, text: &[u8]) -> Reading
-    ensures { result ≡ reading (B.position board.now) text.now }
+    ensures value { result ≡ reading (B.position board.now) text.now }
+    ensures legal { IsLegalReading (B.position board.now) result }
 {
     let Some(form) = read_form(text) else {
         return Reading::NotAMove;
