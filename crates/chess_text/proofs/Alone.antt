@@ -1,0 +1,152 @@
+-- A text whose parts one move alone fits is read as this move.
+use Rattle.std.proofs.Common.{◌≡◌, ℕ, Bool, true, false, ◌||◌, List, [], ◌∷◌, Option, Some, None, refl, sym, ap, ◌∙◌}
+use Rattle.std.specs.Prelude.{IsTrue}
+use Rattle.std.proofs.lemmas.Bool.{false_from_ne_true}
+use Rattle.std.specs.List.{list_any, filter}
+use Rattle.std.specs.Str.{bytes_eq}
+use Rattle.chess_base.specs.declared.man.CastlingSide.{CastlingSide}
+use Rattle.chess_base.specs.declared.man.CastlingSide.TheVariants.{KingSide, QueenSide}
+use Rattle.chess_base.specs.declared.man.Kind.{Kind}
+use Rattle.chess_base.specs.declared.man.Kind.TheVariants.{King, Queen, Rook, Bishop, Knight, Pawn}
+use Rattle.chess_base.specs.declared.man.Move.{Move}
+use Rattle.chess_base.specs.declared.setup.Setup.{Setup}
+use Rattle.chess_base.specs.Men.{same_kind}
+use Rattle.chess_base.specs.Moves.{is_legal}
+use Rattle.chess_base.specs.MoveList.{moves}
+use Rattle.chess_text.specs.declared.described.Described.{Described}
+use Rattle.chess_text.specs.declared.parts.Parts.{Parts}
+use Rattle.chess_text.specs.declared.parts.Promotion.{Promotion}
+use Rattle.chess_text.specs.declared.reading.Reading.TheVariants as reads
+use Rattle.chess_text.specs.Laws.{SpellsAlone}
+use Rattle.chess_text.specs.Parts.{AreParts, unmarked, parts_at, parts_text, parts_of}
+use Rattle.chess_text.specs.Moves.{castling_texts, is_castling_text, passes, is_form, fits, shape, spells_described, spells, described, one_of, reading, promotes_so}
+use Rattle.chess_text.specs.Forms.{same_side}
+use Rattle.chess_text.proofs.AllMoves.{only-move}
+use Rattle.chess_text.proofs.Castlings.{IsCastling, names_side, castling_from_name}
+use Rattle.chess_text.proofs.Grammar.{parts-spelled}
+use Rattle.chess_text.proofs.Legal.{IsMove, legal_move, told_of, described_is}
+
+-- ---- what is read
+
+-- a text that spells a legal move alone is read as it
+pub read_alone : (p : Setup) (text : List ℕ) (m : Move) → is_legal p m ≡ true → shape text ≡ true → SpellsAlone p text m → reading p text ≡ reads.Move m
+unfolding reading
+read_alone p text m legal is alone = rw is (ap one_of (only-move p (λ n. spells p text n) m legal alone.0 alone.1))
+
+-- ---- the text of parts
+
+no_name : (text : List ℕ) (q : Parts) → parts_at text ≡ Some q → (w : CastlingSide) → names_side text w ≡ false
+no_name text q e w = false_from_ne_true (names_side text w) (λ named. let none = (castling_from_name text w named).no_parts in cc)
+
+no_side : (text : List ℕ) (q : Parts) → parts_at text ≡ Some q → (o : Option CastlingSide) → passes (names_side text) o ≡ false
+no_side text q e None = refl
+no_side text q e (Some w) = no_name text q e w
+
+read_parts : (text : List ℕ) (q : Parts) → unmarked text ≡ parts_text q → AreParts q → parts_at (unmarked text) ≡ Some q
+read_parts text q e h = ap parts_at e ∙ parts-spelled q h
+
+pub spelled_parts : (text : List ℕ) (q : Parts) (d : Described) → unmarked text ≡ parts_text q → AreParts q → spells_described text d ≡ fits q d
+unfolding spells_described is_castling_text parts_of
+spelled_parts text q d e h =
+    let at = read_parts text q e h in
+    ap (λ t. t || passes (λ r. fits r d) (parts_at (unmarked text))) (no_side (unmarked text) q at d.castles) ∙ ap (passes (λ r. fits r d)) at
+
+pub shape_parts : (text : List ℕ) (q : Parts) → unmarked text ≡ parts_text q → AreParts q → is_form q ≡ true → shape text ≡ true
+unfolding shape is_castling_text parts_of
+shape_parts text q e h form =
+    let at = read_parts text q e h in
+    let king = no_name (unmarked text) q at KingSide in
+    let queen = no_name (unmarked text) q at QueenSide in
+    rw (king, queen) (ap (passes is_form) at ∙ form)
+
+-- ---- the text of castling
+
+pub spelled_castling : (text : List ℕ) (w : CastlingSide) (d : Described) → IsCastling (unmarked text) w → spells_described text d ≡ passes (same_side w) d.castles
+unfolding spells_described is_castling_text parts_of
+spelled_castling text w d h = rw h.no_parts (or_false _ ∙ same_for (names_side (unmarked text)) (same_side w) h.names d.castles)
+  where
+    or_false : (b : Bool) → (b || false) ≡ b
+    or_false true = refl
+    or_false false = refl
+
+    same_for : (test other : CastlingSide → Bool) → ((v : CastlingSide) → test v ≡ other v) → (o : Option CastlingSide) → passes test o ≡ passes other o
+    same_for test other h None = refl
+    same_for test other h (Some v) = h v
+
+pub shape_castling : (text : List ℕ) (w : CastlingSide) → IsCastling (unmarked text) w → shape text ≡ true
+unfolding shape is_castling_text
+shape_castling text KingSide h = rw (h.names KingSide) refl
+shape_castling text QueenSide h = rw (h.names KingSide, h.names QueenSide) refl
+
+-- ---- of a legal move
+
+pub spells_move : (p : Setup) (text : List ℕ) (m : Move) (h : IsMove p m) → spells p text m ≡ spells_described text (told_of p m h.man)
+unfolding spells
+spells_move p text m h = ap (passes (spells_described text)) (described_is p m h)
+
+pub same_kind-self : (k : Kind) → same_kind k k ≡ true
+same_kind-self King = refl
+same_kind-self Queen = refl
+same_kind-self Rook = refl
+same_kind-self Bishop = refl
+same_kind-self Knight = refl
+same_kind-self Pawn = refl
+
+pub same_kind-true : (k l : Kind) → same_kind k l ≡ true → k ≡ l
+same_kind-true King King e = refl
+same_kind-true King Queen e = absurd cc
+same_kind-true King Rook e = absurd cc
+same_kind-true King Bishop e = absurd cc
+same_kind-true King Knight e = absurd cc
+same_kind-true King Pawn e = absurd cc
+same_kind-true Queen King e = absurd cc
+same_kind-true Queen Queen e = refl
+same_kind-true Queen Rook e = absurd cc
+same_kind-true Queen Bishop e = absurd cc
+same_kind-true Queen Knight e = absurd cc
+same_kind-true Queen Pawn e = absurd cc
+same_kind-true Rook King e = absurd cc
+same_kind-true Rook Queen e = absurd cc
+same_kind-true Rook Rook e = refl
+same_kind-true Rook Bishop e = absurd cc
+same_kind-true Rook Knight e = absurd cc
+same_kind-true Rook Pawn e = absurd cc
+same_kind-true Bishop King e = absurd cc
+same_kind-true Bishop Queen e = absurd cc
+same_kind-true Bishop Rook e = absurd cc
+same_kind-true Bishop Bishop e = refl
+same_kind-true Bishop Knight e = absurd cc
+same_kind-true Bishop Pawn e = absurd cc
+same_kind-true Knight King e = absurd cc
+same_kind-true Knight Queen e = absurd cc
+same_kind-true Knight Rook e = absurd cc
+same_kind-true Knight Bishop e = absurd cc
+same_kind-true Knight Knight e = refl
+same_kind-true Knight Pawn e = absurd cc
+same_kind-true Pawn King e = absurd cc
+same_kind-true Pawn Queen e = absurd cc
+same_kind-true Pawn Rook e = absurd cc
+same_kind-true Pawn Bishop e = absurd cc
+same_kind-true Pawn Knight e = absurd cc
+same_kind-true Pawn Pawn e = refl
+
+pub move_is : (n m : Move) → n.from ≡ m.from → n.to ≡ m.to → n.promotion ≡ m.promotion → n ≡ m
+move_is n m a b k =
+    ap (λ (s : ℕ). let v : Move = record { from = s; to = n.to; promotion = n.promotion } in v) a
+    ∙ ap (λ (s : ℕ). let v : Move = record { from = m.from; to = s; promotion = n.promotion } in v) b
+    ∙ ap (λ (o : Option Kind). let v : Move = record { from = m.from; to = m.to; promotion = o } in v) k
+
+-- a promotion as it is written
+abbrev pub written : Bool → Bool → Option Kind → Option Promotion
+written equals small None = None
+written equals small (Some k) = Some (record { kind = k; equals = equals; small = small })
+
+pub promotes-self : (equals small : Bool) (o : Option Kind) → promotes_so (written equals small o) o ≡ true
+promotes-self equals small None = refl
+promotes-self equals small (Some k) = same_kind-self k
+
+pub promotes-same : (equals small : Bool) (o n : Option Kind) → promotes_so (written equals small o) n ≡ true → n ≡ o
+promotes-same equals small None None e = refl
+promotes-same equals small None (Some k) e = absurd cc
+promotes-same equals small (Some k) None e = absurd cc
+promotes-same equals small (Some k) (Some l) e = ap Some (sym (same_kind-true k l e))

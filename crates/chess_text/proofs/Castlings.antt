@@ -1,0 +1,58 @@
+-- The texts of castling.
+use Rattle.std.proofs.Common.{◌≡◌, ℕ, inl, inr, Bool, true, false, ◌||◌, List, [], ◌∷◌, Option, Some, None, refl, sym, ap, ◌∙◌, codes}
+use Rattle.std.proofs.lemmas.Bool.{or_cases}
+use Rattle.std.proofs.lemmas.Slice.Eq.{bytes_eq-Decides}
+use Rattle.std.specs.List.{list_any}
+use Rattle.std.specs.Str.{bytes_eq}
+use Rattle.chess_base.specs.declared.man.CastlingSide.{CastlingSide}
+use Rattle.chess_base.specs.declared.man.CastlingSide.TheVariants.{KingSide, QueenSide}
+use Rattle.chess_text.specs.Parts.{parts_at}
+use Rattle.chess_text.specs.Moves.{castling_texts}
+use Rattle.chess_text.specs.Forms.{same_side}
+
+abbrev pub names_side : List ℕ → CastlingSide → Bool
+names_side text w = list_any (bytes_eq text) (castling_texts w)
+
+-- a text of castling to that side is of no other form
+pub record IsCastling (text : List ℕ) (w : CastlingSide) : Type 0 where
+  pub no_parts : parts_at text ≡ None
+  pub names : (v : CastlingSide) → names_side text v ≡ same_side w v
+
+pub letters_kingside : IsCastling (codes "O-O") KingSide
+letters_kingside = record { no_parts = refl; names = by_side }
+  where
+    by_side : (v : CastlingSide) → names_side (codes "O-O") v ≡ same_side KingSide v
+    by_side KingSide = refl
+    by_side QueenSide = refl
+
+digits_kingside : IsCastling (codes "0-0") KingSide
+digits_kingside = record { no_parts = refl; names = by_side }
+  where
+    by_side : (v : CastlingSide) → names_side (codes "0-0") v ≡ same_side KingSide v
+    by_side KingSide = refl
+    by_side QueenSide = refl
+
+pub letters_queenside : IsCastling (codes "O-O-O") QueenSide
+letters_queenside = record { no_parts = refl; names = by_side }
+  where
+    by_side : (v : CastlingSide) → names_side (codes "O-O-O") v ≡ same_side QueenSide v
+    by_side KingSide = refl
+    by_side QueenSide = refl
+
+digits_queenside : IsCastling (codes "0-0-0") QueenSide
+digits_queenside = record { no_parts = refl; names = by_side }
+  where
+    by_side : (v : CastlingSide) → names_side (codes "0-0-0") v ≡ same_side QueenSide v
+    by_side KingSide = refl
+    by_side QueenSide = refl
+
+one_of_two : (text a b : List ℕ) (w : CastlingSide) → IsCastling a w → IsCastling b w → list_any (bytes_eq text) (a ∷ b ∷ []) ≡ true → IsCastling text w
+one_of_two text a b w at_a at_b e =
+    elim (or_cases (bytes_eq text a) (list_any (bytes_eq text) (b ∷ [])) e) [
+      | inl h ↦ let is : text ≡ a = (bytes_eq-Decides text a).0 h in rw is at_a
+      | inr h ↦ elim (or_cases (bytes_eq text b) false h) [ inl k ↦ let is : text ≡ b = (bytes_eq-Decides text b).0 k in rw is at_b | inr k ↦ absurd cc ]
+    ]
+
+pub castling_from_name : (text : List ℕ) (w : CastlingSide) → names_side text w ≡ true → IsCastling text w
+castling_from_name text KingSide e = one_of_two text (codes "O-O") (codes "0-0") KingSide letters_kingside digits_kingside e
+castling_from_name text QueenSide e = one_of_two text (codes "O-O-O") (codes "0-0-0") QueenSide letters_queenside digits_queenside e

@@ -1,0 +1,163 @@
+-- The coordinate text of a legal move spells it alone.
+use Rattle.std.proofs.Common.{◌≡◌, ℕ, ◌+◌, ◌-◌, ◌<◌, inl, inr, Bool, true, false, not, ◌&&◌, ◌||◌, List, [], ◌∷◌, ◌++◌, Option, Some, None, is_none, refl, sym, ap, ◌∙◌, arith, ◌==◌}
+use Rattle.std.specs.Prelude.{IfSome, IsTrue}
+use Rattle.std.proofs.lemmas.Bool.{and_parts, and_from, or_cases, or_left, eqb-true, eq-eqb}
+use Rattle.std.proofs.lemmas.Bool.Decides.{nat_tests}
+use Rattle.chess_base.specs.declared.man.Kind.{Kind}
+use Rattle.chess_base.specs.declared.man.Kind.TheVariants.{King, Queen, Rook, Bishop, Knight, Pawn}
+use Rattle.chess_base.specs.declared.man.Move.{Move}
+use Rattle.chess_base.specs.declared.setup.Setup.{Setup}
+use Rattle.chess_base.specs.Letters.{white_letter}
+use Rattle.chess_base.specs.Men.{same_kind}
+use Rattle.chess_base.specs.Moves.{is_legal}
+use Rattle.chess_base.specs.Sound.{IsSound}
+use Rattle.chess_base.specs.Squares.{file, rank}
+use Rattle.chess_text.specs.declared.described.Described.{Described}
+use Rattle.chess_text.specs.declared.parts.Parts.{Parts}
+use Rattle.chess_text.specs.declared.reading.Reading.TheVariants as reads
+use Rattle.chess_text.specs.Laws.{SpellsAlone}
+use Rattle.chess_text.specs.Parts.{AreParts, CanPromote, is_mark, unmarked, parts_text}
+use Rattle.chess_text.specs.Moves.{coordinate, admits, names, has_equals, promotes_so, is_form, fits, is_by_squares, is_by_letter, is_straight, is_from_file, shape, spells, reading}
+use Rattle.chess_text.proofs.Alone.{read_alone, spelled_parts, shape_parts, spells_move, move_is, written, promotes-self, promotes-same}
+use Rattle.chess_text.proofs.Legal.{IsMove, legal_move, told_of}
+use Rattle.chess_text.proofs.Marks.{unmarked-solid}
+use Rattle.chess_text.proofs.Told.{same_square}
+
+abbrev squares_named : Move → Parts
+squares_named m = record { letter = None; file = Some (file m.from); rank = Some (rank m.from); takes = false; end = record { to = m.to; promotion = written false true m.promotion } }
+
+text_by : (a b c d : ℕ) (o : Option Kind) → Rattle.chess_text.specs.Parts.optional Rattle.chess_text.specs.Moves.small_letter_text o ≡ Rattle.chess_text.specs.Parts.optional Rattle.chess_text.specs.Parts.promotion_text (written false true o)
+text_by a b c d None = refl
+text_by a b c d (Some k) = refl
+
+text_is : (m : Move) → coordinate m ≡ parts_text (squares_named m)
+text_is m = ap (λ v. (97 + file m.from) ∷ (49 + rank m.from) ∷ (97 + file m.to) ∷ (49 + rank m.to) ∷ v) (text_by 0 0 0 0 m.promotion)
+
+digit_no_mark : (s : ℕ) → s < 64 → is_mark (49 + rank s) ≡ false
+digit_no_mark s h =
+    let a : (49 + rank s == 43) ≡ false = grind (arith, nat_tests) in
+    let b : (49 + rank s == 35) ≡ false = grind (arith, nat_tests) in
+    let c : (49 + rank s == 33) ≡ false = grind (arith, nat_tests) in
+    let d : (49 + rank s == 63) ≡ false = grind (arith, nat_tests) in
+    rw (a, b, c, d) refl
+
+letter_no_mark : (k : Kind) → is_mark (white_letter k + 32) ≡ false
+letter_no_mark King = refl
+letter_no_mark Queen = refl
+letter_no_mark Rook = refl
+letter_no_mark Bishop = refl
+letter_no_mark Knight = refl
+letter_no_mark Pawn = refl
+
+bare_by : (a b c d : ℕ) (o : Option Kind) → is_mark d ≡ false
+    → unmarked (a ∷ b ∷ c ∷ d ∷ Rattle.chess_text.specs.Parts.optional Rattle.chess_text.specs.Moves.small_letter_text o) ≡ a ∷ b ∷ c ∷ d ∷ Rattle.chess_text.specs.Parts.optional Rattle.chess_text.specs.Moves.small_letter_text o
+bare_by a b c d None e = unmarked-solid (a ∷ b ∷ c ∷ []) d e
+bare_by a b c d (Some k) e = unmarked-solid (a ∷ b ∷ c ∷ d ∷ []) (white_letter k + 32) (letter_no_mark k)
+
+bare : (m : Move) → m.to < 64 → unmarked (coordinate m) ≡ parts_text (squares_named m)
+bare m h = bare_by (97 + file m.from) (49 + rank m.from) (97 + file m.to) (49 + rank m.to) m.promotion (digit_no_mark m.to h) ∙ text_is m
+
+promotion_part : (o : Option Kind) → IfSome o CanPromote → IfSome (written false true o) (λ p. CanPromote p.kind)
+promotion_part None h = tt
+promotion_part (Some k) h = h
+
+are_parts : (p : Setup) (m : Move) → IsMove p m → AreParts (squares_named m)
+are_parts p m h = record {
+  letter_is = tt;
+  file_is = (let from = h.from_in in omega arith);
+  rank_is = (let from = h.from_in in omega arith);
+  to_is = h.to_in;
+  promotion_is = promotion_part m.promotion h.promotion_is;
+}
+
+no_equals : (o : Option Kind) → not (has_equals (written false true o)) ≡ true
+no_equals None = refl
+no_equals (Some k) = refl
+
+fits_itself : (p : Setup) (m : Move) (k : Kind) → fits (squares_named m) (told_of p m k) ≡ true
+unfolding fits is_by_squares
+fits_itself p m k =
+    let a = eq-eqb (file m.from) (file m.from) refl in
+    let b = eq-eqb (rank m.from) (rank m.from) refl in
+    let c = eq-eqb m.to m.to refl in
+    let e = no_equals m.promotion in
+    let f = promotes-self false true m.promotion in
+    rw (a, b, c, e, f) refl
+
+pub record Same (m n : Move) : Type 0 where
+  pub from : n.from ≡ m.from
+  pub to : n.to ≡ m.to
+  pub promotion : n.promotion ≡ m.promotion
+
+by_squares : (p : Setup) (m n : Move) (k : Kind) → is_by_squares (squares_named m) (told_of p n k) ≡ true → Same m n
+unfolding is_by_squares
+by_squares p m n k e =
+    let e5 = and_parts ((file m.from == file n.from) && (rank m.from == rank n.from) && true && (m.to == n.to) && not (has_equals (written false true m.promotion))) (promotes_so (written false true m.promotion) n.promotion) e in
+    let e4 = and_parts ((file m.from == file n.from) && (rank m.from == rank n.from) && true && (m.to == n.to)) (not (has_equals (written false true m.promotion))) e5.0 in
+    let e3 = and_parts ((file m.from == file n.from) && (rank m.from == rank n.from) && true) (m.to == n.to) e4.0 in
+    let e2 = and_parts ((file m.from == file n.from) && (rank m.from == rank n.from)) true e3.0 in
+    let e1 = and_parts (file m.from == file n.from) (rank m.from == rank n.from) e2.0 in
+    record {
+      from = same_square m.from n.from (eqb-true (file m.from) (file n.from) e1.0) (eqb-true (rank m.from) (rank n.from) e1.1);
+      to = sym (eqb-true m.to n.to e3.1);
+      promotion = promotes-same false true m.promotion n.promotion e5.1;
+    }
+
+from_file : (p : Setup) (m n : Move) (k : Kind) → is_from_file (squares_named m) (told_of p n k) ≡ true → Same m n
+unfolding is_from_file
+from_file p m n k e =
+    let e4 = and_parts ((file m.from == file n.from) && (rank m.from == rank n.from) && same_kind Pawn k && true && (m.to == n.to)) (promotes_so (written false true m.promotion) n.promotion) e in
+    let e3 = and_parts ((file m.from == file n.from) && (rank m.from == rank n.from) && same_kind Pawn k && true) (m.to == n.to) e4.0 in
+    let e2 = and_parts ((file m.from == file n.from) && (rank m.from == rank n.from) && same_kind Pawn k) true e3.0 in
+    let e1 = and_parts ((file m.from == file n.from) && (rank m.from == rank n.from)) (same_kind Pawn k) e2.0 in
+    let e0 = and_parts (file m.from == file n.from) (rank m.from == rank n.from) e1.0 in
+    record {
+      from = same_square m.from n.from (eqb-true (file m.from) (file n.from) e0.0) (eqb-true (rank m.from) (rank n.from) e0.1);
+      to = sym (eqb-true m.to n.to e3.1);
+      promotion = promotes-same false true m.promotion n.promotion e4.1;
+    }
+
+not_by_letter : (p : Setup) (m n : Move) (k : Kind) → is_by_letter (squares_named m) (told_of p n k) ≡ false
+unfolding is_by_letter
+not_by_letter p m n k = refl
+
+not_straight : (p : Setup) (m n : Move) (k : Kind) → is_straight (squares_named m) (told_of p n k) ≡ false
+unfolding is_straight
+not_straight p m n k = refl
+
+fits_alone : (p : Setup) (m n : Move) (k : Kind) → fits (squares_named m) (told_of p n k) ≡ true → Same m n
+unfolding fits
+fits_alone p m n k e =
+    let a = not_by_letter p m n k in
+    let b = not_straight p m n k in
+    elim (or_cases (is_by_squares (squares_named m) (told_of p n k) || is_by_letter (squares_named m) (told_of p n k) || is_straight (squares_named m) (told_of p n k)) (is_from_file (squares_named m) (told_of p n k)) e) [
+      | inr h ↦ from_file p m n k h
+      | inl h ↦ elim (or_cases (is_by_squares (squares_named m) (told_of p n k) || is_by_letter (squares_named m) (told_of p n k)) (is_straight (squares_named m) (told_of p n k)) h) [
+        | inr g ↦ absurd cc
+        | inl g ↦ elim (or_cases (is_by_squares (squares_named m) (told_of p n k)) (is_by_letter (squares_named m) (told_of p n k)) g) [ inl f ↦ by_squares p m n k f | inr f ↦ absurd cc ]
+      ]
+    ]
+
+pub coordinate_alone : (p : Setup) (m : Move) → IsSound p → IsTrue (is_legal p m) → SpellsAlone p (coordinate m) m
+coordinate_alone p m sound legal =
+    let h = legal_move p m legal in
+    let at = bare m h.to_in in
+    let are = are_parts p m h in (
+      spells_move p (coordinate m) m h ∙ spelled_parts (coordinate m) (squares_named m) (told_of p m h.man) at are ∙ fits_itself p m h.man,
+      λ n n_legal e.
+          let g = legal_move p n n_legal in
+          let same = fits_alone p m n g.man (sym (spells_move p (coordinate m) n g ∙ spelled_parts (coordinate m) (squares_named m) (told_of p n g.man) at are) ∙ e) in
+          move_is n m same.from same.to same.promotion,
+    )
+
+form_of_squares : (m : Move) → is_form (squares_named m) ≡ true
+unfolding is_form
+form_of_squares m = refl
+
+pub coordinate_shape : (p : Setup) (m : Move) → IsSound p → IsTrue (is_legal p m) → IsTrue (shape (coordinate m))
+coordinate_shape p m sound legal =
+    let h = legal_move p m legal in
+    shape_parts (coordinate m) (squares_named m) (bare m h.to_in) (are_parts p m h) (form_of_squares m)
+
+pub coordinate_read : (p : Setup) (m : Move) → IsSound p → IsTrue (is_legal p m) → reading p (coordinate m) ≡ reads.Move m
+coordinate_read p m sound legal = read_alone p (coordinate m) m legal (coordinate_shape p m sound legal) (coordinate_alone p m sound legal)

@@ -1,0 +1,149 @@
+-- What each legal move has.
+use Rattle.std.proofs.Common.{◌≡◌, ℕ, ◌<◌, ◌⊎◌, inl, inr, Bool, true, false, ◌&&◌, ◌||◌, not, cond, Option, Some, None, is_some, is_none, refl, sym, ap, ◌∙◌, ◌==◌, nat_lt}
+use Rattle.std.specs.Prelude.{IfSome}
+use Rattle.std.proofs.lemmas.Bool.{and_parts, both_ways, ltb-true, eqb-true}
+use Rattle.chess_base.specs.declared.man.CastlingSide.{CastlingSide}
+use Rattle.chess_base.specs.declared.man.CastlingSide.TheVariants.{KingSide, QueenSide}
+use Rattle.chess_base.specs.declared.man.Colour.{Colour}
+use Rattle.chess_base.specs.declared.man.Colour.TheVariants.{White, Black}
+use Rattle.chess_base.specs.declared.man.Kind.{Kind}
+use Rattle.chess_base.specs.declared.man.Kind.TheVariants.{King, Queen, Rook, Bishop, Knight, Pawn}
+use Rattle.chess_base.specs.declared.man.Man.{Man}
+use Rattle.chess_base.specs.declared.man.Move.{Move}
+use Rattle.chess_base.specs.declared.setup.Setup.{Setup}
+use Rattle.chess_base.specs.Attacks.{attacks, is_in_check}
+use Rattle.chess_base.specs.Men.{man_at, other, same_colour, same_kind, is_man, first_rank}
+use Rattle.chess_base.specs.Moves.{is_legal, has_pattern, after, moves_as, castles_or_moves, castling, says_castling, castled_king_file, castles, castles_with, castling_way_is_empty, castling_way_is_safe, lands_on, man_moves, pawn_moves, pawn_advances, pawn_captures, promotion_fits}
+use Rattle.chess_base.specs.Sound.{home_square, king_home_file, right_of}
+use Rattle.chess_base.specs.Squares.{rank}
+use Rattle.chess_text.specs.declared.described.Described.{Described}
+use Rattle.chess_text.specs.Parts.{CanPromote}
+use Rattle.chess_text.specs.Moves.{captures, described, described_as}
+
+-- what a text can tell of a move of that man
+abbrev pub told_of : Setup → Move → Kind → Described
+told_of p m k = record { man = k; from = m.from; to = m.to; promotion = m.promotion; captures = captures p m; castles = castling p m }
+
+-- by the kind of man: a pawn's move, or one without a promotion
+abbrev pub MovesAs : Setup → Move → Kind → Type 0
+MovesAs p m Pawn = (pawn_moves p m ≡ true) × (castling p m ≡ None)
+MovesAs p m k = m.promotion ≡ None
+
+pub record IsMove (p : Setup) (m : Move) : Type 0 where
+  pub from_in : m.from < 64
+  pub to_in : m.to < 64
+  pub man : Kind
+  pub at_from : man_at p.men m.from ≡ Some (record { colour = p.side; kind = man })
+  pub moves_as : MovesAs p m man
+  pub promotion_is : IfSome m.promotion CanPromote
+
+same_colour-true : (a b : Colour) → same_colour a b ≡ true → a ≡ b
+same_colour-true White White e = refl
+same_colour-true Black Black e = refl
+same_colour-true White Black e = absurd cc
+same_colour-true Black White e = absurd cc
+
+is_none-true : {A : Type 0} (o : Option A) → is_none o ≡ true → o ≡ None
+is_none-true None e = refl
+is_none-true (Some x) e = absurd cc
+
+fits_last : (last : Bool) (o : Option Kind) → promotion_fits last o ≡ true → IfSome o CanPromote
+fits_last last None e = tt
+fits_last last (Some King) e = absurd cc
+fits_last last (Some Queen) e = tt
+fits_last last (Some Rook) e = tt
+fits_last last (Some Bishop) e = tt
+fits_last last (Some Knight) e = tt
+fits_last last (Some Pawn) e = absurd cc
+
+none_promotes : (o : Option Kind) → o ≡ None → IfSome o CanPromote
+none_promotes o e = rw e tt
+
+-- ---- castling
+
+castling_by : (a b : Bool) (w : CastlingSide) → cond a (Some KingSide) (cond b (Some QueenSide) None) ≡ Some w → ((w ≡ KingSide) × (a ≡ true)) ⊎ ((w ≡ QueenSide) × (b ≡ true))
+castling_by true b w e = inl (cc, refl)
+castling_by false true w e = inr (cc, refl)
+castling_by false false w e = absurd cc
+
+says_from_castling : (p : Setup) (m : Move) (w : CastlingSide) → castling p m ≡ Some w → says_castling p m w ≡ true
+unfolding castling
+says_from_castling p m w e =
+    elim (castling_by (says_castling p m KingSide) (says_castling p m QueenSide) w e) [ inl k ↦ rw k.0 k.1 | inr q ↦ rw q.0 q.1 ]
+
+-- castling is the king's move between those squares
+pub castling_says : (p : Setup) (m : Move) (w : CastlingSide) → castling p m ≡ Some w
+    → (is_man p.side King (man_at p.men m.from) ≡ true) × (m.from ≡ home_square p.side king_home_file) × (m.to ≡ home_square p.side (castled_king_file w))
+unfolding says_castling
+castling_says p m w e =
+    let says = says_from_castling p m w e in
+    let three = and_parts (is_some (right_of p.rights p.side w) && is_man p.side King (man_at p.men m.from) && (m.from == home_square p.side king_home_file)) (m.to == home_square p.side (castled_king_file w)) says in
+    let two = and_parts (is_some (right_of p.rights p.side w) && is_man p.side King (man_at p.men m.from)) (m.from == home_square p.side king_home_file) three.0 in
+    let one = and_parts (is_some (right_of p.rights p.side w)) (is_man p.side King (man_at p.men m.from)) two.0 in
+    (one.1, eqb-true m.from (home_square p.side king_home_file) two.1, eqb-true m.to (home_square p.side (castled_king_file w)) three.1)
+
+pawn_castles_not : (p : Setup) (m : Move) → man_at p.men m.from ≡ Some (record { colour = p.side; kind = Pawn }) → (o : Option CastlingSide) → castling p m ≡ o → castling p m ≡ None
+unfolding is_man
+pawn_castles_not p m at None e = e
+pawn_castles_not p m at (Some w) e =
+    let king = (castling_says p m w e).0 in
+    let king' = rw at at king in
+    let no = (and_parts (same_colour p.side p.side) false king').1 in
+    cc
+
+-- ---- the kinds of move
+
+castles_no_promotion : (p : Setup) (m : Move) (w : CastlingSide) (o : Option ℕ) → castles_with p m w o ≡ true → m.promotion ≡ None
+castles_no_promotion p m w None e = absurd cc
+castles_no_promotion p m w (Some r) e =
+    let two = and_parts (is_none m.promotion && castling_way_is_empty p.men m.from (lands_on p m) r (home_square p.side (Rattle.chess_base.specs.Moves.castled_rook_file w))) (castling_way_is_safe p.men p.side m.from (lands_on p m)) e in
+    let one = and_parts (is_none m.promotion) (castling_way_is_empty p.men m.from (lands_on p m) r (home_square p.side (Rattle.chess_base.specs.Moves.castled_rook_file w))) two.0 in
+    is_none-true m.promotion one.0
+
+no_promotion : (p : Setup) (m : Move) (o : Option CastlingSide) → castles_or_moves p m o ≡ true → m.promotion ≡ None
+unfolding man_moves castles
+no_promotion p m None e =
+    let two = and_parts (is_none m.promotion && attacks p.men m.from m.to) (not (Rattle.chess_base.specs.Men.is_of p.side (man_at p.men m.to))) e in
+    is_none-true m.promotion (and_parts (is_none m.promotion) (attacks p.men m.from m.to) two.0).0
+no_promotion p m (Some w) e = castles_no_promotion p m w (right_of p.rights p.side w) e
+
+abbrev officer_moves : Setup → Move → Bool
+officer_moves p m = castles_or_moves p m (castling p m)
+
+kind_moves : (p : Setup) (m : Move) (k : Kind) → man_at p.men m.from ≡ Some (record { colour = p.side; kind = k }) → cond (same_kind Pawn k) (pawn_moves p m) (officer_moves p m) ≡ true → MovesAs p m k
+kind_moves p m Pawn at e = (e, pawn_castles_not p m at (castling p m) refl)
+kind_moves p m King at e = no_promotion p m (castling p m) e
+kind_moves p m Queen at e = no_promotion p m (castling p m) e
+kind_moves p m Rook at e = no_promotion p m (castling p m) e
+kind_moves p m Bishop at e = no_promotion p m (castling p m) e
+kind_moves p m Knight at e = no_promotion p m (castling p m) e
+
+kind_promotes : (p : Setup) (m : Move) (k : Kind) → MovesAs p m k → IfSome m.promotion CanPromote
+unfolding pawn_moves
+kind_promotes p m Pawn e = fits_last (rank m.to == first_rank (other p.side)) m.promotion (and_parts (promotion_fits (rank m.to == first_rank (other p.side)) m.promotion) (pawn_advances p m || pawn_captures p m) e.0).0
+kind_promotes p m King e = none_promotes m.promotion e
+kind_promotes p m Queen e = none_promotes m.promotion e
+kind_promotes p m Rook e = none_promotes m.promotion e
+kind_promotes p m Bishop e = none_promotes m.promotion e
+kind_promotes p m Knight e = none_promotes m.promotion e
+
+move_by : (p : Setup) (m : Move) (o : Option Man) → man_at p.men m.from ≡ o → m.from < 64 → m.to < 64 → moves_as p m o ≡ true → IsMove p m
+move_by p m None at f t e = absurd cc
+move_by p m (Some x) at f t e =
+    let both = and_parts (same_colour p.side x.colour) (cond (same_kind Pawn x.kind) (pawn_moves p m) (officer_moves p m)) e in
+    let own : x.colour ≡ p.side = sym (same_colour-true p.side x.colour both.0) in
+    let at' : man_at p.men m.from ≡ Some (record { colour = p.side; kind = x.kind }) = at ∙ ap (λ (c : Colour). let man : Man = record { colour = c; kind = x.kind } in Some man) own in
+    let goes = kind_moves p m x.kind at' both.1 in
+    record { from_in = f; to_in = t; man = x.kind; at_from = at'; moves_as = goes; promotion_is = kind_promotes p m x.kind goes }
+
+pub legal_move : (p : Setup) (m : Move) → is_legal p m ≡ true → IsMove p m
+unfolding is_legal has_pattern
+legal_move p m e =
+    let legal = and_parts (nat_lt m.from 64 && nat_lt m.to 64 && moves_as p m (man_at p.men m.from)) (not (is_in_check (after p m).men p.side)) e in
+    let three = and_parts (nat_lt m.from 64 && nat_lt m.to 64) (moves_as p m (man_at p.men m.from)) legal.0 in
+    let two = and_parts (nat_lt m.from 64) (nat_lt m.to 64) three.0 in
+    move_by p m (man_at p.men m.from) refl (ltb-true m.from 64 two.0) (ltb-true m.to 64 two.1) three.1
+
+pub described_is : (p : Setup) (m : Move) (h : IsMove p m) → described p m ≡ Some (told_of p m h.man)
+unfolding described
+described_is p m h = ap (described_as p m) h.at_from

@@ -1,0 +1,15 @@
+pub mod Spelled
+pub mod Grammar
+pub mod Castlings
+pub mod FormFacts
+pub mod Legal
+pub mod SanWritten
+pub mod AllMoves
+pub mod Marks
+pub mod Told
+pub mod Pawns
+pub mod Alone
+pub mod CoordinateLaw
+pub mod Solid
+pub mod Words
+pub mod SanLaw

@@ -1,0 +1,453 @@
+-- The SAN of a legal move spells it alone.
+use Rattle.std.proofs.Common.{◌≡◌, ℕ, ◌<◌, ◌≤◌, inl, inr, Bool, true, false, not, ◌&&◌, ◌||◌, cond, List, [], ◌∷◌, ◌++◌, length, map, Option, Some, None, is_none, refl, sym, ap, subst, ◌∙◌, arith, ◌==◌}
+use Rattle.std.specs.Prelude.{IfSome, IsTrue}
+use Rattle.std.specs.Option.{option_map}
+use Rattle.std.proofs.lemmas.Bool.{cases_Bool, and_parts, and_from, or_cases, or_left, or_right, eqb-true, eq-eqb, both_ways, not_from_true}
+use Rattle.std.specs.List.{list_any, list_all, filter}
+use Rattle.chess_base.specs.declared.man.CastlingSide.{CastlingSide}
+use Rattle.chess_base.specs.declared.man.CastlingSide.TheVariants.{KingSide, QueenSide}
+use Rattle.chess_base.specs.declared.man.Kind.{Kind}
+use Rattle.chess_base.specs.declared.man.Kind.TheVariants.{King, Queen, Rook, Bishop, Knight, Pawn}
+use Rattle.chess_base.specs.declared.man.Man.{Man}
+use Rattle.chess_base.specs.declared.man.Move.{Move}
+use Rattle.chess_base.specs.declared.setup.Setup.{Setup}
+use Rattle.chess_base.specs.Men.{man_at, same_kind}
+use Rattle.chess_base.specs.Moves.{is_legal, after, castling, castled_king_file, pawn_moves}
+use Rattle.chess_base.specs.MoveList.{moves}
+use Rattle.chess_base.specs.Sound.{IsSound}
+use Rattle.chess_base.specs.Squares.{file, rank}
+use Rattle.chess_text.specs.declared.described.Described.{Described}
+use Rattle.chess_text.specs.declared.parts.Parts.{Parts}
+use Rattle.chess_text.specs.declared.parts.Promotion.{Promotion}
+use Rattle.chess_text.specs.declared.reading.Reading.TheVariants as reads
+use Rattle.chess_text.specs.declared.writing.ToldStart.{ToldStart}
+use Rattle.chess_text.specs.Laws.{SpellsAlone, is_san_byte, begins_with_letter}
+use Rattle.chess_text.specs.Parts.{AreParts, IsOfficer, CanPromote, unmarked, parts_text}
+use Rattle.chess_text.specs.Moves.{captures, described, passes, admits, has_equals, promotes_so, is_form, fits, is_by_squares, is_by_letter, is_straight, is_from_file, shape, spells_described, spells, reading}
+use Rattle.chess_text.specs.Forms.{same_side}
+use Rattle.chess_text.specs.San.{castling_text, some_on_file, some_on_rank, told_start, if_said, pawn_parts, officer_parts, walk_parts, is_rival, rival_starts, text_by_castling, move_text, check_mark, san_as, san}
+use Rattle.chess_text.proofs.Alone.{read_alone, spelled_parts, shape_parts, spelled_castling, shape_castling, spells_move, same_kind-self, same_kind-true, move_is, written, promotes-self, promotes-same}
+use Rattle.chess_text.proofs.AllMoves.{any-filter, any-move}
+use Rattle.chess_text.proofs.Castlings.{IsCastling, letters_kingside, letters_queenside}
+use Rattle.chess_text.proofs.Legal.{MovesAs, IsMove, legal_move, told_of, described_is, castling_says}
+use Rattle.chess_text.proofs.Pawns.{pawn_of, pawn_stands, Advance, advances_on_file, same_advance, advances_without, advances_straight, captures_ahead, same_ahead}
+use Rattle.chess_text.proofs.Solid.{bare_parts, bare_castling, bare_marked}
+use Rattle.chess_text.proofs.Words.{IsWord, Word, file_letter, man_letter, parts_bytes, castling_word, castling_bytes, marked_word}
+use Rattle.chess_text.proofs.Told.{told_admits, told_apart}
+
+-- ---- castling
+
+castling_is : (w : CastlingSide) → IsCastling (castling_text w) w
+castling_is KingSide = letters_kingside
+castling_is QueenSide = letters_queenside
+
+same_side-self : (w : CastlingSide) → same_side w w ≡ true
+same_side-self KingSide = refl
+same_side-self QueenSide = refl
+
+same_side-true : (v w : CastlingSide) → same_side v w ≡ true → w ≡ v
+same_side-true KingSide KingSide e = refl
+same_side-true QueenSide QueenSide e = refl
+same_side-true KingSide QueenSide e = absurd cc
+same_side-true QueenSide KingSide e = absurd cc
+
+castles_plain : (p : Setup) (m : Move) (w : CastlingSide) (k : Kind) → MovesAs p m k → castling p m ≡ Some w → m.promotion ≡ None
+castles_plain p m w Pawn h e = let none = h.1 in absurd cc
+castles_plain p m w King h e = h
+castles_plain p m w Queen h e = h
+castles_plain p m w Rook h e = h
+castles_plain p m w Bishop h e = h
+castles_plain p m w Knight h e = h
+
+castles_so : (w : CastlingSide) (o : Option CastlingSide) → passes (same_side w) o ≡ true → o ≡ Some w
+castles_so w None e = absurd cc
+castles_so w (Some v) e = ap Some (same_side-true w v e)
+
+-- two castlings to one side are one move
+same_castling : (p : Setup) (m n : Move) (w : CastlingSide) → IsMove p m → IsMove p n → castling p m ≡ Some w → castling p n ≡ Some w → n ≡ m
+same_castling p m n w h g e f =
+    let a = castling_says p m w e in
+    let b = castling_says p n w f in
+    move_is n m (b.1 ∙ sym a.1) (b.2 ∙ sym a.2) (castles_plain p n w g.man g.moves_as f ∙ sym (castles_plain p m w h.man h.moves_as e))
+
+-- ---- pawns
+
+abbrev pawn_named : Bool → ℕ → ℕ → Option Promotion → Parts
+pawn_named c from to promotion = record { letter = None; file = if_said c (file from); rank = None; takes = c; end = record { to = to; promotion = promotion } }
+
+as_written : (o : Option Kind) → option_map (λ k. record { kind = k; equals = true; small = false }) o ≡ written true false o
+as_written None = refl
+as_written (Some k) = refl
+
+pawn_is : (p : Setup) (m : Move) (k : Kind) → pawn_parts (told_of p m k) ≡ pawn_named (captures p m) m.from m.to (written true false m.promotion)
+pawn_is p m k = ap (pawn_named (captures p m) m.from m.to) (as_written m.promotion)
+
+said_file : (c : Bool) (s : ℕ) → IfSome (if_said c (file s)) (λ f. f < 8)
+said_file true s = omega arith
+said_file false s = tt
+
+said_rank : (c : Bool) (s : ℕ) → s < 64 → IfSome (if_said c (rank s)) (λ r. r < 8)
+said_rank true s h = omega arith
+said_rank false s h = tt
+
+promotion_part : (o : Option Kind) → IfSome o CanPromote → IfSome (written true false o) (λ p. CanPromote p.kind)
+promotion_part None h = tt
+promotion_part (Some k) h = h
+
+pawn_are_parts : (c : Bool) (from to : ℕ) (o : Option Kind) → to < 64 → IfSome o CanPromote → AreParts (pawn_named c from to (written true false o))
+pawn_are_parts c from to o h k = record { letter_is = tt; file_is = said_file c from; rank_is = tt; to_is = h; promotion_is = promotion_part o k }
+
+pawn_form : (c : Bool) (from to : ℕ) (o : Option Promotion) → is_form (pawn_named c from to o) ≡ true
+unfolding is_form
+pawn_form true from to o = refl
+pawn_form false from to o = refl
+
+pawn_fits : (p : Setup) (m : Move) (c : Bool) → captures p m ≡ c → (c ≡ false → file m.from ≡ file m.to) → fits (pawn_named c m.from m.to (written true false m.promotion)) (told_of p m Pawn) ≡ true
+unfolding fits is_by_squares is_by_letter is_straight is_from_file
+pawn_fits p m true e on =
+    let a = eq-eqb (file m.from) (file m.from) refl in
+    let b = eq-eqb m.to m.to refl in
+    let f = promotes-self true false m.promotion in
+    rw (e, a, b, f) refl
+pawn_fits p m false e on =
+    let a = eq-eqb (file m.from) (file m.to) (on refl) in
+    let b = eq-eqb m.to m.to refl in
+    let f = promotes-self true false m.promotion in
+    rw (a, b, f) refl
+
+-- what a move of some man has that the parts of a straight move fit
+record GoesStraight (p : Setup) (m n : Move) (l : Kind) : Type 0 where
+  man : l ≡ Pawn
+  on : file n.from ≡ file n.to
+  to : n.to ≡ m.to
+  promotion : n.promotion ≡ m.promotion
+
+straight_fits : (p : Setup) (m n : Move) (l : Kind) → fits (pawn_named false m.from m.to (written true false m.promotion)) (told_of p n l) ≡ true → GoesStraight p m n l
+unfolding fits is_by_squares is_by_letter is_straight is_from_file
+straight_fits p m n l e =
+    let straight : (same_kind Pawn l && (file n.from == file n.to) && (m.to == n.to) && promotes_so (written true false m.promotion) n.promotion) ≡ true =
+    elim (or_cases (same_kind Pawn l && (file n.from == file n.to) && (m.to == n.to) && promotes_so (written true false m.promotion) n.promotion) false e) [ inl h ↦ h | inr h ↦ absurd cc ] in
+    let e3 = and_parts (same_kind Pawn l && (file n.from == file n.to) && (m.to == n.to)) (promotes_so (written true false m.promotion) n.promotion) straight in
+    let e2 = and_parts (same_kind Pawn l && (file n.from == file n.to)) (m.to == n.to) e3.0 in
+    let e1 = and_parts (same_kind Pawn l) (file n.from == file n.to) e2.0 in
+    record { man = sym (same_kind-true Pawn l e1.0); on = eqb-true (file n.from) (file n.to) e1.1; to = sym (eqb-true m.to n.to e2.1); promotion = promotes-same true false m.promotion n.promotion e3.1 }
+
+record Takes (p : Setup) (m n : Move) (l : Kind) : Type 0 where
+  man : l ≡ Pawn
+  on : file m.from ≡ file n.from
+  takes : captures p n ≡ true
+  to : n.to ≡ m.to
+  promotion : n.promotion ≡ m.promotion
+
+takes_fits : (p : Setup) (m n : Move) (l : Kind) → fits (pawn_named true m.from m.to (written true false m.promotion)) (told_of p n l) ≡ true → Takes p m n l
+unfolding fits is_by_squares is_by_letter is_straight is_from_file
+takes_fits p m n l e =
+    let e4 = and_parts ((file m.from == file n.from) && true && same_kind Pawn l && captures p n && (m.to == n.to)) (promotes_so (written true false m.promotion) n.promotion) (by_squares e) in
+    let e3 = and_parts ((file m.from == file n.from) && true && same_kind Pawn l && captures p n) (m.to == n.to) e4.0 in
+    let e2 = and_parts ((file m.from == file n.from) && true && same_kind Pawn l) (captures p n) e3.0 in
+    let e1 = and_parts ((file m.from == file n.from) && true) (same_kind Pawn l) e2.0 in
+    let e0 = and_parts (file m.from == file n.from) true e1.0 in
+    record {
+      man = sym (same_kind-true Pawn l e1.1);
+      on = eqb-true (file m.from) (file n.from) e0.0;
+      takes = e2.1;
+      to = sym (eqb-true m.to n.to e3.1);
+      promotion = promotes-same true false m.promotion n.promotion e4.1;
+    }
+  where
+    no_rank : (a b c d e : Bool) → (a && false && b && c && d && e) ≡ false
+    no_rank true b c d e = refl
+    no_rank false b c d e = refl
+
+    by_squares : fits (pawn_named true m.from m.to (written true false m.promotion)) (told_of p n l) ≡ true
+        → ((file m.from == file n.from) && true && same_kind Pawn l && captures p n && (m.to == n.to) && promotes_so (written true false m.promotion) n.promotion) ≡ true
+    by_squares e =
+        let none = no_rank (file m.from == file n.from) false (m.to == n.to) (not (has_equals (written true false m.promotion))) (promotes_so (written true false m.promotion) n.promotion) in
+        elim (or_cases (((file m.from == file n.from) && false && false && (m.to == n.to) && not (has_equals (written true false m.promotion)) && promotes_so (written true false m.promotion) n.promotion) || false || false) ((file m.from == file n.from) && true && same_kind Pawn l && captures p n && (m.to == n.to) && promotes_so (written true false m.promotion) n.promotion) e) [
+          | inr h ↦ h
+          | inl h ↦ elim (or_cases (((file m.from == file n.from) && false && false && (m.to == n.to) && not (has_equals (written true false m.promotion)) && promotes_so (written true false m.promotion) n.promotion) || false) false h) [
+            | inr g ↦ absurd cc
+            | inl g ↦ elim (or_cases ((file m.from == file n.from) && false && false && (m.to == n.to) && not (has_equals (written true false m.promotion)) && promotes_so (written true false m.promotion) n.promotion) false g) [ inr k ↦ absurd cc | inl k ↦ absurd (both_ways ((file m.from == file n.from) && false && false && (m.to == n.to) && not (has_equals (written true false m.promotion)) && promotes_so (written true false m.promotion) n.promotion) none k) ]
+          ]
+        ]
+
+as_pawn : (p : Setup) (n : Move) (g : IsMove p n) → g.man ≡ Pawn → (man_at p.men n.from ≡ Some (pawn_of p.side)) × (pawn_moves p n ≡ true)
+as_pawn p n g is =
+    let moves_so : MovesAs p n Pawn = subst (MovesAs p n) is g.moves_as in
+    (g.at_from ∙ ap (λ (k : Kind). let man : Man = record { colour = p.side; kind = k } in Some man) is, moves_so.0)
+
+pub pawn_alone : (p : Setup) (m n : Move) (c : Bool) → IsSound p → (h : IsMove p m) → h.man ≡ Pawn → (g : IsMove p n) → captures p m ≡ c
+    → fits (pawn_named c m.from m.to (written true false m.promotion)) (told_of p n g.man) ≡ true → n ≡ m
+pawn_alone p m n true sound h is g e fit =
+    let f = takes_fits p m n g.man fit in
+    let a = as_pawn p m h is in
+    let b = as_pawn p n g f.man in
+    let ahead = captures_ahead p m a.0 a.1 e in
+    let ahead' = captures_ahead p n b.0 b.1 f.takes in
+    let ahead'' : Rattle.chess_base.specs.Attacks.is_rank_ahead p.side n.from m.to ≡ true = ap (Rattle.chess_base.specs.Attacks.is_rank_ahead p.side n.from) (sym f.to) ∙ ahead' in
+    move_is n m (same_ahead p.side m.from n.from m.to ahead ahead'' f.on) f.to f.promotion
+pawn_alone p m n false sound h is g e fit =
+    let f = straight_fits p m n g.man fit in
+    let a = as_pawn p m h is in
+    let b = as_pawn p n g f.man in
+    let low = pawn_stands p sound p.side m.from h.from_in a.0 in
+    let low' = pawn_stands p sound p.side n.from g.from_in b.0 in
+    let goes = advances_without p m a.0 a.1 e in
+    let goes' = advances_straight p n b.0 b.1 f.on in
+    move_is n m (same_advance p m n a.0 b.0 low low' f.to goes goes') f.to f.promotion
+
+pawn_on_file : (p : Setup) (m : Move) → IsSound p → (h : IsMove p m) → h.man ≡ Pawn → captures p m ≡ false → file m.from ≡ file m.to
+pawn_on_file p m sound h is e =
+    let a = as_pawn p m h is in
+    advances_on_file p m (pawn_stands p sound p.side m.from h.from_in a.0) (advances_without p m a.0 a.1 e)
+
+-- ---- other men
+
+abbrev rivals : Setup → Move → Kind → List ℕ
+rivals p m k = rival_starts p (moves p) (told_of p m k)
+
+abbrev officer_named : Kind → ToldStart → Bool → ℕ → ℕ → Parts
+officer_named k start c from to =
+    record { letter = Some k; file = if_said start.file (file from); rank = if_said start.rank (rank from); takes = c; end = record { to = to; promotion = None } }
+
+officer_is : (p : Setup) (m : Move) (k : Kind) (others : List ℕ) → m.promotion ≡ None → officer_parts others (told_of p m k) ≡ officer_named k (told_start m.from others) (captures p m) m.from m.to
+officer_is p m k others none =
+    ap (λ (o : Option Kind). let start = told_start m.from others in
+    let q : Parts = record { letter = Some k; file = if_said start.file (file m.from); rank = if_said start.rank (rank m.from); takes = captures p m; end = record { to = m.to; promotion = option_map (λ k. record { kind = k; equals = true; small = false }) o } } in
+    q) none
+
+officer_are_parts : (k : Kind) (start : ToldStart) (c : Bool) (from to : ℕ) → IsOfficer k → from < 64 → to < 64 → AreParts (officer_named k start c from to)
+officer_are_parts k start c from to officer f t = record { letter_is = officer; file_is = said_file start.file from; rank_is = said_rank start.rank from f; to_is = t; promotion_is = tt }
+
+officer_form : (k : Kind) (start : ToldStart) (c : Bool) (from to : ℕ) → is_form (officer_named k start c from to) ≡ true
+unfolding is_form
+officer_form k start c from to = refl
+
+not_or-self : (c : Bool) → (not c || c) ≡ true
+not_or-self true = refl
+not_or-self false = refl
+
+officer_fits : (p : Setup) (m : Move) (k : Kind) (start : ToldStart) → castling p m ≡ None → fits (officer_named k start (captures p m) m.from m.to) (told_of p m k) ≡ true
+unfolding fits is_by_squares is_by_letter is_straight is_from_file
+officer_fits p m k start none =
+    let a = same_kind-self k in
+    let b = told_admits start.file (file m.from) in
+    let c = told_admits start.rank (rank m.from) in
+    let d = not_or-self (captures p m) in
+    let e = eq-eqb m.to m.to refl in
+    rw (none, a, b, c, d, e) refl
+
+record Goes (p : Setup) (m n : Move) (k l : Kind) (start : ToldStart) : Type 0 where
+  man : l ≡ k
+  walks : castling p n ≡ None
+  file_fits : admits (if_said start.file (file m.from)) (file n.from) ≡ true
+  rank_fits : admits (if_said start.rank (rank m.from)) (rank n.from) ≡ true
+  to : n.to ≡ m.to
+
+is_none-true : {A : Type 0} (o : Option A) → is_none o ≡ true → o ≡ None
+is_none-true None e = refl
+is_none-true (Some x) e = absurd cc
+
+officer_goes : (p : Setup) (m n : Move) (k l : Kind) (start : ToldStart) (c : Bool) → fits (officer_named k start c m.from m.to) (told_of p n l) ≡ true → Goes p m n k l start
+unfolding fits is_by_squares is_by_letter is_straight is_from_file
+officer_goes p m n k l start c e =
+    let by_letter : (same_kind k l && is_none (castling p n) && admits (if_said start.file (file m.from)) (file n.from) && admits (if_said start.rank (rank m.from)) (rank n.from) && (not c || captures p n) && (m.to == n.to) && true) ≡ true =
+    elim (or_cases ((same_kind k l && is_none (castling p n) && admits (if_said start.file (file m.from)) (file n.from) && admits (if_said start.rank (rank m.from)) (rank n.from) && (not c || captures p n) && (m.to == n.to) && true) || false) false e) [
+      | inr h ↦ absurd cc
+      | inl h ↦ elim (or_cases (same_kind k l && is_none (castling p n) && admits (if_said start.file (file m.from)) (file n.from) && admits (if_said start.rank (rank m.from)) (rank n.from) && (not c || captures p n) && (m.to == n.to) && true) false h) [
+        | inr g ↦ absurd cc
+        | inl g ↦ g
+      ]
+    ] in
+    let e5 = and_parts (same_kind k l && is_none (castling p n) && admits (if_said start.file (file m.from)) (file n.from) && admits (if_said start.rank (rank m.from)) (rank n.from) && (not c || captures p n) && (m.to == n.to)) true by_letter in
+    let e4 = and_parts (same_kind k l && is_none (castling p n) && admits (if_said start.file (file m.from)) (file n.from) && admits (if_said start.rank (rank m.from)) (rank n.from) && (not c || captures p n)) (m.to == n.to) e5.0 in
+    let e3 = and_parts (same_kind k l && is_none (castling p n) && admits (if_said start.file (file m.from)) (file n.from) && admits (if_said start.rank (rank m.from)) (rank n.from)) (not c || captures p n) e4.0 in
+    let e2 = and_parts (same_kind k l && is_none (castling p n) && admits (if_said start.file (file m.from)) (file n.from)) (admits (if_said start.rank (rank m.from)) (rank n.from)) e3.0 in
+    let e1 = and_parts (same_kind k l && is_none (castling p n)) (admits (if_said start.file (file m.from)) (file n.from)) e2.0 in
+    let e0 = and_parts (same_kind k l) (is_none (castling p n)) e1.0 in
+    record { man = sym (same_kind-true k l e0.0); walks = is_none-true (castling p n) e0.1; file_fits = e1.1; rank_fits = e2.1; to = sym (eqb-true m.to n.to e4.1) }
+
+any-map : {A B : Type 0} (t : B → Bool) (g : A → B) (xs : List A) → list_any t (map g xs) ≡ list_any (λ x. t (g x)) xs
+any-map t g [] = refl
+any-map t g (x ∷ xs) = ap (λ b. t (g x) || b) (any-map t g xs)
+
+-- a rival's start stands among the rivals'
+rival_stands : (p : Setup) (m n : Move) (k : Kind) (t : ℕ → Bool) → is_legal p n ≡ true → is_rival p (told_of p m k) n ≡ true → t n.from ≡ true → list_any t (rivals p m k) ≡ true
+unfolding rival_starts
+rival_stands p m n k t legal rival e =
+    any-map t (λ (x : Move). x.from) (filter (λ x. is_rival p (told_of p m k) x) (moves p))
+    ∙ any-filter (λ x. is_rival p (told_of p m k) x) (λ (x : Move). t x.from) (moves p)
+    ∙ any-move p (λ x. is_rival p (told_of p m k) x && t x.from) n legal (and_from (is_rival p (told_of p m k) n) (t n.from) rival e)
+
+rival_is : (p : Setup) (m n : Move) (k : Kind) (g : IsMove p n) → g.man ≡ k → n.to ≡ m.to → (n.from == m.from) ≡ false → is_rival p (told_of p m k) n ≡ true
+unfolding is_rival
+rival_is p m n k g man to apart =
+    let a = eq-eqb n.to m.to to in
+    let b = described_is p n g in
+    let c : same_kind g.man k ≡ true = ap (λ v. same_kind v k) man ∙ same_kind-self k in
+    rw (a, apart, b, c) refl
+
+no_promotion : (p : Setup) (n : Move) (k : Kind) → IsOfficer k → MovesAs p n k → n.promotion ≡ None
+no_promotion p n Pawn officer h = absurd officer
+no_promotion p n King officer h = h
+no_promotion p n Queen officer h = h
+no_promotion p n Rook officer h = h
+no_promotion p n Bishop officer h = h
+no_promotion p n Knight officer h = h
+
+officer_alone : (p : Setup) (m n : Move) (k : Kind) → IsOfficer k → m.promotion ≡ None → is_legal p n ≡ true → (g : IsMove p n)
+    → fits (officer_named k (told_start m.from (rivals p m k)) (captures p m) m.from m.to) (told_of p n g.man) ≡ true → n ≡ m
+officer_alone p m n k officer none legal g fit = by_start (n.from == m.from) refl
+  where
+    goes : Goes p m n k g.man (told_start m.from (rivals p m k))
+    goes = officer_goes p m n k g.man (told_start m.from (rivals p m k)) (captures p m) fit
+
+    by_start : (t : Bool) → (n.from == m.from) ≡ t → n ≡ m
+    by_start true e =
+        let so : MovesAs p n k = subst (MovesAs p n) goes.man g.moves_as in
+        move_is n m (eqb-true n.from m.from e) goes.to (no_promotion p n k officer so ∙ sym none)
+    by_start false e =
+        let rival = rival_is p m n k g goes.man goes.to e in
+        absurd (told_apart m.from n.from (rivals p m k)
+        (rival_stands p m n k (λ s. file s == file n.from) legal rival (eq-eqb (file n.from) (file n.from) refl))
+        (rival_stands p m n k (λ s. rank s == rank n.from) legal rival (eq-eqb (rank n.from) (rank n.from) refl))
+        (λ same. both_ways (n.from == m.from) e (eq-eqb n.from m.from same)) goes.file_fits goes.rank_fits)
+
+-- ---- the text
+
+pawn_word : (c : Bool) (from to : ℕ) (o : Option Kind) → IsWord (parts_text (pawn_named c from to (written true false o)))
+pawn_word true from to None = record { short = omega arith; long = omega arith; letter = file_letter from }
+pawn_word true from to (Some k) = record { short = omega arith; long = omega arith; letter = file_letter from }
+pawn_word false from to None = record { short = omega arith; long = omega arith; letter = file_letter to }
+pawn_word false from to (Some k) = record { short = omega arith; long = omega arith; letter = file_letter to }
+
+officer_word : (k : Kind) (start : ToldStart) (c : Bool) (from to : ℕ) → IsWord (parts_text (officer_named k start c from to))
+officer_word k start c from to = by_said start.file start.rank c
+  where
+    by_said : (f r c : Bool) → IsWord (parts_text (officer_named k (record { file = f; rank = r }) c from to))
+    by_said true true true = record { short = omega arith; long = omega arith; letter = man_letter k }
+    by_said true true false = record { short = omega arith; long = omega arith; letter = man_letter k }
+    by_said true false true = record { short = omega arith; long = omega arith; letter = man_letter k }
+    by_said true false false = record { short = omega arith; long = omega arith; letter = man_letter k }
+    by_said false true true = record { short = omega arith; long = omega arith; letter = man_letter k }
+    by_said false true false = record { short = omega arith; long = omega arith; letter = man_letter k }
+    by_said false false true = record { short = omega arith; long = omega arith; letter = man_letter k }
+    by_said false false false = record { short = omega arith; long = omega arith; letter = man_letter k }
+
+-- the text without its mark has these parts, which fit the move alone
+record HasParts (p : Setup) (m : Move) (k : Kind) (q : Parts) : Type 0 where
+  are : AreParts q
+  form : is_form q ≡ true
+  word : IsWord (parts_text q)
+  fits_it : fits q (told_of p m k) ≡ true
+  alone : (n : Move) → is_legal p n ≡ true → (g : IsMove p n) → fits q (told_of p n g.man) ≡ true → n ≡ m
+
+pawn_parts_of : (p : Setup) (m : Move) → IsSound p → (h : IsMove p m) → h.man ≡ Pawn → HasParts p m Pawn (pawn_named (captures p m) m.from m.to (written true false m.promotion))
+pawn_parts_of p m sound h is = record {
+  are = pawn_are_parts (captures p m) m.from m.to m.promotion h.to_in h.promotion_is;
+  form = pawn_form (captures p m) m.from m.to (written true false m.promotion);
+  word = pawn_word (captures p m) m.from m.to m.promotion;
+  fits_it = pawn_fits p m (captures p m) refl (pawn_on_file p m sound h is);
+  alone = λ n legal g fit. pawn_alone p m n (captures p m) sound h is g refl fit;
+}
+
+officer_parts_of : (p : Setup) (m : Move) (k : Kind) → IsOfficer k → castling p m ≡ None → m.promotion ≡ None → m.from < 64 → m.to < 64
+    → HasParts p m k (officer_named k (told_start m.from (rivals p m k)) (captures p m) m.from m.to)
+officer_parts_of p m k officer walks none f t = record {
+  are = officer_are_parts k (told_start m.from (rivals p m k)) (captures p m) m.from m.to officer f t;
+  form = officer_form k (told_start m.from (rivals p m k)) (captures p m) m.from m.to;
+  word = officer_word k (told_start m.from (rivals p m k)) (captures p m) m.from m.to;
+  fits_it = officer_fits p m k (told_start m.from (rivals p m k)) walks;
+  alone = λ n legal g fit. officer_alone p m n k officer none legal g fit;
+}
+
+along : (p : Setup) (m : Move) (k : Kind) (q r : Parts) → r ≡ q → HasParts p m k q → HasParts p m k r
+along p m k q r e h = rw e h
+
+officer_by : (p : Setup) (m : Move) (h : IsMove p m) → castling p m ≡ None → (k : Kind) → IsOfficer k → h.man ≡ k → HasParts p m k (officer_parts (rivals p m k) (told_of p m k))
+officer_by p m h walks k officer is =
+    let so : MovesAs p m k = subst (MovesAs p m) is h.moves_as in
+    let none = no_promotion p m k officer so in
+    along p m k _ _ (officer_is p m k (rivals p m k) none) (officer_parts_of p m k officer walks none h.from_in h.to_in)
+
+walk_by : (p : Setup) (m : Move) → IsSound p → (h : IsMove p m) → castling p m ≡ None → (k : Kind) → h.man ≡ k → HasParts p m k (walk_parts (rivals p m k) (told_of p m k))
+unfolding walk_parts
+walk_by p m sound h walks Pawn is = along p m Pawn _ _ (pawn_is p m Pawn) (pawn_parts_of p m sound h is)
+walk_by p m sound h walks King is = officer_by p m h walks King tt is
+walk_by p m sound h walks Queen is = officer_by p m h walks Queen tt is
+walk_by p m sound h walks Rook is = officer_by p m h walks Rook tt is
+walk_by p m sound h walks Bishop is = officer_by p m h walks Bishop tt is
+walk_by p m sound h walks Knight is = officer_by p m h walks Knight tt is
+
+walk_has_parts : (p : Setup) (m : Move) → IsSound p → (h : IsMove p m) → castling p m ≡ None → HasParts p m h.man (walk_parts (rivals p m h.man) (told_of p m h.man))
+walk_has_parts p m sound h walks = walk_by p m sound h walks h.man refl
+
+san_text : (p : Setup) (m : Move) (h : IsMove p m) → san p m ≡ text_by_castling (castling p m) (rivals p m h.man) (told_of p m h.man) ++ check_mark (after p m)
+unfolding san
+san_text p m h = ap (san_as p m) (described_is p m h)
+
+-- what the laws say of a text
+record Law (p : Setup) (m : Move) (text : List ℕ) : Type 0 where
+  has_shape : shape text ≡ true
+  alone : SpellsAlone p text m
+
+castling_law : (p : Setup) (m : Move) (text : List ℕ) (w : CastlingSide) → IsMove p m → castling p m ≡ Some w → unmarked text ≡ castling_text w → Law p m text
+castling_law p m text w h e bare =
+    let is : IsCastling (unmarked text) w = rw bare (castling_is w) in
+    record {
+      has_shape = shape_castling text w is;
+      alone = (
+        spells_move p text m h ∙ spelled_castling text w (told_of p m h.man) is ∙ ap (passes (same_side w)) e ∙ same_side-self w,
+        λ n legal s.
+            let g = legal_move p n legal in
+            let to = castles_so w (castling p n) (sym (spells_move p text n g ∙ spelled_castling text w (told_of p n g.man) is) ∙ s) in
+            same_castling p m n w h g e to,
+      );
+    }
+
+walk_law : (p : Setup) (m : Move) (text : List ℕ) (q : Parts) (h : IsMove p m) → HasParts p m h.man q → unmarked text ≡ parts_text q → Law p m text
+walk_law p m text q h parts bare = record {
+  has_shape = shape_parts text q bare parts.are parts.form;
+  alone = (
+    spells_move p text m h ∙ spelled_parts text q (told_of p m h.man) bare parts.are ∙ parts.fits_it,
+    λ n legal s.
+        let g = legal_move p n legal in
+        parts.alone n legal g (sym (spells_move p text n g ∙ spelled_parts text q (told_of p n g.man) bare parts.are) ∙ s),
+  );
+}
+
+law_by : (p : Setup) (m : Move) (text : List ℕ) → IsSound p → (h : IsMove p m) → (o : Option CastlingSide) → castling p m ≡ o
+    → text ≡ text_by_castling o (rivals p m h.man) (told_of p m h.man) ++ check_mark (after p m) → Law p m text × Word text
+law_by p m text sound h (Some w) e is = (
+  castling_law p m text w h e (ap unmarked is ∙ bare_marked (after p m) (castling_text w) (bare_castling w)),
+  marked_word (after p m) (castling_text w) text (castling_word w) (castling_bytes w) is,
+)
+law_by p m text sound h None e is =
+    let q = walk_parts (rivals p m h.man) (told_of p m h.man) in
+    let parts = walk_has_parts p m sound h e in (
+      walk_law p m text q h parts (ap unmarked is ∙ bare_marked (after p m) (parts_text q) (bare_parts q parts.are.to_is)),
+      marked_word (after p m) (parts_text q) text parts.word (parts_bytes q parts.are) is,
+    )
+
+law : (p : Setup) (m : Move) → IsSound p → is_legal p m ≡ true → Law p m (san p m) × Word (san p m)
+law p m sound legal =
+    let h = legal_move p m legal in
+    law_by p m (san p m) sound h (castling p m) refl (san_text p m h)
+
+pub san_alone : (p : Setup) (m : Move) → IsSound p → IsTrue (is_legal p m) → SpellsAlone p (san p m) m
+san_alone p m sound legal = (law p m sound legal).0.alone
+
+pub san_shape : (p : Setup) (m : Move) → IsSound p → IsTrue (is_legal p m) → IsTrue (shape (san p m))
+san_shape p m sound legal = (law p m sound legal).0.has_shape
+
+pub san_read : (p : Setup) (m : Move) → IsSound p → IsTrue (is_legal p m) → reading p (san p m) ≡ reads.Move m
+san_read p m sound legal = read_alone p (san p m) m legal (san_shape p m sound legal) (san_alone p m sound legal)
+
+pub san_short : (p : Setup) (m : Move) → IsSound p → IsTrue (is_legal p m) → (2 ≤ length (san p m)) × (length (san p m) ≤ 7)
+san_short p m sound legal = let w = (law p m sound legal).1 in (w.short, w.long)
+
+pub san_bytes : (p : Setup) (m : Move) → IsSound p → IsTrue (is_legal p m) → IsTrue (list_all (λ c. is_san_byte c) (san p m))
+san_bytes p m sound legal = (law p m sound legal).1.bytes
+
+pub san_letter : (p : Setup) (m : Move) → IsSound p → IsTrue (is_legal p m) → IsTrue (begins_with_letter (san p m))
+san_letter p m sound legal = (law p m sound legal).1.letter

@@ -1,0 +1,44 @@
+-- What the writer of SAN puts together is the text of the definition.
+use Rattle.std.proofs.Common.{◌≡◌, ℕ, ◌+◌, ◌≤◌, Bool, true, false, ◌||◌, List, ◌++◌, length, Option, Some, None, is_none, refl, sym, ap, ◌∙◌, arith}
+use Rattle.std.specs.Prelude.{IsTrue}
+use Rattle.chess_base.specs.declared.man.Kind.{Kind}
+use Rattle.chess_base.specs.declared.man.Kind.TheVariants.{King, Queen, Rook, Bishop, Knight, Pawn}
+use Rattle.chess_base.specs.declared.man.Move.{Move}
+use Rattle.chess_base.specs.declared.setup.Setup.{Setup}
+use Rattle.chess_base.specs.Men.{same_kind}
+use Rattle.chess_base.specs.Moves.{is_legal, after}
+use Rattle.chess_base.specs.MoveList.{moves}
+use Rattle.chess_text.specs.declared.described.Described.{Described}
+use Rattle.chess_text.specs.Moves.{described}
+use Rattle.chess_text.specs.San.{promotes_as_a_pawn, rival_starts, move_text, check_mark, san_as, san}
+use Rattle.chess_text.proofs.Legal.{MovesAs, IsMove, legal_move, described_is, told_of}
+
+by_kind : (p : Setup) (m : Move) (k : Kind) → MovesAs p m k → promotes_as_a_pawn (told_of p m k)
+by_kind p m Pawn h = refl
+by_kind p m King h = rw h refl
+by_kind p m Queen h = rw h refl
+by_kind p m Rook h = rw h refl
+by_kind p m Bishop h = rw h refl
+by_kind p m Knight h = rw h refl
+
+some_same : {A : Type 0} (x y : A) → Some x ≡ Some y → x ≡ y
+some_same x y e = cc
+
+-- only a pawn promotes
+pub legal_promotes : (p q : Setup) (m : Move) (d : Described) → q ≡ p → IsTrue (is_legal p m) → Some d ≡ described q m → promotes_as_a_pawn d
+legal_promotes p q m d same h e =
+    let move = legal_move p m h in
+    let is : d ≡ told_of p m move.man = some_same _ _ (e ∙ ap (λ v. described v m) same ∙ described_is p m move) in
+    rw is (by_kind p m move.man move.moves_as)
+
+pub san_nothing : (p q : Setup) (m : Move) → q ≡ p → None ≡ described q m → List.[] ≡ san p m
+unfolding san
+san_nothing p q m same e = ap (san_as p m) (e ∙ ap (λ v. described v m) same)
+
+pub san_written : (p q next : Setup) (m : Move) (d : Described) (ms : List Move) (unmarked text : List ℕ) → q ≡ p → ms ≡ moves p → next ≡ after p m → Some d ≡ described q m
+    → unmarked ≡ move_text (rival_starts q ms d) d → text ≡ unmarked ++ check_mark next → text ≡ san p m
+unfolding san
+san_written p q next m d ms unmarked text same all left is body e =
+    let of : Some d ≡ described p m = is ∙ ap (λ v. described v m) same in
+    let body' : unmarked ≡ move_text (rival_starts p (moves p) d) d = body ∙ ap (λ v. move_text (rival_starts v ms d) d) same ∙ ap (λ v. move_text (rival_starts p v d) d) all in
+    e ∙ ap (λ v. v ++ check_mark next) body' ∙ ap (λ v. move_text (rival_starts p (moves p) d) d ++ check_mark v) left ∙ ap (san_as p m) of

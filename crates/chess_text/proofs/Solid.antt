@@ -1,0 +1,81 @@
+-- The text of parts ends with a digit or a letter, so a mark behind it is all that is dropped.
+use Rattle.std.proofs.Common.{◌≡◌, ℕ, ◌+◌, ◌/◌, ◌<◌, Bool, true, false, List, [], ◌∷◌, ◌++◌, length, Option, Some, None, refl, sym, ap, ◌∙◌, arith, append_assoc, append-nil, ◌==◌}
+use Rattle.std.specs.Prelude.{if◌then◌else◌}
+use Rattle.std.proofs.lemmas.Bool.Decides.{nat_tests}
+use Rattle.chess_base.specs.declared.man.CastlingSide.{CastlingSide}
+use Rattle.chess_base.specs.declared.man.CastlingSide.TheVariants.{KingSide, QueenSide}
+use Rattle.chess_base.specs.declared.man.Kind.{Kind}
+use Rattle.chess_base.specs.declared.man.Kind.TheVariants.{King, Queen, Rook, Bishop, Knight, Pawn}
+use Rattle.chess_base.specs.declared.setup.Setup.{Setup}
+use Rattle.chess_base.specs.Attacks.{is_in_check}
+use Rattle.chess_base.specs.Letters.{white_letter}
+use Rattle.chess_base.specs.MoveList.{moves}
+use Rattle.chess_base.specs.Squares.{file, rank}
+use Rattle.chess_base.specs.Writing.{square_text}
+use Rattle.chess_text.specs.declared.parts.End.{End}
+use Rattle.chess_text.specs.declared.parts.Parts.{Parts}
+use Rattle.chess_text.specs.declared.parts.Promotion.{Promotion}
+use Rattle.chess_text.specs.Parts.{is_mark, unmarked, optional, when, kind_text, file_text, rank_text, promotion_letter, promotion_text, end_text, parts_text}
+use Rattle.chess_text.specs.San.{castling_text, check_mark}
+use Rattle.chess_text.proofs.Marks.{unmarked-solid, unmarked-marked}
+
+-- the text ends with a byte that is no mark
+record IsSolid (text : List ℕ) : Type 0 where
+  front : List ℕ
+  last : ℕ
+  split : text ≡ front ++ last ∷ []
+  plain : is_mark last ≡ false
+
+solid-append : (xs text : List ℕ) → IsSolid text → IsSolid (xs ++ text)
+solid-append xs text h = record { front = xs ++ h.front; last = h.last; split = ap (λ v. xs ++ v) h.split ∙ sym (append_assoc xs h.front (h.last ∷ [])); plain = h.plain }
+
+bare : (text : List ℕ) → IsSolid text → unmarked text ≡ text
+bare text h = ap unmarked h.split ∙ unmarked-solid h.front h.last h.plain ∙ sym h.split
+
+digit_no_mark : (s : ℕ) → s < 64 → is_mark (49 + rank s) ≡ false
+digit_no_mark s h =
+    let a : (49 + rank s == 43) ≡ false = grind (arith, nat_tests) in
+    let b : (49 + rank s == 35) ≡ false = grind (arith, nat_tests) in
+    let c : (49 + rank s == 33) ≡ false = grind (arith, nat_tests) in
+    let d : (49 + rank s == 63) ≡ false = grind (arith, nat_tests) in
+    rw (a, b, c, d) refl
+
+letter_no_mark : (small : Bool) (k : Kind) → is_mark (if small then white_letter k + 32 else white_letter k) ≡ false
+letter_no_mark true King = refl
+letter_no_mark true Queen = refl
+letter_no_mark true Rook = refl
+letter_no_mark true Bishop = refl
+letter_no_mark true Knight = refl
+letter_no_mark true Pawn = refl
+letter_no_mark false King = refl
+letter_no_mark false Queen = refl
+letter_no_mark false Rook = refl
+letter_no_mark false Bishop = refl
+letter_no_mark false Knight = refl
+letter_no_mark false Pawn = refl
+
+solid_end : (s : ℕ) (o : Option Promotion) → s < 64 → IsSolid (square_text s ++ optional promotion_text o)
+solid_end s None h = record { front = (97 + file s) ∷ []; last = 49 + rank s; split = refl; plain = digit_no_mark s h }
+solid_end s (Some p) h =
+    solid-append (square_text s) (promotion_text p) (record { front = when p.equals (61 ∷ []); last = promotion_letter p; split = refl; plain = letter_no_mark p.small p.kind })
+
+pub bare_parts : (q : Parts) → q.end.to < 64 → unmarked (parts_text q) ≡ parts_text q
+bare_parts q h =
+    bare (parts_text q)
+    (solid-append (optional kind_text q.letter) _
+    (solid-append (optional file_text q.file) _
+    (solid-append (optional rank_text q.rank) _
+    (solid-append (when q.takes (120 ∷ [])) (end_text q.end) (solid_end q.end.to q.end.promotion h)))))
+
+pub bare_castling : (w : CastlingSide) → unmarked (castling_text w) ≡ castling_text w
+bare_castling KingSide = unmarked-solid (79 ∷ 45 ∷ []) 79 refl
+bare_castling QueenSide = unmarked-solid (79 ∷ 45 ∷ 79 ∷ 45 ∷ []) 79 refl
+
+marked_by : (text : List ℕ) (a b : Bool) → unmarked text ≡ text → unmarked (text ++ when a (if b then 35 ∷ [] else 43 ∷ [])) ≡ text
+marked_by text false b e = ap unmarked (append-nil text) ∙ e
+marked_by text true true e = unmarked-marked text 35 refl ∙ e
+marked_by text true false e = unmarked-marked text 43 refl ∙ e
+
+pub bare_marked : (p : Setup) (text : List ℕ) → unmarked text ≡ text → unmarked (text ++ check_mark p) ≡ text
+unfolding check_mark
+bare_marked p text e = marked_by text (is_in_check p.men p.side) (length (moves p) == 0) e

@@ -1,0 +1,158 @@
+-- The bytes of the texts that are written.
+use Rattle.std.proofs.Common.{◌≡◌, ℕ, ◌+◌, ◌<◌, ◌≤◌, Bool, true, false, ◌&&◌, ◌||◌, List, [], ◌∷◌, ◌++◌, length, Option, Some, None, refl, sym, ap, ◌∙◌, arith, append-nil, length-append, ◌==◌, nat_le}
+use Rattle.std.specs.Prelude.{IfSome, if◌then◌else◌}
+use Rattle.std.proofs.lemmas.Bool.{and_from, or_left, or_right}
+use Rattle.std.proofs.lemmas.Bool.Decides.{nat_tests}
+use Rattle.std.specs.List.{list_all}
+use Rattle.chess_base.specs.declared.man.CastlingSide.{CastlingSide}
+use Rattle.chess_base.specs.declared.man.CastlingSide.TheVariants.{KingSide, QueenSide}
+use Rattle.chess_base.specs.declared.man.Kind.{Kind}
+use Rattle.chess_base.specs.declared.man.Kind.TheVariants.{King, Queen, Rook, Bishop, Knight, Pawn}
+use Rattle.chess_base.specs.declared.setup.Setup.{Setup}
+use Rattle.chess_base.specs.Attacks.{is_in_check}
+use Rattle.chess_base.specs.Letters.{white_letter}
+use Rattle.chess_base.specs.MoveList.{moves}
+use Rattle.chess_base.specs.Squares.{file, rank}
+use Rattle.chess_base.specs.Writing.{square_text}
+use Rattle.chess_text.specs.declared.parts.End.{End}
+use Rattle.chess_text.specs.declared.parts.Parts.{Parts}
+use Rattle.chess_text.specs.declared.parts.Promotion.{Promotion}
+use Rattle.chess_text.specs.Laws.{is_letter, is_digit, is_san_byte, begins_with_letter}
+use Rattle.chess_text.specs.Parts.{AreParts, optional, when, kind_text, file_text, rank_text, promotion_letter, promotion_text, end_text, parts_text}
+use Rattle.chess_text.specs.San.{castling_text, check_mark}
+
+-- a text before its mark; with it
+pub record IsWord (text : List ℕ) : Type 0 where
+  pub short : 2 ≤ length text
+  pub long : length text ≤ 6
+  pub letter : begins_with_letter text ≡ true
+
+pub record Word (text : List ℕ) : Type 0 where
+  pub short : 2 ≤ length text
+  pub long : length text ≤ 7
+  pub bytes : list_all (λ c. is_san_byte c) text ≡ true
+  pub letter : begins_with_letter text ≡ true
+
+small_letter : (n : ℕ) → n < 8 → is_letter (97 + n) ≡ true
+small_letter n h =
+    let a : nat_le 97 (97 + n) ≡ true = grind (arith, nat_tests) in
+    let b : nat_le (97 + n) 122 ≡ true = grind (arith, nat_tests) in
+    or_right (nat_le 65 (97 + n) && nat_le (97 + n) 90) (nat_le 97 (97 + n) && nat_le (97 + n) 122) (and_from (nat_le 97 (97 + n)) (nat_le (97 + n) 122) a b)
+
+pub file_letter : (s : ℕ) → is_letter (97 + file s) ≡ true
+file_letter s = small_letter (file s) (omega arith)
+
+pub man_letter : (k : Kind) → is_letter (white_letter k) ≡ true
+man_letter King = refl
+man_letter Queen = refl
+man_letter Rook = refl
+man_letter Bishop = refl
+man_letter Knight = refl
+man_letter Pawn = refl
+
+letter_byte : (c : ℕ) → is_letter c ≡ true → is_san_byte c ≡ true
+letter_byte c e = rw e refl
+
+digit_byte : (n : ℕ) → n < 8 → is_san_byte (49 + n) ≡ true
+digit_byte n h =
+    let a : nat_le 48 (49 + n) ≡ true = grind (arith, nat_tests) in
+    let b : nat_le (49 + n) 57 ≡ true = grind (arith, nat_tests) in
+    let digit : is_digit (49 + n) ≡ true = and_from (nat_le 48 (49 + n)) (nat_le (49 + n) 57) a b in
+    or_left (is_letter (49 + n) || is_digit (49 + n) || (49 + n == 43) || (49 + n == 35) || (49 + n == 61)) (49 + n == 45)
+    (or_left (is_letter (49 + n) || is_digit (49 + n) || (49 + n == 43) || (49 + n == 35)) (49 + n == 61)
+    (or_left (is_letter (49 + n) || is_digit (49 + n) || (49 + n == 43)) (49 + n == 35)
+    (or_left (is_letter (49 + n) || is_digit (49 + n)) (49 + n == 43) (or_right (is_letter (49 + n)) (is_digit (49 + n)) digit))))
+
+-- ---- the bytes of parts
+
+abbrev AreBytes : List ℕ → Type 0
+AreBytes text = list_all (λ c. is_san_byte c) text ≡ true
+
+bytes-append : (xs ys : List ℕ) → AreBytes xs → AreBytes ys → AreBytes (xs ++ ys)
+bytes-append [] ys h k = k
+bytes-append (x ∷ xs) ys h k =
+    let both = Rattle.std.proofs.lemmas.Bool.and_parts (is_san_byte x) (list_all (λ c. is_san_byte c) xs) h in
+    and_from (is_san_byte x) (list_all (λ c. is_san_byte c) (xs ++ ys)) both.0 (bytes-append xs ys both.1 k)
+
+one-byte : (c : ℕ) → is_san_byte c ≡ true → AreBytes (c ∷ [])
+one-byte c e = rw e refl
+
+kind_bytes : (o : Option Kind) → AreBytes (optional kind_text o)
+kind_bytes None = refl
+kind_bytes (Some k) = one-byte (white_letter k) (letter_byte (white_letter k) (man_letter k))
+
+file_bytes : (o : Option ℕ) → IfSome o (λ f. f < 8) → AreBytes (optional file_text o)
+file_bytes None h = refl
+file_bytes (Some f) h = one-byte (97 + f) (letter_byte (97 + f) (small_letter f h))
+
+rank_bytes : (o : Option ℕ) → IfSome o (λ r. r < 8) → AreBytes (optional rank_text o)
+rank_bytes None h = refl
+rank_bytes (Some r) h = one-byte (49 + r) (digit_byte r h)
+
+takes_bytes : (b : Bool) → AreBytes (when b (120 ∷ []))
+takes_bytes true = refl
+takes_bytes false = refl
+
+equals_bytes : (b : Bool) → AreBytes (when b (61 ∷ []))
+equals_bytes true = refl
+equals_bytes false = refl
+
+letter_bytes : (small : Bool) (k : Kind) → AreBytes ((if small then white_letter k + 32 else white_letter k) ∷ [])
+letter_bytes true King = refl
+letter_bytes true Queen = refl
+letter_bytes true Rook = refl
+letter_bytes true Bishop = refl
+letter_bytes true Knight = refl
+letter_bytes true Pawn = refl
+letter_bytes false King = refl
+letter_bytes false Queen = refl
+letter_bytes false Rook = refl
+letter_bytes false Bishop = refl
+letter_bytes false Knight = refl
+letter_bytes false Pawn = refl
+
+promotion_bytes : (o : Option Promotion) → AreBytes (optional promotion_text o)
+promotion_bytes None = refl
+promotion_bytes (Some p) = bytes-append (when p.equals (61 ∷ [])) (promotion_letter p ∷ []) (equals_bytes p.equals) (letter_bytes p.small p.kind)
+
+square_bytes : (s : ℕ) → s < 64 → AreBytes (square_text s)
+square_bytes s h =
+    bytes-append ((97 + file s) ∷ []) ((49 + rank s) ∷ []) (one-byte (97 + file s) (letter_byte (97 + file s) (file_letter s))) (one-byte (49 + rank s) (digit_byte (rank s) (omega arith)))
+
+pub parts_bytes : (q : Parts) → AreParts q → AreBytes (parts_text q)
+parts_bytes q h =
+    bytes-append (optional kind_text q.letter) _ (kind_bytes q.letter)
+    (bytes-append (optional file_text q.file) _ (file_bytes q.file h.file_is)
+    (bytes-append (optional rank_text q.rank) _ (rank_bytes q.rank h.rank_is)
+    (bytes-append (when q.takes (120 ∷ [])) _ (takes_bytes q.takes)
+    (bytes-append (square_text q.end.to) (optional promotion_text q.end.promotion) (square_bytes q.end.to h.to_is) (promotion_bytes q.end.promotion)))))
+
+-- ---- castling, and the mark
+
+pub castling_word : (w : CastlingSide) → IsWord (castling_text w)
+castling_word KingSide = record { short = omega arith; long = omega arith; letter = refl }
+castling_word QueenSide = record { short = omega arith; long = omega arith; letter = refl }
+
+pub castling_bytes : (w : CastlingSide) → AreBytes (castling_text w)
+castling_bytes KingSide = refl
+castling_bytes QueenSide = refl
+
+begins-append : (xs ys : List ℕ) → begins_with_letter xs ≡ true → begins_with_letter (xs ++ ys) ≡ true
+begins-append [] ys e = absurd cc
+begins-append (x ∷ xs) ys e = e
+
+with_mark : (text mark : List ℕ) → length mark ≤ 1 → AreBytes mark → IsWord text → AreBytes text → Word (text ++ mark)
+with_mark text mark few all h k =
+    let len = length-append text mark in
+    let a = h.short in
+    let b = h.long in
+    record { short = omega arith; long = omega arith; bytes = bytes-append text mark k all; letter = begins-append text mark h.letter }
+
+marked_by : (text : List ℕ) (a b : Bool) → IsWord text → AreBytes text → Word (text ++ when a (if b then 35 ∷ [] else 43 ∷ []))
+marked_by text false b h k = with_mark text [] (omega arith) refl h k
+marked_by text true true h k = with_mark text (35 ∷ []) (omega arith) refl h k
+marked_by text true false h k = with_mark text (43 ∷ []) (omega arith) refl h k
+
+pub marked_word : (p : Setup) (bare text : List ℕ) → IsWord bare → AreBytes bare → text ≡ bare ++ check_mark p → Word text
+unfolding check_mark
+marked_word p bare text h k e = rw e (marked_by bare (is_in_check p.men p.side) (length (moves p) == 0) h k)

@@ -1,0 +1,11 @@
+use Rattle.chess_text.proofs.CoordinateLaw.{coordinate_alone, coordinate_shape, coordinate_read}
+use Rattle.chess_text.proofs.laws.coordinate_spells_its_move.Goals as goal
+
+pub returns-clause-spells : goal.returns-clause-spells
+returns-clause-spells c = coordinate_alone
+
+pub returns-clause-shape : goal.returns-clause-shape
+returns-clause-shape c = coordinate_shape
+
+pub returns-clause-read_back : goal.returns-clause-read_back
+returns-clause-read_back c = coordinate_read

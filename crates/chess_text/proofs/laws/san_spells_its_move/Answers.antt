@@ -1,0 +1,11 @@
+use Rattle.chess_text.proofs.SanLaw.{san_alone, san_shape, san_read}
+use Rattle.chess_text.proofs.laws.san_spells_its_move.Goals as goal
+
+pub returns-clause-spells : goal.returns-clause-spells
+returns-clause-spells c = san_alone
+
+pub returns-clause-shape : goal.returns-clause-shape
+returns-clause-shape c = san_shape
+
+pub returns-clause-read_back : goal.returns-clause-read_back
+returns-clause-read_back c = san_read

@@ -1,0 +1,8 @@
+use Rattle.chess_text.proofs.Grammar.{spelled-parts, parts-spelled}
+use Rattle.chess_text.proofs.laws.texts_have_parts.Goals as goal
+
+pub returns-clause-read : goal.returns-clause-read
+returns-clause-read c = spelled-parts
+
+pub returns-clause-written : goal.returns-clause-written
+returns-clause-written c = parts-spelled

@@ -1,0 +1,14 @@
+use Rattle.std.proofs.Common.{length, take, ◌-◌, ◌+◌, ◌≡◌, ◌≤◌}
+use Rattle.std.specs.List.{suffix_len}
+use Rattle.chess_text.specs.Parts.{is_mark}
+use Rattle.chess_text.proofs.parts.unmarked.Given as goal
+
+-- what stands behind the end is marks
+abbrev pub invariant-loop-end : goal.invariant-loop-end
+invariant-loop-end l = record {
+  marks : suffix_len is_mark l.text ≡ (length l.text - l.end) + suffix_len is_mark (take l.end l.text);
+  in_range : l.end ≤ length l.text;
+}
+
+abbrev pub decreases-loop-end : goal.decreases-loop-end
+decreases-loop-end l = l.end

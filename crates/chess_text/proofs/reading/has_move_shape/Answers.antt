@@ -1,0 +1,6 @@
+use Rattle.std.proofs.Common.{sym, ap, ◌∙◌, is_some}
+use Rattle.chess_text.proofs.FormFacts.{shape-form}
+use Rattle.chess_text.proofs.reading.has_move_shape.Goals as goal
+
+pub returns : goal.returns
+returns c = let e = shape-form c.args.text.now in cc

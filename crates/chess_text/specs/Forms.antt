@@ -1,0 +1,45 @@
+-- What a text is read as, before any position is looked at: castling, or parts of a form.
+use Rattle.std.specs.Prelude.{Bool, if◌then◌else◌, List, ℕ, Option, Some, None}
+use Rattle.std.specs.List.{list_any, filter}
+use Rattle.std.specs.Str.{bytes_eq}
+use Rattle.chess_base.specs.declared.man.CastlingSide.{CastlingSide}
+use Rattle.chess_base.specs.declared.man.CastlingSide.TheVariants.{KingSide, QueenSide}
+use Rattle.chess_base.specs.declared.man.Move.{Move}
+use Rattle.chess_base.specs.declared.setup.Setup.{Setup}
+use Rattle.chess_text.specs.declared.described.Described.{Described}
+use Rattle.chess_text.specs.declared.form.Form.{Form}
+use Rattle.chess_text.specs.declared.form.Form.TheVariants.{Castling, Walk}
+use Rattle.chess_text.specs.declared.parts.Parts.{Parts}
+use Rattle.chess_text.specs.Parts.{unmarked, parts_at}
+use Rattle.chess_text.specs.Moves.{castling_texts, described, fits, is_form, passes}
+
+-- the side of the castling that a text without marks names
+abbrev pub castling_named : List ℕ → Option CastlingSide
+castling_named text =
+    if list_any (bytes_eq text) (castling_texts KingSide) then Some KingSide
+    else (if list_any (bytes_eq text) (castling_texts QueenSide) then Some QueenSide else None)
+
+abbrev pub form_of_parts : Option Parts → Option Form
+form_of_parts None = None
+form_of_parts (Some q) = if is_form q then Some (Walk q) else None
+
+abbrev pub form_at : Option CastlingSide → List ℕ → Option Form
+form_at (Some w) text = Some (Castling w)
+form_at None text = form_of_parts (parts_at text)
+
+unfoldable pub form_of : List ℕ → Option Form
+form_of text = form_at (castling_named (unmarked text)) (unmarked text)
+
+abbrev pub same_side : CastlingSide → CastlingSide → Bool
+same_side KingSide KingSide = Bool.true
+same_side QueenSide QueenSide = Bool.true
+same_side KingSide QueenSide = Bool.false
+same_side QueenSide KingSide = Bool.false
+
+-- the form is one of the move that is described
+abbrev pub form_fits : Form → Described → Bool
+form_fits (Castling w) d = passes (same_side w) d.castles
+form_fits (Walk q) d = fits q d
+
+unfoldable pub is_spelled : Form → Setup → Move → Bool
+is_spelled form p m = passes (form_fits form) (described p m)

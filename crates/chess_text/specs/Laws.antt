@@ -1,0 +1,69 @@
+-- The laws of the texts, each as one statement.
+use Rattle.std.specs.Prelude.{◌≡◌, ℕ, ◌≤◌, ◌==◌, nat_le, Bool, false, ◌&&◌, ◌||◌, List, [], ◌∷◌, length, Some, IsTrue}
+use Rattle.std.specs.List.{list_all}
+use Rattle.chess_base.specs.declared.man.Move.{Move}
+use Rattle.chess_base.specs.declared.setup.Setup.{Setup}
+use Rattle.chess_base.specs.Letters.{byte}
+use Rattle.chess_base.specs.Moves.{is_legal}
+use Rattle.chess_base.specs.Sound.{IsSound}
+use Rattle.chess_text.specs.declared.parts.Parts.{Parts}
+use Rattle.chess_text.specs.declared.reading.Reading.TheVariants as reads
+use Rattle.chess_text.specs.Parts.{AreParts, parts_at, parts_text}
+use Rattle.chess_text.specs.Moves.{spells, shape, reading, coordinate}
+use Rattle.chess_text.specs.San.{san}
+
+-- the text spells the move, and of the legal moves no other
+abbrev pub SpellsAlone : Setup → List ℕ → Move → Type 0
+SpellsAlone p text m = IsTrue (spells p text m) × ((n : Move) → IsTrue (is_legal p n) → IsTrue (spells p text n) → n ≡ m)
+
+-- what is written for a legal move spells it alone, has a move's shape, and is read as it
+abbrev pub SanSpellsItsMove : Type 0
+SanSpellsItsMove = (p : Setup) → (m : Move) → IsSound p → IsTrue (is_legal p m) → SpellsAlone p (san p m) m
+
+abbrev pub SanHasShape : Type 0
+SanHasShape = (p : Setup) → (m : Move) → IsSound p → IsTrue (is_legal p m) → IsTrue (shape (san p m))
+
+abbrev pub SanIsReadBack : Type 0
+SanIsReadBack = (p : Setup) → (m : Move) → IsSound p → IsTrue (is_legal p m) → reading p (san p m) ≡ reads.Move m
+
+-- letters, digits, and what else stands in SAN
+abbrev pub is_letter : ℕ → Bool
+is_letter c = (nat_le (byte "A") c && nat_le c (byte "Z")) || (nat_le (byte "a") c && nat_le c (byte "z"))
+
+abbrev pub is_digit : ℕ → Bool
+is_digit c = nat_le (byte "0") c && nat_le c (byte "9")
+
+abbrev pub is_san_byte : ℕ → Bool
+is_san_byte c = is_letter c || is_digit c || (c == byte "+") || (c == byte "#") || (c == byte "=") || (c == byte "-")
+
+abbrev pub begins_with_letter : List ℕ → Bool
+begins_with_letter [] = false
+begins_with_letter (c ∷ cs) = is_letter c
+
+-- what is written for a legal move has two to seven bytes, each of them one of these, and begins with a letter, as no number and
+-- no outcome of a game does
+abbrev pub SanIsShort : Type 0
+SanIsShort = (p : Setup) → (m : Move) → IsSound p → IsTrue (is_legal p m) → (2 ≤ length (san p m)) × (length (san p m) ≤ 7)
+
+abbrev pub SanHasBytes : Type 0
+SanHasBytes = (p : Setup) → (m : Move) → IsSound p → IsTrue (is_legal p m) → IsTrue (list_all (λ c. is_san_byte c) (san p m))
+
+abbrev pub SanBeginsWithLetter : Type 0
+SanBeginsWithLetter = (p : Setup) → (m : Move) → IsSound p → IsTrue (is_legal p m) → IsTrue (begins_with_letter (san p m))
+
+-- the same of coordinates
+abbrev pub CoordinateSpellsItsMove : Type 0
+CoordinateSpellsItsMove = (p : Setup) → (m : Move) → IsSound p → IsTrue (is_legal p m) → SpellsAlone p (coordinate m) m
+
+abbrev pub CoordinateHasShape : Type 0
+CoordinateHasShape = (p : Setup) → (m : Move) → IsSound p → IsTrue (is_legal p m) → IsTrue (shape (coordinate m))
+
+abbrev pub CoordinateIsReadBack : Type 0
+CoordinateIsReadBack = (p : Setup) → (m : Move) → IsSound p → IsTrue (is_legal p m) → reading p (coordinate m) ≡ reads.Move m
+
+-- parts are read of a text exactly where it is the text of these
+abbrev pub PartsAreTheTexts : Type 0
+PartsAreTheTexts = (text : List ℕ) → (q : Parts) → parts_at text ≡ Some q → AreParts q × (text ≡ parts_text q)
+
+abbrev pub PartsAreRead : Type 0
+PartsAreRead = (q : Parts) → AreParts q → parts_at (parts_text q) ≡ Some q

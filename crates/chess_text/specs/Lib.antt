@@ -1,0 +1,5 @@
+pub mod Parts
+pub mod Moves
+pub mod Forms
+pub mod San
+pub mod Laws

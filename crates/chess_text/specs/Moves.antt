@@ -1,0 +1,146 @@
+-- The texts of moves: which moves a text spells (PGN standard of 1994, section 8.2.3), and the coordinate text.
+use Rattle.std.specs.Prelude.{ℕ, ◌+◌, ◌==◌, Bool, true, false, not, ◌&&◌, ◌||◌, if◌then◌else◌, List, [], ◌∷◌, ◌++◌, Option, Some, None, is_some, is_none, IsTrue, codes}
+use Rattle.std.specs.List.{list_any, filter}
+use Rattle.std.specs.Str.{bytes_eq}
+use Rattle.chess_base.specs.declared.man.CastlingSide.{CastlingSide}
+use Rattle.chess_base.specs.declared.man.CastlingSide.TheVariants.{KingSide, QueenSide}
+use Rattle.chess_base.specs.declared.man.Kind.{Kind}
+use Rattle.chess_base.specs.declared.man.Kind.TheVariants.{Pawn}
+use Rattle.chess_base.specs.declared.man.Man.{Man}
+use Rattle.chess_base.specs.declared.man.Move.{Move}
+use Rattle.chess_base.specs.declared.setup.Setup.{Setup}
+use Rattle.chess_base.specs.Letters.{white_letter}
+use Rattle.chess_base.specs.Men.{man_at, is_of, other, same_kind}
+use Rattle.chess_base.specs.Moves.{castling, is_en_passant, is_legal}
+use Rattle.chess_base.specs.MoveList.{moves}
+use Rattle.chess_base.specs.Squares.{file, rank}
+use Rattle.chess_base.specs.Writing.{square_text}
+use Rattle.chess_text.specs.declared.described.Described.{Described}
+use Rattle.chess_text.specs.declared.parts.Parts.{Parts}
+use Rattle.chess_text.specs.declared.parts.Promotion.{Promotion}
+use Rattle.chess_text.specs.declared.reading.Reading.{Reading}
+use Rattle.chess_text.specs.declared.reading.Reading.TheVariants as reads
+use Rattle.chess_text.specs.Parts.{unmarked, optional, parts_of}
+
+-- ---- what a text can tell of a move
+
+-- an enemy man stands on the end square, or the pawn takes en passant
+unfoldable pub captures : Setup → Move → Bool
+captures p m = is_of (other p.side) (man_at p.men m.to) || is_en_passant p m
+
+abbrev pub described_as : Setup → Move → Option Man → Option Described
+described_as p m None = None
+described_as p m (Some x) = Some (record { man = x.kind; from = m.from; to = m.to; promotion = m.promotion; captures = captures p m; castles = castling p m })
+
+-- a move of the man on its start square
+unfoldable pub described : Setup → Move → Option Described
+described p m = described_as p m (man_at p.men m.from)
+
+-- ---- the forms of a text
+
+-- if the text names a file or rank, it is this one
+abbrev pub admits : Option ℕ → ℕ → Bool
+admits None n = true
+admits (Some told) n = told == n
+
+-- the text names it
+abbrev pub names : Option ℕ → ℕ → Bool
+names None n = false
+names (Some told) n = told == n
+
+abbrev pub is_kind : Option Kind → Kind → Bool
+is_kind None k = false
+is_kind (Some told) k = same_kind told k
+
+-- with a promotion only moves with that promotion are spelled, without one only moves without
+abbrev pub promotes_so : Option Promotion → Option Kind → Bool
+promotes_so None None = true
+promotes_so None (Some k) = false
+promotes_so (Some told) None = false
+promotes_so (Some told) (Some k) = same_kind told.kind k
+
+abbrev pub has_equals : Option Promotion → Bool
+has_equals None = false
+has_equals (Some told) = told.equals
+
+-- any man from one square to another, castling too; a promotion stands without `=`
+unfoldable pub is_by_squares : Parts → Described → Bool
+is_by_squares q d =
+    is_none q.letter && names q.file (file d.from) && names q.rank (rank d.from) && not q.takes && (q.end.to == d.to)
+    && not (has_equals q.end.promotion) && promotes_so q.end.promotion d.promotion
+
+-- a man that is no pawn, not castling; with `x` only a capture
+unfoldable pub is_by_letter : Parts → Described → Bool
+is_by_letter q d =
+    is_kind q.letter d.man && is_none d.castles && admits q.file (file d.from) && admits q.rank (rank d.from)
+    && (not q.takes || d.captures) && (q.end.to == d.to) && is_none q.end.promotion
+
+-- a pawn that goes straight to the square
+unfoldable pub is_straight : Parts → Described → Bool
+is_straight q d =
+    is_none q.letter && is_none q.file && is_none q.rank && not q.takes && same_kind Pawn d.man && (file d.from == file d.to)
+    && (q.end.to == d.to) && promotes_so q.end.promotion d.promotion
+
+-- a pawn from the file; with `x` only a capture
+unfoldable pub is_from_file : Parts → Described → Bool
+is_from_file q d =
+    is_none q.letter && names q.file (file d.from) && admits q.rank (rank d.from) && same_kind Pawn d.man
+    && (not q.takes || d.captures) && (q.end.to == d.to) && promotes_so q.end.promotion d.promotion
+
+unfoldable pub fits : Parts → Described → Bool
+fits q d = is_by_squares q d || is_by_letter q d || is_straight q d || is_from_file q d
+
+-- the parts are those of one of these forms: a letter and no promotion, or no letter and a file, or a square alone
+unfoldable pub is_form : Parts → Bool
+is_form q = if is_some q.letter then is_none q.end.promotion else is_some q.file || (is_none q.rank && not q.takes)
+
+-- castling is spelled with the letter O, or with the digit 0
+abbrev pub castling_texts : CastlingSide → List (List ℕ)
+castling_texts KingSide = codes "O-O" ∷ codes "0-0" ∷ []
+castling_texts QueenSide = codes "O-O-O" ∷ codes "0-0-0" ∷ []
+
+unfoldable pub is_castling_text : List ℕ → CastlingSide → Bool
+is_castling_text text w = list_any (bytes_eq (unmarked text)) (castling_texts w)
+
+abbrev pub passes : {A : Type 0} → (A → Bool) → Option A → Bool
+passes test None = false
+passes test (Some x) = test x
+
+-- the text has a move's shape
+unfoldable pub shape : List ℕ → Bool
+shape text = is_castling_text text KingSide || is_castling_text text QueenSide || passes is_form (parts_of text)
+
+-- the text spells the move that is described
+unfoldable pub spells_described : List ℕ → Described → Bool
+spells_described text d = passes (is_castling_text text) d.castles || passes (λ q. fits q d) (parts_of text)
+
+-- the text spells this move of the position
+unfoldable pub spells : Setup → List ℕ → Move → Bool
+spells p text m = passes (spells_described text) (described p m)
+
+-- ---- reading
+
+abbrev pub one_of : List Move → Reading
+one_of [] = reads.NoSuch
+one_of (m ∷ []) = reads.Move m
+one_of (m ∷ n ∷ ms) = reads.Ambiguous
+
+-- what a text is in a position: of its legal moves those that it spells
+unfoldable pub reading : Setup → List ℕ → Reading
+reading p text = if shape text then one_of (filter (λ m. spells p text m) (moves p)) else reads.NotAMove
+
+-- a move that is read is legal
+abbrev pub IsLegalReading : Setup → Reading → Type 0
+IsLegalReading p (reads.Move m) = IsTrue (is_legal p m)
+IsLegalReading p reads.Ambiguous = Unit {0}
+IsLegalReading p reads.NoSuch = Unit {0}
+IsLegalReading p reads.NotAMove = Unit {0}
+
+-- ---- the coordinate text
+
+abbrev pub small_letter_text : Kind → List ℕ
+small_letter_text k = (white_letter k + 32) ∷ []
+
+-- the start square, the end square, and what the pawn becomes
+abbrev pub coordinate : Move → List ℕ
+coordinate m = square_text m.from ++ (square_text m.to ++ optional small_letter_text m.promotion)

@@ -1,0 +1,95 @@
+-- The text that is written for a move (PGN standard of 1994, section 8.2.3).
+use Rattle.std.specs.Prelude.{ℕ, false, true, Bool, not, ◌&&◌, ◌||◌, ◌==◌, is_none, IsTrue, if◌then◌else◌, List, [], ◌∷◌, ◌++◌, length, map, Option, Some, None, codes}
+use Rattle.std.specs.List.{list_any, filter}
+use Rattle.std.specs.Option.{option_map}
+use Rattle.chess_base.specs.declared.man.CastlingSide.{CastlingSide}
+use Rattle.chess_base.specs.declared.man.CastlingSide.TheVariants.{KingSide, QueenSide}
+use Rattle.chess_base.specs.declared.man.Kind.{Kind}
+use Rattle.chess_base.specs.declared.man.Kind.TheVariants.{Pawn}
+use Rattle.chess_base.specs.declared.man.Move.{Move}
+use Rattle.chess_base.specs.declared.setup.Setup.{Setup}
+use Rattle.chess_base.specs.Attacks.{is_in_check}
+use Rattle.chess_base.specs.Men.{same_kind}
+use Rattle.chess_base.specs.Moves.{after}
+use Rattle.chess_base.specs.MoveList.{moves}
+use Rattle.chess_base.specs.Squares.{file, rank}
+use Rattle.chess_text.specs.declared.described.Described.{Described}
+use Rattle.chess_text.specs.declared.parts.End.{End}
+use Rattle.chess_text.specs.declared.parts.Parts.{Parts}
+use Rattle.chess_text.specs.declared.writing.ToldStart.{ToldStart}
+use Rattle.chess_text.specs.Parts.{when, parts_text}
+use Rattle.chess_text.specs.Moves.{described, passes}
+
+abbrev pub castling_text : CastlingSide → List ℕ
+castling_text KingSide = codes "O-O"
+castling_text QueenSide = codes "O-O-O"
+
+-- one of these squares is on the file; on the rank
+abbrev pub some_on_file : ℕ → List ℕ → Bool
+some_on_file f squares = list_any (λ s. file s == f) squares
+
+abbrev pub some_on_rank : ℕ → List ℕ → Bool
+some_on_rank r squares = list_any (λ s. rank s == r) squares
+
+abbrev pub said : Bool → Bool → ToldStart
+said f r = record { file = f; rank = r }
+
+-- what is said of the start square beside other starts: nothing where there are none; the file where none is on it; else the
+-- rank where none is on it; else both
+abbrev pub told_start : ℕ → List ℕ → ToldStart
+told_start from [] = said false false
+told_start from (other ∷ others) =
+    if not (some_on_file (file from) (other ∷ others)) then said true false
+    else (if not (some_on_rank (rank from) (other ∷ others)) then said false true else said true true)
+
+abbrev pub if_said : Bool → ℕ → Option ℕ
+if_said b n = if b then Some n else None
+
+-- only a pawn's move has a promotion
+abbrev pub promotes_as_a_pawn : Described → Type 0
+promotes_as_a_pawn d = IsTrue (same_kind d.man Pawn || is_none d.promotion)
+
+-- the end square, and `=` with what the pawn becomes
+abbrev pub end_of : Described → End
+end_of d = record { to = d.to; promotion = option_map (λ k. record { kind = k; equals = true; small = false }) d.promotion }
+
+-- the parts of the text of a pawn's move: for a capture its file comes first
+abbrev pub pawn_parts : Described → Parts
+pawn_parts d = record { letter = None; file = if_said d.captures (file d.from); rank = None; takes = d.captures; end = end_of d }
+
+-- and of another man's, where others of its kind start from these squares and go to the same
+abbrev pub officer_parts : List ℕ → Described → Parts
+officer_parts others d =
+    let start = told_start d.from others in
+    record { letter = Some d.man; file = if_said start.file (file d.from); rank = if_said start.rank (rank d.from); takes = d.captures; end = end_of d }
+
+unfoldable pub walk_parts : List ℕ → Described → Parts
+walk_parts others d = if same_kind d.man Pawn then pawn_parts d else officer_parts others d
+
+-- a move of a man of the same kind to the same square from another one
+unfoldable pub is_rival : Setup → Described → Move → Bool
+is_rival p d m = (m.to == d.to) && not (m.from == d.from) && passes (λ e. same_kind e.man d.man) (described p m)
+
+-- where such moves among these start
+unfoldable pub rival_starts : Setup → List Move → Described → List ℕ
+rival_starts p ms d = map (λ m. m.from) (filter (λ m. is_rival p d m) ms)
+
+abbrev pub text_by_castling : Option CastlingSide → List ℕ → Described → List ℕ
+text_by_castling (Some w) others d = castling_text w
+text_by_castling None others d = parts_text (walk_parts others d)
+
+-- the text without a mark
+abbrev pub move_text : List ℕ → Described → List ℕ
+move_text others d = text_by_castling d.castles others d
+
+-- `#` where the position is mate (5.1.1), `+` where it is check (3.9.1)
+unfoldable pub check_mark : Setup → List ℕ
+check_mark p = when (is_in_check p.men p.side) (if length (moves p) == 0 then codes "#" else codes "+")
+
+abbrev pub san_as : Setup → Move → Option Described → List ℕ
+san_as p m None = []
+san_as p m (Some d) = move_text (rival_starts p (moves p) d) d ++ check_mark (after p m)
+
+-- the text of a legal move
+unfoldable pub san : Setup → Move → List ℕ
+san p m = san_as p m (described p m)

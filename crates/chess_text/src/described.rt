@@ -1,0 +1,167 @@
+//! What a text can tell of a move.
+
+ghost use Rattle.std.specs.Prelude.{◌≡◌, ◌==◌};
+ghost use Rattle.chess_text.specs.Moves.{captures, described, admits, names, is_kind, promotes_so, has_equals, is_by_squares, is_by_letter, is_straight, is_from_file, fits, is_form};
+
+use crate::parts::{Parts, Promotion};
+use chess_base::attack::is_of;
+use chess_base::rules::{castling, is_en_passant};
+use chess_base::{CastlingSide, Kind, Move, Setup, Square};
+
+/// A move of a position, as far as a text can tell it: its man, squares and promotion, whether it captures, and to which
+/// side it castles.
+#[derive(Clone, Copy, Debug, PartialEq, Eq)]
+pub struct Described {
+    pub man: Kind,
+    pub from: Square,
+    pub to: Square,
+    pub promotion: Option<Kind>,
+    pub captures: bool,
+    pub castles: Option<CastlingSide>,
+}
+
+#[tactic(auto, unfolding(crate::specs::Moves::captures))]
+fn captures(setup: &Setup, m: &Move) -> bool
+    ensures { result ≡ captures setup.now m.now }
+{
+    is_of(setup.side.other(), setup.men[m.to.index()]) || is_en_passant(setup, m)
+}
+
+// The move of the man on its start square, if one stands there.
+#[tactic(auto, unfolding(crate::specs::Moves::described))]
+pub(crate) fn describe(setup: &Setup, m: &Move) -> Option<Described>
+    ensures { result ≡ described setup.now m.now }
+{
+    let man = setup.men[m.from.index()]?;
+    Some(Described {
+        man: man.kind,
+        from: m.from,
+        to: m.to,
+        promotion: m.promotion,
+        captures: captures(setup, m),
+        castles: castling(setup, m),
+    })
+}
+
+// Whether a file or rank is the one that a text names, if it names one.
+fn admits(told: Option<u8>, number: u8) -> bool
+    ensures { result ≡ admits told number }
+{
+    match told {
+        None => true,
+        Some(told) => told == number,
+    }
+}
+
+fn names(told: Option<u8>, number: u8) -> bool
+    ensures { result ≡ names told number }
+{
+    match told {
+        None => false,
+        Some(told) => told == number,
+    }
+}
+
+fn is_kind(letter: Option<Kind>, kind: Kind) -> bool
+    ensures { result ≡ is_kind letter kind }
+{
+    match letter {
+        None => false,
+        Some(told) => told == kind,
+    }
+}
+
+fn promotes_so(told: Option<Promotion>, promotion: Option<Kind>) -> bool
+    ensures { result ≡ promotes_so told promotion }
+{
+    match (told, promotion) {
+        (None, None) => true,
+        (Some(told), Some(kind)) => told.kind == kind,
+        _ => false,
+    }
+}
+
+fn has_equals(told: Option<Promotion>) -> bool
+    ensures { result ≡ has_equals told }
+{
+    match told {
+        None => false,
+        Some(told) => told.equals,
+    }
+}
+
+#[tactic(auto, unfolding(crate::specs::Moves::is_by_squares))]
+fn is_by_squares(parts: &Parts, d: &Described) -> bool
+    ensures { result ≡ is_by_squares parts.now d.now }
+{
+    parts.letter.is_none()
+        && names(parts.file, d.from.file())
+        && names(parts.rank, d.from.rank())
+        && !parts.takes
+        && parts.end.to == d.to
+        && !has_equals(parts.end.promotion)
+        && promotes_so(parts.end.promotion, d.promotion)
+}
+
+#[tactic(auto, unfolding(crate::specs::Moves::is_by_letter))]
+fn is_by_letter(parts: &Parts, d: &Described) -> bool
+    ensures { result ≡ is_by_letter parts.now d.now }
+{
+    is_kind(parts.letter, d.man)
+        && d.castles.is_none()
+        && admits(parts.file, d.from.file())
+        && admits(parts.rank, d.from.rank())
+        && (!parts.takes || d.captures)
+        && parts.end.to == d.to
+        && parts.end.promotion.is_none()
+}
+
+#[tactic(auto, unfolding(crate::specs::Moves::is_straight))]
+fn is_straight(parts: &Parts, d: &Described) -> bool
+    ensures { result ≡ is_straight parts.now d.now }
+{
+    parts.letter.is_none()
+        && parts.file.is_none()
+        && parts.rank.is_none()
+        && !parts.takes
+        && d.man == Kind::Pawn
+        && d.from.file() == d.to.file()
+        && parts.end.to == d.to
+        && promotes_so(parts.end.promotion, d.promotion)
+}
+
+#[tactic(auto, unfolding(crate::specs::Moves::is_from_file))]
+fn is_from_file(parts: &Parts, d: &Described) -> bool
+    ensures { result ≡ is_from_file parts.now d.now }
+{
+    parts.letter.is_none()
+        && names(parts.file, d.from.file())
+        && admits(parts.rank, d.from.rank())
+        && d.man == Kind::Pawn
+        && (!parts.takes || d.captures)
+        && parts.end.to == d.to
+        && promotes_so(parts.end.promotion, d.promotion)
+}
+
+// Whether the parts spell the move in one of the forms of a text.
+#[tactic(auto, unfolding(crate::specs::Moves::fits))]
+pub(crate) fn fits(parts: &Parts, d: &Described) -> bool
+    ensures { result ≡ fits parts.now d.now }
+{
+    is_by_squares(parts, d)
+        || is_by_letter(parts, d)
+        || is_straight(parts, d)
+        || is_from_file(parts, d)
+}
+
+// Whether the parts are those of a form: a letter and no promotion, or no letter and a file, or a square alone.
+#[tactic(auto, unfolding(crate::specs::Moves::is_form))]
+pub(crate) fn is_form(parts: &Parts) -> bool
+    ensures { result ≡ is_form parts.now }
+{
+    if parts.letter.is_some() {
+        parts.end.promotion.is_none()
+    } else {
+        parts.file.is_some() || parts.rank.is_none() && !parts.takes
+    }
+}

@@ -1,0 +1,62 @@
+//! What a text is read as, before any position is looked at.
+
+ghost use Rattle.std.specs.Prelude.{◌≡◌};
+ghost use Rattle.chess_text.specs.Forms.{castling_named, form_of, same_side, form_fits, is_spelled};
+
+use crate::described::{Described, describe, fits, is_form};
+use crate::parts::{Parts, read_parts, unmarked};
+use chess_base::{CastlingSide, Move, Setup};
+
+/// A text of a move: castling, or the parts of any other text.
+#[derive(Clone, Copy, Debug, PartialEq, Eq)]
+pub enum Form {
+    Castling(CastlingSide),
+    Walk(Parts),
+}
+
+fn castling_named(text: &[u8]) -> Option<CastlingSide>
+    ensures { result ≡ castling_named text.now }
+{
+    match text {
+        b"O-O" | b"0-0" => Some(CastlingSide::KingSide),
+        b"O-O-O" | b"0-0-0" => Some(CastlingSide::QueenSide),
+        _ => None,
+    }
+}
+
+// The form of a text, if it has a move's shape.
+#[tactic(auto, unfolding(crate::specs::Forms::form_of))]
+pub(crate) fn read_form(text: &[u8]) -> Option<Form>
+    ensures { result ≡ form_of text.now }
+{
+    let text = unmarked(text);
+    if let Some(castling_side) = castling_named(text) {
+        return Some(Form::Castling(castling_side));
+    }
+    let parts = read_parts(text)?;
+    if is_form(&parts) {
+        Some(Form::Walk(parts))
+    } else {
+        None
+    }
+}
+
+fn form_fits(form: &Form, d: &Described) -> bool
+    ensures { result ≡ form_fits form.now d.now }
+{
+    match form {
+        Form::Castling(castling_side) => d.castles == Some(*castling_side),
+        Form::Walk(parts) => fits(parts, d),
+    }
+}
+
+// Whether the text of that form spells the move.
+#[tactic(auto, unfolding(crate::specs::Forms::is_spelled))]
+pub(crate) fn is_spelled(form: &Form, setup: &Setup, m: &Move) -> bool
+    ensures { result ≡ is_spelled form.now setup.now m.now }
+{
+    match describe(setup, m) {
+        None => false,
+        Some(d) => form_fits(form, &d),
+    }
+}

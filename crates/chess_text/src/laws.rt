@@ -1,0 +1,31 @@
+//! Laws of the texts. A caller learns one by calling its function, which does nothing.
+
+ghost use Rattle.chess_text.specs.Laws.{SanSpellsItsMove, SanHasShape, SanIsReadBack, SanIsShort, SanHasBytes, SanBeginsWithLetter, CoordinateSpellsItsMove, CoordinateHasShape, CoordinateIsReadBack, PartsAreTheTexts, PartsAreRead};
+
+/// The SAN of a legal move of a sound position spells it and no other legal move, and is read as it.
+pub fn san_spells_its_move()
+    ensures spells { SanSpellsItsMove }
+    ensures shape { SanHasShape }
+    ensures read_back { SanIsReadBack }
+{}
+
+/// The SAN of a legal move of a sound position has two to seven bytes, all of them letters, digits, `+`, `#`, `=` and `-`,
+/// and begins with a letter: so it is one word, and no number or outcome of a game (PGN standard of 1994, section 8.2).
+pub fn san_is_a_word()
+    ensures short { SanIsShort }
+    ensures bytes { SanHasBytes }
+    ensures letter { SanBeginsWithLetter }
+{}
+
+/// The coordinate text of a legal move of a sound position spells it and no other legal move, and is read as it.
+pub fn coordinate_spells_its_move()
+    ensures spells { CoordinateSpellsItsMove }
+    ensures shape { CoordinateHasShape }
+    ensures read_back { CoordinateIsReadBack }
+{}
+
+/// The parts of a text are those that it is written from.
+pub fn texts_have_parts()
+    ensures read { PartsAreTheTexts }
+    ensures written { PartsAreRead }
+{}

@@ -1,0 +1,165 @@
+//! The parts of a move's text.
+
+ghost use Rattle.std.specs.Prelude.{◌≡◌};
+ghost use Rattle.chess_text.specs.Parts.{is_mark, unmarked, promotion_by, promotion_at, end_at, takes_at, rank_at, file_at, parts_at};
+
+use chess_base::{Kind, Square};
+
+/// What a text names as the promotion: the kind, whether `=` stands before its letter, and whether the letter is small.
+#[derive(Clone, Copy, Debug, PartialEq, Eq)]
+pub struct Promotion {
+    pub kind: Kind,
+    pub equals: bool,
+    pub small: bool,
+}
+
+/// What stands last in a text: the end square, and the promotion, if one is named.
+#[derive(Clone, Copy, Debug, PartialEq, Eq)]
+pub struct End {
+    pub to: Square,
+    pub promotion: Option<Promotion>,
+}
+
+/// The parts of a text `[letter][file][rank][x]square[[=]promotion]`: the man's letter, the file and rank of the start
+/// square, both from 0, whether `x` is there, and what stands last.
+#[derive(Clone, Copy, Debug, PartialEq, Eq)]
+pub struct Parts {
+    pub letter: Option<Kind>,
+    pub file: Option<u8>,
+    pub rank: Option<u8>,
+    pub takes: bool,
+    pub end: End,
+}
+
+fn is_mark(byte: u8) -> bool
+    ensures { result ≡ is_mark byte }
+{
+    byte == b'+' || byte == b'#' || byte == b'!' || byte == b'?'
+}
+
+// The text without the run of marks at its end.
+#[tactic(auto, unfolding(crate::specs::Parts::unmarked))]
+pub(crate) fn unmarked(text: &[u8]) -> &[u8]
+    ensures { result.now ≡ unmarked text.now }
+{
+    let mut end = text.len();
+    while end > 0 && is_mark(text[end - 1]) {
+        end -= 1;
+    }
+    &text[..end]
+}
+
+fn promotion_by(equals: bool, letter: u8) -> Option<Promotion>
+    ensures { result ≡ promotion_by equals letter }
+{
+    let (kind, small) = match letter {
+        b'Q' => (Kind::Queen, false),
+        b'R' => (Kind::Rook, false),
+        b'B' => (Kind::Bishop, false),
+        b'N' => (Kind::Knight, false),
+        b'q' => (Kind::Queen, true),
+        b'r' => (Kind::Rook, true),
+        b'b' => (Kind::Bishop, true),
+        b'n' => (Kind::Knight, true),
+        _ => return None,
+    };
+    Some(Promotion {
+        kind,
+        equals,
+        small,
+    })
+}
+
+// What stands behind the end square: nothing, or a promotion.
+fn read_promotion(text: &[u8]) -> Option<Option<Promotion>>
+    ensures { result ≡ promotion_at text.now }
+{
+    match text {
+        [] => Some(None),
+        [letter] => promotion_by(false, *letter).map(Some),
+        [b'=', letter] => promotion_by(true, *letter).map(Some),
+        _ => None,
+    }
+}
+
+fn read_end(text: &[u8]) -> Option<End>
+    ensures { result ≡ end_at text.now }
+{
+    match text {
+        [file @ b'a'..=b'h', rank @ b'1'..=b'8', rest @ ..] => {
+            let promotion = read_promotion(rest)?;
+            Some(End {
+                to: Square::new(8 * (*rank - b'1') + (*file - b'a')),
+                promotion,
+            })
+        }
+        _ => None,
+    }
+}
+
+fn read_takes(text: &[u8]) -> Option<(bool, End)>
+    ensures { result ≡ takes_at text.now }
+{
+    match text {
+        [b'x', rest @ ..] => Some((true, read_end(rest)?)),
+        _ => Some((false, read_end(text)?)),
+    }
+}
+
+fn read_rank(text: &[u8]) -> Option<(Option<u8>, bool, End)>
+    ensures { result ≡ rank_at text.now }
+{
+    match text {
+        [rank @ b'1'..=b'8', rest @ ..] => {
+            let (takes, end) = read_takes(rest)?;
+            Some((Some(*rank - b'1'), takes, end))
+        }
+        _ => {
+            let (takes, end) = read_takes(text)?;
+            Some((None, takes, end))
+        }
+    }
+}
+
+// The first file's letter is the end square's where no square follows it.
+fn read_file(letter: Option<Kind>, text: &[u8]) -> Option<Parts>
+    ensures { result ≡ file_at letter text.now }
+{
+    if let Some((rank, takes, end)) = read_rank(text) {
+        return Some(Parts {
+            letter,
+            file: None,
+            rank,
+            takes,
+            end,
+        });
+    }
+    match text {
+        [file @ b'a'..=b'h', rest @ ..] => {
+            let (rank, takes, end) = read_rank(rest)?;
+            Some(Parts {
+                letter,
+                file: Some(*file - b'a'),
+                rank,
+                takes,
+                end,
+            })
+        }
+        _ => None,
+    }
+}
+
+// The parts of a text without marks.
+pub(crate) fn read_parts(text: &[u8]) -> Option<Parts>
+    ensures { result ≡ parts_at text.now }
+{
+    let letter = match text {
+        [b'K', ..] => Kind::King,
+        [b'Q', ..] => Kind::Queen,
+        [b'R', ..] => Kind::Rook,
+        [b'B', ..] => Kind::Bishop,
+        [b'N', ..] => Kind::Knight,
+        _ => return read_file(None, text),
+    };
+    read_file(Some(letter), &text[1..])
+}
