@@ -5,11 +5,11 @@ use Rattle.std.specs.Str.{bytes_eq}
 use Rattle.chess_base.specs.declared.fault.FenFault.{FenFault}
 use Rattle.chess_base.specs.declared.setup.Setup.{Setup}
 use Rattle.chess_base.specs.Reading.{fen_reading}
-use Rattle.chess_base.specs.declared.man.Move.{Move}
 use Rattle.chess_base.specs.Initial.{initial_setup}
-use Rattle.chess_base.specs.Moves.{is_legal}
 use Rattle.chess_cecp.specs.Lines.{LineSeen}
-use Rattle.chess_cecp.specs.Coordinates.{move_named}
+use Rattle.chess_text.specs.Moves.{reading}
+use Rattle.chess_text.specs.declared.reading.Reading.{Reading}
+use Rattle.chess_text.specs.declared.reading.Reading.TheVariants as reads
 use Rattle.chess_cecp.specs.Commands.{command_of, argument_of}
 use Rattle.chess_game.specs.Ends.{verdict_outcome, verdict_comment, claims}
 use Rattle.chess_game.specs.Game.{State, Seen, from_start, played, taken_back, with_declared, current, verdict_now, is_over, is_other}
@@ -21,7 +21,7 @@ use Rattle.chess_game.specs.declared.ends.Claims.{Claims}
 use Rattle.chess_cecp.specs.Declaring.{declared_by, result_text, state_text}
 use Rattle.chess_cecp.specs.declared.command.Command.{Command}
 use Rattle.chess_cecp.specs.declared.command.Command.TheVariants.{New, SetBoard, UserMove, BareMove, Undo, Remove, Declare, Claim, Ping, Protover, Variant, Go, ShowFen, ShowMoves, ShowState, Quit, Silent, BadNumber, Unknown}
-use Rattle.chess_cecp.specs.Session.{Row, row, says, refuses, becomes, becomes_judged, result_line, verdict_line, result_row, draws, claimed, claim_row, setboard_row, feature_text, line_text, named_row, move_row, IsRefusal, answer_to, next_state}
+use Rattle.chess_cecp.specs.Session.{Row, row, says, refuses, becomes, becomes_judged, result_line, verdict_line, result_row, draws, claimed, claim_row, setboard_row, feature_text, line_text, reading_row, move_row, IsRefusal, answer_to, next_state}
 
 -- the first bytes of refusals: E, I and t
 abbrev pub begins_refusal : List ℕ → Bool
@@ -59,22 +59,21 @@ verdict_begins : (o : Option Verdict) → begins_refusal (verdict_line o) ≡ fa
 verdict_begins None = refl
 verdict_begins (Some v) = result_begins (verdict_outcome v) (verdict_comment v)
 
-named_keeps : (s : State) (text : List ℕ) (o : Option Move) → KeepsRefused s (named_row s text o)
-named_keeps s text None = λ h. refl
-named_keeps s text (Some m) =
-    by_test (is_legal (current s) m) s (becomes_judged (played s m)) (refuses s (codes "Illegal move: ") text)
-    (accepted s (becomes_judged (played s m)) (verdict_begins (verdict_now (played s m))))
-    (λ h. refl)
+reading_keeps : (s : State) (text : List ℕ) (r : Reading) → KeepsRefused s (reading_row s text r)
+reading_keeps s text (reads.Move m) = accepted s (becomes_judged (played s m)) (verdict_begins (verdict_now (played s m)))
+reading_keeps s text reads.Ambiguous = λ h. refl
+reading_keeps s text reads.NoSuch = λ h. refl
+reading_keeps s text reads.NotAMove = λ h. refl
 
 -- the row of a move where the game is not over
 abbrev room_row : ℕ → State → List ℕ → Row
-room_row limit s text = if nat_le limit (length s.moves) then refuses s (codes "Error (game too long): ") text else named_row s text (move_named text)
+room_row limit s text = if nat_le limit (length s.moves) then refuses s (codes "Error (game too long): ") text else reading_row s text (reading (current s) text)
 
 move_keeps : (limit : ℕ) (s : State) (text : List ℕ) → KeepsRefused s (move_row limit s text)
 move_keeps limit s text =
     by_test (is_over s) s (refuses s (codes "Illegal move (game over): ") text) (room_row limit s text) (λ h. refl)
-    (by_test (nat_le limit (length s.moves)) s (refuses s (codes "Error (game too long): ") text) (named_row s text (move_named text)) (λ h. refl)
-    (named_keeps s text (move_named text)))
+    (by_test (nat_le limit (length s.moves)) s (refuses s (codes "Error (game too long): ") text) (reading_row s text (reading (current s) text)) (λ h. refl)
+    (reading_keeps s text (reading (current s) text)))
 
 setboard_keeps : (s : State) (r : Result Setup FenFault) → KeepsRefused s (setboard_row s r)
 setboard_keeps s (Ok start) = accepted s (becomes_judged (from_start start)) (verdict_begins (verdict_now (from_start start)))

@@ -1,10 +1,10 @@
 -- What a line commands (Chess Engine Communication Protocol, version 2).
-use Rattle.std.specs.Prelude.{ℕ, ◌==◌, ◌&&◌, ◌||◌, nat_lt, nat_le, if◌then◌else◌, Bool, List, [], ◌∷◌, length, drop, codes, Option, None, Some, is_some}
+use Rattle.std.specs.Prelude.{ℕ, ◌==◌, ◌&&◌, ◌||◌, nat_lt, nat_le, if◌then◌else◌, Bool, List, [], ◌∷◌, length, drop, codes, Option, None, Some}
 use Rattle.std.specs.List.{list_all, list_any}
 use Rattle.std.specs.Str.{bytes_eq}
 use Rattle.chess_base.specs.Texts.{is_digit, value_after}
 use Rattle.chess_cecp.specs.Lines.{is_blank, without_front_blanks}
-use Rattle.chess_cecp.specs.Coordinates.{move_named}
+use Rattle.chess_text.specs.Moves.{shape}
 use Rattle.chess_cecp.specs.declared.command.Command.{Command}
 use Rattle.chess_cecp.specs.declared.command.Command.TheVariants.{New, SetBoard, UserMove, BareMove, Undo, Remove, Declare, Claim, Ping, Protover, Variant, Go, ShowFen, ShowMoves, ShowState, Quit, Silent, BadNumber, Unknown}
 
@@ -68,7 +68,7 @@ command_by word argument text =
     else if bytes_eq word (codes "showmoves") then ShowMoves
     else if bytes_eq word (codes "showstate") then ShowState
     else if bytes_eq word (codes "quit") then Quit
-    else if is_some (move_named text) then BareMove
+    else if shape text then BareMove
     else Unknown
 
 -- what a line with this text commands

@@ -1,6 +1,5 @@
 pub mod Lines
 pub mod Next
-pub mod Coordinates
 pub mod Commands
 pub mod Declaring
 pub mod Session

@@ -9,12 +9,13 @@ use Rattle.chess_game.specs.declared.results.Outcome.{Outcome}
 use Rattle.chess_base.specs.declared.setup.Setup.{Setup}
 use Rattle.chess_base.specs.Initial.{initial_setup}
 use Rattle.std.specs.List.{flat_map}
-use Rattle.chess_base.specs.Moves.{is_legal}
 use Rattle.chess_base.specs.MoveList.{moves}
 use Rattle.chess_base.specs.Reading.{fen_reading}
 use Rattle.chess_base.specs.Writing.{fen}
 use Rattle.chess_cecp.specs.Lines.{LineSeen}
-use Rattle.chess_cecp.specs.Coordinates.{move_named, coordinate}
+use Rattle.chess_text.specs.Moves.{coordinate, reading}
+use Rattle.chess_text.specs.declared.reading.Reading.{Reading}
+use Rattle.chess_text.specs.declared.reading.Reading.TheVariants as reads
 use Rattle.chess_cecp.specs.Commands.{command_of, argument_of}
 use Rattle.chess_cecp.specs.Declaring.{declared_by, result_text, state_text}
 use Rattle.chess_game.specs.Ends.{verdict_outcome, verdict_comment, claims}
@@ -89,17 +90,19 @@ setboard_row s (Err fault) = refuses s (codes "tellusererror Illegal position ("
 unfoldable pub feature_text : List ℕ
 feature_text = codes "feature ping=1 setboard=1 playother=0 san=0 usermove=1 time=1 draw=1 sigint=0 sigterm=0 reuse=1 analyze=0 colors=0 debug=1 myname=\"CECP arbiter\" variants=\"normal\" done=1"
 
--- the move that a text names, if it names one, is played where it is legal
-abbrev pub named_row : State → List ℕ → Option Move → Row
-named_row s text None = refuses s (codes "Illegal move: ") text
-named_row s text (Some m) = if is_legal (current s) m then becomes_judged (played s m) else refuses s (codes "Illegal move: ") text
+-- the one legal move that a text spells is played
+abbrev pub reading_row : State → List ℕ → Reading → Row
+reading_row s text (reads.Move m) = becomes_judged (played s m)
+reading_row s text reads.Ambiguous = refuses s (codes "Error (ambiguous move): ") text
+reading_row s text reads.NoSuch = refuses s (codes "Illegal move: ") text
+reading_row s text reads.NotAMove = refuses s (codes "Illegal move: ") text
 
 -- a move with this text is asked for
 abbrev pub move_row : ℕ → State → List ℕ → Row
 move_row limit s text =
     if is_over s then refuses s (codes "Illegal move (game over): ") text
     else if nat_le limit (length s.moves) then refuses s (codes "Error (game too long): ") text
-    else named_row s text (move_named text)
+    else reading_row s text (reading (current s) text)
 
 abbrev pub undo_row : State → Row
 undo_row s = if nat_le 1 (length s.moves) then becomes (taken_back s 1) else refuses s (codes "Error (command not legal now): ") (codes "undo")

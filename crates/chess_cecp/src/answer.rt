@@ -8,12 +8,12 @@ ghost use Rattle.std.specs.Option.{option_map};
 ghost use Rattle.chess_cecp.specs.Declaring.{result_text, verdict_text, declared_text, state_text};
 ghost use Rattle.chess_cecp.specs.Session.{moves_line, shown, result_line, verdict_line, fault_name, feature_text, line_text};
 
-use crate::coordinate::coordinate;
 use crate::declaring::claims_text;
 use arrayvec::ArrayVec;
 use chess_base::{FenFault, Move};
 use chess_game::{Declared, Game, Outcome, Verdict};
 use chess_moves::Board;
+use chess_text::coordinate;
 use itoa::Buffer;
 
 // The most bytes of an answer, which is put together before it is written: `# moves`, a number, and six bytes for each
@@ -218,7 +218,7 @@ fn write_each(answer: &mut Answer, moves: &[Move])
     for m in moves {
         answer.push(b' ');
         answer
-            .try_extend_from_slice(coordinate(m).as_slice())
+            .try_extend_from_slice(coordinate(*m).as_slice())
             .unwrap();
     }
 }

@@ -4,8 +4,8 @@ ghost use Rattle.std.specs.Prelude.{◌≡◌, ◌+◌, ◌≤◌, ◌++◌, len
 ghost use Rattle.chess_cecp.specs.Lines.{is_blank};
 ghost use Rattle.chess_cecp.specs.Commands.{command_of, command_by, word_of, argument_of, number_of, ping_of, protover_of, is_told_of_playing, is_told_of_clocks};
 
-use crate::coordinate::move_named;
 use crate::trim::is_blank;
+use chess_text::has_move_shape;
 
 /// The kinds of command (CECP, version 2; `claim`, `showfen`, `showmoves` and `showstate` are this project's own). A command's text stands in its line.
 #[derive(Clone, Copy, Debug, PartialEq, Eq)]
@@ -195,7 +195,7 @@ pub fn read_command(text: &[u8]) -> Command
         Command::ShowState
     } else if word == b"quit".as_slice() {
         Command::Quit
-    } else if move_named(text).is_some() {
+    } else if has_move_shape(text) {
         Command::BareMove
     } else {
         Command::Unknown

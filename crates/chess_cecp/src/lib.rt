@@ -4,7 +4,6 @@
 
 mod answer;
 mod command;
-mod coordinate;
 mod declaring;
 mod laws;
 mod lines;

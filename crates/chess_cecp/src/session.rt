@@ -14,13 +14,13 @@ use crate::answer::{
     write_result, write_state, write_variant, write_verdict,
 };
 use crate::command::{Command, argument, read_command};
-use crate::coordinate::move_named;
 use crate::declaring::declared_by;
 use crate::lines::Line;
 use chess_base::device::{Output, WriteFault, put};
 use chess_base::{Position, read_fen, write_fen};
 use chess_game::{Comment, Game, Outcome};
 use chess_moves::Board;
+use chess_text::{Reading, read_move};
 use std::alloc::{AllocError, Global};
 use std::marker::Model;
 
@@ -72,7 +72,7 @@ impl<B: Board> Session<B> {
         self.game.position()
     }
 
-    // Plays the move that a text names.
+    // Plays the one legal move that a text spells.
     fn play(&mut self, text: &[u8], answer: &mut Answer)
         requires short { length text.now ≤ 1024 }
         requires empty { answer.old.items ≡ [] }
@@ -87,14 +87,13 @@ impl<B: Board> Session<B> {
             write_line(answer, b"Error (game too long): ", text);
             return;
         }
-        let is_played = match move_named(text) {
-            Some(m) => self.game.play(m).is_ok(),
-            None => false,
-        };
-        if is_played {
-            write_verdict(answer, self.game.verdict());
-        } else {
-            write_line(answer, b"Illegal move: ", text);
+        match read_move(self.game.board(), text) {
+            Reading::Move(m) => {
+                let _played = self.game.play(m);
+                write_verdict(answer, self.game.verdict());
+            }
+            Reading::Ambiguous => write_line(answer, b"Error (ambiguous move): ", text),
+            Reading::NoSuch | Reading::NotAMove => write_line(answer, b"Illegal move: ", text),
         }
     }
 
