@@ -194,8 +194,44 @@ const RUNS: [Run; 30] = [
     },
 ];
 
-// Games to their ends: verdicts, claims, declared results.
-const GAMES: [Run; 12] = [
+// Moves in all forms; games to their ends: verdicts, claims, declared results.
+const GAMES: [Run; 18] = [
+    // Moves in SAN and in looser spellings.
+    Run {
+        input: b"new\ne4!?\ne5\nNge2\nshowfen\nundo\nusermove Ng1e2+\nshowfen\n",
+        answers: b"# fen rnbqkbnr/pppp1ppp/8/4p3/4P3/8/PPPPNPPP/RNBQKB1R b KQkq - 1 2\n# fen rnbqkbnr/pppp1ppp/8/4p3/4P3/8/PPPPNPPP/RNBQKB1R b KQkq - 1 2\n",
+        end: End::InputEnded,
+    },
+    // Moves that no man can make.
+    Run {
+        input: b"new\nbc3\nO-O\nusermove 0-0-0+\nBc4\nexd3\ne8=Q\n",
+        answers: b"Illegal move: bc3\nIllegal move: O-O\nIllegal move: 0-0-0+\nIllegal move: Bc4\nIllegal move: exd3\nIllegal move: e8=Q\n",
+        end: End::InputEnded,
+    },
+    // A promotion is named, or is none.
+    Run {
+        input: b"setboard 8/4P3/8/8/8/2k5/8/4K3 w - - 0 1\ne8\ne8=N!?\n",
+        answers: b"Illegal move: e8\n1/2-1/2 {Insufficient material}\n",
+        end: End::InputEnded,
+    },
+    // Texts that several moves fit.
+    Run {
+        input: b"setboard 8/k7/8/8/4Q2Q/8/K7/7Q w - - 0 1\nQe1\nsetboard 4k3/8/8/8/8/5N2/8/1N2K3 w - - 0 1\nusermove Nd2\nNd2#\nNbd2\nshowfen\n",
+        answers: b"Error (ambiguous move): Qe1\nError (ambiguous move): Nd2\nError (ambiguous move): Nd2#\n# fen 4k3/8/8/8/8/5N2/3N4/4K3 b - - 1 1\n",
+        end: End::InputEnded,
+    },
+    // Texts of no form.
+    Run {
+        input: b"new\nnf3\ne7e8k\n0-0-0-0\n\xE2\x99\x98f3\nNf3=Q\n4e5\nxe5\ne2-e4\nusermove nf3\nusermove ++\n+!?#\ne4 e5\n",
+        answers: b"Error (unknown command): nf3\nError (unknown command): e7e8k\nError (unknown command): 0-0-0-0\nError (unknown command): \xE2\x99\x98f3\nError (unknown command): Nf3=Q\nError (unknown command): 4e5\nError (unknown command): xe5\nError (unknown command): e2-e4\nIllegal move: nf3\nIllegal move: ++\nError (unknown command): +!?#\nError (unknown command): e4 e5\n",
+        end: End::InputEnded,
+    },
+    // Castling and en passant in SAN.
+    Run {
+        input: b"e4\ne5\nNf3\nNf6\nBc4\nBc5\n0-0\nshowfen\nnew\ne4\na6\ne5\nd5\nexd6\nshowfen\n",
+        answers: b"# fen rnbqk2r/pppp1ppp/5n2/2b1p3/2B1P3/5N2/PPPP1PPP/RNBQ1RK1 b kq - 5 4\n# fen rnbqkbnr/1pp1pppp/p2P4/8/8/8/PPPP1PPP/RNBQKBNR b KQkq - 0 3\n",
+        end: End::InputEnded,
+    },
     // Mate, and what comes after it.
     Run {
         input: b"new\nf2f3\ne7e5\ng2g4\nd8h4\na2a3\nresult 1-0 {x}\nclaim\nresult 0-1 {x}\nshowstate\n",
