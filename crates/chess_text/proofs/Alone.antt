@@ -1,9 +1,6 @@
 -- A text whose parts one move alone fits is read as this move.
-use Rattle.std.proofs.Common.{◌≡◌, ℕ, Bool, true, false, ◌||◌, List, [], ◌∷◌, Option, Some, None, refl, sym, ap, ◌∙◌}
-use Rattle.std.specs.Prelude.{IsTrue}
+use Rattle.std.proofs.Common.{◌≡◌, ℕ, Bool, true, false, ◌||◌, List, Option, Some, None, refl, sym, ap, ◌∙◌}
 use Rattle.std.proofs.lemmas.Bool.{false_from_ne_true}
-use Rattle.std.specs.List.{list_any, filter}
-use Rattle.std.specs.Str.{bytes_eq}
 use Rattle.chess_base.specs.declared.man.CastlingSide.{CastlingSide}
 use Rattle.chess_base.specs.declared.man.CastlingSide.TheVariants.{KingSide, QueenSide}
 use Rattle.chess_base.specs.declared.man.Kind.{Kind}
@@ -12,19 +9,18 @@ use Rattle.chess_base.specs.declared.man.Move.{Move}
 use Rattle.chess_base.specs.declared.setup.Setup.{Setup}
 use Rattle.chess_base.specs.Men.{same_kind}
 use Rattle.chess_base.specs.Moves.{is_legal}
-use Rattle.chess_base.specs.MoveList.{moves}
 use Rattle.chess_text.specs.declared.described.Described.{Described}
 use Rattle.chess_text.specs.declared.parts.Parts.{Parts}
 use Rattle.chess_text.specs.declared.parts.Promotion.{Promotion}
 use Rattle.chess_text.specs.declared.reading.Reading.TheVariants as reads
 use Rattle.chess_text.specs.Laws.{SpellsAlone}
 use Rattle.chess_text.specs.Parts.{AreParts, unmarked, parts_at, parts_text, parts_of}
-use Rattle.chess_text.specs.Moves.{castling_texts, is_castling_text, passes, is_form, fits, shape, spells_described, spells, described, one_of, reading, promotes_so}
+use Rattle.chess_text.specs.Moves.{is_castling_text, passes, is_form, fits, shape, spells_described, spells, one_of, reading, promotes_so}
 use Rattle.chess_text.specs.Forms.{same_side}
 use Rattle.chess_text.proofs.AllMoves.{only-move}
 use Rattle.chess_text.proofs.Castlings.{IsCastling, names_side, castling_from_name}
 use Rattle.chess_text.proofs.Grammar.{parts-spelled}
-use Rattle.chess_text.proofs.Legal.{IsMove, legal_move, told_of, described_is}
+use Rattle.chess_text.proofs.Legal.{IsMove, told_of, described_is}
 
 -- ---- what is read
 

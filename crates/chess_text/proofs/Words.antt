@@ -1,5 +1,5 @@
 -- The bytes of the texts that are written.
-use Rattle.std.proofs.Common.{◌≡◌, ℕ, ◌+◌, ◌<◌, ◌≤◌, Bool, true, false, ◌&&◌, ◌||◌, List, [], ◌∷◌, ◌++◌, length, Option, Some, None, refl, sym, ap, ◌∙◌, arith, append-nil, length-append, ◌==◌, nat_le}
+use Rattle.std.proofs.Common.{◌≡◌, ℕ, ◌+◌, ◌<◌, ◌≤◌, Bool, true, false, ◌&&◌, ◌||◌, List, [], ◌∷◌, ◌++◌, length, Option, Some, None, refl, arith, length-append, ◌==◌, nat_le}
 use Rattle.std.specs.Prelude.{IfSome, if◌then◌else◌}
 use Rattle.std.proofs.lemmas.Bool.{and_from, or_left, or_right}
 use Rattle.std.proofs.lemmas.Bool.Decides.{nat_tests}
@@ -14,11 +14,10 @@ use Rattle.chess_base.specs.Letters.{white_letter}
 use Rattle.chess_base.specs.MoveList.{moves}
 use Rattle.chess_base.specs.Squares.{file, rank}
 use Rattle.chess_base.specs.Writing.{square_text}
-use Rattle.chess_text.specs.declared.parts.End.{End}
 use Rattle.chess_text.specs.declared.parts.Parts.{Parts}
 use Rattle.chess_text.specs.declared.parts.Promotion.{Promotion}
 use Rattle.chess_text.specs.Laws.{is_letter, is_digit, is_san_byte, begins_with_letter}
-use Rattle.chess_text.specs.Parts.{AreParts, optional, when, kind_text, file_text, rank_text, promotion_letter, promotion_text, end_text, parts_text}
+use Rattle.chess_text.specs.Parts.{AreParts, optional, when, kind_text, file_text, rank_text, promotion_letter, promotion_text, parts_text}
 use Rattle.chess_text.specs.San.{castling_text, check_mark}
 
 -- a text before its mark; with it
