@@ -74,7 +74,7 @@ same_for test other h None = refl
 same_for test other h (Some v) = h v
 
 -- a text of castling spells castling to its side
-spelled_castling : (text : List ℕ) (w : CastlingSide) (d : Described) → IsCastling text w
+pub spelled_castling : (text : List ℕ) (w : CastlingSide) (d : Described) → IsCastling text w
     → (passes (λ v. list_any (bytes_eq text) (castling_texts v)) d.castles || passes (λ q. fits q d) (parts_at text)) ≡ passes (same_side w) d.castles
 spelled_castling text w d h =
     rw h.no_parts (or_false _ ∙ same_for (λ v. list_any (bytes_eq text) (castling_texts v)) (same_side w) h.names d.castles)

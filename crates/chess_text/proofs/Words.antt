@@ -1,7 +1,7 @@
 -- The bytes of the texts that are written.
 use Rattle.std.proofs.Common.{◌≡◌, ℕ, ◌+◌, ◌<◌, ◌≤◌, Bool, true, false, ◌&&◌, ◌||◌, List, [], ◌∷◌, ◌++◌, length, Option, Some, None, refl, arith, length-append, ◌==◌, nat_le}
 use Rattle.std.specs.Prelude.{IfSome, if◌then◌else◌}
-use Rattle.std.proofs.lemmas.Bool.{and_from, or_left, or_right}
+use Rattle.std.proofs.lemmas.Bool.{and_parts, and_from, or_left, or_right}
 use Rattle.std.proofs.lemmas.Bool.Decides.{nat_tests}
 use Rattle.std.specs.List.{list_all}
 use Rattle.chess_base.specs.declared.man.CastlingSide.{CastlingSide}
@@ -70,7 +70,7 @@ AreBytes text = list_all (λ c. is_san_byte c) text ≡ true
 bytes-append : (xs ys : List ℕ) → AreBytes xs → AreBytes ys → AreBytes (xs ++ ys)
 bytes-append [] ys h k = k
 bytes-append (x ∷ xs) ys h k =
-    let both = Rattle.std.proofs.lemmas.Bool.and_parts (is_san_byte x) (list_all (λ c. is_san_byte c) xs) h in
+    let both = and_parts (is_san_byte x) (list_all (λ c. is_san_byte c) xs) h in
     and_from (is_san_byte x) (list_all (λ c. is_san_byte c) (xs ++ ys)) both.0 (bytes-append xs ys both.1 k)
 
 one-byte : (c : ℕ) → is_san_byte c ≡ true → AreBytes (c ∷ [])
