@@ -1,9 +1,6 @@
 -- A text whose parts one move alone fits is read as this move.
-use Rattle.std.proofs.Common.{◌≡◌, ℕ, Bool, true, false, ◌||◌, List, [], ◌∷◌, Option, Some, None, refl, sym, ap, ◌∙◌}
-use Rattle.std.specs.Prelude.{IsTrue}
-use Rattle.std.proofs.lemmas.Bool.{false_from_ne_true}
-use Rattle.std.specs.List.{list_any, filter}
-use Rattle.std.specs.Str.{bytes_eq}
+use Rattle.std.proofs.Common.{◌≡◌, ℕ, inl, inr, IsTrue, ◌↔◌, Bool, true, false, ◌||◌, List, Option, Some, None, refl, sym, ap, ◌∙◌}
+use Rattle.std.proofs.lemmas.Bool.{false_from_ne_true, or_cases}
 use Rattle.chess_base.specs.declared.man.CastlingSide.{CastlingSide}
 use Rattle.chess_base.specs.declared.man.CastlingSide.TheVariants.{KingSide, QueenSide}
 use Rattle.chess_base.specs.declared.man.Kind.{Kind}
@@ -12,19 +9,19 @@ use Rattle.chess_base.specs.declared.man.Move.{Move}
 use Rattle.chess_base.specs.declared.setup.Setup.{Setup}
 use Rattle.chess_base.specs.Men.{same_kind}
 use Rattle.chess_base.specs.Moves.{is_legal}
-use Rattle.chess_base.specs.MoveList.{moves}
 use Rattle.chess_text.specs.declared.described.Described.{Described}
 use Rattle.chess_text.specs.declared.parts.Parts.{Parts}
 use Rattle.chess_text.specs.declared.parts.Promotion.{Promotion}
 use Rattle.chess_text.specs.declared.reading.Reading.TheVariants as reads
-use Rattle.chess_text.specs.Laws.{SpellsAlone}
+use Rattle.chess_text.specs.Laws.{SpellsAlone, IsSpelled}
 use Rattle.chess_text.specs.Parts.{AreParts, unmarked, parts_at, parts_text, parts_of}
-use Rattle.chess_text.specs.Moves.{castling_texts, is_castling_text, passes, is_form, fits, shape, spells_described, spells, described, one_of, reading, promotes_so}
+use Rattle.chess_text.specs.Moves.{is_castling_text, passes, is_form, fits, shape, spells_described, spells, one_of, reading, promotes_so}
 use Rattle.chess_text.specs.Forms.{same_side}
 use Rattle.chess_text.proofs.AllMoves.{only-move}
 use Rattle.chess_text.proofs.Castlings.{IsCastling, names_side, castling_from_name}
-use Rattle.chess_text.proofs.Grammar.{parts-spelled}
-use Rattle.chess_text.proofs.Legal.{IsMove, legal_move, told_of, described_is}
+use Rattle.chess_text.proofs.FormFacts.{spelled_castling as castling_spelled}
+use Rattle.chess_text.proofs.Grammar.{spelled-parts, parts-spelled}
+use Rattle.chess_text.proofs.Legal.{IsMove, told_of, described_is}
 
 -- ---- what is read
 
@@ -63,15 +60,7 @@ shape_parts text q e h form =
 
 pub spelled_castling : (text : List ℕ) (w : CastlingSide) (d : Described) → IsCastling (unmarked text) w → spells_described text d ≡ passes (same_side w) d.castles
 unfolding spells_described is_castling_text parts_of
-spelled_castling text w d h = rw h.no_parts (or_false _ ∙ same_for (names_side (unmarked text)) (same_side w) h.names d.castles)
-  where
-    or_false : (b : Bool) → (b || false) ≡ b
-    or_false true = refl
-    or_false false = refl
-
-    same_for : (test other : CastlingSide → Bool) → ((v : CastlingSide) → test v ≡ other v) → (o : Option CastlingSide) → passes test o ≡ passes other o
-    same_for test other h None = refl
-    same_for test other h (Some v) = h v
+spelled_castling text w d h = castling_spelled (unmarked text) w d h
 
 pub shape_castling : (text : List ℕ) (w : CastlingSide) → IsCastling (unmarked text) w → shape text ≡ true
 unfolding shape is_castling_text
@@ -150,3 +139,35 @@ promotes-same equals small None None e = refl
 promotes-same equals small None (Some k) e = absurd cc
 promotes-same equals small (Some k) None e = absurd cc
 promotes-same equals small (Some k) (Some l) e = ap Some (sym (same_kind-true k l e))
+
+-- ---- what a text spells, with no reader
+
+castled : (test : CastlingSide → Bool) (o : Option CastlingSide) → passes test o ≡ true → (w : CastlingSide) × (o ≡ Some w) × (test w ≡ true)
+castled test None e = absurd cc
+castled test (Some w) e = (w, refl, e)
+
+of_parts : (test : Parts → Bool) (o : Option Parts) → passes test o ≡ true → (q : Parts) × (o ≡ Some q) × (test q ≡ true)
+of_parts test None e = absurd cc
+of_parts test (Some q) e = (q, refl, e)
+
+is_spelled_so : (text : List ℕ) (d : Described) → spells_described text d ≡ true → IsSpelled text d
+unfolding spells_described parts_of
+is_spelled_so text d e =
+    elim (or_cases (passes (is_castling_text text) d.castles) (passes (λ q. fits q d) (parts_at (unmarked text))) e) [
+      | inl h ↦ inl (castled (is_castling_text text) d.castles h)
+      | inr h ↦
+          let of = of_parts (λ q. fits q d) (parts_at (unmarked text)) h in
+          let is = spelled-parts (unmarked text) of.0 of.1 in
+          inr (of.0, is.0, is.1, of.2)
+    ]
+
+castling_spells : (text : List ℕ) (d : Described) (w : CastlingSide) → d.castles ≡ Some w → is_castling_text text w ≡ true → spells_described text d ≡ true
+unfolding spells_described
+castling_spells text d w e h = rw (e, h) refl
+
+spelled_so : (text : List ℕ) (d : Described) → IsSpelled text d → spells_described text d ≡ true
+spelled_so text d (inl h) = castling_spells text d h.0 h.1 h.2
+spelled_so text d (inr h) = spelled_parts text h.0 d h.2 h.1 ∙ h.3
+
+pub spelled_by_text : (text : List ℕ) (d : Described) → IsTrue (spells_described text d) ↔ IsSpelled text d
+spelled_by_text text d = (is_spelled_so text d, spelled_so text d)

@@ -1,61 +1,37 @@
 -- The coordinate text of a legal move spells it alone.
-use Rattle.std.proofs.Common.{◌≡◌, ℕ, ◌+◌, ◌-◌, ◌<◌, inl, inr, Bool, true, false, not, ◌&&◌, ◌||◌, List, [], ◌∷◌, ◌++◌, Option, Some, None, is_none, refl, sym, ap, ◌∙◌, arith, ◌==◌}
+use Rattle.std.proofs.Common.{◌≡◌, ◌+◌, ◌<◌, inl, inr, true, false, not, ◌&&◌, ◌||◌, ◌∷◌, Option, Some, None, refl, sym, ap, ◌∙◌, arith, ◌==◌}
 use Rattle.std.specs.Prelude.{IfSome, IsTrue}
-use Rattle.std.proofs.lemmas.Bool.{and_parts, and_from, or_cases, or_left, eqb-true, eq-eqb}
-use Rattle.std.proofs.lemmas.Bool.Decides.{nat_tests}
+use Rattle.std.proofs.lemmas.Bool.{and_parts, or_cases, eqb-true, eq-eqb}
 use Rattle.chess_base.specs.declared.man.Kind.{Kind}
-use Rattle.chess_base.specs.declared.man.Kind.TheVariants.{King, Queen, Rook, Bishop, Knight, Pawn}
+use Rattle.chess_base.specs.declared.man.Kind.TheVariants.{Pawn}
 use Rattle.chess_base.specs.declared.man.Move.{Move}
 use Rattle.chess_base.specs.declared.setup.Setup.{Setup}
-use Rattle.chess_base.specs.Letters.{white_letter}
 use Rattle.chess_base.specs.Men.{same_kind}
 use Rattle.chess_base.specs.Moves.{is_legal}
 use Rattle.chess_base.specs.Sound.{IsSound}
 use Rattle.chess_base.specs.Squares.{file, rank}
-use Rattle.chess_text.specs.declared.described.Described.{Described}
 use Rattle.chess_text.specs.declared.parts.Parts.{Parts}
 use Rattle.chess_text.specs.declared.reading.Reading.TheVariants as reads
 use Rattle.chess_text.specs.Laws.{SpellsAlone}
-use Rattle.chess_text.specs.Parts.{AreParts, CanPromote, is_mark, unmarked, parts_text}
-use Rattle.chess_text.specs.Moves.{coordinate, admits, names, has_equals, promotes_so, is_form, fits, is_by_squares, is_by_letter, is_straight, is_from_file, shape, spells, reading}
+use Rattle.chess_text.specs.Parts.{AreParts, CanPromote, unmarked, optional, promotion_text, parts_text}
+use Rattle.chess_text.specs.Moves.{coordinate, small_letter_text, has_equals, promotes_so, is_form, fits, is_by_squares, is_by_letter, is_straight, is_from_file, shape, reading}
 use Rattle.chess_text.proofs.Alone.{read_alone, spelled_parts, shape_parts, spells_move, move_is, written, promotes-self, promotes-same}
 use Rattle.chess_text.proofs.Legal.{IsMove, legal_move, told_of}
-use Rattle.chess_text.proofs.Marks.{unmarked-solid}
+use Rattle.chess_text.proofs.Solid.{bare_parts}
 use Rattle.chess_text.proofs.Told.{same_square}
 
 abbrev squares_named : Move → Parts
 squares_named m = record { letter = None; file = Some (file m.from); rank = Some (rank m.from); takes = false; end = record { to = m.to; promotion = written false true m.promotion } }
 
-text_by : (a b c d : ℕ) (o : Option Kind) → Rattle.chess_text.specs.Parts.optional Rattle.chess_text.specs.Moves.small_letter_text o ≡ Rattle.chess_text.specs.Parts.optional Rattle.chess_text.specs.Parts.promotion_text (written false true o)
-text_by a b c d None = refl
-text_by a b c d (Some k) = refl
+letter_is : (o : Option Kind) → optional small_letter_text o ≡ optional promotion_text (written false true o)
+letter_is None = refl
+letter_is (Some k) = refl
 
 text_is : (m : Move) → coordinate m ≡ parts_text (squares_named m)
-text_is m = ap (λ v. (97 + file m.from) ∷ (49 + rank m.from) ∷ (97 + file m.to) ∷ (49 + rank m.to) ∷ v) (text_by 0 0 0 0 m.promotion)
-
-digit_no_mark : (s : ℕ) → s < 64 → is_mark (49 + rank s) ≡ false
-digit_no_mark s h =
-    let a : (49 + rank s == 43) ≡ false = grind (arith, nat_tests) in
-    let b : (49 + rank s == 35) ≡ false = grind (arith, nat_tests) in
-    let c : (49 + rank s == 33) ≡ false = grind (arith, nat_tests) in
-    let d : (49 + rank s == 63) ≡ false = grind (arith, nat_tests) in
-    rw (a, b, c, d) refl
-
-letter_no_mark : (k : Kind) → is_mark (white_letter k + 32) ≡ false
-letter_no_mark King = refl
-letter_no_mark Queen = refl
-letter_no_mark Rook = refl
-letter_no_mark Bishop = refl
-letter_no_mark Knight = refl
-letter_no_mark Pawn = refl
-
-bare_by : (a b c d : ℕ) (o : Option Kind) → is_mark d ≡ false
-    → unmarked (a ∷ b ∷ c ∷ d ∷ Rattle.chess_text.specs.Parts.optional Rattle.chess_text.specs.Moves.small_letter_text o) ≡ a ∷ b ∷ c ∷ d ∷ Rattle.chess_text.specs.Parts.optional Rattle.chess_text.specs.Moves.small_letter_text o
-bare_by a b c d None e = unmarked-solid (a ∷ b ∷ c ∷ []) d e
-bare_by a b c d (Some k) e = unmarked-solid (a ∷ b ∷ c ∷ d ∷ []) (white_letter k + 32) (letter_no_mark k)
+text_is m = ap (λ v. (97 + file m.from) ∷ (49 + rank m.from) ∷ (97 + file m.to) ∷ (49 + rank m.to) ∷ v) (letter_is m.promotion)
 
 bare : (m : Move) → m.to < 64 → unmarked (coordinate m) ≡ parts_text (squares_named m)
-bare m h = bare_by (97 + file m.from) (49 + rank m.from) (97 + file m.to) (49 + rank m.to) m.promotion (digit_no_mark m.to h) ∙ text_is m
+bare m h = ap unmarked (text_is m) ∙ bare_parts (squares_named m) h
 
 promotion_part : (o : Option Kind) → IfSome o CanPromote → IfSome (written false true o) (λ p. CanPromote p.kind)
 promotion_part None h = tt
@@ -84,10 +60,10 @@ fits_itself p m k =
     let f = promotes-self false true m.promotion in
     rw (a, b, c, e, f) refl
 
-pub record Same (m n : Move) : Type 0 where
-  pub from : n.from ≡ m.from
-  pub to : n.to ≡ m.to
-  pub promotion : n.promotion ≡ m.promotion
+record Same (m n : Move) : Type 0 where
+  from : n.from ≡ m.from
+  to : n.to ≡ m.to
+  promotion : n.promotion ≡ m.promotion
 
 by_squares : (p : Setup) (m n : Move) (k : Kind) → is_by_squares (squares_named m) (told_of p n k) ≡ true → Same m n
 unfolding is_by_squares

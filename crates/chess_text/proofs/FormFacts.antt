@@ -1,6 +1,6 @@
 -- What a text is read as tells its shape and what it spells.
-use Rattle.std.proofs.Common.{◌≡◌, ℕ, inl, inr, Bool, true, false, ◌&&◌, ◌||◌, not, cond, List, [], ◌∷◌, Option, Some, None, is_some, is_none, refl, sym, ap, ◌∙◌, ◌==◌}
-use Rattle.std.proofs.lemmas.Bool.{and_parts, and_right, cases_Bool}
+use Rattle.std.proofs.Common.{◌≡◌, ℕ, Bool, true, false, ◌&&◌, ◌||◌, cond, List, [], ◌∷◌, Option, Some, None, is_some, refl, sym, ap, ◌∙◌}
+use Rattle.std.proofs.lemmas.Bool.{and_parts, and_right}
 use Rattle.std.proofs.lemmas.List.Elements.{filter_agree}
 use Rattle.std.specs.List.{list_any, filter}
 use Rattle.std.specs.Str.{bytes_eq}
@@ -11,17 +11,16 @@ use Rattle.chess_base.specs.declared.man.Move.{Move}
 use Rattle.chess_base.specs.declared.setup.Setup.{Setup}
 use Rattle.chess_base.specs.Moves.{is_legal}
 use Rattle.chess_base.specs.MoveList.{all_triples, moves}
-use Rattle.chess_base.specs.Squares.{file, rank}
 use Rattle.chess_text.specs.declared.described.Described.{Described}
 use Rattle.chess_text.specs.declared.form.Form.{Form}
-use Rattle.chess_text.specs.declared.form.Form.TheVariants.{Castling, Walk}
+use Rattle.chess_text.specs.declared.form.Form.TheVariants.{Walk}
 use Rattle.chess_text.specs.declared.parts.Parts.{Parts}
 use Rattle.chess_text.specs.declared.parts.Promotion.{Promotion}
 use Rattle.chess_text.specs.declared.reading.Reading.{Reading}
 use Rattle.chess_text.specs.declared.reading.Reading.TheVariants as reads
 use Rattle.chess_text.specs.Parts.{unmarked, parts_at, parts_of}
 use Rattle.chess_text.specs.Moves.{castling_texts, is_castling_text, passes, is_form, fits, is_by_squares, is_by_letter, is_straight, is_from_file, shape, spells_described, spells, described, one_of, reading, IsLegalReading}
-use Rattle.chess_text.specs.Forms.{castling_named, form_of_parts, form_at, form_of, same_side, form_fits, is_spelled}
+use Rattle.chess_text.specs.Forms.{form_of_parts, form_at, form_of, same_side, form_fits, is_spelled}
 use Rattle.chess_text.proofs.AllMoves.{filter-both}
 use Rattle.chess_text.proofs.Castlings.{IsCastling, castling_from_name}
 
@@ -75,7 +74,7 @@ same_for test other h None = refl
 same_for test other h (Some v) = h v
 
 -- a text of castling spells castling to its side
-spelled_castling : (text : List ℕ) (w : CastlingSide) (d : Described) → IsCastling text w
+pub spelled_castling : (text : List ℕ) (w : CastlingSide) (d : Described) → IsCastling text w
     → (passes (λ v. list_any (bytes_eq text) (castling_texts v)) d.castles || passes (λ q. fits q d) (parts_at text)) ≡ passes (same_side w) d.castles
 spelled_castling text w d h =
     rw h.no_parts (or_false _ ∙ same_for (λ v. list_any (bytes_eq text) (castling_texts v)) (same_side w) h.names d.castles)

@@ -1,7 +1,7 @@
 -- What each legal move has.
 use Rattle.std.proofs.Common.{◌≡◌, ℕ, ◌<◌, ◌⊎◌, inl, inr, Bool, true, false, ◌&&◌, ◌||◌, not, cond, Option, Some, None, is_some, is_none, refl, sym, ap, ◌∙◌, ◌==◌, nat_lt}
 use Rattle.std.specs.Prelude.{IfSome}
-use Rattle.std.proofs.lemmas.Bool.{and_parts, both_ways, ltb-true, eqb-true}
+use Rattle.std.proofs.lemmas.Bool.{and_parts, ltb-true, eqb-true}
 use Rattle.chess_base.specs.declared.man.CastlingSide.{CastlingSide}
 use Rattle.chess_base.specs.declared.man.CastlingSide.TheVariants.{KingSide, QueenSide}
 use Rattle.chess_base.specs.declared.man.Colour.{Colour}
@@ -12,8 +12,8 @@ use Rattle.chess_base.specs.declared.man.Man.{Man}
 use Rattle.chess_base.specs.declared.man.Move.{Move}
 use Rattle.chess_base.specs.declared.setup.Setup.{Setup}
 use Rattle.chess_base.specs.Attacks.{attacks, is_in_check}
-use Rattle.chess_base.specs.Men.{man_at, other, same_colour, same_kind, is_man, first_rank}
-use Rattle.chess_base.specs.Moves.{is_legal, has_pattern, after, moves_as, castles_or_moves, castling, says_castling, castled_king_file, castles, castles_with, castling_way_is_empty, castling_way_is_safe, lands_on, man_moves, pawn_moves, pawn_advances, pawn_captures, promotion_fits}
+use Rattle.chess_base.specs.Men.{is_of, man_at, other, same_colour, same_kind, is_man, first_rank}
+use Rattle.chess_base.specs.Moves.{is_legal, has_pattern, after, moves_as, castles_or_moves, castling, says_castling, castled_king_file, castled_rook_file, castles, castles_with, castling_way_is_empty, castling_way_is_safe, lands_on, man_moves, pawn_moves, pawn_advances, pawn_captures, promotion_fits}
 use Rattle.chess_base.specs.Sound.{home_square, king_home_file, right_of}
 use Rattle.chess_base.specs.Squares.{rank}
 use Rattle.chess_text.specs.declared.described.Described.{Described}
@@ -43,7 +43,7 @@ same_colour-true Black Black e = refl
 same_colour-true White Black e = absurd cc
 same_colour-true Black White e = absurd cc
 
-is_none-true : {A : Type 0} (o : Option A) → is_none o ≡ true → o ≡ None
+pub is_none-true : {A : Type 0} (o : Option A) → is_none o ≡ true → o ≡ None
 is_none-true None e = refl
 is_none-true (Some x) e = absurd cc
 
@@ -96,14 +96,14 @@ pawn_castles_not p m at (Some w) e =
 castles_no_promotion : (p : Setup) (m : Move) (w : CastlingSide) (o : Option ℕ) → castles_with p m w o ≡ true → m.promotion ≡ None
 castles_no_promotion p m w None e = absurd cc
 castles_no_promotion p m w (Some r) e =
-    let two = and_parts (is_none m.promotion && castling_way_is_empty p.men m.from (lands_on p m) r (home_square p.side (Rattle.chess_base.specs.Moves.castled_rook_file w))) (castling_way_is_safe p.men p.side m.from (lands_on p m)) e in
-    let one = and_parts (is_none m.promotion) (castling_way_is_empty p.men m.from (lands_on p m) r (home_square p.side (Rattle.chess_base.specs.Moves.castled_rook_file w))) two.0 in
+    let two = and_parts (is_none m.promotion && castling_way_is_empty p.men m.from (lands_on p m) r (home_square p.side (castled_rook_file w))) (castling_way_is_safe p.men p.side m.from (lands_on p m)) e in
+    let one = and_parts (is_none m.promotion) (castling_way_is_empty p.men m.from (lands_on p m) r (home_square p.side (castled_rook_file w))) two.0 in
     is_none-true m.promotion one.0
 
 no_promotion : (p : Setup) (m : Move) (o : Option CastlingSide) → castles_or_moves p m o ≡ true → m.promotion ≡ None
 unfolding man_moves castles
 no_promotion p m None e =
-    let two = and_parts (is_none m.promotion && attacks p.men m.from m.to) (not (Rattle.chess_base.specs.Men.is_of p.side (man_at p.men m.to))) e in
+    let two = and_parts (is_none m.promotion && attacks p.men m.from m.to) (not (is_of p.side (man_at p.men m.to))) e in
     is_none-true m.promotion (and_parts (is_none m.promotion) (attacks p.men m.from m.to) two.0).0
 no_promotion p m (Some w) e = castles_no_promotion p m w (right_of p.rights p.side w) e
 

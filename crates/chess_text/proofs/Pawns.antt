@@ -1,5 +1,5 @@
 -- A pawn's move is fixed by where it ends and by its file.
-use Rattle.std.proofs.Common.{◌≡◌, ◌≢◌, ℕ, zero, suc, ◌+◌, ◌-◌, ◌<◌, ◌≤◌, ◌⊎◌, inl, inr, Bool, true, false, not, ◌&&◌, ◌||◌, Option, Some, None, is_none, refl, sym, ap, ◌∙◌, arith, ◌==◌}
+use Rattle.std.proofs.Common.{◌≡◌, ◌≢◌, ℕ, zero, suc, ◌+◌, ◌<◌, ◌≤◌, ◌⊎◌, inl, inr, Bool, true, false, ◌&&◌, ◌||◌, Option, Some, None, is_none, refl, sym, ap, ◌∙◌, arith, ◌==◌}
 use Rattle.std.proofs.lemmas.Bool.{and_parts, and_from, or_cases, or_left, or_right, both_ways, eqb-true}
 use Rattle.chess_base.specs.declared.man.Colour.{Colour}
 use Rattle.chess_base.specs.declared.man.Colour.TheVariants.{White, Black}
@@ -13,6 +13,7 @@ use Rattle.chess_base.specs.Moves.{is_double_advance, is_en_passant, is_square, 
 use Rattle.chess_base.specs.Sound.{IsSound, pawn_may_stand, no_pawn_on_end_ranks}
 use Rattle.chess_base.specs.Squares.{file, rank, gap, each_below, each_square}
 use Rattle.chess_text.specs.Moves.{captures}
+use Rattle.chess_text.proofs.Legal.{is_none-true}
 
 abbrev pub pawn_of : Colour → Man
 pawn_of c = record { colour = c; kind = Pawn }
@@ -52,10 +53,6 @@ pawn_stands p sound c s h at =
 pub data Advance (p : Setup) (m : Move) : Type 0 where
   Single : m.to ≡ forward p.side m.from → Advance p m
   Double : m.to ≡ forward p.side (forward p.side m.from) → rank m.from ≡ pawn_rank p.side → man_at p.men (forward p.side m.from) ≡ None → Advance p m
-
-is_none-true : {A : Type 0} (o : Option A) → is_none o ≡ true → o ≡ None
-is_none-true None e = refl
-is_none-true (Some x) e = absurd cc
 
 advance_of : (p : Setup) (m : Move) → pawn_advances p m ≡ true → Advance p m
 unfolding pawn_advances is_double_advance

@@ -1,8 +1,8 @@
 -- The SAN of a legal move spells it alone.
-use Rattle.std.proofs.Common.{◌≡◌, ℕ, ◌<◌, ◌≤◌, inl, inr, Bool, true, false, not, ◌&&◌, ◌||◌, cond, List, [], ◌∷◌, ◌++◌, length, map, Option, Some, None, is_none, refl, sym, ap, subst, ◌∙◌, arith, ◌==◌}
+use Rattle.std.proofs.Common.{◌≡◌, ℕ, ◌<◌, ◌≤◌, inl, inr, Bool, true, false, not, ◌&&◌, ◌||◌, List, [], ◌∷◌, ◌++◌, length, map, Option, Some, None, is_none, refl, sym, ap, subst, ◌∙◌, arith, ◌==◌}
 use Rattle.std.specs.Prelude.{IfSome, IsTrue}
 use Rattle.std.specs.Option.{option_map}
-use Rattle.std.proofs.lemmas.Bool.{cases_Bool, and_parts, and_from, or_cases, or_left, or_right, eqb-true, eq-eqb, both_ways, not_from_true}
+use Rattle.std.proofs.lemmas.Bool.{and_parts, and_from, or_cases, eqb-true, eq-eqb, both_ways}
 use Rattle.std.specs.List.{list_any, list_all, filter}
 use Rattle.chess_base.specs.declared.man.CastlingSide.{CastlingSide}
 use Rattle.chess_base.specs.declared.man.CastlingSide.TheVariants.{KingSide, QueenSide}
@@ -11,26 +11,26 @@ use Rattle.chess_base.specs.declared.man.Kind.TheVariants.{King, Queen, Rook, Bi
 use Rattle.chess_base.specs.declared.man.Man.{Man}
 use Rattle.chess_base.specs.declared.man.Move.{Move}
 use Rattle.chess_base.specs.declared.setup.Setup.{Setup}
+use Rattle.chess_base.specs.Attacks.{is_rank_ahead}
 use Rattle.chess_base.specs.Men.{man_at, same_kind}
-use Rattle.chess_base.specs.Moves.{is_legal, after, castling, castled_king_file, pawn_moves}
+use Rattle.chess_base.specs.Moves.{is_legal, after, castling, pawn_moves}
 use Rattle.chess_base.specs.MoveList.{moves}
 use Rattle.chess_base.specs.Sound.{IsSound}
 use Rattle.chess_base.specs.Squares.{file, rank}
-use Rattle.chess_text.specs.declared.described.Described.{Described}
 use Rattle.chess_text.specs.declared.parts.Parts.{Parts}
 use Rattle.chess_text.specs.declared.parts.Promotion.{Promotion}
 use Rattle.chess_text.specs.declared.reading.Reading.TheVariants as reads
 use Rattle.chess_text.specs.declared.writing.ToldStart.{ToldStart}
 use Rattle.chess_text.specs.Laws.{SpellsAlone, is_san_byte, begins_with_letter}
 use Rattle.chess_text.specs.Parts.{AreParts, IsOfficer, CanPromote, unmarked, parts_text}
-use Rattle.chess_text.specs.Moves.{captures, described, passes, admits, has_equals, promotes_so, is_form, fits, is_by_squares, is_by_letter, is_straight, is_from_file, shape, spells_described, spells, reading}
+use Rattle.chess_text.specs.Moves.{captures, passes, admits, has_equals, promotes_so, is_form, fits, is_by_squares, is_by_letter, is_straight, is_from_file, shape, reading}
 use Rattle.chess_text.specs.Forms.{same_side}
-use Rattle.chess_text.specs.San.{castling_text, some_on_file, some_on_rank, told_start, if_said, pawn_parts, officer_parts, walk_parts, is_rival, rival_starts, text_by_castling, move_text, check_mark, san_as, san}
+use Rattle.chess_text.specs.San.{castling_text, told_start, if_said, pawn_parts, officer_parts, walk_parts, is_rival, rival_starts, text_by_castling, check_mark, san_as, san}
 use Rattle.chess_text.proofs.Alone.{read_alone, spelled_parts, shape_parts, spelled_castling, shape_castling, spells_move, same_kind-self, same_kind-true, move_is, written, promotes-self, promotes-same}
 use Rattle.chess_text.proofs.AllMoves.{any-filter, any-move}
 use Rattle.chess_text.proofs.Castlings.{IsCastling, letters_kingside, letters_queenside}
-use Rattle.chess_text.proofs.Legal.{MovesAs, IsMove, legal_move, told_of, described_is, castling_says}
-use Rattle.chess_text.proofs.Pawns.{pawn_of, pawn_stands, Advance, advances_on_file, same_advance, advances_without, advances_straight, captures_ahead, same_ahead}
+use Rattle.chess_text.proofs.Legal.{is_none-true, MovesAs, IsMove, legal_move, told_of, described_is, castling_says}
+use Rattle.chess_text.proofs.Pawns.{pawn_of, pawn_stands, advances_on_file, same_advance, advances_without, advances_straight, captures_ahead, same_ahead}
 use Rattle.chess_text.proofs.Solid.{bare_parts, bare_castling, bare_marked}
 use Rattle.chess_text.proofs.Words.{IsWord, Word, file_letter, man_letter, parts_bytes, castling_word, castling_bytes, marked_word}
 use Rattle.chess_text.proofs.Told.{told_admits, told_apart}
@@ -184,7 +184,7 @@ pawn_alone p m n true sound h is g e fit =
     let b = as_pawn p n g f.man in
     let ahead = captures_ahead p m a.0 a.1 e in
     let ahead' = captures_ahead p n b.0 b.1 f.takes in
-    let ahead'' : Rattle.chess_base.specs.Attacks.is_rank_ahead p.side n.from m.to ≡ true = ap (Rattle.chess_base.specs.Attacks.is_rank_ahead p.side n.from) (sym f.to) ∙ ahead' in
+    let ahead'' : is_rank_ahead p.side n.from m.to ≡ true = ap (is_rank_ahead p.side n.from) (sym f.to) ∙ ahead' in
     move_is n m (same_ahead p.side m.from n.from m.to ahead ahead'' f.on) f.to f.promotion
 pawn_alone p m n false sound h is g e fit =
     let f = straight_fits p m n g.man fit in
@@ -243,10 +243,6 @@ record Goes (p : Setup) (m n : Move) (k l : Kind) (start : ToldStart) : Type 0 w
   file_fits : admits (if_said start.file (file m.from)) (file n.from) ≡ true
   rank_fits : admits (if_said start.rank (rank m.from)) (rank n.from) ≡ true
   to : n.to ≡ m.to
-
-is_none-true : {A : Type 0} (o : Option A) → is_none o ≡ true → o ≡ None
-is_none-true None e = refl
-is_none-true (Some x) e = absurd cc
 
 officer_goes : (p : Setup) (m n : Move) (k l : Kind) (start : ToldStart) (c : Bool) → fits (officer_named k start c m.from m.to) (told_of p n l) ≡ true → Goes p m n k l start
 unfolding fits is_by_squares is_by_letter is_straight is_from_file

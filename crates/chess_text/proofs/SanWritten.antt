@@ -1,17 +1,16 @@
 -- What the writer of SAN puts together is the text of the definition.
-use Rattle.std.proofs.Common.{◌≡◌, ℕ, ◌+◌, ◌≤◌, Bool, true, false, ◌||◌, List, ◌++◌, length, Option, Some, None, is_none, refl, sym, ap, ◌∙◌, arith}
+use Rattle.std.proofs.Common.{◌≡◌, ℕ, List, ◌++◌, Some, None, refl, ap, ◌∙◌}
 use Rattle.std.specs.Prelude.{IsTrue}
 use Rattle.chess_base.specs.declared.man.Kind.{Kind}
 use Rattle.chess_base.specs.declared.man.Kind.TheVariants.{King, Queen, Rook, Bishop, Knight, Pawn}
 use Rattle.chess_base.specs.declared.man.Move.{Move}
 use Rattle.chess_base.specs.declared.setup.Setup.{Setup}
-use Rattle.chess_base.specs.Men.{same_kind}
 use Rattle.chess_base.specs.Moves.{is_legal, after}
 use Rattle.chess_base.specs.MoveList.{moves}
 use Rattle.chess_text.specs.declared.described.Described.{Described}
 use Rattle.chess_text.specs.Moves.{described}
 use Rattle.chess_text.specs.San.{promotes_as_a_pawn, rival_starts, move_text, check_mark, san_as, san}
-use Rattle.chess_text.proofs.Legal.{MovesAs, IsMove, legal_move, described_is, told_of}
+use Rattle.chess_text.proofs.Legal.{MovesAs, legal_move, described_is, told_of}
 
 by_kind : (p : Setup) (m : Move) (k : Kind) → MovesAs p m k → promotes_as_a_pawn (told_of p m k)
 by_kind p m Pawn h = refl

@@ -1,5 +1,5 @@
 -- The text of parts ends with a digit or a letter, so a mark behind it is all that is dropped.
-use Rattle.std.proofs.Common.{◌≡◌, ℕ, ◌+◌, ◌/◌, ◌<◌, Bool, true, false, List, [], ◌∷◌, ◌++◌, length, Option, Some, None, refl, sym, ap, ◌∙◌, arith, append_assoc, append-nil, ◌==◌}
+use Rattle.std.proofs.Common.{◌≡◌, ℕ, ◌+◌, ◌<◌, Bool, true, false, List, [], ◌∷◌, ◌++◌, length, Option, Some, None, refl, sym, ap, ◌∙◌, arith, append_assoc, append-nil, ◌==◌}
 use Rattle.std.specs.Prelude.{if◌then◌else◌}
 use Rattle.std.proofs.lemmas.Bool.Decides.{nat_tests}
 use Rattle.chess_base.specs.declared.man.CastlingSide.{CastlingSide}
@@ -12,7 +12,6 @@ use Rattle.chess_base.specs.Letters.{white_letter}
 use Rattle.chess_base.specs.MoveList.{moves}
 use Rattle.chess_base.specs.Squares.{file, rank}
 use Rattle.chess_base.specs.Writing.{square_text}
-use Rattle.chess_text.specs.declared.parts.End.{End}
 use Rattle.chess_text.specs.declared.parts.Parts.{Parts}
 use Rattle.chess_text.specs.declared.parts.Promotion.{Promotion}
 use Rattle.chess_text.specs.Parts.{is_mark, unmarked, optional, when, kind_text, file_text, rank_text, promotion_letter, promotion_text, end_text, parts_text}

@@ -1,7 +1,6 @@
 -- What is said of a start square.
-use Rattle.std.proofs.Common.{◌≡◌, ◌≢◌, ℕ, Bool, true, false, not, cond, List, [], ◌∷◌, Option, Some, None, refl, sym, ap, ◌∙◌, arith, ◌==◌}
+use Rattle.std.proofs.Common.{◌≡◌, ◌≢◌, ℕ, Bool, true, false, not, cond, List, [], ◌∷◌, refl, ap, arith}
 use Rattle.std.proofs.lemmas.Bool.{eqb-true, eq-eqb}
-use Rattle.std.specs.List.{list_any}
 use Rattle.chess_base.specs.Squares.{file, rank}
 use Rattle.chess_text.specs.Moves.{admits}
 use Rattle.chess_text.specs.San.{some_on_file, some_on_rank, said, told_start, if_said}

@@ -1,7 +1,7 @@
 -- The bytes of the texts that are written.
-use Rattle.std.proofs.Common.{◌≡◌, ℕ, ◌+◌, ◌<◌, ◌≤◌, Bool, true, false, ◌&&◌, ◌||◌, List, [], ◌∷◌, ◌++◌, length, Option, Some, None, refl, sym, ap, ◌∙◌, arith, append-nil, length-append, ◌==◌, nat_le}
+use Rattle.std.proofs.Common.{◌≡◌, ℕ, ◌+◌, ◌<◌, ◌≤◌, Bool, true, false, ◌&&◌, ◌||◌, List, [], ◌∷◌, ◌++◌, length, Option, Some, None, refl, arith, length-append, ◌==◌, nat_le}
 use Rattle.std.specs.Prelude.{IfSome, if◌then◌else◌}
-use Rattle.std.proofs.lemmas.Bool.{and_from, or_left, or_right}
+use Rattle.std.proofs.lemmas.Bool.{and_parts, and_from, or_left, or_right}
 use Rattle.std.proofs.lemmas.Bool.Decides.{nat_tests}
 use Rattle.std.specs.List.{list_all}
 use Rattle.chess_base.specs.declared.man.CastlingSide.{CastlingSide}
@@ -14,11 +14,10 @@ use Rattle.chess_base.specs.Letters.{white_letter}
 use Rattle.chess_base.specs.MoveList.{moves}
 use Rattle.chess_base.specs.Squares.{file, rank}
 use Rattle.chess_base.specs.Writing.{square_text}
-use Rattle.chess_text.specs.declared.parts.End.{End}
 use Rattle.chess_text.specs.declared.parts.Parts.{Parts}
 use Rattle.chess_text.specs.declared.parts.Promotion.{Promotion}
 use Rattle.chess_text.specs.Laws.{is_letter, is_digit, is_san_byte, begins_with_letter}
-use Rattle.chess_text.specs.Parts.{AreParts, optional, when, kind_text, file_text, rank_text, promotion_letter, promotion_text, end_text, parts_text}
+use Rattle.chess_text.specs.Parts.{AreParts, optional, when, kind_text, file_text, rank_text, promotion_letter, promotion_text, parts_text}
 use Rattle.chess_text.specs.San.{castling_text, check_mark}
 
 -- a text before its mark; with it
@@ -71,7 +70,7 @@ AreBytes text = list_all (λ c. is_san_byte c) text ≡ true
 bytes-append : (xs ys : List ℕ) → AreBytes xs → AreBytes ys → AreBytes (xs ++ ys)
 bytes-append [] ys h k = k
 bytes-append (x ∷ xs) ys h k =
-    let both = Rattle.std.proofs.lemmas.Bool.and_parts (is_san_byte x) (list_all (λ c. is_san_byte c) xs) h in
+    let both = and_parts (is_san_byte x) (list_all (λ c. is_san_byte c) xs) h in
     and_from (is_san_byte x) (list_all (λ c. is_san_byte c) (xs ++ ys)) both.0 (bytes-append xs ys both.1 k)
 
 one-byte : (c : ℕ) → is_san_byte c ≡ true → AreBytes (c ∷ [])

@@ -1,6 +1,6 @@
 -- What a text is read as, before any position is looked at: castling, or parts of a form.
 use Rattle.std.specs.Prelude.{Bool, if◌then◌else◌, List, ℕ, Option, Some, None}
-use Rattle.std.specs.List.{list_any, filter}
+use Rattle.std.specs.List.{list_any}
 use Rattle.std.specs.Str.{bytes_eq}
 use Rattle.chess_base.specs.declared.man.CastlingSide.{CastlingSide}
 use Rattle.chess_base.specs.declared.man.CastlingSide.TheVariants.{KingSide, QueenSide}

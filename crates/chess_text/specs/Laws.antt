@@ -1,15 +1,17 @@
 -- The laws of the texts, each as one statement.
-use Rattle.std.specs.Prelude.{◌≡◌, ℕ, ◌≤◌, ◌==◌, nat_le, Bool, false, ◌&&◌, ◌||◌, List, [], ◌∷◌, length, Some, IsTrue}
+use Rattle.std.specs.Prelude.{◌≡◌, ℕ, ◌≤◌, ◌==◌, nat_le, Bool, false, ◌&&◌, ◌||◌, ◌⊎◌, ◌↔◌, List, [], ◌∷◌, length, Some, IsTrue}
 use Rattle.std.specs.List.{list_all}
+use Rattle.chess_base.specs.declared.man.CastlingSide.{CastlingSide}
 use Rattle.chess_base.specs.declared.man.Move.{Move}
 use Rattle.chess_base.specs.declared.setup.Setup.{Setup}
 use Rattle.chess_base.specs.Letters.{byte}
 use Rattle.chess_base.specs.Moves.{is_legal}
 use Rattle.chess_base.specs.Sound.{IsSound}
+use Rattle.chess_text.specs.declared.described.Described.{Described}
 use Rattle.chess_text.specs.declared.parts.Parts.{Parts}
 use Rattle.chess_text.specs.declared.reading.Reading.TheVariants as reads
-use Rattle.chess_text.specs.Parts.{AreParts, parts_at, parts_text}
-use Rattle.chess_text.specs.Moves.{spells, shape, reading, coordinate}
+use Rattle.chess_text.specs.Parts.{AreParts, unmarked, parts_at, parts_text}
+use Rattle.chess_text.specs.Moves.{is_castling_text, fits, spells_described, spells, shape, reading, coordinate}
 use Rattle.chess_text.specs.San.{san}
 
 -- the text spells the move, and of the legal moves no other
@@ -67,3 +69,12 @@ PartsAreTheTexts = (text : List ℕ) → (q : Parts) → parts_at text ≡ Some 
 
 abbrev pub PartsAreRead : Type 0
 PartsAreRead = (q : Parts) → AreParts q → parts_at (parts_text q) ≡ Some q
+
+-- a text spells what its castling names, or what the parts fit whose text it is without marks: said with no reader
+abbrev pub IsSpelled : List ℕ → Described → Type 0
+IsSpelled text d =
+    ((w : CastlingSide) × (d.castles ≡ Some w) × IsTrue (is_castling_text text w))
+    ⊎ ((q : Parts) × AreParts q × (unmarked text ≡ parts_text q) × IsTrue (fits q d))
+
+abbrev pub SpelledByText : Type 0
+SpelledByText = (text : List ℕ) → (d : Described) → IsTrue (spells_described text d) ↔ IsSpelled text d

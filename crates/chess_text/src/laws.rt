@@ -1,6 +1,6 @@
 //! Laws of the texts. A caller learns one by calling its function, which does nothing.
 
-ghost use Rattle.chess_text.specs.Laws.{SanSpellsItsMove, SanHasShape, SanIsReadBack, SanIsShort, SanHasBytes, SanBeginsWithLetter, CoordinateSpellsItsMove, CoordinateHasShape, CoordinateIsReadBack, PartsAreTheTexts, PartsAreRead};
+ghost use Rattle.chess_text.specs.Laws.{SanSpellsItsMove, SanHasShape, SanIsReadBack, SanIsShort, SanHasBytes, SanBeginsWithLetter, CoordinateSpellsItsMove, CoordinateHasShape, CoordinateIsReadBack, PartsAreTheTexts, PartsAreRead, SpelledByText};
 
 /// The SAN of a legal move of a sound position spells it and no other legal move, and is read as it.
 pub fn san_spells_its_move()
@@ -24,8 +24,10 @@ pub fn coordinate_spells_its_move()
     ensures read_back { CoordinateIsReadBack }
 {}
 
-/// The parts of a text are those that it is written from.
+/// The parts of a text are those that it is written from; so a text spells the castling that it names, or what the parts fit
+/// whose text it is.
 pub fn texts_have_parts()
     ensures read { PartsAreTheTexts }
     ensures written { PartsAreRead }
+    ensures spelled { SpelledByText }
 {}

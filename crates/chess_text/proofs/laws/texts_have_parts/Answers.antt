@@ -1,3 +1,4 @@
+use Rattle.chess_text.proofs.Alone.{spelled_by_text}
 use Rattle.chess_text.proofs.Grammar.{spelled-parts, parts-spelled}
 use Rattle.chess_text.proofs.laws.texts_have_parts.Goals as goal
 
@@ -6,3 +7,6 @@ returns-clause-read c = spelled-parts
 
 pub returns-clause-written : goal.returns-clause-written
 returns-clause-written c = parts-spelled
+
+pub returns-clause-spelled : goal.returns-clause-spelled
+returns-clause-spelled c = spelled_by_text

@@ -1,4 +1,3 @@
-use Rattle.std.proofs.Common.{sym, ap, ◌∙◌, is_some}
 use Rattle.chess_text.proofs.FormFacts.{shape-form}
 use Rattle.chess_text.proofs.reading.has_move_shape.Goals as goal
 

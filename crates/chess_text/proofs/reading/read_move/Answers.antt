@@ -1,4 +1,4 @@
-use Rattle.std.proofs.Common.{◌≡◌, sym, ap, ◌∙◌, Option, Some, None, List}
+use Rattle.std.proofs.Common.{◌≡◌, sym, ap, ◌∙◌, Some, List}
 use Rattle.std.specs.List.{filter}
 use Rattle.chess_base.specs.declared.man.Move.{Move}
 use Rattle.chess_base.specs.declared.setup.Setup.{Setup}
