@@ -1,0 +1,4 @@
+//! Texts of moves and games (PGN standard of 1994).
+#![tactic(auto)]
+
+mod pgn;
