@@ -3,3 +3,4 @@
 mod bytes;
 mod skips;
 mod tag;
+mod variation;

@@ -1,7 +1,6 @@
 //! What is skipped between tokens: blanks, `%` lines and comments. Each function cuts the front of a text off.
 
-ghost use Rattle.std.specs.Prelude.{◌≡◌, drop, take, false, Option};
-ghost use Rattle.std.specs.List.{prefix_len};
+ghost use Rattle.std.specs.Prelude.{◌≡◌, ◌≤◌, ◌<◌, length, false, Option, IfSome};
 ghost use Rattle.std.specs.Option.{option_map};
 ghost use Rattle.chess_text.specs.Tokens.{line_end, behind_brace, behind_gap};
 
@@ -9,7 +8,8 @@ use crate::pgn::bytes::is_blank;
 
 // From the end of the line on.
 pub(crate) fn line_end(text: &[u8]) -> &[u8]
-    ensures { result.now ≡ line_end text.now }
+    ensures rest { result.now ≡ line_end text.now }
+    ensures shorter { length result.now ≤ length text.now }
 {
     let mut rest = text;
     while let [byte, others @ ..] = rest {
@@ -23,7 +23,8 @@ pub(crate) fn line_end(text: &[u8]) -> &[u8]
 
 // Behind the first closing brace.
 pub(crate) fn behind_brace(text: &[u8]) -> Option<&[u8]>
-    ensures { option_map (λ r. r.now) result ≡ behind_brace text.now }
+    ensures rest { option_map (λ r. r.now) result ≡ behind_brace text.now }
+    ensures shorter { IfSome result (λ r. length r.now < length text.now) }
 {
     let mut rest = text;
     while let [byte, others @ ..] = rest {
