@@ -3,4 +3,5 @@
 mod bytes;
 mod skips;
 mod tag;
+mod token;
 mod variation;

@@ -3,18 +3,11 @@
 ghost use Rattle.std.specs.Prelude.{◌≡◌, ◌+◌, ◌≤◌, ◌<◌, ◌^◌, length, false, IfSome, Option, Result};
 ghost use Rattle.std.specs.Option.{option_map};
 ghost use Rattle.chess_text.specs.Tokens.{variation_at, Plain};
-ghost use Rattle.chess_text.specs.Parts.{behind_part, depth_behind, variation_seen};
+ghost use Rattle.chess_text.specs.Parts.{behind_part, depth_behind};
+ghost use Rattle.chess_text.specs.Seen.{variation_seen};
 
 use crate::pgn::skips::{behind_brace, line_end};
-
-/// What has no end.
-#[derive(Clone, Copy)]
-pub(crate) enum Unclosed {
-    /// A comment in the variation, at whose brace so many bytes of the text are left.
-    Comment { left: usize },
-    /// The variation.
-    Variation,
-}
+use crate::pgn::token::TokenFault;
 
 // Behind a byte, or the `%` line or comment that it begins.
 fn behind_part(line_begins: bool, byte: u8, rest: &[u8]) -> Option<&[u8]>
@@ -42,7 +35,7 @@ fn depth_behind(depth: usize, byte: u8) -> Option<usize>
 }
 
 // Behind a variation, whose `(` stands before the text.
-pub(crate) fn behind_variation(text: &[u8]) -> Result<&[u8], Unclosed>
+pub(crate) fn behind_variation(text: &[u8]) -> Result<&[u8], TokenFault>
     ensures { variation_seen result ≡ variation_at Plain false 1 text.now }
 {
     let mut rest = text;
@@ -50,7 +43,7 @@ pub(crate) fn behind_variation(text: &[u8]) -> Result<&[u8], Unclosed>
     let mut depth = 0;
     while let [byte, others @ ..] = rest {
         let Some(behind) = behind_part(line_begins, *byte, others) else {
-            return Err(Unclosed::Comment { left: rest.len() });
+            return Err(TokenFault::UnclosedComment { left: rest.len() });
         };
         let Some(open) = depth_behind(depth, *byte) else {
             return Ok(behind);
@@ -59,5 +52,5 @@ pub(crate) fn behind_variation(text: &[u8]) -> Result<&[u8], Unclosed>
         depth = open;
         rest = behind;
     }
-    Err(Unclosed::Variation)
+    Err(TokenFault::UnclosedVariation)
 }
