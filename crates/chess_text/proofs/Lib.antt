@@ -1,3 +1,4 @@
 pub mod Skipped
 pub mod Strings
 pub mod Variations
+pub mod Cuts
