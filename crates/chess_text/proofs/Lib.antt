@@ -2,3 +2,4 @@ pub mod Skipped
 pub mod Strings
 pub mod Variations
 pub mod Cuts
+pub mod Walk
