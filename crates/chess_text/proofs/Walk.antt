@@ -2,7 +2,7 @@
 use Rattle.std.proofs.Common.{◌≡◌, ℕ, zero, suc, ◌+◌, ◌-◌, ◌<◌, ◌≤◌, Bool, true, false, cond, eqb, List, [], ◌∷◌, ◌++◌, length, get_or, take, drop, refl, sym, ap, subst, ◌∙◌, inl, inr, ◌⊎◌, append_assoc, arith}
 use Rattle.std.specs.Prelude.{◌||◌, slice_index}
 use Rattle.std.proofs.lemmas.Bool.Decides.{nat_tests}
-use Rattle.std.proofs.lemmas.List.{length-append, length-drop, take-append-drop, get_or_at, drop_at}
+use Rattle.std.proofs.lemmas.List.{length-append, length-drop, take-append-drop, get_or_at, drop_at, take_rest}
 use Rattle.chess_text.specs.Tokens.{Token, token_at, tokens_of, begins_line, tokens_from}
 use Rattle.chess_text.proofs.Cuts.{Cut, Left, token_left, token_ten}
 
@@ -119,3 +119,30 @@ token_more text at c rest is h =
 pub token_nearer : (text : List ℕ) (at c : ℕ) (rest : List ℕ) → drop at text ≡ c ∷ rest → at ≤ length text → at < length text - length (token_at (begins_line text at) c rest).1
 token_nearer text at c rest is h =
     omega (arith, ap length is, length-drop at text, shorter (begins_line text at) c rest)
+
+-- ---- as code meets it
+
+pub record NextToken (text : List ℕ) (at : ℕ) (token : Token) (behind : List ℕ) : Type 0 where
+  pub tokens : tokens_from text at ≡ (length text - at, token) ∷ tokens_from text (length text - length behind)
+  pub nearer : at < length text - length behind
+  pub fewer : length behind ≤ length text
+
+pub next_token : (text : List ℕ) (at : ℕ) (begins : Bool) (xs : List ℕ) → at ≤ length text → begins ≡ begins_line text at → xs ≡ take (length text - at) (drop at text) → 1 ≤ length xs → (token : Token) (behind : List ℕ) → (token, behind) ≡ token_at begins (get_or xs 0 0) (take (length xs - 1) (drop 1 xs)) → NextToken text at token behind
+next_token text at begins [] h line is some token behind e = absurd (omega (arith, some))
+next_token text at begins (c ∷ rest) h line is some token behind e =
+    let left : drop at text ≡ c ∷ rest = sym (is ∙ take_rest text at) in
+    let t : Token × List ℕ = token_at (begins_line text at) c rest in
+    let same : t ≡ (token, behind) = ap (token_at (begins_line text at) c) (sym (take_rest (c ∷ rest) 1)) ∙ ap (λ b. token_at b c (take (suc (length rest) - 1) (drop 1 (c ∷ rest)))) (sym line) ∙ sym e in
+    record {
+      tokens = subst (λ (p : Token × List ℕ). tokens_from text at ≡ (length text - at, p.0) ∷ tokens_from text (length text - length p.1)) same (token_more text at c rest left h);
+      nearer = subst (λ (p : Token × List ℕ). at < length text - length p.1) same (token_nearer text at c rest left h);
+      fewer = subst (λ (p : Token × List ℕ). length p.1 ≤ length text) same (omega (arith, ap length left, length-drop at text, shorter (begins_line text at) c rest));
+    }
+
+pub last_token : (text : List ℕ) (at : ℕ) (begins : Bool) (xs : List ℕ) → at ≤ length text → begins ≡ begins_line text at → xs ≡ take (length text - at) (drop at text) → 1 ≤ length xs → (token : Token) → (token, []) ≡ token_at begins (get_or xs 0 0) (take (length xs - 1) (drop 1 xs)) → tokens_from text at ≡ (length text - at, token) ∷ []
+last_token text at begins xs h line is some token e =
+    (next_token text at begins xs h line is some token [] e).tokens
+    ∙ ap (λ tokens. (length text - at, token) ∷ tokens) (no_token text (length text - 0) (omega (arith, length-drop (length text - 0) text)))
+
+pub no_token_left : (text : List ℕ) (at : ℕ) (xs : List ℕ) → xs ≡ take (length text - at) (drop at text) → length xs < 1 → tokens_from text at ≡ []
+no_token_left text at xs is none = no_token text at (omega (arith, ap length (is ∙ take_rest text at)))

@@ -1,9 +1,9 @@
 //! The tokens of a game's text.
 
-ghost use Rattle.std.specs.Prelude.{◌≡◌, ◌∷◌, drop, false};
+ghost use Rattle.std.specs.Prelude.{◌≡◌, ◌≤◌, ◌∷◌, length, drop, false};
 ghost use Rattle.std.specs.List.{prefix_len, take_while};
-ghost use Rattle.chess_text.specs.Tokens.{is_digit, is_word_byte, token_at, comment_at, behind_brace, variation_at, Plain, tag_at};
-ghost use Rattle.chess_text.specs.Seen.{first_seen};
+ghost use Rattle.chess_text.specs.Tokens.{is_digit, is_word_byte, token_at, comment_at, behind_brace, variation_at, Plain, tag_at, begins_line, first_place};
+ghost use Rattle.chess_text.specs.Seen.{first_seen, IsNextToken};
 
 use crate::pgn::bytes::{is_blank, is_digit, is_word_byte};
 use crate::pgn::skips::{behind_brace, line_end};
@@ -106,5 +106,44 @@ fn read_token<'a>(line_begins: bool, first: u8, rest: &'a [u8], text: &'a [u8]) 
             Ok((Token::Word(word), behind))
         }
         _ => Err(TokenFault::BadByte),
+    }
+}
+
+// Whether a line begins at a place: it is the text's first byte, or byte 10 stands before it.
+fn begins_line(text: &[u8], at: usize) -> bool
+    requires { at ≤ length text.now }
+    ensures { result ≡ begins_line text.now at }
+{
+    at == 0 || text[at - 1] == b'\n'
+}
+
+/// The next token of a text from a place on, and the place behind it; `None` at the text's end.
+///
+/// # Errors
+/// Where no token can be read at the first byte from there on.
+pub(crate) fn next_token(text: &[u8], at: usize) -> Result<Option<(Token<'_>, usize)>, TokenFault>
+    requires { at ≤ length text.now }
+    ensures { IsNextToken text.now at result }
+{
+    let left = &text[at..];
+    let [first, rest @ ..] = left else {
+        return Ok(None);
+    };
+    match read_token(begins_line(text, at), *first, rest, left) {
+        Ok((token, behind)) => Ok(Some((token, text.len() - behind.len()))),
+        Err(fault) => Err(fault),
+    }
+}
+
+/// The place where reading begins: behind the bytes EF BB BF (a byte order mark) at place 0, else the place itself.
+pub(crate) fn first_place(text: &[u8], at: usize) -> usize
+    requires { at ≤ length text.now }
+    ensures place { result ≡ first_place text.now at }
+    ensures within { result ≤ length text.now }
+{
+    if at == 0 && text.starts_with(&[0xEF, 0xBB, 0xBF]) {
+        3
+    } else {
+        at
     }
 }
