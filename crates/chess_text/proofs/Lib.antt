@@ -3,3 +3,4 @@ pub mod Strings
 pub mod Variations
 pub mod Cuts
 pub mod Walk
+pub mod FilledLines

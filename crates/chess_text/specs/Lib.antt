@@ -1,3 +1,5 @@
 pub mod Tokens
 pub mod Seen
 pub mod Parts
+pub mod Written
+pub mod Waiting
