@@ -4,3 +4,4 @@ pub mod Variations
 pub mod Cuts
 pub mod Walk
 pub mod FilledLines
+pub mod Added

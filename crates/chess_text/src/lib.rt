@@ -2,3 +2,5 @@
 #![tactic(auto)]
 
 mod pgn;
+
+pub use pgn::lines_are_filled;

@@ -1,7 +1,11 @@
 //! A game's text, read and written (PGN standard of 1994).
 
+mod buffer;
 mod bytes;
+mod laws;
 mod skips;
 mod tag;
 mod token;
 mod variation;
+
+pub use laws::lines_are_filled;
