@@ -3,6 +3,7 @@
 mod buffer;
 mod bytes;
 mod laws;
+mod lines;
 mod skips;
 mod tag;
 mod token;
