@@ -1,4 +1,5 @@
 pub mod Tokens
+pub mod Words
 pub mod Seen
 pub mod Parts
 pub mod Written

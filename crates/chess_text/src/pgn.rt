@@ -4,9 +4,11 @@ mod buffer;
 mod bytes;
 mod laws;
 mod lines;
+mod outcome;
 mod skips;
 mod tag;
 mod token;
 mod variation;
+mod word;
 
 pub use laws::lines_are_filled;
