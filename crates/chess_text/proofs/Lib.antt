@@ -5,3 +5,4 @@ pub mod Cuts
 pub mod Walk
 pub mod FilledLines
 pub mod Added
+pub mod TagTexts

@@ -4,3 +4,4 @@ pub mod Seen
 pub mod Parts
 pub mod Written
 pub mod Waiting
+pub mod Tags

@@ -65,6 +65,11 @@ move_text_of prefix tokens = filled_from prefix 0 tokens
 abbrev pub tag_byte : ℕ → ℕ
 tag_byte c = if nat_lt c 32 || nat_lt 126 c then 63 else c
 
+-- what a tag's text is: at most 60 printable bytes of ASCII
+pub record IsTagText (text : List ℕ) : Type 0 where
+  pub few : length text ≤ 60
+  pub printable : AllByRecursion (λ c. (32 ≤ c) × (c ≤ 126)) text
+
 -- what is kept of a text for a tag: its first 60 bytes
 abbrev pub cut_tag : List ℕ → List ℕ
 cut_tag text = map tag_byte (take 60 text)

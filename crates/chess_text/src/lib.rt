@@ -3,4 +3,4 @@
 
 mod pgn;
 
-pub use pgn::lines_are_filled;
+pub use pgn::{TagText, Tags, lines_are_filled};

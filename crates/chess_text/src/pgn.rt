@@ -7,8 +7,10 @@ mod lines;
 mod outcome;
 mod skips;
 mod tag;
+mod tags;
 mod token;
 mod variation;
 mod word;
 
 pub use laws::lines_are_filled;
+pub use tags::{TagText, Tags};
