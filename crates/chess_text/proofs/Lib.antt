@@ -6,3 +6,4 @@ pub mod Walk
 pub mod FilledLines
 pub mod Added
 pub mod TagTexts
+pub mod TagLines

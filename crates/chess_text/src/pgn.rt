@@ -7,6 +7,7 @@ mod lines;
 mod outcome;
 mod skips;
 mod tag;
+mod tag_lines;
 mod tags;
 mod token;
 mod variation;

@@ -1,8 +1,7 @@
-//! The tags of a game, and writing them.
+//! The tags of a game.
 
-ghost use Rattle.std.specs.Prelude.{◌≡◌, ◌+◌, ◌*◌, ◌≤◌, ◌++◌, length, map};
-ghost use Rattle.arrayvec.specs.ArrayVec.{array_vec_len};
-ghost use Rattle.chess_text.specs.Written.{tag_byte, cut_tag, escaped, tag_line, IsTagText};
+ghost use Rattle.std.specs.Prelude.{◌≡◌, ◌≤◌, length, map};
+ghost use Rattle.chess_text.specs.Written.{tag_byte, cut_tag, IsTagText};
 
 use arrayvec::ArrayVec;
 use std::marker::Model;
@@ -106,36 +105,6 @@ impl Default for Tags {
 pub(crate) struct TagPair<'a> {
     pub name: &'a [u8],
     pub text: &'a [u8],
-}
-
-// The line of a tag, put together.
-type TagLine = ArrayVec<u8, 256>;
-
-// A text with a backslash before each quote and backslash.
-fn write_escaped(line: &mut TagLine, text: &[u8])
-    requires { array_vec_len line.old + 2 * length text.now ≤ 256 }
-    ensures text { line.new.items ≡ line.old.items ++ escaped text.now }
-    ensures len { array_vec_len line.new ≤ array_vec_len line.old + 2 * length text.now }
-{
-    for byte in text {
-        if *byte == b'"' || *byte == b'\\' {
-            line.push(b'\\');
-        }
-        line.push(*byte);
-    }
-}
-
-// The line of a tag.
-pub(crate) fn tag_line(name: &[u8], text: &[u8]) -> TagLine
-    requires name { length name.now ≤ 20 }
-    requires text { length text.now ≤ 100 }
-    ensures { result.items ≡ tag_line name.now text.now }
-{
-    let mut line = TagLine::new();
-    line.push(b'[');
-    line.try_extend_from_slice(name).unwrap();
-    line.try_extend_from_slice(b" \"").unwrap();
-    write_escaped(&mut line, text);
-    line.try_extend_from_slice(b"\"]").unwrap();
-    line
+    ghost short_name: { length name.now ≤ 20 },
+    ghost short_text: { length text.now ≤ 100 },
 }

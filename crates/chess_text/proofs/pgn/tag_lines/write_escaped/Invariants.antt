@@ -1,7 +1,7 @@
 use Rattle.std.proofs.Common.{◌≡◌, ◌+◌, ◌*◌, ◌≤◌, ◌++◌, take}
 use Rattle.arrayvec.specs.ArrayVec.{array_vec_len}
 use Rattle.chess_text.specs.Written.{escaped}
-use Rattle.chess_text.proofs.pgn.tags.write_escaped.Given as goal
+use Rattle.chess_text.proofs.pgn.tag_lines.write_escaped.Given as goal
 
 abbrev pub invariant-loop-byte : goal.invariant-loop-byte
 invariant-loop-byte l = record {
