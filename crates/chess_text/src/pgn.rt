@@ -15,3 +15,6 @@ mod word;
 
 pub use laws::lines_are_filled;
 pub use tags::{TagText, Tags};
+
+#[cfg(test)]
+mod tests;

@@ -67,7 +67,11 @@ impl TextBuffer {
     ///
     /// # Errors
     /// Where the writer failed; a beginning of what waited and of the texts was taken.
-    pub(crate) fn add_parts<W: Output>(&mut self, writer: &mut W, parts: &[&[u8]]) -> Result<(), WriteFault>
+    pub(crate) fn add_parts<W: Output>(
+        &mut self,
+        writer: &mut W,
+        parts: &[&[u8]],
+    ) -> Result<(), WriteFault>
         ensures { Adds (W.seen writer.old) (W.seen writer.new) self.old self.new result (joined parts.now) }
     {
         for part in parts {

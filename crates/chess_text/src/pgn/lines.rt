@@ -17,6 +17,7 @@ pub(crate) struct LineWriter<'a> {
     prefix: &'a [u8],
     waiting: TextBuffer,
     column: usize,
+    ghost short_line: { column ≤ 79 },
 }
 
 impl<'a> LineWriter<'a> {
@@ -37,7 +38,11 @@ impl<'a> LineWriter<'a> {
     ///
     /// # Errors
     /// Where the writer failed; a beginning was taken.
-    pub(crate) fn put_line<W: Output>(&mut self, writer: &mut W, line: &[u8]) -> Result<(), WriteFault>
+    pub(crate) fn put_line<W: Output>(
+        &mut self,
+        writer: &mut W,
+        line: &[u8],
+    ) -> Result<(), WriteFault>
         ensures added { Adds (W.seen writer.old) (W.seen writer.new) self.old.waiting self.new.waiting result (self.old.prefix.now ++ line.now ++ 10 ∷ []) }
         ensures prefix { self.new.prefix.now ≡ self.old.prefix.now }
         ensures column { self.new.column ≡ self.old.column }
@@ -49,13 +54,15 @@ impl<'a> LineWriter<'a> {
     ///
     /// # Errors
     /// Where the writer failed; a beginning was taken.
-    pub(crate) fn put_token<W: Output>(&mut self, writer: &mut W, token: &[u8]) -> Result<(), WriteFault>
+    pub(crate) fn put_token<W: Output>(
+        &mut self,
+        writer: &mut W,
+        token: &[u8],
+    ) -> Result<(), WriteFault>
         requires some { 0 < length token.now }
         requires short { length token.now ≤ 79 }
-        requires line { self.old.column ≤ 79 }
         ensures added { Adds (W.seen writer.old) (W.seen writer.new) self.old.waiting self.new.waiting result (placed self.old.prefix.now self.old.column token.now) }
         ensures column { self.new.column ≡ column_behind self.old.column token.now }
-        ensures line { self.new.column ≤ 79 }
         ensures prefix { self.new.prefix.now ≡ self.old.prefix.now }
     {
         if self.column == 0 {

@@ -88,7 +88,12 @@ fn read_bracket(text: &[u8]) -> Result<(Token<'_>, &[u8]), TokenFault>
 
 // The first token of a text that begins with this byte, where a line begins or not, and what stands behind it.
 #[tactic(auto, unfolding(crate::specs::Tokens::token_at))]
-fn read_token<'a>(line_begins: bool, first: u8, rest: &'a [u8], text: &'a [u8]) -> Result<(Token<'a>, &'a [u8]), TokenFault>
+fn read_token<'a>(
+    line_begins: bool,
+    first: u8,
+    rest: &'a [u8],
+    text: &'a [u8],
+) -> Result<(Token<'a>, &'a [u8]), TokenFault>
     requires { text.now ≡ first ∷ rest.now }
     ensures { first_seen result ≡ token_at line_begins first rest.now }
 {
