@@ -1,11 +1,10 @@
 -- What a token takes of a text: a front that ends with a byte other than 10, unless the token is one byte 10.
-use Rattle.std.proofs.Common.{◌≡◌, ℕ, zero, suc, ◌+◌, Bool, true, false, cond, not, eqb, List, [], ◌∷◌, ◌++◌, length, drop, Option, Some, None, IfSome, refl, sym, ap, subst, ◌∙◌, inl, inr, ◌⊎◌, append_assoc, arith}
+use Rattle.std.proofs.Common.{◌≡◌, ℕ, zero, suc, ◌+◌, Bool, true, false, cond, not, eqb, List, [], ◌∷◌, ◌++◌, length, drop, Option, Some, None, IfSome, refl, sym, ap, ◌∙◌, inl, inr, ◌⊎◌, append_assoc, arith}
 use Rattle.std.specs.Prelude.{◌&&◌, ◌||◌}
 use Rattle.std.specs.List.{prefix_len, take_while}
 use Rattle.std.proofs.lemmas.Bool.Decides.{nat_tests}
-use Rattle.std.proofs.lemmas.Bool.{and_parts}
 use Rattle.std.proofs.lemmas.List.{take-append-drop}
-use Rattle.chess_text.specs.Tokens.{Token, Plain, Brace, Line, Inside, is_digit, is_blank, is_word_byte, is_name_byte, line_end, behind_brace, behind_gap, string_at, onto, behind_byte, behind_next, closed, with_text, with_string, with_name, tag_at, variation_at, comment_at, token_at}
+use Rattle.chess_text.specs.Tokens.{Token, Plain, Brace, Line, Inside, is_digit, is_blank, is_word_byte, is_name_byte, behind_brace, behind_gap, string_at, onto, behind_byte, behind_next, closed, with_text, with_string, with_name, tag_at, variation_at, comment_at, token_at}
 
 -- the rest of a text behind a byte other than 10
 pub record Cut (text rest : List ℕ) : Type 0 where

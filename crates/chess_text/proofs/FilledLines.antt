@@ -1,9 +1,9 @@
 -- Tokens in filled lines: the text from left to right has the property of lines, and no other text has it.
-use Rattle.std.proofs.Common.{◌≡◌, ℕ, zero, suc, ◌+◌, ◌<◌, ◌≤◌, Bool, true, false, cond, eqb, leb, List, [], ◌∷◌, ◌++◌, length, refl, sym, ap, subst, ◌∙◌, append_assoc, arith}
+use Rattle.std.proofs.Common.{◌≡◌, ℕ, suc, ◌+◌, ◌<◌, ◌≤◌, Bool, true, false, cond, eqb, leb, List, [], ◌∷◌, ◌++◌, length, refl, sym, ap, subst, ◌∙◌, append_assoc, arith}
 use Rattle.std.specs.List.{flat_map}
 use Rattle.std.proofs.lemmas.Bool.Decides.{nat_tests}
 use Rattle.std.proofs.lemmas.List.{append-nil, length-append}
-use Rattle.chess_text.specs.Written.{line_text, AreFilled, AreShort, tokens_in, IsMoveText, placed, column_behind, line_close, filled_from, move_text_of}
+use Rattle.chess_text.specs.Written.{line_text, AreFilled, AreShort, tokens_in, IsMoveText, filled_from, move_text_of}
 
 -- what follows a line that has some bytes
 abbrev behind : List ℕ → ℕ → List (List ℕ) → List ℕ

@@ -1,10 +1,10 @@
 -- A tag's string, byte by byte.
-use Rattle.std.proofs.Common.{◌≡◌, ◌≢◌, ℕ, suc, ◌+◌, ◌-◌, ◌<◌, Bool, true, false, cond, eqb, List, [], ◌∷◌, ◌++◌, length, get_or, take, drop, Option, Some, None, refl, sym, ap, ◌∙◌, append_assoc, append-nil, add-one, arith}
+use Rattle.std.proofs.Common.{◌≡◌, ◌≢◌, ℕ, ◌+◌, ◌-◌, ◌<◌, Bool, true, false, cond, eqb, List, [], ◌∷◌, ◌++◌, length, get_or, take, drop, Option, Some, None, refl, sym, ap, ◌∙◌, append_assoc, append-nil, add-one, arith}
 use Rattle.std.proofs.Math.Seq.{take-suc}
 use Rattle.std.proofs.lemmas.Bool.Decides.{nat_tests}
 use Rattle.std.proofs.lemmas.List.{at_drop_more, take_rest}
 use Rattle.std.specs.List.{prefix_len, take_while}
-use Rattle.chess_text.specs.Tokens.{Token, Bad_tag, is_name_byte, behind_gap, onto, string_at, behind_next, closed, with_text, with_string, with_name, tag_at}
+use Rattle.chess_text.specs.Tokens.{Bad_tag, is_name_byte, behind_gap, onto, string_at, behind_next, closed, with_text, with_string, with_name, tag_at}
 
 -- a string whose first byte a backslash keeps, or not
 abbrev pub string_behind : Bool → List ℕ → Option (List ℕ × List ℕ)

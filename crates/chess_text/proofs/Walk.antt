@@ -1,10 +1,9 @@
 -- Going from token to token.
-use Rattle.std.proofs.Common.{◌≡◌, ℕ, zero, suc, ◌+◌, ◌-◌, ◌<◌, ◌≤◌, Bool, true, false, cond, eqb, List, [], ◌∷◌, ◌++◌, length, get_or, take, drop, refl, sym, ap, subst, ◌∙◌, inl, inr, ◌⊎◌, append_assoc, arith}
-use Rattle.std.specs.Prelude.{◌||◌, slice_index}
+use Rattle.std.proofs.Common.{◌≡◌, ℕ, zero, suc, ◌-◌, ◌<◌, ◌≤◌, Bool, true, false, eqb, List, [], ◌∷◌, ◌++◌, length, get_or, take, drop, refl, sym, ap, subst, ◌∙◌, inl, inr, ◌⊎◌, append_assoc, arith}
 use Rattle.std.proofs.lemmas.Bool.Decides.{nat_tests}
 use Rattle.std.proofs.lemmas.List.{length-append, length-drop, take-append-drop, get_or_at, drop_at, take_rest}
 use Rattle.chess_text.specs.Tokens.{Token, token_at, tokens_of, begins_line, tokens_from}
-use Rattle.chess_text.proofs.Cuts.{Cut, Left, token_left, token_ten}
+use Rattle.chess_text.proofs.Cuts.{Left, token_left, token_ten}
 
 -- what stands behind a token: nothing, or a rest before which stands a byte that is 10 exactly where the token's first is
 record Behind (c : ℕ) (rest behind : List ℕ) : Type 0 where

@@ -1,6 +1,5 @@
 -- The tags of a game (PGN standard of 1994, section 8.1.1).
-use Rattle.std.specs.Prelude.{List, ℕ, ◌++◌, [], ◌∷◌, codes, map}
-use Rattle.std.specs.List.{flat_map}
+use Rattle.std.specs.Prelude.{List, ℕ, codes, map}
 use Rattle.chess_text.specs.declared.pgn.tags.Tags.{Tags}
 use Rattle.chess_text.specs.declared.pgn.tags.TagPair.{TagPair}
 use Rattle.chess_text.specs.Written.{tag_line}

@@ -1,4 +1,4 @@
-use Rattle.std.proofs.Common.{sym, ◌∙◌, ap, eq-eqb, ne_eqb, eqb}
+use Rattle.std.proofs.Common.{sym, ◌∙◌}
 use Rattle.chess_text.specs.Tokens.{string_at}
 use Rattle.chess_text.proofs.Strings.{onto-nil, place_line, place_quote, place_kept, place_other}
 use Rattle.chess_text.proofs.pgn.tag.split_string.Goals as goal

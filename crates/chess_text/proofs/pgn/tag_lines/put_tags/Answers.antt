@@ -1,4 +1,4 @@
-use Rattle.std.proofs.Common.{sym, ◌∙◌}
+use Rattle.std.proofs.Common.{◌∙◌}
 use Rattle.chess_text.proofs.Added.{adds_exit}
 use Rattle.chess_text.proofs.TagLines.{tags_more, tags_break}
 use Rattle.chess_text.proofs.pgn.tag_lines.put_tags.Goals as goal

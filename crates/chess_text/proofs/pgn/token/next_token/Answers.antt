@@ -1,4 +1,4 @@
-use Rattle.std.proofs.Common.{refl, sym, ap, ◌∙◌, arith}
+use Rattle.std.proofs.Common.{refl, arith}
 use Rattle.chess_text.specs.Seen.{token_seen, fault_seen}
 use Rattle.chess_text.proofs.Walk.{NextToken, next_token, last_token, no_token_left}
 use Rattle.chess_text.proofs.pgn.token.next_token.Goals as goal
