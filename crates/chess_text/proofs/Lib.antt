@@ -13,3 +13,12 @@ pub mod CoordinateLaw
 pub mod Solid
 pub mod Words
 pub mod SanLaw
+pub mod Skipped
+pub mod Strings
+pub mod Variations
+pub mod Cuts
+pub mod Walk
+pub mod FilledLines
+pub mod Added
+pub mod TagTexts
+pub mod TagLines

@@ -1,4 +1,5 @@
-//! Texts of moves: read and written as SAN (standard algebraic notation) and by coordinates.
+//! Texts of moves, read and written as SAN (standard algebraic notation) and by coordinates, and texts of games (PGN
+//! standard of 1994).
 #![tactic(auto)]
 
 mod coordinates;
@@ -6,11 +7,13 @@ mod described;
 mod form;
 mod laws;
 mod parts;
+mod pgn;
 mod reading;
 mod writing;
 
 pub use coordinates::{CoordinateText, coordinate};
 pub use laws::{coordinate_spells_its_move, san_is_a_word, san_spells_its_move, texts_have_parts};
+pub use pgn::{TagText, Tags, lines_are_filled};
 pub use reading::{Reading, has_move_shape, read_move};
 pub use writing::{SanText, san};
 

@@ -1,0 +1,171 @@
+-- The tokens of a game's text as it is read (PGN standard of 1994, sections 5 to 7 and 8.2): blanks, dots, comments,
+-- `%` lines, `$` glyphs and variations are skipped; tags and words are told; the first token that can't be read is the last.
+-- This project's own: the bytes of a word, and that a `%` line is skipped also in a tag and in a variation.
+use Rattle.std.specs.Prelude.{ℕ, zero, suc, ◌-◌, Bool, true, false, not, ◌&&◌, ◌||◌, List, [], ◌∷◌, ◌++◌, length, take, drop, slice_index, Option, Some, None, ◌==◌, nat_le, if◌then◌else◌}
+use Rattle.std.specs.List.{prefix_len, position_or_len, take_while}
+use Rattle.std.specs.Str.{bytes_eq}
+
+-- what a token is. A place in it is told by how many bytes of the text are left there
+pub data Token : Type 0 where
+  Skip : Token
+  -- a tag's name, the bytes between its quotes as they stand, and how many are left at the first of them
+  Tag : (name : List ℕ) (text : List ℕ) (left : ℕ) → Token
+  Word : (bytes : List ℕ) → Token
+  Bad_tag : Token
+  -- how many are left at the comment's brace
+  Unclosed_comment : (left : ℕ) → Token
+  Unclosed_variation : Token
+  Bad : Token
+
+-- ---- bytes
+
+abbrev pub is_blank : ℕ → Bool
+is_blank c = c == 32 || (c == 9 || (c == 10 || c == 13))
+
+abbrev pub is_digit : ℕ → Bool
+is_digit c = nat_le 48 c && nat_le c 57
+
+abbrev pub is_letter : ℕ → Bool
+is_letter c = (nat_le 65 c && nat_le c 90) || (nat_le 97 c && nat_le c 122)
+
+-- letters, digits and `_`
+abbrev pub is_name_byte : ℕ → Bool
+is_name_byte c = is_letter c || (is_digit c || c == 95)
+
+-- these, `+`, `#`, `=`, `-`, `/`, `!`, `?` and `:`
+abbrev pub is_word_byte : ℕ → Bool
+is_word_byte c = is_name_byte c || (c == 43 || (c == 35 || (c == 61 || (c == 45 || (c == 47 || (c == 33 || (c == 63 || c == 58)))))))
+
+-- ---- what is skipped
+
+-- from the end of the line on
+abbrev pub line_end : List ℕ → List ℕ
+line_end text = drop (position_or_len (λ c. c == 10) text) text
+
+-- behind the first closing brace
+abbrev pub behind_brace : List ℕ → Option (List ℕ)
+behind_brace [] = None
+behind_brace (c ∷ rest) = if c == 125 then Some rest else behind_brace rest
+
+-- behind blanks and `%` lines: in such a line or not, where a line begins or not
+abbrev pub behind_gap : Bool → Bool → List ℕ → List ℕ
+behind_gap skips begins [] = []
+behind_gap true begins (c ∷ rest) = behind_gap (not (c == 10)) true rest
+behind_gap false begins (c ∷ rest) = if begins && c == 37 then behind_gap true false rest else (if is_blank c then behind_gap false (c == 10) rest else c ∷ rest)
+
+-- ---- variations
+
+-- where a variation's bytes stand: in no comment, in a brace comment that began with so many bytes left, or in a line
+-- that is skipped to its end
+pub data Inside : Type 0 where
+  Plain : Inside
+  Brace : (left : ℕ) → Inside
+  Line : Inside
+
+-- a variation behind its `(`, where so many are open
+abbrev pub variation_at : Inside → Bool → ℕ → List ℕ → Token × List ℕ
+variation_at inside line_begins zero text = (Skip, text)
+variation_at Plain line_begins (suc depth) [] = (Unclosed_variation, [])
+variation_at (Brace left) line_begins (suc depth) [] = (Unclosed_comment left, [])
+variation_at Line line_begins (suc depth) [] = (Unclosed_variation, [])
+variation_at Plain line_begins (suc depth) (c ∷ rest) =
+    if line_begins && c == 37 then variation_at Line false (suc depth) rest
+    else (if c == 123 then variation_at (Brace (length (c ∷ rest))) false (suc depth) rest
+    else (if c == 59 then variation_at Line false (suc depth) rest
+    else (if c == 40 then variation_at Plain false (suc (suc depth)) rest
+    else (if c == 41 then variation_at Plain false depth rest
+    else variation_at Plain (c == 10) (suc depth) rest))))
+variation_at (Brace left) line_begins (suc depth) (c ∷ rest) = if c == 125 then variation_at Plain false (suc depth) rest else variation_at (Brace left) false (suc depth) rest
+variation_at Line line_begins (suc depth) (c ∷ rest) = if c == 10 then variation_at Plain true (suc depth) rest else variation_at Line false (suc depth) rest
+
+-- ---- tags
+
+abbrev pub onto : List ℕ → Option (List ℕ × List ℕ) → Option (List ℕ × List ℕ)
+onto front None = None
+onto front (Some found) = Some (front ++ found.0, found.1)
+
+-- a string's bytes up to its closing quote, and what stands behind it. A backslash keeps the next byte from ending it
+abbrev pub string_at : List ℕ → Option (List ℕ × List ℕ)
+string_at [] = None
+string_at (c ∷ []) = if c == 34 then Some ([], []) else None
+string_at (c ∷ d ∷ rest) =
+    if c == 34 then Some ([], d ∷ rest)
+    else (if c == 10 then None
+    else (if c == 92 then (if d == 10 then None else onto (c ∷ d ∷ []) (string_at rest))
+    else onto (c ∷ []) (string_at (d ∷ rest))))
+
+-- behind this byte
+abbrev pub behind_byte : ℕ → List ℕ → Option (List ℕ)
+behind_byte b [] = None
+behind_byte b (c ∷ rest) = if c == b then Some rest else None
+
+-- behind a gap and this byte
+abbrev pub behind_next : ℕ → List ℕ → Option (List ℕ)
+behind_next b text = behind_byte b (behind_gap false false text)
+
+-- a tag with what stands behind its bracket
+abbrev pub closed : List ℕ → ℕ → List ℕ → Option (List ℕ) → Token × List ℕ
+closed name left text None = (Bad_tag, [])
+closed name left text (Some rest) = (Tag name text left, rest)
+
+abbrev pub with_text : List ℕ → ℕ → Option (List ℕ × List ℕ) → Token × List ℕ
+with_text name left None = (Bad_tag, [])
+with_text name left (Some found) = closed name left found.0 (behind_next 93 found.1)
+
+abbrev pub with_string : List ℕ → Option (List ℕ) → Token × List ℕ
+with_string name None = (Bad_tag, [])
+with_string name (Some string) = with_text name (length string) (string_at string)
+
+abbrev pub with_name : List ℕ → List ℕ → Token × List ℕ
+with_name [] rest = (Bad_tag, [])
+with_name (n ∷ ns) rest = with_string (n ∷ ns) (behind_next 34 rest)
+
+-- a tag behind its opening bracket: a name, a string and the closing bracket, with gaps before each
+abbrev pub tag_at : List ℕ → Token × List ℕ
+tag_at text = let inner = behind_gap false false text in with_name (take_while is_name_byte inner) (drop (prefix_len is_name_byte inner) inner)
+
+-- ---- tokens
+
+abbrev pub comment_at : ℕ → Option (List ℕ) → Token × List ℕ
+comment_at left None = (Unclosed_comment left, [])
+comment_at left (Some rest) = (Skip, rest)
+
+-- the first token of a text that isn't empty, where a line begins or not, and what stands behind it; nothing is read
+-- behind one that can't be read
+unfoldable pub token_at : Bool → ℕ → List ℕ → Token × List ℕ
+token_at line_begins c rest =
+    if line_begins && c == 37 then (Skip, line_end rest)
+    else (if is_blank c || c == 46 then (Skip, rest)
+    else (if c == 123 then comment_at (length (c ∷ rest)) (behind_brace rest)
+    else (if c == 59 then (Skip, line_end rest)
+    else (if c == 36 then (Skip, drop (prefix_len is_digit rest) rest)
+    else (if c == 40 then variation_at Plain false 1 rest
+    else (if c == 91 then tag_at rest
+    else (if c == 42 then (Word (c ∷ []), rest)
+    else (if is_word_byte c then (Word (take_while is_word_byte (c ∷ rest)), drop (prefix_len is_word_byte (c ∷ rest)) (c ∷ rest))
+    else (Bad, [])))))))))
+
+-- the same of any text
+abbrev pub first_token : Bool → List ℕ → Option (Token × List ℕ)
+first_token line_begins [] = None
+first_token line_begins (c ∷ rest) = Some (token_at line_begins c rest)
+
+-- the tokens of a text, each with how many bytes are left where it begins; at most `most` of them
+unfoldable pub tokens_of : ℕ → Bool → List ℕ → List (ℕ × Token)
+tokens_of zero line_begins text = []
+tokens_of (suc most) line_begins [] = []
+tokens_of (suc most) line_begins (c ∷ rest) = let t = token_at line_begins c rest in (length (c ∷ rest), t.0) ∷ tokens_of most (c == 10) t.1
+
+-- ---- a text from a place on
+
+-- the bytes EF BB BF at place 0 are skipped
+abbrev pub first_place : List ℕ → ℕ → ℕ
+first_place text at = if (at == 0) && bytes_eq (take 3 text) (239 ∷ 187 ∷ 191 ∷ []) then 3 else at
+
+-- the text's first byte stands there, or byte 10 before it
+abbrev pub begins_line : List ℕ → ℕ → Bool
+begins_line text place = (place == 0) || (slice_index text (place - 1) == 10)
+
+-- the tokens of a text from a place on. A token takes at least a byte, so no text has more tokens than bytes
+unfoldable pub tokens_from : List ℕ → ℕ → List (ℕ × Token)
+tokens_from text place = tokens_of (length text) (begins_line text place) (drop place text)

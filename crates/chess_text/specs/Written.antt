@@ -1,0 +1,86 @@
+-- A game's text as it is written (PGN standard of 1994, sections 4.3, 8.1 and 8.2): the tags' lines and the lines of moves.
+use Rattle.std.specs.Prelude.{◌≡◌, ℕ, ◌+◌, ◌<◌, ◌≤◌, ◌||◌, List, [], ◌∷◌, ◌++◌, length, map, take, codes, ◌==◌, nat_le, nat_lt, if◌then◌else◌}
+use Rattle.std.specs.List.{join_with_byte, flat_map, AllByRecursion}
+
+-- ---- lines of moves
+
+-- a line's tokens as text, with one space between
+abbrev pub line_text : List (List ℕ) → List ℕ
+line_text tokens = join_with_byte 32 tokens
+
+-- no line has more than 79 bytes, and none could also have taken the first token of the next
+abbrev pub AreFilled : List (List (List ℕ)) → Type 0
+AreFilled [] = Unit {0}
+AreFilled ([] ∷ lines) = ⊥
+AreFilled ((t ∷ ts) ∷ []) = length (line_text (t ∷ ts)) ≤ 79
+AreFilled ((t ∷ ts) ∷ [] ∷ lines) = ⊥
+AreFilled ((t ∷ ts) ∷ (next ∷ us) ∷ lines) = (length (line_text (t ∷ ts)) ≤ 79) × (79 < length (line_text (t ∷ ts)) + 1 + length next) × AreFilled ((next ∷ us) ∷ lines)
+
+-- the tokens of lines, in order
+abbrev pub tokens_in : List (List (List ℕ)) → List (List ℕ)
+tokens_in lines = flat_map (λ line. line) lines
+
+-- the text has the tokens in filled lines, each behind a prefix and ended by byte 10
+pub record IsMoveText (prefix : List ℕ) (tokens : List (List ℕ)) (text : List ℕ) : Type 0 where
+  pub lines : List (List (List ℕ))
+  pub filled : AreFilled lines
+  pub all : tokens_in lines ≡ tokens
+  pub is : text ≡ flat_map (λ line. prefix ++ line_text line ++ 10 ∷ []) lines
+
+-- tokens that a line can take
+abbrev pub AreShort : List (List ℕ) → Type 0
+AreShort tokens = AllByRecursion (λ t. (0 < length t) × (length t ≤ 79)) tokens
+
+-- ---- the same from left to right, by how many bytes the line has so far
+
+-- what a token puts into the text: the space or the new line before it, and itself
+abbrev pub placed : List ℕ → ℕ → List ℕ → List ℕ
+placed prefix column token =
+    if column == 0 then prefix ++ token
+    else (if nat_le (column + 1 + length token) 79 then 32 ∷ token
+    else 10 ∷ prefix ++ token)
+
+-- how many bytes the line has behind it
+abbrev pub column_behind : ℕ → List ℕ → ℕ
+column_behind column token =
+    if column == 0 then length token
+    else (if nat_le (column + 1 + length token) 79 then column + 1 + length token
+    else length token)
+
+-- what ends the last line, if there is one
+abbrev pub line_close : ℕ → List ℕ
+line_close column = if column == 0 then [] else 10 ∷ []
+
+abbrev pub filled_from : List ℕ → ℕ → List (List ℕ) → List ℕ
+filled_from prefix column [] = line_close column
+filled_from prefix column (t ∷ ts) = placed prefix column t ++ filled_from prefix (column_behind column t) ts
+
+-- the text of moves: the one that is a move text (the law `lines_are_filled`)
+abbrev pub move_text_of : List ℕ → List (List ℕ) → List ℕ
+move_text_of prefix tokens = filled_from prefix 0 tokens
+
+-- ---- tags
+
+-- a byte that a tag's text may hold, else a question mark in its place
+abbrev pub tag_byte : ℕ → ℕ
+tag_byte c = if nat_lt c 32 || nat_lt 126 c then 63 else c
+
+-- what a tag's text is: at most 60 printable bytes of ASCII
+pub record IsTagText (text : List ℕ) : Type 0 where
+  pub few : length text ≤ 60
+  pub printable : AllByRecursion (λ c. (32 ≤ c) × (c ≤ 126)) text
+
+-- what is kept of a text for a tag: its first 60 bytes
+abbrev pub cut_tag : List ℕ → List ℕ
+cut_tag text = map tag_byte (take 60 text)
+
+-- a backslash before each quote and backslash
+abbrev pub escaped : List ℕ → List ℕ
+escaped text = flat_map (λ c. if c == 34 || c == 92 then 92 ∷ c ∷ [] else c ∷ []) text
+
+abbrev pub tag_line : List ℕ → List ℕ → List ℕ
+tag_line name text = codes "[" ++ name ++ codes " \"" ++ escaped text ++ codes "\"]"
+
+-- lines, each behind a prefix and ended by byte 10
+abbrev pub ended : List ℕ → List (List ℕ) → List ℕ
+ended prefix lines = flat_map (λ line. prefix ++ line ++ 10 ∷ []) lines

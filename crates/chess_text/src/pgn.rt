@@ -1,0 +1,19 @@
+//! A game's text, read and written (PGN standard of 1994).
+
+mod buffer;
+mod bytes;
+mod laws;
+mod lines;
+mod skips;
+mod tag;
+mod tag_lines;
+mod tags;
+mod token;
+mod variation;
+mod word;
+
+pub use laws::lines_are_filled;
+pub use tags::{TagText, Tags};
+
+#[cfg(test)]
+mod tests;
