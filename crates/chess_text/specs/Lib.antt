@@ -10,3 +10,5 @@ pub mod VariationParts
 pub mod Written
 pub mod Waiting
 pub mod Tags
+pub mod GameRead
+pub mod GameText

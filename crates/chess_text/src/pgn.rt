@@ -4,6 +4,7 @@ mod buffer;
 mod bytes;
 mod laws;
 mod lines;
+mod read;
 mod skips;
 mod tag;
 mod tag_lines;
@@ -13,6 +14,7 @@ mod variation;
 mod word;
 
 pub use laws::lines_are_filled;
+pub use read::{PgnEnd, PgnFault, PgnFaultKind};
 pub use tags::{TagText, Tags};
 
 #[cfg(test)]
