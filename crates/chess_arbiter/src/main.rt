@@ -2,6 +2,7 @@
 #![tactic(auto)]
 
 mod program;
+mod verify;
 
 use chess_base::device::Counted;
 use program::{ProgramFault, run_program, tell};

@@ -1,12 +1,14 @@
 //! The program on an input, an output and an error output.
 
 ghost use Rattle.std.specs.Prelude.{◌≡◌};
-ghost use Rattle.chess_arbiter.specs.Program.{asks_for_session, status_of, Served, RanProgram};
+ghost use Rattle.chess_arbiter.specs.Program.{asks_for_session, asks_to_verify, fault_status, Served, RanProgram};
 
+use crate::verify::{Verified, verify};
 use arrayvec::ArrayString;
 use chess_base::device::{Input, Output, put};
 use chess_cecp::{End, Fault, Session, run_session};
 use chess_moves::Plain;
+use chess_text::Tags;
 use std::alloc::Global;
 use std::fmt::Write;
 use std::process::Processes;
@@ -28,6 +30,9 @@ pub enum ProgramFault {
     /// There was no memory to open a session.
     #[error("no memory")]
     NoMemory,
+    /// The text of games is longer than 16,777,216 bytes.
+    #[error("input too long")]
+    InputTooLong,
     /// The program's words are not those of any of its forms.
     #[error("wrong words")]
     WrongWords,
@@ -39,7 +44,10 @@ impl ProgramFault {
         ensures { result ≡ Rattle.chess_arbiter.specs.Program.fault_status self }
     {
         match self {
-            ProgramFault::ReadFailed | ProgramFault::WriteFailed | ProgramFault::NoMemory => 1,
+            ProgramFault::ReadFailed
+            | ProgramFault::WriteFailed
+            | ProgramFault::NoMemory
+            | ProgramFault::InputTooLong => 1,
             ProgramFault::WrongWords => 2,
         }
     }
@@ -63,6 +71,23 @@ fn asks_for_session(words: &[&str]) -> bool
     }
 }
 
+fn asks_to_verify(words: &[&str]) -> bool
+    ensures { result ≡ asks_to_verify words.now }
+{
+    match words {
+        [word] => *word == "verify",
+        _ => false,
+    }
+}
+
+// Tells a fault, and gives its status.
+fn told<E: Output>(errors: &mut E, fault: ProgramFault) -> u8
+    ensures { result ≡ fault_status fault }
+{
+    tell(errors, fault);
+    fault.status()
+}
+
 // A session on the input and the output.
 fn serve<R: Input, W: Output>(
     alloc: Global,
@@ -71,7 +96,9 @@ fn serve<R: Input, W: Output>(
 ) -> Result<End, ProgramFault>
     ensures { Served (R.seen input.old) (R.seen input.new) (W.seen output.old) (W.seen output.new) result }
 {
-    let Ok(mut session) = Session::open(alloc, Plain::new(), SESSION_LIMIT) else {
+    let (board, scratch) = (Plain::new(), Plain::new());
+    let Ok(mut session) = Session::open(alloc, board, scratch, Tags::default(), SESSION_LIMIT)
+    else {
         return Err(ProgramFault::NoMemory);
     };
     match run_session(input, output, &mut session) {
@@ -81,9 +108,10 @@ fn serve<R: Input, W: Output>(
     }
 }
 
-/// Runs the program on its words and gives its exit status: 0 where the session ended by `quit` or the input's end,
-/// 1 where a device or memory failed, 2 for wrong words. No words, or `session`: a session of at most 20,000
-/// half-moves. A fault is told on the error output as `arbiter: FAULT`.
+/// Runs the program on its words and gives its exit status: 0 where the session ended by `quit` or the input's end, or each
+/// game was verified; 1 where a device or memory failed, or a game has a fault; 2 for wrong words. No words, or `session`:
+/// a session of at most 20,000 half-moves. `verify`: the games of a text, told one by one. A fault, but for that of a game,
+/// is told on the error output as `arbiter: FAULT`.
 pub fn run_program<P: Processes + Clock, R: Input, W: Output, E: Output>(
     _rt: &P,
     alloc: Global,
@@ -94,16 +122,18 @@ pub fn run_program<P: Processes + Clock, R: Input, W: Output, E: Output>(
 ) -> u8
     ensures { RanProgram words.now (R.seen input.old) (R.seen input.new) (W.seen output.old) (W.seen output.new) result }
 {
-    let outcome = if asks_for_session(words) {
-        serve(alloc, input, output)
-    } else {
-        Err(ProgramFault::WrongWords)
-    };
-    match outcome {
-        Ok(_) => 0,
-        Err(fault) => {
-            tell(errors, fault);
-            fault.status()
+    if asks_for_session(words) {
+        match serve(alloc, input, output) {
+            Ok(_) => 0,
+            Err(fault) => told(errors, fault),
         }
+    } else if asks_to_verify(words) {
+        match verify(alloc, input, output) {
+            Ok(Verified::EachGame) => 0,
+            Ok(Verified::FaultTold) => 1,
+            Err(fault) => told(errors, fault),
+        }
+    } else {
+        told(errors, ProgramFault::WrongWords)
     }
 }

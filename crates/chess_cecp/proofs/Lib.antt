@@ -4,3 +4,4 @@ pub mod Reading
 pub mod Words
 pub mod RunLemmas
 pub mod Refusals
+pub mod PgnRow

@@ -7,12 +7,15 @@ use Rattle.chess_base.specs.declared.setup.Setup.{Setup}
 use Rattle.chess_base.specs.Reading.{fen_reading}
 use Rattle.chess_base.specs.Initial.{initial_setup}
 use Rattle.chess_cecp.specs.Lines.{LineSeen}
+use Rattle.chess_cecp.specs.Held.{Seen}
+use Rattle.chess_text.specs.GameText.{pgn}
+use Rattle.chess_text.specs.declared.pgn.tags.Tags.{Tags}
 use Rattle.chess_text.specs.Moves.{reading}
 use Rattle.chess_text.specs.declared.reading.Reading.{Reading}
 use Rattle.chess_text.specs.declared.reading.Reading.TheVariants as reads
 use Rattle.chess_cecp.specs.Commands.{command_of, argument_of}
 use Rattle.chess_game.specs.Ends.{verdict_outcome, verdict_comment, claims}
-use Rattle.chess_game.specs.Game.{State, Seen, from_start, played, taken_back, with_declared, current, verdict_now, is_over, is_other}
+use Rattle.chess_game.specs.Game.{State, from_start, played, taken_back, with_declared, current, verdict_now, is_over, is_other}
 use Rattle.chess_game.specs.declared.ends.Verdict.{Verdict}
 use Rattle.chess_game.specs.declared.results.Declared.{Declared}
 use Rattle.chess_game.specs.declared.results.Outcome.{Outcome}
@@ -20,7 +23,7 @@ use Rattle.chess_game.specs.declared.results.Outcome.TheVariants.{WhiteWins, Bla
 use Rattle.chess_game.specs.declared.ends.Claims.{Claims}
 use Rattle.chess_cecp.specs.Declaring.{declared_by, result_text, state_text}
 use Rattle.chess_cecp.specs.declared.command.Command.{Command}
-use Rattle.chess_cecp.specs.declared.command.Command.TheVariants.{New, SetBoard, UserMove, BareMove, Undo, Remove, Declare, Claim, Ping, Protover, Variant, Go, ShowFen, ShowMoves, ShowState, Quit, Silent, BadNumber, Unknown}
+use Rattle.chess_cecp.specs.declared.command.Command.TheVariants.{New, SetBoard, UserMove, BareMove, Undo, Remove, Declare, Claim, Ping, Protover, Variant, Go, ShowFen, ShowMoves, ShowState, ShowPgn, Quit, Silent, BadNumber, Unknown}
 use Rattle.chess_cecp.specs.Session.{Row, row, says, refuses, becomes, becomes_judged, result_line, verdict_line, result_row, draws, claimed, claim_row, setboard_row, feature_text, line_text, reading_row, move_row, IsRefusal, answer_to, next_state}
 
 -- the first bytes of refusals: E, I and t
@@ -95,41 +98,42 @@ claimed_keeps s c =
     (draws_keeps s (codes "Threefold repetition"))
     (by_test c.fifty_moves s (draws s (codes "50-move rule")) (refuses s (codes "Error (no claim): ") (codes "claim")) (draws_keeps s (codes "50-move rule")) (λ h. refl))
 
-row_keeps : (limit : ℕ) (s : State) (text argument : List ℕ) (command : Command) → KeepsRefused s (row limit s text argument command)
-row_keeps limit s text argument New = accepted s (becomes (from_start initial_setup)) refl
-row_keeps limit s text argument SetBoard = setboard_keeps s (fen_reading argument)
-row_keeps limit s text argument UserMove = move_keeps limit s argument
-row_keeps limit s text argument BareMove = move_keeps limit s text
-row_keeps limit s text argument Undo =
+row_keeps : (tags : Tags) (limit : ℕ) (s : State) (text argument : List ℕ) (command : Command) → KeepsRefused s (row tags limit s text argument command)
+row_keeps tags limit s text argument New = accepted s (becomes (from_start initial_setup)) refl
+row_keeps tags limit s text argument SetBoard = setboard_keeps s (fen_reading argument)
+row_keeps tags limit s text argument UserMove = move_keeps limit s argument
+row_keeps tags limit s text argument BareMove = move_keeps limit s text
+row_keeps tags limit s text argument Undo =
     by_test (nat_le 1 (length s.moves)) s (becomes (taken_back s 1)) (refuses s (codes "Error (command not legal now): ") (codes "undo"))
     (accepted s (becomes (taken_back s 1)) refl)
     (λ h. refl)
-row_keeps limit s text argument Remove =
+row_keeps tags limit s text argument Remove =
     by_test (nat_le 2 (length s.moves)) s (becomes (taken_back s 2)) (refuses s (codes "Error (command not legal now): ") (codes "remove"))
     (accepted s (becomes (taken_back s 2)) refl)
     (λ h. refl)
-row_keeps limit s text argument Declare = result_keeps s text (declared_by argument)
-row_keeps limit s text argument Claim =
+row_keeps tags limit s text argument Declare = result_keeps s text (declared_by argument)
+row_keeps tags limit s text argument Claim =
     by_test (is_over s) s (refuses s (codes "Error (command not legal now): ") (codes "claim")) (claimed s (claims s.start s.moves)) (λ h. refl) (claimed_keeps s (claims s.start s.moves))
-row_keeps limit s text argument (Ping n) = λ h. refl
-row_keeps limit s text argument (Protover n) = by_test (nat_lt n 2) s (says s []) (says s (line_text feature_text [])) (λ h. refl) (λ h. refl)
-row_keeps limit s text argument Variant =
+row_keeps tags limit s text argument (Ping n) = λ h. refl
+row_keeps tags limit s text argument (Protover n) = by_test (nat_lt n 2) s (says s []) (says s (line_text feature_text [])) (λ h. refl) (λ h. refl)
+row_keeps tags limit s text argument Variant =
     by_test (bytes_eq argument (codes "normal")) s (says s []) (refuses s (codes "Error (unsupported variant): ") text) (λ h. refl) (λ h. refl)
-row_keeps limit s text argument Go = λ h. refl
-row_keeps limit s text argument ShowFen = λ h. refl
-row_keeps limit s text argument ShowMoves = λ h. refl
-row_keeps limit s text argument ShowState = λ h. refl
-row_keeps limit s text argument Quit = λ h. refl
-row_keeps limit s text argument Silent = λ h. refl
-row_keeps limit s text argument BadNumber = λ h. refl
-row_keeps limit s text argument Unknown = λ h. refl
+row_keeps tags limit s text argument Go = λ h. refl
+row_keeps tags limit s text argument ShowFen = λ h. refl
+row_keeps tags limit s text argument ShowMoves = λ h. refl
+row_keeps tags limit s text argument ShowState = λ h. refl
+row_keeps tags limit s text argument ShowPgn = λ h. refl
+row_keeps tags limit s text argument Quit = λ h. refl
+row_keeps tags limit s text argument Silent = λ h. refl
+row_keeps tags limit s text argument BadNumber = λ h. refl
+row_keeps tags limit s text argument Unknown = λ h. refl
 
 pub refused_keeps : (seen : Seen) (line : LineSeen) → IsRefusal (answer_to seen line) → next_state seen line ≡ seen
 unfolding answer_to next_state
 refused_keeps seen line h =
-    ap (λ v. record { limit = seen.limit; state = v })
+    ap (λ v. record { tags = seen.tags; limit = seen.limit; state = v })
     (by_test line.too_long seen.state (refuses seen.state (codes "Error (line too long): ") line.text)
-    (row seen.limit seen.state line.text (argument_of line.text) (command_of line.text))
+    (row seen.tags seen.limit seen.state line.text (argument_of line.text) (command_of line.text))
     (λ k. refl)
-    (row_keeps seen.limit seen.state line.text (argument_of line.text) (command_of line.text))
+    (row_keeps seen.tags seen.limit seen.state line.text (argument_of line.text) (command_of line.text))
     h)

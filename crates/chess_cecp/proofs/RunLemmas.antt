@@ -13,7 +13,7 @@ use Rattle.chess_base.specs.Devices.{InputState, OutputState, Took, TookThenFail
 use Rattle.chess_base.proofs.DeviceLaws.{consumes_more, consumes_none, took_none, took_more, failed_more}
 use Rattle.chess_cecp.specs.Lines.{LineSeen, Held, nothing_held, lines_heard, lines_held, lines, whole}
 use Rattle.chess_cecp.specs.Next.{before_piece, Waits, GotLine, GotLast, NextLine}
-use Rattle.chess_game.specs.Game.{Seen}
+use Rattle.chess_cecp.specs.Held.{Seen}
 use Rattle.chess_cecp.specs.Session.{next_state, answer_to, is_quit, standing, answers, has_quit}
 use Rattle.chess_cecp.specs.Run.{Transcript, Ran, Answered, AnsweredKnown, risen_if}
 use Rattle.chess_cecp.specs.declared.session.Go.{Go}

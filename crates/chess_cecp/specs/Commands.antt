@@ -6,7 +6,7 @@ use Rattle.chess_base.specs.Texts.{is_digit, value_after}
 use Rattle.chess_cecp.specs.Lines.{is_blank, without_front_blanks}
 use Rattle.chess_text.specs.Moves.{shape}
 use Rattle.chess_cecp.specs.declared.command.Command.{Command}
-use Rattle.chess_cecp.specs.declared.command.Command.TheVariants.{New, SetBoard, UserMove, BareMove, Undo, Remove, Declare, Claim, Ping, Protover, Variant, Go, ShowFen, ShowMoves, ShowState, Quit, Silent, BadNumber, Unknown}
+use Rattle.chess_cecp.specs.declared.command.Command.TheVariants.{New, SetBoard, UserMove, BareMove, Undo, Remove, Declare, Claim, Ping, Protover, Variant, Go, ShowFen, ShowMoves, ShowState, ShowPgn, Quit, Silent, BadNumber, Unknown}
 
 -- the bytes up to the first blank
 abbrev pub word_of : List ℕ → List ℕ
@@ -67,6 +67,7 @@ command_by word argument text =
     else if bytes_eq word (codes "showfen") then ShowFen
     else if bytes_eq word (codes "showmoves") then ShowMoves
     else if bytes_eq word (codes "showstate") then ShowState
+    else if bytes_eq word (codes "showpgn") then ShowPgn
     else if bytes_eq word (codes "quit") then Quit
     else if shape text then BareMove
     else Unknown

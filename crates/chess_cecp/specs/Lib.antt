@@ -2,5 +2,6 @@ pub mod Lines
 pub mod Next
 pub mod Commands
 pub mod Declaring
+pub mod Held
 pub mod Session
 pub mod Run

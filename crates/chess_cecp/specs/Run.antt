@@ -5,7 +5,7 @@ use Rattle.std.specs.Io.KnownBytes.{Consumes, Appends, IsAtEnd}
 use Rattle.chess_base.specs.Devices.{InputState, OutputState, risen, Begins}
 use Rattle.chess_cecp.specs.Lines.{LineSeen, lines_heard, lines, whole}
 use Rattle.chess_cecp.specs.Next.{before_piece}
-use Rattle.chess_game.specs.Game.{Seen}
+use Rattle.chess_cecp.specs.Held.{Seen}
 use Rattle.chess_cecp.specs.Session.{answer_to, is_quit, standing, answers, has_quit}
 use Rattle.chess_cecp.specs.declared.run.End.{End}
 use Rattle.chess_cecp.specs.declared.run.End.TheVariants.{Quit, InputEnded}

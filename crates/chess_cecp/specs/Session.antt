@@ -13,19 +13,22 @@ use Rattle.chess_base.specs.MoveList.{moves}
 use Rattle.chess_base.specs.Reading.{fen_reading}
 use Rattle.chess_base.specs.Writing.{fen}
 use Rattle.chess_cecp.specs.Lines.{LineSeen}
+use Rattle.chess_cecp.specs.Held.{Seen}
+use Rattle.chess_text.specs.GameText.{pgn}
+use Rattle.chess_text.specs.declared.pgn.tags.Tags.{Tags}
 use Rattle.chess_text.specs.Moves.{coordinate, reading}
 use Rattle.chess_text.specs.declared.reading.Reading.{Reading}
 use Rattle.chess_text.specs.declared.reading.Reading.TheVariants as reads
 use Rattle.chess_cecp.specs.Commands.{command_of, argument_of}
 use Rattle.chess_cecp.specs.Declaring.{declared_by, result_text, state_text}
 use Rattle.chess_game.specs.Ends.{verdict_outcome, verdict_comment, claims}
-use Rattle.chess_game.specs.Game.{State, Seen, from_start, played, taken_back, with_declared, current, verdict_now, is_over, is_other}
+use Rattle.chess_game.specs.Game.{State, from_start, played, taken_back, with_declared, current, verdict_now, is_over, is_other}
 use Rattle.chess_game.specs.declared.ends.Claims.{Claims}
 use Rattle.chess_game.specs.declared.ends.Verdict.{Verdict}
 use Rattle.chess_game.specs.declared.results.Declared.{Declared}
 use Rattle.chess_game.specs.declared.results.Outcome.TheVariants.{Draw}
 use Rattle.chess_cecp.specs.declared.command.Command.{Command}
-use Rattle.chess_cecp.specs.declared.command.Command.TheVariants.{New, SetBoard, UserMove, BareMove, Undo, Remove, Declare, Claim, Ping, Protover, Variant, Go, ShowFen, ShowMoves, ShowState, Quit, Silent, BadNumber, Unknown}
+use Rattle.chess_cecp.specs.declared.command.Command.TheVariants.{New, SetBoard, UserMove, BareMove, Undo, Remove, Declare, Claim, Ping, Protover, Variant, Go, ShowFen, ShowMoves, ShowState, ShowPgn, Quit, Silent, BadNumber, Unknown}
 
 -- a text behind another, and byte 10
 abbrev pub line_text : List ℕ → List ℕ → List ℕ
@@ -131,36 +134,37 @@ abbrev pub claim_row : State → Row
 claim_row s = if is_over s then refuses s (codes "Error (command not legal now): ") (codes "claim") else claimed s (claims s.start s.moves)
 
 -- the table: the row of a command, in this game, for a line with this text and this argument in it
-abbrev pub row : ℕ → State → List ℕ → List ℕ → Command → Row
-row limit s text argument New = becomes (from_start initial_setup)
-row limit s text argument SetBoard = setboard_row s (fen_reading argument)
-row limit s text argument UserMove = move_row limit s argument
-row limit s text argument BareMove = move_row limit s text
-row limit s text argument Undo = undo_row s
-row limit s text argument Remove = remove_row s
-row limit s text argument Declare = result_row s text (declared_by argument)
-row limit s text argument Claim = claim_row s
-row limit s text argument (Ping n) = says s (line_text (codes "pong ") (decimal n))
-row limit s text argument (Protover n) = if nat_lt n 2 then says s [] else says s (line_text feature_text [])
-row limit s text argument Variant = if bytes_eq argument (codes "normal") then says s [] else refuses s (codes "Error (unsupported variant): ") text
-row limit s text argument Go = refuses s (codes "Error (the arbiter plays no side): ") (codes "go")
-row limit s text argument ShowFen = says s (line_text (codes "# fen ") (fen (current s)))
-row limit s text argument ShowMoves = says s (moves_line (moves (current s)))
-row limit s text argument ShowState = says s (line_text (codes "# state ply ") (state_text s))
-row limit s text argument Quit = says s []
-row limit s text argument Silent = says s []
-row limit s text argument BadNumber = refuses s (codes "Error (bad number): ") text
-row limit s text argument Unknown = refuses s (codes "Error (unknown command): ") text
+abbrev pub row : Tags → ℕ → State → List ℕ → List ℕ → Command → Row
+row tags limit s text argument New = becomes (from_start initial_setup)
+row tags limit s text argument SetBoard = setboard_row s (fen_reading argument)
+row tags limit s text argument UserMove = move_row limit s argument
+row tags limit s text argument BareMove = move_row limit s text
+row tags limit s text argument Undo = undo_row s
+row tags limit s text argument Remove = remove_row s
+row tags limit s text argument Declare = result_row s text (declared_by argument)
+row tags limit s text argument Claim = claim_row s
+row tags limit s text argument (Ping n) = says s (line_text (codes "pong ") (decimal n))
+row tags limit s text argument (Protover n) = if nat_lt n 2 then says s [] else says s (line_text feature_text [])
+row tags limit s text argument Variant = if bytes_eq argument (codes "normal") then says s [] else refuses s (codes "Error (unsupported variant): ") text
+row tags limit s text argument Go = refuses s (codes "Error (the arbiter plays no side): ") (codes "go")
+row tags limit s text argument ShowFen = says s (line_text (codes "# fen ") (fen (current s)))
+row tags limit s text argument ShowMoves = says s (moves_line (moves (current s)))
+row tags limit s text argument ShowState = says s (line_text (codes "# state ply ") (state_text s))
+row tags limit s text argument ShowPgn = says s (pgn (codes "# ") tags s)
+row tags limit s text argument Quit = says s []
+row tags limit s text argument Silent = says s []
+row tags limit s text argument BadNumber = refuses s (codes "Error (bad number): ") text
+row tags limit s text argument Unknown = refuses s (codes "Error (unknown command): ") text
 
 -- the row of a line; one that is too long is refused by its first bytes
 abbrev pub row_on : Seen → LineSeen → Row
 row_on seen line =
     if line.too_long then refuses seen.state (codes "Error (line too long): ") line.text
-    else row seen.limit seen.state line.text (argument_of line.text) (command_of line.text)
+    else row seen.tags seen.limit seen.state line.text (argument_of line.text) (command_of line.text)
 
--- the session after a row: its limit stays
+-- the session after a row: its tags and its limit stay
 abbrev pub stands : Seen → Row → Seen
-stands seen r = record { limit = seen.limit; state = r.next }
+stands seen r = record { tags = seen.tags; limit = seen.limit; state = r.next }
 
 -- the session after a line
 unfoldable pub next_state : Seen → LineSeen → Seen
@@ -190,10 +194,37 @@ is_quit_command Go = false
 is_quit_command ShowFen = false
 is_quit_command ShowMoves = false
 is_quit_command ShowState = false
+is_quit_command ShowPgn = false
 is_quit_command Quit = true
 is_quit_command Silent = false
 is_quit_command BadNumber = false
 is_quit_command Unknown = false
+
+-- the one command whose answer may be long: the game's text
+abbrev pub shows_pgn : Command → Bool
+shows_pgn New = false
+shows_pgn SetBoard = false
+shows_pgn UserMove = false
+shows_pgn BareMove = false
+shows_pgn Undo = false
+shows_pgn Remove = false
+shows_pgn Declare = false
+shows_pgn Claim = false
+shows_pgn (Ping n) = false
+shows_pgn (Protover n) = false
+shows_pgn Variant = false
+shows_pgn Go = false
+shows_pgn ShowFen = false
+shows_pgn ShowMoves = false
+shows_pgn ShowState = false
+shows_pgn ShowPgn = true
+shows_pgn Quit = false
+shows_pgn Silent = false
+shows_pgn BadNumber = false
+shows_pgn Unknown = false
+
+unfoldable pub asks_for_pgn : LineSeen → Bool
+asks_for_pgn line = not line.too_long && shows_pgn (command_of line.text)
 
 unfoldable pub is_quit : LineSeen → Bool
 is_quit line = not line.too_long && is_quit_command (command_of line.text)

@@ -7,7 +7,7 @@ ghost use Rattle.chess_cecp.specs.Commands.{command_of, command_by, word_of, arg
 use crate::trim::is_blank;
 use chess_text::has_move_shape;
 
-/// The kinds of command (CECP, version 2; `claim`, `showfen`, `showmoves` and `showstate` are this project's own). A command's text stands in its line.
+/// The kinds of command (CECP, version 2; `claim`, `showfen`, `showmoves`, `showpgn` and `showstate` are this project's own). A command's text stands in its line.
 #[derive(Clone, Copy, Debug, PartialEq, Eq)]
 pub enum Command {
     /// `new`
@@ -40,6 +40,8 @@ pub enum Command {
     ShowMoves,
     /// `showstate`
     ShowState,
+    /// `showpgn`
+    ShowPgn,
     /// `quit`
     Quit,
     /// A command that is answered by silence, such as `xboard` or `force`, and an empty line.
@@ -193,6 +195,8 @@ pub fn read_command(text: &[u8]) -> Command
         Command::ShowMoves
     } else if word == b"showstate".as_slice() {
         Command::ShowState
+    } else if word == b"showpgn".as_slice() {
+        Command::ShowPgn
     } else if word == b"quit".as_slice() {
         Command::Quit
     } else if has_move_shape(text) {

@@ -1,7 +1,7 @@
 //! Laws of the definitions. A caller learns one by calling its function, which does nothing.
 
 ghost use Rattle.std.specs.Prelude.{◌≡◌, ◌<◌, ℕ, Bool, true, false, List, [], ◌∷◌, ◌++◌, length};
-ghost use Rattle.chess_game.specs.Game.{Seen};
+ghost use Rattle.chess_cecp.specs.Held.{Seen};
 ghost use Rattle.chess_cecp.specs.Lines.{LineSeen, lines_heard, line_of, HasNoEnd};
 ghost use Rattle.chess_cecp.specs.Session.{next_state, answer_to, IsRefusal};
 

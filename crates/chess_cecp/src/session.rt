@@ -4,10 +4,12 @@ ghost use Rattle.std.specs.Prelude.{◌≡◌, ◌≤◌, [], if◌then◌else�
 ghost use Rattle.chess_base.specs.Devices.{Puts};
 ghost use Rattle.chess_base.specs.Reading.{fen_reading};
 ghost use Rattle.chess_base.specs.Writing.{fen};
-ghost use Rattle.chess_game.specs.Game.{opened, current, is_over, IsPlayable};
+ghost use Rattle.chess_game.specs.Game.{current, is_over, IsPlayable};
+ghost use Rattle.chess_cecp.specs.Held.{opened, game_of};
+ghost use Rattle.chess_text.specs.GameText.{pgn};
 ghost use Rattle.chess_game.specs.Results.{cut_comment};
 ghost use Rattle.chess_cecp.specs.Declaring.{declared_by};
-ghost use Rattle.chess_cecp.specs.Session.{row, move_row, undo_row, remove_row, result_row, draws, claim_row, setboard_row, stands, next_state, answer_to, is_quit, is_quit_command, line_text};
+ghost use Rattle.chess_cecp.specs.Session.{row, move_row, undo_row, remove_row, result_row, draws, claim_row, setboard_row, stands, next_state, answer_to, is_quit, is_quit_command, shows_pgn, asks_for_pgn, line_text};
 
 use crate::answer::{
     Answer, write_features, write_illegal_position, write_line, write_moves, write_pong,
@@ -20,7 +22,7 @@ use chess_base::device::{Output, WriteFault, put};
 use chess_base::{Position, read_fen, write_fen};
 use chess_game::{Comment, Game, Outcome};
 use chess_moves::Board;
-use chess_text::{Reading, read_move};
+use chess_text::{Reading, Tags, read_move, write_pgn};
 use std::alloc::{AllocError, Global};
 use std::marker::Model;
 
@@ -31,34 +33,44 @@ pub enum Go {
     Quit,
 }
 
-/// A session over one game. In contracts it is the game's start, the moves that stand and what was declared, and the
-/// number of half-moves that can stand.
+/// A session over one game. In contracts it is the game's start, the moves that stand and what was declared, the number of
+/// half-moves that can stand, and the tags with which games are written.
 #[derive(Drop)]
 pub struct Session<B: Board> {
     game: Game<B>,
+    scratch: B,
+    tags: Tags,
 }
 
 impl<B: Board> Model for Session<B> {
-    ghost use Rattle.chess_game.specs.Game.{Seen};
+    ghost use Rattle.chess_cecp.specs.Held.{Seen};
 
     ghost Value = { Seen };
 
-    ghost view = { λ s. s.game };
+    ghost view = { λ s. record { tags = s.tags; limit = s.game.limit; state = s.game.state } };
 }
 
 impl<B: Board + Drop> Session<B> {
-    /// A session as `new` leaves it: the initial position, no moves, nothing declared, wherever the board was. All
-    /// memory is taken here, for `limit` half-moves.
+    /// A session as `new` leaves it: the initial position, no moves, nothing declared, wherever the boards were. Games are
+    /// written with these tags, by way of `scratch`. All memory is taken here, for `limit` half-moves.
     ///
     /// # Errors
-    /// Where there is no memory; what was taken is given back, and the board is dropped.
-    pub fn open(alloc: Global, board: B, limit: u32) -> Result<Self, AllocError>
+    /// Where there is no memory; what was taken is given back, and the boards and the tags are dropped.
+    pub fn open(
+        alloc: Global,
+        board: B,
+        scratch: B,
+        tags: Tags,
+        limit: u32,
+    ) -> Result<Self, AllocError>
         requires some { 1 ≤ limit }
         requires few { limit ≤ 20000 }
-        ensures { IfOk result (λ s. s ≡ opened limit) }
+        ensures { IfOk result (λ s. s ≡ opened tags limit) }
     {
         Ok(Session {
             game: Game::open(alloc, board, limit)?,
+            scratch,
+            tags,
         })
     }
 }
@@ -67,7 +79,7 @@ impl<B: Board> Session<B> {
     /// The position on the board: the one that the start and the moves that stand give.
     pub fn position(&self) -> Position
         ensures value { result ≡ current self.now.state }
-        ensures playable { IsPlayable self.now }
+        ensures playable { IsPlayable (game_of self.now) }
     {
         self.game.position()
     }
@@ -201,9 +213,10 @@ impl<B: Board> Session<B> {
     fn obey(&mut self, command: Command, text: &[u8], argument: &[u8], answer: &mut Answer)
         requires short { length text.now ≤ 1024 }
         requires short_argument { length argument.now ≤ 1024 }
+        requires brief { shows_pgn command ≡ false }
         requires empty { answer.old.items ≡ [] }
-        ensures next { self.new ≡ stands self.old (row self.old.limit self.old.state text.now argument.now command) }
-        ensures text { answer.new.items ≡ (row self.old.limit self.old.state text.now argument.now command).text }
+        ensures next { self.new ≡ stands self.old (row self.old.tags self.old.limit self.old.state text.now argument.now command) }
+        ensures text { answer.new.items ≡ (row self.old.tags self.old.limit self.old.state text.now argument.now command).text }
     {
         match command {
             Command::New => self.game.restart(&Position::initial()),
@@ -226,6 +239,7 @@ impl<B: Board> Session<B> {
             Command::ShowMoves => write_moves(answer, self.game.board().legal_moves().as_slice()),
             Command::ShowState => write_state(answer, &self.game),
             Command::Quit | Command::Silent => {}
+            Command::ShowPgn => unreachable!(),
             Command::BadNumber => write_line(answer, b"Error (bad number): ", text),
             Command::Unknown => write_line(answer, b"Error (unknown command): ", text),
         }
@@ -234,7 +248,8 @@ impl<B: Board> Session<B> {
     // Does what the row of a line says, and answers whether the session goes on.
     #[tactic(auto, unfolding(crate::specs::Session::next_state, crate::specs::Session::answer_to, crate::specs::Session::is_quit))]
     fn obey_line(&mut self, line: &Line<1024>, answer: &mut Answer) -> Go
-        requires { answer.old.items ≡ [] }
+        requires brief { asks_for_pgn line.now ≡ false }
+        requires empty { answer.old.items ≡ [] }
         ensures next { self.new ≡ next_state self.old line.now }
         ensures text { answer.new.items ≡ answer_to self.old line.now }
         ensures go { result ≡ (if is_quit line.now then Go.Quit else Go.On) }
@@ -249,7 +264,17 @@ impl<B: Board> Session<B> {
         go_after(command)
     }
 
-    /// Answers a line: the game changes, the answer is written in one piece, and the writer is flushed.
+    // Writes the game's text, and flushes.
+    fn send_pgn<W: Output>(&mut self, writer: &mut W) -> Result<(), WriteFault>
+        ensures same { self.new ≡ self.old }
+        ensures written { Puts (W.seen writer.old) (W.seen writer.new) result (pgn (codes "# ") self.old.tags self.old.state) }
+    {
+        write_pgn(&self.game, &mut self.scratch, &self.tags, b"# ", writer)?;
+        writer.flush()
+    }
+
+    /// Answers a line: the game changes, the answer is written (in one piece, but for a game's text), and the writer is
+    /// flushed.
     ///
     /// # Errors
     /// Where a write or the flush failed. The change stands, and a beginning of the answer was written.
@@ -258,10 +283,30 @@ impl<B: Board> Session<B> {
         ensures written { Puts (W.seen writer.old) (W.seen writer.new) result (answer_to self.old line.now) }
         ensures go { IfOk result (λ go. go ≡ (if is_quit line.now then Go.Quit else Go.On)) }
     {
+        if asks_for_pgn(line) {
+            self.send_pgn(writer)?;
+            return Ok(Go::On);
+        }
         let mut answer = Answer::new();
         let go = self.obey_line(line, &mut answer);
         send(writer, answer.as_slice())?;
         Ok(go)
+    }
+}
+
+// Whether the line asks for the game's text.
+fn asks_for_pgn(line: &Line<1024>) -> bool
+    ensures { result ≡ asks_for_pgn line.now }
+{
+    !line.is_too_long() && shows_pgn(read_command(line.text()))
+}
+
+fn shows_pgn(command: Command) -> bool
+    ensures { result ≡ shows_pgn command }
+{
+    match command {
+        Command::ShowPgn => true,
+        _ => false,
     }
 }
 

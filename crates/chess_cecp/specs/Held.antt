@@ -1,0 +1,20 @@
+-- What a session holds: the tags that its games are written with, how many half-moves can stand, and its game. Tags and
+-- limit are fixed when it opens.
+use Rattle.std.specs.Prelude.{ℕ}
+use Rattle.chess_base.specs.Initial.{initial_setup}
+use Rattle.chess_game.specs.Game as game
+use Rattle.chess_game.specs.Game.{State, from_start}
+use Rattle.chess_text.specs.declared.pgn.tags.Tags.{Tags}
+
+pub record Seen : Type 0 where
+  pub tags : Tags
+  pub limit : ℕ
+  pub state : State
+
+-- its game
+abbrev pub game_of : Seen → game.Seen
+game_of s = record { limit = s.limit; state = s.state }
+
+-- a session as it opens, and after `new`
+abbrev pub opened : Tags → ℕ → Seen
+opened tags limit = record { tags = tags; limit = limit; state = from_start initial_setup }
