@@ -22,3 +22,4 @@ pub mod FilledLines
 pub mod Added
 pub mod TagTexts
 pub mod TagLines
+pub mod GameTexts

@@ -13,7 +13,7 @@ use Rattle.chess_game.specs.Results.{outcome_text}
 use Rattle.chess_game.specs.declared.results.Outcome.{Outcome}
 use Rattle.chess_text.specs.declared.pgn.tags.Tags.{Tags}
 use Rattle.chess_text.specs.San.{san}
-use Rattle.chess_text.specs.Written.{tag_line, ended, move_text_of}
+use Rattle.chess_text.specs.Written.{tag_line, ended, placed, column_behind, move_text_of}
 
 -- ---- tags
 
@@ -42,14 +42,28 @@ number_token White is_first number = (decimal number ++ codes ".") ∷ []
 number_token Black true number = (decimal number ++ codes "...") ∷ []
 number_token Black false number = []
 
--- the tokens of moves from a position on
+-- those of one move
+abbrev pub tokens_of_move : Bool → Setup → Move → List (List ℕ)
+tokens_of_move is_first p m = number_token p.side is_first p.fullmove ++ san p m ∷ []
+
+-- those of moves from a position on
 abbrev pub move_tokens : Bool → Setup → List Move → List (List ℕ)
 move_tokens is_first p [] = []
-move_tokens is_first p (m ∷ ms) = number_token p.side is_first p.fullmove ++ san p m ∷ [] ++ move_tokens false (after p m) ms
+move_tokens is_first p (m ∷ ms) = tokens_of_move is_first p m ++ move_tokens false (after p m) ms
 
 -- those of a game, the outcome last
 abbrev pub game_tokens : State → List (List ℕ)
 game_tokens s = move_tokens true s.start s.moves ++ outcome_text (outcome_now s) ∷ []
+
+-- ---- tokens put into lines that go on: their text, and how many bytes the line has behind them
+
+abbrev pub placed_all : List ℕ → ℕ → List (List ℕ) → List ℕ
+placed_all prefix column [] = []
+placed_all prefix column (t ∷ ts) = placed prefix column t ++ placed_all prefix (column_behind column t) ts
+
+abbrev pub column_behind_all : ℕ → List (List ℕ) → ℕ
+column_behind_all column [] = column
+column_behind_all column (t ∷ ts) = column_behind_all (column_behind column t) ts
 
 -- ---- the whole text: tags, an empty line, the moves in filled lines, an empty line; each line behind a prefix
 

@@ -12,10 +12,14 @@ mod tags;
 mod token;
 mod variation;
 mod word;
+mod write;
 
 pub use laws::lines_are_filled;
 pub use read::{PgnEnd, PgnFault, PgnFaultKind};
 pub use tags::{TagText, Tags};
+pub use write::write_pgn;
 
 #[cfg(test)]
 mod tests;
+#[cfg(test)]
+mod write_tests;
