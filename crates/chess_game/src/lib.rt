@@ -10,3 +10,6 @@ mod results;
 pub use ends::{Claims, Verdict};
 pub use game::{BoardSaysOtherwise, Game, NoMove, PlayRefusal};
 pub use results::{Comment, Declared, Outcome};
+
+#[cfg(test)]
+mod tests;
