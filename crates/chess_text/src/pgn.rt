@@ -14,7 +14,7 @@ mod variation;
 mod word;
 
 pub use laws::lines_are_filled;
-pub use read::{PgnEnd, PgnFault, PgnFaultKind};
+pub use read::{PgnEnd, PgnFault, PgnFaultKind, read_pgn};
 pub use tags::{TagText, Tags};
 
 #[cfg(test)]
