@@ -22,3 +22,5 @@ pub mod FilledLines
 pub mod Added
 pub mod TagTexts
 pub mod TagLines
+pub mod TokenPlaces
+pub mod GameReads
