@@ -31,7 +31,7 @@ abbrev LeavesOf : List ℕ → Token × List ℕ → Type 0
 LeavesOf text t = Left text t.1
 
 -- a property of both values of a choice
-pick : {A : Type 0} (P : A → Type 0) (t : Bool) (x y : A) → (t ≡ true → P x) → (t ≡ false → P y) → P (cond t x y)
+pub pick : {A : Type 0} (P : A → Type 0) (t : Bool) (x y : A) → (t ≡ true → P x) → (t ≡ false → P y) → P (cond t x y)
 pick P true x y f g = f refl
 pick P false x y f g = g refl
 
@@ -89,9 +89,9 @@ variation_cut Plain begins depth (c ∷ rest) =
 
 -- ---- tags
 
-record Suffix (text rest : List ℕ) : Type 0 where
-  front : List ℕ
-  is : text ≡ front ++ rest
+pub record Suffix (text rest : List ℕ) : Type 0 where
+  pub front : List ℕ
+  pub is : text ≡ front ++ rest
 
 suffix_all : (text : List ℕ) → Suffix text text
 suffix_all text = record { front = []; is = refl }
@@ -112,7 +112,7 @@ suffix_left text more rest h (inr k) = inr (suffix_cut text more rest h k)
 cut_suffix : (text rest : List ℕ) → Cut text rest → Suffix text rest
 cut_suffix text rest k = record { front = k.front ++ k.last ∷ []; is = k.is ∙ sym (append_assoc k.front (k.last ∷ []) rest) }
 
-gap_suffix : (skips begins : Bool) (text : List ℕ) → Suffix text (behind_gap skips begins text)
+pub gap_suffix : (skips begins : Bool) (text : List ℕ) → Suffix text (behind_gap skips begins text)
 gap_suffix skips begins [] = suffix_all []
 gap_suffix true begins (c ∷ rest) = suffix_more c rest _ (gap_suffix (not (eqb c 10)) true rest)
 gap_suffix false begins (c ∷ rest) =
@@ -144,7 +144,7 @@ byte_cut : (b : ℕ) (text : List ℕ) → eqb b 10 ≡ false → IfSome (behind
 byte_cut b [] e = tt
 byte_cut b (c ∷ rest) e = pick (λ (o : Option (List ℕ)). IfSome o (Cut (c ∷ rest))) (eqb c b) _ _ (λ k. cut_here c rest (grind (arith, nat_tests, e, k))) (λ _. tt)
 
-next_cut : (b : ℕ) (text : List ℕ) → eqb b 10 ≡ false → IfSome (behind_next b text) (Cut text)
+pub next_cut : (b : ℕ) (text : List ℕ) → eqb b 10 ≡ false → IfSome (behind_next b text) (Cut text)
 next_cut b text e = by_option (behind_next b text) (byte_cut b (behind_gap false false text) e)
   where
     by_option : (o : Option (List ℕ)) → IfSome o (Cut (behind_gap false false text)) → IfSome o (Cut text)

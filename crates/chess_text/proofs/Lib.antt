@@ -23,3 +23,5 @@ pub mod Added
 pub mod TagTexts
 pub mod TagLines
 pub mod GameTexts
+pub mod TokenPlaces
+pub mod GameReads

@@ -11,4 +11,5 @@ pub mod Written
 pub mod Waiting
 pub mod Tags
 pub mod GameRead
+pub mod GameSteps
 pub mod GameText

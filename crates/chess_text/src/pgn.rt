@@ -15,7 +15,7 @@ mod word;
 mod write;
 
 pub use laws::lines_are_filled;
-pub use read::{PgnEnd, PgnFault, PgnFaultKind};
+pub use read::{PgnEnd, PgnFault, PgnFaultKind, read_pgn};
 pub use tags::{TagText, Tags};
 pub use write::write_pgn;
 
