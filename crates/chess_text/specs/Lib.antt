@@ -1,7 +1,7 @@
 pub mod Tokens
 pub mod Words
 pub mod Seen
-pub mod Parts
+pub mod VariationParts
 pub mod Written
 pub mod Waiting
 pub mod Tags

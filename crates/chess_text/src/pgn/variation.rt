@@ -3,7 +3,7 @@
 ghost use Rattle.std.specs.Prelude.{◌≡◌, ◌+◌, ◌≤◌, ◌<◌, ◌^◌, length, false, IfSome, Option, Result};
 ghost use Rattle.std.specs.Option.{option_map};
 ghost use Rattle.chess_text.specs.Tokens.{variation_at, Plain};
-ghost use Rattle.chess_text.specs.Parts.{behind_part, depth_behind};
+ghost use Rattle.chess_text.specs.VariationParts.{behind_part, depth_behind};
 ghost use Rattle.chess_text.specs.Seen.{variation_seen};
 
 use crate::pgn::skips::{behind_brace, line_end};
