@@ -1,0 +1,143 @@
+-- The parts of a move's text: [letter][file][rank][x]square[[=]promotion], and the marks behind it.
+use Rattle.std.specs.Prelude.{ℕ, ◌+◌, ◌-◌, ◌*◌, ◌<◌, ◌==◌, nat_le, Bool, true, false, ◌&&◌, ◌||◌, if◌then◌else◌, List, [], ◌∷◌, ◌++◌, length, take, find, Option, Some, None, IfSome}
+use Rattle.std.specs.List.{suffix_len}
+use Rattle.std.specs.Option.{option_map}
+use Rattle.chess_base.specs.declared.man.Kind.{Kind}
+use Rattle.chess_base.specs.declared.man.Kind.TheVariants.{King, Queen, Rook, Bishop, Knight, Pawn}
+use Rattle.chess_base.specs.Letters.{byte, white_letter}
+use Rattle.chess_base.specs.Writing.{square_text}
+use Rattle.chess_text.specs.declared.parts.Parts.{Parts}
+use Rattle.chess_text.specs.declared.parts.End.{End}
+use Rattle.chess_text.specs.declared.parts.Promotion.{Promotion}
+
+-- the marks + # ! ?, which say something of a move and don't name it
+abbrev pub is_mark : ℕ → Bool
+is_mark c = (c == byte "+") || (c == byte "#") || (c == byte "!") || (c == byte "?")
+
+-- a text without the run of marks at its end
+unfoldable pub unmarked : List ℕ → List ℕ
+unmarked text = take (length text - suffix_len is_mark text) text
+
+-- ---- the text of parts
+
+abbrev pub optional : {A : Type 0} → (A → List ℕ) → Option A → List ℕ
+optional f None = []
+optional f (Some x) = f x
+
+abbrev pub when : Bool → List ℕ → List ℕ
+when b text = if b then text else []
+
+abbrev pub kind_text : Kind → List ℕ
+kind_text k = white_letter k ∷ []
+
+abbrev pub file_text : ℕ → List ℕ
+file_text f = (byte "a" + f) ∷ []
+
+abbrev pub rank_text : ℕ → List ℕ
+rank_text r = (byte "1" + r) ∷ []
+
+-- a promotion's letter, capital or small
+abbrev pub promotion_letter : Promotion → ℕ
+promotion_letter p = if p.small then white_letter p.kind + 32 else white_letter p.kind
+
+abbrev pub promotion_text : Promotion → List ℕ
+promotion_text p = when p.equals (byte "=" ∷ []) ++ promotion_letter p ∷ []
+
+abbrev pub end_text : End → List ℕ
+end_text e = square_text e.to ++ optional promotion_text e.promotion
+
+abbrev pub parts_text : Parts → List ℕ
+parts_text q = optional kind_text q.letter ++ (optional file_text q.file ++ (optional rank_text q.rank ++ (when q.takes (byte "x" ∷ []) ++ end_text q.end)))
+
+-- the men that a letter names, and those that a pawn may become (3.7.3.4)
+abbrev pub officers : List Kind
+officers = King ∷ Queen ∷ Rook ∷ Bishop ∷ Knight ∷ []
+
+abbrev pub promoted : List Kind
+promoted = Queen ∷ Rook ∷ Bishop ∷ Knight ∷ []
+
+abbrev pub IsOfficer : Kind → Type 0
+IsOfficer Pawn = ⊥
+IsOfficer k = Unit {0}
+
+abbrev pub CanPromote : Kind → Type 0
+CanPromote Pawn = ⊥
+CanPromote King = ⊥
+CanPromote k = Unit {0}
+
+-- parts that a text can have
+pub record AreParts (q : Parts) : Type 0 where
+  pub letter_is : IfSome q.letter IsOfficer
+  pub file_is : IfSome q.file (λ f. f < 8)
+  pub rank_is : IfSome q.rank (λ r. r < 8)
+  pub to_is : q.end.to < 64
+  pub promotion_is : IfSome q.end.promotion (λ p. CanPromote p.kind)
+
+-- ---- the parts of a text
+
+-- the kind of this letter
+abbrev pub kind_from : List Kind → ℕ → Option Kind
+kind_from kinds c = find (λ k. white_letter k == c) kinds
+
+abbrev pub is_file_letter : ℕ → Bool
+is_file_letter c = nat_le (byte "a") c && nat_le c (byte "h")
+
+abbrev pub is_rank_digit : ℕ → Bool
+is_rank_digit c = nat_le (byte "1") c && nat_le c (byte "8")
+
+-- the first that is there
+abbrev pub or_else : {A : Type 0} → Option A → Option A → Option A
+or_else (Some x) o = Some x
+or_else None o = o
+
+abbrev pub promotion_by : Bool → ℕ → Option Promotion
+promotion_by equals c =
+    or_else (option_map (λ k. record { kind = k; equals = equals; small = false }) (kind_from promoted c))
+    (option_map (λ k. record { kind = k; equals = equals; small = true }) (kind_from promoted (c - 32)))
+
+abbrev pub promotion_at : List ℕ → Option (Option Promotion)
+promotion_at [] = Some None
+promotion_at (c ∷ []) = option_map Some (promotion_by false c)
+promotion_at (c ∷ d ∷ []) = if c == byte "=" then option_map Some (promotion_by true d) else None
+promotion_at (c ∷ d ∷ e ∷ cs) = None
+
+abbrev pub end_at : List ℕ → Option End
+end_at [] = None
+end_at (f ∷ []) = None
+end_at (f ∷ r ∷ rest) =
+    if is_file_letter f && is_rank_digit r
+    then option_map (λ p. record { to = 8 * (r - byte "1") + (f - byte "a"); promotion = p }) (promotion_at rest)
+    else None
+
+abbrev pub takes_at : List ℕ → Option (Bool × End)
+takes_at [] = None
+takes_at (c ∷ rest) = if c == byte "x" then option_map (λ e. (true, e)) (end_at rest) else option_map (λ e. (false, e)) (end_at (c ∷ rest))
+
+abbrev pub rank_at : List ℕ → Option (Option ℕ × Bool × End)
+rank_at [] = None
+rank_at (c ∷ rest) =
+    if is_rank_digit c then option_map (λ (x : Bool × End). (Some (c - byte "1"), x.0, x.1)) (takes_at rest)
+    else option_map (λ (x : Bool × End). (None, x.0, x.1)) (takes_at (c ∷ rest))
+
+abbrev pub with_parts : Option Kind → Option ℕ → Option ℕ × Bool × End → Parts
+with_parts letter file x = record { letter = letter; file = file; rank = x.0; takes = x.1; end = x.2 }
+
+-- a file is one of the start only where a square follows
+abbrev pub file_at : Option Kind → List ℕ → Option Parts
+file_at letter [] = None
+file_at letter (c ∷ rest) =
+    or_else (option_map (with_parts letter None) (rank_at (c ∷ rest)))
+    (if is_file_letter c then option_map (with_parts letter (Some (c - byte "a"))) (rank_at rest) else None)
+
+abbrev pub at_letter : Option Kind → ℕ → List ℕ → Option Parts
+at_letter None c rest = file_at None (c ∷ rest)
+at_letter (Some k) c rest = file_at (Some k) rest
+
+-- the parts whose text it is, if there are such
+abbrev pub parts_at : List ℕ → Option Parts
+parts_at [] = None
+parts_at (c ∷ rest) = at_letter (kind_from officers c) c rest
+
+-- those of a text without its marks
+unfoldable pub parts_of : List ℕ → Option Parts
+parts_of text = parts_at (unmarked text)
