@@ -1,22 +1,86 @@
 -- The text of a game, put together from left to right.
-use Rattle.std.proofs.Common.{◌≡◌, ℕ, zero, suc, ◌+◌, ◌<◌, ◌≤◌, ◌^◌, Bool, true, false, eqb, List, [], ◌∷◌, ◌++◌, length, take, slice_get, Option, None, Some, refl, sym, ap, subst, ◌∙◌, append_assoc, append-nil, add-one, arith}
-use Rattle.std.specs.Prelude.{decimal, IsTrue}
+use Rattle.std.proofs.Common.{◌≡◌, ℕ, zero, suc, ◌+◌, ◌<◌, ◌≤◌, ◌^◌, Bool, true, false, eqb, List, [], ◌∷◌, ◌++◌, length, take, slice_get, Option, None, Some, Result, refl, sym, ap, subst, ◌∙◌, append_assoc, append-nil, add-one, arith}
+use Rattle.std.specs.Prelude.{decimal, codes, IsTrue}
+use Rattle.std.specs.Str.{bytes_eq}
+use Rattle.std.specs.List.{flat_map}
+use Rattle.std.proofs.lemmas.List.Concat.{flat_map-append}
 use Rattle.std.proofs.lemmas.Bool.Decides.{nat_tests}
 use Rattle.std.proofs.lemmas.Fmt.{length-decimal-le}
 use Rattle.chess_base.specs.declared.man.Move.{Move}
 use Rattle.chess_base.specs.declared.setup.Setup.{Setup}
-use Rattle.chess_base.specs.Devices.{OutputState, BreaksOff}
+use Rattle.chess_base.specs.Devices.{OutputState, BreaksOff, Puts}
 use Rattle.chess_base.specs.Moves.{is_legal, after}
+use Rattle.chess_base.specs.Initial.{initial_setup}
+use Rattle.chess_base.specs.Writing.{fen}
+use Rattle.chess_game.specs.Game.{State, outcome_now}
+use Rattle.chess_game.specs.Results.{outcome_text}
+use Rattle.chess_game.specs.declared.results.Outcome.{Outcome}
 use Rattle.chess_game.specs.Line.{last, IsLine}
-use Rattle.chess_text.specs.GameText.{number_token, tokens_of_move, move_tokens, placed_all, column_behind_all}
+use Rattle.chess_text.specs.declared.pgn.tags.Tags.{Tags}
+use Rattle.chess_text.specs.GameText.{roster_lines, is_initial, start_lines, tag_lines, number_token, tokens_of_move, move_tokens, game_tokens, placed_all, column_behind_all, pgn}
 use Rattle.chess_text.specs.San.{san}
-use Rattle.chess_text.specs.Waiting.{TookSome}
-use Rattle.chess_text.specs.Written.{placed, column_behind, filled_from}
-use Rattle.chess_text.proofs.Added.{added_more, added_break, break_longer}
+use Rattle.chess_text.specs.Waiting.{TookSome, Adds}
+use Rattle.chess_text.specs.Written.{tag_line, ended, placed, column_behind, line_close, filled_from, move_text_of}
+use Rattle.chess_text.proofs.Added.{added_more, added_break, break_longer, adds_more, finished}
 
 -- a number of 32 bits has at most ten digits
 pub short_decimal : (n : ℕ) → n < 2 ^ 32 → length (decimal n) ≤ 10
 short_decimal n h = length-decimal-le 10 n (omega arith) (omega arith) (omega arith)
+
+-- ---- texts of three parts
+
+pub record HasParts (t u v text : List ℕ) : Type 0 where
+  pub is : text ≡ t ++ (u ++ v)
+
+-- the first could not be put
+pub first_broke : (a b : OutputState) (w t u v text : List ℕ) → HasParts t u v text → BreaksOff a b (w ++ t) → BreaksOff a b (w ++ text)
+first_broke a b w t u v text parts h = rw parts.is (break_longer a b w t (u ++ v) h)
+
+-- the second could not be put
+pub second_broke : (a b c : OutputState) (w x t u v text : List ℕ) → HasParts t u v text → TookSome a b w x t → BreaksOff b c (x ++ u) → BreaksOff a c (w ++ text)
+second_broke a b c w x t u v text parts h k = rw parts.is (added_break a b c w x t (u ++ v) h (break_longer b c x u v k))
+
+-- the first two were put, and what became of the third became of all
+pub third_put : {A E : Type 0} (a b c d : OutputState) (r : Result A E) (w x y z t u v text : List ℕ) → HasParts t u v text → TookSome a b w x t → TookSome b c x y u → Adds c d y z r v → Adds a d w z r text
+third_put a b c d r w x y z t u v text parts h k l = rw parts.is (adds_more a b d r w x z t (u ++ v) h (adds_more b c d r x y z u v k l))
+
+-- ---- tags
+
+-- a start that is not the initial position has the tags of its FEN
+pub start_told : (start initial : Setup) (text other shown : List ℕ) → initial ≡ initial_setup → text ≡ fen start → other ≡ fen initial → bytes_eq text other ≡ false → shown ≡ fen start
+    → start_lines start ≡ tag_line (codes "FEN") shown ∷ tag_line (codes "SetUp") (codes "1") ∷ []
+start_told start initial text other shown of is other_is differs told =
+    let e : is_initial start ≡ false = ap (λ v. bytes_eq v (fen initial_setup)) (sym is) ∙ ap (λ v. bytes_eq text (fen v)) (sym of) ∙ ap (bytes_eq text) (sym other_is) ∙ differs in
+    rw (e, told) refl
+
+-- the tags of a game and an empty line
+pub tags_are : (prefix before last_before : List ℕ) (t : Tags) (outcome : Outcome) (start : Setup) (s : State) → outcome ≡ outcome_now s → start ≡ s.start → before ≡ prefix → last_before ≡ prefix
+    → HasParts (ended prefix (roster_lines t outcome)) (ended before (start_lines start)) (last_before ++ [] ++ 10 ∷ []) (ended prefix (tag_lines t s ++ [] ∷ []))
+tags_are prefix before last_before t outcome start s o is b l =
+    let line : List ℕ → List ℕ = λ text. prefix ++ text ++ 10 ∷ [] in
+    let roster : List (List ℕ) = roster_lines t (outcome_now s) in
+    let behind : List (List ℕ) = start_lines s.start in
+    record { is =
+    flat_map-append line (roster ++ behind) ([] ∷ [])
+    ∙ ap (λ v. v ++ flat_map line ([] ∷ [])) (flat_map-append line roster behind)
+    ∙ append_assoc (flat_map line roster) (flat_map line behind) (flat_map line ([] ∷ []))
+    ∙ ap (λ v. flat_map line roster ++ (flat_map line behind ++ v)) (append-nil (line []))
+    ∙ rw (b, l, o, is) refl }
+
+-- a game's tags, its moves, and an empty line
+pub game_is : (prefix before last_before : List ℕ) (t : Tags) (s : State) → before ≡ prefix → last_before ≡ prefix
+    → HasParts (ended prefix (tag_lines t s ++ [] ∷ [])) (move_text_of before (game_tokens s)) (last_before ++ [] ++ 10 ∷ []) (pgn prefix t s)
+unfolding pgn
+game_is prefix before last_before t s b l =
+    record { is =
+    append_assoc (ended prefix (tag_lines t s ++ [] ∷ [])) (move_text_of prefix (game_tokens s)) (ended prefix ([] ∷ []))
+    ∙ ap (λ v. ended prefix (tag_lines t s ++ [] ∷ []) ++ (move_text_of prefix (game_tokens s) ++ v)) (append-nil (prefix ++ [] ++ 10 ∷ []))
+    ∙ rw (b, l) refl }
+
+-- all was put behind nothing, and what waits is written
+pub game_written : {A E : Type 0} (a b c : OutputState) (r : Result A E) (w x prefix before : List ℕ) (t : Tags) (s : State) → w ≡ [] → before ≡ prefix → TookSome a b w x (pgn before t s) → Puts b c r x → Puts a c r (pgn prefix t s)
+game_written a b c r w x prefix before t s none is h k =
+    subst (Puts a c r) (ap (λ v. v ++ pgn before t s) none ∙ ap (λ v. pgn v t s) is) (finished a b c r w x (pgn before t s) h k)
 
 -- ---- tokens, one list behind another
 
@@ -35,6 +99,12 @@ filled_from-append prefix column [] us = refl
 filled_from-append prefix column (t ∷ ts) us =
     ap (λ v. placed prefix column t ++ v) (filled_from-append prefix (column_behind column t) ts us)
     ∙ sym (append_assoc (placed prefix column t) (placed_all prefix (column_behind column t) ts) (filled_from prefix (column_behind_all column (t ∷ ts)) us))
+
+-- the moves of a game, its outcome, and the end of the line
+pub moves_are : (prefix before outcome : List ℕ) (column col end : ℕ) (s : State) → column ≡ 0 → before ≡ prefix → col ≡ column_behind_all column (move_tokens true s.start s.moves) → outcome ≡ outcome_text (outcome_now s) → end ≡ column_behind col outcome
+    → HasParts (placed_all prefix column (move_tokens true s.start s.moves)) (placed before col outcome) (line_close end) (move_text_of prefix (game_tokens s))
+moves_are prefix before outcome column col end s none b is o e =
+    record { is = rw (e, o, is, b, none) (filled_from-append prefix 0 (move_tokens true s.start s.moves) (outcome_text (outcome_now s) ∷ [])) }
 
 -- ---- the tokens of a move
 

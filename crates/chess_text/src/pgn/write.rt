@@ -1,10 +1,10 @@
 //! Writing a game (PGN standard of 1994, sections 3.2, 8 and 9.7).
 
-ghost use Rattle.std.specs.Prelude.{◌≡◌, ◌≤◌, ◌<◌, ◌++◌, true, length, decimal, OnOk, IsTrue};
+ghost use Rattle.std.specs.Prelude.{◌≡◌, ◌≤◌, ◌<◌, [], ◌∷◌, ◌++◌, true, length, decimal, OnOk, IsTrue};
 ghost use Rattle.arrayvec.specs.ArrayVec.{array_vec_len};
 ghost use Rattle.chess_base.specs.Devices.{Puts};
 ghost use Rattle.chess_base.specs.Moves.{is_legal, after};
-ghost use Rattle.chess_text.specs.GameText.{roster_lines, start_lines, number_token, tokens_of_move, move_tokens, game_tokens, placed_all, column_behind_all, pgn};
+ghost use Rattle.chess_text.specs.GameText.{roster_lines, start_lines, tag_lines, number_token, tokens_of_move, move_tokens, game_tokens, placed_all, column_behind_all, pgn};
 ghost use Rattle.chess_text.specs.Waiting.{Adds};
 ghost use Rattle.chess_text.specs.Written.{ended, move_text_of};
 
@@ -52,12 +52,26 @@ fn put_game<B: Board, W: Output>(
     tags: &Tags,
 ) -> Result<(), WriteFault>
     requires { lines.old.column ≡ 0 }
-    ensures added { Adds (W.seen writer.old) (W.seen writer.new) lines.old.waiting lines.new.waiting result (pgn lines.old.prefix.now tags.now game.now.state) }
+    ensures { Adds (W.seen writer.old) (W.seen writer.new) lines.old.waiting lines.new.waiting result (pgn lines.old.prefix.now tags.now game.now.state) }
+{
+    put_tag_lines(lines, writer, game, tags)?;
+    put_move_text(lines, writer, game, scratch)?;
+    lines.put_line(writer, b"")
+}
+
+// Puts the tags of a game, and an empty line.
+fn put_tag_lines<B: Board, W: Output>(
+    lines: &mut LineWriter<'_>,
+    writer: &mut W,
+    game: &Game<B>,
+    tags: &Tags,
+) -> Result<(), WriteFault>
+    ensures added { Adds (W.seen writer.old) (W.seen writer.new) lines.old.waiting lines.new.waiting result (ended lines.old.prefix.now (tag_lines tags.now game.now.state ++ [] ∷ [])) }
+    ensures prefix { lines.new.prefix.now ≡ lines.old.prefix.now }
+    ensures column { lines.new.column ≡ lines.old.column }
 {
     put_roster(lines, writer, tags, game.outcome())?;
     put_start(lines, writer, &game.start())?;
-    lines.put_line(writer, b"")?;
-    put_move_text(lines, writer, game, scratch)?;
     lines.put_line(writer, b"")
 }
 
