@@ -5,7 +5,7 @@ use Rattle.chess_text.specs.GameText.{pgn}
 use Rattle.chess_cecp.specs.Commands.{command_of, argument_of}
 use Rattle.chess_cecp.specs.Held.{Seen}
 use Rattle.chess_cecp.specs.Lines.{LineSeen}
-use Rattle.chess_cecp.specs.Session.{row, shows_pgn, asks_for_pgn, next_state, answer_to, is_quit, is_quit_command}
+use Rattle.chess_cecp.specs.Session.{row, row_on, says, stands, shows_pgn, asks_for_pgn, next_state, answer_to, is_quit, is_quit_command}
 use Rattle.chess_cecp.specs.declared.command.Command.{Command}
 use Rattle.chess_cecp.specs.declared.command.Command.TheVariants.{New, SetBoard, UserMove, BareMove, Undo, Remove, Declare, Claim, Ping, Protover, Variant, Go, ShowFen, ShowMoves, ShowState, ShowPgn, Quit, Silent, BadNumber, Unknown}
 
@@ -43,4 +43,5 @@ pgn_row seen line asks =
     let both = and_parts (not line.too_long) (shows_pgn (command_of line.text)) asks in
     let short : line.too_long ≡ false = not-true line.too_long both.0 in
     let command : command_of line.text ≡ ShowPgn = is_show_pgn (command_of line.text) both.1 in
-    record { next = rw (short, command) refl; text = rw (short, command) refl; no_quit = rw (short, command) refl }
+    let at : row_on seen line ≡ says seen.state (pgn (codes "# ") seen.tags seen.state) = rw short (ap (row seen.tags seen.limit seen.state line.text (argument_of line.text)) command) in
+    record { next = ap (stands seen) at; text = ap (λ r. r.text) at; no_quit = rw short (ap is_quit_command command) }

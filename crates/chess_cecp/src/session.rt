@@ -246,7 +246,7 @@ impl<B: Board> Session<B> {
     }
 
     // Does what the row of a line says, and answers whether the session goes on.
-    #[tactic(auto, unfolding(crate::specs::Session::next_state, crate::specs::Session::answer_to, crate::specs::Session::is_quit))]
+    #[tactic(auto, unfolding(crate::specs::Session::next_state, crate::specs::Session::answer_to, crate::specs::Session::is_quit, crate::specs::Session::asks_for_pgn))]
     fn obey_line(&mut self, line: &Line<1024>, answer: &mut Answer) -> Go
         requires brief { asks_for_pgn line.now ≡ false }
         requires empty { answer.old.items ≡ [] }
@@ -284,8 +284,10 @@ impl<B: Board> Session<B> {
         ensures go { IfOk result (λ go. go ≡ (if is_quit line.now then Go.Quit else Go.On)) }
     {
         if asks_for_pgn(line) {
-            self.send_pgn(writer)?;
-            return Ok(Go::On);
+            return match self.send_pgn(writer) {
+                Ok(()) => Ok(Go::On),
+                Err(fault) => Err(fault),
+            };
         }
         let mut answer = Answer::new();
         let go = self.obey_line(line, &mut answer);
@@ -295,6 +297,7 @@ impl<B: Board> Session<B> {
 }
 
 // Whether the line asks for the game's text.
+#[tactic(auto, unfolding(crate::specs::Session::asks_for_pgn))]
 fn asks_for_pgn(line: &Line<1024>) -> bool
     ensures { result ≡ asks_for_pgn line.now }
 {

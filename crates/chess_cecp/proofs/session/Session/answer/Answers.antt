@@ -1,0 +1,18 @@
+use Rattle.std.proofs.Common.{refl, sym, ◌∙◌}
+use Rattle.chess_cecp.proofs.PgnRow.{pgn_row}
+use Rattle.chess_cecp.proofs.session.Session.answer.Goals as goal
+
+pub returns-in-Ok-clause-next : goal.returns-in-Ok-clause-next
+returns-in-Ok-clause-next g c = c.send_pgn.ensures.same ∙ sym (pgn_row c.args.self.now c.args.line.now (sym c.asks_for_pgn.ensures ∙ c.if-asks_for_pgn.true)).next
+
+pub returns-in-Ok-clause-written : goal.returns-in-Ok-clause-written
+returns-in-Ok-clause-written g c = rw (pgn_row c.args.self.now c.args.line.now (sym c.asks_for_pgn.ensures ∙ c.if-asks_for_pgn.true)).text c.in-Ok.ensures.written
+
+pub returns-in-Ok-clause-go : goal.returns-in-Ok-clause-go
+returns-in-Ok-clause-go g c = rw (pgn_row c.args.self.now c.args.line.now (sym c.asks_for_pgn.ensures ∙ c.if-asks_for_pgn.true)).no_quit refl
+
+pub returns-in-Err-clause-next : goal.returns-in-Err-clause-next
+returns-in-Err-clause-next g c = c.send_pgn.ensures.same ∙ sym (pgn_row c.args.self.now c.args.line.now (sym c.asks_for_pgn.ensures ∙ c.if-asks_for_pgn.true)).next
+
+pub returns-in-Err-clause-written : goal.returns-in-Err-clause-written
+returns-in-Err-clause-written g c = rw (pgn_row c.args.self.now c.args.line.now (sym c.asks_for_pgn.ensures ∙ c.if-asks_for_pgn.true)).text c.in-Err.ensures.written
