@@ -18,4 +18,6 @@ pub use read::{PgnEnd, PgnFault, PgnFaultKind, read_pgn};
 pub use tags::{TagText, Tags};
 
 #[cfg(test)]
+mod read_tests;
+#[cfg(test)]
 mod tests;
