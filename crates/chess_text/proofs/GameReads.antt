@@ -1,16 +1,13 @@
 -- Reading a game, token by token.
-use Rattle.std.proofs.Common.{◌≡◌, ℕ, ◌-◌, ◌≤◌, Bool, true, false, cond, List, [], ◌∷◌, length, Option, Some, None, is_some, Result, Ok, Err, refl, sym, ap, subst, ◌∙◌, arith}
+use Rattle.std.proofs.Common.{◌≡◌, ℕ, ◌-◌, ◌≤◌, false, List, ◌∷◌, length, None, is_some, Result, Ok, Err, refl, sym, ap, subst, ◌∙◌}
 use Rattle.std.specs.Prelude.{nat_lt, codes}
 use Rattle.std.specs.Str.{bytes_eq}
 use Rattle.chess_base.specs.declared.fault.FenFault.{FenFault}
 use Rattle.chess_base.specs.declared.setup.Setup.{Setup}
 use Rattle.chess_base.specs.Initial.{initial_setup}
 use Rattle.chess_base.specs.Reading.{fen_reading}
-use Rattle.chess_game.specs.Game.{Seen, State, from_start, current, verdict_now}
+use Rattle.chess_game.specs.Game.{Seen, from_start, current, verdict_now}
 use Rattle.chess_game.specs.Game.{at as left_at}
-use Rattle.chess_text.specs.declared.pgn.read.PgnEnd.{PgnEnd}
-use Rattle.chess_text.specs.declared.pgn.read.PgnFault.{PgnFault}
-use Rattle.chess_text.specs.declared.pgn.read.PgnFaultKind.TheVariants.{NoResult, BadTag}
 use Rattle.chess_text.specs.declared.pgn.read.Progress.{Progress}
 use Rattle.chess_text.specs.declared.pgn.word.WordKind.{WordKind}
 use Rattle.chess_text.specs.declared.pgn.word.WordKind.TheVariants.{Termination, Number, Marks, Move}
@@ -19,7 +16,7 @@ use Rattle.chess_text.specs.declared.reading.Reading.TheVariants as reads
 use Rattle.chess_text.specs.Moves.{reading}
 use Rattle.chess_text.specs.Words.{kind_of}
 use Rattle.chess_text.specs.Tokens.{Token, Skip, Tag, Word, Bad_tag, Unclosed_comment, Unclosed_variation, Bad, first_place, tokens_from}
-use Rattle.chess_text.specs.GameRead.{SoFar, GameRead, Step, On, Stop, unless_full, move_step, word_step, fen_step, tag_step, step, at_text_end, go_on, game_of, pgn_read}
+use Rattle.chess_text.specs.GameRead.{SoFar, Step, On, Stop, unless_full, move_step, word_step, fen_step, tag_step, step, go_on, game_of, pgn_read}
 use Rattle.chess_text.specs.GameSteps.{so_far}
 use Rattle.chess_text.proofs.Cuts.{pick}
 

@@ -1,5 +1,5 @@
 -- What the reader of a game answers, step by step, in the words of the definitions.
-use Rattle.std.specs.Prelude.{ℕ, ◌≤◌, List, length, Result, Ok, Err, Some}
+use Rattle.std.specs.Prelude.{ℕ, ◌≤◌, length, Result, Ok, Err, Some}
 use Rattle.chess_game.specs.Game.{State}
 use Rattle.chess_text.specs.declared.pgn.read.PgnFault.{PgnFault}
 use Rattle.chess_text.specs.declared.pgn.read.Progress.{Progress}

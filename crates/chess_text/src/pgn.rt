@@ -20,6 +20,8 @@ pub use tags::{TagText, Tags};
 pub use write::write_pgn;
 
 #[cfg(test)]
+mod read_tests;
+#[cfg(test)]
 mod tests;
 #[cfg(test)]
 mod write_tests;
