@@ -1,5 +1,5 @@
 -- The text of a game, put together from left to right.
-use Rattle.std.proofs.Common.{◌≡◌, ℕ, zero, suc, ◌+◌, ◌<◌, ◌≤◌, ◌^◌, Bool, true, false, eqb, List, [], ◌∷◌, ◌++◌, length, take, slice_get, Option, None, Some, Result, refl, sym, ap, subst, ◌∙◌, append_assoc, append-nil, add-one, arith}
+use Rattle.std.proofs.Common.{◌≡◌, ℕ, zero, suc, ◌+◌, ◌<◌, ◌≤◌, ◌^◌, Bool, true, false, eqb, List, [], ◌∷◌, ◌++◌, length, take, slice_get, Some, Result, refl, sym, ap, subst, ◌∙◌, append_assoc, append-nil, add-one, arith}
 use Rattle.std.specs.Prelude.{decimal, codes, IsTrue}
 use Rattle.std.specs.Str.{bytes_eq}
 use Rattle.std.specs.List.{flat_map}
@@ -60,22 +60,26 @@ tags_are prefix before last_before t outcome start s o is b l =
     let line : List ℕ → List ℕ = λ text. prefix ++ text ++ 10 ∷ [] in
     let roster : List (List ℕ) = roster_lines t (outcome_now s) in
     let behind : List (List ℕ) = start_lines s.start in
-    record { is =
-    flat_map-append line (roster ++ behind) ([] ∷ [])
-    ∙ ap (λ v. v ++ flat_map line ([] ∷ [])) (flat_map-append line roster behind)
-    ∙ append_assoc (flat_map line roster) (flat_map line behind) (flat_map line ([] ∷ []))
-    ∙ ap (λ v. flat_map line roster ++ (flat_map line behind ++ v)) (append-nil (line []))
-    ∙ rw (b, l, o, is) refl }
+    record {
+      is =
+          flat_map-append line (roster ++ behind) ([] ∷ [])
+          ∙ ap (λ v. v ++ flat_map line ([] ∷ [])) (flat_map-append line roster behind)
+          ∙ append_assoc (flat_map line roster) (flat_map line behind) (flat_map line ([] ∷ []))
+          ∙ ap (λ v. flat_map line roster ++ (flat_map line behind ++ v)) (append-nil (line []))
+          ∙ rw (b, l, o, is) refl;
+    }
 
 -- a game's tags, its moves, and an empty line
 pub game_is : (prefix before last_before : List ℕ) (t : Tags) (s : State) → before ≡ prefix → last_before ≡ prefix
     → HasParts (ended prefix (tag_lines t s ++ [] ∷ [])) (move_text_of before (game_tokens s)) (last_before ++ [] ++ 10 ∷ []) (pgn prefix t s)
 unfolding pgn
 game_is prefix before last_before t s b l =
-    record { is =
-    append_assoc (ended prefix (tag_lines t s ++ [] ∷ [])) (move_text_of prefix (game_tokens s)) (ended prefix ([] ∷ []))
-    ∙ ap (λ v. ended prefix (tag_lines t s ++ [] ∷ []) ++ (move_text_of prefix (game_tokens s) ++ v)) (append-nil (prefix ++ [] ++ 10 ∷ []))
-    ∙ rw (b, l) refl }
+    record {
+      is =
+          append_assoc (ended prefix (tag_lines t s ++ [] ∷ [])) (move_text_of prefix (game_tokens s)) (ended prefix ([] ∷ []))
+          ∙ ap (λ v. ended prefix (tag_lines t s ++ [] ∷ []) ++ (move_text_of prefix (game_tokens s) ++ v)) (append-nil (prefix ++ [] ++ 10 ∷ []))
+          ∙ rw (b, l) refl;
+    }
 
 -- all was put behind nothing, and what waits is written
 pub game_written : {A E : Type 0} (a b c : OutputState) (r : Result A E) (w x prefix before : List ℕ) (t : Tags) (s : State) → w ≡ [] → before ≡ prefix → TookSome a b w x (pgn before t s) → Puts b c r x → Puts a c r (pgn prefix t s)

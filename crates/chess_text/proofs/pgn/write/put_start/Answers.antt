@@ -1,4 +1,4 @@
-use Rattle.std.proofs.Common.{sym, ap, subst, ◌∙◌}
+use Rattle.std.proofs.Common.{sym, subst, ◌∙◌}
 use Rattle.chess_text.specs.Waiting.{Adds}
 use Rattle.chess_text.specs.Written.{ended}
 use Rattle.chess_text.proofs.GameTexts.{start_told}

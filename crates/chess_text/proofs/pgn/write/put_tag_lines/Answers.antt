@@ -1,5 +1,4 @@
-use Rattle.std.proofs.Common.{refl, sym, ap, subst, ◌∙◌}
-use Rattle.chess_text.specs.Waiting.{TookSome}
+use Rattle.std.proofs.Common.{refl, ◌∙◌}
 use Rattle.chess_text.proofs.Added.{adds_exit}
 use Rattle.chess_text.proofs.GameTexts.{first_broke, second_broke, third_put, tags_are}
 use Rattle.chess_text.proofs.pgn.write.put_tag_lines.Goals as goal
