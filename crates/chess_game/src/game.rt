@@ -195,6 +195,7 @@ impl<B: Board> Game<B> {
             saved,
             reached: Known::on(&self.board),
         };
+        // There is room: `open` took a place for each half-move that can stand.
         if self.places.push(place).is_err() {
             unreachable!();
         }

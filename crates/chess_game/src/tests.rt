@@ -101,6 +101,12 @@ fn play_all<B: Board>(game: &mut Game<B>, moves: &[u8]) -> Result<(), Fail> {
     Ok(())
 }
 
+// What was declared: the outcome and the comment.
+fn said<B: Board>(game: &Game<B>) -> Option<(Outcome, &[u8])> {
+    game.declared()
+        .map(|declared| (declared.outcome, declared.comment.as_bytes()))
+}
+
 const INITIAL: &[u8] = b"rnbqkbnr/pppppppp/8/8/8/8/PPPPPPPP/RNBQKBNR w KQkq - 0 1";
 
 const STARTS: [(&[u8], Option<Verdict>); 24] = [
@@ -166,6 +172,27 @@ const STARTS: [(&[u8], Option<Verdict>); 24] = [
     (b"4k3/8/8/8/8/8/8/Q3K3 w - - 0 1", None),
 ];
 
+// What may be claimed.
+const NONE: Claims = Claims {
+    threefold: false,
+    fifty_moves: false,
+};
+
+const THREEFOLD: Claims = Claims {
+    threefold: true,
+    fifty_moves: false,
+};
+
+const FIFTY_MOVES: Claims = Claims {
+    threefold: false,
+    fifty_moves: true,
+};
+
+const BOTH: Claims = Claims {
+    threefold: true,
+    fifty_moves: true,
+};
+
 /// A start, moves from there, and what is told of the game then.
 struct Told {
     start: &'static [u8],
@@ -176,7 +203,7 @@ struct Told {
     claims: Claims,
 }
 
-const LINES: [Told; 24] = [
+const LINES: [Told; 25] = [
     // The third, the fourth and the fifth time.
     Told {
         start: b"rnbqkbnr/pppppppp/8/8/8/8/PPPPPPPP/RNBQKBNR w KQkq - 0 1",
@@ -184,10 +211,7 @@ const LINES: [Told; 24] = [
         verdict: None,
         repetitions: 3,
         halfmove: 8,
-        claims: Claims {
-            threefold: true,
-            fifty_moves: false,
-        },
+        claims: THREEFOLD,
     },
     Told {
         start: b"rnbqkbnr/pppppppp/8/8/8/8/PPPPPPPP/RNBQKBNR w KQkq - 0 1",
@@ -195,10 +219,7 @@ const LINES: [Told; 24] = [
         verdict: None,
         repetitions: 4,
         halfmove: 12,
-        claims: Claims {
-            threefold: true,
-            fifty_moves: false,
-        },
+        claims: THREEFOLD,
     },
     Told {
         start: b"rnbqkbnr/pppppppp/8/8/8/8/PPPPPPPP/RNBQKBNR w KQkq - 0 1",
@@ -206,10 +227,7 @@ const LINES: [Told; 24] = [
         verdict: None,
         repetitions: 4,
         halfmove: 15,
-        claims: Claims {
-            threefold: true,
-            fifty_moves: false,
-        },
+        claims: THREEFOLD,
     },
     Told {
         start: b"rnbqkbnr/pppppppp/8/8/8/8/PPPPPPPP/RNBQKBNR w KQkq - 0 1",
@@ -217,10 +235,7 @@ const LINES: [Told; 24] = [
         verdict: Some(Verdict::FivefoldRepetition),
         repetitions: 5,
         halfmove: 16,
-        claims: Claims {
-            threefold: true,
-            fifty_moves: false,
-        },
+        claims: THREEFOLD,
     },
     // The clock goes on from the start's; the fifth time before 75 moves, and the fourth.
     Told {
@@ -229,10 +244,7 @@ const LINES: [Told; 24] = [
         verdict: None,
         repetitions: 3,
         halfmove: 100,
-        claims: Claims {
-            threefold: true,
-            fifty_moves: true,
-        },
+        claims: BOTH,
     },
     Told {
         start: b"rnbqkbnr/pppppppp/8/8/8/8/PPPPPPPP/RNBQKBNR w KQkq - 134 80",
@@ -240,10 +252,7 @@ const LINES: [Told; 24] = [
         verdict: Some(Verdict::FivefoldRepetition),
         repetitions: 5,
         halfmove: 150,
-        claims: Claims {
-            threefold: true,
-            fifty_moves: true,
-        },
+        claims: BOTH,
     },
     Told {
         start: b"rnbqkbnr/pppppppp/8/8/8/8/PPPPPPPP/RNBQKBNR w KQkq - 135 80",
@@ -251,10 +260,7 @@ const LINES: [Told; 24] = [
         verdict: Some(Verdict::SeventyFiveMoves),
         repetitions: 4,
         halfmove: 150,
-        claims: Claims {
-            threefold: true,
-            fifty_moves: true,
-        },
+        claims: BOTH,
     },
     // A target on which nobody may capture tells nothing: no pawn stands beside it, also after a move that set it; a pin.
     Told {
@@ -263,10 +269,7 @@ const LINES: [Told; 24] = [
         verdict: None,
         repetitions: 2,
         halfmove: 4,
-        claims: Claims {
-            threefold: false,
-            fifty_moves: false,
-        },
+        claims: NONE,
     },
     Told {
         start: b"rnbqkbnr/pppppppp/8/8/8/8/PPPPPPPP/RNBQKBNR w KQkq - 0 1",
@@ -274,10 +277,7 @@ const LINES: [Told; 24] = [
         verdict: None,
         repetitions: 2,
         halfmove: 4,
-        claims: Claims {
-            threefold: false,
-            fifty_moves: false,
-        },
+        claims: NONE,
     },
     Told {
         start: b"3k4/8/8/8/3pP3/8/8/3RK3 b - e3 0 1",
@@ -285,10 +285,7 @@ const LINES: [Told; 24] = [
         verdict: None,
         repetitions: 2,
         halfmove: 4,
-        claims: Claims {
-            threefold: false,
-            fifty_moves: false,
-        },
+        claims: NONE,
     },
     // A capture on the target was possible once, and never again.
     Told {
@@ -297,10 +294,7 @@ const LINES: [Told; 24] = [
         verdict: None,
         repetitions: 1,
         halfmove: 4,
-        claims: Claims {
-            threefold: false,
-            fifty_moves: false,
-        },
+        claims: NONE,
     },
     Told {
         start: b"4k3/8/8/8/3pP3/8/8/4K3 b - e3 0 1",
@@ -308,10 +302,7 @@ const LINES: [Told; 24] = [
         verdict: None,
         repetitions: 2,
         halfmove: 8,
-        claims: Claims {
-            threefold: false,
-            fifty_moves: false,
-        },
+        claims: NONE,
     },
     // A right that is lost makes another position.
     Told {
@@ -320,10 +311,7 @@ const LINES: [Told; 24] = [
         verdict: None,
         repetitions: 1,
         halfmove: 4,
-        claims: Claims {
-            threefold: false,
-            fifty_moves: false,
-        },
+        claims: NONE,
     },
     Told {
         start: b"4k3/8/8/8/8/8/8/R3K3 w Q - 0 1",
@@ -331,10 +319,7 @@ const LINES: [Told; 24] = [
         verdict: None,
         repetitions: 2,
         halfmove: 8,
-        claims: Claims {
-            threefold: false,
-            fifty_moves: false,
-        },
+        claims: NONE,
     },
     // The same men with the other side on move are another position; like men in one another's place are not.
     Told {
@@ -343,10 +328,7 @@ const LINES: [Told; 24] = [
         verdict: None,
         repetitions: 1,
         halfmove: 5,
-        claims: Claims {
-            threefold: false,
-            fifty_moves: false,
-        },
+        claims: NONE,
     },
     Told {
         start: b"4k3/8/8/8/8/8/8/RR2K3 w - - 0 1",
@@ -354,22 +336,24 @@ const LINES: [Told; 24] = [
         verdict: None,
         repetitions: 2,
         halfmove: 8,
-        claims: Claims {
-            threefold: false,
-            fifty_moves: false,
-        },
+        claims: NONE,
     },
     // 50 and 75 moves; mate comes first, a pawn move and a capture begin anew.
+    Told {
+        start: b"4k3/8/8/8/8/8/8/R3K3 w - - 99 80",
+        moves: b"",
+        verdict: None,
+        repetitions: 1,
+        halfmove: 99,
+        claims: NONE,
+    },
     Told {
         start: b"4k3/8/8/8/8/8/8/R3K3 w - - 99 80",
         moves: b"a1a2",
         verdict: None,
         repetitions: 1,
         halfmove: 100,
-        claims: Claims {
-            threefold: false,
-            fifty_moves: true,
-        },
+        claims: FIFTY_MOVES,
     },
     Told {
         start: b"4k3/8/8/8/8/8/8/R3K3 w - - 148 80",
@@ -377,10 +361,7 @@ const LINES: [Told; 24] = [
         verdict: None,
         repetitions: 1,
         halfmove: 149,
-        claims: Claims {
-            threefold: false,
-            fifty_moves: true,
-        },
+        claims: FIFTY_MOVES,
     },
     Told {
         start: b"4k3/8/8/8/8/8/8/R3K3 w - - 149 80",
@@ -388,10 +369,7 @@ const LINES: [Told; 24] = [
         verdict: Some(Verdict::SeventyFiveMoves),
         repetitions: 1,
         halfmove: 150,
-        claims: Claims {
-            threefold: false,
-            fifty_moves: true,
-        },
+        claims: FIFTY_MOVES,
     },
     Told {
         start: b"7k/8/6K1/8/8/8/8/R7 w - - 149 200",
@@ -399,10 +377,7 @@ const LINES: [Told; 24] = [
         verdict: Some(Verdict::WhiteMates),
         repetitions: 1,
         halfmove: 150,
-        claims: Claims {
-            threefold: false,
-            fifty_moves: true,
-        },
+        claims: FIFTY_MOVES,
     },
     Told {
         start: b"4k3/8/8/8/8/8/4P3/4K3 w - - 149 80",
@@ -410,10 +385,7 @@ const LINES: [Told; 24] = [
         verdict: None,
         repetitions: 1,
         halfmove: 0,
-        claims: Claims {
-            threefold: false,
-            fifty_moves: false,
-        },
+        claims: NONE,
     },
     Told {
         start: b"4k3/8/8/8/8/8/4p3/4K3 w - - 149 80",
@@ -421,10 +393,7 @@ const LINES: [Told; 24] = [
         verdict: Some(Verdict::InsufficientMaterial),
         repetitions: 1,
         halfmove: 0,
-        claims: Claims {
-            threefold: false,
-            fifty_moves: false,
-        },
+        claims: NONE,
     },
     // Mate by Black, and by White: 1. e4 e5 2. Bc4 Nc6 3. Qh5 Nf6 4. Qxf7#.
     Told {
@@ -433,10 +402,7 @@ const LINES: [Told; 24] = [
         verdict: Some(Verdict::BlackMates),
         repetitions: 1,
         halfmove: 1,
-        claims: Claims {
-            threefold: false,
-            fifty_moves: false,
-        },
+        claims: NONE,
     },
     Told {
         start: b"rnbqkbnr/pppppppp/8/8/8/8/PPPPPPPP/RNBQKBNR w KQkq - 0 1",
@@ -444,10 +410,7 @@ const LINES: [Told; 24] = [
         verdict: Some(Verdict::WhiteMates),
         repetitions: 1,
         halfmove: 0,
-        claims: Claims {
-            threefold: false,
-            fifty_moves: false,
-        },
+        claims: NONE,
     },
 ];
 
@@ -538,12 +501,6 @@ fn mate_stands_against_declared_results(rt: HostRuntime) -> Result<(), Fail> {
     Ok(())
 }
 
-// What was declared: the outcome and the comment.
-fn said<B: Board>(game: &Game<B>) -> Option<(Outcome, &[u8])> {
-    game.declared()
-        .map(|declared| (declared.outcome, declared.comment.as_bytes()))
-}
-
 #[test]
 fn declared_results_end_the_game(rt: HostRuntime) -> Result<(), Fail> {
     let mut game = Game::open(rt.alloc(), Plain::new(), 100)?;
@@ -589,7 +546,7 @@ fn declared_results_end_the_game(rt: HostRuntime) -> Result<(), Fail> {
 fn fifth_time_is_taken_back(rt: HostRuntime) -> Result<(), Fail> {
     let mut game = Game::open(rt.alloc(), Plain::new(), 100)?;
     play_all(&mut game, b"g1f3 g8f6 f3g1 f6g8 g1f3 g8f6 f3g1 f6g8")?;
-    assert!(rt; game.claims().threefold);
+    assert_eq!(rt; game.claims(), THREEFOLD);
     let claimed = game.declare(Outcome::Draw, Comment::cut(b"Threefold repetition"));
     assert_eq!(rt; claimed, Ok(()));
     assert_eq!(rt; game.play(by_squares(b"g1f3")), Err(PlayRefusal::Over));
@@ -602,11 +559,7 @@ fn fifth_time_is_taken_back(rt: HostRuntime) -> Result<(), Fail> {
     assert_eq!(rt; game.verdict(), None);
     assert_eq!(rt; game.repetitions(), 4);
     assert_eq!(rt; game.position().setup().halfmove, 15);
-    let claims = Claims {
-        threefold: true,
-        fifty_moves: false,
-    };
-    assert_eq!(rt; game.claims(), claims);
+    assert_eq!(rt; game.claims(), THREEFOLD);
     Ok(())
 }
 
@@ -686,8 +639,10 @@ fn promotion_to_a_knight_leaves_too_few_men(rt: HostRuntime) -> Result<(), Fail>
     let mut game = Game::open(rt.alloc(), Plain::new(), 100)?;
     game.restart(&read_fen(b"8/4P3/8/8/8/2k5/8/4K3 w - - 0 1")?);
     assert_eq!(rt; game.play(by_squares(b"e7e8")), Err(PlayRefusal::Illegal));
-    let mut promotion = by_squares(b"e7e8");
-    promotion.promotion = Some(Kind::Knight);
+    let promotion = Move {
+        promotion: Some(Kind::Knight),
+        ..by_squares(b"e7e8")
+    };
     assert_eq!(rt; game.play(promotion), Ok(()));
     assert_eq!(rt; game.verdict(), Some(Verdict::InsufficientMaterial));
     Ok(())
