@@ -18,6 +18,12 @@ step_seen s (Ok (does.On p)) = On (so_far s p)
 step_seen s (Ok (does.Ended end)) = Stop (record { state = s; answer = Ok (Some end) })
 step_seen s (Err fault) = Stop (record { state = s; answer = Err fault })
 
+-- a game that ended did so before that place, or at it
+abbrev pub EndsBy : ℕ → Result code.Step PgnFault → Type 0
+EndsBy last (Ok (does.On p)) = Unit {0}
+EndsBy last (Ok (does.Ended end)) = end.place ≤ last
+EndsBy last (Err fault) = Unit {0}
+
 -- the places that a token tells are in the text: so many bytes are left where it begins
 abbrev pub IsWithin : ℕ → Token → Type 0
 IsWithin left Skip = Unit {0}

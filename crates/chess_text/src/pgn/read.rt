@@ -1,12 +1,13 @@
 //! Reading a game.
 
-ghost use Rattle.std.specs.Prelude.{◌≡◌, ℕ, ◌+◌, ◌-◌, ◌^◌, ◌≤◌, ◌<◌, length, None, Err, is_some};
+ghost use Rattle.std.specs.Prelude.{◌≡◌, ℕ, ◌+◌, ◌-◌, ◌^◌, ◌≤◌, ◌<◌, length, None, IfOk, Err, is_some};
+ghost use Rattle.std.specs.Option.{IfSome};
 ghost use Rattle.chess_game.specs.Game.{State, at as left_at, with_declared, current, verdict_now};
 ghost use Rattle.chess_text.specs.Moves.{reading};
 ghost use Rattle.chess_text.specs.Words.{kind_of};
 ghost use Rattle.chess_text.specs.Seen.{token_seen, fault_seen};
 ghost use Rattle.chess_text.specs.GameRead.{SoFar, declared_behind, move_step, word_step, tag_step, step, pgn_read};
-ghost use Rattle.chess_text.specs.GameSteps.{so_far, step_seen, IsWithin};
+ghost use Rattle.chess_text.specs.GameSteps.{EndsBy, so_far, step_seen, IsWithin};
 
 use crate::pgn::tag::Tag;
 use crate::pgn::token::{Token, TokenFault, first_place, next_token};
@@ -87,6 +88,7 @@ enum Step {
 fn play_word<B: Board>(game: &mut Game<B>, place: usize, word: &[u8]) -> Result<Step, PgnFault>
     requires { game.old.state.declared ≡ None }
     ensures limit { game.new.limit ≡ game.old.limit }
+    ensures ended { EndsBy 0 result }
     ensures step { (g : SoFar) → g.state ≡ game.old.state → step_seen game.new.state result ≡ move_step game.old.limit g place (reading (current game.old.state) word.now) }
 {
     let kind = match read_move(game.board(), word) {
@@ -128,6 +130,7 @@ fn read_word<B: Board>(
     requires undeclared { game.old.state.declared ≡ None }
     requires within { place + length word.now < 2 ^ 64 }
     ensures limit { game.new.limit ≡ game.old.limit }
+    ensures ended { EndsBy (place + length word.now) result }
     ensures step { step_seen game.new.state result ≡ word_step game.old.limit (so_far game.old.state progress) place word.now (kind_of word.now) }
 {
     match word_kind(word) {
@@ -150,6 +153,7 @@ fn read_tag<B: Board>(
     place: usize,
 ) -> Result<Step, PgnFault>
     ensures limit { game.new.limit ≡ game.old.limit }
+    ensures ended { EndsBy 0 result }
     ensures step { step_seen game.new.state result ≡ tag_step (so_far game.old.state progress) tag.now.name.now tag.now.text.now place }
 {
     if let b"FEN" = tag.name {
@@ -181,6 +185,7 @@ fn read_token<B: Board>(
     requires within { IsWithin (len - place) (token_seen token.now) }
     requires place { place ≤ len }
     ensures limit { game.new.limit ≡ game.old.limit }
+    ensures ended { EndsBy len result }
     ensures step { step_seen game.new.state result ≡ step game.old.limit len (so_far game.old.state progress) (len - place) (token_seen token.now) }
 {
     match token {
@@ -239,6 +244,7 @@ pub fn read_pgn<B: Board>(
     requires { at ≤ length text.now }
     ensures answer { result ≡ (pgn_read game.old.limit text.now at).answer }
     ensures game { game.new ≡ left_at game.old (pgn_read game.old.limit text.now at).state }
+    ensures within { IfOk result (λ end. IfSome end (λ e. e.place ≤ length text.now)) }
 {
     game.restart(&Position::initial());
     let mut place = first_place(text, at);
