@@ -1,0 +1,33 @@
+-- What was read of an input, piece by piece.
+use Rattle.std.proofs.Common.{◌≡◌, ◌≤◌, ◌+◌, ◌-◌, length-append, ◌∙◌, ℕ, List, [], ◌++◌, length, take, Result, Ok, Err, is_ok, is_err, Bool, false, if◌then◌else◌, refl, sym, ap, subst, append-nil, arith}
+use Rattle.std.proofs.lemmas.List.{length-take-le}
+use Rattle.std.specs.Io.KnownBytes.{Consumes}
+use Rattle.chess_base.specs.Devices.{InputState, GavePiece}
+use Rattle.chess_base.proofs.DeviceLaws.{consumes_more}
+use Rattle.chess_arbiter.specs.Verify.{IsAll}
+
+-- the end was told
+pub all_read : (r r' r'' : InputState) (text buf : List ℕ) (n : ℕ) → Consumes r.known_bytes r'.known_bytes text → length text ≤ 16777216 → GavePiece r' r'' (take n buf) → n ≡ 0 → IsAll r r'' text
+all_read r r' r'' text buf n bytes few gave is =
+    let gave' : GavePiece r' r'' [] = subst (λ k. GavePiece r' r'' (take k buf)) is gave in
+    record {
+      bytes = subst (Consumes r.known_bytes r''.known_bytes) (append-nil text) (consumes_more r.known_bytes r'.known_bytes r''.known_bytes text [] bytes gave'.bytes);
+      at_end = gave'.at_end refl;
+      few = few;
+    }
+
+-- a piece more
+pub more_read : (r r' r'' : InputState) (text piece : List ℕ) → Consumes r.known_bytes r'.known_bytes text → GavePiece r' r'' piece → Consumes r.known_bytes r''.known_bytes (text ++ piece)
+more_read r r' r'' text piece bytes gave = consumes_more r.known_bytes r'.known_bytes r''.known_bytes text piece bytes gave.bytes
+
+-- an extension that did not fail
+pub pushed : {A E : Type 0} (r : Result A E) (xs ys zs : List ℕ) → is_err r ≡ false → zs ≡ (if is_ok r then ys else xs) → zs ≡ ys
+pushed (Ok v) xs ys zs h e = e
+pushed (Err v) xs ys zs h e = cc
+
+-- a piece that fits leaves no more bytes than may be read
+pub still_few : (text buf : List ℕ) (n len : ℕ) → len ≡ length text → length text ≤ 16777216 → n ≤ 16777216 - len → n ≤ length buf → length (text ++ take n buf) ≤ 16777216
+still_few text buf n len is few room within =
+    let all = length-append text (take n buf) in
+    let some = length-take-le n buf within in
+    omega (arith, all, some)
