@@ -22,3 +22,6 @@ pub mod FilledLines
 pub mod Added
 pub mod TagTexts
 pub mod TagLines
+pub mod PgnWords
+pub mod PgnTags
+pub mod PgnFen

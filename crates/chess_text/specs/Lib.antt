@@ -12,3 +12,4 @@ pub mod Waiting
 pub mod Tags
 pub mod GameRead
 pub mod GameText
+pub mod PgnLaw
