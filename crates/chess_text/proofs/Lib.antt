@@ -25,3 +25,5 @@ pub mod TagLines
 pub mod PgnWords
 pub mod PgnTags
 pub mod PgnFen
+pub mod PgnPieces
+pub mod PgnMoves

@@ -139,8 +139,9 @@ mark_no_letter k h =
     let b : nat_le 97 k ≡ false = grind (arith, nat_tests) in
     rw (a, b) refl
 
-pub move_kind : (c : ℕ) (cs : List ℕ) → begins_with_letter (c ∷ cs) ≡ true → kind_of (c ∷ cs) ≡ Move
-move_kind c cs h =
+pub move_kind : (word : List ℕ) → begins_with_letter word ≡ true → kind_of word ≡ Move
+move_kind [] h = absurd (cc)
+move_kind (c ∷ cs) h =
     let digit = letter_fails is_digit c digit_no_letter h in
     let mark = letter_fails (λ k. eqb k 33 || eqb k 63) c mark_no_letter h in
     ap (kind_by (c ∷ cs)) (no_outcome begins_with_letter (c ∷ cs) no_letter h) ∙ rw (digit, mark) refl
