@@ -27,3 +27,4 @@ pub mod PgnTags
 pub mod PgnFen
 pub mod PgnPieces
 pub mod PgnMoves
+pub mod PgnWhole

@@ -1,5 +1,5 @@
 -- Reading the moves of a game's text, which stand in filled lines.
-use Rattle.std.proofs.Common.{◌≡◌, ℕ, suc, ◌+◌, ◌-◌, ◌<◌, ◌≤◌, Bool, true, false, cond, eqb, leb, List, [], ◌∷◌, ◌++◌, length, take, Option, Some, None, refl, sym, ap, subst, ◌∙◌, append_assoc, append-nil, arith}
+use Rattle.std.proofs.Common.{◌≡◌, ℕ, suc, ◌+◌, ◌-◌, ◌<◌, ◌≤◌, Bool, true, false, cond, eqb, leb, List, [], ◌∷◌, ◌++◌, length, take, None, refl, sym, ap, ◌∙◌, append_assoc, append-nil, arith}
 use Rattle.std.specs.Prelude.{codes, decimal}
 use Rattle.std.proofs.Math.Seq.{take-append_seam}
 use Rattle.std.proofs.lemmas.Bool.{leb-true}
@@ -22,8 +22,7 @@ use Rattle.chess_text.specs.GameText.{number_token, move_tokens}
 use Rattle.chess_text.specs.San.{san}
 use Rattle.chess_text.specs.Tokens.{is_word_byte}
 use Rattle.chess_text.specs.Written.{placed, column_behind, line_close, filled_from}
-use Rattle.chess_text.proofs.PgnPieces.{read_on, Takes, begun, white_number, black_number, moved, san_takes, skip_space, skip_line_end, ended_game, outcome_ends}
-use Rattle.chess_text.proofs.PgnWords.{decimal_some}
+use Rattle.chess_text.proofs.PgnPieces.{read_on, Takes, begun, white_number, black_number, san_takes, skip_space, skip_line_end, ended_game, outcome_ends}
 use Rattle.chess_text.proofs.SanLaw.{san_short}
 
 -- ---- tokens in filled lines
@@ -98,7 +97,7 @@ module _ (limit total : ℕ) where
       by_test false false = skip_line_end limit total g begins (t ++ more) ∙ reads true
 
   -- a token, and what follows it
-  pub token_read : (g h : SoFar) (begins : Bool) (column : ℕ) (t : List ℕ) (ts : List (List ℕ)) (rest : List ℕ) (r : GameRead) → Takes limit total g h t → 0 < length t
+  token_read : (g h : SoFar) (begins : Bool) (column : ℕ) (t : List ℕ) (ts : List (List ℕ)) (rest : List ℕ) (r : GameRead) → Takes limit total g h t → 0 < length t
       → read_on limit total h false (filled_from [] (column_behind column t) ts ++ rest) ≡ r → read_on limit total g begins (filled_from [] column (t ∷ ts) ++ rest) ≡ r
   token_read g h begins column t ts rest r takes some reads =
       let more : List ℕ = filled_from [] (column_behind column t) ts in

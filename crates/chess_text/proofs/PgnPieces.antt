@@ -1,11 +1,10 @@
 -- What reading does with each piece of a game's text as it is written.
-use Rattle.std.proofs.Common.{◌≡◌, ◌⊎◌, ℕ, suc, ◌+◌, ◌-◌, ◌<◌, ◌≤◌, Bool, true, false, cond, ◌||◌, eqb, List, [], ◌∷◌, ◌++◌, length, drop, Option, Some, None, refl, sym, ap, subst, ◌∙◌, inl, inr, append_assoc, arith}
+use Rattle.std.proofs.Common.{◌≡◌, ℕ, suc, ◌+◌, ◌-◌, ◌<◌, ◌≤◌, Bool, true, false, eqb, List, [], ◌∷◌, ◌++◌, length, Some, None, refl, ap, subst, ◌∙◌, append_assoc, arith}
 use Rattle.std.specs.List.{list_all}
-use Rattle.std.specs.Prelude.{Ok, Err, is_some, codes, decimal, IsTrue, nat_lt}
+use Rattle.std.specs.Prelude.{Ok, is_some, codes, decimal, IsTrue, nat_lt}
 use Rattle.std.specs.Str.{bytes_eq}
 use Rattle.std.proofs.lemmas.Bool.{and_parts}
 use Rattle.std.proofs.lemmas.Bool.Decides.{nat_tests}
-use Rattle.std.proofs.lemmas.List.{length-append}
 use Rattle.chess_base.specs.declared.man.Move.{Move}
 use Rattle.chess_base.specs.declared.setup.Setup.{Setup}
 use Rattle.chess_base.specs.Reading.{fen_reading}
@@ -17,18 +16,15 @@ use Rattle.chess_game.specs.Game.{State, from_start, played, with_declared, curr
 use Rattle.chess_game.specs.Results.{outcome_text}
 use Rattle.chess_game.specs.declared.results.Outcome.{Outcome}
 use Rattle.chess_game.specs.declared.results.Outcome.TheVariants.{WhiteWins, BlackWins, Draw, Unfinished}
-use Rattle.chess_text.specs.declared.reading.Reading.TheVariants as reads
-use Rattle.chess_text.specs.declared.pgn.word.WordKind.{WordKind}
-use Rattle.chess_text.specs.declared.pgn.word.WordKind.TheVariants.{Termination, Number, Move as MoveWord}
-use Rattle.chess_text.specs.GameRead.{SoFar, GameRead, Step, On, Stop, declared_behind, ends, move_step, word_step, tag_step, fen_step, step, go_on, game_of}
+use Rattle.chess_text.specs.GameRead.{SoFar, GameRead, On, Stop, declared_behind, move_step, word_step, fen_step, step, go_on, game_of}
 use Rattle.chess_text.specs.Moves.{reading}
 use Rattle.chess_text.specs.San.{san}
-use Rattle.chess_text.specs.Tokens.{Token, Skip, Tag, Word, is_digit, is_word_byte, begins_line, token_at, tokens_of}
+use Rattle.chess_text.specs.Tokens.{Token, Skip, Tag, Word, is_word_byte, token_at, tokens_of}
 use Rattle.chess_text.specs.Words.{kind_of}
 use Rattle.chess_text.specs.Written.{escaped, tag_line}
 use Rattle.chess_text.proofs.PgnFen.{fen_bare}
 use Rattle.chess_text.proofs.PgnTags.{is_in_line, bare_escaped, bare_in_line, is_tag_name, tag_token, tag_line_bytes}
-use Rattle.chess_text.proofs.PgnWords.{not_byte, word_token, outcome_kind, outcome_bytes, number_kind, move_kind, decimal_digits, decimal_some, number_bytes, san_bytes_in_word}
+use Rattle.chess_text.proofs.PgnWords.{not_byte, word_token, number_kind, move_kind, decimal_digits, decimal_some, number_bytes, san_bytes_in_word}
 use Rattle.chess_text.proofs.SanLaw.{san_read, san_short, san_bytes, san_letter}
 use Rattle.chess_text.proofs.Walk.{enough, token_nearer}
 

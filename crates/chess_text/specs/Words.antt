@@ -1,5 +1,5 @@
 -- What a word of a game's text is (PGN standard of 1994, sections 8.2.2, 8.2.3.8 and 8.2.6).
-use Rattle.std.specs.Prelude.{ℕ, ◌||◌, List, [], ◌∷◌, Option, Some, None, codes, find, ◌==◌, if◌then◌else◌}
+use Rattle.std.specs.Prelude.{ℕ, ◌||◌, List, [], ◌∷◌, Option, Some, None, find, ◌==◌, if◌then◌else◌}
 use Rattle.std.specs.List.{list_all}
 use Rattle.std.specs.Str.{bytes_eq}
 use Rattle.chess_game.specs.Results.{outcome_text}

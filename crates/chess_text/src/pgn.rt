@@ -13,7 +13,7 @@ mod token;
 mod variation;
 mod word;
 
-pub use laws::lines_are_filled;
+pub use laws::{lines_are_filled, pgn_is_read_back};
 pub use read::{PgnEnd, PgnFault, PgnFaultKind};
 pub use tags::{TagText, Tags};
 

@@ -1,12 +1,12 @@
-use crate::pgn::laws::lines_are_filled;
+use crate::pgn::laws::{lines_are_filled, pgn_is_read_back};
 use crate::pgn::lines::LineWriter;
-use chess_game::Outcome;
 use crate::pgn::tag::Tag;
 use crate::pgn::tag_lines::put_tags;
 use crate::pgn::tags::{TagPair, TagText, Tags};
 use crate::pgn::token::{Token, TokenFault, first_place, next_token};
 use crate::pgn::word::{WordKind, word_kind};
 use chess_base::device::{Counted, Output, PieceWriter, WriteFault};
+use chess_game::Outcome;
 use std::alloc::Global;
 use std::process::Abort;
 use std::test::Fail;
@@ -287,6 +287,7 @@ fn in_lines(alloc: Global, prefix: &[u8], text: &[u8]) -> Result<Vec<u8>, Fail> 
 #[test]
 fn tokens_fill_lines(rt: HostRuntime) -> Result<(), Fail> {
     lines_are_filled();
+    pgn_is_read_back();
     // The first line has 79 bytes.
     assert_eq!(rt;
         in_lines(rt.alloc(), b"# ", KNIGHTS)?.as_slice(),
