@@ -25,3 +25,9 @@ pub mod TagLines
 pub mod GameTexts
 pub mod TokenPlaces
 pub mod GameReads
+pub mod PgnWords
+pub mod PgnTags
+pub mod PgnFen
+pub mod PgnPieces
+pub mod PgnMoves
+pub mod PgnWhole

@@ -27,7 +27,7 @@ string_line false c [] line quote = rw quote refl
 string_line false c (d ∷ rest) line quote = rw (quote, line) refl
 
 -- the closing quote
-string_quote : (c : ℕ) (rest : List ℕ) → eqb c 34 ≡ true → string_at (c ∷ rest) ≡ Some ([], rest)
+pub string_quote : (c : ℕ) (rest : List ℕ) → eqb c 34 ≡ true → string_at (c ∷ rest) ≡ Some ([], rest)
 string_quote c [] quote = rw quote refl
 string_quote c (d ∷ rest) quote = rw quote refl
 
@@ -36,7 +36,7 @@ string_kept : (c : ℕ) (rest : List ℕ) → eqb c 10 ≡ false → string_behi
 string_kept c rest line = rw line refl
 
 -- any other byte
-string_other : (c : ℕ) (rest : List ℕ) → eqb c 10 ≡ false → eqb c 34 ≡ false → string_at (c ∷ rest) ≡ onto (c ∷ []) (string_behind (eqb c 92) rest)
+pub string_other : (c : ℕ) (rest : List ℕ) → eqb c 10 ≡ false → eqb c 34 ≡ false → string_at (c ∷ rest) ≡ onto (c ∷ []) (string_behind (eqb c 92) rest)
 string_other c [] line quote = rw quote (by_test (eqb c 92))
   where
     by_test : (b : Bool) → None ≡ onto (c ∷ []) (string_behind b [])

@@ -13,3 +13,4 @@ pub mod Tags
 pub mod GameRead
 pub mod GameSteps
 pub mod GameText
+pub mod PgnLaw

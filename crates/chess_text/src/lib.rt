@@ -14,7 +14,8 @@ mod writing;
 pub use coordinates::{CoordinateText, coordinate};
 pub use laws::{coordinate_spells_its_move, san_is_a_word, san_spells_its_move, texts_have_parts};
 pub use pgn::{
-    PgnEnd, PgnFault, PgnFaultKind, TagText, Tags, lines_are_filled, read_pgn, write_pgn,
+    PgnEnd, PgnFault, PgnFaultKind, TagText, Tags, lines_are_filled, pgn_is_read_back, read_pgn,
+    write_pgn,
 };
 pub use reading::{Reading, has_move_shape, read_move};
 pub use writing::{SanText, san};

@@ -14,7 +14,7 @@ mod variation;
 mod word;
 mod write;
 
-pub use laws::lines_are_filled;
+pub use laws::{lines_are_filled, pgn_is_read_back};
 pub use read::{PgnEnd, PgnFault, PgnFaultKind, read_pgn};
 pub use tags::{TagText, Tags};
 pub use write::write_pgn;

@@ -1,4 +1,4 @@
-use crate::pgn::laws::lines_are_filled;
+use crate::pgn::laws::{lines_are_filled, pgn_is_read_back};
 use crate::pgn::lines::LineWriter;
 use crate::pgn::tag::Tag;
 use crate::pgn::tag_lines::put_tags;
@@ -287,6 +287,7 @@ fn in_lines(alloc: Global, prefix: &[u8], text: &[u8]) -> Result<Vec<u8>, Fail> 
 #[test]
 fn tokens_fill_lines(rt: HostRuntime) -> Result<(), Fail> {
     lines_are_filled();
+    pgn_is_read_back();
     // The first line has 79 bytes.
     assert_eq!(rt;
         in_lines(rt.alloc(), b"# ", KNIGHTS)?.as_slice(),
