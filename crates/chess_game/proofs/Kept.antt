@@ -1,5 +1,5 @@
 -- The places of a game: what a move adds, and what taking one back leaves.
-use Rattle.std.proofs.Common.{◌≡◌, ◌∙◌, ℕ, zero, suc, ◌+◌, ◌-◌, ◌<◌, ◌≤◌, List, [], ◌∷◌, ◌++◌, length, take, get_or, slice_get, Option, None, Some, Result, Ok, Err, is_ok, is_err, Bool, true, false, if◌then◌else◌, refl, sym, ap, subst, arith}
+use Rattle.std.proofs.Common.{◌≡◌, ◌∙◌, ℕ, zero, suc, ◌+◌, ◌-◌, ◌<◌, ◌≤◌, List, [], ◌∷◌, ◌++◌, length, take, get_or, Option, Result, Ok, Err, is_ok, is_err, Bool, false, if◌then◌else◌, sym, ap, subst, arith}
 use Rattle.std.proofs.Math.Seq.{take-length}
 use Rattle.std.proofs.lemmas.Bool.Decides.{nat_tests}
 use Rattle.std.proofs.lemmas.List.{length-map}
@@ -8,8 +8,7 @@ use Rattle.chess_base.specs.Moves.{after}
 use Rattle.chess_moves.specs.Made.{WasMade}
 use Rattle.chess_game.specs.Line.{last, IsLine}
 use Rattle.chess_game.specs.Places.{moves_of, IsKnown, Follows}
-use Rattle.chess_game.specs.declared.repetition.Known.{Known}
-use Rattle.chess_game.specs.Game.{Seen, State, is_full}
+use Rattle.chess_game.specs.Game.{Seen, is_full}
 use Rattle.chess_game.specs.declared.game.Place.{Place}
 use Rattle.chess_game.specs.declared.results.Declared.{Declared}
 

@@ -1,6 +1,6 @@
 -- How a game ends by what stands on the board and by its line (Laws of Chess 2023, articles 5.1.1, 5.2.1, 5.2.2, 9.6),
 -- and what a player may claim (articles 9.2 and 9.3).
-use Rattle.std.specs.Prelude.{ℕ, ◌+◌, ◌%◌, ◌==◌, nat_le, nat_lt, Bool, true, false, not, ◌&&◌, ◌||◌, if◌then◌else◌, List, length, count_by, codes, Option, None, Some}
+use Rattle.std.specs.Prelude.{ℕ, ◌+◌, ◌%◌, ◌==◌, nat_le, Bool, false, not, ◌&&◌, ◌||◌, if◌then◌else◌, List, length, count_by, codes, Option, None, Some}
 use Rattle.std.specs.List.{list_any}
 use Rattle.chess_base.specs.declared.man.Colour.{Colour}
 use Rattle.chess_base.specs.declared.man.Colour.TheVariants.{White, Black}

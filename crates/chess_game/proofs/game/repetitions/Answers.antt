@@ -1,4 +1,4 @@
-use Rattle.std.proofs.Common.{◌≡◌, ◌+◌, ◌-◌, ◌<◌, length, arith}
+use Rattle.std.proofs.Common.{◌-◌, arith}
 use Rattle.chess_game.proofs.Kept.{at_place}
 use Rattle.chess_game.proofs.ForGood.{all_counted, rest_counted}
 use Rattle.chess_game.proofs.game.repetitions.Goals as goal

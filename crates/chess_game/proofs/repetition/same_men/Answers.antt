@@ -1,7 +1,7 @@
-use Rattle.std.proofs.Common.{◌≡◌, ◌∙◌, ℕ, ◌+◌, suc, Bool, true, false, sym, refl, arith}
+use Rattle.std.proofs.Common.{◌≡◌, ◌∙◌, ◌+◌, suc, sym, refl, arith}
 use Rattle.std.proofs.lemmas.Bool.{and_from}
 use Rattle.chess_base.specs.Men.{man_at}
-use Rattle.chess_base.specs.Squares.{each_square, each_below}
+use Rattle.chess_base.specs.Squares.{each_square}
 use Rattle.chess_game.specs.Same.{same_man, same_men}
 use Rattle.chess_game.proofs.Below.{each_below-fails}
 use Rattle.chess_game.proofs.repetition.same_men.Goals as goal

@@ -1,4 +1,4 @@
-use Rattle.std.proofs.Common.{◌≡◌, ◌∙◌, ap, map}
+use Rattle.std.proofs.Common.{ap, map}
 use Rattle.std.proofs.lemmas.List.{take_min}
 use Rattle.chess_game.specs.Results.{comment_byte}
 use Rattle.chess_game.proofs.results.Comment.cut.Goals as goal
