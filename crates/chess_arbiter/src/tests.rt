@@ -14,7 +14,7 @@ struct Case {
     status: u8,
 }
 
-const CASES: [Case; 10] = [
+const CASES: [Case; 13] = [
     Case {
         words: &[],
         input: b"new\ne2e4\nping 7\nundo\nshowfen\nquit\nshowfen\n",
@@ -87,6 +87,30 @@ const CASES: [Case; 10] = [
         errors: b"arbiter: write failed\n",
         status: 1,
     },
+    Case {
+        words: &["verify"],
+        input: b"1. e4 *",
+        fails: (2, 0),
+        output: b"",
+        errors: b"arbiter: read failed\n",
+        status: 1,
+    },
+    Case {
+        words: &["verify"],
+        input: b"1. e4 *",
+        fails: (0, 1),
+        output: b"",
+        errors: b"arbiter: write failed\n",
+        status: 1,
+    },
+    Case {
+        words: &["verify", "x"],
+        input: b"*",
+        fails: (0, 0),
+        output: b"",
+        errors: b"arbiter: wrong words\n",
+        status: 2,
+    },
     // The flush of the first answer.
     Case {
         words: &["session"],
@@ -115,6 +139,67 @@ fn runs_of_the_program(rt: HostRuntime) {
         assert_eq!(rt; output.writer().bytes.as_slice(), case.output);
         assert_eq!(rt; errors.writer().bytes.as_slice(), case.errors);
         assert_eq!(rt; status, case.status);
+    }
+}
+
+// Games as they are verified: the text, what is told, and the status.
+const GAMES: [(&[u8], &[u8], u8); 13] = [
+    (
+        b"1.e4 {a} e5 (1...c5 2.Nf3) 2.Nf3 $1 *",
+        b"game 1: 3 half-moves, *\n",
+        0,
+    ),
+    (b"1. e4 e4 *", b"game 1: illegal move at byte 6\n", 1),
+    (
+        b"* 1. d4 1/2-1/2",
+        b"game 1: 0 half-moves, *\ngame 2: 1 half-moves, 1/2-1/2\n",
+        0,
+    ),
+    (b"1. e4", b"game 1: no result at byte 5\n", 1),
+    (b"1. e4 {x", b"game 1: unclosed comment at byte 6\n", 1),
+    (b"1. e4 (e5 *", b"game 1: unclosed variation at byte 6\n", 1),
+    (b"1. e4 & *", b"game 1: bad token at byte 6\n", 1),
+    (b"[Event \"x\" 1. e4 *", b"game 1: bad tag at byte 0\n", 1),
+    (
+        b"[FEN \"8/8/8/8/8/8/8/8 w - - 0 1\"] *",
+        b"game 1: bad FEN at byte 6\n",
+        1,
+    ),
+    (
+        b"[FEN \"4k3/8/8/8/8/5N2/8/1N2K3 w - - 0 1\"] Nd2 *",
+        b"game 1: ambiguous move at byte 42\n",
+        1,
+    ),
+    (
+        b"1. f3 e5 2. g4 Qh4 a3 *",
+        b"game 1: move after the end at byte 19\n",
+        1,
+    ),
+    (
+        b"1. f3 e5 2. g4 Qh4# 0-1\n\n% a line\n1. e4 ; a comment\n1-0\n",
+        b"game 1: 4 half-moves, 0-1\ngame 2: 1 half-moves, 1-0\n",
+        0,
+    ),
+    (b"", b"", 0),
+];
+
+#[test]
+fn games_are_verified(rt: HostRuntime) {
+    for (text, told, wanted) in &GAMES {
+        let mut input = Counted::reading(PieceReader::new(text, 7, 0));
+        let mut output = Counted::writing(PieceWriter::new(rt.alloc(), 5, 0));
+        let mut errors = Counted::writing(PieceWriter::new(rt.alloc(), 100, 0));
+        let status = run_program(
+            &rt,
+            rt.alloc(),
+            &["verify"],
+            &mut input,
+            &mut output,
+            &mut errors,
+        );
+        assert_eq!(rt; output.writer().bytes.as_slice(), *told);
+        assert_eq!(rt; errors.writer().bytes.as_slice(), b"".as_slice());
+        assert_eq!(rt; status, *wanted);
     }
 }
 

@@ -91,11 +91,7 @@ fn tell_game<W: Output>(
 }
 
 // The line of a game with a fault.
-fn tell_fault<W: Output>(
-    output: &mut W,
-    number: usize,
-    fault: PgnFault,
-) -> Result<(), ProgramFault>
+fn tell_fault<W: Output>(output: &mut W, number: usize, fault: PgnFault) -> Result<(), ProgramFault>
     ensures { IfErr result (λ f. fault_status f ≡ 1) }
 {
     let mut line: ArrayString<120> = ArrayString::new();

@@ -6,7 +6,8 @@ use crate::session::Session;
 use chess_base::device::{Counted, GatedReader, GatedWriter, PieceReader, PieceWriter};
 use chess_base::{Move, Position, Square, write_fen};
 use chess_moves::{Board, Plain};
-use std::alloc::Global;
+use chess_text::Tags;
+use std::alloc::{AllocError, Global};
 use std::cell::Cell;
 use std::process::Abort;
 use std::test::Fail;
@@ -195,7 +196,13 @@ const RUNS: [Run; 30] = [
 ];
 
 // Moves in all forms; games to their ends: verdicts, claims, declared results.
-const GAMES: [Run; 18] = [
+const GAMES: [Run; 19] = [
+    // Games as PGN.
+    Run {
+        input: b"new\nf2f3\ne7e5\ng2g4\nd8h4\nshowpgn\nsetboard 4k3/8/8/8/1b6/2N5/8/4K1N1 w - - 0 1\ng1e2\nshowpgn now\nsetboard 4k3/8/8/8/8/8/4p3/K7 b - - 0 1\ne2e1q\nshowpgn\n",
+        answers: b"0-1 {Black mates}\n# [Event \"?\"]\n# [Site \"?\"]\n# [Date \"????.??.??\"]\n# [Round \"?\"]\n# [White \"?\"]\n# [Black \"?\"]\n# [Result \"0-1\"]\n# \n# 1. f3 e5 2. g4 Qh4# 0-1\n# \n# [Event \"?\"]\n# [Site \"?\"]\n# [Date \"????.??.??\"]\n# [Round \"?\"]\n# [White \"?\"]\n# [Black \"?\"]\n# [Result \"*\"]\n# [FEN \"4k3/8/8/8/1b6/2N5/8/4K1N1 w - - 0 1\"]\n# [SetUp \"1\"]\n# \n# 1. Ne2 *\n# \n# [Event \"?\"]\n# [Site \"?\"]\n# [Date \"????.??.??\"]\n# [Round \"?\"]\n# [White \"?\"]\n# [Black \"?\"]\n# [Result \"*\"]\n# [FEN \"4k3/8/8/8/8/8/4p3/K7 b - - 0 1\"]\n# [SetUp \"1\"]\n# \n# 1... e1=Q+ *\n# \n",
+        end: End::InputEnded,
+    },
     // Moves in SAN and in looser spellings.
     Run {
         input: b"new\ne4!?\ne5\nNge2\nshowfen\nundo\nusermove Ng1e2+\nshowfen\n",
@@ -306,6 +313,11 @@ const GAMES: [Run; 18] = [
     },
 ];
 
+// A session of so many half-moves on plain boards.
+fn open(alloc: Global, limit: u32) -> Result<Session<Plain>, AllocError> {
+    Session::open(alloc, Plain::new(), Plain::new(), Tags::default(), limit)
+}
+
 // Runs a session of `limit` half-moves on an input in pieces, where calls of the devices fail.
 fn check(
     rt: &impl Abort,
@@ -330,7 +342,7 @@ fn taking(alloc: Global, cut: usize, fails_at: u64) -> Counted<PieceWriter> {
 
 // Runs a session on an input in pieces of that length, over devices that don't fail.
 fn check_run(rt: &impl Abort, alloc: Global, run: &Run, cut: usize) -> Result<(), Fail> {
-    let session = Session::open(alloc, Plain::new(), 100)?;
+    let session = open(alloc, 100)?;
     let writer = taking(alloc, cut, 0);
     check(
         rt,
@@ -366,7 +378,7 @@ fn games_in_pieces(rt: HostRuntime) -> Result<(), Fail> {
 
 #[test]
 fn no_more_moves_than_the_limit(rt: HostRuntime) -> Result<(), Fail> {
-    let session = Session::open(rt.alloc(), Plain::new(), 3)?;
+    let session = open(rt.alloc(), 3)?;
     let writer = taking(rt.alloc(), 100, 0);
     check(
         &rt,
@@ -393,7 +405,7 @@ fn a_read_that_fails_at_each_place(rt: HostRuntime) -> Result<(), Fail> {
             } else {
                 Ok(End::InputEnded)
             };
-            let session = Session::open(rt.alloc(), Plain::new(), 1)?;
+            let session = open(rt.alloc(), 1)?;
             let writer = taking(rt.alloc(), 100, 0);
             check(
                 &rt,
@@ -415,7 +427,7 @@ fn a_write_that_fails_at_each_place(rt: HostRuntime) -> Result<(), Fail> {
     let answers = b"pong 1\npong 1\npong 1\n";
     for calls in 0..15 {
         let taken = calls / 5 * 7 + (calls % 5 * 2).min(7);
-        let session = Session::open(rt.alloc(), Plain::new(), 1)?;
+        let session = open(rt.alloc(), 1)?;
         let writer = taking(rt.alloc(), 2, calls as u64 + 1);
         check(
             &rt,
@@ -426,7 +438,7 @@ fn a_write_that_fails_at_each_place(rt: HostRuntime) -> Result<(), Fail> {
             Err(Fault::Write),
         );
     }
-    let session = Session::open(rt.alloc(), Plain::new(), 1)?;
+    let session = open(rt.alloc(), 1)?;
     let writer = taking(rt.alloc(), 0, 0);
     check(
         &rt,
@@ -441,7 +453,7 @@ fn a_write_that_fails_at_each_place(rt: HostRuntime) -> Result<(), Fail> {
 
 #[test]
 fn a_move_stands_where_writing_breaks_off(rt: HostRuntime) -> Result<(), Fail> {
-    let mut session = Session::open(rt.alloc(), Plain::new(), 100)?;
+    let mut session = open(rt.alloc(), 100)?;
     let mut reader = pieces(b"e2e4\nshowfen\n", 100, 0);
     let mut writer = taking(rt.alloc(), 3, 3);
     let ended = run_session(&mut reader, &mut writer, &mut session);
@@ -461,7 +473,7 @@ fn an_answer_is_flushed_before_more_is_read(rt: HostRuntime) -> Result<(), Fail>
     let flushed = Cell::new(0);
     let mut reader = Counted::reading(GatedReader::new(b"ping 1\nping 2\nquit\n", &flushed));
     let mut writer = Counted::writing(GatedWriter::new(rt.alloc(), &flushed));
-    let mut session = Session::open(rt.alloc(), Plain::new(), 1)?;
+    let mut session = open(rt.alloc(), 1)?;
     let ended = run_session(&mut reader, &mut writer, &mut session);
     assert_eq!(rt; ended, Ok(End::Quit));
     assert_eq!(rt;
@@ -494,7 +506,7 @@ fn lines_of_1024_bytes_and_more(rt: HostRuntime) -> Result<(), Fail> {
         answers.extend_from_slice(behind)?;
     }
     for cut in [1, 1000, 1024, 5000] {
-        let session = Session::open(rt.alloc(), Plain::new(), 1)?;
+        let session = open(rt.alloc(), 1)?;
         let writer = taking(rt.alloc(), cut, 0);
         check(
             &rt,
@@ -558,7 +570,7 @@ fn commands_are_told_by_their_first_word(rt: HostRuntime) {
 fn moves_of_test_positions_are_counted(rt: HostRuntime) -> Result<(), Fail> {
     let input =
         b"setboard r3k2r/p1ppqpb1/bn2pnp1/3PN3/1p2P3/2N2Q1p/PPPBBPPP/R3K2R w KQkq - 0 1\nshowmoves\nsetboard 8/2p5/3p4/KP5r/1R3p1k/8/4P1P1/8 w - - 0 1\nshowmoves\nsetboard r3k2r/Pppp1ppp/1b3nbN/nP6/BBP1P3/q4N2/Pp1P2PP/R2Q1RK1 w kq - 0 1\nshowmoves\nsetboard rnbq1k1r/pp1Pbppp/2p5/8/2B5/8/PPP1NnPP/RNBQK2R w KQ - 1 8\nshowmoves\n";
-    let mut session = Session::open(rt.alloc(), Plain::new(), 100)?;
+    let mut session = open(rt.alloc(), 100)?;
     let mut reader = pieces(input, 1000, 0);
     let mut writer = taking(rt.alloc(), 1000, 0);
     let ended = run_session(&mut reader, &mut writer, &mut session);
@@ -590,7 +602,7 @@ fn a_session_opens_at_the_initial_position(rt: HostRuntime) -> Result<(), Fail> 
     let initial = Position::initial();
     assert!(rt; initial.is_legal(judged));
     board.set(&initial.after(made));
-    let session = Session::open(rt.alloc(), board, 20_000)?;
+    let session = Session::open(rt.alloc(), board, Plain::new(), Tags::default(), 20_000)?;
     assert!(rt; session.position() == Position::initial());
     Ok(())
 }

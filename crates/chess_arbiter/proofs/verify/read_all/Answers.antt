@@ -25,7 +25,7 @@ loop-count-preserved g c =
     let piece = take c.in-Ok.count c.read.new.buf in
     let taken : is_err c.extend_from_slice.result ≡ false = sym c.is_err.ensures.value ∙ c.if-is_err.false in
     let all : c.extend_from_slice.new.self.items ≡ c.loop-count.text.items ++ piece =
-        pushed c.extend_from_slice.result c.loop-count.text.items (c.loop-count.text.items ++ piece) c.extend_from_slice.new.self.items taken c.extend_from_slice.ensures.items in
+    pushed c.extend_from_slice.result c.loop-count.text.items (c.loop-count.text.items ++ piece) c.extend_from_slice.new.self.items taken c.extend_from_slice.ensures.items in
     let few = c.loop-count.invariant.few in
     let room = c.if-count-len.false in
     let len : c.len.result ≡ length c.loop-count.text.items = omega arith in
