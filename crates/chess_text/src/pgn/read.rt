@@ -236,6 +236,7 @@ fn told_fault(fault: TokenFault, progress: Progress, len: usize, place: usize) -
 ///
 /// # Errors
 /// The first place that can't be read or played. The game holds the moves before it, and nothing is declared.
+#[tactic(auto, using(crate::proofs::GameReads::first))]
 pub fn read_pgn<B: Board>(
     text: &[u8],
     at: usize,

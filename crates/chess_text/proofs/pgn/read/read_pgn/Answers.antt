@@ -1,10 +1,7 @@
 use Rattle.chess_text.specs.Seen.{token_seen, fault_seen}
 use Rattle.chess_text.proofs.TokenPlaces.{token_within}
-use Rattle.chess_text.proofs.GameReads.{first, more}
+use Rattle.chess_text.proofs.GameReads.{more}
 use Rattle.chess_text.proofs.pgn.read.read_pgn.Goals as goal
-
-pub loop-token-init : goal.loop-token-init
-loop-token-init g c = first c.args.game.now c.restart.new.self c.initial.result c.args.text.now c.args.at c.first_place-place.result c.restart.ensures c.initial.ensures c.first_place-place.ensures.place c.first_place-place.ensures.within
 
 pub read_token-requires-clause-within : goal.read_token-requires-clause-within
 read_token-requires-clause-within g c =
