@@ -165,7 +165,7 @@ man_after p m s =
     else if is_square (second_square_emptied p m) s || (m.from == s) then None
     else man_at p.men s
 
--- the numbers below n, rising
+-- f of each number below n, rising
 abbrev pub from_below : {A : Type 0} → ℕ → (ℕ → A) → List A
 from_below ℕ.zero f = []
 from_below (ℕ.suc n) f = f 0 ∷ from_below n (λ k. f (ℕ.suc k))
