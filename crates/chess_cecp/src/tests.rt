@@ -1,3 +1,5 @@
+ghost use Rattle.std.specs.Prelude.{◌≤◌};
+
 use crate::command::{Command, read_command};
 use crate::laws::{lines_are_pieces, refusals_change_nothing};
 use crate::lines::Lines;
@@ -314,7 +316,10 @@ const GAMES: [Run; 19] = [
 ];
 
 // A session of so many half-moves on plain boards.
-fn open(alloc: Global, limit: u32) -> Result<Session<Plain>, AllocError> {
+fn open(alloc: Global, limit: u32) -> Result<Session<Plain>, AllocError>
+    requires some { 1 ≤ limit }
+    requires few { limit ≤ 20000 }
+{
     Session::open(alloc, Plain::new(), Plain::new(), Tags::default(), limit)
 }
 
