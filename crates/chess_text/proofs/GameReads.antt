@@ -1,5 +1,5 @@
 -- Reading a game, token by token.
-use Rattle.std.proofs.Common.{◌≡◌, ℕ, ◌-◌, ◌≤◌, false, List, ◌∷◌, length, None, is_some, Result, Ok, Err, refl, sym, ap, subst, ◌∙◌}
+use Rattle.std.proofs.Common.{◌≡◌, ℕ, ◌-◌, ◌≤◌, ◌<◌, false, List, [], ◌∷◌, arith, rules, length, None, is_some, Result, Ok, Err, refl, sym, ap, subst, ◌∙◌}
 use Rattle.std.specs.Prelude.{nat_lt, codes}
 use Rattle.std.specs.Str.{bytes_eq}
 use Rattle.chess_base.specs.declared.fault.FenFault.{FenFault}
@@ -8,6 +8,7 @@ use Rattle.chess_base.specs.Initial.{initial_setup}
 use Rattle.chess_base.specs.Reading.{fen_reading}
 use Rattle.chess_game.specs.Game.{Seen, from_start, current, verdict_now}
 use Rattle.chess_game.specs.Game.{at as left_at}
+use Rattle.chess_game.specs.declared.results.Outcome.{Outcome}
 use Rattle.chess_text.specs.declared.pgn.read.Progress.{Progress}
 use Rattle.chess_text.specs.declared.pgn.word.WordKind.{WordKind}
 use Rattle.chess_text.specs.declared.pgn.word.WordKind.TheVariants.{Termination, Number, Marks, Move}
@@ -59,19 +60,27 @@ keeps limit total g left (Unclosed_comment brace) h = tt
 keeps limit total g left Unclosed_variation h = tt
 keeps limit total g left Bad h = tt
 
+-- ---- a termination has bytes
+
+pub termination_has_bytes : (word : List ℕ) (o : Outcome) → Termination o ≡ kind_of word → 0 < length word
+termination_has_bytes [] o h = cc
+termination_has_bytes (c ∷ word) o h = search rules
+
 -- ---- the loop: what is left gives the whole
 
 pub record Reads (limit : ℕ) (text : List ℕ) (from : ℕ) (game : Seen) (progress : Progress) (here : ℕ) : Type 0 where
+  pub behind : from ≤ here
   pub place : here ≤ length text
   pub undeclared : game.state.declared ≡ None
   pub same_limit : game.limit ≡ limit
   pub whole : game_of limit (length text) (so_far game.state progress) (tokens_from text here) ≡ pgn_read limit text from
 
-pub first : (old game : Seen) (start : Setup) (text : List ℕ) (from here : ℕ) → game ≡ left_at old (from_start start) → start ≡ initial_setup → here ≡ first_place text from → here ≤ length text → Reads old.limit text from game (record { is_met = false; is_begun = false }) here
+pub first : (old game : Seen) (start : Setup) (text : List ℕ) (from here : ℕ) → game ≡ left_at old (from_start start) → start ≡ initial_setup → here ≡ first_place text from → from ≤ here → here ≤ length text → Reads old.limit text from game (record { is_met = false; is_begun = false }) here
 unfolding pgn_read
-first old game start text from here restarted initial is h =
+first old game start text from here restarted initial is behind h =
     let state : game.state ≡ from_start initial_setup = ap (λ g. g.state) restarted ∙ ap from_start initial in
     record {
+      behind = behind;
       place = h;
       undeclared = ap (λ s. s.declared) state;
       same_limit = ap (λ g. g.limit) restarted;
@@ -85,8 +94,9 @@ stepped limit text from game p here t ts after r is step_is =
     ∙ ap (game_of limit (length text) (so_far game.state p)) (sym is)
     ∙ r.whole
 
-pub more : (limit : ℕ) (text : List ℕ) (from : ℕ) (game new : Seen) (p q : Progress) (here behind : ℕ) (t : Token) → Reads limit text from game p here → tokens_from text here ≡ (length text - here, t) ∷ tokens_from text behind → behind ≤ length text → new.limit ≡ game.limit → On (so_far new.state q) ≡ step game.limit (length text) (so_far game.state p) (length text - here) t → Reads limit text from new q behind
-more limit text from game new p q here behind t r is h same step_is = record {
+pub more : (limit : ℕ) (text : List ℕ) (from : ℕ) (game new : Seen) (p q : Progress) (here behind : ℕ) (t : Token) → Reads limit text from game p here → tokens_from text here ≡ (length text - here, t) ∷ tokens_from text behind → here < behind → behind ≤ length text → new.limit ≡ game.limit → On (so_far new.state q) ≡ step game.limit (length text) (so_far game.state p) (length text - here) t → Reads limit text from new q behind
+more limit text from game new p q here behind t r is later h same step_is = record {
+  behind = (let before = r.behind in omega (arith, before, later));
   place = h;
   undeclared = subst Undeclared (sym step_is) (keeps game.limit (length text) (so_far game.state p) (length text - here) t r.undeclared);
   same_limit = same ∙ r.same_limit;

@@ -1,5 +1,5 @@
 -- What the reader of a game answers, step by step, in the words of the definitions.
-use Rattle.std.specs.Prelude.{ℕ, ◌≤◌, length, Result, Ok, Err, Some}
+use Rattle.std.specs.Prelude.{ℕ, ◌<◌, ◌≤◌, length, Result, Ok, Err, Some}
 use Rattle.chess_game.specs.Game.{State}
 use Rattle.chess_text.specs.declared.pgn.read.PgnFault.{PgnFault}
 use Rattle.chess_text.specs.declared.pgn.read.Progress.{Progress}
@@ -18,11 +18,11 @@ step_seen s (Ok (does.On p)) = On (so_far s p)
 step_seen s (Ok (does.Ended end)) = Stop (record { state = s; answer = Ok (Some end) })
 step_seen s (Err fault) = Stop (record { state = s; answer = Err fault })
 
--- a game that ended did so before that place, or at it
-abbrev pub EndsBy : ℕ → Result code.Step PgnFault → Type 0
-EndsBy last (Ok (does.On p)) = Unit {0}
-EndsBy last (Ok (does.Ended end)) = end.place ≤ last
-EndsBy last (Err fault) = Unit {0}
+-- a game that ended did so behind the first place, and not behind the last
+abbrev pub EndsIn : ℕ → ℕ → Result code.Step PgnFault → Type 0
+EndsIn first last (Ok (does.On p)) = Unit {0}
+EndsIn first last (Ok (does.Ended end)) = (first < end.place) × (end.place ≤ last)
+EndsIn first last (Err fault) = Unit {0}
 
 -- the places that a token tells are in the text: so many bytes are left where it begins
 abbrev pub IsWithin : ℕ → Token → Type 0

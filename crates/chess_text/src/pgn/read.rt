@@ -7,7 +7,7 @@ ghost use Rattle.chess_text.specs.Moves.{reading};
 ghost use Rattle.chess_text.specs.Words.{kind_of};
 ghost use Rattle.chess_text.specs.Seen.{token_seen, fault_seen};
 ghost use Rattle.chess_text.specs.GameRead.{SoFar, declared_behind, move_step, word_step, tag_step, step, pgn_read};
-ghost use Rattle.chess_text.specs.GameSteps.{EndsBy, so_far, step_seen, IsWithin};
+ghost use Rattle.chess_text.specs.GameSteps.{EndsIn, so_far, step_seen, IsWithin};
 
 use crate::pgn::tag::Tag;
 use crate::pgn::token::{Token, TokenFault, first_place, next_token};
@@ -88,7 +88,7 @@ enum Step {
 fn play_word<B: Board>(game: &mut Game<B>, place: usize, word: &[u8]) -> Result<Step, PgnFault>
     requires { game.old.state.declared ≡ None }
     ensures limit { game.new.limit ≡ game.old.limit }
-    ensures ended { EndsBy 0 result }
+    ensures ended { EndsIn 0 0 result }
     ensures step { (g : SoFar) → g.state ≡ game.old.state → step_seen game.new.state result ≡ move_step game.old.limit g place (reading (current game.old.state) word.now) }
 {
     let kind = match read_move(game.board(), word) {
@@ -121,6 +121,7 @@ fn end_game<B: Board>(game: &mut Game<B>, outcome: Outcome)
 }
 
 // Reads a word that stands at a place.
+#[tactic(auto, using(crate::proofs::GameReads::termination_has_bytes))]
 fn read_word<B: Board>(
     game: &mut Game<B>,
     progress: Progress,
@@ -130,7 +131,7 @@ fn read_word<B: Board>(
     requires undeclared { game.old.state.declared ≡ None }
     requires within { place + length word.now < 2 ^ 64 }
     ensures limit { game.new.limit ≡ game.old.limit }
-    ensures ended { EndsBy (place + length word.now) result }
+    ensures ended { EndsIn place (place + length word.now) result }
     ensures step { step_seen game.new.state result ≡ word_step game.old.limit (so_far game.old.state progress) place word.now (kind_of word.now) }
 {
     match word_kind(word) {
@@ -153,7 +154,7 @@ fn read_tag<B: Board>(
     place: usize,
 ) -> Result<Step, PgnFault>
     ensures limit { game.new.limit ≡ game.old.limit }
-    ensures ended { EndsBy 0 result }
+    ensures ended { EndsIn 0 0 result }
     ensures step { step_seen game.new.state result ≡ tag_step (so_far game.old.state progress) tag.now.name.now tag.now.text.now place }
 {
     if let b"FEN" = tag.name {
@@ -185,7 +186,7 @@ fn read_token<B: Board>(
     requires within { IsWithin (len - place) (token_seen token.now) }
     requires place { place ≤ len }
     ensures limit { game.new.limit ≡ game.old.limit }
-    ensures ended { EndsBy len result }
+    ensures ended { EndsIn place len result }
     ensures step { step_seen game.new.state result ≡ step game.old.limit len (so_far game.old.state progress) (len - place) (token_seen token.now) }
 {
     match token {
@@ -246,6 +247,7 @@ pub fn read_pgn<B: Board>(
     ensures answer { result ≡ (pgn_read game.old.limit text.now at).answer }
     ensures game { game.new ≡ left_at game.old (pgn_read game.old.limit text.now at).state }
     ensures within { IfOk result (λ end. IfSome end (λ e. e.place ≤ length text.now)) }
+    ensures further { IfOk result (λ end. IfSome end (λ e. at < e.place)) }
 {
     game.restart(&Position::initial());
     let mut place = first_place(text, at);

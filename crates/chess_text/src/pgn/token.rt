@@ -144,6 +144,7 @@ pub(crate) fn next_token(text: &[u8], at: usize) -> Result<Option<(Token<'_>, us
 pub(crate) fn first_place(text: &[u8], at: usize) -> usize
     requires { at ≤ length text.now }
     ensures place { result ≡ first_place text.now at }
+    ensures behind { at ≤ result }
     ensures within { result ≤ length text.now }
 {
     if at == 0 && text.starts_with(&[0xEF, 0xBB, 0xBF]) {
