@@ -1,35 +1,28 @@
-//! Counts the lines of legal moves from a position: `bench DEPTH [FEN..]`. It writes how many there are, and on
-//! standard error how many a second it made.
+//! Measures the crates below the program. `bench DEPTH [FEN..]` counts the lines of legal moves from a position, and
+//! `bench games FILE` the games and half-moves of a PGN file, reading each. It writes the counts, and on standard error how
+//! many lines or half-moves a second it made.
 #![tactic(auto)]
 
-ghost use Rattle.std.specs.Prelude.{◌≡◌};
+mod games;
+mod lines;
+#[cfg(test)]
+mod tests;
 
 use chess_base::{Position, read_fen};
+use chess_game::Game;
 use chess_moves::{Board, Plain};
+use games::read_games;
+use lines::count_lines;
 use std::alloc::{AllocError, Global};
 use std::process::ExitCode;
 use std::time::{Duration, Instant};
-use std::{env, io};
+use std::{env, fs, io};
 
 const USAGE: &str =
-    "usage: bench DEPTH [FEN..], with DEPTH from 0 to 255; no FEN is the initial position";
+    "usage: bench DEPTH [FEN..], with DEPTH from 0 to 255; no FEN is the initial position\n       bench games FILE";
 
-// How many lines of so many legal moves there are.
-fn count_lines<B: Board>(board: &mut B, depth: u8) -> u64
-    ensures { B.position board.new ≡ B.position board.old }
-{
-    if depth == 0 {
-        return 1;
-    }
-    let moves = board.legal_moves();
-    let mut count: u64 = 0;
-    for m in moves.as_slice() {
-        let saved = board.make(*m);
-        count = count.saturating_add(count_lines(board, depth - 1));
-        board.take_back(*m, saved);
-    }
-    count
-}
+// The most half-moves of a game.
+const GAME_LIMIT: u32 = 20_000;
 
 // The position that the words of a FEN spell. No words are the initial position.
 fn start_of(alloc: Global, fen: &[String]) -> io::Result<Option<Position>> {
@@ -42,15 +35,6 @@ fn start_of(alloc: Global, fen: &[String]) -> io::Result<Option<Position>> {
         text.push(b' ').map_err(AllocError::from)?;
     }
     Ok(read_fen(text.as_slice()).ok())
-}
-
-// What the words ask for: the start and the depth.
-fn task_of(alloc: Global, words: &[String]) -> io::Result<Option<(Position, u8)>> {
-    let Some((depth, fen)) = words.split_first() else {
-        return Ok(None);
-    };
-    let start = start_of(alloc, fen)?;
-    Ok(start.zip(depth.parse().ok()))
 }
 
 // How many a second that is, with a millisecond at least.
@@ -67,11 +51,10 @@ fn words_of(rt: &HostRuntime) -> io::Result<Vec<String>> {
     Ok(words)
 }
 
-fn run(rt: &HostRuntime) -> io::Result<ExitCode> {
-    let words = words_of(rt)?;
-    let Some((start, depth)) = task_of(rt.alloc(), words.as_slice())? else {
-        eprintln!(rt; "{USAGE}")?;
-        return Ok(ExitCode::from(2));
+// Counts lines from the position that the words of a FEN spell.
+fn measure_lines(rt: &HostRuntime, depth: u8, fen: &[String]) -> io::Result<ExitCode> {
+    let Some(start) = start_of(rt.alloc(), fen)? else {
+        return misused(rt);
     };
     let mut board = Plain::new();
     board.set(&start);
@@ -79,8 +62,44 @@ fn run(rt: &HostRuntime) -> io::Result<ExitCode> {
     let count = count_lines(&mut board, depth);
     let rate = a_second(count, begun.elapsed(rt)?);
     println!(rt; "{count}")?;
-    eprintln!(rt; "{rate} nodes a second")?;
+    eprintln!(rt; "{rate} lines a second")?;
     Ok(ExitCode::SUCCESS)
+}
+
+// Reads the games of a file.
+fn measure_games(rt: &HostRuntime, path: &str) -> io::Result<ExitCode> {
+    let text = fs::read(rt, path)?;
+    let mut game = Game::open(rt.alloc(), Plain::new(), GAME_LIMIT)?;
+    let begun = Instant::now(rt)?;
+    match read_games(text.as_slice(), &mut game) {
+        Ok(tally) => {
+            let rate = a_second(tally.half_moves, begun.elapsed(rt)?);
+            println!(rt; "{} games, {} half-moves", tally.games, tally.half_moves)?;
+            eprintln!(rt; "{rate} half-moves a second")?;
+            Ok(ExitCode::SUCCESS)
+        }
+        Err(fault) => {
+            eprintln!(rt; "a fault at byte {}", fault.place)?;
+            Ok(ExitCode::FAILURE)
+        }
+    }
+}
+
+fn misused(rt: &HostRuntime) -> io::Result<ExitCode> {
+    eprintln!(rt; "{USAGE}")?;
+    Ok(ExitCode::from(2))
+}
+
+fn run(rt: &HostRuntime) -> io::Result<ExitCode> {
+    let words = words_of(rt)?;
+    match words.as_slice() {
+        [first, path] if first.as_str() == "games" => measure_games(rt, path.as_str()),
+        [depth, fen @ ..] => match depth.parse() {
+            Ok(depth) => measure_lines(rt, depth, fen),
+            Err(_) => misused(rt),
+        },
+        [] => misused(rt),
+    }
 }
 
 fn main(rt: HostRuntime) -> io::Result<ExitCode> {

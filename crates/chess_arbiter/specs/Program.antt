@@ -1,5 +1,5 @@
 -- What the program does with its words and its devices.
-use Rattle.std.specs.Prelude.{◌≡◌, ◌≤◌, ℕ, Bool, true, false, List, [], ◌∷◌, codes, Result, Ok, Err}
+use Rattle.std.specs.Prelude.{◌≡◌, ℕ, Bool, true, false, List, [], ◌∷◌, codes, Result, Ok, Err}
 use Rattle.std.specs.Str.{bytes_eq}
 use Rattle.std.specs.Borrow.{Bor}
 use Rattle.std.specs.Bool.{MatchBool}
@@ -10,6 +10,9 @@ use Rattle.chess_cecp.specs.Held.{Seen, opened}
 use Rattle.chess_text.specs.Tags.{default_tags}
 use Rattle.chess_cecp.specs.Run.{Transcript, Ran}
 use Rattle.chess_arbiter.specs.declared.program.ProgramFault.{ProgramFault}
+use Rattle.chess_arbiter.specs.declared.verify.Verified.{Verified}
+use Rattle.chess_arbiter.specs.declared.verify.Verified.TheVariants.{EachGame, FaultTold}
+use Rattle.chess_arbiter.specs.Verify.{Verifies}
 use Rattle.chess_arbiter.specs.declared.program.ProgramFault.TheVariants.{ReadFailed, WriteFailed, NoMemory, InputTooLong, WrongWords}
 
 -- no words, or `session` alone
@@ -49,10 +52,17 @@ asks_to_verify [] = false
 asks_to_verify (word ∷ []) = bytes_eq word.now (codes "verify")
 asks_to_verify (word ∷ next ∷ words) = false
 
--- where the words ask for a session, one was served, and the status tells its end; games are verified with status 0 or 1;
--- other words are wrong
+abbrev pub verify_status : Result Verified ProgramFault → ℕ
+verify_status (Ok EachGame) = 0
+verify_status (Ok FaultTold) = 1
+verify_status (Err fault) = fault_status fault
+
+-- where the words ask for a session, one was served, and where they ask to verify games, those of the input were; the status
+-- tells how that ended. Other words are wrong
 abbrev pub RanProgram : List (Bor (List ℕ)) → InputState → InputState → OutputState → OutputState → ℕ → Type 0
 RanProgram words r r' w w' status =
     MatchBool (asks_for_session words)
     ((outcome : Result End ProgramFault) × Served r r' w w' outcome × (status ≡ status_of outcome))
-    (MatchBool (asks_to_verify words) (status ≤ 1) (IsUntouched r r' w w' × (status ≡ 2)))
+    (MatchBool (asks_to_verify words)
+    ((outcome : Result Verified ProgramFault) × Verifies r r' w w' outcome × (status ≡ verify_status outcome))
+    (IsUntouched r r' w w' × (status ≡ 2)))

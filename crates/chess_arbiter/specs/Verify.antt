@@ -1,10 +1,105 @@
--- What verifying games reads.
-use Rattle.std.specs.Prelude.{◌≡◌, ◌≤◌, List, ℕ, length, Result, Ok, Err, Vec}
+-- What verifying games reads, and what it tells of them.
+use Rattle.std.specs.Prelude.{◌≡◌, ◌≤◌, ◌<◌, ℕ, ◌+◌, Bool, true, false, if◌then◌else◌, List, [], ◌∷◌, ◌++◌, length, codes, decimal, Option, Some, None, Result, Ok, Err}
 use Rattle.std.specs.Io.KnownBytes.{Consumes, IsAtEnd}
-use Rattle.chess_base.specs.Devices.{InputState}
+use Rattle.chess_base.specs.Devices.{InputState, OutputState, Took, BreaksOff, risen}
+use Rattle.chess_game.specs.Results.{outcome_text}
+use Rattle.chess_text.specs.declared.pgn.read.PgnEnd.{PgnEnd}
+use Rattle.chess_text.specs.declared.pgn.read.PgnFault.{PgnFault}
+use Rattle.chess_text.specs.declared.pgn.read.PgnFaultKind.{PgnFaultKind}
+use Rattle.chess_text.specs.declared.pgn.read.PgnFaultKind.TheVariants.{BadTag, BadFen, BadToken, IllegalMove, AmbiguousMove, AfterEnd, TooLong, UnclosedComment, UnclosedVariation, NoResult}
+use Rattle.chess_text.specs.GameRead.{GameRead, pgn_read}
+use Rattle.chess_arbiter.specs.declared.program.ProgramFault.{ProgramFault}
+use Rattle.chess_arbiter.specs.declared.program.ProgramFault.TheVariants.{ReadFailed, WriteFailed, NoMemory, InputTooLong, WrongWords}
+use Rattle.chess_arbiter.specs.declared.verify.Report.{Report}
+use Rattle.chess_arbiter.specs.declared.verify.Report.TheVariants.{Game, Faulty}
+use Rattle.chess_arbiter.specs.declared.verify.Verified.{Verified}
+use Rattle.chess_arbiter.specs.declared.verify.Verified.TheVariants.{EachGame, FaultTold}
+
+-- ---- the text
 
 -- these are all bytes that the input still had to give, and no more than 16,777,216
 pub record IsAll (r r' : InputState) (text : List ℕ) : Type 0 where
   pub bytes : Consumes r.known_bytes r'.known_bytes text
   pub at_end : IsAtEnd r'.known_bytes
   pub few : length text ≤ 16777216
+  pub failures : r'.failure_count ≡ r.failure_count
+
+-- why the bytes of the input are not had: a read failed, or there are more than 16,777,216, or there was no memory
+abbrev pub IsNotHad : InputState → InputState → ProgramFault → Type 0
+IsNotHad r r' ReadFailed = (text : List ℕ) × Consumes r.known_bytes r'.known_bytes text × (r'.failure_count ≡ risen r.failure_count)
+IsNotHad r r' WriteFailed = ⊥
+IsNotHad r r' NoMemory = Unit {0}
+IsNotHad r r' InputTooLong = (text : List ℕ) × Consumes r.known_bytes r'.known_bytes text × (16777216 < length text)
+IsNotHad r r' WrongWords = ⊥
+
+-- ---- the reports
+
+-- a game of a text from a place on, of at most 20,000 half-moves
+abbrev pub read_at : List ℕ → ℕ → GameRead
+read_at = pgn_read 20000
+
+-- whether reports are those on all games of a text, or on its first ones
+pub data Extent : Type 0 where
+  All : Extent
+  First : Extent
+
+-- no game is left
+abbrev pub EndsAt : Extent → List ℕ → ℕ → Type 0
+EndsAt All text at = (read_at text at).answer ≡ Ok None
+EndsAt First text at = Unit {0}
+
+-- these are reports on the games of a text from a place on: each game begins where the one before ended, and one with a
+-- fault is the last
+abbrev pub AreReports : Extent → List ℕ → ℕ → List Report → Type 0
+AreReports extent text at [] = EndsAt extent text at
+AreReports extent text at (Game plies end ∷ rest) = ((read_at text at).answer ≡ Ok (Some end)) × (plies ≡ length (read_at text at).state.moves) × AreReports extent text end.place rest
+AreReports extent text at (Faulty fault ∷ rest) = ((read_at text at).answer ≡ Err fault) × (rest ≡ [])
+
+-- what they come to
+abbrev pub verified : List Report → Verified
+verified [] = EachGame
+verified (Game plies end ∷ rest) = verified rest
+verified (Faulty fault ∷ rest) = FaultTold
+
+-- ---- their lines
+
+abbrev pub fault_name : PgnFaultKind → List ℕ
+fault_name BadTag = codes "bad tag"
+fault_name BadFen = codes "bad FEN"
+fault_name BadToken = codes "bad token"
+fault_name IllegalMove = codes "illegal move"
+fault_name AmbiguousMove = codes "ambiguous move"
+fault_name AfterEnd = codes "move after the end"
+fault_name TooLong = codes "too long"
+fault_name UnclosedComment = codes "unclosed comment"
+fault_name UnclosedVariation = codes "unclosed variation"
+fault_name NoResult = codes "no result"
+
+abbrev pub report_text : Report → List ℕ
+report_text (Game plies end) = decimal plies ++ (codes " half-moves, " ++ outcome_text end.outcome)
+report_text (Faulty fault) = fault_name fault.kind ++ (codes " at byte " ++ decimal fault.place)
+
+-- the line of the game with that number
+unfoldable pub report_line : ℕ → Report → List ℕ
+report_line number report = codes "game " ++ (decimal number ++ (codes ": " ++ (report_text report ++ 10 ∷ [])))
+
+-- the lines of games with numbers from there on
+abbrev pub report_lines : ℕ → List Report → List ℕ
+report_lines number [] = []
+report_lines number (report ∷ rest) = report_line number report ++ report_lines (number + 1) rest
+
+-- ---- verifying
+
+-- the reports on a text were told, each on its line; where the writer failed, a beginning of the lines of the first ones
+abbrev pub Told : {E : Type 0} → List ℕ → OutputState → OutputState → Result Verified E → Type 0
+Told text w w' (Ok told) = (reports : List Report) × AreReports All text 0 reports × (told ≡ verified reports) × Took w w' (report_lines 1 reports)
+Told text w w' (Err e) = (reports : List Report) × AreReports First text 0 reports × BreaksOff w w' (report_lines 1 reports)
+
+-- all of the input was read, and the reports on its games were told; without all of it, or without memory, nothing was
+abbrev pub Verifies : InputState → InputState → OutputState → OutputState → Result Verified ProgramFault → Type 0
+Verifies r r' w w' (Ok told) = (text : List ℕ) × IsAll r r' text × Told {E = ProgramFault} text w w' (Ok told)
+Verifies r r' w w' (Err ReadFailed) = IsNotHad r r' ReadFailed × (w' ≡ w)
+Verifies r r' w w' (Err WriteFailed) = (text : List ℕ) × IsAll r r' text × Told text w w' (Err WriteFailed)
+Verifies r r' w w' (Err NoMemory) = w' ≡ w
+Verifies r r' w w' (Err InputTooLong) = IsNotHad r r' InputTooLong × (w' ≡ w)
+Verifies r r' w w' (Err WrongWords) = ⊥

@@ -1,17 +1,18 @@
 //! Verifying games: each game of a text is read and its line written; the first fault ends it.
 
-ghost use Rattle.std.specs.Prelude.{◌≡◌, ◌≤◌, IfOk, IfErr, length};
-ghost use Rattle.chess_arbiter.specs.Program.{fault_status};
-ghost use Rattle.chess_arbiter.specs.Verify.{IsAll};
+ghost use Rattle.std.specs.Prelude.{◌≡◌, ◌≤◌, ◌+◌, ◌++◌, IfOk, IfErr, length, decimal};
+ghost use Rattle.arrayvec.specs.ArrayVec.{array_vec_len};
+ghost use Rattle.chess_base.specs.Devices.{Puts};
+ghost use Rattle.chess_arbiter.specs.Verify.{IsAll, IsNotHad, fault_name, report_text, report_line, Told, Verifies};
 
 use crate::program::ProgramFault;
-use arrayvec::ArrayString;
-use chess_base::device::{Input, Output, put};
-use chess_game::{Game, Outcome};
+use arrayvec::ArrayVec;
+use chess_base::device::{Input, Output, WriteFault, put};
+use chess_game::Game;
 use chess_moves::Plain;
 use chess_text::{PgnEnd, PgnFault, PgnFaultKind, read_pgn};
+use itoa::Buffer;
 use std::alloc::Global;
-use std::fmt::Write;
 
 // The most bytes of a text of games.
 const INPUT_LIMIT: usize = 16_777_216;
@@ -22,6 +23,12 @@ const PIECE_LEN: usize = 4096;
 // The most half-moves of a game.
 const GAME_LIMIT: u32 = 20_000;
 
+// The most bytes of a line: three numbers' and 60 more.
+const LINE_LEN: usize = 120;
+
+// A line on a game.
+type ReportLine = ArrayVec<u8, LINE_LEN>;
+
 /// How verifying ended.
 #[derive(Clone, Copy, Debug, PartialEq, Eq)]
 pub(crate) enum Verified {
@@ -31,10 +38,19 @@ pub(crate) enum Verified {
     FaultTold,
 }
 
+/// What is told of a game.
+#[derive(Clone, Copy, Debug, PartialEq, Eq)]
+pub(crate) enum Report {
+    /// It was read: how many half-moves it has, and how its text ended.
+    Game { plies: usize, end: PgnEnd },
+    /// It has a fault.
+    Faulty(PgnFault),
+}
+
 // All bytes of the input.
 fn read_all<R: Input>(alloc: Global, input: &mut R) -> Result<Vec<u8>, ProgramFault>
     ensures all { IfOk result (λ text. IsAll (R.seen input.old) (R.seen input.new) text.items) }
-    ensures failed { IfErr result (λ f. fault_status f ≡ 1) }
+    ensures failed { IfErr result (λ f. IsNotHad (R.seen input.old) (R.seen input.new) f) }
 {
     let mut text = Vec::new(alloc);
     let mut piece = [0; PIECE_LEN];
@@ -55,96 +71,147 @@ fn read_all<R: Input>(alloc: Global, input: &mut R) -> Result<Vec<u8>, ProgramFa
 }
 
 // The name of a fault.
-fn fault_name(kind: PgnFaultKind) -> &'static str {
+fn fault_name(kind: PgnFaultKind) -> &'static [u8]
+    ensures value { result.now ≡ fault_name kind }
+    ensures short { length result.now ≤ 18 }
+{
     match kind {
-        PgnFaultKind::BadTag => "bad tag",
-        PgnFaultKind::BadFen => "bad FEN",
-        PgnFaultKind::BadToken => "bad token",
-        PgnFaultKind::IllegalMove => "illegal move",
-        PgnFaultKind::AmbiguousMove => "ambiguous move",
-        PgnFaultKind::AfterEnd => "move after the end",
-        PgnFaultKind::TooLong => "too long",
-        PgnFaultKind::UnclosedComment => "unclosed comment",
-        PgnFaultKind::UnclosedVariation => "unclosed variation",
-        PgnFaultKind::NoResult => "no result",
+        PgnFaultKind::BadTag => b"bad tag",
+        PgnFaultKind::BadFen => b"bad FEN",
+        PgnFaultKind::BadToken => b"bad token",
+        PgnFaultKind::IllegalMove => b"illegal move",
+        PgnFaultKind::AmbiguousMove => b"ambiguous move",
+        PgnFaultKind::AfterEnd => b"move after the end",
+        PgnFaultKind::TooLong => b"too long",
+        PgnFaultKind::UnclosedComment => b"unclosed comment",
+        PgnFaultKind::UnclosedVariation => b"unclosed variation",
+        PgnFaultKind::NoResult => b"no result",
     }
 }
 
-// The line of a game that was read.
-fn tell_game<W: Output>(
-    output: &mut W,
-    number: usize,
-    game: &Game<Plain>,
-    end: PgnEnd,
-) -> Result<(), ProgramFault>
-    ensures { IfErr result (λ f. fault_status f ≡ 1) }
+// A text at the end of a line.
+fn write_text(line: &mut ReportLine, text: &[u8])
+    requires { array_vec_len line.old + length text.now ≤ 120 }
+    ensures text { line.new.items ≡ line.old.items ++ text.now }
+    ensures len { array_vec_len line.new ≡ array_vec_len line.old + length text.now }
 {
-    let mut line: ArrayString<120> = ArrayString::new();
-    let text = match end.outcome {
-        Outcome::WhiteWins => "1-0",
-        Outcome::BlackWins => "0-1",
-        Outcome::Draw => "1/2-1/2",
-        Outcome::Unfinished => "*",
-    };
-    let _fits = writeln!(line, "game {number}: {} half-moves, {text}", game.ply());
-    put(output, line.as_str().as_bytes()).map_err(|_| ProgramFault::WriteFailed)
+    line.try_extend_from_slice(text).unwrap();
 }
 
-// The line of a game with a fault.
-fn tell_fault<W: Output>(output: &mut W, number: usize, fault: PgnFault) -> Result<(), ProgramFault>
-    ensures { IfErr result (λ f. fault_status f ≡ 1) }
+// A number at the end of a line.
+fn write_number(line: &mut ReportLine, number: usize)
+    requires { array_vec_len line.old + 20 ≤ 120 }
+    ensures text { line.new.items ≡ line.old.items ++ decimal number }
+    ensures len { array_vec_len line.new ≤ array_vec_len line.old + 20 }
 {
-    let mut line: ArrayString<120> = ArrayString::new();
-    let name = fault_name(fault.kind);
-    let _fits = writeln!(line, "game {number}: {name} at byte {}", fault.place);
-    put(output, line.as_str().as_bytes()).map_err(|_| ProgramFault::WriteFailed)
+    let mut buffer = Buffer::new();
+    write_text(line, buffer.format(number as u64).as_bytes());
+}
+
+// What is told of a game, at the end of a line.
+fn write_report(line: &mut ReportLine, report: &Report)
+    requires { array_vec_len line.old + 60 ≤ 120 }
+    ensures text { line.new.items ≡ line.old.items ++ report_text report.now }
+    ensures len { array_vec_len line.new ≤ array_vec_len line.old + 60 }
+{
+    match report {
+        Report::Game { plies, end } => {
+            write_number(line, *plies);
+            write_text(line, b" half-moves, ");
+            write_text(line, end.outcome.text());
+        }
+        Report::Faulty(fault) => {
+            write_text(line, fault_name(fault.kind));
+            write_text(line, b" at byte ");
+            write_number(line, fault.place);
+        }
+    }
+}
+
+// The line of the game with that number.
+#[tactic(auto, unfolding(crate::specs::Verify::report_line))]
+fn report_line(number: usize, report: &Report) -> ReportLine
+    ensures { result.items ≡ report_line number report.now }
+{
+    let mut line = ReportLine::new();
+    write_text(&mut line, b"game ");
+    write_number(&mut line, number);
+    write_text(&mut line, b": ");
+    write_report(&mut line, report);
+    line.push(b'\n');
+    line
+}
+
+// Writes the line of the game with that number.
+fn tell<W: Output>(output: &mut W, number: usize, report: &Report) -> Result<(), WriteFault>
+    ensures { Puts (W.seen output.old) (W.seen output.new) result (report_line number report.now) }
+{
+    put(output, report_line(number, report).as_slice())
 }
 
 // Reads game after game of a text and tells each.
-fn verify_text<W: Output>(
-    alloc: Global,
+fn tell_each<W: Output>(
     text: &[u8],
+    game: &mut Game<Plain>,
     output: &mut W,
-) -> Result<Verified, ProgramFault>
-    requires { length text.now ≤ 16777216 }
-    ensures { IfErr result (λ f. fault_status f ≡ 1) }
+) -> Result<Verified, WriteFault>
+    requires few { length text.now ≤ 16777216 }
+    requires limit { game.old.limit ≡ 20000 }
+    ensures { Told text.now (W.seen output.old) (W.seen output.new) result }
 {
-    let Ok(mut game) = Game::open(alloc, Plain::new(), GAME_LIMIT) else {
-        return Err(ProgramFault::NoMemory);
-    };
     let mut at = 0;
-    for number in 1..text.len() + 2 {
-        match read_pgn(text, at, &mut game) {
-            Ok(None) => break,
+    let mut number = 1;
+    loop {
+        match read_pgn(text, at, game) {
+            Ok(None) => return Ok(Verified::EachGame),
             Ok(Some(end)) => {
-                tell_game(output, number, &game, end)?;
+                let plies = game.ply();
+                tell(output, number, &Report::Game { plies, end })?;
                 at = end.place;
+                number += 1;
             }
             Err(fault) => {
-                tell_fault(output, number, fault)?;
+                tell(output, number, &Report::Faulty(fault))?;
                 return Ok(Verified::FaultTold);
             }
         }
     }
-    Ok(Verified::EachGame)
+}
+
+// Tells the games of a text, and hands the lines on.
+fn tell_games<W: Output>(
+    text: &[u8],
+    game: &mut Game<Plain>,
+    output: &mut W,
+) -> Result<Verified, WriteFault>
+    requires few { length text.now ≤ 16777216 }
+    requires limit { game.old.limit ≡ 20000 }
+    ensures { Told text.now (W.seen output.old) (W.seen output.new) result }
+{
+    let verified = tell_each(text, game, output)?;
+    output.flush()?;
+    Ok(verified)
 }
 
 /// Reads all games of the input and writes a line for each, `game K: N half-moves, OUTCOME`, with the outcome that the
 /// text tells. A game with a fault has the line `game K: FAULT at byte B` and is the last.
 ///
 /// # Errors
-/// Where a device or memory failed, or the input has more than 16,777,216 bytes.
+/// Where a device or memory failed, or the input has more than 16,777,216 bytes. Only a failed writer leaves lines
+/// behind, of the first games.
 pub(crate) fn verify<R: Input, W: Output>(
     alloc: Global,
     input: &mut R,
     output: &mut W,
 ) -> Result<Verified, ProgramFault>
-    ensures { IfErr result (λ f. fault_status f ≡ 1) }
+    ensures { Verifies (R.seen input.old) (R.seen input.new) (W.seen output.old) (W.seen output.new) result }
 {
     let text = read_all(alloc, input)?;
-    let verified = verify_text(alloc, text.as_slice(), output);
-    match output.flush() {
-        Ok(()) => verified,
+    let Ok(mut game) = Game::open(alloc, Plain::new(), GAME_LIMIT) else {
+        return Err(ProgramFault::NoMemory);
+    };
+    match tell_games(text.as_slice(), &mut game, output) {
+        Ok(verified) => Ok(verified),
         Err(_) => Err(ProgramFault::WriteFailed),
     }
 }

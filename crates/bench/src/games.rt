@@ -1,0 +1,30 @@
+//! Reading the games of a text.
+
+use chess_game::Game;
+use chess_moves::Board;
+use chess_text::{PgnFault, read_pgn};
+
+/// How much was read.
+#[derive(Clone, Copy, Debug, PartialEq, Eq)]
+pub struct Tally {
+    pub games: u64,
+    pub half_moves: u64,
+}
+
+/// Reads each game of a text.
+///
+/// # Errors
+/// The fault of the first game that can't be read.
+pub fn read_games<B: Board>(text: &[u8], game: &mut Game<B>) -> Result<Tally, PgnFault> {
+    let mut tally = Tally {
+        games: 0,
+        half_moves: 0,
+    };
+    let mut at = 0;
+    while let Some(end) = read_pgn(text, at, game)? {
+        tally.games = tally.games.saturating_add(1);
+        tally.half_moves = tally.half_moves.saturating_add(game.ply() as u64);
+        at = end.place;
+    }
+    Ok(tally)
+}

@@ -1,0 +1,22 @@
+//! Counting the lines of legal moves.
+
+ghost use Rattle.std.specs.Prelude.{◌≡◌};
+
+use chess_moves::Board;
+
+/// How many lines of so many legal moves there are.
+pub fn count_lines<B: Board>(board: &mut B, depth: u8) -> u64
+    ensures { B.position board.new ≡ B.position board.old }
+{
+    if depth == 0 {
+        return 1;
+    }
+    let moves = board.legal_moves();
+    let mut count: u64 = 0;
+    for m in moves.as_slice() {
+        let saved = board.make(*m);
+        count = count.saturating_add(count_lines(board, depth - 1));
+        board.take_back(*m, saved);
+    }
+    count
+}
