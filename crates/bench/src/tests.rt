@@ -12,7 +12,13 @@ fn games_are_counted(rt: HostRuntime) {
         games: 2,
         half_moves: 5,
     };
-    assert_eq!(rt; read_games(b"1. e4 e5 1-0 [Event \"x\"] 1. f3 (1. d4) e5 2. g4 *", &mut game), Ok(wanted));
+    assert_eq!(rt;
+        read_games(
+            b"1. e4 e5 1-0 [Event \"x\"] 1. f3 (1. d4) e5 2. g4 *",
+            &mut game
+        ),
+        Ok(wanted)
+    );
     let fault = PgnFault {
         kind: PgnFaultKind::IllegalMove,
         place: 8,

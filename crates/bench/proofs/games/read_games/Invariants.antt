@@ -1,8 +1,8 @@
 use Rattle.std.proofs.Common.{◌≤◌, ◌-◌, length}
 use Rattle.bench.proofs.games.read_games.Given as goal
 
-abbrev pub invariant-loop-some : goal.invariant-loop-some
-invariant-loop-some g l = l.at ≤ length l.text
+abbrev pub invariant-loop-end : goal.invariant-loop-end
+invariant-loop-end g l = l.at ≤ length l.text
 
-abbrev pub decreases-loop-some : goal.decreases-loop-some
-decreases-loop-some g l = length l.text - l.at
+abbrev pub decreases-loop-end : goal.decreases-loop-end
+decreases-loop-end g l = length l.text - l.at
