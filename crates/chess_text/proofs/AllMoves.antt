@@ -1,7 +1,7 @@
 -- A legal move stands in the list of all moves, once.
-use Rattle.std.proofs.Common.{◌≡◌, ◌≢◌, ℕ, zero, suc, ◌<◌, inl, inr, Bool, true, false, ◌&&◌, ◌||◌, cond, Option, Some, None, List, [], ◌∷◌, ◌++◌, map, refl, ap, ◌∙◌, arith}
+use Rattle.std.proofs.Common.{◌≡◌, ◌≢◌, ℕ, zero, suc, ◌<◌, ◌≤◌, inl, inr, Bool, true, false, ◌&&◌, ◌||◌, cond, Option, Some, None, List, [], ◌∷◌, ◌++◌, map, refl, sym, ap, ◌∙◌, arith}
 use Rattle.std.specs.Prelude.{IfSome}
-use Rattle.std.proofs.lemmas.Bool.{cases_Bool, and_parts, and_from, false_from_ne_true, or_left, or_right}
+use Rattle.std.proofs.lemmas.Bool.{cases_Bool, cases_lt, and_parts, and_from, false_from_ne_true, or_left, or_right}
 use Rattle.std.proofs.lemmas.List.{append-nil}
 use Rattle.std.proofs.lemmas.List.Elements.{filter-append}
 use Rattle.std.proofs.lemmas.List.Folds.{list_any-append}
@@ -17,7 +17,7 @@ use Rattle.chess_text.proofs.Legal.{legal_move}
 
 -- ---- over lists
 
-filter-flat_map : {A B : Type 0} (q : B → Bool) (f : A → List B) (xs : List A) → filter q (flat_map f xs) ≡ flat_map (λ x. filter q (f x)) xs
+pub filter-flat_map : {A B : Type 0} (q : B → Bool) (f : A → List B) (xs : List A) → filter q (flat_map f xs) ≡ flat_map (λ x. filter q (f x)) xs
 filter-flat_map q f [] = refl
 filter-flat_map q f (x ∷ xs) = filter-append q (f x) (flat_map f xs) ∙ ap (λ ys. filter q (f x) ++ ys) (filter-flat_map q f xs)
 
@@ -64,6 +64,15 @@ only-from_below : {A : Type 0} (n : ℕ) (g : ℕ → ℕ) (f : ℕ → List A) 
 only-from_below zero g f a h e = absurd (omega arith)
 only-from_below (suc n) g f zero h e = rw (none-from_below n (λ i. g (suc i)) f (λ k l. e (suc k) (omega arith))) (append-nil (f (g 0)))
 only-from_below (suc n) g f (suc a) h e = rw (e 0 (omega arith)) (only-from_below n (λ i. g (suc i)) f a (omega arith) (λ k l. e (suc k) (omega arith)))
+
+-- where no square but one gives anything, it gives all; it need be no square if it gives nothing
+pub alone-square : {A : Type 0} (f : ℕ → List A) (a : ℕ) → ((k : ℕ) → k ≢ a → f k ≡ []) → (64 ≤ a → f a ≡ []) → flat_map f squares ≡ f a
+unfolding squares
+alone-square f a e none =
+    elim (cases_lt a 64) [
+      | inl below ↦ only-from_below 64 (λ s. s) f a below e
+      | inr above ↦ none-from_below 64 (λ s. s) f (λ k h. e k (λ same. omega (arith, same, h, above))) ∙ sym (none above)
+    ]
 
 only-square : {A : Type 0} (f : ℕ → List A) (a : ℕ) → a < 64 → ((k : ℕ) → k ≢ a → f k ≡ []) → flat_map f squares ≡ f a
 unfolding squares
@@ -125,10 +134,10 @@ any-move p t m legal e =
 
 -- ---- the only move of the list
 
-abbrev kept : (Move → Bool) → ℕ → ℕ → List Move
+abbrev pub kept : (Move → Bool) → ℕ → ℕ → List Move
 kept t a b = filter t (map (triple a b) promotions)
 
-none-kept : (t : Move → Bool) (a b : ℕ) → ((k : Option Kind) → t (triple a b k) ≡ false) → kept t a b ≡ []
+pub none-kept : (t : Move → Bool) (a b : ℕ) → ((k : Option Kind) → t (triple a b k) ≡ false) → kept t a b ≡ []
 none-kept t a b h = rw (h None, h (Some Queen), h (Some Rook), h (Some Bishop), h (Some Knight)) refl
 
 only-promotion : (t : Move → Bool) (a b : ℕ) (o : Option Kind) → IfSome o CanPromote → t (triple a b o) ≡ true → ((k : Option Kind) → k ≢ o → t (triple a b k) ≡ false) → kept t a b ≡ triple a b o ∷ []

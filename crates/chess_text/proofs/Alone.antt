@@ -142,7 +142,7 @@ promotes-same equals small (Some k) (Some l) e = ap Some (sym (same_kind-true k 
 
 -- ---- what a text spells, with no reader
 
-castled : (test : CastlingSide → Bool) (o : Option CastlingSide) → passes test o ≡ true → (w : CastlingSide) × (o ≡ Some w) × (test w ≡ true)
+pub castled : (test : CastlingSide → Bool) (o : Option CastlingSide) → passes test o ≡ true → (w : CastlingSide) × (o ≡ Some w) × (test w ≡ true)
 castled test None e = absurd cc
 castled test (Some w) e = (w, refl, e)
 

@@ -1,4 +1,4 @@
-pub mod Spelled
+pub mod SpelledMoves
 pub mod Grammar
 pub mod Castlings
 pub mod FormFacts

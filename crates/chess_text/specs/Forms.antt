@@ -1,11 +1,16 @@
 -- What a text is read as, before any position is looked at: castling, or parts of a form.
-use Rattle.std.specs.Prelude.{Bool, if◌then◌else◌, List, ℕ, Option, Some, None}
-use Rattle.std.specs.List.{list_any}
+use Rattle.std.specs.Prelude.{Bool, ◌&&◌, if◌then◌else◌, List, ℕ, map, Option, Some, None}
+use Rattle.std.specs.List.{list_any, filter}
 use Rattle.std.specs.Str.{bytes_eq}
 use Rattle.chess_base.specs.declared.man.CastlingSide.{CastlingSide}
 use Rattle.chess_base.specs.declared.man.CastlingSide.TheVariants.{KingSide, QueenSide}
+use Rattle.chess_base.specs.declared.man.Colour.{Colour}
+use Rattle.chess_base.specs.declared.man.Kind.{Kind}
 use Rattle.chess_base.specs.declared.man.Move.{Move}
 use Rattle.chess_base.specs.declared.setup.Setup.{Setup}
+use Rattle.chess_base.specs.Moves.{castled_king_file, is_legal}
+use Rattle.chess_base.specs.MoveList.{triple}
+use Rattle.chess_base.specs.Sound.{home_square}
 use Rattle.chess_text.specs.declared.described.Described.{Described}
 use Rattle.chess_text.specs.declared.form.Form.{Form}
 use Rattle.chess_text.specs.declared.form.Form.TheVariants.{Castling, Walk}
@@ -43,3 +48,12 @@ form_fits (Walk q) d = fits q d
 
 unfoldable pub is_spelled : Form → Setup → Move → Bool
 is_spelled form p m = passes (form_fits form) (described p m)
+
+-- every move ends here that the form spells
+abbrev pub end_of : Form → Colour → ℕ
+end_of (Castling w) c = home_square c (castled_king_file w)
+end_of (Walk q) c = q.end.to
+
+-- the legal moves from a to b, with one of these promotions, that the form spells
+abbrev pub spelled_with : Form → Setup → ℕ → ℕ → List (Option Kind) → List Move
+spelled_with form p a b ks = filter (λ m. is_spelled form p m && is_legal p m) (map (triple a b) ks)

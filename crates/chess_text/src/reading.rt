@@ -1,13 +1,24 @@
 //! Reading the text of a move.
 
-ghost use Rattle.std.specs.Prelude.{◌≡◌};
+ghost use Rattle.std.specs.Prelude.{◌≡◌, ◌≤◌, ◌+◌, ◌++◌, length};
 ghost use Rattle.std.specs.List.{filter};
+ghost use Rattle.arrayvec.specs.ArrayVec.{array_vec_len};
+ghost use Rattle.chess_base.specs.MoveList.{moves};
+ghost use Rattle.chess_base.specs.Sound.{IsSound};
 ghost use Rattle.chess_text.specs.Moves.{shape, one_of, reading, IsLegalReading};
-ghost use Rattle.chess_text.specs.Forms.{is_spelled};
+ghost use Rattle.chess_text.specs.Forms.{is_spelled, end_of, spelled_with};
 
 use crate::form::{Form, is_spelled, read_form};
-use chess_base::{Move, Setup};
+use arrayvec::ArrayVec;
+use chess_base::rules::{castled_king_file, home_square, is_legal};
+use chess_base::{Colour, Kind, Move, Setup, Square};
 use chess_moves::Board;
+
+// The most moves that end on one square: five from each square, by what the man becomes.
+const SPELLED_LIMIT: usize = 320;
+
+// Moves that a text spells.
+type SpelledMoves = ArrayVec<Move, SPELLED_LIMIT>;
 
 /// What a text is in a position.
 #[derive(Clone, Copy, Debug, PartialEq, Eq)]
@@ -30,22 +41,70 @@ pub fn has_move_shape(text: &[u8]) -> bool
     read_form(text).is_some()
 }
 
-// Which of the moves the form spells.
-fn one_spelled(form: &Form, setup: &Setup, moves: &[Move]) -> Reading
-    ensures { result ≡ one_of (filter (λ m. is_spelled form.now setup.now m) moves.now) }
+// The square on which every move ends that the form spells.
+fn end_square(form: &Form, side: Colour) -> Square
+    ensures { result ≡ end_of form.now side }
 {
-    let mut spelled = None;
-    for m in moves {
-        if is_spelled(form, setup, m) {
-            if spelled.is_some() {
-                return Reading::Ambiguous;
-            }
-            spelled = Some(*m);
+    match form {
+        Form::Castling(castling_side) => home_square(side, castled_king_file(*castling_side)),
+        Form::Walk(parts) => parts.end.to,
+    }
+}
+
+// Adds the legal moves from there to there, with one of those promotions, that the form spells.
+fn add_spelled(
+    form: &Form,
+    setup: &Setup,
+    from: Square,
+    to: Square,
+    promotions: &[Option<Kind>],
+    list: &mut SpelledMoves,
+)
+    requires sound { IsSound setup.now }
+    requires room { array_vec_len list.old + length promotions.now ≤ 320 }
+    ensures moves { list.new.items ≡ list.old.items ++ spelled_with form.now setup.now from to promotions.now }
+    ensures len { array_vec_len list.new ≤ array_vec_len list.old + length promotions.now }
+{
+    for promotion in promotions {
+        let m = Move {
+            from,
+            to,
+            promotion: *promotion,
+        };
+        if is_spelled(form, setup, &m) && is_legal(setup, &m) {
+            list.push(m);
         }
     }
-    match spelled {
-        None => Reading::NoSuch,
-        Some(m) => Reading::Move(m),
+}
+
+// The legal moves that the form spells.
+fn spelled_moves(form: &Form, setup: &Setup) -> SpelledMoves
+    requires { IsSound setup.now }
+    ensures { result.items ≡ filter (λ m. is_spelled form.now setup.now m) (moves setup.now) }
+{
+    let to = end_square(form, setup.side);
+    let promotions = [
+        None,
+        Some(Kind::Queen),
+        Some(Kind::Rook),
+        Some(Kind::Bishop),
+        Some(Kind::Knight),
+    ];
+    let mut list = SpelledMoves::new();
+    for number in 0..64 {
+        add_spelled(form, setup, Square::new(number), to, &promotions, &mut list);
+    }
+    list
+}
+
+// What a text is that spells these legal moves.
+fn one_of(moves: &[Move]) -> Reading
+    ensures { result ≡ one_of moves.now }
+{
+    match moves {
+        [] => Reading::NoSuch,
+        [m] => Reading::Move(*m),
+        _ => Reading::Ambiguous,
     }
 }
 
@@ -59,6 +118,6 @@ pub fn read_move<B: Board>(board: &B, text: &[u8]) -> Reading
         return Reading::NotAMove;
     };
     let position = board.position();
-    let moves = board.legal_moves();
-    one_spelled(&form, position.setup(), moves.as_slice())
+    let spelled = spelled_moves(&form, position.setup());
+    one_of(spelled.as_slice())
 }
