@@ -1,5 +1,5 @@
 -- What was read of an input, piece by piece.
-use Rattle.std.proofs.Common.{◌≡◌, ◌≤◌, ◌<◌, ◌+◌, ◌-◌, length-append, ◌∙◌, ℕ, List, [], ◌++◌, length, take, Result, Ok, Err, is_ok, is_err, Bool, false, if◌then◌else◌, refl, sym, ap, subst, append-nil, arith}
+use Rattle.std.proofs.Common.{◌≡◌, ◌≤◌, ◌<◌, ◌-◌, length-append, ◌∙◌, ℕ, List, [], ◌++◌, length, take, Result, Ok, Err, is_ok, is_err, false, if◌then◌else◌, refl, ap, subst, append-nil, arith}
 use Rattle.std.proofs.lemmas.List.{length-take-le}
 use Rattle.std.specs.Io.KnownBytes.{Consumes}
 use Rattle.chess_base.specs.Devices.{InputState, GavePiece, FailedToRead, risen}

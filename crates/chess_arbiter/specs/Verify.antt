@@ -1,10 +1,8 @@
 -- What verifying games reads, and what it tells of them.
-use Rattle.std.specs.Prelude.{◌≡◌, ◌≤◌, ◌<◌, ℕ, ◌+◌, Bool, true, false, if◌then◌else◌, List, [], ◌∷◌, ◌++◌, length, codes, decimal, Option, Some, None, Result, Ok, Err}
+use Rattle.std.specs.Prelude.{◌≡◌, ◌≤◌, ◌<◌, ℕ, ◌+◌, List, [], ◌∷◌, ◌++◌, length, codes, decimal, Some, None, Result, Ok, Err}
 use Rattle.std.specs.Io.KnownBytes.{Consumes, IsAtEnd}
 use Rattle.chess_base.specs.Devices.{InputState, OutputState, Took, BreaksOff, risen}
 use Rattle.chess_game.specs.Results.{outcome_text}
-use Rattle.chess_text.specs.declared.pgn.read.PgnEnd.{PgnEnd}
-use Rattle.chess_text.specs.declared.pgn.read.PgnFault.{PgnFault}
 use Rattle.chess_text.specs.declared.pgn.read.PgnFaultKind.{PgnFaultKind}
 use Rattle.chess_text.specs.declared.pgn.read.PgnFaultKind.TheVariants.{BadTag, BadFen, BadToken, IllegalMove, AmbiguousMove, AfterEnd, TooLong, UnclosedComment, UnclosedVariation, NoResult}
 use Rattle.chess_text.specs.GameRead.{GameRead, pgn_read}

@@ -2,6 +2,7 @@ pub mod OverSquares
 pub mod Counts
 pub mod MenAfter
 pub mod MenFacts
+pub mod Kings
 pub mod MoveKinds
 pub mod Landing
 pub mod Changes
@@ -20,9 +21,12 @@ pub mod Ranks
 pub mod Splits
 pub mod Placements
 pub mod SpelledRanks
+pub mod RookAmong
+pub mod RightsBack
 pub mod Joined
 pub mod RoundTrip
 pub mod SpelledRights
 pub mod SpelledFields
 pub mod SpelledFen
+pub mod NormalKept
 pub mod WrittenFen

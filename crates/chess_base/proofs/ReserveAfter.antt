@@ -16,13 +16,13 @@ use Rattle.chess_base.specs.Squares.{rank}
 use Rattle.chess_base.specs.Men.{Men, man_at, other, is_of, is_man, same_colour, same_kind, forward, pawn_rank}
 use Rattle.chess_base.specs.Attacks.{is_rank_ahead, is_in_check}
 use Rattle.chess_base.specs.Sound.{IsSound, no_pawn_on_end_ranks, pawn_may_stand, right_of}
-use Rattle.chess_base.specs.Moves.{from_below, man_that_lands, man_moves, castles, castles_with, has_pattern, is_legal, men_after, halfmove_after, resets_clock, after}
+use Rattle.chess_base.specs.Moves.{from_below, lands_on, man_that_lands, man_moves, castles, castles_with, has_pattern, is_legal, men_after, halfmove_after, resets_clock, after}
 use Rattle.chess_base.specs.Reserve.{ranks_to_go, weight, reserve}
 use Rattle.chess_base.proofs.OverSquares.{each_square-at}
 use Rattle.chess_base.proofs.MenAfter.{length-from_below, get_or-from_below}
 use Rattle.chess_base.proofs.MenFacts.{same_colour-true, is_of-from_is_man, is_man-kind, is_none-None, in_board}
 use Rattle.chess_base.proofs.MoveKinds.{is_of-mover, Moves, MoveKind, ManMoves, Castles, PawnMoves, PawnKind, Advances, Captures, TakesEnPassant}
-use Rattle.chess_base.proofs.Changes.{Change, Rest, Alone, WithCapture, WithRook, pawn_attack, rank_ahead_White, rank_ahead_Black, advance_goes}
+use Rattle.chess_base.proofs.Changes.{Change, Rest, Alone, WithCapture, WithRook, pawn_attack, pawn_no_castling, rank_ahead_White, rank_ahead_Black, advance_goes}
 use Rattle.chess_base.proofs.Landing.{says_from_castling, castling_says, lands_on_to}
 use Rattle.chess_base.proofs.Castlings.{change_of}
 use Rattle.chess_base.proofs.CountsAfter.{castled_rook, apart_by, from_apart}
@@ -91,55 +91,74 @@ weight-lands c s None k e = cc
 weight-lands c s (Some x) None e = rw (same_colour-true c x.colour e) (weight-at_most s x)
 weight-lands c s (Some x) (Some k) e = rw (same_colour-true c x.colour e) (weight-at_most s (record { colour = x.colour; kind = k }))
 
--- what the mover and a man on the end square weighed goes, and what lands comes
+-- what the mover and a man that it takes on the end square weighed goes, and what lands comes
+
+taken_by : Bool → ℕ → Option Man → ℕ
+taken_by enemy s o = cond enemy (weight s o) 0
+
+taken_at_most : (b : Bool) (s : ℕ) (o : Option Man) → taken_by b s o ≤ weight s o
+unfolding taken_by
+taken_at_most true s o = omega arith
+taken_at_most false s o = omega arith
+
+none_taken : (s : ℕ) (o : Option Man) (b : Bool) → b ≡ false → taken_by b s o ≡ 0
+unfolding taken_by
+none_taken s o b e = rw e refl
+
+all_taken : (s : ℕ) (o : Option Man) (b : Bool) → b ≡ true → taken_by b s o ≡ weight s o
+unfolding taken_by
+all_taken s o b e = rw e refl
 
 Spends : Setup → Move → Type 0
 Spends p m =
-    reserve (men_after p m) + weight m.from (man_at p.men m.from) + weight m.to (man_at p.men m.to)
-    ≤ reserve p.men + weight m.to (man_that_lands (man_at p.men m.from) m.promotion)
+    reserve (men_after p m) + weight m.from (man_at p.men m.from) + taken_by (is_of (other p.side) (man_at p.men m.to)) m.to (man_at p.men m.to)
+    ≤ reserve p.men + weight (lands_on p m) (man_that_lands (man_at p.men m.from) m.promotion)
 
 spends_by : (p : Setup) (m : Move) → length p.men ≡ 64 → Change p m → Rest p m → Spends p m
 unfolding Spends
-spends_by p m l h (Alone al ra) =
+spends_by p m l h (Alone walk al ra) =
     let v = man_that_lands (man_at p.men m.from) m.promotion in
     let list : men_after p m ≡ written p m = men_after-written p m l in
-    let list' : men_after p m ≡ set (set p.men m.from None) m.to v = rw (al, ra, lands_on_to) at list in
+    let list' : men_after p m ≡ set (set p.men m.from None) m.to v = rw (al, ra, walk.lands) at list in
     let l1 = length-set p.men m.from None ∙ l in
     let one = reserve-set p.men m.from None l h.moves.from_in in
     let two = reserve-set (set p.men m.from None) m.to v l1 h.moves.to_in in
-    let at_to : get_or (set p.men m.from None) m.to None ≡ man_at p.men m.to = get_or-set_other p.men m.from m.to None None (from_apart p m h) in
+    let at_to : get_or (set p.men m.from None) m.to None ≡ man_at p.men m.to = get_or-set_other p.men m.from m.to None None (from_apart p m h.moves walk) in
     let two' = rw at_to at two in
-    rw list' (omega (arith, one, two'))
-spends_by p m l h (WithCapture e al ra pawn to_empty mover) =
+    let most = taken_at_most (is_of (other p.side) (man_at p.men m.to)) m.to (man_at p.men m.to) in
+    rw (walk.lands, list') (omega (arith, one, two', most))
+spends_by p m l h (WithCapture walk e al ra pawn to_empty mover) =
     let v = man_that_lands (man_at p.men m.from) m.promotion in
     let one_gone = set p.men m.from None in
     let list : men_after p m ≡ written p m = men_after-written p m l in
-    let list' : men_after p m ≡ set (set one_gone e None) m.to v = rw (al, ra, lands_on_to) at list in
+    let list' : men_after p m ≡ set (set one_gone e None) m.to v = rw (al, ra, walk.lands) at list in
     let l1 = length-set p.men m.from None ∙ l in
     let l2 = length-set one_gone e None ∙ l1 in
     let one = reserve-set p.men m.from None l h.moves.from_in in
     let two = reserve-set one_gone e None l1 (in_board p.men (other p.side) Pawn e l pawn) in
     let three = reserve-set (set one_gone e None) m.to v l2 h.moves.to_in in
     let nothing = weight-none m.to (man_at p.men m.to) to_empty in
-    rw list' (omega (arith, one, two, three, nothing))
-spends_by p m l h (WithRook e r al ra rook to_empty r_empty r_to king r_in) =
+    let most = taken_at_most (is_of (other p.side) (man_at p.men m.to)) m.to (man_at p.men m.to) in
+    rw (walk.lands, list') (omega (arith, one, two, three, nothing, most))
+spends_by p m l h (WithRook e r al ra rook to_free r_free r_to king r_in to_in no_enemy) =
     let v = man_that_lands (man_at p.men m.from) m.promotion in
     let one_gone = set p.men m.from None in
     let both_gone = set one_gone e None in
     let list : men_after p m ≡ written p m = men_after-written p m l in
-    let list' : men_after p m ≡ set (set both_gone r (castled_rook p.side)) m.to v = rw (al, ra, lands_on_to) at list in
+    let list' : men_after p m ≡ set (set both_gone r (castled_rook p.side)) (lands_on p m) v = rw (al, ra) at list in
     let l1 = length-set p.men m.from None ∙ l in
     let l2 = length-set one_gone e None ∙ l1 in
     let l3 = length-set both_gone r (castled_rook p.side) ∙ l2 in
+    let e_in = in_board p.men p.side Rook e l rook in
     let e_from : e ≢ m.from = apart_by (λ o. is_man p.side Rook o) p.men e m.from rook (is_man-kind p.side p.side King Rook (man_at p.men m.from) refl king) in
     let at_e : get_or one_gone e None ≡ man_at p.men e = get_or-set_other p.men m.from e None None e_from in
     let one = reserve-set p.men m.from None l h.moves.from_in in
-    let two = rw at_e at (reserve-set one_gone e None l1 (in_board p.men p.side Rook e l rook)) in
+    let two = rw at_e at (reserve-set one_gone e None l1 e_in) in
     let three = reserve-set both_gone r (castled_rook p.side) l2 r_in in
-    let four = reserve-set (set both_gone r (castled_rook p.side)) m.to v l3 h.moves.to_in in
+    let four = reserve-set (set both_gone r (castled_rook p.side)) (lands_on p m) v l3 to_in in
     let left = weight-no_pawn p.side e (man_at p.men e) (is_of-from_is_man p.side Rook (man_at p.men e) rook) (is_man-kind p.side p.side Rook Pawn (man_at p.men e) refl rook) in
-    let nothing = weight-none m.to (man_at p.men m.to) to_empty in
-    rw list' (omega (arith, one, two, three, four, left, nothing))
+    let none : taken_by (is_of (other p.side) (man_at p.men m.to)) m.to (man_at p.men m.to) ≡ 0 = none_taken m.to (man_at p.men m.to) (is_of (other p.side) (man_at p.men m.to)) no_enemy in
+    rw list' (omega (arith, one, two, three, four, left, none))
 
 spends : (p : Setup) (m : Move) → IsSound p → Change p m → Spends p m
 spends p m sound h = spends_by p m sound.board h h.rest
@@ -179,7 +198,7 @@ goes_ahead p m sound moves man (TakesEnPassant e at) = aside_ahead p.side m.from
 -- what lands against what left
 
 Lands : Setup → Move → Type 0
-Lands p m = weight m.to (man_that_lands (man_at p.men m.from) m.promotion) ≤ weight m.from (man_at p.men m.from)
+Lands p m = weight (lands_on p m) (man_that_lands (man_at p.men m.from) m.promotion) ≤ weight m.from (man_at p.men m.from)
 
 man_lands : (p : Setup) (m : Move) → Moves p m → is_man p.side Pawn (man_at p.men m.from) ≡ false → is_none m.promotion ≡ true → Lands p m
 unfolding Lands
@@ -188,16 +207,17 @@ man_lands p m moves n e =
     let own' : is_of p.side (Some moves.mover) ≡ true = rw (← moves.at_from) own in
     let n' : is_man p.side Pawn (Some moves.mover) ≡ false = rw (← moves.at_from) n in
     let before = weight-no_pawn p.side m.from (Some moves.mover) own' n' in
-    let after' = weight-no_pawn p.side m.to (Some moves.mover) own' n' in
-    rw (moves.at_from, is_none-None m.promotion e) (omega (arith, before, after'))
+    let after' = weight-no_pawn p.side (lands_on p m) (Some moves.mover) own' n' in
+    let same : man_that_lands (man_at p.men m.from) m.promotion ≡ Some moves.mover = rw (moves.at_from, is_none-None m.promotion e) refl in
+    rw (same, moves.at_from) (omega (arith, before, after'))
 
 pawn_lands : (p : Setup) (m : Move) → IsSound p → Moves p m → is_man p.side Pawn (man_at p.men m.from) ≡ true → PawnKind p m
-    → weight m.to (man_that_lands (man_at p.men m.from) m.promotion) < weight m.from (man_at p.men m.from)
+    → weight (lands_on p m) (man_that_lands (man_at p.men m.from) m.promotion) < weight m.from (man_at p.men m.from)
 pawn_lands p m sound moves man kind =
     let before = weight-pawn p.side m.from (man_at p.men m.from) man in
     let lands = weight-lands p.side m.to (man_at p.men m.from) m.promotion (is_of-mover p m moves) in
     let ahead = goes_ahead p m sound moves man kind in
-    omega (arith, before, lands, ahead)
+    rw (lands_on_to p m (pawn_no_castling p m man)) (omega (arith, before, lands, ahead))
 
 castles_plainly : (p : Setup) (m : Move) (w : CastlingSide) (o : Option ℕ) → castles_with p m w o ≡ true → is_none m.promotion ≡ true
 castles_plainly p m w None e = cc
@@ -237,7 +257,8 @@ capture_falls p m sound h taken =
     let spent = spends p m sound h in
     let lands = lands_by p m sound h.moves h.moves.kind in
     let gone = weight-of (other p.side) m.to (man_at p.men m.to) taken in
-    omega (arith, spent, lands, gone)
+    let all = all_taken m.to (man_at p.men m.to) (is_of (other p.side) (man_at p.men m.to)) taken in
+    omega (arith, spent, lands, gone, all)
 
 clock_was_reset : (p : Setup) (m : Move) → halfmove_after p m ≡ 0 → resets_clock p m ≡ true
 unfolding halfmove_after

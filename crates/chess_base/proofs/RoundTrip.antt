@@ -13,14 +13,19 @@ use Rattle.chess_base.specs.declared.man.Kind.TheVariants.{Pawn, Knight, Bishop,
 use Rattle.chess_base.specs.declared.man.Colour.{Colour}
 use Rattle.chess_base.specs.declared.man.Colour.TheVariants.{White, Black}
 use Rattle.chess_base.specs.declared.man.Rights.{Rights}
+use Rattle.chess_base.specs.declared.man.Variant.{Variant}
+use Rattle.chess_base.specs.declared.man.Variant.TheVariants.{Normal, Fischerandom}
+use Rattle.chess_base.specs.RightNames.{right_letter, right_told}
+use Rattle.chess_base.proofs.RightsBack.{Stand, right_back, text_is_castling}
+use Rattle.chess_base.proofs.SpelledRights.{castling-spelled}
 use Rattle.chess_base.specs.declared.setup.Setup.{Setup}
 use Rattle.chess_base.specs.Letters.{letter, letter_by, white_letter, byte}
-use Rattle.chess_base.specs.Texts.{is_digit, value_after, number_of, rank_after, rank_of, stacked, placement_of, occurs, is_castling, target_of, fields_of}
+use Rattle.chess_base.specs.Texts.{is_digit, value_after, number_of, rank_after, rank_of, stacked, placement_of, occurs, may_name_right, is_castling, target_of, fields_of}
 use Rattle.chess_base.specs.Writing.{run_text, row_text, rank_text, ranks_down, ranks_text, placement_text, side_text, right_text, or_dash, rights_text, target_text, fen}
 use Rattle.chess_base.specs.declared.man.CastlingSide.{CastlingSide}
 use Rattle.chess_base.specs.declared.man.CastlingSide.TheVariants.{KingSide, QueenSide}
 use Rattle.chess_base.specs.Men.{Men, man_at, is_man, other, forward, crossed_rank}
-use Rattle.chess_base.specs.Sound.{IsSound, home_square, rook_file, right_stands_at, right_stands, target_is_behind_double_advance_at, target_is_behind_double_advance}
+use Rattle.chess_base.specs.Sound.{IsSound, home_square, rook_file, right_of, right_stands_at, right_stands, target_is_behind_double_advance_at, target_is_behind_double_advance}
 use Rattle.std.proofs.lemmas.Bool.{and_parts, eqb-true}
 use Rattle.std.proofs.Math.Seq.{take-add}
 use Rattle.chess_base.specs.Reading.{Description, side_of, counters_of, letters_of, described_in, description_of, rights_named, setup_from}
@@ -31,7 +36,7 @@ use Rattle.chess_base.proofs.Joined.{From, From-append, From-weaker, From-join, 
 
 -- what the text of a position describes
 abbrev pub told : Setup → Description
-told p = record { men = p.men; side = p.side; letters = rights_text p.rights; target = p.target; halfmove = p.halfmove; fullmove = p.fullmove }
+told p = record { variant = p.variant; men = p.men; side = p.side; letters = rights_text p.variant p.rights; target = p.target; halfmove = p.halfmove; fullmove = p.fullmove }
 
 -- ---- numbers
 
@@ -66,16 +71,17 @@ number-decimal n h =
 -- ---- rights, side and target
 
 abbrev text_by : Option ℕ → Option ℕ → Option ℕ → Option ℕ → List ℕ
-text_by a b c d = rights_text (record { white = record { king_side = a; queen_side = b }; black = record { king_side = c; queen_side = d } })
+text_by a b c d = rights_text Normal (record { white = record { king_side = a; queen_side = b }; black = record { king_side = c; queen_side = d } })
 
 record Tells (a b c d : Option ℕ) : Type 0 where
-  letters : is_castling (text_by a b c d) ≡ true
+  letters : is_castling Normal (text_by a b c d) ≡ true
   first : occurs (byte "K") (text_by a b c d) ≡ is_some a
   second : occurs (byte "Q") (text_by a b c d) ≡ is_some b
   third : occurs (byte "k") (text_by a b c d) ≡ is_some c
   fourth : occurs (byte "q") (text_by a b c d) ≡ is_some d
 
 tells : (a b c d : Option ℕ) → Tells a b c d
+unfolding may_name_right
 tells (Some a) (Some b) (Some c) (Some d) = record { letters = refl; first = refl; second = refl; third = refl; fourth = refl }
 tells (Some a) (Some b) (Some c) None = record { letters = refl; first = refl; second = refl; third = refl; fourth = refl }
 tells (Some a) (Some b) None (Some d) = record { letters = refl; first = refl; second = refl; third = refl; fourth = refl }
@@ -93,25 +99,51 @@ tells None None (Some c) None = record { letters = refl; first = refl; second = 
 tells None None None (Some d) = record { letters = refl; first = refl; second = refl; third = refl; fourth = refl }
 tells None None None None = record { letters = refl; first = refl; second = refl; third = refl; fourth = refl }
 
-letters-text : (r : Rights) → letters_of (rights_text r) ≡ Some (rights_text r)
-letters-text r = ap (λ b. cond b (Some (rights_text r)) None) (tells r.white.king_side r.white.queen_side r.black.king_side r.black.queen_side).letters
-
--- a right that stands has its rook on its corner
-on_corner : (men : Men) (c : Colour) (w : CastlingSide) (right : Option ℕ) → right_stands_at men c w right ≡ true → cond (is_some right) (Some (home_square c (rook_file w))) None ≡ right
+-- a right that stands in normal chess has its rook on its corner
+on_corner : (men : Men) (c : Colour) (w : CastlingSide) (right : Option ℕ) → right_stands_at Normal men c w right ≡ true → cond (is_some right) (Some (home_square c (rook_file w))) None ≡ right
 on_corner men c w None e = refl
 on_corner men c w (Some s) e =
     let outer = and_parts (eqb s (home_square c (rook_file w)) && is_man c King (man_at men (home_square c 4))) (is_man c Rook (man_at men s)) e in
     let inner = and_parts (eqb s (home_square c (rook_file w))) (is_man c King (man_at men (home_square c 4))) outer.0 in
     ap Some (sym (eqb-true s (home_square c (rook_file w)) inner.0))
 
-pub rights_back : (p : Setup) → IsSound p → rights_named (told p) ≡ p.rights
+-- what is written for the rights of a position is a text of rights, and tells them
+record Told (v : Variant) (men : Men) (r : Rights) : Type 0 where
+  letters : is_castling v (rights_text v r) ≡ true
+  rights : (c : Colour) (w : CastlingSide) → right_told v men (rights_text v r) c w ≡ right_of r c w
+
+record AllStand (v : Variant) (men : Men) (r : Rights) : Type 0 where
+  a : right_stands_at v men White KingSide r.white.king_side ≡ true
+  b : right_stands_at v men White QueenSide r.white.queen_side ≡ true
+  c : right_stands_at v men Black KingSide r.black.king_side ≡ true
+  d : right_stands_at v men Black QueenSide r.black.queen_side ≡ true
+
+told_right : (men : Men) (r : Rights) → AllStand Normal men r → (c : Colour) (w : CastlingSide) → right_told Normal men (rights_text Normal r) c w ≡ right_of r c w
+told_right men r s White KingSide = ap (λ b. cond b (Some 7) None) (tells r.white.king_side r.white.queen_side r.black.king_side r.black.queen_side).first ∙ on_corner men White KingSide r.white.king_side s.a
+told_right men r s White QueenSide = ap (λ b. cond b (Some 0) None) (tells r.white.king_side r.white.queen_side r.black.king_side r.black.queen_side).second ∙ on_corner men White QueenSide r.white.queen_side s.b
+told_right men r s Black KingSide = ap (λ b. cond b (Some 63) None) (tells r.white.king_side r.white.queen_side r.black.king_side r.black.queen_side).third ∙ on_corner men Black KingSide r.black.king_side s.c
+told_right men r s Black QueenSide = ap (λ b. cond b (Some 56) None) (tells r.white.king_side r.white.queen_side r.black.king_side r.black.queen_side).fourth ∙ on_corner men Black QueenSide r.black.queen_side s.d
+
+are_told : (v : Variant) (men : Men) (r : Rights) → AllStand v men r → Told v men r
+are_told Normal men r s = record { letters = (tells r.white.king_side r.white.queen_side r.black.king_side r.black.queen_side).letters; rights = told_right men r s }
+are_told Fischerandom men r s =
+    let stand : Stand men r = record { a = s.a; b = s.b; c = s.c; d = s.d } in
+    record { letters = castling-spelled Fischerandom (rights_text Fischerandom r) (text_is_castling men r stand); rights = λ c w. right_back men r c w stand }
+
+told_of : (p : Setup) → IsSound p → Told p.variant p.men p.rights
 unfolding right_stands
+told_of p h = are_told p.variant p.men p.rights (record { a = h.white_king_side; b = h.white_queen_side; c = h.black_king_side; d = h.black_queen_side })
+
+letters-text : (p : Setup) → IsSound p → letters_of p.variant (rights_text p.variant p.rights) ≡ Some (rights_text p.variant p.rights)
+letters-text p h = ap (λ b. cond b (Some (rights_text p.variant p.rights)) None) (told_of p h).letters
+
+pub rights_back : (p : Setup) → IsSound p → rights_named (told p) ≡ p.rights
 rights_back p h =
-    let t = tells p.rights.white.king_side p.rights.white.queen_side p.rights.black.king_side p.rights.black.queen_side in
-    rw (t.first, t.second, t.third, t.fourth, on_corner p.men White KingSide p.rights.white.king_side h.white_king_side, on_corner p.men White QueenSide p.rights.white.queen_side h.white_queen_side, on_corner p.men Black KingSide p.rights.black.king_side h.black_king_side, on_corner p.men Black QueenSide p.rights.black.queen_side h.black_queen_side) refl
+    let t = (told_of p h).rights in
+    rw (t White KingSide, t White QueenSide, t Black KingSide, t Black QueenSide) refl
 
 pub setup-back : (p : Setup) → IsSound p → setup_from (told p) ≡ p
-setup-back p h = ap (λ r. record { men = p.men; side = p.side; rights = r; target = p.target; halfmove = p.halfmove; fullmove = p.fullmove }) (rights_back p h)
+setup-back p h = ap (λ r. record { variant = p.variant; men = p.men; side = p.side; rights = r; target = p.target; halfmove = p.halfmove; fullmove = p.fullmove }) (rights_back p h)
 
 -- a target that stands has rank 3 or 6
 target_rank : (men : Men) (c : Colour) (target : Option ℕ) → target_is_behind_double_advance_at men c target ≡ true → IfSome target (λ square. (square / 8 ≡ 2) ⊎ (square / 8 ≡ 5))
@@ -239,9 +271,17 @@ side_some : (colour : Colour) → 0 < length (side_text colour)
 side_some White = omega arith
 side_some Black = omega arith
 
-right_from : (right : Option ℕ) (c : ℕ) → 33 ≤ c → From 33 (right_text right c)
-right_from (Some corner) c h = (h, tt)
-right_from None c h = tt
+letter_high : (v : Variant) (c : Colour) (w : CastlingSide) (s : ℕ) → 33 ≤ right_letter v c w s
+letter_high Normal White KingSide s = omega arith
+letter_high Normal White QueenSide s = omega arith
+letter_high Normal Black KingSide s = omega arith
+letter_high Normal Black QueenSide s = omega arith
+letter_high Fischerandom White w s = omega arith
+letter_high Fischerandom Black w s = omega arith
+
+right_from : (v : Variant) (c : Colour) (w : CastlingSide) (right : Option ℕ) → From 33 (right_text v c w right)
+right_from v c w (Some s) = (letter_high v c w s, tt)
+right_from v c w None = tt
 
 dash_from : (text : List ℕ) → From 33 text → From 33 (or_dash text)
 dash_from [] p = (omega arith, tt)
@@ -251,14 +291,19 @@ dash_some : (text : List ℕ) → 0 < length (or_dash text)
 dash_some [] = omega arith
 dash_some (c ∷ cs) = omega arith
 
-rights_from : (r : Rights) → From 33 (rights_text r)
-rights_from r =
-    dash_from (((right_text r.white.king_side 75 ++ right_text r.white.queen_side 81) ++ right_text r.black.king_side 107) ++ right_text r.black.queen_side 113)
-    (From-append 33 ((right_text r.white.king_side 75 ++ right_text r.white.queen_side 81) ++ right_text r.black.king_side 107) (right_text r.black.queen_side 113)
-    (From-append 33 (right_text r.white.king_side 75 ++ right_text r.white.queen_side 81) (right_text r.black.king_side 107)
-    (From-append 33 (right_text r.white.king_side 75) (right_text r.white.queen_side 81) (right_from r.white.king_side 75 (omega arith)) (right_from r.white.queen_side 81 (omega arith)))
-    (right_from r.black.king_side 107 (omega arith)))
-    (right_from r.black.queen_side 113 (omega arith)))
+rights_from : (v : Variant) (r : Rights) → From 33 (rights_text v r)
+rights_from v r =
+    let a = right_text v White KingSide r.white.king_side in
+    let b = right_text v White QueenSide r.white.queen_side in
+    let c = right_text v Black KingSide r.black.king_side in
+    let d = right_text v Black QueenSide r.black.queen_side in
+    dash_from (((a ++ b) ++ c) ++ d)
+    (From-append 33 ((a ++ b) ++ c) d
+    (From-append 33 (a ++ b) c (From-append 33 a b (right_from v White KingSide r.white.king_side) (right_from v White QueenSide r.white.queen_side)) (right_from v Black KingSide r.black.king_side))
+    (right_from v Black QueenSide r.black.queen_side))
+
+rights_some : (v : Variant) (r : Rights) → 0 < length (rights_text v r)
+rights_some v r = dash_some (((right_text v White KingSide r.white.king_side ++ right_text v White QueenSide r.white.queen_side) ++ right_text v Black KingSide r.black.king_side) ++ right_text v Black QueenSide r.black.queen_side)
 
 target_from : (target : Option ℕ) → From 33 (target_text target)
 target_from None = (omega arith, tt)
@@ -270,15 +315,15 @@ target_some (Some t) = omega arith
 
 -- ---- the text
 
-pub describing-fen : (p : Setup) → IsSound p → description_of (fen p) ≡ Ok (told p)
+pub describing-fen : (p : Setup) → IsSound p → description_of p.variant (fen p) ≡ Ok (told p)
 describing-fen p h =
     let halfmove : p.halfmove < 1000000 = let e = h.halfmove in grind (arith, nat_tests, e) in
     let fullmove : p.fullmove < 1000000 = let e = h.fullmove_high in grind (arith, nat_tests, e) in
     let some : 0 < p.fullmove = let e = h.fullmove_low in grind (arith, nat_tests, e) in
-    let fields : fields_of (fen p) ≡ placement_text p.men ∷ side_text p.side ∷ rights_text p.rights ∷ target_text p.target ∷ decimal p.halfmove ∷ decimal p.fullmove ∷ [] =
-    fields_of-join (placement_text p.men) (side_text p.side ∷ rights_text p.rights ∷ target_text p.target ∷ decimal p.halfmove ∷ decimal p.fullmove ∷ [])
-    (placement_from p.men, (side_from p.side, (rights_from p.rights, (target_from p.target, (decimal_from p.halfmove halfmove, (decimal_from p.fullmove fullmove, tt))))))
-    (placement_some p.men, (side_some p.side, (dash_some (((right_text p.rights.white.king_side 75 ++ right_text p.rights.white.queen_side 81) ++ right_text p.rights.black.king_side 107) ++ right_text p.rights.black.queen_side 113), (target_some p.target, (decimal_nonempty p.halfmove (omega (arith, halfmove)), (decimal_nonempty p.fullmove (omega (arith, fullmove)), tt)))))) in
+    let fields : fields_of (fen p) ≡ placement_text p.men ∷ side_text p.side ∷ rights_text p.variant p.rights ∷ target_text p.target ∷ decimal p.halfmove ∷ decimal p.fullmove ∷ [] =
+    fields_of-join (placement_text p.men) (side_text p.side ∷ rights_text p.variant p.rights ∷ target_text p.target ∷ decimal p.halfmove ∷ decimal p.fullmove ∷ [])
+    (placement_from p.men, (side_from p.side, (rights_from p.variant p.rights, (target_from p.target, (decimal_from p.halfmove halfmove, (decimal_from p.fullmove fullmove, tt))))))
+    (placement_some p.men, (side_some p.side, (rights_some p.variant p.rights, (target_some p.target, (decimal_nonempty p.halfmove (omega (arith, halfmove)), (decimal_nonempty p.fullmove (omega (arith, fullmove)), tt)))))) in
     let counted : max p.fullmove 1 ≡ p.fullmove = omega (arith, some) in
     let numbers : counters_of (decimal p.halfmove ∷ decimal p.fullmove ∷ []) ≡ Some (p.halfmove, p.fullmove) = rw (number-decimal p.halfmove halfmove, number-decimal p.fullmove fullmove, counted) refl in
-    ap described_in fields ∙ rw (placement-text p.men h.board, side-text p.side, letters-text p.rights, target-text p.target (target_fits p h), numbers) refl
+    ap (described_in p.variant) fields ∙ rw (placement-text p.men h.board, side-text p.side, letters-text p h, target-text p.target (target_fits p h), numbers) refl

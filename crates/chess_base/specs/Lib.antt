@@ -11,7 +11,9 @@ pub mod Laws
 pub mod Before
 pub mod Letters
 pub mod Writing
+pub mod Normal
 pub mod Texts
+pub mod RightNames
 pub mod Reading
 pub mod Spelling
 pub mod FenFaults

@@ -1,5 +1,5 @@
 -- The moves: their pattern, the position after one, and which are legal (Laws of Chess 2023, article 3).
-use Rattle.std.specs.Prelude.{ℕ, ◌+◌, ◌==◌, nat_lt, min, Bool, false, not, ◌&&◌, ◌||◌, Option, Some, None, is_none, is_some, List, [], ◌∷◌, if◌then◌else◌}
+use Rattle.std.specs.Prelude.{ℕ, ◌+◌, ◌==◌, nat_lt, min, Bool, false, not, ◌&&◌, ◌||◌, Option, Some, None, is_none, List, [], ◌∷◌, if◌then◌else◌}
 use Rattle.chess_base.specs.declared.man.Colour.{Colour}
 use Rattle.chess_base.specs.declared.man.Colour.TheVariants.{White, Black}
 use Rattle.chess_base.specs.declared.man.CastlingSide.{CastlingSide}
@@ -8,6 +8,8 @@ use Rattle.chess_base.specs.declared.man.Kind.{Kind}
 use Rattle.chess_base.specs.declared.man.Kind.TheVariants.{King, Queen, Rook, Bishop, Knight, Pawn}
 use Rattle.chess_base.specs.declared.man.Man.{Man}
 use Rattle.chess_base.specs.declared.man.Move.{Move}
+use Rattle.chess_base.specs.declared.man.Variant.{Variant}
+use Rattle.chess_base.specs.declared.man.Variant.TheVariants.{Normal, Fischerandom}
 use Rattle.chess_base.specs.declared.man.Rights.{Rights}
 use Rattle.chess_base.specs.declared.man.ColourRights.{ColourRights}
 use Rattle.chess_base.specs.Squares.{rank, is_between, each_square}
@@ -69,13 +71,20 @@ abbrev pub castled_rook_file : CastlingSide → ℕ
 castled_rook_file KingSide = 5
 castled_rook_file QueenSide = 3
 
--- the king goes from home to where castling on that side takes it, and the right is there
+-- the squares of the move name castling with that rook: in normal chess the king's squares, from home to where castling on
+-- that side takes it; in Chess960 the king's square and the rook's, on one rank
+abbrev pub names_castling_with : Variant → Colour → Move → CastlingSide → ℕ → Bool
+names_castling_with Normal c m w rook = (m.from == home_square c king_home_file) && (m.to == home_square c (castled_king_file w))
+names_castling_with Fischerandom c m w rook = (rank m.from == rank rook) && (m.to == rook)
+
+-- the right is there, and the squares name castling with its rook
+abbrev pub names_castling : Variant → Colour → Move → CastlingSide → Option ℕ → Bool
+names_castling v c m w None = false
+names_castling v c m w (Some rook) = names_castling_with v c m w rook
+
+-- the king goes as castling on that side is named, and the right is there
 unfoldable pub says_castling : Setup → Move → CastlingSide → Bool
-says_castling p m w =
-    is_some (right_of p.rights p.side w)
-    && is_man p.side King (man_at p.men m.from)
-    && (m.from == home_square p.side king_home_file)
-    && (m.to == home_square p.side (castled_king_file w))
+says_castling p m w = is_man p.side King (man_at p.men m.from) && names_castling p.variant p.side m w (right_of p.rights p.side w)
 
 -- the side of the castling that the move is, if it is one
 unfoldable pub castling : Setup → Move → Option CastlingSide
@@ -203,6 +212,7 @@ fullmove_after Black n = min (n + 1) 999999
 -- the position after a move
 unfoldable pub after : Setup → Move → Setup
 after p m = record {
+  variant = p.variant;
   men = men_after p m;
   side = other p.side;
   rights = rights_after p m;

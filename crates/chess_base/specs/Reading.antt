@@ -5,16 +5,18 @@ use Rattle.std.specs.Option.{ok_or}
 use Rattle.chess_base.specs.declared.man.Colour.{Colour}
 use Rattle.chess_base.specs.declared.man.Colour.TheVariants.{White, Black}
 use Rattle.chess_base.specs.declared.man.CastlingSide.TheVariants.{KingSide, QueenSide}
+use Rattle.chess_base.specs.declared.man.Variant.{Variant}
+use Rattle.chess_base.specs.declared.man.Variant.TheVariants.{Normal}
 use Rattle.chess_base.specs.declared.man.Rights.{Rights}
 use Rattle.chess_base.specs.declared.setup.Setup.{Setup}
 use Rattle.chess_base.specs.Men.{Men}
-use Rattle.chess_base.specs.Sound.{home_square, rook_file}
 use Rattle.chess_base.specs.Faults.{setup_fault}
 use Rattle.chess_base.specs.declared.fen.reading.Described.{Described}
 use Rattle.chess_base.specs.declared.fault.FenFault.{FenFault}
 use Rattle.chess_base.specs.declared.fault.FenFault.TheVariants as faults
 use Rattle.chess_base.specs.Letters.{byte}
-use Rattle.chess_base.specs.Texts.{occurs, placement_of, is_castling, target_of, number_of, fields_of}
+use Rattle.chess_base.specs.RightNames.{right_told}
+use Rattle.chess_base.specs.Texts.{placement_of, is_castling, target_of, number_of, fields_of}
 
 infixl 10 ◌>>=◌
 abbrev pub ◌>>=◌ : {A B E : Type 0} → Result A E → (A → Result B E) → Result B E
@@ -40,6 +42,7 @@ counters_of (a ∷ b ∷ c ∷ more) = None
 
 -- what the fields spell. The rights are still letters
 pub record Description : Type 0 where
+  pub variant : Variant
   pub men : Men
   pub side : Colour
   pub letters : List ℕ
@@ -48,31 +51,31 @@ pub record Description : Type 0 where
   pub fullmove : ℕ
 
 -- the letters, if they are letters of rights
-abbrev pub letters_of : List ℕ → Option (List ℕ)
-letters_of text = if is_castling text then Some text else None
+abbrev pub letters_of : Variant → List ℕ → Option (List ℕ)
+letters_of v text = if is_castling v text then Some text else None
 
 -- the fields in turn: the first that is wrong is the fault
-abbrev pub described_by : List ℕ → List ℕ → List ℕ → List ℕ → List (List ℕ) → Result Description FenFault
-described_by placement side castling target counters = do
+abbrev pub described_by : Variant → List ℕ → List ℕ → List ℕ → List ℕ → List (List ℕ) → Result Description FenFault
+described_by v placement side castling target counters = do
   men ← ok_or (placement_of placement) faults.Placement
   colour ← ok_or (side_of side) faults.Side
-  letters ← ok_or (letters_of castling) faults.Castling
+  letters ← ok_or (letters_of v castling) faults.Castling
   passed ← ok_or (target_of target) faults.EnPassant
   numbers ← ok_or (counters_of counters) faults.Counters
-  Ok (record { men = men; side = colour; letters = letters; target = passed; halfmove = numbers.0; fullmove = numbers.1 })
+  Ok (record { variant = v; men = men; side = colour; letters = letters; target = passed; halfmove = numbers.0; fullmove = numbers.1 })
 
 -- four fields, or six
-abbrev pub described_in : List (List ℕ) → Result Description FenFault
-described_in (a ∷ b ∷ c ∷ d ∷ []) = described_by a b c d []
-described_in (a ∷ b ∷ c ∷ d ∷ e ∷ f ∷ []) = described_by a b c d (e ∷ f ∷ [])
-described_in _ = Err faults.Fields
+abbrev pub described_in : Variant → List (List ℕ) → Result Description FenFault
+described_in v (a ∷ b ∷ c ∷ d ∷ []) = described_by v a b c d []
+described_in v (a ∷ b ∷ c ∷ d ∷ e ∷ f ∷ []) = described_by v a b c d (e ∷ f ∷ [])
+described_in v _ = Err faults.Fields
 
-abbrev pub description_of : List ℕ → Result Description FenFault
-description_of text = described_in (fields_of text)
+abbrev pub description_of : Variant → List ℕ → Result Description FenFault
+description_of v text = described_in v (fields_of text)
 
 -- the same description, with the letters in the text
 abbrev pub description : Described → Description
-description d = record { men = d.men; side = d.side; letters = d.letters.now; target = d.target; halfmove = d.halfmove; fullmove = d.fullmove }
+description d = record { variant = d.variant; men = d.men; side = d.side; letters = d.letters.now; target = d.target; halfmove = d.halfmove; fullmove = d.fullmove }
 
 abbrev pub IsDescribed : Result Described FenFault → Result Description FenFault → Type 0
 IsDescribed (Ok d) r = r ≡ Ok (description d)
@@ -80,19 +83,15 @@ IsDescribed (Err f) r = r ≡ Err f
 
 -- ---- rights
 
--- a letter names the right whose rook stands on that corner
-abbrev pub right_named : List ℕ → ℕ → ℕ → Option ℕ
-right_named letters letter corner = if occurs letter letters then Some corner else None
-
--- the rights that the letters name, each with its rook on its corner
+-- the rights that the letters name
 abbrev pub rights_named : Description → Rights
 rights_named d = record {
-  white = record { king_side = right_named d.letters (byte "K") (home_square White (rook_file KingSide)); queen_side = right_named d.letters (byte "Q") (home_square White (rook_file QueenSide)) };
-  black = record { king_side = right_named d.letters (byte "k") (home_square Black (rook_file KingSide)); queen_side = right_named d.letters (byte "q") (home_square Black (rook_file QueenSide)) };
+  white = record { king_side = right_told d.variant d.men d.letters White KingSide; queen_side = right_told d.variant d.men d.letters White QueenSide };
+  black = record { king_side = right_told d.variant d.men d.letters Black KingSide; queen_side = right_told d.variant d.men d.letters Black QueenSide };
 }
 
 abbrev pub setup_from : Description → Setup
-setup_from d = record { men = d.men; side = d.side; rights = rights_named d; target = d.target; halfmove = d.halfmove; fullmove = d.fullmove }
+setup_from d = record { variant = d.variant; men = d.men; side = d.side; rights = rights_named d; target = d.target; halfmove = d.halfmove; fullmove = d.fullmove }
 
 -- ---- soundness
 
@@ -104,5 +103,9 @@ unless_fault p (Some f) = Err f
 abbrev pub sound_from : Description → Result Setup FenFault
 sound_from d = unless_fault (setup_from d) (setup_fault (setup_from d))
 
+abbrev pub fen_reading_as : Variant → List ℕ → Result Setup FenFault
+fen_reading_as v text = description_of v text >>= sound_from
+
+-- as normal chess
 abbrev pub fen_reading : List ℕ → Result Setup FenFault
-fen_reading text = description_of text >>= sound_from
+fen_reading text = fen_reading_as Normal text

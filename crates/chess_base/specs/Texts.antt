@@ -6,6 +6,10 @@ use Rattle.std.specs.List.{slice_split, list_all, list_any, filter}
 use Rattle.std.specs.Borrow.{Bor}
 use Rattle.chess_base.specs.declared.fen.fields.Fields.{Fields}
 use Rattle.std.specs.Option.{option_map}
+use Rattle.chess_base.specs.declared.man.Variant.{Variant}
+use Rattle.chess_base.specs.declared.man.Variant.TheVariants.{Normal, Fischerandom}
+use Rattle.chess_base.specs.declared.man.Colour.{Colour}
+use Rattle.chess_base.specs.declared.man.Colour.TheVariants.{White, Black}
 use Rattle.chess_base.specs.declared.man.Man.{Man}
 use Rattle.chess_base.specs.Letters.{byte, space, stroke, dash, man_with_letter}
 
@@ -56,17 +60,31 @@ times c text = count_by (λ b. b == c) text
 abbrev pub occurs : ℕ → List ℕ → Bool
 occurs c text = list_any (λ b. b == c) text
 
--- a letter that names a right, and is there once
-abbrev pub names_once : List ℕ → ℕ → Bool
-names_once text c = occurs c (codes "KQkq") && (times c text == 1)
+-- the letter of file a
+abbrev pub first_letter : Colour → ℕ
+first_letter White = byte "A"
+first_letter Black = byte "a"
 
-abbrev pub are_letters : List ℕ → Bool
-are_letters text = nat_lt 0 (length text) && nat_le (length text) 4 && list_all (names_once text) text
+-- the letter of a file: White's are capital, Black's small
+abbrev pub names_file : Colour → ℕ → Bool
+names_file c letter = nat_le (first_letter c) letter && nat_lt letter (first_letter c + 8)
+
+-- the letters that may name rights: of sides, and in Chess960 of files too
+unfoldable pub may_name_right : Variant → ℕ → Bool
+may_name_right Normal letter = occurs letter (codes "KQkq")
+may_name_right Fischerandom letter = occurs letter (codes "KQkq") || names_file White letter || names_file Black letter
+
+-- a letter that names a right, and is there once
+abbrev pub names_once : Variant → List ℕ → ℕ → Bool
+names_once v text c = may_name_right v c && (times c text == 1)
+
+abbrev pub are_letters : Variant → List ℕ → Bool
+are_letters v text = nat_lt 0 (length text) && nat_le (length text) 4 && list_all (names_once v text) text
 
 -- a dash, or one to four letters, none twice
-abbrev pub is_castling : List ℕ → Bool
-is_castling [] = false
-is_castling (c ∷ cs) = ((c == dash) && (length cs == 0)) || are_letters (c ∷ cs)
+abbrev pub is_castling : Variant → List ℕ → Bool
+is_castling v [] = false
+is_castling v (c ∷ cs) = ((c == dash) && (length cs == 0)) || are_letters v (c ∷ cs)
 
 -- ---- target
 

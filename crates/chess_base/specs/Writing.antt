@@ -4,7 +4,11 @@ use Rattle.std.specs.List.{join_with_byte}
 use Rattle.chess_base.specs.declared.man.Man.{Man}
 use Rattle.chess_base.specs.declared.man.Colour.{Colour}
 use Rattle.chess_base.specs.declared.man.Colour.TheVariants.{White, Black}
+use Rattle.chess_base.specs.declared.man.CastlingSide.TheVariants.{KingSide, QueenSide}
+use Rattle.chess_base.specs.declared.man.Variant.{Variant}
+use Rattle.chess_base.specs.declared.man.CastlingSide.{CastlingSide}
 use Rattle.chess_base.specs.declared.man.Rights.{Rights}
+use Rattle.chess_base.specs.RightNames.{right_letter}
 use Rattle.chess_base.specs.declared.setup.Setup.{Setup}
 use Rattle.chess_base.specs.Squares.{file, rank}
 use Rattle.chess_base.specs.Letters.{letter, byte, space, stroke}
@@ -39,18 +43,19 @@ abbrev pub side_text : Colour → List ℕ
 side_text White = codes "w"
 side_text Black = codes "b"
 
--- a letter where a right is held
-abbrev pub right_text : Option ℕ → ℕ → List ℕ
-right_text None c = []
-right_text (Some corner) c = c ∷ []
+-- a letter where a right is held: of its side, in Chess960 of its rook's file
+abbrev pub right_text : Variant → Colour → CastlingSide → Option ℕ → List ℕ
+right_text v c w None = []
+right_text v c w (Some s) = right_letter v c w s ∷ []
 
 abbrev pub or_dash : List ℕ → List ℕ
 or_dash [] = codes "-"
 or_dash (c ∷ cs) = c ∷ cs
 
--- in the order KQkq
-abbrev pub rights_text : Rights → List ℕ
-rights_text r = or_dash (right_text r.white.king_side (byte "K") ++ right_text r.white.queen_side (byte "Q") ++ right_text r.black.king_side (byte "k") ++ right_text r.black.queen_side (byte "q"))
+-- White's on the king's side and on the queen's, then Black's: in normal chess in the order KQkq
+abbrev pub rights_text : Variant → Rights → List ℕ
+rights_text v r =
+    or_dash (right_text v White KingSide r.white.king_side ++ right_text v White QueenSide r.white.queen_side ++ right_text v Black KingSide r.black.king_side ++ right_text v Black QueenSide r.black.queen_side)
 
 -- the file's letter and the rank's digit
 abbrev pub square_text : ℕ → List ℕ
@@ -62,4 +67,4 @@ target_text (Some square) = square_text square
 
 -- six fields, with one space between
 abbrev pub fen : Setup → List ℕ
-fen p = join_with_byte space (placement_text p.men ∷ side_text p.side ∷ rights_text p.rights ∷ target_text p.target ∷ decimal p.halfmove ∷ decimal p.fullmove ∷ [])
+fen p = join_with_byte space (placement_text p.men ∷ side_text p.side ∷ rights_text p.variant p.rights ∷ target_text p.target ∷ decimal p.halfmove ∷ decimal p.fullmove ∷ [])

@@ -6,10 +6,10 @@ ghost use Rattle.chess_base.specs.Sound.{IsSound};
 ghost use Rattle.chess_base.specs.Before.{captured_square, saved_of, captured_from, was_castling, castled, landed_on, castled_rook_from, castled_rook_to, man_that_left};
 
 use crate::attack::{is_man, is_of};
-use crate::man::{CastlingSide, Colour, Kind, Man, Move};
+use crate::man::{CastlingSide, Colour, Kind, Man, Move, Variant};
 use crate::rules::{
     castled_king_file, castled_rook_file, forward, home_square, is_en_passant, is_square,
-    king_home_file, right_of,
+    names_castling, right_of,
 };
 use crate::setup::{Saved, Setup};
 use crate::square::Square;
@@ -67,34 +67,40 @@ pub fn captured_from(colour: Colour, m: &Move, saved: &Saved) -> Option<Square>
 
 #[tactic(auto, unfolding(crate::specs::Before::was_castling))]
 fn was_castling(
+    variant: Variant,
     colour: Colour,
     men: &[Option<Man>; 64],
     m: &Move,
     saved: &Saved,
     castling_side: CastlingSide,
 ) -> bool
-    ensures { result ≡ was_castling colour men.now m.now saved.now castling_side }
+    ensures { result ≡ was_castling variant colour men.now m.now saved.now castling_side }
 {
     let king_to = home_square(colour, castled_king_file(castling_side));
-    right_of(saved.rights, colour, castling_side).is_some()
-        && is_man(colour, Kind::King, men[king_to.index()])
-        && m.from == home_square(colour, king_home_file())
-        && m.to == king_to
+    is_man(colour, Kind::King, men[king_to.index()])
+        && names_castling(
+            variant,
+            colour,
+            m,
+            castling_side,
+            right_of(saved.rights, colour, castling_side),
+        )
 }
 
 /// The side of the castling that the move of that colour was, if it was one.
 #[tactic(auto, unfolding(crate::specs::Before::castled))]
 pub fn castled(
+    variant: Variant,
     colour: Colour,
     men: &[Option<Man>; 64],
     m: &Move,
     saved: &Saved,
 ) -> Option<CastlingSide>
-    ensures { result ≡ castled colour men.now m.now saved.now }
+    ensures { result ≡ castled variant colour men.now m.now saved.now }
 {
-    if was_castling(colour, men, m, saved, CastlingSide::KingSide) {
+    if was_castling(variant, colour, men, m, saved, CastlingSide::KingSide) {
         Some(CastlingSide::KingSide)
-    } else if was_castling(colour, men, m, saved, CastlingSide::QueenSide) {
+    } else if was_castling(variant, colour, men, m, saved, CastlingSide::QueenSide) {
         Some(CastlingSide::QueenSide)
     } else {
         None

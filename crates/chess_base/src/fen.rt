@@ -10,7 +10,7 @@ mod reading;
 mod target;
 mod writing;
 
-pub use reading::read_fen;
+pub use reading::{read_fen, read_fen_as};
 pub use writing::{FenText, write_fen};
 
 #[cfg(test)]

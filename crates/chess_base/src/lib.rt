@@ -16,9 +16,11 @@ mod sound;
 mod square;
 
 pub use fault::FenFault;
-pub use fen::{FenText, read_fen, write_fen};
-pub use laws::{after_is_sound, before_undoes_after, reserve_never_grows, written_is_spelled};
-pub use man::{CastlingSide, Colour, ColourRights, Kind, Man, Move, Rights};
+pub use fen::{FenText, read_fen, read_fen_as, write_fen};
+pub use laws::{
+    after_is_sound, before_undoes_after, normal_is_kept, reserve_never_grows, written_is_spelled,
+};
+pub use man::{CastlingSide, Colour, ColourRights, Kind, Man, Move, Rights, Variant};
 pub use position::Position;
 pub use setup::{Saved, Setup};
 pub use square::Square;

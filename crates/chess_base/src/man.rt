@@ -35,6 +35,13 @@ pub enum Kind {
     Pawn,
 }
 
+/// Which rules hold for castling: those of normal chess, or of Chess960 (Laws of Chess 2023, guideline II).
+#[derive(Clone, Copy, Debug, PartialEq, Eq)]
+pub enum Variant {
+    Normal,
+    Fischerandom,
+}
+
 /// A man of one colour and kind.
 #[derive(Clone, Copy, Debug, PartialEq, Eq)]
 pub struct Man {
@@ -64,7 +71,7 @@ pub struct Rights {
 }
 
 /// A move: its start and end squares, and what a pawn becomes on its last rank (Laws of Chess 2023, article 3.7).
-/// Castling is named by the king's squares, en passant by the pawn's. The default, from a1 to a1, is no man's move: a blank in a list.
+/// Castling is named by the king's squares, in Chess960 by the king's and its rook's, en passant by the pawn's. The default, from a1 to a1, is no man's move: a blank in a list.
 #[derive(Clone, Copy, Debug, Default, PartialEq, Eq)]
 pub struct Move {
     pub from: Square,

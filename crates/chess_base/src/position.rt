@@ -6,12 +6,12 @@ ghost use Rattle.chess_base.specs.Attacks.{is_attacked};
 ghost use Rattle.chess_base.specs.Moves.{is_legal, after};
 ghost use Rattle.chess_base.specs.Sound.{IsSound};
 ghost use Rattle.chess_base.specs.Faults.{setup_fault};
-ghost use Rattle.chess_base.specs.Initial.{initial_setup};
+ghost use Rattle.chess_base.specs.Initial.{initial_setup, initial_setup_of};
 
 use crate::attack::is_attacked;
 use crate::fault::FenFault;
 use crate::initial::initial_men;
-use crate::man::{Colour, ColourRights, Man, Move, Rights};
+use crate::man::{Colour, ColourRights, Man, Move, Rights, Variant};
 use crate::rules::{
     fullmove_after, halfmove_after, is_legal, men_after, rights_after, target_after,
 };
@@ -54,12 +54,21 @@ impl Position {
         }
     }
 
-    /// The initial position (Laws of Chess 2023, article 2.3).
+    /// The initial position of normal chess (Laws of Chess 2023, article 2.3).
+    #[tactic(auto, unfolding(crate::specs::Initial::initial_setup))]
     pub fn initial() -> Self
         ensures { result ≡ initial_setup }
     {
+        Position::initial_of(Variant::Normal)
+    }
+
+    /// The position with the men, the rights and the counters of the initial position, in that variant.
+    pub fn initial_of(variant: Variant) -> Self
+        ensures { result ≡ initial_setup_of variant }
+    {
         Position {
             setup: Setup {
+                variant,
                 men: initial_men(),
                 side: Colour::White,
                 rights: Rights {
@@ -93,6 +102,13 @@ impl Position {
         ensures sound { IsSound result.now }
     {
         &self.setup
+    }
+
+    /// Whether castling goes by normal chess or by Chess960.
+    pub fn variant(&self) -> Variant
+        ensures { result ≡ self.now.variant }
+    {
+        self.setup.variant
     }
 
     /// The colour on move.
@@ -133,6 +149,7 @@ impl Position {
     {
         Position {
             setup: Setup {
+                variant: self.setup.variant,
                 men: men_after(&self.setup, &m),
                 side: self.setup.side.other(),
                 rights: rights_after(&self.setup, &m),

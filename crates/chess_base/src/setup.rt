@@ -1,11 +1,13 @@
 //! What a position holds, sound or not, and what a move of it does not keep.
 
-use crate::man::{Colour, Man, Rights};
+use crate::man::{Colour, Man, Rights, Variant};
 use crate::square::Square;
 
 /// What a position holds (the six fields of FEN, PGN standard of 1994, section 16.1), sound or not.
 #[derive(Clone, Copy, Debug, PartialEq, Eq)]
 pub struct Setup {
+    /// Whether castling goes by normal chess or by Chess960.
+    pub variant: Variant,
     /// The men, by the number of their square.
     pub men: [Option<Man>; 64],
     /// The colour on move.

@@ -1,5 +1,5 @@
 -- The row of `showpgn`.
-use Rattle.std.proofs.Common.{◌≡◌, ◌∙◌, ◌&&◌, Bool, true, false, not, List, ℕ, codes, refl, sym, ap}
+use Rattle.std.proofs.Common.{◌≡◌, true, false, not, codes, refl, ap}
 use Rattle.std.proofs.lemmas.Bool.{and_parts, not-true}
 use Rattle.chess_text.specs.GameText.{pgn}
 use Rattle.chess_cecp.specs.Commands.{command_of, argument_of}

@@ -3,12 +3,13 @@ use Rattle.std.proofs.Common.{◌≡◌, ℕ, ◌==◌, ◌||◌, inl, inr, Bool
 use Rattle.std.specs.Prelude.{nat_le, nat_lt, Result, Ok, Err}
 use Rattle.std.specs.Str.{bytes_eq}
 use Rattle.chess_base.specs.declared.fault.FenFault.{FenFault}
+use Rattle.chess_base.specs.declared.man.Variant.{Variant as Rules}
+use Rattle.chess_base.specs.declared.man.Variant.TheVariants.{Normal, Fischerandom}
 use Rattle.chess_base.specs.declared.setup.Setup.{Setup}
-use Rattle.chess_base.specs.Reading.{fen_reading}
-use Rattle.chess_base.specs.Initial.{initial_setup}
+use Rattle.chess_base.specs.Reading.{fen_reading_as}
+use Rattle.chess_base.specs.Initial.{initial_setup, initial_setup_of}
 use Rattle.chess_cecp.specs.Lines.{LineSeen}
 use Rattle.chess_cecp.specs.Held.{Seen}
-use Rattle.chess_text.specs.GameText.{pgn}
 use Rattle.chess_text.specs.declared.pgn.tags.Tags.{Tags}
 use Rattle.chess_text.specs.Moves.{reading}
 use Rattle.chess_text.specs.declared.reading.Reading.{Reading}
@@ -21,10 +22,10 @@ use Rattle.chess_game.specs.declared.results.Declared.{Declared}
 use Rattle.chess_game.specs.declared.results.Outcome.{Outcome}
 use Rattle.chess_game.specs.declared.results.Outcome.TheVariants.{WhiteWins, BlackWins, Draw, Unfinished}
 use Rattle.chess_game.specs.declared.ends.Claims.{Claims}
-use Rattle.chess_cecp.specs.Declaring.{declared_by, result_text, state_text}
+use Rattle.chess_cecp.specs.Declaring.{declared_by, result_text}
 use Rattle.chess_cecp.specs.declared.command.Command.{Command}
 use Rattle.chess_cecp.specs.declared.command.Command.TheVariants.{New, SetBoard, UserMove, BareMove, Undo, Remove, Declare, Claim, Ping, Protover, Variant, Go, ShowFen, ShowMoves, ShowState, ShowPgn, Quit, Silent, BadNumber, Unknown}
-use Rattle.chess_cecp.specs.Session.{Row, row, says, refuses, becomes, becomes_judged, result_line, verdict_line, result_row, draws, claimed, claim_row, setboard_row, feature_text, line_text, reading_row, move_row, IsRefusal, answer_to, next_state}
+use Rattle.chess_cecp.specs.Session.{Row, row, says, refuses, becomes, becomes_judged, result_line, verdict_line, result_row, draws, claimed, setboard_row, normal_row, feature_text, line_text, reading_row, move_row, IsRefusal, answer_to, next_state}
 
 -- the first bytes of refusals: E, I and t
 abbrev pub begins_refusal : List ℕ → Bool
@@ -98,9 +99,13 @@ claimed_keeps s c =
     (draws_keeps s (codes "Threefold repetition"))
     (by_test c.fifty_moves s (draws s (codes "50-move rule")) (refuses s (codes "Error (no claim): ") (codes "claim")) (draws_keeps s (codes "50-move rule")) (λ h. refl))
 
+normal_keeps : (s : State) (v : Rules) → KeepsRefused s (normal_row s v)
+normal_keeps s Normal = λ h. refl
+normal_keeps s Fischerandom = accepted s (becomes (from_start initial_setup)) refl
+
 row_keeps : (tags : Tags) (limit : ℕ) (s : State) (text argument : List ℕ) (command : Command) → KeepsRefused s (row tags limit s text argument command)
 row_keeps tags limit s text argument New = accepted s (becomes (from_start initial_setup)) refl
-row_keeps tags limit s text argument SetBoard = setboard_keeps s (fen_reading argument)
+row_keeps tags limit s text argument SetBoard = setboard_keeps s (fen_reading_as s.start.variant argument)
 row_keeps tags limit s text argument UserMove = move_keeps limit s argument
 row_keeps tags limit s text argument BareMove = move_keeps limit s text
 row_keeps tags limit s text argument Undo =
@@ -117,7 +122,9 @@ row_keeps tags limit s text argument Claim =
 row_keeps tags limit s text argument (Ping n) = λ h. refl
 row_keeps tags limit s text argument (Protover n) = by_test (nat_lt n 2) s (says s []) (says s (line_text feature_text [])) (λ h. refl) (λ h. refl)
 row_keeps tags limit s text argument Variant =
-    by_test (bytes_eq argument (codes "normal")) s (says s []) (refuses s (codes "Error (unsupported variant): ") text) (λ h. refl) (λ h. refl)
+    by_test (bytes_eq argument (codes "fischerandom")) s (becomes (from_start (initial_setup_of Fischerandom))) (if bytes_eq argument (codes "normal") then normal_row s s.start.variant else refuses s (codes "Error (unsupported variant): ") text)
+    (accepted s (becomes (from_start (initial_setup_of Fischerandom))) refl)
+    (by_test (bytes_eq argument (codes "normal")) s (normal_row s s.start.variant) (refuses s (codes "Error (unsupported variant): ") text) (normal_keeps s s.start.variant) (λ h. refl))
 row_keeps tags limit s text argument Go = λ h. refl
 row_keeps tags limit s text argument ShowFen = λ h. refl
 row_keeps tags limit s text argument ShowMoves = λ h. refl

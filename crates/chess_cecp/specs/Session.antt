@@ -5,18 +5,21 @@ use Rattle.chess_base.specs.Devices.{Begins}
 use Rattle.chess_base.specs.declared.fault.FenFault.{FenFault}
 use Rattle.chess_base.specs.declared.fault.FenFault.TheVariants.{Fields, Placement, Side, Castling, EnPassant, Counters, Kings, Pawns, Men, Check}
 use Rattle.chess_base.specs.declared.man.Move.{Move}
+use Rattle.chess_base.specs.declared.man.Variant.{Variant as Rules}
+use Rattle.chess_base.specs.declared.man.Variant.TheVariants.{Normal, Fischerandom}
 use Rattle.chess_game.specs.declared.results.Outcome.{Outcome}
 use Rattle.chess_base.specs.declared.setup.Setup.{Setup}
-use Rattle.chess_base.specs.Initial.{initial_setup}
+use Rattle.chess_base.specs.Initial.{initial_setup, initial_setup_of}
 use Rattle.std.specs.List.{flat_map}
 use Rattle.chess_base.specs.MoveList.{moves}
-use Rattle.chess_base.specs.Reading.{fen_reading}
+use Rattle.chess_base.specs.Reading.{fen_reading_as}
 use Rattle.chess_base.specs.Writing.{fen}
 use Rattle.chess_cecp.specs.Lines.{LineSeen}
 use Rattle.chess_cecp.specs.Held.{Seen}
 use Rattle.chess_text.specs.GameText.{pgn}
 use Rattle.chess_text.specs.declared.pgn.tags.Tags.{Tags}
-use Rattle.chess_text.specs.Moves.{coordinate, reading}
+use Rattle.chess_text.specs.Moves.{reading}
+use Rattle.chess_text.specs.San.{shown_move}
 use Rattle.chess_text.specs.declared.reading.Reading.{Reading}
 use Rattle.chess_text.specs.declared.reading.Reading.TheVariants as reads
 use Rattle.chess_cecp.specs.Commands.{command_of, argument_of}
@@ -65,11 +68,11 @@ abbrev pub becomes_judged : State → Row
 becomes_judged s = record { text = verdict_line (verdict_now s); next = s }
 
 -- a move behind a space; the line that lists moves
-abbrev pub shown : Move → List ℕ
-shown m = 32 ∷ coordinate m
+abbrev pub shown : Setup → Move → List ℕ
+shown p m = 32 ∷ shown_move p m
 
-unfoldable pub moves_line : List Move → List ℕ
-moves_line ms = line_text (codes "# moves ") (decimal (length ms) ++ flat_map shown ms)
+unfoldable pub moves_line : Setup → List Move → List ℕ
+moves_line p ms = line_text (codes "# moves ") (decimal (length ms) ++ flat_map (shown p) ms)
 
 -- the name of a fault of a FEN
 abbrev pub fault_name : FenFault → List ℕ
@@ -91,7 +94,7 @@ setboard_row s (Err fault) = refuses s (codes "tellusererror Illegal position ("
 
 -- what the arbiter tells of itself to an interface that speaks version 2
 unfoldable pub feature_text : List ℕ
-feature_text = codes "feature ping=1 setboard=1 playother=0 san=0 usermove=1 time=1 draw=1 sigint=0 sigterm=0 reuse=1 analyze=0 colors=0 debug=1 myname=\"CECP arbiter\" variants=\"normal\" done=1"
+feature_text = codes "feature ping=1 setboard=1 playother=0 san=0 usermove=1 time=1 draw=1 sigint=0 sigterm=0 reuse=1 analyze=0 colors=0 debug=1 myname=\"CECP arbiter\" variants=\"normal,fischerandom\" done=1"
 
 -- the one legal move that a text spells is played
 abbrev pub reading_row : State → List ℕ → Reading → Row
@@ -133,10 +136,22 @@ claimed s c =
 abbrev pub claim_row : State → Row
 claim_row s = if is_over s then refuses s (codes "Error (command not legal now): ") (codes "claim") else claimed s (claims s.start s.moves)
 
+-- normal chess is asked for: silence in a game of it; in one of Chess960 the game starts anew, as after `new`
+abbrev pub normal_row : State → Rules → Row
+normal_row s Normal = says s []
+normal_row s Fischerandom = becomes (from_start initial_setup)
+
+-- the variant of an argument
+abbrev pub variant_row : State → List ℕ → List ℕ → Row
+variant_row s text argument =
+    if bytes_eq argument (codes "fischerandom") then becomes (from_start (initial_setup_of Fischerandom))
+    else if bytes_eq argument (codes "normal") then normal_row s s.start.variant
+    else refuses s (codes "Error (unsupported variant): ") text
+
 -- the table: the row of a command, in this game, for a line with this text and this argument in it
 abbrev pub row : Tags → ℕ → State → List ℕ → List ℕ → Command → Row
 row tags limit s text argument New = becomes (from_start initial_setup)
-row tags limit s text argument SetBoard = setboard_row s (fen_reading argument)
+row tags limit s text argument SetBoard = setboard_row s (fen_reading_as s.start.variant argument)
 row tags limit s text argument UserMove = move_row limit s argument
 row tags limit s text argument BareMove = move_row limit s text
 row tags limit s text argument Undo = undo_row s
@@ -145,10 +160,10 @@ row tags limit s text argument Declare = result_row s text (declared_by argument
 row tags limit s text argument Claim = claim_row s
 row tags limit s text argument (Ping n) = says s (line_text (codes "pong ") (decimal n))
 row tags limit s text argument (Protover n) = if nat_lt n 2 then says s [] else says s (line_text feature_text [])
-row tags limit s text argument Variant = if bytes_eq argument (codes "normal") then says s [] else refuses s (codes "Error (unsupported variant): ") text
+row tags limit s text argument Variant = variant_row s text argument
 row tags limit s text argument Go = refuses s (codes "Error (the arbiter plays no side): ") (codes "go")
 row tags limit s text argument ShowFen = says s (line_text (codes "# fen ") (fen (current s)))
-row tags limit s text argument ShowMoves = says s (moves_line (moves (current s)))
+row tags limit s text argument ShowMoves = says s (moves_line (current s) (moves (current s)))
 row tags limit s text argument ShowState = says s (line_text (codes "# state ply ") (state_text s))
 row tags limit s text argument ShowPgn = says s (pgn (codes "# ") tags s)
 row tags limit s text argument Quit = says s []

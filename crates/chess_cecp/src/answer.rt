@@ -2,7 +2,6 @@
 
 ghost use Rattle.std.specs.List.{flat_map};
 ghost use Rattle.std.specs.Prelude.{◌≡◌, ◌+◌, ◌*◌, ◌≤◌, ◌++◌, [], if◌then◌else◌, length, codes, decimal};
-ghost use Rattle.std.specs.Str.{bytes_eq};
 ghost use Rattle.arrayvec.specs.ArrayVec.{array_vec_len};
 ghost use Rattle.std.specs.Option.{option_map};
 ghost use Rattle.chess_cecp.specs.Declaring.{result_text, verdict_text, declared_text, state_text};
@@ -10,10 +9,10 @@ ghost use Rattle.chess_cecp.specs.Session.{moves_line, shown, result_line, verdi
 
 use crate::declaring::claims_text;
 use arrayvec::ArrayVec;
-use chess_base::{FenFault, Move};
+use chess_base::{FenFault, Move, Position};
 use chess_game::{Declared, Game, Outcome, Verdict};
 use chess_moves::Board;
-use chess_text::coordinate;
+use chess_text::move_text;
 use itoa::Buffer;
 
 // The most bytes of an answer, which is put together before it is written: `# moves`, a number, and six bytes for each
@@ -43,7 +42,7 @@ pub(crate) fn write_pong(answer: &mut Answer, number: u32)
 
 // What the arbiter tells of itself: it takes `setboard`, answers `ping`, and knows normal chess alone.
 const FEATURES: &[u8] =
-    b"feature ping=1 setboard=1 playother=0 san=0 usermove=1 time=1 draw=1 sigint=0 sigterm=0 reuse=1 analyze=0 colors=0 debug=1 myname=\"CECP arbiter\" variants=\"normal\" done=1";
+    b"feature ping=1 setboard=1 playother=0 san=0 usermove=1 time=1 draw=1 sigint=0 sigterm=0 reuse=1 analyze=0 colors=0 debug=1 myname=\"CECP arbiter\" variants=\"normal,fischerandom\" done=1";
 
 // The line that tells it.
 #[tactic(auto, unfolding(crate::specs::Session::feature_text))]
@@ -81,17 +80,6 @@ pub(crate) fn write_illegal_position(answer: &mut Answer, fault: FenFault)
         .try_extend_from_slice(b"tellusererror Illegal position (")
         .unwrap();
     write_line(answer, fault_name(fault), b")");
-}
-
-// The refusal of each variant but normal chess.
-pub(crate) fn write_variant(answer: &mut Answer, variant: &[u8], text: &[u8])
-    requires short { length text.now ≤ 1024 }
-    requires empty { answer.old.items ≡ [] }
-    ensures { answer.new.items ≡ (if bytes_eq variant.now (codes "normal") then [] else line_text (codes "Error (unsupported variant): ") text.now) }
-{
-    if variant != b"normal".as_slice() {
-        write_line(answer, b"Error (unsupported variant): ", text);
-    }
 }
 
 // The line of a verdict, if there is one.
@@ -195,30 +183,30 @@ pub(crate) fn write_state<B: Board>(answer: &mut Answer, game: &Game<B>)
 
 // The line that lists moves.
 #[tactic(auto, unfolding(crate::specs::Session::moves_line))]
-pub(crate) fn write_moves(answer: &mut Answer, moves: &[Move])
+pub(crate) fn write_moves(answer: &mut Answer, position: &Position, moves: &[Move])
     requires few { length moves.now ≤ 896 }
     requires empty { answer.old.items ≡ [] }
-    ensures { answer.new.items ≡ moves_line moves.now }
+    ensures { answer.new.items ≡ moves_line position.now moves.now }
 {
     let mut buffer = Buffer::new();
     answer.try_extend_from_slice(b"# moves ").unwrap();
     answer
         .try_extend_from_slice(buffer.format(moves.len()).as_bytes())
         .unwrap();
-    write_each(answer, moves);
+    write_each(answer, position, moves);
     answer.push(b'\n');
 }
 
 // Each move behind a space.
-fn write_each(answer: &mut Answer, moves: &[Move])
+fn write_each(answer: &mut Answer, position: &Position, moves: &[Move])
     requires { array_vec_len answer.old + 6 * length moves.now ≤ 5500 }
-    ensures text { answer.new.items ≡ answer.old.items ++ flat_map shown moves.now }
+    ensures text { answer.new.items ≡ answer.old.items ++ flat_map (shown position.now) moves.now }
     ensures len { array_vec_len answer.new ≤ array_vec_len answer.old + 6 * length moves.now }
 {
     for m in moves {
         answer.push(b' ');
         answer
-            .try_extend_from_slice(coordinate(*m).as_slice())
+            .try_extend_from_slice(move_text(position, *m).as_slice())
             .unwrap();
     }
 }

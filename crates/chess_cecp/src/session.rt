@@ -2,24 +2,24 @@
 
 ghost use Rattle.std.specs.Prelude.{◌≡◌, ◌≤◌, [], if◌then◌else◌, IfOk, false, length, codes};
 ghost use Rattle.chess_base.specs.Devices.{Puts};
-ghost use Rattle.chess_base.specs.Reading.{fen_reading};
+ghost use Rattle.chess_base.specs.Reading.{fen_reading_as};
 ghost use Rattle.chess_base.specs.Writing.{fen};
 ghost use Rattle.chess_game.specs.Game.{current, is_over, IsPlayable};
 ghost use Rattle.chess_cecp.specs.Held.{opened, game_of};
 ghost use Rattle.chess_text.specs.GameText.{pgn};
 ghost use Rattle.chess_game.specs.Results.{cut_comment};
 ghost use Rattle.chess_cecp.specs.Declaring.{declared_by};
-ghost use Rattle.chess_cecp.specs.Session.{row, move_row, undo_row, remove_row, result_row, draws, claim_row, setboard_row, stands, next_state, answer_to, is_quit, is_quit_command, shows_pgn, asks_for_pgn, line_text};
+ghost use Rattle.chess_cecp.specs.Session.{row, move_row, undo_row, remove_row, result_row, draws, claim_row, setboard_row, normal_row, variant_row, stands, next_state, answer_to, is_quit, is_quit_command, shows_pgn, asks_for_pgn, line_text};
 
 use crate::answer::{
     Answer, write_features, write_illegal_position, write_line, write_moves, write_pong,
-    write_result, write_state, write_variant, write_verdict,
+    write_result, write_state, write_verdict,
 };
 use crate::command::{Command, argument, read_command};
 use crate::declaring::declared_by;
 use crate::lines::Line;
 use chess_base::device::{Output, WriteFault, put};
-use chess_base::{Position, read_fen, write_fen};
+use chess_base::{Position, Variant, read_fen_as, write_fen};
 use chess_game::{Comment, Game, Outcome};
 use chess_moves::Board;
 use chess_text::{Reading, Tags, read_move, write_pgn};
@@ -112,15 +112,44 @@ impl<B: Board> Session<B> {
     // Starts the game anew from the position that a FEN spells.
     fn set_board(&mut self, fen: &[u8], answer: &mut Answer)
         requires { answer.old.items ≡ [] }
-        ensures next { self.new ≡ stands self.old (setboard_row self.old.state (fen_reading fen.now)) }
-        ensures text { answer.new.items ≡ (setboard_row self.old.state (fen_reading fen.now)).text }
+        ensures next { self.new ≡ stands self.old (setboard_row self.old.state (fen_reading_as self.old.state.start.variant fen.now)) }
+        ensures text { answer.new.items ≡ (setboard_row self.old.state (fen_reading_as self.old.state.start.variant fen.now)).text }
     {
-        match read_fen(fen) {
+        match read_fen_as(self.game.start().variant(), fen) {
             Ok(start) => {
                 self.game.restart(&start);
                 write_verdict(answer, self.game.verdict());
             }
             Err(fault) => write_illegal_position(answer, fault),
+        }
+    }
+
+    // Goes over to the variant that the argument of `variant` tells.
+    fn change_variant(&mut self, text: &[u8], argument: &[u8], answer: &mut Answer)
+        requires short { length text.now ≤ 1024 }
+        requires empty { answer.old.items ≡ [] }
+        ensures next { self.new ≡ stands self.old (variant_row self.old.state text.now argument.now) }
+        ensures text { answer.new.items ≡ (variant_row self.old.state text.now argument.now).text }
+    {
+        if argument == b"fischerandom".as_slice() {
+            self.game
+                .restart(&Position::initial_of(Variant::Fischerandom));
+            return;
+        }
+        if argument == b"normal".as_slice() {
+            self.leave_chess960();
+            return;
+        }
+        write_line(answer, b"Error (unsupported variant): ", text);
+    }
+
+    // A game of Chess960 starts anew as one of normal chess.
+    fn leave_chess960(&mut self)
+        ensures { self.new ≡ stands self.old (normal_row self.old.state self.old.state.start.variant) }
+    {
+        match self.game.start().variant() {
+            Variant::Normal => {}
+            Variant::Fischerandom => self.game.restart(&Position::initial()),
         }
     }
 
@@ -233,10 +262,14 @@ impl<B: Board> Session<B> {
                     write_features(answer);
                 }
             }
-            Command::Variant => write_variant(answer, argument, text),
+            Command::Variant => self.change_variant(text, argument, answer),
             Command::Go => write_line(answer, b"Error (the arbiter plays no side): ", b"go"),
             Command::ShowFen => self.show_fen(answer),
-            Command::ShowMoves => write_moves(answer, self.game.board().legal_moves().as_slice()),
+            Command::ShowMoves => write_moves(
+                answer,
+                &self.game.position(),
+                self.game.board().legal_moves().as_slice(),
+            ),
             Command::ShowState => write_state(answer, &self.game),
             Command::Quit | Command::Silent => {}
             Command::ShowPgn => unreachable!(),

@@ -22,7 +22,7 @@ struct Run {
 }
 
 // The rows of the first stage, and what stands beside them.
-const RUNS: [Run; 30] = [
+const RUNS: [Run; 33] = [
     Run {
         input: b"new\ne2e4\nping 7\nundo\nshowfen\nquit\nshowfen\n",
         answers: b"pong 7\n# fen rnbqkbnr/pppppppp/8/8/8/8/PPPPPPPP/RNBQKBNR w KQkq - 0 1\n",
@@ -176,14 +176,31 @@ const RUNS: [Run; 30] = [
     // The handshake.
     Run {
         input: b"xboard\nprotover 2\naccepted done\nprotover 1\nprotover 0\nprotover x\nprotover\nvariant normal\nvariant atomic\nvariant\ngo\ngo now\nforce\nlevel 40 5 0\n?\n\n",
-        answers: b"feature ping=1 setboard=1 playother=0 san=0 usermove=1 time=1 draw=1 sigint=0 sigterm=0 reuse=1 analyze=0 colors=0 debug=1 myname=\"CECP arbiter\" variants=\"normal\" done=1\nError (bad number): protover x\nError (bad number): protover\nError (unsupported variant): variant atomic\nError (unsupported variant): variant\nError (the arbiter plays no side): go\nError (the arbiter plays no side): go\n",
+        answers: b"feature ping=1 setboard=1 playother=0 san=0 usermove=1 time=1 draw=1 sigint=0 sigterm=0 reuse=1 analyze=0 colors=0 debug=1 myname=\"CECP arbiter\" variants=\"normal,fischerandom\" done=1\nError (bad number): protover x\nError (bad number): protover\nError (unsupported variant): variant atomic\nError (unsupported variant): variant\nError (the arbiter plays no side): go\nError (the arbiter plays no side): go\n",
         end: End::InputEnded,
     },
     // How an interface begins, and what it tells an engine on its way.
     Run {
         input: b"xboard\nprotover 2\naccepted ping\naccepted setboard\naccepted usermove\nrejected debug\naccepted done\nnew\nrandom\nlevel 40 5 0\npost\nhard\neasy\nnopost\ncomputer\nname GNU Chess\nrating 2000 1900\nics -\nst 5\nsd 6\ntime 30000\notim 30000\nforce\nping 1\nsetboard rnbqkbnr/pppppppp/8/8/4P3/8/PPPP1PPP/RNBQKBNR b KQkq e3 0 1\nusermove e7e5\ndraw\nping 2\nquit\n",
-        answers: b"feature ping=1 setboard=1 playother=0 san=0 usermove=1 time=1 draw=1 sigint=0 sigterm=0 reuse=1 analyze=0 colors=0 debug=1 myname=\"CECP arbiter\" variants=\"normal\" done=1\npong 1\npong 2\n",
+        answers: b"feature ping=1 setboard=1 playother=0 san=0 usermove=1 time=1 draw=1 sigint=0 sigterm=0 reuse=1 analyze=0 colors=0 debug=1 myname=\"CECP arbiter\" variants=\"normal,fischerandom\" done=1\npong 1\npong 2\n",
         end: End::Quit,
+    },
+    // Chess960: its initial position, castling by its rook and by its side, a rook that uncovers the king, names of rights.
+    Run {
+        input: b"variant fischerandom\nshowfen\nsetboard 4k3/8/8/8/8/8/8/RK5R w KQ - 0 1\nshowmoves\nb1a1\nshowfen\nundo\nO-O\nshowfen\nundo\n0-0-0\nshowfen\n",
+        answers: b"# fen rnbqkbnr/pppppppp/8/8/8/8/PPPPPPPP/RNBQKBNR w HAha - 0 1\n# moves 25 a1a2 a1a3 a1a4 a1a5 a1a6 a1a7 a1a8 O-O-O b1c1 O-O b1a2 b1b2 b1c2 h1c1 h1d1 h1e1 h1f1 h1g1 h1h2 h1h3 h1h4 h1h5 h1h6 h1h7 h1h8\n# fen 4k3/8/8/8/8/8/8/2KR3R b - - 1 1\n# fen 4k3/8/8/8/8/8/8/R4RK1 b - - 1 1\n# fen 4k3/8/8/8/8/8/8/2KR3R b - - 1 1\n",
+        end: End::InputEnded,
+    },
+    Run {
+        input: b"variant fischerandom\nsetboard 4k3/8/8/8/8/8/8/rRK5 w B - 0 1\nO-O-O\nc1b1\nshowfen\nsetboard 4k3/8/8/8/8/8/8/RR2K2R w AH - 0 1\nshowfen\nsetboard 4k3/8/8/8/8/8/8/RR2K2R w QK - 0 1\nshowfen\nsetboard 4k3/8/8/8/8/8/8/RR2K2R w BA - 0 1\nsetboard 4k3/8/8/8/8/8/8/RR2K2R w QA - 0 1\nsetboard 4k3/8/8/8/8/8/8/RR2K2R w C - 0 1\nsetboard 4k3/8/8/8/8/8/8/RR2K2R w E - 0 1\nsetboard 4k3/8/8/8/8/8/8/RR2K2R w k - 0 1\nsetboard 4k3/8/8/8/8/8/8/RR2K2R w AA - 0 1\nsetboard 4k3/8/8/8/8/8/8/RR2K2R w BA - 1234567 1\nsetboard 8/8/8/8/8/8/8/RR2K2R w BA - 0 1\nsetboard 4k3/8/8/8/8/8/4K3/RR5R w A - 0 1\nsetboard 4k3/8/8/8/8/8/8/RR2K2R w Ii - 0 1\nsetboard 4k3/8/8/8/8/8/8/RR2K2R w - - 0 1\nshowfen\n",
+        answers: b"Illegal move: O-O-O\nIllegal move: c1b1\n# fen 4k3/8/8/8/8/8/8/rRK5 w B - 0 1\n# fen 4k3/8/8/8/8/8/8/RR2K2R w HA - 0 1\n# fen 4k3/8/8/8/8/8/8/RR2K2R w HA - 0 1\ntellusererror Illegal position (castling)\ntellusererror Illegal position (castling)\ntellusererror Illegal position (castling)\ntellusererror Illegal position (castling)\ntellusererror Illegal position (castling)\ntellusererror Illegal position (castling)\ntellusererror Illegal position (counters)\ntellusererror Illegal position (kings)\ntellusererror Illegal position (castling)\ntellusererror Illegal position (castling)\n# fen 4k3/8/8/8/8/8/8/RR2K2R w - - 0 1\n",
+        end: End::InputEnded,
+    },
+    // From one variant to the other.
+    Run {
+        input: b"e2e4\nvariant normal\nshowfen\nvariant fischerandom\ne2e4\nvariant fischerandom\nshowfen\ne2e4\nvariant normal\nshowfen\nvariant fischerandom\nnew\nshowfen\nsetboard 4k3/8/8/8/8/8/8/4K2R w H - 0 1\nvariant fischerandom\nsetboard 4k3/8/8/8/8/8/8/4K2R w H - 0 1\nKe2\nundo\ne1g1\nKh1\nO-O+\nshowstate\nshowpgn\n",
+        answers: b"# fen rnbqkbnr/pppppppp/8/8/4P3/8/PPPP1PPP/RNBQKBNR b KQkq e3 0 1\n# fen rnbqkbnr/pppppppp/8/8/8/8/PPPPPPPP/RNBQKBNR w HAha - 0 1\n# fen rnbqkbnr/pppppppp/8/8/8/8/PPPPPPPP/RNBQKBNR w KQkq - 0 1\n# fen rnbqkbnr/pppppppp/8/8/8/8/PPPPPPPP/RNBQKBNR w KQkq - 0 1\ntellusererror Illegal position (castling)\nIllegal move: e1g1\nIllegal move: Kh1\n# state ply 1 rep 1 clock 1 claims none verdict none declared none\n# [Event \"?\"]\n# [Site \"?\"]\n# [Date \"????.??.??\"]\n# [Round \"?\"]\n# [White \"?\"]\n# [Black \"?\"]\n# [Result \"*\"]\n# [FEN \"4k3/8/8/8/8/8/8/4K2R w H - 0 1\"]\n# [SetUp \"1\"]\n# [Variant \"fischerandom\"]\n# \n# 1. O-O *\n# \n",
+        end: End::InputEnded,
     },
     Run {
         input: b"quit now\nping 1\n",

@@ -1,11 +1,13 @@
 -- Reading a game, token by token.
-use Rattle.std.proofs.Common.{◌≡◌, ℕ, ◌-◌, ◌≤◌, ◌<◌, false, List, [], ◌∷◌, arith, rules, length, None, is_some, Result, Ok, Err, refl, sym, ap, subst, ◌∙◌}
+use Rattle.std.proofs.Common.{◌≡◌, ℕ, ◌-◌, ◌≤◌, ◌<◌, false, List, [], ◌∷◌, arith, rules, length, Some, None, is_some, Result, Ok, Err, refl, sym, ap, subst, ◌∙◌}
 use Rattle.std.specs.Prelude.{nat_lt, codes}
 use Rattle.std.specs.Str.{bytes_eq}
 use Rattle.chess_base.specs.declared.fault.FenFault.{FenFault}
+use Rattle.chess_base.specs.declared.man.Variant.{Variant}
+use Rattle.chess_base.specs.declared.man.Variant.TheVariants.{Normal}
 use Rattle.chess_base.specs.declared.setup.Setup.{Setup}
-use Rattle.chess_base.specs.Initial.{initial_setup}
-use Rattle.chess_base.specs.Reading.{fen_reading}
+use Rattle.chess_base.specs.Initial.{initial_setup_of}
+use Rattle.chess_base.specs.Reading.{fen_reading_as}
 use Rattle.chess_game.specs.Game.{Seen, from_start, current, verdict_now}
 use Rattle.chess_game.specs.Game.{at as left_at}
 use Rattle.chess_game.specs.declared.results.Outcome.{Outcome}
@@ -17,7 +19,7 @@ use Rattle.chess_text.specs.declared.reading.Reading.TheVariants as reads
 use Rattle.chess_text.specs.Moves.{reading}
 use Rattle.chess_text.specs.Words.{kind_of}
 use Rattle.chess_text.specs.Tokens.{Token, Skip, Tag, Word, Bad_tag, Unclosed_comment, Unclosed_variation, Bad, first_place, tokens_from}
-use Rattle.chess_text.specs.GameRead.{SoFar, Step, On, Stop, unless_full, move_step, word_step, fen_step, tag_step, step, go_on, game_of, pgn_read}
+use Rattle.chess_text.specs.GameRead.{SoFar, Step, On, Stop, unless_full, move_step, word_step, fen_step, tag_step, step, go_on, game_of, nothing_read, told_by, told_next, variant_told, tokens_read, pgn_read}
 use Rattle.chess_text.specs.GameSteps.{so_far}
 use Rattle.chess_text.proofs.Cuts.{pick}
 
@@ -49,7 +51,7 @@ fen_keeps g place (Ok start) = refl
 fen_keeps g place (Err fault) = tt
 
 tag_keeps : (g : SoFar) (name text : List ℕ) (place : ℕ) → g.state.declared ≡ None → Undeclared (tag_step g name text place)
-tag_keeps g name text place h = pick Undeclared (bytes_eq name (codes "FEN")) _ _ (λ _. fen_keeps g place (fen_reading text)) (λ _. h)
+tag_keeps g name text place h = pick Undeclared (bytes_eq name (codes "FEN")) _ _ (λ _. fen_keeps g place (fen_reading_as g.state.start.variant text)) (λ _. h)
 
 keeps : (limit total : ℕ) (g : SoFar) (left : ℕ) (t : Token) → g.state.declared ≡ None → Undeclared (step limit total g left t)
 keeps limit total g left Skip h = h
@@ -75,17 +77,36 @@ pub record Reads (limit : ℕ) (text : List ℕ) (from : ℕ) (game : Seen) (pro
   pub same_limit : game.limit ≡ limit
   pub whole : game_of limit (length text) (so_far game.state progress) (tokens_from text here) ≡ pgn_read limit text from
 
-pub first : (old game : Seen) (start : Setup) (text : List ℕ) (from here : ℕ) → game ≡ left_at old (from_start start) → start ≡ initial_setup → here ≡ first_place text from → from ≤ here → here ≤ length text → Reads old.limit text from game (record { is_met = false; is_begun = false }) here
+pub first : (old game : Seen) (start : Setup) (v : Variant) (text : List ℕ) (from here : ℕ) → game ≡ left_at old (from_start start) → start ≡ initial_setup_of v → v ≡ variant_told Normal (tokens_from text here) → here ≡ first_place text from → from ≤ here → here ≤ length text
+    → Reads old.limit text from game (record { is_met = false; is_begun = false }) here
 unfolding pgn_read
-first old game start text from here restarted initial is behind h =
-    let state : game.state ≡ from_start initial_setup = ap (λ g. g.state) restarted ∙ ap from_start initial in
+first old game start v text from here restarted initial variant is behind h =
+    let state : game.state ≡ from_start (initial_setup_of v) = ap (λ g. g.state) restarted ∙ ap from_start initial in
     record {
       behind = behind;
       place = h;
       undeclared = ap (λ s. s.declared) state;
       same_limit = ap (λ g. g.limit) restarted;
-      whole = ap (λ s. game_of old.limit (length text) (so_far s (record { is_met = false; is_begun = false })) (tokens_from text here)) state ∙ ap (λ n. game_of old.limit (length text) (so_far (from_start initial_setup) (record { is_met = false; is_begun = false })) (tokens_from text n)) is;
+      whole =
+          ap (λ s. game_of old.limit (length text) (so_far s (record { is_met = false; is_begun = false })) (tokens_from text here)) state
+          ∙ ap (λ u. game_of old.limit (length text) (nothing_read u) (tokens_from text here)) variant
+          ∙ ap (λ n. tokens_read old.limit (length text) (tokens_from text n)) is;
     }
+
+-- ---- the loop over tags: what is left gives the whole
+
+pub record Tells (text : List ℕ) (from : ℕ) (v : Variant) (here : ℕ) : Type 0 where
+  pub place : here ≤ length text
+  pub whole : variant_told v (tokens_from text here) ≡ variant_told Normal (tokens_from text from)
+
+pub told_more : (text : List ℕ) (from : ℕ) (v u : Variant) (here behind : ℕ) (t : Token) → Tells text from v here → tokens_from text here ≡ (length text - here, t) ∷ tokens_from text behind → behind ≤ length text → Some u ≡ told_by v t → Tells text from u behind
+told_more text from v u here behind t r is h told = record {
+  place = h;
+  whole = ap (λ o. told_next v o (λ w. variant_told w (tokens_from text behind))) told ∙ ap (variant_told v) (sym is) ∙ r.whole;
+}
+
+pub told_last : (text : List ℕ) (from : ℕ) (v : Variant) (here : ℕ) (t : Token) (ts : List (ℕ × Token)) → Tells text from v here → tokens_from text here ≡ (length text - here, t) ∷ ts → None ≡ told_by v t → v ≡ variant_told Normal (tokens_from text from)
+told_last text from v here t ts r is told = ap (λ o. told_next v o (λ w. variant_told w ts)) told ∙ ap (variant_told v) (sym is) ∙ r.whole
 
 -- a token: what its step gives is gone on with
 stepped : (limit : ℕ) (text : List ℕ) (from : ℕ) (game : Seen) (p : Progress) (here : ℕ) (t : Token) (ts : List (ℕ × Token)) (after : Step) → Reads limit text from game p here → tokens_from text here ≡ (length text - here, t) ∷ ts → after ≡ step game.limit (length text) (so_far game.state p) (length text - here) t → go_on after (λ g. game_of limit (length text) g ts) ≡ pgn_read limit text from

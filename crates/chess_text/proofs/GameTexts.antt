@@ -7,6 +7,7 @@ use Rattle.std.proofs.lemmas.List.Concat.{flat_map-append}
 use Rattle.std.proofs.lemmas.Bool.Decides.{nat_tests}
 use Rattle.std.proofs.lemmas.Fmt.{length-decimal-le}
 use Rattle.chess_base.specs.declared.man.Move.{Move}
+use Rattle.chess_base.specs.declared.man.Variant.TheVariants.{Normal}
 use Rattle.chess_base.specs.declared.setup.Setup.{Setup}
 use Rattle.chess_base.specs.Devices.{OutputState, BreaksOff, Puts}
 use Rattle.chess_base.specs.Moves.{is_legal, after}
@@ -17,7 +18,7 @@ use Rattle.chess_game.specs.Results.{outcome_text}
 use Rattle.chess_game.specs.declared.results.Outcome.{Outcome}
 use Rattle.chess_game.specs.Line.{last, IsLine}
 use Rattle.chess_text.specs.declared.pgn.tags.Tags.{Tags}
-use Rattle.chess_text.specs.GameText.{roster_lines, is_initial, start_lines, tag_lines, number_token, tokens_of_move, move_tokens, game_tokens, placed_all, column_behind_all, pgn}
+use Rattle.chess_text.specs.GameText.{roster_lines, is_initial, start_lines_in, start_lines, tag_lines, number_token, tokens_of_move, move_tokens, game_tokens, placed_all, column_behind_all, pgn}
 use Rattle.chess_text.specs.San.{san}
 use Rattle.chess_text.specs.Waiting.{TookSome, Adds}
 use Rattle.chess_text.specs.Written.{tag_line, ended, placed, column_behind, line_close, filled_from, move_text_of}
@@ -48,7 +49,7 @@ third_put a b c d r w x y z t u v text parts h k l = rw parts.is (adds_more a b 
 
 -- a start that is not the initial position has the tags of its FEN
 pub start_told : (start initial : Setup) (text other shown : List ℕ) → initial ≡ initial_setup → text ≡ fen start → other ≡ fen initial → bytes_eq text other ≡ false → shown ≡ fen start
-    → start_lines start ≡ tag_line (codes "FEN") shown ∷ tag_line (codes "SetUp") (codes "1") ∷ []
+    → start_lines_in Normal start ≡ tag_line (codes "FEN") shown ∷ tag_line (codes "SetUp") (codes "1") ∷ []
 start_told start initial text other shown of is other_is differs told =
     let e : is_initial start ≡ false = ap (λ v. bytes_eq v (fen initial_setup)) (sym is) ∙ ap (λ v. bytes_eq text (fen v)) (sym of) ∙ ap (bytes_eq text) (sym other_is) ∙ differs in
     rw (e, told) refl

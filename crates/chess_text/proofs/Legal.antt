@@ -1,5 +1,5 @@
 -- What each legal move has.
-use Rattle.std.proofs.Common.{◌≡◌, ℕ, ◌<◌, ◌⊎◌, inl, inr, Bool, true, false, ◌&&◌, ◌||◌, not, cond, Option, Some, None, is_some, is_none, refl, sym, ap, ◌∙◌, ◌==◌, nat_lt}
+use Rattle.std.proofs.Common.{◌≡◌, ℕ, ◌<◌, ◌⊎◌, inl, inr, Bool, true, false, ◌&&◌, ◌||◌, not, cond, Option, Some, None, is_none, refl, sym, ap, ◌∙◌, ◌==◌, nat_lt}
 use Rattle.std.specs.Prelude.{IfSome}
 use Rattle.std.proofs.lemmas.Bool.{and_parts, ltb-true, eqb-true}
 use Rattle.chess_base.specs.declared.man.CastlingSide.{CastlingSide}
@@ -8,16 +8,19 @@ use Rattle.chess_base.specs.declared.man.Colour.{Colour}
 use Rattle.chess_base.specs.declared.man.Colour.TheVariants.{White, Black}
 use Rattle.chess_base.specs.declared.man.Kind.{Kind}
 use Rattle.chess_base.specs.declared.man.Kind.TheVariants.{King, Queen, Rook, Bishop, Knight, Pawn}
+use Rattle.chess_base.specs.declared.man.Variant.{Variant}
+use Rattle.chess_base.specs.declared.man.Variant.TheVariants.{Normal, Fischerandom}
 use Rattle.chess_base.specs.declared.man.Man.{Man}
 use Rattle.chess_base.specs.declared.man.Move.{Move}
 use Rattle.chess_base.specs.declared.setup.Setup.{Setup}
 use Rattle.chess_base.specs.Attacks.{attacks, is_in_check}
 use Rattle.chess_base.specs.Men.{is_of, man_at, other, same_colour, same_kind, is_man, first_rank}
-use Rattle.chess_base.specs.Moves.{is_legal, has_pattern, after, moves_as, castles_or_moves, castling, says_castling, castled_king_file, castled_rook_file, castles, castles_with, castling_way_is_empty, castling_way_is_safe, lands_on, man_moves, pawn_moves, pawn_advances, pawn_captures, promotion_fits}
+use Rattle.chess_base.specs.Moves.{is_legal, has_pattern, after, moves_as, castles_or_moves, castling, names_castling, says_castling, castled_king_file, castled_rook_file, castles, castles_with, castling_way_is_empty, castling_way_is_safe, lands_on, man_moves, pawn_moves, pawn_advances, pawn_captures, promotion_fits}
 use Rattle.chess_base.specs.Sound.{home_square, king_home_file, right_of}
 use Rattle.chess_base.specs.Squares.{rank}
 use Rattle.chess_text.specs.declared.described.Described.{Described}
 use Rattle.chess_text.specs.Parts.{CanPromote}
+use Rattle.chess_text.specs.Forms.{castling_end}
 use Rattle.chess_text.specs.Moves.{captures, described, described_as}
 
 -- what a text can tell of a move of that man
@@ -71,16 +74,17 @@ unfolding castling
 says_from_castling p m w e =
     elim (castling_by (says_castling p m KingSide) (says_castling p m QueenSide) w e) [ inl k ↦ rw k.0 k.1 | inr q ↦ rw q.0 q.1 ]
 
--- castling is the king's move between those squares
+-- castling is the king's move between squares that name it
 pub castling_says : (p : Setup) (m : Move) (w : CastlingSide) → castling p m ≡ Some w
-    → (is_man p.side King (man_at p.men m.from) ≡ true) × (m.from ≡ home_square p.side king_home_file) × (m.to ≡ home_square p.side (castled_king_file w))
+    → (is_man p.side King (man_at p.men m.from) ≡ true) × (names_castling p.variant p.side m w (right_of p.rights p.side w) ≡ true)
 unfolding says_castling
-castling_says p m w e =
-    let says = says_from_castling p m w e in
-    let three = and_parts (is_some (right_of p.rights p.side w) && is_man p.side King (man_at p.men m.from) && (m.from == home_square p.side king_home_file)) (m.to == home_square p.side (castled_king_file w)) says in
-    let two = and_parts (is_some (right_of p.rights p.side w) && is_man p.side King (man_at p.men m.from)) (m.from == home_square p.side king_home_file) three.0 in
-    let one = and_parts (is_some (right_of p.rights p.side w)) (is_man p.side King (man_at p.men m.from)) two.0 in
-    (one.1, eqb-true m.from (home_square p.side king_home_file) two.1, eqb-true m.to (home_square p.side (castled_king_file w)) three.1)
+castling_says p m w e = and_parts (is_man p.side King (man_at p.men m.from)) (names_castling p.variant p.side m w (right_of p.rights p.side w)) (says_from_castling p m w e)
+
+-- these end on one square
+pub names_end : (v : Variant) (c : Colour) (m : Move) (w : CastlingSide) (o : Option ℕ) → names_castling v c m w o ≡ true → m.to ≡ castling_end v c w o
+names_end v c m w None e = absurd cc
+names_end Normal c m w (Some rook) e = eqb-true m.to (home_square c (castled_king_file w)) (and_parts (m.from == home_square c king_home_file) (m.to == home_square c (castled_king_file w)) e).1
+names_end Fischerandom c m w (Some rook) e = eqb-true m.to rook (and_parts (rank m.from == rank rook) (m.to == rook) e).1
 
 pawn_castles_not : (p : Setup) (m : Move) → man_at p.men m.from ≡ Some (record { colour = p.side; kind = Pawn }) → (o : Option CastlingSide) → castling p m ≡ o → castling p m ≡ None
 unfolding is_man

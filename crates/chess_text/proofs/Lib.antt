@@ -30,4 +30,5 @@ pub mod PgnTags
 pub mod PgnFen
 pub mod PgnPieces
 pub mod PgnMoves
+pub mod VariantTold
 pub mod PgnWhole

@@ -11,6 +11,11 @@ use Rattle.chess_base.specs.declared.man.Kind.{Kind}
 use Rattle.chess_base.specs.declared.man.Kind.TheVariants.{Pawn, Knight, Bishop, Rook, Queen, King}
 use Rattle.chess_base.specs.declared.man.Man.{Man}
 use Rattle.chess_base.specs.declared.man.Rights.{Rights}
+use Rattle.chess_base.specs.declared.man.CastlingSide.{CastlingSide}
+use Rattle.chess_base.specs.declared.man.CastlingSide.TheVariants.{KingSide, QueenSide}
+use Rattle.chess_base.specs.declared.man.Variant.{Variant}
+use Rattle.chess_base.specs.declared.man.Variant.TheVariants.{Normal, Fischerandom}
+use Rattle.chess_base.specs.RightNames.{right_letter}
 use Rattle.chess_base.specs.declared.setup.Setup.{Setup}
 use Rattle.chess_base.specs.Letters.{letter_by}
 use Rattle.chess_base.specs.Men.{Men, other, crossed_rank}
@@ -111,17 +116,30 @@ dash_bare : (text : List ℕ) → IsBare text → IsBare (or_dash text)
 dash_bare [] h = refl
 dash_bare (c ∷ cs) h = h
 
-right_bare : (o : Option ℕ) (c : ℕ) → is_bare c ≡ true → IsBare (right_text o c)
-right_bare None c h = refl
-right_bare (Some corner) c h = one_bare c h
+bare_capital : (c : ℕ) → 65 ≤ c → c ≤ 72 → is_bare c ≡ true
+bare_capital c h k = grind (arith, nat_tests)
 
-rights_bare : (r : Rights) → IsBare (rights_text r)
-rights_bare r =
-    let white : List ℕ = right_text r.white.king_side 75 ++ right_text r.white.queen_side 81 in
-    let whites = bare-append (right_text r.white.king_side 75) (right_text r.white.queen_side 81) (right_bare r.white.king_side 75 refl) (right_bare r.white.queen_side 81 refl) in
-    let more = bare-append white (right_text r.black.king_side 107) whites (right_bare r.black.king_side 107 refl) in
-    dash_bare (white ++ right_text r.black.king_side 107 ++ right_text r.black.queen_side 113)
-    (bare-append (white ++ right_text r.black.king_side 107) (right_text r.black.queen_side 113) more (right_bare r.black.queen_side 113 refl))
+right_letter_bare : (v : Variant) (c : Colour) (w : CastlingSide) (s : ℕ) → is_bare (right_letter v c w s) ≡ true
+right_letter_bare Normal White KingSide s = refl
+right_letter_bare Normal White QueenSide s = refl
+right_letter_bare Normal Black KingSide s = refl
+right_letter_bare Normal Black QueenSide s = refl
+right_letter_bare Fischerandom White w s = bare_capital (65 + file s) (omega arith) (omega arith)
+right_letter_bare Fischerandom Black w s = bare_high (97 + file s) (omega arith)
+
+right_bare : (v : Variant) (c : Colour) (w : CastlingSide) (o : Option ℕ) → IsBare (right_text v c w o)
+right_bare v c w None = refl
+right_bare v c w (Some s) = one_bare (right_letter v c w s) (right_letter_bare v c w s)
+
+rights_bare : (v : Variant) (r : Rights) → IsBare (rights_text v r)
+rights_bare v r =
+    let a : List ℕ = right_text v White KingSide r.white.king_side in
+    let b : List ℕ = right_text v White QueenSide r.white.queen_side in
+    let c : List ℕ = right_text v Black KingSide r.black.king_side in
+    let d : List ℕ = right_text v Black QueenSide r.black.queen_side in
+    let whites = bare-append a b (right_bare v White KingSide r.white.king_side) (right_bare v White QueenSide r.white.queen_side) in
+    let more = bare-append (a ++ b) c whites (right_bare v Black KingSide r.black.king_side) in
+    dash_bare (((a ++ b) ++ c) ++ d) (bare-append ((a ++ b) ++ c) d more (right_bare v Black QueenSide r.black.queen_side))
 
 crossed_low : (c : Colour) → crossed_rank c ≤ 8
 crossed_low White = omega arith
@@ -140,10 +158,10 @@ target_bare p h = target_bare_at p.men p.side p.target h.target
 
 pub fen_bare : (p : Setup) → IsSound p → list_all is_bare (fen p) ≡ true
 fen_bare p h =
-    bare-join 32 (placement_text p.men ∷ side_text p.side ∷ rights_text p.rights ∷ target_text p.target ∷ decimal p.halfmove ∷ decimal p.fullmove ∷ []) refl
+    bare-join 32 (placement_text p.men ∷ side_text p.side ∷ rights_text p.variant p.rights ∷ target_text p.target ∷ decimal p.halfmove ∷ decimal p.fullmove ∷ []) refl
     (and_from _ _ (placement_bare p.men)
     (and_from _ _ (side_bare p.side)
-    (and_from _ _ (rights_bare p.rights)
+    (and_from _ _ (rights_bare p.variant p.rights)
     (and_from _ _ (target_bare p h)
     (and_from _ _ (number_bare p.halfmove (leb-true _ _ h.halfmove))
     (and_from _ _ (number_bare p.fullmove (leb-true _ _ h.fullmove_high)) refl))))))

@@ -7,7 +7,7 @@ use Rattle.std.proofs.lemmas.Bool.{and_parts}
 use Rattle.std.proofs.lemmas.Bool.Decides.{nat_tests}
 use Rattle.chess_base.specs.declared.man.Move.{Move}
 use Rattle.chess_base.specs.declared.setup.Setup.{Setup}
-use Rattle.chess_base.specs.Reading.{fen_reading}
+use Rattle.chess_base.specs.Reading.{fen_reading_as}
 use Rattle.chess_base.specs.Writing.{fen}
 use Rattle.chess_base.specs.Sound.{IsSound}
 use Rattle.chess_base.specs.Moves.{is_legal}
@@ -52,7 +52,7 @@ ended_game s o place = record { state = with_declared s (declared_behind (is_som
 
 -- ---- one token
 
-shorter : (begins : Bool) (c : ℕ) (rest : List ℕ) → length (token_at begins c rest).1 ≤ length rest
+pub shorter : (begins : Bool) (c : ℕ) (rest : List ℕ) → length (token_at begins c rest).1 ≤ length rest
 shorter true c rest = omega (arith, token_nearer (c ∷ rest) 0 c rest refl (omega arith))
 shorter false c rest = omega (arith, token_nearer (0 ∷ c ∷ rest) 1 c rest refl (omega arith))
 
@@ -172,9 +172,9 @@ module _ (limit total : ℕ) where
   plain_tag met s name text named other line =
       tag_takes (tagged met s) (tagged true s) name text named line (λ left string. rw other refl)
 
-  pub fen_tag : WrittenIsReadBack → (s : State) (p : Setup) → IsSound p → TakesLine (tagged true s) (tagged true (from_start p)) (tag_line (codes "FEN") (fen p))
-  fen_tag law s p sound =
+  pub fen_tag : WrittenIsReadBack → (s : State) (p : Setup) → IsSound p → s.start.variant ≡ p.variant → TakesLine (tagged true s) (tagged true (from_start p)) (tag_line (codes "FEN") (fen p))
+  fen_tag law s p sound same =
       let bare = fen_bare p sound in
       tag_takes (tagged true s) (tagged true (from_start p)) (codes "FEN") (fen p) refl (bare_in_line (fen p) bare) (λ left string.
-      ap (λ text. fen_step (tagged true s) (total - string) (fen_reading text)) (bare_escaped (fen p) bare)
-      ∙ ap (fen_step (tagged true s) (total - string)) (law p sound))
+      ap (λ text. fen_step (tagged true s) (total - string) (fen_reading_as s.start.variant text)) (bare_escaped (fen p) bare)
+      ∙ ap (fen_step (tagged true s) (total - string)) (ap (λ v. fen_reading_as v (fen p)) same ∙ law p sound))

@@ -15,7 +15,10 @@ use Rattle.chess_base.specs.Attacks.{is_rank_ahead}
 use Rattle.chess_base.specs.Men.{man_at, same_kind}
 use Rattle.chess_base.specs.Moves.{is_legal, after, castling, pawn_moves}
 use Rattle.chess_base.specs.MoveList.{moves}
-use Rattle.chess_base.specs.Sound.{IsSound}
+use Rattle.chess_base.specs.Sound.{IsSound, right_of, has_one_king}
+use Rattle.chess_base.proofs.Kings.{one_king}
+use Rattle.chess_base.specs.declared.man.Colour.{Colour}
+use Rattle.chess_base.specs.declared.man.Colour.TheVariants.{White, Black}
 use Rattle.chess_base.specs.Squares.{file, rank}
 use Rattle.chess_text.specs.declared.parts.Parts.{Parts}
 use Rattle.chess_text.specs.declared.parts.Promotion.{Promotion}
@@ -29,7 +32,7 @@ use Rattle.chess_text.specs.San.{castling_text, told_start, if_said, pawn_parts,
 use Rattle.chess_text.proofs.Alone.{read_alone, spelled_parts, shape_parts, spelled_castling, shape_castling, spells_move, same_kind-self, same_kind-true, move_is, written, promotes-self, promotes-same}
 use Rattle.chess_text.proofs.AllMoves.{any-filter, any-move}
 use Rattle.chess_text.proofs.Castlings.{IsCastling, letters_kingside, letters_queenside}
-use Rattle.chess_text.proofs.Legal.{is_none-true, MovesAs, IsMove, legal_move, told_of, described_is, castling_says}
+use Rattle.chess_text.proofs.Legal.{is_none-true, MovesAs, IsMove, legal_move, told_of, described_is, castling_says, names_end}
 use Rattle.chess_text.proofs.Pawns.{pawn_of, pawn_stands, advances_on_file, same_advance, advances_without, advances_straight, captures_ahead, same_ahead}
 use Rattle.chess_text.proofs.Solid.{bare_parts, bare_castling, bare_marked}
 use Rattle.chess_text.proofs.Words.{IsWord, Word, file_letter, man_letter, parts_bytes, castling_word, castling_bytes, marked_word}
@@ -63,12 +66,18 @@ castles_so : (w : CastlingSide) (o : Option CastlingSide) → passes (same_side 
 castles_so w None e = absurd cc
 castles_so w (Some v) e = ap Some (same_side-true w v e)
 
+king_of : (p : Setup) → IsSound p → (c : Colour) → has_one_king p.men c ≡ true
+king_of p sound White = sound.white_king
+king_of p sound Black = sound.black_king
+
 -- two castlings to one side are one move
-same_castling : (p : Setup) (m n : Move) (w : CastlingSide) → IsMove p m → IsMove p n → castling p m ≡ Some w → castling p n ≡ Some w → n ≡ m
-same_castling p m n w h g e f =
+same_castling : (p : Setup) (m n : Move) (w : CastlingSide) → IsSound p → IsMove p m → IsMove p n → castling p m ≡ Some w → castling p n ≡ Some w → n ≡ m
+same_castling p m n w sound h g e f =
     let a = castling_says p m w e in
     let b = castling_says p n w f in
-    move_is n m (b.1 ∙ sym a.1) (b.2 ∙ sym a.2) (castles_plain p n w g.man g.moves_as f ∙ sym (castles_plain p m w h.man h.moves_as e))
+    let right = right_of p.rights p.side w in
+    move_is n m (one_king p.men p.side n.from m.from sound.board (king_of p sound p.side) b.0 a.0)
+    (names_end p.variant p.side n w right b.1 ∙ sym (names_end p.variant p.side m w right a.1)) (castles_plain p n w g.man g.moves_as f ∙ sym (castles_plain p m w h.man h.moves_as e))
 
 -- ---- pawns
 
@@ -387,8 +396,8 @@ record Law (p : Setup) (m : Move) (text : List ℕ) : Type 0 where
   has_shape : shape text ≡ true
   alone : SpellsAlone p text m
 
-castling_law : (p : Setup) (m : Move) (text : List ℕ) (w : CastlingSide) → IsMove p m → castling p m ≡ Some w → unmarked text ≡ castling_text w → Law p m text
-castling_law p m text w h e bare =
+castling_law : (p : Setup) (m : Move) (text : List ℕ) (w : CastlingSide) → IsSound p → IsMove p m → castling p m ≡ Some w → unmarked text ≡ castling_text w → Law p m text
+castling_law p m text w sound h e bare =
     let is : IsCastling (unmarked text) w = rw bare (castling_is w) in
     record {
       has_shape = shape_castling text w is;
@@ -397,7 +406,7 @@ castling_law p m text w h e bare =
         λ n legal s.
             let g = legal_move p n legal in
             let to = castles_so w (castling p n) (sym (spells_move p text n g ∙ spelled_castling text w (told_of p n g.man) is) ∙ s) in
-            same_castling p m n w h g e to,
+            same_castling p m n w sound h g e to,
       );
     }
 
@@ -415,7 +424,7 @@ walk_law p m text q h parts bare = record {
 law_by : (p : Setup) (m : Move) (text : List ℕ) → IsSound p → (h : IsMove p m) → (o : Option CastlingSide) → castling p m ≡ o
     → text ≡ text_by_castling o (rivals p m h.man) (told_of p m h.man) ++ check_mark (after p m) → Law p m text × Word text
 law_by p m text sound h (Some w) e is = (
-  castling_law p m text w h e (ap unmarked is ∙ bare_marked (after p m) (castling_text w) (bare_castling w)),
+  castling_law p m text w sound h e (ap unmarked is ∙ bare_marked (after p m) (castling_text w) (bare_castling w)),
   marked_word (after p m) (castling_text w) text (castling_word w) (castling_bytes w) is,
 )
 law_by p m text sound h None e is =

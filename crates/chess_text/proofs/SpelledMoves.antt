@@ -1,5 +1,5 @@
 -- All moves that a form spells end on one square, so that none needs be looked at that ends elsewhere.
-use Rattle.std.proofs.Common.{◌≡◌, ◌≢◌, ℕ, zero, suc, ◌+◌, ◌<◌, ◌≤◌, inl, inr, Bool, true, false, ◌&&◌, ◌||◌, Option, Some, None, List, [], ◌∷◌, ◌++◌, length, map, refl, sym, ap, ◌∙◌, add-one, arith}
+use Rattle.std.proofs.Common.{◌≡◌, ◌≢◌, ℕ, zero, suc, ◌+◌, ◌≤◌, inl, inr, Bool, true, false, ◌&&◌, ◌||◌, Option, Some, None, List, [], ◌∷◌, ◌++◌, map, refl, sym, ap, ◌∙◌, add-one, arith}
 use Rattle.std.proofs.lemmas.List.{append-nil}
 use Rattle.std.proofs.lemmas.List.Concat.{flat_map-append}
 use Rattle.std.proofs.lemmas.Bool.Decides.{nat_tests}
@@ -7,23 +7,22 @@ use Rattle.std.proofs.lemmas.Bool.{and_parts, or_cases, false_from_ne_true}
 use Rattle.std.specs.List.{filter, flat_map}
 use Rattle.chess_base.specs.declared.man.CastlingSide.{CastlingSide}
 use Rattle.chess_base.specs.declared.man.CastlingSide.TheVariants.{KingSide, QueenSide}
-use Rattle.chess_base.specs.declared.man.Kind.{Kind}
 use Rattle.chess_base.specs.declared.man.Man.{Man}
 use Rattle.chess_base.specs.declared.man.Move.{Move}
 use Rattle.chess_base.specs.declared.setup.Setup.{Setup}
 use Rattle.chess_base.specs.Men.{man_at}
-use Rattle.chess_base.specs.Moves.{from_below, is_legal, castled_king_file}
+use Rattle.chess_base.specs.Moves.{from_below, is_legal}
 use Rattle.chess_base.specs.MoveList.{promotions, triple, squares, all_triples, moves}
-use Rattle.chess_base.specs.Sound.{home_square}
+use Rattle.chess_base.specs.Sound.{right_of}
 use Rattle.chess_text.specs.declared.described.Described.{Described}
 use Rattle.chess_text.specs.declared.form.Form.{Form}
 use Rattle.chess_text.specs.declared.form.Form.TheVariants.{Castling, Walk}
 use Rattle.chess_text.specs.declared.parts.Parts.{Parts}
 use Rattle.chess_text.specs.Moves.{described, described_as, is_by_squares, is_by_letter, is_straight, is_from_file, fits, passes}
-use Rattle.chess_text.specs.Forms.{same_side, form_fits, is_spelled, end_of, spelled_with}
+use Rattle.chess_text.specs.Forms.{same_side, form_fits, is_spelled, castling_end, end_of, spelled_with}
 use Rattle.chess_text.proofs.Alone.{castled}
 use Rattle.chess_text.proofs.AllMoves.{filter-flat_map, filter-both, none-kept, kept, alone-square}
-use Rattle.chess_text.proofs.Legal.{castling_says, legal_move}
+use Rattle.chess_text.proofs.Legal.{castling_says, names_end, legal_move}
 
 -- ---- where a spelled move ends
 
@@ -63,14 +62,14 @@ same_side-true QueenSide QueenSide h = refl
 same_side-true KingSide QueenSide h = cc
 same_side-true QueenSide KingSide h = cc
 
-form_ends : (form : Form) (p : Setup) (m : Move) (o : Option Man) → passes (form_fits form) (described_as p m o) ≡ true → m.to ≡ end_of form p.side
+form_ends : (form : Form) (p : Setup) (m : Move) (o : Option Man) → passes (form_fits form) (described_as p m o) ≡ true → m.to ≡ end_of form p
 form_ends form p m None h = cc
 form_ends (Walk q) p m (Some x) h = fitting_ends q _ h
 form_ends (Castling w) p m (Some x) h =
     let c = castled (same_side w) _ h in
-    (castling_says p m c.0 c.1).2 ∙ ap (λ v. home_square p.side (castled_king_file v)) (sym (same_side-true w c.0 c.2))
+    names_end p.variant p.side m c.0 (right_of p.rights p.side c.0) (castling_says p m c.0 c.1).1 ∙ ap (λ v. castling_end p.variant p.side v (right_of p.rights p.side v)) (sym (same_side-true w c.0 c.2))
 
-spelled_ends : (form : Form) (p : Setup) (m : Move) → is_spelled form p m ≡ true → m.to ≡ end_of form p.side
+spelled_ends : (form : Form) (p : Setup) (m : Move) → is_spelled form p m ≡ true → m.to ≡ end_of form p
 unfolding is_spelled described
 spelled_ends form p m h = form_ends form p m (man_at p.men m.from) h
 
@@ -79,7 +78,7 @@ spelled_ends form p m h = form_ends form p m (man_at p.men m.from) h
 abbrev fit : Form → Setup → Move → Bool
 fit form p m = is_spelled form p m && is_legal p m
 
-not_fit : (form : Form) (p : Setup) (m : Move) → m.to ≢ end_of form p.side → fit form p m ≡ false
+not_fit : (form : Form) (p : Setup) (m : Move) → m.to ≢ end_of form p → fit form p m ≡ false
 not_fit form p m away = false_from_ne_true (fit form p m) (λ h. away (spelled_ends form p m (and_parts (is_spelled form p m) (is_legal p m) h).0))
 
 not_legal : (form : Form) (p : Setup) (m : Move) → 64 ≤ m.to → fit form p m ≡ false
@@ -100,20 +99,20 @@ flat_map_same f g h [] = refl
 flat_map_same f g h (x ∷ xs) = rw (h x, flat_map_same f g h xs) refl
 
 -- from one square
-from_one : (form : Form) (p : Setup) (a : ℕ) → filter (fit form p) (flat_map (λ b. map (triple a b) promotions) squares) ≡ spelled_with form p a (end_of form p.side) promotions
+from_one : (form : Form) (p : Setup) (a : ℕ) → filter (fit form p) (flat_map (λ b. map (triple a b) promotions) squares) ≡ spelled_with form p a (end_of form p) promotions
 from_one form p a =
     filter-flat_map (fit form p) (λ b. map (triple a b) promotions) squares
-    ∙ alone-square (λ b. kept (fit form p) a b) (end_of form p.side)
+    ∙ alone-square (λ b. kept (fit form p) a b) (end_of form p)
     (λ b away. none-kept (fit form p) a b (λ k. not_fit form p (triple a b k) away))
-    (λ past. none-kept (fit form p) a (end_of form p.side) (λ k. not_legal form p (triple a (end_of form p.side) k) past))
+    (λ past. none-kept (fit form p) a (end_of form p) (λ k. not_legal form p (triple a (end_of form p) k) past))
 
-pub all_spelled : (form : Form) (p : Setup) → flat_map (λ a. spelled_with form p a (end_of form p.side) promotions) squares ≡ filter (λ m. is_spelled form p m) (moves p)
+pub all_spelled : (form : Form) (p : Setup) → flat_map (λ a. spelled_with form p a (end_of form p) promotions) squares ≡ filter (λ m. is_spelled form p m) (moves p)
 unfolding moves all_triples
 all_spelled form p =
     sym (filter-both (λ m. is_legal p m) (λ m. is_spelled form p m) all_triples
     ∙ filter_same (λ m. is_legal p m && is_spelled form p m) (fit form p) (λ m. and_turned (is_legal p m) (is_spelled form p m)) all_triples
     ∙ filter-flat_map (fit form p) (λ a. flat_map (λ b. map (triple a b) promotions) squares) squares
-    ∙ flat_map_same (λ a. filter (fit form p) (flat_map (λ b. map (triple a b) promotions) squares)) (λ a. spelled_with form p a (end_of form p.side) promotions) (from_one form p) squares)
+    ∙ flat_map_same (λ a. filter (fit form p) (flat_map (λ b. map (triple a b) promotions) squares)) (λ a. spelled_with form p a (end_of form p) promotions) (from_one form p) squares)
 
 -- ---- square by square
 
@@ -129,15 +128,15 @@ one_more g n =
     ∙ ap (λ xs. flat_map g (from_below n (λ s. s)) ++ xs) (append-nil (g n))
 
 -- one square more
-pub one_square : (form : Form) (p : Setup) (a number to : ℕ) (now next : List Move) → a ≡ number → to ≡ end_of form p.side
-    → now ≡ flat_map (λ a. spelled_with form p a (end_of form p.side) promotions) (from_below number (λ s. s))
+pub one_square : (form : Form) (p : Setup) (a number to : ℕ) (now next : List Move) → a ≡ number → to ≡ end_of form p
+    → now ≡ flat_map (λ a. spelled_with form p a (end_of form p) promotions) (from_below number (λ s. s))
     → next ≡ now ++ spelled_with form p a to promotions
-    → next ≡ flat_map (λ a. spelled_with form p a (end_of form p.side) promotions) (from_below (number + 1) (λ s. s))
+    → next ≡ flat_map (λ a. spelled_with form p a (end_of form p) promotions) (from_below (number + 1) (λ s. s))
 one_square form p a number to now next from there is added =
-    added ∙ rw (from, there, is) (sym (one_more (λ a. spelled_with form p a (end_of form p.side) promotions) number))
+    added ∙ rw (from, there, is) (sym (one_more (λ a. spelled_with form p a (end_of form p) promotions) number))
 
 -- all squares
-pub each_square : (form : Form) (p : Setup) (number : ℕ) (list : List Move) → number ≡ 64 → list ≡ flat_map (λ a. spelled_with form p a (end_of form p.side) promotions) (from_below number (λ s. s))
+pub each_square : (form : Form) (p : Setup) (number : ℕ) (list : List Move) → number ≡ 64 → list ≡ flat_map (λ a. spelled_with form p a (end_of form p) promotions) (from_below number (λ s. s))
     → list ≡ filter (λ m. is_spelled form p m) (moves p)
 unfolding squares
-each_square form p number list all is = is ∙ ap (λ n. flat_map (λ a. spelled_with form p a (end_of form p.side) promotions) (from_below n (λ s. s))) all ∙ all_spelled form p
+each_square form p number list all is = is ∙ ap (λ n. flat_map (λ a. spelled_with form p a (end_of form p) promotions) (from_below n (λ s. s))) all ∙ all_spelled form p

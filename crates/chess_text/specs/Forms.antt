@@ -7,10 +7,12 @@ use Rattle.chess_base.specs.declared.man.CastlingSide.TheVariants.{KingSide, Que
 use Rattle.chess_base.specs.declared.man.Colour.{Colour}
 use Rattle.chess_base.specs.declared.man.Kind.{Kind}
 use Rattle.chess_base.specs.declared.man.Move.{Move}
+use Rattle.chess_base.specs.declared.man.Variant.{Variant}
+use Rattle.chess_base.specs.declared.man.Variant.TheVariants.{Normal, Fischerandom}
 use Rattle.chess_base.specs.declared.setup.Setup.{Setup}
 use Rattle.chess_base.specs.Moves.{castled_king_file, is_legal}
 use Rattle.chess_base.specs.MoveList.{triple}
-use Rattle.chess_base.specs.Sound.{home_square}
+use Rattle.chess_base.specs.Sound.{home_square, right_of}
 use Rattle.chess_text.specs.declared.described.Described.{Described}
 use Rattle.chess_text.specs.declared.form.Form.{Form}
 use Rattle.chess_text.specs.declared.form.Form.TheVariants.{Castling, Walk}
@@ -49,10 +51,16 @@ form_fits (Walk q) d = fits q d
 unfoldable pub is_spelled : Form → Setup → Move → Bool
 is_spelled form p m = passes (form_fits form) (described p m)
 
+-- where the move ends that names castling: in normal chess the king's end, in Chess960 the rook's square, if the right is there
+abbrev pub castling_end : Variant → Colour → CastlingSide → Option ℕ → ℕ
+castling_end Normal c w right = home_square c (castled_king_file w)
+castling_end Fischerandom c w None = home_square c (castled_king_file w)
+castling_end Fischerandom c w (Some rook) = rook
+
 -- every move ends here that the form spells
-abbrev pub end_of : Form → Colour → ℕ
-end_of (Castling w) c = home_square c (castled_king_file w)
-end_of (Walk q) c = q.end.to
+abbrev pub end_of : Form → Setup → ℕ
+end_of (Castling w) p = castling_end p.variant p.side w (right_of p.rights p.side w)
+end_of (Walk q) p = q.end.to
 
 -- the legal moves from a to b, with one of these promotions, that the form spells
 abbrev pub spelled_with : Form → Setup → ℕ → ℕ → List (Option Kind) → List Move

@@ -1,10 +1,12 @@
 -- A game read from a text (PGN standard of 1994, sections 7 to 9; which words are taken is this project's own).
-use Rattle.std.specs.Prelude.{ℕ, ◌+◌, ◌-◌, nat_lt, Bool, true, false, if◌then◌else◌, List, [], ◌∷◌, length, Option, Some, None, is_some, Result, Ok, Err, codes}
-use Rattle.std.specs.Str.{bytes_eq}
+use Rattle.std.specs.Prelude.{ℕ, ◌+◌, ◌-◌, nat_lt, ◌||◌, Bool, true, false, if◌then◌else◌, List, [], ◌∷◌, length, Option, Some, None, is_some, Result, Ok, Err, codes}
+use Rattle.std.specs.Str.{bytes_eq, str_eq_ignore_ascii_case}
 use Rattle.chess_base.specs.declared.fault.FenFault.{FenFault}
+use Rattle.chess_base.specs.declared.man.Variant.{Variant}
+use Rattle.chess_base.specs.declared.man.Variant.TheVariants.{Normal, Fischerandom}
 use Rattle.chess_base.specs.declared.setup.Setup.{Setup}
-use Rattle.chess_base.specs.Initial.{initial_setup}
-use Rattle.chess_base.specs.Reading.{fen_reading}
+use Rattle.chess_base.specs.Initial.{initial_setup_of}
+use Rattle.chess_base.specs.Reading.{fen_reading_as}
 use Rattle.chess_game.specs.Game.{State, from_start, played, with_declared, current, verdict_now}
 use Rattle.chess_game.specs.declared.results.Declared.{Declared}
 use Rattle.chess_game.specs.declared.results.Outcome.{Outcome}
@@ -85,7 +87,7 @@ fen_step g place (Err fault) = fails g BadFen place
 -- a tag whose string begins at that place
 abbrev pub tag_step : SoFar → List ℕ → List ℕ → ℕ → Step
 tag_step g name text place =
-    if bytes_eq name (codes "FEN") then fen_step g place (fen_reading text)
+    if bytes_eq name (codes "FEN") then fen_step g place (fen_reading_as g.state.start.variant text)
     else On (record { state = g.state; is_met = true; is_begun = g.is_begun })
 
 -- ---- tokens, in a text of so many bytes; each with how many bytes are left where it begins
@@ -111,9 +113,47 @@ abbrev pub game_of : ℕ → ℕ → SoFar → List (ℕ × Token) → GameRead
 game_of limit total g [] = at_text_end total g
 game_of limit total g (t ∷ ts) = go_on (step limit total g t.0 t.1) (λ h. game_of limit total h ts)
 
-abbrev pub nothing_read : SoFar
-nothing_read = record { state = from_start initial_setup; is_met = false; is_begun = false }
+abbrev pub nothing_read : Variant → SoFar
+nothing_read v = record { state = from_start (initial_setup_of v); is_met = false; is_begun = false }
 
--- what a text is read as from a place on, for a game of at most so many half-moves
+-- ---- the variant: the last that tags name before the game's first number, move or outcome, as far as these can be read
+
+-- the variant that a tag's text names, in letters of either size
+abbrev pub variant_named : List ℕ → Variant
+variant_named text =
+    if str_eq_ignore_ascii_case text (codes "fischerandom") || str_eq_ignore_ascii_case text (codes "fischerrandom") || str_eq_ignore_ascii_case text (codes "chess960") then Fischerandom
+    else Normal
+
+abbrev pub behind_word : Variant → WordKind → Option Variant
+behind_word v Marks = Some v
+behind_word v Number = None
+behind_word v Move = None
+behind_word v (Termination o) = None
+
+-- the variant behind a token, if more tags may follow it
+abbrev pub told_by : Variant → Token → Option Variant
+told_by v Skip = Some v
+told_by v (Tag name text left) = Some (if bytes_eq name (codes "Variant") then variant_named text else v)
+told_by v (Word word) = behind_word v (kind_of word)
+told_by v Bad_tag = None
+told_by v (Unclosed_comment left) = None
+told_by v Unclosed_variation = None
+told_by v Bad = None
+
+abbrev pub told_next : Variant → Option Variant → (Variant → Variant) → Variant
+told_next v None later = v
+told_next v (Some u) later = later u
+
+abbrev pub variant_told : Variant → List (ℕ × Token) → Variant
+variant_told v [] = v
+variant_told v (t ∷ ts) = told_next v (told_by v t.1) (λ u. variant_told u ts)
+
+-- ---- the game
+
+-- what tokens of a text of so many bytes are read as, for a game of at most so many half-moves
+abbrev pub tokens_read : ℕ → ℕ → List (ℕ × Token) → GameRead
+tokens_read limit total tokens = game_of limit total (nothing_read (variant_told Normal tokens)) tokens
+
+-- what a text is read as from a place on
 unfoldable pub pgn_read : ℕ → List ℕ → ℕ → GameRead
-pgn_read limit text at = game_of limit (length text) nothing_read (tokens_from text (first_place text at))
+pgn_read limit text at = tokens_read limit (length text) (tokens_from text (first_place text at))

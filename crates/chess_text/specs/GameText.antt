@@ -4,6 +4,8 @@ use Rattle.std.specs.Str.{bytes_eq}
 use Rattle.chess_base.specs.declared.man.Colour.{Colour}
 use Rattle.chess_base.specs.declared.man.Colour.TheVariants.{White, Black}
 use Rattle.chess_base.specs.declared.man.Move.{Move}
+use Rattle.chess_base.specs.declared.man.Variant.{Variant}
+use Rattle.chess_base.specs.declared.man.Variant.TheVariants.{Normal, Fischerandom}
 use Rattle.chess_base.specs.declared.setup.Setup.{Setup}
 use Rattle.chess_base.specs.Initial.{initial_setup}
 use Rattle.chess_base.specs.Moves.{after}
@@ -23,13 +25,17 @@ roster_lines t o =
     tag_line (codes "Event") t.event ∷ tag_line (codes "Site") t.site ∷ tag_line (codes "Date") t.date ∷ tag_line (codes "Round") t.round
     ∷ tag_line (codes "White") t.white ∷ tag_line (codes "Black") t.black ∷ tag_line (codes "Result") (outcome_text o) ∷ []
 
--- a start is the initial position exactly where its FEN is, since no two positions have the same FEN
+-- a start of normal chess is the initial position exactly where its FEN is, since no two positions have the same FEN
 abbrev pub is_initial : Setup → Bool
 is_initial start = bytes_eq (fen start) (fen initial_setup)
 
--- the tags of a start that is not the initial position
+-- the tags of a start that is not the initial position; in Chess960 of each start, and then that of the variant
+abbrev pub start_lines_in : Variant → Setup → List (List ℕ)
+start_lines_in Normal start = if is_initial start then [] else tag_line (codes "FEN") (fen start) ∷ tag_line (codes "SetUp") (codes "1") ∷ []
+start_lines_in Fischerandom start = tag_line (codes "FEN") (fen start) ∷ tag_line (codes "SetUp") (codes "1") ∷ tag_line (codes "Variant") (codes "fischerandom") ∷ []
+
 abbrev pub start_lines : Setup → List (List ℕ)
-start_lines start = if is_initial start then [] else tag_line (codes "FEN") (fen start) ∷ tag_line (codes "SetUp") (codes "1") ∷ []
+start_lines start = start_lines_in start.variant start
 
 abbrev pub tag_lines : Tags → State → List (List ℕ)
 tag_lines t s = roster_lines t (outcome_now s) ++ start_lines s.start

@@ -6,10 +6,12 @@ use Rattle.chess_base.specs.declared.man.CastlingSide.{CastlingSide}
 use Rattle.chess_base.specs.declared.man.CastlingSide.TheVariants.{KingSide, QueenSide}
 use Rattle.chess_base.specs.declared.man.Kind.TheVariants.{Pawn}
 use Rattle.chess_base.specs.declared.man.Move.{Move}
+use Rattle.chess_base.specs.declared.man.Variant.{Variant}
+use Rattle.chess_base.specs.declared.man.Variant.TheVariants.{Normal, Fischerandom}
 use Rattle.chess_base.specs.declared.setup.Setup.{Setup}
 use Rattle.chess_base.specs.Attacks.{is_in_check}
 use Rattle.chess_base.specs.Men.{same_kind}
-use Rattle.chess_base.specs.Moves.{after}
+use Rattle.chess_base.specs.Moves.{after, castling}
 use Rattle.chess_base.specs.MoveList.{moves}
 use Rattle.chess_base.specs.Squares.{file, rank}
 use Rattle.chess_text.specs.declared.described.Described.{Described}
@@ -17,7 +19,7 @@ use Rattle.chess_text.specs.declared.parts.End.{End}
 use Rattle.chess_text.specs.declared.parts.Parts.{Parts}
 use Rattle.chess_text.specs.declared.writing.ToldStart.{ToldStart}
 use Rattle.chess_text.specs.Parts.{when, parts_text}
-use Rattle.chess_text.specs.Moves.{described, passes}
+use Rattle.chess_text.specs.Moves.{coordinate, described, passes}
 
 abbrev pub castling_text : CastlingSide → List ℕ
 castling_text KingSide = codes "O-O"
@@ -92,3 +94,12 @@ san_as p m (Some d) = move_text (rival_starts p (moves p) d) d ++ check_mark (af
 -- the text of a legal move
 unfoldable pub san : Setup → Move → List ℕ
 san p m = san_as p m (described p m)
+
+-- how lists and lines of moves name a move: by its squares, but castling in Chess960 by its side
+abbrev pub shown_as : Variant → Option CastlingSide → Move → List ℕ
+shown_as Fischerandom (Some w) m = castling_text w
+shown_as Fischerandom None m = coordinate m
+shown_as Normal o m = coordinate m
+
+unfoldable pub shown_move : Setup → Move → List ℕ
+shown_move p m = shown_as p.variant (castling p m) m

@@ -3,9 +3,11 @@
 ghost use Rattle.std.specs.Prelude.{◌≡◌, ◌≤◌, ◌∷◌, []};
 ghost use Rattle.arrayvec.specs.ArrayVec.{array_vec_len};
 ghost use Rattle.chess_text.specs.Moves.{coordinate, small_letter_text};
+ghost use Rattle.chess_text.specs.San.{castling_text, shown_move};
 
 use arrayvec::ArrayVec;
-use chess_base::{Kind, Move};
+use chess_base::rules::castling;
+use chess_base::{CastlingSide, Kind, Move, Position, Variant};
 
 /// The coordinate text of a move: four or five bytes.
 pub type CoordinateText = ArrayVec<u8, 5>;
@@ -23,8 +25,38 @@ fn small_letter(kind: Kind) -> u8
     }
 }
 
+// The text of castling to that side.
+fn castling_name(castling_side: CastlingSide) -> CoordinateText
+    ensures text { result.items ≡ castling_text castling_side }
+    ensures len { array_vec_len result ≤ 5 }
+{
+    let name: &[u8] = match castling_side {
+        CastlingSide::KingSide => b"O-O",
+        CastlingSide::QueenSide => b"O-O-O",
+    };
+    let mut text = CoordinateText::new();
+    text.try_extend_from_slice(name).unwrap();
+    text
+}
+
+/// The text of a move as lists and lines of moves show it: its coordinate text, but `O-O` or `O-O-O` for castling in Chess960.
+#[tactic(auto, unfolding(crate::specs::San::shown_move))]
+pub fn move_text(position: &Position, m: Move) -> CoordinateText
+    ensures text { result.items ≡ shown_move position.now m }
+    ensures len { array_vec_len result ≤ 5 }
+{
+    let again = m;
+    match position.variant() {
+        Variant::Normal => coordinate(again),
+        Variant::Fischerandom => match castling(position.setup(), &m) {
+            Some(castling_side) => castling_name(castling_side),
+            None => coordinate(again),
+        },
+    }
+}
+
 /// The coordinate text of a move, as CECP has it: its start square, its end square, and for a promotion one letter of
-/// `qrbn`. Castling is named by the king's squares.
+/// `qrbn`. Castling is named by the king's squares, in Chess960 by the king's and the rook's.
 pub fn coordinate(m: Move) -> CoordinateText
     ensures text { result.items ≡ coordinate m }
     ensures len { array_vec_len result ≤ 5 }

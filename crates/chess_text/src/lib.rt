@@ -11,7 +11,7 @@ mod pgn;
 mod reading;
 mod writing;
 
-pub use coordinates::{CoordinateText, coordinate};
+pub use coordinates::{CoordinateText, coordinate, move_text};
 pub use laws::{coordinate_spells_its_move, san_is_a_word, san_spells_its_move, texts_have_parts};
 pub use pgn::{
     PgnEnd, PgnFault, PgnFaultKind, TagText, Tags, lines_are_filled, pgn_is_read_back, read_pgn,

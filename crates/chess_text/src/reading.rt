@@ -6,12 +6,12 @@ ghost use Rattle.arrayvec.specs.ArrayVec.{array_vec_len};
 ghost use Rattle.chess_base.specs.MoveList.{moves};
 ghost use Rattle.chess_base.specs.Sound.{IsSound};
 ghost use Rattle.chess_text.specs.Moves.{shape, one_of, reading, IsLegalReading};
-ghost use Rattle.chess_text.specs.Forms.{is_spelled, end_of, spelled_with};
+ghost use Rattle.chess_text.specs.Forms.{is_spelled, castling_end, end_of, spelled_with};
 
 use crate::form::{Form, is_spelled, read_form};
 use arrayvec::ArrayVec;
-use chess_base::rules::{castled_king_file, home_square, is_legal};
-use chess_base::{Colour, Kind, Move, Setup, Square};
+use chess_base::rules::{castled_king_file, home_square, is_legal, right_of};
+use chess_base::{CastlingSide, Colour, Kind, Move, Setup, Square, Variant};
 use chess_moves::Board;
 
 // The most moves that end on one square: five from each square, by what the man becomes.
@@ -41,12 +41,33 @@ pub fn has_move_shape(text: &[u8]) -> bool
     read_form(text).is_some()
 }
 
+// The square on which the move ends that names castling, with the right that is there.
+fn castling_end(
+    variant: Variant,
+    side: Colour,
+    castling_side: CastlingSide,
+    right: Option<Square>,
+) -> Square
+    ensures { result ≡ castling_end variant side castling_side right }
+{
+    let king_to = home_square(side, castled_king_file(castling_side));
+    match variant {
+        Variant::Normal => king_to,
+        Variant::Fischerandom => right.unwrap_or(king_to),
+    }
+}
+
 // The square on which every move ends that the form spells.
-fn end_square(form: &Form, side: Colour) -> Square
-    ensures { result ≡ end_of form.now side }
+fn end_square(form: &Form, setup: &Setup) -> Square
+    ensures { result ≡ end_of form.now setup.now }
 {
     match form {
-        Form::Castling(castling_side) => home_square(side, castled_king_file(*castling_side)),
+        Form::Castling(castling_side) => castling_end(
+            setup.variant,
+            setup.side,
+            *castling_side,
+            right_of(setup.rights, setup.side, *castling_side),
+        ),
         Form::Walk(parts) => parts.end.to,
     }
 }
@@ -82,7 +103,7 @@ fn spelled_moves(form: &Form, setup: &Setup) -> SpelledMoves
     requires { IsSound setup.now }
     ensures { result.items ≡ filter (λ m. is_spelled form.now setup.now m) (moves setup.now) }
 {
-    let to = end_square(form, setup.side);
+    let to = end_square(form, setup);
     let promotions = [
         None,
         Some(Kind::Queen),

@@ -4,8 +4,9 @@ ghost use Rattle.std.specs.Prelude.{◌≡◌, ℕ, ◌+◌, ◌*◌, ◌<◌, �
 ghost use Rattle.arrayvec.specs.ArrayVec.{array_vec_len};
 ghost use Rattle.chess_base.specs.Writing.{run_text, rank_text, placement_text, side_text, right_text, rights_text, target_text, fen};
 
+use crate::fen::castling::right_letter;
 use crate::fen::letters::letter_of;
-use crate::man::{Colour, Man, Rights};
+use crate::man::{CastlingSide, Colour, Man, Rights, Variant};
 use crate::position::Position;
 use crate::square::Square;
 use arrayvec::ArrayVec;
@@ -74,27 +75,57 @@ fn write_side(out: &mut FenText, side: Colour)
 }
 
 // A letter where a right is held.
-fn write_right(out: &mut FenText, right: Option<Square>, letter: u8)
+fn write_right(
+    out: &mut FenText,
+    variant: Variant,
+    colour: Colour,
+    castling_side: CastlingSide,
+    right: Option<Square>,
+)
     requires room { array_vec_len out.old < 100 }
-    ensures text { out.new.items ≡ out.old.items ++ right_text right letter }
+    ensures text { out.new.items ≡ out.old.items ++ right_text variant colour castling_side right }
     ensures len { array_vec_len out.new ≤ array_vec_len out.old + 1 }
 {
-    if right.is_some() {
-        out.push(letter);
+    if let Some(rook) = right {
+        out.push(right_letter(variant, colour, castling_side, rook));
     }
 }
 
-// The rights, in the order `KQkq`.
-fn write_rights(out: &mut FenText, rights: Rights)
+// The rights: White's on the king's side and on the queen's, then Black's.
+fn write_rights(out: &mut FenText, variant: Variant, rights: Rights)
     requires room { array_vec_len out.old + 4 ≤ 100 }
-    ensures text { out.new.items ≡ out.old.items ++ rights_text rights }
+    ensures text { out.new.items ≡ out.old.items ++ rights_text variant rights }
     ensures len { array_vec_len out.new ≤ array_vec_len out.old + 4 }
 {
     let before = out.len();
-    write_right(out, rights.white.king_side, b'K');
-    write_right(out, rights.white.queen_side, b'Q');
-    write_right(out, rights.black.king_side, b'k');
-    write_right(out, rights.black.queen_side, b'q');
+    write_right(
+        out,
+        variant,
+        Colour::White,
+        CastlingSide::KingSide,
+        rights.white.king_side,
+    );
+    write_right(
+        out,
+        variant,
+        Colour::White,
+        CastlingSide::QueenSide,
+        rights.white.queen_side,
+    );
+    write_right(
+        out,
+        variant,
+        Colour::Black,
+        CastlingSide::KingSide,
+        rights.black.king_side,
+    );
+    write_right(
+        out,
+        variant,
+        Colour::Black,
+        CastlingSide::QueenSide,
+        rights.black.queen_side,
+    );
     if out.len() == before {
         out.push(b'-');
     }
@@ -129,7 +160,7 @@ fn write_number(out: &mut FenText, number: u32)
 }
 
 /// The one FEN that is written for a position (PGN standard of 1994, section 16.1): six fields with one space between,
-/// the rights in the order `KQkq`, the target as the position holds it, whether or not a pawn may take there, and
+/// the rights in the order `KQkq`, in Chess960 by their rooks' files, the target as the position holds it, whether or not a pawn may take there, and
 /// numbers without leading zeros.
 pub fn write_fen(position: &Position) -> FenText
     ensures text { result.items ≡ fen position.now }
@@ -141,7 +172,7 @@ pub fn write_fen(position: &Position) -> FenText
     out.push(b' ');
     write_side(&mut out, setup.side);
     out.push(b' ');
-    write_rights(&mut out, setup.rights);
+    write_rights(&mut out, setup.variant, setup.rights);
     out.push(b' ');
     write_target(&mut out, setup.target);
     out.push(b' ');

@@ -4,7 +4,7 @@ ghost use Rattle.std.specs.Prelude.{◌≡◌, List, ℕ};
 ghost use Rattle.chess_text.specs.PgnLaw.{PgnIsReadBack};
 ghost use Rattle.chess_text.specs.Written.{AreShort, IsMoveText, move_text_of};
 
-use chess_base::{Position, after_is_sound, written_is_spelled};
+use chess_base::{Position, Variant, after_is_sound, written_is_spelled};
 
 /// The text that tokens of 1 to 79 bytes make from left to right has them in filled lines, and no other text has: no line
 /// has more than 79 bytes behind the prefix, and none could also have taken the first token of the next.
@@ -22,6 +22,6 @@ pub fn pgn_is_read_back()
 {
     after_is_sound();
     written_is_spelled();
-    let initial = Position::initial();
+    let initial = Position::initial_of(Variant::Normal);
     let _sound = initial.setup();
 }

@@ -3,17 +3,19 @@
 ghost use Rattle.std.specs.Prelude.{◌≡◌, ℕ, ◌+◌, ◌-◌, ◌^◌, ◌≤◌, ◌<◌, length, None, IfOk, Err, is_some};
 ghost use Rattle.std.specs.Option.{IfSome};
 ghost use Rattle.chess_game.specs.Game.{State, at as left_at, with_declared, current, verdict_now};
+ghost use Rattle.chess_base.specs.declared.man.Variant.TheVariants.{Normal};
 ghost use Rattle.chess_text.specs.Moves.{reading};
 ghost use Rattle.chess_text.specs.Words.{kind_of};
 ghost use Rattle.chess_text.specs.Seen.{token_seen, fault_seen};
-ghost use Rattle.chess_text.specs.GameRead.{SoFar, declared_behind, move_step, word_step, tag_step, step, pgn_read};
+ghost use Rattle.chess_text.specs.GameRead.{SoFar, declared_behind, move_step, word_step, tag_step, step, variant_named, told_by, variant_told, pgn_read};
+ghost use Rattle.chess_text.specs.Tokens.{tokens_from};
 ghost use Rattle.chess_text.specs.GameSteps.{EndsIn, so_far, step_seen, IsWithin};
 
 use crate::pgn::tag::Tag;
 use crate::pgn::token::{Token, TokenFault, first_place, next_token};
 use crate::pgn::word::{WordKind, word_kind};
 use crate::reading::{Reading, read_move};
-use chess_base::{Position, read_fen};
+use chess_base::{Position, Variant, read_fen_as};
 use chess_game::{Comment, Game, Outcome};
 use chess_moves::Board;
 
@@ -158,7 +160,7 @@ fn read_tag<B: Board>(
     ensures step { step_seen game.new.state result ≡ tag_step (so_far game.old.state progress) tag.now.name.now tag.now.text.now place }
 {
     if let b"FEN" = tag.name {
-        match read_fen(tag.text) {
+        match read_fen_as(game.start().variant(), tag.text) {
             Ok(start) => game.restart(&start),
             Err(_) => {
                 return Err(PgnFault {
@@ -230,8 +232,63 @@ fn told_fault(fault: TokenFault, progress: Progress, len: usize, place: usize) -
     }
 }
 
+// The variant that a tag's text names.
+fn variant_named(text: &[u8]) -> Variant
+    ensures { result ≡ variant_named text.now }
+{
+    if text.eq_ignore_ascii_case(b"fischerandom")
+        || text.eq_ignore_ascii_case(b"fischerrandom")
+        || text.eq_ignore_ascii_case(b"chess960")
+    {
+        Variant::Fischerandom
+    } else {
+        Variant::Normal
+    }
+}
+
+// The variant behind a token, if more tags may follow it.
+fn told_by(variant: Variant, token: &Token<'_>) -> Option<Variant>
+    ensures { result ≡ told_by variant (token_seen token.now) }
+{
+    match token {
+        Token::Skip => Some(variant),
+        Token::Tag(tag) => {
+            if let b"Variant" = tag.name {
+                Some(variant_named(tag.text))
+            } else {
+                Some(variant)
+            }
+        }
+        Token::Word(word) => match word_kind(word) {
+            WordKind::Marks => Some(variant),
+            _ => None,
+        },
+    }
+}
+
+// The variant that the tags name from a place on: the last that they name before a number, move or termination.
+fn told_variant(text: &[u8], at: usize) -> Variant
+    requires { at ≤ length text.now }
+    ensures { result ≡ variant_told Normal (tokens_from text.now at) }
+{
+    let mut place = at;
+    let mut variant = Variant::Normal;
+    loop {
+        match next_token(text, place) {
+            Ok(Some((token, behind))) => {
+                match told_by(variant, &token) {
+                    Some(told) => variant = told,
+                    None => return variant,
+                }
+                place = behind;
+            }
+            Ok(None) | Err(_) => return variant,
+        }
+    }
+}
+
 /// Reads the first game of a text from a place on (PGN standard of 1994; which words are taken is this project's own). The
-/// game begins anew from the initial position or from the last FEN tag's; its moves are played as they are met, and the
+/// game begins anew from the initial position or from the last FEN tag's, of the variant that the last tag Variant names; its moves are played as they are met, and the
 /// termination's outcome is declared unless there is a verdict or it is `*`. `None` where no tag, number, move or
 /// termination stands up to the text's end. The next game begins at the place that is answered.
 ///
@@ -249,8 +306,8 @@ pub fn read_pgn<B: Board>(
     ensures within { IfOk result (λ end. IfSome end (λ e. e.place ≤ length text.now)) }
     ensures further { IfOk result (λ end. IfSome end (λ e. at < e.place)) }
 {
-    game.restart(&Position::initial());
     let mut place = first_place(text, at);
+    game.restart(&Position::initial_of(told_variant(text, place)));
     let mut progress = Progress {
         is_met: false,
         is_begun: false,

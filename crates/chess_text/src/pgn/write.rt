@@ -4,7 +4,8 @@ ghost use Rattle.std.specs.Prelude.{◌≡◌, ◌≤◌, ◌<◌, [], ◌∷◌
 ghost use Rattle.arrayvec.specs.ArrayVec.{array_vec_len};
 ghost use Rattle.chess_base.specs.Devices.{Puts};
 ghost use Rattle.chess_base.specs.Moves.{is_legal, after};
-ghost use Rattle.chess_text.specs.GameText.{roster_lines, start_lines, tag_lines, number_token, tokens_of_move, move_tokens, game_tokens, placed_all, column_behind_all, pgn};
+ghost use Rattle.chess_base.specs.declared.man.Variant.TheVariants.{Normal, Fischerandom};
+ghost use Rattle.chess_text.specs.GameText.{roster_lines, start_lines_in, start_lines, tag_lines, number_token, tokens_of_move, move_tokens, game_tokens, placed_all, column_behind_all, pgn};
 ghost use Rattle.chess_text.specs.Waiting.{Adds};
 ghost use Rattle.chess_text.specs.Written.{ended, move_text_of};
 
@@ -15,7 +16,7 @@ use crate::pgn::tags::{TagPair, Tags};
 use crate::writing::san;
 use arrayvec::ArrayVec;
 use chess_base::device::{Output, WriteFault};
-use chess_base::{Colour, Move, Position, Setup, write_fen};
+use chess_base::{Colour, Move, Position, Setup, Variant, write_fen};
 use chess_game::{Game, Outcome};
 use chess_moves::Board;
 use itoa::Buffer;
@@ -119,13 +120,57 @@ fn put_roster<W: Output>(
     put_tags(lines, writer, &roster)
 }
 
-// Puts the tags of a start that is not the initial position.
+// Puts the tags of a start, and of its variant.
 fn put_start<W: Output>(
     lines: &mut LineWriter<'_>,
     writer: &mut W,
     start: &Position,
 ) -> Result<(), WriteFault>
     ensures added { Adds (W.seen writer.old) (W.seen writer.new) lines.old.waiting lines.new.waiting result (ended lines.old.prefix.now (start_lines start.now)) }
+    ensures prefix { lines.new.prefix.now ≡ lines.old.prefix.now }
+    ensures column { lines.new.column ≡ lines.old.column }
+{
+    match start.variant() {
+        Variant::Normal => put_normal_start(lines, writer, start),
+        Variant::Fischerandom => put_chess960_start(lines, writer, start),
+    }
+}
+
+// Puts the tags of a start of Chess960.
+fn put_chess960_start<W: Output>(
+    lines: &mut LineWriter<'_>,
+    writer: &mut W,
+    start: &Position,
+) -> Result<(), WriteFault>
+    ensures added { Adds (W.seen writer.old) (W.seen writer.new) lines.old.waiting lines.new.waiting result (ended lines.old.prefix.now (start_lines_in Fischerandom start.now)) }
+    ensures prefix { lines.new.prefix.now ≡ lines.old.prefix.now }
+    ensures column { lines.new.column ≡ lines.old.column }
+{
+    let fen = write_fen(start);
+    let tags = [
+        TagPair {
+            name: b"FEN",
+            text: fen.as_slice(),
+        },
+        TagPair {
+            name: b"SetUp",
+            text: b"1",
+        },
+        TagPair {
+            name: b"Variant",
+            text: b"fischerandom",
+        },
+    ];
+    put_tags(lines, writer, &tags)
+}
+
+// Puts the tags of a start of normal chess that is not the initial position.
+fn put_normal_start<W: Output>(
+    lines: &mut LineWriter<'_>,
+    writer: &mut W,
+    start: &Position,
+) -> Result<(), WriteFault>
+    ensures added { Adds (W.seen writer.old) (W.seen writer.new) lines.old.waiting lines.new.waiting result (ended lines.old.prefix.now (start_lines_in Normal start.now)) }
     ensures prefix { lines.new.prefix.now ≡ lines.old.prefix.now }
     ensures column { lines.new.column ≡ lines.old.column }
 {

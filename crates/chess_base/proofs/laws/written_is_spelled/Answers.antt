@@ -10,4 +10,4 @@ pub returns-clause-no_other : goal.returns-clause-no_other
 returns-clause-no_other c = no_other
 
 pub returns-clause-read_back : goal.returns-clause-read_back
-returns-clause-read_back c = λ p h. reading-spelled (fen p) p (fen-spelled p h) h
+returns-clause-read_back c = λ p h. reading-spelled p.variant (fen p) p (fen-spelled p h) h

@@ -1,4 +1,4 @@
-use Rattle.std.proofs.Common.{◌≡◌, ℕ, arith}
+use Rattle.std.proofs.Common.{◌≡◌, arith}
 use Rattle.chess_text.proofs.SpelledMoves.{one_square, each_square}
 use Rattle.chess_text.proofs.reading.spelled_moves.Goals as goal
 

@@ -2,7 +2,7 @@ use Rattle.std.proofs.Common.{sym, subst, ◌∙◌}
 use Rattle.chess_text.specs.Waiting.{Adds}
 use Rattle.chess_text.specs.Written.{ended}
 use Rattle.chess_text.proofs.GameTexts.{start_told}
-use Rattle.chess_text.proofs.pgn.write.put_start.Goals as goal
+use Rattle.chess_text.proofs.pgn.write.put_normal_start.Goals as goal
 
 pub returns-clause-added : goal.returns-clause-added
 returns-clause-added g c =
