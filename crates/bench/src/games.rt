@@ -2,7 +2,7 @@
 
 use chess_game::Game;
 use chess_moves::Board;
-use chess_text::{PgnFault, read_pgn};
+use chess_pgn::{PgnFault, read_pgn};
 
 /// How much was read.
 #[derive(Clone, Copy, Debug, PartialEq, Eq)]

@@ -1,7 +1,7 @@
 use crate::games::{Tally, read_games};
 use chess_game::Game;
 use chess_moves::Plain;
-use chess_text::{PgnFault, PgnFaultKind};
+use chess_pgn::{PgnFault, PgnFaultKind};
 
 #[test]
 fn games_are_counted(rt: HostRuntime) {

@@ -5,7 +5,7 @@ use Rattle.chess_cecp.specs.declared.run.End.{End}
 use Rattle.chess_cecp.specs.declared.run.Fault.{Fault}
 use Rattle.chess_cecp.specs.declared.run.Fault.TheVariants.{Write}
 use Rattle.chess_cecp.specs.Held.{Seen, opened}
-use Rattle.chess_text.specs.Tags.{default_tags}
+use Rattle.chess_pgn.specs.Tags.{default_tags}
 use Rattle.chess_cecp.specs.Run.{Transcript, Ran}
 use Rattle.chess_arbiter.specs.Program.{Served}
 use Rattle.chess_arbiter.specs.declared.program.ProgramFault.TheVariants.{WriteFailed}

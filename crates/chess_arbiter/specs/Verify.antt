@@ -3,9 +3,9 @@ use Rattle.std.specs.Prelude.{◌≡◌, ◌≤◌, ◌<◌, ℕ, ◌+◌, List,
 use Rattle.std.specs.Io.KnownBytes.{Consumes, IsAtEnd}
 use Rattle.chess_base.specs.Devices.{InputState, OutputState, Took, BreaksOff, risen}
 use Rattle.chess_game.specs.Results.{outcome_text}
-use Rattle.chess_text.specs.declared.pgn.read.PgnFaultKind.{PgnFaultKind}
-use Rattle.chess_text.specs.declared.pgn.read.PgnFaultKind.TheVariants.{BadTag, BadFen, BadToken, IllegalMove, AmbiguousMove, AfterEnd, TooLong, UnclosedComment, UnclosedVariation, NoResult}
-use Rattle.chess_text.specs.GameRead.{GameRead, pgn_read}
+use Rattle.chess_pgn.specs.declared.read.PgnFaultKind.{PgnFaultKind}
+use Rattle.chess_pgn.specs.declared.read.PgnFaultKind.TheVariants.{BadTag, BadFen, BadToken, IllegalMove, AmbiguousMove, AfterEnd, TooLong, UnclosedComment, UnclosedVariation, NoResult}
+use Rattle.chess_pgn.specs.GameRead.{GameRead, pgn_read}
 use Rattle.chess_arbiter.specs.declared.program.ProgramFault.{ProgramFault}
 use Rattle.chess_arbiter.specs.declared.program.ProgramFault.TheVariants.{ReadFailed, WriteFailed, NoMemory, InputTooLong, WrongWords}
 use Rattle.chess_arbiter.specs.declared.verify.Report.{Report}

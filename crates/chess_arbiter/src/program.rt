@@ -8,7 +8,7 @@ use arrayvec::ArrayString;
 use chess_base::device::{Input, Output, put};
 use chess_cecp::{End, Fault, Session, run_session};
 use chess_moves::Plain;
-use chess_text::Tags;
+use chess_pgn::Tags;
 use std::alloc::Global;
 use std::fmt::Write;
 use std::process::Processes;

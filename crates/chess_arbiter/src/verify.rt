@@ -10,7 +10,7 @@ use arrayvec::ArrayVec;
 use chess_base::device::{Input, Output, WriteFault, put};
 use chess_game::Game;
 use chess_moves::Plain;
-use chess_text::{PgnEnd, PgnFault, PgnFaultKind, read_pgn};
+use chess_pgn::{PgnEnd, PgnFault, PgnFaultKind, read_pgn};
 use itoa::Buffer;
 use std::alloc::Global;
 

@@ -1,7 +1,7 @@
 -- The row of `showpgn`.
 use Rattle.std.proofs.Common.{◌≡◌, true, false, not, codes, refl, ap}
 use Rattle.std.proofs.lemmas.Bool.{and_parts, not-true}
-use Rattle.chess_text.specs.GameText.{pgn}
+use Rattle.chess_pgn.specs.GameText.{pgn}
 use Rattle.chess_cecp.specs.Commands.{command_of, argument_of}
 use Rattle.chess_cecp.specs.Held.{Seen}
 use Rattle.chess_cecp.specs.Lines.{LineSeen}

@@ -10,7 +10,7 @@ use Rattle.chess_base.specs.Reading.{fen_reading_as}
 use Rattle.chess_base.specs.Initial.{initial_setup, initial_setup_of}
 use Rattle.chess_cecp.specs.Lines.{LineSeen}
 use Rattle.chess_cecp.specs.Held.{Seen}
-use Rattle.chess_text.specs.declared.pgn.tags.Tags.{Tags}
+use Rattle.chess_pgn.specs.declared.tags.Tags.{Tags}
 use Rattle.chess_text.specs.Moves.{reading}
 use Rattle.chess_text.specs.declared.reading.Reading.{Reading}
 use Rattle.chess_text.specs.declared.reading.Reading.TheVariants as reads

@@ -4,7 +4,7 @@ use Rattle.std.specs.Prelude.{ℕ}
 use Rattle.chess_base.specs.Initial.{initial_setup}
 use Rattle.chess_game.specs.Game as game
 use Rattle.chess_game.specs.Game.{State, from_start}
-use Rattle.chess_text.specs.declared.pgn.tags.Tags.{Tags}
+use Rattle.chess_pgn.specs.declared.tags.Tags.{Tags}
 
 pub record Seen : Type 0 where
   pub tags : Tags

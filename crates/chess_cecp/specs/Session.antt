@@ -16,8 +16,8 @@ use Rattle.chess_base.specs.Reading.{fen_reading_as}
 use Rattle.chess_base.specs.Writing.{fen}
 use Rattle.chess_cecp.specs.Lines.{LineSeen}
 use Rattle.chess_cecp.specs.Held.{Seen}
-use Rattle.chess_text.specs.GameText.{pgn}
-use Rattle.chess_text.specs.declared.pgn.tags.Tags.{Tags}
+use Rattle.chess_pgn.specs.GameText.{pgn}
+use Rattle.chess_pgn.specs.declared.tags.Tags.{Tags}
 use Rattle.chess_text.specs.Moves.{reading}
 use Rattle.chess_text.specs.San.{shown_move}
 use Rattle.chess_text.specs.declared.reading.Reading.{Reading}

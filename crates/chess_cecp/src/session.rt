@@ -6,7 +6,7 @@ ghost use Rattle.chess_base.specs.Reading.{fen_reading_as};
 ghost use Rattle.chess_base.specs.Writing.{fen};
 ghost use Rattle.chess_game.specs.Game.{current, is_over, IsPlayable};
 ghost use Rattle.chess_cecp.specs.Held.{opened, game_of};
-ghost use Rattle.chess_text.specs.GameText.{pgn};
+ghost use Rattle.chess_pgn.specs.GameText.{pgn};
 ghost use Rattle.chess_game.specs.Results.{cut_comment};
 ghost use Rattle.chess_cecp.specs.Declaring.{declared_by};
 ghost use Rattle.chess_cecp.specs.Session.{row, move_row, undo_row, remove_row, result_row, draws, claim_row, setboard_row, normal_row, variant_row, stands, next_state, answer_to, is_quit, is_quit_command, shows_pgn, asks_for_pgn, line_text};
@@ -22,7 +22,8 @@ use chess_base::device::{Output, WriteFault, put};
 use chess_base::{Position, Variant, read_fen_as, write_fen};
 use chess_game::{Comment, Game, Outcome};
 use chess_moves::Board;
-use chess_text::{Reading, Tags, read_move, write_pgn};
+use chess_pgn::{Tags, write_pgn};
+use chess_text::{Reading, read_move};
 use std::alloc::{AllocError, Global};
 use std::marker::Model;
 

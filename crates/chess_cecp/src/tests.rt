@@ -8,7 +8,7 @@ use crate::session::Session;
 use chess_base::device::{Counted, GatedReader, GatedWriter, PieceReader, PieceWriter};
 use chess_base::{Move, Position, Square, write_fen};
 use chess_moves::{Board, Plain};
-use chess_text::Tags;
+use chess_pgn::Tags;
 use std::alloc::{AllocError, Global};
 use std::cell::Cell;
 use std::process::Abort;

@@ -3,14 +3,3 @@ pub mod Moves
 pub mod Forms
 pub mod San
 pub mod Laws
-pub mod Tokens
-pub mod Words
-pub mod Seen
-pub mod VariationParts
-pub mod Written
-pub mod Waiting
-pub mod Tags
-pub mod GameRead
-pub mod GameSteps
-pub mod GameText
-pub mod PgnLaw

@@ -1,0 +1,125 @@
+-- Reading a game, token by token.
+use Rattle.std.proofs.Common.{◌≡◌, ℕ, ◌-◌, ◌≤◌, ◌<◌, false, List, [], ◌∷◌, arith, rules, length, Some, None, is_some, Result, Ok, Err, refl, sym, ap, subst, ◌∙◌}
+use Rattle.std.specs.Prelude.{nat_lt, codes}
+use Rattle.std.specs.Str.{bytes_eq}
+use Rattle.chess_base.specs.declared.fault.FenFault.{FenFault}
+use Rattle.chess_base.specs.declared.man.Variant.{Variant}
+use Rattle.chess_base.specs.declared.man.Variant.TheVariants.{Normal}
+use Rattle.chess_base.specs.declared.setup.Setup.{Setup}
+use Rattle.chess_base.specs.Initial.{initial_setup_of}
+use Rattle.chess_base.specs.Reading.{fen_reading_as}
+use Rattle.chess_game.specs.Game.{Seen, from_start, current, verdict_now}
+use Rattle.chess_game.specs.Game.{at as left_at}
+use Rattle.chess_game.specs.declared.results.Outcome.{Outcome}
+use Rattle.chess_pgn.specs.declared.read.Progress.{Progress}
+use Rattle.chess_pgn.specs.declared.word.WordKind.{WordKind}
+use Rattle.chess_pgn.specs.declared.word.WordKind.TheVariants.{Termination, Number, Marks, Move}
+use Rattle.chess_text.specs.declared.reading.Reading.{Reading}
+use Rattle.chess_text.specs.declared.reading.Reading.TheVariants as reads
+use Rattle.chess_text.specs.Moves.{reading}
+use Rattle.chess_pgn.specs.Words.{kind_of}
+use Rattle.chess_pgn.specs.Tokens.{Token, Skip, Tag, Word, Bad_tag, Unclosed_comment, Unclosed_variation, Bad, first_place, tokens_from}
+use Rattle.chess_pgn.specs.GameRead.{SoFar, Step, On, Stop, unless_full, move_step, word_step, fen_step, tag_step, step, go_on, game_of, nothing_read, told_by, told_next, variant_told, tokens_read, pgn_read}
+use Rattle.chess_pgn.specs.GameSteps.{so_far}
+use Rattle.chess_pgn.proofs.Cuts.{pick}
+
+-- ---- nothing is declared before the game's end
+
+abbrev Undeclared : Step → Type 0
+Undeclared (On g) = g.state.declared ≡ None
+Undeclared (Stop read) = Unit {0}
+
+unless_full_keeps : (limit : ℕ) (g : SoFar) (place : ℕ) (next : Step) → Undeclared next → Undeclared (unless_full limit g place next)
+unless_full_keeps limit g place next h =
+    pick Undeclared (is_some (verdict_now g.state)) _ _ (λ _. tt) (λ _.
+    pick Undeclared (nat_lt (length g.state.moves) limit) _ _ (λ _. h) (λ _. tt))
+
+move_keeps : (limit : ℕ) (g : SoFar) (place : ℕ) (r : Reading) → g.state.declared ≡ None → Undeclared (move_step limit g place r)
+move_keeps limit g place reads.NotAMove h = tt
+move_keeps limit g place (reads.Move m) h = unless_full_keeps limit g place _ h
+move_keeps limit g place reads.Ambiguous h = unless_full_keeps limit g place _ tt
+move_keeps limit g place reads.NoSuch h = unless_full_keeps limit g place _ tt
+
+word_keeps : (limit : ℕ) (g : SoFar) (place : ℕ) (word : List ℕ) (kind : WordKind) → g.state.declared ≡ None → Undeclared (word_step limit g place word kind)
+word_keeps limit g place word (Termination o) h = tt
+word_keeps limit g place word Number h = h
+word_keeps limit g place word Marks h = h
+word_keeps limit g place word Move h = move_keeps limit g place (reading (current g.state) word) h
+
+fen_keeps : (g : SoFar) (place : ℕ) (r : Result Setup FenFault) → Undeclared (fen_step g place r)
+fen_keeps g place (Ok start) = refl
+fen_keeps g place (Err fault) = tt
+
+tag_keeps : (g : SoFar) (name text : List ℕ) (place : ℕ) → g.state.declared ≡ None → Undeclared (tag_step g name text place)
+tag_keeps g name text place h = pick Undeclared (bytes_eq name (codes "FEN")) _ _ (λ _. fen_keeps g place (fen_reading_as g.state.start.variant text)) (λ _. h)
+
+keeps : (limit total : ℕ) (g : SoFar) (left : ℕ) (t : Token) → g.state.declared ≡ None → Undeclared (step limit total g left t)
+keeps limit total g left Skip h = h
+keeps limit total g left (Tag name text string) h = pick Undeclared g.is_begun _ _ (λ _. tt) (λ _. tag_keeps g name text (total - string) h)
+keeps limit total g left (Word word) h = word_keeps limit g (total - left) word (kind_of word) h
+keeps limit total g left Bad_tag h = tt
+keeps limit total g left (Unclosed_comment brace) h = tt
+keeps limit total g left Unclosed_variation h = tt
+keeps limit total g left Bad h = tt
+
+-- ---- a termination has bytes
+
+pub termination_has_bytes : (word : List ℕ) (o : Outcome) → Termination o ≡ kind_of word → 0 < length word
+termination_has_bytes [] o h = cc
+termination_has_bytes (c ∷ word) o h = search rules
+
+-- ---- the loop: what is left gives the whole
+
+pub record Reads (limit : ℕ) (text : List ℕ) (from : ℕ) (game : Seen) (progress : Progress) (here : ℕ) : Type 0 where
+  pub behind : from ≤ here
+  pub place : here ≤ length text
+  pub undeclared : game.state.declared ≡ None
+  pub same_limit : game.limit ≡ limit
+  pub whole : game_of limit (length text) (so_far game.state progress) (tokens_from text here) ≡ pgn_read limit text from
+
+pub first : (old game : Seen) (start : Setup) (v : Variant) (text : List ℕ) (from here : ℕ) → game ≡ left_at old (from_start start) → start ≡ initial_setup_of v → v ≡ variant_told Normal (tokens_from text here) → here ≡ first_place text from → from ≤ here → here ≤ length text
+    → Reads old.limit text from game (record { is_met = false; is_begun = false }) here
+unfolding pgn_read
+first old game start v text from here restarted initial variant is behind h =
+    let state : game.state ≡ from_start (initial_setup_of v) = ap (λ g. g.state) restarted ∙ ap from_start initial in
+    record {
+      behind = behind;
+      place = h;
+      undeclared = ap (λ s. s.declared) state;
+      same_limit = ap (λ g. g.limit) restarted;
+      whole =
+          ap (λ s. game_of old.limit (length text) (so_far s (record { is_met = false; is_begun = false })) (tokens_from text here)) state
+          ∙ ap (λ u. game_of old.limit (length text) (nothing_read u) (tokens_from text here)) variant
+          ∙ ap (λ n. tokens_read old.limit (length text) (tokens_from text n)) is;
+    }
+
+-- ---- the loop over tags: what is left gives the whole
+
+pub record Tells (text : List ℕ) (from : ℕ) (v : Variant) (here : ℕ) : Type 0 where
+  pub place : here ≤ length text
+  pub whole : variant_told v (tokens_from text here) ≡ variant_told Normal (tokens_from text from)
+
+pub told_more : (text : List ℕ) (from : ℕ) (v u : Variant) (here behind : ℕ) (t : Token) → Tells text from v here → tokens_from text here ≡ (length text - here, t) ∷ tokens_from text behind → behind ≤ length text → Some u ≡ told_by v t → Tells text from u behind
+told_more text from v u here behind t r is h told = record {
+  place = h;
+  whole = ap (λ o. told_next v o (λ w. variant_told w (tokens_from text behind))) told ∙ ap (variant_told v) (sym is) ∙ r.whole;
+}
+
+pub told_last : (text : List ℕ) (from : ℕ) (v : Variant) (here : ℕ) (t : Token) (ts : List (ℕ × Token)) → Tells text from v here → tokens_from text here ≡ (length text - here, t) ∷ ts → None ≡ told_by v t → v ≡ variant_told Normal (tokens_from text from)
+told_last text from v here t ts r is told = ap (λ o. told_next v o (λ w. variant_told w ts)) told ∙ ap (variant_told v) (sym is) ∙ r.whole
+
+-- a token: what its step gives is gone on with
+stepped : (limit : ℕ) (text : List ℕ) (from : ℕ) (game : Seen) (p : Progress) (here : ℕ) (t : Token) (ts : List (ℕ × Token)) (after : Step) → Reads limit text from game p here → tokens_from text here ≡ (length text - here, t) ∷ ts → after ≡ step game.limit (length text) (so_far game.state p) (length text - here) t → go_on after (λ g. game_of limit (length text) g ts) ≡ pgn_read limit text from
+stepped limit text from game p here t ts after r is step_is =
+    ap (λ s. go_on s (λ g. game_of limit (length text) g ts)) (step_is ∙ ap (λ n. step n (length text) (so_far game.state p) (length text - here) t) r.same_limit)
+    ∙ ap (game_of limit (length text) (so_far game.state p)) (sym is)
+    ∙ r.whole
+
+pub more : (limit : ℕ) (text : List ℕ) (from : ℕ) (game new : Seen) (p q : Progress) (here behind : ℕ) (t : Token) → Reads limit text from game p here → tokens_from text here ≡ (length text - here, t) ∷ tokens_from text behind → here < behind → behind ≤ length text → new.limit ≡ game.limit → On (so_far new.state q) ≡ step game.limit (length text) (so_far game.state p) (length text - here) t → Reads limit text from new q behind
+more limit text from game new p q here behind t r is later h same step_is = record {
+  behind = (let before = r.behind in omega (arith, before, later));
+  place = h;
+  undeclared = subst Undeclared (sym step_is) (keeps game.limit (length text) (so_far game.state p) (length text - here) t r.undeclared);
+  same_limit = same ∙ r.same_limit;
+  whole = stepped limit text from game p here t (tokens_from text behind) (On (so_far new.state q)) r is step_is;
+}

@@ -1,0 +1,197 @@
+-- The whole text of a game: what is written is read back.
+use Rattle.std.proofs.Common.{◌≡◌, ℕ, suc, ◌+◌, ◌-◌, ◌<◌, ◌≤◌, Bool, true, false, cond, eqb, List, [], ◌∷◌, ◌++◌, length, drop, Option, Some, None, refl, sym, ap, subst, ◌∙◌, append_assoc, arith}
+use Rattle.std.specs.Prelude.{codes, Ok, is_some}
+use Rattle.std.specs.List.{list_all}
+use Rattle.std.proofs.lemmas.Bool.Decides.{nat_tests}
+use Rattle.std.proofs.lemmas.List.{length-append, drop_at}
+use Rattle.std.proofs.lemmas.Slice.Eq.{bytes_eq-Decides}
+use Rattle.chess_base.specs.declared.man.Variant.{Variant}
+use Rattle.chess_base.specs.declared.man.Variant.TheVariants.{Normal, Fischerandom}
+use Rattle.chess_base.specs.declared.setup.Setup.{Setup}
+use Rattle.chess_base.specs.Initial.{initial_setup, initial_setup_of}
+use Rattle.chess_base.specs.Laws.{AfterIsSound, WrittenIsReadBack}
+use Rattle.chess_base.specs.Reading.{fen_reading_as}
+use Rattle.chess_base.specs.Sound.{IsSound}
+use Rattle.chess_base.specs.Writing.{fen}
+use Rattle.chess_game.specs.declared.ends.Verdict.{Verdict}
+use Rattle.chess_game.specs.Game.{State, from_start, outcome_by, outcome_now, verdict_now, IsPlayable}
+use Rattle.chess_game.specs.Results.{outcome_text}
+use Rattle.chess_game.specs.declared.results.Declared.{Declared}
+use Rattle.chess_game.specs.declared.results.Outcome.{Outcome}
+use Rattle.chess_game.specs.declared.results.Outcome.TheVariants.{WhiteWins, BlackWins, Draw, Unfinished}
+use Rattle.chess_pgn.specs.declared.tags.Tags.{Tags}
+use Rattle.chess_pgn.specs.GameRead.{SoFar, GameRead, declared_behind, game_of, nothing_read, tokens_read, pgn_read}
+use Rattle.chess_pgn.specs.GameText.{is_initial, start_lines_in, start_lines, tag_lines, move_tokens, game_tokens, pgn}
+use Rattle.chess_pgn.specs.PgnLaw.{AreTagTexts, IsReadBack, PgnIsReadBack}
+use Rattle.chess_pgn.specs.Tokens.{first_place, begins_line, tokens_of, tokens_from}
+use Rattle.chess_pgn.specs.Written.{tag_line, ended, filled_from}
+use Rattle.chess_pgn.proofs.PgnMoves.{outcome_some, filled_long, outcome_read, read_so_far, moves_read}
+use Rattle.chess_pgn.proofs.PgnPieces.{read_on, TakesLine, empty_line, tagged, ended_game, plain_tag, fen_tag}
+use Rattle.chess_pgn.proofs.PgnTags.{is_in_line, tag_text_in_line}
+use Rattle.chess_pgn.proofs.VariantTold.{told_on, tags_tell, moves_tell}
+use Rattle.chess_pgn.proofs.Walk.{enough}
+
+-- ---- the tags
+
+outcome_in_line : (o : Outcome) → list_all is_in_line (outcome_text o) ≡ true
+outcome_in_line WhiteWins = refl
+outcome_in_line BlackWins = refl
+outcome_in_line Draw = refl
+outcome_in_line Unfinished = refl
+
+initial_variant : (v : Variant) → (initial_setup_of v).variant ≡ v
+unfolding initial_setup_of
+initial_variant v = refl
+
+initial_normal : initial_setup ≡ initial_setup_of Normal
+unfolding initial_setup
+initial_normal = refl
+
+-- in normal chess only the initial position has its FEN
+initial_is : WrittenIsReadBack → IsSound (initial_setup_of Normal) → (start : Setup) → start.variant ≡ Normal → IsSound start → is_initial start ≡ true → start ≡ initial_setup_of Normal
+initial_is law initial start normal sound e =
+    let same : fen start ≡ fen (initial_setup_of Normal) = (bytes_eq-Decides (fen start) (fen initial_setup)).0 e ∙ ap fen initial_normal in
+    let here = law start sound in
+    let there = law (initial_setup_of Normal) initial in
+    let both : Ok start ≡ Ok (initial_setup_of Normal) = sym here ∙ ap (fen_reading_as start.variant) same ∙ ap (λ v. fen_reading_as v (fen (initial_setup_of Normal))) (normal ∙ sym (initial_variant Normal)) ∙ there in
+    cc
+
+grouped : (tags moves rest : List ℕ) → tags ++ moves ++ 10 ∷ [] ++ rest ≡ tags ++ (moves ++ 10 ∷ rest)
+grouped tags moves rest = simp append_assoc
+
+module _ (limit total : ℕ) where
+  -- a line, and what follows it
+  line_read : (g h : SoFar) (begins : Bool) (line : List ℕ) (lines : List (List ℕ)) (rest : List ℕ) (r : GameRead) → TakesLine limit total g h line → read_on limit total h true (ended [] lines ++ rest) ≡ r
+      → read_on limit total g begins (ended [] (line ∷ lines) ++ rest) ≡ r
+  line_read g h begins line lines rest r takes reads =
+      let text : ended [] (line ∷ lines) ++ rest ≡ line ++ 10 ∷ (ended [] lines ++ rest) = simp append_assoc in
+      ap (read_on limit total g begins) text ∙ takes begins (ended [] lines ++ rest) ∙ reads
+
+  -- the tags of a start, and the empty line
+  start_read : WrittenIsReadBack → IsSound (initial_setup_of Normal) → (v : Variant) (start : Setup) → start.variant ≡ v → IsSound start → (rest : List ℕ) → read_on limit total (tagged true (from_start (initial_setup_of v))) true (ended [] (start_lines_in v start ++ [] ∷ []) ++ rest) ≡ read_on limit total (tagged true (from_start start)) true rest
+  start_read law initial Normal start is sound rest = by_test (is_initial start) refl
+    where
+      by_test : (b : Bool) → is_initial start ≡ b → read_on limit total (tagged true (from_start (initial_setup_of Normal))) true (ended [] (cond b [] (tag_line (codes "FEN") (fen start) ∷ tag_line (codes "SetUp") (codes "1") ∷ []) ++ [] ∷ []) ++ rest) ≡ read_on limit total (tagged true (from_start start)) true rest
+      by_test true e =
+          line_read (tagged true (from_start (initial_setup_of Normal))) (tagged true (from_start (initial_setup_of Normal))) true [] [] rest _ (empty_line limit total (tagged true (from_start (initial_setup_of Normal)))) refl
+          ∙ ap (λ p. read_on limit total (tagged true (from_start p)) true rest) (sym (initial_is law initial start is sound e))
+      by_test false e =
+          let s : State = from_start start in
+          line_read (tagged true (from_start (initial_setup_of Normal))) (tagged true s) true (tag_line (codes "FEN") (fen start)) (tag_line (codes "SetUp") (codes "1") ∷ [] ∷ []) rest _ (fen_tag limit total law (from_start (initial_setup_of Normal)) start sound (initial_variant Normal ∙ sym is))
+          (line_read (tagged true s) (tagged true s) true (tag_line (codes "SetUp") (codes "1")) ([] ∷ []) rest _ (plain_tag limit total true s (codes "SetUp") (codes "1") refl refl refl)
+          (line_read (tagged true s) (tagged true s) true [] [] rest _ (empty_line limit total (tagged true s)) refl))
+  start_read law initial Fischerandom start is sound rest =
+      let s : State = from_start start in
+      let variant : List ℕ = tag_line (codes "Variant") (codes "fischerandom") in
+      line_read (tagged true (from_start (initial_setup_of Fischerandom))) (tagged true s) true (tag_line (codes "FEN") (fen start)) (tag_line (codes "SetUp") (codes "1") ∷ variant ∷ [] ∷ []) rest _ (fen_tag limit total law (from_start (initial_setup_of Fischerandom)) start sound (initial_variant Fischerandom ∙ sym is))
+      (line_read (tagged true s) (tagged true s) true (tag_line (codes "SetUp") (codes "1")) (variant ∷ [] ∷ []) rest _ (plain_tag limit total true s (codes "SetUp") (codes "1") refl refl refl)
+      (line_read (tagged true s) (tagged true s) true variant ([] ∷ []) rest _ (plain_tag limit total true s (codes "Variant") (codes "fischerandom") refl refl refl)
+      (line_read (tagged true s) (tagged true s) true [] [] rest _ (empty_line limit total (tagged true s)) refl)))
+
+  -- all tags
+  tags_read : WrittenIsReadBack → IsSound (initial_setup_of Normal) → (tags : Tags) → AreTagTexts tags → (s : State) → IsSound s.start → (begins : Bool) (rest : List ℕ) → read_on limit total (nothing_read s.start.variant) begins (ended [] (tag_lines tags s ++ [] ∷ []) ++ rest) ≡ read_on limit total (tagged true (from_start s.start)) true rest
+  tags_read law initial t texts s sound begins rest =
+      let g : SoFar = tagged true (from_start (initial_setup_of s.start.variant)) in
+      let last : List (List ℕ) = start_lines s.start ++ [] ∷ [] in
+      let result : List ℕ = tag_line (codes "Result") (outcome_text (outcome_now s)) in
+      let black : List ℕ = tag_line (codes "Black") t.black in
+      let white : List ℕ = tag_line (codes "White") t.white in
+      let round : List ℕ = tag_line (codes "Round") t.round in
+      let date : List ℕ = tag_line (codes "Date") t.date in
+      let site : List ℕ = tag_line (codes "Site") t.site in
+      line_read (nothing_read s.start.variant) g begins (tag_line (codes "Event") t.event) (site ∷ date ∷ round ∷ white ∷ black ∷ result ∷ last) rest _ (plain_tag limit total false (from_start (initial_setup_of s.start.variant)) (codes "Event") t.event refl refl (tag_text_in_line t.event texts.event))
+      (line_read g g true site (date ∷ round ∷ white ∷ black ∷ result ∷ last) rest _ (plain_tag limit total true (from_start (initial_setup_of s.start.variant)) (codes "Site") t.site refl refl (tag_text_in_line t.site texts.site))
+      (line_read g g true date (round ∷ white ∷ black ∷ result ∷ last) rest _ (plain_tag limit total true (from_start (initial_setup_of s.start.variant)) (codes "Date") t.date refl refl (tag_text_in_line t.date texts.date))
+      (line_read g g true round (white ∷ black ∷ result ∷ last) rest _ (plain_tag limit total true (from_start (initial_setup_of s.start.variant)) (codes "Round") t.round refl refl (tag_text_in_line t.round texts.round))
+      (line_read g g true white (black ∷ result ∷ last) rest _ (plain_tag limit total true (from_start (initial_setup_of s.start.variant)) (codes "White") t.white refl refl (tag_text_in_line t.white texts.white))
+      (line_read g g true black (result ∷ last) rest _ (plain_tag limit total true (from_start (initial_setup_of s.start.variant)) (codes "Black") t.black refl refl (tag_text_in_line t.black texts.black))
+      (line_read g g true result last rest _ (plain_tag limit total true (from_start (initial_setup_of s.start.variant)) (codes "Result") (outcome_text (outcome_now s)) refl refl (outcome_in_line (outcome_now s)))
+      (start_read law initial s.start.variant s.start refl sound rest)))))))
+
+  -- ---- the text
+
+  -- what is read of a whole text
+  text_read : AfterIsSound → WrittenIsReadBack → IsSound (initial_setup_of Normal) → (tags : Tags) → AreTagTexts tags → (s : State) → IsPlayable (record { limit = limit; state = s }) → (begins : Bool) (rest : List ℕ)
+      → read_on limit total (nothing_read s.start.variant) begins (pgn [] tags s ++ rest)
+      ≡ ended_game (record { start = s.start; moves = s.moves; declared = None }) (outcome_now s) (total - length (outcome_text (outcome_now s) ++ 10 ∷ 10 ∷ rest) + length (outcome_text (outcome_now s)))
+  unfolding pgn
+  text_read after_law law initial t texts s h begins rest =
+      let o : Outcome = outcome_now s in
+      let moves : List ℕ = filled_from [] 0 (game_tokens s) in
+      let r : GameRead = ended_game (record { start = s.start; moves = s.moves; declared = None }) o (total - length (outcome_text o ++ 10 ∷ 10 ∷ rest) + length (outcome_text o)) in
+      ap (read_on limit total (nothing_read s.start.variant) begins) (grouped (ended [] (tag_lines t s ++ [] ∷ [])) moves rest)
+      ∙ tags_read law initial t texts s h.start begins (moves ++ 10 ∷ rest)
+      ∙ moves_read limit total after_law s.start s.moves (record { few = h.limit; unended = h.unended }) (outcome_text o) (10 ∷ rest) r (λ x b k. outcome_read limit total (read_so_far s.start s.moves x) b k o (10 ∷ rest)) true s.start [] s.moves refl refl h.start h.line false true 0
+
+-- ---- its place
+
+-- a text that begins so has no byte order mark
+no_mark : (before : List ℕ) (c : ℕ) (rest : List ℕ) → eqb c 239 ≡ false → first_place (before ++ c ∷ rest) (length before) ≡ length before
+no_mark [] c rest e = rw e refl
+no_mark (b ∷ before) c rest e = let some : eqb (suc (length before)) 0 ≡ false = grind (arith, nat_tests) in rw some refl
+
+-- reading from the place behind `before` on
+read_behind : (limit : ℕ) (before text : List ℕ) (v : Variant) → first_place (before ++ text) (length before) ≡ length before → told_on Normal (begins_line (before ++ text) (length before)) text ≡ v
+    → pgn_read limit (before ++ text) (length before) ≡ read_on limit (length (before ++ text)) (nothing_read v) (begins_line (before ++ text) (length before)) text
+unfolding pgn_read tokens_from
+read_behind limit before text v place told =
+    let whole : List ℕ = before ++ text in
+    let fewer : length text ≤ length whole = omega (arith, length-append before text) in
+    ap (λ at. tokens_read limit (length whole) (tokens_from whole at)) place
+    ∙ ap (λ xs. tokens_read limit (length whole) (tokens_of (length whole) (begins_line whole (length before)) xs)) (drop_at before text (length before) refl)
+    ∙ ap (tokens_read limit (length whole)) (enough (length whole) (length text) (begins_line whole (length before)) text fewer (omega arith))
+    ∙ ap (λ u. game_of limit (length whole) (nothing_read u) (tokens_of (length text) (begins_line whole (length before)) text)) told
+
+-- the variant that a game's text tells
+variant_is : (tags : Tags) → AreTagTexts tags → (s : State) → IsSound s.start → (begins : Bool) (rest : List ℕ) → told_on Normal begins (pgn [] tags s ++ rest) ≡ s.start.variant
+unfolding pgn
+variant_is t texts s sound begins rest =
+    let moves : List ℕ = filled_from [] 0 (game_tokens s) in
+    ap (told_on Normal begins) (grouped (ended [] (tag_lines t s ++ [] ∷ [])) moves rest)
+    ∙ tags_tell t texts s sound begins (moves ++ 10 ∷ rest)
+    ∙ moves_tell s.start.variant s rest sound
+
+first_bytes : (tags : Tags) (s : State) → pgn [] tags s ≡ 91 ∷ drop 1 (pgn [] tags s)
+unfolding pgn
+first_bytes tags s = refl
+
+longer : (a b : List ℕ) (n : ℕ) → n < length b → n + 2 ≤ length (a ++ b ++ 10 ∷ [])
+longer a b n h = omega (arith, length-append (a ++ b) (10 ∷ []), length-append a b)
+
+pgn_long : (tags : Tags) (s : State) → length (outcome_text (outcome_now s)) + 2 ≤ length (pgn [] tags s)
+unfolding pgn
+pgn_long tags s =
+    let t : List ℕ = outcome_text (outcome_now s) in
+    longer (ended [] (tag_lines tags s ++ [] ∷ [])) (filled_from [] 0 (game_tokens s)) (length t) (filled_long 0 (move_tokens true s.start s.moves) t (outcome_some (outcome_now s)))
+
+-- ---- the law
+
+declared_again : (o : Outcome) → outcome_by None (declared_behind false o) ≡ o
+declared_again WhiteWins = refl
+declared_again BlackWins = refl
+declared_again Draw = refl
+declared_again Unfinished = refl
+
+-- the verdict is there again; where there is none, what the termination tells is declared
+same_outcome : (v : Option Verdict) (d : Option Declared) → outcome_by v (declared_behind (is_some v) (outcome_by v d)) ≡ outcome_by v d
+same_outcome (Some v) d = refl
+same_outcome None d = declared_again (outcome_by None d)
+
+pub pgn_law : AfterIsSound → WrittenIsReadBack → IsSound (initial_setup_of Normal) → PgnIsReadBack
+pgn_law after_law law initial limit tags s before rest texts h =
+    let written : List ℕ = pgn [] tags s in
+    let o : List ℕ = outcome_text (outcome_now s) in
+    let total : ℕ = length (before ++ (written ++ rest)) in
+    let place : first_place (before ++ (written ++ rest)) (length before) ≡ length before = rw (first_bytes tags s) (no_mark before 91 (drop 1 written ++ rest) refl) in
+    let is : pgn_read limit (before ++ written ++ rest) (length before) ≡ ended_game (record { start = s.start; moves = s.moves; declared = None }) (outcome_now s) (total - length (o ++ 10 ∷ 10 ∷ rest) + length o) =
+    ap (λ text. pgn_read limit text (length before)) (append_assoc before written rest)
+    ∙ read_behind limit before (written ++ rest) s.start.variant place (variant_is tags texts s h.start (begins_line (before ++ (written ++ rest)) (length before)) rest)
+    ∙ text_read limit total after_law law initial tags texts s h (begins_line (before ++ (written ++ rest)) (length before)) rest in
+    subst (IsReadBack s (length (before ++ written))) (sym is) (record {
+      start = refl;
+      moves = refl;
+      outcome = same_outcome (verdict_now s) s.declared;
+      place = total - length (o ++ 10 ∷ 10 ∷ rest) + length o;
+      answer = refl;
+      behind = omega (arith, length-append before (written ++ rest), length-append written rest, length-append before written, length-append o (10 ∷ 10 ∷ rest), pgn_long tags s);
+    })

@@ -1,0 +1,198 @@
+-- Words as they are written in a game: each is one token where a byte of no word follows, and of its own kind.
+use Rattle.std.proofs.Common.{◌≡◌, ◌⊎◌, ℕ, ◌<◌, ◌≤◌, Bool, true, false, ◌||◌, eqb, List, [], ◌∷◌, ◌++◌, length, take, drop, None, refl, ap, ◌∙◌, inl, inr, arith}
+use Rattle.std.proofs.Math.Seq.{take-append_seam}
+use Rattle.std.proofs.lemmas.Bool.{and_parts, and_from, or_cases}
+use Rattle.std.proofs.lemmas.Bool.Decides.{nat_tests}
+use Rattle.std.proofs.lemmas.Fmt.{decimal_is_IsNumeral}
+use Rattle.std.proofs.lemmas.List.{drop_at}
+use Rattle.std.proofs.lemmas.Slice.Eq.{bytes_eq-Decides}
+use Rattle.std.proofs.lemmas.Str.Parse.{digit_from_value}
+use Rattle.std.specs.Fmt.{decimal}
+use Rattle.std.specs.List.{list_all, prefix_len, take_while}
+use Rattle.std.specs.Prelude.{nat_le}
+use Rattle.std.specs.Str.{bytes_eq}
+use Rattle.std.specs.Str.Parse.{AllDigits}
+use Rattle.chess_game.specs.Results.{outcome_text}
+use Rattle.chess_game.specs.declared.results.Outcome.{Outcome}
+use Rattle.chess_game.specs.declared.results.Outcome.TheVariants.{WhiteWins, BlackWins, Draw, Unfinished}
+use Rattle.chess_pgn.specs.declared.word.WordKind.TheVariants.{Termination, Number, Move}
+use Rattle.chess_text.specs.Laws.{is_san_byte, begins_with_letter}
+use Rattle.chess_pgn.specs.Tokens.{Word, is_letter, is_digit, is_word_byte, token_at}
+use Rattle.chess_pgn.specs.Words.{outcome_of, kind_by, kind_of}
+
+-- ---- a run of bytes that pass
+
+-- what a run takes of a text, and what it leaves
+pub record Run (p : ℕ → Bool) (text run rest : List ℕ) : Type 0 where
+  pub taken : take_while p text ≡ run
+  pub left : drop (prefix_len p text) text ≡ rest
+
+run_len : (p : ℕ → Bool) (run : List ℕ) (d : ℕ) (rest : List ℕ) → list_all p run ≡ true → p d ≡ false → prefix_len p (run ++ d ∷ rest) ≡ length run
+run_len p [] d rest all ends = rw ends refl
+run_len p (c ∷ run) d rest all ends =
+    let both = and_parts (p c) (list_all p run) all in
+    rw both.0 (omega (arith, run_len p run d rest both.1 ends))
+
+pub whole_run : (p : ℕ → Bool) (run : List ℕ) (d : ℕ) (rest : List ℕ) → list_all p run ≡ true → p d ≡ false → Run p (run ++ d ∷ rest) run (d ∷ rest)
+whole_run p run d rest all ends =
+    let n = run_len p run d rest all ends in
+    record {
+      taken = ap (λ k. take k (run ++ d ∷ rest)) n ∙ take-append_seam run (d ∷ rest);
+      left = ap (λ k. drop k (run ++ d ∷ rest)) n ∙ drop_at run (d ∷ rest) (length run) refl;
+    }
+
+-- a byte that passes is not one that doesn't
+pub not_byte : (p : ℕ → Bool) (k c : ℕ) → p k ≡ false → p c ≡ true → eqb c k ≡ false
+not_byte p k c fails passes = by_test (eqb c k) refl
+  where
+    by_test : (t : Bool) → eqb c k ≡ t → t ≡ false
+    by_test true e = let is : c ≡ k = grind (arith, nat_tests) in let same : p c ≡ p k = ap p is in absurd (cc)
+    by_test false e = refl
+
+-- ---- a word
+
+-- a byte that begins no `%` line begins the same token where a line begins and where none does
+pub no_percent : (begins : Bool) (c : ℕ) (rest : List ℕ) → eqb c 37 ≡ false → token_at begins c rest ≡ token_at false c rest
+unfolding token_at
+no_percent true c rest e = rw e refl
+no_percent false c rest e = refl
+
+first_byte : (c : ℕ) (rest : List ℕ) → is_word_byte c ≡ true → token_at false c rest ≡ (Word (take_while is_word_byte (c ∷ rest)), drop (prefix_len is_word_byte (c ∷ rest)) (c ∷ rest))
+unfolding token_at
+first_byte c rest h =
+    rw (not_byte is_word_byte 32 c refl h, not_byte is_word_byte 9 c refl h, not_byte is_word_byte 10 c refl h, not_byte is_word_byte 13 c refl h, not_byte is_word_byte 46 c refl h, not_byte is_word_byte 123 c refl h, not_byte is_word_byte 59 c refl h, not_byte is_word_byte 36 c refl h, not_byte is_word_byte 40 c refl h, not_byte is_word_byte 91 c refl h, not_byte is_word_byte 42 c refl h, h)
+    refl
+
+pub word_token : (begins : Bool) (c : ℕ) (cs : List ℕ) (d : ℕ) (rest : List ℕ) → list_all is_word_byte (c ∷ cs) ≡ true → is_word_byte d ≡ false → token_at begins c (cs ++ d ∷ rest) ≡ (Word (c ∷ cs), d ∷ rest)
+word_token begins c cs d rest all ends =
+    let both = and_parts (is_word_byte c) (list_all is_word_byte cs) all in
+    let run = whole_run is_word_byte (c ∷ cs) d rest all ends in
+    no_percent begins c (cs ++ d ∷ rest) (not_byte is_word_byte 37 c refl both.0)
+    ∙ first_byte c (cs ++ d ∷ rest) both.0
+    ∙ ap (λ word. (Word word, drop (prefix_len is_word_byte (c ∷ (cs ++ d ∷ rest))) (c ∷ (cs ++ d ∷ rest)))) run.taken
+    ∙ ap (λ left. (Word (c ∷ cs), left)) run.left
+
+-- ---- kinds of words
+
+-- an outcome's text that fails a test is not a text that passes it
+other_text : (p : List ℕ → Bool) (text word : List ℕ) → p text ≡ false → p word ≡ true → bytes_eq text word ≡ false
+other_text p text word fails passes = by_test (bytes_eq text word) refl
+  where
+    by_test : (t : Bool) → bytes_eq text word ≡ t → t ≡ false
+    by_test true e = let same : p text ≡ p word = ap p ((bytes_eq-Decides text word).0 e) in absurd (cc)
+    by_test false e = refl
+
+no_outcome : (p : List ℕ → Bool) (word : List ℕ) → ((o : Outcome) → p (outcome_text o) ≡ false) → p word ≡ true → outcome_of word ≡ None
+no_outcome p word none h =
+    let a = other_text p (outcome_text WhiteWins) word (none WhiteWins) h in
+    let b = other_text p (outcome_text BlackWins) word (none BlackWins) h in
+    let c = other_text p (outcome_text Draw) word (none Draw) h in
+    let d = other_text p (outcome_text Unfinished) word (none Unfinished) h in
+    rw (a, b, c, d) refl
+
+no_digits : (o : Outcome) → list_all is_digit (outcome_text o) ≡ false
+no_digits WhiteWins = refl
+no_digits BlackWins = refl
+no_digits Draw = refl
+no_digits Unfinished = refl
+
+no_letter : (o : Outcome) → begins_with_letter (outcome_text o) ≡ false
+no_letter WhiteWins = refl
+no_letter BlackWins = refl
+no_letter Draw = refl
+no_letter Unfinished = refl
+
+pub outcome_kind : (o : Outcome) → kind_of (outcome_text o) ≡ Termination o
+outcome_kind WhiteWins = refl
+outcome_kind BlackWins = refl
+outcome_kind Draw = refl
+outcome_kind Unfinished = refl
+
+pub outcome_bytes : (o : Outcome) → list_all is_word_byte (outcome_text o) ≡ true ⊎ (o ≡ Unfinished)
+outcome_bytes WhiteWins = inl refl
+outcome_bytes BlackWins = inl refl
+outcome_bytes Draw = inl refl
+outcome_bytes Unfinished = inr refl
+
+pub number_kind : (word : List ℕ) → list_all is_digit word ≡ true → kind_of word ≡ Number
+number_kind word h = ap (kind_by word) (no_outcome (list_all is_digit) word no_digits h) ∙ rw h refl
+
+letter_fails : (p : ℕ → Bool) (c : ℕ) → ((k : ℕ) → p k ≡ true → is_letter k ≡ false) → is_letter c ≡ true → p c ≡ false
+letter_fails p c none h = by_test (p c) refl
+  where
+    by_test : (t : Bool) → p c ≡ t → t ≡ false
+    by_test true e = let off = none c e in absurd (cc)
+    by_test false e = refl
+
+digit_no_letter : (k : ℕ) → is_digit k ≡ true → is_letter k ≡ false
+digit_no_letter k h =
+    let both = and_parts (nat_le 48 k) (nat_le k 57) h in
+    let high : nat_le k 57 ≡ true = both.1 in
+    let a : nat_le 65 k ≡ false = grind (arith, nat_tests) in
+    let b : nat_le 97 k ≡ false = grind (arith, nat_tests) in
+    rw (a, b) refl
+
+mark_no_letter : (k : ℕ) → (eqb k 33 || eqb k 63) ≡ true → is_letter k ≡ false
+mark_no_letter k h =
+    let low : k ≤ 64 = elim (or_cases (eqb k 33) (eqb k 63) h) [ inl e ↦ grind (arith, nat_tests) | inr e ↦ grind (arith, nat_tests) ] in
+    let a : nat_le 65 k ≡ false = grind (arith, nat_tests) in
+    let b : nat_le 97 k ≡ false = grind (arith, nat_tests) in
+    rw (a, b) refl
+
+pub move_kind : (word : List ℕ) → begins_with_letter word ≡ true → kind_of word ≡ Move
+move_kind [] h = absurd (cc)
+move_kind (c ∷ cs) h =
+    let digit = letter_fails is_digit c digit_no_letter h in
+    let mark = letter_fails (λ k. eqb k 33 || eqb k 63) c mark_no_letter h in
+    ap (kind_by (c ∷ cs)) (no_outcome begins_with_letter (c ∷ cs) no_letter h) ∙ rw (digit, mark) refl
+
+-- ---- numbers and SAN are words
+
+pub all_of : (p q : ℕ → Bool) → ((c : ℕ) → p c ≡ true → q c ≡ true) → (text : List ℕ) → list_all p text ≡ true → list_all q text ≡ true
+all_of p q h [] all = refl
+all_of p q h (c ∷ cs) all =
+    let both = and_parts (p c) (list_all p cs) all in
+    and_from (q c) (list_all q cs) (h c both.0) (all_of p q h cs both.1)
+
+-- digits as std tells them
+all_digits : (text : List ℕ) → AllDigits 10 text → list_all is_digit text ≡ true
+all_digits [] h = refl
+all_digits (c ∷ cs) h =
+    let range = digit_from_value c h.0 in
+    let a : nat_le 48 c ≡ true = grind (arith, nat_tests) in
+    let b : nat_le c 57 ≡ true = grind (arith, nat_tests) in
+    and_from (is_digit c) (list_all is_digit cs) (and_from (nat_le 48 c) (nat_le c 57) a b) (all_digits cs h.1)
+
+pub decimal_digits : (n : ℕ) → n ≤ 999999 → list_all is_digit (decimal n) ≡ true
+decimal_digits n h = all_digits (decimal n) (decimal_is_IsNumeral n (omega arith)).0.1
+
+pub decimal_some : (n : ℕ) → n ≤ 999999 → 0 < length (decimal n)
+decimal_some n h = (decimal_is_IsNumeral n (omega arith)).0.0
+
+digit_in_word : (c : ℕ) → is_digit c ≡ true → is_word_byte c ≡ true
+digit_in_word c h = by_letter (is_letter c) (is_digit c) h
+  where
+    by_letter : (a b : Bool) → b ≡ true → ((a || (b || eqb c 95)) || (eqb c 43 || (eqb c 35 || (eqb c 61 || (eqb c 45 || (eqb c 47 || (eqb c 33 || (eqb c 63 || eqb c 58)))))))) ≡ true
+    by_letter true b e = refl
+    by_letter false true e = refl
+    by_letter false false e = cc
+
+pub number_bytes : (text : List ℕ) → list_all is_digit text ≡ true → list_all is_word_byte text ≡ true
+number_bytes = all_of is_digit is_word_byte digit_in_word
+
+-- letter, digit, `+`, `#`, `=` and `-` among the bytes of words
+among : (letter digit plus sharp equals dash under others : Bool) → (letter || digit || plus || sharp || equals || dash) ≡ true → ((letter || (digit || under)) || (plus || (sharp || (equals || (dash || others))))) ≡ true
+among true digit plus sharp equals dash under others e = refl
+among false true plus sharp equals dash under others e = refl
+among false false plus sharp equals dash true others e = refl
+among false false true sharp equals dash false others e = refl
+among false false false true equals dash false others e = refl
+among false false false false true dash false others e = refl
+among false false false false false true false others e = refl
+among false false false false false false false others e = cc
+
+san_in_word : (c : ℕ) → is_san_byte c ≡ true → is_word_byte c ≡ true
+san_in_word c h = among (is_letter c) (is_digit c) (eqb c 43) (eqb c 35) (eqb c 61) (eqb c 45) (eqb c 95) (eqb c 47 || (eqb c 33 || (eqb c 63 || eqb c 58))) h
+
+pub san_bytes_in_word : (text : List ℕ) → list_all (λ c. is_san_byte c) text ≡ true → list_all is_word_byte text ≡ true
+san_bytes_in_word = all_of (λ c. is_san_byte c) is_word_byte san_in_word

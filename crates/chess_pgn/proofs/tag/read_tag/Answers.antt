@@ -1,0 +1,10 @@
+use Rattle.std.proofs.Common.{sym, ap, ◌∙◌}
+use Rattle.chess_pgn.specs.Seen.{tag_seen}
+use Rattle.chess_pgn.proofs.Strings.{tag_unclosed}
+use Rattle.chess_pgn.proofs.tag.read_tag.Goals as goal
+
+pub returns-in_err-rest : goal.returns-in_err-rest
+returns-in_err-rest c =
+    let name = c.split_name.ensures in
+    ap tag_seen c.from_residual-in_err-rest.ensures
+    ∙ sym (tag_unclosed c.args.text.now c.behind_gap.result.now c.split_name.result.0.now c.split_name.result.1.now c.in_ok-string.string.now c.in_ok-text.text.now c.in_ok-text.rest.now c.behind_gap.ensures name.name name.rest c.in_ok-string.ensures c.in_ok-text.ensures c.in_err-rest.ensures)

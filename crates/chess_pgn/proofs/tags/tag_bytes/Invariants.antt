@@ -1,0 +1,9 @@
+use Rattle.std.proofs.Common.{◌≡◌, length, map, take}
+use Rattle.chess_pgn.specs.Written.{tag_byte}
+use Rattle.chess_pgn.proofs.tags.tag_bytes.Given as goal
+
+abbrev pub invariant-loop-byte : goal.invariant-loop-byte
+invariant-loop-byte l = record {
+  text : l.kept.items ≡ map tag_byte (take l.byte-index l.bytes);
+  len : length l.kept.items ≡ l.byte-index;
+}

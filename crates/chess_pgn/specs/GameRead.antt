@@ -1,0 +1,159 @@
+-- A game read from a text (PGN standard of 1994, sections 7 to 9; which words are taken is this project's own).
+use Rattle.std.specs.Prelude.{ℕ, ◌+◌, ◌-◌, nat_lt, ◌||◌, Bool, true, false, if◌then◌else◌, List, [], ◌∷◌, length, Option, Some, None, is_some, Result, Ok, Err, codes}
+use Rattle.std.specs.Str.{bytes_eq, str_eq_ignore_ascii_case}
+use Rattle.chess_base.specs.declared.fault.FenFault.{FenFault}
+use Rattle.chess_base.specs.declared.man.Variant.{Variant}
+use Rattle.chess_base.specs.declared.man.Variant.TheVariants.{Normal, Fischerandom}
+use Rattle.chess_base.specs.declared.setup.Setup.{Setup}
+use Rattle.chess_base.specs.Initial.{initial_setup_of}
+use Rattle.chess_base.specs.Reading.{fen_reading_as}
+use Rattle.chess_game.specs.Game.{State, from_start, played, with_declared, current, verdict_now}
+use Rattle.chess_game.specs.declared.results.Declared.{Declared}
+use Rattle.chess_game.specs.declared.results.Outcome.{Outcome}
+use Rattle.chess_game.specs.declared.results.Outcome.TheVariants.{WhiteWins, BlackWins, Draw, Unfinished}
+use Rattle.chess_text.specs.declared.reading.Reading.{Reading}
+use Rattle.chess_text.specs.declared.reading.Reading.TheVariants as reads
+use Rattle.chess_pgn.specs.declared.read.PgnEnd.{PgnEnd}
+use Rattle.chess_pgn.specs.declared.read.PgnFault.{PgnFault}
+use Rattle.chess_pgn.specs.declared.read.PgnFaultKind.{PgnFaultKind}
+use Rattle.chess_pgn.specs.declared.read.PgnFaultKind.TheVariants.{BadTag, BadFen, BadToken, IllegalMove, AmbiguousMove, AfterEnd, TooLong, UnclosedComment, UnclosedVariation, NoResult}
+use Rattle.chess_pgn.specs.declared.word.WordKind.{WordKind}
+use Rattle.chess_pgn.specs.declared.word.WordKind.TheVariants.{Termination, Number, Marks, Move}
+use Rattle.chess_text.specs.Moves.{reading}
+use Rattle.chess_pgn.specs.Tokens.{Token, Skip, Tag, Word, Bad_tag, Unclosed_comment, Unclosed_variation, Bad, first_place, tokens_from}
+use Rattle.chess_pgn.specs.Words.{kind_of}
+
+-- the game so far. It is met where it had a tag, number or move, and begun where it had a number or move
+pub record SoFar : Type 0 where
+  pub state : State
+  pub is_met : Bool
+  pub is_begun : Bool
+
+-- the game that is left, and the answer
+pub record GameRead : Type 0 where
+  pub state : State
+  pub answer : Result (Option PgnEnd) PgnFault
+
+pub data Step : Type 0 where
+  On : (game : SoFar) → Step
+  Stop : (read : GameRead) → Step
+
+-- reading ends at a place that can't be read or played: the game holds the moves before it and nothing declared
+abbrev pub fails : SoFar → PgnFaultKind → ℕ → Step
+fails g kind place = Stop (record { state = g.state; answer = Err (record { kind = kind; place = place }) })
+
+-- ---- words
+
+-- a termination declares an outcome where there is no verdict and it is not `*`
+abbrev pub declared_behind : Bool → Outcome → Option Declared
+declared_behind true o = None
+declared_behind false WhiteWins = Some (record { outcome = WhiteWins; comment = [] })
+declared_behind false BlackWins = Some (record { outcome = BlackWins; comment = [] })
+declared_behind false Draw = Some (record { outcome = Draw; comment = [] })
+declared_behind false Unfinished = None
+
+abbrev pub ends : SoFar → Outcome → ℕ → Step
+ends g o place = Stop (record {
+  state = with_declared g.state (declared_behind (is_some (verdict_now g.state)) o);
+  answer = Ok (Some (record { outcome = o; place = place }));
+})
+
+-- no move is played behind a verdict, and none past the limit
+abbrev pub unless_full : ℕ → SoFar → ℕ → Step → Step
+unless_full limit g place next =
+    if is_some (verdict_now g.state) then fails g AfterEnd place
+    else (if nat_lt (length g.state.moves) limit then next else fails g TooLong place)
+
+abbrev pub move_step : ℕ → SoFar → ℕ → Reading → Step
+move_step limit g place reads.NotAMove = fails g BadToken place
+move_step limit g place (reads.Move m) = unless_full limit g place (On (record { state = played g.state m; is_met = true; is_begun = true }))
+move_step limit g place reads.Ambiguous = unless_full limit g place (fails g AmbiguousMove place)
+move_step limit g place reads.NoSuch = unless_full limit g place (fails g IllegalMove place)
+
+-- a word at that place
+abbrev pub word_step : ℕ → SoFar → ℕ → List ℕ → WordKind → Step
+word_step limit g place word (Termination o) = ends g o (place + length word)
+word_step limit g place word Number = On (record { state = g.state; is_met = true; is_begun = true })
+word_step limit g place word Marks = On g
+word_step limit g place word Move = move_step limit g place (reading (current g.state) word)
+
+-- ---- tags
+
+-- a start that a FEN spells at that place
+abbrev pub fen_step : SoFar → ℕ → Result Setup FenFault → Step
+fen_step g place (Ok start) = On (record { state = from_start start; is_met = true; is_begun = g.is_begun })
+fen_step g place (Err fault) = fails g BadFen place
+
+-- a tag whose string begins at that place
+abbrev pub tag_step : SoFar → List ℕ → List ℕ → ℕ → Step
+tag_step g name text place =
+    if bytes_eq name (codes "FEN") then fen_step g place (fen_reading_as g.state.start.variant text)
+    else On (record { state = g.state; is_met = true; is_begun = g.is_begun })
+
+-- ---- tokens, in a text of so many bytes; each with how many bytes are left where it begins
+
+abbrev pub step : ℕ → ℕ → SoFar → ℕ → Token → Step
+step limit total g left Skip = On g
+step limit total g left (Tag name text string) = if g.is_begun then fails g NoResult (total - left) else tag_step g name text (total - string)
+step limit total g left (Word word) = word_step limit g (total - left) word (kind_of word)
+step limit total g left Bad_tag = fails g (if g.is_begun then NoResult else BadTag) (total - left)
+step limit total g left (Unclosed_comment brace) = fails g UnclosedComment (total - brace)
+step limit total g left Unclosed_variation = fails g UnclosedVariation (total - left)
+step limit total g left Bad = fails g BadToken (total - left)
+
+-- at the text's end there is no game, or one without a result
+abbrev pub at_text_end : ℕ → SoFar → GameRead
+at_text_end total g = record { state = g.state; answer = if g.is_met then Err (record { kind = NoResult; place = total }) else Ok None }
+
+abbrev pub go_on : Step → (SoFar → GameRead) → GameRead
+go_on (On g) later = later g
+go_on (Stop read) later = read
+
+abbrev pub game_of : ℕ → ℕ → SoFar → List (ℕ × Token) → GameRead
+game_of limit total g [] = at_text_end total g
+game_of limit total g (t ∷ ts) = go_on (step limit total g t.0 t.1) (λ h. game_of limit total h ts)
+
+abbrev pub nothing_read : Variant → SoFar
+nothing_read v = record { state = from_start (initial_setup_of v); is_met = false; is_begun = false }
+
+-- ---- the variant: the last that tags name before the game's first number, move or outcome, as far as these can be read
+
+-- the variant that a tag's text names, in letters of either size
+abbrev pub variant_named : List ℕ → Variant
+variant_named text =
+    if str_eq_ignore_ascii_case text (codes "fischerandom") || str_eq_ignore_ascii_case text (codes "fischerrandom") || str_eq_ignore_ascii_case text (codes "chess960") then Fischerandom
+    else Normal
+
+abbrev pub behind_word : Variant → WordKind → Option Variant
+behind_word v Marks = Some v
+behind_word v Number = None
+behind_word v Move = None
+behind_word v (Termination o) = None
+
+-- the variant behind a token, if more tags may follow it
+abbrev pub told_by : Variant → Token → Option Variant
+told_by v Skip = Some v
+told_by v (Tag name text left) = Some (if bytes_eq name (codes "Variant") then variant_named text else v)
+told_by v (Word word) = behind_word v (kind_of word)
+told_by v Bad_tag = None
+told_by v (Unclosed_comment left) = None
+told_by v Unclosed_variation = None
+told_by v Bad = None
+
+abbrev pub told_next : Variant → Option Variant → (Variant → Variant) → Variant
+told_next v None later = v
+told_next v (Some u) later = later u
+
+abbrev pub variant_told : Variant → List (ℕ × Token) → Variant
+variant_told v [] = v
+variant_told v (t ∷ ts) = told_next v (told_by v t.1) (λ u. variant_told u ts)
+
+-- ---- the game
+
+-- what tokens of a text of so many bytes are read as, for a game of at most so many half-moves
+abbrev pub tokens_read : ℕ → ℕ → List (ℕ × Token) → GameRead
+tokens_read limit total tokens = game_of limit total (nothing_read (variant_told Normal tokens)) tokens
+
+-- what a text is read as from a place on
+unfoldable pub pgn_read : ℕ → List ℕ → ℕ → GameRead
+pgn_read limit text at = tokens_read limit (length text) (tokens_from text (first_place text at))

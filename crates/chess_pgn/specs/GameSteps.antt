@@ -1,0 +1,35 @@
+-- What the reader of a game answers, step by step, in the words of the definitions.
+use Rattle.std.specs.Prelude.{ℕ, ◌<◌, ◌≤◌, length, Result, Ok, Err, Some}
+use Rattle.chess_game.specs.Game.{State}
+use Rattle.chess_pgn.specs.declared.read.PgnFault.{PgnFault}
+use Rattle.chess_pgn.specs.declared.read.Progress.{Progress}
+use Rattle.chess_pgn.specs.declared.read.Step as code
+use Rattle.chess_pgn.specs.declared.read.Step.TheVariants as does
+use Rattle.chess_pgn.specs.Tokens.{Token, Skip, Tag, Word, Bad_tag, Unclosed_comment, Unclosed_variation, Bad}
+use Rattle.chess_pgn.specs.GameRead.{SoFar, Step, On, Stop}
+
+-- the game so far
+abbrev pub so_far : State → Progress → SoFar
+so_far s p = record { state = s; is_met = p.is_met; is_begun = p.is_begun }
+
+-- a step that left the game in that state
+abbrev pub step_seen : State → Result code.Step PgnFault → Step
+step_seen s (Ok (does.On p)) = On (so_far s p)
+step_seen s (Ok (does.Ended end)) = Stop (record { state = s; answer = Ok (Some end) })
+step_seen s (Err fault) = Stop (record { state = s; answer = Err fault })
+
+-- a game that ended did so behind the first place, and not behind the last
+abbrev pub EndsIn : ℕ → ℕ → Result code.Step PgnFault → Type 0
+EndsIn first last (Ok (does.On p)) = Unit {0}
+EndsIn first last (Ok (does.Ended end)) = (first < end.place) × (end.place ≤ last)
+EndsIn first last (Err fault) = Unit {0}
+
+-- the places that a token tells are in the text: so many bytes are left where it begins
+abbrev pub IsWithin : ℕ → Token → Type 0
+IsWithin left Skip = Unit {0}
+IsWithin left (Tag name text string) = string ≤ left
+IsWithin left (Word word) = length word ≤ left
+IsWithin left Bad_tag = Unit {0}
+IsWithin left (Unclosed_comment brace) = brace ≤ left
+IsWithin left Unclosed_variation = Unit {0}
+IsWithin left Bad = Unit {0}

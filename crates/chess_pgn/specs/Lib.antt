@@ -1,0 +1,11 @@
+pub mod Tokens
+pub mod Words
+pub mod Seen
+pub mod VariationParts
+pub mod Written
+pub mod Waiting
+pub mod Tags
+pub mod GameRead
+pub mod GameSteps
+pub mod GameText
+pub mod PgnLaw

@@ -1,0 +1,25 @@
+-- What a word of a game's text is (PGN standard of 1994, sections 8.2.2, 8.2.3.8 and 8.2.6).
+use Rattle.std.specs.Prelude.{ℕ, ◌||◌, List, [], ◌∷◌, Option, Some, None, find, ◌==◌, if◌then◌else◌}
+use Rattle.std.specs.List.{list_all}
+use Rattle.std.specs.Str.{bytes_eq}
+use Rattle.chess_game.specs.Results.{outcome_text}
+use Rattle.chess_game.specs.declared.results.Outcome.{Outcome}
+use Rattle.chess_game.specs.declared.results.Outcome.TheVariants.{WhiteWins, BlackWins, Draw, Unfinished}
+use Rattle.chess_pgn.specs.declared.word.WordKind.{WordKind}
+use Rattle.chess_pgn.specs.declared.word.WordKind.TheVariants.{Termination, Number, Marks, Move}
+use Rattle.chess_pgn.specs.Tokens.{is_digit}
+
+-- the outcome that is written so
+abbrev pub outcome_of : List ℕ → Option Outcome
+outcome_of word = find (λ o. bytes_eq (outcome_text o) word) (WhiteWins ∷ BlackWins ∷ Draw ∷ Unfinished ∷ [])
+
+-- a word that is no outcome: digits alone, marks alone, or anything else
+abbrev pub kind_by : List ℕ → Option Outcome → WordKind
+kind_by word (Some o) = Termination o
+kind_by word None =
+    if list_all is_digit word then Number
+    else (if list_all (λ c. c == 33 || c == 63) word then Marks
+    else Move)
+
+abbrev pub kind_of : List ℕ → WordKind
+kind_of word = kind_by word (outcome_of word)

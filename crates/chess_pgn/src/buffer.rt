@@ -1,0 +1,92 @@
+//! Text that waits before it is written, so that a writer is called once for many lines.
+
+ghost use Rattle.std.specs.Prelude.{◌≡◌, ◌+◌, ◌≤◌, ◌<◌, [], length, OnOk};
+ghost use Rattle.chess_base.specs.Devices.{Puts, joined};
+ghost use Rattle.chess_pgn.specs.Waiting.{Adds};
+
+use arrayvec::ArrayVec;
+use chess_base::device::{Output, WriteFault, put};
+use std::marker::Model;
+
+// The most bytes that wait.
+const BUFFER_LEN: usize = 4096;
+
+/// Text that waits. In contracts it is the list of its bytes.
+#[derive(Drop)]
+pub(crate) struct TextBuffer {
+    text: ArrayVec<u8, 4096>,
+}
+
+impl Model for TextBuffer {
+    ghost use Rattle.std.specs.Prelude.{ℕ, List};
+
+    ghost Value = { List ℕ };
+
+    ghost view = { λ b. b.text.items };
+}
+
+impl TextBuffer {
+    /// Nothing waits.
+    pub(crate) fn new() -> Self
+        ensures { result ≡ [] }
+    {
+        TextBuffer {
+            text: ArrayVec::new(),
+        }
+    }
+
+    // Writes what waits, unless there is room behind it for so many bytes.
+    fn make_room<W: Output>(&mut self, writer: &mut W, len: usize) -> Result<(), WriteFault>
+        ensures added { Adds (W.seen writer.old) (W.seen writer.new) self.old self.new result [] }
+        ensures room { OnOk result (len ≤ 4096 → length self.new + len ≤ 4096) }
+        ensures none { OnOk result (4096 < len → self.new ≡ []) }
+    {
+        if len > BUFFER_LEN - self.text.len() {
+            put(writer, self.text.as_slice())?;
+            self.text.clear();
+        }
+        Ok(())
+    }
+
+    /// Adds a text behind what waits.
+    ///
+    /// # Errors
+    /// Where the writer failed; a beginning of what waited and of the text was taken.
+    pub(crate) fn add<W: Output>(&mut self, writer: &mut W, text: &[u8]) -> Result<(), WriteFault>
+        ensures { Adds (W.seen writer.old) (W.seen writer.new) self.old self.new result text.now }
+    {
+        self.make_room(writer, text.len())?;
+        if text.len() > BUFFER_LEN {
+            return put(writer, text);
+        }
+        self.text.try_extend_from_slice(text).unwrap();
+        Ok(())
+    }
+
+    /// Adds texts, one behind another.
+    ///
+    /// # Errors
+    /// Where the writer failed; a beginning of what waited and of the texts was taken.
+    pub(crate) fn add_parts<W: Output>(
+        &mut self,
+        writer: &mut W,
+        parts: &[&[u8]],
+    ) -> Result<(), WriteFault>
+        ensures { Adds (W.seen writer.old) (W.seen writer.new) self.old self.new result (joined parts.now) }
+    {
+        for part in parts {
+            self.add(writer, part)?;
+        }
+        Ok(())
+    }
+
+    /// Writes what waits.
+    ///
+    /// # Errors
+    /// Where the writer failed; a beginning of what waited was taken.
+    pub(crate) fn finish<W: Output>(self, writer: &mut W) -> Result<(), WriteFault>
+        ensures { Puts (W.seen writer.old) (W.seen writer.new) result self }
+    {
+        put(writer, self.text.as_slice())
+    }
+}

@@ -1,0 +1,30 @@
+//! Kinds of bytes.
+
+ghost use Rattle.std.specs.Prelude.{◌≡◌};
+ghost use Rattle.chess_pgn.specs.Tokens.{is_blank, is_digit, is_name_byte, is_word_byte};
+
+pub(crate) fn is_blank(byte: u8) -> bool
+    ensures { result ≡ is_blank byte }
+{
+    matches!(byte, b' ' | b'\t' | b'\n' | b'\r')
+}
+
+pub(crate) fn is_digit(byte: u8) -> bool
+    ensures { result ≡ is_digit byte }
+{
+    byte.is_ascii_digit()
+}
+
+// A byte of a tag's name.
+pub(crate) fn is_name_byte(byte: u8) -> bool
+    ensures { result ≡ is_name_byte byte }
+{
+    byte.is_ascii_alphanumeric() || byte == b'_'
+}
+
+// A byte of a word: a move, a number, marks or a termination.
+pub(crate) fn is_word_byte(byte: u8) -> bool
+    ensures { result ≡ is_word_byte byte }
+{
+    is_name_byte(byte) || matches!(byte, b'+' | b'#' | b'=' | b'-' | b'/' | b'!' | b'?' | b':')
+}

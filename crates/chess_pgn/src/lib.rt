@@ -1,0 +1,28 @@
+//! Games' texts, read and written (PGN standard of 1994).
+#![tactic(auto)]
+
+mod buffer;
+mod bytes;
+mod laws;
+mod lines;
+mod read;
+mod skips;
+mod tag;
+mod tag_lines;
+mod tags;
+mod token;
+mod variation;
+mod word;
+mod write;
+
+pub use laws::{lines_are_filled, pgn_is_read_back};
+pub use read::{PgnEnd, PgnFault, PgnFaultKind, read_pgn};
+pub use tags::{TagText, Tags};
+pub use write::write_pgn;
+
+#[cfg(test)]
+mod read_tests;
+#[cfg(test)]
+mod tests;
+#[cfg(test)]
+mod write_tests;

@@ -1,0 +1,105 @@
+//! Lines of a game's text, each behind the same prefix.
+
+ghost use Rattle.std.specs.Prelude.{◌≡◌, ◌+◌, ◌≤◌, ◌<◌, [], ◌∷◌, ◌++◌, length};
+ghost use Rattle.chess_base.specs.Devices.{Puts};
+ghost use Rattle.chess_pgn.specs.Waiting.{Adds};
+ghost use Rattle.chess_pgn.specs.Written.{placed, column_behind, line_close};
+
+use crate::buffer::TextBuffer;
+use chess_base::device::{Output, WriteFault};
+
+// The most bytes of a line of moves, its prefix and its end not counted (PGN standard of 1994, section 4.3).
+const LINE_LEN: usize = 79;
+
+/// Writes lines, each behind a prefix. Tokens go into the line that is begun, which has `column` bytes so far; 0 is no line.
+#[derive(Drop)]
+pub(crate) struct LineWriter<'a> {
+    prefix: &'a [u8],
+    waiting: TextBuffer,
+    column: usize,
+    ghost short_line: { column ≤ 79 },
+}
+
+impl<'a> LineWriter<'a> {
+    /// Nothing waits, and no line is begun.
+    pub(crate) fn new(prefix: &'a [u8]) -> Self
+        ensures prefix { result.prefix.now ≡ prefix.now }
+        ensures none { result.waiting ≡ [] }
+        ensures column { result.column ≡ 0 }
+    {
+        LineWriter {
+            prefix,
+            waiting: TextBuffer::new(),
+            column: 0,
+        }
+    }
+
+    /// Puts a whole line.
+    ///
+    /// # Errors
+    /// Where the writer failed; a beginning was taken.
+    pub(crate) fn put_line<W: Output>(
+        &mut self,
+        writer: &mut W,
+        line: &[u8],
+    ) -> Result<(), WriteFault>
+        ensures added { Adds (W.seen writer.old) (W.seen writer.new) self.old.waiting self.new.waiting result (self.old.prefix.now ++ line.now ++ 10 ∷ []) }
+        ensures prefix { self.new.prefix.now ≡ self.old.prefix.now }
+        ensures column { self.new.column ≡ self.old.column }
+    {
+        self.waiting.add_parts(writer, &[self.prefix, line, b"\n"])
+    }
+
+    /// Puts a token into the line that is begun, if it has room, else into a new one.
+    ///
+    /// # Errors
+    /// Where the writer failed; a beginning was taken.
+    pub(crate) fn put_token<W: Output>(
+        &mut self,
+        writer: &mut W,
+        token: &[u8],
+    ) -> Result<(), WriteFault>
+        requires some { 0 < length token.now }
+        requires short { length token.now ≤ 79 }
+        ensures added { Adds (W.seen writer.old) (W.seen writer.new) self.old.waiting self.new.waiting result (placed self.old.prefix.now self.old.column token.now) }
+        ensures column { self.new.column ≡ column_behind self.old.column token.now }
+        ensures prefix { self.new.prefix.now ≡ self.old.prefix.now }
+    {
+        if self.column == 0 {
+            self.column = token.len();
+            self.waiting.add_parts(writer, &[self.prefix, token])
+        } else if self.column + 1 + token.len() <= LINE_LEN {
+            self.column += 1 + token.len();
+            self.waiting.add_parts(writer, &[b" ", token])
+        } else {
+            self.column = token.len();
+            self.waiting.add_parts(writer, &[b"\n", self.prefix, token])
+        }
+    }
+
+    /// Ends the line that is begun, if there is one.
+    ///
+    /// # Errors
+    /// Where the writer failed; a beginning was taken.
+    pub(crate) fn end_line<W: Output>(&mut self, writer: &mut W) -> Result<(), WriteFault>
+        ensures added { Adds (W.seen writer.old) (W.seen writer.new) self.old.waiting self.new.waiting result (line_close self.old.column) }
+        ensures column { self.new.column ≡ 0 }
+        ensures prefix { self.new.prefix.now ≡ self.old.prefix.now }
+    {
+        if self.column == 0 {
+            return Ok(());
+        }
+        self.column = 0;
+        self.waiting.add(writer, b"\n")
+    }
+
+    /// Writes what waits.
+    ///
+    /// # Errors
+    /// Where the writer failed; a beginning was taken.
+    pub(crate) fn finish<W: Output>(self, writer: &mut W) -> Result<(), WriteFault>
+        ensures { Puts (W.seen writer.old) (W.seen writer.new) result self.entry.waiting }
+    {
+        self.waiting.finish(writer)
+    }
+}

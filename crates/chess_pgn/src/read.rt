@@ -1,0 +1,334 @@
+//! Reading a game.
+
+ghost use Rattle.std.specs.Prelude.{◌≡◌, ℕ, ◌+◌, ◌-◌, ◌^◌, ◌≤◌, ◌<◌, length, None, IfOk, Err, is_some};
+ghost use Rattle.std.specs.Option.{IfSome};
+ghost use Rattle.chess_game.specs.Game.{State, at as left_at, with_declared, current, verdict_now};
+ghost use Rattle.chess_base.specs.declared.man.Variant.TheVariants.{Normal};
+ghost use Rattle.chess_text.specs.Moves.{reading};
+ghost use Rattle.chess_pgn.specs.Words.{kind_of};
+ghost use Rattle.chess_pgn.specs.Seen.{token_seen, fault_seen};
+ghost use Rattle.chess_pgn.specs.GameRead.{SoFar, declared_behind, move_step, word_step, tag_step, step, variant_named, told_by, variant_told, pgn_read};
+ghost use Rattle.chess_pgn.specs.Tokens.{tokens_from};
+ghost use Rattle.chess_pgn.specs.GameSteps.{EndsIn, so_far, step_seen, IsWithin};
+
+use crate::tag::Tag;
+use crate::token::{Token, TokenFault, first_place, next_token};
+use crate::word::{WordKind, word_kind};
+use chess_text::{Reading, read_move};
+use chess_base::{Position, Variant, read_fen_as};
+use chess_game::{Comment, Game, Outcome};
+use chess_moves::Board;
+
+/// How a game's text ended.
+#[derive(Clone, Copy, Debug, PartialEq, Eq)]
+pub struct PgnEnd {
+    /// The outcome that the termination tells; where there is a verdict, the game has the verdict's.
+    pub outcome: Outcome,
+    /// The byte behind the termination, from the text's first byte on.
+    pub place: usize,
+}
+
+/// Why a game's text can't be read.
+#[derive(Clone, Copy, Debug, PartialEq, Eq)]
+pub enum PgnFaultKind {
+    /// A bracket that begins no tag.
+    BadTag,
+    /// A FEN that spells no sound position; the place is the first byte of its string.
+    BadFen,
+    /// A byte that begins no token, or a word that is no move, number or termination.
+    BadToken,
+    /// A move that is not legal.
+    IllegalMove,
+    /// A text that several legal moves fit.
+    AmbiguousMove,
+    /// A move behind the game's end.
+    AfterEnd,
+    /// A move past the game's limit.
+    TooLong,
+    /// A comment without its closing brace; the place is its opening brace.
+    UnclosedComment,
+    /// A variation without its end; the place is its outermost bracket.
+    UnclosedVariation,
+    /// No termination before the next game's tags or the text's end.
+    NoResult,
+}
+
+/// A fault of a game's text, and its byte.
+#[derive(Clone, Copy, Debug, PartialEq, Eq)]
+pub struct PgnFault {
+    pub kind: PgnFaultKind,
+    /// The byte at which it is, from the text's first byte on.
+    pub place: usize,
+}
+
+// How far a game was read.
+#[derive(Clone, Copy)]
+struct Progress {
+    // Whether a tag, number or move was met.
+    is_met: bool,
+    // Whether a number or move was: behind one no tag belongs to this game.
+    is_begun: bool,
+}
+
+impl Progress {
+    // A number or move was met.
+    const BEGUN: Progress = Progress {
+        is_met: true,
+        is_begun: true,
+    };
+}
+
+// What follows a token.
+enum Step {
+    // Reading goes on.
+    On(Progress),
+    // The game ended.
+    Ended(PgnEnd),
+}
+
+// Plays the move that stands at a place.
+fn play_word<B: Board>(game: &mut Game<B>, place: usize, word: &[u8]) -> Result<Step, PgnFault>
+    requires { game.old.state.declared ≡ None }
+    ensures limit { game.new.limit ≡ game.old.limit }
+    ensures ended { EndsIn 0 0 result }
+    ensures step { (g : SoFar) → g.state ≡ game.old.state → step_seen game.new.state result ≡ move_step game.old.limit g place (reading (current game.old.state) word.now) }
+{
+    let kind = match read_move(game.board(), word) {
+        Reading::NotAMove => PgnFaultKind::BadToken,
+        _ if game.verdict().is_some() => PgnFaultKind::AfterEnd,
+        _ if game.is_full() => PgnFaultKind::TooLong,
+        Reading::Ambiguous => PgnFaultKind::AmbiguousMove,
+        Reading::NoSuch => PgnFaultKind::IllegalMove,
+        Reading::Move(m) => {
+            if game.play(m).is_err() {
+                unreachable!();
+            }
+            return Ok(Step::On(Progress::BEGUN));
+        }
+    };
+    Err(PgnFault { kind, place })
+}
+
+// Declares the outcome of a termination, unless the board says one or it is `*`.
+fn end_game<B: Board>(game: &mut Game<B>, outcome: Outcome)
+    requires { game.old.state.declared ≡ None }
+    ensures { game.new ≡ left_at game.old (with_declared game.old.state (declared_behind (is_some (verdict_now game.old.state)) outcome)) }
+{
+    if outcome != Outcome::Unfinished
+        && game.verdict().is_none()
+        && game.declare(outcome, Comment::cut(b"")).is_err()
+    {
+        unreachable!();
+    }
+}
+
+// Reads a word that stands at a place.
+#[tactic(auto, using(crate::proofs::GameReads::termination_has_bytes))]
+fn read_word<B: Board>(
+    game: &mut Game<B>,
+    progress: Progress,
+    place: usize,
+    word: &[u8],
+) -> Result<Step, PgnFault>
+    requires undeclared { game.old.state.declared ≡ None }
+    requires within { place + length word.now < 2 ^ 64 }
+    ensures limit { game.new.limit ≡ game.old.limit }
+    ensures ended { EndsIn place (place + length word.now) result }
+    ensures step { step_seen game.new.state result ≡ word_step game.old.limit (so_far game.old.state progress) place word.now (kind_of word.now) }
+{
+    match word_kind(word) {
+        WordKind::Termination(outcome) => {
+            end_game(game, outcome);
+            let place = place + word.len();
+            Ok(Step::Ended(PgnEnd { outcome, place }))
+        }
+        WordKind::Number => Ok(Step::On(Progress::BEGUN)),
+        WordKind::Marks => Ok(Step::On(progress)),
+        WordKind::Move => play_word(game, place, word),
+    }
+}
+
+// Reads a tag whose string begins at a place.
+fn read_tag<B: Board>(
+    game: &mut Game<B>,
+    progress: Progress,
+    tag: &Tag<'_>,
+    place: usize,
+) -> Result<Step, PgnFault>
+    ensures limit { game.new.limit ≡ game.old.limit }
+    ensures ended { EndsIn 0 0 result }
+    ensures step { step_seen game.new.state result ≡ tag_step (so_far game.old.state progress) tag.now.name.now tag.now.text.now place }
+{
+    if let b"FEN" = tag.name {
+        match read_fen_as(game.start().variant(), tag.text) {
+            Ok(start) => game.restart(&start),
+            Err(_) => {
+                return Err(PgnFault {
+                    kind: PgnFaultKind::BadFen,
+                    place,
+                });
+            }
+        }
+    }
+    Ok(Step::On(Progress {
+        is_met: true,
+        ..progress
+    }))
+}
+
+// Reads a token that stands at a place of a text of so many bytes.
+fn read_token<B: Board>(
+    game: &mut Game<B>,
+    progress: Progress,
+    len: usize,
+    place: usize,
+    token: &Token<'_>,
+) -> Result<Step, PgnFault>
+    requires undeclared { game.old.state.declared ≡ None }
+    requires within { IsWithin (len - place) (token_seen token.now) }
+    requires place { place ≤ len }
+    ensures limit { game.new.limit ≡ game.old.limit }
+    ensures ended { EndsIn place len result }
+    ensures step { step_seen game.new.state result ≡ step game.old.limit len (so_far game.old.state progress) (len - place) (token_seen token.now) }
+{
+    match token {
+        Token::Skip => Ok(Step::On(progress)),
+        Token::Tag(_) if progress.is_begun => Err(PgnFault {
+            kind: PgnFaultKind::NoResult,
+            place,
+        }),
+        Token::Tag(tag) => read_tag(game, progress, tag, len - tag.left),
+        Token::Word(word) => read_word(game, progress, place, word),
+    }
+}
+
+// What is told where no token can be read at a place of a text of so many bytes.
+fn told_fault(fault: TokenFault, progress: Progress, len: usize, place: usize) -> PgnFault
+    requires within { IsWithin (len - place) (fault_seen fault) }
+    requires place { place ≤ len }
+    ensures { (limit : ℕ) (s : State) → step_seen s (Err result) ≡ step limit len (so_far s progress) (len - place) (fault_seen fault) }
+{
+    match fault {
+        TokenFault::BadTag if progress.is_begun => PgnFault {
+            kind: PgnFaultKind::NoResult,
+            place,
+        },
+        TokenFault::BadTag => PgnFault {
+            kind: PgnFaultKind::BadTag,
+            place,
+        },
+        TokenFault::UnclosedComment { left } => PgnFault {
+            kind: PgnFaultKind::UnclosedComment,
+            place: len - left,
+        },
+        TokenFault::UnclosedVariation => PgnFault {
+            kind: PgnFaultKind::UnclosedVariation,
+            place,
+        },
+        TokenFault::BadByte => PgnFault {
+            kind: PgnFaultKind::BadToken,
+            place,
+        },
+    }
+}
+
+// The variant that a tag's text names.
+fn variant_named(text: &[u8]) -> Variant
+    ensures { result ≡ variant_named text.now }
+{
+    if text.eq_ignore_ascii_case(b"fischerandom")
+        || text.eq_ignore_ascii_case(b"fischerrandom")
+        || text.eq_ignore_ascii_case(b"chess960")
+    {
+        Variant::Fischerandom
+    } else {
+        Variant::Normal
+    }
+}
+
+// The variant behind a token, if more tags may follow it.
+fn told_by(variant: Variant, token: &Token<'_>) -> Option<Variant>
+    ensures { result ≡ told_by variant (token_seen token.now) }
+{
+    match token {
+        Token::Skip => Some(variant),
+        Token::Tag(tag) => {
+            if let b"Variant" = tag.name {
+                Some(variant_named(tag.text))
+            } else {
+                Some(variant)
+            }
+        }
+        Token::Word(word) => match word_kind(word) {
+            WordKind::Marks => Some(variant),
+            _ => None,
+        },
+    }
+}
+
+// The variant that the tags name from a place on: the last that they name before a number, move or termination.
+fn told_variant(text: &[u8], at: usize) -> Variant
+    requires { at ≤ length text.now }
+    ensures { result ≡ variant_told Normal (tokens_from text.now at) }
+{
+    let mut place = at;
+    let mut variant = Variant::Normal;
+    loop {
+        match next_token(text, place) {
+            Ok(Some((token, behind))) => {
+                match told_by(variant, &token) {
+                    Some(told) => variant = told,
+                    None => return variant,
+                }
+                place = behind;
+            }
+            Ok(None) | Err(_) => return variant,
+        }
+    }
+}
+
+/// Reads the first game of a text from a place on (PGN standard of 1994; which words are taken is this project's own). The
+/// game begins anew from the initial position or from the last FEN tag's, of the variant that the last tag Variant names; its moves are played as they are met, and the
+/// termination's outcome is declared unless there is a verdict or it is `*`. `None` where no tag, number, move or
+/// termination stands up to the text's end. The next game begins at the place that is answered.
+///
+/// # Errors
+/// The first place that can't be read or played. The game holds the moves before it, and nothing is declared.
+#[tactic(auto, using(crate::proofs::GameReads::first))]
+pub fn read_pgn<B: Board>(
+    text: &[u8],
+    at: usize,
+    game: &mut Game<B>,
+) -> Result<Option<PgnEnd>, PgnFault>
+    requires { at ≤ length text.now }
+    ensures answer { result ≡ (pgn_read game.old.limit text.now at).answer }
+    ensures game { game.new ≡ left_at game.old (pgn_read game.old.limit text.now at).state }
+    ensures within { IfOk result (λ end. IfSome end (λ e. e.place ≤ length text.now)) }
+    ensures further { IfOk result (λ end. IfSome end (λ e. at < e.place)) }
+{
+    let mut place = first_place(text, at);
+    game.restart(&Position::initial_of(told_variant(text, place)));
+    let mut progress = Progress {
+        is_met: false,
+        is_begun: false,
+    };
+    loop {
+        match next_token(text, place) {
+            Ok(Some((token, behind))) => {
+                match read_token(game, progress, text.len(), place, &token)? {
+                    Step::On(further) => progress = further,
+                    Step::Ended(end) => return Ok(Some(end)),
+                }
+                place = behind;
+            }
+            Ok(None) if progress.is_met => {
+                return Err(PgnFault {
+                    kind: PgnFaultKind::NoResult,
+                    place: text.len(),
+                })
+            }
+            Ok(None) => return Ok(None),
+            Err(fault) => return Err(told_fault(fault, progress, text.len(), place)),
+        }
+    }
+}

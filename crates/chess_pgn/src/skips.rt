@@ -1,0 +1,56 @@
+//! What is skipped between tokens: blanks, `%` lines and comments. Each function cuts the front of a text off.
+
+ghost use Rattle.std.specs.Prelude.{◌≡◌, ◌≤◌, ◌<◌, length, false, Option, IfSome};
+ghost use Rattle.std.specs.Option.{option_map};
+ghost use Rattle.chess_pgn.specs.Tokens.{line_end, behind_brace, behind_gap};
+
+use crate::bytes::is_blank;
+
+// From the end of the line on.
+pub(crate) fn line_end(text: &[u8]) -> &[u8]
+    ensures rest { result.now ≡ line_end text.now }
+    ensures shorter { length result.now ≤ length text.now }
+{
+    let mut rest = text;
+    while let [byte, others @ ..] = rest {
+        if *byte == b'\n' {
+            break;
+        }
+        rest = others;
+    }
+    rest
+}
+
+// Behind the first closing brace.
+pub(crate) fn behind_brace(text: &[u8]) -> Option<&[u8]>
+    ensures rest { option_map (λ r. r.now) result ≡ behind_brace text.now }
+    ensures shorter { IfSome result (λ r. length r.now < length text.now) }
+{
+    let mut rest = text;
+    while let [byte, others @ ..] = rest {
+        if *byte == b'}' {
+            return Some(others);
+        }
+        rest = others;
+    }
+    None
+}
+
+// Behind blanks and `%` lines, where no line begins at the text's first byte.
+pub(crate) fn behind_gap(text: &[u8]) -> &[u8]
+    ensures { result.now ≡ behind_gap false false text.now }
+{
+    let mut rest = text;
+    let mut line_begins = false;
+    while let [byte, others @ ..] = rest {
+        if line_begins && *byte == b'%' {
+            rest = line_end(others);
+        } else if is_blank(*byte) {
+            rest = others;
+        } else {
+            break;
+        }
+        line_begins = *byte == b'\n';
+    }
+    rest
+}

@@ -1,0 +1,76 @@
+//! Reading a tag.
+
+ghost use Rattle.std.specs.Prelude.{◌≡◌, drop, take_while, Option};
+ghost use Rattle.std.specs.List.{prefix_len};
+ghost use Rattle.std.specs.Option.{option_map};
+ghost use Rattle.chess_pgn.specs.Tokens.{is_name_byte, behind_next, string_at, tag_at};
+ghost use Rattle.chess_pgn.specs.Seen.{tag_seen};
+
+use crate::bytes::is_name_byte;
+use crate::skips::behind_gap;
+
+/// A tag: its name, the bytes between its quotes as they stand, and how many bytes of the text are left at the first of
+/// these.
+#[derive(Clone, Copy)]
+pub(crate) struct Tag<'a> {
+    pub name: &'a [u8],
+    pub text: &'a [u8],
+    pub left: usize,
+}
+
+// A name, and what stands behind it.
+fn split_name(text: &[u8]) -> (&[u8], &[u8])
+    ensures name { result.0.now ≡ take_while is_name_byte text.now }
+    ensures rest { result.1.now ≡ drop (prefix_len is_name_byte text.now) text.now }
+{
+    let mut end = 0;
+    while end < text.len() && is_name_byte(text[end]) {
+        end += 1;
+    }
+    text.split_at(end)
+}
+
+// Behind a gap and this byte, if it stands there.
+fn behind_next(byte: u8, text: &[u8]) -> Option<&[u8]>
+    ensures { option_map (λ r. r.now) result ≡ behind_next byte text.now }
+{
+    match behind_gap(text) {
+        [first, rest @ ..] if *first == byte => Some(rest),
+        _ => None,
+    }
+}
+
+// A string's bytes up to its closing quote, and what stands behind that. A backslash keeps the next byte from being one.
+fn split_string(text: &[u8]) -> Option<(&[u8], &[u8])>
+    ensures { option_map (λ r. (r.0.now, r.1.now)) result ≡ string_at text.now }
+{
+    let mut is_kept = false;
+    for (place, byte) in text.iter().enumerate() {
+        if *byte == b'\n' {
+            return None;
+        }
+        if is_kept {
+            is_kept = false;
+        } else if *byte == b'"' {
+            return Some((&text[..place], &text[place + 1..]));
+        } else {
+            is_kept = *byte == b'\\';
+        }
+    }
+    None
+}
+
+// A tag behind its opening bracket, and what stands behind it.
+pub(crate) fn read_tag(text: &[u8]) -> Option<(Tag<'_>, &[u8])>
+    ensures { tag_seen result ≡ tag_at text.now }
+{
+    let (name, rest) = split_name(behind_gap(text));
+    if name.is_empty() {
+        return None;
+    }
+    let string = behind_next(b'"', rest)?;
+    let (text, rest) = split_string(string)?;
+    let rest = behind_next(b']', rest)?;
+    let left = string.len();
+    Some((Tag { name, text, left }, rest))
+}

@@ -1,0 +1,64 @@
+//! Writing tags.
+
+ghost use Rattle.std.specs.Prelude.{◌≡◌, ◌+◌, ◌*◌, ◌≤◌, ◌++◌, length};
+ghost use Rattle.arrayvec.specs.ArrayVec.{array_vec_len};
+ghost use Rattle.chess_pgn.specs.Waiting.{Adds};
+ghost use Rattle.chess_pgn.specs.Written.{escaped, tag_line, ended};
+ghost use Rattle.chess_pgn.specs.Tags.{tag_lines_of};
+
+use crate::lines::LineWriter;
+use crate::tags::TagPair;
+use arrayvec::ArrayVec;
+use chess_base::device::{Output, WriteFault};
+
+// The line of a tag, put together.
+type TagLine = ArrayVec<u8, 256>;
+
+// A text with a backslash before each quote and backslash.
+fn write_escaped(line: &mut TagLine, text: &[u8])
+    requires { array_vec_len line.old + 2 * length text.now ≤ 256 }
+    ensures text { line.new.items ≡ line.old.items ++ escaped text.now }
+    ensures len { array_vec_len line.new ≤ array_vec_len line.old + 2 * length text.now }
+{
+    for byte in text {
+        if *byte == b'"' || *byte == b'\\' {
+            line.push(b'\\');
+        }
+        line.push(*byte);
+    }
+}
+
+// The line of a tag.
+fn tag_line(name: &[u8], text: &[u8]) -> TagLine
+    requires name { length name.now ≤ 20 }
+    requires text { length text.now ≤ 100 }
+    ensures { result.items ≡ tag_line name.now text.now }
+{
+    let mut line = TagLine::new();
+    line.push(b'[');
+    line.try_extend_from_slice(name).unwrap();
+    line.try_extend_from_slice(b" \"").unwrap();
+    write_escaped(&mut line, text);
+    line.try_extend_from_slice(b"\"]").unwrap();
+    line
+}
+
+/// Puts the lines of tags.
+///
+/// # Errors
+/// Where the writer failed; a beginning was taken.
+pub(crate) fn put_tags<W: Output>(
+    lines: &mut LineWriter<'_>,
+    writer: &mut W,
+    tags: &[TagPair<'_>],
+) -> Result<(), WriteFault>
+    ensures added { Adds (W.seen writer.old) (W.seen writer.new) lines.old.waiting lines.new.waiting result (ended lines.old.prefix.now (tag_lines_of tags.now)) }
+    ensures prefix { lines.new.prefix.now ≡ lines.old.prefix.now }
+    ensures column { lines.new.column ≡ lines.old.column }
+{
+    for tag in tags {
+        let line = tag_line(tag.name, tag.text);
+        lines.put_line(writer, line.as_slice())?;
+    }
+    Ok(())
+}

@@ -1,0 +1,155 @@
+//! The tokens of a game's text.
+
+ghost use Rattle.std.specs.Prelude.{◌≡◌, ◌≤◌, ◌∷◌, length, drop, false};
+ghost use Rattle.std.specs.List.{prefix_len, take_while};
+ghost use Rattle.chess_pgn.specs.Tokens.{is_digit, is_word_byte, token_at, comment_at, behind_brace, variation_at, Plain, tag_at, begins_line, first_place};
+ghost use Rattle.chess_pgn.specs.Seen.{first_seen, IsNextToken};
+
+use crate::bytes::{is_blank, is_digit, is_word_byte};
+use crate::skips::{behind_brace, line_end};
+use crate::tag::{Tag, read_tag};
+use crate::variation::behind_variation;
+
+/// What was read.
+#[derive(Clone, Copy)]
+pub(crate) enum Token<'a> {
+    /// Nothing that counts: a blank, a dot, a comment, a `%` line, a `$` glyph or a variation.
+    Skip,
+    /// A tag.
+    Tag(Tag<'a>),
+    /// A move, a number, marks or a termination.
+    Word(&'a [u8]),
+}
+
+/// Why no token can be read. A place is told by how many bytes of the text are left there.
+#[derive(Clone, Copy)]
+pub(crate) enum TokenFault {
+    /// An opening bracket that begins no tag.
+    BadTag,
+    /// A comment without its closing brace, at whose opening brace so many bytes are left.
+    UnclosedComment { left: usize },
+    /// A variation without its end.
+    UnclosedVariation,
+    /// A byte that begins no token.
+    BadByte,
+}
+
+fn behind_digits(text: &[u8]) -> &[u8]
+    ensures { result.now ≡ drop (prefix_len is_digit text.now) text.now }
+{
+    let mut end = 0;
+    while end < text.len() && is_digit(text[end]) {
+        end += 1;
+    }
+    &text[end..]
+}
+
+// A word, and what stands behind it.
+fn split_word(text: &[u8]) -> (&[u8], &[u8])
+    ensures word { result.0.now ≡ take_while is_word_byte text.now }
+    ensures rest { result.1.now ≡ drop (prefix_len is_word_byte text.now) text.now }
+{
+    let mut end = 0;
+    while end < text.len() && is_word_byte(text[end]) {
+        end += 1;
+    }
+    text.split_at(end)
+}
+
+// A comment behind its brace, where so many bytes are left at that.
+fn read_comment(left: usize, text: &[u8]) -> Result<(Token<'_>, &[u8]), TokenFault>
+    ensures { first_seen result ≡ comment_at left (behind_brace text.now) }
+{
+    match behind_brace(text) {
+        Some(rest) => Ok((Token::Skip, rest)),
+        None => Err(TokenFault::UnclosedComment { left }),
+    }
+}
+
+// A variation behind its bracket.
+fn read_variation(text: &[u8]) -> Result<(Token<'_>, &[u8]), TokenFault>
+    ensures { first_seen result ≡ variation_at Plain false 1 text.now }
+{
+    match behind_variation(text) {
+        Ok(rest) => Ok((Token::Skip, rest)),
+        Err(fault) => Err(fault),
+    }
+}
+
+// A tag behind its bracket.
+fn read_bracket(text: &[u8]) -> Result<(Token<'_>, &[u8]), TokenFault>
+    ensures { first_seen result ≡ tag_at text.now }
+{
+    match read_tag(text) {
+        Some((tag, rest)) => Ok((Token::Tag(tag), rest)),
+        None => Err(TokenFault::BadTag),
+    }
+}
+
+// The first token of a text that begins with this byte, where a line begins or not, and what stands behind it.
+#[tactic(auto, unfolding(crate::specs::Tokens::token_at))]
+fn read_token<'a>(
+    line_begins: bool,
+    first: u8,
+    rest: &'a [u8],
+    text: &'a [u8],
+) -> Result<(Token<'a>, &'a [u8]), TokenFault>
+    requires { text.now ≡ first ∷ rest.now }
+    ensures { first_seen result ≡ token_at line_begins first rest.now }
+{
+    match first {
+        b'%' if line_begins => Ok((Token::Skip, line_end(rest))),
+        _ if is_blank(first) || first == b'.' => Ok((Token::Skip, rest)),
+        b'{' => read_comment(text.len(), rest),
+        b';' => Ok((Token::Skip, line_end(rest))),
+        b'$' => Ok((Token::Skip, behind_digits(rest))),
+        b'(' => read_variation(rest),
+        b'[' => read_bracket(rest),
+        b'*' => Ok((Token::Word(&text[..1]), rest)),
+        _ if is_word_byte(first) => {
+            let (word, behind) = split_word(text);
+            Ok((Token::Word(word), behind))
+        }
+        _ => Err(TokenFault::BadByte),
+    }
+}
+
+// Whether a line begins at a place: it is the text's first byte, or byte 10 stands before it.
+fn begins_line(text: &[u8], at: usize) -> bool
+    requires { at ≤ length text.now }
+    ensures { result ≡ begins_line text.now at }
+{
+    at == 0 || text[at - 1] == b'\n'
+}
+
+/// The next token of a text from a place on, and the place behind it; `None` at the text's end.
+///
+/// # Errors
+/// Where no token can be read at the first byte from there on.
+pub(crate) fn next_token(text: &[u8], at: usize) -> Result<Option<(Token<'_>, usize)>, TokenFault>
+    requires { at ≤ length text.now }
+    ensures { IsNextToken text.now at result }
+{
+    let left = &text[at..];
+    let [first, rest @ ..] = left else {
+        return Ok(None);
+    };
+    match read_token(begins_line(text, at), *first, rest, left) {
+        Ok((token, behind)) => Ok(Some((token, text.len() - behind.len()))),
+        Err(fault) => Err(fault),
+    }
+}
+
+/// The place where reading begins: behind the bytes EF BB BF (a byte order mark) at place 0, else the place itself.
+pub(crate) fn first_place(text: &[u8], at: usize) -> usize
+    requires { at ≤ length text.now }
+    ensures place { result ≡ first_place text.now at }
+    ensures behind { at ≤ result }
+    ensures within { result ≤ length text.now }
+{
+    if at == 0 && text.starts_with(&[0xEF, 0xBB, 0xBF]) {
+        3
+    } else {
+        at
+    }
+}

@@ -1,0 +1,56 @@
+//! Skipping a variation.
+
+ghost use Rattle.std.specs.Prelude.{◌≡◌, ◌+◌, ◌≤◌, ◌<◌, ◌^◌, length, false, IfSome, Option, Result};
+ghost use Rattle.std.specs.Option.{option_map};
+ghost use Rattle.chess_pgn.specs.Tokens.{variation_at, Plain};
+ghost use Rattle.chess_pgn.specs.VariationParts.{behind_part, depth_behind};
+ghost use Rattle.chess_pgn.specs.Seen.{variation_seen};
+
+use crate::skips::{behind_brace, line_end};
+use crate::token::TokenFault;
+
+// Behind a byte, or the `%` line or comment that it begins.
+fn behind_part(line_begins: bool, byte: u8, rest: &[u8]) -> Option<&[u8]>
+    ensures behind { option_map (λ r. r.now) result ≡ behind_part line_begins byte rest.now }
+    ensures shorter { IfSome result (λ r. length r.now ≤ length rest.now) }
+{
+    match byte {
+        b'%' if line_begins => Some(line_end(rest)),
+        b';' => Some(line_end(rest)),
+        b'{' => behind_brace(rest),
+        _ => Some(rest),
+    }
+}
+
+// How many variations are open in the outermost one behind a byte, or `None` where that is closed.
+fn depth_behind(depth: usize, byte: u8) -> Option<usize>
+    requires { depth + 1 < 2 ^ 64 }
+    ensures { result ≡ depth_behind depth byte }
+{
+    match byte {
+        b'(' => Some(depth + 1),
+        b')' => depth.checked_sub(1),
+        _ => Some(depth),
+    }
+}
+
+// Behind a variation, whose `(` stands before the text.
+pub(crate) fn behind_variation(text: &[u8]) -> Result<&[u8], TokenFault>
+    ensures { variation_seen result ≡ variation_at Plain false 1 text.now }
+{
+    let mut rest = text;
+    let mut line_begins = false;
+    let mut depth = 0;
+    while let [byte, others @ ..] = rest {
+        let Some(behind) = behind_part(line_begins, *byte, others) else {
+            return Err(TokenFault::UnclosedComment { left: rest.len() });
+        };
+        let Some(open) = depth_behind(depth, *byte) else {
+            return Ok(behind);
+        };
+        line_begins = *byte == b'\n';
+        depth = open;
+        rest = behind;
+    }
+    Err(TokenFault::UnclosedVariation)
+}

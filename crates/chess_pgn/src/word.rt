@@ -1,0 +1,61 @@
+//! What a word is.
+
+ghost use Rattle.std.specs.Prelude.{◌≡◌, ◌||◌, ◌==◌};
+ghost use Rattle.std.specs.List.{list_all};
+ghost use Rattle.chess_pgn.specs.Tokens.{is_digit};
+ghost use Rattle.chess_pgn.specs.Words.{outcome_of, kind_of};
+
+use crate::bytes::is_digit;
+use chess_game::Outcome;
+
+/// What a word of a game's text is.
+#[derive(Clone, Copy, Debug, PartialEq, Eq)]
+pub(crate) enum WordKind {
+    /// The game's end, with its outcome.
+    Termination(Outcome),
+    /// The number of a move.
+    Number,
+    /// Marks such as `!?` alone.
+    Marks,
+    /// What may be a move.
+    Move,
+}
+
+fn outcome_of(word: &[u8]) -> Option<Outcome>
+    ensures { result ≡ outcome_of word.now }
+{
+    match word {
+        b"1-0" => Some(Outcome::WhiteWins),
+        b"0-1" => Some(Outcome::BlackWins),
+        b"1/2-1/2" => Some(Outcome::Draw),
+        b"*" => Some(Outcome::Unfinished),
+        _ => None,
+    }
+}
+
+fn has_digits_alone(word: &[u8]) -> bool
+    ensures { result ≡ list_all is_digit word.now }
+{
+    word.iter().all(|byte| is_digit(*byte))
+}
+
+fn has_marks_alone(word: &[u8]) -> bool
+    ensures { result ≡ list_all (λ c. c == 33 || c == 63) word.now }
+{
+    word.iter().all(|byte| *byte == b'!' || *byte == b'?')
+}
+
+/// What a word is.
+pub(crate) fn word_kind(word: &[u8]) -> WordKind
+    ensures { result ≡ kind_of word.now }
+{
+    if let Some(outcome) = outcome_of(word) {
+        WordKind::Termination(outcome)
+    } else if has_digits_alone(word) {
+        WordKind::Number
+    } else if has_marks_alone(word) {
+        WordKind::Marks
+    } else {
+        WordKind::Move
+    }
+}

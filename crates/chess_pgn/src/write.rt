@@ -1,0 +1,287 @@
+//! Writing a game (PGN standard of 1994, sections 3.2, 8 and 9.7).
+
+ghost use Rattle.std.specs.Prelude.{◌≡◌, ◌≤◌, ◌<◌, [], ◌∷◌, ◌++◌, true, length, decimal, OnOk, IsTrue};
+ghost use Rattle.arrayvec.specs.ArrayVec.{array_vec_len};
+ghost use Rattle.chess_base.specs.Devices.{Puts};
+ghost use Rattle.chess_base.specs.Moves.{is_legal, after};
+ghost use Rattle.chess_base.specs.declared.man.Variant.TheVariants.{Normal, Fischerandom};
+ghost use Rattle.chess_pgn.specs.GameText.{roster_lines, start_lines_in, start_lines, tag_lines, number_token, tokens_of_move, move_tokens, game_tokens, placed_all, column_behind_all, pgn};
+ghost use Rattle.chess_pgn.specs.Waiting.{Adds};
+ghost use Rattle.chess_pgn.specs.Written.{ended, move_text_of};
+
+use chess_text::san_is_a_word;
+use crate::lines::LineWriter;
+use crate::tag_lines::put_tags;
+use crate::tags::{TagPair, Tags};
+use chess_text::san;
+use arrayvec::ArrayVec;
+use chess_base::device::{Output, WriteFault};
+use chess_base::{Colour, Move, Position, Setup, Variant, write_fen};
+use chess_game::{Game, Outcome};
+use chess_moves::Board;
+use itoa::Buffer;
+
+// The token of a number: at most ten digits, and three dots.
+type NumberText = ArrayVec<u8, 13>;
+
+/// Writes a game's text (PGN standard of 1994, section 3.2, the form for exchange): its tags, an empty line, its moves in
+/// SAN with the outcome last, and an empty line. Each line stands behind the prefix and is ended by byte 10. The writer is
+/// not flushed; the scratch board is left at some position.
+///
+/// # Errors
+/// Where the writer failed; a beginning was taken.
+pub fn write_pgn<B: Board, W: Output>(
+    game: &Game<B>,
+    scratch: &mut B,
+    tags: &Tags,
+    prefix: &[u8],
+    writer: &mut W,
+) -> Result<(), WriteFault>
+    ensures { Puts (W.seen writer.old) (W.seen writer.new) result (pgn prefix.now tags.now game.now.state) }
+{
+    let mut lines = LineWriter::new(prefix);
+    put_game(&mut lines, writer, game, scratch, tags)?;
+    lines.finish(writer)
+}
+
+// Puts the lines of a game.
+fn put_game<B: Board, W: Output>(
+    lines: &mut LineWriter<'_>,
+    writer: &mut W,
+    game: &Game<B>,
+    scratch: &mut B,
+    tags: &Tags,
+) -> Result<(), WriteFault>
+    requires { lines.old.column ≡ 0 }
+    ensures { Adds (W.seen writer.old) (W.seen writer.new) lines.old.waiting lines.new.waiting result (pgn lines.old.prefix.now tags.now game.now.state) }
+{
+    put_tag_lines(lines, writer, game, tags)?;
+    put_move_text(lines, writer, game, scratch)?;
+    lines.put_line(writer, b"")
+}
+
+// Puts the tags of a game, and an empty line.
+fn put_tag_lines<B: Board, W: Output>(
+    lines: &mut LineWriter<'_>,
+    writer: &mut W,
+    game: &Game<B>,
+    tags: &Tags,
+) -> Result<(), WriteFault>
+    ensures added { Adds (W.seen writer.old) (W.seen writer.new) lines.old.waiting lines.new.waiting result (ended lines.old.prefix.now (tag_lines tags.now game.now.state ++ [] ∷ [])) }
+    ensures prefix { lines.new.prefix.now ≡ lines.old.prefix.now }
+    ensures column { lines.new.column ≡ lines.old.column }
+{
+    put_roster(lines, writer, tags, game.outcome())?;
+    put_start(lines, writer, &game.start())?;
+    lines.put_line(writer, b"")
+}
+
+// Puts the tags that each game has.
+fn put_roster<W: Output>(
+    lines: &mut LineWriter<'_>,
+    writer: &mut W,
+    tags: &Tags,
+    outcome: Outcome,
+) -> Result<(), WriteFault>
+    ensures added { Adds (W.seen writer.old) (W.seen writer.new) lines.old.waiting lines.new.waiting result (ended lines.old.prefix.now (roster_lines tags.now outcome)) }
+    ensures prefix { lines.new.prefix.now ≡ lines.old.prefix.now }
+    ensures column { lines.new.column ≡ lines.old.column }
+{
+    let roster = [
+        TagPair {
+            name: b"Event",
+            text: tags.event.as_bytes(),
+        },
+        TagPair {
+            name: b"Site",
+            text: tags.site.as_bytes(),
+        },
+        TagPair {
+            name: b"Date",
+            text: tags.date.as_bytes(),
+        },
+        TagPair {
+            name: b"Round",
+            text: tags.round.as_bytes(),
+        },
+        TagPair {
+            name: b"White",
+            text: tags.white.as_bytes(),
+        },
+        TagPair {
+            name: b"Black",
+            text: tags.black.as_bytes(),
+        },
+        TagPair {
+            name: b"Result",
+            text: outcome.text(),
+        },
+    ];
+    put_tags(lines, writer, &roster)
+}
+
+// Puts the tags of a start, and of its variant.
+fn put_start<W: Output>(
+    lines: &mut LineWriter<'_>,
+    writer: &mut W,
+    start: &Position,
+) -> Result<(), WriteFault>
+    ensures added { Adds (W.seen writer.old) (W.seen writer.new) lines.old.waiting lines.new.waiting result (ended lines.old.prefix.now (start_lines start.now)) }
+    ensures prefix { lines.new.prefix.now ≡ lines.old.prefix.now }
+    ensures column { lines.new.column ≡ lines.old.column }
+{
+    match start.variant() {
+        Variant::Normal => put_normal_start(lines, writer, start),
+        Variant::Fischerandom => put_chess960_start(lines, writer, start),
+    }
+}
+
+// Puts the tags of a start of Chess960.
+fn put_chess960_start<W: Output>(
+    lines: &mut LineWriter<'_>,
+    writer: &mut W,
+    start: &Position,
+) -> Result<(), WriteFault>
+    ensures added { Adds (W.seen writer.old) (W.seen writer.new) lines.old.waiting lines.new.waiting result (ended lines.old.prefix.now (start_lines_in Fischerandom start.now)) }
+    ensures prefix { lines.new.prefix.now ≡ lines.old.prefix.now }
+    ensures column { lines.new.column ≡ lines.old.column }
+{
+    let fen = write_fen(start);
+    let tags = [
+        TagPair {
+            name: b"FEN",
+            text: fen.as_slice(),
+        },
+        TagPair {
+            name: b"SetUp",
+            text: b"1",
+        },
+        TagPair {
+            name: b"Variant",
+            text: b"fischerandom",
+        },
+    ];
+    put_tags(lines, writer, &tags)
+}
+
+// Puts the tags of a start of normal chess that is not the initial position.
+fn put_normal_start<W: Output>(
+    lines: &mut LineWriter<'_>,
+    writer: &mut W,
+    start: &Position,
+) -> Result<(), WriteFault>
+    ensures added { Adds (W.seen writer.old) (W.seen writer.new) lines.old.waiting lines.new.waiting result (ended lines.old.prefix.now (start_lines_in Normal start.now)) }
+    ensures prefix { lines.new.prefix.now ≡ lines.old.prefix.now }
+    ensures column { lines.new.column ≡ lines.old.column }
+{
+    let fen = write_fen(start);
+    let initial = write_fen(&Position::initial());
+    if fen.as_slice() == initial.as_slice() {
+        return Ok(());
+    }
+    let tags = [
+        TagPair {
+            name: b"FEN",
+            text: fen.as_slice(),
+        },
+        TagPair {
+            name: b"SetUp",
+            text: b"1",
+        },
+    ];
+    put_tags(lines, writer, &tags)
+}
+
+// Puts the lines of the moves, with the outcome last.
+fn put_move_text<B: Board, W: Output>(
+    lines: &mut LineWriter<'_>,
+    writer: &mut W,
+    game: &Game<B>,
+    scratch: &mut B,
+) -> Result<(), WriteFault>
+    requires { lines.old.column ≡ 0 }
+    ensures added { Adds (W.seen writer.old) (W.seen writer.new) lines.old.waiting lines.new.waiting result (move_text_of lines.old.prefix.now (game_tokens game.now.state)) }
+    ensures prefix { lines.new.prefix.now ≡ lines.old.prefix.now }
+{
+    put_moves(lines, writer, game, scratch)?;
+    lines.put_token(writer, game.outcome().text())?;
+    lines.end_line(writer)
+}
+
+// Puts the tokens of the moves.
+fn put_moves<B: Board, W: Output>(
+    lines: &mut LineWriter<'_>,
+    writer: &mut W,
+    game: &Game<B>,
+    scratch: &mut B,
+) -> Result<(), WriteFault>
+    ensures added { Adds (W.seen writer.old) (W.seen writer.new) lines.old.waiting lines.new.waiting result (placed_all lines.old.prefix.now lines.old.column (move_tokens true game.now.state.start game.now.state.moves)) }
+    ensures column { OnOk result (lines.new.column ≡ column_behind_all lines.old.column (move_tokens true game.now.state.start game.now.state.moves)) }
+    ensures prefix { lines.new.prefix.now ≡ lines.old.prefix.now }
+{
+    let _playable = game.position();
+    scratch.set(&game.start());
+    for ply in 0..game.ply() {
+        put_move(lines, writer, scratch, game.move_at(ply), ply == 0)?;
+    }
+    Ok(())
+}
+
+// Puts the tokens of a legal move, and makes it on the board.
+fn put_move<B: Board, W: Output>(
+    lines: &mut LineWriter<'_>,
+    writer: &mut W,
+    board: &mut B,
+    m: Move,
+    is_first: bool,
+) -> Result<(), WriteFault>
+    requires { IsTrue (is_legal (B.position board.old) m) }
+    ensures added { Adds (W.seen writer.old) (W.seen writer.new) lines.old.waiting lines.new.waiting result (placed_all lines.old.prefix.now lines.old.column (tokens_of_move is_first (B.position board.old) m)) }
+    ensures column { OnOk result (lines.new.column ≡ column_behind_all lines.old.column (tokens_of_move is_first (B.position board.old) m)) }
+    ensures prefix { lines.new.prefix.now ≡ lines.old.prefix.now }
+    ensures position { OnOk result (B.position board.new ≡ after (B.position board.old) m) }
+{
+    san_is_a_word();
+    let again = m;
+    let position = board.position();
+    put_number(lines, writer, position.setup(), is_first)?;
+    let text = san(board, m);
+    lines.put_token(writer, text.as_slice())?;
+    board.make(again);
+    Ok(())
+}
+
+// Puts the number that stands before a move: before each of White's, and before a first one by Black.
+fn put_number<W: Output>(
+    lines: &mut LineWriter<'_>,
+    writer: &mut W,
+    setup: &Setup,
+    is_first: bool,
+) -> Result<(), WriteFault>
+    ensures added { Adds (W.seen writer.old) (W.seen writer.new) lines.old.waiting lines.new.waiting result (placed_all lines.old.prefix.now lines.old.column (number_token setup.now.side is_first setup.now.fullmove)) }
+    ensures column { lines.new.column ≡ column_behind_all lines.old.column (number_token setup.now.side is_first setup.now.fullmove) }
+    ensures prefix { lines.new.prefix.now ≡ lines.old.prefix.now }
+{
+    let dots = match (setup.side, is_first) {
+        (Colour::White, _) => b".".as_slice(),
+        (Colour::Black, true) => b"...".as_slice(),
+        (Colour::Black, false) => return Ok(()),
+    };
+    lines.put_token(writer, number_text(setup.fullmove, dots).as_slice())
+}
+
+// A number, and dots behind it.
+#[tactic(auto, using(crate::proofs::GameTexts::short_decimal))]
+fn number_text(number: u32, dots: &[u8]) -> NumberText
+    requires some { 0 < length dots.now }
+    requires few { length dots.now ≤ 3 }
+    ensures text { result.items ≡ decimal number ++ dots.now }
+    ensures some { 0 < array_vec_len result }
+{
+    let mut buffer = Buffer::new();
+    let mut text = NumberText::new();
+    text.try_extend_from_slice(buffer.format(number).as_bytes())
+        .unwrap();
+    text.try_extend_from_slice(dots).unwrap();
+    text
+}

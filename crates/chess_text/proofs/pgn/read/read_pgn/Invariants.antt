@@ -1,9 +1,0 @@
-use Rattle.std.proofs.Common.{length, ◌-◌}
-use Rattle.chess_text.proofs.GameReads.{Reads}
-use Rattle.chess_text.proofs.pgn.read.read_pgn.Given as goal
-
-abbrev pub invariant-loop-token : goal.invariant-loop-token
-invariant-loop-token g l = Reads l.fn.game.limit l.text l.at l.game l.progress l.place
-
-abbrev pub decreases-loop-token : goal.decreases-loop-token
-decreases-loop-token g l = length l.text - l.place

@@ -1,9 +1,0 @@
-use Rattle.std.proofs.Common.{length, ◌-◌}
-use Rattle.chess_text.proofs.GameReads.{Tells}
-use Rattle.chess_text.proofs.pgn.read.told_variant.Given as goal
-
-abbrev pub invariant-loop-token : goal.invariant-loop-token
-invariant-loop-token l = Tells l.text l.at l.variant l.place
-
-abbrev pub decreases-loop-token : goal.decreases-loop-token
-decreases-loop-token l = length l.text - l.place

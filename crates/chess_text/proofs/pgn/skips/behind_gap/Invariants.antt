@@ -1,9 +1,0 @@
-use Rattle.std.proofs.Common.{◌≡◌, length, false}
-use Rattle.chess_text.specs.Tokens.{behind_gap}
-use Rattle.chess_text.proofs.pgn.skips.behind_gap.Given as goal
-
-abbrev pub invariant-loop-rest : goal.invariant-loop-rest
-invariant-loop-rest l = behind_gap false l.line_begins l.rest ≡ behind_gap false false l.text
-
-abbrev pub decreases-loop-rest : goal.decreases-loop-rest
-decreases-loop-rest l = length l.rest

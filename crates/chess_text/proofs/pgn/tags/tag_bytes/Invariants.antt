@@ -1,9 +1,0 @@
-use Rattle.std.proofs.Common.{◌≡◌, length, map, take}
-use Rattle.chess_text.specs.Written.{tag_byte}
-use Rattle.chess_text.proofs.pgn.tags.tag_bytes.Given as goal
-
-abbrev pub invariant-loop-byte : goal.invariant-loop-byte
-invariant-loop-byte l = record {
-  text : l.kept.items ≡ map tag_byte (take l.byte-index l.bytes);
-  len : length l.kept.items ≡ l.byte-index;
-}
