@@ -1,6 +1,6 @@
 //! One game: the moves that stand, and the positions that they gave.
 
-ghost use Rattle.std.specs.Prelude.{◌≡◌, ◌≤◌, ◌<◌, ◌+◌, IfOk, None, Some, length, take, slice_get};
+ghost use Rattle.std.specs.Prelude.{false, ◌≡◌, ◌≤◌, ◌<◌, ◌+◌, IfOk, None, Some, length, take, slice_get};
 ghost use Rattle.std.specs.Option.{option_map};
 ghost use Rattle.chess_game.specs.Line.{last};
 ghost use Rattle.chess_game.specs.Same.{rep};
@@ -350,7 +350,8 @@ impl<B: Board> Game<B> {
 
     /// Whether as many half-moves stand as can.
     pub fn is_full(&self) -> bool
-        ensures { result ≡ is_full self.now }
+        ensures value { result ≡ is_full self.now }
+        ensures few { result ≡ false → length self.now.state.moves < 20000 }
     {
         self.places.len() >= self.limit as usize
     }

@@ -18,7 +18,7 @@ pub invariant_of-self : goal.invariant_of-self
 invariant_of-self g c =
     let places = c.self.inside.places.items in
     let x : Place = record { made = c.args.m; saved = c.make-saved.result; reached = c.on.result } in
-    let few : length places < c.self.inside.limit = room c.self.inside.limit c.self.inside.start.position places c.self.inside.declared c.args.self.now c.self.view_is c.is_full.result c.is_full.ensures c.if-is_full.false in
+    let few : length places < c.self.inside.limit = room c.self.inside.limit c.self.inside.start.position places c.self.inside.declared c.args.self.now c.self.view_is c.is_full.result c.is_full.ensures.value c.if-is_full.false in
     let in_place : is_err c.push.result ≡ false = sym c.is_err.ensures.value ∙ c.if-is_err.false in
     let all : c.push.new.self.items ≡ places ++ x ∷ [] = pushed c.push.result places (places ++ x ∷ []) c.push.new.self.items in_place c.push.ensures.items in
     let more = added c.self.inside.start.position places x _ _ c.self.invariant.0.follows c.self.invariant.0.at_end c.make-saved.ensures.made c.on.ensures.position c.on.ensures.known in
