@@ -1,7 +1,7 @@
 ghost use Rattle.std.specs.Prelude.{◌≤◌};
 
 use crate::command::{Command, read_command};
-use crate::laws::{lines_are_pieces, refusals_change_nothing};
+use crate::laws::{lines_are_pieces, normal_chess_keeps_its_rows, refusals_change_nothing};
 use crate::lines::Lines;
 use crate::run::{End, Fault, run_session};
 use crate::session::Session;
@@ -614,6 +614,7 @@ fn moves_of_test_positions_are_counted(rt: HostRuntime) -> Result<(), Fail> {
 fn a_session_opens_at_the_initial_position(rt: HostRuntime) -> Result<(), Fail> {
     lines_are_pieces();
     refusals_change_nothing();
+    normal_chess_keeps_its_rows();
     let mut board = Plain::new();
     let e4 = Move {
         from: Square::new(12),
