@@ -1,5 +1,5 @@
 use crate::program::{ProgramFault, run_program, tell};
-use crate::{status_of, words_fault};
+use crate::standard::{status_of, words_fault};
 use chess_base::device::{Counted, PieceReader, PieceWriter};
 use std::io;
 use std::test::Fail;

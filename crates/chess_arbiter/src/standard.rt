@@ -1,11 +1,7 @@
-//! The arbiter as a program on the standard streams.
-#![tactic(auto)]
+//! The program on the standard streams.
 
-mod program;
-mod verify;
-
+use crate::program::{ProgramFault, run_program, tell};
 use chess_base::device::Counted;
-use program::{ProgramFault, run_program, tell};
 use std::alloc::AllocError;
 use std::process::ExitCode;
 use std::{env, io};
@@ -19,8 +15,8 @@ fn words_of(rt: &HostRuntime) -> io::Result<Vec<String>> {
     Ok(words)
 }
 
-// Runs the program on the standard streams.
-fn status_of(rt: &HostRuntime) -> io::Result<u8> {
+// Runs the program on the standard streams, and gives its status.
+pub(crate) fn status_of(rt: &HostRuntime) -> io::Result<u8> {
     let owned = words_of(rt)?;
     let mut words = Vec::new(rt.alloc());
     for word in &owned {
@@ -37,7 +33,7 @@ fn status_of(rt: &HostRuntime) -> io::Result<u8> {
 }
 
 // Why the words could not be had: no memory for them, or one of them is no UTF-8.
-fn words_fault(error: &io::Error) -> ProgramFault {
+pub(crate) fn words_fault(error: &io::Error) -> ProgramFault {
     if error.kind() == io::ErrorKind::OutOfMemory {
         ProgramFault::NoMemory
     } else {
@@ -45,8 +41,10 @@ fn words_fault(error: &io::Error) -> ProgramFault {
     }
 }
 
-fn main(rt: HostRuntime) -> ExitCode {
-    match status_of(&rt) {
+/// Runs the program on the words behind its name and the standard streams, as `main` does; the result is its exit status, as
+/// `run_program` tells it. Words that are no UTF-8 are wrong words.
+pub fn run(rt: &HostRuntime) -> ExitCode {
+    match status_of(rt) {
         Ok(status) => ExitCode::from(status),
         Err(error) => {
             let fault = words_fault(&error);
@@ -55,6 +53,3 @@ fn main(rt: HostRuntime) -> ExitCode {
         }
     }
 }
-
-#[cfg(test)]
-mod tests;
