@@ -1,4 +1,4 @@
-use crate::{PgnEnd, PgnFault, PgnFaultKind, read_pgn};
+use crate::{PgnEnd, PgnFault, PgnFaultKind, Termination, read_pgn};
 use chess_base::write_fen;
 use chess_game::{Game, Outcome, Verdict};
 use chess_moves::Plain;
@@ -9,6 +9,7 @@ use std::test::Fail;
 #[derive(Clone, Copy)]
 enum Wanted {
     Ended(Outcome, usize),
+    EndedAs(Outcome, Termination, usize),
     Fault(PgnFaultKind, usize),
     NoGame,
 }
@@ -16,7 +17,16 @@ enum Wanted {
 impl Wanted {
     fn answer(self) -> Result<Option<PgnEnd>, PgnFault> {
         match self {
-            Wanted::Ended(outcome, place) => Ok(Some(PgnEnd { outcome, place })),
+            Wanted::Ended(outcome, place) => Ok(Some(PgnEnd {
+                outcome,
+                termination: None,
+                place,
+            })),
+            Wanted::EndedAs(outcome, termination, place) => Ok(Some(PgnEnd {
+                outcome,
+                termination: Some(termination),
+                place,
+            })),
             Wanted::Fault(kind, place) => Err(PgnFault { kind, place }),
             Wanted::NoGame => Ok(None),
         }
