@@ -1,6 +1,6 @@
 -- The text of a game, put together from left to right.
 use Rattle.std.proofs.Common.{◌≡◌, ℕ, zero, suc, ◌+◌, ◌<◌, ◌≤◌, ◌^◌, Bool, true, false, eqb, List, [], ◌∷◌, ◌++◌, length, take, slice_get, Some, Result, refl, sym, ap, subst, ◌∙◌, append_assoc, append-nil, add-one, arith}
-use Rattle.std.specs.Prelude.{decimal, codes, IsTrue}
+use Rattle.std.specs.Prelude.{decimal, IsTrue}
 use Rattle.std.specs.List.{flat_map}
 use Rattle.std.proofs.lemmas.List.Concat.{flat_map-append}
 use Rattle.std.proofs.lemmas.Bool.Decides.{nat_tests}
@@ -20,7 +20,7 @@ use Rattle.chess_pgn.specs.Terminations.{termination_of}
 use Rattle.chess_pgn.specs.GameText.{roster_lines, start_lines_in, last_lines, further_lines, tag_lines, number_token, tokens_of_move, move_tokens, game_tokens, placed_all, column_behind_all, pgn}
 use Rattle.chess_text.specs.San.{san}
 use Rattle.chess_pgn.specs.Waiting.{TookSome, Adds}
-use Rattle.chess_pgn.specs.Written.{tag_line, ended, placed, column_behind, line_close, filled_from, move_text_of}
+use Rattle.chess_pgn.specs.Written.{ended, placed, column_behind, line_close, filled_from, move_text_of}
 use Rattle.chess_pgn.proofs.Added.{added_more, added_break, break_longer, adds_more, finished}
 
 -- a number of 32 bits has at most ten digits

@@ -8,17 +8,16 @@ ghost use Rattle.chess_pgn.specs.GameText.{roster_lines, is_initial, fen_lines, 
 ghost use Rattle.chess_pgn.specs.Waiting.{Adds};
 ghost use Rattle.chess_pgn.specs.Written.{ended, move_text_of};
 
-use chess_text::san_is_a_word;
 use crate::lines::LineWriter;
 use crate::tag_lines::put_tags;
 use crate::tags::{TagPair, Tags};
 use crate::termination::Termination;
-use chess_text::san;
 use arrayvec::ArrayVec;
 use chess_base::device::{Output, WriteFault};
 use chess_base::{Colour, Move, Position, Setup, Variant, write_fen};
 use chess_game::{Game, Outcome};
 use chess_moves::Board;
+use chess_text::{san, san_is_a_word};
 use itoa::Buffer;
 
 // The token of a number: at most ten digits, and three dots.

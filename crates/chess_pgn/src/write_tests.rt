@@ -152,12 +152,14 @@ fn the_end_of_a_game_of_chess960_is_written(rt: HostRuntime) -> Result<(), Fail>
         ended: HowEnded::TimeForfeit,
         ..Tags::default()
     };
-    let unended: &[u8] = b"[FEN \"4k3/8/8/8/8/8/8/RK5R w HA - 0 1\"]\n[SetUp \"1\"]\n[Termination \"unterminated\"]\n[Variant \"fischerandom\"]\n\n1. O-O-O *\n\n";
+    let unended: &[u8] =
+        b"[FEN \"4k3/8/8/8/8/8/8/RK5R w HA - 0 1\"]\n[SetUp \"1\"]\n[Termination \"unterminated\"]\n[Variant \"fischerandom\"]\n\n1. O-O-O *\n\n";
     let text = written(rt.alloc(), &game, &tags, b"", 9000)?;
     assert!(rt; text.as_slice().ends_with(unended));
     game.declare(Outcome::Draw, Comment::cut(b""))
         .or(Err("declared"))?;
-    let ended: &[u8] = b"[FEN \"4k3/8/8/8/8/8/8/RK5R w HA - 0 1\"]\n[SetUp \"1\"]\n[Termination \"time forfeit\"]\n[Variant \"fischerandom\"]\n\n1. O-O-O 1/2-1/2\n\n";
+    let ended: &[u8] =
+        b"[FEN \"4k3/8/8/8/8/8/8/RK5R w HA - 0 1\"]\n[SetUp \"1\"]\n[Termination \"time forfeit\"]\n[Variant \"fischerandom\"]\n\n1. O-O-O 1/2-1/2\n\n";
     let text = written(rt.alloc(), &game, &tags, b"", 9000)?;
     assert!(rt; text.as_slice().ends_with(ended));
     Ok(())
