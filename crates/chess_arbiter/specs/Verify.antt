@@ -1,10 +1,12 @@
 -- What verifying games reads, and what it tells of them.
-use Rattle.std.specs.Prelude.{◌≡◌, ◌≤◌, ◌<◌, ℕ, ◌+◌, List, [], ◌∷◌, ◌++◌, length, codes, decimal, Some, None, Result, Ok, Err}
+use Rattle.std.specs.Prelude.{◌≡◌, ◌≤◌, ◌<◌, ℕ, ◌+◌, List, [], ◌∷◌, ◌++◌, length, codes, decimal, Option, Some, None, Result, Ok, Err}
 use Rattle.std.specs.Io.KnownBytes.{Consumes, IsAtEnd}
 use Rattle.chess_base.specs.Devices.{InputState, OutputState, Took, BreaksOff, risen}
 use Rattle.chess_game.specs.Results.{outcome_text}
 use Rattle.chess_pgn.specs.declared.read.PgnFaultKind.{PgnFaultKind}
 use Rattle.chess_pgn.specs.declared.read.PgnFaultKind.TheVariants.{BadTag, BadFen, BadToken, IllegalMove, AmbiguousMove, AfterEnd, TooLong, UnclosedComment, UnclosedVariation, NoResult}
+use Rattle.chess_pgn.specs.declared.termination.Termination.{Termination}
+use Rattle.chess_pgn.specs.Terminations.{termination_text}
 use Rattle.chess_pgn.specs.GameRead.{GameRead, pgn_read}
 use Rattle.chess_arbiter.specs.declared.program.ProgramFault.{ProgramFault}
 use Rattle.chess_arbiter.specs.declared.program.ProgramFault.TheVariants.{ReadFailed, WriteFailed, NoMemory, InputTooLong, WrongWords}
@@ -73,8 +75,13 @@ fault_name UnclosedComment = codes "unclosed comment"
 fault_name UnclosedVariation = codes "unclosed variation"
 fault_name NoResult = codes "no result"
 
+-- how the game ended, where its text tells it
+abbrev pub told_termination : Option Termination → List ℕ
+told_termination None = []
+told_termination (Some t) = codes ", " ++ termination_text t
+
 abbrev pub report_text : Report → List ℕ
-report_text (Game plies end) = decimal plies ++ (codes " half-moves, " ++ outcome_text end.outcome)
+report_text (Game plies end) = decimal plies ++ (codes " half-moves, " ++ (outcome_text end.outcome ++ told_termination end.termination))
 report_text (Faulty fault) = fault_name fault.kind ++ (codes " at byte " ++ decimal fault.place)
 
 -- the line of the game with that number

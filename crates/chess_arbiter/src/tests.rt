@@ -143,7 +143,7 @@ fn runs_of_the_program(rt: HostRuntime) {
 }
 
 // Games as they are verified: the text, what is told, and the status.
-const GAMES: [(&[u8], &[u8], u8); 13] = [
+const GAMES: [(&[u8], &[u8], u8); 16] = [
     (
         b"1.e4 {a} e5 (1...c5 2.Nf3) 2.Nf3 $1 *",
         b"game 1: 3 half-moves, *\n",
@@ -178,6 +178,22 @@ const GAMES: [(&[u8], &[u8], u8); 13] = [
     (
         b"1. f3 e5 2. g4 Qh4# 0-1\n\n% a line\n1. e4 ; a comment\n1-0\n",
         b"game 1: 4 half-moves, 0-1\ngame 2: 1 half-moves, 1-0\n",
+        0,
+    ),
+    // How a game ended, where its text tells it: each for itself.
+    (
+        b"[Termination \"Time forfeit\"] 1. e4 1-0",
+        b"game 1: 1 half-moves, 1-0, time forfeit\n",
+        0,
+    ),
+    (
+        b"[Termination \"x\"] 1. e4 1-0",
+        b"game 1: 1 half-moves, 1-0\n",
+        0,
+    ),
+    (
+        b"[Termination \"rules infraction\"] 1/2-1/2 1. e4 * [Termination \"ABANDONED\"] 0-1",
+        b"game 1: 0 half-moves, 1/2-1/2, rules infraction\ngame 2: 1 half-moves, *\ngame 3: 0 half-moves, 0-1, abandoned\n",
         0,
     ),
     (b"", b"", 0),

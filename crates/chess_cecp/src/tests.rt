@@ -199,7 +199,7 @@ const RUNS: [Run; 33] = [
     // From one variant to the other.
     Run {
         input: b"e2e4\nvariant normal\nshowfen\nvariant fischerandom\ne2e4\nvariant fischerandom\nshowfen\ne2e4\nvariant normal\nshowfen\nvariant fischerandom\nnew\nshowfen\nsetboard 4k3/8/8/8/8/8/8/4K2R w H - 0 1\nvariant fischerandom\nsetboard 4k3/8/8/8/8/8/8/4K2R w H - 0 1\nKe2\nundo\ne1g1\nKh1\nO-O+\nshowstate\nshowpgn\n",
-        answers: b"# fen rnbqkbnr/pppppppp/8/8/4P3/8/PPPP1PPP/RNBQKBNR b KQkq e3 0 1\n# fen rnbqkbnr/pppppppp/8/8/8/8/PPPPPPPP/RNBQKBNR w HAha - 0 1\n# fen rnbqkbnr/pppppppp/8/8/8/8/PPPPPPPP/RNBQKBNR w KQkq - 0 1\n# fen rnbqkbnr/pppppppp/8/8/8/8/PPPPPPPP/RNBQKBNR w KQkq - 0 1\ntellusererror Illegal position (castling)\nIllegal move: e1g1\nIllegal move: Kh1\n# state ply 1 rep 1 clock 1 claims none verdict none declared none\n# [Event \"?\"]\n# [Site \"?\"]\n# [Date \"????.??.??\"]\n# [Round \"?\"]\n# [White \"?\"]\n# [Black \"?\"]\n# [Result \"*\"]\n# [FEN \"4k3/8/8/8/8/8/8/4K2R w H - 0 1\"]\n# [SetUp \"1\"]\n# [Variant \"fischerandom\"]\n# \n# 1. O-O *\n# \n",
+        answers: b"# fen rnbqkbnr/pppppppp/8/8/4P3/8/PPPP1PPP/RNBQKBNR b KQkq e3 0 1\n# fen rnbqkbnr/pppppppp/8/8/8/8/PPPPPPPP/RNBQKBNR w HAha - 0 1\n# fen rnbqkbnr/pppppppp/8/8/8/8/PPPPPPPP/RNBQKBNR w KQkq - 0 1\n# fen rnbqkbnr/pppppppp/8/8/8/8/PPPPPPPP/RNBQKBNR w KQkq - 0 1\ntellusererror Illegal position (castling)\nIllegal move: e1g1\nIllegal move: Kh1\n# state ply 1 rep 1 clock 1 claims none verdict none declared none\n# [Event \"?\"]\n# [Site \"?\"]\n# [Date \"????.??.??\"]\n# [Round \"?\"]\n# [White \"?\"]\n# [Black \"?\"]\n# [Result \"*\"]\n# [FEN \"4k3/8/8/8/8/8/8/4K2R w H - 0 1\"]\n# [SetUp \"1\"]\n# [Termination \"unterminated\"]\n# [Variant \"fischerandom\"]\n# \n# 1. O-O *\n# \n",
         end: End::InputEnded,
     },
     Run {
@@ -219,7 +219,7 @@ const GAMES: [Run; 19] = [
     // Games as PGN.
     Run {
         input: b"new\nf2f3\ne7e5\ng2g4\nd8h4\nshowpgn\nsetboard 4k3/8/8/8/1b6/2N5/8/4K1N1 w - - 0 1\ng1e2\nshowpgn now\nsetboard 4k3/8/8/8/8/8/4p3/K7 b - - 0 1\ne2e1q\nshowpgn\n",
-        answers: b"0-1 {Black mates}\n# [Event \"?\"]\n# [Site \"?\"]\n# [Date \"????.??.??\"]\n# [Round \"?\"]\n# [White \"?\"]\n# [Black \"?\"]\n# [Result \"0-1\"]\n# \n# 1. f3 e5 2. g4 Qh4# 0-1\n# \n# [Event \"?\"]\n# [Site \"?\"]\n# [Date \"????.??.??\"]\n# [Round \"?\"]\n# [White \"?\"]\n# [Black \"?\"]\n# [Result \"*\"]\n# [FEN \"4k3/8/8/8/1b6/2N5/8/4K1N1 w - - 0 1\"]\n# [SetUp \"1\"]\n# \n# 1. Ne2 *\n# \n# [Event \"?\"]\n# [Site \"?\"]\n# [Date \"????.??.??\"]\n# [Round \"?\"]\n# [White \"?\"]\n# [Black \"?\"]\n# [Result \"*\"]\n# [FEN \"4k3/8/8/8/8/8/4p3/K7 b - - 0 1\"]\n# [SetUp \"1\"]\n# \n# 1... e1=Q+ *\n# \n",
+        answers: b"0-1 {Black mates}\n# [Event \"?\"]\n# [Site \"?\"]\n# [Date \"????.??.??\"]\n# [Round \"?\"]\n# [White \"?\"]\n# [Black \"?\"]\n# [Result \"0-1\"]\n# [Termination \"normal\"]\n# \n# 1. f3 e5 2. g4 Qh4# 0-1\n# \n# [Event \"?\"]\n# [Site \"?\"]\n# [Date \"????.??.??\"]\n# [Round \"?\"]\n# [White \"?\"]\n# [Black \"?\"]\n# [Result \"*\"]\n# [FEN \"4k3/8/8/8/1b6/2N5/8/4K1N1 w - - 0 1\"]\n# [SetUp \"1\"]\n# [Termination \"unterminated\"]\n# \n# 1. Ne2 *\n# \n# [Event \"?\"]\n# [Site \"?\"]\n# [Date \"????.??.??\"]\n# [Round \"?\"]\n# [White \"?\"]\n# [Black \"?\"]\n# [Result \"*\"]\n# [FEN \"4k3/8/8/8/8/8/4p3/K7 b - - 0 1\"]\n# [SetUp \"1\"]\n# [Termination \"unterminated\"]\n# \n# 1... e1=Q+ *\n# \n",
         end: End::InputEnded,
     },
     // Moves in SAN and in looser spellings.

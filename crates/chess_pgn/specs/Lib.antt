@@ -5,6 +5,7 @@ pub mod VariationParts
 pub mod Written
 pub mod Waiting
 pub mod Tags
+pub mod Terminations
 pub mod GameRead
 pub mod GameSteps
 pub mod GameText

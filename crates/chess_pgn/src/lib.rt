@@ -10,6 +10,7 @@ mod skips;
 mod tag;
 mod tag_lines;
 mod tags;
+mod termination;
 mod token;
 mod variation;
 mod word;
@@ -17,7 +18,8 @@ mod write;
 
 pub use laws::{lines_are_filled, pgn_is_read_back};
 pub use read::{PgnEnd, PgnFault, PgnFaultKind, read_pgn};
-pub use tags::{TagText, Tags};
+pub use tags::{HowEnded, TagText, Tags};
+pub use termination::Termination;
 pub use write::write_pgn;
 
 #[cfg(test)]

@@ -236,10 +236,10 @@ fn tokens_are_told(rt: HostRuntime) -> Result<(), Fail> {
 #[test]
 fn words_are_of_their_kinds(rt: HostRuntime) {
     let rows: [(&[u8], WordKind); 14] = [
-        (b"1-0", WordKind::Termination(Outcome::WhiteWins)),
-        (b"0-1", WordKind::Termination(Outcome::BlackWins)),
-        (b"1/2-1/2", WordKind::Termination(Outcome::Draw)),
-        (b"*", WordKind::Termination(Outcome::Unfinished)),
+        (b"1-0", WordKind::End(Outcome::WhiteWins)),
+        (b"0-1", WordKind::End(Outcome::BlackWins)),
+        (b"1/2-1/2", WordKind::End(Outcome::Draw)),
+        (b"*", WordKind::End(Outcome::Unfinished)),
         (b"1", WordKind::Number),
         (b"007", WordKind::Number),
         (b"!?", WordKind::Marks),
