@@ -30,4 +30,6 @@ pub use setup::{COUNTER_LIMIT, Saved, Setup};
 pub use square::Square;
 
 #[cfg(test)]
+mod chess960_tests;
+#[cfg(test)]
 mod tests;
