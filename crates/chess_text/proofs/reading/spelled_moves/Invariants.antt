@@ -1,7 +1,7 @@
 use Rattle.std.proofs.Common.{◌≡◌, ◌≤◌, ◌*◌}
 use Rattle.std.specs.List.{flat_map}
 use Rattle.arrayvec.specs.ArrayVec.{array_vec_len}
-use Rattle.chess_base.specs.Moves.{from_below}
+use Rattle.chess_base.specs.Squares.{from_below}
 use Rattle.chess_base.specs.MoveList.{promotions}
 use Rattle.chess_text.specs.Forms.{end_of, spelled_with}
 use Rattle.chess_text.proofs.reading.spelled_moves.Given as goal
