@@ -18,3 +18,4 @@ pub mod Reading
 pub mod Spelling
 pub mod FenFaults
 pub mod Devices
+pub mod Counting
