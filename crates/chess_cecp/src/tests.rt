@@ -377,13 +377,18 @@ fn check_run(rt: &impl Abort, alloc: Global, run: &Run, cut: usize) -> Result<()
     Ok(())
 }
 
+// Short runs in pieces of each length, long ones in pieces of some.
 #[test]
 fn runs_however_they_are_cut(rt: HostRuntime) -> Result<(), Fail> {
     for run in &RUNS {
-        for cut in 1..=run.input.len() {
+        for cut in [1, 2, 3, 7, 20, 1024] {
             check_run(&rt, rt.alloc(), run, cut)?;
         }
-        check_run(&rt, rt.alloc(), run, 1024)?;
+        if run.input.len() <= 40 {
+            for cut in 4..=run.input.len() {
+                check_run(&rt, rt.alloc(), run, cut)?;
+            }
+        }
     }
     Ok(())
 }
@@ -490,18 +495,38 @@ fn a_move_stands_where_writing_breaks_off(rt: HostRuntime) -> Result<(), Fail> {
     Ok(())
 }
 
+// The gate opens for one line at each flush, and a write shuts it: each answer is flushed before the next line is asked
+// for, a silent one and that to `showpgn` too, and nothing is left unflushed.
 #[test]
 fn an_answer_is_flushed_before_more_is_read(rt: HostRuntime) -> Result<(), Fail> {
-    let flushed = Cell::new(0);
-    let mut reader = Counted::reading(GatedReader::new(b"ping 1\nping 2\nquit\n", &flushed));
-    let mut writer = Counted::writing(GatedWriter::new(rt.alloc(), &flushed));
+    let ends: [(&[u8], End); 2] = [(b"quit\n", End::Quit), (b"", End::InputEnded)];
+    for (last, end) in ends {
+        let mut input = Vec::new(rt.alloc());
+        input.extend_from_slice(b"ping 1\nnew\nshowpgn\ne2e4\nx\nshowpgn\nping 2\n")?;
+        input.extend_from_slice(last)?;
+        let gate = Cell::new(true);
+        let mut reader = Counted::reading(GatedReader::new(input.as_slice(), &gate));
+        let mut writer = Counted::writing(GatedWriter::new(rt.alloc(), &gate));
+        let mut session = open(rt.alloc(), 1)?;
+        let ended = run_session(&mut reader, &mut writer, &mut session);
+        assert_eq!(rt; ended, Ok(end));
+        assert_eq!(rt; reader.reader().early, 0);
+        assert!(rt; writer.writer().bytes.ends_with(b"\npong 2\n"));
+        assert_eq!(rt; gate.get(), end == End::Quit);
+    }
+    Ok(())
+}
+
+// The whole text of a game is taken by one write, and then the flush fails.
+#[test]
+fn the_flush_behind_a_game_may_fail(rt: HostRuntime) -> Result<(), Fail> {
     let mut session = open(rt.alloc(), 1)?;
+    let mut reader = pieces(b"showpgn\nping 1\n", 100, 0);
+    let mut writer = taking(rt.alloc(), 9000, 2);
     let ended = run_session(&mut reader, &mut writer, &mut session);
-    assert_eq!(rt; ended, Ok(End::Quit));
-    assert_eq!(rt;
-        writer.writer().bytes.as_slice(),
-        b"pong 1\npong 2\n".as_slice()
-    );
+    assert_eq!(rt; ended, Err(Fault::Write));
+    assert!(rt; writer.writer().bytes.ends_with(b"# *\n# \n"));
+    assert_eq!(rt; writer.writer().calls, 2);
     Ok(())
 }
 
