@@ -5,7 +5,8 @@ use Rattle.chess_base.specs.declared.man.Move.{Move}
 use Rattle.chess_base.specs.declared.man.Variant.{Variant as Rules}
 use Rattle.chess_base.specs.declared.man.Variant.TheVariants.{Normal}
 use Rattle.chess_base.specs.declared.setup.Setup.{Setup}
-use Rattle.chess_base.specs.Moves.{after, castling}
+use Rattle.chess_base.specs.Castling.{castling}
+use Rattle.chess_base.specs.Moves.{after}
 use Rattle.chess_base.specs.MoveList.{moves}
 use Rattle.chess_base.specs.Reading.{fen_reading_as}
 use Rattle.chess_text.specs.Moves.{coordinate}
