@@ -100,9 +100,7 @@ fn play_word<B: Board>(game: &mut Game<B>, place: usize, word: &[u8]) -> Result<
         Reading::Ambiguous => PgnFaultKind::AmbiguousMove,
         Reading::NoSuch => PgnFaultKind::IllegalMove,
         Reading::Move(m) => {
-            if game.play(m).is_err() {
-                unreachable!();
-            }
+            game.play_legal(m);
             return Ok(Step::On(Progress::BEGUN));
         }
     };
