@@ -35,10 +35,10 @@ pub all_promote : (form : Form) (p : Setup) (a b : ℕ) → would_promote p a b 
     → spelled_with form p a b (Some Queen ∷ Some Rook ∷ Some Bishop ∷ Some Knight ∷ []) ≡ spelled_with form p a b promotions
 unfolding moves_between
 all_promote form p a b e =
-    of_legal form p a b _ ∙ ap (filter (λ m. is_spelled form p m)) (sym (parts.all_promote p a b e)) ∙ sym (of_legal form p a b promotions)
+    of_legal form p a b parts.promoting ∙ ap (filter (λ m. is_spelled form p m)) (sym (parts.all_promote p a b e)) ∙ sym (of_legal form p a b promotions)
 
 pub none_promotes : (form : Form) (p : Setup) (a b : ℕ) → would_promote p a b ≡ false
     → spelled_with form p a b (None ∷ []) ≡ spelled_with form p a b promotions
 unfolding moves_between
 none_promotes form p a b n =
-    of_legal form p a b _ ∙ ap (filter (λ m. is_spelled form p m)) (sym (parts.none_promotes p a b n)) ∙ sym (of_legal form p a b promotions)
+    of_legal form p a b (None ∷ []) ∙ ap (filter (λ m. is_spelled form p m)) (sym (parts.none_promotes p a b n)) ∙ sym (of_legal form p a b promotions)
