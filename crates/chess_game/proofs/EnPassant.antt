@@ -1,5 +1,5 @@
 -- A legal capture en passant begins on a pawn's square, ends on the target and promotes nothing.
-use Rattle.std.proofs.Common.{◌≡◌, ◌≢◌, ◌<◌, ℕ, Bool, true, false, ◌&&◌, ◌==◌, Option, Some, None, refl, sym, ap, ◌∙◌, arith}
+use Rattle.std.proofs.Common.{◌≡◌, ◌<◌, ℕ, true, ◌&&◌, ◌==◌, Option, Some, None, refl, sym, ap, ◌∙◌, arith}
 use Rattle.std.proofs.lemmas.Bool.{and_parts, eqb-true}
 use Rattle.chess_base.specs.declared.man.Colour.{Colour}
 use Rattle.chess_base.specs.declared.man.Colour.TheVariants.{White, Black}
@@ -8,12 +8,12 @@ use Rattle.chess_base.specs.declared.man.Kind.TheVariants.{Pawn}
 use Rattle.chess_base.specs.declared.man.Move.{Move}
 use Rattle.chess_base.specs.declared.setup.Setup.{Setup}
 use Rattle.chess_base.specs.Attacks.{attacks}
-use Rattle.chess_base.specs.Men.{man_at, is_man, other, first_rank, crossed_rank, forward}
+use Rattle.chess_base.specs.Men.{man_at, is_man, other, first_rank, crossed_rank}
 use Rattle.chess_base.specs.Moves.{is_legal, is_en_passant, is_square}
 use Rattle.chess_base.specs.Sound.{IsSound, target_is_behind_double_advance, target_is_behind_double_advance_at}
 use Rattle.chess_base.specs.Squares.{rank}
 use Rattle.chess_moves.specs.Candidates.{would_promote}
-use Rattle.chess_moves.specs.Sets.{has, HasOrigins}
+use Rattle.chess_moves.specs.Sets.{HasOrigins}
 use Rattle.chess_moves.proofs.Reach.{promotes_on_last_rank}
 use Rattle.chess_moves.proofs.SomeMember.{AllFound}
 

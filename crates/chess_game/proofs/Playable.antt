@@ -1,9 +1,8 @@
 -- Where a move may be played, the game is not over, there is room, and the move is legal.
-use Rattle.std.proofs.Common.{◌≡◌, Bool, true, false, not, Option, None, Some, refl, if◌then◌else◌}
+use Rattle.std.proofs.Common.{◌≡◌, Bool, true, false, not, None, Some, refl, if◌then◌else◌}
 use Rattle.chess_base.specs.declared.man.Move.{Move}
 use Rattle.chess_base.specs.Moves.{is_legal}
 use Rattle.chess_game.specs.Game.{Seen, current, is_over, is_full, play_refusal}
-use Rattle.chess_game.specs.declared.game.PlayRefusal.{PlayRefusal}
 use Rattle.chess_game.specs.declared.game.PlayRefusal.TheVariants.{Over, TooLong, Illegal}
 
 pub record MayPlay (o f l : Bool) : Type 0 where

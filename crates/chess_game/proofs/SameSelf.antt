@@ -1,5 +1,5 @@
 -- A position is the same as itself.
-use Rattle.std.proofs.Common.{◌≡◌, ◌∙◌, ℕ, zero, suc, Bool, true, Option, None, Some, cond, refl, sym, ap}
+use Rattle.std.proofs.Common.{◌≡◌, ℕ, zero, suc, Bool, true, Option, None, Some, cond, refl}
 use Rattle.std.proofs.lemmas.Bool.{and_from, eq-eqb}
 use Rattle.chess_base.specs.declared.man.Colour.{Colour}
 use Rattle.chess_base.specs.declared.man.Colour.TheVariants.{White, Black}
@@ -7,7 +7,7 @@ use Rattle.chess_base.specs.declared.man.Man.{Man}
 use Rattle.chess_base.specs.declared.man.Rights.{Rights}
 use Rattle.chess_base.specs.declared.man.ColourRights.{ColourRights}
 use Rattle.chess_base.specs.declared.setup.Setup.{Setup}
-use Rattle.chess_base.specs.Men.{Men, man_at, same_colour, same_kind, kind_number}
+use Rattle.chess_base.specs.Men.{Men, man_at, same_colour, kind_number}
 use Rattle.chess_base.specs.Squares.{each_below, each_square}
 use Rattle.chess_game.specs.Same.{same, same_man, same_men, same_square, same_colour_rights, same_rights, live_target}
 

@@ -1,5 +1,5 @@
 -- A test of the legal moves, made on the squares of a set alone.
-use Rattle.std.proofs.Common.{◌≡◌, ◌≢◌, ℕ, zero, suc, ◌<◌, inl, inr, Bool, true, false, ◌&&◌, ◌||◌, ◌==◌, Option, Some, None, List, [], ◌∷◌, ◌++◌, map, refl, sym, ap, ◌∙◌, arith}
+use Rattle.std.proofs.Common.{◌≡◌, ◌≢◌, ℕ, zero, suc, ◌<◌, inl, inr, Bool, true, false, ◌&&◌, ◌||◌, ◌==◌, Option, Some, None, List, [], ◌∷◌, map, refl, sym, ap, ◌∙◌, arith}
 use Rattle.std.proofs.lemmas.Bool.{cases_Bool, and_parts, false_from_ne_true, or_left, or_right, eqb-true, eqb-false}
 use Rattle.std.proofs.lemmas.List.Folds.{list_any-append}
 use Rattle.std.specs.List.{filter, flat_map, list_any}
@@ -108,8 +108,13 @@ between p t to w a all =
 
 none_elsewhere : (p : Setup) (t : Move → Bool) (to w a b : ℕ) → AllFound p t to w → b ≢ to → list_any (found p t) (map (triple a b) promotions) ≡ false
 none_elsewhere p t to w a b all away =
-    rw (elsewhere p t to w a b all away None, elsewhere p t to w a b all away (Some Queen), elsewhere p t to w a b all away (Some Rook),
-    elsewhere p t to w a b all away (Some Bishop), elsewhere p t to w a b all away (Some Knight)) refl
+    rw (
+      elsewhere p t to w a b all away None,
+      elsewhere p t to w a b all away (Some Queen),
+      elsewhere p t to w a b all away (Some Rook),
+      elsewhere p t to w a b all away (Some Bishop),
+      elsewhere p t to w a b all away (Some Knight),
+    ) refl
 
 -- such a test need look at the squares of the set alone
 pub any_from_members : (p : Setup) (t : Move → Bool) (to w : ℕ) → to < 64 → AllFound p t to w

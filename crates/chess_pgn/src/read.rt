@@ -14,10 +14,10 @@ ghost use Rattle.chess_pgn.specs.GameSteps.{EndsIn, so_far, step_seen, IsWithin}
 use crate::tag::Tag;
 use crate::token::{Token, TokenFault, first_place, next_token};
 use crate::word::{WordKind, word_kind};
-use chess_text::{Reading, read_move};
 use chess_base::{Position, Variant, read_fen_as};
 use chess_game::{Comment, Game, Outcome};
 use chess_moves::Board;
+use chess_text::{Reading, read_move};
 
 /// How a game's text ended.
 #[derive(Clone, Copy, Debug, PartialEq, Eq)]

@@ -1,10 +1,10 @@
 -- Where the moves begin that a form spells.
-use Rattle.std.proofs.Common.{◌≡◌, ℕ, zero, suc, ◌+◌, ◌*◌, ◌/◌, ◌%◌, ◌<◌, ◌≤◌, inl, inr, Bool, true, false, ◌&&◌, ◌||◌, ◌==◌, not, nat_lt, cond, Option, Some, None, List, [], ◌∷◌, ◌++◌, length, refl, sym, ap, ◌∙◌, subst, append-nil, append_assoc, arith}
+use Rattle.std.proofs.Common.{◌≡◌, ℕ, ◌+◌, ◌*◌, ◌/◌, ◌%◌, ◌<◌, ◌≤◌, inl, inr, true, false, ◌&&◌, ◌||◌, ◌==◌, nat_lt, Option, Some, None, List, [], ◌∷◌, ◌++◌, length, refl, sym, ap, ◌∙◌, append-nil, append_assoc, arith}
 use Rattle.std.specs.Prelude.{is_none}
 use Rattle.std.specs.List.{filter, flat_map}
 use Rattle.std.proofs.lemmas.List.Sums.{length-filter, count_by-le-length}
 use Rattle.std.proofs.lemmas.Bool.Decides.{nat_tests}
-use Rattle.std.proofs.lemmas.Bool.{and_parts, false_from_ne_true, or_cases, eq-eqb, eqb-true, cases_Bool}
+use Rattle.std.proofs.lemmas.Bool.{and_parts, false_from_ne_true, or_cases, eq-eqb, eqb-true}
 use Rattle.chess_base.specs.declared.man.CastlingSide.{CastlingSide}
 use Rattle.chess_base.specs.declared.man.Kind.{Kind}
 use Rattle.chess_base.specs.declared.man.Kind.TheVariants.{King, Queen, Rook, Bishop, Knight, Pawn}
@@ -17,14 +17,13 @@ use Rattle.chess_base.specs.Squares.{file, rank}
 use Rattle.chess_base.specs.Men.{man_at, is_man, same_kind, same_colour}
 use Rattle.chess_base.specs.Moves.{is_legal}
 use Rattle.chess_base.specs.MoveList.{promotions, triple, squares, moves}
-use Rattle.chess_base.specs.Sound.{home_square}
 use Rattle.chess_moves.specs.Sets.{has, members, HasOrigins}
 use Rattle.chess_moves.proofs.Members.{flat_map_members}
 use Rattle.chess_text.specs.declared.described.Described.{Described}
 use Rattle.chess_text.specs.declared.form.Form.{Form}
 use Rattle.chess_text.specs.declared.form.Form.TheVariants.{Castling, Walk}
 use Rattle.chess_text.specs.declared.parts.Parts.{Parts}
-use Rattle.chess_text.specs.Moves.{described, described_as, names, admits, is_kind, is_by_squares, is_by_letter, is_straight, is_from_file, fits, passes}
+use Rattle.chess_text.specs.Moves.{described, described_as, names, admits, is_by_squares, is_by_letter, is_straight, is_from_file, fits, passes}
 use Rattle.chess_text.specs.Forms.{same_side, form_fits, is_spelled, end_of, spelled_with, named_square, IsStart}
 use Rattle.chess_text.proofs.Alone.{castled}
 use Rattle.chess_text.proofs.AllMoves.{none-kept}

@@ -186,11 +186,7 @@ fn write_mark<B: Board>(board: &B, text: &mut SanText)
     ensures len { array_vec_len text.new ≤ array_vec_len text.old + 1 }
 {
     if board.in_check() {
-        text.push(if board.has_legal_move() {
-            b'+'
-        } else {
-            b'#'
-        });
+        text.push(if board.has_legal_move() { b'+' } else { b'#' });
     }
 }
 

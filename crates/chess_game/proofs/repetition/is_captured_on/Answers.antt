@@ -1,4 +1,3 @@
-use Rattle.std.proofs.Common.{◌≡◌}
 use Rattle.chess_base.specs.Moves.{is_en_passant}
 use Rattle.chess_moves.proofs.SomeMember.{any_from_members}
 use Rattle.chess_game.proofs.EnPassant.{en_passant_found, target_in}

@@ -1,9 +1,5 @@
-use Rattle.std.proofs.Common.{◌≡◌, sym, ap, ◌∙◌, Some, List}
-use Rattle.std.specs.List.{filter}
-use Rattle.chess_base.specs.declared.setup.Setup.{Setup}
-use Rattle.chess_base.specs.MoveList.{moves}
-use Rattle.chess_text.specs.Moves.{one_of, reading}
-use Rattle.chess_text.specs.Forms.{is_spelled}
+use Rattle.std.proofs.Common.{sym, ap, ◌∙◌}
+use Rattle.chess_text.specs.Moves.{one_of}
 use Rattle.chess_text.proofs.FormFacts.{reading_spelled, reading_nothing, reads_legal}
 use Rattle.chess_text.proofs.reading.read_move.Goals as goal
 

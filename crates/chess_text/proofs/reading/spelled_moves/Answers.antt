@@ -1,6 +1,4 @@
-use Rattle.std.proofs.Common.{◌≡◌, ◌≤◌, ◌+◌, ◌*◌, ◌++◌, ℕ, length, [], sym, ap, ◌∙◌, subst, arith}
-use Rattle.chess_base.specs.declared.setup.Setup.{Setup}
-use Rattle.chess_text.specs.Forms.{IsStart}
+use Rattle.std.proofs.Common.{◌≡◌, length, ap, arith}
 use Rattle.chess_text.proofs.Origins.{spelled_from, members_few}
 use Rattle.chess_text.proofs.reading.spelled_moves.Goals as goal
 
