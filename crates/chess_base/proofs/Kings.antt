@@ -9,7 +9,8 @@ use Rattle.chess_base.specs.declared.man.Colour.{Colour}
 use Rattle.chess_base.specs.declared.man.Kind.TheVariants.{King}
 use Rattle.chess_base.specs.declared.man.Man.{Man}
 use Rattle.chess_base.specs.Men.{Men, man_at, is_man}
-use Rattle.chess_base.specs.Sound.{has_one_king, king_square}
+use Rattle.chess_base.specs.Sound.{has_one_king}
+use Rattle.chess_base.specs.Castling.{king_square}
 use Rattle.chess_base.proofs.Counts.{count_by-set}
 use Rattle.chess_base.proofs.MenFacts.{in_board}
 

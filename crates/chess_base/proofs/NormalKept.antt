@@ -1,21 +1,24 @@
 -- On positions of normal chess the rules of both variants are those of normal chess.
-use Rattle.std.proofs.Common.{◌≡◌, ℕ, zero, suc, Bool, true, false, ◌&&◌, cond, ◌==◌, nat_lt, Option, Some, None, is_some, refl, ap, ◌∙◌}
+use Rattle.std.proofs.Common.{◌≡◌, ℕ, Bool, true, false, ◌&&◌, cond, ◌==◌, nat_lt, Option, Some, None, is_some, refl, ap, ◌∙◌}
+use Rattle.chess_base.specs.declared.castling.Castle.{Castle}
+use Rattle.chess_base.specs.declared.steps.Steps.{Steps}
 use Rattle.chess_base.specs.declared.man.Colour.{Colour}
 use Rattle.chess_base.specs.declared.man.Colour.TheVariants.{White, Black}
 use Rattle.chess_base.specs.RightNames.{side_letter}
 use Rattle.chess_base.specs.declared.man.CastlingSide.{CastlingSide}
 use Rattle.chess_base.specs.declared.man.CastlingSide.TheVariants.{KingSide, QueenSide}
-use Rattle.chess_base.specs.declared.man.Kind.TheVariants.{King, Pawn}
+use Rattle.chess_base.specs.declared.man.Kind.TheVariants.{King, Rook, Pawn}
 use Rattle.chess_base.specs.declared.man.Man.{Man}
 use Rattle.chess_base.specs.declared.man.Move.{Move}
 use Rattle.chess_base.specs.declared.man.Rights.{Rights}
 use Rattle.chess_base.specs.declared.man.Variant.TheVariants.{Normal}
 use Rattle.chess_base.specs.declared.setup.Setup.{Setup}
 use Rattle.chess_base.specs.Men.{Men, man_at, is_man, same_colour, same_kind, other}
-use Rattle.chess_base.specs.Moves.{names_castling, says_castling, castling, lands_as, lands_on, castles_with, castles, castles_or_moves, moves_as, has_pattern, pawn_moves, second_square_emptied, castling_rook_to, man_after, men_after, from_below, rights_after, target_after, halfmove_after, fullmove_after, is_legal, after, castled_king_file}
-use Rattle.chess_base.specs.Sound.{right_of, right_stands, right_stands_at, home_square, king_home_file}
+use Rattle.chess_base.specs.Moves.{behind, is_en_passant, man_that_lands, castles_or_moves, moves_as, has_pattern, pawn_moves, second_square_emptied, men_after, rights_after, target_after, halfmove_after, fullmove_after, is_legal, after}
+use Rattle.chess_base.specs.Castling.{names_castling, says_castling, castling, castle_by, castle_of, mover_to, rook_from, rook_to, lands_on, castling_rook_to, castled_king_file, right_of, right_stands, right_stands_at, home_square, king_home_file}
+use Rattle.chess_base.specs.Steps.{men_stepped}
 use Rattle.chess_base.specs.Writing.{rights_text, right_text}
-use Rattle.chess_base.specs.Normal.{normal_right_stands_at, normal_says_castling, normal_castling, normal_lands_on, normal_castles_with, normal_castles_or_moves, normal_moves_as, normal_has_pattern, normal_second_square_emptied, normal_man_after, normal_men_after, normal_after, normal_is_legal, letter_if, normal_rights_text, NormalIsKept}
+use Rattle.chess_base.specs.Normal.{normal_right_stands_at, normal_says_castling, normal_castling, normal_castle_of, normal_moves_as, normal_has_pattern, normal_men_after, normal_after, normal_is_legal, letter_if, normal_rights_text, NormalIsKept}
 
 in_turn : (a b c : Bool) → (a && (b && c)) ≡ (true && a && b && c)
 in_turn true true c = refl
@@ -38,42 +41,32 @@ castling_kept : (p : Setup) → p.variant ≡ Normal → (m : Move) → castling
 unfolding castling normal_castling
 castling_kept p e m = rw (says_kept p e m KingSide, says_kept p e m QueenSide) refl
 
-lands_kept : (p : Setup) → p.variant ≡ Normal → (m : Move) → lands_on p m ≡ normal_lands_on p m
-unfolding lands_on normal_lands_on
-lands_kept p e m = ap (lands_as p m) (castling_kept p e m)
-
-castles_kept : (p : Setup) → p.variant ≡ Normal → (m : Move) (w : CastlingSide) (o : Option ℕ) → castles_with p m w o ≡ normal_castles_with p m w o
-castles_kept p e m w None = refl
-castles_kept p e m w (Some rook) = rw (lands_kept p e m) refl
-
-ways_kept : (p : Setup) → p.variant ≡ Normal → (m : Move) (o : Option CastlingSide) → castles_or_moves p m o ≡ normal_castles_or_moves p m o
-unfolding castles
-ways_kept p e m None = refl
-ways_kept p e m (Some w) = castles_kept p e m w (right_of p.rights p.side w)
+castle_kept : (p : Setup) → p.variant ≡ Normal → (m : Move) → castle_of p m ≡ normal_castle_of p m
+unfolding castle_of normal_castle_of
+castle_kept p e m = ap (castle_by p.side p.rights m) (castling_kept p e m)
 
 moves_kept : (p : Setup) → p.variant ≡ Normal → (m : Move) (o : Option Man) → moves_as p m o ≡ normal_moves_as p m o
 moves_kept p e m None = refl
-moves_kept p e m (Some x) = ap (λ b. same_colour p.side x.colour && cond (same_kind Pawn x.kind) (pawn_moves p m) b) (ways_kept p e m (castling p m) ∙ ap (normal_castles_or_moves p m) (castling_kept p e m))
+moves_kept p e m (Some x) = ap (λ k. same_colour p.side x.colour && cond (same_kind Pawn x.kind) (pawn_moves p m) (castles_or_moves p m k)) (castle_kept p e m)
 
 pattern_kept : (p : Setup) → p.variant ≡ Normal → (m : Move) → has_pattern p m ≡ normal_has_pattern p m
 unfolding has_pattern normal_has_pattern
 pattern_kept p e m = ap (λ b. nat_lt m.from 64 && nat_lt m.to 64 && b) (moves_kept p e m (man_at p.men m.from))
 
-second_kept : (p : Setup) → p.variant ≡ Normal → (m : Move) → second_square_emptied p m ≡ normal_second_square_emptied p m
-unfolding second_square_emptied normal_second_square_emptied
-second_kept p e m = rw (castling_kept p e m) refl
-
-man_kept : (p : Setup) → p.variant ≡ Normal → (m : Move) (s : ℕ) → man_after p m s ≡ normal_man_after p m s
-unfolding man_after normal_man_after castling_rook_to
-man_kept p e m s = rw (lands_kept p e m, castling_kept p e m, second_kept p e m) refl
-
-same_below : {A : Type 0} (n : ℕ) (f g : ℕ → A) → ((k : ℕ) → f k ≡ g k) → from_below n f ≡ from_below n g
-same_below zero f g h = refl
-same_below (suc n) f g h = rw (h 0, same_below n (λ k. f (suc k)) (λ k. g (suc k)) (λ k. h (suc k))) refl
+-- the steps of a move, by the castling that it is
+steps_by : Setup → Move → Option Castle → Steps
+steps_by p m o = record {
+  from = m.from;
+  second_from = cond (is_en_passant p m) (Some (behind p.side m.to)) (rook_from o);
+  second_to = rook_to o;
+  second = Some (record { colour = p.side; kind = Rook });
+  to = mover_to m o;
+  mover = man_that_lands (man_at p.men m.from) m.promotion;
+}
 
 men_kept : (p : Setup) → p.variant ≡ Normal → (m : Move) → men_after p m ≡ normal_men_after p m
-unfolding men_after normal_men_after
-men_kept p e m = same_below 64 (man_after p m) (normal_man_after p m) (man_kept p e m)
+unfolding men_after normal_men_after lands_on castling_rook_to second_square_emptied steps_by
+men_kept p e m = ap (λ o. men_stepped p.men (steps_by p m o)) (castle_kept p e m)
 
 after_kept : (p : Setup) → p.variant ≡ Normal → (m : Move) → after p m ≡ normal_after p m
 unfolding after normal_after

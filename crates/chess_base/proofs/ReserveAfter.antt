@@ -10,13 +10,14 @@ use Rattle.chess_base.specs.declared.man.Kind.{Kind}
 use Rattle.chess_base.specs.declared.man.Kind.TheVariants.{King, Rook, Pawn}
 use Rattle.chess_base.specs.declared.man.Man.{Man}
 use Rattle.chess_base.specs.declared.man.Move.{Move}
-use Rattle.chess_base.specs.declared.man.CastlingSide.{CastlingSide}
+use Rattle.chess_base.specs.declared.castling.Castle.{Castle}
 use Rattle.chess_base.specs.declared.setup.Setup.{Setup}
-use Rattle.chess_base.specs.Squares.{rank}
+use Rattle.chess_base.specs.Squares.{rank, from_below}
 use Rattle.chess_base.specs.Men.{Men, man_at, other, is_of, is_man, same_colour, same_kind, forward, pawn_rank}
 use Rattle.chess_base.specs.Attacks.{is_rank_ahead, is_in_check}
-use Rattle.chess_base.specs.Sound.{IsSound, no_pawn_on_end_ranks, pawn_may_stand, right_of}
-use Rattle.chess_base.specs.Moves.{from_below, lands_on, man_that_lands, man_moves, castles, castles_with, has_pattern, is_legal, men_after, halfmove_after, resets_clock, after}
+use Rattle.chess_base.specs.Sound.{IsSound, no_pawn_on_end_ranks, pawn_may_stand}
+use Rattle.chess_base.specs.Castling.{castle_from, lands_on, castles}
+use Rattle.chess_base.specs.Moves.{man_that_lands, man_moves, has_pattern, is_legal, men_after, halfmove_after, resets_clock, after}
 use Rattle.chess_base.specs.Reserve.{ranks_to_go, weight, reserve}
 use Rattle.chess_base.proofs.OverSquares.{each_square-at}
 use Rattle.chess_base.proofs.MenAfter.{length-from_below, get_or-from_below}
@@ -219,16 +220,16 @@ pawn_lands p m sound moves man kind =
     let ahead = goes_ahead p m sound moves man kind in
     rw (lands_on_to p m (pawn_no_castling p m man)) (omega (arith, before, lands, ahead))
 
-castles_plainly : (p : Setup) (m : Move) (w : CastlingSide) (o : Option ℕ) → castles_with p m w o ≡ true → is_none m.promotion ≡ true
-castles_plainly p m w None e = cc
-castles_plainly p m w (Some s) e = (and_parts _ _ (and_parts _ _ e).0).0
+castles_plainly : (p : Setup) (m : Move) (k : Castle) → castles p m k ≡ true → is_none m.promotion ≡ true
+unfolding castles
+castles_plainly p m k e = (and_parts _ _ (and_parts _ _ e).0).0
 
 lands_by : (p : Setup) (m : Move) → IsSound p → Moves p m → MoveKind p m → Lands p m
-unfolding man_moves castles Lands
+unfolding man_moves Lands
 lands_by p m sound moves (ManMoves n c e) = man_lands p m moves n (and_parts _ _ (and_parts _ _ e).0).0
-lands_by p m sound moves (Castles w c e) =
+lands_by p m sound moves (Castles w r c at e) =
     let king = (castling_says p m w (says_from_castling p m w c)).0 in
-    man_lands p m moves (is_man-kind p.side p.side King Pawn (man_at p.men m.from) refl king) (castles_plainly p m w (right_of p.rights p.side w) e)
+    man_lands p m moves (is_man-kind p.side p.side King Pawn (man_at p.men m.from) refl king) (castles_plainly p m (castle_from p.side w m.from r) e)
 lands_by p m sound moves (PawnMoves man fits kind) = let less = pawn_lands p m sound moves man kind in omega arith
 
 -- the laws
@@ -244,7 +245,7 @@ never_grows p m sound legal =
 pawn_falls : (p : Setup) (m : Move) → IsSound p → Change p m → is_man p.side Pawn (man_at p.men m.from) ≡ true → MoveKind p m → reserve (men_after p m) < reserve p.men
 unfolding Spends
 pawn_falls p m sound h man (ManMoves n c e) = absurd (both_ways _ n man)
-pawn_falls p m sound h man (Castles w c e) =
+pawn_falls p m sound h man (Castles w r c at e) =
     absurd (both_ways _ (is_man-kind p.side p.side King Pawn (man_at p.men m.from) refl (castling_says p m w (says_from_castling p m w c)).0) man)
 pawn_falls p m sound h man (PawnMoves man' fits kind) =
     let spent = spends p m sound h in

@@ -4,7 +4,7 @@ use Rattle.chess_base.specs.declared.man.Colour.{Colour}
 use Rattle.chess_base.specs.declared.man.CastlingSide.{CastlingSide}
 use Rattle.chess_base.specs.declared.man.Kind.TheVariants.{Rook}
 use Rattle.chess_base.specs.Men.{Men, man_at, is_man}
-use Rattle.chess_base.specs.Sound.{home_square}
+use Rattle.chess_base.specs.Castling.{home_square}
 use Rattle.chess_base.specs.RightNames.{edge_file, rook_among}
 
 pub rook_here : (men : Men) (c : Colour) (w : CastlingSide) (left k : ℕ) → k + 1 ≡ left → is_man c Rook (man_at men (home_square c (edge_file w k))) ≡ true → home_square c (edge_file w k) ≡ rook_among men c w left

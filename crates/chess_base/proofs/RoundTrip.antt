@@ -25,7 +25,8 @@ use Rattle.chess_base.specs.Writing.{run_text, row_text, rank_text, ranks_down, 
 use Rattle.chess_base.specs.declared.man.CastlingSide.{CastlingSide}
 use Rattle.chess_base.specs.declared.man.CastlingSide.TheVariants.{KingSide, QueenSide}
 use Rattle.chess_base.specs.Men.{Men, man_at, is_man, other, forward, crossed_rank}
-use Rattle.chess_base.specs.Sound.{IsSound, home_square, rook_file, right_of, right_stands_at, right_stands, target_is_behind_double_advance_at, target_is_behind_double_advance}
+use Rattle.chess_base.specs.Sound.{IsSound, target_is_behind_double_advance_at, target_is_behind_double_advance}
+use Rattle.chess_base.specs.Castling.{home_square, rook_file, right_of, right_stands_at, right_stands}
 use Rattle.std.proofs.lemmas.Bool.{and_parts, eqb-true}
 use Rattle.std.proofs.Math.Seq.{take-add}
 use Rattle.chess_base.specs.Reading.{Description, side_of, counters_of, letters_of, described_in, description_of, rights_named, setup_from}

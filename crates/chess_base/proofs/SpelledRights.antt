@@ -13,7 +13,7 @@ use Rattle.chess_base.specs.declared.man.CastlingSide.{CastlingSide}
 use Rattle.chess_base.specs.declared.man.Variant.{Variant}
 use Rattle.chess_base.specs.declared.man.Variant.TheVariants.{Normal, Fischerandom}
 use Rattle.chess_base.specs.Men.{Men}
-use Rattle.chess_base.specs.Sound.{home_square, rook_file}
+use Rattle.chess_base.specs.Castling.{home_square, rook_file}
 use Rattle.chess_base.specs.RightNames.{side_letter, right_named, right_told}
 use Rattle.chess_base.specs.Spelling.{AreRightLetters, IsCastling, IsHeldBy, IsHeld}
 

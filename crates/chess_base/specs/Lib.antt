@@ -1,6 +1,8 @@
 pub mod Squares
 pub mod Men
 pub mod Attacks
+pub mod Castling
+pub mod Steps
 pub mod Sound
 pub mod Moves
 pub mod Faults

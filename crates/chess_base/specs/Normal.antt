@@ -1,6 +1,8 @@
 -- The rules as they are said for normal chess alone: what the definitions of both variants come to there. Each of these is the
 -- definition of the same name without `normal_`, with castling named by the king's squares from and to the e-file.
-use Rattle.std.specs.Prelude.{◌≡◌, ℕ, ◌==◌, nat_lt, Bool, false, true, not, ◌&&◌, ◌||◌, Option, Some, None, is_none, is_some, if◌then◌else◌, ◌++◌, List, [], ◌∷◌}
+use Rattle.std.specs.Prelude.{◌≡◌, ℕ, ◌==◌, nat_lt, Bool, false, true, not, ◌&&◌, Option, Some, None, is_some, if◌then◌else◌, ◌++◌, List, [], ◌∷◌}
+use Rattle.chess_base.specs.declared.castling.Castle.{Castle}
+use Rattle.chess_base.specs.declared.steps.Steps.{Steps}
 use Rattle.chess_base.specs.declared.man.Colour.{Colour}
 use Rattle.chess_base.specs.declared.man.CastlingSide.{CastlingSide}
 use Rattle.chess_base.specs.declared.man.CastlingSide.TheVariants.{KingSide, QueenSide}
@@ -12,8 +14,9 @@ use Rattle.chess_base.specs.declared.man.Variant.TheVariants.{Normal}
 use Rattle.chess_base.specs.declared.setup.Setup.{Setup}
 use Rattle.chess_base.specs.Men.{Men, man_at, is_man, same_colour, same_kind, other}
 use Rattle.chess_base.specs.Attacks.{is_in_check}
-use Rattle.chess_base.specs.Sound.{right_of, rook_file, king_home_file, home_square, right_stands}
-use Rattle.chess_base.specs.Moves.{is_square, pawn_moves, man_moves, is_en_passant, behind, castled_king_file, castled_rook_file, lands_as, castling_way_is_empty, castling_way_is_safe, man_that_lands, rook_start_of, rook_end_of, from_below, rights_after, target_after, halfmove_after, fullmove_after, is_legal, after}
+use Rattle.chess_base.specs.Castling.{right_of, rook_file, king_home_file, home_square, right_stands, castled_king_file, castle_by, mover_to, rook_from, rook_to}
+use Rattle.chess_base.specs.Steps.{men_stepped}
+use Rattle.chess_base.specs.Moves.{pawn_moves, is_en_passant, behind, castles_or_moves, man_that_lands, rights_after, target_after, halfmove_after, fullmove_after, is_legal, after}
 use Rattle.chess_base.specs.Letters.{byte}
 use Rattle.chess_base.specs.Writing.{or_dash, rights_text}
 
@@ -32,40 +35,29 @@ normal_says_castling p m w =
 unfoldable pub normal_castling : Setup → Move → Option CastlingSide
 normal_castling p m = if normal_says_castling p m KingSide then Some KingSide else if normal_says_castling p m QueenSide then Some QueenSide else None
 
-unfoldable pub normal_lands_on : Setup → Move → ℕ
-normal_lands_on p m = lands_as p m (normal_castling p m)
-
-abbrev pub normal_castles_with : Setup → Move → CastlingSide → Option ℕ → Bool
-normal_castles_with p m w None = false
-normal_castles_with p m w (Some rook_from) =
-    is_none m.promotion
-    && castling_way_is_empty p.men m.from (normal_lands_on p m) rook_from (home_square p.side (castled_rook_file w))
-    && castling_way_is_safe p.men p.side m.from (normal_lands_on p m)
-
-abbrev pub normal_castles_or_moves : Setup → Move → Option CastlingSide → Bool
-normal_castles_or_moves p m None = man_moves p m
-normal_castles_or_moves p m (Some w) = normal_castles_with p m w (right_of p.rights p.side w)
+unfoldable pub normal_castle_of : Setup → Move → Option Castle
+normal_castle_of p m = castle_by p.side p.rights m (normal_castling p m)
 
 abbrev pub normal_moves_as : Setup → Move → Option Man → Bool
 normal_moves_as p m None = false
 normal_moves_as p m (Some x) =
-    same_colour p.side x.colour && (if same_kind Pawn x.kind then pawn_moves p m else normal_castles_or_moves p m (normal_castling p m))
+    same_colour p.side x.colour && (if same_kind Pawn x.kind then pawn_moves p m else castles_or_moves p m (normal_castle_of p m))
 
 unfoldable pub normal_has_pattern : Setup → Move → Bool
 normal_has_pattern p m = nat_lt m.from 64 && nat_lt m.to 64 && normal_moves_as p m (man_at p.men m.from)
 
-unfoldable pub normal_second_square_emptied : Setup → Move → Option ℕ
-normal_second_square_emptied p m = if is_en_passant p m then Some (behind p.side m.to) else rook_start_of p (normal_castling p m)
-
-unfoldable pub normal_man_after : Setup → Move → ℕ → Option Man
-normal_man_after p m s =
-    if normal_lands_on p m == s then man_that_lands (man_at p.men m.from) m.promotion
-    else if is_square (rook_end_of p (normal_castling p m)) s then Some (record { colour = p.side; kind = Rook })
-    else if is_square (normal_second_square_emptied p m) s || (m.from == s) then None
-    else man_at p.men s
+abbrev pub normal_steps_of : Setup → Move → Steps
+normal_steps_of p m = record {
+  from = m.from;
+  second_from = if is_en_passant p m then Some (behind p.side m.to) else rook_from (normal_castle_of p m);
+  second_to = rook_to (normal_castle_of p m);
+  second = Some (record { colour = p.side; kind = Rook });
+  to = mover_to m (normal_castle_of p m);
+  mover = man_that_lands (man_at p.men m.from) m.promotion;
+}
 
 unfoldable pub normal_men_after : Setup → Move → Men
-normal_men_after p m = from_below 64 (normal_man_after p m)
+normal_men_after p m = men_stepped p.men (normal_steps_of p m)
 
 unfoldable pub normal_after : Setup → Move → Setup
 normal_after p m = record {

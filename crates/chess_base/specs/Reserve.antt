@@ -3,9 +3,8 @@ use Rattle.std.specs.Prelude.{ℕ, ◌+◌, Option, Some, None, sum, if◌then�
 use Rattle.chess_base.specs.declared.man.Colour.{Colour}
 use Rattle.chess_base.specs.declared.man.Kind.TheVariants.{Pawn}
 use Rattle.chess_base.specs.declared.man.Man.{Man}
-use Rattle.chess_base.specs.Squares.{rank, gap}
+use Rattle.chess_base.specs.Squares.{rank, gap, from_below}
 use Rattle.chess_base.specs.Men.{Men, man_at, same_kind, other, first_rank}
-use Rattle.chess_base.specs.Moves.{from_below}
 
 -- how many ranks a pawn of colour c on s is from its last one
 abbrev pub ranks_to_go : Colour → ℕ → ℕ

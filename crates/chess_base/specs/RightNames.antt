@@ -10,7 +10,7 @@ use Rattle.chess_base.specs.declared.man.Variant.{Variant}
 use Rattle.chess_base.specs.declared.man.Variant.TheVariants.{Normal, Fischerandom}
 use Rattle.chess_base.specs.Squares.{file}
 use Rattle.chess_base.specs.Men.{Men, man_at, is_man}
-use Rattle.chess_base.specs.Sound.{home_square, king_square, rook_file}
+use Rattle.chess_base.specs.Castling.{home_square, king_square, rook_file}
 use Rattle.chess_base.specs.Letters.{byte}
 use Rattle.chess_base.specs.Texts.{occurs, first_letter, names_file}
 

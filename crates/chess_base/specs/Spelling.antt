@@ -12,7 +12,7 @@ use Rattle.chess_base.specs.declared.man.CastlingSide.{CastlingSide}
 use Rattle.chess_base.specs.Men.{Men}
 use Rattle.chess_base.specs.RightNames.{side_letter, right_after_letters}
 use Rattle.chess_base.specs.Squares.{rank}
-use Rattle.chess_base.specs.Sound.{right_of, home_square, rook_file}
+use Rattle.chess_base.specs.Castling.{right_of, home_square, rook_file}
 use Rattle.chess_base.specs.declared.setup.Setup.{Setup}
 use Rattle.chess_base.specs.Letters.{letter, byte, stroke}
 use Rattle.chess_base.specs.Texts.{times, occurs, may_name_right, fields_of}

@@ -1,18 +1,21 @@
 //! What a move does not keep, and what stood before it, told from what was saved.
 
 ghost use Rattle.std.specs.Prelude.{◌≡◌, ◌<◌, IsTrue};
-ghost use Rattle.chess_base.specs.Moves.{is_square, behind};
+ghost use Rattle.chess_base.specs.Squares.{is_square};
+ghost use Rattle.chess_base.specs.Men.{other};
+ghost use Rattle.chess_base.specs.Moves.{behind};
 ghost use Rattle.chess_base.specs.Sound.{IsSound};
-ghost use Rattle.chess_base.specs.Before.{captured_square, saved_of, captured_from, was_castling, castled, landed_on, castled_rook_from, castled_rook_to, man_that_left};
+ghost use Rattle.chess_base.specs.Before.{captured_square, saved_of, captured_from, was_castling, castled, castle_made, man_that_left, second_back_to, second_back, steps_back};
 
 use crate::attack::{is_man, is_of};
-use crate::man::{CastlingSide, Colour, Kind, Man, Move, Variant};
-use crate::rules::{
-    castled_king_file, castled_rook_file, forward, home_square, is_en_passant, is_square,
-    names_castling, right_of,
+use crate::castling::{
+    Castle, castle_by, castled_king_file, home_square, mover_to, names_castling, right_of, rook_to,
 };
+use crate::man::{CastlingSide, Colour, Kind, Man, Move, Variant};
+use crate::pawns::{forward, is_en_passant};
 use crate::setup::{Saved, Setup};
-use crate::square::Square;
+use crate::square::{Square, is_square};
+use crate::steps::Steps;
 
 // The square of the man that the move captures, if it captures one.
 #[tactic(auto, unfolding(crate::specs::Before::captured_square))]
@@ -49,9 +52,9 @@ pub fn saved_of(setup: &Setup, m: &Move) -> Saved
     }
 }
 
-/// The square on which the man stood that the move of that colour captured, if it captured one.
+// The square on which the man stood that the move of that colour captured, if it captured one.
 #[tactic(auto, unfolding(crate::specs::Before::captured_from))]
-pub fn captured_from(colour: Colour, m: &Move, saved: &Saved) -> Option<Square>
+fn captured_from(colour: Colour, m: &Move, saved: &Saved) -> Option<Square>
     requires { IsTrue (is_square saved.now.target m.now.to) → behind colour m.now.to < 64 }
     ensures { result ≡ captured_from colour m.now saved.now }
 {
@@ -87,9 +90,9 @@ fn was_castling(
         )
 }
 
-/// The side of the castling that the move of that colour was, if it was one.
+// The side of the castling that the move of that colour was, if it was one.
 #[tactic(auto, unfolding(crate::specs::Before::castled))]
-pub fn castled(
+fn castled(
     variant: Variant,
     colour: Colour,
     men: &[Option<Man>; 64],
@@ -107,39 +110,18 @@ pub fn castled(
     }
 }
 
-/// The square on which the mover stands after the move of that colour and castling.
-pub fn landed_on(colour: Colour, m: &Move, castling: Option<CastlingSide>) -> Square
-    ensures { result ≡ landed_on colour m.now castling }
+// The castling that the move was, if it was one.
+#[tactic(auto, unfolding(crate::specs::Before::castle_made))]
+fn castle_made(setup: &Setup, m: &Move, saved: &Saved) -> Option<Castle>
+    ensures { result ≡ castle_made setup.now m.now saved.now }
 {
-    match castling {
-        None => m.to,
-        Some(castling_side) => home_square(colour, castled_king_file(castling_side)),
-    }
+    let colour = setup.side.other();
+    let castling = castled(setup.variant, colour, &setup.men, m, saved);
+    castle_by(colour, saved.rights, m, castling)
 }
 
-/// The square on which the castling rook stood before the castling, if it was one.
-pub fn castled_rook_from(
-    colour: Colour,
-    saved: &Saved,
-    castling: Option<CastlingSide>,
-) -> Option<Square>
-    ensures { result ≡ castled_rook_from colour saved.now castling }
-{
-    right_of(saved.rights, colour, castling?)
-}
-
-/// The square on which the castling rook stands after the castling, if it was one.
-pub fn castled_rook_to(colour: Colour, castling: Option<CastlingSide>) -> Option<Square>
-    ensures { result ≡ castled_rook_to colour castling }
-{
-    match castling {
-        None => None,
-        Some(castling_side) => Some(home_square(colour, castled_rook_file(castling_side))),
-    }
-}
-
-/// The mover as it was: what was promoted was a pawn.
-pub fn man_that_left(man: Option<Man>, promotion: Option<Kind>) -> Option<Man>
+// The mover as it was: what was promoted was a pawn.
+fn man_that_left(man: Option<Man>, promotion: Option<Kind>) -> Option<Man>
     ensures { result ≡ man_that_left man promotion }
 {
     let man = man?;
@@ -149,5 +131,53 @@ pub fn man_that_left(man: Option<Man>, promotion: Option<Kind>) -> Option<Man>
             colour: man.colour,
             kind: Kind::Pawn,
         }),
+    }
+}
+
+// The square to which a second man comes back: the castling rook, or else the captured man.
+fn second_back_to(
+    colour: Colour,
+    m: &Move,
+    saved: &Saved,
+    castle: &Option<Castle>,
+) -> Option<Square>
+    requires { IsTrue (is_square saved.now.target m.now.to) → behind colour m.now.to < 64 }
+    ensures { result ≡ second_back_to colour m.now saved.now castle.now }
+{
+    match castle {
+        None => captured_from(colour, m, saved),
+        Some(castle) => Some(castle.rook_from),
+    }
+}
+
+// The second man that comes back.
+fn second_back(colour: Colour, saved: &Saved, castle: &Option<Castle>) -> Option<Man>
+    ensures { result ≡ second_back colour saved.now castle.now }
+{
+    match castle {
+        None => saved.captured,
+        Some(_) => Some(Man {
+            colour,
+            kind: Kind::Rook,
+        }),
+    }
+}
+
+/// What taking the move back changes on the board.
+#[tactic(auto, unfolding(crate::specs::Before::steps_back))]
+pub fn steps_back(setup: &Setup, m: &Move, saved: &Saved) -> Steps
+    requires { IsTrue (is_square saved.now.target m.now.to) → behind (other setup.now.side) m.now.to < 64 }
+    ensures { result ≡ steps_back setup.now m.now saved.now }
+{
+    let colour = setup.side.other();
+    let castle = &castle_made(setup, m, saved);
+    let from = mover_to(m, castle);
+    Steps {
+        from,
+        second_from: rook_to(castle),
+        second_to: second_back_to(colour, m, saved, castle),
+        second: second_back(colour, saved, castle),
+        to: m.from,
+        mover: man_that_left(setup.men[from.index()], m.promotion),
     }
 }

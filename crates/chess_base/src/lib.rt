@@ -1,19 +1,23 @@
 //! Squares, men, moves and sound positions, the rules of chess said plainly, FEN; and what gives and takes bytes.
 #![tactic(auto)]
 
+mod after;
 pub mod attack;
 pub mod before;
+mod castling;
 pub mod device;
 mod fault;
 mod fen;
 mod initial;
 mod laws;
 mod man;
+mod pawns;
 mod position;
 pub mod rules;
 mod setup;
 mod sound;
 mod square;
+mod steps;
 
 pub use fault::FenFault;
 pub use fen::{FenText, read_fen, read_fen_as, write_fen};
@@ -22,8 +26,10 @@ pub use laws::{
 };
 pub use man::{CastlingSide, Colour, ColourRights, Kind, Man, Move, Rights, Variant};
 pub use position::Position;
-pub use setup::{Saved, Setup};
+pub use setup::{COUNTER_LIMIT, Saved, Setup};
 pub use square::Square;
 
+#[cfg(test)]
+mod chess960_tests;
 #[cfg(test)]
 mod tests;

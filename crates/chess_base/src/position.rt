@@ -8,13 +8,12 @@ ghost use Rattle.chess_base.specs.Sound.{IsSound};
 ghost use Rattle.chess_base.specs.Faults.{setup_fault};
 ghost use Rattle.chess_base.specs.Initial.{initial_setup, initial_setup_of};
 
+use crate::after::{fullmove_after, halfmove_after, men_after, rights_after, target_after};
 use crate::attack::is_attacked;
 use crate::fault::FenFault;
 use crate::initial::initial_men;
 use crate::man::{Colour, ColourRights, Man, Move, Rights, Variant};
-use crate::rules::{
-    fullmove_after, halfmove_after, is_legal, men_after, rights_after, target_after,
-};
+use crate::rules::is_legal;
 use crate::setup::Setup;
 use crate::sound::setup_fault;
 use crate::square::Square;

@@ -3,6 +3,9 @@
 use crate::man::{Colour, Man, Rights, Variant};
 use crate::square::Square;
 
+/// Where the halfmove clock and the fullmove number stop.
+pub const COUNTER_LIMIT: u32 = 999_999;
+
 /// What a position holds (the six fields of FEN, PGN standard of 1994, section 16.1), sound or not.
 #[derive(Clone, Copy, Debug, PartialEq, Eq)]
 pub struct Setup {
@@ -16,9 +19,9 @@ pub struct Setup {
     pub rights: Rights,
     /// The square that a pawn's double advance has just crossed (Laws of Chess 2023, article 3.7).
     pub target: Option<Square>,
-    /// Half-moves since the last capture or pawn move; it stops at 999,999.
+    /// Half-moves since the last capture or pawn move; it stops at `COUNTER_LIMIT`.
     pub halfmove: u32,
-    /// The number of the move, from 1, one more after each of Black's; it stops at 999,999.
+    /// The number of the move, from 1, one more after each of Black's; it stops at `COUNTER_LIMIT`.
     pub fullmove: u32,
 }
 

@@ -9,7 +9,8 @@ use Rattle.chess_base.specs.declared.man.Move.{Move}
 use Rattle.chess_base.specs.declared.setup.Setup.{Setup}
 use Rattle.chess_base.specs.Attacks.{attacks}
 use Rattle.chess_base.specs.Men.{man_at, is_man, other, first_rank, crossed_rank}
-use Rattle.chess_base.specs.Moves.{is_legal, is_en_passant, is_square}
+use Rattle.chess_base.specs.Moves.{is_legal, is_en_passant}
+use Rattle.chess_base.specs.Squares.{is_square}
 use Rattle.chess_base.specs.Sound.{IsSound, target_is_behind_double_advance, target_is_behind_double_advance_at}
 use Rattle.chess_base.specs.Squares.{rank}
 use Rattle.chess_moves.specs.Candidates.{would_promote}

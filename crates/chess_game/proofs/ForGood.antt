@@ -9,7 +9,8 @@ use Rattle.chess_base.specs.declared.man.Kind.TheVariants.{Pawn}
 use Rattle.chess_base.specs.declared.man.Man.{Man}
 use Rattle.chess_base.specs.declared.setup.Setup.{Setup}
 use Rattle.chess_base.specs.Men.{Men, man_at, same_colour, same_kind}
-use Rattle.chess_base.specs.Moves.{after, from_below}
+use Rattle.chess_base.specs.Moves.{after}
+use Rattle.chess_base.specs.Squares.{from_below}
 use Rattle.chess_base.specs.Squares.{each_square}
 use Rattle.chess_base.specs.Reserve.{reserve, weight, ranks_to_go}
 use Rattle.chess_base.specs.Laws.{ReserveNeverGrows, ReserveFallsForGood}

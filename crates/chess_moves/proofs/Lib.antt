@@ -1,4 +1,3 @@
-pub mod Backwards
 pub mod Steps
 pub mod Gathered
 pub mod Reach

@@ -10,7 +10,8 @@ use Rattle.chess_base.specs.declared.man.Kind.{Kind}
 use Rattle.chess_base.specs.declared.man.Kind.TheVariants.{King, Queen, Rook, Bishop, Knight, Pawn}
 use Rattle.chess_base.specs.declared.man.Move.{Move}
 use Rattle.chess_base.specs.declared.setup.Setup.{Setup}
-use Rattle.chess_base.specs.Moves.{from_below, is_legal}
+use Rattle.chess_base.specs.Moves.{is_legal}
+use Rattle.chess_base.specs.Squares.{from_below}
 use Rattle.chess_base.specs.MoveList.{promotions, triple, squares, all_triples, moves}
 use Rattle.chess_text.specs.Parts.{CanPromote}
 use Rattle.chess_text.proofs.Legal.{legal_move}

@@ -15,8 +15,9 @@ use Rattle.chess_base.specs.declared.man.Move.{Move}
 use Rattle.chess_base.specs.declared.setup.Setup.{Setup}
 use Rattle.chess_base.specs.Attacks.{attacks, is_in_check}
 use Rattle.chess_base.specs.Men.{is_of, man_at, other, same_colour, same_kind, is_man, first_rank}
-use Rattle.chess_base.specs.Moves.{is_legal, has_pattern, after, moves_as, castles_or_moves, castling, names_castling, says_castling, castled_king_file, castled_rook_file, castles, castles_with, castling_way_is_empty, castling_way_is_safe, lands_on, man_moves, pawn_moves, pawn_advances, pawn_captures, promotion_fits}
-use Rattle.chess_base.specs.Sound.{home_square, king_home_file, right_of}
+use Rattle.chess_base.specs.Moves.{is_legal, has_pattern, after, moves_as, castles_or_moves, man_moves, pawn_moves, pawn_advances, pawn_captures, promotion_fits}
+use Rattle.chess_base.specs.declared.castling.Castle.{Castle}
+use Rattle.chess_base.specs.Castling.{castling, names_castling, says_castling, castled_king_file, castles, castle_of, castling_way_is_empty, castling_way_is_safe, home_square, king_home_file, right_of}
 use Rattle.chess_base.specs.Squares.{rank}
 use Rattle.chess_text.specs.declared.described.Described.{Described}
 use Rattle.chess_text.specs.Parts.{CanPromote}
@@ -97,30 +98,29 @@ pawn_castles_not p m at (Some w) e =
 
 -- ---- the kinds of move
 
-castles_no_promotion : (p : Setup) (m : Move) (w : CastlingSide) (o : Option ℕ) → castles_with p m w o ≡ true → m.promotion ≡ None
-castles_no_promotion p m w None e = absurd cc
-castles_no_promotion p m w (Some r) e =
-    let two = and_parts (is_none m.promotion && castling_way_is_empty p.men m.from (lands_on p m) r (home_square p.side (castled_rook_file w))) (castling_way_is_safe p.men p.side m.from (lands_on p m)) e in
-    let one = and_parts (is_none m.promotion) (castling_way_is_empty p.men m.from (lands_on p m) r (home_square p.side (castled_rook_file w))) two.0 in
-    is_none-true m.promotion one.0
+castles_no_promotion : (p : Setup) (m : Move) (k : Castle) → castles p m k ≡ true → m.promotion ≡ None
+unfolding castles
+castles_no_promotion p m k e =
+    let two = and_parts (is_none m.promotion && castling_way_is_empty p.men k) (castling_way_is_safe p.men p.side k) e in
+    is_none-true m.promotion (and_parts (is_none m.promotion) (castling_way_is_empty p.men k) two.0).0
 
-no_promotion : (p : Setup) (m : Move) (o : Option CastlingSide) → castles_or_moves p m o ≡ true → m.promotion ≡ None
-unfolding man_moves castles
+no_promotion : (p : Setup) (m : Move) (o : Option Castle) → castles_or_moves p m o ≡ true → m.promotion ≡ None
+unfolding man_moves
 no_promotion p m None e =
     let two = and_parts (is_none m.promotion && attacks p.men m.from m.to) (not (is_of p.side (man_at p.men m.to))) e in
     is_none-true m.promotion (and_parts (is_none m.promotion) (attacks p.men m.from m.to) two.0).0
-no_promotion p m (Some w) e = castles_no_promotion p m w (right_of p.rights p.side w) e
+no_promotion p m (Some k) e = castles_no_promotion p m k e
 
 abbrev officer_moves : Setup → Move → Bool
-officer_moves p m = castles_or_moves p m (castling p m)
+officer_moves p m = castles_or_moves p m (castle_of p m)
 
 kind_moves : (p : Setup) (m : Move) (k : Kind) → man_at p.men m.from ≡ Some (record { colour = p.side; kind = k }) → cond (same_kind Pawn k) (pawn_moves p m) (officer_moves p m) ≡ true → MovesAs p m k
 kind_moves p m Pawn at e = (e, pawn_castles_not p m at (castling p m) refl)
-kind_moves p m King at e = no_promotion p m (castling p m) e
-kind_moves p m Queen at e = no_promotion p m (castling p m) e
-kind_moves p m Rook at e = no_promotion p m (castling p m) e
-kind_moves p m Bishop at e = no_promotion p m (castling p m) e
-kind_moves p m Knight at e = no_promotion p m (castling p m) e
+kind_moves p m King at e = no_promotion p m (castle_of p m) e
+kind_moves p m Queen at e = no_promotion p m (castle_of p m) e
+kind_moves p m Rook at e = no_promotion p m (castle_of p m) e
+kind_moves p m Bishop at e = no_promotion p m (castle_of p m) e
+kind_moves p m Knight at e = no_promotion p m (castle_of p m) e
 
 kind_promotes : (p : Setup) (m : Move) (k : Kind) → MovesAs p m k → IfSome m.promotion CanPromote
 unfolding pawn_moves

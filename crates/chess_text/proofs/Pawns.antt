@@ -9,7 +9,8 @@ use Rattle.chess_base.specs.declared.man.Move.{Move}
 use Rattle.chess_base.specs.declared.setup.Setup.{Setup}
 use Rattle.chess_base.specs.Attacks.{attacks, could_capture, is_rank_ahead}
 use Rattle.chess_base.specs.Men.{Men, man_at, other, is_of, is_man, same_colour, forward, first_rank, pawn_rank}
-use Rattle.chess_base.specs.Moves.{is_double_advance, is_en_passant, is_square, pawn_advances, pawn_captures, pawn_moves, promotion_fits}
+use Rattle.chess_base.specs.Moves.{is_double_advance, is_en_passant, pawn_advances, pawn_captures, pawn_moves, promotion_fits}
+use Rattle.chess_base.specs.Squares.{is_square}
 use Rattle.chess_base.specs.Sound.{IsSound, pawn_may_stand, no_pawn_on_end_ranks}
 use Rattle.chess_base.specs.Squares.{file, rank, gap, each_below, each_square}
 use Rattle.chess_text.specs.Moves.{captures}

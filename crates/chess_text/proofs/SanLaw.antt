@@ -13,9 +13,10 @@ use Rattle.chess_base.specs.declared.man.Move.{Move}
 use Rattle.chess_base.specs.declared.setup.Setup.{Setup}
 use Rattle.chess_base.specs.Attacks.{is_rank_ahead}
 use Rattle.chess_base.specs.Men.{man_at, same_kind}
-use Rattle.chess_base.specs.Moves.{is_legal, after, castling, pawn_moves}
+use Rattle.chess_base.specs.Moves.{is_legal, after, pawn_moves}
+use Rattle.chess_base.specs.Castling.{castling, right_of}
 use Rattle.chess_base.specs.MoveList.{moves}
-use Rattle.chess_base.specs.Sound.{IsSound, right_of, has_one_king}
+use Rattle.chess_base.specs.Sound.{IsSound, has_one_king}
 use Rattle.chess_base.proofs.Kings.{one_king}
 use Rattle.chess_base.specs.declared.man.Colour.{Colour}
 use Rattle.chess_base.specs.declared.man.Colour.TheVariants.{White, Black}

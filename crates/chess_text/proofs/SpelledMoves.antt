@@ -10,8 +10,8 @@ use Rattle.chess_base.specs.declared.man.Move.{Move}
 use Rattle.chess_base.specs.declared.setup.Setup.{Setup}
 use Rattle.chess_base.specs.Men.{man_at}
 use Rattle.chess_base.specs.Moves.{is_legal}
+use Rattle.chess_base.specs.Castling.{right_of}
 use Rattle.chess_base.specs.MoveList.{promotions, triple, squares, all_triples, moves}
-use Rattle.chess_base.specs.Sound.{right_of}
 use Rattle.chess_text.specs.declared.described.Described.{Described}
 use Rattle.chess_text.specs.declared.form.Form.{Form}
 use Rattle.chess_text.specs.declared.form.Form.TheVariants.{Castling, Walk}

@@ -10,9 +10,9 @@ use Rattle.chess_base.specs.declared.man.Move.{Move}
 use Rattle.chess_base.specs.declared.man.Variant.{Variant}
 use Rattle.chess_base.specs.declared.man.Variant.TheVariants.{Normal, Fischerandom}
 use Rattle.chess_base.specs.declared.setup.Setup.{Setup}
-use Rattle.chess_base.specs.Moves.{castled_king_file, is_legal}
+use Rattle.chess_base.specs.Moves.{is_legal}
+use Rattle.chess_base.specs.Castling.{castled_king_file, home_square, right_of}
 use Rattle.chess_base.specs.MoveList.{triple}
-use Rattle.chess_base.specs.Sound.{home_square, right_of}
 use Rattle.chess_text.specs.declared.described.Described.{Described}
 use Rattle.chess_text.specs.declared.form.Form.{Form}
 use Rattle.chess_text.specs.declared.form.Form.TheVariants.{Castling, Walk}

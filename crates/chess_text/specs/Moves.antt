@@ -11,7 +11,8 @@ use Rattle.chess_base.specs.declared.man.Move.{Move}
 use Rattle.chess_base.specs.declared.setup.Setup.{Setup}
 use Rattle.chess_base.specs.Letters.{white_letter}
 use Rattle.chess_base.specs.Men.{man_at, is_of, other, same_kind}
-use Rattle.chess_base.specs.Moves.{castling, is_en_passant, is_legal}
+use Rattle.chess_base.specs.Moves.{is_en_passant, is_legal}
+use Rattle.chess_base.specs.Castling.{castling}
 use Rattle.chess_base.specs.MoveList.{moves}
 use Rattle.chess_base.specs.Squares.{file, rank}
 use Rattle.chess_base.specs.Writing.{square_text}

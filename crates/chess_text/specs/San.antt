@@ -11,7 +11,8 @@ use Rattle.chess_base.specs.declared.man.Variant.TheVariants.{Normal, Fischerand
 use Rattle.chess_base.specs.declared.setup.Setup.{Setup}
 use Rattle.chess_base.specs.Attacks.{is_in_check}
 use Rattle.chess_base.specs.Men.{same_kind}
-use Rattle.chess_base.specs.Moves.{after, castling}
+use Rattle.chess_base.specs.Moves.{after}
+use Rattle.chess_base.specs.Castling.{castling}
 use Rattle.chess_base.specs.MoveList.{moves}
 use Rattle.chess_base.specs.Squares.{file, rank}
 use Rattle.chess_text.specs.declared.described.Described.{Described}

@@ -3,12 +3,11 @@
 ghost use Rattle.std.specs.Prelude.{◌≡◌, ◌<◌, None, codes};
 ghost use Rattle.chess_base.specs.Texts.{occurs, times, may_name_right, first_letter, names_file, is_castling};
 ghost use Rattle.chess_base.specs.RightNames.{side_letter, right_letter, right_named, edge_file, outer_rook, is_left_of, is_towards, named_square, only_one_of, right_after_letters, right_told};
-ghost use Rattle.chess_base.specs.Sound.{home_square, rook_file};
+ghost use Rattle.chess_base.specs.Castling.{home_square, rook_file};
 
 use crate::attack::is_man;
+use crate::castling::{home_square, king_square, rook_file};
 use crate::man::{CastlingSide, Colour, Kind, Man, Variant};
-use crate::rules::home_square;
-use crate::sound::{king_square, rook_file};
 use crate::square::Square;
 
 // How often a letter occurs.

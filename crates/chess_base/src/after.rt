@@ -1,0 +1,143 @@
+//! What a move leaves: the men, the castling rights, the target and the counters.
+
+ghost use Rattle.std.specs.Prelude.{◌≡◌};
+ghost use Rattle.chess_base.specs.Castling.{right_of};
+ghost use Rattle.chess_base.specs.Sound.{IsSound};
+ghost use Rattle.chess_base.specs.Moves.{man_that_lands, second_square_emptied, steps_of, men_after, right_after, rights_after, target_after, resets_clock, halfmove_after, fullmove_after};
+
+use crate::attack::{is_man, is_of};
+use crate::castling::{castle_of, castling_rook_to, lands_on, right_of, rook_from};
+use crate::man::{CastlingSide, Colour, ColourRights, Kind, Man, Move, Rights};
+use crate::pawns::{forward, is_double_advance, is_en_passant};
+use crate::setup::{COUNTER_LIMIT, Setup};
+use crate::square::Square;
+use crate::steps::{Steps, take_steps};
+
+/// The man that stands on the end square after the move: the mover, or what the pawn became.
+pub fn man_that_lands(man: Option<Man>, promotion: Option<Kind>) -> Option<Man>
+    ensures { result ≡ man_that_lands man promotion }
+{
+    let man = man?;
+    match promotion {
+        None => Some(man),
+        Some(kind) => Some(Man {
+            colour: man.colour,
+            kind,
+        }),
+    }
+}
+
+/// The second square that the move empties: that of the pawn taken en passant, or of the castling rook.
+#[tactic(auto, unfolding(crate::specs::Moves::second_square_emptied))]
+pub fn second_square_emptied(setup: &Setup, m: &Move) -> Option<Square>
+    requires { IsSound setup.now }
+    ensures { result ≡ second_square_emptied setup.now m.now }
+{
+    if is_en_passant(setup, m) {
+        let behind = forward(setup.side.other(), m.to.number());
+        return Some(Square::new(behind));
+    }
+    rook_from(&castle_of(setup, m))
+}
+
+/// What the move changes on the board.
+pub fn steps_of(setup: &Setup, m: &Move) -> Steps
+    requires { IsSound setup.now }
+    ensures { result ≡ steps_of setup.now m.now }
+{
+    Steps {
+        from: m.from,
+        second_from: second_square_emptied(setup, m),
+        second_to: castling_rook_to(setup, m),
+        second: Some(Man {
+            colour: setup.side,
+            kind: Kind::Rook,
+        }),
+        to: lands_on(setup, m),
+        mover: man_that_lands(setup.men[m.from.index()], m.promotion),
+    }
+}
+
+#[tactic(auto, unfolding(crate::specs::Moves::men_after))]
+pub(crate) fn men_after(setup: &Setup, m: &Move) -> [Option<Man>; 64]
+    requires { IsSound setup.now }
+    ensures { result ≡ men_after setup.now m.now }
+{
+    let mut men = setup.men;
+    take_steps(&mut men, &steps_of(setup, m));
+    men
+}
+
+fn right_after(
+    setup: &Setup,
+    m: &Move,
+    colour: Colour,
+    castling_side: CastlingSide,
+) -> Option<Square>
+    ensures { result ≡ right_after setup.now m.now colour (right_of setup.now.rights colour castling_side) }
+{
+    let rook = right_of(setup.rights, colour, castling_side)?;
+    if is_man(colour, Kind::King, setup.men[m.from.index()]) || m.from == rook || m.to == rook {
+        None
+    } else {
+        Some(rook)
+    }
+}
+
+/// The castling rights after the move: a right is lost when the king moves, or when a move leaves or enters the rook's square.
+#[tactic(auto, unfolding(crate::specs::Moves::rights_after))]
+pub fn rights_after(setup: &Setup, m: &Move) -> Rights
+    ensures { result ≡ rights_after setup.now m.now }
+{
+    let white = ColourRights {
+        king_side: right_after(setup, m, Colour::White, CastlingSide::KingSide),
+        queen_side: right_after(setup, m, Colour::White, CastlingSide::QueenSide),
+    };
+    let black = ColourRights {
+        king_side: right_after(setup, m, Colour::Black, CastlingSide::KingSide),
+        queen_side: right_after(setup, m, Colour::Black, CastlingSide::QueenSide),
+    };
+    Rights { white, black }
+}
+
+/// The square that the move crosses, if it is a pawn's double advance.
+#[tactic(auto, unfolding(crate::specs::Moves::target_after))]
+pub fn target_after(setup: &Setup, m: &Move) -> Option<Square>
+    ensures { result ≡ target_after setup.now m.now }
+{
+    if is_double_advance(setup, m) {
+        Some(Square::new(forward(setup.side, m.from.number())))
+    } else {
+        None
+    }
+}
+
+#[tactic(auto, unfolding(crate::specs::Moves::resets_clock))]
+fn resets_clock(setup: &Setup, m: &Move) -> bool
+    ensures { result ≡ resets_clock setup.now m.now }
+{
+    is_man(setup.side, Kind::Pawn, setup.men[m.from.index()])
+        || is_of(setup.side.other(), setup.men[m.to.index()])
+}
+
+/// The half-moves since the last capture or pawn move, after the move.
+#[tactic(auto, unfolding(crate::specs::Moves::halfmove_after))]
+pub fn halfmove_after(setup: &Setup, m: &Move) -> u32
+    ensures { result ≡ halfmove_after setup.now m.now }
+{
+    if resets_clock(setup, m) {
+        0
+    } else {
+        setup.halfmove.saturating_add(1).min(COUNTER_LIMIT)
+    }
+}
+
+/// The number of the move, after a move of that side.
+pub fn fullmove_after(side: Colour, fullmove: u32) -> u32
+    ensures { result ≡ fullmove_after side fullmove }
+{
+    match side {
+        Colour::White => fullmove,
+        Colour::Black => fullmove.saturating_add(1).min(COUNTER_LIMIT),
+    }
+}

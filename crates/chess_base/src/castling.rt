@@ -1,0 +1,352 @@
+//! Castling: with which rook, between which squares, and when.
+
+ghost use Rattle.std.specs.Prelude.{◌≡◌, ◌<◌, IfSome, Option};
+ghost use Rattle.chess_base.specs.Castling.{home_square, king_home_file, rook_file, castled_king_file, castled_rook_file, right_on, right_of, king_square, is_to_side, is_beside, stand_for_castling, right_stands, names_castling, says_castling, castling, castle_from, castle_by, castle_of, mover_to, rook_from, rook_to, lands_on, castling_rook_to, is_on_way, castling_crosses, castling_way_is_empty, castling_way_is_safe, castles};
+
+use crate::attack::{is_attacked, is_between, is_man};
+use crate::man::{CastlingSide, Colour, ColourRights, Kind, Man, Move, Rights, Variant};
+use crate::rules::first_rank;
+use crate::setup::Setup;
+use crate::square::Square;
+
+/// The squares of a castling (Laws of Chess 2023, article 3.8.2): where its king and its rook start, and where they end. In Chess960 an
+/// end may be a start, its own or the other's.
+#[derive(Clone, Copy, Debug, PartialEq, Eq)]
+pub struct Castle {
+    pub king_from: Square,
+    pub king_to: Square,
+    pub rook_from: Square,
+    pub rook_to: Square,
+}
+
+/// The square of a file on that colour's first rank.
+pub fn home_square(colour: Colour, file: u8) -> Square
+    requires { file < 8 }
+    ensures { result ≡ home_square colour file }
+{
+    Square::new(8 * first_rank(colour) + file)
+}
+
+// The file on which both kings begin, the e-file (Laws of Chess 2023, article 2.3).
+pub(crate) fn king_home_file() -> u8
+    ensures value { result ≡ king_home_file }
+    ensures in_range { result < 8 }
+{
+    4
+}
+
+// The file on which that side's rook begins in normal chess (Laws of Chess 2023, article 2.3).
+pub(crate) fn rook_file(castling_side: CastlingSide) -> u8
+    ensures value { result ≡ rook_file castling_side }
+    ensures in_range { result < 8 }
+{
+    match castling_side {
+        CastlingSide::KingSide => 7,
+        CastlingSide::QueenSide => 0,
+    }
+}
+
+/// The file to which castling on that side takes the king (Laws of Chess 2023, article 3.8.2).
+pub fn castled_king_file(castling_side: CastlingSide) -> u8
+    ensures value { result ≡ castled_king_file castling_side }
+    ensures in_range { result < 8 }
+{
+    match castling_side {
+        CastlingSide::KingSide => 6,
+        CastlingSide::QueenSide => 2,
+    }
+}
+
+// The file to which castling on that side takes the rook (Laws of Chess 2023, article 3.8.2).
+pub(crate) fn castled_rook_file(castling_side: CastlingSide) -> u8
+    ensures value { result ≡ castled_rook_file castling_side }
+    ensures in_range { result < 8 }
+{
+    match castling_side {
+        CastlingSide::KingSide => 5,
+        CastlingSide::QueenSide => 3,
+    }
+}
+
+fn right_on(rights: ColourRights, castling_side: CastlingSide) -> Option<Square>
+    ensures { result ≡ right_on rights castling_side }
+{
+    match castling_side {
+        CastlingSide::KingSide => rights.king_side,
+        CastlingSide::QueenSide => rights.queen_side,
+    }
+}
+
+/// The square of the rook with which that colour may castle on that side, if it may.
+pub fn right_of(rights: Rights, colour: Colour, castling_side: CastlingSide) -> Option<Square>
+    ensures { result ≡ right_of rights colour castling_side }
+{
+    match colour {
+        Colour::White => right_on(rights.white, castling_side),
+        Colour::Black => right_on(rights.black, castling_side),
+    }
+}
+
+// The place among the men of the king of that colour.
+#[tactic(auto, unfolding(crate::specs::Castling::king_square))]
+fn king_place(men: &[Option<Man>; 64], colour: Colour) -> Option<usize>
+    ensures value { result ≡ king_square men.now colour }
+    ensures in_board { IfSome result (λ place. place < 64) }
+{
+    men.iter().position(|man| is_man(colour, Kind::King, *man))
+}
+
+// Where the king of that colour stands.
+pub(crate) fn king_square(men: &[Option<Man>; 64], colour: Colour) -> Option<Square>
+    ensures { result ≡ king_square men.now colour }
+{
+    match king_place(men, colour) {
+        None => None,
+        Some(place) => Some(Square::new(place as u8)),
+    }
+}
+
+// Whether s lies to that side of k.
+pub(crate) fn is_to_side(castling_side: CastlingSide, k: Square, s: Square) -> bool
+    ensures { result ≡ is_to_side castling_side k s }
+{
+    match castling_side {
+        CastlingSide::KingSide => k.number() < s.number(),
+        CastlingSide::QueenSide => s.number() < k.number(),
+    }
+}
+
+// Whether the king's square and s are on the colour's first rank, and s lies to that side of the king.
+fn is_beside(colour: Colour, castling_side: CastlingSide, king: Option<Square>, s: Square) -> bool
+    ensures { result ≡ is_beside colour castling_side king s }
+{
+    match king {
+        None => false,
+        Some(k) => {
+            k.rank() == first_rank(colour)
+                && s.rank() == first_rank(colour)
+                && is_to_side(castling_side, k, s)
+        }
+    }
+}
+
+// Whether king and rook, which is on that square, stand where castling to that side begins.
+fn stand_for_castling(
+    variant: Variant,
+    men: &[Option<Man>; 64],
+    colour: Colour,
+    castling_side: CastlingSide,
+    rook: Square,
+) -> bool
+    ensures { result ≡ stand_for_castling variant men.now colour castling_side rook }
+{
+    match variant {
+        Variant::Normal => {
+            rook == home_square(colour, rook_file(castling_side))
+                && is_man(
+                    colour,
+                    Kind::King,
+                    men[home_square(colour, king_home_file()).index()],
+                )
+                && is_man(colour, Kind::Rook, men[rook.index()])
+        }
+        Variant::Fischerandom => {
+            let man = men[rook.index()];
+            is_beside(colour, castling_side, king_square(men, colour), rook)
+                && is_man(colour, Kind::Rook, man)
+        }
+    }
+}
+
+// Whether king and rook of that right, if it is there, stand where castling to that side begins.
+#[tactic(auto, unfolding(crate::specs::Castling::right_stands))]
+pub(crate) fn right_stands(setup: &Setup, colour: Colour, castling_side: CastlingSide) -> bool
+    ensures { result ≡ right_stands setup.now colour castling_side }
+{
+    match right_of(setup.rights, colour, castling_side) {
+        None => true,
+        Some(rook) => { stand_for_castling(setup.variant, &setup.men, colour, castling_side, rook) }
+    }
+}
+
+// Whether the squares of the move name castling on that side with the rook of that right.
+pub(crate) fn names_castling(
+    variant: Variant,
+    colour: Colour,
+    m: &Move,
+    castling_side: CastlingSide,
+    right: Option<Square>,
+) -> bool
+    ensures { result ≡ names_castling variant colour m.now castling_side right }
+{
+    let Some(rook) = right else {
+        return false;
+    };
+    match variant {
+        Variant::Normal => {
+            m.from == home_square(colour, king_home_file())
+                && m.to == home_square(colour, castled_king_file(castling_side))
+        }
+        Variant::Fischerandom => m.from.rank() == rook.rank() && m.to == rook,
+    }
+}
+
+#[tactic(auto, unfolding(crate::specs::Castling::says_castling))]
+fn says_castling(setup: &Setup, m: &Move, castling_side: CastlingSide) -> bool
+    ensures { result ≡ says_castling setup.now m.now castling_side }
+{
+    is_man(setup.side, Kind::King, setup.men[m.from.index()])
+        && names_castling(
+            setup.variant,
+            setup.side,
+            m,
+            castling_side,
+            right_of(setup.rights, setup.side, castling_side),
+        )
+}
+
+/// The side to which the move castles, if it is castling (Laws of Chess 2023, article 3.8.2).
+#[tactic(auto, unfolding(crate::specs::Castling::castling))]
+pub fn castling(setup: &Setup, m: &Move) -> Option<CastlingSide>
+    ensures { result ≡ castling setup.now m.now }
+{
+    if says_castling(setup, m, CastlingSide::KingSide) {
+        Some(CastlingSide::KingSide)
+    } else if says_castling(setup, m, CastlingSide::QueenSide) {
+        Some(CastlingSide::QueenSide)
+    } else {
+        None
+    }
+}
+
+// Castling of that colour to that side, with the king and the rook on those squares.
+fn castle_from(colour: Colour, castling_side: CastlingSide, king: Square, rook: Square) -> Castle
+    ensures { result ≡ castle_from colour castling_side king rook }
+{
+    Castle {
+        king_from: king,
+        king_to: home_square(colour, castled_king_file(castling_side)),
+        rook_from: rook,
+        rook_to: home_square(colour, castled_rook_file(castling_side)),
+    }
+}
+
+// Castling of that colour to that side, if it is to one, from the move's start square and with the rook of the right.
+pub(crate) fn castle_by(
+    colour: Colour,
+    rights: Rights,
+    m: &Move,
+    castling: Option<CastlingSide>,
+) -> Option<Castle>
+    ensures { result ≡ castle_by colour rights m.now castling }
+{
+    let castling_side = castling?;
+    let rook = right_of(rights, colour, castling_side)?;
+    Some(castle_from(colour, castling_side, m.from, rook))
+}
+
+/// The squares of the castling that the move is, if it is one.
+#[tactic(auto, unfolding(crate::specs::Castling::castle_of))]
+pub fn castle_of(setup: &Setup, m: &Move) -> Option<Castle>
+    ensures { result ≡ castle_of setup.now m.now }
+{
+    castle_by(setup.side, setup.rights, m, castling(setup, m))
+}
+
+// Where the mover stands after the move, castling or not.
+pub(crate) fn mover_to(m: &Move, castle: &Option<Castle>) -> Square
+    ensures { result ≡ mover_to m.now castle.now }
+{
+    match castle {
+        None => m.to,
+        Some(castle) => castle.king_to,
+    }
+}
+
+// Where the castling rook starts, if there is one.
+pub(crate) fn rook_from(castle: &Option<Castle>) -> Option<Square>
+    ensures { result ≡ rook_from castle.now }
+{
+    match castle {
+        None => None,
+        Some(castle) => Some(castle.rook_from),
+    }
+}
+
+// Where the castling rook ends, if there is one.
+pub(crate) fn rook_to(castle: &Option<Castle>) -> Option<Square>
+    ensures { result ≡ rook_to castle.now }
+{
+    match castle {
+        None => None,
+        Some(castle) => Some(castle.rook_to),
+    }
+}
+
+/// The square on which the mover stands after the move: the end square that it names, but for castling in Chess960.
+#[tactic(auto, unfolding(crate::specs::Castling::lands_on))]
+pub fn lands_on(setup: &Setup, m: &Move) -> Square
+    ensures { result ≡ lands_on setup.now m.now }
+{
+    mover_to(m, &castle_of(setup, m))
+}
+
+/// The square on which the castling rook arrives, if the move is castling.
+#[tactic(auto, unfolding(crate::specs::Castling::castling_rook_to))]
+pub fn castling_rook_to(setup: &Setup, m: &Move) -> Option<Square>
+    ensures { result ≡ castling_rook_to setup.now m.now }
+{
+    rook_to(&castle_of(setup, m))
+}
+
+fn is_on_way(a: Square, b: Square, x: Square) -> bool
+    ensures { result ≡ is_on_way a b x }
+{
+    x == a || x == b || is_between(a, b, x)
+}
+
+#[tactic(auto, unfolding(crate::specs::Castling::castling_crosses))]
+fn castling_crosses(castle: &Castle, x: Square) -> bool
+    ensures { result ≡ castling_crosses castle.now x }
+{
+    (is_on_way(castle.king_from, castle.king_to, x)
+        || is_on_way(castle.rook_from, castle.rook_to, x))
+        && x != castle.king_from
+        && x != castle.rook_from
+}
+
+#[tactic(auto, unfolding(crate::specs::Castling::castling_way_is_empty))]
+fn castling_way_is_empty(men: &[Option<Man>; 64], castle: &Castle) -> bool
+    ensures { result ≡ castling_way_is_empty men.now castle.now }
+{
+    for number in 0..64 {
+        let x = Square::new(number);
+        if castling_crosses(castle, x) && men[x.index()].is_some() {
+            return false;
+        }
+    }
+    true
+}
+
+#[tactic(auto, unfolding(crate::specs::Castling::castling_way_is_safe))]
+fn castling_way_is_safe(men: &[Option<Man>; 64], colour: Colour, castle: &Castle) -> bool
+    ensures { result ≡ castling_way_is_safe men.now colour castle.now }
+{
+    for number in 0..64 {
+        let x = Square::new(number);
+        if is_on_way(castle.king_from, castle.king_to, x) && is_attacked(men, x, colour.other()) {
+            return false;
+        }
+    }
+    true
+}
+
+// Whether nothing prevents that castling, which the move is.
+#[tactic(auto, unfolding(crate::specs::Castling::castles))]
+pub(crate) fn castles(setup: &Setup, m: &Move, castle: &Castle) -> bool
+    ensures { result ≡ castles setup.now m.now castle.now }
+{
+    m.promotion.is_none()
+        && castling_way_is_empty(&setup.men, castle)
+        && castling_way_is_safe(&setup.men, setup.side, castle)
+}

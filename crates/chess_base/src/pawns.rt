@@ -1,0 +1,87 @@
+//! The moves of pawns (Laws of Chess 2023, article 3.7).
+
+ghost use Rattle.std.specs.Prelude.{◌≡◌, ◌+◌, ◌<◌, Option, Bool};
+ghost use Rattle.chess_base.specs.Men.{forward, pawn_rank};
+ghost use Rattle.chess_base.specs.Moves.{promotion_fits, is_double_advance, is_en_passant, pawn_advances, pawn_captures, pawn_moves};
+
+use crate::attack::{attacks, is_man, is_of};
+use crate::man::{Colour, Kind, Move};
+use crate::rules::{first_rank, man_on};
+use crate::setup::Setup;
+use crate::square::is_square;
+
+// The number of the square straight ahead for a pawn of that colour. Ahead of the last rank, where no pawn stands, it is for White
+// past 63 and for Black 0.
+pub(crate) fn forward(colour: Colour, number: u8) -> u8
+    requires { number < 248 }
+    ensures { result ≡ forward colour number }
+{
+    match colour {
+        Colour::White => number + 8,
+        Colour::Black => number.saturating_sub(8),
+    }
+}
+
+fn pawn_rank(colour: Colour) -> u8
+    ensures { result ≡ pawn_rank colour }
+{
+    match colour {
+        Colour::White => 1,
+        Colour::Black => 6,
+    }
+}
+
+fn promotion_fits(last: bool, promotion: Option<Kind>) -> bool
+    ensures { result ≡ promotion_fits last promotion }
+{
+    match promotion {
+        None => !last,
+        Some(Kind::King | Kind::Pawn) => false,
+        Some(_) => last,
+    }
+}
+
+#[tactic(auto, unfolding(crate::specs::Moves::is_double_advance))]
+pub(crate) fn is_double_advance(setup: &Setup, m: &Move) -> bool
+    ensures { result ≡ is_double_advance setup.now m.now }
+{
+    is_man(setup.side, Kind::Pawn, setup.men[m.from.index()])
+        && m.from.rank() == pawn_rank(setup.side)
+        && m.to.number() == forward(setup.side, forward(setup.side, m.from.number()))
+}
+
+/// Whether the move takes a pawn en passant (Laws of Chess 2023, article 3.7).
+#[tactic(auto, unfolding(crate::specs::Moves::is_en_passant))]
+pub fn is_en_passant(setup: &Setup, m: &Move) -> bool
+    ensures { result ≡ is_en_passant setup.now m.now }
+{
+    is_man(setup.side, Kind::Pawn, setup.men[m.from.index()])
+        && attacks(&setup.men, m.from, m.to)
+        && is_square(setup.target, m.to)
+}
+
+#[tactic(auto, unfolding(crate::specs::Moves::pawn_advances))]
+fn pawn_advances(setup: &Setup, m: &Move) -> bool
+    ensures { result ≡ pawn_advances setup.now m.now }
+{
+    let ahead = forward(setup.side, m.from.number());
+    setup.men[m.to.index()].is_none()
+        && (m.to.number() == ahead
+            || is_double_advance(setup, m) && man_on(&setup.men, ahead).is_none())
+}
+
+#[tactic(auto, unfolding(crate::specs::Moves::pawn_captures))]
+fn pawn_captures(setup: &Setup, m: &Move) -> bool
+    ensures { result ≡ pawn_captures setup.now m.now }
+{
+    attacks(&setup.men, m.from, m.to)
+        && (is_of(setup.side.other(), setup.men[m.to.index()]) || is_square(setup.target, m.to))
+}
+
+#[tactic(auto, unfolding(crate::specs::Moves::pawn_moves))]
+pub(crate) fn pawn_moves(setup: &Setup, m: &Move) -> bool
+    ensures { result ≡ pawn_moves setup.now m.now }
+{
+    promotion_fits(m.to.rank() == first_rank(setup.side.other()), m.promotion)
+        && (pawn_advances(setup, m) || pawn_captures(setup, m))
+}

@@ -1,0 +1,45 @@
+//! The steps in which a move, made or taken back, changes the men.
+
+ghost use Rattle.std.specs.Prelude.{◌≡◌};
+ghost use Rattle.chess_base.specs.Men.{with_man};
+ghost use Rattle.chess_base.specs.Steps.{men_stepped};
+
+use crate::man::Man;
+use crate::square::Square;
+
+/// What a move changes on the board, and what taking it back changes: the mover and perhaps a second man leave their squares, then
+/// perhaps a second man and the mover arrive. A move's second man is the pawn taken en passant, which only leaves, or the castling
+/// rook; taken back, it is the captured man, which only arrives, or the castling rook.
+#[derive(Clone, Copy, Debug, PartialEq, Eq)]
+pub struct Steps {
+    /// The square that the mover leaves.
+    pub from: Square,
+    /// The square that a second man leaves, if one does.
+    pub second_from: Option<Square>,
+    /// The square where a second man arrives, if one does.
+    pub second_to: Option<Square>,
+    /// The second man that arrives.
+    pub second: Option<Man>,
+    /// The square where the mover arrives.
+    pub to: Square,
+    /// The mover, as it arrives.
+    pub mover: Option<Man>,
+}
+
+fn put(men: &mut [Option<Man>; 64], square: Option<Square>, man: Option<Man>)
+    ensures { men.new ≡ with_man men.old square man }
+{
+    if let Some(square) = square {
+        men[square.index()] = man;
+    }
+}
+
+/// Changes the men by these steps. Both men leave before one arrives: in Chess960 a castling king and rook may change places.
+pub fn take_steps(men: &mut [Option<Man>; 64], steps: &Steps)
+    ensures { men.new ≡ men_stepped men.old steps.now }
+{
+    put(men, Some(steps.from), None);
+    put(men, steps.second_from, None);
+    put(men, steps.second_to, steps.second);
+    put(men, Some(steps.to), steps.mover);
+}
