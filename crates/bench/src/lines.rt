@@ -4,12 +4,15 @@ ghost use Rattle.std.specs.Prelude.{◌≡◌};
 
 use chess_moves::Board;
 
-/// How many lines of so many legal moves there are.
+/// How many lines of so many legal moves there are. The last moves are counted and not made.
 pub fn count_lines<B: Board>(board: &mut B, depth: u8) -> u64
     ensures { B.position board.new ≡ B.position board.old }
 {
     if depth == 0 {
         return 1;
+    }
+    if depth == 1 {
+        return board.legal_move_count() as u64;
     }
     let moves = board.legal_moves();
     let mut count: u64 = 0;

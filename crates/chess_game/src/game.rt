@@ -12,7 +12,7 @@ use crate::ends::{Claims, Verdict, is_bare, mates};
 use crate::repetition::Known;
 use crate::results::{Comment, Declared, Outcome};
 use chess_base::{Move, Position, Saved, reserve_never_grows};
-use chess_moves::{Board, has_legal_move};
+use chess_moves::Board;
 use std::alloc::{AllocError, Global};
 use std::marker::Model;
 
@@ -101,7 +101,7 @@ fn repetitions(start: &Known, places: &[Place]) -> usize
     while left > 0 {
         left -= 1;
         let reached = &places[left].reached;
-        count += reached.times_same(&now);
+        count += reached.times_met(left + 1 == places.len(), &now);
         if reached.position.setup().halfmove == 0 {
             return count;
         }
@@ -115,9 +115,8 @@ fn verdict_on<B: Board>(board: &B, start: &Known, places: &[Place]) -> Option<Ve
     requires { IsKept start.now places.now (B.position board.now) }
     ensures { result ≡ verdict start.now.position (moves_of places.now) }
 {
-    let position = board.position();
-    let setup = position.setup();
-    if !has_legal_move(setup) {
+    let setup = board.setup();
+    if !board.has_legal_move() {
         if board.in_check() {
             Some(mates(setup.side.other()))
         } else {
@@ -185,10 +184,20 @@ impl<B: Board> Game<B> {
         if self.is_full() {
             return Err(PlayRefusal::TooLong);
         }
-        let (judged, made) = (m, m);
-        if !self.board.position().is_legal(judged) {
+        let judged = m;
+        if !self.board.is_legal(&judged) {
             return Err(PlayRefusal::Illegal);
         }
+        self.play_legal(m);
+        Ok(())
+    }
+
+    /// Plays a move that is known to be legal, where the game is neither over nor full.
+    pub fn play_legal(&mut self, m: Move)
+        requires { play_refusal self.old m ≡ None }
+        ensures { self.new ≡ after_play self.old m None }
+    {
+        let made = m;
         let saved = self.board.make(made);
         let place = Place {
             made: m,
@@ -200,7 +209,6 @@ impl<B: Board> Game<B> {
             unreachable!();
         }
         self.verdict = verdict_on(&self.board, &self.start, self.places.as_slice());
-        Ok(())
     }
 
     /// Takes the last move back and clears what was declared; gives the move.
@@ -309,10 +317,9 @@ impl<B: Board> Game<B> {
     pub fn claims(&self) -> Claims
         ensures { result ≡ claims self.now.state.start self.now.state.moves }
     {
-        let position = self.board.position();
         Claims {
             threefold: self.repetitions() >= 3,
-            fifty_moves: position.setup().halfmove >= 100,
+            fifty_moves: self.board.setup().halfmove >= 100,
         }
     }
 

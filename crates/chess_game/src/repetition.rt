@@ -1,13 +1,14 @@
 //! When positions are the same.
 
-ghost use Rattle.std.specs.Prelude.{◌≡◌, cond};
+ghost use Rattle.std.specs.Prelude.{◌≡◌, cond, true, Some};
 ghost use Rattle.std.specs.List.{list_any};
+ghost use Rattle.chess_base.specs.MoveList.{moves};
 ghost use Rattle.chess_base.specs.Moves.{is_en_passant};
-ghost use Rattle.chess_game.specs.Same.{same_man, same_men, same_square, same_colour_rights, same_rights, live_target, same};
+ghost use Rattle.chess_game.specs.Same.{captures_legally, same_man, same_men, same_square, same_colour_rights, same_rights, live_target, same};
 ghost use Rattle.chess_game.specs.Places.{IsKnown};
 
 use chess_base::rules::is_en_passant;
-use chess_base::{ColourRights, Man, Move, Position, Rights, Setup, Square};
+use chess_base::{ColourRights, Kind, Man, Move, Position, Rights, Square};
 use chess_moves::Board;
 
 // A position with its live target, which is told once.
@@ -51,6 +52,19 @@ impl Known {
     {
         if self.is_same(other) { 1 } else { 0 }
     }
+
+    // The same; where they are known to be one position nothing is compared.
+    pub(crate) fn times_met(&self, is_one: bool, other: &Known) -> usize
+        requires this { IsKnown self.now }
+        requires other { IsKnown other.now }
+        requires one { is_one ≡ true → self.now.position ≡ other.now.position }
+        ensures { result ≡ cond (same self.now.position other.now.position) 1 0 }
+    {
+        if is_one {
+            return 1;
+        }
+        self.times_same(other)
+    }
 }
 
 // The target, where some legal move captures en passant on it.
@@ -58,21 +72,39 @@ impl Known {
 fn live_target<B: Board>(board: &B) -> Option<Square>
     ensures { result ≡ live_target (B.position board.now) }
 {
-    let position = board.position();
-    let setup = position.setup();
-    setup.target?;
-    if captures_en_passant(setup, board.legal_moves().as_slice()) {
-        setup.target
+    let target = board.setup().target?;
+    if is_captured_on(board, target) {
+        Some(target)
     } else {
         None
     }
 }
 
-// Whether one of the moves captures en passant.
-fn captures_en_passant(setup: &Setup, moves: &[Move]) -> bool
-    ensures { result ≡ list_any (λ m. is_en_passant setup.now m) moves.now }
+// Whether some legal move captures en passant on the target.
+fn is_captured_on<B: Board>(board: &B, target: Square) -> bool
+    requires { (B.position board.now).target ≡ Some target }
+    ensures { result ≡ list_any (λ m. is_en_passant (B.position board.now) m) (moves (B.position board.now)) }
 {
-    moves.iter().any(|m| is_en_passant(setup, m))
+    let _sound = board.setup();
+    let mut rest = board.origins(Kind::Pawn, target);
+    while let Some(from) = rest.take_first() {
+        if captures_from(board, from, target) {
+            return true;
+        }
+    }
+    false
+}
+
+// Whether a legal move from there captures en passant there.
+fn captures_from<B: Board>(board: &B, from: Square, to: Square) -> bool
+    ensures { result ≡ captures_legally (B.position board.now) to from }
+{
+    let m = Move {
+        from,
+        to,
+        promotion: None,
+    };
+    is_en_passant(board.setup(), &m) && board.is_legal(&m)
 }
 
 fn same_man(this: Option<Man>, that: Option<Man>) -> bool

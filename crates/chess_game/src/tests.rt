@@ -1,8 +1,8 @@
 use crate::ends::{Claims, Verdict};
 use crate::game::{BoardSaysOtherwise, Game, NoMove, PlayRefusal};
 use crate::results::{Comment, Outcome};
-use chess_base::{Kind, Move, Position, Saved, Square, read_fen, write_fen};
-use chess_moves::{Board, MoveList, Plain};
+use chess_base::{Kind, Move, Position, Saved, Setup, Square, read_fen, write_fen};
+use chess_moves::{Board, MoveList, Plain, SquareSet};
 use std::cell::Cell;
 use std::process::Abort;
 use std::test::Fail;
@@ -57,8 +57,28 @@ impl Board for Counting<'_> {
         self.plain.position()
     }
 
+    fn setup(&self) -> &Setup {
+        self.plain.setup()
+    }
+
     fn legal_moves(&self) -> MoveList {
         self.plain.legal_moves()
+    }
+
+    fn legal_move_count(&self) -> usize {
+        self.plain.legal_move_count()
+    }
+
+    fn has_legal_move(&self) -> bool {
+        self.plain.has_legal_move()
+    }
+
+    fn is_legal(&self, m: &Move) -> bool {
+        self.plain.is_legal(m)
+    }
+
+    fn origins(&self, kind: Kind, to: Square) -> SquareSet {
+        self.plain.origins(kind, to)
     }
 
     fn in_check(&self) -> bool {

@@ -4,3 +4,7 @@ pub mod Reach
 pub mod Parts
 pub mod Room
 pub mod SomeMove
+pub mod Words
+pub mod Members
+pub mod Origins
+pub mod SomeMember

@@ -1,6 +1,6 @@
 //! What a board is.
 
-ghost use Rattle.std.specs.Prelude.{◌≡◌, IsTrue};
+ghost use Rattle.std.specs.Prelude.{◌≡◌, IsTrue, nat_lt, length};
 ghost use Rattle.std.specs.List.{All};
 ghost use Rattle.chess_base.specs.Attacks.{is_in_check};
 ghost use Rattle.chess_base.specs.Before.{before, saved_of};
@@ -8,9 +8,11 @@ ghost use Rattle.chess_base.specs.MoveList.{moves};
 ghost use Rattle.chess_base.specs.Moves.{after, is_legal};
 ghost use Rattle.chess_base.specs.Sound.{IsSound};
 ghost use Rattle.chess_moves.specs.Made.{WasMade, IsMade};
+ghost use Rattle.chess_moves.specs.Sets.{HasOrigins};
 
+use crate::set::SquareSet;
 use arrayvec::ArrayVec;
-use chess_base::{Move, Position, Saved};
+use chess_base::{Kind, Move, Position, Saved, Setup, Square};
 
 /// Moves in a list: at most 16 men move, and each has at most 56 moves.
 pub type MoveList = ArrayVec<Move, 896>;
@@ -32,10 +34,32 @@ pub trait Board {
         ensures value { result ≡ position self.now }
         ensures sound { IsSound (position self.now) };
 
+    /// The setup of the position that the board is at, lent.
+    fn setup(&self) -> &Setup
+        ensures value { result.now ≡ position self.now }
+        ensures sound { IsSound (position self.now) };
+
     /// All legal moves, each once, rising by start square, end square and promotion (none, queen, rook, bishop, knight).
     fn legal_moves(&self) -> MoveList
         ensures moves { result.items ≡ moves (position self.now) }
         ensures legal { All (λ m. IsTrue (is_legal (position self.now) m)) result.items };
+
+    /// How many legal moves there are. It makes no list.
+    fn legal_move_count(&self) -> usize
+        ensures { result ≡ length (moves (position self.now)) };
+
+    /// Whether there is a legal move. It looks no further than the first.
+    fn has_legal_move(&self) -> bool
+        ensures { result ≡ nat_lt 0 (length (moves (position self.now))) };
+
+    /// Whether a move is legal.
+    fn is_legal(&self, m: &Move) -> bool
+        ensures { result ≡ is_legal (position self.now) m.now };
+
+    /// Squares from which men of a kind, of the side on move, may go to a square: each from which one has a legal move to it
+    /// is among them, others may be.
+    fn origins(&self, kind: Kind, to: Square) -> SquareSet
+        ensures { HasOrigins (position self.now) kind to result };
 
     /// Whether the side on move is in check (Laws of Chess 2023, article 3.9.1).
     fn in_check(&self) -> bool

@@ -5,10 +5,12 @@ mod board;
 mod listing;
 mod moving;
 mod plain;
+mod set;
 
 pub use board::{Board, MoveList, make_then_take_back};
-pub use listing::has_legal_move;
+pub use listing::would_promote;
 pub use plain::Plain;
+pub use set::SquareSet;
 
 #[cfg(test)]
 mod tests;

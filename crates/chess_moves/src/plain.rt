@@ -1,14 +1,18 @@
 //! The plain board: the men by their squares.
 
-ghost use Rattle.std.specs.Prelude.{◌≡◌};
+ghost use Rattle.std.specs.Prelude.{◌≡◌, ℕ, ◌<◌};
 ghost use Rattle.chess_base.specs.Initial.{initial_setup};
+ghost use Rattle.chess_base.specs.Men.{man_at, is_man};
+ghost use Rattle.chess_moves.specs.Sets.{has};
 
 use crate::board::{Board, MoveList};
-use crate::listing::legal_moves;
+use crate::listing::{has_legal_move, legal_moves};
 use crate::moving::{move_back, move_on};
-use chess_base::attack::is_in_check;
+use crate::set::SquareSet;
+use chess_base::attack::{is_in_check, is_man};
 use chess_base::before::saved_of;
-use chess_base::{Move, Position, Saved, Setup};
+use chess_base::rules::is_legal;
+use chess_base::{Colour, Kind, Man, Move, Position, Saved, Setup, Square};
 use std::marker::Model;
 
 /// A board that keeps the man of each of the 64 squares and changes them in place. In contracts it is the `Setup` of its position.
@@ -29,6 +33,20 @@ impl Model for Plain {
     ghost invariant = { λ b. IsSound b.setup };
 
     ghost inverse = { λ v. record { setup = v } };
+}
+
+// The squares of a colour's men of a kind.
+fn men_of(men: &[Option<Man>; 64], colour: Colour, kind: Kind) -> SquareSet
+    ensures { (k : ℕ) → k < 64 → has result k ≡ is_man colour kind (man_at men.now k) }
+{
+    let mut set = SquareSet::empty();
+    for number in 0..64 {
+        let square = Square::new(number);
+        if is_man(colour, kind, men[square.index()]) {
+            set = set.union(SquareSet::single(square));
+        }
+    }
+    set
 }
 
 impl Plain {
@@ -54,8 +72,30 @@ impl Board for Plain {
         Position::from_sound(self.setup)
     }
 
+    fn setup(&self) -> &Setup {
+        &self.setup
+    }
+
     fn legal_moves(&self) -> MoveList {
         legal_moves(&self.setup)
+    }
+
+    fn legal_move_count(&self) -> usize {
+        self.legal_moves().len()
+    }
+
+    fn has_legal_move(&self) -> bool {
+        has_legal_move(&self.setup)
+    }
+
+    fn is_legal(&self, m: &Move) -> bool {
+        is_legal(&self.setup, m)
+    }
+
+    // All men of the kind.
+    #[tactic(auto, using(crate::proofs::Origins::all_men))]
+    fn origins(&self, kind: Kind, _to: Square) -> SquareSet {
+        men_of(&self.setup.men, self.setup.side, kind)
     }
 
     fn in_check(&self) -> bool {

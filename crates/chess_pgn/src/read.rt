@@ -138,9 +138,7 @@ fn play_word<B: Board>(
         Reading::Ambiguous => PgnFaultKind::AmbiguousMove,
         Reading::NoSuch => PgnFaultKind::IllegalMove,
         Reading::Move(m) => {
-            if game.play(m).is_err() {
-                unreachable!();
-            }
+            game.play_legal(m);
             return Ok(Step::On(progress.begun()));
         }
     };

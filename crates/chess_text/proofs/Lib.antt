@@ -13,3 +13,5 @@ pub mod CoordinateLaw
 pub mod Solid
 pub mod Words
 pub mod SanLaw
+pub mod Origins
+mod Promoting

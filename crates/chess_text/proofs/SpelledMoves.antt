@@ -1,7 +1,5 @@
 -- All moves that a form spells end on one square, so that none needs be looked at that ends elsewhere.
-use Rattle.std.proofs.Common.{◌≡◌, ◌≢◌, ℕ, zero, suc, ◌+◌, ◌≤◌, inl, inr, Bool, true, false, ◌&&◌, ◌||◌, Option, Some, None, List, [], ◌∷◌, ◌++◌, map, refl, sym, ap, ◌∙◌, add-one, arith}
-use Rattle.std.proofs.lemmas.List.{append-nil}
-use Rattle.std.proofs.lemmas.List.Concat.{flat_map-append}
+use Rattle.std.proofs.Common.{◌≡◌, ◌≢◌, ℕ, ◌≤◌, inl, inr, Bool, true, false, ◌&&◌, ◌||◌, Option, Some, None, List, [], ◌∷◌, map, refl, sym, ap, ◌∙◌, arith}
 use Rattle.std.proofs.lemmas.Bool.Decides.{nat_tests}
 use Rattle.std.proofs.lemmas.Bool.{and_parts, or_cases, false_from_ne_true}
 use Rattle.std.specs.List.{filter, flat_map}
@@ -13,7 +11,6 @@ use Rattle.chess_base.specs.declared.setup.Setup.{Setup}
 use Rattle.chess_base.specs.Men.{man_at}
 use Rattle.chess_base.specs.Moves.{is_legal}
 use Rattle.chess_base.specs.Castling.{right_of}
-use Rattle.chess_base.specs.Squares.{from_below}
 use Rattle.chess_base.specs.MoveList.{promotions, triple, squares, all_triples, moves}
 use Rattle.chess_text.specs.declared.described.Described.{Described}
 use Rattle.chess_text.specs.declared.form.Form.{Form}
@@ -70,7 +67,7 @@ form_ends (Castling w) p m (Some x) h =
     let c = castled (same_side w) _ h in
     names_end p.variant p.side m c.0 (right_of p.rights p.side c.0) (castling_says p m c.0 c.1).1 ∙ ap (λ v. castling_end p.variant p.side v (right_of p.rights p.side v)) (sym (same_side-true w c.0 c.2))
 
-spelled_ends : (form : Form) (p : Setup) (m : Move) → is_spelled form p m ≡ true → m.to ≡ end_of form p
+pub spelled_ends : (form : Form) (p : Setup) (m : Move) → is_spelled form p m ≡ true → m.to ≡ end_of form p
 unfolding is_spelled described
 spelled_ends form p m h = form_ends form p m (man_at p.men m.from) h
 
@@ -114,30 +111,3 @@ all_spelled form p =
     ∙ filter_same (λ m. is_legal p m && is_spelled form p m) (fit form p) (λ m. and_turned (is_legal p m) (is_spelled form p m)) all_triples
     ∙ filter-flat_map (fit form p) (λ a. flat_map (λ b. map (triple a b) promotions) squares) squares
     ∙ flat_map_same (λ a. filter (fit form p) (flat_map (λ b. map (triple a b) promotions) squares)) (λ a. spelled_with form p a (end_of form p) promotions) (from_one form p) squares)
-
--- ---- square by square
-
-from_below-more : {A : Type 0} (n : ℕ) (f : ℕ → A) → from_below (suc n) f ≡ from_below n f ++ f n ∷ []
-from_below-more zero f = refl
-from_below-more (suc n) f = ap (λ xs. f 0 ∷ xs) (from_below-more n (λ k. f (suc k)))
-
-one_more : {A : Type 0} (g : ℕ → List A) (n : ℕ) → flat_map g (from_below (n + 1) (λ s. s)) ≡ flat_map g (from_below n (λ s. s)) ++ g n
-one_more g n =
-    ap (λ k. flat_map g (from_below k (λ s. s))) (add-one n)
-    ∙ ap (flat_map g) (from_below-more n (λ s. s))
-    ∙ flat_map-append g (from_below n (λ s. s)) (n ∷ [])
-    ∙ ap (λ xs. flat_map g (from_below n (λ s. s)) ++ xs) (append-nil (g n))
-
--- one square more
-pub one_square : (form : Form) (p : Setup) (a number to : ℕ) (now next : List Move) → a ≡ number → to ≡ end_of form p
-    → now ≡ flat_map (λ a. spelled_with form p a (end_of form p) promotions) (from_below number (λ s. s))
-    → next ≡ now ++ spelled_with form p a to promotions
-    → next ≡ flat_map (λ a. spelled_with form p a (end_of form p) promotions) (from_below (number + 1) (λ s. s))
-one_square form p a number to now next from there is added =
-    added ∙ rw (from, there, is) (sym (one_more (λ a. spelled_with form p a (end_of form p) promotions) number))
-
--- all squares
-pub each_square : (form : Form) (p : Setup) (number : ℕ) (list : List Move) → number ≡ 64 → list ≡ flat_map (λ a. spelled_with form p a (end_of form p) promotions) (from_below number (λ s. s))
-    → list ≡ filter (λ m. is_spelled form p m) (moves p)
-unfolding squares
-each_square form p number list all is = is ∙ ap (λ n. flat_map (λ a. spelled_with form p a (end_of form p) promotions) (from_below n (λ s. s))) all ∙ all_spelled form p

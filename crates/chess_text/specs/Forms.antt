@@ -1,5 +1,5 @@
 -- What a text is read as, before any position is looked at: castling, or parts of a form.
-use Rattle.std.specs.Prelude.{Bool, ◌&&◌, if◌then◌else◌, List, ℕ, map, Option, Some, None}
+use Rattle.std.specs.Prelude.{Bool, ◌≡◌, ◌&&◌, ◌+◌, ◌*◌, nat_lt, if◌then◌else◌, List, ℕ, map, Option, Some, None}
 use Rattle.std.specs.List.{list_any, filter}
 use Rattle.std.specs.Str.{bytes_eq}
 use Rattle.chess_base.specs.declared.man.CastlingSide.{CastlingSide}
@@ -18,6 +18,7 @@ use Rattle.chess_text.specs.declared.form.Form.{Form}
 use Rattle.chess_text.specs.declared.form.Form.TheVariants.{Castling, Walk}
 use Rattle.chess_text.specs.declared.parts.Parts.{Parts}
 use Rattle.chess_text.specs.Parts.{unmarked, parts_at}
+use Rattle.chess_moves.specs.Sets.{has}
 use Rattle.chess_text.specs.Moves.{castling_texts, described, fits, is_form, passes}
 
 -- the side of the castling that a text without marks names
@@ -65,3 +66,13 @@ end_of (Walk q) p = q.end.to
 -- the legal moves from a to b, with one of these promotions, that the form spells
 abbrev pub spelled_with : Form → Setup → ℕ → ℕ → List (Option Kind) → List Move
 spelled_with form p a b ks = filter (λ m. is_spelled form p m && is_legal p m) (map (triple a b) ks)
+
+-- the square of a file and a rank, if both are named and are on the board
+abbrev pub named_square : Option ℕ → Option ℕ → Option ℕ
+named_square None rank = None
+named_square (Some f) None = None
+named_square (Some f) (Some r) = if nat_lt f 8 && nat_lt r 8 then Some (8 * r + f) else None
+
+-- each legal move that the form spells begins on a square of the set
+abbrev pub IsStart : Setup → Form → ℕ → Type 0
+IsStart p form w = (m : Move) → is_spelled form p m ≡ Bool.true → is_legal p m ≡ Bool.true → has w m.from ≡ Bool.true

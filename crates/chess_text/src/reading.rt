@@ -3,16 +3,17 @@
 ghost use Rattle.std.specs.Prelude.{◌≡◌, ◌≤◌, ◌+◌, ◌++◌, length};
 ghost use Rattle.std.specs.List.{filter};
 ghost use Rattle.arrayvec.specs.ArrayVec.{array_vec_len};
-ghost use Rattle.chess_base.specs.MoveList.{moves};
-ghost use Rattle.chess_base.specs.Sound.{IsSound};
+ghost use Rattle.chess_base.specs.MoveList.{promotions, moves};
 ghost use Rattle.chess_text.specs.Moves.{shape, one_of, reading, IsLegalReading};
-ghost use Rattle.chess_text.specs.Forms.{is_spelled, castling_end, end_of, spelled_with};
+ghost use Rattle.chess_text.specs.declared.form.Form.TheVariants.{Walk};
+ghost use Rattle.chess_text.specs.Forms.{is_spelled, castling_end, end_of, spelled_with, named_square, IsStart};
 
 use crate::form::{Form, is_spelled, read_form};
+use crate::parts::Parts;
 use arrayvec::ArrayVec;
-use chess_base::rules::{castled_king_file, home_square, is_legal, right_of};
+use chess_base::rules::{castled_king_file, home_square, right_of};
 use chess_base::{CastlingSide, Colour, Kind, Move, Setup, Square, Variant};
-use chess_moves::Board;
+use chess_moves::{Board, SquareSet, would_promote};
 
 // The most moves that end on one square: five from each square, by what the man becomes.
 const SPELLED_LIMIT: usize = 320;
@@ -72,18 +73,55 @@ fn end_square(form: &Form, setup: &Setup) -> Square
     }
 }
 
+// The square of a file and a rank, if both are named and are on the board.
+fn named_square(file: Option<u8>, rank: Option<u8>) -> Option<Square>
+    ensures { result ≡ named_square file rank }
+{
+    let (file, rank) = (file?, rank?);
+    if file < 8 && rank < 8 {
+        Some(Square::new(8 * rank + file))
+    } else {
+        None
+    }
+}
+
+// Squares among which each legal move begins that the parts spell.
+#[tactic(auto, using(crate::proofs::Origins::by_letter, crate::proofs::Origins::by_squares, crate::proofs::Origins::by_pawn))]
+fn walk_origins<B: Board>(board: &B, parts: &Parts) -> SquareSet
+    ensures { IsStart (B.position board.now) (Walk parts.now) result }
+{
+    if let Some(kind) = parts.letter {
+        return board.origins(kind, parts.end.to);
+    }
+    if let Some(square) = named_square(parts.file, parts.rank) {
+        return SquareSet::single(square);
+    }
+    board.origins(Kind::Pawn, parts.end.to)
+}
+
+// Squares among which each legal move begins that the form spells.
+#[tactic(auto, using(crate::proofs::Origins::by_castling))]
+fn form_origins<B: Board>(board: &B, form: &Form, to: Square) -> SquareSet
+    requires { to ≡ end_of form.now (B.position board.now) }
+    ensures { IsStart (B.position board.now) form.now result }
+{
+    match form {
+        Form::Castling(_) => board.origins(Kind::King, to),
+        Form::Walk(parts) => walk_origins(board, parts),
+    }
+}
+
 // Adds the legal moves from there to there, with one of those promotions, that the form spells.
-fn add_spelled(
+fn add_spelled<B: Board>(
+    board: &B,
     form: &Form,
-    setup: &Setup,
     from: Square,
     to: Square,
     promotions: &[Option<Kind>],
     list: &mut SpelledMoves,
 )
-    requires sound { IsSound setup.now }
     requires room { array_vec_len list.old + length promotions.now ≤ 320 }
-    ensures moves { list.new.items ≡ list.old.items ++ spelled_with form.now setup.now from to promotions.now }
+    ensures moves { list.new.items ≡ list.old.items ++ spelled_with form.now (B.position board.now) from to promotions.now }
     ensures len { array_vec_len list.new ≤ array_vec_len list.old + length promotions.now }
 {
     for promotion in promotions {
@@ -92,28 +130,47 @@ fn add_spelled(
             to,
             promotion: *promotion,
         };
-        if is_spelled(form, setup, &m) && is_legal(setup, &m) {
+        if is_spelled(form, board.setup(), &m) && board.is_legal(&m) {
             list.push(m);
         }
     }
 }
 
-// The legal moves that the form spells.
-fn spelled_moves(form: &Form, setup: &Setup) -> SpelledMoves
-    requires { IsSound setup.now }
-    ensures { result.items ≡ filter (λ m. is_spelled form.now setup.now m) (moves setup.now) }
+// Adds the legal moves from there to there that the form spells.
+#[tactic(auto, using(crate::proofs::Promoting::all_promote, crate::proofs::Promoting::none_promotes))]
+fn add_spelled_between<B: Board>(
+    board: &B,
+    form: &Form,
+    from: Square,
+    to: Square,
+    list: &mut SpelledMoves,
+)
+    requires room { array_vec_len list.old + 5 ≤ 320 }
+    ensures moves { list.new.items ≡ list.old.items ++ spelled_with form.now (B.position board.now) from to promotions }
+    ensures len { array_vec_len list.new ≤ array_vec_len list.old + 5 }
 {
-    let to = end_square(form, setup);
-    let promotions = [
-        None,
-        Some(Kind::Queen),
-        Some(Kind::Rook),
-        Some(Kind::Bishop),
-        Some(Kind::Knight),
-    ];
+    if would_promote(board.setup(), from, to) {
+        let promotions = [
+            Some(Kind::Queen),
+            Some(Kind::Rook),
+            Some(Kind::Bishop),
+            Some(Kind::Knight),
+        ];
+        add_spelled(board, form, from, to, &promotions, list);
+    } else {
+        add_spelled(board, form, from, to, &[None], list);
+    }
+}
+
+// The legal moves that the form spells.
+fn spelled_moves<B: Board>(board: &B, form: &Form) -> SpelledMoves
+    ensures { result.items ≡ filter (λ m. is_spelled form.now (B.position board.now) m) (moves (B.position board.now)) }
+{
+    let to = end_square(form, board.setup());
     let mut list = SpelledMoves::new();
-    for number in 0..64 {
-        add_spelled(form, setup, Square::new(number), to, &promotions, &mut list);
+    let mut rest = form_origins(board, form, to);
+    while let Some(from) = rest.take_first() {
+        add_spelled_between(board, form, from, to, &mut list);
     }
     list
 }
@@ -138,7 +195,6 @@ pub fn read_move<B: Board>(board: &B, text: &[u8]) -> Reading
     let Some(form) = read_form(text) else {
         return Reading::NotAMove;
     };
-    let position = board.position();
-    let spelled = spelled_moves(&form, position.setup());
+    let spelled = spelled_moves(board, &form);
     one_of(spelled.as_slice())
 }

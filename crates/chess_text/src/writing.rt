@@ -11,7 +11,7 @@ ghost use Rattle.chess_text.specs.San.{castling_text, some_on_file, some_on_rank
 use crate::described::{Described, describe};
 use arrayvec::ArrayVec;
 use chess_base::{CastlingSide, Kind, Move, Setup, Square};
-use chess_moves::{Board, has_legal_move};
+use chess_moves::Board;
 
 /// The SAN of a move: two to seven bytes.
 pub type SanText = ArrayVec<u8, 7>;
@@ -186,12 +186,7 @@ fn write_mark<B: Board>(board: &B, text: &mut SanText)
     ensures len { array_vec_len text.new ≤ array_vec_len text.old + 1 }
 {
     if board.in_check() {
-        let position = board.position();
-        text.push(if has_legal_move(position.setup()) {
-            b'+'
-        } else {
-            b'#'
-        });
+        text.push(if board.has_legal_move() { b'+' } else { b'#' });
     }
 }
 

@@ -1,9 +1,16 @@
-use Rattle.std.proofs.Common.{◌≡◌, ◌<◌, ◌++◌, ◌∷◌, [], None, false, is_err, length, sym, ◌∙◌, arith}
+use Rattle.std.proofs.Common.{◌≡◌, ◌<◌, ◌++◌, ◌∷◌, [], None, false, is_err, length, refl, sym, ◌∙◌, arith}
+use Rattle.chess_game.specs.Game.{is_over, is_full}
 use Rattle.chess_game.specs.Places.{moves_of}
 use Rattle.chess_game.specs.declared.game.Place.{Place}
 use Rattle.chess_game.proofs.Kept.{added, pushed, room}
 use Rattle.chess_game.proofs.Judged.{judged_more, no_verdict}
-use Rattle.chess_game.proofs.game.Game.play.Goals as goal
+use Rattle.chess_game.proofs.Playable.{may_play}
+use Rattle.chess_game.proofs.game.Game.play_legal.Goals as goal
+
+pub make-saved-requires : goal.make-saved-requires
+make-saved-requires g c =
+    let legal = (may_play c.args.self.now c.args.m c.requires).legal in
+    rw c.self.invariant.0.at_end (rw (← c.self.view_is) at legal)
 
 pub verdict_on-self-inside-requires : goal.verdict_on-self-inside-requires
 verdict_on-self-inside-requires g c =
@@ -18,11 +25,12 @@ pub invariant_of-self : goal.invariant_of-self
 invariant_of-self g c =
     let places = c.self.inside.places.items in
     let x : Place = record { made = c.args.m; saved = c.make-saved.result; reached = c.on.result } in
-    let few : length places < c.self.inside.limit = room c.self.inside.limit c.self.inside.start.position places c.self.inside.declared c.args.self.now c.self.view_is c.is_full.result c.is_full.ensures.value c.if-is_full.false in
+    let may = may_play c.args.self.now c.args.m c.requires in
+    let few : length places < c.self.inside.limit = room c.self.inside.limit c.self.inside.start.position places c.self.inside.declared c.args.self.now c.self.view_is (is_full c.args.self.now) refl may.room in
     let in_place : is_err c.push.result ≡ false = sym c.is_err.ensures.value ∙ c.if-is_err.false in
     let all : c.push.new.self.items ≡ places ++ x ∷ [] = pushed c.push.result places (places ++ x ∷ []) c.push.new.self.items in_place c.push.ensures.items in
     let more = added c.self.inside.start.position places x _ _ c.self.invariant.0.follows c.self.invariant.0.at_end c.make-saved.ensures.made c.on.ensures.position c.on.ensures.known in
-    let none : c.self.inside.verdict ≡ None = no_verdict (record { start = c.self.inside.start.position; moves = moves_of places; declared = c.self.inside.declared }) c.self.inside.verdict c.is_over.result c.self.invariant.1.now (rw (← c.self.view_is) at c.is_over.ensures) c.if-is_over.false in (
+    let none : c.self.inside.verdict ≡ None = no_verdict (record { start = c.self.inside.start.position; moves = moves_of places; declared = c.self.inside.declared }) c.self.inside.verdict (is_over c.args.self.now.state) c.self.invariant.1.now (rw (← c.self.view_is) refl) may.on in (
       rw all (record { known = c.self.invariant.0.known; follows = more.follows; at_end = more.at_end }),
       rw all (judged_more c.self.inside.start.position places x c.self.inside.verdict c.verdict_on-self-inside.result c.self.invariant.1 none (rw (c.as_slice.ensures.value, all) at c.verdict_on-self-inside.ensures)),
       record { few = omega arith; made = omega arith; bound = omega arith },

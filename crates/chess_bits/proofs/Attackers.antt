@@ -1,0 +1,182 @@
+-- Who attacks a square, seen from that square.
+use Rattle.std.proofs.Common.{◌≡◌, ℕ, zero, suc, ◌<◌, ◌≤◌, ◌+◌, ◌⊎◌, inl, inr, Bool, true, false, not, ◌&&◌, ◌||◌, nat_lt, ◌==◌, refl, sym, ◌∙◌, ap, arith, Option, Some, None, is_none}
+use Rattle.std.proofs.lemmas.Bool.Decides.{nat_tests}
+use Rattle.std.proofs.lemmas.Bool.{and_parts, and_left, and_right, cases_Bool}
+use Rattle.chess_base.specs.declared.man.Colour.{Colour}
+use Rattle.chess_base.specs.declared.man.Colour.TheVariants.{White, Black}
+use Rattle.chess_base.specs.declared.man.Kind.{Kind}
+use Rattle.chess_base.specs.declared.man.Kind.TheVariants.{King, Queen, Rook, Bishop, Knight, Pawn}
+use Rattle.chess_base.specs.declared.man.Man.{Man}
+use Rattle.chess_base.specs.Squares.{file, rank, gap, lies_inside, share_rank_or_file, share_diagonal, is_between, is_between_on_file, is_between_on_rank, is_between_on_diagonal, each_below, each_square, some_below, some_square}
+use Rattle.chess_base.specs.Men.{Men, man_at, other, same_colour, same_kind, is_of, is_man}
+use Rattle.chess_base.specs.Attacks.{is_clear, is_rank_ahead, could_capture, could_capture_as, attacks, is_attacked}
+use Rattle.chess_bits.specs.declared.line.Line.TheVariants.{Rank, File, Diagonal, Antidiagonal}
+use Rattle.chess_bits.specs.declared.table.Shape.TheVariants as shape
+use Rattle.chess_moves.specs.Sets.{has, is_past}
+use Rattle.chess_bits.specs.Rays.{same_line, is_on_ray, is_open}
+use Rattle.chess_bits.specs.Shapes.{in_shape}
+use Rattle.chess_bits.specs.Occupancy.{IsOccupied}
+use Rattle.chess_bits.proofs.Geometry.{share_diagonal_is}
+
+-- the four rays along lines, and the four along diagonals
+pub on_lines : (a b : ℕ) (o : Bool)
+    → (((is_on_ray Rank true b a && o) || (is_on_ray Rank false b a && o)) || ((is_on_ray File true b a && o) || (is_on_ray File false b a && o)))
+    ≡ (not (a == b) && share_rank_or_file a b && o)
+on_lines a b true = grind (arith, nat_tests)
+on_lines a b false = grind (arith, nat_tests)
+
+pub on_diagonals : (a b : ℕ) (o : Bool)
+    → (((is_on_ray Diagonal true b a && o) || (is_on_ray Diagonal false b a && o)) || ((is_on_ray Antidiagonal true b a && o) || (is_on_ray Antidiagonal false b a && o)))
+    ≡ (not (a == b) && share_diagonal a b && o)
+on_diagonals a b true = grind (arith, nat_tests)
+on_diagonals a b false = grind (arith, nat_tests)
+
+each_below_same : (n : ℕ) (p q : ℕ → Bool) → ((k : ℕ) → k < n → p k ≡ q k) → each_below n p ≡ each_below n q
+each_below_same zero p q h = refl
+each_below_same (suc n) p q h = rw (each_below_same n p q (λ k l. h k (omega arith)), h n (omega arith)) refl
+
+pub each_square_same : (p q : ℕ → Bool) → ((k : ℕ) → k < 64 → p k ≡ q k) → each_square p ≡ each_square q
+unfolding each_square
+each_square_same p q h = each_below_same 64 p q h
+
+gap_back : (m n : ℕ) → gap m n ≡ gap n m
+gap_back m n = omega arith
+
+pub eq_back : (m n : ℕ) → (m == n) ≡ (n == m)
+eq_back m n = grind (arith, nat_tests)
+
+inside_back : (m n x : ℕ) → lies_inside m n x ≡ lies_inside n m x
+inside_back m n x = grind (arith, nat_tests)
+
+swap_first : (p q r : Bool) → (p && q && r) ≡ (q && p && r)
+swap_first true true r = refl
+swap_first true false r = refl
+swap_first false true r = refl
+swap_first false false r = refl
+
+back_on_file : (a b x : ℕ) → is_between_on_file a b x ≡ is_between_on_file b a x
+unfolding is_between_on_file
+back_on_file a b x = rw (inside_back (rank a) (rank b) (rank x)) (swap_first (file x == file a) (file x == file b) (lies_inside (rank b) (rank a) (rank x)))
+
+back_on_rank : (a b x : ℕ) → is_between_on_rank a b x ≡ is_between_on_rank b a x
+unfolding is_between_on_rank
+back_on_rank a b x = rw (inside_back (file a) (file b) (file x)) (swap_first (rank x == rank a) (rank x == rank b) (lies_inside (file b) (file a) (file x)))
+
+pub diagonal_back : (a b : ℕ) → share_diagonal a b ≡ share_diagonal b a
+diagonal_back a b = rw (gap_back (file a) (file b), gap_back (rank a) (rank b)) refl
+
+back_on_diagonal : (a b x : ℕ) → is_between_on_diagonal a b x ≡ is_between_on_diagonal b a x
+unfolding is_between_on_diagonal
+back_on_diagonal a b x =
+    let e = inside_back (rank a) (rank b) (rank x) in
+    let f = inside_back (file a) (file b) (file x) in
+    grind (arith, e, f, diagonal_back a x, diagonal_back x b)
+
+pub between_back : (a b x : ℕ) → is_between a b x ≡ is_between b a x
+unfolding is_between
+between_back a b x = rw (back_on_file a b x, back_on_rank a b x, back_on_diagonal a b x) refl
+
+pub de_morgan : (p q : Bool) → not (p && not q) ≡ (not p || q)
+de_morgan true true = refl
+de_morgan true false = refl
+de_morgan false q = refl
+
+-- what is clear on the board is open in the set of its men, seen from the other end
+pub open_is_clear : (w : ℕ) (men : Men) (a b : ℕ) → IsOccupied w men → is_open w b a ≡ is_clear men a b
+unfolding is_open is_clear
+open_is_clear w men a b h =
+    each_square_same _ _
+    (λ x l. rw (between_back b a x, h.of_men x l) (de_morgan (is_between a b x) (is_none (man_at men x))))
+
+king_back : (men : Men) (c : Colour) (a b : ℕ) → in_shape shape.King b a ≡ could_capture men c King a b
+unfolding in_shape could_capture
+king_back men c a b = rw (eq_back b a, gap_back (file b) (file a), gap_back (rank b) (rank a)) refl
+
+knight_back : (men : Men) (c : Colour) (a b : ℕ) → in_shape shape.Knight b a ≡ could_capture men c Knight a b
+unfolding in_shape could_capture
+knight_back men c a b = rw (gap_back (file b) (file a), gap_back (rank b) (rank a)) refl
+
+pawn_back : (men : Men) (c : Colour) (a b : ℕ) → in_shape (shape.Pawn (other c)) b a ≡ could_capture men c Pawn a b
+unfolding in_shape could_capture
+pawn_back men White a b = rw (gap_back (file b) (file a)) refl
+pawn_back men Black a b = rw (gap_back (file b) (file a)) refl
+
+-- the answer of `attackers` at one square, from its five parts and what stands there
+abbrev pub hit : Bool → Bool → Bool → Bool → Bool → Bool → Kind → Bool
+hit l d k n p s kind =
+    ((l && ((s && same_kind Rook kind) || (s && same_kind Queen kind)))
+    || (d && ((s && same_kind Bishop kind) || (s && same_kind Queen kind))))
+    || ((k && (s && same_kind King kind)) || (n && (s && same_kind Knight kind)))
+    || (p && (s && same_kind Pawn kind))
+
+hit_king : (l d k n p s : Bool) → hit l d k n p s King ≡ (s && k)
+hit_king l d k n p s = grind arith
+
+hit_queen : (l d k n p s : Bool) → hit l d k n p s Queen ≡ (s && (l || d))
+hit_queen l d k n p s = grind arith
+
+hit_rook : (l d k n p s : Bool) → hit l d k n p s Rook ≡ (s && l)
+hit_rook l d k n p s = grind arith
+
+hit_bishop : (l d k n p s : Bool) → hit l d k n p s Bishop ≡ (s && d)
+hit_bishop l d k n p s = grind arith
+
+hit_knight : (l d k n p s : Bool) → hit l d k n p s Knight ≡ (s && n)
+hit_knight l d k n p s = grind arith
+
+hit_pawn : (l d k n p s : Bool) → hit l d k n p s Pawn ≡ (s && p)
+hit_pawn l d k n p s = grind arith
+
+pub queen_parts : (e l d o : Bool) → ((e && l && o) || (e && d && o)) ≡ (e && (l || d) && o)
+queen_parts e l d o = grind arith
+
+-- from the square that is attacked
+abbrev seen : Men → Colour → ℕ → ℕ → Bool → Kind → Bool
+seen men c a b s kind =
+    hit (not (a == b) && share_rank_or_file a b && is_clear men a b) (not (a == b) && share_diagonal a b && is_clear men a b)
+    (in_shape shape.King b a) (in_shape shape.Knight b a) (in_shape (shape.Pawn (other c)) b a) s kind
+
+seen_kind : (men : Men) (c : Colour) (a b : ℕ) (s : Bool) (kind : Kind) → seen men c a b s kind ≡ (s && could_capture men c kind a b)
+unfolding could_capture
+seen_kind men c a b s King = hit_king _ _ _ _ _ s ∙ ap (λ x. s && x) (king_back men c a b)
+seen_kind men c a b s Queen = hit_queen _ _ _ _ _ s ∙ ap (λ x. s && x) (queen_parts (not (a == b)) (share_rank_or_file a b) (share_diagonal a b) (is_clear men a b))
+seen_kind men c a b s Rook = hit_rook _ _ _ _ _ s
+seen_kind men c a b s Bishop = hit_bishop _ _ _ _ _ s
+seen_kind men c a b s Knight = hit_knight _ _ _ _ _ s ∙ ap (λ x. s && x) (knight_back men c a b)
+seen_kind men c a b s Pawn = hit_pawn _ _ _ _ _ s ∙ ap (λ x. s && x) (pawn_back men c a b)
+
+-- a man's colour is the one that was asked for
+own_reach : (men : Men) (c d : Colour) (kind : Kind) (a b : ℕ) → (same_colour c d && could_capture men c kind a b) ≡ (same_colour c d && could_capture men d kind a b)
+own_reach men White White kind a b = refl
+own_reach men White Black kind a b = refl
+own_reach men Black White kind a b = refl
+own_reach men Black Black kind a b = refl
+
+pub attackers_are : (men : Men) (c : Colour) (a b : ℕ) (o : Option Man)
+    → ((((not (a == b) && share_rank_or_file a b && is_clear men a b) && (is_man c Rook o || is_man c Queen o))
+    || ((not (a == b) && share_diagonal a b && is_clear men a b) && (is_man c Bishop o || is_man c Queen o)))
+    || ((in_shape shape.King b a && is_man c King o) || (in_shape shape.Knight b a && is_man c Knight o))
+    || (in_shape (shape.Pawn (other c)) b a && is_man c Pawn o))
+    ≡ (is_of c o && could_capture_as men o a b)
+unfolding is_of is_man
+attackers_are men c a b None = seen_kind men c a b false King
+attackers_are men c a b (Some x) = seen_kind men c a b (same_colour c x.colour) x.kind ∙ own_reach men c x.colour x.kind a b
+
+some_below_same : (n : ℕ) (p q : ℕ → Bool) → ((k : ℕ) → k < n → p k ≡ q k) → some_below n p ≡ some_below n q
+some_below_same zero p q h = refl
+some_below_same (suc n) p q h = rw (some_below_same n p q (λ k l. h k (omega arith)), h n (omega arith)) refl
+
+pub some_square_same : (p q : ℕ → Bool) → ((k : ℕ) → k < 64 → p k ≡ q k) → some_square p ≡ some_square q
+unfolding some_square
+some_square_same p q h = some_below_same 64 p q h
+
+not_not : (b : Bool) → not (not b) ≡ b
+not_not true = refl
+not_not false = refl
+
+-- a square is attacked where its set of attackers is not empty
+pub attacked_is : (w : ℕ) (men : Men) (b : ℕ) (c : Colour) → ((k : ℕ) → k < 64 → has w k ≡ (is_of c (man_at men k) && attacks men k b))
+    → not (not (some_square (λ k. has w k))) ≡ is_attacked men b c
+unfolding is_attacked
+attacked_is w men b c h =
+    not_not (some_square (λ k. has w k)) ∙ some_square_same (λ k. has w k) (λ k. is_of c (man_at men k) && attacks men k b) h

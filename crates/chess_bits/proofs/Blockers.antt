@@ -1,0 +1,95 @@
+-- A ray up to its first blocker.
+use Rattle.std.proofs.Common.{◌≡◌, ℕ, ◌<◌, ◌≤◌, ◌⊎◌, inl, inr, Bool, true, false, not, ◌&&◌, ◌||◌, nat_lt, ◌==◌, refl, sym, ◌∙◌, ap, arith}
+use Rattle.std.proofs.lemmas.Bool.Decides.{nat_tests}
+use Rattle.std.proofs.lemmas.Bool.{and_parts, and_left, and_right, cases_Bool, false_from_ne_true, both_ways}
+use Rattle.chess_base.specs.Squares.{is_between, lies_inside, each_square}
+use Rattle.chess_bits.specs.declared.line.Line.{Line}
+use Rattle.chess_moves.specs.Sets.{has, is_past, IsNearest}
+use Rattle.chess_bits.specs.Rays.{line_number, same_line, is_on_ray, is_open}
+use Rattle.chess_bits.proofs.Geometry.{between_on_line}
+use Rattle.chess_base.proofs.OverSquares.{each_square-all, each_square-fails}
+
+-- what lies between a square and one on a ray from it lies on that ray, before that square
+between_on_ray : (l : Line) (up : Bool) (a b x : ℕ) → is_on_ray l up a b ≡ true → is_between a b x ≡ (is_on_ray l up a x && is_past up x b)
+between_on_ray l true a b x e =
+    let same = and_parts (same_line l a b) (nat_lt a b) e in
+    rw (between_on_line l a b x same.0) (grind (arith, nat_tests))
+between_on_ray l false a b x e =
+    let same = and_parts (same_line l a b) (nat_lt b a) e in
+    rw (between_on_line l a b x same.0) (grind (arith, nat_tests))
+
+-- a ray from a square of a ray is the rest of that ray
+ray_on : (l : Line) (up : Bool) (a f x : ℕ) → is_on_ray l up a f ≡ true → is_on_ray l up f x ≡ (is_on_ray l up a x && is_past up f x)
+ray_on l true a f x e = grind (arith, nat_tests)
+ray_on l false a f x e = grind (arith, nat_tests)
+
+-- what comes before b, and b not after f, comes before f
+before_first : (up : Bool) (x b f : ℕ) → is_past up x b ≡ true → is_past up f b ≡ false → is_past up x f ≡ true
+before_first true x b f e n = grind (arith, nat_tests)
+before_first false x b f e n = grind (arith, nat_tests)
+
+not_both : (p q : Bool) → (p ≡ true → q ≡ false) → not (p && q) ≡ true
+not_both true q h = rw (h refl) refl
+not_both false q h = refl
+
+-- with no blocker on the ray all of it is open
+pub open_ray : (l : Line) (up : Bool) (a b w : ℕ)
+    → ((x : ℕ) → x < 64 → (is_on_ray l up a x && has w x) ≡ false)
+    → is_on_ray l up a b ≡ true → is_open w a b ≡ true
+unfolding is_open
+open_ray l up a b w none e =
+    each_square-all _
+    (λ x h.
+    not_both (is_between a b x) (has w x)
+    (λ t.
+    let on = and_parts (is_on_ray l up a x) (is_past up x b) (sym (between_on_ray l up a b x e) ∙ t) in
+    let clear : (is_on_ray l up a x && has w x) ≡ false = none x h in
+    (rw on.0 at clear)))
+
+-- up to the first blocker, and no further
+pub open_to_first : (l : Line) (up : Bool) (a b w f : ℕ)
+    → f < 64
+    → is_on_ray l up a f ≡ true
+    → has w f ≡ true
+    → ((x : ℕ) → x < 64 → is_past up x f ≡ true → (is_on_ray l up a x && has w x) ≡ false)
+    → is_on_ray l up a b ≡ true
+    → is_open w a b ≡ not (is_on_ray l up f b)
+unfolding is_open
+open_to_first l up a b w f h on here nearer e =
+    elim (cases_Bool (is_past up f b)) [
+      | inl past ↦
+          let rest : is_on_ray l up f b ≡ true = ray_on l up a f b on ∙ rw (e, past) refl in
+          let inside : is_between a b f ≡ true = between_on_ray l up a b f e ∙ rw (on, past) refl in
+          rw rest (each_square-fails _ f h (rw (inside, here) refl))
+      | inr short ↦
+          let rest : is_on_ray l up f b ≡ false = ray_on l up a f b on ∙ rw (e, short) refl in
+          rw rest
+          (each_square-all _
+          (λ x k.
+          not_both (is_between a b x) (has w x)
+          (λ t.
+          let both = and_parts (is_on_ray l up a x) (is_past up x b) (sym (between_on_ray l up a b x e) ∙ t) in
+          let clear : (is_on_ray l up a x && has w x) ≡ false = nearer x k (before_first up x b f both.1 short) in
+          (rw both.0 at clear))))
+    ]
+
+pub swept : (l : Line) (up : Bool) (a b w f : ℕ)
+    → f < 64
+    → is_on_ray l up a f ≡ true
+    → has w f ≡ true
+    → ((x : ℕ) → x < 64 → is_past up x f ≡ true → (is_on_ray l up a x && has w x) ≡ false)
+    → (is_on_ray l up a b && not (is_on_ray l up f b)) ≡ (is_on_ray l up a b && is_open w a b)
+swept l up a b w f h on here nearer =
+    elim (cases_Bool (is_on_ray l up a b)) [
+      | inl e ↦ rw e (sym (open_to_first l up a b w f h on here nearer e))
+      | inr n ↦ rw n refl
+    ]
+
+pub swept_all : (l : Line) (up : Bool) (a b w : ℕ)
+    → ((x : ℕ) → x < 64 → (is_on_ray l up a x && has w x) ≡ false)
+    → is_on_ray l up a b ≡ (is_on_ray l up a b && is_open w a b)
+swept_all l up a b w none =
+    elim (cases_Bool (is_on_ray l up a b)) [
+      | inl e ↦ rw e (sym (open_ray l up a b w none e))
+      | inr n ↦ rw n refl
+    ]

@@ -1,0 +1,126 @@
+-- What stands on one square changes: the sets of both colours.
+use Rattle.std.proofs.Common.{◌≡◌, ℕ, ◌<◌, ◌⊎◌, inl, inr, Bool, true, false, not, ◌&&◌, ◌||◌, ◌==◌, refl, sym, ◌∙◌, ap, arith, Option, Some, None, List, [], ◌∷◌, zero, suc, length, get_or, set, get_or-set_same, get_or-set_other}
+use Rattle.std.proofs.lemmas.Bool.{cases_eq, eq-eqb, ne_eqb}
+use Rattle.chess_base.specs.declared.man.Colour.{Colour}
+use Rattle.chess_base.specs.declared.man.Colour.TheVariants.{White, Black}
+use Rattle.chess_base.specs.declared.man.Kind.{Kind}
+use Rattle.chess_base.specs.declared.man.Man.{Man}
+use Rattle.chess_base.specs.Men.{Men, man_at, is_of, is_man, other, kind_number}
+use Rattle.chess_moves.specs.Sets.{has}
+use Rattle.std.proofs.lemmas.List.{set-get_or}
+use Rattle.chess_bits.specs.declared.sets.Sets.{Sets}
+use Rattle.chess_bits.specs.KindSets.{IsKinds}
+use Rattle.chess_bits.specs.BoardSets.{IsSets}
+
+-- the sets of a colour none of whose men came or went
+pub kinds_kept : (sets : List ℕ) (men : Men) (c : Colour) (s : ℕ) (o : Option Man) → length men ≡ 64 → s < 64
+    → ((y : Kind) → is_man c y (man_at men s) ≡ is_man c y o) → IsKinds sets c men → IsKinds sets c (set men s o)
+kinds_kept sets men c s o all ls same h = record { of_kind = at }
+  where
+    at : (y : Kind) (k : ℕ) → k < 64 → has (get_or sets (kind_number y) 0) k ≡ is_man c y (get_or (set men s o) k None)
+    at y k l =
+        let in_men : s < length men = omega arith in
+        elim (cases_eq k s) [
+          | inl here ↦ rw (here, get_or-set_same) (h.of_kind y s ls ∙ same y)
+          | inr away ↦ rw (get_or-set_other men s k o None away) (h.of_kind y k l)
+        ]
+
+abbrev pub IsAll : ℕ → Colour → Men → Type 0
+IsAll w c men = (k : ℕ) → k < 64 → has w k ≡ is_of c (man_at men k)
+
+pub all_kept : (w : ℕ) (men : Men) (c : Colour) (s : ℕ) (o : Option Man) → length men ≡ 64 → s < 64 → is_of c (man_at men s) ≡ is_of c o → IsAll w c men → IsAll w c (set men s o)
+all_kept w men c s o all ls same h = λ k l.
+    let in_men : s < length men = omega arith in
+    elim (cases_eq k s) [
+      | inl here ↦ rw (here, get_or-set_same) (h s ls ∙ same)
+      | inr away ↦ rw (get_or-set_other men s k o None away) (h k l)
+    ]
+
+or_false : (b : Bool) → (b || false) ≡ b
+or_false true = refl
+or_false false = refl
+
+or_true : (b : Bool) → (b || true) ≡ true
+or_true true = refl
+or_true false = refl
+
+and_false : (b : Bool) → (b && false) ≡ false
+and_false true = refl
+and_false false = refl
+
+and_true : (b : Bool) → (b && true) ≡ b
+and_true true = refl
+and_true false = refl
+
+pub all_put : (w v : ℕ) (men : Men) (c : Colour) (s : ℕ) (o : Option Man) → length men ≡ 64 → s < 64 → is_of c o ≡ true
+    → ((j : ℕ) → has v j ≡ (has w j || (j == s))) → IsAll w c men → IsAll v c (set men s o)
+all_put w v men c s o all ls own made h = λ k l.
+    let in_men : s < length men = omega arith in
+    elim (cases_eq k s) [
+      | inl here ↦ rw (here, get_or-set_same, own, made s, eq-eqb s s refl) (or_true (has w s))
+      | inr away ↦ rw (get_or-set_other men s k o None away, made k, ne_eqb k s away, or_false (has w k)) (h k l)
+    ]
+
+pub all_lift : (w v : ℕ) (men : Men) (c : Colour) (s : ℕ) → length men ≡ 64 → s < 64
+    → ((j : ℕ) → j < 64 → has v j ≡ (has w j && not (j == s))) → IsAll w c men → IsAll v c (set men s None)
+unfolding is_of
+all_lift w v men c s all ls made h = λ k l.
+    let in_men : s < length men = omega arith in
+    elim (cases_eq k s) [
+      | inl here ↦ rw (here, get_or-set_same, made s ls, eq-eqb s s refl) (and_false (has w s))
+      | inr away ↦ rw (get_or-set_other men s k None None away, made k l, ne_eqb k s away, and_true (has w k)) (h k l)
+    ]
+
+-- ---- colours
+
+pub theirs_man : (d : Colour) (m : Man) (y : Kind) → m.colour ≡ d → is_man (other d) y (Some m) ≡ false
+unfolding is_man
+theirs_man White m y e = rw e refl
+theirs_man Black m y e = rw e refl
+
+pub theirs_of : (d : Colour) (m : Man) → m.colour ≡ d → is_of (other d) (Some m) ≡ false
+unfolding is_of
+theirs_of White m e = rw e refl
+theirs_of Black m e = rw e refl
+
+pub own_of : (d : Colour) (m : Man) → m.colour ≡ d → is_of d (Some m) ≡ true
+unfolding is_of
+own_of White m e = rw e refl
+own_of Black m e = rw e refl
+
+no_man : (c : Colour) (y : Kind) → is_man c y None ≡ false
+unfolding is_man
+no_man c y = refl
+
+none_of : (c : Colour) → is_of c None ≡ false
+unfolding is_of
+none_of c = refl
+
+pub as_own : (d : Colour) (m : Man) → m.colour ≡ d → Some m ≡ Some (record { colour = d; kind = m.kind })
+as_own d m e = ap (λ (c : Colour). let man : Man = record { colour = c; kind = m.kind } in Some man) e
+
+-- the other colour's sets stay
+pub theirs_lifted : (sets : List ℕ) (men : Men) (d : Colour) (s : ℕ) (m : Man) → length men ≡ 64 → s < 64 → m.colour ≡ d → man_at men s ≡ Some m → IsKinds sets (other d) men → IsKinds sets (other d) (set men s None)
+theirs_lifted sets men d s m all ls e at h = kinds_kept sets men (other d) s None all ls (λ y. ap (is_man (other d) y) at ∙ theirs_man d m y e ∙ sym (no_man (other d) y)) h
+
+pub theirs_put : (sets : List ℕ) (men : Men) (d : Colour) (s : ℕ) (m : Man) → length men ≡ 64 → s < 64 → m.colour ≡ d → man_at men s ≡ None → IsKinds sets (other d) men → IsKinds sets (other d) (set men s (Some m))
+theirs_put sets men d s m all ls e at h = kinds_kept sets men (other d) s (Some m) all ls (λ y. ap (is_man (other d) y) at ∙ no_man (other d) y ∙ sym (theirs_man d m y e)) h
+
+pub all_theirs_lifted : (w : ℕ) (men : Men) (d : Colour) (s : ℕ) (m : Man) → length men ≡ 64 → s < 64 → m.colour ≡ d → man_at men s ≡ Some m → IsAll w (other d) men → IsAll w (other d) (set men s None)
+all_theirs_lifted w men d s m all ls e at h = all_kept w men (other d) s None all ls (ap (is_of (other d)) at ∙ theirs_of d m e ∙ sym (none_of (other d))) h
+
+pub all_theirs_put : (w : ℕ) (men : Men) (d : Colour) (s : ℕ) (m : Man) → length men ≡ 64 → s < 64 → m.colour ≡ d → man_at men s ≡ None → IsAll w (other d) men → IsAll w (other d) (set men s (Some m))
+all_theirs_put w men d s m all ls e at h = all_kept w men (other d) s (Some m) all ls (ap (is_of (other d)) at ∙ none_of (other d) ∙ sym (theirs_of d m e)) h
+
+-- ---- one square
+
+pub set_twice : {A : Type 0} (xs : List A) (s : ℕ) (a b : A) → set (set xs s a) s b ≡ set xs s b
+set_twice [] s a b = refl
+set_twice (x ∷ xs) zero a b = refl
+set_twice (x ∷ xs) (suc s) a b = ap (λ ys. x ∷ ys) (set_twice xs s a b)
+
+pub same_written : (men : Men) (s : ℕ) (o : Option Man) → man_at men s ≡ o → set men s o ≡ men
+same_written men s o e = ap (set men s) (sym e) ∙ set-get_or men s None
+
+pub cleared : (men : Men) (s : ℕ) → s < 64 → length men ≡ 64 → man_at (set men s None) s ≡ None
+cleared men s l all = let inside : s < length men = omega arith in get_or-set_same men s None None inside

@@ -1,0 +1,50 @@
+-- Where a man other than a pawn may go, seen from its square.
+use Rattle.std.proofs.Common.{◌≡◌, ℕ, ◌<◌, ◌⊎◌, inl, inr, Bool, true, false, not, ◌&&◌, ◌||◌, ◌==◌, refl, sym, ◌∙◌, ap, arith, Option, Some, None, is_none, List, [], ◌∷◌, filter, map}
+use Rattle.std.proofs.lemmas.Bool.{and_parts, and_left, and_right, cases_Bool}
+use Rattle.chess_base.specs.declared.man.Colour.{Colour}
+use Rattle.chess_base.specs.declared.man.Kind.{Kind}
+use Rattle.chess_base.specs.declared.man.Kind.TheVariants.{King, Queen, Rook, Bishop, Knight, Pawn}
+use Rattle.chess_base.specs.Squares.{file, rank, is_between, share_rank_or_file, share_diagonal, each_square}
+use Rattle.chess_base.specs.Men.{Men, man_at, is_of, same_colour}
+use Rattle.chess_base.specs.Attacks.{is_clear, could_capture, could_capture_as, attacks}
+use Rattle.chess_bits.specs.declared.table.Shape.TheVariants as shape
+use Rattle.chess_moves.specs.Sets.{has}
+use Rattle.chess_bits.specs.Rays.{is_open}
+use Rattle.chess_bits.specs.Shapes.{in_shape}
+use Rattle.chess_bits.specs.Occupancy.{IsOccupied}
+use Rattle.chess_bits.proofs.Attackers.{each_square_same, de_morgan, eq_back, diagonal_back, queen_parts}
+
+pub knight_from : (men : Men) (c : Colour) (a b : ℕ) → in_shape shape.Knight a b ≡ could_capture men c Knight a b
+unfolding in_shape could_capture
+knight_from men c a b = refl
+
+pub king_from : (men : Men) (c : Colour) (a b : ℕ) → in_shape shape.King a b ≡ could_capture men c King a b
+unfolding in_shape could_capture
+king_from men c a b = refl
+
+open_from : (w : ℕ) (men : Men) (a b : ℕ) → IsOccupied w men → is_open w a b ≡ is_clear men a b
+unfolding is_open is_clear
+open_from w men a b h =
+    each_square_same _ _ (λ x l. rw (h.of_men x l) (de_morgan (is_between a b x) (is_none (man_at men x))))
+
+line_back : (a b : ℕ) → share_rank_or_file b a ≡ share_rank_or_file a b
+line_back a b = rw (eq_back (file b) (file a), eq_back (rank b) (rank a)) refl
+
+pub rook_from : (w : ℕ) (men : Men) (c : Colour) (a b : ℕ) → IsOccupied w men → (not (b == a) && share_rank_or_file b a && is_open w a b) ≡ could_capture men c Rook a b
+unfolding could_capture
+rook_from w men c a b h = rw (eq_back b a, line_back a b, open_from w men a b h) refl
+
+pub bishop_from : (w : ℕ) (men : Men) (c : Colour) (a b : ℕ) → IsOccupied w men → (not (b == a) && share_diagonal b a && is_open w a b) ≡ could_capture men c Bishop a b
+unfolding could_capture
+bishop_from w men c a b h = rw (eq_back b a, diagonal_back b a, open_from w men a b h) refl
+
+pub queen_from : (w : ℕ) (men : Men) (c : Colour) (a b : ℕ) → IsOccupied w men
+    → ((not (b == a) && share_rank_or_file b a && is_open w a b) || (not (b == a) && share_diagonal b a && is_open w a b)) ≡ could_capture men c Queen a b
+unfolding could_capture
+queen_from w men c a b h =
+    rw (eq_back b a, line_back a b, diagonal_back b a, open_from w men a b h)
+    (queen_parts (not (a == b)) (share_rank_or_file a b) (share_diagonal a b) (is_clear men a b))
+
+pub pawn_from : (men : Men) (c : Colour) (a b : ℕ) → in_shape (shape.Pawn c) a b ≡ could_capture men c Pawn a b
+unfolding in_shape could_capture
+pawn_from men c a b = refl

@@ -1,0 +1,48 @@
+use Rattle.std.proofs.Common.{rules, ◌≡◌, ℕ, ◌<◌, ◌&&◌, ◌||◌, not, ◌==◌, refl, sym, ◌∙◌, ap, arith}
+use Rattle.chess_base.specs.Squares.{share_rank_or_file, share_diagonal}
+use Rattle.chess_base.specs.Men.{Men, man_at, is_of, other}
+use Rattle.chess_base.specs.Attacks.{attacks, is_attacked, is_clear}
+use Rattle.chess_moves.specs.Sets.{has}
+use Rattle.chess_bits.specs.Rays.{is_open}
+use Rattle.chess_bits.specs.Occupancy.{IsOccupied}
+use Rattle.chess_base.specs.declared.man.Kind.TheVariants.{King, Queen, Rook, Bishop, Knight, Pawn}
+use Rattle.chess_bits.proofs.Attackers.{attackers_are, open_is_clear}
+use Rattle.chess_bits.proofs.kinds.Kinds.attackers.Goals as goal
+
+pub returns : goal.returns
+unfolding attacks
+returns c =
+    λ men army all k h.
+    rw (
+      c.union-6.ensures k,
+      c.union-5.ensures k,
+      c.union-3.ensures k,
+      c.union-4.ensures k,
+      c.intersection-lines.ensures k,
+      c.intersection-diagonals.ensures k,
+      c.intersection-kings.ensures k,
+      c.intersection-knights.ensures k,
+      c.intersection-pawns.ensures k,
+      c.along_lines.ensures k h,
+      c.along_diagonals.ensures k h,
+      c.union.ensures k,
+      c.union-2.ensures k,
+      c.at.ensures k h,
+      c.at-2.ensures k h,
+      c.at-3.ensures k h,
+      c.other.ensures,
+      open_is_clear c.args.occupied men k c.args.square all,
+      c.of-queens.ensures,
+      c.of.ensures,
+      c.of-2.ensures,
+      c.of-3.ensures,
+      c.of-4.ensures,
+      c.of-5.ensures,
+      army.of_kind King k h,
+      army.of_kind Queen k h,
+      army.of_kind Rook k h,
+      army.of_kind Bishop k h,
+      army.of_kind Knight k h,
+      army.of_kind Pawn k h,
+    )
+    (attackers_are men c.args.colour k c.args.square (man_at men k))

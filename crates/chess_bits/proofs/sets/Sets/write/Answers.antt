@@ -1,0 +1,14 @@
+use Rattle.std.proofs.Common.{◌≡◌, ℕ, ◌<◌, length, slice_set, Some, None, refl, sym, ◌∙◌, ap, subst, length-set, arith}
+use Rattle.chess_base.specs.Men.{Men, man_at}
+use Rattle.chess_bits.specs.BoardSets.{IsSets}
+use Rattle.chess_bits.proofs.BoardSets.{set_twice, cleared}
+use Rattle.chess_bits.proofs.sets.Sets.write.Goals as goal
+
+pub returns : goal.returns
+returns c =
+    λ men all at h.
+    let low : c.args.square < 64 = subst (λ n. n < 64) c.number-bound.ensures.value c.number-bound.ensures.in_range in
+    let mid = c.clear.ensures men all at h in
+    let long : length (slice_set men c.args.square None) ≡ 64 = length-set men c.args.square None ∙ all in
+    subst (λ v. IsSets c.fill.new.self v) (set_twice men c.args.square None c.args.new)
+    (c.fill.ensures (slice_set men c.args.square None) long (cleared men c.args.square low all) mid)

@@ -1,0 +1,7 @@
+use Rattle.std.proofs.Common.{◌≡◌, ℕ, ◌&&◌, nat_lt}
+use Rattle.chess_moves.specs.Sets.{has}
+use Rattle.chess_bits.specs.Shapes.{in_shape}
+use Rattle.chess_bits.proofs.table.squares_of.Given as goal
+
+abbrev pub invariant-loop-number : goal.invariant-loop-number
+invariant-loop-number l = (k : ℕ) → has l.set k ≡ (nat_lt k l.number && in_shape l.shape l.a k)

@@ -1,0 +1,20 @@
+use Rattle.std.proofs.Common.{rules, ◌≡◌, ℕ, ◌<◌, ◌&&◌, ◌||◌, true, false, refl, sym, ◌∙◌, ap, arith, nat_eq}
+use Rattle.std.proofs.lemmas.Bool.{eqb-true}
+use Rattle.chess_moves.specs.Sets.{has, IsNearest}
+use Rattle.chess_bits.specs.Shapes.{in_shape}
+use Rattle.chess_bits.specs.Rays.{is_on_ray, is_open}
+use Rattle.chess_moves.proofs.Words.{has_zero}
+use Rattle.chess_bits.proofs.Blockers.{swept_all}
+use Rattle.chess_bits.specs.declared.table.Shape.TheVariants.{King, Knight, Pawn, Ray}
+use Rattle.chess_bits.proofs.tables.AttackTables.sweep.Goals as goal
+
+pub returns-then-is_empty : goal.returns-then-is_empty
+unfolding in_shape
+returns-then-is_empty c =
+    λ k h.
+    let on : (x : ℕ) → x < 64 → has c.at-all.result x ≡ is_on_ray c.args.line c.args.up c.args.from x =
+    λ x m. (rw c.table-ray.ensures at (c.at-all.ensures x m)) in
+    let empty : c.intersection-blockers.result ≡ 0 = eqb-true _ 0 (sym c.is_empty.ensures.zero ∙ c.if-is_empty.true) in
+    let bare : (x : ℕ) → x < 64 → (is_on_ray c.args.line c.args.up c.args.from x && has c.args.occupied x) ≡ false =
+    λ x m. rw (← on x m, ← c.intersection-blockers.ensures x, empty) (has_zero x) in
+    rw (on k h) (swept_all c.args.line c.args.up c.args.from k c.args.occupied bare)

@@ -1,0 +1,13 @@
+-- The men of both colours as sets of squares.
+use Rattle.std.specs.Prelude.{ℕ, ◌<◌, ◌≡◌}
+use Rattle.chess_base.specs.declared.man.Colour.TheVariants.{White, Black}
+use Rattle.chess_base.specs.Men.{Men, man_at, is_of}
+use Rattle.chess_bits.specs.declared.sets.Sets.{Sets}
+use Rattle.chess_bits.specs.KindSets.{IsKinds}
+use Rattle.chess_moves.specs.Sets.{has}
+
+pub record IsSets (s : Sets) (men : Men) : Type 0 where
+  pub of_white : IsKinds s.white.sets White men
+  pub of_black : IsKinds s.black.sets Black men
+  pub all_white : (k : ℕ) → k < 64 → has s.all_white k ≡ is_of White (man_at men k)
+  pub all_black : (k : ℕ) → k < 64 → has s.all_black k ≡ is_of Black (man_at men k)

@@ -1,0 +1,5 @@
+pub mod Rays
+pub mod Shapes
+pub mod Occupancy
+pub mod KindSets
+pub mod BoardSets

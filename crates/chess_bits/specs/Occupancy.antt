@@ -1,0 +1,19 @@
+-- Squares that are not empty, and what stands later.
+use Rattle.std.specs.Prelude.{ℕ, ◌<◌, ◌≡◌, Bool, not, ◌&&◌, ◌||◌, is_none}
+use Rattle.chess_base.specs.declared.man.Colour.{Colour}
+use Rattle.chess_base.specs.declared.man.Colour.TheVariants.{White, Black}
+use Rattle.chess_base.specs.declared.man.Kind.{Kind}
+use Rattle.chess_base.specs.declared.man.Kind.TheVariants.{King, Queen, Rook, Bishop, Knight, Pawn}
+use Rattle.chess_base.specs.Squares.{share_rank_or_file, share_diagonal}
+use Rattle.chess_base.specs.Men.{Men, man_at, is_man}
+use Rattle.chess_moves.specs.Sets.{has}
+use Rattle.chess_bits.specs.Rays.{is_open}
+
+-- the squares that are not empty
+pub record IsOccupied (w : ℕ) (men : Men) : Type 0 where
+  pub of_men : (k : ℕ) → k < 64 → has w k ≡ not (is_none (man_at men k))
+
+-- what stands later: the squares of one set are filled, those of the other changed, and no man of colour c came
+pub record IsLater (changed filled : ℕ) (c : Colour) (men later : Men) : Type 0 where
+  pub of_all : (k : ℕ) → k < 64 → (has filled k || (not (is_none (man_at men k)) && not (has changed k))) ≡ not (is_none (man_at later k))
+  pub of_man : (kind : Kind) (k : ℕ) → k < 64 → (is_man c kind (man_at men k) && not (has changed k)) ≡ is_man c kind (man_at later k)

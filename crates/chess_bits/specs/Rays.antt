@@ -1,0 +1,23 @@
+-- Lines and rays: the squares of a line through a square, above it in number or below it.
+use Rattle.std.specs.Prelude.{ℕ, ◌+◌, ◌-◌, ◌==◌, nat_lt, Bool, true, false, not, ◌&&◌, ◌||◌}
+use Rattle.chess_base.specs.Squares.{file, rank, is_between, each_square}
+use Rattle.chess_bits.specs.declared.line.Line.{Line}
+use Rattle.chess_bits.specs.declared.line.Line.TheVariants.{Rank, File, Diagonal, Antidiagonal}
+use Rattle.chess_moves.specs.Sets.{has, is_past}
+
+-- squares of one line have one number
+abbrev pub line_number : Line → ℕ → ℕ
+line_number Rank s = rank s
+line_number File s = file s
+line_number Diagonal s = rank s + 7 - file s
+line_number Antidiagonal s = rank s + file s
+
+abbrev pub same_line : Line → ℕ → ℕ → Bool
+same_line l a b = line_number l a == line_number l b
+
+abbrev pub is_on_ray : Line → Bool → ℕ → ℕ → Bool
+is_on_ray l up a x = same_line l a x && is_past up a x
+
+-- no square of the set lies strictly between a and b
+unfoldable pub is_open : ℕ → ℕ → ℕ → Bool
+is_open w a b = each_square (λ x. not (is_between a b x && has w x))

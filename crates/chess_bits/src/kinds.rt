@@ -1,0 +1,148 @@
+//! The men of one colour as sets of squares, and what they attack.
+
+ghost use Rattle.std.specs.Prelude.{◌≡◌, ℕ, ◌<◌, ◌&&◌, ◌||◌, not, ◌==◌, Some, None, length, slice_set, slice_index};
+ghost use Rattle.chess_base.specs.declared.man.Colour.{Colour as Side};
+ghost use Rattle.chess_base.specs.Squares.{share_rank_or_file, share_diagonal};
+ghost use Rattle.chess_base.specs.Men.{Men, man_at, is_of, other, kind_number};
+ghost use Rattle.chess_base.specs.Attacks.{attacks, is_attacked};
+ghost use Rattle.chess_moves.specs.Sets.{has};
+ghost use Rattle.chess_bits.specs.Rays.{is_open};
+ghost use Rattle.chess_bits.specs.Occupancy.{IsOccupied, IsLater};
+ghost use Rattle.chess_bits.specs.KindSets.{IsKinds};
+
+use crate::line::Line;
+use chess_moves::SquareSet;
+use crate::table::Shape;
+use crate::tables::AttackTables;
+use chess_base::{Colour, Kind, Square};
+
+/// The men of one colour: a set of squares for each kind, at the kind's number.
+#[derive(Clone, Copy)]
+pub struct Kinds {
+    sets: [SquareSet; 6],
+}
+
+fn number(kind: Kind) -> usize
+    ensures value { result ≡ kind_number kind }
+    ensures in_range { result < 6 }
+{
+    match kind {
+        Kind::King => 0,
+        Kind::Queen => 1,
+        Kind::Rook => 2,
+        Kind::Bishop => 3,
+        Kind::Knight => 4,
+        Kind::Pawn => 5,
+    }
+}
+
+impl Kinds {
+    /// Puts a man on an empty square.
+    pub fn put(&mut self, kind: Kind, square: Square)
+        ensures { (men : Men) → (c : Side) → length men ≡ 64 → man_at men square ≡ None → IsKinds self.old.sets c men → IsKinds self.new.sets c (slice_set men square (Some (record { colour = c; kind = kind }))) }
+    {
+        let at = number(kind);
+        self.sets[at] = self.sets[at].union(SquareSet::single(square));
+    }
+
+    /// Takes a man from its square.
+    pub fn lift(&mut self, kind: Kind, square: Square)
+        ensures { (men : Men) → (c : Side) → length men ≡ 64 → man_at men square ≡ Some (record { colour = c; kind = kind }) → IsKinds self.old.sets c men → IsKinds self.new.sets c (slice_set men square None) }
+    {
+        let at = number(kind);
+        self.sets[at] = self.sets[at].without(SquareSet::single(square));
+    }
+}
+
+#[tactic(auto, using(crate::proofs::Attackers::on_lines))]
+pub(crate) fn along_lines(tables: &AttackTables, square: Square, occupied: SquareSet) -> SquareSet
+    ensures { (k : ℕ) → k < 64 → has result k ≡ (not (k == square) && share_rank_or_file k square && is_open occupied square k) }
+{
+    let up = tables.sweep(Line::Rank, true, square, occupied);
+    let down = tables.sweep(Line::Rank, false, square, occupied);
+    let left = tables.sweep(Line::File, true, square, occupied);
+    let right = tables.sweep(Line::File, false, square, occupied);
+    up.union(down).union(left.union(right))
+}
+
+#[tactic(auto, using(crate::proofs::Attackers::on_diagonals))]
+pub(crate) fn along_diagonals(
+    tables: &AttackTables,
+    square: Square,
+    occupied: SquareSet,
+) -> SquareSet
+    ensures { (k : ℕ) → k < 64 → has result k ≡ (not (k == square) && share_diagonal k square && is_open occupied square k) }
+{
+    let up = tables.sweep(Line::Diagonal, true, square, occupied);
+    let down = tables.sweep(Line::Diagonal, false, square, occupied);
+    let left = tables.sweep(Line::Antidiagonal, true, square, occupied);
+    let right = tables.sweep(Line::Antidiagonal, false, square, occupied);
+    up.union(down).union(left.union(right))
+}
+
+impl Kinds {
+    fn of(&self, kind: Kind) -> SquareSet
+        ensures { result ≡ slice_index self.now.sets (kind_number kind) }
+    {
+        self.sets[number(kind)]
+    }
+
+    /// These men, of that colour, that attack the square where those squares are occupied.
+    pub fn attackers(
+        &self,
+        tables: &AttackTables,
+        colour: Colour,
+        square: Square,
+        occupied: SquareSet,
+    ) -> SquareSet
+        ensures { (men : Men) → IsKinds self.now.sets colour men → IsOccupied occupied men → (k : ℕ) → k < 64 → has result k ≡ (is_of colour (man_at men k) && attacks men k square) }
+    {
+        let queens = self.of(Kind::Queen);
+        let lines = along_lines(tables, square, occupied)
+            .intersection(self.of(Kind::Rook).union(queens));
+        let diagonals = along_diagonals(tables, square, occupied)
+            .intersection(self.of(Kind::Bishop).union(queens));
+        let kings = tables
+            .at(Shape::King, square)
+            .intersection(self.of(Kind::King));
+        let knights = tables
+            .at(Shape::Knight, square)
+            .intersection(self.of(Kind::Knight));
+        let pawns = tables
+            .at(Shape::Pawn(colour.other()), square)
+            .intersection(self.of(Kind::Pawn));
+        lines
+            .union(diagonals)
+            .union(kings.union(knights))
+            .union(pawns)
+    }
+
+    /// Whether one of these men, of that colour, attacks the square where those squares are occupied.
+    #[tactic(auto, unfolding(chess_base::specs::Attacks::is_attacked))]
+    pub fn attacks(
+        &self,
+        tables: &AttackTables,
+        colour: Colour,
+        square: Square,
+        occupied: SquareSet,
+    ) -> bool
+        ensures { (men : Men) → IsKinds self.now.sets colour men → IsOccupied occupied men → result ≡ is_attacked men square colour }
+    {
+        !self.attackers(tables, colour, square, occupied).is_empty()
+    }
+
+    /// These men but for those on the squares of a set.
+    pub fn outside(&self, changed: SquareSet) -> Kinds
+        ensures { (c : Side) → (filled : ℕ) → (men : Men) → (later : Men) → IsKinds self.now.sets c men → IsLater changed filled c men later → IsKinds result.sets c later }
+    {
+        let sets = [
+            self.of(Kind::King).without(changed),
+            self.of(Kind::Queen).without(changed),
+            self.of(Kind::Rook).without(changed),
+            self.of(Kind::Bishop).without(changed),
+            self.of(Kind::Knight).without(changed),
+            self.of(Kind::Pawn).without(changed),
+        ];
+        Kinds { sets }
+    }
+}

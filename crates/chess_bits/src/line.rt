@@ -1,0 +1,36 @@
+ghost use Rattle.std.specs.Prelude.{◌≡◌};
+ghost use Rattle.chess_bits.specs.Rays.{line_number, is_on_ray};
+
+use chess_base::Square;
+
+/// The four kinds of lines on the board.
+#[derive(Clone, Copy, PartialEq, Eq)]
+pub enum Line {
+    Rank,
+    File,
+    Diagonal,
+    Antidiagonal,
+}
+
+fn line_number(line: Line, square: Square) -> u8
+    ensures { result ≡ line_number line square }
+{
+    match line {
+        Line::Rank => square.rank(),
+        Line::File => square.file(),
+        Line::Diagonal => square.rank() + 7 - square.file(),
+        Line::Antidiagonal => square.rank() + square.file(),
+    }
+}
+
+/// Whether x is on the line through a, above it in number or below it.
+pub(crate) fn is_on_ray(line: Line, up: bool, a: Square, x: Square) -> bool
+    ensures { result ≡ is_on_ray line up a x }
+{
+    line_number(line, a) == line_number(line, x)
+        && if up {
+            a.number() < x.number()
+        } else {
+            x.number() < a.number()
+        }
+}

@@ -1,0 +1,36 @@
+//! Where men reach.
+
+ghost use Rattle.std.specs.Prelude.{◌≡◌, ℕ, ◌<◌};
+ghost use Rattle.chess_base.specs.Attacks.{could_capture};
+ghost use Rattle.chess_base.specs.Men.{Men};
+ghost use Rattle.chess_bits.specs.Occupancy.{IsOccupied};
+ghost use Rattle.chess_moves.specs.Sets.{has};
+
+use crate::kinds::{along_diagonals, along_lines};
+use chess_moves::SquareSet;
+use crate::table::Shape;
+use crate::tables::AttackTables;
+use chess_base::{Colour, Kind, Square};
+
+/// The squares on which such a man could capture from a square, where those squares are occupied.
+#[tactic(auto, using(crate::proofs::Targets::king_from, crate::proofs::Targets::queen_from, crate::proofs::Targets::rook_from, crate::proofs::Targets::bishop_from, crate::proofs::Targets::knight_from, crate::proofs::Targets::pawn_from))]
+pub fn reached_from(
+    tables: &AttackTables,
+    occupied: SquareSet,
+    colour: Colour,
+    kind: Kind,
+    from: Square,
+) -> SquareSet
+    ensures { (men : Men) → IsOccupied occupied men → (k : ℕ) → k < 64 → has result k ≡ could_capture men colour kind from k }
+{
+    match kind {
+        Kind::King => tables.at(Shape::King, from),
+        Kind::Queen => along_lines(tables, from, occupied).union(along_diagonals(
+            tables, from, occupied,
+        )),
+        Kind::Rook => along_lines(tables, from, occupied),
+        Kind::Bishop => along_diagonals(tables, from, occupied),
+        Kind::Knight => tables.at(Shape::Knight, from),
+        Kind::Pawn => tables.at(Shape::Pawn(colour), from),
+    }
+}

@@ -1,0 +1,85 @@
+ghost use Rattle.std.specs.Prelude.{◌≡◌, ℕ, ◌<◌};
+ghost use Rattle.chess_moves.specs.Sets.{has};
+ghost use Rattle.chess_bits.specs.Shapes.{in_shape};
+
+use crate::line::{Line, is_on_ray};
+use chess_moves::SquareSet;
+use chess_base::{Colour, Square};
+use std::marker::Model;
+
+/// What a table of sets of squares is about: what a man attacks on an empty board, or a ray.
+#[derive(Clone, Copy, PartialEq, Eq)]
+pub enum Shape {
+    King,
+    Knight,
+    Pawn(Colour),
+    Ray(Line, bool),
+}
+
+#[tactic(auto, unfolding(crate::specs::Shapes::in_shape))]
+fn in_shape(shape: Shape, a: Square, b: Square) -> bool
+    ensures { result ≡ in_shape shape a b }
+{
+    let files = a.file().abs_diff(b.file());
+    let ranks = a.rank().abs_diff(b.rank());
+    match shape {
+        Shape::King => a != b && files <= 1 && ranks <= 1,
+        Shape::Knight => files == 1 && ranks == 2 || files == 2 && ranks == 1,
+        Shape::Pawn(Colour::White) => files == 1 && b.rank() == a.rank() + 1,
+        Shape::Pawn(Colour::Black) => files == 1 && a.rank() == b.rank() + 1,
+        Shape::Ray(line, up) => is_on_ray(line, up, a, b),
+    }
+}
+
+fn squares_of(shape: Shape, a: Square) -> SquareSet
+    ensures { (k : ℕ) → k < 64 → has result k ≡ in_shape shape a k }
+{
+    let mut set = SquareSet::empty();
+    for number in 0..64 {
+        let b = Square::new(number);
+        if in_shape(shape, a, b) {
+            set = set.union(SquareSet::single(b));
+        }
+    }
+    set
+}
+
+/// For each square the squares of a shape. It is seen as its shape.
+#[derive(Drop)]
+pub struct Table {
+    shape: Shape,
+    sets: [SquareSet; 64],
+}
+
+impl Model for Table {
+    ghost use Rattle.std.specs.Prelude.{◌≡◌, ℕ, ◌<◌, slice_index};
+    ghost use Rattle.chess_bits.specs.declared.table.Shape.{Shape};
+
+    ghost Value = { Shape };
+
+    ghost use Rattle.chess_moves.specs.Sets.{has};
+    ghost use Rattle.chess_bits.specs.Shapes.{in_shape};
+
+    ghost view = { λ t. t.shape };
+
+    ghost invariant = { λ t. (a k : ℕ) → a < 64 → k < 64 → has (slice_index t.sets a) k ≡ in_shape t.shape a k };
+}
+
+impl Table {
+    pub fn new(shape: Shape) -> Self
+        ensures { result ≡ shape }
+    {
+        let mut sets = [SquareSet::empty(); 64];
+        for number in 0..64 {
+            let a = Square::new(number);
+            sets[a.index()] = squares_of(shape, a);
+        }
+        Table { shape, sets }
+    }
+
+    pub fn at(&self, square: Square) -> SquareSet
+        ensures { (k : ℕ) → k < 64 → has result k ≡ in_shape self.now square k }
+    {
+        self.sets[square.index()]
+    }
+}

@@ -1,0 +1,114 @@
+ghost use Rattle.std.specs.Prelude.{◌≡◌, ℕ, ◌<◌, ◌&&◌, ◌||◌, true, false};
+ghost use Rattle.chess_moves.specs.Sets.{has, IsNearest};
+ghost use Rattle.chess_bits.specs.Shapes.{in_shape};
+ghost use Rattle.chess_bits.specs.Rays.{is_on_ray, is_open};
+ghost use Rattle.chess_bits.specs.declared.table.Shape.TheVariants.{King, Knight, Pawn, Ray};
+ghost use Rattle.chess_bits.specs.declared.line.Line.TheVariants.{Rank, File, Diagonal, Antidiagonal};
+ghost use Rattle.chess_base.specs.declared.man.Colour.TheVariants.{White, Black};
+
+use crate::line::Line;
+use chess_moves::SquareSet;
+use crate::table::{Shape, Table};
+use chess_base::{Colour, Square};
+use std::alloc::{AllocError, Global};
+
+#[derive(Drop)]
+struct Tables {
+    king: Table,
+    knight: Table,
+    white_pawn: Table,
+    black_pawn: Table,
+    rank_up: Table,
+    rank_down: Table,
+    file_up: Table,
+    file_down: Table,
+    diagonal_up: Table,
+    diagonal_down: Table,
+    antidiagonal_up: Table,
+    antidiagonal_down: Table,
+    ghost of_king: { king ≡ King },
+    ghost of_knight: { knight ≡ Knight },
+    ghost of_white_pawn: { white_pawn ≡ Pawn White },
+    ghost of_black_pawn: { black_pawn ≡ Pawn Black },
+    ghost of_rank_up: { rank_up ≡ Ray Rank true },
+    ghost of_rank_down: { rank_down ≡ Ray Rank false },
+    ghost of_file_up: { file_up ≡ Ray File true },
+    ghost of_file_down: { file_down ≡ Ray File false },
+    ghost of_diagonal_up: { diagonal_up ≡ Ray Diagonal true },
+    ghost of_diagonal_down: { diagonal_down ≡ Ray Diagonal false },
+    ghost of_antidiagonal_up: { antidiagonal_up ≡ Ray Antidiagonal true },
+    ghost of_antidiagonal_down: { antidiagonal_down ≡ Ray Antidiagonal false },
+}
+
+/// What the men attack on an empty board, and the rays.
+#[derive(Drop)]
+pub struct AttackTables {
+    tables: Box<Tables>,
+}
+
+impl AttackTables {
+    pub fn open(alloc: Global) -> Result<Self, AllocError> {
+        let tables = Tables {
+            king: Table::new(Shape::King),
+            knight: Table::new(Shape::Knight),
+            white_pawn: Table::new(Shape::Pawn(Colour::White)),
+            black_pawn: Table::new(Shape::Pawn(Colour::Black)),
+            rank_up: Table::new(Shape::Ray(Line::Rank, true)),
+            rank_down: Table::new(Shape::Ray(Line::Rank, false)),
+            file_up: Table::new(Shape::Ray(Line::File, true)),
+            file_down: Table::new(Shape::Ray(Line::File, false)),
+            diagonal_up: Table::new(Shape::Ray(Line::Diagonal, true)),
+            diagonal_down: Table::new(Shape::Ray(Line::Diagonal, false)),
+            antidiagonal_up: Table::new(Shape::Ray(Line::Antidiagonal, true)),
+            antidiagonal_down: Table::new(Shape::Ray(Line::Antidiagonal, false)),
+        };
+        Ok(AttackTables {
+            tables: Box::new(alloc, tables)?,
+        })
+    }
+
+    fn table(&self, shape: Shape) -> &Table
+        ensures { result.now ≡ shape }
+    {
+        let tables: &Tables = &self.tables;
+        match shape {
+            Shape::King => &tables.king,
+            Shape::Knight => &tables.knight,
+            Shape::Pawn(Colour::White) => &tables.white_pawn,
+            Shape::Pawn(Colour::Black) => &tables.black_pawn,
+            Shape::Ray(Line::Rank, true) => &tables.rank_up,
+            Shape::Ray(Line::Rank, false) => &tables.rank_down,
+            Shape::Ray(Line::File, true) => &tables.file_up,
+            Shape::Ray(Line::File, false) => &tables.file_down,
+            Shape::Ray(Line::Diagonal, true) => &tables.diagonal_up,
+            Shape::Ray(Line::Diagonal, false) => &tables.diagonal_down,
+            Shape::Ray(Line::Antidiagonal, true) => &tables.antidiagonal_up,
+            Shape::Ray(Line::Antidiagonal, false) => &tables.antidiagonal_down,
+        }
+    }
+
+    pub fn at(&self, shape: Shape, square: Square) -> SquareSet
+        ensures { (k : ℕ) → k < 64 → has result k ≡ in_shape shape square k }
+    {
+        self.table(shape).at(square)
+    }
+
+    /// The squares of a ray up to and with its first square in occupied.
+    #[tactic(auto, using(crate::proofs::Blockers::swept), unfolding(crate::specs::Shapes::in_shape))]
+    pub fn sweep(&self, line: Line, up: bool, from: Square, occupied: SquareSet) -> SquareSet
+        ensures { (k : ℕ) → k < 64 → has result k ≡ (is_on_ray line up from k && is_open occupied from k) }
+    {
+        let ray = self.table(Shape::Ray(line, up));
+        let all = ray.at(from);
+        let blockers = all.intersection(occupied);
+        if blockers.is_empty() {
+            return all;
+        }
+        let nearest = if up {
+            blockers.first()
+        } else {
+            blockers.last()
+        };
+        all.without(ray.at(nearest))
+    }
+}

@@ -1,0 +1,20 @@
+-- Where a move may be played, the game is not over, there is room, and the move is legal.
+use Rattle.std.proofs.Common.{◌≡◌, Bool, true, false, not, None, Some, refl, if◌then◌else◌}
+use Rattle.chess_base.specs.declared.man.Move.{Move}
+use Rattle.chess_base.specs.Moves.{is_legal}
+use Rattle.chess_game.specs.Game.{Seen, current, is_over, is_full, play_refusal}
+use Rattle.chess_game.specs.declared.game.PlayRefusal.TheVariants.{Over, TooLong, Illegal}
+
+pub record MayPlay (o f l : Bool) : Type 0 where
+  pub on : o ≡ false
+  pub room : f ≡ false
+  pub legal : l ≡ true
+
+by_tests : (o f l : Bool) → (if o then Some Over else if f then Some TooLong else if not l then Some Illegal else None) ≡ None → MayPlay o f l
+by_tests true f l h = absurd cc
+by_tests false true l h = absurd cc
+by_tests false false false h = absurd cc
+by_tests false false true h = record { on = refl; room = refl; legal = refl }
+
+pub may_play : (g : Seen) (m : Move) → play_refusal g m ≡ None → MayPlay (is_over g.state) (is_full g) (is_legal (current g.state) m)
+may_play g m h = by_tests (is_over g.state) (is_full g) (is_legal (current g.state) m) h

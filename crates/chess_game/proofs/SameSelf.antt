@@ -1,0 +1,46 @@
+-- A position is the same as itself.
+use Rattle.std.proofs.Common.{◌≡◌, ℕ, zero, suc, Bool, true, Option, None, Some, cond, refl}
+use Rattle.std.proofs.lemmas.Bool.{and_from, eq-eqb}
+use Rattle.chess_base.specs.declared.man.Colour.{Colour}
+use Rattle.chess_base.specs.declared.man.Colour.TheVariants.{White, Black}
+use Rattle.chess_base.specs.declared.man.Man.{Man}
+use Rattle.chess_base.specs.declared.man.Rights.{Rights}
+use Rattle.chess_base.specs.declared.man.ColourRights.{ColourRights}
+use Rattle.chess_base.specs.declared.setup.Setup.{Setup}
+use Rattle.chess_base.specs.Men.{Men, man_at, same_colour, kind_number}
+use Rattle.chess_base.specs.Squares.{each_below, each_square}
+use Rattle.chess_game.specs.Same.{same, same_man, same_men, same_square, same_colour_rights, same_rights, live_target}
+
+colour_self : (c : Colour) → same_colour c c ≡ true
+colour_self White = refl
+colour_self Black = refl
+
+man_self : (o : Option Man) → same_man o o ≡ true
+man_self None = refl
+man_self (Some x) = and_from _ _ (colour_self x.colour) (eq-eqb (kind_number x.kind) (kind_number x.kind) refl)
+
+each_below-all : (n : ℕ) (f : ℕ → Bool) → ((k : ℕ) → f k ≡ true) → each_below n f ≡ true
+each_below-all zero f h = refl
+each_below-all (suc n) f h = and_from _ _ (each_below-all n f h) (h n)
+
+men_self : (men : Men) → same_men men men ≡ true
+unfolding same_men each_square
+men_self men = each_below-all 64 (λ s. same_man (man_at men s) (man_at men s)) (λ k. man_self (man_at men k))
+
+square_self : (o : Option ℕ) → same_square o o ≡ true
+square_self None = refl
+square_self (Some s) = eq-eqb s s refl
+
+rights_of_self : (r : ColourRights) → same_colour_rights r r ≡ true
+rights_of_self r = and_from _ _ (square_self r.king_side) (square_self r.queen_side)
+
+rights_self : (r : Rights) → same_rights r r ≡ true
+unfolding same_rights
+rights_self r = and_from _ _ (rights_of_self r.white) (rights_of_self r.black)
+
+pub same_self : (p : Setup) → same p p ≡ true
+unfolding same
+same_self p = and_from _ _ (and_from _ _ (and_from _ _ (colour_self p.side) (men_self p.men)) (rights_self p.rights)) (square_self (live_target p))
+
+pub met : (p q : Setup) → p ≡ q → ◌≡◌ {A = ℕ} 1 (cond (same p q) 1 0)
+met p q e = rw (← e, same_self p) refl

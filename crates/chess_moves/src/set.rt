@@ -1,0 +1,126 @@
+//! Sets of squares.
+
+ghost use Rattle.std.specs.Prelude.{◌≡◌, ℕ, ◌<◌, ◌&&◌, ◌||◌, not, ◌==◌, true, false, MatchOption, [], ◌∷◌};
+ghost use Rattle.chess_base.specs.Squares.{some_square};
+ghost use Rattle.chess_moves.specs.Sets.{has, IsNearest, members};
+
+use chess_base::Square;
+use std::marker::Model;
+
+/// A set of squares. In contracts it is the word in which the bit of each of its squares is 1, a1's the lowest.
+#[derive(Clone, Copy)]
+pub struct SquareSet {
+    word: u64,
+}
+
+impl Model for SquareSet {
+    ghost use Rattle.std.specs.Prelude.{ℕ};
+
+    ghost Value = { ℕ };
+
+    ghost view = { λ s. s.word };
+
+    ghost inverse = { λ w. record { word = w } };
+}
+
+impl SquareSet {
+    /// No square.
+    #[tactic(auto, using(crate::proofs::Words::has_zero))]
+    pub const fn empty() -> Self
+        ensures { (k : ℕ) → has result k ≡ false }
+    {
+        SquareSet { word: 0 }
+    }
+
+    /// That square alone.
+    #[tactic(auto, using(crate::proofs::Words::has_single))]
+    pub fn single(square: Square) -> Self
+        ensures value { (k : ℕ) → has result k ≡ (k == square) }
+        ensures in_range { square < 64 }
+    {
+        SquareSet {
+            word: 1 << square.number(),
+        }
+    }
+
+    /// Whether the square is in the set.
+    #[tactic(auto, using(crate::proofs::Words::has_shr))]
+    pub fn contains(self, square: Square) -> bool
+        ensures { result ≡ has self square }
+    {
+        (self.word >> square.number()) & 1 == 1
+    }
+
+    /// Whether no square is in the set.
+    #[tactic(auto, using(crate::proofs::Words::empty_is))]
+    pub fn is_empty(self) -> bool
+        ensures zero { result ≡ (self == 0) }
+        ensures none { result ≡ not (some_square (λ k. has self k)) }
+    {
+        self.word == 0
+    }
+
+    /// The squares of either set.
+    #[tactic(auto, using(crate::proofs::Words::has_or))]
+    pub fn union(self, other: Self) -> Self
+        ensures { (k : ℕ) → has result k ≡ (has self k || has other k) }
+    {
+        SquareSet {
+            word: self.word | other.word,
+        }
+    }
+
+    /// The squares of both sets.
+    #[tactic(auto, using(crate::proofs::Words::has_and))]
+    pub fn intersection(self, other: Self) -> Self
+        ensures { (k : ℕ) → has result k ≡ (has self k && has other k) }
+    {
+        SquareSet {
+            word: self.word & other.word,
+        }
+    }
+
+    /// The squares of this set that are not in the other.
+    #[tactic(auto, using(crate::proofs::Words::has_minus))]
+    pub fn without(self, other: Self) -> Self
+        ensures { (k : ℕ) → k < 64 → has result k ≡ (has self k && not (has other k)) }
+    {
+        SquareSet {
+            word: self.word & !other.word,
+        }
+    }
+
+    /// The lowest square of a set that has one.
+    #[tactic(auto, using(crate::proofs::Words::first_of))]
+    pub fn first(self) -> Square
+        requires { 0 < self }
+        ensures nearest { IsNearest true self result }
+        ensures in_range { result < 64 }
+    {
+        Square::new(self.word.trailing_zeros() as u8)
+    }
+
+    /// The highest square of a set that has one.
+    #[tactic(auto, using(crate::proofs::Words::last_of))]
+    pub fn last(self) -> Square
+        requires { 0 < self }
+        ensures nearest { IsNearest false self result }
+        ensures in_range { result < 64 }
+    {
+        Square::new((63 - self.word.leading_zeros()) as u8)
+    }
+
+    /// Takes the lowest square out; `None` where none is left.
+    #[tactic(auto, using(crate::proofs::Members::members_none, crate::proofs::Members::members_first))]
+    pub fn take_first(&mut self) -> Option<Square>
+        ensures { MatchOption result (members self.old ≡ []) (λ s. members self.old ≡ s ∷ members self.new) }
+    {
+        let set = *self;
+        if set.is_empty() {
+            return None;
+        }
+        let first = set.first();
+        *self = set.without(SquareSet::single(first));
+        Some(first)
+    }
+}

@@ -1,0 +1,200 @@
+-- Where the moves begin that a form spells.
+use Rattle.std.proofs.Common.{◌≡◌, ℕ, ◌+◌, ◌*◌, ◌/◌, ◌%◌, ◌<◌, ◌≤◌, inl, inr, true, false, ◌&&◌, ◌||◌, ◌==◌, nat_lt, Option, Some, None, List, [], ◌∷◌, ◌++◌, length, refl, sym, ap, ◌∙◌, append-nil, append_assoc, arith}
+use Rattle.std.specs.Prelude.{is_none}
+use Rattle.std.specs.List.{filter, flat_map}
+use Rattle.std.proofs.lemmas.List.Sums.{length-filter, count_by-le-length}
+use Rattle.std.proofs.lemmas.Bool.Decides.{nat_tests}
+use Rattle.std.proofs.lemmas.Bool.{and_parts, false_from_ne_true, or_cases, eq-eqb, eqb-true}
+use Rattle.chess_base.specs.declared.man.CastlingSide.{CastlingSide}
+use Rattle.chess_base.specs.declared.man.Kind.{Kind}
+use Rattle.chess_base.specs.declared.man.Kind.TheVariants.{King, Queen, Rook, Bishop, Knight, Pawn}
+use Rattle.chess_base.specs.declared.man.Colour.{Colour}
+use Rattle.chess_base.specs.declared.man.Colour.TheVariants.{White, Black}
+use Rattle.chess_base.specs.declared.man.Man.{Man}
+use Rattle.chess_base.specs.declared.man.Move.{Move}
+use Rattle.chess_base.specs.declared.setup.Setup.{Setup}
+use Rattle.chess_base.specs.Squares.{file, rank}
+use Rattle.chess_base.specs.Men.{man_at, is_man, same_kind, same_colour}
+use Rattle.chess_base.specs.Moves.{is_legal}
+use Rattle.chess_base.specs.MoveList.{promotions, triple, squares, moves}
+use Rattle.chess_moves.specs.Sets.{has, members, HasOrigins}
+use Rattle.chess_moves.proofs.Members.{flat_map_members}
+use Rattle.chess_text.specs.declared.described.Described.{Described}
+use Rattle.chess_text.specs.declared.form.Form.{Form}
+use Rattle.chess_text.specs.declared.form.Form.TheVariants.{Castling, Walk}
+use Rattle.chess_text.specs.declared.parts.Parts.{Parts}
+use Rattle.chess_text.specs.Moves.{described, described_as, names, admits, is_by_squares, is_by_letter, is_straight, is_from_file, fits, passes}
+use Rattle.chess_text.specs.Forms.{same_side, form_fits, is_spelled, end_of, spelled_with, named_square, IsStart}
+use Rattle.chess_text.proofs.Alone.{castled}
+use Rattle.chess_text.proofs.AllMoves.{none-kept}
+use Rattle.chess_text.proofs.Legal.{castling_says, legal_move, IsMove, told_of, described_is}
+use Rattle.chess_text.proofs.SpelledMoves.{spelled_ends, all_spelled}
+
+-- the man of a legal move, as a test
+pub man_is : (p : Setup) (m : Move) (h : IsMove p m) (k : Kind) → same_kind k h.man ≡ true → is_man p.side k (man_at p.men m.from) ≡ true
+unfolding is_man
+man_is p m h k e = rw h.at_from (by_colour p.side e)
+  where
+    by_colour : (c : Colour) → same_kind k h.man ≡ true → (same_colour c c && same_kind k h.man) ≡ true
+    by_colour White e = e
+    by_colour Black e = e
+
+-- what is described of a legal move that is spelled
+pub fits_told : (p : Setup) (q : Parts) (m : Move) (h : IsMove p m) → is_spelled (Walk q) p m ≡ true → fits q (told_of p m h.man) ≡ true
+unfolding is_spelled
+fits_told p q m h e = rw (described_is p m h) at e
+
+-- ---- by the form
+
+no_men : (k : Kind) → same_kind k k ≡ true
+no_men King = refl
+no_men Queen = refl
+no_men Rook = refl
+no_men Bishop = refl
+no_men Knight = refl
+no_men Pawn = refl
+
+-- a square by its file and rank
+square_by : (s : ℕ) → 8 * (s / 8) + s % 8 ≡ s
+square_by s = omega arith
+
+named_is : (f r : Option ℕ) (s : ℕ) → s < 64 → names f (file s) ≡ true → names r (rank s) ≡ true → named_square f r ≡ Some s
+named_is None r s h e g = cc
+named_is (Some f) None s h e g = cc
+named_is (Some f) (Some r) s h e g =
+    let f' : f ≡ s % 8 = eqb-true f (s % 8) e in
+    let r' : r ≡ s / 8 = eqb-true r (s / 8) g in
+    let low : nat_lt f 8 ≡ true = grind (arith, nat_tests, f') in
+    let low' : nat_lt r 8 ≡ true = grind (arith, nat_tests, r', h) in
+    rw (low, low') (ap Some (rw (f', r') (square_by s)))
+
+-- what the parts say where they name a letter, a square, or neither
+letter_fits : (q : Parts) (d : Described) (k : Kind) → q.letter ≡ Some k → fits q d ≡ true → same_kind k d.man ≡ true
+unfolding fits is_by_squares is_by_letter is_straight is_from_file
+letter_fits q d k at h = grind (arith, nat_tests, at, h)
+
+-- without a letter: by its two coordinates, or as a pawn
+data NoLetter (q : Parts) (d : Described) : Type 0 where
+  BySquares : names q.file (file d.from) ≡ true → names q.rank (rank d.from) ≡ true → NoLetter q d
+  ByFile : names q.file (file d.from) ≡ true → admits q.rank (rank d.from) ≡ true → same_kind Pawn d.man ≡ true → NoLetter q d
+  Straight : q.file ≡ None → same_kind Pawn d.man ≡ true → NoLetter q d
+
+none_is : (f : Option ℕ) → is_none f ≡ true → f ≡ None
+none_is None e = refl
+none_is (Some x) e = cc
+
+squares_named : (q : Parts) (d : Described) → is_by_squares q d ≡ true → NoLetter q d
+unfolding is_by_squares
+squares_named q d h = BySquares (grind (arith, nat_tests, h)) (grind (arith, nat_tests, h))
+
+file_named : (q : Parts) (d : Described) → is_from_file q d ≡ true → NoLetter q d
+unfolding is_from_file
+file_named q d h = ByFile (grind (arith, nat_tests, h)) (grind (arith, nat_tests, h)) (grind (arith, nat_tests, h))
+
+straight_named : (q : Parts) (d : Described) → is_straight q d ≡ true → NoLetter q d
+unfolding is_straight
+straight_named q d h = Straight (none_is q.file (grind (arith, nat_tests, h))) (grind (arith, nat_tests, h))
+
+letter_named : (q : Parts) (d : Described) → q.letter ≡ None → is_by_letter q d ≡ true → NoLetter q d
+unfolding is_by_letter
+letter_named q d at h = absurd (grind (arith, nat_tests, at, h))
+
+no_letter : (q : Parts) (d : Described) → q.letter ≡ None → fits q d ≡ true → NoLetter q d
+unfolding fits
+no_letter q d at h =
+    elim (or_cases (is_by_squares q d || is_by_letter q d || is_straight q d) (is_from_file q d) h) [
+      | inr e ↦ file_named q d e
+      | inl three ↦ elim (or_cases (is_by_squares q d || is_by_letter q d) (is_straight q d) three) [
+        | inr e ↦ straight_named q d e
+        | inl two ↦ elim (or_cases (is_by_squares q d) (is_by_letter q d) two) [
+          | inl e ↦ squares_named q d e
+          | inr e ↦ letter_named q d at e
+        ]
+      ]
+    ]
+
+-- ---- the sets
+
+pub by_letter : (p : Setup) (q : Parts) (k : Kind) (w : ℕ) → q.letter ≡ Some k → HasOrigins p k q.end.to w → IsStart p (Walk q) w
+by_letter p q k w at origins = λ m spelled legal.
+    let h = legal_move p m legal in
+    origins m legal (man_is p m h k (letter_fits q (told_of p m h.man) k at (fits_told p q m h spelled))) (spelled_ends (Walk q) p m spelled)
+
+some_is : (f r : Option ℕ) (s t : ℕ) → named_square f r ≡ Some s → named_square f r ≡ Some t → s ≡ t
+some_is f r s t e g = cc
+
+rank_named : (f r : Option ℕ) (s n : ℕ) → named_square f r ≡ Some s → admits r n ≡ true → names r n ≡ true
+rank_named None r s n e h = cc
+rank_named (Some f) None s n e h = cc
+rank_named (Some f) (Some r) s n e h = h
+
+file_there : (f r : Option ℕ) (s : ℕ) → named_square f r ≡ Some s → f ≡ None → (A : Type 0) → A
+file_there None r s e n A = absurd cc
+file_there (Some f) r s e n A = absurd cc
+
+pub by_squares : (p : Setup) (q : Parts) (s w : ℕ) → q.letter ≡ None → named_square q.file q.rank ≡ Some s → ((k : ℕ) → has w k ≡ (k == s)) → IsStart p (Walk q) w
+by_squares p q s w at square single = λ m spelled legal.
+    let h = legal_move p m legal in
+    let here : m.from ≡ s = from_square m.from h.from_in (told_of p m h.man) refl (no_letter q (told_of p m h.man) at (fits_told p q m h spelled)) in
+    single m.from ∙ eq-eqb m.from s here
+  where
+    from_square : (a : ℕ) → a < 64 → (d : Described) → d.from ≡ a → NoLetter q d → a ≡ s
+    from_square a low d e (BySquares f r) = some_is q.file q.rank a s (named_is q.file q.rank a low (rw e at f) (rw e at r)) square
+    from_square a low d e (ByFile f r k) = some_is q.file q.rank a s (named_is q.file q.rank a low (rw e at f) (rank_named q.file q.rank s (rank a) square (rw e at r))) square
+    from_square a low d e (Straight n k) = file_there q.file q.rank s square n (a ≡ s)
+
+pub by_pawn : (p : Setup) (q : Parts) (w : ℕ) → q.letter ≡ None → named_square q.file q.rank ≡ None → HasOrigins p Pawn q.end.to w → IsStart p (Walk q) w
+by_pawn p q w at square origins = λ m spelled legal.
+    let h = legal_move p m legal in
+    origins m legal (man_is p m h Pawn (is_pawn m.from h.from_in (told_of p m h.man) refl (no_letter q (told_of p m h.man) at (fits_told p q m h spelled)))) (spelled_ends (Walk q) p m spelled)
+  where
+    is_pawn : (a : ℕ) → a < 64 → (d : Described) → d.from ≡ a → NoLetter q d → same_kind Pawn d.man ≡ true
+    is_pawn a low d e (BySquares f r) = let there = named_is q.file q.rank a low (rw e at f) (rw e at r) in absurd cc
+    is_pawn a low d e (ByFile f r k) = k
+    is_pawn a low d e (Straight n k) = k
+
+king_by : (v : CastlingSide) (p : Setup) (m : Move) (o : Option Man) → passes (form_fits (Castling v)) (described_as p m o) ≡ true → is_man p.side King (man_at p.men m.from) ≡ true
+king_by v p m None h = cc
+king_by v p m (Some x) h = let c = castled (same_side v) _ h in (castling_says p m c.0 c.1).0
+
+king_spelled : (v : CastlingSide) (p : Setup) (m : Move) → is_spelled (Castling v) p m ≡ true → is_man p.side King (man_at p.men m.from) ≡ true
+unfolding is_spelled described
+king_spelled v p m h = king_by v p m (man_at p.men m.from) h
+
+pub by_castling : (p : Setup) (v : CastlingSide) (to w : ℕ) → to ≡ end_of (Castling v) p → HasOrigins p King to w → IsStart p (Castling v) w
+by_castling p v to w there origins = λ m spelled legal. origins m legal (king_spelled v p m spelled) (spelled_ends (Castling v) p m spelled ∙ sym there)
+
+-- ---- the list over a set
+
+pub spelled_from : (form : Form) (p : Setup) (w : ℕ) → IsStart p form w
+    → flat_map (λ a. spelled_with form p a (end_of form p) promotions) (members w) ≡ filter (λ m. is_spelled form p m) (moves p)
+spelled_from form p w start = flat_map_members _ w (λ k low out. none_there k out) ∙ all_spelled form p
+  where
+    none_there : (k : ℕ) → has w k ≡ false → spelled_with form p k (end_of form p) promotions ≡ []
+    none_there k out =
+        none-kept (λ m. is_spelled form p m && is_legal p m) k (end_of form p)
+        (λ x. false_from_ne_true (is_spelled form p (triple k (end_of form p) x) && is_legal p (triple k (end_of form p) x))
+        (λ e. let both = and_parts (is_spelled form p (triple k (end_of form p) x)) (is_legal p (triple k (end_of form p) x)) e in
+        let there : has w k ≡ true = start (triple k (end_of form p) x) both.0 both.1 in
+        cc))
+
+-- one square more
+pub more_spelled : {A : Type 0} (f : ℕ → List A) (now next whole : List A) (s : ℕ) (ms ns : List ℕ) → ms ≡ s ∷ ns → now ++ flat_map f ms ≡ whole → next ≡ now ++ f s → next ++ flat_map f ns ≡ whole
+more_spelled f now next whole s ms ns e h n = rw n (append_assoc now (f s) (flat_map f ns) ∙ (rw e at h))
+
+-- no square is left
+pub last_spelled : {A : Type 0} (f : ℕ → List A) (now whole : List A) (ms : List ℕ) → ms ≡ [] → now ++ flat_map f ms ≡ whole → now ≡ whole
+last_spelled f now whole ms e h = sym (append-nil now) ∙ (rw e at h)
+
+-- a set has at most 64 squares
+sixty_four : length squares ≡ 64
+unfolding squares
+sixty_four = refl
+
+pub members_few : (w : ℕ) → length (members w) ≤ 64
+unfolding members
+members_few w =
+    let counted = length-filter (λ k. has w k) squares in
+    let few = count_by-le-length (λ k. has w k) squares in
+    let all = sixty_four in
+    omega (arith, counted, few, all)
