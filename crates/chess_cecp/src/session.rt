@@ -2,6 +2,7 @@
 
 ghost use Rattle.std.specs.Prelude.{◌≡◌, ◌≤◌, [], if◌then◌else◌, IfOk, false, length, codes};
 ghost use Rattle.chess_base.specs.Devices.{Puts};
+ghost use Rattle.chess_base.specs.MoveList.{moves};
 ghost use Rattle.chess_base.specs.Reading.{fen_reading_as};
 ghost use Rattle.chess_base.specs.Writing.{fen};
 ghost use Rattle.chess_game.specs.Game.{current, is_over, IsPlayable};
@@ -9,7 +10,7 @@ ghost use Rattle.chess_cecp.specs.Held.{opened, game_of};
 ghost use Rattle.chess_pgn.specs.GameText.{pgn};
 ghost use Rattle.chess_game.specs.Results.{cut_comment};
 ghost use Rattle.chess_cecp.specs.Declaring.{declared_by};
-ghost use Rattle.chess_cecp.specs.Session.{row, move_row, undo_row, remove_row, result_row, draws, claim_row, setboard_row, normal_row, variant_row, stands, next_state, answer_to, is_quit, is_quit_command, shows_pgn, asks_for_pgn, line_text};
+ghost use Rattle.chess_cecp.specs.Session.{row, move_row, undo_row, remove_row, result_row, draws, claim_row, setboard_row, normal_row, variant_row, stands, next_state, answer_to, is_quit, is_quit_command, shows_pgn, asks_for_pgn, line_text, moves_line};
 
 use crate::answer::{
     Answer, write_features, write_illegal_position, write_line, write_moves, write_pong,
@@ -239,6 +240,16 @@ impl<B: Board> Session<B> {
         write_line(answer, b"# fen ", fen.as_slice());
     }
 
+    // Lists the legal moves. The list is large, so only the lines that ask for it pay for its place.
+    #[inline(never)]
+    fn show_moves(&self, answer: &mut Answer)
+        requires { answer.old.items ≡ [] }
+        ensures { answer.new.items ≡ moves_line (current self.now.state) (moves (current self.now.state)) }
+    {
+        let moves = self.game.board().legal_moves();
+        write_moves(answer, &self.game.position(), moves.as_slice());
+    }
+
     // Does what a row of the table says.
     fn obey(&mut self, command: Command, text: &[u8], argument: &[u8], answer: &mut Answer)
         requires short { length text.now ≤ 1024 }
@@ -266,11 +277,7 @@ impl<B: Board> Session<B> {
             Command::Variant => self.change_variant(text, argument, answer),
             Command::Go => write_line(answer, b"Error (the arbiter plays no side): ", b"go"),
             Command::ShowFen => self.show_fen(answer),
-            Command::ShowMoves => write_moves(
-                answer,
-                &self.game.position(),
-                self.game.board().legal_moves().as_slice(),
-            ),
+            Command::ShowMoves => self.show_moves(answer),
             Command::ShowState => write_state(answer, &self.game),
             Command::Quit | Command::Silent => {}
             Command::ShowPgn => unreachable!(),
