@@ -29,4 +29,5 @@ pub mod SpelledRights
 pub mod SpelledFields
 pub mod SpelledFen
 pub mod NormalKept
+pub mod MovesRise
 pub mod WrittenFen
