@@ -13,3 +13,4 @@ pub mod CoordinateLaw
 pub mod Solid
 pub mod Words
 pub mod SanLaw
+pub mod NormalTexts
