@@ -10,3 +10,5 @@ pub mod GameRead
 pub mod GameSteps
 pub mod GameText
 pub mod PgnLaw
+pub mod Retold
+pub mod Normal

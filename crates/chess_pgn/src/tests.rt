@@ -1,4 +1,7 @@
-use crate::laws::{lines_are_filled, pgn_is_read_back};
+use crate::laws::{
+    games_are_in_filled_lines, games_are_of_tokens, lines_are_filled, normal_is_kept,
+    pgn_is_read_back,
+};
 use crate::lines::LineWriter;
 use crate::tag::Tag;
 use crate::tag_lines::put_tags;
@@ -287,6 +290,9 @@ fn in_lines(alloc: Global, prefix: &[u8], text: &[u8]) -> Result<Vec<u8>, Fail> 
 #[test]
 fn tokens_fill_lines(rt: HostRuntime) -> Result<(), Fail> {
     lines_are_filled();
+    games_are_in_filled_lines();
+    games_are_of_tokens();
+    normal_is_kept();
     pgn_is_read_back();
     // The first line has 79 bytes.
     assert_eq!(rt;
