@@ -4,7 +4,7 @@ use Rattle.std.proofs.lemmas.List.{length-take-le}
 use Rattle.std.specs.Io.KnownBytes.{Consumes}
 use Rattle.chess_base.specs.Devices.{InputState, GavePiece, FailedToRead, risen}
 use Rattle.chess_base.proofs.DeviceLaws.{consumes_more, consumes_none, consumes_kept}
-use Rattle.chess_arbiter.specs.declared.program.ProgramFault.TheVariants.{ReadFailed, InputTooLong}
+use Rattle.chess_arbiter.specs.declared.program.ProgramFault.TheVariants.{ReadFailed, NoMemory, InputTooLong}
 use Rattle.chess_arbiter.specs.Verify.{IsFront, IsAll, BrokeOff, IsNotHad}
 
 -- nothing was read
@@ -50,6 +50,10 @@ more_read r r' r'' text buf n front gave some within = record {
   failures = gave.failures ∙ front.failures;
   ends = not_ended r''.end_count r'.end_count n buf some within gave.ends ∙ front.ends;
 }
+
+-- there was no memory for a piece more
+pub no_room : (r r' r'' : InputState) (text buf : List ℕ) (n : ℕ) → IsFront r r' text → GavePiece r' r'' (take n buf) → 0 < n → n ≤ length buf → IsNotHad r r'' NoMemory
+no_room r r' r'' text buf n front gave some within = (text ++ take n buf, more_read r r' r'' text buf n front gave some within)
 
 -- there are too many bytes
 pub too_long : (r r' r'' : InputState) (text buf : List ℕ) (n len : ℕ) → IsFront r r' text → GavePiece r' r'' (take n buf) → len ≡ length text
