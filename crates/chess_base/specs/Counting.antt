@@ -1,5 +1,5 @@
 -- What `Counted` makes of its device's answers.
-use Rattle.std.specs.Prelude.{◌≡◌, ℕ, ◌+◌, ◌==◌, ◌&&◌, nat_lt, if◌then◌else◌, Result, Ok, Err}
+use Rattle.std.specs.Prelude.{ℕ, ◌+◌, ◌==◌, ◌&&◌, nat_lt, if◌then◌else◌, Result, Ok, Err}
 use Rattle.chess_base.specs.Devices.{risen}
 use Rattle.chess_base.specs.declared.device.counted.Counts.{Counts}
 
