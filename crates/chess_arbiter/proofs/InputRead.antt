@@ -5,7 +5,7 @@ use Rattle.std.specs.Io.KnownBytes.{Consumes}
 use Rattle.chess_base.specs.Devices.{InputState, GavePiece, FailedToRead, risen}
 use Rattle.chess_base.proofs.DeviceLaws.{consumes_more, consumes_none, consumes_kept}
 use Rattle.chess_arbiter.specs.declared.program.ProgramFault.TheVariants.{ReadFailed, NoMemory, InputTooLong}
-use Rattle.chess_arbiter.specs.Verify.{IsFront, IsAll, BrokeOff, IsNotHad}
+use Rattle.chess_arbiter.specs.Verify.{IsFront, IsAll, IsNotHad}
 
 -- nothing was read
 pub nothing_read : (r : InputState) → IsFront r r []

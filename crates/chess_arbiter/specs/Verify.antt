@@ -1,7 +1,7 @@
 -- What verifying games reads, and what it tells of them.
 use Rattle.std.specs.Prelude.{◌≡◌, ◌≤◌, ◌<◌, ◌⊎◌, ℕ, ◌+◌, List, [], ◌∷◌, ◌++◌, length, codes, decimal, Option, Some, None, Result, Ok, Err}
 use Rattle.std.specs.Io.KnownBytes.{Consumes, IsAtEnd}
-use Rattle.chess_base.specs.Devices.{InputState, OutputState, Took, BreaksOff, risen}
+use Rattle.chess_base.specs.Devices.{InputState, OutputState, Took, Sent, BreaksOff, risen}
 use Rattle.chess_game.specs.Results.{outcome_text}
 use Rattle.chess_pgn.specs.declared.read.PgnFaultKind.{PgnFaultKind}
 use Rattle.chess_pgn.specs.declared.read.PgnFaultKind.TheVariants.{BadTag, BadFen, BadToken, IllegalMove, AmbiguousMove, AfterEnd, TooLong, UnclosedComment, UnclosedVariation, NoResult}
@@ -113,15 +113,20 @@ abbrev pub Told : {E : Type 0} → List ℕ → OutputState → OutputState → 
 Told text w w' (Ok told) = (reports : List Report) × AreReports All text 0 reports × (told ≡ verified reports) × Took w w' (report_lines 1 reports)
 Told text w w' (Err e) = (reports : List Report) × AreReports First text 0 reports × BreaksOff w w' (report_lines 1 reports)
 
+-- and then the lines were flushed
+abbrev pub HandedOn : {E : Type 0} → List ℕ → OutputState → OutputState → Result Verified E → Type 0
+HandedOn text w w' (Ok told) = (reports : List Report) × AreReports All text 0 reports × (told ≡ verified reports) × Sent w w' (report_lines 1 reports)
+HandedOn text w w' (Err e) = Told text w w' (Err e)
+
 -- there was no memory for the input, or none for a game once all of it was read
 abbrev pub LacksMemory : InputState → InputState → Type 0
 LacksMemory r r' = IsNotHad r r' NoMemory ⊎ ((text : List ℕ) × IsAll r r' text)
 
--- all of the input was read, and the reports on its games were told; without all of it, or without memory, nothing was
+-- all of the input was read, and the reports on its games were told and flushed; without all of it, or without memory, nothing was
 abbrev pub Verifies : InputState → InputState → OutputState → OutputState → Result Verified ProgramFault → Type 0
-Verifies r r' w w' (Ok told) = (text : List ℕ) × IsAll r r' text × Told {E = ProgramFault} text w w' (Ok told)
+Verifies r r' w w' (Ok told) = (text : List ℕ) × IsAll r r' text × HandedOn {E = ProgramFault} text w w' (Ok told)
 Verifies r r' w w' (Err ReadFailed) = IsNotHad r r' ReadFailed × (w' ≡ w)
-Verifies r r' w w' (Err WriteFailed) = (text : List ℕ) × IsAll r r' text × Told text w w' (Err WriteFailed)
+Verifies r r' w w' (Err WriteFailed) = (text : List ℕ) × IsAll r r' text × HandedOn text w w' (Err WriteFailed)
 Verifies r r' w w' (Err NoMemory) = LacksMemory r r' × (w' ≡ w)
 Verifies r r' w w' (Err InputTooLong) = IsNotHad r r' InputTooLong × (w' ≡ w)
 Verifies r r' w w' (Err WrongWords) = ⊥

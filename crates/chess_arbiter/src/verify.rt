@@ -3,7 +3,7 @@
 ghost use Rattle.std.specs.Prelude.{◌≡◌, ◌≤◌, ◌+◌, ◌++◌, IfOk, IfErr, length, decimal};
 ghost use Rattle.arrayvec.specs.ArrayVec.{array_vec_len};
 ghost use Rattle.chess_base.specs.Devices.{Puts};
-ghost use Rattle.chess_arbiter.specs.Verify.{IsAll, IsNotHad, fault_name, told_termination, report_text, report_line, Told, Verifies};
+ghost use Rattle.chess_arbiter.specs.Verify.{IsAll, IsNotHad, fault_name, told_termination, report_text, report_line, Told, HandedOn, Verifies};
 
 use crate::program::ProgramFault;
 use arrayvec::ArrayVec;
@@ -199,7 +199,7 @@ fn tell_games<W: Output>(
 ) -> Result<Verified, WriteFault>
     requires few { length text.now ≤ 16777216 }
     requires limit { game.old.limit ≡ 20000 }
-    ensures { Told text.now (W.seen output.old) (W.seen output.new) result }
+    ensures { HandedOn text.now (W.seen output.old) (W.seen output.new) result }
 {
     let verified = tell_each(text, game, output)?;
     output.flush()?;

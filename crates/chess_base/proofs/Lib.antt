@@ -17,6 +17,7 @@ pub mod InitialIsSound
 pub mod Lengths
 pub mod RanksText
 pub mod DeviceLaws
+pub mod Unflushed
 pub mod Ranks
 pub mod Splits
 pub mod Placements

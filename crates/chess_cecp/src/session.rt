@@ -1,7 +1,7 @@
 //! A session: one game, and the answers to lines.
 
 ghost use Rattle.std.specs.Prelude.{◌≡◌, ◌≤◌, [], if◌then◌else◌, IfOk, false, length, codes};
-ghost use Rattle.chess_base.specs.Devices.{Puts};
+ghost use Rattle.chess_base.specs.Devices.{Sends};
 ghost use Rattle.chess_base.specs.MoveList.{moves};
 ghost use Rattle.chess_base.specs.Reading.{fen_reading_as};
 ghost use Rattle.chess_base.specs.Writing.{fen};
@@ -308,7 +308,7 @@ impl<B: Board> Session<B> {
     // Writes the game's text, and flushes.
     fn send_pgn<W: Output>(&mut self, writer: &mut W) -> Result<(), WriteFault>
         ensures same { self.new ≡ self.old }
-        ensures written { Puts (W.seen writer.old) (W.seen writer.new) result (pgn (codes "# ") self.old.tags self.old.state) }
+        ensures written { Sends (W.seen writer.old) (W.seen writer.new) result (pgn (codes "# ") self.old.tags self.old.state) }
     {
         write_pgn(&self.game, &mut self.scratch, &self.tags, b"# ", writer)?;
         writer.flush()
@@ -321,7 +321,7 @@ impl<B: Board> Session<B> {
     /// Where a write or the flush failed. The change stands, and a beginning of the answer was written.
     pub fn answer<W: Output>(&mut self, line: &Line<1024>, writer: &mut W) -> Result<Go, WriteFault>
         ensures next { self.new ≡ next_state self.old line.now }
-        ensures written { Puts (W.seen writer.old) (W.seen writer.new) result (answer_to self.old line.now) }
+        ensures written { Sends (W.seen writer.old) (W.seen writer.new) result (answer_to self.old line.now) }
         ensures go { IfOk result (λ go. go ≡ (if is_quit line.now then Go.Quit else Go.On)) }
     {
         if asks_for_pgn(line) {
@@ -356,7 +356,7 @@ fn shows_pgn(command: Command) -> bool
 
 // Writes a text, and flushes.
 fn send<W: Output>(writer: &mut W, text: &[u8]) -> Result<(), WriteFault>
-    ensures { Puts (W.seen writer.old) (W.seen writer.new) result text.now }
+    ensures { Sends (W.seen writer.old) (W.seen writer.new) result text.now }
 {
     put(writer, text)?;
     writer.flush()

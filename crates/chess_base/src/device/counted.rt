@@ -2,19 +2,20 @@
 
 ghost use Rattle.std.specs.Prelude.{◌≡◌, ◌==◌, ◌-◌, ◌^◌, ◌<◌, false};
 ghost use Rattle.chess_base.specs.Devices.{risen};
-ghost use Rattle.chess_base.specs.Counting.{no_counts, one_failure_more, passed_on, counts_after_read, write_passed_on, counts_after};
+ghost use Rattle.chess_base.specs.Counting.{no_counts, one_failure_more, passed_on, counts_after_read, write_passed_on, counts_after_write, counts_after_flush};
 
 use crate::device::traits::{Input, Output, ReadFault, WriteFault};
 use std::io::{self, Read, Write};
 
-// The counts of a reader's or a writer's calls: failures, ends, the length of the last piece that was read, and how many
-// were.
+// The counts of a reader's or a writer's calls: failures, ends, the length of the last piece that was read, how many were,
+// and how many bytes were taken since the last flush that succeeded.
 #[derive(Drop)]
 pub(crate) struct Counts {
     failures: u64,
     ends: u64,
     last: usize,
     pieces: u64,
+    unflushed: u64,
 }
 
 // What is made of a device's answers.
@@ -27,6 +28,7 @@ impl Counts {
             ends: 0,
             last: 0,
             pieces: 0,
+            unflushed: 0,
         }
     }
 
@@ -68,14 +70,17 @@ impl Counts {
     // A write of a piece of that length.
     fn end_write(&mut self, len: usize, answered: io::Result<usize>) -> Result<usize, WriteFault>
         ensures answer { result ≡ write_passed_on (record {}) len answered }
-        ensures counts { self.new ≡ counts_after self.old result }
+        ensures counts { self.new ≡ counts_after_write self.old result }
     {
         match answered {
             Ok(0) if len > 0 => {
                 self.fail();
                 Err(WriteFault)
             }
-            Ok(count) => Ok(count),
+            Ok(count) => {
+                self.unflushed = self.unflushed.saturating_add(count as u64);
+                Ok(count)
+            }
             Err(_) => {
                 self.fail();
                 Err(WriteFault)
@@ -85,10 +90,13 @@ impl Counts {
 
     fn end_flush(&mut self, answered: io::Result<()>) -> Result<(), WriteFault>
         ensures answer { result ≡ passed_on (record {}) answered }
-        ensures counts { self.new ≡ counts_after self.old result }
+        ensures counts { self.new ≡ counts_after_flush self.old result }
     {
         match answered {
-            Ok(()) => Ok(()),
+            Ok(()) => {
+                self.unflushed = 0;
+                Ok(())
+            }
             Err(_) => {
                 self.fail();
                 Err(WriteFault)
@@ -136,7 +144,7 @@ impl<R: Read> Counted<R> {
 impl<W: Write> Counted<W> {
     /// An output out of a writer. Nothing is buffered: each write is one write.
     pub fn writing(writer: W) -> Self
-        ensures { ⟦<Counted<W> as Output>⟧.seen result ≡ record { known_bytes = W.contents writer; failure_count = 0 } }
+        ensures { ⟦<Counted<W> as Output>⟧.seen result ≡ record { known_bytes = W.contents writer; failure_count = 0; unflushed = 0 } }
     {
         Counted::new(writer)
     }
@@ -190,6 +198,7 @@ impl<W: Write> Output for Counted<W> {
     ghost seen = { λ c. record {
       known_bytes = W.contents c.device;
       failure_count = c.counts.failures;
+      unflushed = c.counts.unflushed;
     } };
 
     fn write(&mut self, buf: &[u8]) -> Result<usize, WriteFault> {
