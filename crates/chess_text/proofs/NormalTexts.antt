@@ -2,8 +2,7 @@
 use Rattle.std.proofs.Common.{◌≡◌, ℕ, refl, ap}
 use Rattle.chess_base.specs.declared.man.Variant.TheVariants.{Normal}
 use Rattle.chess_base.specs.declared.setup.Setup.{Setup}
-use Rattle.chess_base.specs.Moves.{castling}
-use Rattle.chess_base.specs.Sound.{right_of}
+use Rattle.chess_base.specs.Castling.{castling, right_of}
 use Rattle.chess_text.specs.declared.form.Form.{Form}
 use Rattle.chess_text.specs.declared.form.Form.TheVariants.{Castling, Walk}
 use Rattle.chess_text.specs.Forms.{castling_end, end_of}

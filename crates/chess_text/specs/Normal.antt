@@ -3,8 +3,7 @@ use Rattle.std.specs.Prelude.{◌≡◌, ℕ, List}
 use Rattle.chess_base.specs.declared.man.Colour.{Colour}
 use Rattle.chess_base.specs.declared.man.Move.{Move}
 use Rattle.chess_base.specs.declared.setup.Setup.{Setup}
-use Rattle.chess_base.specs.Moves.{castled_king_file}
-use Rattle.chess_base.specs.Sound.{home_square}
+use Rattle.chess_base.specs.Castling.{castled_king_file, home_square}
 use Rattle.chess_text.specs.declared.form.Form.{Form}
 use Rattle.chess_text.specs.declared.form.Form.TheVariants.{Castling, Walk}
 use Rattle.chess_text.specs.Forms.{end_of}
