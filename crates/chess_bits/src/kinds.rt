@@ -11,10 +11,10 @@ ghost use Rattle.chess_bits.specs.Occupancy.{IsOccupied, IsLater};
 ghost use Rattle.chess_bits.specs.KindSets.{IsKinds};
 
 use crate::line::Line;
-use chess_moves::SquareSet;
 use crate::table::Shape;
 use crate::tables::AttackTables;
 use chess_base::{Colour, Kind, Square};
+use chess_moves::SquareSet;
 
 /// The men of one colour: a set of squares for each kind, at the kind's number.
 #[derive(Clone, Copy)]
@@ -98,10 +98,12 @@ impl Kinds {
         ensures { (men : Men) → IsKinds self.now.sets colour men → IsOccupied occupied men → (k : ℕ) → k < 64 → has result k ≡ (is_of colour (man_at men k) && attacks men k square) }
     {
         let queens = self.of(Kind::Queen);
-        let lines = along_lines(tables, square, occupied)
-            .intersection(self.of(Kind::Rook).union(queens));
-        let diagonals = along_diagonals(tables, square, occupied)
-            .intersection(self.of(Kind::Bishop).union(queens));
+        let lines = along_lines(tables, square, occupied).intersection(
+            self.of(Kind::Rook).union(queens),
+        );
+        let diagonals = along_diagonals(tables, square, occupied).intersection(
+            self.of(Kind::Bishop).union(queens),
+        );
         let kings = tables
             .at(Shape::King, square)
             .intersection(self.of(Kind::King));

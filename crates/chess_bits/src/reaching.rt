@@ -7,10 +7,10 @@ ghost use Rattle.chess_bits.specs.Occupancy.{IsOccupied};
 ghost use Rattle.chess_moves.specs.Sets.{has};
 
 use crate::kinds::{along_diagonals, along_lines};
-use chess_moves::SquareSet;
 use crate::table::Shape;
 use crate::tables::AttackTables;
 use chess_base::{Colour, Kind, Square};
+use chess_moves::SquareSet;
 
 /// The squares on which such a man could capture from a square, where those squares are occupied.
 #[tactic(auto, using(crate::proofs::Targets::king_from, crate::proofs::Targets::queen_from, crate::proofs::Targets::rook_from, crate::proofs::Targets::bishop_from, crate::proofs::Targets::knight_from, crate::proofs::Targets::pawn_from))]

@@ -7,8 +7,8 @@ ghost use Rattle.chess_bits.specs.BoardSets.{IsSets};
 ghost use Rattle.chess_bits.specs.KindSets.{IsKinds};
 
 use crate::kinds::Kinds;
-use chess_moves::SquareSet;
 use chess_base::{Colour, Man, Square};
+use chess_moves::SquareSet;
 
 /// The men as sets: of each colour by kind and together.
 #[derive(Clone, Copy)]
