@@ -39,7 +39,7 @@ pub each_square_same : (p q : ℕ → Bool) → ((k : ℕ) → k < 64 → p k �
 unfolding each_square
 each_square_same p q h = each_below_same 64 p q h
 
-gap_back : (m n : ℕ) → gap m n ≡ gap n m
+pub gap_back : (m n : ℕ) → gap m n ≡ gap n m
 gap_back m n = omega arith
 
 pub eq_back : (m n : ℕ) → (m == n) ≡ (n == m)

@@ -11,10 +11,10 @@ ghost use Rattle.chess_bits.specs.Occupancy.{IsOccupied, IsLater};
 ghost use Rattle.chess_bits.specs.KindSets.{IsKinds};
 
 use crate::line::Line;
-use chess_moves::SquareSet;
 use crate::table::Shape;
 use crate::tables::AttackTables;
 use chess_base::{Colour, Kind, Square};
+use chess_moves::SquareSet;
 
 /// The men of one colour: a set of squares for each kind, at the kind's number.
 #[derive(Clone, Copy)]
@@ -37,6 +37,17 @@ fn number(kind: Kind) -> usize
 }
 
 impl Kinds {
+    /// No men.
+    #[tactic(auto, using(crate::proofs::Standing::no_kinds))]
+    pub fn empty() -> Kinds
+        ensures { (c : Side) → (men : Men) → ((k : ℕ) → k < 64 → man_at men k ≡ None) → IsKinds result.sets c men }
+    {
+        let none = SquareSet::empty();
+        Kinds {
+            sets: [none, none, none, none, none, none],
+        }
+    }
+
     /// Puts a man on an empty square.
     pub fn put(&mut self, kind: Kind, square: Square)
         ensures { (men : Men) → (c : Side) → length men ≡ 64 → man_at men square ≡ None → IsKinds self.old.sets c men → IsKinds self.new.sets c (slice_set men square (Some (record { colour = c; kind = kind }))) }
@@ -81,7 +92,8 @@ pub(crate) fn along_diagonals(
 }
 
 impl Kinds {
-    fn of(&self, kind: Kind) -> SquareSet
+    /// The squares of these men of a kind.
+    pub fn of(&self, kind: Kind) -> SquareSet
         ensures { result ≡ slice_index self.now.sets (kind_number kind) }
     {
         self.sets[number(kind)]
@@ -98,10 +110,12 @@ impl Kinds {
         ensures { (men : Men) → IsKinds self.now.sets colour men → IsOccupied occupied men → (k : ℕ) → k < 64 → has result k ≡ (is_of colour (man_at men k) && attacks men k square) }
     {
         let queens = self.of(Kind::Queen);
-        let lines = along_lines(tables, square, occupied)
-            .intersection(self.of(Kind::Rook).union(queens));
-        let diagonals = along_diagonals(tables, square, occupied)
-            .intersection(self.of(Kind::Bishop).union(queens));
+        let lines = along_lines(tables, square, occupied).intersection(
+            self.of(Kind::Rook).union(queens),
+        );
+        let diagonals = along_diagonals(tables, square, occupied).intersection(
+            self.of(Kind::Bishop).union(queens),
+        );
         let kings = tables
             .at(Shape::King, square)
             .intersection(self.of(Kind::King));

@@ -3,8 +3,8 @@ ghost use Rattle.chess_moves.specs.Sets.{has};
 ghost use Rattle.chess_bits.specs.Shapes.{in_shape};
 
 use crate::line::{Line, is_on_ray};
-use chess_moves::SquareSet;
 use chess_base::{Colour, Square};
+use chess_moves::SquareSet;
 use std::marker::Model;
 
 /// What a table of sets of squares is about: what a man attacks on an empty board, or a ray.

@@ -7,9 +7,9 @@ ghost use Rattle.chess_bits.specs.declared.line.Line.TheVariants.{Rank, File, Di
 ghost use Rattle.chess_base.specs.declared.man.Colour.TheVariants.{White, Black};
 
 use crate::line::Line;
-use chess_moves::SquareSet;
 use crate::table::{Shape, Table};
 use chess_base::{Colour, Square};
+use chess_moves::SquareSet;
 use std::alloc::{AllocError, Global};
 
 #[derive(Drop)]

@@ -27,7 +27,7 @@ unfolding is_open is_clear
 open_from w men a b h =
     each_square_same _ _ (λ x l. rw (h.of_men x l) (de_morgan (is_between a b x) (is_none (man_at men x))))
 
-line_back : (a b : ℕ) → share_rank_or_file b a ≡ share_rank_or_file a b
+pub line_back : (a b : ℕ) → share_rank_or_file b a ≡ share_rank_or_file a b
 line_back a b = rw (eq_back (file b) (file a), eq_back (rank b) (rank a)) refl
 
 pub rook_from : (w : ℕ) (men : Men) (c : Colour) (a b : ℕ) → IsOccupied w men → (not (b == a) && share_rank_or_file b a && is_open w a b) ≡ could_capture men c Rook a b
