@@ -1,14 +1,14 @@
 -- The sets of squares after a move.
-use Rattle.std.proofs.Common.{◌≡◌, ℕ, ◌<◌, ◌≤◌, ◌+◌, ◌⊎◌, inl, inr, Bool, true, false, not, ◌&&◌, ◌||◌, ◌==◌, cond, refl, sym, ◌∙◌, ap, arith, Option, Some, None, is_none}
-use Rattle.std.proofs.lemmas.Bool.{and_parts, and_left, and_right, cases_Bool, eqb-true, eq-eqb}
+use Rattle.std.proofs.Common.{◌≡◌, ℕ, ◌<◌, inl, inr, Bool, true, false, not, ◌&&◌, ◌||◌, ◌==◌, cond, refl, sym, Option, Some, None, is_none}
+use Rattle.std.proofs.lemmas.Bool.{and_right, cases_Bool, eqb-true, eq-eqb}
 use Rattle.chess_base.specs.declared.man.Colour.{Colour}
 use Rattle.chess_base.specs.declared.man.Colour.TheVariants.{White, Black}
 use Rattle.chess_base.specs.declared.man.Kind.{Kind}
-use Rattle.chess_base.specs.declared.man.Kind.TheVariants.{King, Queen, Rook, Bishop, Knight, Pawn}
+use Rattle.chess_base.specs.declared.man.Kind.TheVariants.{King, Rook}
 use Rattle.chess_base.specs.declared.man.Man.{Man}
 use Rattle.chess_base.specs.declared.man.Move.{Move}
-use Rattle.chess_base.specs.Squares.{some_square, is_square}
-use Rattle.chess_base.specs.Men.{Men, man_at, other, same_colour, is_of, is_man}
+use Rattle.chess_base.specs.Squares.{is_square}
+use Rattle.chess_base.specs.Men.{Men, man_at, other, is_of, is_man}
 use Rattle.chess_base.specs.Attacks.{is_attacked, is_in_check}
 use Rattle.chess_base.specs.declared.setup.Setup.{Setup}
 use Rattle.chess_base.specs.Moves.{man_that_lands, men_after, second_square_emptied}

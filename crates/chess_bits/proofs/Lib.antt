@@ -13,3 +13,4 @@ pub mod Patterns
 pub mod TargetsOf
 pub mod Listed
 pub mod OriginsOf
+pub mod CastlingBySets

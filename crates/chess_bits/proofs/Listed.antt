@@ -1,7 +1,7 @@
 -- The list of legal moves, over the members of sets.
-use Rattle.std.proofs.Common.{◌≡◌, ℕ, zero, suc, ◌+◌, ◌<◌, ◌≤◌, inl, inr, Bool, true, false, ◌&&◌, Option, Some, None, List, [], ◌∷◌, ◌++◌, length, get_or, take, map, refl, sym, ap, subst, ◌∙◌, arith, append_assoc, append-nil, length-append, nat_lt, cond}
+use Rattle.std.proofs.Common.{◌≡◌, ℕ, zero, suc, ◌+◌, ◌<◌, ◌≤◌, inl, inr, Bool, true, false, Option, Some, None, List, [], ◌∷◌, ◌++◌, length, get_or, refl, sym, ap, subst, ◌∙◌, arith, append_assoc, append-nil, length-append, nat_lt}
 use Rattle.std.specs.List.{filter, flat_map, range_with_len}
-use Rattle.std.proofs.lemmas.Bool.{cases_Bool, and_parts, and_from, false_from_ne_true, both_ways}
+use Rattle.std.proofs.lemmas.Bool.{cases_Bool, and_from, false_from_ne_true, both_ways}
 use Rattle.std.proofs.lemmas.Bool.Decides.{nat_tests}
 use Rattle.std.proofs.lemmas.Grind.{common_steps}
 use Rattle.chess_base.specs.declared.man.Kind.{Kind}
@@ -9,10 +9,10 @@ use Rattle.chess_base.specs.declared.man.Kind.TheVariants.{Queen, Rook, Bishop, 
 use Rattle.chess_base.specs.declared.man.Move.{Move}
 use Rattle.chess_base.specs.declared.setup.Setup.{Setup}
 use Rattle.chess_base.specs.Men.{man_at, is_of}
-use Rattle.chess_base.specs.MoveList.{promotions, triple, squares, moves}
+use Rattle.chess_base.specs.MoveList.{triple, squares, moves}
 use Rattle.chess_base.specs.Moves.{has_pattern, is_legal, promotion_fits}
 use Rattle.chess_base.specs.Sound.{IsSound}
-use Rattle.chess_moves.specs.Candidates.{would_promote, moves_with, moves_between, moves_from}
+use Rattle.chess_moves.specs.Candidates.{would_promote, moves_between, moves_from}
 use Rattle.chess_moves.specs.Sets.{has, members}
 use Rattle.chess_moves.proofs.Members.{flat_map_members}
 use Rattle.chess_moves.proofs.Parts.{moves-by_start, none_from}

@@ -1,16 +1,15 @@
 -- From where officers go to a square: from where they are attacked that stand there.
-use Rattle.std.proofs.Common.{◌≡◌, ℕ, ◌<◌, Bool, true, false, not, ◌&&◌, ◌||◌, ◌==◌, Option, Some, None, is_none, refl, sym, ap, ◌∙◌}
+use Rattle.std.proofs.Common.{◌≡◌, ℕ, ◌<◌, true, false, not, ◌&&◌, refl, sym, ap, ◌∙◌}
 use Rattle.std.proofs.lemmas.Bool.{and_parts, and_from}
 use Rattle.chess_base.specs.declared.man.Colour.{Colour}
 use Rattle.chess_base.specs.declared.man.Kind.{Kind}
 use Rattle.chess_base.specs.declared.man.Kind.TheVariants.{King, Queen, Rook, Bishop, Knight, Pawn}
-use Rattle.chess_base.specs.declared.man.Man.{Man}
 use Rattle.chess_base.specs.declared.man.Move.{Move}
 use Rattle.chess_base.specs.declared.setup.Setup.{Setup}
 use Rattle.chess_base.specs.Attacks.{is_clear, could_capture}
 use Rattle.chess_base.specs.Men.{Men, man_at, is_of, is_man, same_kind}
 use Rattle.chess_base.specs.Moves.{is_legal}
-use Rattle.chess_base.specs.Squares.{file, rank, gap, is_between, each_square}
+use Rattle.chess_base.specs.Squares.{file, rank}
 use Rattle.chess_base.proofs.MenFacts.{is_of-from_is_man}
 use Rattle.chess_moves.specs.Sets.{has, HasOrigins}
 use Rattle.chess_moves.proofs.Origins.{begins_below}

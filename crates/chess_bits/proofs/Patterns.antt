@@ -1,17 +1,15 @@
 -- The patterns of moves, by start and end square.
-use Rattle.std.proofs.Common.{◌≡◌, ℕ, ◌<◌, inl, inr, Bool, true, false, not, ◌&&◌, ◌||◌, ◌==◌, cond, Option, Some, None, refl, sym, ap, ◌∙◌, nat_lt, arith}
+use Rattle.std.proofs.Common.{◌≡◌, ℕ, ◌<◌, Bool, true, false, not, ◌&&◌, ◌||◌, ◌==◌, cond, Option, Some, None, refl, sym, ap, ◌∙◌, nat_lt}
 use Rattle.std.specs.Prelude.{if◌then◌else◌}
-use Rattle.std.proofs.lemmas.Bool.{cases_Bool, and_parts, and_from, and_right, lt-ltb, both_ways, false_from_ne_true}
+use Rattle.std.proofs.lemmas.Bool.{and_parts, and_from, lt-ltb, both_ways, false_from_ne_true}
 use Rattle.chess_base.specs.declared.castling.Castle.{Castle}
-use Rattle.chess_base.specs.declared.man.Colour.{Colour}
 use Rattle.chess_base.specs.declared.man.Kind.{Kind}
 use Rattle.chess_base.specs.declared.man.Kind.TheVariants.{King, Queen, Rook, Bishop, Knight, Pawn}
-use Rattle.chess_base.specs.declared.man.CastlingSide.TheVariants.{KingSide, QueenSide}
 use Rattle.chess_base.specs.declared.man.Man.{Man}
 use Rattle.chess_base.specs.declared.man.Move.{Move}
 use Rattle.chess_base.specs.declared.setup.Setup.{Setup}
-use Rattle.chess_base.specs.Attacks.{attacks, is_in_check}
-use Rattle.chess_base.specs.Castling.{says_castling, castling, castle_of, castles}
+use Rattle.chess_base.specs.Attacks.{is_in_check}
+use Rattle.chess_base.specs.Castling.{castle_of, castles}
 use Rattle.chess_base.specs.Men.{man_at, other, same_colour, same_kind, is_man, is_of, first_rank}
 use Rattle.chess_base.specs.MoveList.{triple}
 use Rattle.chess_base.specs.Moves.{has_pattern, is_legal, after, moves_as, castles_or_moves, man_moves, pawn_moves, pawn_advances, pawn_captures, is_double_advance, promotion_fits}
@@ -85,7 +83,7 @@ and_joined : (x y z : Bool) → (x && (y && z)) ≡ ((x && y) && z)
 and_joined true y z = refl
 and_joined false y z = refl
 
-pattern_by : (p : Setup) (a b : ℕ) (k : Option Kind) → has_pattern p (triple a b k) ≡ (goes p a b && promotion_fits (would_promote p a b) k)
+pub pattern_by : (p : Setup) (a b : ℕ) (k : Option Kind) → has_pattern p (triple a b k) ≡ (goes p a b && promotion_fits (would_promote p a b) k)
 unfolding has_pattern goes
 pattern_by p a b k =
     ap (λ v. (nat_lt a 64 && nat_lt b 64) && v) (by_man p a b k (man_at p.men a) refl)
@@ -136,7 +134,7 @@ pawn_goes p a b x at own pawn low high =
     ∙ ap (λ w. pawn_moves p (triple a b (if w then Some Queen else None))) (promotes_is p a b x at own pawn)
     ∙ usual_pawn p a b
 
-not_promoting : (p : Setup) (a b : ℕ) (x : Man) → man_at p.men a ≡ Some x → same_kind Pawn x.kind ≡ false → would_promote p a b ≡ false
+pub not_promoting : (p : Setup) (a b : ℕ) (x : Man) → man_at p.men a ≡ Some x → same_kind Pawn x.kind ≡ false → would_promote p a b ≡ false
 unfolding would_promote is_man
 not_promoting p a b x at no_pawn = rw (at, no_pawn) (by (same_colour p.side x.colour) (rank b == first_rank (other p.side)))
   where

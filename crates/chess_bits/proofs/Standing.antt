@@ -1,5 +1,5 @@
 -- Sets of men that stand, and of none.
-use Rattle.std.proofs.Common.{◌≡◌, ℕ, zero, suc, replicate, ◌<◌, Bool, true, false, not, ◌||◌, refl, sym, ◌∙◌, ap, Option, Some, None, is_none, List, [], ◌∷◌}
+use Rattle.std.proofs.Common.{◌≡◌, ℕ, zero, suc, replicate, ◌<◌, true, false, not, ◌||◌, refl, sym, ◌∙◌, ap, Option, Some, None, is_none, List, [], ◌∷◌}
 use Rattle.chess_base.specs.declared.man.Colour.{Colour}
 use Rattle.chess_base.specs.declared.man.Colour.TheVariants.{White, Black}
 use Rattle.chess_base.specs.declared.man.Kind.{Kind}

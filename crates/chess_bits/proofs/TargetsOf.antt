@@ -1,9 +1,9 @@
 -- Where each kind of man goes, as its sets tell it.
-use Rattle.std.proofs.Common.{◌≡◌, ℕ, zero, suc, ◌<◌, ◌≤◌, inl, inr, Bool, true, false, not, ◌&&◌, ◌||◌, ◌==◌, Option, Some, None, is_none, refl, sym, ap, subst, ◌∙◌, arith, cond, nat_lt}
+use Rattle.std.proofs.Common.{◌≡◌, ℕ, zero, suc, ◌<◌, ◌≤◌, Bool, true, false, not, ◌&&◌, ◌||◌, ◌==◌, Option, Some, None, is_none, refl, sym, ap, subst, ◌∙◌, arith}
 use Rattle.std.specs.Prelude.{if◌then◌else◌}
 use Rattle.std.specs.Option.{is_some}
 use Rattle.std.proofs.lemmas.Bool.Decides.{nat_tests}
-use Rattle.std.proofs.lemmas.Bool.{cases_Bool, and_parts, and_right, both_ways, eqb-true, eq-eqb, ne_eqb}
+use Rattle.std.proofs.lemmas.Bool.{and_parts, and_right, both_ways, eqb-true, eq-eqb, ne_eqb}
 use Rattle.chess_base.specs.declared.castling.Castle.{Castle}
 use Rattle.chess_base.specs.declared.man.Colour.{Colour}
 use Rattle.chess_base.specs.declared.man.Colour.TheVariants.{White, Black}
@@ -18,7 +18,7 @@ use Rattle.chess_base.specs.declared.man.Variant.TheVariants.{Normal, Fischerand
 use Rattle.chess_base.specs.declared.setup.Setup.{Setup}
 use Rattle.chess_base.specs.Attacks.{attacks, could_capture, could_capture_as}
 use Rattle.chess_base.specs.Castling.{home_square, king_home_file, castled_king_file, right_of, names_castling, says_castling, castling, castle_of}
-use Rattle.chess_base.specs.Men.{Men, man_at, other, is_of, is_man, same_kind, same_colour, kind_number, forward, pawn_rank}
+use Rattle.chess_base.specs.Men.{man_at, other, is_of, is_man, same_kind, same_colour, kind_number, forward, pawn_rank}
 use Rattle.chess_base.specs.MoveList.{triple}
 use Rattle.chess_base.specs.Moves.{is_legal, has_pattern, man_moves, pawn_advances, pawn_captures, is_double_advance}
 use Rattle.chess_base.specs.Squares.{rank, is_square}

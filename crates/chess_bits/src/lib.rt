@@ -2,6 +2,7 @@
 #![tactic(auto)]
 
 mod bits;
+mod castling;
 mod kinds;
 mod king;
 mod line;

@@ -13,7 +13,7 @@ use crate::bits::Bits;
 use crate::king::set_of;
 use crate::reaching::reached_from;
 use chess_base::attack::{is_man, is_of};
-use chess_base::rules::{castle_of, castled_king_file, home_square, is_legal, right_of};
+use chess_base::rules::{castle_of, castled_king_file, home_square, right_of};
 use chess_base::{CastlingSide, Colour, Kind, Move, Square, Variant};
 use chess_moves::SquareSet;
 
@@ -81,11 +81,11 @@ impl Bits {
             to,
             promotion: None,
         };
-        if castle_of(&self.setup, &m).is_none() {
+        let Some(castle) = castle_of(&self.setup, &m) else {
             return targets;
-        }
+        };
         let end = SquareSet::single(to);
-        if is_legal(&self.setup, &m) {
+        if self.castles_legally(&m, &castle) {
             targets.union(end)
         } else {
             targets.without(end)

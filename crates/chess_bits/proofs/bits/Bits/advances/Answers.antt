@@ -1,4 +1,4 @@
-use Rattle.std.proofs.Common.{◌≡◌, ◌<◌, true, false, sym, ap, subst, ◌∙◌, refl}
+use Rattle.std.proofs.Common.{◌≡◌, ◌<◌, true, false, sym, ap, subst, ◌∙◌}
 use Rattle.std.specs.Option.{is_some}
 use Rattle.chess_base.specs.declared.man.Kind.TheVariants.{Pawn}
 use Rattle.chess_base.specs.Men.{man_at, is_man, pawn_rank}

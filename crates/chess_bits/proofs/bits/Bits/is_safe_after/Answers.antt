@@ -1,7 +1,6 @@
-use Rattle.std.proofs.Common.{◌≡◌, ◌==◌, ◌||◌, ℕ, ◌<◌, not, true, refl, sym, ap, ◌∙◌, subst}
+use Rattle.std.proofs.Common.{◌≡◌, ◌==◌, ◌||◌, ℕ, ◌<◌, not, true, refl, sym, ap, ◌∙◌}
 use Rattle.chess_base.specs.declared.steps.Steps.{Steps}
 use Rattle.chess_base.specs.Attacks.{is_attacked}
-use Rattle.chess_base.specs.Men.{other}
 use Rattle.chess_base.specs.Moves.{has_pattern, men_after}
 use Rattle.chess_base.specs.Squares.{is_square}
 use Rattle.chess_moves.specs.Sets.{has}

@@ -1,6 +1,5 @@
-use Rattle.std.proofs.Common.{◌≡◌, ℕ, ◌<◌, ◌==◌, sym, ◌∙◌, ap}
+use Rattle.std.proofs.Common.{sym, ◌∙◌, ap}
 use Rattle.chess_base.specs.declared.man.Kind.TheVariants.{King}
-use Rattle.chess_base.specs.Men.{man_at, is_man}
 use Rattle.chess_moves.specs.Sets.{has}
 use Rattle.chess_bits.proofs.OneKing.{some_king, alone, has_king}
 use Rattle.chess_bits.proofs.bits.Bits.king.Goals as goal

@@ -1,5 +1,5 @@
-use Rattle.std.proofs.Common.{rules, ◌≡◌, true, sym, ap, ◌∙◌, Some, None}
-use Rattle.chess_base.specs.Men.{man_at, is_of}
+use Rattle.std.proofs.Common.{rules, ◌≡◌, sym, ◌∙◌, Some, None}
+use Rattle.chess_base.specs.Men.{man_at}
 use Rattle.chess_bits.proofs.TargetsOf.{officer_is, king_is, no_own}
 use Rattle.chess_bits.proofs.bits.Bits.man_targets.Goals as goal
 

@@ -1,8 +1,7 @@
-use Rattle.std.proofs.Common.{◌≡◌, ◌<◌, ℕ, [], ◌++◌, ap, ◌∙◌}
+use Rattle.std.proofs.Common.{◌≡◌, ◌<◌, ℕ}
 use Rattle.chess_base.specs.Men.{man_at, is_of}
 use Rattle.chess_base.specs.Sound.{IsSound}
 use Rattle.chess_moves.specs.Sets.{has}
-use Rattle.chess_moves.specs.Candidates.{moves_from}
 use Rattle.chess_bits.proofs.Listed.{from_men, fits_from}
 use Rattle.chess_bits.proofs.bits.Bits.moves.Goals as goal
 

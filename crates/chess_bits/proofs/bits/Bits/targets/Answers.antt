@@ -1,4 +1,4 @@
-use Rattle.std.proofs.Common.{rules, ◌≡◌, ◌<◌, true, false, sym, subst, ◌∙◌}
+use Rattle.std.proofs.Common.{rules, ◌≡◌, ◌<◌, true, false, subst}
 use Rattle.chess_base.specs.declared.man.Kind.TheVariants.{Pawn}
 use Rattle.chess_base.specs.Men.{man_at, is_of, is_man}
 use Rattle.chess_bits.proofs.TargetsOf.{none_begin, pawn_sound, pawn_complete, man_set_sound, man_set_complete}

@@ -1,5 +1,4 @@
-use Rattle.std.proofs.Common.{◌≡◌, ◌<◌, ℕ, sym, ap, ◌∙◌}
-use Rattle.chess_base.specs.Men.{man_at, is_man}
+use Rattle.std.proofs.Common.{sym, ap, ◌∙◌}
 use Rattle.chess_moves.specs.Sets.{has}
 use Rattle.chess_moves.proofs.Origins.{all_men}
 use Rattle.chess_bits.proofs.OriginsOf.{officer_origins}

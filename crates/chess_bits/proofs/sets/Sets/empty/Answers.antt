@@ -1,4 +1,3 @@
-use Rattle.std.proofs.Common.{◌≡◌}
 use Rattle.chess_base.specs.declared.man.Colour.TheVariants.{White, Black}
 use Rattle.chess_bits.proofs.Standing.{no_sets}
 use Rattle.chess_bits.proofs.sets.Sets.empty.Goals as goal

@@ -1,4 +1,4 @@
-use Rattle.std.proofs.Common.{ℕ, ◌<◌, arith}
+use Rattle.std.proofs.Common.{arith}
 use Rattle.chess_bits.proofs.Standing.{none_at}
 use Rattle.chess_bits.proofs.sets.Sets.standing.Goals as goal
 

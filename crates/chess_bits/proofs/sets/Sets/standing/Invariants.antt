@@ -1,4 +1,4 @@
-use Rattle.std.proofs.Common.{◌≡◌, ℕ, ◌<◌, length, None}
+use Rattle.std.proofs.Common.{◌≡◌, ℕ, ◌<◌}
 use Rattle.chess_base.specs.Men.{man_at}
 use Rattle.chess_bits.specs.BoardSets.{IsSets}
 use Rattle.chess_bits.proofs.sets.Sets.standing.Given as goal
