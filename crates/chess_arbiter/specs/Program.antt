@@ -33,7 +33,7 @@ Served r r' w w' (Err ReadFailed) = (s : Seen) × (t : Transcript) × Ran r r' w
 Served r r' w w' (Err WriteFailed) = (s : Seen) × (t : Transcript) × Ran r r' w w' (opened default_tags 20000) s t (Err Write)
 Served r r' w w' (Err NoMemory) = IsUntouched r r' w w'
 Served r r' w w' (Err InputTooLong) = ⊥
-Served r r' w w' (Err WrongWords) = IsUntouched r r' w w'
+Served r r' w w' (Err WrongWords) = ⊥
 
 abbrev pub fault_status : ProgramFault → ℕ
 fault_status ReadFailed = 1

@@ -1,10 +1,12 @@
 -- What verifying games reads, and what it tells of them.
-use Rattle.std.specs.Prelude.{◌≡◌, ◌≤◌, ◌<◌, ℕ, ◌+◌, List, [], ◌∷◌, ◌++◌, length, codes, decimal, Some, None, Result, Ok, Err}
+use Rattle.std.specs.Prelude.{◌≡◌, ◌≤◌, ◌<◌, ◌⊎◌, ℕ, ◌+◌, List, [], ◌∷◌, ◌++◌, length, codes, decimal, Option, Some, None, Result, Ok, Err}
 use Rattle.std.specs.Io.KnownBytes.{Consumes, IsAtEnd}
-use Rattle.chess_base.specs.Devices.{InputState, OutputState, Took, BreaksOff, risen}
+use Rattle.chess_base.specs.Devices.{InputState, OutputState, Took, Sent, BreaksOff, risen}
 use Rattle.chess_game.specs.Results.{outcome_text}
 use Rattle.chess_pgn.specs.declared.read.PgnFaultKind.{PgnFaultKind}
 use Rattle.chess_pgn.specs.declared.read.PgnFaultKind.TheVariants.{BadTag, BadFen, BadToken, IllegalMove, AmbiguousMove, AfterEnd, TooLong, UnclosedComment, UnclosedVariation, NoResult}
+use Rattle.chess_pgn.specs.declared.termination.Termination.{Termination}
+use Rattle.chess_pgn.specs.Terminations.{termination_text}
 use Rattle.chess_pgn.specs.GameRead.{GameRead, pgn_read}
 use Rattle.chess_arbiter.specs.declared.program.ProgramFault.{ProgramFault}
 use Rattle.chess_arbiter.specs.declared.program.ProgramFault.TheVariants.{ReadFailed, WriteFailed, NoMemory, InputTooLong, WrongWords}
@@ -15,19 +17,32 @@ use Rattle.chess_arbiter.specs.declared.verify.Verified.TheVariants.{EachGame, F
 
 -- ---- the text
 
--- these are all bytes that the input still had to give, and no more than 16,777,216
+-- this is what was read of the input: no read failed, and its end was not told
+pub record IsFront (r r' : InputState) (text : List ℕ) : Type 0 where
+  pub bytes : Consumes r.known_bytes r'.known_bytes text
+  pub failures : r'.failure_count ≡ r.failure_count
+  pub ends : r'.end_count ≡ r.end_count
+
+-- these are all bytes that the input still had to give, and no more than 16,777,216; its end was told once
 pub record IsAll (r r' : InputState) (text : List ℕ) : Type 0 where
   pub bytes : Consumes r.known_bytes r'.known_bytes text
   pub at_end : IsAtEnd r'.known_bytes
   pub few : length text ≤ 16777216
   pub failures : r'.failure_count ≡ r.failure_count
+  pub ends : r'.end_count ≡ risen r.end_count
+
+-- a read failed behind this, and then there was no other
+pub record BrokeOff (r r' : InputState) (text : List ℕ) : Type 0 where
+  pub bytes : Consumes r.known_bytes r'.known_bytes text
+  pub failures : r'.failure_count ≡ risen r.failure_count
+  pub ends : r'.end_count ≡ r.end_count
 
 -- why the bytes of the input are not had: a read failed, or there are more than 16,777,216, or there was no memory
 abbrev pub IsNotHad : InputState → InputState → ProgramFault → Type 0
-IsNotHad r r' ReadFailed = (text : List ℕ) × Consumes r.known_bytes r'.known_bytes text × (r'.failure_count ≡ risen r.failure_count)
+IsNotHad r r' ReadFailed = (text : List ℕ) × BrokeOff r r' text
 IsNotHad r r' WriteFailed = ⊥
-IsNotHad r r' NoMemory = Unit {0}
-IsNotHad r r' InputTooLong = (text : List ℕ) × Consumes r.known_bytes r'.known_bytes text × (16777216 < length text)
+IsNotHad r r' NoMemory = (text : List ℕ) × IsFront r r' text
+IsNotHad r r' InputTooLong = (text : List ℕ) × IsFront r r' text × (16777216 < length text)
 IsNotHad r r' WrongWords = ⊥
 
 -- ---- the reports
@@ -73,8 +88,13 @@ fault_name UnclosedComment = codes "unclosed comment"
 fault_name UnclosedVariation = codes "unclosed variation"
 fault_name NoResult = codes "no result"
 
+-- how the game ended, where its text tells it
+abbrev pub told_termination : Option Termination → List ℕ
+told_termination None = []
+told_termination (Some t) = codes ", " ++ termination_text t
+
 abbrev pub report_text : Report → List ℕ
-report_text (Game plies end) = decimal plies ++ (codes " half-moves, " ++ outcome_text end.outcome)
+report_text (Game plies end) = decimal plies ++ (codes " half-moves, " ++ (outcome_text end.outcome ++ told_termination end.termination))
 report_text (Faulty fault) = fault_name fault.kind ++ (codes " at byte " ++ decimal fault.place)
 
 -- the line of the game with that number
@@ -93,11 +113,20 @@ abbrev pub Told : {E : Type 0} → List ℕ → OutputState → OutputState → 
 Told text w w' (Ok told) = (reports : List Report) × AreReports All text 0 reports × (told ≡ verified reports) × Took w w' (report_lines 1 reports)
 Told text w w' (Err e) = (reports : List Report) × AreReports First text 0 reports × BreaksOff w w' (report_lines 1 reports)
 
--- all of the input was read, and the reports on its games were told; without all of it, or without memory, nothing was
+-- and then the lines were flushed
+abbrev pub HandedOn : {E : Type 0} → List ℕ → OutputState → OutputState → Result Verified E → Type 0
+HandedOn text w w' (Ok told) = (reports : List Report) × AreReports All text 0 reports × (told ≡ verified reports) × Sent w w' (report_lines 1 reports)
+HandedOn text w w' (Err e) = Told text w w' (Err e)
+
+-- there was no memory for the input, or none for a game once all of it was read
+abbrev pub LacksMemory : InputState → InputState → Type 0
+LacksMemory r r' = IsNotHad r r' NoMemory ⊎ ((text : List ℕ) × IsAll r r' text)
+
+-- all of the input was read, and the reports on its games were told and flushed; without all of it, or without memory, nothing was
 abbrev pub Verifies : InputState → InputState → OutputState → OutputState → Result Verified ProgramFault → Type 0
-Verifies r r' w w' (Ok told) = (text : List ℕ) × IsAll r r' text × Told {E = ProgramFault} text w w' (Ok told)
+Verifies r r' w w' (Ok told) = (text : List ℕ) × IsAll r r' text × HandedOn {E = ProgramFault} text w w' (Ok told)
 Verifies r r' w w' (Err ReadFailed) = IsNotHad r r' ReadFailed × (w' ≡ w)
-Verifies r r' w w' (Err WriteFailed) = (text : List ℕ) × IsAll r r' text × Told text w w' (Err WriteFailed)
-Verifies r r' w w' (Err NoMemory) = w' ≡ w
+Verifies r r' w w' (Err WriteFailed) = (text : List ℕ) × IsAll r r' text × HandedOn text w w' (Err WriteFailed)
+Verifies r r' w w' (Err NoMemory) = LacksMemory r r' × (w' ≡ w)
 Verifies r r' w w' (Err InputTooLong) = IsNotHad r r' InputTooLong × (w' ≡ w)
 Verifies r r' w w' (Err WrongWords) = ⊥

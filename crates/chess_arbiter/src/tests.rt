@@ -1,7 +1,8 @@
 use crate::program::{ProgramFault, run_program, tell};
-use crate::{status_of, words_fault};
-use chess_base::device::{Counted, PieceReader, PieceWriter};
-use std::io;
+use crate::standard::{status_of, words_fault};
+use chess_base::device::{Counted, GatedWriter, PieceReader, PieceWriter};
+use std::cell::Cell;
+use std::io::{self, Read};
 use std::test::Fail;
 
 /// A run of the program over memory, where a call of the input or of the output fails (0: none does).
@@ -14,7 +15,7 @@ struct Case {
     status: u8,
 }
 
-const CASES: [Case; 13] = [
+const CASES: [Case; 15] = [
     Case {
         words: &[],
         input: b"new\ne2e4\nping 7\nundo\nshowfen\nquit\nshowfen\n",
@@ -103,6 +104,23 @@ const CASES: [Case; 13] = [
         errors: b"arbiter: write failed\n",
         status: 1,
     },
+    // The second line's write, and the flush at the end.
+    Case {
+        words: &["verify"],
+        input: b"* *",
+        fails: (0, 2),
+        output: b"game 1: 0 half-moves, *\n",
+        errors: b"arbiter: write failed\n",
+        status: 1,
+    },
+    Case {
+        words: &["verify"],
+        input: b"1. e4 *",
+        fails: (0, 2),
+        output: b"game 1: 1 half-moves, *\n",
+        errors: b"arbiter: write failed\n",
+        status: 1,
+    },
     Case {
         words: &["verify", "x"],
         input: b"*",
@@ -143,7 +161,7 @@ fn runs_of_the_program(rt: HostRuntime) {
 }
 
 // Games as they are verified: the text, what is told, and the status.
-const GAMES: [(&[u8], &[u8], u8); 13] = [
+const GAMES: [(&[u8], &[u8], u8); 16] = [
     (
         b"1.e4 {a} e5 (1...c5 2.Nf3) 2.Nf3 $1 *",
         b"game 1: 3 half-moves, *\n",
@@ -180,6 +198,22 @@ const GAMES: [(&[u8], &[u8], u8); 13] = [
         b"game 1: 4 half-moves, 0-1\ngame 2: 1 half-moves, 1-0\n",
         0,
     ),
+    // How a game ended, where its text tells it: each for itself.
+    (
+        b"[Termination \"Time forfeit\"] 1. e4 1-0",
+        b"game 1: 1 half-moves, 1-0, time forfeit\n",
+        0,
+    ),
+    (
+        b"[Termination \"x\"] 1. e4 1-0",
+        b"game 1: 1 half-moves, 1-0\n",
+        0,
+    ),
+    (
+        b"[Termination \"rules infraction\"] 1/2-1/2 1. e4 * [Termination \"ABANDONED\"] 0-1",
+        b"game 1: 0 half-moves, 1/2-1/2, rules infraction\ngame 2: 1 half-moves, *\ngame 3: 0 half-moves, 0-1, abandoned\n",
+        0,
+    ),
     (b"", b"", 0),
 ];
 
@@ -201,6 +235,65 @@ fn games_are_verified(rt: HostRuntime) {
         assert_eq!(rt; errors.writer().bytes.as_slice(), b"".as_slice());
         assert_eq!(rt; status, *wanted);
     }
+}
+
+// The gate is open once nothing is unflushed.
+#[test]
+fn lines_on_games_are_flushed(rt: HostRuntime) {
+    let open = Cell::new(true);
+    let mut input = Counted::reading(b"* 1. e4 *".as_slice());
+    let mut output = Counted::writing(GatedWriter::new(rt.alloc(), &open));
+    let mut errors = Counted::writing(Vec::<u8>::new(rt.alloc()));
+    let status = run_program(
+        &rt,
+        rt.alloc(),
+        &["verify"],
+        &mut input,
+        &mut output,
+        &mut errors,
+    );
+    assert_eq!(rt; status, 0);
+    assert_eq!(rt;
+        output.writer().bytes.as_slice(),
+        b"game 1: 0 half-moves, *\ngame 2: 1 half-moves, *\n".as_slice()
+    );
+    assert!(rt; open.get());
+}
+
+// Blanks without an end.
+#[derive(Drop)]
+struct Blanks;
+
+impl Read for Blanks {
+    ghost use Rattle.std.specs.Prelude.{None};
+
+    ghost remaining = { λ b. None };
+
+    fn read(&mut self, buf: &mut [u8]) -> io::Result<usize> {
+        buf.fill(b' ');
+        Ok(buf.len())
+    }
+}
+
+#[test]
+fn more_than_16_mebibytes_are_too_long(rt: HostRuntime) {
+    let mut input = Counted::reading(Blanks);
+    let mut output = Counted::writing(Vec::<u8>::new(rt.alloc()));
+    let mut errors = Counted::writing(Vec::<u8>::new(rt.alloc()));
+    let status = run_program(
+        &rt,
+        rt.alloc(),
+        &["verify"],
+        &mut input,
+        &mut output,
+        &mut errors,
+    );
+    assert_eq!(rt; output.writer().as_slice(), b"".as_slice());
+    assert_eq!(rt;
+        errors.writer().as_slice(),
+        b"arbiter: input too long\n".as_slice()
+    );
+    assert_eq!(rt; status, 1);
 }
 
 #[test]

@@ -3,14 +3,14 @@
 ghost use Rattle.std.specs.Prelude.{◌≡◌, ◌≤◌, ◌+◌, ◌++◌, IfOk, IfErr, length, decimal};
 ghost use Rattle.arrayvec.specs.ArrayVec.{array_vec_len};
 ghost use Rattle.chess_base.specs.Devices.{Puts};
-ghost use Rattle.chess_arbiter.specs.Verify.{IsAll, IsNotHad, fault_name, report_text, report_line, Told, Verifies};
+ghost use Rattle.chess_arbiter.specs.Verify.{IsAll, IsNotHad, fault_name, told_termination, report_text, report_line, Told, HandedOn, Verifies};
 
 use crate::program::ProgramFault;
 use arrayvec::ArrayVec;
 use chess_base::device::{Input, Output, WriteFault, put};
 use chess_game::Game;
 use chess_moves::Plain;
-use chess_pgn::{PgnEnd, PgnFault, PgnFaultKind, read_pgn};
+use chess_pgn::{PgnEnd, PgnFault, PgnFaultKind, Termination, read_pgn};
 use itoa::Buffer;
 use std::alloc::Global;
 
@@ -108,6 +108,18 @@ fn write_number(line: &mut ReportLine, number: usize)
     write_text(line, buffer.format(number as u64).as_bytes());
 }
 
+// How a game ended, where its text tells it, at the end of a line.
+fn write_termination(line: &mut ReportLine, termination: Option<Termination>)
+    requires { array_vec_len line.old + 18 ≤ 120 }
+    ensures text { line.new.items ≡ line.old.items ++ told_termination termination }
+    ensures len { array_vec_len line.new ≤ array_vec_len line.old + 18 }
+{
+    if let Some(termination) = termination {
+        write_text(line, b", ");
+        write_text(line, termination.text());
+    }
+}
+
 // What is told of a game, at the end of a line.
 fn write_report(line: &mut ReportLine, report: &Report)
     requires { array_vec_len line.old + 60 ≤ 120 }
@@ -119,6 +131,7 @@ fn write_report(line: &mut ReportLine, report: &Report)
             write_number(line, *plies);
             write_text(line, b" half-moves, ");
             write_text(line, end.outcome.text());
+            write_termination(line, end.termination);
         }
         Report::Faulty(fault) => {
             write_text(line, fault_name(fault.kind));
@@ -186,7 +199,7 @@ fn tell_games<W: Output>(
 ) -> Result<Verified, WriteFault>
     requires few { length text.now ≤ 16777216 }
     requires limit { game.old.limit ≡ 20000 }
-    ensures { Told text.now (W.seen output.old) (W.seen output.new) result }
+    ensures { HandedOn text.now (W.seen output.old) (W.seen output.new) result }
 {
     let verified = tell_each(text, game, output)?;
     output.flush()?;
@@ -194,7 +207,7 @@ fn tell_games<W: Output>(
 }
 
 /// Reads all games of the input and writes a line for each, `game K: N half-moves, OUTCOME`, with the outcome that the
-/// text tells. A game with a fault has the line `game K: FAULT at byte B` and is the last.
+/// text tells, and behind it `, TERMINATION` where the text tells that too. A game with a fault has the line `game K: FAULT at byte B` and is the last.
 ///
 /// # Errors
 /// Where a device or memory failed, or the input has more than 16,777,216 bytes. Only a failed writer leaves lines

@@ -7,7 +7,7 @@ use Rattle.std.specs.List.{flat_map}
 use Rattle.std.proofs.Common.{get_or, add-one, ◌∷◌}
 use Rattle.std.proofs.lemmas.List.{take-append-drop}
 use Rattle.std.proofs.lemmas.Grind.{common_steps}
-use Rattle.chess_base.specs.Devices.{OutputState, Took, TookThenFailed, BreaksOff, Puts, FlushStep, risen}
+use Rattle.chess_base.specs.Devices.{OutputState, Took, TookThenFailed, Sent, BreaksOff, Puts, Sends, FlushStep, risen, raised}
 
 pub appends_more : (a b c : Option (List ℕ)) (x y : List ℕ) → Appends a b x → Appends b c y → Appends a c (x ++ y)
 appends_more None b c x y h k = tt
@@ -34,19 +34,29 @@ consumes_kept None b h = tt
 consumes_kept (Some s) None h = absurd h
 consumes_kept (Some s) (Some t) h = sym h
 
+-- a count after some bytes, and after more
+pub raised_more : (n : ℕ) (x y : List ℕ) → raised n (x ++ y) ≡ raised (raised n x) y
+raised_more n [] y = refl
+raised_more n (b ∷ x) y = raised_more (risen n) x y
+
+unflushed_more : (l m n : ℕ) (x y : List ℕ) → m ≡ raised l x → n ≡ raised m y → n ≡ raised l (x ++ y)
+unflushed_more l m n x y e f = f ∙ ap (λ k. raised k y) e ∙ sym (raised_more l x y)
+
 pub took_none : (a : OutputState) → Took a a []
-took_none a = record { bytes = appends_none a.known_bytes; failures = refl }
+took_none a = record { bytes = appends_none a.known_bytes; failures = refl; unflushed = refl }
 
 pub took_more : (a b c : OutputState) (x y : List ℕ) → Took a b x → Took b c y → Took a c (x ++ y)
 took_more a b c x y h k = record {
   bytes = appends_more a.known_bytes b.known_bytes c.known_bytes x y h.bytes k.bytes;
   failures = k.failures ∙ h.failures;
+  unflushed = unflushed_more a.unflushed b.unflushed c.unflushed x y h.unflushed k.unflushed;
 }
 
 pub failed_more : (a b c : OutputState) (x y : List ℕ) → Took a b x → TookThenFailed b c y → TookThenFailed a c (x ++ y)
 failed_more a b c x y h k = record {
   bytes = appends_more a.known_bytes b.known_bytes c.known_bytes x y h.bytes k.bytes;
   failures = k.failures ∙ ap risen h.failures;
+  unflushed = unflushed_more a.unflushed b.unflushed c.unflushed x y h.unflushed k.unflushed;
 }
 
 pub breaks_more : (a b c : OutputState) (x y : List ℕ) → Took a b x → BreaksOff b c y → BreaksOff a c (x ++ y)
@@ -80,9 +90,21 @@ pub wrote_part : (a b c : OutputState) (at : ℕ) (text : List ℕ) → Took a b
 wrote_part a b c at text h k = (take at text ++ [], (drop at text, rw (append-nil, take-append-drop) refl), failed_more a b c (take at text) [] h k)
 
 -- a text, and then a flush
-pub flush_on : {A E : Type 0} (a b c : OutputState) (r : Result A E) (x : List ℕ) → Took a b x → FlushStep b c r → Puts a c r x
-flush_on a b c (Ok v) x h k = rw (← append-nil x) (took_more a b c x [] h k)
+pub sent_on : (a b c : OutputState) (x : List ℕ) → Took a b x → Sent b c [] → Sent a c x
+sent_on a b c x h k = record {
+  bytes = rw (← append-nil x) (appends_more a.known_bytes b.known_bytes c.known_bytes x [] h.bytes k.bytes);
+  failures = k.failures ∙ h.failures;
+  flushed = k.flushed;
+}
+
+pub flush_on : {A E : Type 0} (a b c : OutputState) (r : Result A E) (x : List ℕ) → Took a b x → FlushStep b c r → Sends a c r x
+flush_on a b c (Ok v) x h k = sent_on a b c x h k
 flush_on a b c (Err e) x h k = (x ++ [], ([], append_assoc x [] [] ∙ append-nil x), failed_more a b c x [] h k)
+
+-- at the exit of a `?`
+pub sends_exit : {A E : Type 0} (a b : OutputState) (r : Result A E) (x : List ℕ) → BreaksOff a b x → IsErr r → Sends a b r x
+sends_exit a b (Ok v) x h k = cc
+sends_exit a b (Err e) x h k = h
 
 flat_one : {X : Type 0} (f : X → List ℕ) (x : X) → flat_map f (x ∷ []) ≡ f x
 flat_one f x = append-nil (f x)

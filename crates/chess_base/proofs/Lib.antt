@@ -17,6 +17,7 @@ pub mod InitialIsSound
 pub mod Lengths
 pub mod RanksText
 pub mod DeviceLaws
+pub mod Unflushed
 pub mod Ranks
 pub mod Splits
 pub mod Placements
@@ -29,4 +30,5 @@ pub mod SpelledRights
 pub mod SpelledFields
 pub mod SpelledFen
 pub mod NormalKept
+pub mod MovesRise
 pub mod WrittenFen

@@ -20,3 +20,4 @@ pub mod Reading
 pub mod Spelling
 pub mod FenFaults
 pub mod Devices
+pub mod Counting

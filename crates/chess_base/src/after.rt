@@ -6,7 +6,7 @@ ghost use Rattle.chess_base.specs.Sound.{IsSound};
 ghost use Rattle.chess_base.specs.Moves.{man_that_lands, second_square_emptied, steps_of, men_after, right_after, rights_after, target_after, resets_clock, halfmove_after, fullmove_after};
 
 use crate::attack::{is_man, is_of};
-use crate::castling::{castle_of, castling_rook_to, lands_on, right_of, rook_from};
+use crate::castling::{castle_of, mover_to, right_of, rook_from, rook_to};
 use crate::man::{CastlingSide, Colour, ColourRights, Kind, Man, Move, Rights};
 use crate::pawns::{forward, is_double_advance, is_en_passant};
 use crate::setup::{COUNTER_LIMIT, Setup};
@@ -41,19 +41,21 @@ pub fn second_square_emptied(setup: &Setup, m: &Move) -> Option<Square>
 }
 
 /// What the move changes on the board.
+#[tactic(auto, unfolding(crate::specs::Castling::lands_on, crate::specs::Castling::castling_rook_to))]
 pub fn steps_of(setup: &Setup, m: &Move) -> Steps
     requires { IsSound setup.now }
     ensures { result ≡ steps_of setup.now m.now }
 {
+    let castle = &castle_of(setup, m);
     Steps {
         from: m.from,
         second_from: second_square_emptied(setup, m),
-        second_to: castling_rook_to(setup, m),
+        second_to: rook_to(castle),
         second: Some(Man {
             colour: setup.side,
             kind: Kind::Rook,
         }),
-        to: lands_on(setup, m),
+        to: mover_to(m, castle),
         mover: man_that_lands(setup.men[m.from.index()], m.promotion),
     }
 }

@@ -22,7 +22,8 @@ mod steps;
 pub use fault::FenFault;
 pub use fen::{FenText, read_fen, read_fen_as, write_fen};
 pub use laws::{
-    after_is_sound, before_undoes_after, normal_is_kept, reserve_never_grows, written_is_spelled,
+    after_is_sound, before_undoes_after, moves_rise, normal_is_kept, reserve_never_grows,
+    written_is_spelled,
 };
 pub use man::{CastlingSide, Colour, ColourRights, Kind, Man, Move, Rights, Variant};
 pub use position::Position;

@@ -5,3 +5,4 @@ pub mod Words
 pub mod RunLemmas
 pub mod Refusals
 pub mod PgnRow
+pub mod NormalRows

@@ -6,16 +6,16 @@ use Rattle.std.specs.Option.{IfSome}
 use Rattle.std.proofs.lemmas.Option.{IfSome_then}
 use Rattle.std.proofs.KnownBytes.{Consumes-whole}
 use Rattle.std.proofs.Common.{Option, subst}
-use Rattle.std.specs.Io.KnownBytes.{Consumes, IsAtEnd}
+use Rattle.std.specs.Io.KnownBytes.{Consumes, Appends, IsAtEnd}
 use Rattle.std.specs.Bool.{MatchBool}
 use Rattle.std.proofs.lemmas.Grind.{common_steps}
-use Rattle.chess_base.specs.Devices.{InputState, OutputState, Took, TookThenFailed, BreaksOff, risen}
-use Rattle.chess_base.proofs.DeviceLaws.{consumes_more, consumes_none, took_none, took_more, failed_more}
+use Rattle.chess_base.specs.Devices.{InputState, OutputState, Sent, TookThenFailed, BreaksOff, risen, raised}
+use Rattle.chess_base.proofs.DeviceLaws.{consumes_more, consumes_none, appends_more, appends_none}
 use Rattle.chess_cecp.specs.Lines.{LineSeen, Held, nothing_held, lines_heard, lines_held, lines, whole}
 use Rattle.chess_cecp.specs.Next.{before_piece, Waits, GotLine, GotLast, NextLine}
 use Rattle.chess_cecp.specs.Held.{Seen}
 use Rattle.chess_cecp.specs.Session.{next_state, answer_to, is_quit, standing, answers, has_quit}
-use Rattle.chess_cecp.specs.Run.{Transcript, Ran, Answered, AnsweredKnown, risen_if}
+use Rattle.chess_cecp.specs.Run.{Transcript, LeavesUnflushed, Ran, Answered, AnsweredKnown, risen_if}
 use Rattle.chess_cecp.specs.declared.session.Go.{Go}
 use Rattle.chess_cecp.specs.declared.session.Go.TheVariants as goes
 use Rattle.chess_cecp.specs.declared.run.End.TheVariants.{Quit, InputEnded}
@@ -74,10 +74,41 @@ standing_one s x ys h = rw h refl
 pub standing_last : (s : Seen) (x : LineSeen) → standing s (x ∷ []) ≡ next_state s x
 standing_last s x = one_state (is_quit x) (next_state s x)
 
+-- ---- what the writer took and handed on
+
+-- texts were sent, one behind another
+pub record SentAll (w w' : OutputState) (text : List ℕ) : Type 0 where
+  pub bytes : Appends w.known_bytes w'.known_bytes text
+  pub failures : w'.failure_count ≡ w.failure_count
+  pub flushed : LeavesUnflushed w w' []
+
+-- and then one broke off
+pub record SentSome (w w' : OutputState) (text start : List ℕ) : Type 0 where
+  pub bytes : Appends w.known_bytes w'.known_bytes (text ++ start)
+  pub failures : w'.failure_count ≡ risen w.failure_count
+  pub unflushed : LeavesUnflushed w w' start
+
+sent_none : (w : OutputState) → SentAll w w []
+sent_none w = record { bytes = appends_none w.known_bytes; failures = refl; flushed = λ h. h }
+
+sent_more : (w w' w'' : OutputState) (x y : List ℕ) → SentAll w w' x → Sent w' w'' y → SentAll w w'' (x ++ y)
+sent_more w w' w'' x y h k = record {
+  bytes = appends_more w.known_bytes w'.known_bytes w''.known_bytes x y h.bytes k.bytes;
+  failures = k.failures ∙ h.failures;
+  flushed = λ none. k.flushed;
+}
+
+sent_some : (w w' w'' : OutputState) (x y : List ℕ) → SentAll w w' x → TookThenFailed w' w'' y → SentSome w w'' x y
+sent_some w w' w'' x y h k = record {
+  bytes = appends_more w.known_bytes w'.known_bytes w''.known_bytes x y h.bytes k.bytes;
+  failures = k.failures ∙ ap risen h.failures;
+  unflushed = λ none. k.unflushed ∙ ap (λ n. raised n y) (h.flushed none);
+}
+
 -- after some lines were answered, none of them a quit
 pub record SoFar (r r' : InputState) (w w' : OutputState) (s s' : Seen) (held : Held) (given : List ℕ) (done : List LineSeen) : Type 0 where
   pub bytes : Consumes r.known_bytes r'.known_bytes given
-  pub took : Took w w' (answers s done)
+  pub took : SentAll w w' (answers s done)
   pub state : s' ≡ standing s done
   pub no_quit : has_quit done ≡ false
   pub lines : (told : Bool) (rest : List ℕ) → lines_heard 1024 told (given ++ rest) ≡ done ++ lines_held 1024 told held rest
@@ -94,7 +125,7 @@ nothing_whole = nothing_left 1024 false
 pub start : (r : InputState) (w : OutputState) (s : Seen) → SoFar r r w w s s nothing_held [] []
 start r w s = record {
   bytes = consumes_none r.known_bytes;
-  took = took_none w;
+  took = sent_none w;
   state = refl;
   no_quit = refl;
   lines = λ told rest. refl;
@@ -194,7 +225,7 @@ state_on s s' s'' done line e n = n ∙ ap (λ v. next_state v line) e
 -- the next line, once it was answered
 pub go_on : (E : Type 0) (r r' r'' : InputState) (w w' w'' : OutputState) (s s' s'' : Seen) (held held' : Held) (given : List ℕ) (done : List LineSeen) (line : LineSeen)
     → SoFar r r' w w' s s' held given done → NextLine {E = E} 1024 r' r'' held held' (Ok (Some line)) → line.ended ≡ true
-    → Took w' w'' (answer_to s' line) → s'' ≡ next_state s' line → is_quit line ≡ false
+    → Sent w' w'' (answer_to s' line) → s'' ≡ next_state s' line → is_quit line ≡ false
     → (given' : List ℕ) × SoFar r r'' w w'' s s'' held' given' (done ++ line ∷ [])
 go_on E r r' r'' w w' w'' s s' s'' held held' given done line f (more, bytes, waits, got) ended took next on =
     let g : GotLine 1024 r' r'' held held' more line = of_true line.ended _ _ ended got in
@@ -203,7 +234,7 @@ go_on E r r' r'' w w' w'' s s' s'' held held' given done line f (more, bytes, wa
       given ++ more,
       record {
         bytes = consumes_more r.known_bytes r'.known_bytes r''.known_bytes given more f.bytes bytes;
-        took = rw told_text (took_more w w' w'' (answers s done) (answer_to s' line) f.took took);
+        took = rw told_text (sent_more w w' w'' (answers s done) (answer_to s' line) f.took took);
         state = state_on s s' s'' done line f.state next ∙ sym (standing_last (standing s done) line) ∙ sym (standing_on s done (line ∷ []) f.no_quit);
         no_quit = no_quit_on done line f.no_quit on;
         lines = λ told rest. ap (lines_heard 1024 told) (append_assoc given more rest) ∙ f.lines told (more ++ rest) ∙ ap (λ v. done ++ v) (g.lines told rest)
@@ -237,10 +268,10 @@ known_answered r r' s s' t quit bytes end all is =
 -- a run that ends by the line that was reached
 pub by_quit : (r r' r'' : InputState) (w w' w'' : OutputState) (s s' s'' : Seen) (held : Held) (given : List ℕ) (done : List LineSeen) (line : LineSeen)
     → SoFar r r' w w' s s' held given done → IsReached r r'' done line
-    → Took w' w'' (answer_to s' line) → s'' ≡ next_state s' line → is_quit line ≡ true
+    → Sent w' w'' (answer_to s' line) → s'' ≡ next_state s' line → is_quit line ≡ true
     → (t : Transcript) × Ran r r'' w w'' s s'' t (Ok Quit)
 by_quit r r' r'' w w' w'' s s' s'' held given done line f (all, told, after, at) took next on =
-    let both : Took w w'' (answers s done ++ answer_to s' line) = took_more w w' w'' (answers s done) (answer_to s' line) f.took took in (
+    let both : SentAll w w'' (answers s done ++ answer_to s' line) = sent_more w w' w'' (answers s done) (answer_to s' line) f.took took in (
       record { given = all; told = told; taken = answers s done ++ answer_to s' line },
       (
         record { given = at.bytes; taken = both.bytes; told = at.ends; reads = at.failures; writes = both.failures },
@@ -254,6 +285,7 @@ by_quit r r' r'' w w' w'' s s' s'' held given done line f (all, told, after, at)
         ),
         IfSome_then r.known_bytes at.known
             (λ xs (behind, e). (quit_answered r r' w w' s s' s'' held given done line behind _ f e next on, ap has_quit e ∙ quit_stands done line behind on)),
+        both.flushed,
       ),
     )
 
@@ -263,7 +295,7 @@ pub by_write : (r r' r'' : InputState) (w w' w'' : OutputState) (s s' s'' : Seen
     → BreaksOff w' w'' (answer_to s' line) → s'' ≡ next_state s' line
     → (t : Transcript) × Ran r r'' w w'' s s'' t (Err Write)
 by_write r r' r'' w w' w'' s s' s'' held given done line f (all, told, after, at) (start, (rest, is), broke) next =
-    let both : TookThenFailed w w'' (answers s done ++ start) = failed_more w w' w'' (answers s done) start f.took broke in (
+    let both : SentSome w w'' (answers s done) start = sent_some w w' w'' (answers s done) start f.took broke in (
       record { given = all; told = told; taken = answers s done ++ start },
       (
         record { given = at.bytes; taken = both.bytes; told = at.ends; reads = at.failures; writes = both.failures },
@@ -277,6 +309,7 @@ by_write r r' r'' w w' w'' s s' s'' held given done line f (all, told, after, at
           refl,
           state_on s s' s'' done line f.state next ∙ sym (standing_last (standing s done) line) ∙ sym (standing_on s done (line ∷ []) f.no_quit),
           IfSome_then r.known_bytes at.known (λ xs (behind, e). (behind, e ∙ sym (append_assoc done (line ∷ []) behind))),
+          both.unflushed,
         ),
       ),
     )
@@ -284,12 +317,12 @@ by_write r r' r'' w w' w'' s s' s'' held given done line f (all, told, after, at
 -- a run that ends by an unended last line
 pub by_last : (E : Type 0) (r r' r'' : InputState) (w w' w'' : OutputState) (s s' s'' : Seen) (held held' : Held) (given : List ℕ) (done : List LineSeen) (line : LineSeen)
     → SoFar r r' w w' s s' held given done → NextLine {E = E} 1024 r' r'' held held' (Ok (Some line)) → line.ended ≡ false
-    → Took w' w'' (answer_to s' line) → s'' ≡ next_state s' line → is_quit line ≡ false
+    → Sent w' w'' (answer_to s' line) → s'' ≡ next_state s' line → is_quit line ≡ false
     → (t : Transcript) × Ran r r'' w w'' s s'' t (Ok InputEnded)
 by_last E r r' r'' w w' w'' s s' s'' held held' given done line f (more, bytes, waits, got) ended took next on =
     let g : GotLast 1024 r' r'' held held' more line = of_false line.ended _ _ ended got in
     let at : Reached r r'' (given ++ more) true done line [] = reached_last r r' r'' w w' s s' held held' given more done line f bytes waits g in
-    let both : Took w w'' (answers s done ++ answer_to s' line) = took_more w w' w'' (answers s done) (answer_to s' line) f.took took in
+    let both : SentAll w w'' (answers s done ++ answer_to s' line) = sent_more w w' w'' (answers s done) (answer_to s' line) f.took took in
     let t : Transcript = record { given = given ++ more; told = true; taken = answers s done ++ answer_to s' line } in
     let none : has_quit (lines 1024 (given ++ more)) ≡ false = ap has_quit at.lines ∙ no_quit_on done line f.no_quit on in
     let all : Answered s s'' t.taken (lines 1024 (given ++ more)) = record {
@@ -302,6 +335,7 @@ by_last E r r' r'' w w' w'' s s' s'' held held' given done line f (more, bytes, 
         record { given = at.bytes; taken = both.bytes; told = at.ends; reads = at.failures; writes = both.failures },
         record { told = refl; at_end = g.at_end; no_quit = none; all = all },
         known_answered r r'' s s'' t false at.bytes g.at_end all none,
+        both.flushed,
       ),
     )
 
@@ -320,6 +354,7 @@ by_end E r r' r'' w w' s s' held held' given done f (more, bytes, waits, got) =
         record { given = both; taken = f.took.bytes; told = got.ends ∙ ap risen f.ends; reads = got.failures ∙ f.failures; writes = f.took.failures },
         record { told = refl; at_end = got.at_end; no_quit = none; all = all },
         known_answered r r'' s s' t false both got.at_end all none,
+        f.took.flushed,
       ),
     )
 
@@ -346,6 +381,7 @@ by_read e r r' r'' w w' s s' held held' given done f (more, bytes, waits, got) =
                     ∙ ap (λ v. v ++ lines_held 1024 true held' rest) (sym is),
               ));
         },
+        f.took.flushed,
       ),
     )
 

@@ -2,7 +2,7 @@
 use Rattle.std.specs.Prelude.{◌≡◌, ℕ, ◌+◌, ◌<◌, Bool, true, false, List, [], ◌∷◌, ◌++◌, length, Result, Ok, Err}
 use Rattle.std.specs.Option.{IfSome}
 use Rattle.std.specs.Io.KnownBytes.{Consumes, Appends, IsAtEnd}
-use Rattle.chess_base.specs.Devices.{InputState, OutputState, risen, Begins}
+use Rattle.chess_base.specs.Devices.{InputState, OutputState, risen, raised, Begins}
 use Rattle.chess_cecp.specs.Lines.{LineSeen, lines_heard, lines, whole}
 use Rattle.chess_cecp.specs.Next.{before_piece}
 use Rattle.chess_cecp.specs.Held.{Seen}
@@ -29,6 +29,10 @@ pub record FitsDevices (r r' : InputState) (w w' : OutputState) (t : Transcript)
   pub told : r'.end_count ≡ risen_if t.told r.end_count
   pub reads : r'.failure_count ≡ risen_if read_failed r.failure_count
   pub writes : w'.failure_count ≡ risen_if write_failed w.failure_count
+
+-- where nothing was unflushed before the call, just these bytes are now
+abbrev pub LeavesUnflushed : OutputState → OutputState → List ℕ → Type 0
+LeavesUnflushed w w' text = w.unflushed ≡ 0 → w'.unflushed ≡ raised 0 text
 
 -- the lines that were given: an unended last one counts where the end was told
 abbrev pub lines_given : Transcript → List LineSeen
@@ -80,19 +84,22 @@ pub record ByRead (r : InputState) (s s' : Seen) (t : Transcript) : Type 0 where
   pub state : s' ≡ standing s (whole 1024 t.given)
   pub first : FirstOfKnown r (whole 1024 t.given)
 
--- an end by a write or a flush that failed: a beginning of the answer to the line was written, and its change stands
-abbrev pub ByWrite : InputState → Seen → Seen → Transcript → ℕ → Type 0
-ByWrite r s s' t last_len =
+-- an end by a write or a flush that failed: a beginning of the answer to the line was written, and its change stands. That
+-- beginning is all that is not flushed
+abbrev pub ByWrite : InputState → OutputState → OutputState → Seen → Seen → Transcript → ℕ → Type 0
+ByWrite r w w' s s' t last_len =
     (before : List LineSeen) × (line : LineSeen) × (after : List LineSeen) × (start : List ℕ)
     × EndsAt t last_len before line after
     × Begins start (answer_to (standing s before) line)
     × (t.taken ≡ answers s before ++ start)
     × (s' ≡ standing s (before ++ line ∷ []))
     × FirstOfKnown r (before ++ line ∷ [])
+    × LeavesUnflushed w w' start
 
--- the whole promise: what was answered, of the session, the devices and the transcript
+-- the whole promise: what was answered, of the session, the devices and the transcript. Each answer was flushed before
+-- anything else: at all ends but that by a failed write nothing is unflushed
 abbrev pub Ran : InputState → InputState → OutputState → OutputState → Seen → Seen → Transcript → Result End Fault → Type 0
-Ran r r' w w' s s' t (Ok Quit) = FitsDevices r r' w w' t false false × ByQuit s s' t r'.last_len × AnsweredKnown r s s' t true
-Ran r r' w w' s s' t (Ok InputEnded) = FitsDevices r r' w w' t false false × ByEnd s s' t r' × AnsweredKnown r s s' t false
-Ran r r' w w' s s' t (Err Read) = FitsDevices r r' w w' t true false × ByRead r s s' t
-Ran r r' w w' s s' t (Err Write) = FitsDevices r r' w w' t false true × ByWrite r s s' t r'.last_len
+Ran r r' w w' s s' t (Ok Quit) = FitsDevices r r' w w' t false false × ByQuit s s' t r'.last_len × AnsweredKnown r s s' t true × LeavesUnflushed w w' []
+Ran r r' w w' s s' t (Ok InputEnded) = FitsDevices r r' w w' t false false × ByEnd s s' t r' × AnsweredKnown r s s' t false × LeavesUnflushed w w' []
+Ran r r' w w' s s' t (Err Read) = FitsDevices r r' w w' t true false × ByRead r s s' t × LeavesUnflushed w w' []
+Ran r r' w w' s s' t (Err Write) = FitsDevices r r' w w' t false true × ByWrite r w w' s s' t r'.last_len

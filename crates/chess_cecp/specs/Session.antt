@@ -194,49 +194,13 @@ abbrev pub IsRefusal : List ℕ → Type 0
 IsRefusal text = Begins (codes "Error") text ⊎ (Begins (codes "Illegal move") text ⊎ Begins (codes "tellusererror") text)
 
 abbrev pub is_quit_command : Command → Bool
-is_quit_command New = false
-is_quit_command SetBoard = false
-is_quit_command UserMove = false
-is_quit_command BareMove = false
-is_quit_command Undo = false
-is_quit_command Remove = false
-is_quit_command Declare = false
-is_quit_command Claim = false
-is_quit_command (Ping n) = false
-is_quit_command (Protover n) = false
-is_quit_command Variant = false
-is_quit_command Go = false
-is_quit_command ShowFen = false
-is_quit_command ShowMoves = false
-is_quit_command ShowState = false
-is_quit_command ShowPgn = false
 is_quit_command Quit = true
-is_quit_command Silent = false
-is_quit_command BadNumber = false
-is_quit_command Unknown = false
+is_quit_command command = false
 
 -- the one command whose answer may be long: the game's text
 abbrev pub shows_pgn : Command → Bool
-shows_pgn New = false
-shows_pgn SetBoard = false
-shows_pgn UserMove = false
-shows_pgn BareMove = false
-shows_pgn Undo = false
-shows_pgn Remove = false
-shows_pgn Declare = false
-shows_pgn Claim = false
-shows_pgn (Ping n) = false
-shows_pgn (Protover n) = false
-shows_pgn Variant = false
-shows_pgn Go = false
-shows_pgn ShowFen = false
-shows_pgn ShowMoves = false
-shows_pgn ShowState = false
 shows_pgn ShowPgn = true
-shows_pgn Quit = false
-shows_pgn Silent = false
-shows_pgn BadNumber = false
-shows_pgn Unknown = false
+shows_pgn command = false
 
 unfoldable pub asks_for_pgn : LineSeen → Bool
 asks_for_pgn line = not line.too_long && shows_pgn (command_of line.text)

@@ -1,9 +1,14 @@
 //! Laws of the definitions. A caller learns one by calling its function, which does nothing.
 
 ghost use Rattle.std.specs.Prelude.{◌≡◌, ◌<◌, ℕ, Bool, true, false, List, [], ◌∷◌, ◌++◌, length};
+ghost use Rattle.chess_base.specs.declared.man.Variant.TheVariants.{Normal};
+ghost use Rattle.chess_game.specs.Game.{State};
+ghost use Rattle.chess_pgn.specs.declared.tags.Tags.{Tags};
+ghost use Rattle.chess_cecp.specs.declared.command.Command.{Command};
 ghost use Rattle.chess_cecp.specs.Held.{Seen};
 ghost use Rattle.chess_cecp.specs.Lines.{LineSeen, lines_heard, line_of, HasNoEnd};
-ghost use Rattle.chess_cecp.specs.Session.{next_state, answer_to, IsRefusal};
+ghost use Rattle.chess_cecp.specs.Normal.{normal_row_of};
+ghost use Rattle.chess_cecp.specs.Session.{row, next_state, answer_to, IsRefusal};
 
 /// The lines are the pieces that byte 10 ends, and what follows the last one, if it isn't empty and the end was told.
 pub fn lines_are_pieces()
@@ -18,4 +23,10 @@ pub fn lines_are_pieces()
 /// A line whose answer is a refusal leaves start, moves and declared result as they were.
 pub fn refusals_change_nothing()
     ensures { (session : Seen) (line : LineSeen) → IsRefusal (answer_to session line) → next_state session line ≡ session }
+{}
+
+/// In a game of normal chess each command has the row that the table of normal chess alone gives it.
+pub fn normal_chess_keeps_its_rows()
+    ensures { (tags : Tags) (limit : ℕ) (s : State) (text argument : List ℕ) (command : Command) → s.start.variant ≡ Normal →
+        row tags limit s text argument command ≡ normal_row_of tags limit s text argument command }
 {}

@@ -12,7 +12,7 @@ mod session;
 mod trim;
 
 pub use command::{Command, read_command};
-pub use laws::{lines_are_pieces, refusals_change_nothing};
+pub use laws::{lines_are_pieces, normal_chess_keeps_its_rows, refusals_change_nothing};
 pub use lines::{Line, Lines};
 pub use run::{End, Fault, run_session};
 pub use session::{Go, Session};

@@ -1,7 +1,8 @@
 //! A session: one game, and the answers to lines.
 
 ghost use Rattle.std.specs.Prelude.{◌≡◌, ◌≤◌, [], if◌then◌else◌, IfOk, false, length, codes};
-ghost use Rattle.chess_base.specs.Devices.{Puts};
+ghost use Rattle.chess_base.specs.Devices.{Sends};
+ghost use Rattle.chess_base.specs.MoveList.{moves};
 ghost use Rattle.chess_base.specs.Reading.{fen_reading_as};
 ghost use Rattle.chess_base.specs.Writing.{fen};
 ghost use Rattle.chess_game.specs.Game.{current, is_over, IsPlayable};
@@ -9,7 +10,7 @@ ghost use Rattle.chess_cecp.specs.Held.{opened, game_of};
 ghost use Rattle.chess_pgn.specs.GameText.{pgn};
 ghost use Rattle.chess_game.specs.Results.{cut_comment};
 ghost use Rattle.chess_cecp.specs.Declaring.{declared_by};
-ghost use Rattle.chess_cecp.specs.Session.{row, move_row, undo_row, remove_row, result_row, draws, claim_row, setboard_row, normal_row, variant_row, stands, next_state, answer_to, is_quit, is_quit_command, shows_pgn, asks_for_pgn, line_text};
+ghost use Rattle.chess_cecp.specs.Session.{row, move_row, undo_row, remove_row, result_row, draws, claim_row, setboard_row, normal_row, variant_row, stands, next_state, answer_to, is_quit, is_quit_command, shows_pgn, asks_for_pgn, line_text, moves_line};
 
 use crate::answer::{
     Answer, write_features, write_illegal_position, write_line, write_moves, write_pong,
@@ -239,6 +240,16 @@ impl<B: Board> Session<B> {
         write_line(answer, b"# fen ", fen.as_slice());
     }
 
+    // Lists the legal moves. The list is large, so only the lines that ask for it pay for its place.
+    #[inline(never)]
+    fn show_moves(&self, answer: &mut Answer)
+        requires { answer.old.items ≡ [] }
+        ensures { answer.new.items ≡ moves_line (current self.now.state) (moves (current self.now.state)) }
+    {
+        let moves = self.game.board().legal_moves();
+        write_moves(answer, &self.game.position(), moves.as_slice());
+    }
+
     // Does what a row of the table says.
     fn obey(&mut self, command: Command, text: &[u8], argument: &[u8], answer: &mut Answer)
         requires short { length text.now ≤ 1024 }
@@ -266,11 +277,7 @@ impl<B: Board> Session<B> {
             Command::Variant => self.change_variant(text, argument, answer),
             Command::Go => write_line(answer, b"Error (the arbiter plays no side): ", b"go"),
             Command::ShowFen => self.show_fen(answer),
-            Command::ShowMoves => write_moves(
-                answer,
-                &self.game.position(),
-                self.game.board().legal_moves().as_slice(),
-            ),
+            Command::ShowMoves => self.show_moves(answer),
             Command::ShowState => write_state(answer, &self.game),
             Command::Quit | Command::Silent => {}
             Command::ShowPgn => unreachable!(),
@@ -301,7 +308,7 @@ impl<B: Board> Session<B> {
     // Writes the game's text, and flushes.
     fn send_pgn<W: Output>(&mut self, writer: &mut W) -> Result<(), WriteFault>
         ensures same { self.new ≡ self.old }
-        ensures written { Puts (W.seen writer.old) (W.seen writer.new) result (pgn (codes "# ") self.old.tags self.old.state) }
+        ensures written { Sends (W.seen writer.old) (W.seen writer.new) result (pgn (codes "# ") self.old.tags self.old.state) }
     {
         write_pgn(&self.game, &mut self.scratch, &self.tags, b"# ", writer)?;
         writer.flush()
@@ -314,7 +321,7 @@ impl<B: Board> Session<B> {
     /// Where a write or the flush failed. The change stands, and a beginning of the answer was written.
     pub fn answer<W: Output>(&mut self, line: &Line<1024>, writer: &mut W) -> Result<Go, WriteFault>
         ensures next { self.new ≡ next_state self.old line.now }
-        ensures written { Puts (W.seen writer.old) (W.seen writer.new) result (answer_to self.old line.now) }
+        ensures written { Sends (W.seen writer.old) (W.seen writer.new) result (answer_to self.old line.now) }
         ensures go { IfOk result (λ go. go ≡ (if is_quit line.now then Go.Quit else Go.On)) }
     {
         if asks_for_pgn(line) {
@@ -349,7 +356,7 @@ fn shows_pgn(command: Command) -> bool
 
 // Writes a text, and flushes.
 fn send<W: Output>(writer: &mut W, text: &[u8]) -> Result<(), WriteFault>
-    ensures { Puts (W.seen writer.old) (W.seen writer.new) result text.now }
+    ensures { Sends (W.seen writer.old) (W.seen writer.new) result text.now }
 {
     put(writer, text)?;
     writer.flush()

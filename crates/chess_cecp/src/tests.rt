@@ -1,7 +1,7 @@
 ghost use Rattle.std.specs.Prelude.{◌≤◌};
 
 use crate::command::{Command, read_command};
-use crate::laws::{lines_are_pieces, refusals_change_nothing};
+use crate::laws::{lines_are_pieces, normal_chess_keeps_its_rows, refusals_change_nothing};
 use crate::lines::Lines;
 use crate::run::{End, Fault, run_session};
 use crate::session::Session;
@@ -199,7 +199,7 @@ const RUNS: [Run; 33] = [
     // From one variant to the other.
     Run {
         input: b"e2e4\nvariant normal\nshowfen\nvariant fischerandom\ne2e4\nvariant fischerandom\nshowfen\ne2e4\nvariant normal\nshowfen\nvariant fischerandom\nnew\nshowfen\nsetboard 4k3/8/8/8/8/8/8/4K2R w H - 0 1\nvariant fischerandom\nsetboard 4k3/8/8/8/8/8/8/4K2R w H - 0 1\nKe2\nundo\ne1g1\nKh1\nO-O+\nshowstate\nshowpgn\n",
-        answers: b"# fen rnbqkbnr/pppppppp/8/8/4P3/8/PPPP1PPP/RNBQKBNR b KQkq e3 0 1\n# fen rnbqkbnr/pppppppp/8/8/8/8/PPPPPPPP/RNBQKBNR w HAha - 0 1\n# fen rnbqkbnr/pppppppp/8/8/8/8/PPPPPPPP/RNBQKBNR w KQkq - 0 1\n# fen rnbqkbnr/pppppppp/8/8/8/8/PPPPPPPP/RNBQKBNR w KQkq - 0 1\ntellusererror Illegal position (castling)\nIllegal move: e1g1\nIllegal move: Kh1\n# state ply 1 rep 1 clock 1 claims none verdict none declared none\n# [Event \"?\"]\n# [Site \"?\"]\n# [Date \"????.??.??\"]\n# [Round \"?\"]\n# [White \"?\"]\n# [Black \"?\"]\n# [Result \"*\"]\n# [FEN \"4k3/8/8/8/8/8/8/4K2R w H - 0 1\"]\n# [SetUp \"1\"]\n# [Variant \"fischerandom\"]\n# \n# 1. O-O *\n# \n",
+        answers: b"# fen rnbqkbnr/pppppppp/8/8/4P3/8/PPPP1PPP/RNBQKBNR b KQkq e3 0 1\n# fen rnbqkbnr/pppppppp/8/8/8/8/PPPPPPPP/RNBQKBNR w HAha - 0 1\n# fen rnbqkbnr/pppppppp/8/8/8/8/PPPPPPPP/RNBQKBNR w KQkq - 0 1\n# fen rnbqkbnr/pppppppp/8/8/8/8/PPPPPPPP/RNBQKBNR w KQkq - 0 1\ntellusererror Illegal position (castling)\nIllegal move: e1g1\nIllegal move: Kh1\n# state ply 1 rep 1 clock 1 claims none verdict none declared none\n# [Event \"?\"]\n# [Site \"?\"]\n# [Date \"????.??.??\"]\n# [Round \"?\"]\n# [White \"?\"]\n# [Black \"?\"]\n# [Result \"*\"]\n# [FEN \"4k3/8/8/8/8/8/8/4K2R w H - 0 1\"]\n# [SetUp \"1\"]\n# [Termination \"unterminated\"]\n# [Variant \"fischerandom\"]\n# \n# 1. O-O *\n# \n",
         end: End::InputEnded,
     },
     Run {
@@ -219,7 +219,7 @@ const GAMES: [Run; 19] = [
     // Games as PGN.
     Run {
         input: b"new\nf2f3\ne7e5\ng2g4\nd8h4\nshowpgn\nsetboard 4k3/8/8/8/1b6/2N5/8/4K1N1 w - - 0 1\ng1e2\nshowpgn now\nsetboard 4k3/8/8/8/8/8/4p3/K7 b - - 0 1\ne2e1q\nshowpgn\n",
-        answers: b"0-1 {Black mates}\n# [Event \"?\"]\n# [Site \"?\"]\n# [Date \"????.??.??\"]\n# [Round \"?\"]\n# [White \"?\"]\n# [Black \"?\"]\n# [Result \"0-1\"]\n# \n# 1. f3 e5 2. g4 Qh4# 0-1\n# \n# [Event \"?\"]\n# [Site \"?\"]\n# [Date \"????.??.??\"]\n# [Round \"?\"]\n# [White \"?\"]\n# [Black \"?\"]\n# [Result \"*\"]\n# [FEN \"4k3/8/8/8/1b6/2N5/8/4K1N1 w - - 0 1\"]\n# [SetUp \"1\"]\n# \n# 1. Ne2 *\n# \n# [Event \"?\"]\n# [Site \"?\"]\n# [Date \"????.??.??\"]\n# [Round \"?\"]\n# [White \"?\"]\n# [Black \"?\"]\n# [Result \"*\"]\n# [FEN \"4k3/8/8/8/8/8/4p3/K7 b - - 0 1\"]\n# [SetUp \"1\"]\n# \n# 1... e1=Q+ *\n# \n",
+        answers: b"0-1 {Black mates}\n# [Event \"?\"]\n# [Site \"?\"]\n# [Date \"????.??.??\"]\n# [Round \"?\"]\n# [White \"?\"]\n# [Black \"?\"]\n# [Result \"0-1\"]\n# [Termination \"normal\"]\n# \n# 1. f3 e5 2. g4 Qh4# 0-1\n# \n# [Event \"?\"]\n# [Site \"?\"]\n# [Date \"????.??.??\"]\n# [Round \"?\"]\n# [White \"?\"]\n# [Black \"?\"]\n# [Result \"*\"]\n# [FEN \"4k3/8/8/8/1b6/2N5/8/4K1N1 w - - 0 1\"]\n# [SetUp \"1\"]\n# [Termination \"unterminated\"]\n# \n# 1. Ne2 *\n# \n# [Event \"?\"]\n# [Site \"?\"]\n# [Date \"????.??.??\"]\n# [Round \"?\"]\n# [White \"?\"]\n# [Black \"?\"]\n# [Result \"*\"]\n# [FEN \"4k3/8/8/8/8/8/4p3/K7 b - - 0 1\"]\n# [SetUp \"1\"]\n# [Termination \"unterminated\"]\n# \n# 1... e1=Q+ *\n# \n",
         end: End::InputEnded,
     },
     // Moves in SAN and in looser spellings.
@@ -377,13 +377,18 @@ fn check_run(rt: &impl Abort, alloc: Global, run: &Run, cut: usize) -> Result<()
     Ok(())
 }
 
+// Short runs in pieces of each length, long ones in pieces of some.
 #[test]
 fn runs_however_they_are_cut(rt: HostRuntime) -> Result<(), Fail> {
     for run in &RUNS {
-        for cut in 1..=run.input.len() {
+        for cut in [1, 2, 3, 7, 20, 1024] {
             check_run(&rt, rt.alloc(), run, cut)?;
         }
-        check_run(&rt, rt.alloc(), run, 1024)?;
+        if run.input.len() <= 40 {
+            for cut in 4..=run.input.len() {
+                check_run(&rt, rt.alloc(), run, cut)?;
+            }
+        }
     }
     Ok(())
 }
@@ -490,18 +495,38 @@ fn a_move_stands_where_writing_breaks_off(rt: HostRuntime) -> Result<(), Fail> {
     Ok(())
 }
 
+// The gate opens for one line at each flush, and a write shuts it: each answer is flushed before the next line is asked
+// for, a silent one and that to `showpgn` too, and nothing is left unflushed.
 #[test]
 fn an_answer_is_flushed_before_more_is_read(rt: HostRuntime) -> Result<(), Fail> {
-    let flushed = Cell::new(0);
-    let mut reader = Counted::reading(GatedReader::new(b"ping 1\nping 2\nquit\n", &flushed));
-    let mut writer = Counted::writing(GatedWriter::new(rt.alloc(), &flushed));
+    let ends: [(&[u8], End); 2] = [(b"quit\n", End::Quit), (b"", End::InputEnded)];
+    for (last, end) in ends {
+        let mut input = Vec::new(rt.alloc());
+        input.extend_from_slice(b"ping 1\nnew\nshowpgn\ne2e4\nx\nshowpgn\nping 2\n")?;
+        input.extend_from_slice(last)?;
+        let gate = Cell::new(true);
+        let mut reader = Counted::reading(GatedReader::new(input.as_slice(), &gate));
+        let mut writer = Counted::writing(GatedWriter::new(rt.alloc(), &gate));
+        let mut session = open(rt.alloc(), 1)?;
+        let ended = run_session(&mut reader, &mut writer, &mut session);
+        assert_eq!(rt; ended, Ok(end));
+        assert_eq!(rt; reader.reader().early, 0);
+        assert!(rt; writer.writer().bytes.ends_with(b"\npong 2\n"));
+        assert_eq!(rt; gate.get(), end == End::Quit);
+    }
+    Ok(())
+}
+
+// The whole text of a game is taken by one write, and then the flush fails.
+#[test]
+fn the_flush_behind_a_game_may_fail(rt: HostRuntime) -> Result<(), Fail> {
     let mut session = open(rt.alloc(), 1)?;
+    let mut reader = pieces(b"showpgn\nping 1\n", 100, 0);
+    let mut writer = taking(rt.alloc(), 9000, 2);
     let ended = run_session(&mut reader, &mut writer, &mut session);
-    assert_eq!(rt; ended, Ok(End::Quit));
-    assert_eq!(rt;
-        writer.writer().bytes.as_slice(),
-        b"pong 1\npong 2\n".as_slice()
-    );
+    assert_eq!(rt; ended, Err(Fault::Write));
+    assert!(rt; writer.writer().bytes.ends_with(b"# *\n# \n"));
+    assert_eq!(rt; writer.writer().calls, 2);
     Ok(())
 }
 
@@ -614,6 +639,7 @@ fn moves_of_test_positions_are_counted(rt: HostRuntime) -> Result<(), Fail> {
 fn a_session_opens_at_the_initial_position(rt: HostRuntime) -> Result<(), Fail> {
     lines_are_pieces();
     refusals_change_nothing();
+    normal_chess_keeps_its_rows();
     let mut board = Plain::new();
     let e4 = Move {
         from: Square::new(12),

@@ -223,7 +223,7 @@ struct Told {
     claims: Claims,
 }
 
-const LINES: [Told; 25] = [
+const LINES: [Told; 27] = [
     // The third, the fourth and the fifth time.
     Told {
         start: b"rnbqkbnr/pppppppp/8/8/8/8/PPPPPPPP/RNBQKBNR w KQkq - 0 1",
@@ -306,6 +306,24 @@ const LINES: [Told; 25] = [
         repetitions: 2,
         halfmove: 4,
         claims: NONE,
+    },
+    // Games on which programs differ: the third time counts the position behind a double advance that nobody could answer en
+    // passant; the capturing pawn would uncover its king along the rank.
+    Told {
+        start: b"rnbqkbnr/pppppppp/8/8/8/8/PPPPPPPP/RNBQKBNR w KQkq - 0 1",
+        moves: b"a2a4 b7b5 h2h3 g8h6 b1c3 h6g8 e2e3 g8h6 d2d4 g7g6 a4a5 e7e5 d1f3 b8a6 f3d1 a6b8 d1f3 h6f5 f3d1 f5h6",
+        verdict: None,
+        repetitions: 3,
+        halfmove: 8,
+        claims: THREEFOLD,
+    },
+    Told {
+        start: b"7k/8/8/K2pP2r/8/8/8/8 w - d6 0 1",
+        moves: b"a5a4 h8g8 a4a5 g8h8 a5a4 h8g8 a4a5 g8h8",
+        verdict: None,
+        repetitions: 3,
+        halfmove: 8,
+        claims: THREEFOLD,
     },
     // A capture on the target was possible once, and never again.
     Told {

@@ -1,46 +1,12 @@
 -- One text behind another, where some of it waits.
-use Rattle.std.proofs.Common.{◌≡◌, ℕ, ◌+◌, ◌<◌, List, [], ◌∷◌, ◌++◌, length, get_or, take, drop, Option, None, Some, Result, Ok, Err, IsErr, refl, sym, ap, ◌∙◌, append_assoc, append-nil, add-one}
-use Rattle.std.specs.Io.KnownBytes.{Appends}
+use Rattle.std.proofs.Common.{◌≡◌, ℕ, ◌+◌, ◌<◌, List, [], ◌∷◌, ◌++◌, length, get_or, take, drop, Result, Ok, Err, IsErr, refl, sym, ap, ◌∙◌, append_assoc, append-nil, add-one}
 use Rattle.std.specs.List.{flat_map}
 use Rattle.std.proofs.Math.Seq.{take-suc}
 use Rattle.std.proofs.lemmas.List.{take-append-drop}
 use Rattle.std.proofs.lemmas.List.Concat.{flat_map-append}
-use Rattle.chess_base.specs.Devices.{OutputState, Took, TookThenFailed, BreaksOff, Puts, risen}
+use Rattle.chess_base.specs.Devices.{OutputState, BreaksOff, Puts}
+use Rattle.chess_base.proofs.DeviceLaws.{took_none, took_more, breaks_more, breaks_longer}
 use Rattle.chess_pgn.specs.Waiting.{TookSome, Adds}
-
--- ---- what a writer took
-
-appends_more : (a b c : Option (List ℕ)) (x y : List ℕ) → Appends a b x → Appends b c y → Appends a c (x ++ y)
-appends_more None b c x y h k = tt
-appends_more (Some s) None c x y h k = absurd h
-appends_more (Some s) (Some t) None x y h k = absurd k
-appends_more (Some s) (Some t) (Some u) x y h k = k ∙ ap (λ v. v ++ y) h ∙ append_assoc s x y
-
-appends_none : (a : Option (List ℕ)) → Appends a a []
-appends_none None = tt
-appends_none (Some s) = sym (append-nil s)
-
-took_none : (a : OutputState) → Took a a []
-took_none a = record { bytes = appends_none a.known_bytes; failures = refl }
-
-took_more : (a b c : OutputState) (x y : List ℕ) → Took a b x → Took b c y → Took a c (x ++ y)
-took_more a b c x y h k = record {
-  bytes = appends_more a.known_bytes b.known_bytes c.known_bytes x y h.bytes k.bytes;
-  failures = k.failures ∙ h.failures;
-}
-
-failed_more : (a b c : OutputState) (x y : List ℕ) → Took a b x → TookThenFailed b c y → TookThenFailed a c (x ++ y)
-failed_more a b c x y h k = record {
-  bytes = appends_more a.known_bytes b.known_bytes c.known_bytes x y h.bytes k.bytes;
-  failures = k.failures ∙ ap risen h.failures;
-}
-
-breaks_more : (a b c : OutputState) (x y : List ℕ) → Took a b x → BreaksOff b c y → BreaksOff a c (x ++ y)
-breaks_more a b c x y h (start, (rest, is), k) = (x ++ start, (rest, append_assoc x start rest ∙ ap (λ v. x ++ v) is), failed_more a b c x start h k)
-
--- a text of which a beginning was written is itself a beginning of a longer one
-breaks_longer : (a b : OutputState) (x y : List ℕ) → BreaksOff a b x → BreaksOff a b (x ++ y)
-breaks_longer a b x y (start, (rest, is), k) = (start, (rest ++ y, sym (append_assoc start rest y) ∙ ap (λ v. v ++ y) is), k)
 
 -- ---- texts that are added
 

@@ -13,7 +13,7 @@ use Rattle.chess_game.specs.Game.{at as left_at}
 use Rattle.chess_game.specs.declared.results.Outcome.{Outcome}
 use Rattle.chess_pgn.specs.declared.read.Progress.{Progress}
 use Rattle.chess_pgn.specs.declared.word.WordKind.{WordKind}
-use Rattle.chess_pgn.specs.declared.word.WordKind.TheVariants.{Termination, Number, Marks, Move}
+use Rattle.chess_pgn.specs.declared.word.WordKind.TheVariants.{End, Number, Marks, Move}
 use Rattle.chess_text.specs.declared.reading.Reading.{Reading}
 use Rattle.chess_text.specs.declared.reading.Reading.TheVariants as reads
 use Rattle.chess_text.specs.Moves.{reading}
@@ -41,7 +41,7 @@ move_keeps limit g place reads.Ambiguous h = unless_full_keeps limit g place _ t
 move_keeps limit g place reads.NoSuch h = unless_full_keeps limit g place _ tt
 
 word_keeps : (limit : ℕ) (g : SoFar) (place : ℕ) (word : List ℕ) (kind : WordKind) → g.state.declared ≡ None → Undeclared (word_step limit g place word kind)
-word_keeps limit g place word (Termination o) h = tt
+word_keeps limit g place word (End o) h = tt
 word_keeps limit g place word Number h = h
 word_keeps limit g place word Marks h = h
 word_keeps limit g place word Move h = move_keeps limit g place (reading (current g.state) word) h
@@ -64,7 +64,7 @@ keeps limit total g left Bad h = tt
 
 -- ---- a termination has bytes
 
-pub termination_has_bytes : (word : List ℕ) (o : Outcome) → Termination o ≡ kind_of word → 0 < length word
+pub termination_has_bytes : (word : List ℕ) (o : Outcome) → End o ≡ kind_of word → 0 < length word
 termination_has_bytes [] o h = cc
 termination_has_bytes (c ∷ word) o h = search rules
 
@@ -78,7 +78,7 @@ pub record Reads (limit : ℕ) (text : List ℕ) (from : ℕ) (game : Seen) (pro
   pub whole : game_of limit (length text) (so_far game.state progress) (tokens_from text here) ≡ pgn_read limit text from
 
 pub first : (old game : Seen) (start : Setup) (v : Variant) (text : List ℕ) (from here : ℕ) → game ≡ left_at old (from_start start) → start ≡ initial_setup_of v → v ≡ variant_told Normal (tokens_from text here) → here ≡ first_place text from → from ≤ here → here ≤ length text
-    → Reads old.limit text from game (record { is_met = false; is_begun = false }) here
+    → Reads old.limit text from game (record { is_met = false; is_begun = false; termination = None }) here
 unfolding pgn_read
 first old game start v text from here restarted initial variant is behind h =
     let state : game.state ≡ from_start (initial_setup_of v) = ap (λ g. g.state) restarted ∙ ap from_start initial in
@@ -88,7 +88,7 @@ first old game start v text from here restarted initial variant is behind h =
       undeclared = ap (λ s. s.declared) state;
       same_limit = ap (λ g. g.limit) restarted;
       whole =
-          ap (λ s. game_of old.limit (length text) (so_far s (record { is_met = false; is_begun = false })) (tokens_from text here)) state
+          ap (λ s. game_of old.limit (length text) (so_far s (record { is_met = false; is_begun = false; termination = None })) (tokens_from text here)) state
           ∙ ap (λ u. game_of old.limit (length text) (nothing_read u) (tokens_from text here)) variant
           ∙ ap (λ n. tokens_read old.limit (length text) (tokens_from text n)) is;
     }

@@ -1,27 +1,26 @@
 -- The text of a game, put together from left to right.
 use Rattle.std.proofs.Common.{◌≡◌, ℕ, zero, suc, ◌+◌, ◌<◌, ◌≤◌, ◌^◌, Bool, true, false, eqb, List, [], ◌∷◌, ◌++◌, length, take, slice_get, Some, Result, refl, sym, ap, subst, ◌∙◌, append_assoc, append-nil, add-one, arith}
-use Rattle.std.specs.Prelude.{decimal, codes, IsTrue}
-use Rattle.std.specs.Str.{bytes_eq}
+use Rattle.std.specs.Prelude.{decimal, IsTrue}
 use Rattle.std.specs.List.{flat_map}
 use Rattle.std.proofs.lemmas.List.Concat.{flat_map-append}
 use Rattle.std.proofs.lemmas.Bool.Decides.{nat_tests}
 use Rattle.std.proofs.lemmas.Fmt.{length-decimal-le}
 use Rattle.chess_base.specs.declared.man.Move.{Move}
-use Rattle.chess_base.specs.declared.man.Variant.TheVariants.{Normal}
+use Rattle.chess_base.specs.declared.man.Variant.{Variant}
 use Rattle.chess_base.specs.declared.setup.Setup.{Setup}
 use Rattle.chess_base.specs.Devices.{OutputState, BreaksOff, Puts}
 use Rattle.chess_base.specs.Moves.{is_legal, after}
-use Rattle.chess_base.specs.Initial.{initial_setup}
-use Rattle.chess_base.specs.Writing.{fen}
 use Rattle.chess_game.specs.Game.{State, outcome_now}
 use Rattle.chess_game.specs.Results.{outcome_text}
 use Rattle.chess_game.specs.declared.results.Outcome.{Outcome}
 use Rattle.chess_game.specs.Line.{last, IsLine}
 use Rattle.chess_pgn.specs.declared.tags.Tags.{Tags}
-use Rattle.chess_pgn.specs.GameText.{roster_lines, is_initial, start_lines_in, start_lines, tag_lines, number_token, tokens_of_move, move_tokens, game_tokens, placed_all, column_behind_all, pgn}
+use Rattle.chess_pgn.specs.declared.termination.Termination.{Termination}
+use Rattle.chess_pgn.specs.Terminations.{termination_of}
+use Rattle.chess_pgn.specs.GameText.{roster_lines, start_lines_in, last_lines, further_lines, tag_lines, number_token, tokens_of_move, move_tokens, game_tokens, placed_all, column_behind_all, pgn}
 use Rattle.chess_text.specs.San.{san}
 use Rattle.chess_pgn.specs.Waiting.{TookSome, Adds}
-use Rattle.chess_pgn.specs.Written.{tag_line, ended, placed, column_behind, line_close, filled_from, move_text_of}
+use Rattle.chess_pgn.specs.Written.{ended, placed, column_behind, line_close, filled_from, move_text_of}
 use Rattle.chess_pgn.proofs.Added.{added_more, added_break, break_longer, adds_more, finished}
 
 -- a number of 32 bits has at most ten digits
@@ -47,27 +46,38 @@ third_put a b c d r w x y z t u v text parts h k l = rw parts.is (adds_more a b 
 
 -- ---- tags
 
--- a start that is not the initial position has the tags of its FEN
-pub start_told : (start initial : Setup) (text other shown : List ℕ) → initial ≡ initial_setup → text ≡ fen start → other ≡ fen initial → bytes_eq text other ≡ false → shown ≡ fen start
-    → start_lines_in Normal start ≡ tag_line (codes "FEN") shown ∷ tag_line (codes "SetUp") (codes "1") ∷ []
-start_told start initial text other shown of is other_is differs told =
-    let e : is_initial start ≡ false = ap (λ v. bytes_eq v (fen initial_setup)) (sym is) ∙ ap (λ v. bytes_eq text (fen v)) (sym of) ∙ ap (bytes_eq text) (sym other_is) ∙ differs in
-    rw (e, told) refl
+-- the tags of a start, and the last ones behind them
+further_is : (prefix before : List ℕ) (start : Setup) (v : Variant) (t : Termination) → v ≡ start.variant → before ≡ prefix → ended prefix (further_lines start t) ≡ ended prefix (start_lines_in start.variant start) ++ ended before (last_lines v t)
+further_is prefix before start v t is b =
+    flat_map-append (λ text. prefix ++ text ++ 10 ∷ []) (start_lines_in start.variant start) (last_lines start.variant t)
+    ∙ ap (λ q. ended prefix (start_lines_in start.variant start) ++ ended q (last_lines start.variant t)) (sym b)
+    ∙ ap (λ u. ended prefix (start_lines_in start.variant start) ++ ended before (last_lines u t)) (sym is)
+
+pub start_broke : (a b : OutputState) (w prefix : List ℕ) (start : Setup) (t : Termination) → BreaksOff a b (w ++ ended prefix (start_lines_in start.variant start)) → BreaksOff a b (w ++ ended prefix (further_lines start t))
+start_broke a b w prefix start t h =
+    subst (λ v. BreaksOff a b (w ++ v)) (sym (further_is prefix prefix start start.variant t refl refl))
+    (break_longer a b w (ended prefix (start_lines_in start.variant start)) (ended prefix (last_lines start.variant t)) h)
+
+pub further_put : {A E : Type 0} (a b c : OutputState) (r : Result A E) (w x y prefix before : List ℕ) (start : Setup) (v : Variant) (t : Termination) → v ≡ start.variant → before ≡ prefix
+    → TookSome a b w x (ended prefix (start_lines_in start.variant start)) → Adds b c x y r (ended before (last_lines v t)) → Adds a c w y r (ended prefix (further_lines start t))
+further_put a b c r w x y prefix before start v t is same h k =
+    subst (Adds a c w y r) (sym (further_is prefix before start v t is same))
+    (adds_more a b c r w x y (ended prefix (start_lines_in start.variant start)) (ended before (last_lines v t)) h k)
 
 -- the tags of a game and an empty line
-pub tags_are : (prefix before last_before : List ℕ) (t : Tags) (outcome : Outcome) (start : Setup) (s : State) → outcome ≡ outcome_now s → start ≡ s.start → before ≡ prefix → last_before ≡ prefix
-    → HasParts (ended prefix (roster_lines t outcome)) (ended before (start_lines start)) (last_before ++ [] ++ 10 ∷ []) (ended prefix (tag_lines t s ++ [] ∷ []))
-tags_are prefix before last_before t outcome start s o is b l =
+pub tags_are : (prefix before last_before : List ℕ) (t : Tags) (outcome : Outcome) (start : Setup) (termination : Termination) (s : State) → outcome ≡ outcome_now s → start ≡ s.start → termination ≡ termination_of t.ended outcome → before ≡ prefix → last_before ≡ prefix
+    → HasParts (ended prefix (roster_lines t outcome)) (ended before (further_lines start termination)) (last_before ++ [] ++ 10 ∷ []) (ended prefix (tag_lines t s ++ [] ∷ []))
+tags_are prefix before last_before t outcome start termination s o is told b l =
     let line : List ℕ → List ℕ = λ text. prefix ++ text ++ 10 ∷ [] in
     let roster : List (List ℕ) = roster_lines t (outcome_now s) in
-    let behind : List (List ℕ) = start_lines s.start in
+    let behind : List (List ℕ) = further_lines s.start (termination_of t.ended (outcome_now s)) in
     record {
       is =
           flat_map-append line (roster ++ behind) ([] ∷ [])
           ∙ ap (λ v. v ++ flat_map line ([] ∷ [])) (flat_map-append line roster behind)
           ∙ append_assoc (flat_map line roster) (flat_map line behind) (flat_map line ([] ∷ []))
           ∙ ap (λ v. flat_map line roster ++ (flat_map line behind ++ v)) (append-nil (line []))
-          ∙ rw (b, l, o, is) refl;
+          ∙ rw (b, l, told, o, is) refl;
     }
 
 -- a game's tags, its moves, and an empty line

@@ -17,3 +17,7 @@ pub mod PgnPieces
 pub mod PgnMoves
 pub mod VariantTold
 pub mod PgnWhole
+pub mod ShortTokens
+pub mod FenVariants
+pub mod OfTokens
+pub mod NormalGames

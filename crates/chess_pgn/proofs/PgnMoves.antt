@@ -1,5 +1,5 @@
 -- Reading the moves of a game's text, which stand in filled lines.
-use Rattle.std.proofs.Common.{◌≡◌, ℕ, suc, ◌+◌, ◌-◌, ◌<◌, ◌≤◌, Bool, true, false, cond, eqb, leb, List, [], ◌∷◌, ◌++◌, length, take, None, refl, sym, ap, ◌∙◌, append_assoc, append-nil, arith}
+use Rattle.std.proofs.Common.{◌≡◌, ℕ, suc, ◌+◌, ◌-◌, ◌<◌, ◌≤◌, Bool, true, false, cond, eqb, leb, List, [], ◌∷◌, ◌++◌, length, take, Option, None, refl, sym, ap, ◌∙◌, append_assoc, append-nil, arith}
 use Rattle.std.specs.Prelude.{codes, decimal}
 use Rattle.std.proofs.Math.Seq.{take-append_seam}
 use Rattle.std.proofs.lemmas.Bool.{leb-true}
@@ -17,6 +17,7 @@ use Rattle.chess_game.specs.Line.{last, IsLine}
 use Rattle.chess_game.specs.Results.{outcome_text}
 use Rattle.chess_game.specs.declared.results.Outcome.{Outcome}
 use Rattle.chess_game.specs.declared.results.Outcome.TheVariants.{WhiteWins, BlackWins, Draw, Unfinished}
+use Rattle.chess_pgn.specs.declared.termination.Termination.{Termination}
 use Rattle.chess_pgn.specs.GameRead.{SoFar, GameRead}
 use Rattle.chess_pgn.specs.GameText.{number_token, move_tokens}
 use Rattle.chess_text.specs.San.{san}
@@ -79,8 +80,8 @@ outcome_some Unfinished = omega arith
 -- ---- reading
 
 -- so many of them were read; a first number may be behind them
-abbrev pub read_so_far : Setup → List Move → Bool → SoFar
-read_so_far start done is_begun = record { state = record { start = start; moves = done; declared = None }; is_met = true; is_begun = is_begun }
+abbrev pub read_so_far : Option Termination → Setup → List Move → Bool → SoFar
+read_so_far t start done is_begun = record { state = record { start = start; moves = done; declared = None }; is_met = true; is_begun = is_begun; termination = t }
 
 last-more : (start : Setup) (done : List Move) (m : Move) → last start (done ++ m ∷ []) ≡ after (last start done) m
 last-more start [] m = refl
@@ -107,7 +108,7 @@ module _ (limit total : ℕ) where
       ap (λ xs. read_on limit total g b (t ++ xs)) next.is ∙ takes b next.first next.rest next.off ∙ ap (read_on limit total h false) (sym next.is) ∙ reads)
 
   -- the last token, which is the outcome
-  pub outcome_read : (g : SoFar) (begins : Bool) (column : ℕ) (o : Outcome) (rest : List ℕ) → read_on limit total g begins (filled_from [] column (outcome_text o ∷ []) ++ rest) ≡ ended_game g.state o (total - length (outcome_text o ++ 10 ∷ rest) + length (outcome_text o))
+  pub outcome_read : (g : SoFar) (begins : Bool) (column : ℕ) (o : Outcome) (rest : List ℕ) → read_on limit total g begins (filled_from [] column (outcome_text o ∷ []) ++ rest) ≡ ended_game g.termination g.state o (total - length (outcome_text o ++ 10 ∷ rest) + length (outcome_text o))
   outcome_read g begins column o rest =
       let t : List ℕ = outcome_text o in
       ap (read_on limit total g begins) (append_assoc (placed [] column t) (line_close (column_behind column t)) rest)
@@ -118,37 +119,37 @@ module _ (limit total : ℕ) where
   -- ---- the moves of a game
 
   -- what is read from there is the same wherever a line began
-  abbrev pub Reads : Setup → List Move → List (List ℕ) → List ℕ → GameRead → Type 0
-  Reads start done ts rest r = (is_begun begins : Bool) (column : ℕ) → read_on limit total (read_so_far start done is_begun) begins (filled_from [] column ts ++ rest) ≡ r
+  abbrev pub Reads : Option Termination → Setup → List Move → List (List ℕ) → List ℕ → GameRead → Type 0
+  Reads told start done ts rest r = (is_begun begins : Bool) (column : ℕ) → read_on limit total (read_so_far told start done is_begun) begins (filled_from [] column ts ++ rest) ≡ r
 
-  number_read : (start : Setup) (done : List Move) (c : Colour) (is_first : Bool) (n : ℕ) (ts : List (List ℕ)) (rest : List ℕ) (r : GameRead) → n ≤ 999999 → Reads start done ts rest r → Reads start done (number_token c is_first n ++ ts) rest r
-  number_read start done White is_first n ts rest r h reads is_begun begins column =
-      let g : SoFar = read_so_far start done is_begun in
+  number_read : (told : Option Termination) (start : Setup) (done : List Move) (c : Colour) (is_first : Bool) (n : ℕ) (ts : List (List ℕ)) (rest : List ℕ) (r : GameRead) → n ≤ 999999 → Reads told start done ts rest r → Reads told start done (number_token c is_first n ++ ts) rest r
+  number_read told start done White is_first n ts rest r h reads is_begun begins column =
+      let g : SoFar = read_so_far told start done is_begun in
       let t : List ℕ = decimal n ++ codes "." in
       token_read g (begun g) begins column t ts rest r (white_number limit total g n h) (omega (arith, length-append (decimal n) (codes "."))) (reads true false (column_behind column t))
-  number_read start done Black true n ts rest r h reads is_begun begins column =
-      let g : SoFar = read_so_far start done is_begun in
+  number_read told start done Black true n ts rest r h reads is_begun begins column =
+      let g : SoFar = read_so_far told start done is_begun in
       let t : List ℕ = decimal n ++ codes "..." in
       token_read g (begun g) begins column t ts rest r (black_number limit total g n h) (omega (arith, length-append (decimal n) (codes "..."))) (reads true false (column_behind column t))
-  number_read start done Black false n ts rest r h reads is_begun begins column = reads is_begun begins column
+  number_read told start done Black false n ts rest r h reads is_begun begins column = reads is_begun begins column
 
   -- the whole game that is read
   pub record IsWhole (start : Setup) (all : List Move) : Type 0 where
     pub few : length all ≤ limit
     pub unended : (k : ℕ) → k < length all → verdict start (take k all) ≡ None
 
-  pub moves_read : AfterIsSound → (start : Setup) (all : List Move) → IsWhole start all → (last_token rest : List ℕ) (r : GameRead) → Reads start all (last_token ∷ []) rest r
-      → (is_first : Bool) (p : Setup) (done ms : List Move) → done ++ ms ≡ all → last start done ≡ p → IsSound p → IsLine p ms → Reads start done (move_tokens is_first p ms ++ last_token ∷ []) rest r
-  moves_read law start all whole o rest r ended is_first p done [] same at sound line is_begun begins column =
-      ap (λ d. read_on limit total (read_so_far start d is_begun) begins (filled_from [] column (o ∷ []) ++ rest)) (sym (append-nil done) ∙ same) ∙ ended is_begun begins column
-  moves_read law start all whole o rest r ended is_first p done (m ∷ ms) same at sound line is_begun begins column =
+  pub moves_read : AfterIsSound → (told : Option Termination) (start : Setup) (all : List Move) → IsWhole start all → (last_token rest : List ℕ) (r : GameRead) → Reads told start all (last_token ∷ []) rest r
+      → (is_first : Bool) (p : Setup) (done ms : List Move) → done ++ ms ≡ all → last start done ≡ p → IsSound p → IsLine p ms → Reads told start done (move_tokens is_first p ms ++ last_token ∷ []) rest r
+  moves_read law told start all whole o rest r ended is_first p done [] same at sound line is_begun begins column =
+      ap (λ d. read_on limit total (read_so_far told start d is_begun) begins (filled_from [] column (o ∷ []) ++ rest)) (sym (append-nil done) ∙ same) ∙ ended is_begun begins column
+  moves_read law told start all whole o rest r ended is_first p done (m ∷ ms) same at sound line is_begun begins column =
       let more : List (List ℕ) = move_tokens false (after p m) ms ++ o ∷ [] in
       let count : length all ≡ length done + suc (length ms) = ap length (sym same) ∙ length-append done (m ∷ ms) in
       let here : take (length done) all ≡ done = ap (take (length done)) (sym same) ∙ take-append_seam done (m ∷ ms) in
       let open_yet : verdict start done ≡ None = ap (verdict start) (sym here) ∙ whole.unended (length done) (omega arith) in
       let room : length done < limit = omega (arith, whole.few) in
-      let behind = moves_read law start all whole o rest r ended false (after p m) (done ++ m ∷ []) ms (append_assoc done (m ∷ []) ms ∙ same) (last-more start done m ∙ ap (λ q. after q m) at) (law p m sound line.0) line.1 in
+      let behind = moves_read law told start all whole o rest r ended false (after p m) (done ++ m ∷ []) ms (append_assoc done (m ∷ []) ms ∙ same) (last-more start done m ∙ ap (λ q. after q m) at) (law p m sound line.0) line.1 in
       let tokens : move_tokens is_first p (m ∷ ms) ++ o ∷ [] ≡ number_token p.side is_first p.fullmove ++ san p m ∷ more = simp append_assoc in
-      ap (λ ts. read_on limit total (read_so_far start done is_begun) begins (filled_from [] column ts ++ rest)) tokens
-      ∙ number_read start done p.side is_first p.fullmove (san p m ∷ more) rest r (leb-true _ _ sound.fullmove_high) (λ x b k.
-      token_read (read_so_far start done x) (read_so_far start (done ++ m ∷ []) true) b k (san p m) more rest r (san_takes limit total (read_so_far start done x) p m sound line.0 at open_yet room) (omega (arith, (san_short p m sound line.0).0)) (behind true false (column_behind k (san p m)))) is_begun begins column
+      ap (λ ts. read_on limit total (read_so_far told start done is_begun) begins (filled_from [] column ts ++ rest)) tokens
+      ∙ number_read told start done p.side is_first p.fullmove (san p m ∷ more) rest r (leb-true _ _ sound.fullmove_high) (λ x b k.
+      token_read (read_so_far told start done x) (read_so_far told start (done ++ m ∷ []) true) b k (san p m) more rest r (san_takes limit total (read_so_far told start done x) p m sound line.0 at open_yet room) (omega (arith, (san_short p m sound line.0).0)) (behind true false (column_behind k (san p m)))) is_begun begins column

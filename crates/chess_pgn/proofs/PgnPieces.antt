@@ -1,5 +1,5 @@
 -- What reading does with each piece of a game's text as it is written.
-use Rattle.std.proofs.Common.{◌≡◌, ℕ, suc, ◌+◌, ◌-◌, ◌<◌, ◌≤◌, Bool, true, false, eqb, List, [], ◌∷◌, ◌++◌, length, Some, None, refl, ap, subst, ◌∙◌, append_assoc, arith}
+use Rattle.std.proofs.Common.{◌≡◌, ℕ, suc, ◌+◌, ◌-◌, ◌<◌, ◌≤◌, Bool, true, false, eqb, List, [], ◌∷◌, ◌++◌, length, Option, Some, None, refl, ap, subst, ◌∙◌, append_assoc, arith}
 use Rattle.std.specs.List.{list_all}
 use Rattle.std.specs.Prelude.{Ok, is_some, codes, decimal, IsTrue, nat_lt}
 use Rattle.std.specs.Str.{bytes_eq}
@@ -16,6 +16,9 @@ use Rattle.chess_game.specs.Game.{State, from_start, played, with_declared, curr
 use Rattle.chess_game.specs.Results.{outcome_text}
 use Rattle.chess_game.specs.declared.results.Outcome.{Outcome}
 use Rattle.chess_game.specs.declared.results.Outcome.TheVariants.{WhiteWins, BlackWins, Draw, Unfinished}
+use Rattle.chess_pgn.specs.declared.termination.Termination.{Termination}
+use Rattle.chess_pgn.specs.declared.termination.Termination.TheVariants as ending
+use Rattle.chess_pgn.specs.Terminations.{termination_text, termination_named}
 use Rattle.chess_pgn.specs.GameRead.{SoFar, GameRead, On, Stop, declared_behind, move_step, word_step, fen_step, step, go_on, game_of}
 use Rattle.chess_text.specs.Moves.{reading}
 use Rattle.chess_text.specs.San.{san}
@@ -23,7 +26,7 @@ use Rattle.chess_pgn.specs.Tokens.{Token, Skip, Tag, Word, is_word_byte, token_a
 use Rattle.chess_pgn.specs.Words.{kind_of}
 use Rattle.chess_pgn.specs.Written.{escaped, tag_line}
 use Rattle.chess_pgn.proofs.PgnFen.{fen_bare}
-use Rattle.chess_pgn.proofs.PgnTags.{is_in_line, bare_escaped, bare_in_line, is_tag_name, tag_token, tag_line_bytes}
+use Rattle.chess_pgn.proofs.PgnTags.{is_in_line, is_bare, bare_escaped, bare_in_line, is_tag_name, tag_token, tag_line_bytes}
 use Rattle.chess_pgn.proofs.PgnWords.{not_byte, word_token, number_kind, move_kind, decimal_digits, decimal_some, number_bytes, san_bytes_in_word}
 use Rattle.chess_text.proofs.SanLaw.{san_read, san_short, san_bytes, san_letter}
 use Rattle.chess_pgn.proofs.Walk.{enough, token_nearer}
@@ -35,20 +38,43 @@ read_on limit total g begins text = game_of limit total g (tokens_of (length tex
 -- ---- the game so far
 
 -- with its tags, or some of them
-abbrev pub tagged : Bool → State → SoFar
-tagged met s = record { state = s; is_met = met; is_begun = false }
+abbrev pub tagged : Bool → Option Termination → State → SoFar
+tagged met t s = record { state = s; is_met = met; is_begun = false; termination = t }
 
 -- behind a number
 abbrev pub begun : SoFar → SoFar
-begun g = record { state = g.state; is_met = true; is_begun = true }
+begun g = record { state = g.state; is_met = true; is_begun = true; termination = g.termination }
 
 -- behind a move
 abbrev pub moved : SoFar → Move → SoFar
-moved g m = record { state = played g.state m; is_met = true; is_begun = true }
+moved g m = record { state = played g.state m; is_met = true; is_begun = true; termination = g.termination }
 
 -- ended by an outcome's word
-abbrev pub ended_game : State → Outcome → ℕ → GameRead
-ended_game s o place = record { state = with_declared s (declared_behind (is_some (verdict_now s)) o); answer = Ok (Some (record { outcome = o; place = place })) }
+abbrev pub ended_game : Option Termination → State → Outcome → ℕ → GameRead
+ended_game t s o place = record { state = with_declared s (declared_behind (is_some (verdict_now s)) o); answer = Ok (Some (record { outcome = o; termination = t; place = place })) }
+
+-- ---- the termination that a tag tells
+
+pub termination_bare : (u : Termination) → list_all is_bare (termination_text u) ≡ true
+termination_bare ending.Abandoned = refl
+termination_bare ending.Adjudication = refl
+termination_bare ending.Death = refl
+termination_bare ending.Emergency = refl
+termination_bare ending.Normal = refl
+termination_bare ending.RulesInfraction = refl
+termination_bare ending.TimeForfeit = refl
+termination_bare ending.Unterminated = refl
+
+termination_back : (u : Termination) → termination_named (termination_text u) ≡ Some u
+unfolding termination_named
+termination_back ending.Abandoned = refl
+termination_back ending.Adjudication = refl
+termination_back ending.Death = refl
+termination_back ending.Emergency = refl
+termination_back ending.Normal = refl
+termination_back ending.RulesInfraction = refl
+termination_back ending.TimeForfeit = refl
+termination_back ending.Unterminated = refl
 
 -- ---- one token
 
@@ -144,7 +170,7 @@ module _ (limit total : ℕ) where
   -- ---- the termination
 
   pub outcome_ends : (g : SoFar) (o : Outcome) (begins : Bool) (d : ℕ) (rest : List ℕ) → is_word_byte d ≡ false
-      → read_on limit total g begins (outcome_text o ++ d ∷ rest) ≡ ended_game g.state o (total - length (outcome_text o ++ d ∷ rest) + length (outcome_text o))
+      → read_on limit total g begins (outcome_text o ++ d ∷ rest) ≡ ended_game g.termination g.state o (total - length (outcome_text o ++ d ∷ rest) + length (outcome_text o))
   unfolding token_at
   outcome_ends g WhiteWins begins d rest off = token_ends g begins 49 (45 ∷ 48 ∷ d ∷ rest) (Word (codes "1-0")) (d ∷ rest) _ (word_token begins 49 (45 ∷ 48 ∷ []) d rest refl off) refl
   outcome_ends g BlackWins begins d rest off = token_ends g begins 48 (45 ∷ 49 ∷ d ∷ rest) (Word (codes "0-1")) (d ∷ rest) _ (word_token begins 48 (45 ∷ 49 ∷ []) d rest refl off) refl
@@ -168,13 +194,19 @@ module _ (limit total : ℕ) where
       ∙ token_on g h begins 91 (name ++ 32 ∷ 34 ∷ string) (Tag name (escaped text) (length string)) (10 ∷ rest) (tag_token begins name text (10 ∷ rest) named line) (next (suc (length (name ++ 32 ∷ 34 ∷ string))) (length string))
       ∙ skip_line_end h false rest
 
-  pub plain_tag : (met : Bool) (s : State) (name text : List ℕ) → is_tag_name name ≡ true → bytes_eq name (codes "FEN") ≡ false → list_all is_in_line text ≡ true → TakesLine (tagged met s) (tagged true s) (tag_line name text)
-  plain_tag met s name text named other line =
-      tag_takes (tagged met s) (tagged true s) name text named line (λ left string. rw other refl)
+  pub plain_tag : (met : Bool) (t : Option Termination) (s : State) (name text : List ℕ) → is_tag_name name ≡ true → bytes_eq name (codes "FEN") ≡ false → bytes_eq name (codes "Termination") ≡ false → list_all is_in_line text ≡ true → TakesLine (tagged met t s) (tagged true t s) (tag_line name text)
+  plain_tag met t s name text named other different line =
+      tag_takes (tagged met t s) (tagged true t s) name text named line (λ left string. rw (other, different) refl)
 
-  pub fen_tag : WrittenIsReadBack → (s : State) (p : Setup) → IsSound p → s.start.variant ≡ p.variant → TakesLine (tagged true s) (tagged true (from_start p)) (tag_line (codes "FEN") (fen p))
-  fen_tag law s p sound same =
+  pub termination_tag : (t : Option Termination) (s : State) (u : Termination) → TakesLine (tagged true t s) (tagged true (Some u) s) (tag_line (codes "Termination") (termination_text u))
+  termination_tag t s u =
+      let bare = termination_bare u in
+      tag_takes (tagged true t s) (tagged true (Some u) s) (codes "Termination") (termination_text u) refl (bare_in_line (termination_text u) bare) (λ left string.
+      ap (λ o. On (tagged true o s)) (ap termination_named (bare_escaped (termination_text u) bare) ∙ termination_back u))
+
+  pub fen_tag : WrittenIsReadBack → (t : Option Termination) (s : State) (p : Setup) → IsSound p → s.start.variant ≡ p.variant → TakesLine (tagged true t s) (tagged true t (from_start p)) (tag_line (codes "FEN") (fen p))
+  fen_tag law t s p sound same =
       let bare = fen_bare p sound in
-      tag_takes (tagged true s) (tagged true (from_start p)) (codes "FEN") (fen p) refl (bare_in_line (fen p) bare) (λ left string.
-      ap (λ text. fen_step (tagged true s) (total - string) (fen_reading_as s.start.variant text)) (bare_escaped (fen p) bare)
-      ∙ ap (fen_step (tagged true s) (total - string)) (ap (λ v. fen_reading_as v (fen p)) same ∙ law p sound))
+      tag_takes (tagged true t s) (tagged true t (from_start p)) (codes "FEN") (fen p) refl (bare_in_line (fen p) bare) (λ left string.
+      ap (λ text. fen_step (tagged true t s) (total - string) (fen_reading_as s.start.variant text)) (bare_escaped (fen p) bare)
+      ∙ ap (fen_step (tagged true t s) (total - string)) (ap (λ v. fen_reading_as v (fen p)) same ∙ law p sound))

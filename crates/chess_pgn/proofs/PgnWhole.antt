@@ -20,13 +20,15 @@ use Rattle.chess_game.specs.declared.results.Declared.{Declared}
 use Rattle.chess_game.specs.declared.results.Outcome.{Outcome}
 use Rattle.chess_game.specs.declared.results.Outcome.TheVariants.{WhiteWins, BlackWins, Draw, Unfinished}
 use Rattle.chess_pgn.specs.declared.tags.Tags.{Tags}
+use Rattle.chess_pgn.specs.declared.termination.Termination.{Termination}
+use Rattle.chess_pgn.specs.Terminations.{termination_text, termination_of}
 use Rattle.chess_pgn.specs.GameRead.{SoFar, GameRead, declared_behind, game_of, nothing_read, tokens_read, pgn_read}
-use Rattle.chess_pgn.specs.GameText.{is_initial, start_lines_in, start_lines, tag_lines, move_tokens, game_tokens, pgn}
+use Rattle.chess_pgn.specs.GameText.{is_initial, fen_lines, start_lines_in, last_lines, further_lines, tag_lines, move_tokens, game_tokens, pgn}
 use Rattle.chess_pgn.specs.PgnLaw.{AreTagTexts, IsReadBack, PgnIsReadBack}
 use Rattle.chess_pgn.specs.Tokens.{first_place, begins_line, tokens_of, tokens_from}
 use Rattle.chess_pgn.specs.Written.{tag_line, ended, filled_from}
 use Rattle.chess_pgn.proofs.PgnMoves.{outcome_some, filled_long, outcome_read, read_so_far, moves_read}
-use Rattle.chess_pgn.proofs.PgnPieces.{read_on, TakesLine, empty_line, tagged, ended_game, plain_tag, fen_tag}
+use Rattle.chess_pgn.proofs.PgnPieces.{read_on, TakesLine, empty_line, tagged, ended_game, plain_tag, termination_tag, fen_tag}
 use Rattle.chess_pgn.proofs.PgnTags.{is_in_line, tag_text_in_line}
 use Rattle.chess_pgn.proofs.VariantTold.{told_on, tags_tell, moves_tell}
 use Rattle.chess_pgn.proofs.Walk.{enough}
@@ -67,61 +69,81 @@ module _ (limit total : ℕ) where
       let text : ended [] (line ∷ lines) ++ rest ≡ line ++ 10 ∷ (ended [] lines ++ rest) = simp append_assoc in
       ap (read_on limit total g begins) text ∙ takes begins (ended [] lines ++ rest) ∙ reads
 
-  -- the tags of a start, and the empty line
-  start_read : WrittenIsReadBack → IsSound (initial_setup_of Normal) → (v : Variant) (start : Setup) → start.variant ≡ v → IsSound start → (rest : List ℕ) → read_on limit total (tagged true (from_start (initial_setup_of v))) true (ended [] (start_lines_in v start ++ [] ∷ []) ++ rest) ≡ read_on limit total (tagged true (from_start start)) true rest
-  start_read law initial Normal start is sound rest = by_test (is_initial start) refl
+  -- the tags of a start
+  start_read : WrittenIsReadBack → IsSound (initial_setup_of Normal) → (t : Option Termination) (v : Variant) (start : Setup) → start.variant ≡ v → IsSound start → (last : List (List ℕ)) (rest : List ℕ)
+      → read_on limit total (tagged true t (from_start (initial_setup_of v))) true (ended [] (start_lines_in v start ++ last) ++ rest) ≡ read_on limit total (tagged true t (from_start start)) true (ended [] last ++ rest)
+  start_read law initial t v start is sound last rest = by_variant v is
     where
-      by_test : (b : Bool) → is_initial start ≡ b → read_on limit total (tagged true (from_start (initial_setup_of Normal))) true (ended [] (cond b [] (tag_line (codes "FEN") (fen start) ∷ tag_line (codes "SetUp") (codes "1") ∷ []) ++ [] ∷ []) ++ rest) ≡ read_on limit total (tagged true (from_start start)) true rest
-      by_test true e =
-          line_read (tagged true (from_start (initial_setup_of Normal))) (tagged true (from_start (initial_setup_of Normal))) true [] [] rest _ (empty_line limit total (tagged true (from_start (initial_setup_of Normal)))) refl
-          ∙ ap (λ p. read_on limit total (tagged true (from_start p)) true rest) (sym (initial_is law initial start is sound e))
-      by_test false e =
-          let s : State = from_start start in
-          line_read (tagged true (from_start (initial_setup_of Normal))) (tagged true s) true (tag_line (codes "FEN") (fen start)) (tag_line (codes "SetUp") (codes "1") ∷ [] ∷ []) rest _ (fen_tag limit total law (from_start (initial_setup_of Normal)) start sound (initial_variant Normal ∙ sym is))
-          (line_read (tagged true s) (tagged true s) true (tag_line (codes "SetUp") (codes "1")) ([] ∷ []) rest _ (plain_tag limit total true s (codes "SetUp") (codes "1") refl refl refl)
-          (line_read (tagged true s) (tagged true s) true [] [] rest _ (empty_line limit total (tagged true s)) refl))
-  start_read law initial Fischerandom start is sound rest =
-      let s : State = from_start start in
+      s : State
+      s = from_start start
+
+      shown : (v : Variant) → start.variant ≡ v → read_on limit total (tagged true t (from_start (initial_setup_of v))) true (ended [] (fen_lines start ++ last) ++ rest) ≡ read_on limit total (tagged true t s) true (ended [] last ++ rest)
+      shown v is =
+          line_read (tagged true t (from_start (initial_setup_of v))) (tagged true t s) true (tag_line (codes "FEN") (fen start)) (tag_line (codes "SetUp") (codes "1") ∷ last) rest _ (fen_tag limit total law t (from_start (initial_setup_of v)) start sound (initial_variant v ∙ sym is))
+          (line_read (tagged true t s) (tagged true t s) true (tag_line (codes "SetUp") (codes "1")) last rest _ (plain_tag limit total true t s (codes "SetUp") (codes "1") refl refl refl refl) refl)
+
+      by_test : start.variant ≡ Normal → (b : Bool) → is_initial start ≡ b → read_on limit total (tagged true t (from_start (initial_setup_of Normal))) true (ended [] (cond b [] (fen_lines start) ++ last) ++ rest) ≡ read_on limit total (tagged true t s) true (ended [] last ++ rest)
+      by_test is true e = ap (λ p. read_on limit total (tagged true t (from_start p)) true (ended [] last ++ rest)) (sym (initial_is law initial start is sound e))
+      by_test is false e = shown Normal is
+
+      by_variant : (v : Variant) → start.variant ≡ v → read_on limit total (tagged true t (from_start (initial_setup_of v))) true (ended [] (start_lines_in v start ++ last) ++ rest) ≡ read_on limit total (tagged true t s) true (ended [] last ++ rest)
+      by_variant Normal is = by_test is (is_initial start) refl
+      by_variant Fischerandom is = shown Fischerandom is
+
+  -- the last tags, and the empty line
+  last_read : (t : Option Termination) (u : Termination) (s : State) (v : Variant) (rest : List ℕ) → read_on limit total (tagged true t s) true (ended [] (last_lines v u ++ [] ∷ []) ++ rest) ≡ read_on limit total (tagged true (Some u) s) true rest
+  last_read t u s Normal rest =
+      line_read (tagged true t s) (tagged true (Some u) s) true (tag_line (codes "Termination") (termination_text u)) ([] ∷ []) rest _ (termination_tag limit total t s u)
+      (line_read (tagged true (Some u) s) (tagged true (Some u) s) true [] [] rest _ (empty_line limit total (tagged true (Some u) s)) refl)
+  last_read t u s Fischerandom rest =
       let variant : List ℕ = tag_line (codes "Variant") (codes "fischerandom") in
-      line_read (tagged true (from_start (initial_setup_of Fischerandom))) (tagged true s) true (tag_line (codes "FEN") (fen start)) (tag_line (codes "SetUp") (codes "1") ∷ variant ∷ [] ∷ []) rest _ (fen_tag limit total law (from_start (initial_setup_of Fischerandom)) start sound (initial_variant Fischerandom ∙ sym is))
-      (line_read (tagged true s) (tagged true s) true (tag_line (codes "SetUp") (codes "1")) (variant ∷ [] ∷ []) rest _ (plain_tag limit total true s (codes "SetUp") (codes "1") refl refl refl)
-      (line_read (tagged true s) (tagged true s) true variant ([] ∷ []) rest _ (plain_tag limit total true s (codes "Variant") (codes "fischerandom") refl refl refl)
-      (line_read (tagged true s) (tagged true s) true [] [] rest _ (empty_line limit total (tagged true s)) refl)))
+      line_read (tagged true t s) (tagged true (Some u) s) true (tag_line (codes "Termination") (termination_text u)) (variant ∷ [] ∷ []) rest _ (termination_tag limit total t s u)
+      (line_read (tagged true (Some u) s) (tagged true (Some u) s) true variant ([] ∷ []) rest _ (plain_tag limit total true (Some u) s (codes "Variant") (codes "fischerandom") refl refl refl refl)
+      (line_read (tagged true (Some u) s) (tagged true (Some u) s) true [] [] rest _ (empty_line limit total (tagged true (Some u) s)) refl))
+
+  -- the tags behind the seven, and the empty line
+  further_read : WrittenIsReadBack → IsSound (initial_setup_of Normal) → (start : Setup) (u : Termination) → IsSound start → (rest : List ℕ) → read_on limit total (tagged true None (from_start (initial_setup_of start.variant))) true (ended [] (further_lines start u ++ [] ∷ []) ++ rest) ≡ read_on limit total (tagged true (Some u) (from_start start)) true rest
+  further_read law initial start u sound rest =
+      ap (λ lines. read_on limit total (tagged true None (from_start (initial_setup_of start.variant))) true (ended [] lines ++ rest)) (append_assoc (start_lines_in start.variant start) (last_lines start.variant u) ([] ∷ []))
+      ∙ start_read law initial None start.variant start refl sound (last_lines start.variant u ++ [] ∷ []) rest
+      ∙ last_read None u (from_start start) start.variant rest
 
   -- all tags
-  tags_read : WrittenIsReadBack → IsSound (initial_setup_of Normal) → (tags : Tags) → AreTagTexts tags → (s : State) → IsSound s.start → (begins : Bool) (rest : List ℕ) → read_on limit total (nothing_read s.start.variant) begins (ended [] (tag_lines tags s ++ [] ∷ []) ++ rest) ≡ read_on limit total (tagged true (from_start s.start)) true rest
+  tags_read : WrittenIsReadBack → IsSound (initial_setup_of Normal) → (tags : Tags) → AreTagTexts tags → (s : State) → IsSound s.start → (begins : Bool) (rest : List ℕ) → read_on limit total (nothing_read s.start.variant) begins (ended [] (tag_lines tags s ++ [] ∷ []) ++ rest) ≡ read_on limit total (tagged true (Some (termination_of tags.ended (outcome_now s))) (from_start s.start)) true rest
   tags_read law initial t texts s sound begins rest =
-      let g : SoFar = tagged true (from_start (initial_setup_of s.start.variant)) in
-      let last : List (List ℕ) = start_lines s.start ++ [] ∷ [] in
+      let g : SoFar = tagged true None (from_start (initial_setup_of s.start.variant)) in
+      let termination : Termination = termination_of t.ended (outcome_now s) in
+      let last : List (List ℕ) = further_lines s.start termination ++ [] ∷ [] in
       let result : List ℕ = tag_line (codes "Result") (outcome_text (outcome_now s)) in
       let black : List ℕ = tag_line (codes "Black") t.black in
       let white : List ℕ = tag_line (codes "White") t.white in
       let round : List ℕ = tag_line (codes "Round") t.round in
       let date : List ℕ = tag_line (codes "Date") t.date in
       let site : List ℕ = tag_line (codes "Site") t.site in
-      line_read (nothing_read s.start.variant) g begins (tag_line (codes "Event") t.event) (site ∷ date ∷ round ∷ white ∷ black ∷ result ∷ last) rest _ (plain_tag limit total false (from_start (initial_setup_of s.start.variant)) (codes "Event") t.event refl refl (tag_text_in_line t.event texts.event))
-      (line_read g g true site (date ∷ round ∷ white ∷ black ∷ result ∷ last) rest _ (plain_tag limit total true (from_start (initial_setup_of s.start.variant)) (codes "Site") t.site refl refl (tag_text_in_line t.site texts.site))
-      (line_read g g true date (round ∷ white ∷ black ∷ result ∷ last) rest _ (plain_tag limit total true (from_start (initial_setup_of s.start.variant)) (codes "Date") t.date refl refl (tag_text_in_line t.date texts.date))
-      (line_read g g true round (white ∷ black ∷ result ∷ last) rest _ (plain_tag limit total true (from_start (initial_setup_of s.start.variant)) (codes "Round") t.round refl refl (tag_text_in_line t.round texts.round))
-      (line_read g g true white (black ∷ result ∷ last) rest _ (plain_tag limit total true (from_start (initial_setup_of s.start.variant)) (codes "White") t.white refl refl (tag_text_in_line t.white texts.white))
-      (line_read g g true black (result ∷ last) rest _ (plain_tag limit total true (from_start (initial_setup_of s.start.variant)) (codes "Black") t.black refl refl (tag_text_in_line t.black texts.black))
-      (line_read g g true result last rest _ (plain_tag limit total true (from_start (initial_setup_of s.start.variant)) (codes "Result") (outcome_text (outcome_now s)) refl refl (outcome_in_line (outcome_now s)))
-      (start_read law initial s.start.variant s.start refl sound rest)))))))
+      line_read (nothing_read s.start.variant) g begins (tag_line (codes "Event") t.event) (site ∷ date ∷ round ∷ white ∷ black ∷ result ∷ last) rest _ (plain_tag limit total false None (from_start (initial_setup_of s.start.variant)) (codes "Event") t.event refl refl refl (tag_text_in_line t.event texts.event))
+      (line_read g g true site (date ∷ round ∷ white ∷ black ∷ result ∷ last) rest _ (plain_tag limit total true None (from_start (initial_setup_of s.start.variant)) (codes "Site") t.site refl refl refl (tag_text_in_line t.site texts.site))
+      (line_read g g true date (round ∷ white ∷ black ∷ result ∷ last) rest _ (plain_tag limit total true None (from_start (initial_setup_of s.start.variant)) (codes "Date") t.date refl refl refl (tag_text_in_line t.date texts.date))
+      (line_read g g true round (white ∷ black ∷ result ∷ last) rest _ (plain_tag limit total true None (from_start (initial_setup_of s.start.variant)) (codes "Round") t.round refl refl refl (tag_text_in_line t.round texts.round))
+      (line_read g g true white (black ∷ result ∷ last) rest _ (plain_tag limit total true None (from_start (initial_setup_of s.start.variant)) (codes "White") t.white refl refl refl (tag_text_in_line t.white texts.white))
+      (line_read g g true black (result ∷ last) rest _ (plain_tag limit total true None (from_start (initial_setup_of s.start.variant)) (codes "Black") t.black refl refl refl (tag_text_in_line t.black texts.black))
+      (line_read g g true result last rest _ (plain_tag limit total true None (from_start (initial_setup_of s.start.variant)) (codes "Result") (outcome_text (outcome_now s)) refl refl refl (outcome_in_line (outcome_now s)))
+      (further_read law initial s.start termination sound rest)))))))
 
   -- ---- the text
 
   -- what is read of a whole text
   text_read : AfterIsSound → WrittenIsReadBack → IsSound (initial_setup_of Normal) → (tags : Tags) → AreTagTexts tags → (s : State) → IsPlayable (record { limit = limit; state = s }) → (begins : Bool) (rest : List ℕ)
       → read_on limit total (nothing_read s.start.variant) begins (pgn [] tags s ++ rest)
-      ≡ ended_game (record { start = s.start; moves = s.moves; declared = None }) (outcome_now s) (total - length (outcome_text (outcome_now s) ++ 10 ∷ 10 ∷ rest) + length (outcome_text (outcome_now s)))
+      ≡ ended_game (Some (termination_of tags.ended (outcome_now s))) (record { start = s.start; moves = s.moves; declared = None }) (outcome_now s) (total - length (outcome_text (outcome_now s) ++ 10 ∷ 10 ∷ rest) + length (outcome_text (outcome_now s)))
   unfolding pgn
   text_read after_law law initial t texts s h begins rest =
       let o : Outcome = outcome_now s in
+      let told : Option Termination = Some (termination_of t.ended o) in
       let moves : List ℕ = filled_from [] 0 (game_tokens s) in
-      let r : GameRead = ended_game (record { start = s.start; moves = s.moves; declared = None }) o (total - length (outcome_text o ++ 10 ∷ 10 ∷ rest) + length (outcome_text o)) in
+      let r : GameRead = ended_game told (record { start = s.start; moves = s.moves; declared = None }) o (total - length (outcome_text o ++ 10 ∷ 10 ∷ rest) + length (outcome_text o)) in
       ap (read_on limit total (nothing_read s.start.variant) begins) (grouped (ended [] (tag_lines t s ++ [] ∷ [])) moves rest)
       ∙ tags_read law initial t texts s h.start begins (moves ++ 10 ∷ rest)
-      ∙ moves_read limit total after_law s.start s.moves (record { few = h.limit; unended = h.unended }) (outcome_text o) (10 ∷ rest) r (λ x b k. outcome_read limit total (read_so_far s.start s.moves x) b k o (10 ∷ rest)) true s.start [] s.moves refl refl h.start h.line false true 0
+      ∙ moves_read limit total after_law told s.start s.moves (record { few = h.limit; unended = h.unended }) (outcome_text o) (10 ∷ rest) r (λ x b k. outcome_read limit total (read_so_far told s.start s.moves x) b k o (10 ∷ rest)) true s.start [] s.moves refl refl h.start h.line false true 0
 
 -- ---- its place
 
@@ -183,11 +205,11 @@ pgn_law after_law law initial limit tags s before rest texts h =
     let o : List ℕ = outcome_text (outcome_now s) in
     let total : ℕ = length (before ++ (written ++ rest)) in
     let place : first_place (before ++ (written ++ rest)) (length before) ≡ length before = rw (first_bytes tags s) (no_mark before 91 (drop 1 written ++ rest) refl) in
-    let is : pgn_read limit (before ++ written ++ rest) (length before) ≡ ended_game (record { start = s.start; moves = s.moves; declared = None }) (outcome_now s) (total - length (o ++ 10 ∷ 10 ∷ rest) + length o) =
+    let is : pgn_read limit (before ++ written ++ rest) (length before) ≡ ended_game (Some (termination_of tags.ended (outcome_now s))) (record { start = s.start; moves = s.moves; declared = None }) (outcome_now s) (total - length (o ++ 10 ∷ 10 ∷ rest) + length o) =
     ap (λ text. pgn_read limit text (length before)) (append_assoc before written rest)
     ∙ read_behind limit before (written ++ rest) s.start.variant place (variant_is tags texts s h.start (begins_line (before ++ (written ++ rest)) (length before)) rest)
     ∙ text_read limit total after_law law initial tags texts s h (begins_line (before ++ (written ++ rest)) (length before)) rest in
-    subst (IsReadBack s (length (before ++ written))) (sym is) (record {
+    subst (IsReadBack s (termination_of tags.ended (outcome_now s)) (length (before ++ written))) (sym is) (record {
       start = refl;
       moves = refl;
       outcome = same_outcome (verdict_now s) s.declared;

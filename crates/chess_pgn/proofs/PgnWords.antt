@@ -15,7 +15,7 @@ use Rattle.std.specs.Str.Parse.{AllDigits}
 use Rattle.chess_game.specs.Results.{outcome_text}
 use Rattle.chess_game.specs.declared.results.Outcome.{Outcome}
 use Rattle.chess_game.specs.declared.results.Outcome.TheVariants.{WhiteWins, BlackWins, Draw, Unfinished}
-use Rattle.chess_pgn.specs.declared.word.WordKind.TheVariants.{Termination, Number, Move}
+use Rattle.chess_pgn.specs.declared.word.WordKind.TheVariants.{End, Number, Move}
 use Rattle.chess_text.specs.Laws.{is_san_byte, begins_with_letter}
 use Rattle.chess_pgn.specs.Tokens.{Word, is_letter, is_digit, is_word_byte, token_at}
 use Rattle.chess_pgn.specs.Words.{outcome_of, kind_by, kind_of}
@@ -102,7 +102,7 @@ no_letter BlackWins = refl
 no_letter Draw = refl
 no_letter Unfinished = refl
 
-pub outcome_kind : (o : Outcome) → kind_of (outcome_text o) ≡ Termination o
+pub outcome_kind : (o : Outcome) → kind_of (outcome_text o) ≡ End o
 outcome_kind WhiteWins = refl
 outcome_kind BlackWins = refl
 outcome_kind Draw = refl

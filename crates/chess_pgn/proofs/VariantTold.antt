@@ -1,5 +1,5 @@
 -- The variant that the tags of a written game name.
-use Rattle.std.proofs.Common.{◌≡◌, ℕ, suc, ◌+◌, ◌<◌, ◌≤◌, Bool, true, false, eqb, List, [], ◌∷◌, ◌++◌, length, Option, Some, None, refl, ap, subst, sym, ◌∙◌, append_assoc, arith}
+use Rattle.std.proofs.Common.{◌≡◌, ℕ, ◌<◌, ◌≤◌, Bool, true, false, cond, eqb, List, [], ◌∷◌, ◌++◌, length, Some, None, refl, ap, subst, ◌∙◌, append_assoc, arith}
 use Rattle.std.specs.List.{list_all}
 use Rattle.std.specs.Prelude.{codes, decimal}
 use Rattle.std.specs.Str.{bytes_eq}
@@ -18,8 +18,10 @@ use Rattle.chess_game.specs.declared.results.Outcome.{Outcome}
 use Rattle.chess_game.specs.declared.results.Outcome.TheVariants.{WhiteWins, BlackWins, Draw, Unfinished}
 use Rattle.chess_pgn.specs.declared.tags.Tags.{Tags}
 use Rattle.chess_pgn.specs.declared.word.WordKind.TheVariants.{Number}
+use Rattle.chess_pgn.specs.declared.termination.Termination.{Termination}
+use Rattle.chess_pgn.specs.Terminations.{termination_text, termination_of}
 use Rattle.chess_pgn.specs.GameRead.{behind_word, told_by, told_next, variant_told}
-use Rattle.chess_pgn.specs.GameText.{is_initial, start_lines_in, start_lines, tag_lines, number_token, move_tokens, game_tokens}
+use Rattle.chess_pgn.specs.GameText.{is_initial, fen_lines, start_lines_in, last_lines, further_lines, tag_lines, number_token, move_tokens, game_tokens}
 use Rattle.chess_pgn.specs.PgnLaw.{AreTagTexts}
 use Rattle.chess_text.specs.San.{san}
 use Rattle.chess_base.specs.Moves.{after}
@@ -27,7 +29,7 @@ use Rattle.chess_pgn.specs.Tokens.{Token, Skip, Tag, Word, is_word_byte, token_a
 use Rattle.chess_pgn.specs.Words.{kind_of}
 use Rattle.chess_pgn.specs.Written.{escaped, tag_line, ended, column_behind, filled_from}
 use Rattle.chess_pgn.proofs.PgnFen.{fen_bare}
-use Rattle.chess_pgn.proofs.PgnPieces.{shorter}
+use Rattle.chess_pgn.proofs.PgnPieces.{shorter, termination_bare}
 use Rattle.chess_pgn.proofs.PgnTags.{is_in_line, bare_in_line, is_tag_name, tag_token, tag_line_bytes, tag_text_in_line}
 use Rattle.chess_pgn.proofs.PgnWords.{word_token, number_kind, decimal_digits, decimal_some, number_bytes}
 use Rattle.chess_pgn.proofs.Walk.{enough}
@@ -95,25 +97,46 @@ fen_line v p sound = other_tag v (codes "FEN") (fen p) refl refl (bare_in_line (
 setup_line : (v : Variant) → TellsLine v v (tag_line (codes "SetUp") (codes "1"))
 setup_line v = other_tag v (codes "SetUp") (codes "1") refl refl refl
 
--- the tags of a start, and the empty line
-start_tells : (v : Variant) (start : Setup) → IsSound start → (rest : List ℕ) → told_on Normal true (ended [] (start_lines_in v start ++ [] ∷ []) ++ rest) ≡ told_on v true rest
-start_tells Normal start sound rest = by_test (is_initial start)
+termination_line : (v : Variant) (t : Termination) → TellsLine v v (tag_line (codes "Termination") (termination_text t))
+termination_line v t = other_tag v (codes "Termination") (termination_text t) refl refl (bare_in_line (termination_text t) (termination_bare t))
+
+-- the tags of a start
+start_tells : (v : Variant) (start : Setup) → IsSound start → (last : List (List ℕ)) (rest : List ℕ) → told_on Normal true (ended [] (start_lines_in v start ++ last) ++ rest) ≡ told_on Normal true (ended [] last ++ rest)
+start_tells v start sound last rest = by_variant v
   where
-    by_test : (b : Bool) → told_on Normal true (ended [] (Rattle.std.proofs.Common.cond b [] (tag_line (codes "FEN") (fen start) ∷ tag_line (codes "SetUp") (codes "1") ∷ []) ++ [] ∷ []) ++ rest) ≡ told_on Normal true rest
-    by_test true = line_tells Normal Normal _ true [] [] rest (empty_line Normal) refl
-    by_test false =
-        line_tells Normal Normal _ true (tag_line (codes "FEN") (fen start)) (tag_line (codes "SetUp") (codes "1") ∷ [] ∷ []) rest (fen_line Normal start sound)
-        (line_tells Normal Normal _ true (tag_line (codes "SetUp") (codes "1")) ([] ∷ []) rest (setup_line Normal)
-        (line_tells Normal Normal _ true [] [] rest (empty_line Normal) refl))
-start_tells Fischerandom start sound rest =
-    line_tells Normal Normal _ true (tag_line (codes "FEN") (fen start)) (tag_line (codes "SetUp") (codes "1") ∷ tag_line (codes "Variant") (codes "fischerandom") ∷ [] ∷ []) rest (fen_line Normal start sound)
-    (line_tells Normal Normal _ true (tag_line (codes "SetUp") (codes "1")) (tag_line (codes "Variant") (codes "fischerandom") ∷ [] ∷ []) rest (setup_line Normal)
+    shown : told_on Normal true (ended [] (fen_lines start ++ last) ++ rest) ≡ told_on Normal true (ended [] last ++ rest)
+    shown =
+        line_tells Normal Normal _ true (tag_line (codes "FEN") (fen start)) (tag_line (codes "SetUp") (codes "1") ∷ last) rest (fen_line Normal start sound)
+        (line_tells Normal Normal _ true (tag_line (codes "SetUp") (codes "1")) last rest (setup_line Normal) refl)
+
+    by_test : (b : Bool) → told_on Normal true (ended [] (cond b [] (fen_lines start) ++ last) ++ rest) ≡ told_on Normal true (ended [] last ++ rest)
+    by_test true = refl
+    by_test false = shown
+
+    by_variant : (v : Variant) → told_on Normal true (ended [] (start_lines_in v start ++ last) ++ rest) ≡ told_on Normal true (ended [] last ++ rest)
+    by_variant Normal = by_test (is_initial start)
+    by_variant Fischerandom = shown
+
+-- the last tags, and the empty line
+last_tells : (v : Variant) (t : Termination) (rest : List ℕ) → told_on Normal true (ended [] (last_lines v t ++ [] ∷ []) ++ rest) ≡ told_on v true rest
+last_tells Normal t rest =
+    line_tells Normal Normal _ true (tag_line (codes "Termination") (termination_text t)) ([] ∷ []) rest (termination_line Normal t)
+    (line_tells Normal Normal _ true [] [] rest (empty_line Normal) refl)
+last_tells Fischerandom t rest =
+    line_tells Normal Normal _ true (tag_line (codes "Termination") (termination_text t)) (tag_line (codes "Variant") (codes "fischerandom") ∷ [] ∷ []) rest (termination_line Normal t)
     (line_tells Normal Fischerandom _ true (tag_line (codes "Variant") (codes "fischerandom")) ([] ∷ []) rest (variant_tag Normal)
-    (line_tells Fischerandom Fischerandom _ true [] [] rest (empty_line Fischerandom) refl)))
+    (line_tells Fischerandom Fischerandom _ true [] [] rest (empty_line Fischerandom) refl))
+
+-- the tags behind the seven, and the empty line
+further_tells : (start : Setup) (t : Termination) → IsSound start → (rest : List ℕ) → told_on Normal true (ended [] (further_lines start t ++ [] ∷ []) ++ rest) ≡ told_on start.variant true rest
+further_tells start t sound rest =
+    ap (λ lines. told_on Normal true (ended [] lines ++ rest)) (append_assoc (start_lines_in start.variant start) (last_lines start.variant t) ([] ∷ []))
+    ∙ start_tells start.variant start sound (last_lines start.variant t ++ [] ∷ []) rest
+    ∙ last_tells start.variant t rest
 
 pub tags_tell : (t : Tags) → AreTagTexts t → (s : State) → IsSound s.start → (begins : Bool) (rest : List ℕ) → told_on Normal begins (ended [] (tag_lines t s ++ [] ∷ []) ++ rest) ≡ told_on s.start.variant true rest
 tags_tell t texts s sound begins rest =
-    let last : List (List ℕ) = start_lines s.start ++ [] ∷ [] in
+    let last : List (List ℕ) = further_lines s.start (termination_of t.ended (outcome_now s)) ++ [] ∷ [] in
     let result : List ℕ = tag_line (codes "Result") (outcome_text (outcome_now s)) in
     let black : List ℕ = tag_line (codes "Black") t.black in
     let white : List ℕ = tag_line (codes "White") t.white in
@@ -127,7 +150,7 @@ tags_tell t texts s sound begins rest =
     (line_tells Normal Normal _ true white (black ∷ result ∷ last) rest (other_tag Normal (codes "White") t.white refl refl (tag_text_in_line t.white texts.white))
     (line_tells Normal Normal _ true black (result ∷ last) rest (other_tag Normal (codes "Black") t.black refl refl (tag_text_in_line t.black texts.black))
     (line_tells Normal Normal _ true result last rest (other_tag Normal (codes "Result") (outcome_text (outcome_now s)) refl refl (outcome_in_line (outcome_now s)))
-    (start_tells s.start.variant s.start sound rest)))))))
+    (further_tells s.start (termination_of t.ended (outcome_now s)) sound rest)))))))
 
 -- ---- the first token of the moves
 

@@ -18,16 +18,20 @@ use Rattle.chess_pgn.specs.declared.read.PgnFault.{PgnFault}
 use Rattle.chess_pgn.specs.declared.read.PgnFaultKind.{PgnFaultKind}
 use Rattle.chess_pgn.specs.declared.read.PgnFaultKind.TheVariants.{BadTag, BadFen, BadToken, IllegalMove, AmbiguousMove, AfterEnd, TooLong, UnclosedComment, UnclosedVariation, NoResult}
 use Rattle.chess_pgn.specs.declared.word.WordKind.{WordKind}
-use Rattle.chess_pgn.specs.declared.word.WordKind.TheVariants.{Termination, Number, Marks, Move}
+use Rattle.chess_pgn.specs.declared.word.WordKind.TheVariants.{End, Number, Marks, Move}
+use Rattle.chess_pgn.specs.declared.termination.Termination.{Termination}
 use Rattle.chess_text.specs.Moves.{reading}
+use Rattle.chess_pgn.specs.Terminations.{termination_named}
 use Rattle.chess_pgn.specs.Tokens.{Token, Skip, Tag, Word, Bad_tag, Unclosed_comment, Unclosed_variation, Bad, first_place, tokens_from}
 use Rattle.chess_pgn.specs.Words.{kind_of}
 
--- the game so far. It is met where it had a tag, number or move, and begun where it had a number or move
+-- the game so far. It is met where it had a tag, number or move, and begun where it had a number or move; the termination
+-- is what its tags told
 pub record SoFar : Type 0 where
   pub state : State
   pub is_met : Bool
   pub is_begun : Bool
+  pub termination : Option Termination
 
 -- the game that is left, and the answer
 pub record GameRead : Type 0 where
@@ -55,7 +59,7 @@ declared_behind false Unfinished = None
 abbrev pub ends : SoFar → Outcome → ℕ → Step
 ends g o place = Stop (record {
   state = with_declared g.state (declared_behind (is_some (verdict_now g.state)) o);
-  answer = Ok (Some (record { outcome = o; place = place }));
+  answer = Ok (Some (record { outcome = o; termination = g.termination; place = place }));
 })
 
 -- no move is played behind a verdict, and none past the limit
@@ -66,14 +70,14 @@ unless_full limit g place next =
 
 abbrev pub move_step : ℕ → SoFar → ℕ → Reading → Step
 move_step limit g place reads.NotAMove = fails g BadToken place
-move_step limit g place (reads.Move m) = unless_full limit g place (On (record { state = played g.state m; is_met = true; is_begun = true }))
+move_step limit g place (reads.Move m) = unless_full limit g place (On (record { state = played g.state m; is_met = true; is_begun = true; termination = g.termination }))
 move_step limit g place reads.Ambiguous = unless_full limit g place (fails g AmbiguousMove place)
 move_step limit g place reads.NoSuch = unless_full limit g place (fails g IllegalMove place)
 
 -- a word at that place
 abbrev pub word_step : ℕ → SoFar → ℕ → List ℕ → WordKind → Step
-word_step limit g place word (Termination o) = ends g o (place + length word)
-word_step limit g place word Number = On (record { state = g.state; is_met = true; is_begun = true })
+word_step limit g place word (End o) = ends g o (place + length word)
+word_step limit g place word Number = On (record { state = g.state; is_met = true; is_begun = true; termination = g.termination })
 word_step limit g place word Marks = On g
 word_step limit g place word Move = move_step limit g place (reading (current g.state) word)
 
@@ -81,14 +85,18 @@ word_step limit g place word Move = move_step limit g place (reading (current g.
 
 -- a start that a FEN spells at that place
 abbrev pub fen_step : SoFar → ℕ → Result Setup FenFault → Step
-fen_step g place (Ok start) = On (record { state = from_start start; is_met = true; is_begun = g.is_begun })
+fen_step g place (Ok start) = On (record { state = from_start start; is_met = true; is_begun = g.is_begun; termination = g.termination })
 fen_step g place (Err fault) = fails g BadFen place
+
+-- what is told of the game's end behind a tag: the last one counts
+abbrev pub told_behind : Option Termination → List ℕ → List ℕ → Option Termination
+told_behind before name text = if bytes_eq name (codes "Termination") then termination_named text else before
 
 -- a tag whose string begins at that place
 abbrev pub tag_step : SoFar → List ℕ → List ℕ → ℕ → Step
 tag_step g name text place =
     if bytes_eq name (codes "FEN") then fen_step g place (fen_reading_as g.state.start.variant text)
-    else On (record { state = g.state; is_met = true; is_begun = g.is_begun })
+    else On (record { state = g.state; is_met = true; is_begun = g.is_begun; termination = told_behind g.termination name text })
 
 -- ---- tokens, in a text of so many bytes; each with how many bytes are left where it begins
 
@@ -114,7 +122,7 @@ game_of limit total g [] = at_text_end total g
 game_of limit total g (t ∷ ts) = go_on (step limit total g t.0 t.1) (λ h. game_of limit total h ts)
 
 abbrev pub nothing_read : Variant → SoFar
-nothing_read v = record { state = from_start (initial_setup_of v); is_met = false; is_begun = false }
+nothing_read v = record { state = from_start (initial_setup_of v); is_met = false; is_begun = false; termination = None }
 
 -- ---- the variant: the last that tags name before the game's first number, move or outcome, as far as these can be read
 
@@ -128,7 +136,7 @@ abbrev pub behind_word : Variant → WordKind → Option Variant
 behind_word v Marks = Some v
 behind_word v Number = None
 behind_word v Move = None
-behind_word v (Termination o) = None
+behind_word v (End o) = None
 
 -- the variant behind a token, if more tags may follow it
 abbrev pub told_by : Variant → Token → Option Variant

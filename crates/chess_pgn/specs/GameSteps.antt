@@ -10,7 +10,7 @@ use Rattle.chess_pgn.specs.GameRead.{SoFar, Step, On, Stop}
 
 -- the game so far
 abbrev pub so_far : State → Progress → SoFar
-so_far s p = record { state = s; is_met = p.is_met; is_begun = p.is_begun }
+so_far s p = record { state = s; is_met = p.is_met; is_begun = p.is_begun; termination = p.termination }
 
 -- a step that left the game in that state
 abbrev pub step_seen : State → Result code.Step PgnFault → Step

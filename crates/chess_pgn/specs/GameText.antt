@@ -14,7 +14,9 @@ use Rattle.chess_game.specs.Game.{State, outcome_now}
 use Rattle.chess_game.specs.Results.{outcome_text}
 use Rattle.chess_game.specs.declared.results.Outcome.{Outcome}
 use Rattle.chess_pgn.specs.declared.tags.Tags.{Tags}
+use Rattle.chess_pgn.specs.declared.termination.Termination.{Termination}
 use Rattle.chess_text.specs.San.{san}
+use Rattle.chess_pgn.specs.Terminations.{termination_text, termination_of}
 use Rattle.chess_pgn.specs.Written.{tag_line, ended, placed, column_behind, move_text_of}
 
 -- ---- tags
@@ -29,16 +31,29 @@ roster_lines t o =
 abbrev pub is_initial : Setup → Bool
 is_initial start = bytes_eq (fen start) (fen initial_setup)
 
--- the tags of a start that is not the initial position; in Chess960 of each start, and then that of the variant
-abbrev pub start_lines_in : Variant → Setup → List (List ℕ)
-start_lines_in Normal start = if is_initial start then [] else tag_line (codes "FEN") (fen start) ∷ tag_line (codes "SetUp") (codes "1") ∷ []
-start_lines_in Fischerandom start = tag_line (codes "FEN") (fen start) ∷ tag_line (codes "SetUp") (codes "1") ∷ tag_line (codes "Variant") (codes "fischerandom") ∷ []
+abbrev pub fen_lines : Setup → List (List ℕ)
+fen_lines start = tag_line (codes "FEN") (fen start) ∷ tag_line (codes "SetUp") (codes "1") ∷ []
 
-abbrev pub start_lines : Setup → List (List ℕ)
-start_lines start = start_lines_in start.variant start
+-- the tags of a start that is not the initial position; in Chess960 of each start
+abbrev pub start_lines_in : Variant → Setup → List (List ℕ)
+start_lines_in Normal start = if is_initial start then [] else fen_lines start
+start_lines_in Fischerandom start = fen_lines start
+
+-- the tag of Chess960
+abbrev pub variant_lines : Variant → List (List ℕ)
+variant_lines Normal = []
+variant_lines Fischerandom = tag_line (codes "Variant") (codes "fischerandom") ∷ []
+
+-- the tag that tells how the game ended, and that of the variant
+abbrev pub last_lines : Variant → Termination → List (List ℕ)
+last_lines v termination = tag_line (codes "Termination") (termination_text termination) ∷ variant_lines v
+
+-- the tags behind the seven, in the order of their names' bytes
+abbrev pub further_lines : Setup → Termination → List (List ℕ)
+further_lines start termination = start_lines_in start.variant start ++ last_lines start.variant termination
 
 abbrev pub tag_lines : Tags → State → List (List ℕ)
-tag_lines t s = roster_lines t (outcome_now s) ++ start_lines s.start
+tag_lines t s = roster_lines t (outcome_now s) ++ further_lines s.start (termination_of t.ended (outcome_now s))
 
 -- ---- the tokens of the moves
 

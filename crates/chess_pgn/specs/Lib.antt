@@ -5,7 +5,10 @@ pub mod VariationParts
 pub mod Written
 pub mod Waiting
 pub mod Tags
+pub mod Terminations
 pub mod GameRead
 pub mod GameSteps
 pub mod GameText
 pub mod PgnLaw
+pub mod Retold
+pub mod Normal

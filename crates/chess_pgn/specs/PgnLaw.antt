@@ -2,6 +2,8 @@
 use Rattle.std.specs.Prelude.{◌≡◌, ℕ, ◌+◌, List, [], ◌++◌, length, Some, Ok}
 use Rattle.chess_game.specs.Game.{State, outcome_now, IsPlayable}
 use Rattle.chess_pgn.specs.declared.tags.Tags.{Tags}
+use Rattle.chess_pgn.specs.declared.termination.Termination.{Termination}
+use Rattle.chess_pgn.specs.Terminations.{termination_of}
 use Rattle.chess_pgn.specs.GameRead.{GameRead, pgn_read}
 use Rattle.chess_pgn.specs.GameText.{pgn}
 use Rattle.chess_pgn.specs.Written.{IsTagText}
@@ -16,17 +18,17 @@ pub record AreTagTexts (t : Tags) : Type 0 where
   pub black : IsTagText t.black
 
 -- reading left a game with the start, the moves and the outcome of this one, whose text ends at a place. It told that
--- outcome, and the place behind the termination, which the ends of two lines follow
-pub record IsReadBack (s : State) (text_end : ℕ) (r : GameRead) : Type 0 where
+-- outcome, how the game ended, and the place behind the outcome, which the ends of two lines follow
+pub record IsReadBack (s : State) (termination : Termination) (text_end : ℕ) (r : GameRead) : Type 0 where
   pub start : r.state.start ≡ s.start
   pub moves : r.state.moves ≡ s.moves
   pub outcome : outcome_now r.state ≡ outcome_now s
   pub place : ℕ
-  pub answer : r.answer ≡ Ok (Some (record { outcome = outcome_now s; place = place }))
+  pub answer : r.answer ≡ Ok (Some (record { outcome = outcome_now s; termination = Some termination; place = place }))
   pub behind : place + 2 ≡ text_end
 
 -- the text of a game that the limit admits is read back at its place, whatever stands before and after it
 abbrev pub PgnIsReadBack : Type 0
 PgnIsReadBack =
     (limit : ℕ) → (tags : Tags) → (s : State) → (before after : List ℕ) → AreTagTexts tags → IsPlayable (record { limit = limit; state = s })
-    → IsReadBack s (length (before ++ pgn [] tags s)) (pgn_read limit (before ++ pgn [] tags s ++ after) (length before))
+    → IsReadBack s (termination_of tags.ended (outcome_now s)) (length (before ++ pgn [] tags s)) (pgn_read limit (before ++ pgn [] tags s ++ after) (length before))

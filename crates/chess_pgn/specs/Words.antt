@@ -6,7 +6,7 @@ use Rattle.chess_game.specs.Results.{outcome_text}
 use Rattle.chess_game.specs.declared.results.Outcome.{Outcome}
 use Rattle.chess_game.specs.declared.results.Outcome.TheVariants.{WhiteWins, BlackWins, Draw, Unfinished}
 use Rattle.chess_pgn.specs.declared.word.WordKind.{WordKind}
-use Rattle.chess_pgn.specs.declared.word.WordKind.TheVariants.{Termination, Number, Marks, Move}
+use Rattle.chess_pgn.specs.declared.word.WordKind.TheVariants.{End, Number, Marks, Move}
 use Rattle.chess_pgn.specs.Tokens.{is_digit}
 
 -- the outcome that is written so
@@ -15,7 +15,7 @@ outcome_of word = find (λ o. bytes_eq (outcome_text o) word) (WhiteWins ∷ Bla
 
 -- a word that is no outcome: digits alone, marks alone, or anything else
 abbrev pub kind_by : List ℕ → Option Outcome → WordKind
-kind_by word (Some o) = Termination o
+kind_by word (Some o) = End o
 kind_by word None =
     if list_all is_digit word then Number
     else (if list_all (λ c. c == 33 || c == 63) word then Marks

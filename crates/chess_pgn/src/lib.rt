@@ -10,14 +10,19 @@ mod skips;
 mod tag;
 mod tag_lines;
 mod tags;
+mod termination;
 mod token;
 mod variation;
 mod word;
 mod write;
 
-pub use laws::{lines_are_filled, pgn_is_read_back};
+pub use laws::{
+    games_are_in_filled_lines, games_are_of_tokens, lines_are_filled, normal_is_kept,
+    pgn_is_read_back,
+};
 pub use read::{PgnEnd, PgnFault, PgnFaultKind, read_pgn};
-pub use tags::{TagText, Tags};
+pub use tags::{HowEnded, TagText, Tags};
+pub use termination::Termination;
 pub use write::write_pgn;
 
 #[cfg(test)]

@@ -1,17 +1,18 @@
 //! Reading a game.
 
-ghost use Rattle.std.specs.Prelude.{◌≡◌, ℕ, ◌+◌, ◌-◌, ◌^◌, ◌≤◌, ◌<◌, length, None, IfOk, Err, is_some};
+ghost use Rattle.std.specs.Prelude.{◌≡◌, ℕ, ◌+◌, ◌-◌, ◌^◌, ◌≤◌, ◌<◌, true, length, None, IfOk, Err, is_some};
 ghost use Rattle.std.specs.Option.{IfSome};
 ghost use Rattle.chess_game.specs.Game.{State, at as left_at, with_declared, current, verdict_now};
 ghost use Rattle.chess_base.specs.declared.man.Variant.TheVariants.{Normal};
 ghost use Rattle.chess_text.specs.Moves.{reading};
 ghost use Rattle.chess_pgn.specs.Words.{kind_of};
 ghost use Rattle.chess_pgn.specs.Seen.{token_seen, fault_seen};
-ghost use Rattle.chess_pgn.specs.GameRead.{SoFar, declared_behind, move_step, word_step, tag_step, step, variant_named, told_by, variant_told, pgn_read};
+ghost use Rattle.chess_pgn.specs.GameRead.{declared_behind, told_behind, move_step, word_step, tag_step, step, variant_named, told_by, variant_told, pgn_read};
 ghost use Rattle.chess_pgn.specs.Tokens.{tokens_from};
 ghost use Rattle.chess_pgn.specs.GameSteps.{EndsIn, so_far, step_seen, IsWithin};
 
 use crate::tag::Tag;
+use crate::termination::Termination;
 use crate::token::{Token, TokenFault, first_place, next_token};
 use crate::word::{WordKind, word_kind};
 use chess_base::{Position, Variant, read_fen_as};
@@ -24,6 +25,9 @@ use chess_text::{Reading, read_move};
 pub struct PgnEnd {
     /// The outcome that the termination tells; where there is a verdict, the game has the verdict's.
     pub outcome: Outcome,
+    /// How the game ended, as its last tag `Termination` tells; `None` where it has none, or one with another text. It is
+    /// not compared with the outcome.
+    pub termination: Option<Termination>,
     /// The byte behind the termination, from the text's first byte on.
     pub place: usize,
 }
@@ -68,14 +72,43 @@ struct Progress {
     is_met: bool,
     // Whether a number or move was: behind one no tag belongs to this game.
     is_begun: bool,
+    // What the last tag Termination told.
+    termination: Option<Termination>,
 }
 
 impl Progress {
-    // A number or move was met.
-    const BEGUN: Progress = Progress {
-        is_met: true,
-        is_begun: true,
-    };
+    // Behind a number or move.
+    fn begun(self) -> Self
+        ensures { result ≡ record { is_met = true; is_begun = true; termination = self.termination } }
+    {
+        Progress {
+            is_met: true,
+            is_begun: true,
+            ..self
+        }
+    }
+
+    // Behind a tag.
+    fn behind_tag(self, tag: &Tag<'_>) -> Self
+        ensures { result ≡ record { is_met = true; is_begun = self.is_begun; termination = told_behind self.termination tag.now.name.now tag.now.text.now } }
+    {
+        Progress {
+            is_met: true,
+            termination: told_behind(self.termination, tag),
+            ..self
+        }
+    }
+}
+
+// What is told of the game's end behind a tag: the last tag Termination counts.
+fn told_behind(before: Option<Termination>, tag: &Tag<'_>) -> Option<Termination>
+    ensures { result ≡ told_behind before tag.now.name.now tag.now.text.now }
+{
+    if tag.name == b"Termination".as_slice() {
+        Termination::named(tag.text)
+    } else {
+        before
+    }
 }
 
 // What follows a token.
@@ -87,11 +120,16 @@ enum Step {
 }
 
 // Plays the move that stands at a place.
-fn play_word<B: Board>(game: &mut Game<B>, place: usize, word: &[u8]) -> Result<Step, PgnFault>
+fn play_word<B: Board>(
+    game: &mut Game<B>,
+    progress: Progress,
+    place: usize,
+    word: &[u8],
+) -> Result<Step, PgnFault>
     requires { game.old.state.declared ≡ None }
     ensures limit { game.new.limit ≡ game.old.limit }
     ensures ended { EndsIn 0 0 result }
-    ensures step { (g : SoFar) → g.state ≡ game.old.state → step_seen game.new.state result ≡ move_step game.old.limit g place (reading (current game.old.state) word.now) }
+    ensures step { step_seen game.new.state result ≡ move_step game.old.limit (so_far game.old.state progress) place (reading (current game.old.state) word.now) }
 {
     let kind = match read_move(game.board(), word) {
         Reading::NotAMove => PgnFaultKind::BadToken,
@@ -101,7 +139,7 @@ fn play_word<B: Board>(game: &mut Game<B>, place: usize, word: &[u8]) -> Result<
         Reading::NoSuch => PgnFaultKind::IllegalMove,
         Reading::Move(m) => {
             game.play_legal(m);
-            return Ok(Step::On(Progress::BEGUN));
+            return Ok(Step::On(progress.begun()));
         }
     };
     Err(PgnFault { kind, place })
@@ -135,14 +173,18 @@ fn read_word<B: Board>(
     ensures step { step_seen game.new.state result ≡ word_step game.old.limit (so_far game.old.state progress) place word.now (kind_of word.now) }
 {
     match word_kind(word) {
-        WordKind::Termination(outcome) => {
+        WordKind::End(outcome) => {
             end_game(game, outcome);
             let place = place + word.len();
-            Ok(Step::Ended(PgnEnd { outcome, place }))
+            Ok(Step::Ended(PgnEnd {
+                outcome,
+                termination: progress.termination,
+                place,
+            }))
         }
-        WordKind::Number => Ok(Step::On(Progress::BEGUN)),
+        WordKind::Number => Ok(Step::On(progress.begun())),
         WordKind::Marks => Ok(Step::On(progress)),
-        WordKind::Move => play_word(game, place, word),
+        WordKind::Move => play_word(game, progress, place, word),
     }
 }
 
@@ -168,10 +210,7 @@ fn read_tag<B: Board>(
             }
         }
     }
-    Ok(Step::On(Progress {
-        is_met: true,
-        ..progress
-    }))
+    Ok(Step::On(progress.behind_tag(tag)))
 }
 
 // Reads a token that stands at a place of a text of so many bytes.
@@ -286,8 +325,8 @@ fn told_variant(text: &[u8], at: usize) -> Variant
 }
 
 /// Reads the first game of a text from a place on (PGN standard of 1994; which words are taken is this project's own). The
-/// game begins anew from the initial position or from the last FEN tag's, of the variant that the last tag Variant names; its moves are played as they are met, and the
-/// termination's outcome is declared unless there is a verdict or it is `*`. `None` where no tag, number, move or
+/// game begins anew from the initial position or from the last FEN tag's, of the variant that the last tag `Variant` names;
+/// its moves are played as they are met, and the termination's outcome is declared unless there is a verdict or it is `*`. `None` where no tag, number, move or
 /// termination stands up to the text's end. The next game begins at the place that is answered.
 ///
 /// # Errors
@@ -309,6 +348,7 @@ pub fn read_pgn<B: Board>(
     let mut progress = Progress {
         is_met: false,
         is_begun: false,
+        termination: None,
     };
     loop {
         match next_token(text, place) {

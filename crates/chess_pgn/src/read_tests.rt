@@ -1,4 +1,4 @@
-use crate::{PgnEnd, PgnFault, PgnFaultKind, read_pgn};
+use crate::{PgnEnd, PgnFault, PgnFaultKind, Termination, read_pgn};
 use chess_base::write_fen;
 use chess_game::{Game, Outcome, Verdict};
 use chess_moves::Plain;
@@ -9,6 +9,7 @@ use std::test::Fail;
 #[derive(Clone, Copy)]
 enum Wanted {
     Ended(Outcome, usize),
+    EndedAs(Outcome, Termination, usize),
     Fault(PgnFaultKind, usize),
     NoGame,
 }
@@ -16,7 +17,16 @@ enum Wanted {
 impl Wanted {
     fn answer(self) -> Result<Option<PgnEnd>, PgnFault> {
         match self {
-            Wanted::Ended(outcome, place) => Ok(Some(PgnEnd { outcome, place })),
+            Wanted::Ended(outcome, place) => Ok(Some(PgnEnd {
+                outcome,
+                termination: None,
+                place,
+            })),
+            Wanted::EndedAs(outcome, termination, place) => Ok(Some(PgnEnd {
+                outcome,
+                termination: Some(termination),
+                place,
+            })),
             Wanted::Fault(kind, place) => Err(PgnFault { kind, place }),
             Wanted::NoGame => Ok(None),
         }
@@ -384,6 +394,114 @@ fn declared(rt: &impl Abort, game: &Game<Plain>) -> Option<Outcome> {
 fn games_are_read(rt: HostRuntime) -> Result<(), Fail> {
     let mut game = Game::open(rt.alloc(), Plain::new(), 100)?;
     for row in &ROWS {
+        assert_eq!(rt;
+            read_pgn(row.text, 0, &mut game),
+            row.wanted.answer(),
+            "at {:?}",
+            row.text
+        );
+        assert_eq!(rt; game.ply(), row.ply, "at {:?}", row.text);
+        assert_eq!(rt; declared(&rt, &game), row.declared, "at {:?}", row.text);
+    }
+    Ok(())
+}
+
+// Texts of both variants, and what is read of them.
+const VARIANTS: [Row; 14] = [
+    Row {
+        text: b"[Variant \"Chess960\"] [FEN \"4k3/8/8/8/8/8/8/RK5R w HA - 0 1\"] 1. O-O-O *",
+        wanted: Wanted::Ended(Outcome::Unfinished, 71),
+        ply: 1,
+        declared: None,
+    },
+    // The tag may stand behind the FEN, and the last one counts.
+    Row {
+        text: b"[FEN \"4k3/8/8/8/8/8/8/RK5R w HA - 0 1\"] [Variant \"x\"] [Variant \"FISCHERRANDOM\"] b1h1 *",
+        wanted: Wanted::Ended(Outcome::Unfinished, 86),
+        ply: 1,
+        declared: None,
+    },
+    Row {
+        text: b"[Variant \"fischerandom\"] [Variant \"x\"] [FEN \"4k3/8/8/8/8/8/8/RK5R w HA - 0 1\"] *",
+        wanted: Wanted::Fault(PgnFaultKind::BadFen, 45),
+        ply: 0,
+        declared: None,
+    },
+    // Without a FEN it is the initial position of Chess960, in which the king takes its rook to castle.
+    Row {
+        text: b"[Variant \"fischerandom\"] e4 e5 Nf3 Nf6 Be2 Be7 e1h1 e8g8 *",
+        wanted: Wanted::Fault(PgnFaultKind::IllegalMove, 52),
+        ply: 7,
+        declared: None,
+    },
+    Row {
+        text: b"[variant \"fischerandom\"] e4 e5 Nf3 Nf6 Be2 Be7 e1g1 e8h8 *",
+        wanted: Wanted::Fault(PgnFaultKind::IllegalMove, 52),
+        ply: 7,
+        declared: None,
+    },
+    // Comments, marks and variations don't end the look for the tag; a number, a move and an outcome do.
+    Row {
+        text: b"{x} !? (e4) [Variant \"chess960\"] e4 e5 Nf3 Nf6 Be2 Be7 e1h1 *",
+        wanted: Wanted::Ended(Outcome::Unfinished, 61),
+        ply: 7,
+        declared: None,
+    },
+    Row {
+        text: b"1. [Variant \"chess960\"] e4 *",
+        wanted: Wanted::Fault(PgnFaultKind::NoResult, 3),
+        ply: 0,
+        declared: None,
+    },
+    Row {
+        text: b"e4 e5 Nf3 Nf6 Be2 Be7 e1h1 [Variant \"chess960\"] *",
+        wanted: Wanted::Fault(PgnFaultKind::IllegalMove, 22),
+        ply: 6,
+        declared: None,
+    },
+    Row {
+        text: b"e4 e5 Nf3 Nf6 Be2 Be7 e1g1 * [Variant \"chess960\"] *",
+        wanted: Wanted::Ended(Outcome::Unfinished, 28),
+        ply: 7,
+        declared: None,
+    },
+    // How a game ended: the last tag counts, and only before the first number or move.
+    Row {
+        text: b"[Termination \"death\"] [Termination \"Rules Infraction\"] 0-1",
+        wanted: Wanted::EndedAs(Outcome::BlackWins, Termination::RulesInfraction, 58),
+        ply: 0,
+        declared: Some(Outcome::BlackWins),
+    },
+    Row {
+        text: b"[Termination \"death\"] [Termination \"normal \"] 0-1",
+        wanted: Wanted::Ended(Outcome::BlackWins, 49),
+        ply: 0,
+        declared: Some(Outcome::BlackWins),
+    },
+    Row {
+        text: b"[Termination \"UNTERMINATED\"] [termination \"x\"] 1-0",
+        wanted: Wanted::EndedAs(Outcome::WhiteWins, Termination::Unterminated, 50),
+        ply: 0,
+        declared: Some(Outcome::WhiteWins),
+    },
+    Row {
+        text: b"[Termination \"emergency\"] [FEN \"4k3/8/8/8/8/8/4P3/4K3 w - - 0 1\"] e4 *",
+        wanted: Wanted::EndedAs(Outcome::Unfinished, Termination::Emergency, 70),
+        ply: 1,
+        declared: None,
+    },
+    Row {
+        text: b"[Termination \"adjudication\"] e4 [Termination \"death\"] *",
+        wanted: Wanted::Fault(PgnFaultKind::NoResult, 32),
+        ply: 1,
+        declared: None,
+    },
+];
+
+#[test]
+fn variants_and_terminations_are_read(rt: HostRuntime) -> Result<(), Fail> {
+    let mut game = Game::open(rt.alloc(), Plain::new(), 100)?;
+    for row in &VARIANTS {
         assert_eq!(rt;
             read_pgn(row.text, 0, &mut game),
             row.wanted.answer(),

@@ -64,8 +64,19 @@ fn tag_bytes(bytes: &[u8]) -> ArrayVec<u8, 60>
     kept
 }
 
-/// The tags that each game has (the seven of the PGN standard of 1994, section 8.1.1), but for the result, which the game
-/// tells.
+/// How a game that is over ended (PGN standard of 1994, section 9.8.1).
+#[derive(Clone, Copy, Debug, PartialEq, Eq)]
+pub enum HowEnded {
+    /// On the board, or by agreement or resignation.
+    Normal,
+    /// The loser's time was used up.
+    TimeForfeit,
+    /// The loser did not keep to the rules.
+    RulesInfraction,
+}
+
+/// The tags that each game has (the seven of the PGN standard of 1994, section 8.1.1, and `Termination`), but for the
+/// result, which the game tells.
 #[derive(Drop)]
 pub struct Tags {
     /// The tournament or match.
@@ -80,6 +91,8 @@ pub struct Tags {
     pub white: TagText,
     /// The player with Black.
     pub black: TagText,
+    /// How the game ended; where it has no outcome yet, this isn't looked at.
+    pub ended: HowEnded,
 }
 
 impl Default for Tags {
@@ -87,7 +100,7 @@ impl Default for Tags {
 
     ghost is_default = { λ t. t ≡ default_tags };
 
-    /// What isn't known is `?`, in the date for each digit.
+    /// What isn't known is `?`, in the date for each digit; a game ends in the normal way.
     fn default() -> Self {
         Tags {
             event: TagText::cut(b"?"),
@@ -96,6 +109,7 @@ impl Default for Tags {
             round: TagText::cut(b"?"),
             white: TagText::cut(b"?"),
             black: TagText::cut(b"?"),
+            ended: HowEnded::Normal,
         }
     }
 }

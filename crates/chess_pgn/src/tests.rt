@@ -1,4 +1,7 @@
-use crate::laws::{lines_are_filled, pgn_is_read_back};
+use crate::laws::{
+    games_are_in_filled_lines, games_are_of_tokens, lines_are_filled, normal_is_kept,
+    pgn_is_read_back,
+};
 use crate::lines::LineWriter;
 use crate::tag::Tag;
 use crate::tag_lines::put_tags;
@@ -236,10 +239,10 @@ fn tokens_are_told(rt: HostRuntime) -> Result<(), Fail> {
 #[test]
 fn words_are_of_their_kinds(rt: HostRuntime) {
     let rows: [(&[u8], WordKind); 14] = [
-        (b"1-0", WordKind::Termination(Outcome::WhiteWins)),
-        (b"0-1", WordKind::Termination(Outcome::BlackWins)),
-        (b"1/2-1/2", WordKind::Termination(Outcome::Draw)),
-        (b"*", WordKind::Termination(Outcome::Unfinished)),
+        (b"1-0", WordKind::End(Outcome::WhiteWins)),
+        (b"0-1", WordKind::End(Outcome::BlackWins)),
+        (b"1/2-1/2", WordKind::End(Outcome::Draw)),
+        (b"*", WordKind::End(Outcome::Unfinished)),
         (b"1", WordKind::Number),
         (b"007", WordKind::Number),
         (b"!?", WordKind::Marks),
@@ -287,6 +290,9 @@ fn in_lines(alloc: Global, prefix: &[u8], text: &[u8]) -> Result<Vec<u8>, Fail> 
 #[test]
 fn tokens_fill_lines(rt: HostRuntime) -> Result<(), Fail> {
     lines_are_filled();
+    games_are_in_filled_lines();
+    games_are_of_tokens();
+    normal_is_kept();
     pgn_is_read_back();
     // The first line has 79 bytes.
     assert_eq!(rt;

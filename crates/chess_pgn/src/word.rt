@@ -12,7 +12,7 @@ use chess_game::Outcome;
 #[derive(Clone, Copy, Debug, PartialEq, Eq)]
 pub(crate) enum WordKind {
     /// The game's end, with its outcome.
-    Termination(Outcome),
+    End(Outcome),
     /// The number of a move.
     Number,
     /// Marks such as `!?` alone.
@@ -50,7 +50,7 @@ pub(crate) fn word_kind(word: &[u8]) -> WordKind
     ensures { result ≡ kind_of word.now }
 {
     if let Some(outcome) = outcome_of(word) {
-        WordKind::Termination(outcome)
+        WordKind::End(outcome)
     } else if has_digits_alone(word) {
         WordKind::Number
     } else if has_marks_alone(word) {

@@ -4,21 +4,20 @@ ghost use Rattle.std.specs.Prelude.{◌≡◌, ◌≤◌, ◌<◌, [], ◌∷◌
 ghost use Rattle.arrayvec.specs.ArrayVec.{array_vec_len};
 ghost use Rattle.chess_base.specs.Devices.{Puts};
 ghost use Rattle.chess_base.specs.Moves.{is_legal, after};
-ghost use Rattle.chess_base.specs.declared.man.Variant.TheVariants.{Normal, Fischerandom};
-ghost use Rattle.chess_pgn.specs.GameText.{roster_lines, start_lines_in, start_lines, tag_lines, number_token, tokens_of_move, move_tokens, game_tokens, placed_all, column_behind_all, pgn};
+ghost use Rattle.chess_pgn.specs.GameText.{roster_lines, is_initial, fen_lines, start_lines_in, last_lines, further_lines, tag_lines, number_token, tokens_of_move, move_tokens, game_tokens, placed_all, column_behind_all, pgn};
 ghost use Rattle.chess_pgn.specs.Waiting.{Adds};
 ghost use Rattle.chess_pgn.specs.Written.{ended, move_text_of};
 
-use chess_text::san_is_a_word;
 use crate::lines::LineWriter;
 use crate::tag_lines::put_tags;
 use crate::tags::{TagPair, Tags};
-use chess_text::san;
+use crate::termination::Termination;
 use arrayvec::ArrayVec;
 use chess_base::device::{Output, WriteFault};
 use chess_base::{Colour, Move, Position, Setup, Variant, write_fen};
 use chess_game::{Game, Outcome};
 use chess_moves::Board;
+use chess_text::{san, san_is_a_word};
 use itoa::Buffer;
 
 // The token of a number: at most ten digits, and three dots.
@@ -71,8 +70,10 @@ fn put_tag_lines<B: Board, W: Output>(
     ensures prefix { lines.new.prefix.now ≡ lines.old.prefix.now }
     ensures column { lines.new.column ≡ lines.old.column }
 {
-    put_roster(lines, writer, tags, game.outcome())?;
-    put_start(lines, writer, &game.start())?;
+    let outcome = game.outcome();
+    put_roster(lines, writer, tags, outcome)?;
+    let termination = Termination::of(tags.ended, outcome);
+    put_further(lines, writer, &game.start(), termination)?;
     lines.put_line(writer, b"")
 }
 
@@ -120,29 +121,51 @@ fn put_roster<W: Output>(
     put_tags(lines, writer, &roster)
 }
 
-// Puts the tags of a start, and of its variant.
+// Puts the tags behind the seven.
+fn put_further<W: Output>(
+    lines: &mut LineWriter<'_>,
+    writer: &mut W,
+    start: &Position,
+    termination: Termination,
+) -> Result<(), WriteFault>
+    ensures added { Adds (W.seen writer.old) (W.seen writer.new) lines.old.waiting lines.new.waiting result (ended lines.old.prefix.now (further_lines start.now termination)) }
+    ensures prefix { lines.new.prefix.now ≡ lines.old.prefix.now }
+    ensures column { lines.new.column ≡ lines.old.column }
+{
+    put_start(lines, writer, start)?;
+    put_last(lines, writer, start.variant(), termination)
+}
+
+// Puts the tags of a start: none for the initial position of normal chess.
 fn put_start<W: Output>(
     lines: &mut LineWriter<'_>,
     writer: &mut W,
     start: &Position,
 ) -> Result<(), WriteFault>
-    ensures added { Adds (W.seen writer.old) (W.seen writer.new) lines.old.waiting lines.new.waiting result (ended lines.old.prefix.now (start_lines start.now)) }
+    ensures added { Adds (W.seen writer.old) (W.seen writer.new) lines.old.waiting lines.new.waiting result (ended lines.old.prefix.now (start_lines_in start.now.variant start.now)) }
     ensures prefix { lines.new.prefix.now ≡ lines.old.prefix.now }
     ensures column { lines.new.column ≡ lines.old.column }
 {
     match start.variant() {
-        Variant::Normal => put_normal_start(lines, writer, start),
-        Variant::Fischerandom => put_chess960_start(lines, writer, start),
+        Variant::Normal if is_initial(start) => Ok(()),
+        _ => put_fen(lines, writer, start),
     }
 }
 
-// Puts the tags of a start of Chess960.
-fn put_chess960_start<W: Output>(
+// Whether a start of normal chess is the initial position.
+fn is_initial(start: &Position) -> bool
+    ensures { result ≡ is_initial start.now }
+{
+    write_fen(start).as_slice() == write_fen(&Position::initial()).as_slice()
+}
+
+// Puts the tags of a start's FEN.
+fn put_fen<W: Output>(
     lines: &mut LineWriter<'_>,
     writer: &mut W,
     start: &Position,
 ) -> Result<(), WriteFault>
-    ensures added { Adds (W.seen writer.old) (W.seen writer.new) lines.old.waiting lines.new.waiting result (ended lines.old.prefix.now (start_lines_in Fischerandom start.now)) }
+    ensures added { Adds (W.seen writer.old) (W.seen writer.new) lines.old.waiting lines.new.waiting result (ended lines.old.prefix.now (fen_lines start.now)) }
     ensures prefix { lines.new.prefix.now ≡ lines.old.prefix.now }
     ensures column { lines.new.column ≡ lines.old.column }
 {
@@ -155,41 +178,36 @@ fn put_chess960_start<W: Output>(
         TagPair {
             name: b"SetUp",
             text: b"1",
+        },
+    ];
+    put_tags(lines, writer, &tags)
+}
+
+// Puts the tag that tells how the game ended, and in Chess960 that of the variant.
+fn put_last<W: Output>(
+    lines: &mut LineWriter<'_>,
+    writer: &mut W,
+    variant: Variant,
+    termination: Termination,
+) -> Result<(), WriteFault>
+    ensures added { Adds (W.seen writer.old) (W.seen writer.new) lines.old.waiting lines.new.waiting result (ended lines.old.prefix.now (last_lines variant termination)) }
+    ensures prefix { lines.new.prefix.now ≡ lines.old.prefix.now }
+    ensures column { lines.new.column ≡ lines.old.column }
+{
+    let tags = [
+        TagPair {
+            name: b"Termination",
+            text: termination.text(),
         },
         TagPair {
             name: b"Variant",
             text: b"fischerandom",
         },
     ];
-    put_tags(lines, writer, &tags)
-}
-
-// Puts the tags of a start of normal chess that is not the initial position.
-fn put_normal_start<W: Output>(
-    lines: &mut LineWriter<'_>,
-    writer: &mut W,
-    start: &Position,
-) -> Result<(), WriteFault>
-    ensures added { Adds (W.seen writer.old) (W.seen writer.new) lines.old.waiting lines.new.waiting result (ended lines.old.prefix.now (start_lines_in Normal start.now)) }
-    ensures prefix { lines.new.prefix.now ≡ lines.old.prefix.now }
-    ensures column { lines.new.column ≡ lines.old.column }
-{
-    let fen = write_fen(start);
-    let initial = write_fen(&Position::initial());
-    if fen.as_slice() == initial.as_slice() {
-        return Ok(());
+    match variant {
+        Variant::Normal => put_tags(lines, writer, &tags[..1]),
+        Variant::Fischerandom => put_tags(lines, writer, &tags),
     }
-    let tags = [
-        TagPair {
-            name: b"FEN",
-            text: fen.as_slice(),
-        },
-        TagPair {
-            name: b"SetUp",
-            text: b"1",
-        },
-    ];
-    put_tags(lines, writer, &tags)
 }
 
 // Puts the lines of the moves, with the outcome last.

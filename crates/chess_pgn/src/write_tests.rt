@@ -1,6 +1,6 @@
-use crate::{TagText, Tags, write_pgn};
+use crate::{HowEnded, TagText, Tags, write_pgn};
 use chess_base::device::{Counted, PieceWriter, WriteFault};
-use chess_base::read_fen;
+use chess_base::{Variant, read_fen, read_fen_as};
 use chess_game::{Comment, Game, Outcome};
 use chess_moves::Plain;
 use chess_text::{Reading, read_move};
@@ -50,55 +50,55 @@ const GAMES: [GameRow; 9] = [
     GameRow {
         fen: b"",
         moves: b"",
-        text: b"# [Result \"*\"]\n# \n# *\n# \n",
+        text: b"# [Result \"*\"]\n# [Termination \"unterminated\"]\n# \n# *\n# \n",
     },
     // Both knights go to and fro eight times: the position comes for the fifth time.
     GameRow {
         fen: b"",
         moves: b"g1f3 g8f6 f3g1 f6g8 g1f3 g8f6 f3g1 f6g8 g1f3 g8f6 f3g1 f6g8 g1f3 g8f6 f3g1 f6g8",
-        text: b"# [Result \"1/2-1/2\"]\n# \n# 1. Nf3 Nf6 2. Ng1 Ng8 3. Nf3 Nf6 4. Ng1 Ng8 5. Nf3 Nf6 6. Ng1 Ng8 7. Nf3 Nf6 8.\n# Ng1 Ng8 1/2-1/2\n# \n",
+        text: b"# [Result \"1/2-1/2\"]\n# [Termination \"normal\"]\n# \n# 1. Nf3 Nf6 2. Ng1 Ng8 3. Nf3 Nf6 4. Ng1 Ng8 5. Nf3 Nf6 6. Ng1 Ng8 7. Nf3 Nf6 8.\n# Ng1 Ng8 1/2-1/2\n# \n",
     },
     // Mate.
     GameRow {
         fen: b"",
         moves: b"f2f3 e7e5 g2g4 d8h4",
-        text: b"# [Result \"0-1\"]\n# \n# 1. f3 e5 2. g4 Qh4# 0-1\n# \n",
+        text: b"# [Result \"0-1\"]\n# [Termination \"normal\"]\n# \n# 1. f3 e5 2. g4 Qh4# 0-1\n# \n",
     },
     // Black moves first and promotes.
     GameRow {
         fen: b"4k3/8/8/8/8/8/4p3/K7 b - - 0 1",
         moves: b"e2e1q",
-        text: b"# [Result \"*\"]\n# [FEN \"4k3/8/8/8/8/8/4p3/K7 b - - 0 1\"]\n# [SetUp \"1\"]\n# \n# 1... e1=Q+ *\n# \n",
+        text: b"# [Result \"*\"]\n# [FEN \"4k3/8/8/8/8/8/4p3/K7 b - - 0 1\"]\n# [SetUp \"1\"]\n# [Termination \"unterminated\"]\n# \n# 1... e1=Q+ *\n# \n",
     },
     // The number stands only before the first of Black's moves.
     GameRow {
         fen: b"4k3/8/8/8/8/8/4p3/K7 b - - 0 1",
         moves: b"e2e1q a1a2 e1e2 a2a1",
-        text: b"# [Result \"*\"]\n# [FEN \"4k3/8/8/8/8/8/4p3/K7 b - - 0 1\"]\n# [SetUp \"1\"]\n# \n# 1... e1=Q+ 2. Ka2 Qe2+ 3. Ka1 *\n# \n",
+        text: b"# [Result \"*\"]\n# [FEN \"4k3/8/8/8/8/8/4p3/K7 b - - 0 1\"]\n# [SetUp \"1\"]\n# [Termination \"unterminated\"]\n# \n# 1... e1=Q+ 2. Ka2 Qe2+ 3. Ka1 *\n# \n",
     },
     // The other knight is pinned.
     GameRow {
         fen: b"4k3/8/8/8/1b6/2N5/8/4K1N1 w - - 0 1",
         moves: b"g1e2",
-        text: b"# [Result \"*\"]\n# [FEN \"4k3/8/8/8/1b6/2N5/8/4K1N1 w - - 0 1\"]\n# [SetUp \"1\"]\n# \n# 1. Ne2 *\n# \n",
+        text: b"# [Result \"*\"]\n# [FEN \"4k3/8/8/8/1b6/2N5/8/4K1N1 w - - 0 1\"]\n# [SetUp \"1\"]\n# [Termination \"unterminated\"]\n# \n# 1. Ne2 *\n# \n",
     },
     // The other knight is not.
     GameRow {
         fen: b"4k3/8/8/8/8/5N2/8/1N2K3 w - - 0 1",
         moves: b"Nbd2",
-        text: b"# [Result \"*\"]\n# [FEN \"4k3/8/8/8/8/5N2/8/1N2K3 w - - 0 1\"]\n# [SetUp \"1\"]\n# \n# 1. Nbd2 *\n# \n",
+        text: b"# [Result \"*\"]\n# [FEN \"4k3/8/8/8/8/5N2/8/1N2K3 w - - 0 1\"]\n# [SetUp \"1\"]\n# [Termination \"unterminated\"]\n# \n# 1. Nbd2 *\n# \n",
     },
     // The men of the initial position at another clock are another start.
     GameRow {
         fen: b"rnbqkbnr/pppppppp/8/8/8/8/PPPPPPPP/RNBQKBNR w KQkq - 1 1",
         moves: b"e2e4",
-        text: b"# [Result \"*\"]\n# [FEN \"rnbqkbnr/pppppppp/8/8/8/8/PPPPPPPP/RNBQKBNR w KQkq - 1 1\"]\n# [SetUp \"1\"]\n# \n# 1. e4 *\n# \n",
+        text: b"# [Result \"*\"]\n# [FEN \"rnbqkbnr/pppppppp/8/8/8/8/PPPPPPPP/RNBQKBNR w KQkq - 1 1\"]\n# [SetUp \"1\"]\n# [Termination \"unterminated\"]\n# \n# 1. e4 *\n# \n",
     },
     // The greatest number, at which it stays.
     GameRow {
         fen: b"4k3/8/8/8/8/8/8/R3K3 b Q - 0 999999",
         moves: b"e8e7 e1c1",
-        text: b"# [Result \"*\"]\n# [FEN \"4k3/8/8/8/8/8/8/R3K3 b Q - 0 999999\"]\n# [SetUp \"1\"]\n# \n# 999999... Ke7 999999. O-O-O *\n# \n",
+        text: b"# [Result \"*\"]\n# [FEN \"4k3/8/8/8/8/8/8/R3K3 b Q - 0 999999\"]\n# [SetUp \"1\"]\n# [Termination \"unterminated\"]\n# \n# 999999... Ke7 999999. O-O-O *\n# \n",
     },
 ];
 
@@ -129,12 +129,39 @@ fn tags_and_declared_results_are_written(rt: HostRuntime) -> Result<(), Fail> {
         round: TagText::cut(b"3.1"),
         white: TagText::cut(b"]{}"),
         black: TagText::cut(b"\n"),
+        ended: HowEnded::RulesInfraction,
     };
     let text = written(rt.alloc(), &game, &tags, b"", 9000)?;
     assert_eq!(rt;
         text.as_slice(),
-        b"[Event \"A \\\"B\\\" \\\\\"]\n[Site \"\"]\n[Date \"2024.12.31\"]\n[Round \"3.1\"]\n[White \"]{}\"]\n[Black \"?\"]\n[Result \"1-0\"]\n\n1. e4 c5 1-0\n\n".as_slice()
+        b"[Event \"A \\\"B\\\" \\\\\"]\n[Site \"\"]\n[Date \"2024.12.31\"]\n[Round \"3.1\"]\n[White \"]{}\"]\n[Black \"?\"]\n[Result \"1-0\"]\n[Termination \"rules infraction\"]\n\n1. e4 c5 1-0\n\n".as_slice()
     );
+    Ok(())
+}
+
+// How a game ended stands behind its start's tags and before that of the variant.
+#[test]
+fn the_end_of_a_game_of_chess960_is_written(rt: HostRuntime) -> Result<(), Fail> {
+    let mut game = Game::open(rt.alloc(), Plain::new(), 100)?;
+    let start = read_fen_as(Variant::Fischerandom, b"4k3/8/8/8/8/8/8/RK5R w HA - 0 1");
+    game.restart(&start.ok().ok_or("sound")?);
+    if let Reading::Move(m) = read_move(game.board(), b"O-O-O") {
+        game.play(m).or(Err("played"))?;
+    }
+    let tags = Tags {
+        ended: HowEnded::TimeForfeit,
+        ..Tags::default()
+    };
+    let unended: &[u8] =
+        b"[FEN \"4k3/8/8/8/8/8/8/RK5R w HA - 0 1\"]\n[SetUp \"1\"]\n[Termination \"unterminated\"]\n[Variant \"fischerandom\"]\n\n1. O-O-O *\n\n";
+    let text = written(rt.alloc(), &game, &tags, b"", 9000)?;
+    assert!(rt; text.as_slice().ends_with(unended));
+    game.declare(Outcome::Draw, Comment::cut(b""))
+        .or(Err("declared"))?;
+    let ended: &[u8] =
+        b"[FEN \"4k3/8/8/8/8/8/8/RK5R w HA - 0 1\"]\n[SetUp \"1\"]\n[Termination \"time forfeit\"]\n[Variant \"fischerandom\"]\n\n1. O-O-O 1/2-1/2\n\n";
+    let text = written(rt.alloc(), &game, &tags, b"", 9000)?;
+    assert!(rt; text.as_slice().ends_with(ended));
     Ok(())
 }
 

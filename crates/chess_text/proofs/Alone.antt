@@ -13,7 +13,7 @@ use Rattle.chess_text.specs.declared.described.Described.{Described}
 use Rattle.chess_text.specs.declared.parts.Parts.{Parts}
 use Rattle.chess_text.specs.declared.parts.Promotion.{Promotion}
 use Rattle.chess_text.specs.declared.reading.Reading.TheVariants as reads
-use Rattle.chess_text.specs.Laws.{SpellsAlone, IsSpelled}
+use Rattle.chess_text.specs.Laws.{SpellsAlone, IsSpelled, IsShaped}
 use Rattle.chess_text.specs.Parts.{AreParts, unmarked, parts_at, parts_text, parts_of}
 use Rattle.chess_text.specs.Moves.{is_castling_text, passes, is_form, fits, shape, spells_described, spells, one_of, reading, promotes_so}
 use Rattle.chess_text.specs.Forms.{same_side}
@@ -171,3 +171,39 @@ spelled_so text d (inr h) = spelled_parts text h.0 d h.2 h.1 ∙ h.3
 
 pub spelled_by_text : (text : List ℕ) (d : Described) → IsTrue (spells_described text d) ↔ IsSpelled text d
 spelled_by_text text d = (is_spelled_so text d, spelled_so text d)
+
+-- ---- which texts have a move's shape, with no reader
+
+either_side : (text : List ℕ) → (is_castling_text text KingSide || is_castling_text text QueenSide) ≡ true → (w : CastlingSide) × (is_castling_text text w ≡ true)
+either_side text e =
+    elim (or_cases (is_castling_text text KingSide) (is_castling_text text QueenSide) e) [
+      | inl h ↦ (KingSide, h)
+      | inr h ↦ (QueenSide, h)
+    ]
+
+is_shaped_so : (text : List ℕ) → shape text ≡ true → IsShaped text
+unfolding shape parts_of
+is_shaped_so text e =
+    elim (or_cases (is_castling_text text KingSide || is_castling_text text QueenSide) (passes is_form (parts_at (unmarked text))) e) [
+      | inl h ↦ inl (either_side text h)
+      | inr h ↦
+          let of = of_parts is_form (parts_at (unmarked text)) h in
+          let is = spelled-parts (unmarked text) of.0 of.1 in
+          inr (of.0, is.0, is.1, of.2)
+    ]
+
+castling_shapes : (text : List ℕ) (w : CastlingSide) → is_castling_text text w ≡ true → shape text ≡ true
+unfolding shape
+castling_shapes text KingSide h = rw h refl
+castling_shapes text QueenSide h = rw h (by_king (is_castling_text text KingSide))
+  where
+    by_king : (b : Bool) → ((b || true) || passes is_form (parts_of text)) ≡ true
+    by_king true = refl
+    by_king false = refl
+
+shaped_so : (text : List ℕ) → IsShaped text → shape text ≡ true
+shaped_so text (inl h) = castling_shapes text h.0 h.1
+shaped_so text (inr h) = shape_parts text h.0 h.2 h.1 h.3
+
+pub shaped_by_text : (text : List ℕ) → IsTrue (shape text) ↔ IsShaped text
+shaped_by_text text = (is_shaped_so text, shaped_so text)

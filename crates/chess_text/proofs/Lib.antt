@@ -15,3 +15,4 @@ pub mod Words
 pub mod SanLaw
 pub mod Origins
 mod Promoting
+pub mod NormalTexts

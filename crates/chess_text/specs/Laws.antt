@@ -11,7 +11,7 @@ use Rattle.chess_text.specs.declared.described.Described.{Described}
 use Rattle.chess_text.specs.declared.parts.Parts.{Parts}
 use Rattle.chess_text.specs.declared.reading.Reading.TheVariants as reads
 use Rattle.chess_text.specs.Parts.{AreParts, unmarked, parts_at, parts_text}
-use Rattle.chess_text.specs.Moves.{is_castling_text, fits, spells_described, spells, shape, reading, coordinate}
+use Rattle.chess_text.specs.Moves.{is_castling_text, is_form, fits, spells_described, spells, shape, reading, coordinate}
 use Rattle.chess_text.specs.San.{san}
 
 -- the text spells the move, and of the legal moves no other
@@ -78,3 +78,12 @@ IsSpelled text d =
 
 abbrev pub SpelledByText : Type 0
 SpelledByText = (text : List ℕ) → (d : Described) → IsTrue (spells_described text d) ↔ IsSpelled text d
+
+-- a text has a move's shape where it names castling, or is without marks the text of parts that have a form
+abbrev pub IsShaped : List ℕ → Type 0
+IsShaped text =
+    ((w : CastlingSide) × IsTrue (is_castling_text text w))
+    ⊎ ((q : Parts) × AreParts q × (unmarked text ≡ parts_text q) × IsTrue (is_form q))
+
+abbrev pub ShapedByText : Type 0
+ShapedByText = (text : List ℕ) → IsTrue (shape text) ↔ IsShaped text

@@ -3,3 +3,4 @@ pub mod Moves
 pub mod Forms
 pub mod San
 pub mod Laws
+pub mod Normal

@@ -1,6 +1,10 @@
 //! Laws of the texts. A caller learns one by calling its function, which does nothing.
 
-ghost use Rattle.chess_text.specs.Laws.{SanSpellsItsMove, SanHasShape, SanIsReadBack, SanIsShort, SanHasBytes, SanBeginsWithLetter, CoordinateSpellsItsMove, CoordinateHasShape, CoordinateIsReadBack, PartsAreTheTexts, PartsAreRead, SpelledByText};
+ghost use Rattle.chess_text.specs.Laws.{SanSpellsItsMove, SanHasShape, SanIsReadBack, SanIsShort, SanHasBytes, SanBeginsWithLetter, CoordinateSpellsItsMove, CoordinateHasShape, CoordinateIsReadBack, PartsAreTheTexts, PartsAreRead, SpelledByText, ShapedByText};
+ghost use Rattle.std.specs.Prelude.{◌≡◌};
+ghost use Rattle.chess_base.specs.declared.man.Variant.TheVariants.{Normal};
+ghost use Rattle.chess_base.specs.declared.setup.Setup.{Setup};
+ghost use Rattle.chess_text.specs.Normal.{NormalIsKept};
 
 /// The SAN of a legal move of a sound position spells it and no other legal move, and is read as it.
 pub fn san_spells_its_move()
@@ -25,9 +29,16 @@ pub fn coordinate_spells_its_move()
 {}
 
 /// The parts of a text are those that it is written from; so a text spells the castling that it names, or what the parts fit
-/// whose text it is.
+/// whose text it is, and has a move's shape if it names castling, or is the text of parts that have a form.
 pub fn texts_have_parts()
     ensures read { PartsAreTheTexts }
     ensures written { PartsAreRead }
     ensures spelled { SpelledByText }
+    ensures shaped { ShapedByText }
+{}
+
+/// On positions of normal chess the texts of both variants are those said for normal chess alone: where a spelled castling
+/// ends, and how a move is shown.
+pub fn normal_is_kept()
+    ensures { (p : Setup) → p.variant ≡ Normal → NormalIsKept p }
 {}

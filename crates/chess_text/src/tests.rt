@@ -1,6 +1,6 @@
 use crate::{
-    Reading, coordinate, coordinate_spells_its_move, has_move_shape, read_move, san, san_is_a_word,
-    san_spells_its_move, texts_have_parts,
+    Reading, coordinate, coordinate_spells_its_move, has_move_shape, normal_is_kept, read_move,
+    san, san_is_a_word, san_spells_its_move, texts_have_parts,
 };
 use chess_base::{Kind, Move, Square, read_fen, write_fen};
 use chess_moves::{Board, Plain};
@@ -391,4 +391,5 @@ fn laws_do_nothing(_rt: HostRuntime) {
     san_is_a_word();
     coordinate_spells_its_move();
     texts_have_parts();
+    normal_is_kept();
 }

@@ -1,50 +1,60 @@
-//! A reader and a writer over memory, for tests of what was written and flushed when more was asked for.
+//! A reader and a writer over memory with a gate between them, for tests of what was written and flushed when more was
+//! asked for. What the gate holds at a call no contract can say, so it is shown by tests.
 
-ghost use Rattle.std.specs.Prelude.{◌≡◌, [], ◌<◌, ◌≤◌, length, IfOk};
-ghost use Rattle.std.specs.Io.{WritesAtMost};
-ghost use Rattle.std.specs.Io.KnownBytes.{WriteAppends};
+ghost use Rattle.std.specs.Prelude.{◌≡◌, [], ◌<◌, ◌≤◌, ◌==◌, length, min, position, IfOk, IfSome, is_err, if◌then◌else◌};
+ghost use Rattle.std.specs.Io.{ReadsAtMost, WritesAtMost};
+ghost use Rattle.std.specs.Io.KnownBytes.{ReadConsumes, WriteAppends};
+ghost use Rattle.chess_base.specs.Devices.{risen, first_line_len};
 
 use crate::device::counted::count_up;
 use std::alloc::Global;
 use std::cell::Cell;
 use std::io::{Error, ErrorKind, Read, Result, Write};
 
-/// Gives one line at a call, and fails where fewer lines were flushed than it gave.
+/// Gives one line at a call, and shuts the gate behind it; a flush of its `GatedWriter` opens it, and a write shuts it too.
+/// Where the gate is shut, a read fails and is counted: it came too early, before the answer to the last line was handed on.
 #[derive(Drop)]
 pub struct GatedReader<'a> {
     /// The bytes that are still to be given.
     pub rest: &'a [u8],
-    /// How many lines it gave.
-    pub given: u64,
-    /// How many lines its `GatedWriter` flushed.
-    pub flushed: &'a Cell<u64>,
+    /// How often it was asked too early.
+    pub early: u64,
+    /// Whether the gate is open.
+    pub open: &'a Cell<bool>,
 }
 
 impl<'a> GatedReader<'a> {
-    /// A reader that gave nothing yet.
-    pub fn new(bytes: &'a [u8], flushed: &'a Cell<u64>) -> Self
+    /// A reader that gave nothing yet. The gate is to be open for its first line.
+    pub fn new(bytes: &'a [u8], open: &'a Cell<bool>) -> Self
         ensures bytes { result.rest.now ≡ bytes.now }
-        ensures given { result.given ≡ 0 }
+        ensures early { result.early ≡ 0 }
     {
         GatedReader {
             rest: bytes,
-            given: 0,
-            flushed,
+            early: 0,
+            open,
         }
     }
+}
+
+// The place of the first byte 10.
+fn line_end(text: &[u8]) -> Option<usize>
+    ensures value { result ≡ position (λ b. b == 10) text.now }
+    ensures in_range { IfSome result (λ at. at < length text.now) }
+{
+    text.iter().position(|byte| *byte == b'\n')
 }
 
 // The length of the first line, with its byte 10.
 fn line_len(text: &[u8]) -> usize
+    ensures value { result ≡ first_line_len text.now }
     ensures in_range { result ≤ length text.now }
     ensures some { 0 < length text.now → 0 < result }
 {
-    for (at, byte) in text.iter().enumerate() {
-        if *byte == b'\n' {
-            return at + 1;
-        }
+    match line_end(text) {
+        Some(at) => at + 1,
+        None => text.len(),
     }
-    text.len()
 }
 
 impl Read for GatedReader<'_> {
@@ -52,11 +62,16 @@ impl Read for GatedReader<'_> {
 
     ghost remaining = { λ r. Some r.rest.now };
 
-    fn read(&mut self, buf: &mut [u8]) -> Result<usize> {
-        if self.flushed.get() < self.given {
+    fn read(&mut self, buf: &mut [u8]) -> Result<usize>
+        ensures bound { ReadsAtMost result buf.new }
+        ensures bytes { ReadConsumes (Some self.old.rest.now) (Some self.new.rest.now) result buf.new }
+        ensures line { IfOk result (λ n. n ≡ min (first_line_len self.old.rest.now) (length buf.old)) }
+        ensures early { self.new.early ≡ (if is_err result then risen self.old.early else self.old.early) }
+    {
+        if !self.open.replace(false) {
+            self.early = count_up(self.early);
             return Err(Error::from(ErrorKind::Other));
         }
-        self.given = count_up(self.given);
         let count = line_len(self.rest).min(buf.len());
         let (piece, rest) = self.rest.split_at(count);
         buf[..count].copy_from_slice(piece);
@@ -65,34 +80,23 @@ impl Read for GatedReader<'_> {
     }
 }
 
-// How many lines a text has.
-fn line_count(text: &[u8]) -> u64 {
-    let mut count: u64 = 0;
-    for byte in text {
-        if *byte == b'\n' {
-            count = count.saturating_add(1);
-        }
-    }
-    count
-}
-
-/// Takes all bytes, and tells at a flush how many lines it took.
+/// Takes all bytes. A write shuts the gate, and a flush opens it.
 #[derive(Drop)]
 pub struct GatedWriter<'a> {
     /// The bytes that it took.
     pub bytes: Vec<u8>,
-    /// How many lines were flushed.
-    pub flushed: &'a Cell<u64>,
+    /// Whether the gate is open.
+    pub open: &'a Cell<bool>,
 }
 
 impl<'a> GatedWriter<'a> {
     /// A writer that took nothing yet.
-    pub fn new(alloc: Global, flushed: &'a Cell<u64>) -> Self
+    pub fn new(alloc: Global, open: &'a Cell<bool>) -> Self
         ensures { result.bytes.items ≡ [] }
     {
         GatedWriter {
             bytes: Vec::new(alloc),
-            flushed,
+            open,
         }
     }
 }
@@ -107,12 +111,13 @@ impl Write for GatedWriter<'_> {
         ensures bytes { WriteAppends (Some self.old.bytes.items) (Some self.new.bytes.items) result buf.now }
         ensures whole { IfOk result (λ n. n ≡ length buf.now) }
     {
+        self.open.set(false);
         self.bytes.extend_from_slice(buf)?;
         Ok(buf.len())
     }
 
     fn flush(&mut self) -> Result<()> {
-        self.flushed.set(line_count(self.bytes.as_slice()));
+        self.open.set(true);
         Ok(())
     }
 }

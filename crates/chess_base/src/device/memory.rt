@@ -52,7 +52,9 @@ impl Read for PieceReader<'_> {
         ensures bytes { ReadConsumes (Some self.old.rest.now) (Some self.new.rest.now) result buf.new }
         ensures calls { self.new.calls ≡ risen self.old.calls }
         ensures fails { IsErr result ↔ (self.new.calls ≡ self.old.fails_at) }
-        ensures cut { IfOk result (λ n. n ≡ min self.old.cut (min (length buf.old) (length self.old.rest.now))) }
+        ensures len { IfOk result (λ n. n ≡ min self.old.cut (min (length buf.old) (length self.old.rest.now))) }
+        ensures cut { self.new.cut ≡ self.old.cut }
+        ensures fails_at { self.new.fails_at ≡ self.old.fails_at }
     {
         self.calls = count_up(self.calls);
         if self.calls == self.fails_at {
@@ -107,7 +109,9 @@ impl Write for PieceWriter {
         ensures bytes { WriteAppends (Some self.old.bytes.items) (Some self.new.bytes.items) result buf.now }
         ensures calls { self.new.calls ≡ risen self.old.calls }
         ensures fails { self.new.calls ≡ self.old.fails_at → IsErr result }
-        ensures cut { IfOk result (λ n. n ≡ min self.old.cut (length buf.now)) }
+        ensures len { IfOk result (λ n. n ≡ min self.old.cut (length buf.now)) }
+        ensures cut { self.new.cut ≡ self.old.cut }
+        ensures fails_at { self.new.fails_at ≡ self.old.fails_at }
     {
         self.calls = count_up(self.calls);
         if self.calls == self.fails_at {
@@ -122,6 +126,8 @@ impl Write for PieceWriter {
         ensures bytes { Keeps (Some self.old.bytes.items) (Some self.new.bytes.items) }
         ensures calls { self.new.calls ≡ risen self.old.calls }
         ensures fails { IsErr result ↔ (self.new.calls ≡ self.old.fails_at) }
+        ensures cut { self.new.cut ≡ self.old.cut }
+        ensures fails_at { self.new.fails_at ≡ self.old.fails_at }
     {
         self.calls = count_up(self.calls);
         if self.calls == self.fails_at {

@@ -1,8 +1,11 @@
+ghost use Rattle.std.specs.Prelude.{◌≤◌, IfOk};
+
 use super::{
     Counted, GatedReader, GatedWriter, Input, Output, PieceReader, PieceWriter, ReadFault,
     WriteFault, put, put_parts,
 };
 use std::cell::Cell;
+use std::io::{self, Read, Write};
 use std::process::Abort;
 use std::test::Fail;
 
@@ -88,16 +91,127 @@ fn parts_break_off_where_a_write_fails(rt: HostRuntime) {
     }
 }
 
+// A device that counts its calls and the bytes of their pieces, and answers all alike: so many bytes, or a failure.
+#[derive(Drop)]
+struct Asked {
+    calls: u64,
+    bytes: u64,
+    answer: Option<usize>,
+}
+
+impl Asked {
+    fn answering(answer: Option<usize>) -> Self {
+        Asked {
+            calls: 0,
+            bytes: 0,
+            answer,
+        }
+    }
+
+    fn ask(&mut self, len: usize) -> io::Result<usize>
+        ensures { IfOk result (λ n. n ≤ len) }
+    {
+        self.calls = self.calls.saturating_add(1);
+        self.bytes = self.bytes.saturating_add(len as u64);
+        match self.answer {
+            Some(count) => Ok(count.min(len)),
+            None => Err(io::Error::from(io::ErrorKind::Other)),
+        }
+    }
+}
+
+impl Read for Asked {
+    ghost use Rattle.std.specs.Prelude.{None};
+
+    ghost remaining = { λ a. None };
+
+    fn read(&mut self, buf: &mut [u8]) -> io::Result<usize> {
+        self.ask(buf.len())
+    }
+}
+
+impl Write for Asked {
+    ghost use Rattle.std.specs.Prelude.{None};
+
+    ghost contents = { λ a. None };
+
+    fn write(&mut self, buf: &[u8]) -> io::Result<usize> {
+        self.ask(buf.len())
+    }
+
+    fn flush(&mut self) -> io::Result<()> {
+        match self.ask(0) {
+            Ok(_) => Ok(()),
+            Err(error) => Err(error),
+        }
+    }
+}
+
+const PIECE: [u8; 9000] = [0; 9000];
+
+// Each read is one call of the device with all of the piece, whatever came before.
 #[test]
-fn gate_opens_at_a_flush(rt: HostRuntime) {
-    let flushed = Cell::new(0);
-    let mut input = Counted::reading(GatedReader::new(TEXT, &flushed));
-    let mut output = Counted::writing(GatedWriter::new(rt.alloc(), &flushed));
+fn a_read_is_one_read_of_the_device(rt: HostRuntime) {
+    let mut buffer = PIECE;
+    let rows = [
+        (Some(9000), Ok(9000)),
+        (Some(1), Ok(1)),
+        (Some(0), Ok(0)),
+        (None, Err(ReadFault)),
+    ];
+    for (answer, wanted) in rows {
+        let mut input = Counted::reading(Asked::answering(answer));
+        for calls in 1..1500 {
+            assert_eq!(rt; input.read(&mut buffer), wanted);
+            assert_eq!(rt; input.reader().calls, calls);
+            assert_eq!(rt; input.reader().bytes, calls * 9000);
+        }
+    }
+}
+
+// So is each write, and each flush one flush.
+#[test]
+fn a_write_is_one_write_of_the_device(rt: HostRuntime) {
+    let rows = [
+        (Some(9000), Ok(9000), Ok(())),
+        (Some(1), Ok(1), Ok(())),
+        (Some(0), Err(WriteFault), Ok(())),
+        (None, Err(WriteFault), Err(WriteFault)),
+    ];
+    for (answer, wrote, flushed) in rows {
+        let mut output = Counted::writing(Asked::answering(answer));
+        for calls in 1..1500 {
+            assert_eq!(rt; output.write(&PIECE), wrote);
+            assert_eq!(rt; output.writer().calls, calls);
+            assert_eq!(rt; output.writer().bytes, calls * 9000);
+        }
+        let mut output = Counted::writing(Asked::answering(answer));
+        for calls in 1..1500 {
+            assert_eq!(rt; output.flush(), flushed);
+            assert_eq!(rt; output.writer().calls, calls);
+        }
+    }
+}
+
+#[test]
+fn gate_opens_at_each_flush_for_one_line(rt: HostRuntime) {
+    let open = Cell::new(true);
+    let mut input = Counted::reading(GatedReader::new(b"new\ne2e4\nping 1\nquit\n", &open));
+    let mut output = Counted::writing(GatedWriter::new(rt.alloc(), &open));
     gives(&rt, &mut input, Ok(b"new\n"));
     gives(&rt, &mut input, Err(ReadFault));
     assert_eq!(rt; put(&mut output, b"pong 1\n"), Ok(()));
     gives(&rt, &mut input, Err(ReadFault));
     assert_eq!(rt; output.flush(), Ok(()));
     gives(&rt, &mut input, Ok(b"e2e4\n"));
-    assert_eq!(rt; output.writer().bytes.as_slice(), b"pong 1\n".as_slice());
+    assert_eq!(rt; input.reader().early, 2);
+    // A second line needs a second flush, and that behind all that was written.
+    gives(&rt, &mut input, Err(ReadFault));
+    assert_eq!(rt; output.flush(), Ok(()));
+    assert_eq!(rt; put(&mut output, b"x"), Ok(()));
+    gives(&rt, &mut input, Err(ReadFault));
+    assert_eq!(rt; output.flush(), Ok(()));
+    gives(&rt, &mut input, Ok(b"ping 1\n"));
+    assert_eq!(rt; input.reader().early, 4);
+    assert_eq!(rt; output.writer().bytes.as_slice(), b"pong 1\nx".as_slice());
 }

@@ -22,9 +22,9 @@ pub trait Input {
         ensures { ReadStep (seen self.old) (seen self.new) result buf.new };
 }
 
-/// What takes bytes. Its contract counts the calls that failed.
+/// What takes bytes. Its contract counts the calls that failed, and the bytes that are not flushed.
 pub trait Output {
-    /// What contracts see of it: the bytes that it took where they are known, and the count.
+    /// What contracts see of it: the bytes that it took where they are known, and the counts.
     ghost seen: { Self → OutputState };
 
     /// Takes a beginning of `buf`, and answers how many bytes.

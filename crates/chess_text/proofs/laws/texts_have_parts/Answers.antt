@@ -1,4 +1,4 @@
-use Rattle.chess_text.proofs.Alone.{spelled_by_text}
+use Rattle.chess_text.proofs.Alone.{spelled_by_text, shaped_by_text}
 use Rattle.chess_text.proofs.Grammar.{spelled-parts, parts-spelled}
 use Rattle.chess_text.proofs.laws.texts_have_parts.Goals as goal
 
@@ -10,3 +10,6 @@ returns-clause-written c = parts-spelled
 
 pub returns-clause-spelled : goal.returns-clause-spelled
 returns-clause-spelled c = spelled_by_text
+
+pub returns-clause-shaped : goal.returns-clause-shaped
+returns-clause-shaped c = shaped_by_text

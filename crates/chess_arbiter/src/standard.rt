@@ -1,0 +1,55 @@
+//! The program on the standard streams.
+
+use crate::program::{ProgramFault, run_program, tell};
+use chess_base::device::Counted;
+use std::alloc::AllocError;
+use std::process::ExitCode;
+use std::{env, io};
+
+// The words after the program's name.
+fn words_of(rt: &HostRuntime) -> io::Result<Vec<String>> {
+    let mut words = Vec::new(rt.alloc());
+    for word in env::args(rt)?.skip(1) {
+        words.push(word).map_err(AllocError::from)?;
+    }
+    Ok(words)
+}
+
+// Runs the program on the standard streams, and gives its status.
+pub(crate) fn status_of(rt: &HostRuntime) -> io::Result<u8> {
+    let owned = words_of(rt)?;
+    let mut words = Vec::new(rt.alloc());
+    for word in &owned {
+        words.push(word.as_str()).map_err(AllocError::from)?;
+    }
+    Ok(run_program(
+        rt,
+        rt.alloc(),
+        words.as_slice(),
+        &mut Counted::reading(rt.stdin()),
+        &mut Counted::writing(rt.stdout()),
+        &mut Counted::writing(rt.stderr()),
+    ))
+}
+
+// Why the words could not be had: no memory for them, or one of them is no UTF-8.
+pub(crate) fn words_fault(error: &io::Error) -> ProgramFault {
+    if error.kind() == io::ErrorKind::OutOfMemory {
+        ProgramFault::NoMemory
+    } else {
+        ProgramFault::WrongWords
+    }
+}
+
+/// Runs the program on the words behind its name and the standard streams, as `main` does; the result is its exit status, as
+/// `run_program` tells it. Words that are no UTF-8 are wrong words.
+pub fn run(rt: &HostRuntime) -> ExitCode {
+    match status_of(rt) {
+        Ok(status) => ExitCode::from(status),
+        Err(error) => {
+            let fault = words_fault(&error);
+            tell(&mut Counted::writing(rt.stderr()), fault);
+            ExitCode::from(fault.status())
+        }
+    }
+}

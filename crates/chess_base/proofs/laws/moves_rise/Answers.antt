@@ -1,0 +1,5 @@
+use Rattle.chess_base.proofs.MovesRise.{moves_rise}
+use Rattle.chess_base.proofs.laws.moves_rise.Goals as goal
+
+pub returns : goal.returns
+returns c = moves_rise

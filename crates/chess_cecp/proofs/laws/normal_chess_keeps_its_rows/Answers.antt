@@ -1,0 +1,5 @@
+use Rattle.chess_cecp.proofs.NormalRows.{normal_rows}
+use Rattle.chess_cecp.proofs.laws.normal_chess_keeps_its_rows.Goals as goal
+
+pub returns : goal.returns
+returns c = normal_rows

@@ -1,0 +1,127 @@
+-- On starts of normal chess, and in texts that name no variant, games are written and read as in normal chess.
+use Rattle.std.proofs.Common.{◌≡◌, ℕ, ◌-◌, Bool, true, false, not, cond, ◌&&◌, List, [], ◌∷◌, ◌++◌, length, Some, None, is_some, Result, Ok, Err, refl, sym, ap, subst, ◌∙◌}
+use Rattle.std.specs.Prelude.{nat_lt, codes}
+use Rattle.std.specs.Str.{bytes_eq}
+use Rattle.chess_base.specs.declared.fault.FenFault.{FenFault}
+use Rattle.chess_base.specs.declared.man.Variant.{Variant}
+use Rattle.chess_base.specs.declared.man.Variant.TheVariants.{Normal}
+use Rattle.chess_base.specs.declared.setup.Setup.{Setup}
+use Rattle.chess_base.specs.Initial.{initial_setup, initial_setup_of}
+use Rattle.chess_base.specs.Reading.{fen_reading_as}
+use Rattle.chess_game.specs.Game.{from_start, current, verdict_now}
+use Rattle.chess_text.specs.declared.reading.Reading.{Reading}
+use Rattle.chess_text.specs.declared.reading.Reading.TheVariants as reads
+use Rattle.chess_text.specs.Moves.{reading}
+use Rattle.chess_pgn.specs.declared.read.PgnFaultKind.TheVariants.{NoResult}
+use Rattle.chess_pgn.specs.declared.termination.Termination.{Termination}
+use Rattle.chess_pgn.specs.declared.word.WordKind.{WordKind}
+use Rattle.chess_pgn.specs.declared.word.WordKind.TheVariants.{End, Number, Marks, Move}
+use Rattle.chess_pgn.specs.GameRead.{SoFar, GameRead, Step, On, Stop, fails, fen_step, tag_step, move_step, word_step, step, unless_full, go_on, game_of, nothing_read, behind_word, told_next, variant_told, pgn_read, told_behind}
+use Rattle.chess_pgn.specs.GameText.{start_lines_in, last_lines, further_lines}
+use Rattle.chess_pgn.specs.Normal.{normal_further_lines, normal_tag_step, normal_step, normal_game_of, normal_read, is_mark_word, names_no_variant, NormalIsKept}
+use Rattle.chess_pgn.specs.Tokens.{Token, Skip, Tag, Word, Bad_tag, Unclosed_comment, Unclosed_variation, Bad, first_place, tokens_from}
+use Rattle.chess_pgn.specs.Words.{kind_of}
+use Rattle.chess_pgn.proofs.Cuts.{pick}
+use Rattle.chess_pgn.proofs.FenVariants.{read_variant, initial_variant}
+
+-- ---- the variant that is told
+
+both : (a b : Bool) → (not a && b) ≡ true → (a ≡ false) × (b ≡ true)
+both true b e = absurd (cc)
+both false b e = (refl, e)
+
+normal_told : (ts : List (ℕ × Token)) → names_no_variant ts ≡ true → variant_told Normal ts ≡ Normal
+normal_told [] h = refl
+normal_told ((left, Skip) ∷ ts) h = normal_told ts h
+normal_told ((left, Tag name text string) ∷ ts) h =
+    let none = both (bytes_eq name (codes "Variant")) (names_no_variant ts) h in
+    rw none.0 (normal_told ts none.1)
+normal_told ((left, Word word) ∷ ts) h = by_kind (λ e. normal_told ts e) (kind_of word) h
+  where
+    by_kind : (names_no_variant ts ≡ true → variant_told Normal ts ≡ Normal) → (k : WordKind) → cond (not (is_mark_word k)) true (not false && names_no_variant ts) ≡ true → told_next Normal (behind_word Normal k) (λ u. variant_told u ts) ≡ Normal
+    by_kind later (End o) e = refl
+    by_kind later Number e = refl
+    by_kind later Marks e = later e
+    by_kind later Move e = refl
+normal_told ((left, Bad_tag) ∷ ts) h = refl
+normal_told ((left, Unclosed_comment brace) ∷ ts) h = refl
+normal_told ((left, Unclosed_variation) ∷ ts) h = refl
+normal_told ((left, Bad) ∷ ts) h = refl
+
+-- ---- steps of a game of normal chess
+
+abbrev IsNormal : Step → Type 0
+IsNormal (On g) = g.state.start.variant ≡ Normal
+IsNormal (Stop read) = Unit {0}
+
+module _ (limit total : ℕ) (g : SoFar) (normal : g.state.start.variant ≡ Normal) where
+  full_keeps : (place : ℕ) (next : Step) → IsNormal next → IsNormal (unless_full limit g place next)
+  full_keeps place next h =
+      pick IsNormal (is_some (verdict_now g.state)) _ _ (λ _. tt) (λ _.
+      pick IsNormal (nat_lt (length g.state.moves) limit) _ _ (λ _. h) (λ _. tt))
+
+  move_keeps : (place : ℕ) (r : Reading) → IsNormal (move_step limit g place r)
+  move_keeps place reads.NotAMove = tt
+  move_keeps place (reads.Move m) = full_keeps place _ normal
+  move_keeps place reads.Ambiguous = full_keeps place _ tt
+  move_keeps place reads.NoSuch = full_keeps place _ tt
+
+  word_keeps : (place : ℕ) (word : List ℕ) (k : WordKind) → IsNormal (word_step limit g place word k)
+  word_keeps place word (End o) = tt
+  word_keeps place word Number = normal
+  word_keeps place word Marks = normal
+  word_keeps place word Move = move_keeps place (reading (current g.state) word)
+
+  fen_keeps : (place : ℕ) (text : List ℕ) (r : Result Setup FenFault) → fen_reading_as Normal text ≡ r → IsNormal (fen_step g place r)
+  fen_keeps place text (Ok start) e = read_variant Normal text start e
+  fen_keeps place text (Err fault) e = tt
+
+  tag_keeps : (name text : List ℕ) (place : ℕ) → IsNormal (normal_tag_step g name text place)
+  tag_keeps name text place = pick IsNormal (bytes_eq name (codes "FEN")) _ _ (λ _. fen_keeps place text (fen_reading_as Normal text) refl) (λ _. normal)
+
+  keeps : (left : ℕ) (t : Token) → IsNormal (normal_step limit total g left t)
+  keeps left Skip = normal
+  keeps left (Tag name text string) = pick IsNormal g.is_begun _ _ (λ _. tt) (λ _. tag_keeps name text (total - string))
+  keeps left (Word word) = word_keeps (total - left) word (kind_of word)
+  keeps left Bad_tag = tt
+  keeps left (Unclosed_comment brace) = tt
+  keeps left Unclosed_variation = tt
+  keeps left Bad = tt
+
+  same_tag : (name text : List ℕ) (place : ℕ) → tag_step g name text place ≡ normal_tag_step g name text place
+  same_tag name text place =
+      ap (λ v. cond (bytes_eq name (codes "FEN")) (fen_step g place (fen_reading_as v text)) (On (record { state = g.state; is_met = true; is_begun = g.is_begun; termination = told_behind g.termination name text }))) normal
+
+  same_step : (left : ℕ) (t : Token) → step limit total g left t ≡ normal_step limit total g left t
+  same_step left Skip = refl
+  same_step left (Tag name text string) = ap (λ s. cond g.is_begun (fails g NoResult (total - left)) s) (same_tag name text (total - string))
+  same_step left (Word word) = refl
+  same_step left Bad_tag = refl
+  same_step left (Unclosed_comment brace) = refl
+  same_step left Unclosed_variation = refl
+  same_step left Bad = refl
+
+same_game : (limit total : ℕ) (g : SoFar) (ts : List (ℕ × Token)) → g.state.start.variant ≡ Normal → game_of limit total g ts ≡ normal_game_of limit total g ts
+same_game limit total g [] normal = refl
+same_game limit total g (t ∷ ts) normal =
+    ap (λ s. go_on s (λ h. game_of limit total h ts)) (same_step limit total g normal t.0 t.1)
+    ∙ by_step ts (λ h n. same_game limit total h ts n) (normal_step limit total g t.0 t.1) (keeps limit total g normal t.0 t.1)
+  where
+    by_step : (ts : List (ℕ × Token)) → ((h : SoFar) → h.state.start.variant ≡ Normal → game_of limit total h ts ≡ normal_game_of limit total h ts) → (s : Step) → IsNormal s → go_on s (λ h. game_of limit total h ts) ≡ go_on s (λ h. normal_game_of limit total h ts)
+    by_step ts later (On h) n = later h n
+    by_step ts later (Stop read) n = refl
+
+initial_is : initial_setup_of Normal ≡ initial_setup
+unfolding initial_setup
+initial_is = refl
+
+read_so : (limit : ℕ) (text : List ℕ) (at : ℕ) → names_no_variant (tokens_from text (first_place text at)) ≡ true → pgn_read limit text at ≡ normal_read limit (length text) (tokens_from text (first_place text at))
+unfolding pgn_read
+read_so limit text at none =
+    let tokens : List (ℕ × Token) = tokens_from text (first_place text at) in
+    ap (λ v. game_of limit (length text) (nothing_read v) tokens) (normal_told tokens none)
+    ∙ same_game limit (length text) (nothing_read Normal) tokens (initial_variant Normal)
+    ∙ ap (λ p. normal_game_of limit (length text) (record { state = from_start p; is_met = false; is_begun = false; termination = None }) tokens) initial_is
+
+pub normal_kept : NormalIsKept
+normal_kept = record { written = λ start t is. ap (λ v. start_lines_in v start ++ last_lines v t) is; read = read_so }

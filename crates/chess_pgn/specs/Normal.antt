@@ -1,0 +1,85 @@
+-- The definitions that Chess960 widened, as they are for normal chess alone.
+use Rattle.std.specs.Prelude.{◌≡◌, ℕ, ◌-◌, Bool, true, false, not, ◌&&◌, if◌then◌else◌, List, [], ◌∷◌, ◌++◌, length, None, IsTrue, codes}
+use Rattle.std.specs.Str.{bytes_eq}
+use Rattle.chess_base.specs.declared.man.Variant.TheVariants.{Normal}
+use Rattle.chess_base.specs.declared.setup.Setup.{Setup}
+use Rattle.chess_base.specs.Initial.{initial_setup}
+use Rattle.chess_base.specs.Reading.{fen_reading}
+use Rattle.chess_game.specs.Game.{from_start}
+use Rattle.chess_pgn.specs.declared.read.PgnFaultKind.TheVariants.{NoResult}
+use Rattle.chess_pgn.specs.declared.termination.Termination.{Termination}
+use Rattle.chess_pgn.specs.declared.word.WordKind.{WordKind}
+use Rattle.chess_pgn.specs.declared.word.WordKind.TheVariants.{End, Number, Marks, Move}
+use Rattle.chess_pgn.specs.GameRead.{SoFar, GameRead, Step, On, fails, fen_step, told_behind, word_step, step, at_text_end, go_on, pgn_read}
+use Rattle.chess_pgn.specs.GameText.{is_initial, fen_lines, further_lines}
+use Rattle.chess_pgn.specs.Terminations.{termination_text}
+use Rattle.chess_pgn.specs.Tokens.{Token, Skip, Tag, Word, Bad_tag, Unclosed_comment, Unclosed_variation, Bad, first_place, tokens_from}
+use Rattle.chess_pgn.specs.Words.{kind_of}
+use Rattle.chess_pgn.specs.Written.{tag_line}
+
+-- ---- written
+
+abbrev pub normal_further_lines : Setup → Termination → List (List ℕ)
+normal_further_lines start termination =
+    (if is_initial start then [] else fen_lines start) ++ tag_line (codes "Termination") (termination_text termination) ∷ []
+
+-- ---- read
+
+abbrev pub normal_tag_step : SoFar → List ℕ → List ℕ → ℕ → Step
+normal_tag_step g name text place =
+    if bytes_eq name (codes "FEN") then fen_step g place (fen_reading text)
+    else On (record { state = g.state; is_met = true; is_begun = g.is_begun; termination = told_behind g.termination name text })
+
+abbrev pub normal_step : ℕ → ℕ → SoFar → ℕ → Token → Step
+normal_step limit total g left (Tag name text string) = if g.is_begun then fails g NoResult (total - left) else normal_tag_step g name text (total - string)
+normal_step limit total g left Skip = step limit total g left Skip
+normal_step limit total g left (Word word) = step limit total g left (Word word)
+normal_step limit total g left Bad_tag = step limit total g left Bad_tag
+normal_step limit total g left (Unclosed_comment brace) = step limit total g left (Unclosed_comment brace)
+normal_step limit total g left Unclosed_variation = step limit total g left Unclosed_variation
+normal_step limit total g left Bad = step limit total g left Bad
+
+abbrev pub normal_game_of : ℕ → ℕ → SoFar → List (ℕ × Token) → GameRead
+normal_game_of limit total g [] = at_text_end total g
+normal_game_of limit total g (t ∷ ts) = go_on (normal_step limit total g t.0 t.1) (λ h. normal_game_of limit total h ts)
+
+-- from the initial position
+abbrev pub normal_read : ℕ → ℕ → List (ℕ × Token) → GameRead
+normal_read limit total tokens = normal_game_of limit total (record { state = from_start initial_setup; is_met = false; is_begun = false; termination = None }) tokens
+
+-- ---- texts that name no variant
+
+abbrev pub names_variant : Token → Bool
+names_variant (Tag name text left) = bytes_eq name (codes "Variant")
+names_variant Skip = false
+names_variant (Word word) = false
+names_variant Bad_tag = false
+names_variant (Unclosed_comment left) = false
+names_variant Unclosed_variation = false
+names_variant Bad = false
+
+abbrev pub is_mark_word : WordKind → Bool
+is_mark_word Marks = true
+is_mark_word Number = false
+is_mark_word Move = false
+is_mark_word (End o) = false
+
+-- a number, move or outcome, or what can't be read: no tag of the game stands behind it
+abbrev pub ends_tags : Token → Bool
+ends_tags Skip = false
+ends_tags (Tag name text left) = false
+ends_tags (Word word) = not (is_mark_word (kind_of word))
+ends_tags Bad_tag = true
+ends_tags (Unclosed_comment left) = true
+ends_tags Unclosed_variation = true
+ends_tags Bad = true
+
+-- before the first of these no tag is named Variant
+abbrev pub names_no_variant : List (ℕ × Token) → Bool
+names_no_variant [] = true
+names_no_variant (t ∷ ts) = if ends_tags t.1 then true else not (names_variant t.1) && names_no_variant ts
+
+-- ---- on starts of normal chess, and in texts that name no variant, games are written and read so
+pub record NormalIsKept : Type 0 where
+  pub written : (start : Setup) (termination : Termination) → start.variant ≡ Normal → further_lines start termination ≡ normal_further_lines start termination
+  pub read : (limit : ℕ) (text : List ℕ) (at : ℕ) → IsTrue (names_no_variant (tokens_from text (first_place text at))) → pgn_read limit text at ≡ normal_read limit (length text) (tokens_from text (first_place text at))

@@ -1,0 +1,207 @@
+-- What the tokens of a game's text tell, with no reader: which are taken, the start, the moves and how the game ended; and why
+-- the next one is not taken.
+use Rattle.std.specs.Prelude.{◌≡◌, ℕ, ◌+◌, ◌-◌, ◌<◌, nat_lt, Bool, true, false, not, ◌&&◌, ◌||◌, if◌then◌else◌, List, [], ◌∷◌, ◌++◌, length, Option, Some, None, is_some, Result, Ok, Err, codes}
+use Rattle.std.specs.List.{list_any, flat_map}
+use Rattle.std.specs.Option.{option_map}
+use Rattle.std.specs.Result.{is_ok}
+use Rattle.std.specs.Str.{bytes_eq}
+use Rattle.chess_base.specs.declared.fault.FenFault.{FenFault}
+use Rattle.chess_base.specs.declared.man.Move.{Move as Played}
+use Rattle.chess_base.specs.declared.man.Variant.{Variant}
+use Rattle.chess_base.specs.declared.man.Variant.TheVariants.{Normal}
+use Rattle.chess_base.specs.declared.setup.Setup.{Setup}
+use Rattle.chess_base.specs.Initial.{initial_setup_of}
+use Rattle.chess_base.specs.Reading.{fen_reading_as}
+use Rattle.chess_game.specs.Ends.{verdict}
+use Rattle.chess_game.specs.Game.{State, current, verdict_now}
+use Rattle.chess_game.specs.Line.{last}
+use Rattle.chess_text.specs.declared.reading.Reading.{Reading}
+use Rattle.chess_text.specs.declared.reading.Reading.TheVariants as reads
+use Rattle.chess_text.specs.Moves.{reading}
+use Rattle.chess_pgn.specs.declared.read.PgnEnd.{PgnEnd}
+use Rattle.chess_pgn.specs.declared.read.PgnFault.{PgnFault}
+use Rattle.chess_pgn.specs.declared.read.PgnFaultKind.{PgnFaultKind}
+use Rattle.chess_pgn.specs.declared.read.PgnFaultKind.TheVariants.{BadTag, BadFen, BadToken, IllegalMove, AmbiguousMove, AfterEnd, TooLong, UnclosedComment, UnclosedVariation, NoResult}
+use Rattle.chess_pgn.specs.declared.termination.Termination.{Termination}
+use Rattle.chess_pgn.specs.declared.word.WordKind.{WordKind}
+use Rattle.chess_pgn.specs.declared.word.WordKind.TheVariants.{End, Number, Marks, Move}
+use Rattle.chess_pgn.specs.GameRead.{GameRead, declared_behind, told_behind, variant_told, pgn_read}
+use Rattle.chess_pgn.specs.Tokens.{Token, Skip, Tag, Word, Bad_tag, Unclosed_comment, Unclosed_variation, Bad, first_place, tokens_from}
+use Rattle.chess_pgn.specs.Words.{kind_of}
+
+-- ---- kinds of tokens
+
+abbrev pub is_number_or_move : WordKind → Bool
+is_number_or_move (End o) = false
+is_number_or_move Number = true
+is_number_or_move Marks = false
+is_number_or_move Move = true
+
+abbrev pub is_outcome : WordKind → Bool
+is_outcome (End o) = true
+is_outcome Number = false
+is_outcome Marks = false
+is_outcome Move = false
+
+-- a number or move: behind it no tag belongs to the game
+abbrev pub begins : Token → Bool
+begins (Word word) = is_number_or_move (kind_of word)
+begins Skip = false
+begins (Tag name text left) = false
+begins Bad_tag = false
+begins (Unclosed_comment left) = false
+begins Unclosed_variation = false
+begins Bad = false
+
+-- a tag, number or move: with one a game is there
+abbrev pub counts : Token → Bool
+counts (Tag name text left) = true
+counts (Word word) = is_number_or_move (kind_of word)
+counts Skip = false
+counts Bad_tag = false
+counts (Unclosed_comment left) = false
+counts Unclosed_variation = false
+counts Bad = false
+
+abbrev pub is_fen : List ℕ → Bool
+is_fen name = bytes_eq name (codes "FEN")
+
+-- ---- what can be taken: a tag before the first number or move, and if it is a FEN tag, one that spells a position; a word
+-- that is no outcome; never a token that can't be read
+
+abbrev pub can_be_taken : Variant → Bool → Token → Bool
+can_be_taken v begun Skip = true
+can_be_taken v begun (Tag name text left) = not begun && (not (is_fen name) || is_ok (fen_reading_as v text))
+can_be_taken v begun (Word word) = not (is_outcome (kind_of word))
+can_be_taken v begun Bad_tag = false
+can_be_taken v begun (Unclosed_comment left) = false
+can_be_taken v begun Unclosed_variation = false
+can_be_taken v begun Bad = false
+
+abbrev pub can_all_be_taken : Variant → Bool → List (ℕ × Token) → Bool
+can_all_be_taken v begun [] = true
+can_all_be_taken v begun (t ∷ ts) = can_be_taken v begun t.1 && can_all_be_taken v (begun || begins t.1) ts
+
+-- ---- what they tell
+
+-- the words that are moves, in their order
+abbrev pub if_move : List ℕ → WordKind → List (List ℕ)
+if_move word (End o) = []
+if_move word Number = []
+if_move word Marks = []
+if_move word Move = word ∷ []
+
+abbrev pub move_words_of : Token → List (List ℕ)
+move_words_of (Word word) = if_move word (kind_of word)
+move_words_of Skip = []
+move_words_of (Tag name text left) = []
+move_words_of Bad_tag = []
+move_words_of (Unclosed_comment left) = []
+move_words_of Unclosed_variation = []
+move_words_of Bad = []
+
+abbrev pub move_words : List (ℕ × Token) → List (List ℕ)
+move_words tokens = flat_map (λ t. move_words_of t.1) tokens
+
+-- what the last FEN tag spells, else the position before it
+abbrev pub if_read : Setup → Result Setup FenFault → Setup
+if_read p (Ok start) = start
+if_read p (Err fault) = p
+
+abbrev pub start_by : Variant → Setup → Token → Setup
+start_by v p (Tag name text left) = if is_fen name then if_read p (fen_reading_as v text) else p
+start_by v p Skip = p
+start_by v p (Word word) = p
+start_by v p Bad_tag = p
+start_by v p (Unclosed_comment left) = p
+start_by v p Unclosed_variation = p
+start_by v p Bad = p
+
+abbrev pub start_told : Variant → Setup → List (ℕ × Token) → Setup
+start_told v p [] = p
+start_told v p (t ∷ ts) = start_told v (start_by v p t.1) ts
+
+-- what the last tag Termination names
+abbrev pub termination_by_token : Option Termination → Token → Option Termination
+termination_by_token o (Tag name text left) = told_behind o name text
+termination_by_token o Skip = o
+termination_by_token o (Word word) = o
+termination_by_token o Bad_tag = o
+termination_by_token o (Unclosed_comment left) = o
+termination_by_token o Unclosed_variation = o
+termination_by_token o Bad = o
+
+abbrev pub termination_told : Option Termination → List (ℕ × Token) → Option Termination
+termination_told o [] = o
+termination_told o (t ∷ ts) = termination_told (termination_by_token o t.1) ts
+
+-- behind some moves each word is read as its move, in the position reached, where no verdict holds and fewer moves stand than
+-- the limit
+abbrev pub AreReadAs : ℕ → Setup → List Played → List (List ℕ) → List Played → Type 0
+AreReadAs limit start done [] [] = Unit {0}
+AreReadAs limit start done [] (m ∷ ms) = ⊥
+AreReadAs limit start done (w ∷ ws) [] = ⊥
+AreReadAs limit start done (w ∷ ws) (m ∷ ms) =
+    (verdict start done ≡ None) × (length done < limit) × (reading (last start done) w ≡ reads.Move m) × AreReadAs limit start (done ++ m ∷ []) ws ms
+
+-- ---- why a token is not taken
+
+abbrev pub unless_closed : ℕ → State → Option PgnFaultKind → Option PgnFaultKind
+unless_closed limit s kind = if is_some (verdict_now s) then Some AfterEnd else (if nat_lt (length s.moves) limit then kind else Some TooLong)
+
+-- why a word with this reading is not played, if it isn't
+abbrev pub move_fault : ℕ → State → Reading → Option PgnFaultKind
+move_fault limit s reads.NotAMove = Some BadToken
+move_fault limit s (reads.Move m) = unless_closed limit s None
+move_fault limit s reads.Ambiguous = unless_closed limit s (Some AmbiguousMove)
+move_fault limit s reads.NoSuch = unless_closed limit s (Some IllegalMove)
+
+abbrev pub word_fault : ℕ → State → List ℕ → WordKind → Option PgnFaultKind
+word_fault limit s word (End o) = None
+word_fault limit s word Number = None
+word_fault limit s word Marks = None
+word_fault limit s word Move = move_fault limit s (reading (current s) word)
+
+abbrev pub fault_at : ℕ → Option PgnFaultKind → Option PgnFault
+fault_at place kind = option_map (λ k. record { kind = k; place = place }) kind
+
+-- in a game of that variant, begun or not, at a token with so many bytes left of so many
+abbrev pub token_fault : ℕ → ℕ → Variant → Bool → State → ℕ → Token → Option PgnFault
+token_fault limit total v begun s left Skip = None
+token_fault limit total v begun s left (Tag name text string) =
+    if begun then fault_at (total - left) (Some NoResult)
+    else (if is_fen name && not (is_ok (fen_reading_as v text)) then fault_at (total - string) (Some BadFen) else None)
+token_fault limit total v begun s left (Word word) = fault_at (total - left) (word_fault limit s word (kind_of word))
+token_fault limit total v begun s left Bad_tag = fault_at (total - left) (Some (if begun then NoResult else BadTag))
+token_fault limit total v begun s left (Unclosed_comment brace) = fault_at (total - brace) (Some UnclosedComment)
+token_fault limit total v begun s left Unclosed_variation = fault_at (total - left) (Some UnclosedVariation)
+token_fault limit total v begun s left Bad = fault_at (total - left) (Some BadToken)
+
+-- ---- the game
+
+-- where reading stopped, in a text of so many bytes: at its end, with a game there or not; at the outcome that is told; or at
+-- the token that has the fault. Only an outcome declares anything
+abbrev pub StopsAt : ℕ → ℕ → Variant → List (ℕ × Token) → List (ℕ × Token) → State → Result (Option PgnEnd) PgnFault → Type 0
+StopsAt limit total v taken [] s (Ok None) = (s.declared ≡ None) × (list_any (λ t. counts t.1) taken ≡ false)
+StopsAt limit total v taken [] s (Ok (Some e)) = ⊥
+StopsAt limit total v taken [] s (Err f) = (s.declared ≡ None) × (list_any (λ t. counts t.1) taken ≡ true) × (f ≡ record { kind = NoResult; place = total })
+StopsAt limit total v taken (t ∷ ts) s (Ok None) = ⊥
+StopsAt limit total v taken (t ∷ ts) s (Ok (Some e)) =
+    (word : List ℕ) × (t.1 ≡ Word word) × (kind_of word ≡ End e.outcome) × (s.declared ≡ declared_behind (is_some (verdict_now s)) e.outcome)
+    × (e.termination ≡ termination_told None taken) × (e.place ≡ total - t.0 + length word)
+StopsAt limit total v taken (t ∷ ts) s (Err f) = (s.declared ≡ None) × (token_fault limit total v (list_any (λ u. begins u.1) taken) s t.0 t.1 ≡ Some f)
+
+-- a game is that of the first tokens: these can be taken, its start is what their last FEN tag spells, else the initial
+-- position of the variant, and its moves are those of their words
+pub record IsOfTokens (limit total : ℕ) (v : Variant) (tokens : List (ℕ × Token)) (r : GameRead) : Type 0 where
+  pub taken : List (ℕ × Token)
+  pub others : List (ℕ × Token)
+  pub all : taken ++ others ≡ tokens
+  pub can_be : can_all_be_taken v false taken ≡ true
+  pub start : r.state.start ≡ start_told v (initial_setup_of v) taken
+  pub moves : AreReadAs limit r.state.start [] (move_words taken) r.state.moves
+  pub stop : StopsAt limit total v taken others r.state r.answer
+
+abbrev pub GamesAreOfTokens : Type 0
+GamesAreOfTokens =
+    (limit : ℕ) (text : List ℕ) (at : ℕ) → let tokens = tokens_from text (first_place text at) in IsOfTokens limit (length text) (variant_told Normal tokens) tokens (pgn_read limit text at)

@@ -1,0 +1,38 @@
+-- How a game ended, as the tag Termination tells it (PGN standard of 1994, section 9.8.1).
+use Rattle.std.specs.Prelude.{ℕ, List, [], ◌∷◌, Option, find, codes}
+use Rattle.std.specs.Str.{str_eq_ignore_ascii_case}
+use Rattle.chess_game.specs.declared.results.Outcome.{Outcome}
+use Rattle.chess_game.specs.declared.results.Outcome.TheVariants.{WhiteWins, BlackWins, Draw, Unfinished}
+use Rattle.chess_pgn.specs.declared.tags.HowEnded.{HowEnded}
+use Rattle.chess_pgn.specs.declared.tags.HowEnded.TheVariants as how
+use Rattle.chess_pgn.specs.declared.termination.Termination.{Termination}
+use Rattle.chess_pgn.specs.declared.termination.Termination.TheVariants.{Abandoned, Adjudication, Death, Emergency, Normal, RulesInfraction, TimeForfeit, Unterminated}
+
+abbrev pub termination_text : Termination → List ℕ
+termination_text Abandoned = codes "abandoned"
+termination_text Adjudication = codes "adjudication"
+termination_text Death = codes "death"
+termination_text Emergency = codes "emergency"
+termination_text Normal = codes "normal"
+termination_text RulesInfraction = codes "rules infraction"
+termination_text TimeForfeit = codes "time forfeit"
+termination_text Unterminated = codes "unterminated"
+
+abbrev pub all_terminations : List Termination
+all_terminations = Abandoned ∷ Adjudication ∷ Death ∷ Emergency ∷ Normal ∷ RulesInfraction ∷ TimeForfeit ∷ Unterminated ∷ []
+
+-- the one that a tag's text names, in letters of either size
+unfoldable pub termination_named : List ℕ → Option Termination
+termination_named text = find (λ t. str_eq_ignore_ascii_case text (termination_text t)) all_terminations
+
+abbrev pub termination_by : HowEnded → Termination
+termination_by how.Normal = Normal
+termination_by how.TimeForfeit = TimeForfeit
+termination_by how.RulesInfraction = RulesInfraction
+
+-- that of a game which has an outcome
+abbrev pub termination_of : HowEnded → Outcome → Termination
+termination_of ended WhiteWins = termination_by ended
+termination_of ended BlackWins = termination_by ended
+termination_of ended Draw = termination_by ended
+termination_of ended Unfinished = Unterminated
