@@ -9,8 +9,9 @@ mod lines;
 mod tests;
 
 use chess_base::{Position, read_fen};
+use chess_bits::Bits;
 use chess_game::Game;
-use chess_moves::{Board, Plain};
+use chess_moves::Board;
 use games::read_games;
 use lines::count_lines;
 use std::alloc::{AllocError, Global};
@@ -56,7 +57,7 @@ fn measure_lines(rt: &HostRuntime, depth: u8, fen: &[String]) -> io::Result<Exit
     let Some(start) = start_of(rt.alloc(), fen)? else {
         return misused(rt);
     };
-    let mut board = Plain::new();
+    let mut board = Bits::open(rt.alloc())?;
     board.set(&start);
     let begun = Instant::now(rt)?;
     let count = count_lines(&mut board, depth);
@@ -69,7 +70,7 @@ fn measure_lines(rt: &HostRuntime, depth: u8, fen: &[String]) -> io::Result<Exit
 // Reads the games of a file.
 fn measure_games(rt: &HostRuntime, path: &str) -> io::Result<ExitCode> {
     let text = fs::read(rt, path)?;
-    let mut game = Game::open(rt.alloc(), Plain::new(), GAME_LIMIT)?;
+    let mut game = Game::open(rt.alloc(), Bits::open(rt.alloc())?, GAME_LIMIT)?;
     let begun = Instant::now(rt)?;
     match read_games(text.as_slice(), &mut game) {
         Ok(tally) => {

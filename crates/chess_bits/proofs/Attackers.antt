@@ -1,7 +1,6 @@
 -- Who attacks a square, seen from that square.
-use Rattle.std.proofs.Common.{◌≡◌, ℕ, zero, suc, ◌<◌, ◌≤◌, ◌+◌, ◌⊎◌, inl, inr, Bool, true, false, not, ◌&&◌, ◌||◌, nat_lt, ◌==◌, refl, sym, ◌∙◌, ap, arith, Option, Some, None, is_none}
+use Rattle.std.proofs.Common.{◌≡◌, ℕ, zero, suc, ◌<◌, Bool, true, false, not, ◌&&◌, ◌||◌, ◌==◌, refl, ◌∙◌, ap, arith, Option, Some, None, is_none}
 use Rattle.std.proofs.lemmas.Bool.Decides.{nat_tests}
-use Rattle.std.proofs.lemmas.Bool.{and_parts, and_left, and_right, cases_Bool}
 use Rattle.chess_base.specs.declared.man.Colour.{Colour}
 use Rattle.chess_base.specs.declared.man.Colour.TheVariants.{White, Black}
 use Rattle.chess_base.specs.declared.man.Kind.{Kind}
@@ -9,14 +8,13 @@ use Rattle.chess_base.specs.declared.man.Kind.TheVariants.{King, Queen, Rook, Bi
 use Rattle.chess_base.specs.declared.man.Man.{Man}
 use Rattle.chess_base.specs.Squares.{file, rank, gap, lies_inside, share_rank_or_file, share_diagonal, is_between, is_between_on_file, is_between_on_rank, is_between_on_diagonal, each_below, each_square, some_below, some_square}
 use Rattle.chess_base.specs.Men.{Men, man_at, other, same_colour, same_kind, is_of, is_man}
-use Rattle.chess_base.specs.Attacks.{is_clear, is_rank_ahead, could_capture, could_capture_as, attacks, is_attacked}
+use Rattle.chess_base.specs.Attacks.{is_clear, could_capture, could_capture_as, attacks, is_attacked}
 use Rattle.chess_bits.specs.declared.line.Line.TheVariants.{Rank, File, Diagonal, Antidiagonal}
 use Rattle.chess_bits.specs.declared.table.Shape.TheVariants as shape
-use Rattle.chess_moves.specs.Sets.{has, is_past}
-use Rattle.chess_bits.specs.Rays.{same_line, is_on_ray, is_open}
+use Rattle.chess_moves.specs.Sets.{has}
+use Rattle.chess_bits.specs.Rays.{is_on_ray, is_open}
 use Rattle.chess_bits.specs.Shapes.{in_shape}
 use Rattle.chess_bits.specs.Occupancy.{IsOccupied}
-use Rattle.chess_bits.proofs.Geometry.{share_diagonal_is}
 
 -- the four rays along lines, and the four along diagonals
 pub on_lines : (a b : ℕ) (o : Bool)
@@ -39,7 +37,7 @@ pub each_square_same : (p q : ℕ → Bool) → ((k : ℕ) → k < 64 → p k �
 unfolding each_square
 each_square_same p q h = each_below_same 64 p q h
 
-gap_back : (m n : ℕ) → gap m n ≡ gap n m
+pub gap_back : (m n : ℕ) → gap m n ≡ gap n m
 gap_back m n = omega arith
 
 pub eq_back : (m n : ℕ) → (m == n) ≡ (n == m)

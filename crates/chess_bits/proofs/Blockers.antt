@@ -1,11 +1,11 @@
 -- A ray up to its first blocker.
-use Rattle.std.proofs.Common.{◌≡◌, ℕ, ◌<◌, ◌≤◌, ◌⊎◌, inl, inr, Bool, true, false, not, ◌&&◌, ◌||◌, nat_lt, ◌==◌, refl, sym, ◌∙◌, ap, arith}
+use Rattle.std.proofs.Common.{◌≡◌, ℕ, ◌<◌, inl, inr, Bool, true, false, not, ◌&&◌, nat_lt, refl, sym, ◌∙◌, arith}
 use Rattle.std.proofs.lemmas.Bool.Decides.{nat_tests}
-use Rattle.std.proofs.lemmas.Bool.{and_parts, and_left, and_right, cases_Bool, false_from_ne_true, both_ways}
-use Rattle.chess_base.specs.Squares.{is_between, lies_inside, each_square}
+use Rattle.std.proofs.lemmas.Bool.{and_parts, cases_Bool}
+use Rattle.chess_base.specs.Squares.{is_between}
 use Rattle.chess_bits.specs.declared.line.Line.{Line}
-use Rattle.chess_moves.specs.Sets.{has, is_past, IsNearest}
-use Rattle.chess_bits.specs.Rays.{line_number, same_line, is_on_ray, is_open}
+use Rattle.chess_moves.specs.Sets.{has, is_past}
+use Rattle.chess_bits.specs.Rays.{same_line, is_on_ray, is_open}
 use Rattle.chess_bits.proofs.Geometry.{between_on_line}
 use Rattle.chess_base.proofs.OverSquares.{each_square-all, each_square-fails}
 

@@ -1,12 +1,11 @@
 -- A man put on an empty square, or taken from its square.
-use Rattle.std.proofs.Common.{◌≡◌, ◌≢◌, ℕ, ◌<◌, ◌⊎◌, inl, inr, Bool, true, false, not, ◌&&◌, ◌||◌, ◌==◌, refl, sym, ◌∙◌, ap, arith, Option, Some, None, List, [], ◌∷◌, length, get_or, set, get_or-set_same, get_or-set_other}
-use Rattle.std.proofs.lemmas.Bool.{cases_Bool, eqb-true, eqb-false, eq-eqb, ne_eqb, and_left, and_right, cases_eq, false_from_ne_true}
+use Rattle.std.proofs.Common.{◌≡◌, ℕ, ◌<◌, inl, inr, Bool, true, false, not, ◌&&◌, ◌||◌, ◌==◌, refl, ◌∙◌, arith, Some, None, List, [], ◌∷◌, length, get_or, set, get_or-set_same, get_or-set_other}
+use Rattle.std.proofs.lemmas.Bool.{eq-eqb, ne_eqb, cases_eq}
 use Rattle.std.proofs.lemmas.List.{get_or_default}
 use Rattle.chess_base.specs.declared.man.Colour.{Colour}
 use Rattle.chess_base.specs.declared.man.Kind.{Kind}
 use Rattle.chess_base.specs.declared.man.Kind.TheVariants.{King, Queen, Rook, Bishop, Knight, Pawn}
-use Rattle.chess_base.specs.declared.man.Man.{Man}
-use Rattle.chess_base.specs.Men.{Men, man_at, is_man, same_colour, same_kind, kind_number}
+use Rattle.chess_base.specs.Men.{Men, man_at, is_man, kind_number}
 use Rattle.chess_base.proofs.MenFacts.{same_colour-self}
 use Rattle.chess_moves.specs.Sets.{has}
 use Rattle.std.specs.Prelude.{slice_index}

@@ -3,4 +3,14 @@ pub mod Blockers
 pub mod Attackers
 pub mod KindSets
 pub mod BoardSets
-pub mod Targets
+pub mod AfterSets
+pub mod Quiet
+pub mod Reached
+pub mod OneKing
+pub mod Standing
+pub mod KingAfter
+pub mod Patterns
+pub mod TargetsOf
+pub mod Listed
+pub mod OriginsOf
+pub mod CastlingBySets

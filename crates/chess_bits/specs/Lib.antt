@@ -3,3 +3,4 @@ pub mod Shapes
 pub mod Occupancy
 pub mod KindSets
 pub mod BoardSets
+pub mod Goes

@@ -1,13 +1,9 @@
 -- Squares that are not empty, and what stands later.
-use Rattle.std.specs.Prelude.{ℕ, ◌<◌, ◌≡◌, Bool, not, ◌&&◌, ◌||◌, is_none}
+use Rattle.std.specs.Prelude.{ℕ, ◌<◌, ◌≡◌, not, ◌&&◌, ◌||◌, is_none}
 use Rattle.chess_base.specs.declared.man.Colour.{Colour}
-use Rattle.chess_base.specs.declared.man.Colour.TheVariants.{White, Black}
 use Rattle.chess_base.specs.declared.man.Kind.{Kind}
-use Rattle.chess_base.specs.declared.man.Kind.TheVariants.{King, Queen, Rook, Bishop, Knight, Pawn}
-use Rattle.chess_base.specs.Squares.{share_rank_or_file, share_diagonal}
 use Rattle.chess_base.specs.Men.{Men, man_at, is_man}
 use Rattle.chess_moves.specs.Sets.{has}
-use Rattle.chess_bits.specs.Rays.{is_open}
 
 -- the squares that are not empty
 pub record IsOccupied (w : ℕ) (men : Men) : Type 0 where

@@ -1,5 +1,5 @@
 -- Lines and rays: the squares of a line through a square, above it in number or below it.
-use Rattle.std.specs.Prelude.{ℕ, ◌+◌, ◌-◌, ◌==◌, nat_lt, Bool, true, false, not, ◌&&◌, ◌||◌}
+use Rattle.std.specs.Prelude.{ℕ, ◌+◌, ◌-◌, ◌==◌, Bool, not, ◌&&◌}
 use Rattle.chess_base.specs.Squares.{file, rank, is_between, each_square}
 use Rattle.chess_bits.specs.declared.line.Line.{Line}
 use Rattle.chess_bits.specs.declared.line.Line.TheVariants.{Rank, File, Diagonal, Antidiagonal}

@@ -37,6 +37,17 @@ fn number(kind: Kind) -> usize
 }
 
 impl Kinds {
+    /// No men.
+    #[tactic(auto, using(crate::proofs::Standing::no_kinds))]
+    pub fn empty() -> Kinds
+        ensures { (c : Side) → (men : Men) → ((k : ℕ) → k < 64 → man_at men k ≡ None) → IsKinds result.sets c men }
+    {
+        let none = SquareSet::empty();
+        Kinds {
+            sets: [none, none, none, none, none, none],
+        }
+    }
+
     /// Puts a man on an empty square.
     pub fn put(&mut self, kind: Kind, square: Square)
         ensures { (men : Men) → (c : Side) → length men ≡ 64 → man_at men square ≡ None → IsKinds self.old.sets c men → IsKinds self.new.sets c (slice_set men square (Some (record { colour = c; kind = kind }))) }
@@ -81,7 +92,8 @@ pub(crate) fn along_diagonals(
 }
 
 impl Kinds {
-    fn of(&self, kind: Kind) -> SquareSet
+    /// The squares of these men of a kind.
+    pub fn of(&self, kind: Kind) -> SquareSet
         ensures { result ≡ slice_index self.now.sets (kind_number kind) }
     {
         self.sets[number(kind)]

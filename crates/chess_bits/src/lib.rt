@@ -1,15 +1,20 @@
 //! A board of sets of squares: who attacks what is told by few words of 64 bits and by tables.
 #![tactic(auto)]
 
+mod bits;
+mod castling;
 mod kinds;
+mod king;
 mod line;
+mod listing;
+mod placing;
 mod reaching;
 mod sets;
 mod table;
 mod tables;
+mod targets;
 
-pub use kinds::Kinds;
-pub use line::Line;
-pub use sets::Sets;
-pub use table::{Shape, Table};
-pub use tables::AttackTables;
+pub use bits::Bits;
+
+#[cfg(test)]
+mod tests;

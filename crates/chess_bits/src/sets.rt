@@ -1,10 +1,12 @@
 //! The men of both colours as sets of squares, beside the men by their squares.
 
 ghost use Rattle.std.specs.Prelude.{◌≡◌, ℕ, ◌<◌, length, slice_set, Some, None};
-ghost use Rattle.chess_base.specs.Men.{Men, man_at};
+ghost use Rattle.chess_base.specs.Men.{Men, man_at, is_of};
 ghost use Rattle.chess_base.specs.declared.man.Colour.{Colour as Side};
 ghost use Rattle.chess_bits.specs.BoardSets.{IsSets};
 ghost use Rattle.chess_bits.specs.KindSets.{IsKinds};
+ghost use Rattle.chess_bits.specs.Occupancy.{IsOccupied};
+ghost use Rattle.chess_moves.specs.Sets.{has};
 
 use crate::kinds::Kinds;
 use chess_base::{Colour, Man, Square};
@@ -20,6 +22,47 @@ pub struct Sets {
 }
 
 impl Sets {
+    /// The sets of an empty board.
+    #[tactic(auto, using(crate::proofs::Standing::no_sets))]
+    pub fn empty() -> Sets
+        ensures { (men : Men) → ((k : ℕ) → k < 64 → man_at men k ≡ None) → IsSets result men }
+    {
+        Sets {
+            white: Kinds::empty(),
+            black: Kinds::empty(),
+            all_white: SquareSet::empty(),
+            all_black: SquareSet::empty(),
+        }
+    }
+
+    /// The men of a colour by kind.
+    pub fn of(&self, colour: Colour) -> &Kinds
+        ensures { (men : Men) → IsSets self.now men → IsKinds result.now.sets colour men }
+    {
+        match colour {
+            Colour::White => &self.white,
+            Colour::Black => &self.black,
+        }
+    }
+
+    /// The squares of the men of a colour.
+    pub fn all(&self, colour: Colour) -> SquareSet
+        ensures { (men : Men) → IsSets self.now men → (k : ℕ) → k < 64 → has result k ≡ is_of colour (man_at men k) }
+    {
+        match colour {
+            Colour::White => self.all_white,
+            Colour::Black => self.all_black,
+        }
+    }
+
+    /// The squares that are not empty.
+    #[tactic(auto, using(crate::proofs::Standing::occupied_by))]
+    pub fn occupied(&self) -> SquareSet
+        ensures { (men : Men) → IsSets self.now men → IsOccupied result men }
+    {
+        self.all_white.union(self.all_black)
+    }
+
     // Takes a man from its square.
     fn lift(&mut self, square: Square, man: Man)
         ensures { (men : Men) → length men ≡ 64 → man_at men square ≡ Some man → IsSets self.old men → IsSets self.new (slice_set men square None) }

@@ -1,10 +1,5 @@
-use Rattle.std.proofs.Common.{rules, ◌≡◌, ℕ, ◌<◌, ◌&&◌, ◌||◌, not, ◌==◌, refl, sym, ◌∙◌, ap, arith}
-use Rattle.chess_base.specs.Squares.{share_rank_or_file, share_diagonal}
-use Rattle.chess_base.specs.Men.{Men, man_at, is_of, other}
-use Rattle.chess_base.specs.Attacks.{attacks, is_attacked, is_clear}
-use Rattle.chess_moves.specs.Sets.{has}
-use Rattle.chess_bits.specs.Rays.{is_open}
-use Rattle.chess_bits.specs.Occupancy.{IsOccupied}
+use Rattle.chess_base.specs.Men.{man_at}
+use Rattle.chess_base.specs.Attacks.{attacks}
 use Rattle.chess_base.specs.declared.man.Kind.TheVariants.{King, Queen, Rook, Bishop, Knight, Pawn}
 use Rattle.chess_bits.proofs.Attackers.{attackers_are, open_is_clear}
 use Rattle.chess_bits.proofs.kinds.Kinds.attackers.Goals as goal

@@ -1,4 +1,4 @@
-use Rattle.std.proofs.Common.{rules, ◌≡◌, ℕ, ◌<◌, length, arith, refl, ◌∙◌}
+use Rattle.std.proofs.Common.{rules, refl, ◌∙◌}
 use Rattle.chess_bits.proofs.KindSets.{lift_kinds}
 use Rattle.chess_bits.proofs.kinds.Kinds.lift.Goals as goal
 

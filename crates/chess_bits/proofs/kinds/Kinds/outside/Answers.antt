@@ -1,4 +1,4 @@
-use Rattle.std.proofs.Common.{◌≡◌, ℕ, ◌<◌, ◌&&◌, not, ◌∙◌, refl}
+use Rattle.std.proofs.Common.{◌∙◌, refl}
 use Rattle.chess_bits.proofs.KindSets.{outside_kinds}
 use Rattle.chess_bits.proofs.kinds.Kinds.outside.Goals as goal
 

@@ -1,4 +1,4 @@
-use Rattle.std.proofs.Common.{rules, ◌≡◌, ℕ, ◌<◌, length, arith, refl, ◌∙◌}
+use Rattle.std.proofs.Common.{rules, refl, ◌∙◌}
 use Rattle.chess_bits.proofs.KindSets.{put_kinds}
 use Rattle.chess_bits.proofs.kinds.Kinds.put.Goals as goal
 

@@ -1,8 +1,6 @@
-use Rattle.std.proofs.Common.{◌≡◌, ℕ, ◌<◌, length, slice_set, Some, None, refl, sym, ◌∙◌, ap, subst, arith}
+use Rattle.std.proofs.Common.{refl, ◌∙◌}
 use Rattle.chess_base.specs.declared.man.Colour.TheVariants.{White, Black}
-use Rattle.chess_base.specs.Men.{Men, man_at}
-use Rattle.chess_bits.specs.BoardSets.{IsSets}
-use Rattle.chess_bits.proofs.BoardSets.{theirs_lifted, theirs_put, all_theirs_lifted, all_theirs_put, all_lift, all_put, own_of, as_own, set_twice, same_written, cleared}
+use Rattle.chess_bits.proofs.BoardSets.{theirs_lifted, all_theirs_lifted, all_lift, as_own}
 use Rattle.chess_bits.proofs.sets.Sets.lift.Goals as goal
 
 pub returns-in-White : goal.returns-in-White

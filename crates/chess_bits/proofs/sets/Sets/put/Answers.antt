@@ -1,9 +1,7 @@
-use Rattle.std.proofs.Common.{◌≡◌, ℕ, ◌<◌, length, slice_set, Some, None, refl, sym, ◌∙◌, ap, subst, arith}
+use Rattle.std.proofs.Common.{slice_set, Some, refl, sym, ◌∙◌, subst}
 use Rattle.chess_base.specs.declared.man.Colour.TheVariants.{White, Black}
-use Rattle.chess_base.specs.Men.{Men, man_at}
-use Rattle.chess_bits.specs.BoardSets.{IsSets}
 use Rattle.chess_bits.specs.KindSets.{IsKinds}
-use Rattle.chess_bits.proofs.BoardSets.{theirs_lifted, theirs_put, all_theirs_lifted, all_theirs_put, all_lift, all_put, own_of, as_own, set_twice, same_written, cleared}
+use Rattle.chess_bits.proofs.BoardSets.{theirs_put, all_theirs_put, all_put, own_of, as_own}
 use Rattle.chess_bits.proofs.sets.Sets.put.Goals as goal
 
 pub returns-in-White : goal.returns-in-White

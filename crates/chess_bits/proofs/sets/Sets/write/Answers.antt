@@ -1,5 +1,4 @@
-use Rattle.std.proofs.Common.{◌≡◌, ℕ, ◌<◌, length, slice_set, Some, None, refl, sym, ◌∙◌, ap, subst, length-set, arith}
-use Rattle.chess_base.specs.Men.{Men, man_at}
+use Rattle.std.proofs.Common.{◌≡◌, ◌<◌, length, slice_set, None, ◌∙◌, subst, length-set}
 use Rattle.chess_bits.specs.BoardSets.{IsSets}
 use Rattle.chess_bits.proofs.BoardSets.{set_twice, cleared}
 use Rattle.chess_bits.proofs.sets.Sets.write.Goals as goal

@@ -1,11 +1,10 @@
-use Rattle.std.proofs.Common.{rules, ◌≡◌, ℕ, ◌<◌, ◌&&◌, ◌||◌, true, false, refl, sym, ◌∙◌, ap, arith, nat_eq}
+use Rattle.std.proofs.Common.{◌≡◌, ℕ, ◌<◌, ◌&&◌, false, sym, ◌∙◌}
 use Rattle.std.proofs.lemmas.Bool.{eqb-true}
-use Rattle.chess_moves.specs.Sets.{has, IsNearest}
+use Rattle.chess_moves.specs.Sets.{has}
 use Rattle.chess_bits.specs.Shapes.{in_shape}
-use Rattle.chess_bits.specs.Rays.{is_on_ray, is_open}
+use Rattle.chess_bits.specs.Rays.{is_on_ray}
 use Rattle.chess_moves.proofs.Words.{has_zero}
 use Rattle.chess_bits.proofs.Blockers.{swept_all}
-use Rattle.chess_bits.specs.declared.table.Shape.TheVariants.{King, Knight, Pawn, Ray}
 use Rattle.chess_bits.proofs.tables.AttackTables.sweep.Goals as goal
 
 pub returns-then-is_empty : goal.returns-then-is_empty

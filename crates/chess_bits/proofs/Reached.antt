@@ -1,14 +1,11 @@
 -- Where a man other than a pawn may go, seen from its square.
-use Rattle.std.proofs.Common.{◌≡◌, ℕ, ◌<◌, ◌⊎◌, inl, inr, Bool, true, false, not, ◌&&◌, ◌||◌, ◌==◌, refl, sym, ◌∙◌, ap, arith, Option, Some, None, is_none, List, [], ◌∷◌, filter, map}
-use Rattle.std.proofs.lemmas.Bool.{and_parts, and_left, and_right, cases_Bool}
+use Rattle.std.proofs.Common.{◌≡◌, ℕ, not, ◌&&◌, ◌||◌, ◌==◌, refl, is_none}
 use Rattle.chess_base.specs.declared.man.Colour.{Colour}
-use Rattle.chess_base.specs.declared.man.Kind.{Kind}
 use Rattle.chess_base.specs.declared.man.Kind.TheVariants.{King, Queen, Rook, Bishop, Knight, Pawn}
-use Rattle.chess_base.specs.Squares.{file, rank, is_between, share_rank_or_file, share_diagonal, each_square}
-use Rattle.chess_base.specs.Men.{Men, man_at, is_of, same_colour}
-use Rattle.chess_base.specs.Attacks.{is_clear, could_capture, could_capture_as, attacks}
+use Rattle.chess_base.specs.Squares.{file, rank, is_between, share_rank_or_file, share_diagonal}
+use Rattle.chess_base.specs.Men.{Men, man_at}
+use Rattle.chess_base.specs.Attacks.{is_clear, could_capture}
 use Rattle.chess_bits.specs.declared.table.Shape.TheVariants as shape
-use Rattle.chess_moves.specs.Sets.{has}
 use Rattle.chess_bits.specs.Rays.{is_open}
 use Rattle.chess_bits.specs.Shapes.{in_shape}
 use Rattle.chess_bits.specs.Occupancy.{IsOccupied}
@@ -27,7 +24,7 @@ unfolding is_open is_clear
 open_from w men a b h =
     each_square_same _ _ (λ x l. rw (h.of_men x l) (de_morgan (is_between a b x) (is_none (man_at men x))))
 
-line_back : (a b : ℕ) → share_rank_or_file b a ≡ share_rank_or_file a b
+pub line_back : (a b : ℕ) → share_rank_or_file b a ≡ share_rank_or_file a b
 line_back a b = rw (eq_back (file b) (file a), eq_back (rank b) (rank a)) refl
 
 pub rook_from : (w : ℕ) (men : Men) (c : Colour) (a b : ℕ) → IsOccupied w men → (not (b == a) && share_rank_or_file b a && is_open w a b) ≡ could_capture men c Rook a b

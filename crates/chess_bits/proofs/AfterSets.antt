@@ -1,0 +1,103 @@
+-- The sets of squares after a move.
+use Rattle.std.proofs.Common.{◌≡◌, ℕ, ◌<◌, inl, inr, Bool, true, false, not, ◌&&◌, ◌||◌, ◌==◌, cond, refl, sym, Option, Some, None, is_none}
+use Rattle.std.proofs.lemmas.Bool.{and_right, cases_Bool, eqb-true, eq-eqb}
+use Rattle.chess_base.specs.declared.man.Colour.{Colour}
+use Rattle.chess_base.specs.declared.man.Colour.TheVariants.{White, Black}
+use Rattle.chess_base.specs.declared.man.Kind.{Kind}
+use Rattle.chess_base.specs.declared.man.Kind.TheVariants.{King, Rook}
+use Rattle.chess_base.specs.declared.man.Man.{Man}
+use Rattle.chess_base.specs.declared.man.Move.{Move}
+use Rattle.chess_base.specs.Squares.{is_square}
+use Rattle.chess_base.specs.Men.{Men, man_at, other, is_of, is_man}
+use Rattle.chess_base.specs.Attacks.{is_attacked, is_in_check}
+use Rattle.chess_base.specs.declared.setup.Setup.{Setup}
+use Rattle.chess_base.specs.Moves.{man_that_lands, men_after, second_square_emptied}
+use Rattle.chess_base.specs.Castling.{lands_on, castling_rook_to}
+use Rattle.chess_base.proofs.MenAfter.{man_after, man_at-men_after}
+use Rattle.chess_base.proofs.MenFacts.{not_is_man}
+use Rattle.chess_base.proofs.OverSquares.{some_square-at, some_square-none}
+use Rattle.chess_moves.specs.Sets.{has}
+use Rattle.chess_bits.specs.Occupancy.{IsLater}
+
+-- the squares that a move changes, and those that it fills
+abbrev pub is_changed : Setup → Move → ℕ → Bool
+is_changed p m k = (lands_on p m == k) || is_square (castling_rook_to p m) k || (is_square (second_square_emptied p m) k || (m.from == k))
+
+abbrev pub is_filled : Setup → Move → ℕ → Bool
+is_filled p m k = (lands_on p m == k) || is_square (castling_rook_to p m) k
+
+and_true : (b : Bool) → b ≡ (b && true)
+and_true true = refl
+and_true false = refl
+
+filled_by : (t r l : Bool) (a k : Option Man) (c : Colour) → is_none a ≡ false
+    → ((t || r) || (not (is_none k) && not (t || r || l)))
+    ≡ not (is_none (cond t a (cond r (Some (record { colour = c; kind = Rook })) (cond l None k))))
+filled_by true r l a k c h = rw h refl
+filled_by false true l a k c h = refl
+filled_by false false true a k c h = and_right (not (is_none k)) false refl
+filled_by false false false a k c h = sym (and_true (not (is_none k)))
+
+-- the occupied squares after a move
+pub occupied_after : (p : Setup) (m : Move) (k : ℕ) → is_none (man_that_lands (man_at p.men m.from) m.promotion) ≡ false → k < 64
+    → (is_filled p m k || (not (is_none (man_at p.men k)) && not (is_changed p m k))) ≡ not (is_none (man_at (men_after p m) k))
+unfolding man_after
+occupied_after p m k h l =
+    rw (man_at-men_after p m k l)
+    (filled_by (lands_on p m == k) (is_square (castling_rook_to p m) k) (is_square (second_square_emptied p m) k || (m.from == k))
+    (man_that_lands (man_at p.men m.from) m.promotion) (man_at p.men k) p.side h)
+
+kept_by : (t r l : Bool) (a k : Option Man) (c d : Colour) (kind : Kind)
+    → is_man d kind a ≡ false → is_man d kind (Some (record { colour = c; kind = Rook })) ≡ false
+    → (is_man d kind k && not (t || r || l))
+    ≡ is_man d kind (cond t a (cond r (Some (record { colour = c; kind = Rook })) (cond l None k)))
+unfolding is_man
+kept_by true r l a k c d x h e = rw h (and_right (is_man d x k) false refl)
+kept_by false true l a k c d x h e = rw e (and_right (is_man d x k) false refl)
+kept_by false false true a k c d x h e = and_right (is_man d x k) false refl
+kept_by false false false a k c d x h e = sym (and_true (is_man d x k))
+
+other_not_own : (c : Colour) (k : Kind) (kind : Kind) → is_man (other c) kind (Some (record { colour = c; kind = k })) ≡ false
+unfolding is_man
+other_not_own White k x = refl
+other_not_own Black k x = refl
+
+-- the enemy's men after a move: those on squares that did not change
+pub enemy_after : (p : Setup) (m : Move) (kind : Kind) (k : ℕ)
+    → is_of (other p.side) (man_that_lands (man_at p.men m.from) m.promotion) ≡ false → k < 64
+    → (is_man (other p.side) kind (man_at p.men k) && not (is_changed p m k)) ≡ is_man (other p.side) kind (man_at (men_after p m) k)
+unfolding man_after
+enemy_after p m x k h l =
+    rw (man_at-men_after p m k l)
+    (kept_by (lands_on p m == k) (is_square (castling_rook_to p m) k) (is_square (second_square_emptied p m) k || (m.from == k))
+    (man_that_lands (man_at p.men m.from) m.promotion) (man_at p.men k) p.side (other p.side) x
+    (not_is_man (other p.side) x (man_that_lands (man_at p.men m.from) m.promotion) h) (other_not_own p.side Rook x))
+
+-- where the king's square is known, a check is an attack on it
+pub check_is : (men : Men) (c : Colour) (king : ℕ) → king < 64 → ((k : ℕ) → k < 64 → is_man c King (man_at men k) ≡ (k == king))
+    → is_in_check men c ≡ is_attacked men king (other c)
+unfolding is_in_check
+check_is men c king l one =
+    elim (cases_Bool (is_attacked men king (other c))) [
+      | inl hit ↦ rw hit (some_square-at _ king l (rw (one king l, eq-eqb king king refl) hit))
+      | inr free ↦
+          rw free
+          (some_square-none _
+          (λ k h.
+          elim (cases_Bool (k == king)) [
+            | inl same ↦ let at : k ≡ king = eqb-true k king same in rw (one k h, same, at) free
+            | inr apart ↦ rw (one k h, apart) refl
+          ]))
+    ]
+
+-- so the enemy's sets and the occupied squares after a move come from what it changes and fills
+pub later_after : (p : Setup) (m : Move) (changed filled : ℕ)
+    → is_none (man_that_lands (man_at p.men m.from) m.promotion) ≡ false
+    → is_of (other p.side) (man_that_lands (man_at p.men m.from) m.promotion) ≡ false
+    → ((k : ℕ) → k < 64 → has changed k ≡ is_changed p m k)
+    → ((k : ℕ) → k < 64 → has filled k ≡ is_filled p m k)
+    → IsLater changed filled (other p.side) p.men (men_after p m)
+later_after p m changed filled some own c f = record {
+  of_all = λ k l. rw (c k l, f k l) (occupied_after p m k some l);
+  of_man = λ x k l. rw (c k l) (enemy_after p m x k own l);
+}

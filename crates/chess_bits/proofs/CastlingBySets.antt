@@ -1,0 +1,195 @@
+-- Castling, told by sets: its squares are on one rank, and its ways are sets.
+use Rattle.std.proofs.Common.{◌≡◌, ℕ, zero, suc, ◌<◌, ◌≤◌, inl, inr, Bool, true, false, not, ◌&&◌, ◌||◌, ◌==◌, nat_lt, Option, Some, None, is_none, refl, sym, ap, subst, ◌∙◌, arith}
+use Rattle.std.proofs.lemmas.Bool.Decides.{nat_tests}
+use Rattle.std.proofs.lemmas.Bool.{and_parts, and_from, and_left, eqb-true, eq-eqb, false_from_ne_true, both_ways}
+use Rattle.chess_base.specs.declared.castling.Castle.{Castle}
+use Rattle.chess_base.specs.declared.man.CastlingSide.{CastlingSide}
+use Rattle.chess_base.specs.declared.man.CastlingSide.TheVariants.{KingSide, QueenSide}
+use Rattle.chess_base.specs.declared.man.Colour.{Colour}
+use Rattle.chess_base.specs.declared.man.Colour.TheVariants.{White, Black}
+use Rattle.chess_base.specs.declared.man.Kind.TheVariants.{King, Rook, Pawn}
+use Rattle.chess_base.specs.declared.man.Move.{Move}
+use Rattle.chess_base.specs.declared.man.Variant.{Variant}
+use Rattle.chess_base.specs.declared.man.Variant.TheVariants.{Normal, Fischerandom}
+use Rattle.chess_base.specs.declared.setup.Setup.{Setup}
+use Rattle.chess_base.specs.Attacks.{is_attacked}
+use Rattle.chess_base.specs.Castling.{home_square, king_home_file, rook_file, castled_king_file, castled_rook_file, right_of, king_square, is_to_side, is_beside, stand_for_castling, right_stands, names_castling_with, names_castling, castling, castle_from, castle_of, castles, is_on_way, castling_crosses, castling_way_is_empty, castling_way_is_safe}
+use Rattle.chess_base.specs.Men.{Men, man_at, other, is_man, first_rank}
+use Rattle.chess_base.specs.MoveList.{triple}
+use Rattle.chess_base.specs.Moves.{has_pattern, is_legal, castles_or_moves, promotion_fits}
+use Rattle.chess_base.specs.Sound.{IsSound}
+use Rattle.chess_base.specs.Squares.{rank, is_between, lies_inside, each_below, some_below, each_square, some_square}
+use Rattle.chess_base.proofs.Castlings.{right_stands_of, right_that_stands}
+use Rattle.chess_base.proofs.Landing.{says_from_castling, castling_says, castle_there, no_castle}
+use Rattle.chess_base.proofs.MenFacts.{in_board}
+use Rattle.chess_moves.specs.Candidates.{would_promote}
+use Rattle.chess_bits.specs.declared.line.Line.TheVariants.{Rank}
+use Rattle.chess_bits.specs.Goes.{goes}
+use Rattle.chess_bits.specs.Rays.{is_on_ray, same_line}
+use Rattle.chess_bits.proofs.Geometry.{between_on_line}
+use Rattle.chess_bits.proofs.Patterns.{pattern_by, officer_goes, not_promoting}
+use Rattle.chess_bits.proofs.TargetsOf.{man_told}
+
+-- ---- the squares of a castling are on one rank
+
+rank_home : (c : Colour) (f : ℕ) → f < 8 → rank (home_square c f) ≡ first_rank c
+rank_home White f h = omega (arith, h)
+rank_home Black f h = omega (arith, h)
+
+rook_low : (w : CastlingSide) → rook_file w < 8
+rook_low KingSide = omega arith
+rook_low QueenSide = omega arith
+
+king_end_low : (w : CastlingSide) → castled_king_file w < 8
+king_end_low KingSide = omega arith
+king_end_low QueenSide = omega arith
+
+rook_end_low : (w : CastlingSide) → castled_rook_file w < 8
+rook_end_low KingSide = omega arith
+rook_end_low QueenSide = omega arith
+
+starts : (v : Variant) (men : Men) (c : Colour) (w : CastlingSide) (m : Move) (r : ℕ) → names_castling_with v c m w r ≡ true → stand_for_castling v men c w r ≡ true
+    → (rank m.from ≡ first_rank c) × (rank r ≡ first_rank c)
+starts Normal men c w m r n s =
+    let from = eqb-true m.from (home_square c king_home_file) (and_parts (m.from == home_square c king_home_file) (m.to == home_square c (castled_king_file w)) n).0 in
+    let two = and_parts ((r == home_square c (rook_file w)) && is_man c King (man_at men (home_square c king_home_file))) (is_man c Rook (man_at men r)) s in
+    let rook = eqb-true r (home_square c (rook_file w)) (and_parts (r == home_square c (rook_file w)) (is_man c King (man_at men (home_square c king_home_file))) two.0).0 in
+    (ap (λ k. rank k) from ∙ rank_home c king_home_file (omega arith), ap (λ k. rank k) rook ∙ rank_home c (rook_file w) (rook_low w))
+starts Fischerandom men c w m r n s =
+    let same = eqb-true (rank m.from) (rank r) (and_parts (rank m.from == rank r) (m.to == r) n).0 in
+    let there = beside (king_square men c) (and_parts (is_beside c w (king_square men c) r) (is_man c Rook (man_at men r)) s).0 in
+    (same ∙ there, there)
+  where
+    beside : (o : Option ℕ) → is_beside c w o r ≡ true → rank r ≡ first_rank c
+    beside None e = cc
+    beside (Some k) e =
+        eqb-true (rank r) (first_rank c)
+        (and_parts (rank k == first_rank c) (rank r == first_rank c) (and_parts ((rank k == first_rank c) && (rank r == first_rank c)) (is_to_side w k r) e).0).1
+
+pub record OnRank (k : Castle) : Type 0 where
+  pub kings : rank k.king_from ≡ rank k.king_to
+  pub rooks : rank k.rook_from ≡ rank k.rook_to
+
+on_rank_by : (p : Setup) (m : Move) (k : Castle) → IsSound p → castle_of p m ≡ Some k → (o : Option CastlingSide) → castling p m ≡ o → OnRank k
+unfolding right_stands
+on_rank_by p m k sound e None none = let gone = no_castle p m none in absurd cc
+on_rank_by p m k sound e (Some w) says =
+    let there = castle_there p m w says in
+    let names = (castling_says p m w (says_from_castling p m w says)).1 in
+    let named : names_castling_with p.variant p.side m w there.0 ≡ true = rw there.1 at names in
+    let stands = right_that_stands p.variant p.men p.side w (right_of p.rights p.side w) there.0 (right_stands_of p sound p.side w) there.1 in
+    let ranks = starts p.variant p.men p.side w m there.0 named stands in
+    let same : castle_from p.side w m.from there.0 ≡ k = cc in
+    subst OnRank same (record {
+      kings = ranks.0 ∙ sym (rank_home p.side (castled_king_file w) (king_end_low w));
+      rooks = ranks.1 ∙ sym (rank_home p.side (castled_rook_file w) (rook_end_low w));
+    })
+
+pub on_rank : (p : Setup) (m : Move) (k : Castle) → IsSound p → castle_of p m ≡ Some k → OnRank k
+on_rank p m k sound e = on_rank_by p m k sound e (castling p m) refl
+
+-- ---- ways
+
+inside_up : (a b k : ℕ) → a < b → ((nat_lt a k && nat_lt k b) || (nat_lt b k && nat_lt k a)) ≡ (nat_lt a k && nat_lt k b)
+inside_up a b k h = grind (arith, nat_tests, h)
+
+inside_down : (a b k : ℕ) → b ≤ a → ((nat_lt a k && nat_lt k b) || (nat_lt b k && nat_lt k a)) ≡ (nat_lt b k && nat_lt k a)
+inside_down a b k h = grind (arith, nat_tests, h)
+
+four : (x u v : Bool) → ((x && u) && (x && v)) ≡ (x && (u && v))
+four true u v = refl
+four false u v = refl
+
+pub between_up : (a b k : ℕ) → rank a ≡ rank b → a < b → (is_on_ray Rank true a k && is_on_ray Rank false b k) ≡ is_between a b k
+between_up a b k same h =
+    sym (between_on_line Rank a b k (eq-eqb (rank a) (rank b) same)
+    ∙ ap (λ t. (rank a == rank k) && t) (inside_up a b k h)
+    ∙ sym (four (rank a == rank k) (nat_lt a k) (nat_lt k b))
+    ∙ ap (λ r. ((rank a == rank k) && nat_lt a k) && ((r == rank k) && nat_lt k b)) same)
+
+pub between_down : (a b k : ℕ) → rank a ≡ rank b → b ≤ a → (is_on_ray Rank true b k && is_on_ray Rank false a k) ≡ is_between a b k
+between_down a b k same h =
+    sym (between_on_line Rank a b k (eq-eqb (rank a) (rank b) same)
+    ∙ ap (λ t. (rank a == rank k) && t) (inside_down a b k h)
+    ∙ sym (four (rank a == rank k) (nat_lt b k) (nat_lt k a))
+    ∙ ap (λ r. ((r == rank k) && nat_lt b k) && ((rank a == rank k) && nat_lt k a)) same)
+
+-- ---- each square
+
+each_not_below : (n : ℕ) (p q : ℕ → Bool) → ((k : ℕ) → k < n → p k ≡ not (q k)) → each_below n p ≡ not (some_below n q)
+each_not_below zero p q h = refl
+each_not_below (suc n) p q h = rw (each_not_below n p q (λ k l. h k (omega arith)), h n (omega arith)) (by (some_below n q) (q n))
+  where
+    by : (x y : Bool) → (not x && not y) ≡ not (x || y)
+    by true y = refl
+    by false y = refl
+
+pub each_not : (p q : ℕ → Bool) → ((k : ℕ) → k < 64 → p k ≡ not (q k)) → each_square p ≡ not (some_square q)
+unfolding each_square some_square
+each_not p q h = each_not_below 64 p q h
+
+each_same_below : (n : ℕ) (p q : ℕ → Bool) → ((k : ℕ) → k < n → p k ≡ q k) → each_below n p ≡ each_below n q
+each_same_below zero p q h = refl
+each_same_below (suc n) p q h = rw (each_same_below n p q (λ k l. h k (omega arith)), h n (omega arith)) refl
+
+crossed : (x y z u v : Bool) → (not ((x || y) && not z && not u) || v) ≡ not ((((x || y) && not z) && not u) && not v)
+crossed x y z u true = by (((x || y) && not z) && not u)
+  where
+    by : (t : Bool) → (not t || true) ≡ not (t && false)
+    by true = refl
+    by false = refl
+crossed x y z u false = by (((x || y) && not z) && not u)
+  where
+    by : (t : Bool) → (not t || false) ≡ not (t && true)
+    by true = refl
+    by false = refl
+
+-- no man is met on the ways
+pub way_is_empty : (men : Men) (k : Castle) (met : ℕ → Bool)
+    → ((x : ℕ) → x < 64 → met x ≡ ((((is_on_way k.king_from k.king_to x || is_on_way k.rook_from k.rook_to x) && not (x == k.king_from)) && not (x == k.rook_from)) && not (is_none (man_at men x))))
+    → not (some_square met) ≡ castling_way_is_empty men k
+unfolding castling_way_is_empty castling_crosses
+way_is_empty men k met h =
+    sym (each_not _ met
+    (λ x low. crossed (is_on_way k.king_from k.king_to x) (is_on_way k.rook_from k.rook_to x) (x == k.king_from) (x == k.rook_from) (is_none (man_at men x)) ∙ ap not (sym (h x low))))
+
+pub way_is_safe : (men : Men) (c : Colour) (k : Castle) (way : ℕ → Bool) → ((x : ℕ) → x < 64 → way x ≡ is_on_way k.king_from k.king_to x)
+    → each_square (λ x. not (way x) || not (is_attacked men x (other c))) ≡ castling_way_is_safe men c k
+unfolding each_square castling_way_is_safe
+way_is_safe men c k way h = each_same_below 64 _ _ (λ x low. ap (λ t. not t || not (is_attacked men x (other c))) (h x low))
+
+-- ---- the pattern of castling
+
+king_goes : (p : Setup) (m : Move) (k : Castle) → castle_of p m ≡ Some k → (o : Option CastlingSide) → castling p m ≡ o → is_man p.side King (man_at p.men m.from) ≡ true
+king_goes p m k e None none = let gone = no_castle p m none in absurd cc
+king_goes p m k e (Some w) says = (castling_says p m w (says_from_castling p m w says)).0
+
+fits_none : (t : Bool) → t ≡ false → promotion_fits t None ≡ true
+fits_none t e = rw e refl
+
+and_true : (b : Bool) → (b && true) ≡ b
+and_true true = refl
+and_true false = refl
+
+castle_pattern_by : (p : Setup) (a b : ℕ) (k : Castle) → IsSound p → b < 64 → castle_of p (triple a b None) ≡ Some k
+    → has_pattern p (triple a b None) ≡ (castling_way_is_empty p.men k && castling_way_is_safe p.men p.side k)
+unfolding castles
+castle_pattern_by p a b k sound high e =
+    let king = king_goes p (triple a b None) k e (castling p (triple a b None)) refl in
+    let at = man_told p.side King (man_at p.men a) king in
+    let low = in_board p.men p.side King a sound.board king in
+    pattern_by p a b None
+    ∙ ap (λ f. goes p a b && f) (fits_none (would_promote p a b) (not_promoting p a b _ at refl))
+    ∙ and_true (goes p a b)
+    ∙ officer_goes p a b _ at refl refl low high
+    ∙ ap (castles_or_moves p (triple a b None)) e
+
+pub castle_pattern : (p : Setup) (m : Move) (k : Castle) → IsSound p → m.to < 64 → m.promotion ≡ None → castle_of p m ≡ Some k
+    → has_pattern p m ≡ (castling_way_is_empty p.men k && castling_way_is_safe p.men p.side k)
+castle_pattern p m k sound high none e =
+    ap (λ o. has_pattern p (triple m.from m.to o)) none
+    ∙ castle_pattern_by p m.from m.to k sound high (ap (λ o. castle_of p (triple m.from m.to o)) (sym none) ∙ e)
+
+pub not_castling : (p : Setup) (m : Move) → has_pattern p m ≡ false → false ≡ is_legal p m
+unfolding is_legal
+not_castling p m h = rw h refl

@@ -1,0 +1,108 @@
+-- A man that is on no line with its king leaves the king as safe as it was.
+use Rattle.std.proofs.Common.{◌≡◌, ℕ, ◌<◌, inl, inr, Bool, true, false, not, ◌&&◌, ◌||◌, ◌==◌, cond, refl, ◌∙◌, arith, Option, Some, None, is_none}
+use Rattle.std.proofs.lemmas.Bool.{and_parts, and_from, cases_Bool, eqb-true, both_ways, false_from_ne_true}
+use Rattle.std.proofs.lemmas.Bool.Decides.{nat_tests}
+use Rattle.chess_base.specs.declared.man.Colour.{Colour}
+use Rattle.chess_base.specs.declared.man.Kind.{Kind}
+use Rattle.chess_base.specs.declared.man.Kind.TheVariants.{King, Queen, Rook, Bishop, Knight, Pawn}
+use Rattle.chess_base.specs.declared.man.Man.{Man}
+use Rattle.chess_base.specs.declared.man.Move.{Move}
+use Rattle.chess_base.specs.Squares.{share_rank_or_file, share_diagonal, is_between, is_between_on_file, is_between_on_rank, is_between_on_diagonal}
+use Rattle.chess_base.specs.Men.{Men, man_at, other, is_of}
+use Rattle.chess_base.specs.Attacks.{is_clear, could_capture, could_capture_as, attacks, is_attacked}
+use Rattle.chess_base.specs.declared.setup.Setup.{Setup}
+use Rattle.chess_base.specs.Moves.{man_that_lands, men_after, second_square_emptied}
+use Rattle.chess_base.specs.Castling.{lands_on, castling_rook_to}
+use Rattle.chess_base.proofs.MenAfter.{man_after, man_at-men_after}
+use Rattle.chess_base.proofs.OverSquares.{some_square-at, some_square-none, each_square-all, each_square-at}
+
+-- what lies between a and b shares a line or a diagonal with b
+between_shares : (a b x : ℕ) → is_between a b x ≡ true → (share_rank_or_file x b || share_diagonal x b) ≡ true
+unfolding is_between is_between_on_file is_between_on_rank is_between_on_diagonal
+between_shares a b x e = grind (arith, nat_tests)
+
+last_of_three : (p q r s : Bool) → (r ≡ true → s ≡ true) → (p && q && r) ≡ true → (p && q && s) ≡ true
+last_of_three true true r s h e = h e
+last_of_three true false r s h e = e
+last_of_three false q r s h e = e
+
+-- a man could_capture no less where fewer squares are in the way
+could_capture_clear : (men later : Men) (c : Colour) (k : Kind) (a b : ℕ) → (is_clear later a b ≡ true → is_clear men a b ≡ true)
+    → could_capture later c k a b ≡ true → could_capture men c k a b ≡ true
+unfolding could_capture
+could_capture_clear men later c King a b h e = e
+could_capture_clear men later c Knight a b h e = e
+could_capture_clear men later c Pawn a b h e = e
+could_capture_clear men later c Queen a b h e = last_of_three (not (a == b)) (share_rank_or_file a b || share_diagonal a b) _ _ h e
+could_capture_clear men later c Rook a b h e = last_of_three (not (a == b)) (share_rank_or_file a b) _ _ h e
+could_capture_clear men later c Bishop a b h e = last_of_three (not (a == b)) (share_diagonal a b) _ _ h e
+
+could_capture_as_clear : (men later : Men) (o : Option Man) (a b : ℕ) → (is_clear later a b ≡ true → is_clear men a b ≡ true)
+    → could_capture_as later o a b ≡ true → could_capture_as men o a b ≡ true
+could_capture_as_clear men later None a b h e = e
+could_capture_as_clear men later (Some x) a b h e = could_capture_clear men later x.colour x.kind a b h e
+
+-- what a move that changes only its two squares leaves on a square
+pub record IsPlain (p : Setup) (m : Move) : Type 0 where
+  pub also : second_square_emptied p m ≡ None
+  pub rook : castling_rook_to p m ≡ None
+  pub mover : is_none (man_that_lands (man_at p.men m.from) m.promotion) ≡ false
+  pub own : is_of (other p.side) (man_that_lands (man_at p.men m.from) m.promotion) ≡ false
+
+plain_after : (p : Setup) (m : Move) (k : ℕ) → IsPlain p m → k < 64
+    → man_at (men_after p m) k ≡ cond (lands_on p m == k) (man_that_lands (man_at p.men m.from) m.promotion) (cond (m.from == k) None (man_at p.men k))
+unfolding man_after
+plain_after p m k h l = man_at-men_after p m k l ∙ rw (h.also, h.rook) refl
+
+-- an enemy that is there after the move was there before
+enemy_before : (t f : Bool) (arr o : Option Man) (c : Colour) → is_of c arr ≡ false → is_of c (cond t arr (cond f None o)) ≡ true → cond t arr (cond f None o) ≡ o
+unfolding is_of
+enemy_before true f arr o c n e = absurd (both_ways _ n e)
+enemy_before false true arr o c n e = cc
+enemy_before false false arr o c n e = refl
+
+-- what is empty after the move was empty before, but for the square that was left
+empty_before : (t f : Bool) (arr o : Option Man) → is_none arr ≡ false → f ≡ false → is_none (cond t arr (cond f None o)) ≡ true → is_none o ≡ true
+empty_before true f arr o n g e = absurd (both_ways _ n e)
+empty_before false true arr o n g e = cc
+empty_before false false arr o n g e = e
+
+clear_before : (p : Setup) (m : Move) (a b : ℕ) → IsPlain p m → (share_rank_or_file m.from b || share_diagonal m.from b) ≡ false
+    → is_clear (men_after p m) a b ≡ true → is_clear p.men a b ≡ true
+unfolding is_clear
+clear_before p m a b h off e =
+    each_square-all _
+    (λ x l.
+    elim (cases_Bool (is_between a b x)) [
+      | inr out ↦ rw out refl
+      | inl inside ↦
+          let now = rw inside at (each_square-at _ e x l) in
+          let apart : (m.from == x) ≡ false =
+          false_from_ne_true _
+          (λ same.
+          let at : m.from ≡ x = eqb-true m.from x same in
+          both_ways _ off (rw (← at) at (between_shares a b x inside))) in
+          rw inside
+          (empty_before (lands_on p m == x) (m.from == x) (man_that_lands (man_at p.men m.from) m.promotion) (man_at p.men x) h.mover apart
+          (rw (plain_after p m x h l) at now))
+    ])
+
+pub stays_safe : (p : Setup) (m : Move) (king : ℕ) → king < 64 → IsPlain p m
+    → (share_rank_or_file m.from king || share_diagonal m.from king) ≡ false
+    → is_attacked p.men king (other p.side) ≡ false
+    → is_attacked (men_after p m) king (other p.side) ≡ false
+unfolding is_attacked attacks
+stays_safe p m king l h off before =
+    some_square-none _
+    (λ a k.
+    false_from_ne_true _
+    (λ e.
+    let both = and_parts (is_of (other p.side) (man_at (men_after p m) a)) (could_capture_as (men_after p m) (man_at (men_after p m) a) a king) e in
+    let stood : man_at (men_after p m) a ≡ man_at p.men a =
+    plain_after p m a h k
+    ∙ enemy_before (lands_on p m == a) (m.from == a) (man_that_lands (man_at p.men m.from) m.promotion) (man_at p.men a) (other p.side) h.own
+    (rw (plain_after p m a h k) at both.0) in
+    let was : is_of (other p.side) (man_at p.men a) ≡ true = rw (← stood) both.0 in
+    let hit : could_capture_as p.men (man_at p.men a) a king ≡ true =
+    could_capture_as_clear p.men (men_after p m) (man_at p.men a) a king (clear_before p m a king h off) (rw (← stood) both.1) in
+    both_ways _ before (some_square-at _ a k (and_from _ _ was hit))))

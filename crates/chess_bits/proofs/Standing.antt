@@ -1,0 +1,78 @@
+-- Sets of men that stand, and of none.
+use Rattle.std.proofs.Common.{◌≡◌, ℕ, zero, suc, replicate, ◌<◌, true, false, not, ◌||◌, refl, sym, ◌∙◌, ap, Option, Some, None, is_none, List, [], ◌∷◌}
+use Rattle.chess_base.specs.declared.man.Colour.{Colour}
+use Rattle.chess_base.specs.declared.man.Colour.TheVariants.{White, Black}
+use Rattle.chess_base.specs.declared.man.Kind.{Kind}
+use Rattle.chess_base.specs.declared.man.Kind.TheVariants.{King, Queen, Rook, Bishop, Knight, Pawn}
+use Rattle.chess_base.specs.declared.man.Man.{Man}
+use Rattle.std.specs.Prelude.{slice_index}
+use Rattle.chess_base.specs.Men.{Men, man_at, is_of, is_man, kind_number}
+use Rattle.chess_moves.specs.Sets.{has}
+use Rattle.chess_bits.specs.Occupancy.{IsOccupied}
+use Rattle.chess_bits.specs.declared.sets.Sets.{Sets}
+use Rattle.chess_bits.specs.KindSets.{IsKinds}
+use Rattle.chess_bits.specs.BoardSets.{IsSets}
+
+pub kinds_same : (sets : List ℕ) (c : Colour) (a b : Men) → ((k : ℕ) → k < 64 → man_at a k ≡ man_at b k) → IsKinds sets c a → IsKinds sets c b
+kinds_same sets c a b same h = record { of_kind = λ kind k low. h.of_kind kind k low ∙ ap (is_man c kind) (same k low) }
+
+-- the sets of the same men on the same squares
+pub sets_same : (s : Sets) (a b : Men) → ((k : ℕ) → k < 64 → man_at a k ≡ man_at b k) → IsSets s a → IsSets s b
+sets_same s a b same h = record {
+  of_white = kinds_same s.white.sets _ a b same h.of_white;
+  of_black = kinds_same s.black.sets _ a b same h.of_black;
+  all_white = λ k low. h.all_white k low ∙ ap (is_of _) (same k low);
+  all_black = λ k low. h.all_black k low ∙ ap (is_of _) (same k low);
+}
+
+-- ---- none
+
+no_man : (c : Colour) (kind : Kind) (o : Option Man) → o ≡ None → is_man c kind o ≡ false
+unfolding is_man
+no_man c kind o e = rw e refl
+
+none_of : (c : Colour) (o : Option Man) → o ≡ None → is_of c o ≡ false
+unfolding is_of
+none_of c o e = rw e refl
+
+six : (e : ℕ) (kind : Kind) → slice_index (e ∷ e ∷ e ∷ e ∷ e ∷ e ∷ []) (kind_number kind) ≡ e
+six e King = refl
+six e Queen = refl
+six e Rook = refl
+six e Bishop = refl
+six e Knight = refl
+six e Pawn = refl
+
+pub no_kinds : (e : ℕ) (c : Colour) (men : Men) → ((k : ℕ) → has e k ≡ false) → ((k : ℕ) → k < 64 → man_at men k ≡ None)
+    → IsKinds (e ∷ e ∷ e ∷ e ∷ e ∷ e ∷ []) c men
+no_kinds e c men empty none = record { of_kind = λ kind k low. ap (λ w. has w k) (six e kind) ∙ empty k ∙ sym (no_man c kind (man_at men k) (none k low)) }
+
+pub no_sets : (s : Sets) (men : Men) → ((k : ℕ) → k < 64 → man_at men k ≡ None) → IsKinds s.white.sets White men → IsKinds s.black.sets Black men
+    → ((k : ℕ) → has s.all_white k ≡ false) → ((k : ℕ) → has s.all_black k ≡ false) → IsSets s men
+no_sets s men none white black all_white all_black = record {
+  of_white = white;
+  of_black = black;
+  all_white = λ k low. all_white k ∙ sym (none_of White (man_at men k) (none k low));
+  all_black = λ k low. all_black k ∙ sym (none_of Black (man_at men k) (none k low));
+}
+
+-- ---- all
+
+some_of : (o : Option Man) → (is_of White o || is_of Black o) ≡ not (is_none o)
+unfolding is_of
+some_of None = refl
+some_of (Some x) = by_colour x.colour
+  where
+    by_colour : (c : Colour) → (is_of White (Some (record { colour = c; kind = x.kind })) || is_of Black (Some (record { colour = c; kind = x.kind }))) ≡ true
+    by_colour White = refl
+    by_colour Black = refl
+
+pub occupied_by : (s : Sets) (men : Men) (w : ℕ) → IsSets s men → ((k : ℕ) → has w k ≡ (has s.all_white k || has s.all_black k)) → IsOccupied w men
+occupied_by s men w h union = record {
+  of_men = λ k low. union k ∙ rw (h.all_white k low, h.all_black k low) (some_of (man_at men k));
+}
+
+pub none_at : (n k : ℕ) → man_at (replicate n None) k ≡ None
+none_at zero k = refl
+none_at (suc n) zero = refl
+none_at (suc n) (suc k) = none_at n k

@@ -1,0 +1,13 @@
+use Rattle.std.proofs.Common.{◌≡◌, ◌++◌, length}
+use Rattle.std.specs.List.{flat_map}
+use Rattle.chess_base.specs.MoveList.{moves}
+use Rattle.chess_moves.specs.Candidates.{moves_from}
+use Rattle.chess_moves.specs.Sets.{members}
+use Rattle.chess_bits.proofs.bits.Bits.moves.Given as goal
+
+-- the moves so far and those of the men that are left are all
+abbrev pub invariant-loop-from : goal.invariant-loop-from
+invariant-loop-from l = l.list.items ++ flat_map (λ a. moves_from l.self a) (members l.men) ≡ moves l.self
+
+abbrev pub decreases-loop-from : goal.decreases-loop-from
+decreases-loop-from l = length (members l.men)

@@ -1,0 +1,5 @@
+use Rattle.chess_moves.proofs.Steps.{captured_in_board}
+use Rattle.chess_bits.proofs.placing.move_back.Goals as goal
+
+pub steps_back-steps-requires : goal.steps_back-steps-requires
+steps_back-steps-requires c = λ at. captured_in_board c.args.setup.now c.args.m.now c.args.saved.now c.requires at

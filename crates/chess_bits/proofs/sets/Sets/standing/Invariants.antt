@@ -1,0 +1,11 @@
+use Rattle.std.proofs.Common.{◌≡◌, ℕ, ◌<◌}
+use Rattle.chess_base.specs.Men.{man_at}
+use Rattle.chess_bits.specs.BoardSets.{IsSets}
+use Rattle.chess_bits.proofs.sets.Sets.standing.Given as goal
+
+-- the men so far stand, and their sets are those of what stands
+abbrev pub invariant-loop-number : goal.invariant-loop-number
+invariant-loop-number l = record {
+  sets : IsSets l.sets l.placed;
+  same : (k : ℕ) → k < l.number → man_at l.placed k ≡ man_at l.men k;
+}

@@ -1,0 +1,42 @@
+-- Where the men of the side on move go, whatever becomes of their king.
+use Rattle.std.specs.Prelude.{ℕ, ◌==◌, Bool, false, Option, Some, None, if◌then◌else◌}
+use Rattle.chess_base.specs.declared.castling.Castle.{Castle}
+use Rattle.chess_base.specs.declared.man.CastlingSide.{CastlingSide}
+use Rattle.chess_base.specs.declared.man.Colour.{Colour}
+use Rattle.chess_base.specs.declared.man.Kind.{Kind}
+use Rattle.chess_base.specs.declared.man.Kind.TheVariants.{Queen}
+use Rattle.chess_base.specs.declared.man.Move.{Move}
+use Rattle.chess_base.specs.declared.man.Variant.{Variant}
+use Rattle.chess_base.specs.declared.man.Variant.TheVariants.{Normal, Fischerandom}
+use Rattle.chess_base.specs.declared.setup.Setup.{Setup}
+use Rattle.chess_base.specs.Castling.{home_square, castled_king_file, right_of, castle_of}
+use Rattle.chess_base.specs.MoveList.{triple}
+use Rattle.chess_base.specs.Moves.{has_pattern, is_legal, man_moves}
+use Rattle.chess_moves.specs.Candidates.{would_promote}
+
+-- where a pawn promotes, one promotion stands for all: to a queen
+abbrev pub usual_promotion : Setup → ℕ → ℕ → Option Kind
+usual_promotion p a b = if would_promote p a b then Some Queen else None
+
+-- a man of the side on move goes from a to b
+unfoldable pub goes : Setup → ℕ → ℕ → Bool
+goes p a b = has_pattern p (triple a b (usual_promotion p a b))
+
+-- b is the end square that names castling with that rook, if the right is there
+abbrev pub names_end : Variant → Colour → CastlingSide → Option ℕ → ℕ → Bool
+names_end v c w None b = false
+names_end Normal c w (Some rook) b = b == home_square c (castled_king_file w)
+names_end Fischerandom c w (Some rook) b = b == rook
+
+-- s, but for castling, which is told as it is legal
+abbrev pub legal_or : Setup → Move → Option Castle → Bool → Bool
+legal_or p m None s = s
+legal_or p m (Some castle) s = is_legal p m
+
+abbrev pub castling_or : Setup → CastlingSide → ℕ → ℕ → Bool → Bool
+castling_or p w a b s =
+    if names_end p.variant p.side w (right_of p.rights p.side w) b then legal_or p (triple a b None) (castle_of p (triple a b None)) s else s
+
+-- where a man other than a pawn goes; castling is told as it is legal
+abbrev pub man_goes : Setup → ℕ → ℕ → Bool
+man_goes p a b = legal_or p (triple a b None) (castle_of p (triple a b None)) (man_moves p (triple a b None))

@@ -1,0 +1,159 @@
+//! A board with sets of squares beside its men.
+
+ghost use Rattle.std.specs.Prelude.{◌≡◌, ℕ, ◌<◌, ◌==◌, IfOk};
+ghost use Rattle.chess_base.specs.Attacks.{is_attacked};
+ghost use Rattle.chess_base.specs.Initial.{initial_setup};
+ghost use Rattle.chess_base.specs.Men.{Men, man_at, is_man};
+ghost use Rattle.chess_base.specs.declared.man.Kind.TheVariants.{King};
+ghost use Rattle.chess_bits.specs.Occupancy.{IsOccupied};
+
+use crate::listing::promotion_fits;
+use crate::placing::{move_back, move_on};
+use crate::reaching::reached_from;
+use crate::sets::Sets;
+use crate::tables::AttackTables;
+use crate::targets::{is_king, is_pawn};
+use chess_base::before::saved_of;
+use chess_base::{Colour, Kind, Move, Position, Saved, Setup, Square};
+use chess_moves::{Board, MoveList, SquareSet, would_promote};
+use std::alloc::{AllocError, Global};
+use std::marker::Model;
+
+/// A board that keeps, beside the man of each square, sets of the squares of the men by colour and kind, and tables of attacks.
+/// In contracts it is the `Setup` of its position.
+#[derive(Drop)]
+pub struct Bits {
+    pub(crate) setup: Setup,
+    pub(crate) sets: Sets,
+    pub(crate) tables: AttackTables,
+}
+
+impl Model for Bits {
+    ghost use Rattle.chess_base.specs.declared.setup.Setup.{Setup};
+
+    ghost Value = { Setup };
+
+    ghost use Rattle.chess_base.specs.Sound.{IsSound};
+    ghost use Rattle.chess_bits.specs.BoardSets.{IsSets};
+
+    ghost view = { λ b. b.setup };
+
+    ghost invariant = { λ b. IsSound b.setup × IsSets b.sets b.setup.men };
+}
+
+impl Bits {
+    /// A board at the initial position, with its tables.
+    ///
+    /// # Errors
+    /// Where there is no memory for the tables.
+    pub fn open(alloc: Global) -> Result<Self, AllocError>
+        ensures { IfOk result (λ b. b ≡ initial_setup) }
+    {
+        let tables = AttackTables::open(alloc)?;
+        let position = Position::initial();
+        let setup = *position.setup();
+        let sets = Sets::standing(&setup.men);
+        Ok(Bits {
+            setup,
+            sets,
+            tables,
+        })
+    }
+
+    pub(crate) fn occupied(&self) -> SquareSet
+        ensures { IsOccupied result self.now.men }
+    {
+        self.sets.occupied()
+    }
+
+    // Where the king of that colour stands.
+    pub(crate) fn king(&self, colour: Colour) -> Square
+        ensures alone { (k : ℕ) → k < 64 → is_man colour King (man_at self.now.men k) ≡ (k == result) }
+        ensures in_range { result < 64 }
+    {
+        let men = self.sets.of(colour);
+        let kings = men.of(Kind::King);
+        kings.first()
+    }
+
+    // Whether a man of that colour attacks the square.
+    pub(crate) fn is_attacked(&self, square: Square, by: Colour) -> bool
+        ensures { result ≡ is_attacked self.now.men square by }
+    {
+        let occupied = self.occupied();
+        self.sets.of(by).attacks(&self.tables, by, square, occupied)
+    }
+}
+
+impl Board for Bits {
+    ghost position = { λ b. b };
+
+    fn set(&mut self, to: &Position) {
+        let setup = to.setup();
+        self.sets = Sets::standing(&setup.men);
+        self.setup = *setup;
+    }
+
+    fn position(&self) -> Position {
+        Position::from_sound(self.setup)
+    }
+
+    fn setup(&self) -> &Setup {
+        &self.setup
+    }
+
+    fn legal_moves(&self) -> MoveList {
+        self.moves()
+    }
+
+    fn legal_move_count(&self) -> usize {
+        self.legal_moves().len()
+    }
+
+    fn has_legal_move(&self) -> bool {
+        self.has_move()
+    }
+
+    fn is_legal(&self, m: &Move) -> bool {
+        let _end = m.to.number();
+        if !self.targets(m.from).contains(m.to) {
+            return false;
+        }
+        if !promotion_fits(would_promote(&self.setup, m.from, m.to), m.promotion) {
+            return false;
+        }
+        self.is_safe_after(m)
+    }
+
+    // Pawns and kings are few: all are told. Another man is one that attacks the square.
+    fn origins(&self, kind: Kind, to: Square) -> SquareSet {
+        let side = self.setup.side;
+        let men = self.sets.of(side);
+        let own = men.of(kind);
+        if is_king(kind) {
+            return own;
+        }
+        if is_pawn(kind) {
+            return own;
+        }
+        let reached = reached_from(&self.tables, self.sets.occupied(), side, kind, to);
+        own.intersection(reached)
+    }
+
+    #[tactic(auto, using(crate::proofs::AfterSets::check_is))]
+    fn in_check(&self) -> bool {
+        let side = self.setup.side;
+        let king = self.king(side);
+        self.is_attacked(king, side.other())
+    }
+
+    fn make(&mut self, m: Move) -> Saved {
+        let saved = saved_of(&self.setup, &m);
+        move_on(&mut self.setup, &mut self.sets, &m);
+        saved
+    }
+
+    fn take_back(&mut self, m: Move, saved: Saved) {
+        move_back(&mut self.setup, &mut self.sets, &m, &saved);
+    }
+}

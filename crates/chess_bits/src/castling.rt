@@ -1,0 +1,97 @@
+//! Castling, told by sets.
+
+ghost use Rattle.std.specs.Prelude.{◌≡◌, ◌<◌, ℕ, ◌&&◌, ◌||◌, not, true, false, None, Some};
+ghost use Rattle.chess_base.specs.Attacks.{is_attacked};
+ghost use Rattle.chess_base.specs.Castling.{castle_of, is_on_way, castling_way_is_empty, castling_way_is_safe};
+ghost use Rattle.chess_base.specs.Men.{other};
+ghost use Rattle.chess_base.specs.Moves.{is_legal};
+ghost use Rattle.chess_base.specs.Squares.{rank, is_between, each_square};
+ghost use Rattle.chess_bits.specs.Rays.{is_on_ray};
+ghost use Rattle.chess_bits.specs.declared.line.Line.TheVariants.{Rank};
+ghost use Rattle.chess_moves.specs.Sets.{has};
+
+use crate::bits::Bits;
+use crate::line::Line;
+use crate::table::Shape;
+use chess_base::rules::Castle;
+use chess_base::{Move, Square};
+use chess_moves::{Board, SquareSet};
+
+impl Bits {
+    // The squares of a rank above one square and below another.
+    #[tactic(auto, unfolding(crate::specs::Shapes::in_shape))]
+    fn above_and_below(&self, low: Square, high: Square) -> SquareSet
+        ensures { (k : ℕ) → k < 64 → has result k ≡ (is_on_ray Rank true low k && is_on_ray Rank false high k) }
+    {
+        let above = self.tables.at(Shape::Ray(Line::Rank, true), low);
+        above.intersection(self.tables.at(Shape::Ray(Line::Rank, false), high))
+    }
+
+    // The squares strictly between two of a rank.
+    #[tactic(auto, using(crate::proofs::CastlingBySets::between_up, crate::proofs::CastlingBySets::between_down))]
+    fn between(&self, a: Square, b: Square) -> SquareSet
+        requires { rank a ≡ rank b }
+        ensures { (k : ℕ) → k < 64 → has result k ≡ is_between a b k }
+    {
+        if a.number() < b.number() {
+            return self.above_and_below(a, b);
+        }
+        self.above_and_below(b, a)
+    }
+
+    // The squares from one to another of a rank, both among them.
+    fn way(&self, a: Square, b: Square) -> SquareSet
+        requires { rank a ≡ rank b }
+        ensures { (k : ℕ) → k < 64 → has result k ≡ is_on_way a b k }
+    {
+        let ends = SquareSet::single(a).union(SquareSet::single(b));
+        ends.union(self.between(a, b))
+    }
+
+    // Whether no square of these is attacked by the other side.
+    fn is_safe_way(&self, way: SquareSet) -> bool
+        ensures { result ≡ each_square (λ x. not (has way x) || not (is_attacked (self.now).men x (other (self.now).side))) }
+    {
+        let by = self.setup.side.other();
+        for number in 0..64 {
+            let x = Square::new(number);
+            if way.contains(x) && self.is_attacked(x, by) {
+                return false;
+            }
+        }
+        true
+    }
+
+    // Whether nothing prevents that castling.
+    fn castles(&self, castle: &Castle) -> bool
+        requires kings { rank castle.now.king_from ≡ rank castle.now.king_to }
+        requires rooks { rank castle.now.rook_from ≡ rank castle.now.rook_to }
+        ensures { result ≡ (castling_way_is_empty (self.now).men castle.now && castling_way_is_safe (self.now).men (self.now).side castle.now) }
+    {
+        let walk = self.way(castle.king_from, castle.king_to);
+        let ride = self.way(castle.rook_from, castle.rook_to);
+        let crossed = walk
+            .union(ride)
+            .without(SquareSet::single(castle.king_from))
+            .without(SquareSet::single(castle.rook_from));
+        let met = crossed.intersection(self.sets.occupied());
+        if !met.is_empty() {
+            return false;
+        }
+        self.is_safe_way(walk)
+    }
+
+    // Whether the move is legal that castles so.
+    pub(crate) fn castles_legally(&self, m: &Move, castle: &Castle) -> bool
+        requires castle { castle_of self.now m.now ≡ Some castle.now }
+        requires none { m.now.promotion ≡ None }
+        ensures { result ≡ is_legal self.now m.now }
+    {
+        let _sound = self.setup();
+        let _end = m.to.number();
+        if !self.castles(castle) {
+            return false;
+        }
+        self.is_safe_after(m)
+    }
+}

@@ -1,0 +1,73 @@
+//! The king's safety after a move, told by the sets after it: no move is made.
+
+ghost use Rattle.std.specs.Prelude.{◌≡◌, ◌==◌, ◌||◌, ◌<◌, ℕ, true, IsTrue};
+ghost use Rattle.chess_base.specs.Men.{man_at, is_man};
+ghost use Rattle.chess_base.specs.Moves.{has_pattern, is_legal, men_after, steps_of};
+ghost use Rattle.chess_base.specs.Squares.{is_square};
+ghost use Rattle.chess_base.specs.declared.man.Kind.TheVariants.{King};
+ghost use Rattle.chess_moves.specs.Sets.{has};
+
+use crate::bits::Bits;
+use chess_base::attack::is_man;
+use chess_base::rules::{Steps, steps_of};
+use chess_base::{Kind, Move, Square};
+use chess_moves::SquareSet;
+
+// The set of a square, if there is one.
+pub(crate) fn set_of(square: Option<Square>) -> SquareSet
+    ensures { (k : ℕ) → has result k ≡ is_square square k }
+{
+    match square {
+        None => SquareSet::empty(),
+        Some(square) => SquareSet::single(square),
+    }
+}
+
+// The squares on which men arrive.
+fn filled_by(steps: &Steps) -> SquareSet
+    ensures { (k : ℕ) → has result k ≡ ((steps.now.to == k) || is_square steps.now.second_to k) }
+{
+    let to = set_of(Some(steps.to));
+    to.union(set_of(steps.second_to))
+}
+
+// The squares that men leave.
+fn emptied_by(steps: &Steps) -> SquareSet
+    ensures { (k : ℕ) → has result k ≡ (is_square steps.now.second_from k || (steps.now.from == k)) }
+{
+    let second = set_of(steps.second_from);
+    second.union(set_of(Some(steps.from)))
+}
+
+impl Bits {
+    // Where the king of the side on move stands after a move with a man's pattern, whose steps these are.
+    fn king_after(&self, m: &Move, steps: &Steps) -> Square
+        requires pattern { IsTrue (has_pattern self.now m.now) }
+        requires steps { steps.now ≡ steps_of self.now m.now }
+        ensures there { is_man (self.now).side King (man_at (men_after self.now m.now) result) ≡ true }
+        ensures in_range { result < 64 }
+    {
+        let _end = steps.to.number();
+        if is_man(self.setup.side, Kind::King, steps.mover) {
+            steps.to
+        } else {
+            self.king(self.setup.side)
+        }
+    }
+
+    // Whether a move with a man's pattern is legal: the king of the side on move is safe after it.
+    pub(crate) fn is_safe_after(&self, m: &Move) -> bool
+        requires { IsTrue (has_pattern self.now m.now) }
+        ensures { result ≡ is_legal self.now m.now }
+    {
+        let steps = steps_of(&self.setup, m);
+        let king = self.king_after(m, &steps);
+        let filled = filled_by(&steps);
+        let changed = filled.union(emptied_by(&steps));
+        let kept = self.sets.occupied().without(changed);
+        let occupied = filled.union(kept);
+        let by = self.setup.side.other();
+        let men = self.sets.of(by).outside(changed);
+        !men.attacks(&self.tables, by, king, occupied)
+    }
+}

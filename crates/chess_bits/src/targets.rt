@@ -1,0 +1,177 @@
+//! Where men go: sets of end squares, whatever becomes of the king.
+
+ghost use Rattle.std.specs.Prelude.{◌≡◌, ◌+◌, ◌≤◌, ◌<◌, ℕ, ◌&&◌, ◌||◌, not, true, None, MatchOption};
+ghost use Rattle.chess_base.specs.Attacks.{could_capture};
+ghost use Rattle.chess_base.specs.Men.{man_at, is_of, is_man, same_kind, forward, pawn_rank};
+ghost use Rattle.chess_base.specs.MoveList.{triple};
+ghost use Rattle.chess_base.specs.Moves.{is_legal, pawn_advances, pawn_captures};
+ghost use Rattle.chess_base.specs.declared.man.Kind.TheVariants.{King, Pawn};
+ghost use Rattle.chess_bits.specs.Goes.{goes, castling_or, man_goes};
+ghost use Rattle.chess_moves.specs.Sets.{has};
+
+use crate::bits::Bits;
+use crate::king::set_of;
+use crate::reaching::reached_from;
+use chess_base::attack::{is_man, is_of};
+use chess_base::rules::{castle_of, castled_king_file, home_square, right_of};
+use chess_base::{CastlingSide, Colour, Kind, Move, Square, Variant};
+use chess_moves::SquareSet;
+
+// The square straight ahead for a pawn of that colour, if it is on the board.
+fn ahead(colour: Colour, square: Square) -> Option<Square>
+    ensures { MatchOption result (64 ≤ forward colour square) (λ s. s ≡ forward colour square) }
+{
+    match colour {
+        Colour::White if square.number() >= 56 => None,
+        Colour::White => Some(Square::new(square.number() + 8)),
+        Colour::Black => Some(Square::new(square.number().saturating_sub(8))),
+    }
+}
+
+fn pawn_rank(colour: Colour) -> u8
+    ensures { result ≡ pawn_rank colour }
+{
+    match colour {
+        Colour::White => 1,
+        Colour::Black => 6,
+    }
+}
+
+pub(crate) fn is_king(kind: Kind) -> bool
+    ensures { result ≡ same_kind King kind }
+{
+    kind == Kind::King
+}
+
+pub(crate) fn is_pawn(kind: Kind) -> bool
+    ensures { result ≡ same_kind Pawn kind }
+{
+    kind == Kind::Pawn
+}
+
+impl Bits {
+    // Where a man of that kind attacks from there what is no own man.
+    fn steps(&self, kind: Kind, from: Square) -> SquareSet
+        ensures { (k : ℕ) → k < 64 → has result k ≡ (could_capture (self.now).men (self.now).side kind from k && not (is_of (self.now).side (man_at (self.now).men k))) }
+    {
+        let side = self.setup.side;
+        let reached = reached_from(&self.tables, self.sets.occupied(), side, kind, from);
+        reached.without(self.sets.all(side))
+    }
+
+    // These squares, where castling to that side is told as it is legal.
+    fn with_castling(
+        &self,
+        targets: SquareSet,
+        from: Square,
+        castling_side: CastlingSide,
+    ) -> SquareSet
+        ensures { (k : ℕ) → k < 64 → has result k ≡ castling_or self.now castling_side from k (has targets k) }
+    {
+        let side = self.setup.side;
+        let Some(rook) = right_of(self.setup.rights, side, castling_side) else {
+            return targets;
+        };
+        let to = match self.setup.variant {
+            Variant::Normal => home_square(side, castled_king_file(castling_side)),
+            Variant::Fischerandom => rook,
+        };
+        let m = Move {
+            from,
+            to,
+            promotion: None,
+        };
+        let Some(castle) = castle_of(&self.setup, &m) else {
+            return targets;
+        };
+        let end = SquareSet::single(to);
+        if self.castles_legally(&m, &castle) {
+            targets.union(end)
+        } else {
+            targets.without(end)
+        }
+    }
+
+    // Where the own man goes that stands there and is no pawn; castling is told as it is legal.
+    fn man_targets(&self, from: Square) -> SquareSet
+        requires { is_of (self.now).side (man_at (self.now).men from) ≡ true }
+        ensures { (k : ℕ) → k < 64 → has result k ≡ man_goes self.now from k }
+    {
+        let Some(man) = self.setup.men[from.index()] else {
+            return SquareSet::empty();
+        };
+        let kind = man.kind;
+        let steps = self.steps(kind, from);
+        if !is_king(kind) {
+            return steps;
+        }
+        let far = self.with_castling(steps, from, CastlingSide::QueenSide);
+        self.with_castling(far, from, CastlingSide::KingSide)
+    }
+
+    // Where a pawn goes straight ahead.
+    fn advances(&self, from: Square) -> SquareSet
+        requires { is_man (self.now).side Pawn (man_at (self.now).men from) ≡ true }
+        ensures { (k : ℕ) → k < 64 → has result k ≡ pawn_advances self.now (triple from k None) }
+    {
+        let _start = from.number();
+        let side = self.setup.side;
+        let Some(next) = ahead(side, from) else {
+            return SquareSet::empty();
+        };
+        if self.setup.men[next.index()].is_some() {
+            return SquareSet::empty();
+        }
+        let one = SquareSet::single(next);
+        if from.rank() != pawn_rank(side) {
+            return one;
+        }
+        let Some(second) = ahead(side, next) else {
+            return one;
+        };
+        if self.setup.men[second.index()].is_some() {
+            one
+        } else {
+            one.union(SquareSet::single(second))
+        }
+    }
+
+    // Where a pawn captures.
+    fn captures(&self, from: Square) -> SquareSet
+        requires { is_man (self.now).side Pawn (man_at (self.now).men from) ≡ true }
+        ensures { (k : ℕ) → k < 64 → has result k ≡ pawn_captures self.now (triple from k None) }
+    {
+        let side = self.setup.side;
+        let reached = reached_from(&self.tables, self.sets.occupied(), side, Kind::Pawn, from);
+        let taken = self.sets.all(side.other());
+        let aims = taken.union(set_of(self.setup.target));
+        reached.intersection(aims)
+    }
+
+    // Where the own pawn goes that stands there.
+    fn pawn_targets(&self, from: Square) -> SquareSet
+        requires { is_man (self.now).side Pawn (man_at (self.now).men from) ≡ true }
+        ensures { (k : ℕ) → k < 64 → has result k ≡ (pawn_advances self.now (triple from k None) || pawn_captures self.now (triple from k None)) }
+    {
+        let advances = self.advances(from);
+        let captures = self.captures(from);
+        advances.union(captures)
+    }
+
+    // Where the man goes that stands there, if it is of the side on move: each end square of its legal moves is there, and
+    // none to which it hasn't the pattern of a move.
+    pub(crate) fn targets(&self, from: Square) -> SquareSet
+        ensures sound { (k : ℕ) → k < 64 → has result k ≡ true → goes self.now from k ≡ true }
+        ensures complete { (m : Move) → is_legal self.now m ≡ true → m.from ≡ from → has result m.to ≡ true }
+    {
+        let _start = from.number();
+        let man = self.setup.men[from.index()];
+        if !is_of(self.setup.side, man) {
+            return SquareSet::empty();
+        }
+        if is_man(self.setup.side, Kind::Pawn, man) {
+            return self.pawn_targets(from);
+        }
+        self.man_targets(from)
+    }
+}
