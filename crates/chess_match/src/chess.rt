@@ -18,7 +18,7 @@ use crate::reason::DrawClaim;
 use chess_base::{Colour, FenText, Kind, Man, Move, Position, Variant, write_fen};
 use chess_game::{Claims, Game, Verdict};
 use chess_moves::Board;
-use chess_text::{Reading, move_text, read_move, san};
+use chess_text::{Reading, move_text, read_move, read_moves_are_legal, san};
 
 // Whether each man of that colour is a king.
 fn is_king_or_other(colour: Colour, man: Option<Man>) -> bool
@@ -92,6 +92,8 @@ impl<B: Board> Played for Game<B> {
 
     ghost played = { λ g. g.state.moves };
 
+    ghost origin = { λ g. (g.state.start, g.limit) };
+
     #[tactic(auto, unfolding(crate::specs::Rules::rules_of))]
     fn first(&self) -> Colour {
         self.start().side()
@@ -134,6 +136,7 @@ impl<B: Board> Played for Game<B> {
 
     #[tactic(auto, unfolding(crate::specs::Rules::rules_of))]
     fn play(&mut self, chosen: Move) {
+        read_moves_are_legal();
         if Game::play(self, chosen).is_err() {
             unreachable!();
         }
@@ -159,6 +162,8 @@ impl<B: Board> Played for Game<B> {
         prefixed: bool,
         block: &mut Block,
     ) {
+        // The line of a game, of which each move is legal, is told with its position.
+        let _playable = self.position();
         let ply = self.ply() - 1;
         let made = self.move_at(ply);
         let before = self.position_at(ply);

@@ -8,7 +8,6 @@ mod engine_line;
 mod features;
 mod hello;
 mod item;
-mod laws;
 mod level;
 mod moments;
 mod phase;
@@ -23,15 +22,13 @@ mod turn;
 
 pub use clocks::Clocks;
 pub use engine_line::{EngineLine, read_engine_line};
-pub use laws::{
-    clocks_do_not_underflow, lines_are_few, moves_are_told_once, times_are_clocks,
-    transcript_is_the_only_one,
-};
 pub use level::Level;
 pub use moments::Moments;
 pub use phase::Phase;
 pub use reason::{DrawClaim, HowEnded, MatchFault, Reason};
 pub use run::{Ends, MatchEnd, Setup, run_match};
 
+#[cfg(test)]
+mod match_tests;
 #[cfg(test)]
 mod tests;

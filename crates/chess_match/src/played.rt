@@ -13,8 +13,9 @@ use chess_moves::Board;
 
 /// A game that is being played.
 pub(crate) trait Played {
-    ghost use Rattle.std.specs.Prelude.{List};
+    ghost use Rattle.std.specs.Prelude.{List, ℕ};
     ghost use Rattle.chess_base.specs.declared.man.Move.{Move};
+    ghost use Rattle.chess_base.specs.declared.setup.Setup.{Setup};
     ghost use Rattle.chess_match.specs.Rules.{Rules};
 
     /// It is played by these rules, and no result was declared.
@@ -22,6 +23,9 @@ pub(crate) trait Played {
 
     /// The moves so far.
     ghost played: { Self → List Move };
+
+    /// The start, and how many moves can stand: neither ever changes.
+    ghost origin: { Self → Setup × ℕ };
 
     /// Who is on move at the start.
     fn first(&self) -> Colour
@@ -58,7 +62,8 @@ pub(crate) trait Played {
         requires { (r : Rules) × (text : List ℕ) × (plays self.old r) × (r.verdict (played self.old) ≡ None)
             × (nat_le r.limit (length (played self.old)) ≡ false) × (r.reading (played self.old) text ≡ Some chosen) }
         ensures moves { played self.new ≡ played self.old ++ chosen ∷ [] }
-        ensures rules { (r : Rules) → plays self.old r → plays self.new r };
+        ensures rules { (r : Rules) → plays self.old r → plays self.new r }
+        ensures origin { origin self.new ≡ origin self.old };
 
     /// The line that tells the start, where it is told.
     fn add_start(&self, block: &mut Block)

@@ -1,19 +1,24 @@
 //! The run of a match.
 
-ghost use Rattle.std.specs.Prelude.{◌≡◌};
-ghost use Rattle.std.specs.Prelude.{◌≤◌, ◌<◌, List, length, true, None, is_some};
+ghost use Rattle.std.specs.Prelude.{◌≡◌, ◌<◌, List, [], ◌∷◌, ℕ, length, true, None, is_some};
+ghost use Rattle.chess_base.specs.Men.{other};
 ghost use Rattle.chess_base.specs.declared.man.Colour.{Colour};
+ghost use Rattle.chess_cecp.specs.Next.{NextLine};
 ghost use Rattle.chess_game.specs.Game.{at, with_declared, verdict_now};
-ghost use Rattle.chess_match.specs.Clocks.{spent_by};
+ghost use Rattle.chess_match.specs.Awaits.{IsAwaited};
+ghost use Rattle.chess_match.specs.Delivering.{by_side, by_turn, event_heard, line_event, Delivered, HasLast};
+ghost use Rattle.chess_match.specs.EngineLines.{kind_heard};
 ghost use Rattle.chess_match.specs.Items.{items_of};
-ghost use Rattle.chess_match.specs.Match.{Match};
+ghost use Rattle.chess_match.specs.Match.{Match, FailsToWrite, after};
 ghost use Rattle.chess_match.specs.Reasons.{declared_at};
 ghost use Rattle.chess_match.specs.Rules.{Rules};
-ghost use Rattle.chess_match.specs.Run.{Ports, Ran};
-ghost use Rattle.chess_match.specs.Sent.{bytes_of};
-ghost use Rattle.chess_match.specs.Stands.{Stands, given_block};
-ghost use Rattle.chess_match.specs.Steps.{in_turn};
-ghost use Rattle.chess_match.specs.Told.{failed_and, PutsIf, IsTold};
+ghost use Rattle.chess_match.specs.Run.{Ports, Ran, Asked, text_heard};
+ghost use Rattle.chess_match.specs.Seen.{seen};
+ghost use Rattle.chess_match.specs.Sent.{block, bytes_of};
+ghost use Rattle.chess_match.specs.Stands.{Stands, Goes, given_block, items_in};
+ghost use Rattle.chess_match.specs.Steps.{IsSane};
+ghost use Rattle.chess_match.specs.Told.{PutsIf, IsTold};
+ghost use Rattle.chess_match.specs.Transcript.{is_on, reads, moment_in};
 
 use crate::engine_line::{EngineLine, read_engine_line};
 use crate::level::Level;
@@ -23,7 +28,7 @@ use crate::played::Played;
 use crate::reason::{HowEnded, MatchFault, Reason, first_fault};
 use crate::sending::send;
 use crate::state::{Core, ENTRY, Given};
-use chess_base::device::{Input, Output, ReadFault, WriteFault};
+use chess_base::device::{Input, Output, ReadFault};
 use chess_base::{Colour, Position};
 use chess_cecp::{Line, Lines};
 use chess_game::{Comment, Game, Outcome};
@@ -80,8 +85,8 @@ pub fn run_match<R: Input, W: Output, M: Moments, B: Board>(
     let mut white_lines: Lines<8192> = Lines::new();
     let mut black_lines: Lines<8192> = Lines::new();
     let mut failed = deliver(
-        white,
-        black,
+        &mut white.writer,
+        &mut black.writer,
         &mut core,
         game,
         scratch,
@@ -90,25 +95,74 @@ pub fn run_match<R: Input, W: Output, M: Moments, B: Board>(
         Colour::White,
     );
     'events: loop {
-        match core.phase {
-            Phase::Over(reason) => return end_of(core, game, reason, failed),
-            Phase::Opening(side) => {
+        match awaited_in(core.phase) {
+            Awaited::Nothing(reason) => return end_of(core, game, reason, failed),
+            Awaited::Moment(side) => {
                 let moment = moments.now();
                 core.open(side, moment);
             }
-            Phase::Hello(side) | Phase::Setup(side) | Phase::Before(side) | Phase::After(side) => {
-                failed = match side {
-                    Colour::White => {
-                        let heard = white_lines.next(&mut white.reader);
-                        hear(white, black, moments, &mut core, game, scratch, heard, side)
-                    }
-                    Colour::Black => {
-                        let heard = black_lines.next(&mut black.reader);
-                        hear(white, black, moments, &mut core, game, scratch, heard, side)
-                    }
-                };
+            Awaited::Line(side) => {
+                let heard = next_line(
+                    &mut white.reader,
+                    &mut black.reader,
+                    &mut white_lines,
+                    &mut black_lines,
+                    side,
+                );
+                failed = hear(
+                    &mut white.writer,
+                    &mut black.writer,
+                    moments,
+                    &mut core,
+                    game,
+                    scratch,
+                    &heard,
+                    side,
+                );
             }
         }
+    }
+}
+
+/// What a match waits for.
+#[derive(Clone, Copy)]
+pub(crate) enum Awaited {
+    /// A line of that side's engine.
+    Line(Colour),
+    /// The moment at the end of the opening of that side's turn.
+    Moment(Colour),
+    /// Nothing: it is over.
+    Nothing(Reason),
+}
+
+fn awaited_in(phase: Phase) -> Awaited
+    ensures { IsAwaited phase result }
+{
+    match phase {
+        Phase::Hello(side) => Awaited::Line(side),
+        Phase::Setup(side) => Awaited::Line(side),
+        Phase::Before(side) => Awaited::Line(side),
+        Phase::After(side) => Awaited::Line(side),
+        Phase::Opening(side) => Awaited::Moment(side),
+        Phase::Over(reason) => Awaited::Nothing(reason),
+    }
+}
+
+// The next line of that side's engine.
+fn next_line<R: Input>(
+    white: &mut R,
+    black: &mut R,
+    white_lines: &mut Lines<8192>,
+    black_lines: &mut Lines<8192>,
+    side: Colour,
+) -> Result<Option<Line<8192>>, ReadFault>
+    ensures next { NextLine 8192 (by_side (R.seen white.old) (R.seen black.old) side) (by_side (R.seen white.new) (R.seen black.new) side) (by_side white_lines.old black_lines.old side) (by_side white_lines.new black_lines.new side) result }
+    ensures others { by_side (R.seen white.new) (R.seen black.new) (other side) ≡ by_side (R.seen white.old) (R.seen black.old) (other side) }
+    ensures held { by_side white_lines.new black_lines.new (other side) ≡ by_side white_lines.old black_lines.old (other side) }
+{
+    match side {
+        Colour::White => white_lines.next(white),
+        Colour::Black => black_lines.next(black),
     }
 }
 
@@ -119,28 +173,10 @@ pub(crate) struct Failed {
     black: bool,
 }
 
-impl Failed {
-    // With a write to that side too.
-    fn and(self, side: Colour) -> Self
-        ensures { result ≡ failed_and self side }
-    {
-        match side {
-            Colour::White => Failed {
-                white: true,
-                black: self.black,
-            },
-            Colour::Black => Failed {
-                white: self.white,
-                black: true,
-            },
-        }
-    }
-}
-
 // Sends each side its block of an end, White first.
-fn send_both<R: Input, W: Output, G: Played, S: Board>(
-    white: &mut Ends<R, W>,
-    black: &mut Ends<R, W>,
+fn send_both<W: Output, G: Played, S: Board>(
+    white: &mut W,
+    black: &mut W,
     core: &Core,
     game: &G,
     scratch: &mut S,
@@ -148,61 +184,70 @@ fn send_both<R: Input, W: Output, G: Played, S: Board>(
     text: &[u8],
 ) -> Failed
     requires { is_some core.now.untold ≡ true → 0 < length (G.played game.now) }
-    ensures readers { (R.seen white.new.reader ≡ R.seen white.old.reader) × (R.seen black.new.reader ≡ R.seen black.old.reader) }
-    ensures sent { (r : Rules) (m : Match) → G.plays game.now r → Stands r core.now (G.played game.now) m
-        → PutsIf result.white (W.seen white.old.writer) (W.seen white.new.writer) (bytes_of (given_block r given (items_of text.now) m Colour.White))
-        × PutsIf result.black (W.seen black.old.writer) (W.seen black.new.writer) (bytes_of (given_block r given (items_of text.now) m Colour.Black)) }
+    ensures { (r : Rules) (m : Match) → G.plays game.now r → Stands r core.now (G.played game.now) m
+        → PutsIf result.white (W.seen white.old) (W.seen white.new) (bytes_of (given_block r given (items_of text.now) m Colour.White))
+        × PutsIf result.black (W.seen black.old) (W.seen black.new) (bytes_of (given_block r given (items_of text.now) m Colour.Black)) }
 {
-    let white_failed = send(
-        &mut white.writer,
-        core,
-        game,
-        scratch,
-        given,
-        text,
-        Colour::White,
-    )
-    .is_err();
-    let black_failed = send(
-        &mut black.writer,
-        core,
-        game,
-        scratch,
-        given,
-        text,
-        Colour::Black,
-    )
-    .is_err();
+    let white_failed = send(white, core, game, scratch, given, text, Colour::White).is_err();
+    let black_failed = send(black, core, game, scratch, given, text, Colour::Black).is_err();
     Failed {
         white: white_failed,
         black: black_failed,
     }
 }
 
-// Sends a side its block.
-fn send_to<R: Input, W: Output, G: Played, S: Board>(
-    white: &mut Ends<R, W>,
-    black: &mut Ends<R, W>,
-    core: &Core,
+// A write to a side's engine failed, which ends the match: the other is sent its end lines. Whether a write to it fails too.
+fn end_for_other<W: Output, G: Played, S: Board>(
+    others: &mut W,
+    core: &mut Core,
+    game: &G,
+    scratch: &mut S,
+    side: Colour,
+) -> bool
+    requires last { HasLast core.old (G.played game.now) }
+    requires on { is_on core.old.phase ≡ true }
+    ensures { (r : Rules) (m : Match) → G.plays game.now r → Stands r core.old (G.played game.now) m
+        → Stands r core.new (G.played game.now) (after r m (FailsToWrite side))
+        × PutsIf result (W.seen others.old) (W.seen others.new) (bytes_of (block r m (after r m (FailsToWrite side)) (other side))) }
+{
+    let given = core.write_fails(side);
+    send(others, core, game, scratch, given, b"", side.other()).is_err()
+}
+
+// Sends the blocks of an event in a match that is on, first to the side of which it came. Whether a write to that side failed,
+// and whether one to the other.
+fn send_in_turn<W: Output, G: Played, S: Board>(
+    own: &mut W,
+    others: &mut W,
+    core: &mut Core,
     game: &G,
     scratch: &mut S,
     given: Given,
     text: &[u8],
     side: Colour,
-) -> Result<(), WriteFault>
-    requires { is_some core.now.untold ≡ true → 0 < length (G.played game.now) }
+) -> (bool, bool)
+    requires last { HasLast core.old (G.played game.now) }
+    requires on { is_on core.old.phase ≡ true }
+    ensures { (r : Rules) (m : Match) → G.plays game.now r → Stands r core.old (G.played game.now) m
+        → Delivered r core.new (G.played game.now) m (given_block r given (items_of text.now) m) side
+            (by_turn side (W.seen own.old) (W.seen others.old)) (by_turn side (W.seen own.new) (W.seen others.new)) (by_turn side result.0 result.1) }
 {
-    match side {
-        Colour::White => send(&mut white.writer, core, game, scratch, given, text, side),
-        Colour::Black => send(&mut black.writer, core, game, scratch, given, text, side),
+    if send(own, core, game, scratch, given, text, side).is_err() {
+        let others_failed = end_for_other(others, core, game, scratch, side);
+        return (true, others_failed);
     }
+    if send(others, core, game, scratch, given, text, side.other()).is_err() {
+        let own_failed = end_for_other(own, core, game, scratch, side.other());
+        return (own_failed, true);
+    }
+    (false, false)
 }
 
-// Sends the blocks of an event, first to that side, or at the end to White and then to Black. A write that fails ends the
-// match.
-fn deliver<R: Input, W: Output, G: Played, S: Board>(
-    white: &mut Ends<R, W>,
-    black: &mut Ends<R, W>,
+// Sends the blocks of an event: first to the side of which it came, and at the end to White and then to Black. A write that
+// fails ends the match.
+fn deliver<W: Output, G: Played, S: Board>(
+    white: &mut W,
+    black: &mut W,
     core: &mut Core,
     game: &G,
     scratch: &mut S,
@@ -210,67 +255,138 @@ fn deliver<R: Input, W: Output, G: Played, S: Board>(
     text: &[u8],
     side: Colour,
 ) -> Failed
-    requires { is_some core.old.untold ≡ true → 0 < length (G.played game.now) }
+    requires { HasLast core.old (G.played game.now) }
+    ensures { (r : Rules) (m : Match) → G.plays game.now r → Stands r core.old (G.played game.now) m
+        → Delivered r core.new (G.played game.now) m (given_block r given (items_of text.now) m) side
+            (by_side (W.seen white.old) (W.seen black.old)) (by_side (W.seen white.new) (W.seen black.new)) (by_side result.white result.black) }
 {
-    if let Phase::Over(_) = core.phase {
+    if core.is_over() {
         return send_both(white, black, core, game, scratch, given, text);
     }
-    if send_to(white, black, core, game, scratch, given, text, side).is_err() {
-        let given = core.write_fails(side);
-        return send_both(white, black, core, game, scratch, given, b"").and(side);
-    }
-    let other = side.other();
-    if send_to(white, black, core, game, scratch, given, text, other).is_err() {
-        let given = core.write_fails(other);
-        return send_both(white, black, core, game, scratch, given, b"").and(other);
-    }
-    Failed {
-        white: false,
-        black: false,
+    match side {
+        Colour::White => {
+            let (own, others) = send_in_turn(white, black, core, game, scratch, given, text, side);
+            Failed {
+                white: own,
+                black: others,
+            }
+        }
+        Colour::Black => {
+            let (own, others) = send_in_turn(black, white, core, game, scratch, given, text, side);
+            Failed {
+                white: others,
+                black: own,
+            }
+        }
     }
 }
 
-// What a side's engine gave: a line, its end, or a read that failed. A last line that byte 10 does not end is its end.
-fn hear<R: Input, W: Output, M: Moments, G: Played, S: Board>(
-    white: &mut Ends<R, W>,
-    black: &mut Ends<R, W>,
+// What a line tells of items: those of a hello alone.
+#[tactic(auto, unfolding(crate::specs::Items::items_of))]
+fn items_text(phase: Phase, said: EngineLine<'_>) -> &[u8]
+    ensures { items_of result.now ≡ items_in phase (seen said.entry) }
+{
+    match phase {
+        Phase::Hello(_) => match said {
+            EngineLine::Features(text) => text,
+            EngineLine::Move(_) => b"",
+            EngineLine::Pong(_) => b"",
+            EngineLine::Resign => b"",
+            EngineLine::Offer => b"",
+            EngineLine::Draw => b"",
+            EngineLine::Win(_) => b"",
+            EngineLine::Rejection => b"",
+            EngineLine::Other => b"",
+        },
+        Phase::Setup(_) => b"",
+        Phase::Opening(_) => b"",
+        Phase::Before(_) => b"",
+        Phase::After(_) => b"",
+        Phase::Over(_) => b"",
+    }
+}
+
+// What a line says; of one that is too long nothing.
+fn said(line: &Line<8192>) -> EngineLine<'_>
+    ensures { seen result ≡ kind_heard (text_heard line.now) }
+{
+    if line.is_too_long() {
+        EngineLine::Other
+    } else {
+        read_engine_line(line.text())
+    }
+}
+
+// Hears a line of a side's engine, and then asks for the moment. What is to be sent, and the text of the items to be answered.
+fn hear_line<'a, M: Moments, G: Played>(
+    core: &mut Core,
+    moments: &mut M,
+    game: &mut G,
+    line: &'a Line<8192>,
+    side: Colour,
+) -> (Given, &'a [u8])
+    requires { (r : Rules) × (m : Match) × (G.plays game.old r) × Stands r core.old (G.played game.old) m × IsSane r m × (reads m.phase side ≡ true) }
+    ensures rules { (r : Rules) → G.plays game.old r → G.plays game.new r }
+    ensures origin { G.origin game.new ≡ G.origin game.old }
+    ensures heard { (moment : ℕ) × Asked (M.coming moments.old) (M.coming moments.new) (moment ∷ [])
+        × ((r : Rules) (m : Match) → G.plays game.old r → reads m.phase side ≡ true → Stands r core.old (G.played game.old) m
+            → Goes r core.new (G.played game.new) result.0 (items_of result.1.now) m (after r m (line_event side line.now moment))) }
+{
+    let moment = moments.now();
+    let said = said(line);
+    let text = items_text(core.phase, said);
+    let given = core.line(game, said, moment);
+    (given, text)
+}
+
+// Hears what a call for the next line of a side's engine gave. What is to be sent, and the text of the items to be answered.
+fn note<'a, M: Moments, G: Played>(
+    core: &mut Core,
+    moments: &mut M,
+    game: &mut G,
+    heard: &'a Result<Option<Line<8192>>, ReadFault>,
+    side: Colour,
+) -> (Given, &'a [u8])
+    requires { (r : Rules) × (m : Match) × (G.plays game.old r) × Stands r core.old (G.played game.old) m × IsSane r m × (reads m.phase side ≡ true) }
+    ensures rules { (r : Rules) → G.plays game.old r → G.plays game.new r }
+    ensures origin { G.origin game.new ≡ G.origin game.old }
+    ensures heard { (moment : ℕ) × Asked (M.coming moments.old) (M.coming moments.new) (moment_in (event_heard side moment heard.now))
+        × ((r : Rules) (m : Match) → G.plays game.old r → reads m.phase side ≡ true → Stands r core.old (G.played game.old) m
+            → Goes r core.new (G.played game.new) result.0 (items_of result.1.now) m (after r m (event_heard side moment heard.now))) }
+{
+    match heard {
+        Err(_) => (core.read_fails(side), b"".as_slice()),
+        Ok(None) => (core.output_ends(side), b"".as_slice()),
+        Ok(Some(line)) => {
+            if line.is_ended() {
+                hear_line(core, moments, game, line, side)
+            } else {
+                (core.output_ends(side), b"".as_slice())
+            }
+        }
+    }
+}
+
+// Hears what a call for the next line of a side's engine gave, and sends what that gives.
+fn hear<W: Output, M: Moments, G: Played, S: Board>(
+    white: &mut W,
+    black: &mut W,
     moments: &mut M,
     core: &mut Core,
     game: &mut G,
     scratch: &mut S,
-    heard: Result<Option<Line<8192>>, ReadFault>,
+    heard: &Result<Option<Line<8192>>, ReadFault>,
     side: Colour,
 ) -> Failed
-    requires counted { core.old.count < 10000 }
-    requires few { (c : Colour) → (spent_by core.old.clocks c).moves ≤ length (G.played game.old) }
-    requires undecided { in_turn core.old.phase ≡ true → (r : Rules) × (G.plays game.old r) × (r.verdict (G.played game.old) ≡ None) }
+    requires { (r : Rules) × (m : Match) × (G.plays game.old r) × Stands r core.old (G.played game.old) m × IsSane r m × (reads m.phase side ≡ true) }
+    ensures rules { (r : Rules) → G.plays game.old r → G.plays game.new r }
+    ensures origin { G.origin game.new ≡ G.origin game.old }
+    ensures heard { (moment : ℕ) × Asked (M.coming moments.old) (M.coming moments.new) (moment_in (event_heard side moment heard.now))
+        × ((r : Rules) (m : Match) → G.plays game.old r → reads m.phase side ≡ true → Stands r core.old (G.played game.old) m
+            → Delivered r core.new (G.played game.new) (after r m (event_heard side moment heard.now)) (block r m (after r m (event_heard side moment heard.now))) side
+                (by_side (W.seen white.old) (W.seen black.old)) (by_side (W.seen white.new) (W.seen black.new)) (by_side result.white result.black)) }
 {
-    let line = match heard {
-        Err(_) => {
-            let given = core.read_fails(side);
-            return deliver(white, black, core, game, scratch, given, b"", side);
-        }
-        Ok(None) => {
-            let given = core.output_ends(side);
-            return deliver(white, black, core, game, scratch, given, b"", side);
-        }
-        Ok(Some(line)) => line,
-    };
-    if !line.is_ended() {
-        let given = core.output_ends(side);
-        return deliver(white, black, core, game, scratch, given, b"", side);
-    }
-    let moment = moments.now();
-    let said = if line.is_too_long() {
-        EngineLine::Other
-    } else {
-        read_engine_line(line.text())
-    };
-    let text = match said {
-        EngineLine::Features(text) => text,
-        _ => b"".as_slice(),
-    };
-    let given = core.line(game, said, moment);
+    let (given, text) = note(core, moments, game, heard, side);
     deliver(white, black, core, game, scratch, given, text, side)
 }
 

@@ -1,6 +1,6 @@
 //! Sending blocks.
 
-ghost use Rattle.std.specs.Prelude.{◌≡◌, ◌+◌, ◌≤◌, ◌<◌, ◌++◌, ◌∷◌, [], length, IsErr, List, is_some, true, if◌then◌else◌};
+ghost use Rattle.std.specs.Prelude.{◌≡◌, ◌≢◌, ◌+◌, false, Ok, IfOk, ◌≤◌, ◌<◌, ◌++◌, ◌∷◌, [], length, IsErr, List, is_some, true, if◌then◌else◌};
 ghost use Rattle.arrayvec.specs.ArrayVec.{array_vec_len};
 ghost use Rattle.chess_base.specs.Devices.{Puts};
 ghost use Rattle.chess_match.specs.Items.{items_of};
@@ -270,7 +270,9 @@ fn put_answer<W: Output>(writer: &mut W, name: &[u8]) -> Result<(), WriteFault>
 
 // Answers the items of a text, and tells whether there are any.
 fn put_answers<W: Output>(writer: &mut W, text: &[u8]) -> Result<bool, WriteFault>
-    ensures { Puts (W.seen writer.old) (W.seen writer.new) result (bytes_of (answers_to (items_of text.now))) }
+    ensures puts { Puts (W.seen writer.old) (W.seen writer.new) result (bytes_of (answers_to (items_of text.now))) }
+    ensures due { IsErr result → 0 < length (answers_to (items_of text.now)) }
+    ensures some { IfOk result (λ some. some ≡ true → 0 < length (answers_to (items_of text.now))) }
 {
     let mut rest = text;
     let mut some = false;
@@ -296,7 +298,9 @@ fn put_own_answers<W: Output>(
     text: &[u8],
     side: Colour,
 ) -> Result<bool, WriteFault>
-    ensures { Puts (W.seen writer.old) (W.seen writer.new) result (bytes_of (to given.answers side (answers_to (items_of text.now)))) }
+    ensures puts { Puts (W.seen writer.old) (W.seen writer.new) result (bytes_of (to given.answers side (answers_to (items_of text.now)))) }
+    ensures due { IsErr result → 0 < length (to given.answers side (answers_to (items_of text.now))) }
+    ensures some { IfOk result (λ some. some ≡ true → 0 < length (to given.answers side (answers_to (items_of text.now)))) }
 {
     match given.answers {
         None => Ok(false),
@@ -346,12 +350,21 @@ fn add_entered<G: Played, S: Board>(
     }
 }
 
+// Whether there is nothing to write, and nothing was written before.
+fn is_nothing(text: &[u8], is_due: bool) -> bool
+    ensures some { result ≡ false → is_due ≡ false → text.now ≢ [] }
+    ensures none { result ≡ true → text.now ≡ [] }
+{
+    text.is_empty() && !is_due
+}
+
 // Writes a text and flushes, unless there is nothing and nothing was written before.
 #[tactic(auto, using(chess_base::proofs::DeviceLaws::flush_on))]
 fn put_and_flush<W: Output>(writer: &mut W, text: &[u8], is_due: bool) -> Result<(), WriteFault>
-    ensures { Puts (W.seen writer.old) (W.seen writer.new) result text.now }
+    ensures puts { Puts (W.seen writer.old) (W.seen writer.new) result text.now }
+    ensures due { is_due ≡ false → text.now ≡ [] → result ≡ Ok tt }
 {
-    if text.is_empty() && !is_due {
+    if is_nothing(text, is_due) {
         return Ok(());
     }
     match put(writer, text) {
