@@ -59,8 +59,8 @@ ran g h h' start level T core reason failed end nw nb nw' nb' held ow ob ow' ob'
      record {
        fitting = u.fitting;
        ending = ap ending_in (sym u.stands.phase ∙ over);
-       heard = both_sides {P = λ S. (given : List ℕ) × Heard S T (reader_at w S) (reader_at w' S) given} ((u.heard White).0, (u.heard White).1) ((u.heard Black).0, (u.heard Black).1);
-       written = both_sides {P = λ S. Written (by_side failed.white failed.black S) (writer_at w S) (writer_at w' S) (blocks r S T)} (u.written White) (u.written Black);
+       heard = both_sides (λ S. (given : List ℕ) × Heard S T (reader_at w S) (reader_at w' S) given) ((u.heard White).0, (u.heard White).1) ((u.heard Black).0, (u.heard Black).1);
+       written = both_sides (λ S. Written (by_side failed.white failed.black S) (writer_at w S) (writer_at w' S) (blocks r S T)) (u.written White) (u.written Black);
        failing = u.failing;
        moments = u.moments;
      },
