@@ -1,26 +1,25 @@
 -- The blocks of an event, sent one after the other.
-use Rattle.std.proofs.Common.{◌≡◌, ℕ, ◌+◌, ◌<◌, ◌≤◌, Bool, true, false, not, inl, inr, ◌⊎◌, List, [], ◌∷◌, ◌++◌, length, refl, ap, sym, ◌∙◌, subst, arith, Option, Some, None, Result, Ok, Err}
+use Rattle.std.proofs.Common.{◌≡◌, ℕ, ◌<◌, ◌≤◌, Bool, true, false, not, inl, inr, List, [], length, refl, ap, sym, ◌∙◌, subst, arith, Option, Some, None, Result, Ok, Err}
 use Rattle.std.specs.Prelude.{if◌then◌else◌, is_some}
 use Rattle.std.specs.Result.{is_err}
 use Rattle.chess_base.specs.declared.man.Colour.{Colour}
 use Rattle.chess_base.specs.declared.man.Colour.TheVariants.{White, Black}
 use Rattle.chess_base.specs.declared.man.Move.{Move}
 use Rattle.chess_base.specs.Devices.{OutputState, Took, BreaksOff, Puts}
-use Rattle.chess_base.specs.Men.{other, same_colour}
+use Rattle.chess_base.specs.Men.{other}
 use Rattle.chess_base.proofs.DeviceLaws.{took_none}
-use Rattle.chess_match.specs.Clocks.{Spent, ClocksSeen, spent_by}
+use Rattle.chess_match.specs.Clocks.{ClocksSeen, spent_by}
 use Rattle.chess_cecp.specs.Lines.{LineSeen}
-use Rattle.chess_match.specs.Delivering.{AllSent, OneFailed, Delivered, HasLast, by_side, by_turn, event_heard}
+use Rattle.chess_match.specs.Delivering.{Delivered, by_side, by_turn, event_heard}
 use Rattle.chess_match.specs.Items.{Item, items_of}
-use Rattle.chess_match.specs.Match.{Match, Event, Line, OutputEnds, FailsToRead, FailsToWrite, after, seat}
+use Rattle.chess_match.specs.Match.{Match, Event, Line, OutputEnds, FailsToRead, FailsToWrite, after}
 use Rattle.chess_match.specs.Rules.{Rules}
 use Rattle.chess_match.specs.Sent.{SentLine, block, bytes_of}
-use Rattle.chess_match.specs.Stands.{Stands, Goes, given_block, clocks_of}
+use Rattle.chess_match.specs.Stands.{Stands, Goes, clocks_of}
 use Rattle.chess_match.specs.Steps.{IsSane, in_turn}
 use Rattle.chess_match.specs.Told.{PutsIf}
 use Rattle.chess_match.specs.Run.{Asked, text_heard}
 use Rattle.chess_match.specs.Transcript.{is_on, reads, moment_in}
-use Rattle.chess_match.specs.declared.phase.Phase.{Phase}
 use Rattle.chess_match.specs.declared.state.Core.{Core}
 use Rattle.chess_match.specs.declared.state.Given.{Given}
 

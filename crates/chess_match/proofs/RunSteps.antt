@@ -1,7 +1,7 @@
 -- The steps of the driver's loop, as the loop keeps them.
-use Rattle.std.proofs.Common.{◌≡◌, ℕ, ◌+◌, ◌<◌, Bool, true, false, List, [], ◌∷◌, ◌++◌, length, refl, ap, sym, ◌∙◌, subst, Option, Some, None, Result}
+use Rattle.std.proofs.Common.{◌≡◌, ℕ, ◌<◌, Bool, true, List, refl, ap, sym, ◌∙◌, subst, Option, None, Result}
 use Rattle.chess_base.specs.declared.man.Colour.{Colour}
-use Rattle.chess_base.specs.declared.man.Colour.TheVariants.{White, Black}
+use Rattle.chess_base.specs.declared.man.Colour.TheVariants.{White}
 use Rattle.chess_base.specs.declared.man.Move.{Move}
 use Rattle.chess_base.specs.declared.setup.Setup.{Setup}
 use Rattle.chess_base.specs.Devices.{InputState, OutputState}
@@ -16,10 +16,10 @@ use Rattle.chess_match.specs.Levels.{LevelSeen}
 use Rattle.chess_match.specs.Match.{Match, Event, start, after}
 use Rattle.chess_match.specs.Rules.{Rules, rules_of}
 use Rattle.chess_match.specs.Run.{Asked}
-use Rattle.chess_match.specs.Sent.{SentLine, block, entry}
+use Rattle.chess_match.specs.Sent.{block, entry}
 use Rattle.chess_match.specs.Items.{Item}
-use Rattle.chess_match.specs.Stands.{Stands, given_block}
-use Rattle.chess_match.specs.Transcript.{match_of, reads, opens, is_on, moment_in}
+use Rattle.chess_match.specs.Stands.{given_block}
+use Rattle.chess_match.specs.Transcript.{match_of, reads, opens, moment_in}
 use Rattle.chess_match.specs.UnderWay.{IsUnderWay, steps_left}
 use Rattle.chess_match.specs.declared.phase.Phase.{Phase}
 use Rattle.chess_match.specs.declared.phase.Phase.TheVariants.{Before}

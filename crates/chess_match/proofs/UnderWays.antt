@@ -1,5 +1,5 @@
 -- A run that goes on by an event.
-use Rattle.std.proofs.Common.{◌≡◌, ℕ, zero, suc, ◌+◌, ◌*◌, ◌<◌, Bool, true, false, not, ◌&&◌, ◌||◌, inl, inr, ◌⊎◌, List, [], ◌∷◌, ◌++◌, length, refl, ap, sym, ◌∙◌, subst, append_assoc, append-nil, arith, Option, Some, None, lt-ltb}
+use Rattle.std.proofs.Common.{◌≡◌, ℕ, ◌<◌, Bool, true, false, ◌&&◌, ◌||◌, inl, inr, List, [], ◌∷◌, ◌++◌, length, refl, ap, sym, ◌∙◌, subst, append_assoc, append-nil, arith, Option, None, lt-ltb}
 use Rattle.std.specs.Prelude.{if◌then◌else◌, nat_lt}
 use Rattle.chess_base.specs.declared.man.Colour.{Colour}
 use Rattle.chess_base.specs.declared.man.Colour.TheVariants.{White, Black}
@@ -8,7 +8,7 @@ use Rattle.chess_base.specs.Devices.{InputState, OutputState, Took, BreaksOff}
 use Rattle.chess_base.specs.Men.{other, same_colour}
 use Rattle.chess_base.proofs.DeviceLaws.{took_none, took_more}
 use Rattle.chess_cecp.specs.Lines.{Held, nothing_held}
-use Rattle.chess_match.specs.Delivering.{HearsAt, is_heard_of, AllSent, OneFailed, Delivered, by_side}
+use Rattle.chess_match.specs.Delivering.{HearsAt, is_heard_of, AllSent, OneFailed, Delivered}
 use Rattle.chess_match.specs.Hearing.{Hearing}
 use Rattle.chess_match.specs.Match.{Match, Event, Line, Opened, OutputEnds, FailsToRead, FailsToWrite, start, after}
 use Rattle.chess_match.specs.Rules.{Rules}
@@ -17,7 +17,7 @@ use Rattle.chess_match.specs.Sent.{SentLine, block, entry, bytes_of}
 use Rattle.chess_match.specs.Stands.{Stands, Goes, given_block}
 use Rattle.chess_match.specs.Steps.{IsSane}
 use Rattle.chess_match.specs.Told.{PutsIf}
-use Rattle.chess_match.specs.Transcript.{match_from, match_of, fits, fits_next, fits_from, is_on, opens, blocks, blocks_from, joined_blocks, lines_of, moments_of, moment_in, has_end, has_read_failure, has_write_failure, fails_at}
+use Rattle.chess_match.specs.Transcript.{match_of, fits_next, is_on, opens, blocks, blocks_from, joined_blocks, lines_of, moments_of, moment_in, has_end, has_read_failure, has_write_failure, fails_at}
 use Rattle.chess_match.specs.UnderWay.{IsHearing, HeardSoFar, IsUnderWay}
 use Rattle.chess_match.specs.declared.phase.Phase.{Phase}
 use Rattle.chess_match.specs.declared.phase.Phase.TheVariants.{Hello, Setup, Opening, Before, After, Over}
@@ -26,7 +26,6 @@ use Rattle.chess_match.proofs.HeardOn.{is_stop, heard_still, heard_more}
 use Rattle.chess_match.proofs.Hears.{hearing_start}
 use Rattle.chess_match.proofs.Runs.{is_sound, match_of-append, IsTail, no_tail, failed_tail, moments_more, has_write_failure-append, fits-append, nothing_due, blocks-append, block_alone, taken_more, written_more, all_taken, asked_none, asked_more}
 use Rattle.chess_match.proofs.Sane.{sane_start, sane_over, sane_opened}
-use Rattle.chess_match.proofs.Sends.{bytes_of-append}
 
 not_so : (b : Bool) {P : Type 0} → b ≡ false → b ≡ true → P
 not_so true e h = absurd cc
@@ -261,10 +260,11 @@ event_step r T (OutputEnds c) d core core' played played' failed failed' n n' n'
     (T ++ OutputEnds c ∷ [], all_step r T (OutputEnds c) core core' played played' failed failed' n n' n'' held held' w w' w'' coming coming' coming'' u on refl fit sane hears asked s)
 event_step r T (FailsToRead c) d core core' played played' failed failed' n n' n'' held held' w w' w'' coming coming' coming'' u is on fit sane hears asked (inl s) =
     (T ++ FailsToRead c ∷ [], all_step r T (FailsToRead c) core core' played played' failed failed' n n' n'' held held' w w' w'' coming coming' coming'' u on refl fit sane hears asked s)
-event_step r T (Line c text k) d core core' played played' failed failed' n n' n'' held held' w w' w'' coming coming' coming'' u is on fit sane hears asked (inr (x, s)) =
-    (T ++ Line c text k ∷ FailsToWrite x ∷ [],
-     failed_step r T c text k core core' played played' failed failed' n n' n'' held held' w w' w'' coming coming' coming'' x u on fit sane hears asked
-     (subst (λ (y : Colour). OneFailed r core' played' (after r (match_of r T) (Line c text k)) (λ S. block r (match_of r T) (after r (match_of r T) (Line c text k)) S) y w' w'' failed' x) (sym (same_is c d is)) s))
+event_step r T (Line c text k) d core core' played played' failed failed' n n' n'' held held' w w' w'' coming coming' coming'' u is on fit sane hears asked (inr (x, s)) = (
+  T ++ Line c text k ∷ FailsToWrite x ∷ [],
+  failed_step r T c text k core core' played played' failed failed' n n' n'' held held' w w' w'' coming coming' coming'' x u on fit sane hears asked
+      (subst (λ (y : Colour). OneFailed r core' played' (after r (match_of r T) (Line c text k)) (λ S. block r (match_of r T) (after r (match_of r T) (Line c text k)) S) y w' w'' failed' x) (sym (same_is c d is)) s),
+)
 event_step r T (OutputEnds c) d core core' played played' failed failed' n n' n'' held held' w w' w'' coming coming' coming'' u is on fit sane hears asked (inr (x, s)) = let no : false ≡ true = s.on in absurd cc
 event_step r T (FailsToRead c) d core core' played played' failed failed' n n' n'' held held' w w' w'' coming coming' coming'' u is on fit sane hears asked (inr (x, s)) = let no : false ≡ true = s.on in absurd cc
 event_step r T (Opened c k) d core core' played played' failed failed' n n' n'' held held' w w' w'' coming coming' coming'' u is on fit sane hears asked s = absurd cc

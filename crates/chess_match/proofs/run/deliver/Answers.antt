@@ -1,5 +1,4 @@
 -- Which writer is whose.
-use Rattle.std.proofs.Common.{◌≡◌, ◌<◌, List, true, false, refl, ap, sym, ◌∙◌}
 use Rattle.chess_match.proofs.Delivers.{turn_white, turn_black}
 use Rattle.chess_match.proofs.run.deliver.Goals as goal
 

@@ -1,6 +1,5 @@
 -- The moment is asked for, and the core hears what the line says.
-use Rattle.std.proofs.Common.{◌≡◌, ◌<◌, List, true, false, refl, ap, sym, ◌∙◌, None}
-use Rattle.chess_match.specs.Items.{items_of}
+use Rattle.std.proofs.Common.{ap, sym, ◌∙◌}
 use Rattle.chess_match.specs.Seen.{seen}
 use Rattle.chess_match.specs.Stands.{items_in}
 use Rattle.chess_match.specs.declared.phase.Phase.{Phase}

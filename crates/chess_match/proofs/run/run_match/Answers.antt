@@ -1,16 +1,13 @@
 -- The loop keeps a transcript of what passed so far, and what agrees with it.
-use Rattle.std.proofs.Common.{◌≡◌, ◌<◌, ◌+◌, List, [], ◌∷◌, ◌++◌, true, false, refl, ap, sym, ◌∙◌, None, subst, length, ℕ}
+use Rattle.std.proofs.Common.{◌≡◌, List, [], ◌∷◌, ◌++◌, true, ap, sym, ◌∙◌, subst, ℕ}
 use Rattle.chess_base.specs.declared.man.Colour.{Colour}
-use Rattle.chess_base.specs.declared.man.Colour.TheVariants.{White, Black}
 use Rattle.chess_base.specs.declared.man.Move.{Move}
 use Rattle.chess_base.specs.declared.setup.Setup.{Setup}
-use Rattle.chess_cecp.specs.Lines.{Held, nothing_held}
-use Rattle.chess_cecp.specs.Next.{work}
+use Rattle.chess_cecp.specs.Lines.{nothing_held}
 use Rattle.chess_game.specs.Game as game
-use Rattle.chess_match.specs.Delivering.{by_side, event_heard}
-use Rattle.chess_match.specs.Match.{Match, Event, Opened, start, after}
+use Rattle.chess_match.specs.Delivering.{by_side}
+use Rattle.chess_match.specs.Match.{Match, Opened, start}
 use Rattle.chess_match.specs.Rules.{Rules, rules_of}
-use Rattle.chess_match.specs.Sent.{block}
 use Rattle.chess_match.specs.Stands.{Stands}
 use Rattle.chess_match.specs.Transcript.{match_of, reads, opens}
 use Rattle.chess_match.specs.declared.phase.Phase.{Phase}
@@ -24,10 +21,12 @@ use Rattle.chess_match.proofs.run.run_match.Goals as goal
 
 pub deliver-failed-requires : goal.deliver-failed-requires
 deliver-failed-requires g c =
-    let r : Rules = rules_of c.args.setup.now.start c.args.setup.now.level c.args.game.now.limit in
-    (r, start,
-     subst (λ (ms : List Move). Stands r c.new-core.result ms start) (sym (ap (λ (x : game.Seen). x.state.moves) c.restart.ensures)) (c.new-core.ensures r (rules_level c.args.setup.now.start c.args.setup.now.level c.args.game.now.limit)),
-     λ h. cc)
+    let r : Rules = rules_of c.args.setup.now.start c.args.setup.now.level c.args.game.now.limit in (
+      r,
+      start,
+      subst (λ (ms : List Move). Stands r c.new-core.result ms start) (sym (ap (λ (x : game.Seen). x.state.moves) c.restart.ensures)) (c.new-core.ensures r (rules_level c.args.setup.now.start c.args.setup.now.level c.args.game.now.limit)),
+      λ h. cc,
+    )
 
 pub events-init : goal.events-init
 events-init g c =
@@ -59,10 +58,13 @@ events-preserved-in-Moment g c =
     let i = c.events.invariant in
     let r : Rules = rules_of c.args.setup.now.start c.args.setup.now.level c.args.game.now.limit in
     let opening : opens (match_of r i.0).phase c.in-Moment.side ≡ true = ap (λ (p : Phase). opens p c.in-Moment.side) (sym i.1.stands.phase) ∙ c.in-Moment.ensures in
-    let goes = c.open.ensures r _ (match_of r i.0) opening i.1.stands in
-    (i.0 ++ Opened c.in-Moment.side c.now-moment.result ∷ [],
-     opened_step r i.0 c.in-Moment.side c.now-moment.result _ _ _ _ _ _ _ _ _ _ _ _ i.1 opening (asked_one _ _ c.now-moment.result c.now-moment.ensures.moment c.now-moment.ensures.rest) goes,
-     i.2, i.3, i.4)
+    let goes = c.open.ensures r _ (match_of r i.0) opening i.1.stands in (
+      i.0 ++ Opened c.in-Moment.side c.now-moment.result ∷ [],
+      opened_step r i.0 c.in-Moment.side c.now-moment.result _ _ _ _ _ _ _ _ _ _ _ _ i.1 opening (asked_one _ _ c.now-moment.result c.now-moment.ensures.moment c.now-moment.ensures.rest) goes,
+      i.2,
+      i.3,
+      i.4,
+    )
 
 pub events-smaller : goal.events-smaller
 events-smaller g c =
