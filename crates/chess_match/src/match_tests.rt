@@ -36,6 +36,7 @@ impl Moments for Listed<'_> {
 }
 
 /// What two engines say, the calls of their writers that fail, 0 for none, and the moments.
+#[derive(Clone, Copy)]
 struct Said<'a> {
     white: &'a [u8],
     black: &'a [u8],
