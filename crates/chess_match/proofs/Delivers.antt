@@ -1,13 +1,11 @@
 -- The blocks of an event, sent one after the other.
 use Rattle.std.proofs.Common.{◌≡◌, ℕ, ◌<◌, ◌≤◌, Bool, true, false, not, inl, inr, List, [], length, refl, ap, sym, ◌∙◌, subst, arith, Option, Some, None, Result, Ok, Err}
 use Rattle.std.specs.Prelude.{if◌then◌else◌, is_some}
-use Rattle.std.specs.Result.{is_err}
 use Rattle.chess_base.specs.declared.man.Colour.{Colour}
 use Rattle.chess_base.specs.declared.man.Colour.TheVariants.{White, Black}
 use Rattle.chess_base.specs.declared.man.Move.{Move}
-use Rattle.chess_base.specs.Devices.{OutputState, Took, BreaksOff, Puts}
+use Rattle.chess_base.specs.Devices.{OutputState}
 use Rattle.chess_base.specs.Men.{other}
-use Rattle.chess_base.proofs.DeviceLaws.{took_none}
 use Rattle.chess_match.specs.Clocks.{ClocksSeen, spent_by}
 use Rattle.chess_cecp.specs.Lines.{LineSeen}
 use Rattle.chess_match.specs.Delivering.{Delivered, by_side, by_turn, event_heard}
@@ -17,11 +15,12 @@ use Rattle.chess_match.specs.Rules.{Rules}
 use Rattle.chess_match.specs.Sent.{SentLine, block, bytes_of}
 use Rattle.chess_match.specs.Stands.{Stands, Goes, clocks_of}
 use Rattle.chess_match.specs.Steps.{IsSane, in_turn}
-use Rattle.chess_match.specs.Told.{PutsIf}
+use Rattle.chess_match.specs.Told.{SendsIf}
 use Rattle.chess_match.specs.Run.{Asked, text_heard}
 use Rattle.chess_match.specs.Transcript.{is_on, reads, moment_in}
 use Rattle.chess_match.specs.declared.state.Core.{Core}
 use Rattle.chess_match.specs.declared.state.Given.{Given}
+use Rattle.chess_match.proofs.Flushes.{flushed_none}
 
 -- who is still to be told the last move has one to be told
 pub last_told : (r : Rules) (core : Core) (played : List Move) (m : Match) → Stands r core played m → (is_some m.untold ≡ true → 0 < length m.played) → is_some core.untold ≡ true → 0 < length played
@@ -36,22 +35,19 @@ no_items = refl
 
 -- ---- one call
 
-pub puts_if : {A E : Type 0} (o o' : OutputState) (result : Result A E) (b : Bool) (text text' : List ℕ) → b ≡ is_err result → text ≡ text' → Puts o o' result text → PutsIf b o o' text'
-puts_if o o' (Ok v) true text text' e t p = absurd cc
-puts_if o o' (Ok v) false text text' e t p = subst (λ (x : List ℕ). Took o o' x) t p
-puts_if o o' (Err x) true text text' e t p = subst (λ (y : List ℕ). BreaksOff o o' y) t p
-puts_if o o' (Err x) false text text' e t p = absurd cc
+pub sends_if : (o o' : OutputState) (b b' : Bool) (text text' : List ℕ) → b' ≡ b → text ≡ text' → SendsIf b o o' text → SendsIf b' o o' text'
+sends_if o o' b b' text text' e t p = subst (λ (x : List ℕ). SendsIf b' o o' x) t (subst (λ (x : Bool). SendsIf x o o' text) (sym e) p)
 
 -- ---- two calls, in turn
 
 pub first_failed : (r : Rules) (core : Core) (played : List Move) (m : Match) (due : Colour → List SentLine) (S : Colour) (o o' x x' : OutputState) (f : Bool) → is_on m.phase ≡ true → 0 < length (due S) → Stands r core played (after r m (FailsToWrite S))
-    → PutsIf true o o' (bytes_of (due S)) → PutsIf f x x' (bytes_of (block r m (after r m (FailsToWrite S)) (other S))) → Delivered r core played m due S (by_turn S o x) (by_turn S o' x') (by_turn S true f)
+    → SendsIf true o o' (bytes_of (due S)) → SendsIf f x x' (bytes_of (block r m (after r m (FailsToWrite S)) (other S))) → Delivered r core played m due S (by_turn S o x) (by_turn S o' x') (by_turn S true f)
 unfolding bytes_of
-first_failed r core played m due White o o' x x' f on some s b p = inr (White, record { on = on; some = some; stands = s; fails = refl; broke = b; others = (x, took_none x, p) })
-first_failed r core played m due Black o o' x x' f on some s b p = inr (Black, record { on = on; some = some; stands = s; fails = refl; broke = b; others = (x, took_none x, p) })
+first_failed r core played m due White o o' x x' f on some s b p = inr (White, record { on = on; some = some; stands = s; fails = refl; broke = b; others = (x, flushed_none x, p) })
+first_failed r core played m due Black o o' x x' f on some s b p = inr (Black, record { on = on; some = some; stands = s; fails = refl; broke = b; others = (x, flushed_none x, p) })
 
 pub second_failed : (r : Rules) (core : Core) (played : List Move) (m : Match) (due : Colour → List SentLine) (S : Colour) (o v o' x x' : OutputState) (f : Bool) → is_on m.phase ≡ true → 0 < length (due (other S)) → Stands r core played (after r m (FailsToWrite (other S)))
-    → PutsIf false o v (bytes_of (due S)) → PutsIf true x x' (bytes_of (due (other S))) → PutsIf f v o' (bytes_of (block r m (after r m (FailsToWrite (other S))) (other (other S))))
+    → SendsIf false o v (bytes_of (due S)) → SendsIf true x x' (bytes_of (due (other S))) → SendsIf f v o' (bytes_of (block r m (after r m (FailsToWrite (other S))) (other (other S))))
     → Delivered r core played m due S (by_turn S o x) (by_turn S o' x') (by_turn S f true)
 second_failed r core played m due White o v o' x x' f on some s t b p = inr (Black, record { on = on; some = some; stands = s; fails = refl; broke = b; others = (v, t, p) })
 second_failed r core played m due Black o v o' x x' f on some s t b p = inr (White, record { on = on; some = some; stands = s; fails = refl; broke = b; others = (v, t, p) })
@@ -61,15 +57,15 @@ both_sides P w b White = w
 both_sides P w b Black = b
 
 pub none_failed : (r : Rules) (core : Core) (played : List Move) (m : Match) (due : Colour → List SentLine) (S : Colour) (o o' x x' : OutputState) → Stands r core played m
-    → PutsIf false o o' (bytes_of (due S)) → PutsIf false x x' (bytes_of (due (other S))) → Delivered r core played m due S (by_turn S o x) (by_turn S o' x') (by_turn S false false)
+    → SendsIf false o o' (bytes_of (due S)) → SendsIf false x x' (bytes_of (due (other S))) → Delivered r core played m due S (by_turn S o x) (by_turn S o' x') (by_turn S false false)
 none_failed r core played m due White o o' x x' s a b = inl (record {
   stands = s;
-  puts = both_sides (λ X. PutsIf (by_side false false X) (by_side o x X) (by_side o' x' X) (bytes_of (due X))) a b;
+  puts = both_sides (λ X. SendsIf (by_side false false X) (by_side o x X) (by_side o' x' X) (bytes_of (due X))) a b;
   fine = λ h X. both_sides (λ Y. by_side false false Y ≡ false) refl refl X;
 })
 none_failed r core played m due Black o o' x x' s a b = inl (record {
   stands = s;
-  puts = both_sides (λ X. PutsIf (by_side false false X) (by_side x o X) (by_side x' o' X) (bytes_of (due X))) b a;
+  puts = both_sides (λ X. SendsIf (by_side false false X) (by_side x o X) (by_side x' o' X) (bytes_of (due X))) b a;
   fine = λ h X. both_sides (λ Y. by_side false false Y ≡ false) refl refl X;
 })
 
@@ -79,10 +75,10 @@ never false e h = absurd cc
 
 -- at the end each engine is sent its block, whatever became of the other's
 pub both_sent : (r : Rules) (core : Core) (played : List Move) (m : Match) (due : Colour → List SentLine) (S : Colour) (w w' b b' : OutputState) (f g : Bool) → Stands r core played m → true ≡ not (is_on core.phase)
-    → PutsIf f w w' (bytes_of (due White)) → PutsIf g b b' (bytes_of (due Black)) → Delivered r core played m due S (by_side w b) (by_side w' b') (by_side f g)
+    → SendsIf f w w' (bytes_of (due White)) → SendsIf g b b' (bytes_of (due Black)) → Delivered r core played m due S (by_side w b) (by_side w' b') (by_side f g)
 both_sent r core played m due S w w' b b' f g s o x y = inl (record {
   stands = s;
-  puts = both_sides (λ X. PutsIf (by_side f g X) (by_side w b X) (by_side w' b' X) (bytes_of (due X))) x y;
+  puts = both_sides (λ X. SendsIf (by_side f g X) (by_side w b X) (by_side w' b' X) (bytes_of (due X))) x y;
   fine = λ h X. never (is_on core.phase) o (ap is_on s.phase ∙ h);
 })
 

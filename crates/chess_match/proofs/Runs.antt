@@ -3,14 +3,14 @@ use Rattle.std.proofs.Common.{◌≡◌, ℕ, zero, suc, ◌+◌, ◌<◌, Bool,
 use Rattle.std.specs.Prelude.{if◌then◌else◌, slice_get}
 use Rattle.std.specs.Option.{IfSome}
 use Rattle.chess_base.specs.declared.man.Colour.{Colour}
-use Rattle.chess_base.specs.Devices.{OutputState, Took}
-use Rattle.chess_base.proofs.DeviceLaws.{took_more, failed_more}
+use Rattle.chess_base.specs.Devices.{OutputState}
 use Rattle.chess_match.specs.Match.{Match, Event, Line, Opened, OutputEnds, FailsToRead, FailsToWrite, start, after}
 use Rattle.chess_match.specs.Rules.{Rules}
-use Rattle.chess_match.specs.Run.{Written, Asked}
+use Rattle.chess_match.specs.Run.{Flushed, Written, Asked}
 use Rattle.chess_match.specs.Sent.{SentLine, block, entry, bytes_of}
-use Rattle.chess_match.specs.Told.{PutsIf}
+use Rattle.chess_match.specs.Told.{SendsIf}
 use Rattle.chess_match.specs.Transcript.{match_from, match_of, fits_from, fits_next, fits, is_dropped, fails_at, block_at, blocks_from, blocks, joined_blocks, last_block, before_last, line_in, lines_of, moment_in, moments_of, is_end_of, has_end, is_read_failure_of, has_read_failure, has_write_failure}
+use Rattle.chess_match.proofs.Flushes.{flushed_more, failed_behind}
 use Rattle.chess_match.proofs.Sends.{bytes_of-append}
 
 -- an event at which no write fails
@@ -183,18 +183,18 @@ before_last_snoc [] b = refl
 before_last_snoc (x ∷ []) b = refl
 before_last_snoc (x ∷ y ∷ bs) b = ap (λ (ls : List SentLine). x ++ ls) (before_last_snoc (y ∷ bs) b)
 
--- a block more was taken
-pub taken_more : (w v v' : OutputState) (bs : List (List SentLine)) (b : List SentLine) → Took w v (bytes_of (joined_blocks bs)) → Took v v' (bytes_of b) → Took w v' (bytes_of (joined_blocks (bs ++ b ∷ [])))
-taken_more w v v' bs b t p = rw (joined_snoc bs b, bytes_of-append (joined_blocks bs) b) (took_more w v v' _ _ t p)
+-- a block more was written and flushed
+pub sent_more : (w v v' : OutputState) (bs : List (List SentLine)) (b : List SentLine) → Flushed w v (bytes_of (joined_blocks bs)) → Flushed v v' (bytes_of b) → Flushed w v' (bytes_of (joined_blocks (bs ++ b ∷ [])))
+sent_more w v v' bs b t p = rw (joined_snoc bs b, bytes_of-append (joined_blocks bs) b) (flushed_more w v v' _ _ t p)
 
--- a last block, of which a beginning was taken if the write failed
-pub written_more : (f : Bool) (w v v' : OutputState) (bs : List (List SentLine)) (b : List SentLine) → Took w v (bytes_of (joined_blocks bs)) → PutsIf f v v' (bytes_of b) → Written f w v' (bs ++ b ∷ [])
-written_more false w v v' bs b t p = taken_more w v v' bs b t p
-written_more true w v v' bs b t (begun, begins, fails) = (begun, rw (last_snoc bs b) begins, rw (before_last_snoc bs b) (failed_more w v v' _ begun t fails))
+-- a last block, of which a beginning was written if a call failed
+pub written_more : (f : Bool) (w v v' : OutputState) (bs : List (List SentLine)) (b : List SentLine) → Flushed w v (bytes_of (joined_blocks bs)) → SendsIf f v v' (bytes_of b) → Written f w v' (bs ++ b ∷ [])
+written_more false w v v' bs b t p = sent_more w v v' bs b t p
+written_more true w v v' bs b t (begun, begins, fails) = (begun, rw (last_snoc bs b) begins, rw (before_last_snoc bs b) (failed_behind w v v' _ begun t fails))
 
-pub all_taken : (f : Bool) (w v : OutputState) (bs : List (List SentLine)) → f ≡ false → Written f w v bs → Took w v (bytes_of (joined_blocks bs))
-all_taken false w v bs e t = t
-all_taken true w v bs e t = cc
+pub all_sent : (f : Bool) (w v : OutputState) (bs : List (List SentLine)) → f ≡ false → Written f w v bs → Flushed w v (bytes_of (joined_blocks bs))
+all_sent false w v bs e t = t
+all_sent true w v bs e t = cc
 
 -- ---- moments
 

@@ -4,27 +4,27 @@ use Rattle.std.specs.Prelude.{if◌then◌else◌, nat_lt}
 use Rattle.chess_base.specs.declared.man.Colour.{Colour}
 use Rattle.chess_base.specs.declared.man.Colour.TheVariants.{White, Black}
 use Rattle.chess_base.specs.declared.man.Move.{Move}
-use Rattle.chess_base.specs.Devices.{InputState, OutputState, Took, BreaksOff}
+use Rattle.chess_base.specs.Devices.{InputState, OutputState, BreaksOff}
 use Rattle.chess_base.specs.Men.{other, same_colour}
-use Rattle.chess_base.proofs.DeviceLaws.{took_none, took_more}
 use Rattle.chess_cecp.specs.Lines.{Held, nothing_held}
 use Rattle.chess_match.specs.Delivering.{HearsAt, is_heard_of, AllSent, OneFailed, Delivered}
 use Rattle.chess_match.specs.Hearing.{Hearing}
 use Rattle.chess_match.specs.Match.{Match, Event, Line, Opened, OutputEnds, FailsToRead, FailsToWrite, start, after}
 use Rattle.chess_match.specs.Rules.{Rules}
-use Rattle.chess_match.specs.Run.{Written, Asked}
+use Rattle.chess_match.specs.Run.{Flushed, Written, Asked}
 use Rattle.chess_match.specs.Sent.{SentLine, block, entry, bytes_of}
 use Rattle.chess_match.specs.Stands.{Stands, Goes, given_block}
 use Rattle.chess_match.specs.Steps.{IsSane}
-use Rattle.chess_match.specs.Told.{PutsIf}
+use Rattle.chess_match.specs.Told.{SendsIf}
 use Rattle.chess_match.specs.Transcript.{match_of, fits_next, is_on, opens, blocks, blocks_from, joined_blocks, lines_of, moments_of, moment_in, has_end, has_read_failure, has_write_failure, fails_at}
 use Rattle.chess_match.specs.UnderWay.{IsHearing, HeardSoFar, IsUnderWay}
 use Rattle.chess_match.specs.declared.phase.Phase.{Phase}
 use Rattle.chess_match.specs.declared.phase.Phase.TheVariants.{Hello, Setup, Opening, Before, After, Over}
 use Rattle.chess_match.specs.declared.state.Core.{Core}
+use Rattle.chess_match.proofs.Flushes.{flushed_none, flushed_more}
 use Rattle.chess_match.proofs.HeardOn.{is_stop, heard_still, heard_more}
 use Rattle.chess_match.proofs.Hears.{hearing_start}
-use Rattle.chess_match.proofs.Runs.{is_sound, match_of-append, IsTail, no_tail, failed_tail, moments_more, has_write_failure-append, fits-append, nothing_due, blocks-append, block_alone, taken_more, written_more, all_taken, asked_none, asked_more}
+use Rattle.chess_match.proofs.Runs.{is_sound, match_of-append, IsTail, no_tail, failed_tail, moments_more, has_write_failure-append, fits-append, nothing_due, blocks-append, block_alone, sent_more, written_more, all_sent, asked_none, asked_more}
 use Rattle.chess_match.proofs.Sane.{sane_start, sane_over, sane_opened}
 
 not_so : (b : Bool) {P : Type 0} → b ≡ false → b ≡ true → P
@@ -76,7 +76,7 @@ all_step r T e core core' played played' failed failed' n n' n'' held held' w w'
           (so_far_on S T e [] (is_on (match_of r T).phase) (is_on (after r (match_of r T) e).phase) (n S) (n' S) (n'' S) (held S) (held' S) no_tail on (stopped r (match_of r T) e) (hears S) (u.heard S));
       written = λ S. subst (λ (bs : List (List SentLine)). Written (failed' S) (w S) (w'' S) bs)
           (sym (blocks-append r S T e [] sound ∙ ap (λ (bs : List (List SentLine)). blocks r S T ++ bs) (block_alone r S (match_of r T) e sound)))
-          (written_more (failed' S) (w S) (w' S) (w'' S) (blocks r S T) (block r (match_of r T) (after r (match_of r T) e) S) (all_taken (failed S) (w S) (w' S) (blocks r S T) (u.fine on S) (u.written S)) (sent.puts S));
+          (written_more (failed' S) (w S) (w' S) (w'' S) (blocks r S T) (block r (match_of r T) (after r (match_of r T) e) S) (all_sent (failed S) (w S) (w' S) (blocks r S T) (u.fine on S) (u.written S)) (sent.puts S));
       fine = λ h. sent.fine (subst (λ (x : Match). is_on x.phase ≡ true) now h);
       failing = λ S. no_failure_yet S T (e ∷ []) (failed S) (failed' S) (u.fine on S) (u.failing S) (λ h. let no : fails_at e S || false ≡ false = ap (λ b. b || false) (sound_write S e sound) in not_so _ no h);
       moments = subst (λ (ms : List ℕ). Asked coming coming'' ms) (sym (moments_more T e [] no_tail)) (asked_more coming coming' coming'' (moments_of T) (moment_in e) u.moments asked);
@@ -84,29 +84,29 @@ all_step r T e core core' played played' failed failed' n n' n'' held held' w w'
 
 -- ---- a write that fails
 
--- nothing more was taken
-took_both : (w w' v : OutputState) (bs : List (List SentLine)) → Took w w' (bytes_of (joined_blocks bs)) → Took w' v (bytes_of []) → Took w v (bytes_of (joined_blocks bs))
+-- nothing more was written
+flushed_both : (w w' v : OutputState) (bs : List (List SentLine)) → Flushed w w' (bytes_of (joined_blocks bs)) → Flushed w' v (bytes_of []) → Flushed w v (bytes_of (joined_blocks bs))
 unfolding bytes_of
-took_both w w' v bs t n = subst (λ (text : List ℕ). Took w v text) (append-nil (bytes_of (joined_blocks bs))) (took_more w w' v (bytes_of (joined_blocks bs)) [] t n)
+flushed_both w w' v bs t n = subst (λ (text : List ℕ). Flushed w v text) (append-nil (bytes_of (joined_blocks bs))) (flushed_more w w' v (bytes_of (joined_blocks bs)) [] t n)
 
 -- the blocks of a line of d and of a failed write to c
-two_blocks : (r : Rules) (m : Match) (d c : Colour) (text : Option (List ℕ)) (k : ℕ) (first : Colour) → d ≡ first → (f : Bool) (w w' w'' : OutputState) (bs : List (List SentLine)) → Took w w' (bytes_of (joined_blocks bs))
-    → ((v : OutputState) × Took w' v (bytes_of (if same_colour c first then [] else block r m (after r m (Line d text k)) (other c))) × PutsIf f v w'' (bytes_of (block r (after r m (Line d text k)) (after r (after r m (Line d text k)) (FailsToWrite c)) (other c))))
+two_blocks : (r : Rules) (m : Match) (d c : Colour) (text : Option (List ℕ)) (k : ℕ) (first : Colour) → d ≡ first → (f : Bool) (w w' w'' : OutputState) (bs : List (List SentLine)) → Flushed w w' (bytes_of (joined_blocks bs))
+    → ((v : OutputState) × Flushed w' v (bytes_of (if same_colour c first then [] else block r m (after r m (Line d text k)) (other c))) × SendsIf f v w'' (bytes_of (block r (after r m (Line d text k)) (after r (after r m (Line d text k)) (FailsToWrite c)) (other c))))
     → Written f w w'' (bs ++ blocks_from r (other c) m (Line d text k ∷ FailsToWrite c ∷ []))
 unfolding bytes_of
-two_blocks r m White White text k White e f w w' w'' bs t (v, took, puts) = written_more f w v w'' bs _ (took_both w w' v bs t took) puts
-two_blocks r m Black Black text k Black e f w w' w'' bs t (v, took, puts) = written_more f w v w'' bs _ (took_both w w' v bs t took) puts
+two_blocks r m White White text k White e f w w' w'' bs t (v, took, puts) = written_more f w v w'' bs _ (flushed_both w w' v bs t took) puts
+two_blocks r m Black Black text k Black e f w w' w'' bs t (v, took, puts) = written_more f w v w'' bs _ (flushed_both w w' v bs t took) puts
 two_blocks r m White Black text k White e f w w' w'' bs t (v, took, puts) =
-    subst (λ (all : List (List SentLine)). Written f w w'' all) (append_assoc bs (block r m (after r m (Line White text k)) White ∷ []) (block r (after r m (Line White text k)) (after r (after r m (Line White text k)) (FailsToWrite Black)) White ∷ [])) (written_more f w v w'' (bs ++ block r m (after r m (Line White text k)) White ∷ []) _ (taken_more w w' v bs _ t took) puts)
+    subst (λ (all : List (List SentLine)). Written f w w'' all) (append_assoc bs (block r m (after r m (Line White text k)) White ∷ []) (block r (after r m (Line White text k)) (after r (after r m (Line White text k)) (FailsToWrite Black)) White ∷ [])) (written_more f w v w'' (bs ++ block r m (after r m (Line White text k)) White ∷ []) _ (sent_more w w' v bs _ t took) puts)
 two_blocks r m Black White text k Black e f w w' w'' bs t (v, took, puts) =
-    subst (λ (all : List (List SentLine)). Written f w w'' all) (append_assoc bs (block r m (after r m (Line Black text k)) Black ∷ []) (block r (after r m (Line Black text k)) (after r (after r m (Line Black text k)) (FailsToWrite White)) Black ∷ [])) (written_more f w v w'' (bs ++ block r m (after r m (Line Black text k)) Black ∷ []) _ (taken_more w w' v bs _ t took) puts)
+    subst (λ (all : List (List SentLine)). Written f w w'' all) (append_assoc bs (block r m (after r m (Line Black text k)) Black ∷ []) (block r (after r m (Line Black text k)) (after r (after r m (Line Black text k)) (FailsToWrite White)) Black ∷ [])) (written_more f w v w'' (bs ++ block r m (after r m (Line Black text k)) Black ∷ []) _ (sent_more w w' v bs _ t took) puts)
 two_blocks r m White White text k Black e f w w' w'' bs t p = absurd cc
 two_blocks r m White Black text k Black e f w w' w'' bs t p = absurd cc
 two_blocks r m Black White text k White e f w w' w'' bs t p = absurd cc
 two_blocks r m Black Black text k White e f w w' w'' bs t p = absurd cc
 
 -- the block that broke off is the last
-broken_block : (r : Rules) (m : Match) (d c : Colour) (text : Option (List ℕ)) (k : ℕ) (f : Bool) (w w' w'' : OutputState) (bs : List (List SentLine)) → f ≡ true → Took w w' (bytes_of (joined_blocks bs))
+broken_block : (r : Rules) (m : Match) (d c : Colour) (text : Option (List ℕ)) (k : ℕ) (f : Bool) (w w' w'' : OutputState) (bs : List (List SentLine)) → f ≡ true → Flushed w w' (bytes_of (joined_blocks bs))
     → BreaksOff w' w'' (bytes_of (block r m (after r m (Line d text k)) c)) → Written f w w'' (bs ++ blocks_from r c m (Line d text k ∷ FailsToWrite c ∷ []))
 broken_block r m White White text k true w w' w'' bs e t b = written_more true w w' w'' bs _ t b
 broken_block r m White Black text k true w w' w'' bs e t b = written_more true w w' w'' bs _ t b
@@ -153,8 +153,8 @@ failed_step r T d text k core core' played played' failed failed' n n' n'' held 
           (so_far_on S T e U (is_on m.phase) false (n S) (n' S) (n'' S) (held S) (held' S) (failed_tail c) on (λ h. refl) (hears S) (u.heard S));
       written = λ S. subst (λ (bs : List (List SentLine)). Written (failed' S) (w S) (w'' S) bs) (sym (blocks-append r S T e U refl))
           (by_either (λ X. Written (failed' X) (w X) (w'' X) (blocks r X T ++ blocks_from r X m (e ∷ U))) c
-          (broken_block r m d c text k (failed' c) (w c) (w' c) (w'' c) (blocks r c T) sent.fails (all_taken (failed c) (w c) (w' c) (blocks r c T) (u.fine on c) (u.written c)) sent.broke)
-          (two_blocks r m d c text k d refl (failed' (other c)) (w (other c)) (w' (other c)) (w'' (other c)) (blocks r (other c) T) (all_taken (failed (other c)) (w (other c)) (w' (other c)) (blocks r (other c) T) (u.fine on (other c)) (u.written (other c))) sent.others)
+          (broken_block r m d c text k (failed' c) (w c) (w' c) (w'' c) (blocks r c T) sent.fails (all_sent (failed c) (w c) (w' c) (blocks r c T) (u.fine on c) (u.written c)) sent.broke)
+          (two_blocks r m d c text k d refl (failed' (other c)) (w (other c)) (w' (other c)) (w'' (other c)) (blocks r (other c) T) (all_sent (failed (other c)) (w (other c)) (w' (other c)) (blocks r (other c) T) (u.fine on (other c)) (u.written (other c))) sent.others)
           S);
       fine = λ h. let no : false ≡ true = subst (λ (x : Match). is_on x.phase ≡ true) now h in absurd cc;
       failing = λ S. no_failure_yet S T (e ∷ U) (failed S) (failed' S) (u.fine on S) (u.failing S) (own_fails c failed' sent.fails S);
@@ -167,7 +167,7 @@ all_by : (r : Rules) (core : Core) (played : List Move) (m : Match) (due due' : 
     → AllSent r core played m due w w' failed → AllSent r core played m due' w w' failed
 all_by r core played m due due' w w' failed e s = record {
   stands = s.stands;
-  puts = λ S. subst (λ (b : List SentLine). PutsIf (failed S) (w S) (w' S) (bytes_of b)) (e S) (s.puts S);
+  puts = λ S. subst (λ (b : List SentLine). SendsIf (failed S) (w S) (w' S) (bytes_of b)) (e S) (s.puts S);
   fine = s.fine;
 }
 
@@ -179,7 +179,7 @@ one_by r core played m due due' first w w' failed c e s = record {
   stands = s.stands;
   fails = s.fails;
   broke = subst (λ (b : List SentLine). BreaksOff (w c) (w' c) (bytes_of b)) (e c) s.broke;
-  others = (s.others.0, subst (λ (b : List SentLine). Took (w (other c)) s.others.0 (bytes_of (if same_colour c first then [] else b))) (e (other c)) s.others.1, s.others.2);
+  others = (s.others.0, subst (λ (b : List SentLine). Flushed (w (other c)) s.others.0 (bytes_of (if same_colour c first then [] else b))) (e (other c)) s.others.1, s.others.2);
 }
 
 pub delivered_by : (r : Rules) (core : Core) (played : List Move) (m : Match) (due due' : Colour → List SentLine) (first : Colour) (w w' : Colour → OutputState) (failed : Colour → Bool) → ((S : Colour) → due S ≡ due' S)
@@ -194,9 +194,9 @@ just_heard S T on r h none l e f =
     let s : IsHearing S T r r nothing_held [] = record { hearing = subst (λ (ts : List (Option (List ℕ))). Hearing r r nothing_held [] ts) (sym l) (hearing_start r); unended = e; unfailed = f } in
     subst (λ (x : Held). HeardSoFar S T on r r x) (sym none) ([], heard_still S T r r nothing_held [] s, λ o. s)
 
-first_block : (f : Bool) (w w' : OutputState) (b : List SentLine) → PutsIf f w w' (bytes_of b) → Written f w w' (b ∷ [])
+first_block : (f : Bool) (w w' : OutputState) (b : List SentLine) → SendsIf f w w' (bytes_of b) → Written f w w' (b ∷ [])
 unfolding bytes_of
-first_block f w w' b p = written_more f w w w' [] b (took_none w) p
+first_block f w w' b p = written_more f w w w' [] b (flushed_none w) p
 
 all_started : (r : Rules) (core : Core) (played : List Move) (failed : Colour → Bool) (n : Colour → InputState) (held : Colour → Held) (w w' : Colour → OutputState) (coming : ℕ → Option ℕ) → ((S : Colour) → held S ≡ nothing_held)
     → AllSent r core played start (λ S. entry r start S) w w' failed → IsUnderWay r [] core played failed n n held w w' coming coming
@@ -215,7 +215,7 @@ broken_start : (f : Bool) (w w' : OutputState) (b : List SentLine) → f ≡ tru
 broken_start true w w' b e p = first_block true w w' b p
 broken_start false w w' b e p = absurd cc
 
-other_start : (r : Rules) (f : Bool) (w w' : OutputState) (b : List SentLine) → ((v : OutputState) × Took w v (bytes_of []) × PutsIf f v w' (bytes_of b)) → Written f w w' ([] ∷ b ∷ [])
+other_start : (r : Rules) (f : Bool) (w w' : OutputState) (b : List SentLine) → ((v : OutputState) × Flushed w v (bytes_of []) × SendsIf f v w' (bytes_of b)) → Written f w w' ([] ∷ b ∷ [])
 other_start r f w w' b (v, t, p) = written_more f w v w' ([] ∷ []) b t p
 
 one_started : (r : Rules) (core : Core) (played : List Move) (failed : Colour → Bool) (n : Colour → InputState) (held : Colour → Held) (w w' : Colour → OutputState) (coming : ℕ → Option ℕ) (c : Colour) → ((S : Colour) → held S ≡ nothing_held)
@@ -272,10 +272,10 @@ event_step r T (FailsToWrite c) d core core' played played' failed failed' n n' 
 
 -- ---- the moment at the end of an opening
 
-nothing_put : (f : Bool) (o : OutputState) (b : List SentLine) → f ≡ false → [] ≡ b → PutsIf f o o (bytes_of b)
+nothing_put : (f : Bool) (o : OutputState) (b : List SentLine) → f ≡ false → [] ≡ b → SendsIf f o o (bytes_of b)
 unfolding bytes_of
 nothing_put true o b e n = absurd cc
-nothing_put false o b e n = subst (λ (ls : List SentLine). Took o o (bytes_of ls)) n (took_none o)
+nothing_put false o b e n = subst (λ (ls : List SentLine). Flushed o o (bytes_of ls)) n (flushed_none o)
 
 pub opens_on : (p : Phase) (S : Colour) → opens p S ≡ true → is_on p ≡ true
 opens_on (Opening c) S h = refl

@@ -5,16 +5,16 @@ use Rattle.std.specs.Io.KnownBytes.{Consumes}
 use Rattle.chess_base.specs.declared.man.Colour.{Colour}
 use Rattle.chess_base.specs.declared.man.Colour.TheVariants.{White, Black}
 use Rattle.chess_base.specs.declared.man.Move.{Move}
-use Rattle.chess_base.specs.Devices.{InputState, OutputState, Took, BreaksOff}
+use Rattle.chess_base.specs.Devices.{InputState, OutputState, BreaksOff}
 use Rattle.chess_base.specs.Men.{other, same_colour}
 use Rattle.chess_cecp.specs.Lines.{LineSeen, Held}
 use Rattle.chess_cecp.specs.Next.{GotLine, GotLast, GotNone, GotFault}
 use Rattle.chess_match.specs.Match.{Match, Event, Line, Opened, OutputEnds, FailsToRead, FailsToWrite, after}
 use Rattle.chess_match.specs.Rules.{Rules}
-use Rattle.chess_match.specs.Run.{text_heard}
+use Rattle.chess_match.specs.Run.{text_heard, Flushed}
 use Rattle.chess_match.specs.Sent.{SentLine, block, bytes_of}
 use Rattle.chess_match.specs.Stands.{Stands}
-use Rattle.chess_match.specs.Told.{PutsIf}
+use Rattle.chess_match.specs.Told.{SendsIf}
 use Rattle.chess_match.specs.Transcript.{is_on}
 use Rattle.chess_match.specs.declared.state.Core.{Core}
 
@@ -66,7 +66,7 @@ HearsAt S e r r' held held' =
 -- no write failed before the end: each engine was sent what is due to it, and at the end a beginning where a write failed
 pub record AllSent (r : Rules) (core : Core) (played : List Move) (m : Match) (due : Colour → List SentLine) (w w' : Colour → OutputState) (failed : Colour → Bool) : Type 0 where
   pub stands : Stands r core played m
-  pub puts : (S : Colour) → PutsIf (failed S) (w S) (w' S) (bytes_of (due S))
+  pub puts : (S : Colour) → SendsIf (failed S) (w S) (w' S) (bytes_of (due S))
   pub fine : is_on m.phase ≡ true → (S : Colour) → failed S ≡ false
 
 -- a write to c failed, which ended the match. The other engine was sent what is due to it, unless it comes after, and its end
@@ -77,8 +77,8 @@ pub record OneFailed (r : Rules) (core : Core) (played : List Move) (m : Match) 
   pub stands : Stands r core played (after r m (FailsToWrite c))
   pub fails : failed c ≡ true
   pub broke : BreaksOff (w c) (w' c) (bytes_of (due c))
-  pub others : (v : OutputState) × Took (w (other c)) v (bytes_of (if same_colour c first then [] else due (other c)))
-      × PutsIf (failed (other c)) v (w' (other c)) (bytes_of (block r m (after r m (FailsToWrite c)) (other c)))
+  pub others : (v : OutputState) × Flushed (w (other c)) v (bytes_of (if same_colour c first then [] else due (other c)))
+      × SendsIf (failed (other c)) v (w' (other c)) (bytes_of (block r m (after r m (FailsToWrite c)) (other c)))
 
 abbrev pub Delivered : Rules → Core → List Move → Match → (Colour → List SentLine) → Colour → (Colour → OutputState) → (Colour → OutputState) → (Colour → Bool) → Type 0
 Delivered r core played m due first w w' failed =

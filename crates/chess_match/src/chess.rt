@@ -137,9 +137,7 @@ impl<B: Board> Played for Game<B> {
     #[tactic(auto, unfolding(crate::specs::Rules::rules_of))]
     fn play(&mut self, chosen: Move) {
         read_moves_are_legal();
-        if Game::play(self, chosen).is_err() {
-            unreachable!();
-        }
+        self.play_legal(chosen);
     }
 
     #[tactic(auto, unfolding(crate::specs::Rules::rules_of, crate::specs::Sent::bytes_of))]

@@ -25,7 +25,7 @@ pub use engine_line::{EngineLine, read_engine_line};
 pub use level::Level;
 pub use moments::Moments;
 pub use phase::Phase;
-pub use reason::{DrawClaim, HowEnded, MatchFault, Reason};
+pub use reason::{DrawClaim, MatchFault, Reason};
 pub use run::{Ends, MatchEnd, Setup, run_match};
 
 #[cfg(test)]

@@ -2,12 +2,13 @@
 
 use crate::level::Level;
 use crate::moments::Moments;
-use crate::reason::{HowEnded, MatchFault};
+use crate::reason::MatchFault;
 use crate::run::{Ends, MatchEnd, Setup, run_match};
 use chess_base::device::{Counted, PieceReader, PieceWriter};
 use chess_base::{Colour, Position, Variant, read_fen_as};
 use chess_game::{Game, Outcome};
 use chess_moves::Plain;
+use chess_pgn::HowEnded;
 use std::alloc::Global;
 use std::process::Abort;
 use std::test::Fail;

@@ -5,6 +5,7 @@ ghost use Rattle.chess_match.specs.Reasons.{win_of, outcome_of, comment_of, clai
 
 use chess_base::Colour;
 use chess_game::{Outcome, Verdict};
+use chess_pgn::HowEnded;
 
 /// What stopped a match.
 #[derive(Clone, Copy, Debug, PartialEq, Eq)]
@@ -34,14 +35,6 @@ pub enum DrawClaim {
     Threefold,
     /// At least 50 moves of each side without a pawn move or a capture (article 9.3).
     FiftyMoves,
-}
-
-/// How a game ended, as the PGN tag `Termination` tells it.
-#[derive(Clone, Copy, Debug, PartialEq, Eq)]
-pub enum HowEnded {
-    Normal,
-    TimeForfeit,
-    RulesInfraction,
 }
 
 /// Why a match is over, with the side of which it is said.

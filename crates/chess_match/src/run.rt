@@ -17,7 +17,7 @@ ghost use Rattle.chess_match.specs.Seen.{seen};
 ghost use Rattle.chess_match.specs.Sent.{block, bytes_of};
 ghost use Rattle.chess_match.specs.Stands.{Stands, Goes, given_block, items_in};
 ghost use Rattle.chess_match.specs.Steps.{IsSane};
-ghost use Rattle.chess_match.specs.Told.{PutsIf, IsTold};
+ghost use Rattle.chess_match.specs.Told.{SendsIf, IsTold};
 ghost use Rattle.chess_match.specs.Transcript.{is_on, reads, moment_in};
 
 use crate::engine_line::{EngineLine, read_engine_line};
@@ -25,7 +25,7 @@ use crate::level::Level;
 use crate::moments::Moments;
 use crate::phase::Phase;
 use crate::played::Played;
-use crate::reason::{HowEnded, MatchFault, Reason, first_fault};
+use crate::reason::{MatchFault, Reason, first_fault};
 use crate::sending::send;
 use crate::state::{Core, ENTRY, Given};
 use chess_base::device::{Input, Output, ReadFault};
@@ -33,7 +33,7 @@ use chess_base::{Colour, Position};
 use chess_cecp::{Line, Lines};
 use chess_game::{Comment, Game, Outcome};
 use chess_moves::Board;
-use chess_pgn::TagText;
+use chess_pgn::{HowEnded, TagText};
 
 /// The two ends of an engine: what reads its output, and what writes its input.
 #[derive(Drop)]
@@ -185,8 +185,8 @@ fn send_both<W: Output, G: Played, S: Board>(
 ) -> Failed
     requires { is_some core.now.untold ≡ true → 0 < length (G.played game.now) }
     ensures { (r : Rules) (m : Match) → G.plays game.now r → Stands r core.now (G.played game.now) m
-        → PutsIf result.white (W.seen white.old) (W.seen white.new) (bytes_of (given_block r given (items_of text.now) m Colour.White))
-        × PutsIf result.black (W.seen black.old) (W.seen black.new) (bytes_of (given_block r given (items_of text.now) m Colour.Black)) }
+        → SendsIf result.white (W.seen white.old) (W.seen white.new) (bytes_of (given_block r given (items_of text.now) m Colour.White))
+        × SendsIf result.black (W.seen black.old) (W.seen black.new) (bytes_of (given_block r given (items_of text.now) m Colour.Black)) }
 {
     let white_failed = send(white, core, game, scratch, given, text, Colour::White).is_err();
     let black_failed = send(black, core, game, scratch, given, text, Colour::Black).is_err();
@@ -208,7 +208,7 @@ fn end_for_other<W: Output, G: Played, S: Board>(
     requires on { is_on core.old.phase ≡ true }
     ensures { (r : Rules) (m : Match) → G.plays game.now r → Stands r core.old (G.played game.now) m
         → Stands r core.new (G.played game.now) (after r m (FailsToWrite side))
-        × PutsIf result (W.seen others.old) (W.seen others.new) (bytes_of (block r m (after r m (FailsToWrite side)) (other side))) }
+        × SendsIf result (W.seen others.old) (W.seen others.new) (bytes_of (block r m (after r m (FailsToWrite side)) (other side))) }
 {
     let given = core.write_fails(side);
     send(others, core, game, scratch, given, b"", side.other()).is_err()

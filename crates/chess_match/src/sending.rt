@@ -1,8 +1,10 @@
 //! Sending blocks.
 
-ghost use Rattle.std.specs.Prelude.{◌≡◌, ◌≢◌, ◌+◌, false, Ok, IfOk, ◌≤◌, ◌<◌, ◌++◌, ◌∷◌, [], length, IsErr, List, is_some, true, if◌then◌else◌};
+ghost use Rattle.std.specs.Prelude.{◌≡◌, ◌≢◌, ◌+◌, false, Ok, IfOk, ◌≤◌, ◌<◌, ◌++◌, ◌∷◌, [], length, IsErr, List, is_some, true, nat_lt, if◌then◌else◌};
 ghost use Rattle.arrayvec.specs.ArrayVec.{array_vec_len};
-ghost use Rattle.chess_base.specs.Devices.{Puts};
+ghost use Rattle.chess_base.specs.Devices.{Puts, Sends};
+ghost use Rattle.std.specs.Result.{is_err};
+ghost use Rattle.chess_match.specs.Told.{SendsIf};
 ghost use Rattle.chess_match.specs.Items.{items_of};
 ghost use Rattle.chess_match.specs.Match.{Match};
 ghost use Rattle.chess_match.specs.Rules.{Rules};
@@ -272,7 +274,7 @@ fn put_answer<W: Output>(writer: &mut W, name: &[u8]) -> Result<(), WriteFault>
 fn put_answers<W: Output>(writer: &mut W, text: &[u8]) -> Result<bool, WriteFault>
     ensures puts { Puts (W.seen writer.old) (W.seen writer.new) result (bytes_of (answers_to (items_of text.now))) }
     ensures due { IsErr result → 0 < length (answers_to (items_of text.now)) }
-    ensures some { IfOk result (λ some. some ≡ true → 0 < length (answers_to (items_of text.now))) }
+    ensures some { IfOk result (λ some. some ≡ nat_lt 0 (length (answers_to (items_of text.now)))) }
 {
     let mut rest = text;
     let mut some = false;
@@ -300,7 +302,7 @@ fn put_own_answers<W: Output>(
 ) -> Result<bool, WriteFault>
     ensures puts { Puts (W.seen writer.old) (W.seen writer.new) result (bytes_of (to given.answers side (answers_to (items_of text.now)))) }
     ensures due { IsErr result → 0 < length (to given.answers side (answers_to (items_of text.now))) }
-    ensures some { IfOk result (λ some. some ≡ true → 0 < length (to given.answers side (answers_to (items_of text.now)))) }
+    ensures some { IfOk result (λ some. some ≡ nat_lt 0 (length (to given.answers side (answers_to (items_of text.now))))) }
 {
     match given.answers {
         None => Ok(false),
@@ -350,27 +352,19 @@ fn add_entered<G: Played, S: Board>(
     }
 }
 
-// Whether there is nothing to write, and nothing was written before.
+// Whether nothing is to be sent: no text, and nothing was written before it.
 fn is_nothing(text: &[u8], is_due: bool) -> bool
     ensures some { result ≡ false → is_due ≡ false → text.now ≢ [] }
-    ensures none { result ≡ true → text.now ≡ [] }
+    ensures none { result ≡ true → (is_due ≡ false) × (text.now ≡ []) }
 {
     text.is_empty() && !is_due
 }
 
-// Writes a text and flushes, unless there is nothing and nothing was written before.
-#[tactic(auto, using(chess_base::proofs::DeviceLaws::flush_on))]
-fn put_and_flush<W: Output>(writer: &mut W, text: &[u8], is_due: bool) -> Result<(), WriteFault>
-    ensures puts { Puts (W.seen writer.old) (W.seen writer.new) result text.now }
-    ensures due { is_due ≡ false → text.now ≡ [] → result ≡ Ok tt }
+// Writes a text, and flushes.
+fn put_and_flush<W: Output>(writer: &mut W, text: &[u8]) -> Result<(), WriteFault>
+    ensures { Sends (W.seen writer.old) (W.seen writer.new) result text.now }
 {
-    if is_nothing(text, is_due) {
-        return Ok(());
-    }
-    match put(writer, text) {
-        Ok(()) => {}
-        Err(fault) => return Err(fault),
-    }
+    put(writer, text)?;
     writer.flush()
 }
 
@@ -386,7 +380,7 @@ pub(crate) fn send<W: Output, G: Played, S: Board>(
     side: Colour,
 ) -> Result<(), WriteFault>
     requires { is_some core.now.untold ≡ true → 0 < length (G.played game.now) }
-    ensures puts { (r : Rules) (m : Match) → G.plays game.now r → Stands r core.now (G.played game.now) m → Puts (W.seen writer.old) (W.seen writer.new) result (bytes_of (given_block r given (items_of text.now) m side)) }
+    ensures sends { (r : Rules) (m : Match) → G.plays game.now r → Stands r core.now (G.played game.now) m → SendsIf (is_err result) (W.seen writer.old) (W.seen writer.new) (bytes_of (given_block r given (items_of text.now) m side)) }
     ensures due { (r : Rules) (m : Match) → G.plays game.now r → Stands r core.now (G.played game.now) m → IsErr result → 0 < length (given_block r given (items_of text.now) m side) }
 {
     let answered = match put_own_answers(writer, given, text, side) {
@@ -396,5 +390,9 @@ pub(crate) fn send<W: Output, G: Played, S: Board>(
     let mut block = Block::new();
     add_offer(&mut block, given, side);
     add_entered(&mut block, core, game, scratch, given, side);
-    put_and_flush(writer, block.as_slice(), answered)
+    let behind = block.as_slice();
+    if is_nothing(behind, answered) {
+        return Ok(());
+    }
+    put_and_flush(writer, behind)
 }

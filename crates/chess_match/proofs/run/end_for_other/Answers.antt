@@ -6,7 +6,7 @@ use Rattle.chess_match.specs.Items.{Item, items_of}
 use Rattle.chess_match.specs.Match.{Match, FailsToWrite, after}
 use Rattle.chess_match.specs.Sent.{bytes_of}
 use Rattle.chess_match.specs.Stands.{given_block}
-use Rattle.chess_match.proofs.Delivers.{last_told, on_too, no_items, puts_if}
+use Rattle.chess_match.proofs.Delivers.{last_told, on_too, no_items, sends_if}
 use Rattle.chess_match.proofs.run.end_for_other.Goals as goal
 
 pub send-requires : goal.send-requires
@@ -20,9 +20,9 @@ returns g c r m p s =
     let goes = c.write_fails-given.ensures r _ m (on_too r _ _ m s c.requires.on) s in
     let m' : Match = after r m (FailsToWrite c.args.side) in (
       goes.stands,
-      puts_if _ _ c.send.result c.is_err.result _ _ c.is_err.ensures.value
+      sends_if _ _ _ c.is_err.result _ _ c.is_err.ensures.value
           (ap (λ (S : Colour). bytes_of (given_block r c.write_fails-given.result (items_of []) m' S)) c.other.ensures
           ∙ ap (λ (is : List Item). bytes_of (given_block r c.write_fails-given.result is m' (other c.args.side))) no_items
           ∙ ap bytes_of (goes.gives (other c.args.side)))
-          (c.send.ensures.puts r m' p goes.stands),
+          (c.send.ensures.sends r m' p goes.stands),
     )
