@@ -367,7 +367,7 @@ fn reads_that_fail_in_turn(rt: HostRuntime) -> Result<(), Fail> {
         if played.end.fault.is_none() {
             break;
         }
-        failures += 1;
+        failures = call;
         is_end(
             &rt,
             &played,
@@ -420,7 +420,7 @@ fn writes_that_fail_in_turn(rt: HostRuntime) -> Result<(), Fail> {
         if played.end.fault.is_none() {
             break;
         }
-        failures += 1;
+        failures = call;
         assert_eq!(rt; played.end.fault, Some((Colour::White, MatchFault::Write)));
         assert!(rt; is_beginning(played.to_white.as_slice(), whole.to_white.as_slice()));
     }
@@ -470,11 +470,19 @@ fn writes_that_fail_at_one_event(rt: HostRuntime) -> Result<(), Fail> {
     Ok(())
 }
 
-/// Takes all bytes, and tells the number of its last call among those of both engines' writers.
+/// The calls of both engines' writers: how many, and the number of each one's last.
+#[derive(Drop)]
+struct Calls {
+    count: Cell<u64>,
+    white: Cell<u64>,
+    black: Cell<u64>,
+}
+
+/// Takes all bytes, and numbers its calls among those of both engines' writers.
 #[derive(Drop)]
 struct Numbered<'a> {
-    calls: &'a Cell<u64>,
-    last: &'a Cell<u64>,
+    calls: &'a Calls,
+    side: Colour,
 }
 
 impl Write for Numbered<'_> {
@@ -483,8 +491,12 @@ impl Write for Numbered<'_> {
     ghost contents = { λ w. None };
 
     fn write(&mut self, buf: &[u8]) -> std::io::Result<usize> {
-        self.calls.set(self.calls.get().saturating_add(1));
-        self.last.set(self.calls.get());
+        let number = self.calls.count.get().saturating_add(1);
+        self.calls.count.set(number);
+        match self.side {
+            Colour::White => self.calls.white.set(number),
+            Colour::Black => self.calls.black.set(number),
+        }
         Ok(buf.len())
     }
 
@@ -495,9 +507,11 @@ impl Write for Numbered<'_> {
 
 #[test]
 fn end_lines_to_white_first(rt: HostRuntime) -> Result<(), Fail> {
-    let calls = Cell::new(0);
-    let white_last = Cell::new(0);
-    let black_last = Cell::new(0);
+    let calls = Calls {
+        count: Cell::new(0),
+        white: Cell::new(0),
+        black: Cell::new(0),
+    };
     let level = match Level::read(b"0 0:10 0") {
         Some(level) => level,
         None => panic!(rt; "level"),
@@ -512,14 +526,14 @@ fn end_lines_to_white_first(rt: HostRuntime) -> Result<(), Fail> {
         reader: Counted::reading(PieceReader::new(WHITE, 1024, 0)),
         writer: Counted::writing(Numbered {
             calls: &calls,
-            last: &white_last,
+            side: Colour::White,
         }),
     };
     let mut black = Ends {
         reader: Counted::reading(PieceReader::new(BLACK, 1024, 0)),
         writer: Counted::writing(Numbered {
             calls: &calls,
-            last: &black_last,
+            side: Colour::Black,
         }),
     };
     let mut moments = Listed { rest: &[] };
@@ -532,7 +546,7 @@ fn end_lines_to_white_first(rt: HostRuntime) -> Result<(), Fail> {
         &mut scratch,
     );
     assert_eq!(rt; end.outcome, Outcome::BlackWins);
-    assert_eq!(rt; white_last.get() + 1, black_last.get());
+    assert_eq!(rt; calls.white.get().saturating_add(1), calls.black.get());
     Ok(())
 }
 
