@@ -70,24 +70,24 @@ fn split_word(text: &[u8]) -> (&[u8], &[u8])
     (&text[..end], &text[from..])
 }
 
-// The first word.
-pub(crate) fn first_word(text: &[u8]) -> &[u8]
+/// The first word of a text; empty where a blank is at its front.
+pub fn first_word(text: &[u8]) -> &[u8]
     ensures { result.now ≡ word_of text.now }
 {
     split_word(text).0
 }
 
-// What follows the first word.
-pub(crate) fn argument(text: &[u8]) -> &[u8]
+/// What follows the first word and the blanks behind it.
+pub fn argument(text: &[u8]) -> &[u8]
     ensures value { result.now ≡ argument_of text.now }
     ensures short { length result.now ≤ length text.now }
 {
     split_word(text).1
 }
 
-// The number that one to nine digits write.
+/// The number that a text of one to nine digits writes.
 #[tactic(auto, unfolding(crate::specs::Commands::number_of))]
-fn read_number(text: &[u8]) -> Option<u32>
+pub fn read_number(text: &[u8]) -> Option<u32>
     ensures { result ≡ number_of text.now }
 {
     if text.is_empty() || text.len() > 9 {

@@ -3,7 +3,8 @@
 ghost use Rattle.std.specs.Prelude.{◌≡◌, ◌≤◌, ◌||◌, ◌==◌, length};
 ghost use Rattle.chess_cecp.specs.Lines.{is_blank, without_return, without_front_blanks, without_end_blanks, trimmed};
 
-pub(crate) fn is_blank(byte: u8) -> bool
+/// Whether a byte parts words in a line: a space or a tab.
+pub fn is_blank(byte: u8) -> bool
     ensures { result ≡ is_blank byte }
 {
     byte == b' ' || byte == b'\t'
@@ -19,7 +20,8 @@ fn cut_return(text: &[u8]) -> &[u8]
     }
 }
 
-fn cut_front(text: &[u8]) -> &[u8]
+/// A text without the blanks at its front.
+pub fn trim_start(text: &[u8]) -> &[u8]
     ensures { result.now ≡ without_front_blanks text.now }
 {
     let mut from = 0;
@@ -45,5 +47,5 @@ pub fn trim(piece: &[u8]) -> &[u8]
     ensures text { result.now ≡ trimmed piece.now }
     ensures short { length result.now ≤ length piece.now }
 {
-    cut_end(cut_front(cut_return(piece)))
+    cut_end(trim_start(cut_return(piece)))
 }

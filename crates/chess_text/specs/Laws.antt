@@ -53,6 +53,10 @@ SanHasBytes = (p : Setup) → (m : Move) → IsSound p → IsTrue (is_legal p m)
 abbrev pub SanBeginsWithLetter : Type 0
 SanBeginsWithLetter = (p : Setup) → (m : Move) → IsSound p → IsTrue (is_legal p m) → IsTrue (begins_with_letter (san p m))
 
+-- a text is read as a legal move, if as any
+abbrev pub ReadMovesAreLegal : Type 0
+ReadMovesAreLegal = (p : Setup) → (text : List ℕ) → (m : Move) → reading p text ≡ reads.Move m → IsTrue (is_legal p m)
+
 -- the same of coordinates
 abbrev pub CoordinateSpellsItsMove : Type 0
 CoordinateSpellsItsMove = (p : Setup) → (m : Move) → IsSound p → IsTrue (is_legal p m) → SpellsAlone p (coordinate m) m

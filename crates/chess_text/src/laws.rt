@@ -1,6 +1,6 @@
 //! Laws of the texts. A caller learns one by calling its function, which does nothing.
 
-ghost use Rattle.chess_text.specs.Laws.{SanSpellsItsMove, SanHasShape, SanIsReadBack, SanIsShort, SanHasBytes, SanBeginsWithLetter, CoordinateSpellsItsMove, CoordinateHasShape, CoordinateIsReadBack, PartsAreTheTexts, PartsAreRead, SpelledByText, ShapedByText};
+ghost use Rattle.chess_text.specs.Laws.{SanSpellsItsMove, SanHasShape, SanIsReadBack, SanIsShort, SanHasBytes, SanBeginsWithLetter, ReadMovesAreLegal, CoordinateSpellsItsMove, CoordinateHasShape, CoordinateIsReadBack, PartsAreTheTexts, PartsAreRead, SpelledByText, ShapedByText};
 ghost use Rattle.std.specs.Prelude.{◌≡◌};
 ghost use Rattle.chess_base.specs.declared.man.Variant.TheVariants.{Normal};
 ghost use Rattle.chess_base.specs.declared.setup.Setup.{Setup};
@@ -19,6 +19,11 @@ pub fn san_is_a_word()
     ensures short { SanIsShort }
     ensures bytes { SanHasBytes }
     ensures letter { SanBeginsWithLetter }
+{}
+
+/// The move that a text is read as is legal.
+pub fn read_moves_are_legal()
+    ensures { ReadMovesAreLegal }
 {}
 
 /// The coordinate text of a legal move of a sound position spells it and no other legal move, and is read as it.

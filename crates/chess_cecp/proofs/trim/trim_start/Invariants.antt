@@ -1,6 +1,6 @@
 use Rattle.std.proofs.Common.{length, drop, ◌-◌, ◌≡◌, ◌≤◌}
 use Rattle.chess_cecp.specs.Lines.{without_front_blanks}
-use Rattle.chess_cecp.proofs.trim.cut_front.Given as goal
+use Rattle.chess_cecp.proofs.trim.trim_start.Given as goal
 
 abbrev pub invariant-loop-from : goal.invariant-loop-from
 invariant-loop-from l = record {

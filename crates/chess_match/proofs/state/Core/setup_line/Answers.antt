@@ -1,0 +1,19 @@
+use Rattle.std.proofs.Common.{◌≡◌, true, false, sym}
+use Rattle.chess_match.specs.Match.{is_pong, setup_line}
+use Rattle.chess_match.specs.Seen.{seen}
+use Rattle.chess_match.specs.Transcript.{reads}
+use Rattle.chess_match.proofs.Going.{same_colour-self}
+use Rattle.chess_match.proofs.state.Core.setup_line.Goals as goal
+
+pub returns-then-is_pong : goal.returns-then-is_pong
+unfolding setup_line
+returns-then-is_pong g c r m p at s =
+    let pong : is_pong 1 (seen c.args.line) ≡ true = sym c.if-is_pong.ensures in
+    rw pong (c.ready.ensures r m p at s)
+
+pub returns : goal.returns
+unfolding setup_line
+returns g c r m p at s =
+    let pong : is_pong 1 (seen c.args.line) ≡ false = sym c.if-is_pong.ensures in
+    let waits : reads m.phase c.args.side ≡ true = rw at (same_colour-self c.args.side) in
+    rw pong (c.ignore.ensures r _ m waits s)

@@ -1,0 +1,239 @@
+-- The match after each event: one small table for each phase.
+use Rattle.std.specs.Prelude.{ℕ, ◌+◌, ◌-◌, ◌==◌, ◌&&◌, nat_lt, nat_le, Bool, true, false, not, if◌then◌else◌, List, [], ◌∷◌, ◌++◌, length, codes, sum, Option, None, Some, is_some}
+use Rattle.chess_base.specs.declared.man.Colour.{Colour}
+use Rattle.chess_base.specs.declared.man.Colour.TheVariants.{White, Black}
+use Rattle.chess_base.specs.declared.man.Move.{Move}
+use Rattle.chess_base.specs.Men.{other, same_colour}
+use Rattle.chess_game.specs.declared.ends.Verdict.{Verdict}
+use Rattle.chess_match.specs.EngineLines.{LineKind, Features, Moves, Resigns, OffersDraw, ClaimsDraw, ClaimsWin, Rejects, Answers, kind_heard}
+use Rattle.chess_match.specs.Items.{Item, items_of, has_done, takes, plays_fischerandom}
+use Rattle.chess_match.specs.Levels.{left}
+use Rattle.chess_match.specs.Rules.{Rules}
+use Rattle.chess_match.specs.declared.phase.Phase.{Phase}
+use Rattle.chess_match.specs.declared.phase.Phase.TheVariants.{Hello, Setup, Opening, Before, After, Over}
+use Rattle.chess_match.specs.declared.reason.DrawClaim.{DrawClaim}
+use Rattle.chess_match.specs.declared.reason.MatchFault.{MatchFault}
+use Rattle.chess_match.specs.declared.reason.MatchFault.TheVariants.{Ended, Read, Write, NoDone, NoPing, NoSetboard, Flood, NoVariant}
+use Rattle.chess_match.specs.declared.reason.Reason.{Reason}
+use Rattle.chess_match.specs.declared.reason.Reason.TheVariants as over_by
+use Rattle.chess_base.specs.declared.man.Variant.{Variant}
+use Rattle.chess_base.specs.declared.man.Variant.TheVariants.{Normal, Fischerandom}
+
+-- what happens at the devices. A line that was too long has no text
+pub data Event : Type 0 where
+  -- that side's engine sent a line; the moment was asked for after it
+  Line : (side : Colour) → (text : Option (List ℕ)) → (moment : ℕ) → Event
+  -- the opening of that side's turn was sent; the moment at its end
+  Opened : (side : Colour) → (moment : ℕ) → Event
+  -- that side's engine ended its output
+  OutputEnds : (side : Colour) → Event
+  FailsToRead : (side : Colour) → Event
+  FailsToWrite : (side : Colour) → Event
+
+-- what is known of one engine
+pub record Seat : Type 0 where
+  -- the items that were read in its hello
+  pub items : List Item
+  -- the milliseconds that each of its moves used
+  pub used : List ℕ
+  -- its offer of a draw stands
+  pub offers : Bool
+
+pub record Match : Type 0 where
+  pub phase : Phase
+  pub white : Seat
+  pub black : Seat
+  pub played : List Move
+  -- who is still to be told the last move
+  pub untold : Option Colour
+  -- the lines of a hello, or the ignored ones of a setup or a turn
+  pub count : ℕ
+  -- the moment at the end of the turn's opening
+  pub opened : ℕ
+
+abbrev pub seat : Match → Colour → Seat
+seat m White = m.white
+seat m Black = m.black
+
+abbrev pub with_seat : Match → Colour → Seat → Match
+with_seat m White s = record m { white = s }
+with_seat m Black s = record m { black = s }
+
+abbrev pub new_seat : Seat
+new_seat = record { items = []; used = []; offers = false }
+
+-- before any line: White's hello
+abbrev pub start : Match
+start = record { phase = Hello White; white = new_seat; black = new_seat; played = []; untold = None; count = 0; opened = 0 }
+
+-- ---- ways to go on
+
+abbrev pub over : Reason → Match → Match
+over reason m = record m { phase = Over reason }
+
+-- a phase in which lines are counted anew
+abbrev pub enter : Phase → Match → Match
+enter phase m = record m { phase = phase; count = 0 }
+
+-- that side's turn: its opening tells it the last move
+abbrev pub open_turn : Colour → Match → Match
+open_turn S m = record m { phase = Opening S; count = 0; untold = None }
+
+-- the line counts as ignored, and the 10,000th is too many
+abbrev pub ignore : Colour → Match → Match
+ignore S m = if nat_le 10000 (m.count + 1) then over (over_by.Faulted S Flood) m else record m { count = m.count + 1 }
+
+-- ---- hello
+
+abbrev pub items_heard : LineKind → List Item
+items_heard (Features text) = items_of text
+items_heard _ = []
+
+abbrev pub hear : Colour → List Item → Match → Match
+hear S items m = with_seat m S (record { items = (seat m S).items ++ items; used = (seat m S).used; offers = (seat m S).offers })
+
+-- what an engine lacks: ping; setboard, where a start is told; the variant
+abbrev pub lacking : Bool → Variant → Bool → Bool → Bool → Option MatchFault
+lacking has_start v ping setboard fischerandom =
+    if not ping then Some NoPing
+    else if has_start && not setboard then Some NoSetboard
+    else lacking_variant v fischerandom
+  where
+    lacking_variant : Variant → Bool → Option MatchFault
+    lacking_variant Normal fischerandom = None
+    lacking_variant Fischerandom true = None
+    lacking_variant Fischerandom false = Some NoVariant
+
+abbrev pub lack : Rules → List Item → Option MatchFault
+lack r items = lacking (is_some r.start_fen) r.variant (takes (codes "ping") items) (takes (codes "setboard") items) (plays_fischerandom items)
+
+-- after both hellos White is judged, then Black
+abbrev pub judged : Option MatchFault → Option MatchFault → Match → Match
+judged (Some f) _ m = enter (Over (over_by.Faulted White f)) m
+judged None (Some f) m = enter (Over (over_by.Faulted Black f)) m
+judged None None m = enter (Setup White) m
+
+abbrev pub greeted : Rules → Colour → Match → Match
+greeted r White m = enter (Hello Black) m
+greeted r Black m = judged (lack r m.white.items) (lack r m.black.items) m
+
+-- `done=1` ends the hello; else the thousandth line is the last
+unfoldable pub hello_line : Rules → Colour → List Item → Match → Match
+hello_line r S items m =
+    if has_done items then greeted r S (hear S items m)
+    else if nat_le 1000 (m.count + 1) then over (over_by.Faulted S NoDone) (hear S items m)
+    else let m' = hear S items m in record m' { count = m.count + 1 }
+
+-- ---- setup
+
+-- a start with a verdict ends the match
+abbrev pub begun : Option Verdict → Colour → Match → Match
+begun (Some v) first m = over (over_by.Decided v) m
+begun None first m = open_turn first m
+
+abbrev pub ready : Rules → Colour → Match → Match
+ready r White m = enter (Setup Black) m
+ready r Black m = begun (r.verdict m.played) r.first m
+
+abbrev pub is_pong : ℕ → LineKind → Bool
+is_pong n (Answers k) = k == n
+is_pong n _ = false
+
+unfoldable pub setup_line : Rules → Colour → LineKind → Match → Match
+setup_line r S kind m = if is_pong 1 kind then ready r S m else ignore S m
+
+-- ---- turns
+
+-- the milliseconds that S has left
+abbrev pub clock : Rules → Match → Colour → ℕ
+clock r m S = left r.level (length (seat m S).used) (sum (seat m S).used)
+
+abbrev pub decide : Option Verdict → Match → Match
+decide (Some v) m = over (over_by.Decided v) m
+decide None m = m
+
+-- S's move stands: the other's offer lapses, S's clock is charged, and the other is still to be told
+abbrev pub played_by : Colour → Move → ℕ → Match → Match
+played_by White move used m = record {
+  phase = After White;
+  white = record { items = m.white.items; used = m.white.used ++ used ∷ []; offers = m.white.offers };
+  black = record { items = m.black.items; used = m.black.used; offers = false };
+  played = m.played ++ move ∷ [];
+  untold = Some Black;
+  count = m.count;
+  opened = m.opened;
+}
+played_by Black move used m = record {
+  phase = After Black;
+  white = record { items = m.white.items; used = m.white.used; offers = false };
+  black = record { items = m.black.items; used = m.black.used ++ used ∷ []; offers = m.black.offers };
+  played = m.played ++ move ∷ [];
+  untold = Some White;
+  count = m.count;
+  opened = m.opened;
+}
+
+abbrev pub move_row : Rules → Colour → Option Move → ℕ → Match → Match
+move_row r S None moment m = over (over_by.MovesIllegally S) m
+move_row r S (Some move) moment m = decide (r.verdict (m.played ++ move ∷ [])) (played_by S move (moment - m.opened) m)
+
+abbrev pub offer_row : Colour → Match → Match
+offer_row S m =
+    if (seat m (other S)).offers then over over_by.Agreed m
+    else if (seat m S).offers then ignore S m
+    else with_seat m S (record { items = (seat m S).items; used = (seat m S).used; offers = true })
+
+abbrev pub draw_row : Option DrawClaim → Colour → Match → Match
+draw_row (Some c) S m = over (over_by.Claimed c) m
+draw_row None S m = offer_row S m
+
+-- a move was ever sent to S: the other has moved, since S's opening tells it the other's last move
+abbrev pub was_told : Match → Colour → Bool
+was_told m S = nat_lt 0 (length (seat m (other S)).used)
+
+-- the rows that are alike before the move and after it
+abbrev pub either_way : Rules → Colour → LineKind → Match → Match
+either_way r S Resigns m = over (over_by.Resigns S) m
+either_way r S OffersDraw m = offer_row S m
+either_way r S ClaimsDraw m = draw_row (r.claim m.played) S m
+either_way r S (ClaimsWin c) m = if same_colour c S then over (over_by.ClaimsFalsely S) m else over (over_by.Resigns S) m
+either_way r S Rejects m = if was_told m S then over (over_by.RejectsLegalMove S) m else ignore S m
+either_way r S _ m = ignore S m
+
+abbrev pub before_row : Rules → Colour → LineKind → ℕ → Match → Match
+before_row r S (Moves text) moment m =
+    if nat_le r.limit (length m.played) then over over_by.GameTooLong m else move_row r S (r.reading m.played text) moment m
+before_row r S kind moment m = either_way r S kind m
+
+-- the flag is judged first
+unfoldable pub before_line : Rules → Colour → LineKind → ℕ → Match → Match
+before_line r S kind moment m =
+    if nat_lt (clock r m S) (moment - m.opened)
+    then (if r.is_bare m.played (other S) then over over_by.ForfeitsToBareKing m else over (over_by.Forfeits S) m)
+    else before_row r S kind moment m
+
+-- the number of the ping that S is to answer: 1 in its setup, and one more for each of its moves
+abbrev pub ping_number : Match → Colour → ℕ
+ping_number m S = length (seat m S).used + 1
+
+unfoldable pub after_line : Rules → Colour → LineKind → Match → Match
+after_line r S (Moves _) m = over (over_by.MovesOutOfTurn S) m
+after_line r S (Answers n) m = if n == ping_number m S then open_turn (other S) m else ignore S m
+after_line r S kind m = either_way r S kind m
+
+-- ---- one event
+
+abbrev pub after_kind : Rules → Phase → LineKind → ℕ → Match → Match
+after_kind r (Hello S) kind moment m = hello_line r S (items_heard kind) m
+after_kind r (Setup S) kind moment m = setup_line r S kind m
+after_kind r (Before S) kind moment m = before_line r S kind moment m
+after_kind r (After S) kind moment m = after_line r S kind m
+after_kind r (Opening S) kind moment m = m
+after_kind r (Over reason) kind moment m = m
+
+abbrev pub after : Rules → Match → Event → Match
+after r m (Line S text moment) = after_kind r m.phase (kind_heard text) moment m
+after r m (Opened S moment) = record m { phase = Before S; opened = moment }
+after r m (OutputEnds S) = over (over_by.Faulted S Ended) m
+after r m (FailsToRead S) = over (over_by.Faulted S Read) m
+after r m (FailsToWrite S) = over (over_by.Faulted S Write) m

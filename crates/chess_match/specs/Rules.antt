@@ -1,0 +1,98 @@
+-- What a match is told of its game, and what chess tells it.
+use Rattle.std.specs.Prelude.{ℕ, Bool, true, ◌||◌, not, if◌then◌else◌, List, [], ◌∷◌, Option, None, Some}
+use Rattle.std.specs.List.{list_all}
+use Rattle.chess_base.specs.declared.man.Colour.{Colour}
+use Rattle.chess_base.specs.declared.man.Kind.TheVariants.{King}
+use Rattle.chess_base.specs.declared.man.Man.{Man}
+use Rattle.chess_base.specs.declared.man.Move.{Move}
+use Rattle.chess_base.specs.declared.setup.Setup.{Setup}
+use Rattle.chess_base.specs.Men.{Men, same_colour, same_kind}
+use Rattle.chess_base.specs.Moves.{after}
+use Rattle.chess_base.specs.Writing.{fen}
+use Rattle.chess_game.specs.Ends.{verdict, claims}
+use Rattle.chess_game.specs.Line.{last}
+use Rattle.chess_game.specs.declared.ends.Claims.{Claims}
+use Rattle.chess_game.specs.declared.ends.Verdict.{Verdict}
+use Rattle.chess_pgn.specs.GameText.{is_initial}
+use Rattle.chess_text.specs.Moves.{reading}
+use Rattle.chess_text.specs.San.{san, shown_move}
+use Rattle.chess_text.specs.declared.reading.Reading.{Reading}
+use Rattle.chess_text.specs.declared.reading.Reading.TheVariants as reads
+use Rattle.chess_match.specs.Levels.{LevelSeen}
+use Rattle.chess_match.specs.declared.reason.DrawClaim.{DrawClaim}
+use Rattle.chess_match.specs.declared.reason.DrawClaim.TheVariants.{Threefold, FiftyMoves}
+use Rattle.chess_base.specs.declared.man.Variant.{Variant}
+use Rattle.chess_base.specs.declared.man.Variant.TheVariants.{Normal, Fischerandom}
+
+-- what is fixed when a match begins, and what its game says of the moves that were played from its start
+pub record Rules : Type 0 where
+  pub variant : Variant
+  -- the start as it is told; none for the initial position of normal chess
+  pub start_fen : Option (List ℕ)
+  -- who is on move at the start
+  pub first : Colour
+  pub level : LevelSeen
+  -- how many moves can be played
+  pub limit : ℕ
+  -- the one legal move that a text spells behind these moves
+  pub reading : List Move → List ℕ → Option Move
+  pub verdict : List Move → Option Verdict
+  pub claim : List Move → Option DrawClaim
+  -- the text of the last of these moves, in SAN or by squares
+  pub move_text : Bool → List Move → List ℕ
+  -- that side has no man but its king
+  pub is_bare : List Move → Colour → Bool
+
+-- ---- chess
+
+abbrev pub move_read : Reading → Option Move
+move_read (reads.Move m) = Some m
+move_read reads.Ambiguous = None
+move_read reads.NoSuch = None
+move_read reads.NotAMove = None
+
+-- the position for the third time comes before 50 moves
+abbrev pub claim_by : Claims → Option DrawClaim
+claim_by c = if c.threefold then Some Threefold else if c.fifty_moves then Some FiftyMoves else None
+
+-- in SAN, or by squares; castling in Chess960 is then `O-O` or `O-O-O`
+abbrev pub text_of_move : Bool → Setup → Move → List ℕ
+text_of_move as_san p m = if as_san then san p m else shown_move p m
+
+-- the text of the last of these moves, in the position before it
+abbrev pub text_of_last : Bool → Setup → List Move → List ℕ
+text_of_last as_san p [] = []
+text_of_last as_san p (m ∷ []) = text_of_move as_san p m
+text_of_last as_san p (m ∷ n ∷ ms) = text_of_last as_san (after p m) (n ∷ ms)
+
+-- no man, one of the other colour, or a king
+abbrev pub is_king_or_other : Colour → Option Man → Bool
+is_king_or_other c None = true
+is_king_or_other c (Some x) = not (same_colour x.colour c) || same_kind x.kind King
+
+-- each man of that colour is a king
+unfoldable pub has_bare_king : Colour → Men → Bool
+has_bare_king c men = list_all (is_king_or_other c) men
+
+-- normal chess begins from its initial position if nothing is said; of Chess960 each start is told
+abbrev pub fen_told_in : Variant → Setup → Option (List ℕ)
+fen_told_in Normal start = if is_initial start then None else Some (fen start)
+fen_told_in Fischerandom start = Some (fen start)
+
+abbrev pub fen_told : Setup → Option (List ℕ)
+fen_told start = fen_told_in start.variant start
+
+-- chess from this start, at this level, of at most so many moves
+unfoldable pub rules_of : Setup → LevelSeen → ℕ → Rules
+rules_of start level limit = record {
+  variant = start.variant;
+  start_fen = fen_told start;
+  first = start.side;
+  level = level;
+  limit = limit;
+  reading = λ played text. move_read (reading (last start played) text);
+  verdict = λ played. verdict start played;
+  claim = λ played. claim_by (claims start played);
+  move_text = λ as_san played. text_of_last as_san start played;
+  is_bare = λ played c. has_bare_king c (last start played).men;
+}

@@ -1,0 +1,108 @@
+-- When the core and the game stand for a match, and what the core gives to send.
+use Rattle.std.specs.Prelude.{◌≡◌, ℕ, true, false, if◌then◌else◌, List, [], ◌∷◌, ◌++◌, length, sum, codes, Option, None, Some}
+use Rattle.chess_base.specs.declared.man.Colour.{Colour}
+use Rattle.chess_base.specs.declared.man.Colour.TheVariants.{White, Black}
+use Rattle.chess_base.specs.declared.man.Move.{Move}
+use Rattle.chess_base.specs.Men.{same_colour}
+use Rattle.chess_pgn.specs.Written.{cut_tag}
+use Rattle.chess_match.specs.Clocks.{ClocksSeen, Spent, charged}
+use Rattle.chess_match.specs.EngineLines.{LineKind}
+use Rattle.chess_match.specs.Items.{Item, takes, told, plays_fischerandom}
+use Rattle.chess_match.specs.Levels.{LevelSeen}
+use Rattle.chess_match.specs.Match.{Match, Seat, items_heard}
+use Rattle.chess_match.specs.Rules.{Rules}
+use Rattle.chess_match.specs.Sent.{SentLine, DrawOffered, answers_to, entry, block}
+use Rattle.chess_match.specs.declared.phase.Phase.{Phase}
+use Rattle.chess_match.specs.declared.phase.Phase.TheVariants.{Hello, After}
+use Rattle.chess_match.specs.declared.features.Features.{Features}
+use Rattle.chess_match.specs.declared.state.Player.{Player}
+use Rattle.chess_match.specs.declared.state.Given.{Given}
+use Rattle.chess_match.specs.declared.state.Core.{Core}
+
+-- what an engine takes, by the items that it said
+unfoldable pub features_of : List Item → Features
+features_of items = record {
+  ping = takes (codes "ping") items;
+  setboard = takes (codes "setboard") items;
+  san = takes (codes "san") items;
+  usermove = takes (codes "usermove") items;
+  time = takes (codes "time") items;
+  draw = takes (codes "draw") items;
+  fischerandom = plays_fischerandom items;
+}
+
+unfoldable pub name_by : List Item → List ℕ
+name_by items = cut_tag (told (codes "myname") items)
+
+-- what is kept of an engine is what it said
+pub record Keeps (kept : Player) (known : Seat) : Type 0 where
+  pub features : kept.features ≡ features_of known.items
+  pub name : kept.name ≡ name_by known.items
+  pub offers : kept.offers ≡ known.offers
+
+abbrev pub spent_of : Seat → Spent
+spent_of s = record { moves = length s.used; used = sum s.used }
+
+-- the clocks of a match
+abbrev pub clocks_of : LevelSeen → Match → ClocksSeen
+clocks_of level m = record { level = level; white = spent_of m.white; black = spent_of m.black }
+
+pub record Stands (r : Rules) (core : Core) (played : List Move) (m : Match) : Type 0 where
+  pub phase : core.phase ≡ m.phase
+  pub white : Keeps core.white m.white
+  pub black : Keeps core.black m.black
+  pub clocks : core.clocks ≡ clocks_of r.level m
+  pub moves : played ≡ m.played
+  pub untold : core.untold ≡ m.untold
+  pub count : core.count ≡ m.count
+  pub opened : core.opened ≡ m.opened
+
+abbrev pub to : Option Colour → Colour → List SentLine → List SentLine
+to None S text = []
+to (Some c) S text = if same_colour c S then text else []
+
+-- the block that is given for S: answers to these items, an offer, and what the phase gives
+unfoldable pub given_block : Rules → Given → List Item → Match → Colour → List SentLine
+given_block r given items m S =
+    to given.answers S (answers_to items)
+    ++ (to given.draw S (DrawOffered ∷ [])
+    ++ (if given.entered then entry r m S else []))
+
+-- from m to m' the core goes on to stand for m', and gives the blocks between them
+pub record Goes (r : Rules) (core : Core) (played : List Move) (given : Given) (items : List Item) (m m' : Match) : Type 0 where
+  pub stands : Stands r core played m'
+  pub gives : (S : Colour) → given_block r given items m' S ≡ block r m m' S
+
+abbrev pub player : Core → Colour → Player
+player core White = core.white
+player core Black = core.black
+
+-- the core once S's offer stands
+abbrev pub offered_core : Core → Colour → Core
+offered_core core White = record core { white = record { features = core.white.features; name = core.white.name; offers = true } }
+offered_core core Black = record core { black = record { features = core.black.features; name = core.black.name; offers = true } }
+
+-- the core once S's move stands
+abbrev pub played_core : Core → Colour → ℕ → Core
+played_core core White used = record core {
+  phase = After White;
+  untold = Some Black;
+  clocks = charged core.clocks White used;
+  black = record { features = core.black.features; name = core.black.name; offers = false };
+}
+played_core core Black used = record core {
+  phase = After Black;
+  untold = Some White;
+  clocks = charged core.clocks Black used;
+  white = record { features = core.white.features; name = core.white.name; offers = false };
+}
+
+-- the core once S said more
+abbrev pub heard_core : Core → Colour → Player → Core
+heard_core core White p = record core { white = p }
+heard_core core Black p = record core { black = p }
+
+-- the items that a line tells: those of a hello alone
+abbrev pub items_in : Phase → LineKind → List Item
+items_in (Hello c) kind = items_heard kind
+items_in _ kind = []

@@ -1,0 +1,157 @@
+-- A transcript of a match, and what it says.
+use Rattle.std.specs.Prelude.{ℕ, ◌&&◌, ◌||◌, nat_lt, Bool, true, false, not, if◌then◌else◌, List, [], ◌∷◌, ◌++◌, length, codes, Option, None, Some}
+use Rattle.chess_base.specs.declared.man.Colour.{Colour}
+use Rattle.chess_base.specs.Men.{same_colour}
+use Rattle.chess_pgn.specs.Written.{cut_tag}
+use Rattle.chess_match.specs.Items.{told}
+use Rattle.chess_match.specs.Match.{Match, Event, Line, Opened, OutputEnds, FailsToRead, FailsToWrite, seat, start, after}
+use Rattle.chess_match.specs.Rules.{Rules}
+use Rattle.chess_match.specs.Sent.{SentLine, block, entry}
+use Rattle.chess_match.specs.declared.phase.Phase.{Phase}
+use Rattle.chess_match.specs.declared.phase.Phase.TheVariants.{Hello, Setup, Opening, Before, After, Over}
+use Rattle.chess_match.specs.declared.reason.Reason.{Reason}
+
+-- the match after these events
+abbrev pub match_from : Rules → Match → List Event → Match
+match_from r m [] = m
+match_from r m (e ∷ es) = match_from r (after r m e) es
+
+abbrev pub match_of : Rules → List Event → Match
+match_of r T = match_from r start T
+
+abbrev pub ending_in : Phase → Option Reason
+ending_in (Over reason) = Some reason
+ending_in _ = None
+
+-- why it ended, if it did
+abbrev pub ending : Rules → List Event → Option Reason
+ending r T = ending_in (match_of r T).phase
+
+-- S's name: its last `myname`, as a tag keeps it
+abbrev pub name_of : Rules → List Event → Colour → List ℕ
+name_of r T S = cut_tag (told (codes "myname") (seat (match_of r T) S).items)
+
+-- ---- what fits
+
+-- a line of that side is read in this phase
+abbrev pub reads : Phase → Colour → Bool
+reads (Hello c) S = same_colour c S
+reads (Setup c) S = same_colour c S
+reads (Before c) S = same_colour c S
+reads (After c) S = same_colour c S
+reads (Opening c) S = false
+reads (Over reason) S = false
+
+abbrev pub opens : Phase → Colour → Bool
+opens (Opening c) S = same_colour c S
+opens _ S = false
+
+abbrev pub is_on : Phase → Bool
+is_on (Over reason) = false
+is_on _ = true
+
+-- an event is of the kind and side that the phase waits for, or a write of what the last event gave fails
+abbrev pub fits_next : (Colour → List SentLine) → Match → Event → Bool
+fits_next due m (Line S text moment) = reads m.phase S
+fits_next due m (Opened S moment) = opens m.phase S
+fits_next due m (OutputEnds S) = reads m.phase S
+fits_next due m (FailsToRead S) = reads m.phase S
+fits_next due m (FailsToWrite S) = is_on m.phase && nat_lt 0 (length (due S))
+
+abbrev pub fits_from : Rules → (Colour → List SentLine) → Match → List Event → Bool
+fits_from r due m [] = true
+fits_from r due m (e ∷ es) = fits_next due m e && fits_from r (block r m (after r m e)) (after r m e) es
+
+abbrev pub fits : Rules → List Event → Bool
+fits r T = fits_from r (entry r start) start T
+
+-- ---- what is sent
+
+-- S's block of an event isn't sent where it is due after the block of the other engine, whose line was read, and the
+-- write of that one fails
+abbrev pub is_dropped : Event → List Event → Colour → Bool
+is_dropped (Line c text moment) (FailsToWrite d ∷ es) S = same_colour c d && not (same_colour d S)
+is_dropped _ _ S = false
+
+-- the event is a write to S that fails: it gives S nothing
+abbrev pub fails_at : Event → Colour → Bool
+fails_at (FailsToWrite c) S = same_colour c S
+fails_at _ S = false
+
+-- S's block of an event, where it is due one that is sent
+abbrev pub block_at : Rules → Match → Event → List Event → Colour → List (List SentLine)
+block_at r m e es S = if is_dropped e es S || fails_at e S then [] else block r m (after r m e) S ∷ []
+
+abbrev pub blocks_from : Rules → Colour → Match → List Event → List (List SentLine)
+blocks_from r S m [] = []
+blocks_from r S m (e ∷ es) = block_at r m e es S ++ blocks_from r S (after r m e) es
+
+-- the blocks that S is sent, one for each event and one before them; many are empty
+abbrev pub blocks : Rules → Colour → List Event → List (List SentLine)
+blocks r S T = entry r start S ∷ blocks_from r S start T
+
+abbrev pub joined_blocks : List (List SentLine) → List SentLine
+joined_blocks [] = []
+joined_blocks (b ∷ bs) = b ++ joined_blocks bs
+
+abbrev pub sent : Rules → Colour → List Event → List SentLine
+sent r S T = joined_blocks (blocks r S T)
+
+-- the last block that S is sent: the one at which a write to S failed, or that of the end; and those before it
+abbrev pub last_block : List (List SentLine) → List SentLine
+last_block [] = []
+last_block (b ∷ []) = b
+last_block (b ∷ c ∷ bs) = last_block (c ∷ bs)
+
+abbrev pub before_last : List (List SentLine) → List SentLine
+before_last [] = []
+before_last (b ∷ []) = []
+before_last (b ∷ c ∷ bs) = b ++ before_last (c ∷ bs)
+
+-- ---- what passed at the devices
+
+abbrev pub if_line_of : Bool → Option (List ℕ) → List (Option (List ℕ))
+if_line_of true text = text ∷ []
+if_line_of false text = []
+
+abbrev pub line_in : Colour → Event → List (Option (List ℕ))
+line_in S (Line c text moment) = if_line_of (same_colour c S) text
+line_in S _ = []
+
+-- the lines of S
+abbrev pub lines_of : Colour → List Event → List (Option (List ℕ))
+lines_of S [] = []
+lines_of S (e ∷ es) = line_in S e ++ lines_of S es
+
+abbrev pub moment_in : Event → List ℕ
+moment_in (Line c text moment) = moment ∷ []
+moment_in (Opened c moment) = moment ∷ []
+moment_in _ = []
+
+-- the moments that were asked for
+abbrev pub moments_of : List Event → List ℕ
+moments_of [] = []
+moments_of (e ∷ es) = moment_in e ++ moments_of es
+
+abbrev pub is_end_of : Colour → Event → Bool
+is_end_of S (OutputEnds c) = same_colour c S
+is_end_of S _ = false
+
+-- S's output ended
+abbrev pub has_end : Colour → List Event → Bool
+has_end S [] = false
+has_end S (e ∷ es) = is_end_of S e || has_end S es
+
+abbrev pub is_read_failure_of : Colour → Event → Bool
+is_read_failure_of S (FailsToRead c) = same_colour c S
+is_read_failure_of S _ = false
+
+-- a read of S failed
+abbrev pub has_read_failure : Colour → List Event → Bool
+has_read_failure S [] = false
+has_read_failure S (e ∷ es) = is_read_failure_of S e || has_read_failure S es
+
+-- a write to S failed before the end
+abbrev pub has_write_failure : Colour → List Event → Bool
+has_write_failure S [] = false
+has_write_failure S (e ∷ es) = fails_at e S || has_write_failure S es

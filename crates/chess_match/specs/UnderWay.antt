@@ -1,0 +1,46 @@
+-- What a run of a match has come to.
+use Rattle.std.specs.Prelude.{◌≡◌, ℕ, ◌+◌, ◌*◌, Bool, true, false, List, Option}
+use Rattle.chess_base.specs.declared.man.Colour.{Colour}
+use Rattle.chess_base.specs.declared.man.Move.{Move}
+use Rattle.chess_base.specs.Devices.{InputState, OutputState}
+use Rattle.chess_cecp.specs.Lines.{Held}
+use Rattle.chess_match.specs.Hearing.{Hearing}
+use Rattle.chess_match.specs.Match.{Event}
+use Rattle.chess_match.specs.Rules.{Rules}
+use Rattle.chess_match.specs.Run.{Heard, Written, Asked}
+use Rattle.chess_match.specs.Stands.{Stands}
+use Rattle.chess_match.specs.Steps.{IsSane}
+use Rattle.chess_match.specs.Transcript.{match_of, fits, blocks, lines_of, moments_of, has_end, has_read_failure, has_write_failure, is_on}
+use Rattle.chess_match.specs.declared.phase.Phase.{Phase}
+use Rattle.chess_match.specs.declared.phase.Phase.TheVariants.{Hello, Setup, Opening, Before, After, Over}
+use Rattle.chess_match.specs.declared.state.Core.{Core}
+
+-- S's engine is still heard
+pub record IsHearing (S : Colour) (T : List Event) (r r' : InputState) (held : Held) (given : List ℕ) : Type 0 where
+  pub hearing : Hearing r r' held given (lines_of S T)
+  pub unended : has_end S T ≡ false
+  pub unfailed : has_read_failure S T ≡ false
+
+-- these bytes came of S's engine, and while the match is on it is still heard
+abbrev pub HeardSoFar : Colour → List Event → Bool → InputState → InputState → Held → Type 0
+HeardSoFar S T on r r' held = (given : List ℕ) × Heard S T r r' given × (on ≡ true → IsHearing S T r r' held given)
+
+-- core, game and devices agree with the transcript T
+pub record IsUnderWay (r : Rules) (T : List Event) (core : Core) (played : List Move) (failed : Colour → Bool) (n n' : Colour → InputState) (held : Colour → Held) (w w' : Colour → OutputState) (coming coming' : ℕ → Option ℕ) : Type 0 where
+  pub fitting : fits r T ≡ true
+  pub stands : Stands r core played (match_of r T)
+  pub sane : IsSane r (match_of r T)
+  pub heard : (S : Colour) → HeardSoFar S T (is_on (match_of r T).phase) (n S) (n' S) (held S)
+  pub written : (S : Colour) → Written (failed S) (w S) (w' S) (blocks r S T)
+  pub fine : is_on (match_of r T).phase ≡ true → (S : Colour) → failed S ≡ false
+  pub failing : (S : Colour) → has_write_failure S T ≡ true → failed S ≡ true
+  pub moments : Asked coming coming' (moments_of T)
+
+-- what is left to do, where so much can still be read
+abbrev pub steps_left : Phase → ℕ → ℕ
+steps_left (Hello c) n = 3 * n + 1
+steps_left (Setup c) n = 3 * n + 1
+steps_left (Opening c) n = 3 * n + 2
+steps_left (Before c) n = 3 * n + 1
+steps_left (After c) n = 3 * n + 1
+steps_left (Over reason) n = 0

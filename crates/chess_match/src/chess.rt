@@ -1,0 +1,179 @@
+//! Chess, as a match asks of it.
+
+ghost use Rattle.std.specs.Prelude.{◌≡◌, ◌≤◌, ◌<◌, ◌++◌, ◌∷◌, [], length, nat_le, is_some, false, IfSome};
+ghost use Rattle.std.specs.Option.{option_map};
+ghost use Rattle.arrayvec.specs.ArrayVec.{array_vec_len};
+ghost use Rattle.std.specs.List.{list_all};
+ghost use Rattle.chess_base.specs.Writing.{fen};
+ghost use Rattle.chess_base.specs.Initial.{initial_setup};
+ghost use Rattle.chess_game.specs.Game.{current, verdict_now, State};
+ghost use Rattle.chess_game.specs.Ends.{verdict, claims};
+ghost use Rattle.chess_pgn.specs.GameText.{is_initial};
+ghost use Rattle.chess_text.specs.Moves.{reading};
+ghost use Rattle.chess_match.specs.Rules.{rules_of, has_bare_king, is_king_or_other, move_read, claim_by, fen_told};
+
+use crate::block::{Block, add, add_move};
+use crate::played::Played;
+use crate::reason::DrawClaim;
+use chess_base::{Colour, FenText, Kind, Man, Move, Position, Variant, write_fen};
+use chess_game::{Claims, Game, Verdict};
+use chess_moves::Board;
+use chess_text::{Reading, move_text, read_move, read_moves_are_legal, san};
+
+// Whether each man of that colour is a king.
+fn is_king_or_other(colour: Colour, man: Option<Man>) -> bool
+    ensures { result ≡ is_king_or_other colour man }
+{
+    match man {
+        None => true,
+        Some(man) => man.colour != colour || man.kind == Kind::King,
+    }
+}
+
+#[tactic(auto, unfolding(crate::specs::Rules::has_bare_king))]
+fn has_bare_king(colour: Colour, men: &[Option<Man>; 64]) -> bool
+    ensures { result ≡ has_bare_king colour men.now }
+{
+    men.iter().all(|man| is_king_or_other(colour, *man))
+}
+
+// What the player on move may claim, if anything.
+fn claim_by(claims: Claims) -> Option<DrawClaim>
+    ensures { result ≡ claim_by claims }
+{
+    if claims.threefold {
+        Some(DrawClaim::Threefold)
+    } else if claims.fifty_moves {
+        Some(DrawClaim::FiftyMoves)
+    } else {
+        None
+    }
+}
+
+// Whether a start is the initial position.
+fn is_initial(start: &Position) -> bool
+    ensures { result ≡ is_initial start.now }
+{
+    write_fen(start).as_slice() == write_fen(&Position::initial()).as_slice()
+}
+
+// How the start of a match is told: as FEN, unless it is the initial position of normal chess.
+fn start_text(start: &Position) -> Option<FenText>
+    ensures text { option_map (λ t. t.items) result ≡ fen_told start.now }
+    ensures short { IfSome result (λ t. array_vec_len t ≤ 100) }
+{
+    match start.variant() {
+        Variant::Normal => {
+            if is_initial(start) {
+                None
+            } else {
+                Some(write_fen(start))
+            }
+        }
+        Variant::Fischerandom => Some(write_fen(start)),
+    }
+}
+
+fn move_read(reading: Reading) -> Option<Move>
+    ensures { result ≡ move_read reading }
+{
+    match reading {
+        Reading::Move(chosen) => Some(chosen),
+        Reading::Ambiguous => None,
+        Reading::NoSuch => None,
+        Reading::NotAMove => None,
+    }
+}
+
+impl<B: Board> Played for Game<B> {
+    ghost use Rattle.chess_match.specs.Chess.{Plays};
+
+    ghost plays = { λ g r. Plays g r };
+
+    ghost played = { λ g. g.state.moves };
+
+    ghost origin = { λ g. (g.state.start, g.limit) };
+
+    #[tactic(auto, unfolding(crate::specs::Rules::rules_of))]
+    fn first(&self) -> Colour {
+        self.start().side()
+    }
+
+    #[tactic(auto, unfolding(crate::specs::Rules::rules_of))]
+    fn has_start(&self) -> bool {
+        start_text(&self.start()).is_some()
+    }
+
+    #[tactic(auto, unfolding(crate::specs::Rules::rules_of))]
+    fn variant(&self) -> Variant {
+        self.start().variant()
+    }
+
+    #[tactic(auto, unfolding(crate::specs::Rules::rules_of))]
+    fn is_full(&self) -> bool {
+        Game::is_full(self)
+    }
+
+    #[tactic(auto, unfolding(crate::specs::Rules::rules_of))]
+    fn reading(&self, text: &[u8]) -> Option<Move> {
+        move_read(read_move(self.board(), text))
+    }
+
+    #[tactic(auto, unfolding(crate::specs::Rules::rules_of))]
+    fn verdict(&self) -> Option<Verdict> {
+        Game::verdict(self)
+    }
+
+    #[tactic(auto, unfolding(crate::specs::Rules::rules_of))]
+    fn claim(&self) -> Option<DrawClaim> {
+        claim_by(self.claims())
+    }
+
+    #[tactic(auto, unfolding(crate::specs::Rules::rules_of))]
+    fn is_bare(&self, side: Colour) -> bool {
+        has_bare_king(side, &self.position().setup().men)
+    }
+
+    #[tactic(auto, unfolding(crate::specs::Rules::rules_of))]
+    fn play(&mut self, chosen: Move) {
+        read_moves_are_legal();
+        self.play_legal(chosen);
+    }
+
+    #[tactic(auto, unfolding(crate::specs::Rules::rules_of, crate::specs::Sent::bytes_of))]
+    fn add_start(&self, block: &mut Block) {
+        match start_text(&self.start()) {
+            None => {}
+            Some(text) => {
+                add(block, b"setboard ");
+                add(block, text.as_slice());
+                add(block, b"\n");
+            }
+        }
+    }
+
+    #[tactic(auto, unfolding(crate::specs::Rules::rules_of))]
+    fn add_last_move<S: Board>(
+        &self,
+        scratch: &mut S,
+        as_san: bool,
+        prefixed: bool,
+        block: &mut Block,
+    ) {
+        // The line of a game, of which each move is legal, is told with its position.
+        let _playable = self.position();
+        let ply = self.ply() - 1;
+        let made = self.move_at(ply);
+        let before = self.position_at(ply);
+        if as_san {
+            scratch.set(&before);
+            add_move(block, prefixed, san(scratch, made).as_slice());
+        } else {
+            add_move(block, prefixed, move_text(&before, made).as_slice());
+        }
+    }
+
+    fn is_unplayed(&self) -> bool {
+        self.ply() == 0
+    }
+}

@@ -1,0 +1,34 @@
+//! A match between two chess engines by the Chess Engine Communication Protocol, version 2, from the side of its arbiter.
+#![tactic(auto)]
+
+mod block;
+mod chess;
+mod clocks;
+mod engine_line;
+mod features;
+mod hello;
+mod item;
+mod level;
+mod moments;
+mod phase;
+mod played;
+mod reason;
+mod run;
+mod sending;
+mod state;
+mod step;
+mod table;
+mod turn;
+
+pub use clocks::Clocks;
+pub use engine_line::{EngineLine, read_engine_line};
+pub use level::Level;
+pub use moments::Moments;
+pub use phase::Phase;
+pub use reason::{DrawClaim, MatchFault, Reason};
+pub use run::{Ends, MatchEnd, Setup, run_match};
+
+#[cfg(test)]
+mod match_tests;
+#[cfg(test)]
+mod tests;

@@ -1,0 +1,90 @@
+//! What a match asks of its game.
+
+ghost use Rattle.std.specs.Prelude.{◌≡◌, ◌<◌, ◌≤◌, ◌+◌, ◌==◌, ◌++◌, ◌∷◌, [], List, ℕ, length, nat_le, is_some, Some, None, false};
+ghost use Rattle.arrayvec.specs.ArrayVec.{array_vec_len};
+ghost use Rattle.chess_match.specs.Rules.{Rules};
+ghost use Rattle.chess_match.specs.Sent.{bytes_of, start_lines, MoveTold};
+
+use crate::block::Block;
+use crate::reason::DrawClaim;
+use chess_base::{Colour, Move, Variant};
+use chess_game::Verdict;
+use chess_moves::Board;
+
+/// A game that is being played.
+pub(crate) trait Played {
+    ghost use Rattle.std.specs.Prelude.{List, ℕ};
+    ghost use Rattle.chess_base.specs.declared.man.Move.{Move};
+    ghost use Rattle.chess_base.specs.declared.setup.Setup.{Setup};
+    ghost use Rattle.chess_match.specs.Rules.{Rules};
+
+    /// It is played by these rules, and no result was declared.
+    ghost plays: { Self → Rules → Type 0 };
+
+    /// The moves so far.
+    ghost played: { Self → List Move };
+
+    /// The start, and how many moves can stand: neither ever changes.
+    ghost origin: { Self → Setup × ℕ };
+
+    /// Who is on move at the start.
+    fn first(&self) -> Colour
+        ensures { (r : Rules) → plays self.now r → result ≡ r.first };
+
+    /// Whether the start is told, since it isn't the initial position.
+    fn has_start(&self) -> bool
+        ensures { (r : Rules) → plays self.now r → result ≡ is_some r.start_fen };
+
+    fn variant(&self) -> Variant
+        ensures { (r : Rules) → plays self.now r → result ≡ r.variant };
+
+    /// Whether as many moves stand as can.
+    fn is_full(&self) -> bool
+        ensures value { (r : Rules) → plays self.now r → result ≡ nat_le r.limit (length (played self.now)) }
+        ensures few { result ≡ false → length (played self.now) < 20000 };
+
+    /// The one legal move that a text spells.
+    fn reading(&self, text: &[u8]) -> Option<Move>
+        ensures { (r : Rules) → plays self.now r → result ≡ r.reading (played self.now) text.now };
+
+    fn verdict(&self) -> Option<Verdict>
+        ensures { (r : Rules) → plays self.now r → result ≡ r.verdict (played self.now) };
+
+    fn claim(&self) -> Option<DrawClaim>
+        ensures { (r : Rules) → plays self.now r → result ≡ r.claim (played self.now) };
+
+    /// Whether that side has no man but its king.
+    fn is_bare(&self, side: Colour) -> bool
+        ensures { (r : Rules) → plays self.now r → result ≡ r.is_bare (played self.now) side };
+
+    /// Plays a move that some text spells, where the game isn't over and has room.
+    fn play(&mut self, chosen: Move)
+        requires { (r : Rules) × (text : List ℕ) × (plays self.old r) × (r.verdict (played self.old) ≡ None)
+            × (nat_le r.limit (length (played self.old)) ≡ false) × (r.reading (played self.old) text ≡ Some chosen) }
+        ensures moves { played self.new ≡ played self.old ++ chosen ∷ [] }
+        ensures rules { (r : Rules) → plays self.old r → plays self.new r }
+        ensures origin { origin self.new ≡ origin self.old };
+
+    /// The line that tells the start, where it is told.
+    fn add_start(&self, block: &mut Block)
+        requires { array_vec_len block.old + 110 ≤ 600 }
+        ensures text { (r : Rules) → plays self.now r → block.new.items ≡ block.old.items ++ bytes_of (start_lines r.start_fen) }
+        ensures len { array_vec_len block.new ≤ array_vec_len block.old + 110 };
+
+    /// The line that tells the last move, in SAN or by squares, with `usermove` before it or without.
+    fn add_last_move<S: Board>(
+        &self,
+        scratch: &mut S,
+        as_san: bool,
+        prefixed: bool,
+        block: &mut Block,
+    )
+        requires some { 0 < length (played self.now) }
+        requires room { array_vec_len block.old + 20 ≤ 600 }
+        ensures text { (r : Rules) → plays self.now r → block.new.items ≡ block.old.items ++ bytes_of (MoveTold prefixed (r.move_text as_san (played self.now)) ∷ []) }
+        ensures len { array_vec_len block.new ≤ array_vec_len block.old + 20 };
+
+    /// Whether no move was played.
+    fn is_unplayed(&self) -> bool
+        ensures { result ≡ (length (played self.now) == 0) };
+}

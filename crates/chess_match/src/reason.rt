@@ -1,0 +1,198 @@
+//! Why a match is over, and what that is told as.
+
+ghost use Rattle.std.specs.Prelude.{◌≡◌, ◌≤◌, ◌++◌, length};
+ghost use Rattle.chess_match.specs.Reasons.{win_of, outcome_of, comment_of, claim_comment, colour_name, fault_words, ended_by, fault_of, first_fault};
+
+use chess_base::Colour;
+use chess_game::{Outcome, Verdict};
+use chess_pgn::HowEnded;
+
+/// What stopped a match.
+#[derive(Clone, Copy, Debug, PartialEq, Eq)]
+pub enum MatchFault {
+    /// The engine ended its output.
+    Ended,
+    /// A read of it failed.
+    Read,
+    /// A write or a flush to it failed.
+    Write,
+    /// Its hello did not end within 1,000 lines.
+    NoDone,
+    /// It does not answer pings.
+    NoPing,
+    /// It takes no start other than the initial position.
+    NoSetboard,
+    /// It sent too many lines that say nothing.
+    Flood,
+    /// It does not play the variant.
+    NoVariant,
+}
+
+/// Why a draw is claimed.
+#[derive(Clone, Copy, Debug, PartialEq, Eq)]
+pub enum DrawClaim {
+    /// The position is there for at least the third time (Laws of Chess 2023, article 9.2).
+    Threefold,
+    /// At least 50 moves of each side without a pawn move or a capture (article 9.3).
+    FiftyMoves,
+}
+
+/// Why a match is over, with the side of which it is said.
+#[derive(Clone, Copy, Debug, PartialEq, Eq)]
+pub enum Reason {
+    /// The board says so.
+    Decided(Verdict),
+    /// A claim of a draw holds.
+    Claimed(DrawClaim),
+    /// Both offered a draw.
+    Agreed,
+    Resigns(Colour),
+    MovesIllegally(Colour),
+    MovesOutOfTurn(Colour),
+    ClaimsFalsely(Colour),
+    RejectsLegalMove(Colour),
+    Forfeits(Colour),
+    /// A side forfeits on time, and the other has only its king.
+    ForfeitsToBareKing,
+    /// As many moves stand as can.
+    GameTooLong,
+    Faulted(Colour, MatchFault),
+}
+
+// The outcome of a win.
+fn win_of(colour: Colour) -> Outcome
+    ensures { result ≡ win_of colour }
+{
+    match colour {
+        Colour::White => Outcome::WhiteWins,
+        Colour::Black => Outcome::BlackWins,
+    }
+}
+
+impl DrawClaim {
+    fn comment(self) -> &'static [u8]
+        ensures value { result.now ≡ claim_comment self }
+        ensures short { length result.now ≤ 60 }
+    {
+        match self {
+            DrawClaim::Threefold => b"Threefold repetition",
+            DrawClaim::FiftyMoves => b"50-move rule",
+        }
+    }
+}
+
+impl MatchFault {
+    // What is said of White's engine, or of Black's.
+    fn comment(self, colour: Colour) -> &'static [u8]
+        ensures value { result.now ≡ colour_name colour ++ fault_words self }
+        ensures short { length result.now ≤ 60 }
+    {
+        match (self, colour) {
+            (MatchFault::Ended, Colour::White) => b"White ended its output",
+            (MatchFault::Ended, Colour::Black) => b"Black ended its output",
+            (MatchFault::Read, Colour::White) => b"White can not be read",
+            (MatchFault::Read, Colour::Black) => b"Black can not be read",
+            (MatchFault::Write, Colour::White) => b"White can not be written",
+            (MatchFault::Write, Colour::Black) => b"Black can not be written",
+            (MatchFault::NoDone, Colour::White) => b"White did not send done=1",
+            (MatchFault::NoDone, Colour::Black) => b"Black did not send done=1",
+            (MatchFault::NoPing, Colour::White) => b"White has no ping",
+            (MatchFault::NoPing, Colour::Black) => b"Black has no ping",
+            (MatchFault::NoSetboard, Colour::White) => b"White has no setboard",
+            (MatchFault::NoSetboard, Colour::Black) => b"Black has no setboard",
+            (MatchFault::Flood, Colour::White) => b"White sent too many lines",
+            (MatchFault::Flood, Colour::Black) => b"Black sent too many lines",
+            (MatchFault::NoVariant, Colour::White) => b"White has no fischerandom",
+            (MatchFault::NoVariant, Colour::Black) => b"Black has no fischerandom",
+        }
+    }
+}
+
+impl Reason {
+    /// The outcome that it gives.
+    pub fn outcome(self) -> Outcome
+        ensures { result ≡ outcome_of self }
+    {
+        match self {
+            Reason::Decided(verdict) => verdict.outcome(),
+            Reason::Claimed(_) => Outcome::Draw,
+            Reason::Agreed => Outcome::Draw,
+            Reason::Resigns(side) => win_of(side.other()),
+            Reason::MovesIllegally(side) => win_of(side.other()),
+            Reason::MovesOutOfTurn(side) => win_of(side.other()),
+            Reason::ClaimsFalsely(side) => win_of(side.other()),
+            Reason::RejectsLegalMove(side) => win_of(side.other()),
+            Reason::Forfeits(side) => win_of(side.other()),
+            Reason::ForfeitsToBareKing => Outcome::Draw,
+            Reason::GameTooLong => Outcome::Unfinished,
+            Reason::Faulted(_, _) => Outcome::Unfinished,
+        }
+    }
+
+    /// The comment that stands in braces behind its outcome.
+    pub fn comment(self) -> &'static [u8]
+        ensures value { result.now ≡ comment_of self }
+        ensures short { length result.now ≤ 60 }
+    {
+        match self {
+            Reason::Decided(verdict) => verdict.comment(),
+            Reason::Claimed(claim) => claim.comment(),
+            Reason::Agreed => b"Draw agreed",
+            Reason::Resigns(Colour::White) => b"White resigns",
+            Reason::Resigns(Colour::Black) => b"Black resigns",
+            Reason::MovesIllegally(Colour::White) => b"White makes an illegal move",
+            Reason::MovesIllegally(Colour::Black) => b"Black makes an illegal move",
+            Reason::MovesOutOfTurn(Colour::White) => b"White moves out of turn",
+            Reason::MovesOutOfTurn(Colour::Black) => b"Black moves out of turn",
+            Reason::ClaimsFalsely(Colour::White) => b"White makes a false claim",
+            Reason::ClaimsFalsely(Colour::Black) => b"Black makes a false claim",
+            Reason::RejectsLegalMove(Colour::White) => b"White rejects a legal move",
+            Reason::RejectsLegalMove(Colour::Black) => b"Black rejects a legal move",
+            Reason::Forfeits(Colour::White) => b"White forfeits on time",
+            Reason::Forfeits(Colour::Black) => b"Black forfeits on time",
+            Reason::ForfeitsToBareKing => b"Time forfeit against a bare king",
+            Reason::GameTooLong => b"Game too long",
+            Reason::Faulted(side, fault) => fault.comment(side),
+        }
+    }
+
+    /// How the game ended, as the PGN tag `Termination` tells it.
+    pub fn ended(self) -> HowEnded
+        ensures { result ≡ ended_by self }
+    {
+        match self {
+            Reason::Decided(_) => HowEnded::Normal,
+            Reason::Claimed(_) => HowEnded::Normal,
+            Reason::Agreed => HowEnded::Normal,
+            Reason::Resigns(_) => HowEnded::Normal,
+            Reason::MovesIllegally(_) => HowEnded::RulesInfraction,
+            Reason::MovesOutOfTurn(_) => HowEnded::RulesInfraction,
+            Reason::ClaimsFalsely(_) => HowEnded::RulesInfraction,
+            Reason::RejectsLegalMove(_) => HowEnded::RulesInfraction,
+            Reason::Forfeits(_) => HowEnded::TimeForfeit,
+            Reason::ForfeitsToBareKing => HowEnded::TimeForfeit,
+            Reason::GameTooLong => HowEnded::Normal,
+            Reason::Faulted(_, _) => HowEnded::Normal,
+        }
+    }
+}
+
+// The first fault: that of the end, else of the end lines, where White's stand first.
+pub(crate) fn first_fault(
+    reason: Reason,
+    white_failed: bool,
+    black_failed: bool,
+) -> Option<(Colour, MatchFault)>
+    ensures { result ≡ first_fault (fault_of reason) white_failed black_failed }
+{
+    if let Reason::Faulted(side, fault) = reason {
+        return Some((side, fault));
+    }
+    if white_failed {
+        return Some((Colour::White, MatchFault::Write));
+    }
+    if black_failed {
+        return Some((Colour::Black, MatchFault::Write));
+    }
+    None
+}

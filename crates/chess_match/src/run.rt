@@ -1,0 +1,431 @@
+//! The run of a match.
+
+ghost use Rattle.std.specs.Prelude.{◌≡◌, ◌<◌, List, [], ◌∷◌, ℕ, length, true, None, is_some};
+ghost use Rattle.chess_base.specs.Men.{other};
+ghost use Rattle.chess_base.specs.declared.man.Colour.{Colour};
+ghost use Rattle.chess_cecp.specs.Next.{NextLine};
+ghost use Rattle.chess_game.specs.Game.{at, with_declared, verdict_now};
+ghost use Rattle.chess_match.specs.Awaits.{IsAwaited};
+ghost use Rattle.chess_match.specs.Delivering.{by_side, by_turn, event_heard, line_event, Delivered, HasLast};
+ghost use Rattle.chess_match.specs.EngineLines.{kind_heard};
+ghost use Rattle.chess_match.specs.Items.{items_of};
+ghost use Rattle.chess_match.specs.Match.{Match, FailsToWrite, after};
+ghost use Rattle.chess_match.specs.Reasons.{declared_at};
+ghost use Rattle.chess_match.specs.Rules.{Rules};
+ghost use Rattle.chess_match.specs.Run.{Ports, Ran, Asked, text_heard};
+ghost use Rattle.chess_match.specs.Seen.{seen};
+ghost use Rattle.chess_match.specs.Sent.{block, bytes_of};
+ghost use Rattle.chess_match.specs.Stands.{Stands, Goes, given_block, items_in};
+ghost use Rattle.chess_match.specs.Steps.{IsSane};
+ghost use Rattle.chess_match.specs.Told.{SendsIf, IsTold};
+ghost use Rattle.chess_match.specs.Transcript.{is_on, reads, moment_in};
+
+use crate::engine_line::{EngineLine, read_engine_line};
+use crate::level::Level;
+use crate::moments::Moments;
+use crate::phase::Phase;
+use crate::played::Played;
+use crate::reason::{MatchFault, Reason, first_fault};
+use crate::sending::send;
+use crate::state::{Core, ENTRY, Given};
+use chess_base::device::{Input, Output, ReadFault};
+use chess_base::{Colour, Position};
+use chess_cecp::{Line, Lines};
+use chess_game::{Comment, Game, Outcome};
+use chess_moves::Board;
+use chess_pgn::{HowEnded, TagText};
+
+/// The two ends of an engine: what reads its output, and what writes its input.
+#[derive(Drop)]
+pub struct Ends<R, W> {
+    /// It gives the engine's output.
+    pub reader: R,
+    /// It takes the engine's input.
+    pub writer: W,
+}
+
+/// What a match begins from.
+#[derive(Clone, Copy)]
+pub struct Setup {
+    /// Where the game starts; the variant is that of this position.
+    pub start: Position,
+    /// The level of time of both sides.
+    pub level: Level,
+}
+
+/// How a match ended.
+#[derive(Drop)]
+pub struct MatchEnd {
+    /// The outcome: `Unfinished` where a fault ended the match, or where no further move has room.
+    pub outcome: Outcome,
+    /// What is said of the end, as the engines were told it behind `result`.
+    pub comment: Comment,
+    /// How it came, as the PGN tag `Termination` tells it.
+    pub ended: HowEnded,
+    /// The name that White's engine gave itself; empty where it gave none.
+    pub white_name: TagText,
+    /// The name that Black's engine gave itself; empty where it gave none.
+    pub black_name: TagText,
+    /// The first fault, and the side of which it is told. One that first comes in the end lines leaves the outcome.
+    pub fault: Option<(Colour, MatchFault)>,
+}
+
+/// Plays one game between two engines by the Chess Engine Communication Protocol, version 2, to its end; the game begins
+/// anew from the start, and `scratch` is any board, which holds anything afterwards. Each engine is sent what the protocol
+/// asks for, block by block, before the next line is read; `moments` is asked once after each line, and once at the end of
+/// each turn's opening. No memory is taken. An engine that never answers is waited for.
+///
+/// In the contract there is a transcript of the match: the lines, moments, ends and failures in their order. It agrees with
+/// both engines' devices and with the moments, and it tells all that was sent, the game and the end.
+pub fn run_match<R: Input, W: Output, M: Moments, B: Board>(
+    white: &mut Ends<R, W>,
+    black: &mut Ends<R, W>,
+    moments: &mut M,
+    setup: &Setup,
+    game: &mut Game<B>,
+    scratch: &mut B,
+) -> MatchEnd
+    ensures { Ran setup.now.start setup.now.level game.old game.new result
+        (record { white_reader = R.seen white.old.reader; white_writer = W.seen white.old.writer; black_reader = R.seen black.old.reader; black_writer = W.seen black.old.writer })
+        (record { white_reader = R.seen white.new.reader; white_writer = W.seen white.new.writer; black_reader = R.seen black.new.reader; black_writer = W.seen black.new.writer })
+        (M.coming moments.old) (M.coming moments.new) }
+{
+    game.restart(&setup.start);
+    let mut core = Core::new(setup.level);
+    let mut white_lines: Lines<8192> = Lines::new();
+    let mut black_lines: Lines<8192> = Lines::new();
+    let mut failed = deliver(
+        &mut white.writer,
+        &mut black.writer,
+        &mut core,
+        game,
+        scratch,
+        ENTRY,
+        b"",
+        Colour::White,
+    );
+    'events: loop {
+        match awaited_in(core.phase) {
+            Awaited::Nothing(reason) => return end_of(core, game, reason, failed),
+            Awaited::Moment(side) => {
+                let moment = moments.now();
+                core.open(side, moment);
+            }
+            Awaited::Line(side) => {
+                let heard = next_line(
+                    &mut white.reader,
+                    &mut black.reader,
+                    &mut white_lines,
+                    &mut black_lines,
+                    side,
+                );
+                failed = hear(
+                    &mut white.writer,
+                    &mut black.writer,
+                    moments,
+                    &mut core,
+                    game,
+                    scratch,
+                    &heard,
+                    side,
+                );
+            }
+        }
+    }
+}
+
+/// What a match waits for.
+#[derive(Clone, Copy)]
+pub(crate) enum Awaited {
+    /// A line of that side's engine.
+    Line(Colour),
+    /// The moment at the end of the opening of that side's turn.
+    Moment(Colour),
+    /// Nothing: it is over.
+    Nothing(Reason),
+}
+
+fn awaited_in(phase: Phase) -> Awaited
+    ensures { IsAwaited phase result }
+{
+    match phase {
+        Phase::Hello(side) => Awaited::Line(side),
+        Phase::Setup(side) => Awaited::Line(side),
+        Phase::Before(side) => Awaited::Line(side),
+        Phase::After(side) => Awaited::Line(side),
+        Phase::Opening(side) => Awaited::Moment(side),
+        Phase::Over(reason) => Awaited::Nothing(reason),
+    }
+}
+
+// The next line of that side's engine.
+fn next_line<R: Input>(
+    white: &mut R,
+    black: &mut R,
+    white_lines: &mut Lines<8192>,
+    black_lines: &mut Lines<8192>,
+    side: Colour,
+) -> Result<Option<Line<8192>>, ReadFault>
+    ensures next { NextLine 8192 (by_side (R.seen white.old) (R.seen black.old) side) (by_side (R.seen white.new) (R.seen black.new) side) (by_side white_lines.old black_lines.old side) (by_side white_lines.new black_lines.new side) result }
+    ensures others { by_side (R.seen white.new) (R.seen black.new) (other side) ≡ by_side (R.seen white.old) (R.seen black.old) (other side) }
+    ensures held { by_side white_lines.new black_lines.new (other side) ≡ by_side white_lines.old black_lines.old (other side) }
+{
+    match side {
+        Colour::White => white_lines.next(white),
+        Colour::Black => black_lines.next(black),
+    }
+}
+
+// To which engines a write failed.
+#[derive(Clone, Copy)]
+pub(crate) struct Failed {
+    white: bool,
+    black: bool,
+}
+
+// Sends each side its block of an end, White first.
+fn send_both<W: Output, G: Played, S: Board>(
+    white: &mut W,
+    black: &mut W,
+    core: &Core,
+    game: &G,
+    scratch: &mut S,
+    given: Given,
+    text: &[u8],
+) -> Failed
+    requires { is_some core.now.untold ≡ true → 0 < length (G.played game.now) }
+    ensures { (r : Rules) (m : Match) → G.plays game.now r → Stands r core.now (G.played game.now) m
+        → SendsIf result.white (W.seen white.old) (W.seen white.new) (bytes_of (given_block r given (items_of text.now) m Colour.White))
+        × SendsIf result.black (W.seen black.old) (W.seen black.new) (bytes_of (given_block r given (items_of text.now) m Colour.Black)) }
+{
+    let white_failed = send(white, core, game, scratch, given, text, Colour::White).is_err();
+    let black_failed = send(black, core, game, scratch, given, text, Colour::Black).is_err();
+    Failed {
+        white: white_failed,
+        black: black_failed,
+    }
+}
+
+// A write to a side's engine failed, which ends the match: the other is sent its end lines. Whether a write to it fails too.
+fn end_for_other<W: Output, G: Played, S: Board>(
+    others: &mut W,
+    core: &mut Core,
+    game: &G,
+    scratch: &mut S,
+    side: Colour,
+) -> bool
+    requires last { HasLast core.old (G.played game.now) }
+    requires on { is_on core.old.phase ≡ true }
+    ensures { (r : Rules) (m : Match) → G.plays game.now r → Stands r core.old (G.played game.now) m
+        → Stands r core.new (G.played game.now) (after r m (FailsToWrite side))
+        × SendsIf result (W.seen others.old) (W.seen others.new) (bytes_of (block r m (after r m (FailsToWrite side)) (other side))) }
+{
+    let given = core.write_fails(side);
+    send(others, core, game, scratch, given, b"", side.other()).is_err()
+}
+
+// Sends the blocks of an event in a match that is on, first to the side of which it came. Whether a write to that side failed,
+// and whether one to the other.
+fn send_in_turn<W: Output, G: Played, S: Board>(
+    own: &mut W,
+    others: &mut W,
+    core: &mut Core,
+    game: &G,
+    scratch: &mut S,
+    given: Given,
+    text: &[u8],
+    side: Colour,
+) -> (bool, bool)
+    requires last { HasLast core.old (G.played game.now) }
+    requires on { is_on core.old.phase ≡ true }
+    ensures { (r : Rules) (m : Match) → G.plays game.now r → Stands r core.old (G.played game.now) m
+        → Delivered r core.new (G.played game.now) m (given_block r given (items_of text.now) m) side
+        (by_turn side (W.seen own.old) (W.seen others.old)) (by_turn side (W.seen own.new) (W.seen others.new)) (by_turn side result.0 result.1) }
+{
+    if send(own, core, game, scratch, given, text, side).is_err() {
+        let others_failed = end_for_other(others, core, game, scratch, side);
+        return (true, others_failed);
+    }
+    if send(others, core, game, scratch, given, text, side.other()).is_err() {
+        let own_failed = end_for_other(own, core, game, scratch, side.other());
+        return (own_failed, true);
+    }
+    (false, false)
+}
+
+// Sends the blocks of an event: first to the side of which it came, and at the end to White and then to Black. A write that
+// fails ends the match.
+fn deliver<W: Output, G: Played, S: Board>(
+    white: &mut W,
+    black: &mut W,
+    core: &mut Core,
+    game: &G,
+    scratch: &mut S,
+    given: Given,
+    text: &[u8],
+    side: Colour,
+) -> Failed
+    requires { HasLast core.old (G.played game.now) }
+    ensures { (r : Rules) (m : Match) → G.plays game.now r → Stands r core.old (G.played game.now) m
+        → Delivered r core.new (G.played game.now) m (given_block r given (items_of text.now) m) side
+        (by_side (W.seen white.old) (W.seen black.old)) (by_side (W.seen white.new) (W.seen black.new)) (by_side result.white result.black) }
+{
+    if core.is_over() {
+        return send_both(white, black, core, game, scratch, given, text);
+    }
+    match side {
+        Colour::White => {
+            let (own, others) = send_in_turn(white, black, core, game, scratch, given, text, side);
+            Failed {
+                white: own,
+                black: others,
+            }
+        }
+        Colour::Black => {
+            let (own, others) = send_in_turn(black, white, core, game, scratch, given, text, side);
+            Failed {
+                white: others,
+                black: own,
+            }
+        }
+    }
+}
+
+// What a line tells of items: those of a hello alone.
+#[tactic(auto, unfolding(crate::specs::Items::items_of))]
+fn items_text(phase: Phase, said: EngineLine<'_>) -> &[u8]
+    ensures { items_of result.now ≡ items_in phase (seen said.entry) }
+{
+    match phase {
+        Phase::Hello(_) => match said {
+            EngineLine::Features(text) => text,
+            EngineLine::Move(_) => b"",
+            EngineLine::Pong(_) => b"",
+            EngineLine::Resign => b"",
+            EngineLine::Offer => b"",
+            EngineLine::Draw => b"",
+            EngineLine::Win(_) => b"",
+            EngineLine::Rejection => b"",
+            EngineLine::Other => b"",
+        },
+        Phase::Setup(_) => b"",
+        Phase::Opening(_) => b"",
+        Phase::Before(_) => b"",
+        Phase::After(_) => b"",
+        Phase::Over(_) => b"",
+    }
+}
+
+// What a line says; of one that is too long nothing.
+fn said(line: &Line<8192>) -> EngineLine<'_>
+    ensures { seen result ≡ kind_heard (text_heard line.now) }
+{
+    if line.is_too_long() {
+        EngineLine::Other
+    } else {
+        read_engine_line(line.text())
+    }
+}
+
+// Hears a line of a side's engine, and then asks for the moment. What is to be sent, and the text of the items to be answered.
+fn hear_line<'a, M: Moments, G: Played>(
+    core: &mut Core,
+    moments: &mut M,
+    game: &mut G,
+    line: &'a Line<8192>,
+    side: Colour,
+) -> (Given, &'a [u8])
+    requires { (r : Rules) × (m : Match) × (G.plays game.old r) × Stands r core.old (G.played game.old) m × IsSane r m × (reads m.phase side ≡ true) }
+    ensures rules { (r : Rules) → G.plays game.old r → G.plays game.new r }
+    ensures origin { G.origin game.new ≡ G.origin game.old }
+    ensures heard { (moment : ℕ) × Asked (M.coming moments.old) (M.coming moments.new) (moment ∷ [])
+        × ((r : Rules) (m : Match) → G.plays game.old r → reads m.phase side ≡ true → Stands r core.old (G.played game.old) m
+        → Goes r core.new (G.played game.new) result.0 (items_of result.1.now) m (after r m (line_event side line.now moment))) }
+{
+    let moment = moments.now();
+    let said = said(line);
+    let text = items_text(core.phase, said);
+    let given = core.line(game, said, moment);
+    (given, text)
+}
+
+// Hears what a call for the next line of a side's engine gave. What is to be sent, and the text of the items to be answered.
+fn note<'a, M: Moments, G: Played>(
+    core: &mut Core,
+    moments: &mut M,
+    game: &mut G,
+    heard: &'a Result<Option<Line<8192>>, ReadFault>,
+    side: Colour,
+) -> (Given, &'a [u8])
+    requires { (r : Rules) × (m : Match) × (G.plays game.old r) × Stands r core.old (G.played game.old) m × IsSane r m × (reads m.phase side ≡ true) }
+    ensures rules { (r : Rules) → G.plays game.old r → G.plays game.new r }
+    ensures origin { G.origin game.new ≡ G.origin game.old }
+    ensures heard { (moment : ℕ) × Asked (M.coming moments.old) (M.coming moments.new) (moment_in (event_heard side moment heard.now))
+        × ((r : Rules) (m : Match) → G.plays game.old r → reads m.phase side ≡ true → Stands r core.old (G.played game.old) m
+        → Goes r core.new (G.played game.new) result.0 (items_of result.1.now) m (after r m (event_heard side moment heard.now))) }
+{
+    match heard {
+        Err(_) => (core.read_fails(side), b"".as_slice()),
+        Ok(None) => (core.output_ends(side), b"".as_slice()),
+        Ok(Some(line)) => {
+            if line.is_ended() {
+                hear_line(core, moments, game, line, side)
+            } else {
+                (core.output_ends(side), b"".as_slice())
+            }
+        }
+    }
+}
+
+// Hears what a call for the next line of a side's engine gave, and sends what that gives.
+fn hear<W: Output, M: Moments, G: Played, S: Board>(
+    white: &mut W,
+    black: &mut W,
+    moments: &mut M,
+    core: &mut Core,
+    game: &mut G,
+    scratch: &mut S,
+    heard: &Result<Option<Line<8192>>, ReadFault>,
+    side: Colour,
+) -> Failed
+    requires { (r : Rules) × (m : Match) × (G.plays game.old r) × Stands r core.old (G.played game.old) m × IsSane r m × (reads m.phase side ≡ true) }
+    ensures rules { (r : Rules) → G.plays game.old r → G.plays game.new r }
+    ensures origin { G.origin game.new ≡ G.origin game.old }
+    ensures heard { (moment : ℕ) × Asked (M.coming moments.old) (M.coming moments.new) (moment_in (event_heard side moment heard.now))
+        × ((r : Rules) (m : Match) → G.plays game.old r → reads m.phase side ≡ true → Stands r core.old (G.played game.old) m
+        → Delivered r core.new (G.played game.new) (after r m (event_heard side moment heard.now)) (block r m (after r m (event_heard side moment heard.now))) side
+        (by_side (W.seen white.old) (W.seen black.old)) (by_side (W.seen white.new) (W.seen black.new)) (by_side result.white result.black)) }
+{
+    let (given, text) = note(core, moments, game, heard, side);
+    deliver(white, black, core, game, scratch, given, text, side)
+}
+
+// Declares the end where the game has no verdict.
+fn declare<B: Board>(game: &mut Game<B>, reason: Reason)
+    requires { game.old.state.declared ≡ None }
+    ensures { game.new ≡ at game.old (with_declared game.old.state (declared_at (verdict_now game.old.state) reason)) }
+{
+    if game.verdict().is_some() {
+        return;
+    }
+    let _declared = game.declare(reason.outcome(), Comment::cut(reason.comment()));
+}
+
+// What is told of the end; it is declared where the game has no verdict.
+fn end_of<B: Board>(core: Core, game: &mut Game<B>, reason: Reason, failed: Failed) -> MatchEnd
+    requires { game.old.state.declared ≡ None }
+    ensures told { IsTold reason failed result }
+    ensures white_name { result.white_name ≡ core.white.name }
+    ensures black_name { result.black_name ≡ core.black.name }
+    ensures game { game.new ≡ at game.old (with_declared game.old.state (declared_at (verdict_now game.old.state) reason)) }
+{
+    declare(game, reason);
+    MatchEnd {
+        outcome: reason.outcome(),
+        comment: Comment::cut(reason.comment()),
+        ended: reason.ended(),
+        white_name: core.white.name,
+        black_name: core.black.name,
+        fault: first_fault(reason, failed.white, failed.black),
+    }
+}

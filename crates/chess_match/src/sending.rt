@@ -1,0 +1,462 @@
+//! Sending blocks.
+
+ghost use Rattle.std.specs.Prelude.{◌≡◌, ◌≢◌, ◌+◌, false, Ok, IfOk, ◌≤◌, ◌<◌, ◌++◌, ◌∷◌, [], length, IsErr, List, is_some, true, nat_lt, if◌then◌else◌};
+ghost use Rattle.arrayvec.specs.ArrayVec.{array_vec_len};
+ghost use Rattle.chess_base.specs.Devices.{Puts, Sends};
+ghost use Rattle.std.specs.Result.{is_err};
+ghost use Rattle.chess_match.specs.Told.{SendsIf};
+ghost use Rattle.chess_match.specs.Items.{items_of};
+ghost use Rattle.chess_pgn.specs.Waiting.{Adds};
+ghost use Rattle.chess_match.specs.Match.{Match};
+ghost use Rattle.chess_match.specs.Rules.{Rules};
+ghost use Rattle.chess_base.specs.Men.{same_colour};
+ghost use Rattle.chess_base.specs.declared.man.Move.{Move};
+ghost use Rattle.chess_match.specs.Sent.{SentLine, DrawOffered, answer_line, bytes_of, answers_to, last_move, last_move_lines, clock_lines, opening_lines, setup_lines, end_lines, end_block, entry, untold_lines, variant_lines, is_unwritten};
+ghost use Rattle.chess_match.specs.Reasons.{fault_of};
+ghost use Rattle.chess_match.specs.Stands.{Stands, given_block, player, to};
+
+use crate::block::{Block, add, add_end, add_level, add_ping, add_times};
+use crate::features::Features;
+use crate::item::{is_known, next_item};
+use crate::phase::Phase;
+use crate::played::Played;
+use crate::reason::{MatchFault, Reason};
+use crate::state::{Core, Given};
+use chess_base::device::{Output, WriteFault, put, put_parts};
+use chess_base::{Colour, Variant};
+use chess_moves::Board;
+
+// Whether two sides are the same.
+fn is_side(side: Colour, other: Colour) -> bool
+    ensures { result ≡ same_colour side other }
+{
+    match (side, other) {
+        (Colour::White, Colour::White) => true,
+        (Colour::Black, Colour::Black) => true,
+        (Colour::White, Colour::Black) => false,
+        (Colour::Black, Colour::White) => false,
+    }
+}
+
+impl Core {
+    // What that side's engine takes.
+    fn features(&self, side: Colour) -> Features
+        ensures { result ≡ (player self.now side).features }
+    {
+        match side {
+            Colour::White => self.white.features,
+            Colour::Black => self.black.features,
+        }
+    }
+}
+
+// The last move, as that side's engine takes it.
+fn add_last<G: Played, S: Board>(
+    block: &mut Block,
+    core: &Core,
+    game: &G,
+    scratch: &mut S,
+    side: Colour,
+)
+    requires some { 0 < length (G.played game.now) }
+    requires room { array_vec_len block.old + 20 ≤ 600 }
+    ensures text { (r : Rules) (m : Match) → G.plays game.now r → Stands r core.now (G.played game.now) m → block.new.items ≡ block.old.items ++ bytes_of (last_move r m side ∷ []) }
+    ensures len { array_vec_len block.new ≤ array_vec_len block.old + 20 }
+{
+    let features = core.features(side);
+    game.add_last_move(scratch, features.san, features.usermove, block);
+}
+
+// The last move, if there is one.
+fn add_last_if<G: Played, S: Board>(
+    block: &mut Block,
+    core: &Core,
+    game: &G,
+    scratch: &mut S,
+    side: Colour,
+)
+    requires { array_vec_len block.old + 20 ≤ 600 }
+    ensures text { (r : Rules) (m : Match) → G.plays game.now r → Stands r core.now (G.played game.now) m → block.new.items ≡ block.old.items ++ bytes_of (last_move_lines r m side) }
+    ensures len { array_vec_len block.new ≤ array_vec_len block.old + 20 }
+{
+    if game.is_unplayed() {
+        return;
+    }
+    add_last(block, core, game, scratch, side);
+}
+
+// Both clocks, for an engine that takes them.
+fn add_clocks(block: &mut Block, core: &Core, side: Colour)
+    requires { array_vec_len block.old + 60 ≤ 600 }
+    ensures text { (r : Rules) (played : List Move) (m : Match) → Stands r core.now played m → block.new.items ≡ block.old.items ++ bytes_of (clock_lines r m side) }
+    ensures len { array_vec_len block.new ≤ array_vec_len block.old + 60 }
+{
+    if core.features(side).time {
+        let own = core.clocks.remaining(side) / 10;
+        let others = core.clocks.remaining(side.other()) / 10;
+        add_times(block, own, others);
+    }
+}
+
+// The opening of a side's turn.
+fn add_opening<G: Played, S: Board>(
+    block: &mut Block,
+    core: &Core,
+    game: &G,
+    scratch: &mut S,
+    side: Colour,
+)
+    requires { array_vec_len block.old + 100 ≤ 600 }
+    ensures text { (r : Rules) (m : Match) → G.plays game.now r → Stands r core.now (G.played game.now) m → block.new.items ≡ block.old.items ++ bytes_of (opening_lines r m side) }
+    ensures len { array_vec_len block.new ≤ array_vec_len block.old + 100 }
+{
+    if core.clocks.moves(side) > 0 {
+        add_clocks(block, core, side);
+        add_last_if(block, core, game, scratch, side);
+    } else {
+        add_last_if(block, core, game, scratch, side);
+        add_clocks(block, core, side);
+        add(block, b"go\n");
+    }
+}
+
+// The variant, where it isn't normal chess.
+#[tactic(auto, unfolding(crate::specs::Sent::bytes_of))]
+fn add_variant(block: &mut Block, variant: Variant)
+    requires { array_vec_len block.old + 30 ≤ 600 }
+    ensures text { block.new.items ≡ block.old.items ++ bytes_of (variant_lines variant) }
+    ensures len { array_vec_len block.new ≤ array_vec_len block.old + 30 }
+{
+    match variant {
+        Variant::Normal => {}
+        Variant::Fischerandom => add(block, b"variant fischerandom\n"),
+    }
+}
+
+// The setup of an engine.
+fn add_setup<G: Played>(block: &mut Block, core: &Core, game: &G)
+    requires { array_vec_len block.old + 300 ≤ 600 }
+    ensures text { (r : Rules) (m : Match) → G.plays game.now r → Stands r core.now (G.played game.now) m → block.new.items ≡ block.old.items ++ bytes_of (setup_lines r) }
+    ensures len { array_vec_len block.new ≤ array_vec_len block.old + 300 }
+{
+    add(block, b"new\n");
+    add_variant(block, game.variant());
+    add_level(block, core.clocks.level());
+    add(block, b"nopost\neasy\nforce\n");
+    game.add_start(block);
+    add_ping(block, 1);
+}
+
+// The last move, if the side is still to be told it.
+fn add_untold<G: Played, S: Board>(
+    block: &mut Block,
+    core: &Core,
+    game: &G,
+    scratch: &mut S,
+    side: Colour,
+)
+    requires untold { is_some core.now.untold ≡ true → 0 < length (G.played game.now) }
+    requires room { array_vec_len block.old + 20 ≤ 600 }
+    ensures text { (r : Rules) (m : Match) → G.plays game.now r → Stands r core.now (G.played game.now) m → block.new.items ≡ block.old.items ++ bytes_of (untold_lines r m side m.untold) }
+    ensures len { array_vec_len block.new ≤ array_vec_len block.old + 20 }
+{
+    match core.untold {
+        None => {}
+        Some(untold) => {
+            if is_side(untold, side) {
+                add_last(block, core, game, scratch, side);
+            }
+        }
+    }
+}
+
+// The lines at the end.
+fn add_end_lines<G: Played, S: Board>(
+    block: &mut Block,
+    core: &Core,
+    game: &G,
+    scratch: &mut S,
+    side: Colour,
+    reason: Reason,
+)
+    requires untold { is_some core.now.untold ≡ true → 0 < length (G.played game.now) }
+    requires room { array_vec_len block.old + 120 ≤ 600 }
+    ensures text { (r : Rules) (m : Match) → G.plays game.now r → Stands r core.now (G.played game.now) m → block.new.items ≡ block.old.items ++ bytes_of (end_lines r m side reason) }
+    ensures len { array_vec_len block.new ≤ array_vec_len block.old + 120 }
+{
+    add_untold(block, core, game, scratch, side);
+    add_end(block, reason.outcome(), reason.comment());
+}
+
+// Whether a write to that side ended the match.
+fn is_unwritten(reason: Reason, side: Colour) -> bool
+    ensures { result ≡ is_unwritten (fault_of reason) side }
+{
+    match reason {
+        Reason::Faulted(failed, fault) => match fault {
+            MatchFault::Write => is_side(failed, side),
+            MatchFault::Ended => false,
+            MatchFault::Read => false,
+            MatchFault::NoDone => false,
+            MatchFault::NoPing => false,
+            MatchFault::NoSetboard => false,
+            MatchFault::Flood => false,
+            MatchFault::NoVariant => false,
+        },
+        Reason::Decided(_) => false,
+        Reason::Claimed(_) => false,
+        Reason::Agreed => false,
+        Reason::Resigns(_) => false,
+        Reason::MovesIllegally(_) => false,
+        Reason::MovesOutOfTurn(_) => false,
+        Reason::ClaimsFalsely(_) => false,
+        Reason::RejectsLegalMove(_) => false,
+        Reason::Forfeits(_) => false,
+        Reason::ForfeitsToBareKing => false,
+        Reason::GameTooLong => false,
+    }
+}
+
+// What a side's engine is sent where the match came into its phase.
+fn add_entry<G: Played, S: Board>(
+    block: &mut Block,
+    core: &Core,
+    game: &G,
+    scratch: &mut S,
+    side: Colour,
+)
+    requires untold { is_some core.now.untold ≡ true → 0 < length (G.played game.now) }
+    requires room { array_vec_len block.old + 300 ≤ 600 }
+    ensures { (r : Rules) (m : Match) → G.plays game.now r → Stands r core.now (G.played game.now) m → block.new.items ≡ block.old.items ++ bytes_of (entry r m side) }
+{
+    match core.phase {
+        Phase::Hello(on) => {
+            if is_side(on, side) {
+                add(block, b"xboard\nprotover 2\n");
+            }
+        }
+        Phase::Setup(on) => {
+            if is_side(on, side) {
+                add_setup(block, core, game);
+            }
+        }
+        Phase::Opening(on) => {
+            if is_side(on, side) {
+                add_opening(block, core, game, scratch, side);
+            }
+        }
+        Phase::Before(_) => {}
+        Phase::After(on) => {
+            if is_side(on, side) {
+                add_ping(block, core.clocks.moves(side) + 1);
+            }
+        }
+        Phase::Over(reason) => {
+            if is_unwritten(reason, side) {
+                return;
+            }
+            add_end_lines(block, core, game, scratch, side, reason);
+        }
+    }
+}
+
+// Adds the answer to an item of that name.
+fn add_answer(block: &mut Block, name: &[u8])
+    requires { array_vec_len block.old + length name.now + 10 ≤ 600 }
+    ensures text { block.new.items ≡ block.old.items ++ answer_line name.now }
+    ensures len { array_vec_len block.new ≡ array_vec_len block.old + length name.now + 10 }
+{
+    if is_known(name) {
+        add(block, b"accepted ");
+    } else {
+        add(block, b"rejected ");
+    }
+    add(block, name);
+    add(block, b"\n");
+}
+
+// Writes the answer to an item of that name.
+fn put_answer<W: Output>(writer: &mut W, name: &[u8]) -> Result<(), WriteFault>
+    ensures { Puts (W.seen writer.old) (W.seen writer.new) result (answer_line name.now) }
+{
+    if is_known(name) {
+        put_parts(writer, &[b"accepted ".as_slice(), name, b"\n".as_slice()])
+    } else {
+        put_parts(writer, &[b"rejected ".as_slice(), name, b"\n".as_slice()])
+    }
+}
+
+// Writes what waits.
+fn put_block<W: Output>(writer: &mut W, block: &mut Block) -> Result<(), WriteFault>
+    ensures puts { Puts (W.seen writer.old) (W.seen writer.new) result block.old.items }
+    ensures empty { IfOk result (λ u. block.new.items ≡ []) }
+    ensures len { IfOk result (λ u. array_vec_len block.new ≤ 290) }
+{
+    match put(writer, block.as_slice()) {
+        Ok(()) => {}
+        Err(fault) => return Err(fault),
+    }
+    block.clear();
+    Ok(())
+}
+
+// Whether the answer to an item of that name fits behind what waits, so that there is room for the rest of a block too.
+fn has_room(block: &Block, name: &[u8]) -> bool
+    ensures { result ≡ true → array_vec_len block.now + length name.now ≤ 280 }
+{
+    name.len() <= 280 && block.len() <= 280 - name.len()
+}
+
+// Answers an item of that name behind what waits; where there is no room for it, what waits is written first, and then the
+// answer.
+fn answer<W: Output>(writer: &mut W, block: &mut Block, name: &[u8]) -> Result<(), WriteFault>
+    requires { array_vec_len block.old ≤ 290 }
+    ensures adds { Adds (W.seen writer.old) (W.seen writer.new) block.old.items block.new.items result (answer_line name.now) }
+    ensures len { IfOk result (λ u. array_vec_len block.new ≤ 290) }
+{
+    if has_room(block, name) {
+        add_answer(block, name);
+        return Ok(());
+    }
+    match put_block(writer, block) {
+        Ok(()) => {}
+        Err(fault) => return Err(fault),
+    }
+    put_answer(writer, name)
+}
+
+// Answers the items of a text, and tells whether there are any.
+fn answer_items<W: Output>(
+    writer: &mut W,
+    block: &mut Block,
+    text: &[u8],
+) -> Result<bool, WriteFault>
+    requires { array_vec_len block.old ≤ 290 }
+    ensures adds { Adds (W.seen writer.old) (W.seen writer.new) block.old.items block.new.items result (bytes_of (answers_to (items_of text.now))) }
+    ensures len { IfOk result (λ some. array_vec_len block.new ≤ 290) }
+    ensures due { IsErr result → 0 < length (answers_to (items_of text.now)) }
+    ensures some { IfOk result (λ some. some ≡ nat_lt 0 (length (answers_to (items_of text.now)))) }
+{
+    let mut rest = text;
+    let mut some = false;
+    while let Some((item, behind)) = next_item(rest) {
+        match answer(writer, block, item.name) {
+            Ok(()) => {}
+            Err(fault) => return Err(fault),
+        }
+        some = true;
+        if item.ends_hello() {
+            return Ok(some);
+        }
+        rest = behind;
+    }
+    Ok(some)
+}
+
+// Answers the items of a text, if they are that side's, and tells whether there are any.
+#[tactic(auto, unfolding(crate::specs::Sent::bytes_of), using(chess_pgn::proofs::Added::added_none))]
+fn answer_own_items<W: Output>(
+    writer: &mut W,
+    block: &mut Block,
+    given: Given,
+    text: &[u8],
+    side: Colour,
+) -> Result<bool, WriteFault>
+    requires { array_vec_len block.old ≤ 290 }
+    ensures adds { Adds (W.seen writer.old) (W.seen writer.new) block.old.items block.new.items result (bytes_of (to given.answers side (answers_to (items_of text.now)))) }
+    ensures len { IfOk result (λ some. array_vec_len block.new ≤ 290) }
+    ensures due { IsErr result → 0 < length (to given.answers side (answers_to (items_of text.now))) }
+    ensures some { IfOk result (λ some. some ≡ nat_lt 0 (length (to given.answers side (answers_to (items_of text.now))))) }
+{
+    match given.answers {
+        None => Ok(false),
+        Some(answering) => {
+            if is_side(answering, side) {
+                answer_items(writer, block, text)
+            } else {
+                Ok(false)
+            }
+        }
+    }
+}
+
+// The offer of a draw, if that side is told one.
+#[tactic(auto, unfolding(crate::specs::Sent::bytes_of))]
+fn add_offer(block: &mut Block, given: Given, side: Colour)
+    requires { array_vec_len block.old + 10 ≤ 600 }
+    ensures text { block.new.items ≡ block.old.items ++ bytes_of (to given.draw side (DrawOffered ∷ [])) }
+    ensures len { array_vec_len block.new ≤ array_vec_len block.old + 10 }
+{
+    match given.draw {
+        None => {}
+        Some(offered) => {
+            if is_side(offered, side) {
+                add(block, b"draw\n");
+            }
+        }
+    }
+}
+
+// What the phase gives, if it was entered.
+#[tactic(auto, using(crate::proofs::Sends::same_end))]
+fn add_entered<G: Played, S: Board>(
+    block: &mut Block,
+    core: &Core,
+    game: &G,
+    scratch: &mut S,
+    given: Given,
+    side: Colour,
+)
+    requires untold { is_some core.now.untold ≡ true → 0 < length (G.played game.now) }
+    requires room { array_vec_len block.old + 300 ≤ 600 }
+    ensures { (r : Rules) (m : Match) → G.plays game.now r → Stands r core.now (G.played game.now) m → block.new.items ≡ block.old.items ++ bytes_of (if given.entered then entry r m side else []) }
+{
+    if given.entered {
+        add_entry(block, core, game, scratch, side);
+    }
+}
+
+// Whether nothing is to be sent: no text, and nothing was written before it.
+fn is_nothing(text: &[u8], is_due: bool) -> bool
+    ensures some { result ≡ false → is_due ≡ false → text.now ≢ [] }
+    ensures none { result ≡ true → (is_due ≡ false) × (text.now ≡ []) }
+{
+    text.is_empty() && !is_due
+}
+
+// Writes a text, and flushes.
+fn put_and_flush<W: Output>(writer: &mut W, text: &[u8]) -> Result<(), WriteFault>
+    ensures { Sends (W.seen writer.old) (W.seen writer.new) result text.now }
+{
+    put(writer, text)?;
+    writer.flush()
+}
+
+/// Writes and flushes the block that is given for a side, if it isn't empty: answers to the items of a text, an offer, and
+/// what the phase gives. It is written by one call, unless there are more answers than fit the buffer.
+pub(crate) fn send<W: Output, G: Played, S: Board>(
+    writer: &mut W,
+    core: &Core,
+    game: &G,
+    scratch: &mut S,
+    given: Given,
+    text: &[u8],
+    side: Colour,
+) -> Result<(), WriteFault>
+    requires { is_some core.now.untold ≡ true → 0 < length (G.played game.now) }
+    ensures sends { (r : Rules) (m : Match) → G.plays game.now r → Stands r core.now (G.played game.now) m → SendsIf (is_err result) (W.seen writer.old) (W.seen writer.new) (bytes_of (given_block r given (items_of text.now) m side)) }
+    ensures due { (r : Rules) (m : Match) → G.plays game.now r → Stands r core.now (G.played game.now) m → IsErr result → 0 < length (given_block r given (items_of text.now) m side) }
+{
+    let mut block = Block::new();
+    let answered = match answer_own_items(writer, &mut block, given, text, side) {
+        Ok(answered) => answered,
+        Err(fault) => return Err(fault),
+    };
+    add_offer(&mut block, given, side);
+    add_entered(&mut block, core, game, scratch, given, side);
+    let waiting = block.as_slice();
+    if is_nothing(waiting, answered) {
+        return Ok(());
+    }
+    put_and_flush(writer, waiting)
+}

@@ -1,0 +1,131 @@
+//! The core of a match, without devices.
+
+ghost use Rattle.std.specs.Prelude.{◌≡◌, ◌++◌, ◌∷◌, [], List, false};
+ghost use Rattle.chess_match.specs.Seen.{item_seen};
+ghost use Rattle.chess_match.specs.Items as told;
+ghost use Rattle.chess_match.specs.Items.{items_of, has_done};
+ghost use Rattle.chess_match.specs.Stands.{features_of, name_by, Stands};
+ghost use Rattle.chess_match.specs.Match.{start};
+ghost use Rattle.chess_match.specs.Rules.{Rules};
+
+use crate::clocks::Clocks;
+use crate::features::Features;
+use crate::item::{Item, has_word, next_item};
+use crate::level::Level;
+use crate::phase::Phase;
+use chess_base::Colour;
+use chess_pgn::TagText;
+
+/// What is kept of one engine.
+#[derive(Drop)]
+pub(crate) struct Player {
+    pub features: Features,
+    pub name: TagText,
+    /// Its offer of a draw stands.
+    pub offers: bool,
+}
+
+/// What is to be sent: answers to the items of the line, an offer, and what the phase that was entered gives.
+#[derive(Clone, Copy)]
+pub(crate) struct Given {
+    pub answers: Option<Colour>,
+    pub draw: Option<Colour>,
+    pub entered: bool,
+}
+
+/// The state of a match, but for the game.
+#[derive(Drop)]
+pub(crate) struct Core {
+    pub phase: Phase,
+    pub white: Player,
+    pub black: Player,
+    pub clocks: Clocks,
+    /// Who is still to be told the last move.
+    pub untold: Option<Colour>,
+    /// The lines of a hello, or the ignored ones of a setup or a turn.
+    pub count: u32,
+    /// The moment at the end of the turn's opening.
+    pub opened: u64,
+}
+
+pub(crate) const NOTHING: Given = Given {
+    answers: None,
+    draw: None,
+    entered: false,
+};
+
+pub(crate) const ENTRY: Given = Given {
+    answers: None,
+    draw: None,
+    entered: true,
+};
+
+impl Player {
+    // Nothing was said yet.
+    #[tactic(auto, unfolding(crate::specs::Stands::features_of, crate::specs::Stands::name_by, crate::specs::Items::takes, crate::specs::Items::plays_fischerandom, crate::specs::Items::told))]
+    fn new() -> Self
+        ensures features { result.features ≡ features_of [] }
+        ensures name { result.name ≡ name_by [] }
+        ensures offers { result.offers ≡ false }
+    {
+        Player {
+            features: Features {
+                ping: false,
+                setboard: false,
+                san: false,
+                usermove: false,
+                time: true,
+                draw: true,
+                fischerandom: true,
+            },
+            name: TagText::cut(b""),
+            offers: false,
+        }
+    }
+
+    /// Takes over what the items of a text say, and answers whether they end the hello.
+    pub(crate) fn hear(&mut self, text: &[u8]) -> bool
+        ensures features { (items : List told.Item) → self.old.features ≡ features_of items → self.new.features ≡ features_of (items ++ items_of text.now) }
+        ensures name { (items : List told.Item) → self.old.name ≡ name_by items → self.new.name ≡ name_by (items ++ items_of text.now) }
+        ensures offers { self.new.offers ≡ self.old.offers }
+        ensures done { result ≡ has_done (items_of text.now) }
+    {
+        let mut rest = text;
+        while let Some((item, behind)) = next_item(rest) {
+            self.features = self.features.heard(&item);
+            note_name(&mut self.name, &item);
+            if item.ends_hello() {
+                return true;
+            }
+            rest = behind;
+        }
+        false
+    }
+}
+
+impl Core {
+    /// Before any line: White's hello.
+    pub(crate) fn new(level: Level) -> Self
+        ensures { (r : Rules) → r.level ≡ level → Stands r result [] start }
+    {
+        Core {
+            phase: Phase::Hello(Colour::White),
+            white: Player::new(),
+            black: Player::new(),
+            clocks: Clocks::new(level),
+            untold: None,
+            count: 0,
+            opened: 0,
+        }
+    }
+}
+
+// Takes over the name that an item says.
+#[tactic(auto, unfolding(crate::specs::Stands::name_by, crate::specs::Items::told))]
+fn note_name(name: &mut TagText, item: &Item<'_>)
+    ensures { (items : List told.Item) → name.old ≡ name_by items → name.new ≡ name_by (items ++ item_seen item.now ∷ []) }
+{
+    if item.name == b"myname".as_slice() {
+        *name = TagText::cut(item.value.text());
+    }
+}
