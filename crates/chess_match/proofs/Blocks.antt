@@ -21,14 +21,17 @@ if_nil true xs e = refl
 if_nil false xs e = e
 
 -- lines of a kind that neither answers an item nor offers a draw come of a phase alone
-pub of_block : {A : Type 0} (f : SentLine → List A) → ((i : Item) → f (Answered i) ≡ []) → f DrawOffered ≡ [] → (r : Rules) (m m' : Match) (S : Colour)
+pub of_block : {A : Type 0} (f : SentLine → List A) → ((i : Item) → f (Answered i) ≡ []) → f DrawOffered ≡ []
+    → (r : Rules) (m m' : Match) (S : Colour)
     → flat_map f (block r m m' S) ≡ (if is_same_phase m.phase m'.phase then [] else flat_map f (entry r m' S))
 unfolding block
 of_block {A} f a d r m m' S =
     flat_map-append f (answers_to (new_items (seat m S) (seat m' S))) _
-    ∙ ap (λ (l : List A). l ++ flat_map f (draw_line (seat m' S) (seat m (other S)) (seat m' (other S)) ++ (if is_same_phase m.phase m'.phase then [] else entry r m' S))) (answers (new_items (seat m S) (seat m' S)))
+    ∙ ap (λ (l : List A). l ++ flat_map f (draw_line (seat m' S) (seat m (other S)) (seat m' (other S))
+        ++ (if is_same_phase m.phase m'.phase then [] else entry r m' S))) (answers (new_items (seat m S) (seat m' S)))
     ∙ flat_map-append f (draw_line (seat m' S) (seat m (other S)) (seat m' (other S))) _
-    ∙ ap (λ (l : List A). l ++ flat_map f (if is_same_phase m.phase m'.phase then [] else entry r m' S)) (offer (not (seat m (other S)).offers && (seat m' (other S)).offers && takes (codes "draw") (seat m' S).items))
+    ∙ ap (λ (l : List A). l ++ flat_map f (if is_same_phase m.phase m'.phase then [] else entry r m' S))
+        (offer (not (seat m (other S)).offers && (seat m' (other S)).offers && takes (codes "draw") (seat m' S).items))
     ∙ split (is_same_phase m.phase m'.phase) (entry r m' S)
   where
     answers : (items : List Item) → flat_map f (answers_to items) ≡ []
@@ -54,12 +57,14 @@ unoffered told s = at s.offers (takes (codes "draw") told.items)
     at false t = refl
 
 -- where the engines' seats stay as they are
-pub quiet_block : (r : Rules) (m m' : Match) → m'.white ≡ m.white → m'.black ≡ m.black → (S : Colour) → block r m m' S ≡ (if is_same_phase m.phase m'.phase then [] else entry r m' S)
+pub quiet_block : (r : Rules) (m m' : Match) → m'.white ≡ m.white → m'.black ≡ m.black → (S : Colour) → block r m m' S
+    ≡ (if is_same_phase m.phase m'.phase then [] else entry r m' S)
 unfolding block
 quiet_block r m m' w b White = rw (w, b, unheard m.white, unoffered m.white m.black) refl
 quiet_block r m m' w b Black = rw (w, b, unheard m.black, unoffered m.black m.white) refl
 
-pub joined_at : (b : Bool) (x : List SentLine) (bs : List (List SentLine)) → joined_blocks ((if b then [] else x ∷ []) ++ bs) ≡ (if b then [] else x) ++ joined_blocks bs
+pub joined_at : (b : Bool) (x : List SentLine) (bs : List (List SentLine))
+    → joined_blocks ((if b then [] else x ∷ []) ++ bs) ≡ (if b then [] else x) ++ joined_blocks bs
 joined_at true x bs = refl
 joined_at false x bs = refl
 

@@ -18,19 +18,22 @@ use Rattle.chess_match.proofs.Outcomes.{offering, InTurn, event_outcome, kept_by
 
 -- neither side used more than it was given
 abbrev IsInTime : LevelSeen → Match → Type 0
-IsInTime level m = (sum m.white.used ≤ allotted level (length m.white.used)) × (sum m.black.used ≤ allotted level (length m.black.used))
+IsInTime level m = (sum m.white.used ≤ allotted level (length m.white.used))
+    × (sum m.black.used ≤ allotted level (length m.black.used))
 
 sum-snoc : (xs : List ℕ) (x : ℕ) → sum (xs ++ x ∷ []) ≡ sum xs + x
 sum-snoc xs x = sum_by-append (λ (n : ℕ). n) xs (x ∷ []) ∙ ap (λ n. sum xs + n) (zero-add x)
 
-used_more : (level : LevelSeen) (xs : List ℕ) (x : ℕ) → sum xs ≤ allotted level (length xs) → x ≤ left level (length xs) (sum xs)
+used_more : (level : LevelSeen) (xs : List ℕ) (x : ℕ) → sum xs ≤ allotted level (length xs)
+    → x ≤ left level (length xs) (sum xs)
     → sum (xs ++ x ∷ []) ≤ allotted level (length (xs ++ x ∷ []))
 unfolding left
 used_more level xs x w timely =
     let grows : allotted level (length xs) ≤ allotted level (length xs + 1) = allotted_grows level (length xs) in
     rw (sum-snoc xs x, length-append xs (x ∷ [])) (omega (arith, grows, w, timely))
 
-heard : (level : LevelSeen) (S : Colour) (items : List Item) (m : Match) → IsInTime level m → IsInTime level (hear S items m)
+heard : (level : LevelSeen) (S : Colour) (items : List Item) (m : Match) → IsInTime level m
+    → IsInTime level (hear S items m)
 heard level White items m w = w
 heard level Black items m w = w
 
@@ -38,14 +41,18 @@ offered : (level : LevelSeen) (S : Colour) (m : Match) → IsInTime level m → 
 offered level White m w = w
 offered level Black m w = w
 
-played : (r : Rules) (S : Colour) (move : Move) (used : ℕ) (m : Match) → used ≤ clock r m S → IsInTime r.level m → IsInTime r.level (played_by S move used m)
+played : (r : Rules) (S : Colour) (move : Move) (used : ℕ) (m : Match) → used ≤ clock r m S → IsInTime r.level m
+    → IsInTime r.level (played_by S move used m)
 played r White move used m timely w = (used_more r.level m.white.used used w.0 timely, w.1)
 played r Black move used m timely w = (w.0, used_more r.level m.black.used used w.1 timely)
 
-in_turn : (r : Rules) (S : Colour) (kind : LineKind) (m : Match) → IsInTime r.level m → InTurn r S kind m (λ m'. IsInTime r.level m')
-in_turn r S kind m w = record { ends = λ reason n. w; counts = λ k n. w; offers = λ k own theirs. offered r.level S m w }
+in_turn : (r : Rules) (S : Colour) (kind : LineKind) (m : Match) → IsInTime r.level m
+    → InTurn r S kind m (λ m'. IsInTime r.level m')
+in_turn r S kind m w = record { ends = λ reason n. w; counts = λ k n. w; offers =
+    λ k own theirs. offered r.level S m w }
 
-step : (r : Rules) (due : Colour → List SentLine) (m : Match) (e : Event) → fits_next due m e ≡ true → IsInTime r.level m → IsInTime r.level (after r m e)
+step : (r : Rules) (due : Colour → List SentLine) (m : Match) (e : Event) → fits_next due m e ≡ true
+    → IsInTime r.level m → IsInTime r.level (after r m e)
 step r due m e f w =
     let P : Match → Type 0 = λ m'. IsInTime r.level m' in
     event_outcome r due m e P f (record {
@@ -78,5 +85,7 @@ sums given used h = omega (arith, h)
 
 pub clocks_do_not_underflow : ClocksDoNotUnderflow
 unfolding left
-clocks_do_not_underflow r T White f = sums (allotted r.level (length (match_of r T).white.used)) (sum (match_of r T).white.used) (in_time r T f).0
-clocks_do_not_underflow r T Black f = sums (allotted r.level (length (match_of r T).black.used)) (sum (match_of r T).black.used) (in_time r T f).1
+clocks_do_not_underflow r T White f = sums (allotted r.level (length (match_of r T).white.used))
+    (sum (match_of r T).white.used) (in_time r T f).0
+clocks_do_not_underflow r T Black f = sums (allotted r.level (length (match_of r T).black.used))
+    (sum (match_of r T).black.used) (in_time r T f).1

@@ -1,24 +1,25 @@
 -- The blocks of an event, sent one after the other.
-use Rattle.std.proofs.Common.{◌≡◌, ℕ, ◌+◌, ◌<◌, ◌≤◌, Bool, true, false, not, inl, inr, ◌⊎◌, List, [], ◌∷◌, ◌++◌, length, refl, ap, sym, ◌∙◌, subst, arith, Option, Some, None, Result, Ok, Err}
+use Rattle.std.proofs.Common.{◌≡◌, ℕ, ◌<◌, ◌≤◌, Bool, true, false, not, inl, inr, List, [], length, refl, ap, sym, ◌∙◌, subst, arith, Option, Some, None, Result, Ok, Err}
 use Rattle.std.specs.Prelude.{if◌then◌else◌, is_some}
 use Rattle.std.specs.Result.{is_err}
 use Rattle.chess_base.specs.declared.man.Colour.{Colour}
 use Rattle.chess_base.specs.declared.man.Colour.TheVariants.{White, Black}
 use Rattle.chess_base.specs.declared.man.Move.{Move}
 use Rattle.chess_base.specs.Devices.{OutputState, Took, BreaksOff, Puts}
-use Rattle.chess_base.specs.Men.{other, same_colour}
+use Rattle.chess_base.specs.Men.{other}
 use Rattle.chess_base.proofs.DeviceLaws.{took_none}
-use Rattle.chess_match.specs.Clocks.{Spent, ClocksSeen, spent_by}
-use Rattle.chess_match.specs.Delivering.{AllSent, OneFailed, Delivered, HasLast, by_side, by_turn}
+use Rattle.chess_match.specs.Clocks.{ClocksSeen, spent_by}
+use Rattle.chess_cecp.specs.Lines.{LineSeen}
+use Rattle.chess_match.specs.Delivering.{Delivered, by_side, by_turn, event_heard}
 use Rattle.chess_match.specs.Items.{Item, items_of}
-use Rattle.chess_match.specs.Match.{Match, FailsToWrite, after, seat}
+use Rattle.chess_match.specs.Match.{Match, Event, Line, OutputEnds, FailsToRead, FailsToWrite, after}
 use Rattle.chess_match.specs.Rules.{Rules}
 use Rattle.chess_match.specs.Sent.{SentLine, block, bytes_of}
-use Rattle.chess_match.specs.Stands.{Stands, Goes, given_block, clocks_of}
+use Rattle.chess_match.specs.Stands.{Stands, Goes, clocks_of}
 use Rattle.chess_match.specs.Steps.{IsSane, in_turn}
 use Rattle.chess_match.specs.Told.{PutsIf}
-use Rattle.chess_match.specs.Transcript.{is_on}
-use Rattle.chess_match.specs.declared.phase.Phase.{Phase}
+use Rattle.chess_match.specs.Run.{Asked, text_heard}
+use Rattle.chess_match.specs.Transcript.{is_on, reads, moment_in}
 use Rattle.chess_match.specs.declared.state.Core.{Core}
 use Rattle.chess_match.specs.declared.state.Given.{Given}
 
@@ -55,21 +56,21 @@ pub second_failed : (r : Rules) (core : Core) (played : List Move) (m : Match) (
 second_failed r core played m due White o v o' x x' f on some s t b p = inr (Black, record { on = on; some = some; stands = s; fails = refl; broke = b; others = (v, t, p) })
 second_failed r core played m due Black o v o' x x' f on some s t b p = inr (White, record { on = on; some = some; stands = s; fails = refl; broke = b; others = (v, t, p) })
 
-both_sides : {P : Colour → Type 0} → P White → P Black → (S : Colour) → P S
-both_sides w b White = w
-both_sides w b Black = b
+pub both_sides : (P : Colour → Type 0) → P White → P Black → (S : Colour) → P S
+both_sides P w b White = w
+both_sides P w b Black = b
 
 pub none_failed : (r : Rules) (core : Core) (played : List Move) (m : Match) (due : Colour → List SentLine) (S : Colour) (o o' x x' : OutputState) → Stands r core played m
     → PutsIf false o o' (bytes_of (due S)) → PutsIf false x x' (bytes_of (due (other S))) → Delivered r core played m due S (by_turn S o x) (by_turn S o' x') (by_turn S false false)
 none_failed r core played m due White o o' x x' s a b = inl (record {
   stands = s;
-  puts = both_sides {P = λ X. PutsIf (by_side false false X) (by_side o x X) (by_side o' x' X) (bytes_of (due X))} a b;
-  fine = λ h X. both_sides {P = λ Y. by_side false false Y ≡ false} refl refl X;
+  puts = both_sides (λ X. PutsIf (by_side false false X) (by_side o x X) (by_side o' x' X) (bytes_of (due X))) a b;
+  fine = λ h X. both_sides (λ Y. by_side false false Y ≡ false) refl refl X;
 })
 none_failed r core played m due Black o o' x x' s a b = inl (record {
   stands = s;
-  puts = both_sides {P = λ X. PutsIf (by_side false false X) (by_side x o X) (by_side x' o' X) (bytes_of (due X))} b a;
-  fine = λ h X. both_sides {P = λ Y. by_side false false Y ≡ false} refl refl X;
+  puts = both_sides (λ X. PutsIf (by_side false false X) (by_side x o X) (by_side x' o' X) (bytes_of (due X))) b a;
+  fine = λ h X. both_sides (λ Y. by_side false false Y ≡ false) refl refl X;
 })
 
 never : (b : Bool) {P : Type 0} → true ≡ not b → b ≡ true → P
@@ -81,9 +82,21 @@ pub both_sent : (r : Rules) (core : Core) (played : List Move) (m : Match) (due 
     → PutsIf f w w' (bytes_of (due White)) → PutsIf g b b' (bytes_of (due Black)) → Delivered r core played m due S (by_side w b) (by_side w' b') (by_side f g)
 both_sent r core played m due S w w' b b' f g s o x y = inl (record {
   stands = s;
-  puts = both_sides {P = λ X. PutsIf (by_side f g X) (by_side w b X) (by_side w' b' X) (bytes_of (due X))} x y;
+  puts = both_sides (λ X. PutsIf (by_side f g X) (by_side w b X) (by_side w' b' X) (bytes_of (due X))) x y;
   fine = λ h X. never (is_on core.phase) o (ap is_on s.phase ∙ h);
 })
+
+-- ---- which writer is whose
+
+pub turn_white : (r : Rules) (core : Core) (played : List Move) (m : Match) (due : Colour → List SentLine) (S : Colour) (o o' x x' : OutputState) (f g : Bool) → S ≡ White
+    → Delivered r core played m due S (by_turn S o x) (by_turn S o' x') (by_turn S f g) → Delivered r core played m due S (by_side o x) (by_side o' x') (by_side f g)
+turn_white r core played m due White o o' x x' f g e d = d
+turn_white r core played m due Black o o' x x' f g e d = absurd cc
+
+pub turn_black : (r : Rules) (core : Core) (played : List Move) (m : Match) (due : Colour → List SentLine) (S : Colour) (o o' x x' : OutputState) (f g : Bool) → S ≡ Black
+    → Delivered r core played m due S (by_turn S o x) (by_turn S o' x') (by_turn S f g) → Delivered r core played m due S (by_side x o) (by_side x' o') (by_side g f)
+turn_black r core played m due Black o o' x x' f g e d = d
+turn_black r core played m due White o o' x x' f g e d = absurd cc
 
 -- ---- what a line asks of the core
 
@@ -104,3 +117,24 @@ undecided r core played m s sane h = ap (λ (ms : List Move). r.verdict ms) s.mo
 -- the same items, told otherwise
 pub goes_with : (r : Rules) (core : Core) (played : List Move) (given : Given) (items items' : List Item) (m m' : Match) → items ≡ items' → Goes r core played given items m m' → Goes r core played given items' m m'
 goes_with r core played given items items' m m' e g = subst (λ (is : List Item). Goes r core played given is m m') e g
+
+-- ---- what was heard, and what it is noted as
+
+-- an event is noted: its moment was asked for, and the core goes on by it
+abbrev pub IsNoted : (Rules → Type 0) → Core → List Move → Core → List Move → Given → List ℕ → Colour → (ℕ → Option ℕ) → (ℕ → Option ℕ) → Event → Type 0
+IsNoted plays core played core' played' given text S coming coming' e =
+    Asked coming coming' (moment_in e) × ((r : Rules) (m : Match) → plays r → reads m.phase S ≡ true → Stands r core played m → Goes r core' played' given (items_of text) m (after r m e))
+
+pub heard_failed : {E : Type 0} (P : Event → Type 0) (S : Colour) (moment : ℕ) (result : Result (Option LineSeen) E) (x : E) → result ≡ Err x → P (FailsToRead S) → P (event_heard S moment result)
+heard_failed P S moment result x e p = subst (λ v. P (event_heard S moment v)) (sym e) p
+
+pub heard_none : {E : Type 0} (P : Event → Type 0) (S : Colour) (moment : ℕ) (result : Result (Option LineSeen) E) → result ≡ Ok None → P (OutputEnds S) → P (event_heard S moment result)
+heard_none P S moment result e p = subst (λ v. P (event_heard S moment v)) (sym e) p
+
+pub heard_last : {E : Type 0} (P : Event → Type 0) (S : Colour) (moment : ℕ) (result : Result (Option LineSeen) E) (line : LineSeen) → result ≡ Ok (Some line) → line.ended ≡ false → P (OutputEnds S) → P (event_heard S moment result)
+heard_last P S moment result line e f p =
+    subst (λ v. P (event_heard S moment v)) (sym e) (subst (λ (b : Bool). P (if b then Line S (text_heard line) moment else OutputEnds S)) (sym f) p)
+
+-- items that stand in a text that is empty
+pub goes_bare : (r : Rules) (core : Core) (played : List Move) (given : Given) (text : List ℕ) (m m' : Match) → text ≡ [] → Goes r core played given [] m m' → Goes r core played given (items_of text) m m'
+goes_bare r core played given text m m' e g = goes_with r core played given [] (items_of text) m m' (sym no_items ∙ ap items_of (sym e)) g

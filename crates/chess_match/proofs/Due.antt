@@ -1,5 +1,5 @@
 -- A write fails only where something is due.
-use Rattle.std.proofs.Common.{◌≡◌, ℕ, ◌+◌, ◌<◌, Bool, true, false, List, [], ◌∷◌, ◌++◌, length, length-append, refl, ap, sym, ◌∙◌, arith, Result, Ok, Err, IsErr}
+use Rattle.std.proofs.Common.{◌≡◌, ℕ, ◌<◌, Bool, true, false, List, [], ◌∷◌, ◌++◌, length, length-append, refl, arith, Result, Ok, Err, IsErr}
 use Rattle.chess_base.specs.declared.device.traits.WriteFault.{WriteFault}
 use Rattle.chess_match.specs.Sent.{SentLine, bytes_of}
 

@@ -1,5 +1,5 @@
 -- A run whose match is over keeps the whole promise.
-use Rattle.std.proofs.Common.{◌≡◌, ℕ, Bool, true, false, List, refl, ap, sym, ◌∙◌, subst, Option, Some, None}
+use Rattle.std.proofs.Common.{◌≡◌, ℕ, List, ap, sym, ◌∙◌, Option}
 use Rattle.chess_base.specs.declared.man.Colour.{Colour}
 use Rattle.chess_base.specs.declared.man.Colour.TheVariants.{White, Black}
 use Rattle.chess_base.specs.declared.man.Move.{Move}
@@ -9,18 +9,16 @@ use Rattle.chess_cecp.specs.Lines.{Held}
 use Rattle.chess_game.specs.Ends.{verdict}
 use Rattle.chess_game.specs.Game as game
 use Rattle.chess_game.specs.Game.{with_declared, verdict_now}
-use Rattle.chess_game.specs.declared.results.Declared.{Declared}
 use Rattle.chess_match.specs.Delivering.{by_side}
 use Rattle.chess_match.specs.Levels.{LevelSeen}
-use Rattle.chess_match.specs.Match.{Match, Event, seat}
+use Rattle.chess_match.specs.Match.{Event, seat}
 use Rattle.chess_match.specs.Reasons.{declared_at}
 use Rattle.chess_match.specs.Rules.{Rules, rules_of}
-use Rattle.chess_match.specs.Run.{Ports, reader_at, writer_at, Heard, Written, IsTranscript, IsToldEnd, game_after, Ran}
-use Rattle.chess_match.specs.Stands.{Stands, name_by}
+use Rattle.chess_match.specs.Run.{Ports, reader_at, writer_at, Heard, Written, game_after, Ran}
+use Rattle.chess_match.specs.Stands.{name_by}
 use Rattle.chess_match.specs.Told.{IsTold}
-use Rattle.chess_match.specs.Transcript.{match_of, ending, ending_in, name_of, blocks}
+use Rattle.chess_match.specs.Transcript.{match_of, ending_in, name_of, blocks}
 use Rattle.chess_match.specs.UnderWay.{IsUnderWay}
-use Rattle.chess_match.specs.declared.phase.Phase.{Phase}
 use Rattle.chess_match.specs.declared.phase.Phase.TheVariants.{Over}
 use Rattle.chess_match.specs.declared.reason.Reason.{Reason}
 use Rattle.chess_match.specs.declared.run.Failed.{Failed}
@@ -54,22 +52,25 @@ pub ran : (g h h' : game.Seen) (start : Setup) (level : LevelSeen) (T : List Eve
 ran g h h' start level T core reason failed end nw nb nw' nb' held ow ob ow' ob' coming coming' u over told wn bn s l e =
     let r : Rules = rules_of start level g.limit in
     let w : Ports = record { white_reader = nw; white_writer = ow; black_reader = nb; black_writer = ob } in
-    let w' : Ports = record { white_reader = nw'; white_writer = ow'; black_reader = nb'; black_writer = ob' } in
-    (T, reason, by_side failed.white failed.black,
-     record {
-       fitting = u.fitting;
-       ending = ap ending_in (sym u.stands.phase ∙ over);
-       heard = both_sides {P = λ S. (given : List ℕ) × Heard S T (reader_at w S) (reader_at w' S) given} ((u.heard White).0, (u.heard White).1) ((u.heard Black).0, (u.heard Black).1);
-       written = both_sides {P = λ S. Written (by_side failed.white failed.black S) (writer_at w S) (writer_at w' S) (blocks r S T)} (u.written White) (u.written Black);
-       failing = u.failing;
-       moments = u.moments;
-     },
-     record {
-       outcome = told.outcome;
-       comment = told.comment;
-       ended = told.ended;
-       white_name = name_kept r T White end.white_name (wn ∙ u.stands.white.name);
-       black_name = name_kept r T Black end.black_name (bn ∙ u.stands.black.name);
-       fault = told.fault;
-     },
-     game_kept g h h' start level T reason s l u.stands.moves e)
+    let w' : Ports = record { white_reader = nw'; white_writer = ow'; black_reader = nb'; black_writer = ob' } in (
+      T,
+      reason,
+      by_side failed.white failed.black,
+      record {
+        fitting = u.fitting;
+        ending = ap ending_in (sym u.stands.phase ∙ over);
+        heard = both_sides (λ S. (given : List ℕ) × Heard S T (reader_at w S) (reader_at w' S) given) ((u.heard White).0, (u.heard White).1) ((u.heard Black).0, (u.heard Black).1);
+        written = both_sides (λ S. Written (by_side failed.white failed.black S) (writer_at w S) (writer_at w' S) (blocks r S T)) (u.written White) (u.written Black);
+        failing = u.failing;
+        moments = u.moments;
+      },
+      record {
+        outcome = told.outcome;
+        comment = told.comment;
+        ended = told.ended;
+        white_name = name_kept r T White end.white_name (wn ∙ u.stands.white.name);
+        black_name = name_kept r T Black end.black_name (bn ∙ u.stands.black.name);
+        fault = told.fault;
+      },
+      game_kept g h h' start level T reason s l u.stands.moves e,
+    )

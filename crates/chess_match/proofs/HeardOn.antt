@@ -1,11 +1,9 @@
 -- What was heard of an engine, one event more.
-use Rattle.std.proofs.Common.{◌≡◌, ℕ, ◌+◌, Bool, true, false, inl, inr, ◌⊎◌, List, [], ◌∷◌, ◌++◌, map, refl, ap, sym, ◌∙◌, subst, append_assoc, append-nil, Option, Some, None}
-use Rattle.std.specs.Prelude.{if◌then◌else◌}
+use Rattle.std.proofs.Common.{◌≡◌, ℕ, Bool, true, false, inl, inr, List, [], ◌∷◌, ◌++◌, map, refl, ap, sym, ◌∙◌, subst, append-nil, Option}
 use Rattle.std.specs.Bool.{MatchBool}
 use Rattle.std.specs.Io.KnownBytes.{Consumes, IsAtEnd}
 use Rattle.chess_base.specs.declared.man.Colour.{Colour}
 use Rattle.chess_base.specs.Devices.{InputState, risen}
-use Rattle.chess_base.specs.Men.{same_colour}
 use Rattle.chess_cecp.specs.Lines.{LineSeen, Held, lines_heard, lines_held}
 use Rattle.chess_cecp.specs.Run.{risen_if}
 use Rattle.chess_match.specs.Delivering.{is_heard_of, Tells, HearsAt}
@@ -128,21 +126,24 @@ own_heard S T (Line c text n) U on r r' r'' h h' given more t is stop b (line, g
       unended = end_more S T (Line c text n) U t s.unended;
       unfailed = failure_more S T (Line c text n) U t s.unfailed;
     })
-own_heard S T (OutputEnds c) U on r r' r'' h h' given more t is stop b (inl (line, got)) s =
-    (given ++ more,
-     heard_to_end S (T ++ OutputEnds c ∷ U) r r'' (given ++ more) (lines_of S T) (heard_last r r' r'' h h' given more (lines_of S T) line s.hearing b got)
-     (lines_more S T (OutputEnds c) U t ∙ append-nil (lines_of S T)) (end_more S T (OutputEnds c) U t s.unended ∙ is) (failure_more S T (OutputEnds c) U t s.unfailed),
-     λ e. not_both on (stop refl) e)
-own_heard S T (OutputEnds c) U on r r' r'' h h' given more t is stop b (inr got) s =
-    (given ++ more,
-     heard_to_end S (T ++ OutputEnds c ∷ U) r r'' (given ++ more) (lines_of S T) (heard_none r r' r'' h h' given more (lines_of S T) s.hearing b got)
-     (lines_more S T (OutputEnds c) U t ∙ append-nil (lines_of S T)) (end_more S T (OutputEnds c) U t s.unended ∙ is) (failure_more S T (OutputEnds c) U t s.unfailed),
-     λ e. not_both on (stop refl) e)
-own_heard S T (FailsToRead c) U on r r' r'' h h' given more t is stop b got s =
-    (given ++ more,
-     heard_to_fault S (T ++ FailsToRead c ∷ U) r r'' (given ++ more) (lines_of S T) (heard_fault r r' r'' h h' given more (lines_of S T) s.hearing b got)
-     (lines_more S T (FailsToRead c) U t ∙ append-nil (lines_of S T)) (end_more S T (FailsToRead c) U t s.unended) (failure_more S T (FailsToRead c) U t s.unfailed ∙ is),
-     λ e. not_both on (stop refl) e)
+own_heard S T (OutputEnds c) U on r r' r'' h h' given more t is stop b (inl (line, got)) s = (
+  given ++ more,
+  heard_to_end S (T ++ OutputEnds c ∷ U) r r'' (given ++ more) (lines_of S T) (heard_last r r' r'' h h' given more (lines_of S T) line s.hearing b got)
+      (lines_more S T (OutputEnds c) U t ∙ append-nil (lines_of S T)) (end_more S T (OutputEnds c) U t s.unended ∙ is) (failure_more S T (OutputEnds c) U t s.unfailed),
+  λ e. not_both on (stop refl) e,
+)
+own_heard S T (OutputEnds c) U on r r' r'' h h' given more t is stop b (inr got) s = (
+  given ++ more,
+  heard_to_end S (T ++ OutputEnds c ∷ U) r r'' (given ++ more) (lines_of S T) (heard_none r r' r'' h h' given more (lines_of S T) s.hearing b got)
+      (lines_more S T (OutputEnds c) U t ∙ append-nil (lines_of S T)) (end_more S T (OutputEnds c) U t s.unended ∙ is) (failure_more S T (OutputEnds c) U t s.unfailed),
+  λ e. not_both on (stop refl) e,
+)
+own_heard S T (FailsToRead c) U on r r' r'' h h' given more t is stop b got s = (
+  given ++ more,
+  heard_to_fault S (T ++ FailsToRead c ∷ U) r r'' (given ++ more) (lines_of S T) (heard_fault r r' r'' h h' given more (lines_of S T) s.hearing b got)
+      (lines_more S T (FailsToRead c) U t ∙ append-nil (lines_of S T)) (end_more S T (FailsToRead c) U t s.unended) (failure_more S T (FailsToRead c) U t s.unfailed ∙ is),
+  λ e. not_both on (stop refl) e,
+)
 own_heard S T (Opened c n) U on r r' r'' h h' given more t is stop b got s = absurd cc
 own_heard S T (FailsToWrite c) U on r r' r'' h h' given more t is stop b got s = absurd cc
 

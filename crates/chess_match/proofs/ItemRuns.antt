@@ -1,7 +1,6 @@
 -- Items, one after the other.
 use Rattle.std.proofs.Common.{◌≡◌, ℕ, zero, suc, ◌+◌, ◌-◌, ◌≤◌, ◌<◌, Bool, true, false, List, [], ◌∷◌, ◌++◌, length, take, drop, refl, ap, sym, ◌∙◌, Option, None, Some, arith, length-drop, append_assoc, append-nil}
-use Rattle.std.specs.Prelude.{if◌then◌else◌, ◌==◌, ◌||◌, codes, option_and_then}
-use Rattle.std.specs.List.{list_any}
+use Rattle.std.specs.Prelude.{if◌then◌else◌, ◌==◌, codes, option_and_then}
 use Rattle.std.specs.Str.{bytes_eq}
 use Rattle.chess_base.specs.Texts.{is_digit}
 use Rattle.chess_cecp.specs.Lines.{is_blank, without_front_blanks}

@@ -1,5 +1,5 @@
 -- What a call for the next line tells, and what it leaves to do.
-use Rattle.std.proofs.Common.{◌≡◌, ℕ, ◌+◌, ◌*◌, ◌<◌, ◌≤◌, Bool, true, false, inl, inr, ◌⊎◌, List, [], ◌∷◌, ◌++◌, length, refl, ap, sym, ◌∙◌, subst, arith, Option, Some, None, Result, Ok, Err}
+use Rattle.std.proofs.Common.{◌≡◌, ℕ, ◌+◌, ◌*◌, ◌<◌, ◌≤◌, Bool, true, false, inl, inr, List, refl, ap, sym, ◌∙◌, subst, arith, Option, Some, None, Result, Ok, Err}
 use Rattle.std.specs.Prelude.{if◌then◌else◌}
 use Rattle.std.specs.Bool.{MatchBool}
 use Rattle.std.specs.Io.KnownBytes.{Consumes}
@@ -9,13 +9,12 @@ use Rattle.chess_base.specs.declared.man.Move.{Move}
 use Rattle.chess_base.specs.Devices.{InputState, OutputState}
 use Rattle.chess_base.specs.Men.{other, same_colour}
 use Rattle.chess_cecp.specs.Lines.{LineSeen, Held}
-use Rattle.chess_cecp.specs.Next.{NextLine, GotLine, GotLast, GotNone, GotFault, work}
-use Rattle.chess_match.specs.Delivering.{event_heard, is_heard_of, Tells, HearsAt, AllSent, OneFailed, Delivered}
-use Rattle.chess_match.specs.Match.{Match, Event, Line, Opened, OutputEnds, FailsToRead, FailsToWrite, after}
+use Rattle.chess_cecp.specs.Next.{NextLine, GotLine, GotLast, work}
+use Rattle.chess_match.specs.Delivering.{event_heard, is_heard_of, Tells, HearsAt, Delivered}
+use Rattle.chess_match.specs.Match.{Match, Event, Line, OutputEnds, FailsToRead, after}
 use Rattle.chess_match.specs.Rules.{Rules}
 use Rattle.chess_match.specs.Run.{text_heard}
 use Rattle.chess_match.specs.Sent.{SentLine}
-use Rattle.chess_match.specs.Stands.{Stands}
 use Rattle.chess_match.specs.Steps.{IsSane}
 use Rattle.chess_match.specs.Transcript.{reads, opens, is_on, fits_next}
 use Rattle.chess_match.specs.UnderWay.{steps_left}

@@ -41,11 +41,14 @@ mover-snoc c (x ∷ ms) m = mover-snoc (other c) ms m
 
 texts-snoc : (r : Rules) (as_san : Bool) (S c : Colour) (before ms : List Move) (m : Move)
     → texts_from r as_san S c before (ms ++ m ∷ [])
-    ≡ texts_from r as_san S c before ms ++ (if same_colour (mover c ms) S then r.move_text as_san (before ++ (ms ++ m ∷ [])) ∷ [] else [])
-texts-snoc r as_san S c before [] m = append-nil (if same_colour c S then r.move_text as_san (before ++ m ∷ []) ∷ [] else [])
+    ≡ texts_from r as_san S c before ms ++ (if same_colour (mover c ms) S then r.move_text as_san
+        (before ++ (ms ++ m ∷ [])) ∷ [] else [])
+texts-snoc r as_san S c before [] m = append-nil
+    (if same_colour c S then r.move_text as_san (before ++ m ∷ []) ∷ [] else [])
 texts-snoc r as_san S c before (x ∷ ms) m =
     rw (texts-snoc r as_san S (other c) (before ++ x ∷ []) ms m, append_assoc before (x ∷ []) (ms ++ m ∷ []))
-    (sym (append_assoc (if same_colour c S then r.move_text as_san (before ++ x ∷ []) ∷ [] else []) (texts_from r as_san S (other c) (before ++ x ∷ []) ms)
+    (sym (append_assoc (if same_colour c S then r.move_text as_san (before ++ x ∷ []) ∷ [] else [])
+        (texts_from r as_san S (other c) (before ++ x ∷ []) ms)
     (if same_colour (mover (other c) ms) S then r.move_text as_san (before ++ (x ∷ (ms ++ m ∷ []))) ∷ [] else [])))
 
 -- ---- what is so of every match
@@ -57,7 +60,8 @@ OrderlyIn first (Hello c) played untold = (played ≡ []) × (untold ≡ None)
 OrderlyIn first (Setup c) played untold = (played ≡ []) × (untold ≡ None)
 OrderlyIn first (Opening c) played untold = (mover first played ≡ c) × (untold ≡ None)
 OrderlyIn first (Before c) played untold = (mover first played ≡ c) × (untold ≡ None)
-OrderlyIn first (After c) played untold = (mover first played ≡ other c) × (untold ≡ Some (other c)) × (0 < length played)
+OrderlyIn first (After c) played untold = (mover first played ≡ other c) × (untold ≡ Some (other c))
+    × (0 < length played)
 OrderlyIn first (Over reason) played untold = Unit {0}
 
 abbrev pub Orderly : Rules → Match → Type 0
@@ -81,7 +85,8 @@ untold_text r m O untold = untold_by r O (seat m O).items m.played untold
 abbrev entry_moves : Rules → Match → Colour → Phase → List (List ℕ)
 entry_moves r m O (Hello c) = []
 entry_moves r m O (Setup c) = []
-entry_moves r m O (Opening c) = if same_colour c O then (if nat_lt 0 (length m.played) then last_text r m O else []) else []
+entry_moves r m O (Opening c) = if same_colour c O then (if nat_lt 0 (length m.played) then last_text r m O else [])
+    else []
 entry_moves r m O (Before c) = []
 entry_moves r m O (After c) = []
 entry_moves r m O (Over reason) = if is_unwritten (fault_of reason) O then [] else untold_text r m O m.untold
@@ -90,7 +95,9 @@ setup_moves : (r : Rules) → moves_told (setup_lines r) ≡ []
 unfolding setup_lines
 setup_moves r = at r.variant r.start_fen
   where
-    at : (v : Variant) (fen : Option (List ℕ)) → flat_map move_told (variant_lines v ++ (LevelSet r.level ∷ Nopost ∷ Easy ∷ Force ∷ (start_lines fen ++ Ping 1 ∷ []))) ≡ []
+    at : (v : Variant) (fen : Option (List ℕ))
+        → flat_map move_told (variant_lines v ++ (LevelSet
+        r.level ∷ Nopost ∷ Easy ∷ Force ∷ (start_lines fen ++ Ping 1 ∷ []))) ≡ []
     at Normal None = refl
     at Normal (Some fen) = refl
     at Fischerandom None = refl
@@ -100,11 +107,13 @@ clock_moves : (r : Rules) (m : Match) (O : Colour) → moves_told (clock_lines r
 unfolding clock_lines
 clock_moves r m O = at (takes (codes "time") (seat m O).items)
   where
-    at : (b : Bool) → flat_map move_told (if b then Time (clock r m O / 10) ∷ Otim (clock r m (other O) / 10) ∷ [] else []) ≡ []
+    at : (b : Bool) → flat_map move_told (if b then Time (clock r m O / 10) ∷ Otim (clock r m (other O) / 10) ∷ []
+        else []) ≡ []
     at true = refl
     at false = refl
 
-last_moves : (r : Rules) (m : Match) (O : Colour) → moves_told (last_move_lines r m O) ≡ (if nat_lt 0 (length m.played) then last_text r m O else [])
+last_moves : (r : Rules) (m : Match) (O : Colour) → moves_told (last_move_lines r m O)
+    ≡ (if nat_lt 0 (length m.played) then last_text r m O else [])
 unfolding last_move
 last_moves r m O = at (nat_lt 0 (length m.played))
   where
@@ -112,13 +121,16 @@ last_moves r m O = at (nat_lt 0 (length m.played))
     at true = refl
     at false = refl
 
-opening_moves : (r : Rules) (m : Match) (O : Colour) → moves_told (opening_lines r m O) ≡ (if nat_lt 0 (length m.played) then last_text r m O else [])
+opening_moves : (r : Rules) (m : Match) (O : Colour) → moves_told (opening_lines r m O)
+    ≡ (if nat_lt 0 (length m.played) then last_text r m O else [])
 unfolding opening_lines
 opening_moves r m O = at (nat_lt 0 (length (seat m O).used))
   where
-    at : (b : Bool) → flat_map move_told (if b then clock_lines r m O ++ last_move_lines r m O else last_move_lines r m O ++ (clock_lines r m O ++ Go ∷ []))
+    at : (b : Bool) → flat_map move_told (if b then clock_lines r m O
+        ++ last_move_lines r m O else last_move_lines r m O ++ (clock_lines r m O ++ Go ∷ []))
         ≡ (if nat_lt 0 (length m.played) then last_text r m O else [])
-    at true = rw (flat_map-append move_told (clock_lines r m O) (last_move_lines r m O), clock_moves r m O) (last_moves r m O)
+    at true = rw (flat_map-append move_told (clock_lines r m O) (last_move_lines r m O), clock_moves r m O)
+        (last_moves r m O)
     at false = rw (
       flat_map-append move_told (last_move_lines r m O) (clock_lines r m O ++ Go ∷ []),
       flat_map-append move_told (clock_lines r m O) (Go ∷ []),
@@ -126,7 +138,8 @@ opening_moves r m O = at (nat_lt 0 (length (seat m O).used))
       append-nil (flat_map move_told (last_move_lines r m O)),
     ) (last_moves r m O)
 
-untold_moves : (r : Rules) (m : Match) (O : Colour) (untold : Option Colour) → moves_told (untold_lines r m O untold) ≡ untold_text r m O untold
+untold_moves : (r : Rules) (m : Match) (O : Colour) (untold : Option Colour) → moves_told (untold_lines r m O untold)
+    ≡ untold_text r m O untold
 unfolding last_move
 untold_moves r m O None = refl
 untold_moves r m O (Some c) = at (same_colour c O)
@@ -135,9 +148,11 @@ untold_moves r m O (Some c) = at (same_colour c O)
     at true = refl
     at false = refl
 
-end_moves : (r : Rules) (m : Match) (O : Colour) (reason : Reason) → moves_told (end_lines r m O reason) ≡ untold_text r m O m.untold
+end_moves : (r : Rules) (m : Match) (O : Colour) (reason : Reason) → moves_told (end_lines r m O reason)
+    ≡ untold_text r m O m.untold
 unfolding end_lines
-end_moves r m O reason = flat_map-append move_told (untold_lines r m O m.untold) _ ∙ append-nil (flat_map move_told (untold_lines r m O m.untold)) ∙ untold_moves r m O m.untold
+end_moves r m O reason = flat_map-append move_told (untold_lines r m O m.untold) _
+    ∙ append-nil (flat_map move_told (untold_lines r m O m.untold)) ∙ untold_moves r m O m.untold
 
 entry_told : (r : Rules) (m : Match) (O : Colour) (p : Phase) → moves_told (entry_to r m O p) ≡ entry_moves r m O p
 entry_told r m O (Hello c) = at (same_colour c O)
@@ -152,7 +167,8 @@ entry_told r m O (Setup c) = at (same_colour c O)
     at false = refl
 entry_told r m O (Opening c) = at (same_colour c O)
   where
-    at : (b : Bool) → flat_map move_told (if b then opening_lines r m O else []) ≡ (if b then (if nat_lt 0 (length m.played) then last_text r m O else []) else [])
+    at : (b : Bool) → flat_map move_told (if b then opening_lines r m O else [])
+        ≡ (if b then (if nat_lt 0 (length m.played) then last_text r m O else []) else [])
     at true = opening_moves r m O
     at false = refl
 entry_told r m O (Before c) = refl
@@ -163,23 +179,29 @@ entry_told r m O (After c) = at (same_colour c O)
     at false = refl
 entry_told r m O (Over reason) = at (is_unwritten (fault_of reason) O)
   where
-    at : (b : Bool) → flat_map move_told (if b then [] else end_lines r m O reason) ≡ (if b then [] else untold_text r m O m.untold)
+    at : (b : Bool) → flat_map move_told (if b then [] else end_lines r m O reason)
+        ≡ (if b then [] else untold_text r m O m.untold)
     at true = refl
     at false = end_moves r m O reason
 
-told_block : (r : Rules) (m m' : Match) (O : Colour) → moves_told (block r m m' O) ≡ (if is_same_phase m.phase m'.phase then [] else entry_moves r m' O m'.phase)
-told_block r m m' O = of_block move_told (λ i. refl) refl r m m' O ∙ ap (λ (l : List (List ℕ)). if is_same_phase m.phase m'.phase then [] else l) (entry_told r m' O m'.phase)
+told_block : (r : Rules) (m m' : Match) (O : Colour) → moves_told (block r m m' O)
+    ≡ (if is_same_phase m.phase m'.phase then [] else entry_moves r m' O m'.phase)
+told_block r m m' O = of_block move_told (λ i. refl) refl r m m' O
+    ∙ ap (λ (l : List (List ℕ)). if is_same_phase m.phase m'.phase then [] else l) (entry_told r m' O m'.phase)
 
 -- ---- one event
 
 abbrev all_texts : Rules → Match → Colour → List (List ℕ)
 all_texts r m O = move_texts r m O (other O)
 
--- where a match goes to m' from a phase, what was told before, what is told now, and what is owed then are the other's moves
+-- where a match goes to m' from a phase, what was told before, what is told now, and what is owed then are the other's
+-- moves
 abbrev Told : Rules → List (List ℕ) → Colour → Bool → Phase → Match → Type 0
-Told r X O failed p m' = (X ++ (if is_same_phase p m'.phase then [] else entry_moves r m' O m'.phase)) ++ owed_to r m' O m'.untold failed ≡ all_texts r m' O
+Told r X O failed p m' = (X ++ (if is_same_phase p m'.phase then [] else entry_moves r m' O m'.phase))
+    ++ owed_to r m' O m'.untold failed ≡ all_texts r m' O
 
-owed_on : (r : Rules) (m : Match) (O : Colour) (untold : Option Colour) (failed : Bool) → is_on m.phase ≡ true → owed_to r m O untold failed ≡ untold_text r m O untold
+owed_on : (r : Rules) (m : Match) (O : Colour) (untold : Option Colour) (failed : Bool) → is_on m.phase ≡ true
+    → owed_to r m O untold failed ≡ untold_text r m O untold
 owed_on r m O None failed on = refl
 owed_on r m O (Some c) failed on = rw on (at (same_colour c O))
   where
@@ -188,18 +210,23 @@ owed_on r m O (Some c) failed on = rw on (at (same_colour c O))
     at false = refl
 
 -- the match stays in its phase
-stays_told : (r : Rules) (X : List (List ℕ)) (O : Colour) (p : Phase) (m' : Match) → is_same_phase p m'.phase ≡ true → is_on m'.phase ≡ true
+stays_told : (r : Rules) (X : List (List ℕ)) (O : Colour) (p : Phase) (m' : Match) → is_same_phase p m'.phase ≡ true
+    → is_on m'.phase ≡ true
     → X ++ untold_text r m' O m'.untold ≡ all_texts r m' O → Told r X O false p m'
 stays_told r X O p m' same on h = rw (same, append-nil X, owed_on r m' O m'.untold false on) h
 
 -- nothing is told on the way into this phase
-quiet_told : (r : Rules) (X : List (List ℕ)) (O : Colour) (p : Phase) (m' : Match) → entry_moves r m' O m'.phase ≡ [] → is_on m'.phase ≡ true
+quiet_told : (r : Rules) (X : List (List ℕ)) (O : Colour) (p : Phase) (m' : Match) → entry_moves r m' O m'.phase ≡ []
+    → is_on m'.phase ≡ true
     → X ++ untold_text r m' O m'.untold ≡ all_texts r m' O → Told r X O false p m'
-quiet_told r X O p m' none on h = rw (if_nil (is_same_phase p m'.phase) (entry_moves r m' O m'.phase) none, append-nil X, owed_on r m' O m'.untold false on) h
+quiet_told r X O p m' none on h = rw (if_nil (is_same_phase p m'.phase) (entry_moves r m' O m'.phase) none, append-nil
+    X, owed_on r m' O m'.untold false on) h
 
 -- what is owed is told where the match is over, unless a write failed
-ended_told : (r : Rules) (X A : List (List ℕ)) (O : Colour) (failed : Bool) (reason : Reason) (m : Match) (untold : Option Colour) → X ++ untold_text r (over reason m) O untold ≡ A
-    → (X ++ (if failed then [] else untold_text r (over reason m) O untold)) ++ owed_to r (over reason m) O untold failed ≡ A
+ended_told : (r : Rules) (X A : List (List ℕ)) (O : Colour) (failed : Bool) (reason : Reason) (m : Match)
+    (untold : Option Colour) → X ++ untold_text r (over reason m) O untold ≡ A
+    → (X ++ (if failed then [] else untold_text r (over reason m) O untold))
+        ++ owed_to r (over reason m) O untold failed ≡ A
 ended_told r X A O true reason m None h = append-nil (X ++ []) ∙ h
 ended_told r X A O false reason m None h = append-nil (X ++ []) ∙ h
 ended_told r X A O failed reason m (Some c) h = at (same_colour c O) failed h
@@ -208,39 +235,48 @@ ended_told r X A O failed reason m (Some c) h = at (same_colour c O) failed h
     t = last_text r (over reason m) O
 
     at : (b failed : Bool) → X ++ (if b then last_text r (over reason m) O else []) ≡ A
-        → (X ++ (if failed then [] else (if b then last_text r (over reason m) O else []))) ++ (if b && (false || failed) then last_text r (over reason m) O else []) ≡ A
+        → (X ++ (if failed then [] else (if b then last_text r (over reason m) O else [])))
+            ++ (if b && (false || failed) then last_text r (over reason m) O else []) ≡ A
     at true true h = rw (append-nil X) h
     at false true h = append-nil (X ++ []) ∙ h
     at true false h = append-nil (X ++ last_text r (over reason m) O) ∙ h
     at false false h = append-nil (X ++ []) ∙ h
 
-over_told : (r : Rules) (X : List (List ℕ)) (O : Colour) (failed : Bool) (p : Phase) (reason : Reason) (m : Match) → is_same_phase p (Over reason) ≡ false
-    → is_unwritten (fault_of reason) O ≡ failed → X ++ untold_text r (over reason m) O m.untold ≡ all_texts r (over reason m) O → Told r X O failed p (over reason m)
-over_told r X O failed p reason m out u h = rw (out, u) (ended_told r X (all_texts r (over reason m) O) O failed reason m m.untold h)
+over_told : (r : Rules) (X : List (List ℕ)) (O : Colour) (failed : Bool) (p : Phase) (reason : Reason) (m : Match)
+    → is_same_phase p (Over reason) ≡ false
+    → is_unwritten (fault_of reason) O ≡ failed → X ++ untold_text r (over reason m) O m.untold
+        ≡ all_texts r (over reason m) O → Told r X O failed p (over reason m)
+over_told r X O failed p reason m out u h =
+    rw (out, u) (ended_told r X (all_texts r (over reason m) O) O failed reason m m.untold h)
 
 -- ---- what was told before is carried on
 
 abbrev SofarBy : Rules → List (List ℕ) → Colour → List Item → List Move → Option Colour → Type 0
-SofarBy r X O items ms untold = X ++ untold_by r O items ms untold ≡ texts_from r (takes (codes "san") items) (other O) r.first [] ms
+SofarBy r X O items ms untold = X ++ untold_by r O items ms untold
+    ≡ texts_from r (takes (codes "san") items) (other O) r.first [] ms
 
 abbrev Sofar : Rules → List (List ℕ) → Colour → Match → Type 0
 Sofar r X O m = SofarBy r X O (seat m O).items m.played m.untold
 
-items_same : (m m' : Match) → m'.white.items ≡ m.white.items → m'.black.items ≡ m.black.items → (O : Colour) → (seat m' O).items ≡ (seat m O).items
+items_same : (m m' : Match) → m'.white.items ≡ m.white.items → m'.black.items ≡ m.black.items → (O : Colour)
+    → (seat m' O).items ≡ (seat m O).items
 items_same m m' w b White = w
 items_same m m' w b Black = b
 
-carried : (r : Rules) (X : List (List ℕ)) (O : Colour) (m m' : Match) → m'.played ≡ m.played → m'.untold ≡ m.untold → m'.white.items ≡ m.white.items → m'.black.items ≡ m.black.items
+carried : (r : Rules) (X : List (List ℕ)) (O : Colour) (m m' : Match) → m'.played ≡ m.played → m'.untold ≡ m.untold
+    → m'.white.items ≡ m.white.items → m'.black.items ≡ m.black.items
     → Sofar r X O m → Sofar r X O m'
 carried r X O m m' p u w b h =
     rw (p, u, items_same m m' w b O) h
 
 -- nothing is told, and nothing was, where no move stands
-fresh : (r : Rules) (X : List (List ℕ)) (O : Colour) (m m' : Match) → m.played ≡ [] → m.untold ≡ None → m'.played ≡ [] → m'.untold ≡ None → Sofar r X O m → Sofar r X O m'
+fresh : (r : Rules) (X : List (List ℕ)) (O : Colour) (m m' : Match) → m.played ≡ [] → m.untold ≡ None → m'.played ≡ []
+    → m'.untold ≡ None → Sofar r X O m → Sofar r X O m'
 fresh r X O m m' p u p' u' h =
     let none : X ++ [] ≡ [] = at m.played m.untold p u h in rw (p', u') none
   where
-    at : (ms : List Move) (untold : Option Colour) → ms ≡ [] → untold ≡ None → SofarBy r X O (seat m O).items ms untold → X ++ [] ≡ []
+    at : (ms : List Move) (untold : Option Colour) → ms ≡ [] → untold ≡ None → SofarBy r X O (seat m O).items ms untold
+        → X ++ [] ≡ []
     at [] None p u h = h
     at [] (Some c) p u h = cc
     at (x ∷ ms) untold p u h = cc
@@ -254,19 +290,25 @@ hear_untold White items m = refl
 hear_untold Black items m = refl
 
 texts_more : (r : Rules) (as_san : Bool) (S T : Colour) (ms : List Move) (move : Move) → mover r.first ms ≡ T
-    → texts_from r as_san S r.first [] (ms ++ move ∷ []) ≡ texts_from r as_san S r.first [] ms ++ (if same_colour T S then r.move_text as_san (ms ++ move ∷ []) ∷ [] else [])
+    → texts_from r as_san S r.first [] (ms ++ move ∷ []) ≡ texts_from r as_san S r.first [] ms
+        ++ (if same_colour T S then r.move_text as_san (ms ++ move ∷ []) ∷ [] else [])
 texts_more r as_san S T ms move e = rw e at (texts-snoc r as_san S r.first [] ms move)
 
 more : (r : Rules) (X A A' t : List (List ℕ)) → X ++ [] ≡ A → A' ≡ A ++ t → X ++ t ≡ A'
 more r X A A' t h e = ap (λ (l : List (List ℕ)). l ++ t) (sym (append-nil X) ∙ h) ∙ sym e
 
 -- S's move is played, and the other is still to be told it
-moved : (r : Rules) (X : List (List ℕ)) (S O : Colour) (items : List Item) (ms : List Move) (move : Move) → mover r.first ms ≡ S → SofarBy r X O items ms None
+moved : (r : Rules) (X : List (List ℕ)) (S O : Colour) (items : List Item) (ms : List Move) (move : Move)
+    → mover r.first ms ≡ S → SofarBy r X O items ms None
     → SofarBy r X O items (ms ++ move ∷ []) (Some (other S))
-moved r X White Black items ms move e h = more r X _ _ _ h (texts_more r (takes (codes "san") items) White White ms move e)
-moved r X Black White items ms move e h = more r X _ _ _ h (texts_more r (takes (codes "san") items) Black Black ms move e)
-moved r X White White items ms move e h = more r X _ _ _ h (texts_more r (takes (codes "san") items) Black White ms move e)
-moved r X Black Black items ms move e h = more r X _ _ _ h (texts_more r (takes (codes "san") items) White Black ms move e)
+moved r X White Black items ms move e h =
+    more r X _ _ _ h (texts_more r (takes (codes "san") items) White White ms move e)
+moved r X Black White items ms move e h =
+    more r X _ _ _ h (texts_more r (takes (codes "san") items) Black Black ms move e)
+moved r X White White items ms move e h =
+    more r X _ _ _ h (texts_more r (takes (codes "san") items) Black White ms move e)
+moved r X Black Black items ms move e h =
+    more r X _ _ _ h (texts_more r (takes (codes "san") items) White Black ms move e)
 
 pub some_move : (ms : List Move) (move : Move) → 0 < length (ms ++ move ∷ [])
 some_move ms move = let l : length (ms ++ move ∷ []) ≡ length ms + 1 = length-append ms (move ∷ []) in omega (arith, l)
@@ -276,28 +318,45 @@ some_move ms move = let l : length (ms ++ move ∷ []) ≡ length ms + 1 = lengt
 abbrev Goes : Rules → List (List ℕ) → Colour → Match → Match → Type 0
 Goes r X O m m' = Told r X O false m.phase m' × Orderly r m'
 
-played_goes : (r : Rules) (X : List (List ℕ)) (S O : Colour) (move : Move) (used : ℕ) (m : Match) → m.phase ≡ Before S → Orderly r m → Sofar r X O m
+played_goes : (r : Rules) (X : List (List ℕ)) (S O : Colour) (move : Move) (used : ℕ) (m : Match) → m.phase ≡ Before S
+    → Orderly r m → Sofar r X O m
     → Sofar r X O (played_by S move used m)
-played_goes r X White White move used m p o h = moved r X White White m.white.items m.played move (orderly_in r m (Before White) p o).0 (rw (orderly_in r m (Before White) p o).1 at h)
-played_goes r X White Black move used m p o h = moved r X White Black m.black.items m.played move (orderly_in r m (Before White) p o).0 (rw (orderly_in r m (Before White) p o).1 at h)
-played_goes r X Black White move used m p o h = moved r X Black White m.white.items m.played move (orderly_in r m (Before Black) p o).0 (rw (orderly_in r m (Before Black) p o).1 at h)
-played_goes r X Black Black move used m p o h = moved r X Black Black m.black.items m.played move (orderly_in r m (Before Black) p o).0 (rw (orderly_in r m (Before Black) p o).1 at h)
+played_goes r X White White move used m p o h =
+    moved r X White White m.white.items m.played move (orderly_in r m (Before White) p o).0
+    (rw (orderly_in r m (Before White) p o).1 at h)
+played_goes r X White Black move used m p o h =
+    moved r X White Black m.black.items m.played move (orderly_in r m (Before White) p o).0
+    (rw (orderly_in r m (Before White) p o).1 at h)
+played_goes r X Black White move used m p o h =
+    moved r X Black White m.white.items m.played move (orderly_in r m (Before Black) p o).0
+    (rw (orderly_in r m (Before Black) p o).1 at h)
+played_goes r X Black Black move used m p o h =
+    moved r X Black Black m.black.items m.played move (orderly_in r m (Before Black) p o).0
+    (rw (orderly_in r m (Before Black) p o).1 at h)
 
-ends_goes : (r : Rules) (X : List (List ℕ)) (O : Colour) (reason : Reason) (m : Match) → is_on m.phase ≡ true → is_unwritten (fault_of reason) O ≡ false → Sofar r X O m
+ends_goes : (r : Rules) (X : List (List ℕ)) (O : Colour) (reason : Reason) (m : Match) → is_on m.phase ≡ true
+    → is_unwritten (fault_of reason) O ≡ false → Sofar r X O m
     → Goes r X O m (over reason m)
-ends_goes r X O reason m on n h = (over_told r X O false m.phase reason m (leaves_for m.phase reason on) n (carried r X O m (over reason m) refl refl refl refl h), tt)
+ends_goes r X O reason m on n h = (over_told r X O false m.phase reason m (leaves_for m.phase reason on) n
+    (carried r X O m (over reason m) refl refl refl refl h), tt)
 
-counts_goes : (r : Rules) (X : List (List ℕ)) (S O : Colour) (n : ℕ) (m : Match) → reads m.phase S ≡ true → Orderly r m → Sofar r X O m → Goes r X O m (record m { count = n })
+counts_goes : (r : Rules) (X : List (List ℕ)) (S O : Colour) (n : ℕ) (m : Match) → reads m.phase S ≡ true → Orderly r m
+    → Sofar r X O m → Goes r X O m (record m { count = n })
 counts_goes r X S O n m here o h =
-    (stays_told r X O m.phase (record m { count = n }) (stays_in m.phase S here) (on_reads m.phase S here) (carried r X O m (record m { count = n }) refl refl refl refl h), o)
+    (stays_told r X O m.phase (record m { count = n }) (stays_in m.phase S here) (on_reads m.phase S here)
+        (carried r X O m (record m { count = n }) refl refl refl refl h), o)
 
-offers_goes : (r : Rules) (X : List (List ℕ)) (S O : Colour) (m : Match) → reads m.phase S ≡ true → Orderly r m → Sofar r X O m → Goes r X O m (offering S m)
+offers_goes : (r : Rules) (X : List (List ℕ)) (S O : Colour) (m : Match) → reads m.phase S ≡ true → Orderly r m
+    → Sofar r X O m → Goes r X O m (offering S m)
 offers_goes r X White O m here o h =
-    (stays_told r X O m.phase (offering White m) (stays_in m.phase White here) (on_reads m.phase White here) (carried r X O m (offering White m) refl refl refl refl h), o)
+    (stays_told r X O m.phase (offering White m) (stays_in m.phase White here) (on_reads m.phase White here)
+        (carried r X O m (offering White m) refl refl refl refl h), o)
 offers_goes r X Black O m here o h =
-    (stays_told r X O m.phase (offering Black m) (stays_in m.phase Black here) (on_reads m.phase Black here) (carried r X O m (offering Black m) refl refl refl refl h), o)
+    (stays_told r X O m.phase (offering Black m) (stays_in m.phase Black here) (on_reads m.phase Black here)
+        (carried r X O m (offering Black m) refl refl refl refl h), o)
 
-plays_goes : (r : Rules) (X : List (List ℕ)) (S O : Colour) (move : Move) (used : ℕ) (m : Match) → m.phase ≡ Before S → Orderly r m → Sofar r X O m → Goes r X O m (played_by S move used m)
+plays_goes : (r : Rules) (X : List (List ℕ)) (S O : Colour) (move : Move) (used : ℕ) (m : Match) → m.phase ≡ Before S
+    → Orderly r m → Sofar r X O m → Goes r X O m (played_by S move used m)
 plays_goes r X White O move used m p o h = (
   quiet_told r X O m.phase (played_by White move used m) refl refl (played_goes r X White O move used m p o h),
   (mover-snoc r.first m.played move ∙ ap other (orderly_in r m (Before White) p o).0, refl, some_move m.played move),
@@ -307,81 +366,108 @@ plays_goes r X Black O move used m p o h = (
   (mover-snoc r.first m.played move ∙ ap other (orderly_in r m (Before Black) p o).0, refl, some_move m.played move),
 )
 
-decides_goes : (r : Rules) (X : List (List ℕ)) (S O : Colour) (move : Move) (used : ℕ) (v : Verdict) (m : Match) → m.phase ≡ Before S → Orderly r m → Sofar r X O m
+decides_goes : (r : Rules) (X : List (List ℕ)) (S O : Colour) (move : Move) (used : ℕ) (v : Verdict) (m : Match)
+    → m.phase ≡ Before S → Orderly r m → Sofar r X O m
     → Goes r X O m (over (Decided v) (played_by S move used m))
 decides_goes r X S O move used v m p o h = (
   over_told r X O false m.phase (Decided v) (played_by S move used m) (rw p refl) refl
-      (carried r X O (played_by S move used m) (over (Decided v) (played_by S move used m)) refl refl refl refl (played_goes r X S O move used m p o h)),
+      (carried r X O (played_by S move used m) (over (Decided v) (played_by S move used m)) refl refl refl refl
+          (played_goes r X S O move used m p o h)),
   tt,
 )
 
 -- the turn passes to the other side, whose opening tells it the last move
-opening_told : (r : Rules) (X : List (List ℕ)) (O c : Colour) (items : List Item) (ms : List Move) → 0 < length ms → SofarBy r X O items ms (Some c)
-    → X ++ (if same_colour c O then (if nat_lt 0 (length ms) then r.move_text (takes (codes "san") items) ms ∷ [] else []) else []) ≡ texts_from r (takes (codes "san") items) (other O) r.first [] ms
+opening_told : (r : Rules) (X : List (List ℕ)) (O c : Colour) (items : List Item) (ms : List Move) → 0 < length ms
+    → SofarBy r X O items ms (Some c)
+    → X ++ (if same_colour c O then (if nat_lt 0 (length ms) then r.move_text (takes (codes "san") items) ms ∷ []
+        else []) else []) ≡ texts_from r (takes (codes "san") items) (other O) r.first [] ms
 opening_told r X O c items ms some h = rw (lt-ltb 0 (length ms) some) h
 
-passes_told : (r : Rules) (X : List (List ℕ)) (O c : Colour) (items : List Item) (m m' : Match) → (seat m' O).items ≡ items → m'.played ≡ m.played → m'.untold ≡ None → m'.phase ≡ Opening c
-    → 0 < length m.played → is_same_phase m.phase (Opening c) ≡ false → SofarBy r X O items m.played (Some c) → Told r X O false m.phase m'
+passes_told : (r : Rules) (X : List (List ℕ)) (O c : Colour) (items : List Item) (m m' : Match) → (seat m' O).items
+    ≡ items → m'.played ≡ m.played → m'.untold ≡ None → m'.phase ≡ Opening c
+    → 0 < length m.played → is_same_phase m.phase (Opening c) ≡ false → SofarBy r X O items m.played (Some c)
+        → Told r X O false m.phase m'
 passes_told r X O c items m m' i p u e some out h =
-    rw (e, u, p, i, out) (append-nil (X ++ (if same_colour c O then (if nat_lt 0 (length m.played) then r.move_text (takes (codes "san") items) m.played ∷ [] else []) else []))
+    rw (e, u, p, i, out) (append-nil (X ++ (if same_colour c O
+        then (if nat_lt 0 (length m.played) then r.move_text (takes (codes "san") items) m.played ∷ [] else [])
+        else []))
     ∙ opening_told r X O c items m.played some h)
 
-passes_goes : (r : Rules) (X : List (List ℕ)) (S O : Colour) (m : Match) → m.phase ≡ After S → Orderly r m → Sofar r X O m → Goes r X O m (open_turn (other S) m)
+passes_goes : (r : Rules) (X : List (List ℕ)) (S O : Colour) (m : Match) → m.phase ≡ After S → Orderly r m
+    → Sofar r X O m → Goes r X O m (open_turn (other S) m)
 passes_goes r X S O m p o h =
     let known = orderly_in r m (After S) p o in
-    (passes_told r X O (other S) (seat m O).items m (open_turn (other S) m) (items_same m (open_turn (other S) m) refl refl O) refl refl refl known.2 (rw p refl) (rw known.1 at h), (known.0, refl))
+    (passes_told r X O (other S) (seat m O).items m (open_turn (other S) m)
+        (items_same m (open_turn (other S) m) refl refl O) refl refl refl known.2 (rw p refl) (rw known.1 at h),
+        (known.0, refl))
 
 -- before the first move
 
-hello_over : (r : Rules) (X : List (List ℕ)) (S O : Colour) (items : List Item) (reason : Reason) (m : Match) → is_on m.phase ≡ true → is_unwritten (fault_of reason) O ≡ false
+hello_over : (r : Rules) (X : List (List ℕ)) (S O : Colour) (items : List Item) (reason : Reason) (m : Match)
+    → is_on m.phase ≡ true → is_unwritten (fault_of reason) O ≡ false
     → (m.played ≡ []) × (m.untold ≡ None) → Sofar r X O m → Goes r X O m (over reason (hear S items m))
 hello_over r X S O items reason m on n k h = (
   over_told r X O false m.phase reason (hear S items m) (leaves_for m.phase reason on) n
-      (fresh r X O m (over reason (hear S items m)) k.0 k.1 (hear_played S items m ∙ k.0) (hear_untold S items m ∙ k.1) h),
+      (fresh r X O m (over reason (hear S items m)) k.0 k.1 (hear_played S items m ∙ k.0) (hear_untold S items m ∙ k.1)
+          h),
   tt,
 )
 
-hello_counts : (r : Rules) (X : List (List ℕ)) (S O : Colour) (items : List Item) (m : Match) → reads m.phase S ≡ true → (m.played ≡ []) × (m.untold ≡ None) → Orderly r m → Sofar r X O m
+hello_counts : (r : Rules) (X : List (List ℕ)) (S O : Colour) (items : List Item) (m : Match) → reads m.phase S ≡ true
+    → (m.played ≡ []) × (m.untold ≡ None) → Orderly r m → Sofar r X O m
     → (let m' = hear S items m in Goes r X O m (record m' { count = m.count + 1 }))
 hello_counts r X White O items m here k o h = (
-  stays_told r X O m.phase (let m' = hear White items m in record m' { count = m.count + 1 }) (stays_in m.phase White here) (on_reads m.phase White here)
+  stays_told r X O m.phase (let m' = hear White items m in record m' { count = m.count + 1 })
+      (stays_in m.phase White here) (on_reads m.phase White here)
       (fresh r X O m (let m' = hear White items m in record m' { count = m.count + 1 }) k.0 k.1 k.0 k.1 h),
   o,
 )
 hello_counts r X Black O items m here k o h = (
-  stays_told r X O m.phase (let m' = hear Black items m in record m' { count = m.count + 1 }) (stays_in m.phase Black here) (on_reads m.phase Black here)
+  stays_told r X O m.phase (let m' = hear Black items m in record m' { count = m.count + 1 })
+      (stays_in m.phase Black here) (on_reads m.phase Black here)
       (fresh r X O m (let m' = hear Black items m in record m' { count = m.count + 1 }) k.0 k.1 k.0 k.1 h),
   o,
 )
 
-hello_enters : (r : Rules) (X : List (List ℕ)) (S O : Colour) (items : List Item) (m : Match) → (m.played ≡ []) × (m.untold ≡ None) → Sofar r X O m
+hello_enters : (r : Rules) (X : List (List ℕ)) (S O : Colour) (items : List Item) (m : Match) → (m.played ≡ [])
+    × (m.untold ≡ None) → Sofar r X O m
     → (Goes r X O m (enter (Hello Black) (hear S items m))) × (Goes r X O m (enter (Setup White) (hear S items m)))
 hello_enters r X S O items m k h = (
   (
     quiet_told r X O m.phase (enter (Hello Black) (hear S items m)) refl refl
-        (fresh r X O m (enter (Hello Black) (hear S items m)) k.0 k.1 (hear_played S items m ∙ k.0) (hear_untold S items m ∙ k.1) h),
+        (fresh r X O m (enter (Hello Black) (hear S items m)) k.0 k.1 (hear_played S items m ∙ k.0)
+            (hear_untold S items m ∙ k.1) h),
     (hear_played S items m ∙ k.0, hear_untold S items m ∙ k.1),
   ),
   (
     quiet_told r X O m.phase (enter (Setup White) (hear S items m)) refl refl
-        (fresh r X O m (enter (Setup White) (hear S items m)) k.0 k.1 (hear_played S items m ∙ k.0) (hear_untold S items m ∙ k.1) h),
+        (fresh r X O m (enter (Setup White) (hear S items m)) k.0 k.1 (hear_played S items m ∙ k.0)
+            (hear_untold S items m ∙ k.1) h),
     (hear_played S items m ∙ k.0, hear_untold S items m ∙ k.1),
   ),
 )
 
-setup_enters : (r : Rules) (X : List (List ℕ)) (O : Colour) (m : Match) → (m.played ≡ []) × (m.untold ≡ None) → Sofar r X O m → Goes r X O m (enter (Setup Black) m)
-setup_enters r X O m k h = (quiet_told r X O m.phase (enter (Setup Black) m) refl refl (fresh r X O m (enter (Setup Black) m) k.0 k.1 k.0 k.1 h), k)
+setup_enters : (r : Rules) (X : List (List ℕ)) (O : Colour) (m : Match) → (m.played ≡ []) × (m.untold ≡ None)
+    → Sofar r X O m → Goes r X O m (enter (Setup Black) m)
+setup_enters r X O m k h = (quiet_told r X O m.phase (enter (Setup Black) m) refl refl
+    (fresh r X O m (enter (Setup Black) m) k.0 k.1 k.0 k.1 h), k)
 
-none_told : (c O : Colour) (t : List (List ℕ)) (ms : List Move) → ms ≡ [] → (if same_colour c O then (if nat_lt 0 (length ms) then t else []) else []) ≡ []
+none_told : (c O : Colour) (t : List (List ℕ)) (ms : List Move) → ms ≡ []
+    → (if same_colour c O then (if nat_lt 0 (length ms) then t else []) else []) ≡ []
 none_told c O t ms e = rw e (if_nil (same_colour c O) [] refl)
 
-setup_opens : (r : Rules) (X : List (List ℕ)) (O : Colour) (m : Match) → (m.played ≡ []) × (m.untold ≡ None) → Sofar r X O m → Goes r X O m (open_turn r.first m)
+setup_opens : (r : Rules) (X : List (List ℕ)) (O : Colour) (m : Match) → (m.played ≡ []) × (m.untold ≡ None)
+    → Sofar r X O m → Goes r X O m (open_turn r.first m)
 setup_opens r X O m k h =
-    (quiet_told r X O m.phase (open_turn r.first m) (none_told r.first O (last_text r (open_turn r.first m) O) m.played k.0) refl (fresh r X O m (open_turn r.first m) k.0 k.1 k.0 refl h), (rw (k.0) refl, refl))
+    (quiet_told r X O m.phase (open_turn r.first m)
+        (none_told r.first O (last_text r (open_turn r.first m) O) m.played k.0) refl
+        (fresh r X O m (open_turn r.first m) k.0 k.1 k.0 refl h), (rw (k.0) refl, refl))
 
-judged_told : (r : Rules) (X : List (List ℕ)) (O c : Colour) (f : MatchFault) (p : Phase) (m : Match) → m.untold ≡ None → Sofar r X O (enter (Over (Faulted c f)) m)
+judged_told : (r : Rules) (X : List (List ℕ)) (O c : Colour) (f : MatchFault) (p : Phase) (m : Match) → m.untold ≡ None
+    → Sofar r X O (enter (Over (Faulted c f)) m)
     → Told r X O false p (enter (Over (Faulted c f)) m)
-judged_told r X O c f p m u h = rw u (at (is_same_phase p (Over (Faulted c f))) (is_unwritten (Some (c, f)) O) (rw u at h))
+judged_told r X O c f p m u h = rw u (at (is_same_phase p (Over (Faulted c f))) (is_unwritten (Some (c, f)) O)
+    (rw u at h))
   where
     at : (b w : Bool) → X ++ [] ≡ all_texts r (enter (Over (Faulted c f)) m) O
         → (X ++ (if b then [] else (if w then [] else []))) ++ [] ≡ all_texts r (enter (Over (Faulted c f)) m) O
@@ -389,12 +475,14 @@ judged_told r X O c f p m u h = rw u (at (is_same_phase p (Over (Faulted c f))) 
     at false true h = append-nil (X ++ []) ∙ h
     at false false h = append-nil (X ++ []) ∙ h
 
-lines_go : (r : Rules) (X : List (List ℕ)) (S O : Colour) (kind : LineKind) (moment : ℕ) (m : Match) → reads m.phase S ≡ true → Orderly r m → Sofar r X O m
+lines_go : (r : Rules) (X : List (List ℕ)) (S O : Colour) (kind : LineKind) (moment : ℕ) (m : Match) → reads m.phase S
+    ≡ true → Orderly r m → Sofar r X O m
     → Lines r S kind moment m (λ m'. Goes r X O m m')
 lines_go r X S O kind moment m here o h =
     let on : is_on m.phase ≡ true = on_reads m.phase S here in
     record {
-      hello_ends = λ p d. hello_over r X S O (items_heard kind) (Faulted S NoDone) m on refl (orderly_in r m (Hello S) p o) h;
+      hello_ends = λ p d. hello_over r X S O (items_heard kind) (Faulted S NoDone) m on refl
+          (orderly_in r m (Hello S) p o) h;
       hello_counts = λ p d few. hello_counts r X S O (items_heard kind) m here (orderly_in r m (Hello S) p o) o h;
       hello_next = λ p s d. (hello_enters r X S O (items_heard kind) m (orderly_in r m (Hello White) p o) h).0;
       hello_judged = λ p s d c f. hello_judged c f (orderly_in r m (Hello Black) p o);
@@ -418,28 +506,37 @@ lines_go r X S O kind moment m here o h =
       offers = λ none own theirs. offers_goes r X S O m here o h;
     }
 
-    hello_judged : (c : Colour) (f : MatchFault) → (m.played ≡ []) × (m.untold ≡ None) → Goes r X O m (enter (Over (Faulted c f)) (hear S (items_heard kind) m))
+    hello_judged : (c : Colour) (f : MatchFault) → (m.played ≡ []) × (m.untold ≡ None)
+        → Goes r X O m (enter (Over (Faulted c f)) (hear S (items_heard kind) m))
     hello_judged c f k = (
       judged_told r X O c f m.phase (hear S (items_heard kind) m) (hear_untold S (items_heard kind) m ∙ k.1)
-          (fresh r X O m (enter (Over (Faulted c f)) (hear S (items_heard kind) m)) k.0 k.1 (hear_played S (items_heard kind) m ∙ k.0) (hear_untold S (items_heard kind) m ∙ k.1) h),
+          (fresh r X O m (enter (Over (Faulted c f)) (hear S (items_heard kind) m)) k.0 k.1
+              (hear_played S (items_heard kind) m ∙ k.0) (hear_untold S (items_heard kind) m ∙ k.1) h),
       tt,
     )
 
-step_goes : (r : Rules) (X : List (List ℕ)) (O : Colour) (due : Colour → List SentLine) (m : Match) (e : Event) → fits_next due m e ≡ true → Orderly r m → Sofar r X O m
+step_goes : (r : Rules) (X : List (List ℕ)) (O : Colour) (due : Colour → List SentLine) (m : Match) (e : Event)
+    → fits_next due m e ≡ true → Orderly r m → Sofar r X O m
     → Told r X O (fails_at e O) m.phase (after r m e) × Orderly r (after r m e)
-step_goes r X O due m (Line S t n) f o h = line_outcome r S (kind_heard t) n m (λ m'. Goes r X O m m') f (lines_go r X S O (kind_heard t) n m f o h)
+step_goes r X O due m (Line S t n) f o h =
+    line_outcome r S (kind_heard t) n m (λ m'. Goes r X O m m') f (lines_go r X S O (kind_heard t) n m f o h)
 step_goes r X O due m (Opened S n) f o h = (
-  quiet_told r X O m.phase (record m { phase = Before S; opened = n }) refl refl (carried r X O m (record m { phase = Before S; opened = n }) refl refl refl refl h),
+  quiet_told r X O m.phase (record m { phase = Before S; opened = n }) refl refl
+      (carried r X O m (record m { phase = Before S; opened = n }) refl refl refl refl h),
   orderly_in r m (Opening S) (opens_at m.phase S f) o,
 )
 step_goes r X O due m (OutputEnds S) f o h = faulted (Faulted S Ended) (on_reads m.phase S f) refl
   where
-    faulted : (reason : Reason) → is_on m.phase ≡ true → is_unwritten (fault_of reason) O ≡ false → Told r X O false m.phase (over reason m) × Unit {0}
-    faulted reason on n = (over_told r X O false m.phase reason m (leaves_for m.phase reason on) n (carried r X O m (over reason m) refl refl refl refl h), tt)
+    faulted : (reason : Reason) → is_on m.phase ≡ true → is_unwritten (fault_of reason) O ≡ false
+        → Told r X O false m.phase (over reason m) × Unit {0}
+    faulted reason on n = (over_told r X O false m.phase reason m (leaves_for m.phase reason on) n
+        (carried r X O m (over reason m) refl refl refl refl h), tt)
 step_goes r X O due m (FailsToRead S) f o h =
-    (over_told r X O false m.phase (Faulted S Read) m (leaves_for m.phase (Faulted S Read) (on_reads m.phase S f)) refl (carried r X O m (over (Faulted S Read) m) refl refl refl refl h), tt)
+    (over_told r X O false m.phase (Faulted S Read) m (leaves_for m.phase (Faulted S Read) (on_reads m.phase S f)) refl
+        (carried r X O m (over (Faulted S Read) m) refl refl refl refl h), tt)
 step_goes r X O due m (FailsToWrite S) f o h = (
-  over_told r X O (same_colour S O) m.phase (Faulted S Write) m (leaves_for m.phase (Faulted S Write) (and_first (is_on m.phase) _ f)) refl
+  over_told r X O (same_colour S O) m.phase (Faulted S Write) m
+      (leaves_for m.phase (Faulted S Write) (and_first (is_on m.phase) _ f)) refl
       (carried r X O m (over (Faulted S Write) m) refl refl refl refl h),
   tt,
 )
@@ -460,7 +557,8 @@ TellsNone r S O m m' = is_on m'.phase ≡ true → 0 < length (block r m m' S) �
 pub not_on : {A : Type 0} → false ≡ true → A
 not_on h = cc
 
-same_tells_none : (r : Rules) (S O : Colour) (m m' : Match) → m'.phase ≡ m.phase → reads m.phase S ≡ true → TellsNone r S O m m'
+same_tells_none : (r : Rules) (S O : Colour) (m m' : Match) → m'.phase ≡ m.phase → reads m.phase S ≡ true
+    → TellsNone r S O m m'
 same_tells_none r S O m m' e here on some = rw (e, stays_in m.phase S here) refl
 
 opening_apart : (r : Rules) (S : Colour) (m : Match) → m.phase ≡ After S → block r m (open_turn (other S) m) S ≡ []
@@ -470,7 +568,8 @@ opening_apart r Black m p = quiet_block r m (open_turn White m) refl refl Black 
 passes_none : (r : Rules) (S O : Colour) (m : Match) → m.phase ≡ After S → TellsNone r S O m (open_turn (other S) m)
 passes_none r S O m p on some = let none : 0 < 0 = rw (opening_apart r S m p) at some in absurd (omega (arith, none))
 
-plays_none : (r : Rules) (S O : Colour) (move : Move) (used : ℕ) (m : Match) → TellsNone r S O m (played_by S move used m)
+plays_none : (r : Rules) (S O : Colour) (move : Move) (used : ℕ) (m : Match)
+    → TellsNone r S O m (played_by S move used m)
 plays_none r White O move used m on some = if_nil (is_same_phase m.phase (After White)) [] refl
 plays_none r Black O move used m on some = if_nil (is_same_phase m.phase (After Black)) [] refl
 
@@ -478,10 +577,13 @@ offers_none : (r : Rules) (S O : Colour) (m : Match) → reads m.phase S ≡ tru
 offers_none r White O m here on some = rw (stays_in m.phase White here) refl
 offers_none r Black O m here on some = rw (stays_in m.phase Black here) refl
 
-lines_none : (r : Rules) (S O : Colour) (kind : LineKind) (moment : ℕ) (m : Match) → reads m.phase S ≡ true → Orderly r m → Lines r S kind moment m (λ m'. TellsNone r S O m m')
+lines_none : (r : Rules) (S O : Colour) (kind : LineKind) (moment : ℕ) (m : Match) → reads m.phase S ≡ true
+    → Orderly r m → Lines r S kind moment m (λ m'. TellsNone r S O m m')
 lines_none r S O kind moment m here o = record {
   hello_ends = λ p d on some. not_on on;
-  hello_counts = λ p d few. same_tells_none r S O m (let m' = hear S (items_heard kind) m in record m' { count = m.count + 1 }) (hear_phase S (items_heard kind) m) here;
+  hello_counts = λ p d few. same_tells_none r S O m
+      (let m' = hear S (items_heard kind) m in record m' { count = m.count + 1 }) (hear_phase S (items_heard kind) m)
+      here;
   hello_next = λ p s d on some. if_nil (is_same_phase m.phase (Hello Black)) [] refl;
   hello_judged = λ p s d c f on some. not_on on;
   hello_done = λ p s d on some. if_nil (is_same_phase m.phase (Setup White)) [] refl;
@@ -505,7 +607,9 @@ lines_none r S O kind moment m here o = record {
     }
 
     opens_none : m.played ≡ [] → told_now r m (open_turn r.first m) O ≡ []
-    opens_none e = if_nil (is_same_phase m.phase (Opening r.first)) (entry_moves r (open_turn r.first m) O (Opening r.first)) (none_told r.first O (last_text r (open_turn r.first m) O) m.played e)
+    opens_none e = if_nil (is_same_phase m.phase (Opening r.first))
+        (entry_moves r (open_turn r.first m) O (Opening r.first))
+        (none_told r.first O (last_text r (open_turn r.first m) O) m.played e)
 
 pub same_is : (c d : Colour) → same_colour c d ≡ true → c ≡ d
 same_is White White h = refl
@@ -513,14 +617,18 @@ same_is Black Black h = refl
 same_is White Black h = cc
 same_is Black White h = cc
 
-dropped_line : (r : Rules) (O S d : Colour) (t : Option (List ℕ)) (n : ℕ) (due : Colour → List SentLine) (m : Match) (T : List Event) → fits_next due m (Line S t n) ≡ true
-    → fits_next (block r m (after r m (Line S t n))) (after r m (Line S t n)) (FailsToWrite d) ≡ true → Orderly r m → same_colour S d ≡ true → told_now r m (after r m (Line S t n)) O ≡ []
+dropped_line : (r : Rules) (O S d : Colour) (t : Option (List ℕ)) (n : ℕ) (due : Colour → List SentLine) (m : Match)
+    (T : List Event) → fits_next due m (Line S t n) ≡ true
+    → fits_next (block r m (after r m (Line S t n))) (after r m (Line S t n)) (FailsToWrite d) ≡ true → Orderly r m
+        → same_colour S d ≡ true → told_now r m (after r m (Line S t n)) O ≡ []
 dropped_line r O S d t n due m T f g o e =
     line_outcome r S (kind_heard t) n m (λ m'. TellsNone r S O m m') f (lines_none r S O (kind_heard t) n m f o)
     (and_first (is_on (after r m (Line S t n)).phase) _ g)
-    (rw (same_is S d e) (ltb-true 0 (length (block r m (after r m (Line S t n)) d)) (and_second (is_on (after r m (Line S t n)).phase) _ g)))
+    (rw (same_is S d e) (ltb-true 0 (length (block r m (after r m (Line S t n)) d))
+        (and_second (is_on (after r m (Line S t n)).phase) _ g)))
 
-failed_none : (r : Rules) (O S : Colour) (m : Match) → same_colour S O ≡ true → told_now r m (over (Faulted S Write) m) O ≡ []
+failed_none : (r : Rules) (O S : Colour) (m : Match) → same_colour S O ≡ true
+    → told_now r m (over (Faulted S Write) m) O ≡ []
 failed_none r O S m e = rw e (if_nil (is_same_phase m.phase (Over (Faulted S Write))) [] refl)
 
 pub or_false : (b : Bool) → b || false ≡ b
@@ -532,11 +640,13 @@ or_assoc true b c = refl
 or_assoc false b c = refl
 
 -- a block that isn't sent tells no move
-unsent_none : (r : Rules) (O : Colour) (due : Colour → List SentLine) (m : Match) (e : Event) (T : List Event) → fits_from r due m (e ∷ T) ≡ true → Orderly r m
+unsent_none : (r : Rules) (O : Colour) (due : Colour → List SentLine) (m : Match) (e : Event) (T : List Event)
+    → fits_from r due m (e ∷ T) ≡ true → Orderly r m
     → is_dropped e T O || fails_at e O ≡ true → told_now r m (after r m e) O ≡ []
 unsent_none r O due m (FailsToWrite S) T f o h = failed_none r O S m h
 unsent_none r O due m (Line S t n) (FailsToWrite d ∷ T) f o h =
-    dropped_line r O S d t n due m T (and_first (reads m.phase S) _ f) (and_first _ _ (and_second (reads m.phase S) _ f)) o
+    dropped_line r O S d t n due m T (and_first (reads m.phase S) _ f)
+        (and_first _ _ (and_second (reads m.phase S) _ f)) o
     (and_first (same_colour S d) _ (sym (or_false (same_colour S d && not (same_colour d O))) ∙ h))
 unsent_none r O due m (Line S t n) [] f o h = cc
 unsent_none r O due m (Line S t n) (Line d u k ∷ T) f o h = cc
@@ -548,14 +658,20 @@ unsent_none r O due m (OutputEnds S) T f o h = cc
 unsent_none r O due m (FailsToRead S) T f o h = cc
 
 -- what is told by the block of an event, if it is sent
-told_at : (r : Rules) (O : Colour) (due : Colour → List SentLine) (m : Match) (e : Event) (T : List Event) → fits_from r due m (e ∷ T) ≡ true → Orderly r m
-    → moves_told (joined_blocks (blocks_from r O m (e ∷ T))) ≡ told_now r m (after r m e) O ++ moves_told (joined_blocks (blocks_from r O (after r m e) T))
+told_at : (r : Rules) (O : Colour) (due : Colour → List SentLine) (m : Match) (e : Event) (T : List Event)
+    → fits_from r due m (e ∷ T) ≡ true → Orderly r m
+    → moves_told (joined_blocks (blocks_from r O m (e ∷ T))) ≡ told_now r m (after r m e) O
+        ++ moves_told (joined_blocks (blocks_from r O (after r m e) T))
 told_at r O due m e T f o =
-    ap (λ (ls : List SentLine). moves_told ls) (joined_at (is_dropped e T O || fails_at e O) (block r m (after r m e) O) (blocks_from r O (after r m e) T))
-    ∙ flat_map-append move_told (if is_dropped e T O || fails_at e O then [] else block r m (after r m e) O) (joined_blocks (blocks_from r O (after r m e) T))
-    ∙ ap (λ (l : List (List ℕ)). l ++ moves_told (joined_blocks (blocks_from r O (after r m e) T))) (at (is_dropped e T O || fails_at e O) refl)
+    ap (λ (ls : List SentLine). moves_told ls)
+        (joined_at (is_dropped e T O || fails_at e O) (block r m (after r m e) O) (blocks_from r O (after r m e) T))
+    ∙ flat_map-append move_told (if is_dropped e T O || fails_at e O then [] else block r m (after r m e) O)
+        (joined_blocks (blocks_from r O (after r m e) T))
+    ∙ ap (λ (l : List (List ℕ)). l ++ moves_told (joined_blocks (blocks_from r O (after r m e) T)))
+        (at (is_dropped e T O || fails_at e O) refl)
   where
-    at : (b : Bool) → is_dropped e T O || fails_at e O ≡ b → moves_told (if b then [] else block r m (after r m e) O) ≡ told_now r m (after r m e) O
+    at : (b : Bool) → is_dropped e T O || fails_at e O ≡ b → moves_told (if b then [] else block r m (after r m e) O)
+        ≡ told_now r m (after r m e) O
     at true h = sym (unsent_none r O due m e T f o h)
     at false h = told_block r m (after r m e) O
 
@@ -578,18 +694,26 @@ calm r m (FailsToWrite S) O on = not_on on
 joined_more : (X t M R o A : List (List ℕ)) → M ≡ t ++ R → (X ++ t) ++ (R ++ o) ≡ A → X ++ (M ++ o) ≡ A
 joined_more X t M R o A e h = rw (e, append_assoc t R o, ← append_assoc X t (R ++ o)) h
 
-told_from : (r : Rules) (O : Colour) (due : Colour → List SentLine) (m : Match) (T : List Event) (X : List (List ℕ)) (failed : Bool) → fits_from r due m T ≡ true → Orderly r m
+told_from : (r : Rules) (O : Colour) (due : Colour → List SentLine) (m : Match) (T : List Event) (X : List (List ℕ))
+    (failed : Bool) → fits_from r due m T ≡ true → Orderly r m
     → (is_on m.phase ≡ true → failed ≡ false) → X ++ owed_to r m O m.untold failed ≡ all_texts r m O
-    → (X ++ (moves_told (joined_blocks (blocks_from r O m T)) ++ owed_to r (match_from r m T) O (match_from r m T).untold (failed || has_write_failure O T)) ≡ all_texts r (match_from r m T) O)
+    → (X ++ (moves_told (joined_blocks (blocks_from r O m T))
+        ++ owed_to r (match_from r m T) O (match_from r m T).untold (failed || has_write_failure O T))
+        ≡ all_texts r (match_from r m T) O)
     × Orderly r (match_from r m T)
 told_from r O due m [] X failed f o quiet h = (rw (or_false failed) h, o)
 told_from r O due m (e ∷ T) X failed f o quiet h =
     let here : fits_next due m e ≡ true = and_first (fits_next due m e) _ f in
     let on : is_on m.phase ≡ true = fits_on due m e here in
-    let s : Told r X O (fails_at e O) m.phase (after r m e) × Orderly r (after r m e) = step_goes r X O due m e here o (rw (owed_on r m O m.untold failed on) at h) in
-    let rest = told_from r O (block r m (after r m e)) (after r m e) T (X ++ told_now r m (after r m e) O) (fails_at e O) (and_second (fits_next due m e) _ f) s.1 (calm r m e O) s.0 in (
-      rw (quiet on) (joined_more X (told_now r m (after r m e) O) (moves_told (joined_blocks (blocks_from r O m (e ∷ T)))) (moves_told (joined_blocks (blocks_from r O (after r m e) T)))
-          (owed_to r (match_from r (after r m e) T) O (match_from r (after r m e) T).untold (fails_at e O || has_write_failure O T)) (all_texts r (match_from r (after r m e) T) O)
+    let s : Told r X O (fails_at e O) m.phase (after r m e) × Orderly r (after r m e) =
+            step_goes r X O due m e here o (rw (owed_on r m O m.untold failed on) at h) in
+    let rest = told_from r O (block r m (after r m e)) (after r m e) T (X ++ told_now r m (after r m e) O)
+            (fails_at e O) (and_second (fits_next due m e) _ f) s.1 (calm r m e O) s.0 in (
+      rw (quiet on) (joined_more X (told_now r m (after r m e) O)
+          (moves_told (joined_blocks (blocks_from r O m (e ∷ T))))
+          (moves_told (joined_blocks (blocks_from r O (after r m e) T)))
+          (owed_to r (match_from r (after r m e) T) O (match_from r (after r m e) T).untold
+              (fails_at e O || has_write_failure O T)) (all_texts r (match_from r (after r m e) T) O)
           (told_at r O due m e T f o) rest.0),
       rest.1,
     )
@@ -601,17 +725,20 @@ moves_are_told r T O f =
   where
     first : moves_told (sent r O T) ≡ moves_told (joined_blocks (blocks_from r O start T))
     first = flat_map-append move_told (entry r start O) (joined_blocks (blocks_from r O start T))
-        ∙ ap (λ (l : List (List ℕ)). l ++ moves_told (joined_blocks (blocks_from r O start T))) (entry_told r start O (Hello White))
+        ∙ ap (λ (l : List (List ℕ)). l ++ moves_told (joined_blocks (blocks_from r O start T)))
+            (entry_told r start O (Hello White))
 
 -- every match is orderly
 pub orderly : (r : Rules) (T : List Event) → fits r T ≡ true → Orderly r (match_of r T)
 orderly r T f = (told_from r White (entry r start) start T [] false f (refl, refl) (λ on. refl) refl).1
 
-nothing_owed : (r : Rules) (m : Match) (O : Colour) (untold : Option Colour) → is_some (ending_in m.phase) ≡ true → owed_to r m O untold false ≡ []
+pub nothing_owed : (r : Rules) (m : Match) (O : Colour) (untold : Option Colour) → is_some (ending_in m.phase) ≡ true
+    → owed_to r m O untold false ≡ []
 nothing_owed r m O None h = refl
 nothing_owed r m O (Some c) h = at m.phase (same_colour c O) h
   where
-    at : (p : Phase) (b : Bool) → is_some (ending_in p) ≡ true → (if b && (is_on p || false) then last_text r m O else []) ≡ []
+    at : (p : Phase) (b : Bool) → is_some (ending_in p) ≡ true
+        → (if b && (is_on p || false) then last_text r m O else []) ≡ []
     at (Over x) true h = refl
     at (Over x) false h = refl
     at (Hello c) b h = cc
@@ -623,5 +750,6 @@ nothing_owed r m O (Some c) h = at m.phase (same_colour c O) h
 pub all_moves_are_told : AllMovesAreTold
 all_moves_are_told r T O f ended quiet =
     sym (append-nil (moves_told (sent r O T)))
-    ∙ ap (λ (l : List (List ℕ)). moves_told (sent r O T) ++ l) (sym (rw quiet (nothing_owed r (match_of r T) O (match_of r T).untold ended)))
+    ∙ ap (λ (l : List (List ℕ)). moves_told (sent r O T) ++ l)
+        (sym (rw quiet (nothing_owed r (match_of r T) O (match_of r T).untold ended)))
     ∙ moves_are_told r T O f

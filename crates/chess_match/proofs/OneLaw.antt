@@ -80,7 +80,8 @@ drop_front a b c xs e = rw (e, append_assoc a b c) (drop-append_seam a (b ++ c))
 drop_exact : {A : Type 0} (a b xs : List A) → xs ≡ a ++ b → drop (length a) xs ≡ b
 drop_exact a b xs e = rw e (drop-append_seam a b)
 
-next_moments : (e : Event) (T : List Event) (moments : ℕ → ℕ) → ((n : ℕ) → n < length (moments_of (e ∷ T)) → slice_get (moments_of (e ∷ T)) n ≡ Some (moments n))
+next_moments : (e : Event) (T : List Event) (moments : ℕ → ℕ)
+    → ((n : ℕ) → n < length (moments_of (e ∷ T)) → slice_get (moments_of (e ∷ T)) n ≡ Some (moments n))
     → (n : ℕ) → n < length (moments_of T) → slice_get (moments_of T) n ≡ Some (moments_behind e moments n)
 next_moments (Line c t k) T moments i n h = i (suc n) (omega (arith, h))
 next_moments (Opened c k) T moments i n h = i (suc n) (omega (arith, h))
@@ -91,37 +92,46 @@ next_moments (FailsToWrite c) T moments i n h = i n h
 is_of_behind : (s : Streams) (e : Event) (T : List Event) → IsOf s (e ∷ T) → IsOf (behind e s) T
 is_of_behind s e T i = record {
   lines = λ S. ((i.lines S).0, drop_front (line_in S e) (lines_of S T) (i.lines S).0 (s.lines S) (i.lines S).1);
-  ends = λ S h. (drop_exact (line_in S e) (lines_of S T) (s.lines S) (i.ends S (or_right (is_end_of S e) (has_end S T) h)).0, (i.ends S (or_right (is_end_of S e) (has_end S T) h)).1);
-  failures = λ S h. (drop_exact (line_in S e) (lines_of S T) (s.lines S) (i.failures S (or_right (is_read_failure_of S e) (has_read_failure S T) h)).0, (i.failures S (or_right (is_read_failure_of S e) (has_read_failure S T) h)).1);
+  ends = λ S h. (drop_exact (line_in S e) (lines_of S T) (s.lines S)
+      (i.ends S (or_right (is_end_of S e) (has_end S T) h)).0, (i.ends S (or_right (is_end_of S e) (has_end S T) h)).1);
+  failures = λ S h. (drop_exact (line_in S e) (lines_of S T) (s.lines S)
+      (i.failures S (or_right (is_read_failure_of S e) (has_read_failure S T) h)).0,
+      (i.failures S (or_right (is_read_failure_of S e) (has_read_failure S T) h)).1);
   moments = next_moments e T s.moments i.moments;
   writes = λ S. or_none (fails_at e S) (has_write_failure S T) (i.writes S);
 }
 
 -- ---- the first events are one
 
-first_line : (s : Streams) (c : Colour) (t : Option (List ℕ)) (n : ℕ) (T : List Event) → IsOf s (Line c t n ∷ T) → (rest : List (Option (List ℕ))) × (s.lines c ≡ t ∷ rest)
+first_line : (s : Streams) (c : Colour) (t : Option (List ℕ)) (n : ℕ) (T : List Event) → IsOf s (Line c t n ∷ T)
+    → (rest : List (Option (List ℕ))) × (s.lines c ≡ t ∷ rest)
 first_line s White t n T i = (lines_of White T ++ (i.lines White).0, (i.lines White).1)
 first_line s Black t n T i = (lines_of Black T ++ (i.lines Black).0, (i.lines Black).1)
 
-pub over_stops : (r : Rules) (due : Colour → List SentLine) (m : Match) (T : List Event) → is_on m.phase ≡ false → fits_from r due m T ≡ true → T ≡ []
+pub over_stops : (r : Rules) (due : Colour → List SentLine) (m : Match) (T : List Event) → is_on m.phase ≡ false
+    → fits_from r due m T ≡ true → T ≡ []
 over_stops r due m [] off f = refl
 over_stops r due m (e ∷ T) off f = not_on (sym off ∙ fits_on due m e (and_first (fits_next due m e) _ f))
 
 -- an engine whose end was told, or of which a read failed, has no line left
-no_line : (r : Rules) (due : Colour → List SentLine) (m : Match) (S : Colour) (T : List Event) (lines : List (Option (List ℕ))) → is_on m.phase ≡ false → fits_from r due m T ≡ true
+no_line : (r : Rules) (due : Colour → List SentLine) (m : Match) (S : Colour) (T : List Event)
+    (lines : List (Option (List ℕ))) → is_on m.phase ≡ false → fits_from r due m T ≡ true
     → lines ≡ lines_of S T → lines ≡ []
 no_line r due m S T lines off f e = e ∙ ap (λ (U : List Event). lines_of S U) (over_stops r due m T off f)
 
 cons_not_nil : {A B : Type 0} (x : A) (xs ys : List A) → ys ≡ x ∷ xs → ys ≡ [] → B
 cons_not_nil x xs ys e n = cc
 
-ended_none : (r : Rules) (s : Streams) (m : Match) (c : Colour) (T : List Event) → fits_from r (block r m (after r m (OutputEnds c))) (after r m (OutputEnds c)) T ≡ true → IsOf s (OutputEnds c ∷ T)
+ended_none : (r : Rules) (s : Streams) (m : Match) (c : Colour) (T : List Event)
+    → fits_from r (block r m (after r m (OutputEnds c))) (after r m (OutputEnds c)) T ≡ true → IsOf s (OutputEnds c ∷ T)
     → (s.lines c ≡ []) × (s.fails c ≡ false)
 ended_none r s m c T f i =
     let k = i.ends c (or_left (same_colour c c) (has_end c T) (same_as c)) in
     (no_line r (block r m (after r m (OutputEnds c))) (after r m (OutputEnds c)) c T (s.lines c) refl f k.0, k.1)
 
-failed_none : (r : Rules) (s : Streams) (m : Match) (c : Colour) (T : List Event) → fits_from r (block r m (after r m (FailsToRead c))) (after r m (FailsToRead c)) T ≡ true → IsOf s (FailsToRead c ∷ T)
+failed_none : (r : Rules) (s : Streams) (m : Match) (c : Colour) (T : List Event)
+    → fits_from r (block r m (after r m (FailsToRead c))) (after r m (FailsToRead c)) T ≡ true
+    → IsOf s (FailsToRead c ∷ T)
     → (s.lines c ≡ []) × (s.fails c ≡ true)
 failed_none r s m c T f i =
     let k = i.failures c (or_left (same_colour c c) (has_read_failure c T) (same_as c)) in
@@ -130,17 +140,22 @@ failed_none r s m c T f i =
 no_write : {A : Type 0} (s : Streams) (c : Colour) (T : List Event) → IsOf s (FailsToWrite c ∷ T) → A
 no_write s c T i = not_on (sym (or_first (same_colour c c) (has_write_failure c T) (i.writes c)) ∙ same_as c)
 
-line_not_ended : {A : Type 0} (r : Rules) (s : Streams) (m : Match) (c d : Colour) (t : Option (List ℕ)) (n : ℕ) (T U : List Event) → c ≡ d → IsOf s (Line c t n ∷ T)
+line_not_ended : {A : Type 0} (r : Rules) (s : Streams) (m : Match) (c d : Colour) (t : Option (List ℕ)) (n : ℕ)
+    (T U : List Event) → c ≡ d → IsOf s (Line c t n ∷ T)
     → (s.lines d ≡ []) → A
-line_not_ended r s m c d t n T U e i k = cons_not_nil t (first_line s c t n T i).0 (s.lines c) (first_line s c t n T i).1 (rw e k)
+line_not_ended r s m c d t n T U e i k = cons_not_nil t (first_line s c t n T i).0 (s.lines c)
+    (first_line s c t n T i).1 (rw e k)
 
-first_moment : (s : Streams) (c : Colour) (t : Option (List ℕ)) (n : ℕ) (T : List Event) → IsOf s (Line c t n ∷ T) → Some n ≡ Some (s.moments 0)
+first_moment : (s : Streams) (c : Colour) (t : Option (List ℕ)) (n : ℕ) (T : List Event) → IsOf s (Line c t n ∷ T)
+    → Some n ≡ Some (s.moments 0)
 first_moment s c t n T i = i.moments 0 (omega arith)
 
-opened_moment : (s : Streams) (c : Colour) (n : ℕ) (T : List Event) → IsOf s (Opened c n ∷ T) → Some n ≡ Some (s.moments 0)
+opened_moment : (s : Streams) (c : Colour) (n : ℕ) (T : List Event) → IsOf s (Opened c n ∷ T) → Some n
+    ≡ Some (s.moments 0)
 opened_moment s c n T i = i.moments 0 (omega arith)
 
-same_line : (c d : Colour) (t u : Option (List ℕ)) (n k m : ℕ) (rest rest' lines lines' : List (Option (List ℕ))) → c ≡ d → lines ≡ t ∷ rest → lines' ≡ u ∷ rest' → lines ≡ lines' → Some n ≡ Some m → Some k ≡ Some m
+same_line : (c d : Colour) (t u : Option (List ℕ)) (n k m : ℕ) (rest rest' lines lines' : List (Option (List ℕ))) → c
+    ≡ d → lines ≡ t ∷ rest → lines' ≡ u ∷ rest' → lines ≡ lines' → Some n ≡ Some m → Some k ≡ Some m
     → Line c t n ≡ Line d u k
 same_line c d t u n k m rest rest' lines lines' e f g l x y = cc
 
@@ -150,19 +165,26 @@ same_opened c d n k m e x y = cc
 abbrev Goes : Rules → Match → Event → List Event → Type 0
 Goes r m e T = fits_from r (block r m (after r m e)) (after r m e) T ≡ true
 
-same_event : (r : Rules) (s : Streams) (due due' : Colour → List SentLine) (m : Match) (e f : Event) (T U : List Event) → fits_next due m e ≡ true → fits_next due' m f ≡ true
+same_event : (r : Rules) (s : Streams) (due due' : Colour → List SentLine) (m : Match) (e f : Event) (T U : List Event)
+    → fits_next due m e ≡ true → fits_next due' m f ≡ true
     → Goes r m e T → Goes r m f U → IsOf s (e ∷ T) → IsOf s (f ∷ U) → e ≡ f
 same_event r s due due' m (Line c t n) (Line d u k) T U a b g h i j =
     let e : c ≡ d = one_reads m.phase c d a b in
-    same_line c d t u n k (s.moments 0) (first_line s c t n T i).0 (first_line s d u k U j).0 (s.lines c) (s.lines d) e (first_line s c t n T i).1 (first_line s d u k U j).1 (ap s.lines e)
+    same_line c d t u n k (s.moments 0) (first_line s c t n T i).0 (first_line s d u k U j).0 (s.lines c) (s.lines d) e
+        (first_line s c t n T i).1 (first_line s d u k U j).1 (ap s.lines e)
     (first_moment s c t n T i) (first_moment s d u k U j)
-same_event r s due due' m (Opened c n) (Opened d k) T U a b g h i j = same_opened c d n k (s.moments 0) (one_opens m.phase c d a b) (opened_moment s c n T i) (opened_moment s d k U j)
+same_event r s due due' m (Opened c n) (Opened d k) T U a b g h i j =
+    same_opened c d n k (s.moments 0) (one_opens m.phase c d a b) (opened_moment s c n T i) (opened_moment s d k U j)
 same_event r s due due' m (OutputEnds c) (OutputEnds d) T U a b g h i j = ap OutputEnds (one_reads m.phase c d a b)
 same_event r s due due' m (FailsToRead c) (FailsToRead d) T U a b g h i j = ap FailsToRead (one_reads m.phase c d a b)
-same_event r s due due' m (Line c t n) (OutputEnds d) T U a b g h i j = line_not_ended r s m c d t n T U (one_reads m.phase c d a b) i (ended_none r s m d U h j).0
-same_event r s due due' m (Line c t n) (FailsToRead d) T U a b g h i j = line_not_ended r s m c d t n T U (one_reads m.phase c d a b) i (failed_none r s m d U h j).0
-same_event r s due due' m (OutputEnds c) (Line d u k) T U a b g h i j = line_not_ended r s m d c u k U T (one_reads m.phase d c b a) j (ended_none r s m c T g i).0
-same_event r s due due' m (FailsToRead c) (Line d u k) T U a b g h i j = line_not_ended r s m d c u k U T (one_reads m.phase d c b a) j (failed_none r s m c T g i).0
+same_event r s due due' m (Line c t n) (OutputEnds d) T U a b g h i j =
+    line_not_ended r s m c d t n T U (one_reads m.phase c d a b) i (ended_none r s m d U h j).0
+same_event r s due due' m (Line c t n) (FailsToRead d) T U a b g h i j =
+    line_not_ended r s m c d t n T U (one_reads m.phase c d a b) i (failed_none r s m d U h j).0
+same_event r s due due' m (OutputEnds c) (Line d u k) T U a b g h i j =
+    line_not_ended r s m d c u k U T (one_reads m.phase d c b a) j (ended_none r s m c T g i).0
+same_event r s due due' m (FailsToRead c) (Line d u k) T U a b g h i j =
+    line_not_ended r s m d c u k U T (one_reads m.phase d c b a) j (failed_none r s m c T g i).0
 same_event r s due due' m (OutputEnds c) (FailsToRead d) T U a b g h i j =
     not_on (sym (ended_none r s m c T g i).1 ∙ ap s.fails (one_reads m.phase c d a b) ∙ (failed_none r s m d U h j).1)
 same_event r s due due' m (FailsToRead c) (OutputEnds d) T U a b g h i j =
@@ -189,17 +211,24 @@ over_not_on (Opening c) h on = not_on h
 over_not_on (Before c) h on = not_on h
 over_not_on (After c) h on = not_on h
 
-one_from : (r : Rules) (s : Streams) (due due' : Colour → List SentLine) (m : Match) (T U : List Event) → fits_from r due m T ≡ true → fits_from r due' m U ≡ true
-    → is_some (ending_in (match_from r m T).phase) ≡ true → is_some (ending_in (match_from r m U).phase) ≡ true → IsOf s T → IsOf s U → T ≡ U
+one_from : (r : Rules) (s : Streams) (due due' : Colour → List SentLine) (m : Match) (T U : List Event)
+    → fits_from r due m T ≡ true → fits_from r due' m U ≡ true
+    → is_some (ending_in (match_from r m T).phase) ≡ true → is_some (ending_in (match_from r m U).phase) ≡ true
+        → IsOf s T → IsOf s U → T ≡ U
 one_from r s due due' m [] [] f g x y i j = refl
-one_from r s due due' m [] (e ∷ U) f g x y i j = over_not_on m.phase x (fits_on due' m e (and_first (fits_next due' m e) _ g))
-one_from r s due due' m (e ∷ T) [] f g x y i j = over_not_on m.phase y (fits_on due m e (and_first (fits_next due m e) _ f))
+one_from r s due due' m [] (e ∷ U) f g x y i j =
+    over_not_on m.phase x (fits_on due' m e (and_first (fits_next due' m e) _ g))
+one_from r s due due' m (e ∷ T) [] f g x y i j =
+    over_not_on m.phase y (fits_on due m e (and_first (fits_next due m e) _ f))
 one_from r s due due' m (e ∷ T) (d ∷ U) f g x y i j =
     let goes_on : Goes r m e T = and_second (fits_next due m e) _ f in
     let goes_too : Goes r m d U = and_second (fits_next due' m d) _ g in
-    let same : e ≡ d = same_event r s due due' m e d T U (and_first (fits_next due m e) _ f) (and_first (fits_next due' m d) _ g) goes_on goes_too i j in
-    joined same (one_from r (behind e s) (block r m (after r m e)) (block r m (after r m e)) (after r m e) T U goes_on (subst (λ (v : Event). Goes r m v U) (sym same) goes_too) x
-    (subst (λ (v : Event). is_some (ending_in (match_from r (after r m v) U).phase) ≡ true) (sym same) y) (is_of_behind s e T i)
+    let same : e ≡ d = same_event r s due due' m e d T U (and_first (fits_next due m e) _ f)
+            (and_first (fits_next due' m d) _ g) goes_on goes_too i j in
+    joined same (one_from r (behind e s) (block r m (after r m e)) (block r m (after r m e)) (after r m e) T U goes_on
+        (subst (λ (v : Event). Goes r m v U) (sym same) goes_too) x
+    (subst (λ (v : Event). is_some (ending_in (match_from r (after r m v) U).phase) ≡ true) (sym same) y)
+        (is_of_behind s e T i)
     (is_of_behind s e U (subst (λ (v : Event). IsOf s (v ∷ U)) (sym same) j)))
   where
     joined : e ≡ d → T ≡ U → e ∷ T ≡ d ∷ U

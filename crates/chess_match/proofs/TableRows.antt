@@ -1,43 +1,27 @@
 -- Worked matches over a table of moves in place of chess, computed from the definitions: each fits, ends so, and sends these lines.
-use Rattle.std.proofs.Common.{◌≡◌, ℕ, zero, suc, ◌+◌, Bool, true, false, List, [], ◌∷◌, ◌++◌, refl}
+use Rattle.std.proofs.Common.{◌≡◌, ℕ, zero, suc, true, false, List, [], ◌∷◌, ◌++◌, refl}
 use Rattle.std.specs.Fmt.{digits}
-use Rattle.std.specs.Prelude.{codes, ◌==◌, ◌/◌, nat_le, length, if◌then◌else◌, Option, None, Some}
+use Rattle.std.specs.Prelude.{codes, nat_le, length, if◌then◌else◌, Option, None, Some}
 use Rattle.chess_base.specs.declared.man.Colour.{Colour}
 use Rattle.chess_base.specs.declared.man.Colour.TheVariants.{White, Black}
-use Rattle.chess_base.specs.declared.man.Kind.{Kind}
-use Rattle.chess_base.specs.declared.man.Kind.TheVariants.{King, Rook}
-use Rattle.chess_base.specs.declared.setup.Setup.{Setup}
-use Rattle.chess_base.specs.Initial.{initial_setup, man_of}
-use Rattle.chess_base.specs.Squares.{is_between_on_file, is_between_on_rank, is_between_on_diagonal, is_between, some_square, each_square}
-use Rattle.chess_base.specs.Men.{is_of, is_man}
-use Rattle.chess_base.specs.Attacks.{is_clear, could_capture, attacks, is_attacked, is_in_check}
-use Rattle.chess_base.specs.Moves.{from_below, is_double_advance, is_en_passant, pawn_advances, pawn_captures, pawn_moves, man_moves, says_castling, castling, lands_on, castling_crosses, castling_way_is_empty, castling_way_is_safe, castles, has_pattern, second_square_emptied, castling_rook_to, man_after, men_after, rights_after, target_after, resets_clock, halfmove_after, after, is_legal}
-use Rattle.chess_base.specs.MoveList.{squares, all_triples, moves}
-use Rattle.chess_base.specs.Writing.{placement_text}
 use Rattle.chess_cecp.specs.Commands.{argument_of, number_of}
 use Rattle.chess_cecp.specs.Declaring.{result_text}
-use Rattle.chess_game.specs.Ends.{has_bishop_on, is_bare, verdict}
-use Rattle.chess_game.specs.Same.{same_men, same_rights, live_target, same, rep}
-use Rattle.chess_game.specs.declared.ends.Verdict.{Verdict}
 use Rattle.chess_game.specs.declared.ends.Verdict.TheVariants.{BlackMates}
 use Rattle.std.specs.Str.{bytes_eq}
 use Rattle.chess_base.specs.declared.man.Move.{Move}
-use Rattle.chess_base.specs.Writing.{square_text}
-use Rattle.chess_text.specs.Parts.{unmarked, parts_of}
-use Rattle.chess_text.specs.Moves.{captures, described, is_by_squares, is_by_letter, is_straight, is_from_file, fits as fits_form, is_form, is_castling_text, shape, spells_described, spells, reading, coordinate}
-use Rattle.chess_text.specs.San.{walk_parts, is_rival, rival_starts, check_mark, san}
+use Rattle.chess_text.specs.Moves.{coordinate}
 use Rattle.chess_match.specs.Items.{item_of, items_of, has_done, takes, told, plays_fischerandom, is_known}
 use Rattle.chess_match.specs.EngineLines.{kind_of}
-use Rattle.chess_match.specs.Levels.{LevelSeen, base_of, level_of, level_text, sessions, allotted, left}
-use Rattle.chess_match.specs.Rules.{Rules, rules_of, has_bare_king}
-use Rattle.chess_match.specs.Match.{Match, Event, Line, Opened, OutputEnds, FailsToRead, FailsToWrite, hello_line, setup_line, before_line, after_line}
+use Rattle.chess_match.specs.Levels.{LevelSeen, level_text, sessions, allotted, left}
+use Rattle.chess_match.specs.Rules.{Rules}
+use Rattle.chess_match.specs.Match.{Event, Line, Opened, OutputEnds, FailsToRead, FailsToWrite, hello_line, setup_line, before_line, after_line}
 use Rattle.chess_match.specs.Sent.{block, bytes_of, setup_lines, last_move, clock_lines, opening_lines, end_lines}
-use Rattle.chess_match.specs.Transcript.{ending, fits, sent, name_of}
+use Rattle.chess_match.specs.Transcript.{ending, fits, sent}
 use Rattle.chess_match.specs.declared.reason.DrawClaim.TheVariants.{Threefold}
-use Rattle.chess_match.specs.declared.reason.MatchFault.TheVariants.{Ended, Read, Write, NoDone, NoPing, NoSetboard, Flood}
+use Rattle.chess_match.specs.declared.reason.MatchFault.TheVariants.{Ended, Flood}
 use Rattle.chess_base.specs.declared.man.Variant.TheVariants.{Normal}
 use Rattle.chess_match.specs.declared.reason.Reason.{Reason}
-use Rattle.chess_match.specs.declared.reason.Reason.TheVariants.{Decided, Claimed, Agreed, Resigns, MovesIllegally, MovesOutOfTurn, ClaimsFalsely, Forfeits, ForfeitsToBareKing, Faulted}
+use Rattle.chess_match.specs.declared.reason.Reason.TheVariants.{Decided, Claimed, Agreed, Faulted}
 
 abbrev ten_seconds : LevelSeen
 ten_seconds = record { moves = 0; base = 10; increment = 0 }

@@ -1,5 +1,5 @@
 -- A run that goes on by an event.
-use Rattle.std.proofs.Common.{◌≡◌, ℕ, zero, suc, ◌+◌, ◌*◌, ◌<◌, Bool, true, false, not, ◌&&◌, ◌||◌, inl, inr, ◌⊎◌, List, [], ◌∷◌, ◌++◌, length, refl, ap, sym, ◌∙◌, subst, append_assoc, append-nil, arith, Option, Some, None, lt-ltb}
+use Rattle.std.proofs.Common.{◌≡◌, ℕ, ◌<◌, Bool, true, false, ◌&&◌, ◌||◌, inl, inr, List, [], ◌∷◌, ◌++◌, length, refl, ap, sym, ◌∙◌, subst, append_assoc, append-nil, arith, Option, None, lt-ltb}
 use Rattle.std.specs.Prelude.{if◌then◌else◌, nat_lt}
 use Rattle.chess_base.specs.declared.man.Colour.{Colour}
 use Rattle.chess_base.specs.declared.man.Colour.TheVariants.{White, Black}
@@ -8,23 +8,24 @@ use Rattle.chess_base.specs.Devices.{InputState, OutputState, Took, BreaksOff}
 use Rattle.chess_base.specs.Men.{other, same_colour}
 use Rattle.chess_base.proofs.DeviceLaws.{took_none, took_more}
 use Rattle.chess_cecp.specs.Lines.{Held, nothing_held}
-use Rattle.chess_match.specs.Delivering.{HearsAt, is_heard_of, AllSent, OneFailed, Delivered, by_side}
+use Rattle.chess_match.specs.Delivering.{HearsAt, is_heard_of, AllSent, OneFailed, Delivered}
 use Rattle.chess_match.specs.Hearing.{Hearing}
 use Rattle.chess_match.specs.Match.{Match, Event, Line, Opened, OutputEnds, FailsToRead, FailsToWrite, start, after}
 use Rattle.chess_match.specs.Rules.{Rules}
 use Rattle.chess_match.specs.Run.{Written, Asked}
 use Rattle.chess_match.specs.Sent.{SentLine, block, entry, bytes_of}
-use Rattle.chess_match.specs.Stands.{Stands}
+use Rattle.chess_match.specs.Stands.{Stands, Goes, given_block}
 use Rattle.chess_match.specs.Steps.{IsSane}
 use Rattle.chess_match.specs.Told.{PutsIf}
-use Rattle.chess_match.specs.Transcript.{match_from, match_of, fits, fits_next, fits_from, is_on, blocks, blocks_from, joined_blocks, lines_of, moments_of, moment_in, has_end, has_read_failure, has_write_failure, fails_at}
+use Rattle.chess_match.specs.Transcript.{match_of, fits_next, is_on, opens, blocks, blocks_from, joined_blocks, lines_of, moments_of, moment_in, has_end, has_read_failure, has_write_failure, fails_at}
 use Rattle.chess_match.specs.UnderWay.{IsHearing, HeardSoFar, IsUnderWay}
+use Rattle.chess_match.specs.declared.phase.Phase.{Phase}
+use Rattle.chess_match.specs.declared.phase.Phase.TheVariants.{Hello, Setup, Opening, Before, After, Over}
 use Rattle.chess_match.specs.declared.state.Core.{Core}
 use Rattle.chess_match.proofs.HeardOn.{is_stop, heard_still, heard_more}
 use Rattle.chess_match.proofs.Hears.{hearing_start}
 use Rattle.chess_match.proofs.Runs.{is_sound, match_of-append, IsTail, no_tail, failed_tail, moments_more, has_write_failure-append, fits-append, nothing_due, blocks-append, block_alone, taken_more, written_more, all_taken, asked_none, asked_more}
-use Rattle.chess_match.proofs.Sane.{sane_start, sane_over}
-use Rattle.chess_match.proofs.Sends.{bytes_of-append}
+use Rattle.chess_match.proofs.Sane.{sane_start, sane_over, sane_opened}
 
 not_so : (b : Bool) {P : Type 0} → b ≡ false → b ≡ true → P
 not_so true e h = absurd cc
@@ -117,11 +118,11 @@ broken_block r m Black White text k false w w' w'' bs e t b = absurd cc
 broken_block r m Black Black text k false w w' w'' bs e t b = absurd cc
 
 -- of the two engines one is c, and the other is not
-by_either : {P : Colour → Type 0} (c : Colour) → P c → P (other c) → (S : Colour) → P S
-by_either White x y White = x
-by_either White x y Black = y
-by_either Black x y White = y
-by_either Black x y Black = x
+pub by_either : (P : Colour → Type 0) (c : Colour) → P c → P (other c) → (S : Colour) → P S
+by_either P White x y White = x
+by_either P White x y Black = y
+by_either P Black x y White = y
+by_either P Black x y Black = x
 
 own_fails : (c : Colour) (failed : Colour → Bool) → failed c ≡ true → (S : Colour) → same_colour c S || false ≡ true → failed S ≡ true
 own_fails White failed h White e = h
@@ -151,7 +152,7 @@ failed_step r T d text k core core' played played' failed failed' n n' n'' held 
       heard = λ S. subst (λ (x : Match). HeardSoFar S (T ++ e ∷ U) (is_on x.phase) (n S) (n'' S) (held' S)) (sym now)
           (so_far_on S T e U (is_on m.phase) false (n S) (n' S) (n'' S) (held S) (held' S) (failed_tail c) on (λ h. refl) (hears S) (u.heard S));
       written = λ S. subst (λ (bs : List (List SentLine)). Written (failed' S) (w S) (w'' S) bs) (sym (blocks-append r S T e U refl))
-          (by_either {P = λ X. Written (failed' X) (w X) (w'' X) (blocks r X T ++ blocks_from r X m (e ∷ U))} c
+          (by_either (λ X. Written (failed' X) (w X) (w'' X) (blocks r X T ++ blocks_from r X m (e ∷ U))) c
           (broken_block r m d c text k (failed' c) (w c) (w' c) (w'' c) (blocks r c T) sent.fails (all_taken (failed c) (w c) (w' c) (blocks r c T) (u.fine on c) (u.written c)) sent.broke)
           (two_blocks r m d c text k d refl (failed' (other c)) (w (other c)) (w' (other c)) (w'' (other c)) (blocks r (other c) T) (all_taken (failed (other c)) (w (other c)) (w' (other c)) (blocks r (other c) T) (u.fine on (other c)) (u.written (other c))) sent.others)
           S);
@@ -188,22 +189,22 @@ delivered_by r core played m due due' first w w' failed e (inr (c, s)) = inr (c,
 
 -- ---- the start
 
-just_heard : (S : Colour) (T : List Event) (on : Bool) (r : InputState) → lines_of S T ≡ [] → has_end S T ≡ false → has_read_failure S T ≡ false → HeardSoFar S T on r r nothing_held
-just_heard S T on r l e f =
+just_heard : (S : Colour) (T : List Event) (on : Bool) (r : InputState) (h : Held) → h ≡ nothing_held → lines_of S T ≡ [] → has_end S T ≡ false → has_read_failure S T ≡ false → HeardSoFar S T on r r h
+just_heard S T on r h none l e f =
     let s : IsHearing S T r r nothing_held [] = record { hearing = subst (λ (ts : List (Option (List ℕ))). Hearing r r nothing_held [] ts) (sym l) (hearing_start r); unended = e; unfailed = f } in
-    ([], heard_still S T r r nothing_held [] s, λ h. s)
+    subst (λ (x : Held). HeardSoFar S T on r r x) (sym none) ([], heard_still S T r r nothing_held [] s, λ o. s)
 
 first_block : (f : Bool) (w w' : OutputState) (b : List SentLine) → PutsIf f w w' (bytes_of b) → Written f w w' (b ∷ [])
 unfolding bytes_of
 first_block f w w' b p = written_more f w w w' [] b (took_none w) p
 
-all_started : (r : Rules) (core : Core) (played : List Move) (failed : Colour → Bool) (n : Colour → InputState) (w w' : Colour → OutputState) (coming : ℕ → Option ℕ)
-    → AllSent r core played start (λ S. entry r start S) w w' failed → IsUnderWay r [] core played failed n n (λ S. nothing_held) w w' coming coming
-all_started r core played failed n w w' coming s = record {
+all_started : (r : Rules) (core : Core) (played : List Move) (failed : Colour → Bool) (n : Colour → InputState) (held : Colour → Held) (w w' : Colour → OutputState) (coming : ℕ → Option ℕ) → ((S : Colour) → held S ≡ nothing_held)
+    → AllSent r core played start (λ S. entry r start S) w w' failed → IsUnderWay r [] core played failed n n held w w' coming coming
+all_started r core played failed n held w w' coming none s = record {
   fitting = refl;
   stands = s.stands;
   sane = sane_start r;
-  heard = λ S. just_heard S [] true (n S) refl refl refl;
+  heard = λ S. just_heard S [] true (n S) (held S) (none S) refl refl refl;
   written = λ S. first_block (failed S) (w S) (w' S) (entry r start S) (s.puts S);
   fine = s.fine;
   failing = λ S h. absurd cc;
@@ -217,15 +218,15 @@ broken_start false w w' b e p = absurd cc
 other_start : (r : Rules) (f : Bool) (w w' : OutputState) (b : List SentLine) → ((v : OutputState) × Took w v (bytes_of []) × PutsIf f v w' (bytes_of b)) → Written f w w' ([] ∷ b ∷ [])
 other_start r f w w' b (v, t, p) = written_more f w v w' ([] ∷ []) b t p
 
-one_started : (r : Rules) (core : Core) (played : List Move) (failed : Colour → Bool) (n : Colour → InputState) (w w' : Colour → OutputState) (coming : ℕ → Option ℕ) (c : Colour)
-    → OneFailed r core played start (λ S. entry r start S) White w w' failed c → IsUnderWay r (FailsToWrite c ∷ []) core played failed n n (λ S. nothing_held) w w' coming coming
-one_started r core played failed n w w' coming Black s = let no : 0 < 0 = s.some in absurd (omega (arith, no))
-one_started r core played failed n w w' coming White s = record {
+one_started : (r : Rules) (core : Core) (played : List Move) (failed : Colour → Bool) (n : Colour → InputState) (held : Colour → Held) (w w' : Colour → OutputState) (coming : ℕ → Option ℕ) (c : Colour) → ((S : Colour) → held S ≡ nothing_held)
+    → OneFailed r core played start (λ S. entry r start S) White w w' failed c → IsUnderWay r (FailsToWrite c ∷ []) core played failed n n held w w' coming coming
+one_started r core played failed n held w w' coming Black none s = let no : 0 < 0 = s.some in absurd (omega (arith, no))
+one_started r core played failed n held w w' coming White none s = record {
   fitting = ap (λ b. b && true) (lt-ltb 0 (length (entry r start White)) s.some);
   stands = s.stands;
   sane = sane_over r start _ (sane_start r);
-  heard = λ S. just_heard S (FailsToWrite White ∷ []) false (n S) refl refl refl;
-  written = λ S. by_either {P = λ X. Written (failed X) (w X) (w' X) (blocks r X (FailsToWrite White ∷ []))} White
+  heard = λ S. just_heard S (FailsToWrite White ∷ []) false (n S) (held S) (none S) refl refl refl;
+  written = λ S. by_either (λ X. Written (failed X) (w X) (w' X) (blocks r X (FailsToWrite White ∷ []))) White
       (broken_start (failed White) (w White) (w' White) (entry r start White) s.fails s.broke)
       (other_start r (failed Black) (w Black) (w' Black) _ s.others) S;
   fine = λ h. absurd cc;
@@ -234,10 +235,10 @@ one_started r core played failed n w w' coming White s = record {
 }
 
 -- the first lines of White's hello were sent
-pub started : (r : Rules) (core : Core) (played : List Move) (failed : Colour → Bool) (n : Colour → InputState) (w w' : Colour → OutputState) (coming : ℕ → Option ℕ)
-    → Delivered r core played start (λ S. entry r start S) White w w' failed → (T : List Event) × IsUnderWay r T core played failed n n (λ S. nothing_held) w w' coming coming
-started r core played failed n w w' coming (inl s) = ([], all_started r core played failed n w w' coming s)
-started r core played failed n w w' coming (inr (c, s)) = (FailsToWrite c ∷ [], one_started r core played failed n w w' coming c s)
+pub started : (r : Rules) (core : Core) (played : List Move) (failed : Colour → Bool) (n : Colour → InputState) (held : Colour → Held) (w w' : Colour → OutputState) (coming : ℕ → Option ℕ) → ((S : Colour) → held S ≡ nothing_held)
+    → Delivered r core played start (λ S. entry r start S) White w w' failed → (T : List Event) × IsUnderWay r T core played failed n n held w w' coming coming
+started r core played failed n held w w' coming none (inl s) = ([], all_started r core played failed n held w w' coming none s)
+started r core played failed n held w w' coming none (inr (c, s)) = (FailsToWrite c ∷ [], one_started r core played failed n held w w' coming c none s)
 
 -- ---- one event of d's output
 
@@ -259,11 +260,44 @@ event_step r T (OutputEnds c) d core core' played played' failed failed' n n' n'
     (T ++ OutputEnds c ∷ [], all_step r T (OutputEnds c) core core' played played' failed failed' n n' n'' held held' w w' w'' coming coming' coming'' u on refl fit sane hears asked s)
 event_step r T (FailsToRead c) d core core' played played' failed failed' n n' n'' held held' w w' w'' coming coming' coming'' u is on fit sane hears asked (inl s) =
     (T ++ FailsToRead c ∷ [], all_step r T (FailsToRead c) core core' played played' failed failed' n n' n'' held held' w w' w'' coming coming' coming'' u on refl fit sane hears asked s)
-event_step r T (Line c text k) d core core' played played' failed failed' n n' n'' held held' w w' w'' coming coming' coming'' u is on fit sane hears asked (inr (x, s)) =
-    (T ++ Line c text k ∷ FailsToWrite x ∷ [],
-     failed_step r T c text k core core' played played' failed failed' n n' n'' held held' w w' w'' coming coming' coming'' x u on fit sane hears asked
-     (subst (λ (y : Colour). OneFailed r core' played' (after r (match_of r T) (Line c text k)) (λ S. block r (match_of r T) (after r (match_of r T) (Line c text k)) S) y w' w'' failed' x) (sym (same_is c d is)) s))
+event_step r T (Line c text k) d core core' played played' failed failed' n n' n'' held held' w w' w'' coming coming' coming'' u is on fit sane hears asked (inr (x, s)) = (
+  T ++ Line c text k ∷ FailsToWrite x ∷ [],
+  failed_step r T c text k core core' played played' failed failed' n n' n'' held held' w w' w'' coming coming' coming'' x u on fit sane hears asked
+      (subst (λ (y : Colour). OneFailed r core' played' (after r (match_of r T) (Line c text k)) (λ S. block r (match_of r T) (after r (match_of r T) (Line c text k)) S) y w' w'' failed' x) (sym (same_is c d is)) s),
+)
 event_step r T (OutputEnds c) d core core' played played' failed failed' n n' n'' held held' w w' w'' coming coming' coming'' u is on fit sane hears asked (inr (x, s)) = let no : false ≡ true = s.on in absurd cc
 event_step r T (FailsToRead c) d core core' played played' failed failed' n n' n'' held held' w w' w'' coming coming' coming'' u is on fit sane hears asked (inr (x, s)) = let no : false ≡ true = s.on in absurd cc
 event_step r T (Opened c k) d core core' played played' failed failed' n n' n'' held held' w w' w'' coming coming' coming'' u is on fit sane hears asked s = absurd cc
 event_step r T (FailsToWrite c) d core core' played played' failed failed' n n' n'' held held' w w' w'' coming coming' coming'' u is on fit sane hears asked s = absurd cc
+
+-- ---- the moment at the end of an opening
+
+nothing_put : (f : Bool) (o : OutputState) (b : List SentLine) → f ≡ false → [] ≡ b → PutsIf f o o (bytes_of b)
+unfolding bytes_of
+nothing_put true o b e n = absurd cc
+nothing_put false o b e n = subst (λ (ls : List SentLine). Took o o (bytes_of ls)) n (took_none o)
+
+pub opens_on : (p : Phase) (S : Colour) → opens p S ≡ true → is_on p ≡ true
+opens_on (Opening c) S h = refl
+opens_on (Hello c) S h = refl
+opens_on (Setup c) S h = refl
+opens_on (Before c) S h = refl
+opens_on (After c) S h = refl
+opens_on (Over x) S h = absurd cc
+
+none_given : (r : Rules) (m : Match) (S : Colour) → [] ≡ given_block r (record { answers = None; draw = None; entered = false }) [] m S
+unfolding given_block
+none_given r m S = refl
+
+pub opened_step : (r : Rules) (T : List Event) (d : Colour) (k : ℕ) (core core' : Core) (played : List Move) (failed : Colour → Bool) (n n' : Colour → InputState) (held : Colour → Held) (w w' : Colour → OutputState) (coming coming' coming'' : ℕ → Option ℕ)
+    → IsUnderWay r T core played failed n n' held w w' coming coming' → opens (match_of r T).phase d ≡ true → Asked coming' coming'' (k ∷ [])
+    → Goes r core' played (record { answers = None; draw = None; entered = false }) [] (match_of r T) (after r (match_of r T) (Opened d k))
+    → IsUnderWay r (T ++ Opened d k ∷ []) core' played failed n n' held w w' coming coming''
+opened_step r T d k core core' played failed n n' held w w' coming coming' coming'' u opening asked goes =
+    let on : is_on (match_of r T).phase ≡ true = opens_on (match_of r T).phase d opening in
+    all_step r T (Opened d k) core core' played played failed failed n n' n' held held w w' w' coming coming' coming'' u on refl opening (sane_opened r (match_of r T) d k opening u.sane) (λ S. (refl, refl)) asked
+    (record {
+      stands = goes.stands;
+      puts = λ S. nothing_put (failed S) (w' S) _ (u.fine on S) (none_given r (after r (match_of r T) (Opened d k)) S ∙ goes.gives S);
+      fine = λ h S. u.fine on S;
+    })

@@ -1,5 +1,5 @@
 -- When the core and the game stand for a match, and what the core gives to send.
-use Rattle.std.specs.Prelude.{◌≡◌, ℕ, ◌+◌, ◌-◌, ◌<◌, ◌≤◌, Bool, true, false, if◌then◌else◌, List, [], ◌∷◌, ◌++◌, length, sum, codes, Option, None, Some}
+use Rattle.std.specs.Prelude.{◌≡◌, ℕ, true, false, if◌then◌else◌, List, [], ◌∷◌, ◌++◌, length, sum, codes, Option, None, Some}
 use Rattle.chess_base.specs.declared.man.Colour.{Colour}
 use Rattle.chess_base.specs.declared.man.Colour.TheVariants.{White, Black}
 use Rattle.chess_base.specs.declared.man.Move.{Move}
@@ -9,12 +9,11 @@ use Rattle.chess_match.specs.Clocks.{ClocksSeen, Spent, charged}
 use Rattle.chess_match.specs.EngineLines.{LineKind}
 use Rattle.chess_match.specs.Items.{Item, takes, told, plays_fischerandom}
 use Rattle.chess_match.specs.Levels.{LevelSeen}
-use Rattle.chess_match.specs.Match.{Match, Seat, Event, seat, items_heard}
+use Rattle.chess_match.specs.Match.{Match, Seat, items_heard}
 use Rattle.chess_match.specs.Rules.{Rules}
 use Rattle.chess_match.specs.Sent.{SentLine, DrawOffered, answers_to, entry, block}
-use Rattle.chess_match.specs.Transcript.{match_of, sent}
 use Rattle.chess_match.specs.declared.phase.Phase.{Phase}
-use Rattle.chess_match.specs.declared.phase.Phase.TheVariants.{Hello, Setup, Opening, Before, After, Over}
+use Rattle.chess_match.specs.declared.phase.Phase.TheVariants.{Hello, After}
 use Rattle.chess_match.specs.declared.features.Features.{Features}
 use Rattle.chess_match.specs.declared.state.Player.{Player}
 use Rattle.chess_match.specs.declared.state.Given.{Given}

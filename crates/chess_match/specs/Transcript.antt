@@ -1,7 +1,7 @@
 -- A transcript of a match, and what it says.
 use Rattle.std.specs.Prelude.{ℕ, ◌&&◌, ◌||◌, nat_lt, Bool, true, false, not, if◌then◌else◌, List, [], ◌∷◌, ◌++◌, length, codes, Option, None, Some}
 use Rattle.chess_base.specs.declared.man.Colour.{Colour}
-use Rattle.chess_base.specs.Men.{other, same_colour}
+use Rattle.chess_base.specs.Men.{same_colour}
 use Rattle.chess_pgn.specs.Written.{cut_tag}
 use Rattle.chess_match.specs.Items.{told}
 use Rattle.chess_match.specs.Match.{Match, Event, Line, Opened, OutputEnds, FailsToRead, FailsToWrite, seat, start, after}

@@ -5,7 +5,7 @@ use Rattle.chess_base.specs.declared.man.Move.{Move}
 use Rattle.chess_base.specs.Devices.{InputState, OutputState}
 use Rattle.chess_cecp.specs.Lines.{Held}
 use Rattle.chess_match.specs.Hearing.{Hearing}
-use Rattle.chess_match.specs.Match.{Match, Event}
+use Rattle.chess_match.specs.Match.{Event}
 use Rattle.chess_match.specs.Rules.{Rules}
 use Rattle.chess_match.specs.Run.{Heard, Written, Asked}
 use Rattle.chess_match.specs.Stands.{Stands}

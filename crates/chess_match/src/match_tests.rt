@@ -112,7 +112,8 @@ fn with_lines(alloc: Global, front: &[u8], count: usize, behind: &[u8]) -> Resul
     Ok(text)
 }
 
-const BLACK: &[u8] = b"feature ping=1 myname=\"second\" done=1\npong 1\nmove e7e5\npong 2\nmove d8h4\n";
+const BLACK: &[u8] =
+    b"feature ping=1 myname=\"second\" done=1\npong 1\nmove e7e5\npong 2\nmove d8h4\n";
 
 #[test]
 fn mate_and_names(rt: HostRuntime) -> Result<(), Fail> {
@@ -124,7 +125,14 @@ fn mate_and_names(rt: HostRuntime) -> Result<(), Fail> {
         moments: &[],
     };
     let played = play(&rt, rt.alloc(), Position::initial(), &said)?;
-    is_end(&rt, &played, Outcome::BlackWins, b"Black mates", HowEnded::Normal, None);
+    is_end(
+        &rt,
+        &played,
+        Outcome::BlackWins,
+        b"Black mates",
+        HowEnded::Normal,
+        None,
+    );
     assert_eq!(rt; played.end.white_name.as_bytes(), b"first".as_slice());
     assert_eq!(rt; played.end.black_name.as_bytes(), b"second".as_slice());
     assert_eq!(rt; played.moves, 4);
@@ -141,7 +149,14 @@ fn kinds_of_ends(rt: HostRuntime) -> Result<(), Fail> {
         moments: &[],
     };
     let played = play(&rt, rt.alloc(), Position::initial(), &illegal)?;
-    is_end(&rt, &played, Outcome::BlackWins, b"White makes an illegal move", HowEnded::RulesInfraction, None);
+    is_end(
+        &rt,
+        &played,
+        Outcome::BlackWins,
+        b"White makes an illegal move",
+        HowEnded::RulesInfraction,
+        None,
+    );
     let late = Said {
         white: b"feature ping=1 done=1\npong 1\nmove e2e4\n",
         black: BLACK,
@@ -150,7 +165,14 @@ fn kinds_of_ends(rt: HostRuntime) -> Result<(), Fail> {
         moments: &[0, 0, 0, 0, 5000, 15001],
     };
     let played = play(&rt, rt.alloc(), Position::initial(), &late)?;
-    is_end(&rt, &played, Outcome::BlackWins, b"White forfeits on time", HowEnded::TimeForfeit, None);
+    is_end(
+        &rt,
+        &played,
+        Outcome::BlackWins,
+        b"White forfeits on time",
+        HowEnded::TimeForfeit,
+        None,
+    );
     assert_eq!(rt; played.moves, 0);
     Ok(())
 }
@@ -160,7 +182,12 @@ fn hellos_of_many_lines(rt: HostRuntime) -> Result<(), Fail> {
     let behind = b"feature ping=1 done=1\npong 1\nresign\n".as_slice();
     for (count, outcome, comment, fault) in [
         (999, Outcome::BlackWins, b"White resigns".as_slice(), None),
-        (1000, Outcome::Unfinished, b"White did not send done=1".as_slice(), Some((Colour::White, MatchFault::NoDone))),
+        (
+            1000,
+            Outcome::Unfinished,
+            b"White did not send done=1".as_slice(),
+            Some((Colour::White, MatchFault::NoDone)),
+        ),
     ] {
         let white = with_lines(rt.alloc(), b"", count, behind)?;
         let said = Said {
@@ -181,8 +208,18 @@ fn floods(rt: HostRuntime) -> Result<(), Fail> {
     let front = b"feature ping=1 done=1\npong 1\n".as_slice();
     let flood = Some((Colour::White, MatchFault::Flood));
     for (behind, outcome, comment, fault) in [
-        (b"move f2f3\nresign\n".as_slice(), Outcome::BlackWins, b"White resigns".as_slice(), None),
-        (b"move f2f3\nx\npong 2\n".as_slice(), Outcome::Unfinished, b"White sent too many lines".as_slice(), flood),
+        (
+            b"move f2f3\nresign\n".as_slice(),
+            Outcome::BlackWins,
+            b"White resigns".as_slice(),
+            None,
+        ),
+        (
+            b"move f2f3\nx\npong 2\n".as_slice(),
+            Outcome::Unfinished,
+            b"White sent too many lines".as_slice(),
+            flood,
+        ),
     ] {
         let white = with_lines(rt.alloc(), front, 9999, behind)?;
         let said = Said {
@@ -215,7 +252,14 @@ fn lines_that_are_too_long(rt: HostRuntime) -> Result<(), Fail> {
         moments: &[],
     };
     let played = play(&rt, rt.alloc(), Position::initial(), &said)?;
-    is_end(&rt, &played, Outcome::BlackWins, b"White resigns", HowEnded::Normal, None);
+    is_end(
+        &rt,
+        &played,
+        Outcome::BlackWins,
+        b"White resigns",
+        HowEnded::Normal,
+        None,
+    );
     assert_eq!(rt; played.moves, 0);
     Ok(())
 }
@@ -230,12 +274,20 @@ fn outputs_that_end(rt: HostRuntime) -> Result<(), Fail> {
         moments: &[],
     };
     let played = play(&rt, rt.alloc(), Position::initial(), &said)?;
-    is_end(&rt, &played, Outcome::Unfinished, b"White ended its output", HowEnded::Normal, Some((Colour::White, MatchFault::Ended)));
+    is_end(
+        &rt,
+        &played,
+        Outcome::Unfinished,
+        b"White ended its output",
+        HowEnded::Normal,
+        Some((Colour::White, MatchFault::Ended)),
+    );
     assert_eq!(rt; played.moves, 2);
     Ok(())
 }
 
-const CASTLES: &[u8] = b"feature ping=1 setboard=1 usermove=1 variants=\"normal,fischerandom\" done=1\npong 1\nmove O-O-O\npong 2\n";
+const CASTLES: &[u8] =
+    b"feature ping=1 setboard=1 usermove=1 variants=\"normal,fischerandom\" done=1\npong 1\nmove O-O-O\npong 2\n";
 
 fn castling_start(rt: &impl Abort) -> Position {
     match read_fen_as(Variant::Fischerandom, b"4k3/8/8/8/8/8/8/RK5R w HA - 0 1") {
@@ -254,17 +306,38 @@ fn a_match_of_chess960(rt: HostRuntime) -> Result<(), Fail> {
         moments: &[],
     };
     let played = play(&rt, rt.alloc(), castling_start(&rt), &said)?;
-    is_end(&rt, &played, Outcome::WhiteWins, b"Black resigns", HowEnded::Normal, None);
-    assert_eq!(rt; played.to_white.as_slice(), b"xboard\nprotover 2\naccepted ping\naccepted setboard\naccepted usermove\naccepted variants\naccepted done\nnew\nvariant fischerandom\nlevel 0 0:10 0\nnopost\neasy\nforce\nsetboard 4k3/8/8/8/8/8/8/RK5R w HA - 0 1\nping 1\ntime 1000\notim 1000\ngo\nping 2\nresult 1-0 {Black resigns}\nquit\n".as_slice());
-    assert_eq!(rt; played.to_black.as_slice(), b"xboard\nprotover 2\naccepted ping\naccepted setboard\naccepted done\nnew\nvariant fischerandom\nlevel 0 0:10 0\nnopost\neasy\nforce\nsetboard 4k3/8/8/8/8/8/8/RK5R w HA - 0 1\nping 1\nO-O-O\ntime 1000\notim 1000\ngo\nresult 1-0 {Black resigns}\nquit\n".as_slice());
+    is_end(
+        &rt,
+        &played,
+        Outcome::WhiteWins,
+        b"Black resigns",
+        HowEnded::Normal,
+        None,
+    );
+    assert_eq!(rt;
+        played.to_white.as_slice(),
+        b"xboard\nprotover 2\naccepted ping\naccepted setboard\naccepted usermove\naccepted variants\naccepted done\nnew\nvariant fischerandom\nlevel 0 0:10 0\nnopost\neasy\nforce\nsetboard 4k3/8/8/8/8/8/8/RK5R w HA - 0 1\nping 1\ntime 1000\notim 1000\ngo\nping 2\nresult 1-0 {Black resigns}\nquit\n".as_slice()
+    );
+    assert_eq!(rt;
+        played.to_black.as_slice(),
+        b"xboard\nprotover 2\naccepted ping\naccepted setboard\naccepted done\nnew\nvariant fischerandom\nlevel 0 0:10 0\nnopost\neasy\nforce\nsetboard 4k3/8/8/8/8/8/8/RK5R w HA - 0 1\nping 1\nO-O-O\ntime 1000\notim 1000\ngo\nresult 1-0 {Black resigns}\nquit\n".as_slice()
+    );
     Ok(())
 }
 
 #[test]
 fn engines_without_chess960(rt: HostRuntime) -> Result<(), Fail> {
     for (black, comment, fault) in [
-        (b"feature ping=1 setboard=1 variants=\"normal, suicide\" done=1\n".as_slice(), b"Black has no fischerandom".as_slice(), MatchFault::NoVariant),
-        (b"feature ping=1 variants=\"normal\" done=1\n".as_slice(), b"Black has no setboard".as_slice(), MatchFault::NoSetboard),
+        (
+            b"feature ping=1 setboard=1 variants=\"normal, suicide\" done=1\n".as_slice(),
+            b"Black has no fischerandom".as_slice(),
+            MatchFault::NoVariant,
+        ),
+        (
+            b"feature ping=1 variants=\"normal\" done=1\n".as_slice(),
+            b"Black has no setboard".as_slice(),
+            MatchFault::NoSetboard,
+        ),
     ] {
         let said = Said {
             white: CASTLES,
@@ -274,7 +347,14 @@ fn engines_without_chess960(rt: HostRuntime) -> Result<(), Fail> {
             moments: &[],
         };
         let played = play(&rt, rt.alloc(), castling_start(&rt), &said)?;
-        is_end(&rt, &played, Outcome::Unfinished, comment, HowEnded::Normal, Some((Colour::Black, fault)));
+        is_end(
+            &rt,
+            &played,
+            Outcome::Unfinished,
+            comment,
+            HowEnded::Normal,
+            Some((Colour::Black, fault)),
+        );
     }
     Ok(())
 }

@@ -230,7 +230,7 @@ fn send_in_turn<W: Output, G: Played, S: Board>(
     requires on { is_on core.old.phase ≡ true }
     ensures { (r : Rules) (m : Match) → G.plays game.now r → Stands r core.old (G.played game.now) m
         → Delivered r core.new (G.played game.now) m (given_block r given (items_of text.now) m) side
-            (by_turn side (W.seen own.old) (W.seen others.old)) (by_turn side (W.seen own.new) (W.seen others.new)) (by_turn side result.0 result.1) }
+        (by_turn side (W.seen own.old) (W.seen others.old)) (by_turn side (W.seen own.new) (W.seen others.new)) (by_turn side result.0 result.1) }
 {
     if send(own, core, game, scratch, given, text, side).is_err() {
         let others_failed = end_for_other(others, core, game, scratch, side);
@@ -258,7 +258,7 @@ fn deliver<W: Output, G: Played, S: Board>(
     requires { HasLast core.old (G.played game.now) }
     ensures { (r : Rules) (m : Match) → G.plays game.now r → Stands r core.old (G.played game.now) m
         → Delivered r core.new (G.played game.now) m (given_block r given (items_of text.now) m) side
-            (by_side (W.seen white.old) (W.seen black.old)) (by_side (W.seen white.new) (W.seen black.new)) (by_side result.white result.black) }
+        (by_side (W.seen white.old) (W.seen black.old)) (by_side (W.seen white.new) (W.seen black.new)) (by_side result.white result.black) }
 {
     if core.is_over() {
         return send_both(white, black, core, game, scratch, given, text);
@@ -330,7 +330,7 @@ fn hear_line<'a, M: Moments, G: Played>(
     ensures origin { G.origin game.new ≡ G.origin game.old }
     ensures heard { (moment : ℕ) × Asked (M.coming moments.old) (M.coming moments.new) (moment ∷ [])
         × ((r : Rules) (m : Match) → G.plays game.old r → reads m.phase side ≡ true → Stands r core.old (G.played game.old) m
-            → Goes r core.new (G.played game.new) result.0 (items_of result.1.now) m (after r m (line_event side line.now moment))) }
+        → Goes r core.new (G.played game.new) result.0 (items_of result.1.now) m (after r m (line_event side line.now moment))) }
 {
     let moment = moments.now();
     let said = said(line);
@@ -352,7 +352,7 @@ fn note<'a, M: Moments, G: Played>(
     ensures origin { G.origin game.new ≡ G.origin game.old }
     ensures heard { (moment : ℕ) × Asked (M.coming moments.old) (M.coming moments.new) (moment_in (event_heard side moment heard.now))
         × ((r : Rules) (m : Match) → G.plays game.old r → reads m.phase side ≡ true → Stands r core.old (G.played game.old) m
-            → Goes r core.new (G.played game.new) result.0 (items_of result.1.now) m (after r m (event_heard side moment heard.now))) }
+        → Goes r core.new (G.played game.new) result.0 (items_of result.1.now) m (after r m (event_heard side moment heard.now))) }
 {
     match heard {
         Err(_) => (core.read_fails(side), b"".as_slice()),
@@ -383,8 +383,8 @@ fn hear<W: Output, M: Moments, G: Played, S: Board>(
     ensures origin { G.origin game.new ≡ G.origin game.old }
     ensures heard { (moment : ℕ) × Asked (M.coming moments.old) (M.coming moments.new) (moment_in (event_heard side moment heard.now))
         × ((r : Rules) (m : Match) → G.plays game.old r → reads m.phase side ≡ true → Stands r core.old (G.played game.old) m
-            → Delivered r core.new (G.played game.new) (after r m (event_heard side moment heard.now)) (block r m (after r m (event_heard side moment heard.now))) side
-                (by_side (W.seen white.old) (W.seen black.old)) (by_side (W.seen white.new) (W.seen black.new)) (by_side result.white result.black)) }
+        → Delivered r core.new (G.played game.new) (after r m (event_heard side moment heard.now)) (block r m (after r m (event_heard side moment heard.now))) side
+        (by_side (W.seen white.old) (W.seen black.old)) (by_side (W.seen white.new) (W.seen black.new)) (by_side result.white result.black)) }
 {
     let (given, text) = note(core, moments, game, heard, side);
     deliver(white, black, core, game, scratch, given, text, side)

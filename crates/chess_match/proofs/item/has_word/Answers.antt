@@ -1,6 +1,5 @@
 -- Either the byte is one more of the piece, or the piece ends here and isn't the word.
-use Rattle.std.proofs.Common.{◌≡◌, ◌≤◌, ◌+◌, ◌-◌, length, drop, take, true, false, refl, ap, sym, ◌∙◌, arith}
-use Rattle.chess_match.specs.Items.{has_word_behind}
+use Rattle.std.proofs.Common.{sym, ◌∙◌, arith}
 use Rattle.chess_match.proofs.Pieces.{over_byte, over_mark}
 use Rattle.chess_match.proofs.item.has_word.Goals.{then-is_comma_or_blank+else-eq, else-is_comma_or_blank}
 use Rattle.chess_match.proofs.item.has_word.Goals as goal

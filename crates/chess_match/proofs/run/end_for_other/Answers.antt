@@ -1,10 +1,10 @@
 -- The core goes over to the end, and the block that this gives is sent.
-use Rattle.std.proofs.Common.{◌≡◌, ◌<◌, List, [], ◌∷◌, ℕ, length, true, None, refl, ap, sym, ◌∙◌}
-use Rattle.std.specs.Prelude.{is_some}
+use Rattle.std.proofs.Common.{List, [], ap, ◌∙◌}
+use Rattle.chess_base.specs.declared.man.Colour.{Colour}
 use Rattle.chess_base.specs.Men.{other}
 use Rattle.chess_match.specs.Items.{Item, items_of}
 use Rattle.chess_match.specs.Match.{Match, FailsToWrite, after}
-use Rattle.chess_match.specs.Sent.{SentLine, block, bytes_of}
+use Rattle.chess_match.specs.Sent.{bytes_of}
 use Rattle.chess_match.specs.Stands.{given_block}
 use Rattle.chess_match.proofs.Delivers.{last_told, on_too, no_items, puts_if}
 use Rattle.chess_match.proofs.run.end_for_other.Goals as goal
@@ -12,13 +12,17 @@ use Rattle.chess_match.proofs.run.end_for_other.Goals as goal
 pub send-requires : goal.send-requires
 send-requires g c =
     let l = c.requires.last in
-    let goes = c.write_fails.ensures l.0 _ l.1 (on_too l.0 _ _ l.1 l.2 c.requires.on) l.2 in
+    let goes = c.write_fails-given.ensures l.0 _ l.1 (on_too l.0 _ _ l.1 l.2 c.requires.on) l.2 in
     last_told l.0 _ _ (after l.0 l.1 (FailsToWrite c.args.side)) goes.stands l.3
 
 pub returns : goal.returns
 returns g c r m p s =
-    let goes = c.write_fails.ensures r _ m (on_too r _ _ m s c.requires.on) s in
-    let m' : Match = after r m (FailsToWrite c.args.side) in
-    let sent = c.send.ensures.puts r m' p goes.stands in
-    let text = ap (λ (is : List Item). bytes_of (given_block r c.write_fails.result is m' (other c.args.side))) no_items ∙ ap bytes_of (goes.gives (other c.args.side)) in
-    (goes.stands, ?)
+    let goes = c.write_fails-given.ensures r _ m (on_too r _ _ m s c.requires.on) s in
+    let m' : Match = after r m (FailsToWrite c.args.side) in (
+      goes.stands,
+      puts_if _ _ c.send.result c.is_err.result _ _ c.is_err.ensures.value
+          (ap (λ (S : Colour). bytes_of (given_block r c.write_fails-given.result (items_of []) m' S)) c.other.ensures
+          ∙ ap (λ (is : List Item). bytes_of (given_block r c.write_fails-given.result is m' (other c.args.side))) no_items
+          ∙ ap bytes_of (goes.gives (other c.args.side)))
+          (c.send.ensures.puts r m' p goes.stands),
+    )

@@ -1,9 +1,7 @@
 -- What was heard stands, and its blocks are delivered.
-use Rattle.std.proofs.Common.{◌≡◌, ◌<◌, List, true, false, refl, ap, sym, ◌∙◌}
 use Rattle.chess_match.specs.Delivering.{event_heard}
-use Rattle.chess_match.specs.Match.{Match, after}
+use Rattle.chess_match.specs.Match.{after}
 use Rattle.chess_match.specs.Sent.{block}
-use Rattle.chess_match.specs.Stands.{given_block}
 use Rattle.chess_match.proofs.LinesRead.{heard_sane}
 use Rattle.chess_match.proofs.UnderWays.{delivered_by}
 use Rattle.chess_match.proofs.run.hear.Goals as goal
@@ -16,7 +14,10 @@ deliver-requires g c =
 
 pub returns-clause-heard : goal.returns-clause-heard
 returns-clause-heard g c =
-    let h = c.note.ensures.heard in
-    (h.0, h.1, λ r m p reading s.
-        let goes = h.2 r m p reading s in
-        delivered_by r _ _ _ _ (block r m (after r m (event_heard c.args.side h.0 c.args.heard.now))) c.args.side _ _ _ goes.gives (c.deliver.ensures r _ (c.note.ensures.rules r p) goes.stands))
+    let h = c.note.ensures.heard in (
+      h.0,
+      h.1,
+      λ r m p reading s.
+          let goes = h.2 r m p reading s in
+          delivered_by r _ _ _ _ (block r m (after r m (event_heard c.args.side h.0 c.args.heard.now))) c.args.side _ _ _ goes.gives (c.deliver.ensures r _ (c.note.ensures.rules r p) goes.stands),
+    )

@@ -1,6 +1,5 @@
 -- The moment is asked for, and the core hears what the line says.
-use Rattle.std.proofs.Common.{◌≡◌, ◌<◌, List, true, false, refl, ap, sym, ◌∙◌, None}
-use Rattle.chess_match.specs.Items.{items_of}
+use Rattle.std.proofs.Common.{ap, sym, ◌∙◌}
 use Rattle.chess_match.specs.Seen.{seen}
 use Rattle.chess_match.specs.Stands.{items_in}
 use Rattle.chess_match.specs.declared.phase.Phase.{Phase}
@@ -9,8 +8,8 @@ use Rattle.chess_match.proofs.Delivers.{counted, few, undecided, goes_with}
 use Rattle.chess_match.proofs.Runs.{asked_one}
 use Rattle.chess_match.proofs.run.hear_line.Goals as goal
 
-pub line-requires : goal.line-requires
-line-requires g c =
+pub line-given-requires : goal.line-given-requires
+line-given-requires g c =
     let q = c.requires in
     record {
       counted = counted q.0 _ _ q.1 q.3 q.4;
@@ -24,5 +23,5 @@ returns-clause-heard g c = (
   asked_one _ _ c.now-moment.result c.now-moment.ensures.moment c.now-moment.ensures.rest,
   λ r m p reading s.
       goes_with r _ _ _ _ _ m _ (ap (λ (x : Phase). items_in x (seen c.said-said.result)) (sym s.phase) ∙ sym c.items_text-text.ensures)
-      (c.line.ensures.goes r m c.args.side (text_heard c.args.line.now) p reading (sym c.said-said.ensures) s),
+      (c.line-given.ensures.goes r m c.args.side (text_heard c.args.line.now) p reading (sym c.said-said.ensures) s),
 )

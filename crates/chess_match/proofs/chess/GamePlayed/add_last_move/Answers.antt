@@ -1,6 +1,5 @@
 -- The text is that of the last move in the position before it, which the game's line tells.
-use Rattle.std.proofs.Common.{◌≡◌, ◌+◌, ◌-◌, ◌<◌, ◌++◌, ◌∷◌, [], length, true, false, List, ℕ, refl, ap, sym, ◌∙◌, arith, take}
-use Rattle.chess_base.specs.Moves.{is_legal}
+use Rattle.std.proofs.Common.{◌≡◌, ◌+◌, ◌-◌, ◌++◌, ◌∷◌, [], length, List, ℕ, ap, sym, ◌∙◌, arith}
 use Rattle.chess_base.specs.declared.setup.Setup.{Setup}
 use Rattle.chess_text.specs.San.{san, shown_move}
 use Rattle.chess_match.specs.Rules.{Rules, rules_of, text_of_last}
