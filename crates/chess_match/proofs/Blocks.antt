@@ -28,10 +28,10 @@ unfolding block
 of_block {A} f a d r m m' S =
     flat_map-append f (answers_to (new_items (seat m S) (seat m' S))) _
     ∙ ap (λ (l : List A). l ++ flat_map f (draw_line (seat m' S) (seat m (other S)) (seat m' (other S))
-        ++ (if is_same_phase m.phase m'.phase then [] else entry r m' S))) (answers (new_items (seat m S) (seat m' S)))
+    ++ (if is_same_phase m.phase m'.phase then [] else entry r m' S))) (answers (new_items (seat m S) (seat m' S)))
     ∙ flat_map-append f (draw_line (seat m' S) (seat m (other S)) (seat m' (other S))) _
     ∙ ap (λ (l : List A). l ++ flat_map f (if is_same_phase m.phase m'.phase then [] else entry r m' S))
-        (offer (not (seat m (other S)).offers && (seat m' (other S)).offers && takes (codes "draw") (seat m' S).items))
+    (offer (not (seat m (other S)).offers && (seat m' (other S)).offers && takes (codes "draw") (seat m' S).items))
     ∙ split (is_same_phase m.phase m'.phase) (entry r m' S)
   where
     answers : (items : List Item) → flat_map f (answers_to items) ≡ []

@@ -48,8 +48,12 @@ played r Black move used m timely w = (w.0, used_more r.level m.black.used used 
 
 in_turn : (r : Rules) (S : Colour) (kind : LineKind) (m : Match) → IsInTime r.level m
     → InTurn r S kind m (λ m'. IsInTime r.level m')
-in_turn r S kind m w = record { ends = λ reason n. w; counts = λ k n. w; offers =
-    λ k own theirs. offered r.level S m w }
+in_turn r S kind m w = record {
+  ends = λ reason n. w;
+  counts = λ k n. w;
+  offers =
+      λ k own theirs. offered r.level S m w;
+}
 
 step : (r : Rules) (due : Colour → List SentLine) (m : Match) (e : Event) → fits_next due m e ≡ true
     → IsInTime r.level m → IsInTime r.level (after r m e)

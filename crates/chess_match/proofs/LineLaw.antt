@@ -222,14 +222,14 @@ few r due m [] k f w = let h : k ≤ 22000 + 10002 * (r.limit + 1) = few_over r 
 few r due m (Line S t n ∷ T) k f w =
     let here : reads m.phase S ≡ true = and_first (reads m.phase S) _ f in
     let next : Few r (k + 1) (after r m (Line S t n)) =
-            line_outcome r S (kind_heard t) n m (λ m'. Few r (k + 1) m') here (lines r k S (kind_heard t) n m w) in
+    line_outcome r S (kind_heard t) n m (λ m'. Few r (k + 1) m') here (lines r k S (kind_heard t) n m w) in
     let h : k + 1 + line_count T ≤ 22000 + 10002 * (r.limit + 1) =
-            few r (block r m (after r m (Line S t n))) (after r m (Line S t n)) T (k + 1)
-            (and_second (reads m.phase S) _ f) next in
+    few r (block r m (after r m (Line S t n))) (after r m (Line S t n)) T (k + 1)
+    (and_second (reads m.phase S) _ f) next in
     omega (arith, h)
 few r due m (Opened S n ∷ T) k f w =
     few r (block r m (after r m (Opened S n))) (after r m (Opened S n)) T k (and_second (opens m.phase S) _ f)
-        (few_opened r k S n m (and_first (opens m.phase S) _ f) w)
+    (few_opened r k S n m (and_first (opens m.phase S) _ f) w)
 few r due m (OutputEnds S ∷ T) k f w = few r (block r m (after r m (OutputEnds S))) (after r m (OutputEnds S)) T k
     (and_second (fits_next due m (OutputEnds S)) _ f) (few_over r k Agreed m w)
 few r due m (FailsToRead S ∷ T) k f w = few r (block r m (after r m (FailsToRead S))) (after r m (FailsToRead S)) T k

@@ -42,13 +42,13 @@ mover-snoc c (x ∷ ms) m = mover-snoc (other c) ms m
 texts-snoc : (r : Rules) (as_san : Bool) (S c : Colour) (before ms : List Move) (m : Move)
     → texts_from r as_san S c before (ms ++ m ∷ [])
     ≡ texts_from r as_san S c before ms ++ (if same_colour (mover c ms) S then r.move_text as_san
-        (before ++ (ms ++ m ∷ [])) ∷ [] else [])
+    (before ++ (ms ++ m ∷ [])) ∷ [] else [])
 texts-snoc r as_san S c before [] m = append-nil
     (if same_colour c S then r.move_text as_san (before ++ m ∷ []) ∷ [] else [])
 texts-snoc r as_san S c before (x ∷ ms) m =
     rw (texts-snoc r as_san S (other c) (before ++ x ∷ []) ms m, append_assoc before (x ∷ []) (ms ++ m ∷ []))
     (sym (append_assoc (if same_colour c S then r.move_text as_san (before ++ x ∷ []) ∷ [] else [])
-        (texts_from r as_san S (other c) (before ++ x ∷ []) ms)
+    (texts_from r as_san S (other c) (before ++ x ∷ []) ms)
     (if same_colour (mover (other c) ms) S then r.move_text as_san (before ++ (x ∷ (ms ++ m ∷ []))) ∷ [] else [])))
 
 -- ---- what is so of every match
@@ -219,14 +219,18 @@ stays_told r X O p m' same on h = rw (same, append-nil X, owed_on r m' O m'.unto
 quiet_told : (r : Rules) (X : List (List ℕ)) (O : Colour) (p : Phase) (m' : Match) → entry_moves r m' O m'.phase ≡ []
     → is_on m'.phase ≡ true
     → X ++ untold_text r m' O m'.untold ≡ all_texts r m' O → Told r X O false p m'
-quiet_told r X O p m' none on h = rw (if_nil (is_same_phase p m'.phase) (entry_moves r m' O m'.phase) none, append-nil
-    X, owed_on r m' O m'.untold false on) h
+quiet_told r X O p m' none on h = rw (
+  if_nil (is_same_phase p m'.phase) (entry_moves r m' O m'.phase) none,
+  append-nil
+      X,
+  owed_on r m' O m'.untold false on,
+) h
 
 -- what is owed is told where the match is over, unless a write failed
 ended_told : (r : Rules) (X A : List (List ℕ)) (O : Colour) (failed : Bool) (reason : Reason) (m : Match)
     (untold : Option Colour) → X ++ untold_text r (over reason m) O untold ≡ A
     → (X ++ (if failed then [] else untold_text r (over reason m) O untold))
-        ++ owed_to r (over reason m) O untold failed ≡ A
+    ++ owed_to r (over reason m) O untold failed ≡ A
 ended_told r X A O true reason m None h = append-nil (X ++ []) ∙ h
 ended_told r X A O false reason m None h = append-nil (X ++ []) ∙ h
 ended_told r X A O failed reason m (Some c) h = at (same_colour c O) failed h
@@ -236,7 +240,7 @@ ended_told r X A O failed reason m (Some c) h = at (same_colour c O) failed h
 
     at : (b failed : Bool) → X ++ (if b then last_text r (over reason m) O else []) ≡ A
         → (X ++ (if failed then [] else (if b then last_text r (over reason m) O else [])))
-            ++ (if b && (false || failed) then last_text r (over reason m) O else []) ≡ A
+        ++ (if b && (false || failed) then last_text r (over reason m) O else []) ≡ A
     at true true h = rw (append-nil X) h
     at false true h = append-nil (X ++ []) ∙ h
     at true false h = append-nil (X ++ last_text r (over reason m) O) ∙ h
@@ -245,7 +249,7 @@ ended_told r X A O failed reason m (Some c) h = at (same_colour c O) failed h
 over_told : (r : Rules) (X : List (List ℕ)) (O : Colour) (failed : Bool) (p : Phase) (reason : Reason) (m : Match)
     → is_same_phase p (Over reason) ≡ false
     → is_unwritten (fault_of reason) O ≡ failed → X ++ untold_text r (over reason m) O m.untold
-        ≡ all_texts r (over reason m) O → Told r X O failed p (over reason m)
+    ≡ all_texts r (over reason m) O → Told r X O failed p (over reason m)
 over_told r X O failed p reason m out u h =
     rw (out, u) (ended_told r X (all_texts r (over reason m) O) O failed reason m m.untold h)
 
@@ -291,7 +295,7 @@ hear_untold Black items m = refl
 
 texts_more : (r : Rules) (as_san : Bool) (S T : Colour) (ms : List Move) (move : Move) → mover r.first ms ≡ T
     → texts_from r as_san S r.first [] (ms ++ move ∷ []) ≡ texts_from r as_san S r.first [] ms
-        ++ (if same_colour T S then r.move_text as_san (ms ++ move ∷ []) ∷ [] else [])
+    ++ (if same_colour T S then r.move_text as_san (ms ++ move ∷ []) ∷ [] else [])
 texts_more r as_san S T ms move e = rw e at (texts-snoc r as_san S r.first [] ms move)
 
 more : (r : Rules) (X A A' t : List (List ℕ)) → X ++ [] ≡ A → A' ≡ A ++ t → X ++ t ≡ A'
@@ -337,23 +341,32 @@ played_goes r X Black Black move used m p o h =
 ends_goes : (r : Rules) (X : List (List ℕ)) (O : Colour) (reason : Reason) (m : Match) → is_on m.phase ≡ true
     → is_unwritten (fault_of reason) O ≡ false → Sofar r X O m
     → Goes r X O m (over reason m)
-ends_goes r X O reason m on n h = (over_told r X O false m.phase reason m (leaves_for m.phase reason on) n
-    (carried r X O m (over reason m) refl refl refl refl h), tt)
+ends_goes r X O reason m on n h = (
+  over_told r X O false m.phase reason m (leaves_for m.phase reason on) n
+      (carried r X O m (over reason m) refl refl refl refl h),
+  tt,
+)
 
 counts_goes : (r : Rules) (X : List (List ℕ)) (S O : Colour) (n : ℕ) (m : Match) → reads m.phase S ≡ true → Orderly r m
     → Sofar r X O m → Goes r X O m (record m { count = n })
-counts_goes r X S O n m here o h =
-    (stays_told r X O m.phase (record m { count = n }) (stays_in m.phase S here) (on_reads m.phase S here)
-        (carried r X O m (record m { count = n }) refl refl refl refl h), o)
+counts_goes r X S O n m here o h = (
+  stays_told r X O m.phase (record m { count = n }) (stays_in m.phase S here) (on_reads m.phase S here)
+      (carried r X O m (record m { count = n }) refl refl refl refl h),
+  o,
+)
 
 offers_goes : (r : Rules) (X : List (List ℕ)) (S O : Colour) (m : Match) → reads m.phase S ≡ true → Orderly r m
     → Sofar r X O m → Goes r X O m (offering S m)
-offers_goes r X White O m here o h =
-    (stays_told r X O m.phase (offering White m) (stays_in m.phase White here) (on_reads m.phase White here)
-        (carried r X O m (offering White m) refl refl refl refl h), o)
-offers_goes r X Black O m here o h =
-    (stays_told r X O m.phase (offering Black m) (stays_in m.phase Black here) (on_reads m.phase Black here)
-        (carried r X O m (offering Black m) refl refl refl refl h), o)
+offers_goes r X White O m here o h = (
+  stays_told r X O m.phase (offering White m) (stays_in m.phase White here) (on_reads m.phase White here)
+      (carried r X O m (offering White m) refl refl refl refl h),
+  o,
+)
+offers_goes r X Black O m here o h = (
+  stays_told r X O m.phase (offering Black m) (stays_in m.phase Black here) (on_reads m.phase Black here)
+      (carried r X O m (offering Black m) refl refl refl refl h),
+  o,
+)
 
 plays_goes : (r : Rules) (X : List (List ℕ)) (S O : Colour) (move : Move) (used : ℕ) (m : Match) → m.phase ≡ Before S
     → Orderly r m → Sofar r X O m → Goes r X O m (played_by S move used m)
@@ -372,7 +385,7 @@ decides_goes : (r : Rules) (X : List (List ℕ)) (S O : Colour) (move : Move) (u
 decides_goes r X S O move used v m p o h = (
   over_told r X O false m.phase (Decided v) (played_by S move used m) (rw p refl) refl
       (carried r X O (played_by S move used m) (over (Decided v) (played_by S move used m)) refl refl refl refl
-          (played_goes r X S O move used m p o h)),
+      (played_goes r X S O move used m p o h)),
   tt,
 )
 
@@ -380,26 +393,27 @@ decides_goes r X S O move used v m p o h = (
 opening_told : (r : Rules) (X : List (List ℕ)) (O c : Colour) (items : List Item) (ms : List Move) → 0 < length ms
     → SofarBy r X O items ms (Some c)
     → X ++ (if same_colour c O then (if nat_lt 0 (length ms) then r.move_text (takes (codes "san") items) ms ∷ []
-        else []) else []) ≡ texts_from r (takes (codes "san") items) (other O) r.first [] ms
+    else []) else []) ≡ texts_from r (takes (codes "san") items) (other O) r.first [] ms
 opening_told r X O c items ms some h = rw (lt-ltb 0 (length ms) some) h
 
 passes_told : (r : Rules) (X : List (List ℕ)) (O c : Colour) (items : List Item) (m m' : Match) → (seat m' O).items
     ≡ items → m'.played ≡ m.played → m'.untold ≡ None → m'.phase ≡ Opening c
     → 0 < length m.played → is_same_phase m.phase (Opening c) ≡ false → SofarBy r X O items m.played (Some c)
-        → Told r X O false m.phase m'
+    → Told r X O false m.phase m'
 passes_told r X O c items m m' i p u e some out h =
     rw (e, u, p, i, out) (append-nil (X ++ (if same_colour c O
-        then (if nat_lt 0 (length m.played) then r.move_text (takes (codes "san") items) m.played ∷ [] else [])
-        else []))
+    then (if nat_lt 0 (length m.played) then r.move_text (takes (codes "san") items) m.played ∷ [] else [])
+    else []))
     ∙ opening_told r X O c items m.played some h)
 
 passes_goes : (r : Rules) (X : List (List ℕ)) (S O : Colour) (m : Match) → m.phase ≡ After S → Orderly r m
     → Sofar r X O m → Goes r X O m (open_turn (other S) m)
 passes_goes r X S O m p o h =
-    let known = orderly_in r m (After S) p o in
-    (passes_told r X O (other S) (seat m O).items m (open_turn (other S) m)
-        (items_same m (open_turn (other S) m) refl refl O) refl refl refl known.2 (rw p refl) (rw known.1 at h),
-        (known.0, refl))
+    let known = orderly_in r m (After S) p o in (
+      passes_told r X O (other S) (seat m O).items m (open_turn (other S) m)
+          (items_same m (open_turn (other S) m) refl refl O) refl refl refl known.2 (rw p refl) (rw known.1 at h),
+      (known.0, refl),
+    )
 
 -- before the first move
 
@@ -409,7 +423,7 @@ hello_over : (r : Rules) (X : List (List ℕ)) (S O : Colour) (items : List Item
 hello_over r X S O items reason m on n k h = (
   over_told r X O false m.phase reason (hear S items m) (leaves_for m.phase reason on) n
       (fresh r X O m (over reason (hear S items m)) k.0 k.1 (hear_played S items m ∙ k.0) (hear_untold S items m ∙ k.1)
-          h),
+      h),
   tt,
 )
 
@@ -436,21 +450,24 @@ hello_enters r X S O items m k h = (
   (
     quiet_told r X O m.phase (enter (Hello Black) (hear S items m)) refl refl
         (fresh r X O m (enter (Hello Black) (hear S items m)) k.0 k.1 (hear_played S items m ∙ k.0)
-            (hear_untold S items m ∙ k.1) h),
+        (hear_untold S items m ∙ k.1) h),
     (hear_played S items m ∙ k.0, hear_untold S items m ∙ k.1),
   ),
   (
     quiet_told r X O m.phase (enter (Setup White) (hear S items m)) refl refl
         (fresh r X O m (enter (Setup White) (hear S items m)) k.0 k.1 (hear_played S items m ∙ k.0)
-            (hear_untold S items m ∙ k.1) h),
+        (hear_untold S items m ∙ k.1) h),
     (hear_played S items m ∙ k.0, hear_untold S items m ∙ k.1),
   ),
 )
 
 setup_enters : (r : Rules) (X : List (List ℕ)) (O : Colour) (m : Match) → (m.played ≡ []) × (m.untold ≡ None)
     → Sofar r X O m → Goes r X O m (enter (Setup Black) m)
-setup_enters r X O m k h = (quiet_told r X O m.phase (enter (Setup Black) m) refl refl
-    (fresh r X O m (enter (Setup Black) m) k.0 k.1 k.0 k.1 h), k)
+setup_enters r X O m k h = (
+  quiet_told r X O m.phase (enter (Setup Black) m) refl refl
+      (fresh r X O m (enter (Setup Black) m) k.0 k.1 k.0 k.1 h),
+  k,
+)
 
 none_told : (c O : Colour) (t : List (List ℕ)) (ms : List Move) → ms ≡ []
     → (if same_colour c O then (if nat_lt 0 (length ms) then t else []) else []) ≡ []
@@ -458,10 +475,12 @@ none_told c O t ms e = rw e (if_nil (same_colour c O) [] refl)
 
 setup_opens : (r : Rules) (X : List (List ℕ)) (O : Colour) (m : Match) → (m.played ≡ []) × (m.untold ≡ None)
     → Sofar r X O m → Goes r X O m (open_turn r.first m)
-setup_opens r X O m k h =
-    (quiet_told r X O m.phase (open_turn r.first m)
-        (none_told r.first O (last_text r (open_turn r.first m) O) m.played k.0) refl
-        (fresh r X O m (open_turn r.first m) k.0 k.1 k.0 refl h), (rw (k.0) refl, refl))
+setup_opens r X O m k h = (
+  quiet_told r X O m.phase (open_turn r.first m)
+      (none_told r.first O (last_text r (open_turn r.first m) O) m.played k.0) refl
+      (fresh r X O m (open_turn r.first m) k.0 k.1 k.0 refl h),
+  (rw (k.0) refl, refl),
+)
 
 judged_told : (r : Rules) (X : List (List ℕ)) (O c : Colour) (f : MatchFault) (p : Phase) (m : Match) → m.untold ≡ None
     → Sofar r X O (enter (Over (Faulted c f)) m)
@@ -511,7 +530,7 @@ lines_go r X S O kind moment m here o h =
     hello_judged c f k = (
       judged_told r X O c f m.phase (hear S (items_heard kind) m) (hear_untold S (items_heard kind) m ∙ k.1)
           (fresh r X O m (enter (Over (Faulted c f)) (hear S (items_heard kind) m)) k.0 k.1
-              (hear_played S (items_heard kind) m ∙ k.0) (hear_untold S (items_heard kind) m ∙ k.1) h),
+          (hear_played S (items_heard kind) m ∙ k.0) (hear_untold S (items_heard kind) m ∙ k.1) h),
       tt,
     )
 
@@ -529,11 +548,16 @@ step_goes r X O due m (OutputEnds S) f o h = faulted (Faulted S Ended) (on_reads
   where
     faulted : (reason : Reason) → is_on m.phase ≡ true → is_unwritten (fault_of reason) O ≡ false
         → Told r X O false m.phase (over reason m) × Unit {0}
-    faulted reason on n = (over_told r X O false m.phase reason m (leaves_for m.phase reason on) n
-        (carried r X O m (over reason m) refl refl refl refl h), tt)
-step_goes r X O due m (FailsToRead S) f o h =
-    (over_told r X O false m.phase (Faulted S Read) m (leaves_for m.phase (Faulted S Read) (on_reads m.phase S f)) refl
-        (carried r X O m (over (Faulted S Read) m) refl refl refl refl h), tt)
+    faulted reason on n = (
+      over_told r X O false m.phase reason m (leaves_for m.phase reason on) n
+          (carried r X O m (over reason m) refl refl refl refl h),
+      tt,
+    )
+step_goes r X O due m (FailsToRead S) f o h = (
+  over_told r X O false m.phase (Faulted S Read) m (leaves_for m.phase (Faulted S Read) (on_reads m.phase S f)) refl
+      (carried r X O m (over (Faulted S Read) m) refl refl refl refl h),
+  tt,
+)
 step_goes r X O due m (FailsToWrite S) f o h = (
   over_told r X O (same_colour S O) m.phase (Faulted S Write) m
       (leaves_for m.phase (Faulted S Write) (and_first (is_on m.phase) _ f)) refl
@@ -620,12 +644,12 @@ same_is Black White h = cc
 dropped_line : (r : Rules) (O S d : Colour) (t : Option (List ℕ)) (n : ℕ) (due : Colour → List SentLine) (m : Match)
     (T : List Event) → fits_next due m (Line S t n) ≡ true
     → fits_next (block r m (after r m (Line S t n))) (after r m (Line S t n)) (FailsToWrite d) ≡ true → Orderly r m
-        → same_colour S d ≡ true → told_now r m (after r m (Line S t n)) O ≡ []
+    → same_colour S d ≡ true → told_now r m (after r m (Line S t n)) O ≡ []
 dropped_line r O S d t n due m T f g o e =
     line_outcome r S (kind_heard t) n m (λ m'. TellsNone r S O m m') f (lines_none r S O (kind_heard t) n m f o)
     (and_first (is_on (after r m (Line S t n)).phase) _ g)
     (rw (same_is S d e) (ltb-true 0 (length (block r m (after r m (Line S t n)) d))
-        (and_second (is_on (after r m (Line S t n)).phase) _ g)))
+    (and_second (is_on (after r m (Line S t n)).phase) _ g)))
 
 failed_none : (r : Rules) (O S : Colour) (m : Match) → same_colour S O ≡ true
     → told_now r m (over (Faulted S Write) m) O ≡ []
@@ -646,7 +670,7 @@ unsent_none : (r : Rules) (O : Colour) (due : Colour → List SentLine) (m : Mat
 unsent_none r O due m (FailsToWrite S) T f o h = failed_none r O S m h
 unsent_none r O due m (Line S t n) (FailsToWrite d ∷ T) f o h =
     dropped_line r O S d t n due m T (and_first (reads m.phase S) _ f)
-        (and_first _ _ (and_second (reads m.phase S) _ f)) o
+    (and_first _ _ (and_second (reads m.phase S) _ f)) o
     (and_first (same_colour S d) _ (sym (or_false (same_colour S d && not (same_colour d O))) ∙ h))
 unsent_none r O due m (Line S t n) [] f o h = cc
 unsent_none r O due m (Line S t n) (Line d u k ∷ T) f o h = cc
@@ -661,14 +685,14 @@ unsent_none r O due m (FailsToRead S) T f o h = cc
 told_at : (r : Rules) (O : Colour) (due : Colour → List SentLine) (m : Match) (e : Event) (T : List Event)
     → fits_from r due m (e ∷ T) ≡ true → Orderly r m
     → moves_told (joined_blocks (blocks_from r O m (e ∷ T))) ≡ told_now r m (after r m e) O
-        ++ moves_told (joined_blocks (blocks_from r O (after r m e) T))
+    ++ moves_told (joined_blocks (blocks_from r O (after r m e) T))
 told_at r O due m e T f o =
     ap (λ (ls : List SentLine). moves_told ls)
-        (joined_at (is_dropped e T O || fails_at e O) (block r m (after r m e) O) (blocks_from r O (after r m e) T))
+    (joined_at (is_dropped e T O || fails_at e O) (block r m (after r m e) O) (blocks_from r O (after r m e) T))
     ∙ flat_map-append move_told (if is_dropped e T O || fails_at e O then [] else block r m (after r m e) O)
-        (joined_blocks (blocks_from r O (after r m e) T))
+    (joined_blocks (blocks_from r O (after r m e) T))
     ∙ ap (λ (l : List (List ℕ)). l ++ moves_told (joined_blocks (blocks_from r O (after r m e) T)))
-        (at (is_dropped e T O || fails_at e O) refl)
+    (at (is_dropped e T O || fails_at e O) refl)
   where
     at : (b : Bool) → is_dropped e T O || fails_at e O ≡ b → moves_told (if b then [] else block r m (after r m e) O)
         ≡ told_now r m (after r m e) O
@@ -698,22 +722,22 @@ told_from : (r : Rules) (O : Colour) (due : Colour → List SentLine) (m : Match
     (failed : Bool) → fits_from r due m T ≡ true → Orderly r m
     → (is_on m.phase ≡ true → failed ≡ false) → X ++ owed_to r m O m.untold failed ≡ all_texts r m O
     → (X ++ (moves_told (joined_blocks (blocks_from r O m T))
-        ++ owed_to r (match_from r m T) O (match_from r m T).untold (failed || has_write_failure O T))
-        ≡ all_texts r (match_from r m T) O)
+    ++ owed_to r (match_from r m T) O (match_from r m T).untold (failed || has_write_failure O T))
+    ≡ all_texts r (match_from r m T) O)
     × Orderly r (match_from r m T)
 told_from r O due m [] X failed f o quiet h = (rw (or_false failed) h, o)
 told_from r O due m (e ∷ T) X failed f o quiet h =
     let here : fits_next due m e ≡ true = and_first (fits_next due m e) _ f in
     let on : is_on m.phase ≡ true = fits_on due m e here in
     let s : Told r X O (fails_at e O) m.phase (after r m e) × Orderly r (after r m e) =
-            step_goes r X O due m e here o (rw (owed_on r m O m.untold failed on) at h) in
+    step_goes r X O due m e here o (rw (owed_on r m O m.untold failed on) at h) in
     let rest = told_from r O (block r m (after r m e)) (after r m e) T (X ++ told_now r m (after r m e) O)
-            (fails_at e O) (and_second (fits_next due m e) _ f) s.1 (calm r m e O) s.0 in (
+    (fails_at e O) (and_second (fits_next due m e) _ f) s.1 (calm r m e O) s.0 in (
       rw (quiet on) (joined_more X (told_now r m (after r m e) O)
           (moves_told (joined_blocks (blocks_from r O m (e ∷ T))))
           (moves_told (joined_blocks (blocks_from r O (after r m e) T)))
           (owed_to r (match_from r (after r m e) T) O (match_from r (after r m e) T).untold
-              (fails_at e O || has_write_failure O T)) (all_texts r (match_from r (after r m e) T) O)
+          (fails_at e O || has_write_failure O T)) (all_texts r (match_from r (after r m e) T) O)
           (told_at r O due m e T f o) rest.0),
       rest.1,
     )
@@ -726,7 +750,7 @@ moves_are_told r T O f =
     first : moves_told (sent r O T) ≡ moves_told (joined_blocks (blocks_from r O start T))
     first = flat_map-append move_told (entry r start O) (joined_blocks (blocks_from r O start T))
         ∙ ap (λ (l : List (List ℕ)). l ++ moves_told (joined_blocks (blocks_from r O start T)))
-            (entry_told r start O (Hello White))
+        (entry_told r start O (Hello White))
 
 -- every match is orderly
 pub orderly : (r : Rules) (T : List Event) → fits r T ≡ true → Orderly r (match_of r T)
@@ -751,5 +775,5 @@ pub all_moves_are_told : AllMovesAreTold
 all_moves_are_told r T O f ended quiet =
     sym (append-nil (moves_told (sent r O T)))
     ∙ ap (λ (l : List (List ℕ)). moves_told (sent r O T) ++ l)
-        (sym (rw quiet (nothing_owed r (match_of r T) O (match_of r T).untold ended)))
+    (sym (rw quiet (nothing_owed r (match_of r T) O (match_of r T).untold ended)))
     ∙ moves_are_told r T O f

@@ -92,11 +92,16 @@ next_moments (FailsToWrite c) T moments i n h = i n h
 is_of_behind : (s : Streams) (e : Event) (T : List Event) → IsOf s (e ∷ T) → IsOf (behind e s) T
 is_of_behind s e T i = record {
   lines = λ S. ((i.lines S).0, drop_front (line_in S e) (lines_of S T) (i.lines S).0 (s.lines S) (i.lines S).1);
-  ends = λ S h. (drop_exact (line_in S e) (lines_of S T) (s.lines S)
-      (i.ends S (or_right (is_end_of S e) (has_end S T) h)).0, (i.ends S (or_right (is_end_of S e) (has_end S T) h)).1);
-  failures = λ S h. (drop_exact (line_in S e) (lines_of S T) (s.lines S)
-      (i.failures S (or_right (is_read_failure_of S e) (has_read_failure S T) h)).0,
-      (i.failures S (or_right (is_read_failure_of S e) (has_read_failure S T) h)).1);
+  ends = λ S h. (
+    drop_exact (line_in S e) (lines_of S T) (s.lines S)
+        (i.ends S (or_right (is_end_of S e) (has_end S T) h)).0,
+    (i.ends S (or_right (is_end_of S e) (has_end S T) h)).1,
+  );
+  failures = λ S h. (
+    drop_exact (line_in S e) (lines_of S T) (s.lines S)
+        (i.failures S (or_right (is_read_failure_of S e) (has_read_failure S T) h)).0,
+    (i.failures S (or_right (is_read_failure_of S e) (has_read_failure S T) h)).1,
+  );
   moments = next_moments e T s.moments i.moments;
   writes = λ S. or_none (fails_at e S) (has_write_failure S T) (i.writes S);
 }
@@ -171,7 +176,7 @@ same_event : (r : Rules) (s : Streams) (due due' : Colour → List SentLine) (m 
 same_event r s due due' m (Line c t n) (Line d u k) T U a b g h i j =
     let e : c ≡ d = one_reads m.phase c d a b in
     same_line c d t u n k (s.moments 0) (first_line s c t n T i).0 (first_line s d u k U j).0 (s.lines c) (s.lines d) e
-        (first_line s c t n T i).1 (first_line s d u k U j).1 (ap s.lines e)
+    (first_line s c t n T i).1 (first_line s d u k U j).1 (ap s.lines e)
     (first_moment s c t n T i) (first_moment s d u k U j)
 same_event r s due due' m (Opened c n) (Opened d k) T U a b g h i j =
     same_opened c d n k (s.moments 0) (one_opens m.phase c d a b) (opened_moment s c n T i) (opened_moment s d k U j)
@@ -214,7 +219,7 @@ over_not_on (After c) h on = not_on h
 one_from : (r : Rules) (s : Streams) (due due' : Colour → List SentLine) (m : Match) (T U : List Event)
     → fits_from r due m T ≡ true → fits_from r due' m U ≡ true
     → is_some (ending_in (match_from r m T).phase) ≡ true → is_some (ending_in (match_from r m U).phase) ≡ true
-        → IsOf s T → IsOf s U → T ≡ U
+    → IsOf s T → IsOf s U → T ≡ U
 one_from r s due due' m [] [] f g x y i j = refl
 one_from r s due due' m [] (e ∷ U) f g x y i j =
     over_not_on m.phase x (fits_on due' m e (and_first (fits_next due' m e) _ g))
@@ -224,11 +229,11 @@ one_from r s due due' m (e ∷ T) (d ∷ U) f g x y i j =
     let goes_on : Goes r m e T = and_second (fits_next due m e) _ f in
     let goes_too : Goes r m d U = and_second (fits_next due' m d) _ g in
     let same : e ≡ d = same_event r s due due' m e d T U (and_first (fits_next due m e) _ f)
-            (and_first (fits_next due' m d) _ g) goes_on goes_too i j in
+    (and_first (fits_next due' m d) _ g) goes_on goes_too i j in
     joined same (one_from r (behind e s) (block r m (after r m e)) (block r m (after r m e)) (after r m e) T U goes_on
-        (subst (λ (v : Event). Goes r m v U) (sym same) goes_too) x
+    (subst (λ (v : Event). Goes r m v U) (sym same) goes_too) x
     (subst (λ (v : Event). is_some (ending_in (match_from r (after r m v) U).phase) ≡ true) (sym same) y)
-        (is_of_behind s e T i)
+    (is_of_behind s e T i)
     (is_of_behind s e U (subst (λ (v : Event). IsOf s (v ∷ U)) (sym same) j)))
   where
     joined : e ≡ d → T ≡ U → e ∷ T ≡ d ∷ U

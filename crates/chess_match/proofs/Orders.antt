@@ -34,9 +34,9 @@ texts-length : (r : Rules) (as_san : Bool) (C c : Colour) (before ms : List Move
 texts-length r as_san C c before [] = refl
 texts-length r as_san C c before (m ∷ ms) =
     length-append (if same_colour c C then r.move_text as_san (before ++ m ∷ []) ∷ [] else [])
-        (texts_from r as_san C (other c) (before ++ m ∷ []) ms)
+    (texts_from r as_san C (other c) (before ++ m ∷ []) ms)
     ∙ ap (λ (n : ℕ). length (if same_colour c C then r.move_text as_san (before ++ m ∷ []) ∷ [] else []) + n)
-        (texts-length r as_san C (other c) (before ++ m ∷ []) ms)
+    (texts-length r as_san C (other c) (before ++ m ∷ []) ms)
     ∙ ap (λ (n : ℕ). n + turns_of C (other c) ms) (at (same_colour c C))
   where
     at : (b : Bool) → length (if b then r.move_text as_san (before ++ m ∷ []) ∷ [] else []) ≡ (if b then 1 else 0)
@@ -50,24 +50,28 @@ Kept r m = Orderly r m × (length m.white.used ≡ turns_of White r.first m.play
 
 kept_over : (r : Rules) (m m' : Match) → m'.white.used ≡ m.white.used → m'.black.used ≡ m.black.used → m'.played
     ≡ m.played → Orderly r m' → Kept r m → Kept r m'
-kept_over r m m' w b p o k = (o, ap (λ (xs : List ℕ). length xs) w ∙ k.1
-    ∙ ap (λ (ms : List Move). turns_of White r.first ms) (sym p), ap (λ (xs : List ℕ). length xs) b ∙ k.2
-    ∙ ap (λ (ms : List Move). turns_of Black r.first ms) (sym p))
+kept_over r m m' w b p o k = (
+  o,
+  ap (λ (xs : List ℕ). length xs) w ∙ k.1
+      ∙ ap (λ (ms : List Move). turns_of White r.first ms) (sym p),
+  ap (λ (xs : List ℕ). length xs) b ∙ k.2
+      ∙ ap (λ (ms : List Move). turns_of Black r.first ms) (sym p),
+)
 
 used_more : (r : Rules) (C T : Colour) (ms : List Move) (move : Move) (xs : List ℕ) (u : ℕ) → mover r.first ms ≡ T
     → same_colour T C ≡ true → length xs ≡ turns_of C r.first ms
     → length (xs ++ u ∷ []) ≡ turns_of C r.first (ms ++ move ∷ [])
 used_more r C T ms move xs u e s h =
     length-append xs (u ∷ []) ∙ ap (λ (n : ℕ). n + 1) h
-        ∙ sym (turns-snoc C r.first ms move ∙ ap (λ (b : Bool). turns_of C r.first ms + (if b then 1 else 0))
-        (ap (λ (c : Colour). same_colour c C) e ∙ s))
+    ∙ sym (turns-snoc C r.first ms move ∙ ap (λ (b : Bool). turns_of C r.first ms + (if b then 1 else 0))
+    (ap (λ (c : Colour). same_colour c C) e ∙ s))
 
 used_as_was : (r : Rules) (C T : Colour) (ms : List Move) (move : Move) (xs : List ℕ) → mover r.first ms ≡ T
     → same_colour T C ≡ false → length xs ≡ turns_of C r.first ms
     → length xs ≡ turns_of C r.first (ms ++ move ∷ [])
 used_as_was r C T ms move xs e s h =
     h ∙ sym (turns-snoc C r.first ms move ∙ ap (λ (b : Bool). turns_of C r.first ms + (if b then 1 else 0))
-        (ap (λ (c : Colour). same_colour c C) e ∙ s) ∙ nothing (turns_of C r.first ms))
+    (ap (λ (c : Colour). same_colour c C) e ∙ s) ∙ nothing (turns_of C r.first ms))
   where
     nothing : (n : ℕ) → n + 0 ≡ n
     nothing n = omega arith
@@ -75,13 +79,19 @@ used_as_was r C T ms move xs e s h =
 plays_kept : (r : Rules) (S : Colour) (move : Move) (used : ℕ) (m : Match) → m.phase ≡ Before S → Kept r m
     → Kept r (played_by S move used m)
 plays_kept r White move used m p k =
-    let e = (orderly_in r m (Before White) p k.0).0 in
-    ((mover-snoc r.first m.played move ∙ ap other e, refl, some_move m.played move), used_more r White White m.played
-        move m.white.used used e refl k.1, used_as_was r Black White m.played move m.black.used e refl k.2)
+    let e = (orderly_in r m (Before White) p k.0).0 in (
+      (mover-snoc r.first m.played move ∙ ap other e, refl, some_move m.played move),
+      used_more r White White m.played
+          move m.white.used used e refl k.1,
+      used_as_was r Black White m.played move m.black.used e refl k.2,
+    )
 plays_kept r Black move used m p k =
-    let e = (orderly_in r m (Before Black) p k.0).0 in
-    ((mover-snoc r.first m.played move ∙ ap other e, refl, some_move m.played move), used_as_was r White Black m.played
-        move m.white.used e refl k.1, used_more r Black Black m.played move m.black.used used e refl k.2)
+    let e = (orderly_in r m (Before Black) p k.0).0 in (
+      (mover-snoc r.first m.played move ∙ ap other e, refl, some_move m.played move),
+      used_as_was r White Black m.played
+          move m.white.used e refl k.1,
+      used_more r Black Black m.played move m.black.used used e refl k.2,
+    )
 
 heard_kept : (r : Rules) (S : Colour) (items : List Item) (m m' : Match) → m'.white.used ≡ (hear S items m).white.used
     → m'.black.used ≡ (hear S items m).black.used
@@ -91,8 +101,11 @@ heard_kept r Black items m m' w b p o k = kept_over r m m' w b p o k
 
 none_yet : (r : Rules) (S d : Colour) (items : List Item) (m : Match) → m.phase ≡ Hello d → Kept r m
     → ((hear S items m).played ≡ []) × ((hear S items m).untold ≡ None)
-none_yet r S d items m p k = let o = orderly_in r m (Hello d) p k.0 in (hear_played S items m
-    ∙ o.0, hear_untold S items m ∙ o.1)
+none_yet r S d items m p k = let o = orderly_in r m (Hello d) p k.0 in (
+  hear_played S items m
+      ∙ o.0,
+  hear_untold S items m ∙ o.1,
+)
 
 hello_kept : (r : Rules) (S : Colour) (items : List Item) (n : ℕ) (m : Match) → Kept r m
     → (let m' = hear S items m in Kept r (record m' { count = n }))
@@ -129,8 +142,12 @@ lines_kept r S kind moment m k = record {
 }
   where
     row : InTurn r S kind m (λ m'. Kept r m')
-    row = record { ends = λ reason n. (tt, k.1, k.2); counts = λ none few. k; offers =
-        λ none own theirs. offers_kept r S m k }
+    row = record {
+      ends = λ reason n. (tt, k.1, k.2);
+      counts = λ none few. k;
+      offers =
+          λ none own theirs. offers_kept r S m k;
+    }
 
     first_turn : m.played ≡ [] → (mover r.first m.played ≡ r.first) × ((open_turn r.first m).untold ≡ None)
     first_turn e = (rw e refl, refl)
@@ -179,8 +196,8 @@ moves_sent_are_known r T S f here =
     let told : moves_told (sent r S T) ≡ move_texts r m S (other S) =
     sym (append-nil (moves_told (sent r S T)))
     ∙ ap (λ (l : List (List ℕ)). moves_told (sent r S T) ++ l)
-        (sym (nothing_owed r m S (has_write_failure S T) here k.0))
+    (sym (nothing_owed r m S (has_write_failure S T) here k.0))
     ∙ moves_are_told r T S f in
     ap (λ (n : ℕ). nat_lt 0 n) (used_length r m (other S) k
-        ∙ sym (texts-length r (takes (codes "san") (seat m S).items) (other S) r.first [] m.played)
-        ∙ ap (λ (l : List (List ℕ)). length l) (sym told))
+    ∙ sym (texts-length r (takes (codes "san") (seat m S).items) (other S) r.first [] m.played)
+    ∙ ap (λ (l : List (List ℕ)). length l) (sym told))

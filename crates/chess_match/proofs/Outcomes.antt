@@ -46,14 +46,14 @@ pub record InTurn (r : Rules) (S : Colour) (kind : LineKind) (m : Match) (P : Ma
   pub offers : move_said kind ≡ [] → (seat m S).offers ≡ false → (seat m (other S)).offers ≡ false → P (offering S m)
 
 pub record BeforeMove (r : Rules) (S : Colour) (kind : LineKind) (moment : ℕ) (m : Match) (P : Match → Type 0) : Type 0
-    where
-  pub row : InTurn r S kind m P
-  pub plays : (text : List ℕ) (move : Move) → kind ≡ Moves text → r.reading m.played text ≡ Some move
-      → length m.played < r.limit → moment - m.opened ≤ clock r m S
-      → P (played_by S move (moment - m.opened) m)
-  pub decides : (text : List ℕ) (move : Move) (v : Verdict) → kind ≡ Moves text → r.reading m.played text ≡ Some move
-      → length m.played < r.limit → moment - m.opened ≤ clock r m S
-      → P (over (Decided v) (played_by S move (moment - m.opened) m))
+  where
+    pub row : InTurn r S kind m P
+    pub plays : (text : List ℕ) (move : Move) → kind ≡ Moves text → r.reading m.played text ≡ Some move
+        → length m.played < r.limit → moment - m.opened ≤ clock r m S
+        → P (played_by S move (moment - m.opened) m)
+    pub decides : (text : List ℕ) (move : Move) (v : Verdict) → kind ≡ Moves text → r.reading m.played text ≡ Some move
+        → length m.played < r.limit → moment - m.opened ≤ clock r m S
+        → P (over (Decided v) (played_by S move (moment - m.opened) m))
 
 ignore_outcome : (S : Colour) (m : Match) (P : Match → Type 0)
     → ((reason : Reason) → IsNoWrite reason → P (over reason m))
@@ -66,7 +66,7 @@ offer_outcome : (r : Rules) (S : Colour) (kind : LineKind) (m : Match) (P : Matc
 offer_outcome r S kind m P none i =
     by_test P (seat m (other S)).offers (λ h. i.ends Agreed (λ O. refl))
     (λ theirs. by_test P (seat m S).offers (λ h. ignore_outcome S m P i.ends (i.counts none))
-        (λ own. i.offers none own theirs))
+    (λ own. i.offers none own theirs))
 
 draw_outcome : (r : Rules) (S : Colour) (kind : LineKind) (m : Match) (P : Match → Type 0) (claim : Option DrawClaim)
     → move_said kind ≡ [] → InTurn r S kind m P → P (draw_row claim S m)
@@ -90,7 +90,7 @@ either_outcome r S SaysElse m P none i = ignore_outcome S m P i.ends (i.counts n
 move_outcome : (r : Rules) (S : Colour) (text : List ℕ) (moment : ℕ) (m : Match) (P : Match → Type 0)
     (reading : Option Move) → r.reading m.played text ≡ reading
     → length m.played < r.limit → moment - m.opened ≤ clock r m S → BeforeMove r S (Moves text) moment m P
-        → P (move_row r S reading moment m)
+    → P (move_row r S reading moment m)
 move_outcome r S text moment m P None e room timely b = b.row.ends (MovesIllegally S) (λ O. refl)
 move_outcome r S text moment m P (Some move) e room timely b = judge (r.verdict (m.played ++ move ∷ []))
   where
@@ -104,7 +104,7 @@ row_outcome : (r : Rules) (S : Colour) (kind : LineKind) (moment : ℕ) (m : Mat
 row_outcome r S (Moves text) moment m P timely b =
     by_test P (nat_le r.limit (length m.played)) (λ h. b.row.ends GameTooLong (λ O. refl))
     (λ h. move_outcome r S text moment m P (r.reading m.played text) refl (leb-false r.limit (length m.played) h) timely
-        b)
+    b)
 row_outcome r S (Features t) moment m P timely b = either_outcome r S (Features t) m P refl b.row
 row_outcome r S Resigns moment m P timely b = either_outcome r S Resigns m P refl b.row
 row_outcome r S OffersDraw moment m P timely b = either_outcome r S OffersDraw m P refl b.row
@@ -121,7 +121,7 @@ unfolding before_line
 before_outcome r S kind moment m P b =
     by_test P (nat_lt (clock r m S) (moment - m.opened))
     (λ late. by_test P (r.is_bare m.played (other S)) (λ h. b.row.ends ForfeitsToBareKing (λ O. refl))
-        (λ h. b.row.ends (Forfeits S) (λ O. refl)))
+    (λ h. b.row.ends (Forfeits S) (λ O. refl)))
     (λ timely. row_outcome r S kind moment m P (ltb-false (clock r m S) (moment - m.opened) timely) b)
 
 pub record AfterMove (r : Rules) (S : Colour) (kind : LineKind) (m : Match) (P : Match → Type 0) : Type 0 where
@@ -147,7 +147,7 @@ after_outcome r S SaysElse m P a = either_outcome r S SaysElse m P refl a.row
 pub setup_outcome : (r : Rules) (S : Colour) (kind : LineKind) (m : Match) (P : Match → Type 0)
     → ((reason : Reason) → IsNoWrite reason → P (over reason m))
     → (is_pong 1 kind ≡ false → m.count + 1 < 10000 → P (record m { count = m.count + 1 }))
-        → (is_pong 1 kind ≡ true → P (ready r S m)) → P (setup_line r S kind m)
+    → (is_pong 1 kind ≡ true → P (ready r S m)) → P (setup_line r S kind m)
 unfolding setup_line
 setup_outcome r S kind m P ends counts pong =
     by_test P (is_pong 1 kind) pong (λ h. ignore_outcome S m P ends (counts h))
@@ -156,14 +156,14 @@ setup_outcome r S kind m P ends counts pong =
 pub hello_outcome : (r : Rules) (S : Colour) (items : List Item) (m : Match) (P : Match → Type 0)
     → (has_done items ≡ false → P (over (Faulted S NoDone) (hear S items m)))
     → (has_done items ≡ false → m.count + 1 < 1000 → (let m' = hear S items m in P (record m' { count = m.count + 1 })))
-        → (has_done items ≡ true → P (greeted r S (hear S items m))) → P (hello_line r S items m)
+    → (has_done items ≡ true → P (greeted r S (hear S items m))) → P (hello_line r S items m)
 unfolding hello_line
 hello_outcome r White items m P ends counts done =
     by_test P (has_done items) done (λ more. by_test P (nat_le 1000 (m.count + 1)) (λ h. ends more)
-        (λ h. counts more (leb-false 1000 (m.count + 1) h)))
+    (λ h. counts more (leb-false 1000 (m.count + 1) h)))
 hello_outcome r Black items m P ends counts done =
     by_test P (has_done items) done (λ more. by_test P (nat_le 1000 (m.count + 1)) (λ h. ends more)
-        (λ h. counts more (leb-false 1000 (m.count + 1) h)))
+    (λ h. counts more (leb-false 1000 (m.count + 1) h)))
 
 -- both hellos are judged
 pub judged_outcome : (r : Rules) (m : Match) (P : Match → Type 0)
@@ -216,7 +216,7 @@ line_outcome r S kind moment m P h l = at m.phase S refl h l
         (l.hello_next e refl)
     at (Hello Black) Black e h l = hello_outcome r Black (items_heard kind) m P (l.hello_ends e) (l.hello_counts e)
         (λ done. judged_outcome r (hear Black (items_heard kind) m) P (l.hello_judged e refl done)
-            (l.hello_done e refl done))
+        (l.hello_done e refl done))
     at (Hello White) Black e h l = cc
     at (Hello Black) White e h l = cc
     at (Setup White) White e h l = setup_outcome r White kind m P (l.setup_ends e) (l.setup_counts e)
@@ -289,8 +289,8 @@ event_outcome r due m (FailsToWrite S) P h v = v.faulted S Write (and_first (is_
 pub kept_by : (r : Rules) (P : Match → Type 0)
     → ((due : Colour → List SentLine) (m : Match) (e : Event) → fits_next due m e ≡ true → P m → P (after r m e))
     → (due : Colour → List SentLine) (m : Match) (T : List Event) → fits_from r due m T ≡ true → P m
-        → P (match_from r m T)
+    → P (match_from r m T)
 kept_by r P step due m [] f p = p
 kept_by r P step due m (e ∷ T) f p =
     kept_by r P step (block r m (after r m e)) (after r m e) T (and_second (fits_next due m e) _ f)
-        (step due m e (and_first (fits_next due m e) _ f) p)
+    (step due m e (and_first (fits_next due m e) _ f) p)

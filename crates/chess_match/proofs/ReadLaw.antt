@@ -61,7 +61,7 @@ with_line d t lines S = line_in S (Line d t 0) ++ lines S
 reads_on : (r : Rules) (m m' final : Match) (d : Colour) (t : Option (List ℕ)) (lines : Colour → List (Option (List ℕ)))
     → m'.played ≡ m.played
     → ((S : Colour) → ahead m.phase S (with_line d t lines S) ≡ ahead m'.phase S (lines S)) → Reads r m' final lines
-        → Reads r m final (with_line d t lines)
+    → Reads r m final (with_line d t lines)
 reads_on r m m' final d t lines p same next c e =
     let n = next c (ap (λ (ms : List Move). mover r.first ms) p ∙ e) in (
       n.0,
@@ -75,12 +75,12 @@ reads_on r m m' final d t lines p same next c e =
 reads_move : (r : Rules) (m m' final : Match) (d : Colour) (t : Option (List ℕ)) (text : List ℕ) (move : Move)
     (lines : Colour → List (Option (List ℕ))) → m.phase ≡ Before d → m'.phase ≡ After d
     → mover r.first m.played ≡ d → m'.played ≡ m.played ++ move ∷ [] → kind_heard t ≡ Moves text
-        → r.reading m.played text ≡ Some move → Reads r m' final lines
+    → r.reading m.played text ≡ Some move → Reads r m' final lines
     → Reads r m final (with_line d t lines)
 reads_move r m m' final d t text move lines p p' turn played kind reading next c e =
     rw (sym e ∙ turn) (by_side d p p' turn kind
-        (next (other d) (ap (λ (ms : List Move). mover r.first ms) played ∙ mover-snoc r.first m.played move
-        ∙ ap other turn)))
+    (next (other d) (ap (λ (ms : List Move). mover r.first ms) played ∙ mover-snoc r.first m.played move
+    ∙ ap other turn)))
   where
     longer : (n : List Move) → final.played ≡ m'.played ++ n → final.played ≡ m.played ++ (move ∷ n)
     longer n h = h ∙ ap (λ (ms : List Move). ms ++ n) played ∙ append_assoc m.played (move ∷ []) n
@@ -88,11 +88,11 @@ reads_move r m m' final d t text move lines p p' turn played kind reading next c
     by_side : (d : Colour) → m.phase ≡ Before d → m'.phase ≡ After d → mover r.first m.played ≡ d → kind_heard t
         ≡ Moves text
         → ((n : List Move) × (final.played ≡ m'.played ++ n)
-            × AreRead r m'.played n (ahead m'.phase (other d) (lines (other d)))
-            (ahead m'.phase (other (other d)) (lines (other (other d)))))
+        × AreRead r m'.played n (ahead m'.phase (other d) (lines (other d)))
+        (ahead m'.phase (other (other d)) (lines (other (other d)))))
         → (more : List Move) × (final.played ≡ m.played ++ more)
-            × AreRead r m.played more (ahead m.phase d (with_line d t lines d))
-            (ahead m.phase (other d) (with_line d t lines (other d)))
+        × AreRead r m.played more (ahead m.phase d (with_line d t lines d))
+        (ahead m.phase (other d) (with_line d t lines (other d)))
     by_side White p p' turn kind n =
         rw (p, kind) (
           move ∷ n.0,
@@ -181,13 +181,13 @@ reads_end r m final d t p c e = ([], p ∙ sym (append-nil m.played), few_left m
 reads_decided : (r : Rules) (m final : Match) (d : Colour) (t : Option (List ℕ)) (text : List ℕ) (move : Move) → m.phase
     ≡ Before d → mover r.first m.played ≡ d
     → final.played ≡ m.played ++ move ∷ [] → kind_heard t ≡ Moves text → r.reading m.played text ≡ Some move
-        → Reads r m final (with_line d t no_lines)
+    → Reads r m final (with_line d t no_lines)
 reads_decided r m final d t text move p turn played kind reading c e = rw (sym e ∙ turn) (by_side d p kind)
   where
     by_side : (d : Colour) → m.phase ≡ Before d → kind_heard t ≡ Moves text
         → (more : List Move) × (final.played ≡ m.played ++ more)
-            × AreRead r m.played more (ahead m.phase d (with_line d t no_lines d))
-            (ahead m.phase (other d) (with_line d t no_lines (other d)))
+        × AreRead r m.played more (ahead m.phase d (with_line d t no_lines d))
+        (ahead m.phase (other d) (with_line d t no_lines (other d)))
     by_side White p kind = rw (p, kind) (move ∷ [], played, (text, [], refl, reading, omega arith))
     by_side Black p kind = rw (p, kind) (move ∷ [], played, (text, [], refl, reading, omega arith))
 
@@ -197,15 +197,17 @@ reads_decided r m final d t text move p turn played kind reading c e = rw (sym e
 abbrev Steps : Rules → Colour → Option (List ℕ) → Match → Match → Type 0
 Steps r d t m m' =
     ((final : Match) (lines : Colour → List (Option (List ℕ))) → is_on m'.phase ≡ true → Reads r m' final lines
-        → Reads r m final (with_line d t lines))
+    → Reads r m final (with_line d t lines))
     × (is_on m'.phase ≡ false → Reads r m m' (with_line d t no_lines))
 
 -- the match goes on
 on_steps : (r : Rules) (d : Colour) (t : Option (List ℕ)) (m m' : Match) → is_on m'.phase ≡ true → m'.played ≡ m.played
     → ((lines : Colour → List (Option (List ℕ))) (S : Colour) → ahead m.phase S (with_line d t lines S)
-        ≡ ahead m'.phase S (lines S)) → Steps r d t m m'
-on_steps r d t m m' on p same = ((λ final lines on' next. reads_on r m m' final d t lines p (same lines) next),
-    (λ off. not_on (sym off ∙ on)))
+    ≡ ahead m'.phase S (lines S)) → Steps r d t m m'
+on_steps r d t m m' on p same = (
+  (λ final lines on' next. reads_on r m m' final d t lines p (same lines) next),
+  (λ off. not_on (sym off ∙ on)),
+)
 
 over_steps : (r : Rules) (d : Colour) (t : Option (List ℕ)) (m m' : Match) → is_on m'.phase ≡ false → m'.played
     ≡ m.played → Steps r d t m m'
@@ -378,16 +380,16 @@ reads_from : (r : Rules) (due : Colour → List SentLine) (m : Match) (T : List 
 reads_from r due m [] f k = λ c e. ([], sym (append-nil m.played), nothing_left m.phase c)
 reads_from r due m (Line d t n ∷ T) f k =
     line_goes_on r m (after r m (Line d t n)) d t n (block r m (after r m (Line d t n))) T
-        (and_second (reads m.phase d) _ f)
+    (and_second (reads m.phase d) _ f)
     (line_outcome r d (kind_heard t) n m (λ m'. Steps r d t m m') (and_first (reads m.phase d) _ f)
-        (lines_step r d t n m k.0))
+    (lines_step r d t n m k.0))
     (reads_from r (block r m (after r m (Line d t n))) (after r m (Line d t n)) T (and_second (reads m.phase d) _ f)
-        (step r due m (Line d t n) (and_first (reads m.phase d) _ f) k))
+    (step r due m (Line d t n) (and_first (reads m.phase d) _ f) k))
 reads_from r due m (Opened d n ∷ T) f k =
     opened_on r m d n (match_from r (after r m (Opened d n)) T) (lines_by T)
-        (opens_at m.phase d (and_first (opens m.phase d) _ f))
+    (opens_at m.phase d (and_first (opens m.phase d) _ f))
     (reads_from r (block r m (after r m (Opened d n))) (after r m (Opened d n)) T (and_second (opens m.phase d) _ f)
-        (step r due m (Opened d n) (and_first (opens m.phase d) _ f) k))
+    (step r due m (Opened d n) (and_first (opens m.phase d) _ f) k))
 reads_from r due m (OutputEnds d ∷ T) f k =
     stopped r m (after r m (OutputEnds d)) (block r m (after r m (OutputEnds d))) T refl refl
     (and_second (fits_next due m (OutputEnds d)) _ f)
@@ -401,7 +403,7 @@ reads_from r due m (FailsToWrite d ∷ T) f k =
 pub moves_are_read : MovesAreRead
 moves_are_read r T f =
     let all : Reads r start (match_of r T) (lines_by T) =
-            reads_from r (entry r start) start T f ((refl, refl), refl, refl) in
+    reads_from r (entry r start) start T f ((refl, refl), refl, refl) in
     read (all r.first refl)
   where
     read : (more : List Move) × ((match_of r T).played ≡ more)

@@ -34,17 +34,17 @@ joined_more X t R Q e q = rw (e, ← append_assoc X t R) q
 pub gathered : {A : Type 0} (f : SentLine → List A) → ((i : Item) → f (Answered i) ≡ []) → f DrawOffered ≡ []
     → (r : Rules) (S : Colour) (Q : List A → Match → Type 0)
     → ((due : Colour → List SentLine) (m : Match) (e : Event) (X : List A) → fits_next due m e ≡ true → Q X m
-        → Q (X ++ now f r S m (after r m e)) (after r m e))
+    → Q (X ++ now f r S m (after r m e)) (after r m e))
     → ((due : Colour → List SentLine) (m : Match) (e : Event) (T : List Event) → fits_from r due m (e ∷ T) ≡ true
-        → is_dropped e T S || fails_at e S ≡ true → now f r S m (after r m e) ≡ [])
+    → is_dropped e T S || fails_at e S ≡ true → now f r S m (after r m e) ≡ [])
     → (due : Colour → List SentLine) (m : Match) (T : List Event) (X : List A) → fits_from r due m T ≡ true → Q X m
     → Q (X ++ flat_map f (joined_blocks (blocks_from r S m T))) (match_from r m T)
 gathered f a d r S Q step unsent due m [] X fits q = rw (append-nil X) q
 gathered {A} f a d r S Q step unsent due m (e ∷ T) X fits q =
     joined_more X (now f r S m (after r m e)) (flat_map f (joined_blocks (blocks_from r S (after r m e) T)))
-        (λ (l : List A). Q l (match_from r (after r m e) T)) (told (is_dropped e T S || fails_at e S) refl)
+    (λ (l : List A). Q l (match_from r (after r m e) T)) (told (is_dropped e T S || fails_at e S) refl)
     (gathered f a d r S Q step unsent (block r m (after r m e)) (after r m e) T (X ++ now f r S m (after r m e))
-        (and_second (fits_next due m e) _ fits)
+    (and_second (fits_next due m e) _ fits)
     (step due m e X (and_first (fits_next due m e) _ fits) q))
   where
     at : (b : Bool) → is_dropped e T S || fails_at e S ≡ b → flat_map f (if b then [] else block r m (after r m e) S)
@@ -54,13 +54,13 @@ gathered {A} f a d r S Q step unsent due m (e ∷ T) X fits q =
 
     told : (b : Bool) → is_dropped e T S || fails_at e S ≡ b
         → flat_map f (joined_blocks ((if b then [] else block r m (after r m e) S ∷ [])
-            ++ blocks_from r S (after r m e) T))
+        ++ blocks_from r S (after r m e) T))
         ≡ now f r S m (after r m e) ++ flat_map f (joined_blocks (blocks_from r S (after r m e) T))
     told b h =
         ap (λ (ls : List SentLine). flat_map f ls)
-            (joined_at b (block r m (after r m e) S) (blocks_from r S (after r m e) T))
+        (joined_at b (block r m (after r m e) S) (blocks_from r S (after r m e) T))
         ∙ flat_map-append f (if b then [] else block r m (after r m e) S)
-            (joined_blocks (blocks_from r S (after r m e) T))
+        (joined_blocks (blocks_from r S (after r m e) T))
         ∙ ap (λ (l : List A). l ++ flat_map f (joined_blocks (blocks_from r S (after r m e) T))) (at b h)
 
 -- ---- lines that openings alone hold
@@ -167,7 +167,7 @@ unsent f r S i due m (FailsToWrite c) T fits h =
     (i r (over (Faulted c Write) m) S (Over (Faulted c Write)) refl)
 unsent f r S i due m (Line c t n) (FailsToWrite d ∷ T) fits h =
     dropped (and_first (reads m.phase c) _ fits) (and_first _ _ (and_second (reads m.phase c) _ fits))
-        (sym (or_false (same_colour c d && not (same_colour d S))) ∙ h)
+    (sym (or_false (same_colour c d && not (same_colour d S))) ∙ h)
   where
     dropped : reads m.phase c ≡ true → fits_next (block r m (after r m (Line c t n))) (after r m (Line c t n))
         (FailsToWrite d) ≡ true → same_colour c d && not (same_colour d S) ≡ true
@@ -177,10 +177,10 @@ unsent f r S i due m (Line c t n) (FailsToWrite d ∷ T) fits h =
         let apart : S ≡ other d = other_is d S (not_false (same_colour d S) (and_second (same_colour c d) _ h)) in
         let is : S ≡ other c = apart ∙ ap other (sym same) in
         rw is (line_outcome r c (kind_heard t) n m (λ m''. TellsNone f r c m m'') here
-            (lines_none f r c (kind_heard t) n m i here)
+        (lines_none f r c (kind_heard t) n m i here)
         (and_first (is_on (after r m (Line c t n)).phase) _ g)
         (rw same (ltb-true 0 (length (block r m (after r m (Line c t n)) d))
-            (and_second (is_on (after r m (Line c t n)).phase) _ g))))
+        (and_second (is_on (after r m (Line c t n)).phase) _ g))))
 unsent f r S i due m (Line c t n) [] fits h = cc
 unsent f r S i due m (Line c t n) (Line d u k ∷ T) fits h = cc
 unsent f r S i due m (Line c t n) (Opened d k ∷ T) fits h = cc

@@ -129,8 +129,12 @@ opening_times own r m S = at (nat_lt 0 (length (seat m S).used))
         ∙ rw (last_times own r m S, append-nil (flat_map (numbers own) (clock_lines r m S))) (clock_times own r m S)
     at false =
         flat_map-append (numbers own) (last_move_lines r m S) (clock_lines r m S ++ Go ∷ [])
-        ∙ rw (last_times own r m S, flat_map-append (numbers own) (clock_lines r m S) (Go ∷ []), go_times own,
-            append-nil (flat_map (numbers own) (clock_lines r m S))) (clock_times own r m S)
+        ∙ rw (
+          last_times own r m S,
+          flat_map-append (numbers own) (clock_lines r m S) (Go ∷ []),
+          go_times own,
+          append-nil (flat_map (numbers own) (clock_lines r m S)),
+        ) (clock_times own r m S)
 
 in_openings : (own : Bool) → InOpenings (numbers own)
 in_openings own r m S (Hello c) e = at own (same_colour c S)
@@ -181,7 +185,7 @@ centiseconds-snoc level k spent [] u n t e f =
 centiseconds-snoc level k spent (x ∷ us) u n t e f =
     let s : sum (x ∷ us) ≡ x + sum us = sum_by-cons (λ (y : ℕ). y) x us in
     ap (λ (l : List ℕ). left level k spent / 10 ∷ l)
-        (centiseconds-snoc level (k + 1) (spent + x) us u n t (omega (arith, e)) (omega (arith, f, s)))
+    (centiseconds-snoc level (k + 1) (spent + x) us u n t (omega (arith, e)) (omega (arith, f, s)))
 
 -- all of a list, or all but its first
 abbrev from : Bool → List ℕ → List ℕ
@@ -267,15 +271,24 @@ over_times : (own : Bool) (r : Rules) (S : Colour) (X : List ℕ) (takes : Bool)
     → (rest : List ℕ) × (length rest ≤ 1) × (X ++ rest ≡ all_told (is_whole own r S) r takes used)
 over_times own r S X takes used (Hello c) h = empty_over own r S X takes used h.0 h.1
 over_times own r S X takes used (Setup c) h = empty_over own r S X takes used h.0 h.1
-over_times own r S X takes used (Opening c) h =
-    (pending own (Opening c) S (last_told r takes used), pending_short own (Opening c) S (last_told r takes used)
-    (last_short r takes used), h)
-over_times own r S X takes used (Before c) h =
-    (pending own (Before c) S (last_told r takes used), pending_short own (Before c) S (last_told r takes used)
-    (last_short r takes used), h)
-over_times own r S X takes used (After c) h =
-    (pending own (After c) S (last_told r takes used), pending_short own (After c) S (last_told r takes used)
-    (last_short r takes used), h)
+over_times own r S X takes used (Opening c) h = (
+  pending own (Opening c) S (last_told r takes used),
+  pending_short own (Opening c) S (last_told r takes used)
+      (last_short r takes used),
+  h,
+)
+over_times own r S X takes used (Before c) h = (
+  pending own (Before c) S (last_told r takes used),
+  pending_short own (Before c) S (last_told r takes used)
+      (last_short r takes used),
+  h,
+)
+over_times own r S X takes used (After c) h = (
+  pending own (After c) S (last_told r takes used),
+  pending_short own (After c) S (last_told r takes used)
+      (last_short r takes used),
+  h,
+)
 over_times own r S X takes used (Over reason) h = h
 
 -- the turn passes
@@ -293,7 +306,7 @@ passes_times false Black White X t A h = append-nil (X ++ t) ∙ h
 -- the first turn is opened
 opens_times : (own : Bool) (r : Rules) (S c : Colour) (takes : Bool)
     → (if same_colour c S then last_told r takes [] else []) ++ pending own (Opening c) S (last_told r takes [])
-        ≡ all_told (own || same_colour S c) r takes []
+    ≡ all_told (own || same_colour S c) r takes []
 opens_times true r White White true = refl
 opens_times true r Black Black true = refl
 opens_times true r White Black true = refl
@@ -327,7 +340,7 @@ all_more whole r true used u =
     let l : length (used ++ u ∷ []) ≡ length used + 1 = length-append used (u ∷ []) in
     let s : sum (used ++ u ∷ []) ≡ sum used + u = sum-snoc used u in
     ap (λ (xs : List ℕ). from whole xs) (centiseconds-snoc r.level 0 0 used u (length (used ++ u ∷ []))
-        (sum (used ++ u ∷ [])) (omega (arith, l)) (omega (arith, s)))
+    (sum (used ++ u ∷ [])) (omega (arith, l)) (omega (arith, s)))
     ∙ from-append whole r.level used (left r.level (length (used ++ u ∷ [])) (sum (used ++ u ∷ [])) / 10 ∷ [])
 
 more : (X A A' t : List ℕ) → X ++ [] ≡ A → A' ≡ A ++ t → X ++ t ≡ A'
@@ -393,22 +406,22 @@ over_goes : (own : Bool) (r : Rules) (S : Colour) (X : List ℕ) (reason : Reaso
 over_goes own r S X reason m h =
     quiet_goes own r S X m (over reason m) refl
     (carried own r S (Over reason) X m (over reason m) refl refl refl refl
-        (over_times own r S X (takes (codes "time") (seat m S).items) (seat m (told_of own S)).used m.phase h))
+    (over_times own r S X (takes (codes "time") (seat m S).items) (seat m (told_of own S)).used m.phase h))
 
 counts_goes : (own : Bool) (r : Rules) (S c : Colour) (X : List ℕ) (n : ℕ) (m : Match) → reads m.phase c ≡ true
     → Times own r S X m → Goes own r S X m (record m { count = n })
 counts_goes own r S c X n m here h =
     quiet_goes own r S X m (record m { count = n }) (not_opening m.phase c here)
-        (carried own r S m.phase X m (record m { count = n }) refl refl refl refl h)
+    (carried own r S m.phase X m (record m { count = n }) refl refl refl refl h)
 
 offers_goes : (own : Bool) (r : Rules) (S c : Colour) (X : List ℕ) (m : Match) → reads m.phase c ≡ true
     → Times own r S X m → Goes own r S X m (offering c m)
 offers_goes own r S White X m here h =
     quiet_goes own r S X m (offering White m) (not_opening m.phase White here)
-        (carried own r S m.phase X m (offering White m) refl refl refl refl h)
+    (carried own r S m.phase X m (offering White m) refl refl refl refl h)
 offers_goes own r S Black X m here h =
     quiet_goes own r S X m (offering Black m) (not_opening m.phase Black here)
-        (carried own r S m.phase X m (offering Black m) refl refl refl refl h)
+    (carried own r S m.phase X m (offering Black m) refl refl refl refl h)
 
 played_times : (own : Bool) (r : Rules) (S c : Colour) (X : List ℕ) (move : Move) (used : ℕ) (m : Match)
     → TimesOf own r S (Before c) X m → TimesOf own r S (After c) X (played_by c move used m)
@@ -444,7 +457,7 @@ decides_goes own r S c X move used v m h =
     quiet_goes own r S X m (over (Decided v) m') refl
     (carried own r S (Over (Decided v)) X m' (over (Decided v) m') refl refl refl refl
     (over_times own r S X (takes (codes "time") (seat m' S).items) (seat m' (told_of own S)).used (After c)
-        (played_times own r S c X move used m h)))
+    (played_times own r S c X move used m h)))
 
 turn_goes : (own : Bool) (r : Rules) (S c : Colour) (X : List ℕ) (m : Match) → is_same_phase m.phase (Opening c) ≡ false
     → (X ++ (if same_colour c S then clock_told own r m S else [])) ++ pending own (Opening c) S (clock_told own r m S)
@@ -457,7 +470,7 @@ turn_goes own r S c X m out h =
     carried_turn : (seat (open_turn c m) S).items ≡ (seat m S).items → (seat (open_turn c m) (told_of own S)).used
         ≡ (seat m (told_of own S)).used
         → TimesOf own r S (Opening c) (X ++ (if same_colour c S then clock_told own r (open_turn c m) S else []))
-            (open_turn c m)
+        (open_turn c m)
     carried_turn i u = rw (i, u) h
 
 hear_used : (c : Colour) (items : List Item) (m : Match) → ((hear c items m).white.used ≡ m.white.used)
@@ -469,12 +482,12 @@ hear_used Black items m = (refl, refl)
 hello_goes : (own : Bool) (r : Rules) (S c d : Colour) (X : List ℕ) (items : List Item) (n : ℕ) (p : Phase) (m : Match)
     → TimesOf own r S (Hello d) X m → (reason : Reason)
     → (Times own r S X (enter (Hello Black) (hear c items m)))
-        × (Times own r S X (enter (Setup White) (hear c items m)))
+    × (Times own r S X (enter (Setup White) (hear c items m)))
     × (Times own r S X (enter (Over reason) (hear c items m))) × (Times own r S X (over reason (hear c items m)))
 hello_goes own r S c d X items n p m h reason =
     let u = hear_used c items m in
     let used : (m' : Match) → m'.white.used ≡ m.white.used → m'.black.used ≡ m.black.used
-            → (seat m' (told_of own S)).used ≡ [] = λ m' w b. used_same m m' w b (told_of own S) ∙ h.1 in (
+    → (seat m' (told_of own S)).used ≡ [] = λ m' w b. used_same m m' w b (told_of own S) ∙ h.1 in (
       (h.0, used (enter (Hello Black) (hear c items m)) u.0 u.1),
       (h.0, used (enter (Setup White) (hear c items m)) u.0 u.1),
       empty_over own r S X _ _ h.0 (used (enter (Over reason) (hear c items m)) u.0 u.1),
@@ -503,7 +516,7 @@ hello_counts own r S Black X items n m p h =
 
 first_turn : (own : Bool) (r : Rules) (S : Colour) (X : List ℕ) (takes : Bool) (used : List ℕ) → X ≡ [] → used ≡ []
     → (X ++ (if same_colour r.first S then last_told r takes used else []))
-        ++ pending own (Opening r.first) S (last_told r takes used) ≡ all_told (is_whole own r S) r takes used
+    ++ pending own (Opening r.first) S (last_told r takes used) ≡ all_told (is_whole own r S) r takes used
 first_turn own r S X takes used x u = rw (x, u) (opens_times own r S r.first takes)
 
 lines_go : (own : Bool) (r : Rules) (S c : Colour) (X : List ℕ) (kind : LineKind) (moment : ℕ) (m : Match)
@@ -523,10 +536,10 @@ lines_go own r S c X kind moment m here h = record {
   setup_counts = λ p pong few. counts_goes own r S c X (m.count + 1) m here h;
   setup_next = λ p s pong. quiet_goes own r S X m (enter (Setup Black) m) refl
       (carried own r S (Setup Black) X m (enter (Setup Black) m) refl refl refl refl
-          (times_in own r S X m (Setup White) p h));
+      (times_in own r S X m (Setup White) p h));
   setup_done = λ p s pong. turn_goes own r S r.first X m (rw p refl)
       (first_turn own r S X (takes (codes "time") (seat m S).items) (seat m (told_of own S)).used
-          (times_in own r S X m (Setup Black) p h).0 (times_in own r S X m (Setup Black) p h).1);
+      (times_in own r S X m (Setup Black) p h).0 (times_in own r S X m (Setup Black) p h).1);
   before = λ p. record {
     row = row;
     plays = λ text move is reading room timely. plays_goes own r S c X move (moment - m.opened) m
@@ -552,13 +565,13 @@ lines_go own r S c X kind moment m here h = record {
         → (Times own r S X (enter (Hello Black) (hear c (items_heard kind) m)))
         × (Times own r S X (enter (Setup White) (hear c (items_heard kind) m)))
         × (Times own r S X (enter (Over reason) (hear c (items_heard kind) m)))
-            × (Times own r S X (over reason (hear c (items_heard kind) m)))
+        × (Times own r S X (over reason (hear c (items_heard kind) m)))
     hello p reason = hello_goes own r S c c X (items_heard kind) 0 m.phase m (times_in own r S X m (Hello c) p h) reason
 
     hello_at : m.phase ≡ Hello White → (Times own r S X (enter (Hello Black) (hear c (items_heard kind) m)))
         × (Times own r S X (enter (Setup White) (hear c (items_heard kind) m)))
         × (Times own r S X (enter (Over (Faulted c NoDone)) (hear c (items_heard kind) m)))
-            × (Times own r S X (over (Faulted c NoDone) (hear c (items_heard kind) m)))
+        × (Times own r S X (over (Faulted c NoDone) (hear c (items_heard kind) m)))
     hello_at p = hello_goes own r S c White X (items_heard kind) 0 m.phase m (times_in own r S X m (Hello White) p h)
         (Faulted c NoDone)
 
@@ -566,7 +579,7 @@ lines_go own r S c X kind moment m here h = record {
         → (Times own r S X (enter (Hello Black) (hear c (items_heard kind) m)))
         × (Times own r S X (enter (Setup White) (hear c (items_heard kind) m)))
         × (Times own r S X (enter (Over reason) (hear c (items_heard kind) m)))
-            × (Times own r S X (over reason (hear c (items_heard kind) m)))
+        × (Times own r S X (over reason (hear c (items_heard kind) m)))
     hello_judged p reason = hello_goes own r S c Black X (items_heard kind) 0 m.phase m
         (times_in own r S X m (Hello Black) p h) reason
 
@@ -577,7 +590,7 @@ step own r S due m (Line c t n) X f h = line_outcome r c (kind_heard t) n m (λ 
 step own r S due m (Opened c n) X f h =
     quiet_goes own r S X m (record m { phase = Before c; opened = n }) refl
     (carried own r S (Before c) X m (record m { phase = Before c; opened = n }) refl refl refl refl
-        (opened own (times_in own r S X m (Opening c) (opens_at m.phase c f) h)))
+    (opened own (times_in own r S X m (Opening c) (opens_at m.phase c f) h)))
   where
     opened : (own : Bool) → TimesOf own r S (Opening c) X m → TimesOf own r S (Before c) X m
     opened true h = h
@@ -591,10 +604,13 @@ step own r S due m (FailsToWrite c) X f h = over_goes own r S X (Faulted c Write
 times_so : (own : Bool) (r : Rules) (S : Colour) (T : List Event) → fits r T ≡ true
     → Times own r S (flat_map (numbers own) (sent r S T)) (match_of r T)
 times_so own r S T f =
-    rw (flat_map-append (numbers own) (entry r start S) (joined_blocks (blocks_from r S start T)), in_openings own r
-        start S (Hello White) refl)
+    rw (
+      flat_map-append (numbers own) (entry r start S) (joined_blocks (blocks_from r S start T)),
+      in_openings own r
+          start S (Hello White) refl,
+    )
     (gathered (numbers own) (no_answer own) (no_offer own) r S (λ X m. Times own r S X m) (step own r S)
-        (unsent (numbers own) r S (in_openings own)) (entry r start) start T [] f (refl, none S own))
+    (unsent (numbers own) r S (in_openings own)) (entry r start) start T [] f (refl, none S own))
   where
     none : (S : Colour) (own : Bool) → (seat start (told_of own S)).used ≡ []
     none White true = refl
@@ -610,8 +626,8 @@ times_are_clocks r T S f = over_times true r S (flat_map time_told (sent r S T))
 pub other_times_are_clocks : OtherTimesAreClocks
 other_times_are_clocks r T S f =
     at (same_colour S r.first) (over_times false r S (flat_map otim_told (sent r S T))
-        (takes (codes "time") (seat (match_of r T) S).items) (seat (match_of r T) (other S)).used (match_of r T).phase
-        (times_so false r S T f))
+    (takes (codes "time") (seat (match_of r T) S).items) (seat (match_of r T) (other S)).used (match_of r T).phase
+    (times_so false r S T f))
   where
     at : (whole : Bool) → (rest : List ℕ) × (length rest ≤ 1)
         × (flat_map otim_told (sent r S T) ++ rest
@@ -619,6 +635,6 @@ other_times_are_clocks r T S f =
         → (rest : List ℕ) × (length rest ≤ 1) × (flat_map otim_told (sent r S T) ++ rest
         ≡ (if takes (codes "time") (seat (match_of r T) S).items
         then (if whole then centiseconds r.level 0 0 (seat (match_of r T) (other S)).used else drop 1
-            (centiseconds r.level 0 0 (seat (match_of r T) (other S)).used)) else []))
+        (centiseconds r.level 0 0 (seat (match_of r T) (other S)).used)) else []))
     at true h = h
     at false h = h

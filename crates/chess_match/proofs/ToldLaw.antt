@@ -47,9 +47,9 @@ ahead_nil (Over x) S = refl
 abbrev Says : Colour → Option (List ℕ) → Match → Match → Type 0
 Says d t m m' =
     (is_on m'.phase ≡ true → (lines : Colour → List (Option (List ℕ))) (S : Colour) → (seat m S).items
-        ++ said_ahead m.phase S (with_line d t lines S) ≡ (seat m' S).items ++ said_ahead m'.phase S (lines S))
+    ++ said_ahead m.phase S (with_line d t lines S) ≡ (seat m' S).items ++ said_ahead m'.phase S (lines S))
     × (is_on m'.phase ≡ false → (S : Colour) → (seat m S).items ++ said_ahead m.phase S (with_line d t no_lines S)
-        ≡ (seat m' S).items)
+    ≡ (seat m' S).items)
 
 items_same : (m m' : Match) → m'.white.items ≡ m.white.items → m'.black.items ≡ m.black.items → (S : Colour)
     → (seat m' S).items ≡ (seat m S).items
@@ -77,8 +77,12 @@ none_ahead (Over x) S ls h = refl
 greeted_says : (d : Colour) (t : Option (List ℕ)) (m m' : Match) → is_greeted m.phase ≡ true → is_greeted m'.phase
     ≡ true → m'.white.items ≡ m.white.items → m'.black.items ≡ m.black.items → Says d t m m'
 greeted_says d t m m' g g' w b = (
-  (λ on lines S. rw (none_ahead m.phase S (with_line d t lines S) g, none_ahead m'.phase S (lines S) g', items_same m m'
-      w b S) refl),
+  (λ on lines S. rw (
+    none_ahead m.phase S (with_line d t lines S) g,
+    none_ahead m'.phase S (lines S) g',
+    items_same m m'
+        w b S,
+  ) refl),
   (λ off S. rw (none_ahead m.phase S (with_line d t no_lines S) g, items_same m m' w b S)
       (append-nil (seat m S).items)),
 )
@@ -95,7 +99,7 @@ hello_on White t n m p h = ((λ on lines S. at lines S), (λ off. not_on (sym of
     at : (lines : Colour → List (Option (List ℕ))) (S : Colour) → (seat m S).items
         ++ said_ahead m.phase S (with_line White t lines S)
         ≡ (let m' = hear White (items_heard (kind_heard t)) m in (seat (record m' { count = n }) S).items
-            ++ said_ahead m.phase S (lines S))
+        ++ said_ahead m.phase S (lines S))
     at lines White = rw (p, h) (joined_items m.white.items (items_heard (kind_heard t)) (items_said (lines White)))
     at lines Black = refl
 hello_on Black t n m p h = ((λ on lines S. at lines S), (λ off. not_on (sym off ∙ rw p refl)))
@@ -103,16 +107,18 @@ hello_on Black t n m p h = ((λ on lines S. at lines S), (λ off. not_on (sym of
     at : (lines : Colour → List (Option (List ℕ))) (S : Colour) → (seat m S).items
         ++ said_ahead m.phase S (with_line Black t lines S)
         ≡ (let m' = hear Black (items_heard (kind_heard t)) m in (seat (record m' { count = n }) S).items
-            ++ said_ahead m.phase S (lines S))
+        ++ said_ahead m.phase S (lines S))
     at lines Black = rw (p, h) (joined_items m.black.items (items_heard (kind_heard t)) (items_said (lines Black)))
     at lines White = rw p refl
 
 -- one that ends the match
 hello_over : (d : Colour) (t : Option (List ℕ)) (m m' : Match) → m.phase ≡ Hello d → is_on m'.phase ≡ false
     → m'.white.items ≡ (hear d (items_heard (kind_heard t)) m).white.items → m'.black.items
-        ≡ (hear d (items_heard (kind_heard t)) m).black.items → Says d t m m'
-hello_over d t m m' p off w b = ((λ on. not_on (sym off ∙ on)),
-    (λ off' S. at d p S ∙ sym (items_same (hear d (items_heard (kind_heard t)) m) m' w b S)))
+    ≡ (hear d (items_heard (kind_heard t)) m).black.items → Says d t m m'
+hello_over d t m m' p off w b = (
+  (λ on. not_on (sym off ∙ on)),
+  (λ off' S. at d p S ∙ sym (items_same (hear d (items_heard (kind_heard t)) m) m' w b S)),
+)
   where
     last : (b : Bool) → items_heard (kind_heard t) ++ (if b then [] else []) ≡ items_heard (kind_heard t)
     last true = append-nil (items_heard (kind_heard t))
@@ -135,7 +141,7 @@ hello_next White t m p s h = ((λ on lines S. at lines S), (λ off. not_on (sym 
     at : (lines : Colour → List (Option (List ℕ))) (S : Colour) → (seat m S).items
         ++ said_ahead m.phase S (with_line White t lines S)
         ≡ (seat (enter (Hello Black) (hear White (items_heard (kind_heard t)) m)) S).items
-            ++ said_ahead (Hello Black) S (lines S)
+        ++ said_ahead (Hello Black) S (lines S)
     at lines White = rw (p, h) (joined_items m.white.items (items_heard (kind_heard t)) [])
     at lines Black = rw p refl
 hello_next Black t m p s h = cc
@@ -171,8 +177,11 @@ lines_say r d t n m = record {
     plays = λ text move is reading room timely. plays d move (n - m.opened) (rw p refl);
     decides = λ text move v is reading room timely. decides d move (n - m.opened) v (rw p refl);
   };
-  behind = λ p. record { row = row (rw p refl); passes =
-      λ none. greeted_says d t m (open_turn (other d) m) (rw p refl) refl refl refl };
+  behind = λ p. record {
+    row = row (rw p refl);
+    passes =
+        λ none. greeted_says d t m (open_turn (other d) m) (rw p refl) refl refl refl;
+  };
 }
   where
     offers : (c : Colour) → is_greeted m.phase ≡ true → Says d t m (offering c m)
@@ -214,14 +223,14 @@ stopped : (r : Rules) (m m' : Match) (due : Colour → List SentLine) (T : List 
     → fits_from r due m' T ≡ true → Said r m T (match_from r m' T)
 stopped r m m' due T off w b f =
     rw (over_stops r due m' T off f) (λ S. ap (λ (is : List Item). (seat m S).items ++ is) (ahead_nil m.phase S)
-        ∙ append-nil (seat m S).items ∙ sym (items_same m m' w b S))
+    ∙ append-nil (seat m S).items ∙ sym (items_same m m' w b S))
 
 opened_on : (r : Rules) (m : Match) (d : Colour) (n : ℕ) (T : List Event) (final : Match) → m.phase ≡ Opening d
     → (let m' : Match = record m { phase = Before d; opened = n } in Said r m' T final)
     → Said r m T final
 opened_on r m d n T final p next S =
     rw p (ap (λ (is : List Item). is ++ []) (sym
-        (items_same m (let m' : Match = record m { phase = Before d; opened = n } in m') refl refl S)) ∙ next S)
+    (items_same m (let m' : Match = record m { phase = Before d; opened = n } in m') refl refl S)) ∙ next S)
 
 said_from : (r : Rules) (due : Colour → List SentLine) (m : Match) (T : List Event) → fits_from r due m T ≡ true
     → Said r m T (match_from r m T)
@@ -229,7 +238,7 @@ said_from r due m [] f = λ S. ap (λ (is : List Item). (seat m S).items ++ is) 
     ∙ append-nil (seat m S).items
 said_from r due m (Line d t n ∷ T) f =
     line_goes_on r m (after r m (Line d t n)) d t n (block r m (after r m (Line d t n))) T
-        (and_second (reads m.phase d) _ f)
+    (and_second (reads m.phase d) _ f)
     (line_outcome r d (kind_heard t) n m (λ m'. Says d t m m') (and_first (reads m.phase d) _ f) (lines_say r d t n m))
     (said_from r (block r m (after r m (Line d t n))) (after r m (Line d t n)) T (and_second (reads m.phase d) _ f))
 said_from r due m (Opened d n ∷ T) f =
@@ -263,14 +272,16 @@ each_is_told_the_others r T f = ((match_of r T).played, moves_are_read r T f, to
     all_told : (O : Colour) → is_some (ending r T) ≡ true → has_write_failure O T ≡ false
         → owed_to r (match_of r T) O (match_of r T).untold (has_write_failure O T) ≡ []
     all_told O ended quiet = rw quiet (nothing_owed r (match_of r T) O (match_of r T).untold ended)
+
     told : (O : Colour) → (rest : List (List ℕ)) × (length rest ≤ 1)
         × (is_some (ending r T) ≡ true → has_write_failure O T ≡ false → rest ≡ [])
         × (moves_told (sent r O T) ++ rest
-          ≡ texts_from r (takes (codes "san") (items_said (lines_of O T))) (other O) r.first [] (match_of r T).played)
-    told O =
-        (owed_to r (match_of r T) O (match_of r T).untold (has_write_failure O T),
-         owed_short r (match_of r T) O (match_of r T).untold (has_write_failure O T),
-         all_told O,
-         moves_are_told r T O f
-         ∙ ap (λ (is : List Item). texts_from r (takes (codes "san") is) (other O) r.first [] (match_of r T).played)
-             (items_are_said r T O f))
+        ≡ texts_from r (takes (codes "san") (items_said (lines_of O T))) (other O) r.first [] (match_of r T).played)
+    told O = (
+      owed_to r (match_of r T) O (match_of r T).untold (has_write_failure O T),
+      owed_short r (match_of r T) O (match_of r T).untold (has_write_failure O T),
+      all_told O,
+      moves_are_told r T O f
+          ∙ ap (λ (is : List Item). texts_from r (takes (codes "san") is) (other O) r.first [] (match_of r T).played)
+          (items_are_said r T O f),
+    )

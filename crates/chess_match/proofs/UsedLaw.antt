@@ -43,9 +43,9 @@ awaited_then (Some k) kind = if is_move kind then None else Some k
 abbrev Grows : Colour → LineKind → ℕ → Match → Match → Type 0
 Grows S kind n m m' =
     (rest : List ℕ) × (length rest ≤ 1) × ((seat m S).used ++ taken (awaited S m.phase m.opened) kind n
-        ≡ (seat m' S).used ++ rest)
+    ≡ (seat m' S).used ++ rest)
     × (is_on m'.phase ≡ true → (rest ≡ []) × (awaited S m'.phase m'.opened
-        ≡ awaited_then (awaited S m.phase m.opened) kind))
+    ≡ awaited_then (awaited S m.phase m.opened) kind))
 
 taken_short : (o : Option ℕ) (kind : LineKind) (n : ℕ) → length (taken o kind n) ≤ 1
 taken_short None kind n = omega arith
@@ -63,10 +63,14 @@ used_same m m' w b Black = b
 -- the match is over, with the same times
 ends_grow : (S : Colour) (kind : LineKind) (n : ℕ) (m m' : Match) → m'.white.used ≡ m.white.used → m'.black.used
     ≡ m.black.used → is_on m'.phase ≡ false → Grows S kind n m m'
-ends_grow S kind n m m' w b off =
-    (taken (awaited S m.phase m.opened) kind n, taken_short (awaited S m.phase m.opened) kind n, ap
-        (λ (l : List ℕ). l ++ taken (awaited S m.phase m.opened) kind n) (sym (used_same m m' w b S)), λ on. not_on
-        (sym off ∙ on))
+ends_grow S kind n m m' w b off = (
+  taken (awaited S m.phase m.opened) kind n,
+  taken_short (awaited S m.phase m.opened) kind n,
+  ap
+      (λ (l : List ℕ). l ++ taken (awaited S m.phase m.opened) kind n) (sym (used_same m m' w b S)),
+  λ on. not_on
+      (sym off ∙ on),
+)
 
 not_move : (kind : LineKind) → move_said kind ≡ [] → is_move kind ≡ false
 not_move (Features t) h = refl
@@ -83,9 +87,14 @@ not_move SaysElse h = refl
 stays_grow : (S : Colour) (kind : LineKind) (n : ℕ) (m m' : Match) → m'.white.used ≡ m.white.used → m'.black.used
     ≡ m.black.used → m'.phase ≡ m.phase → m'.opened ≡ m.opened
     → is_move kind ≡ false → Grows S kind n m m'
-stays_grow S kind n m m' w b p o none = ([], omega arith, at (awaited S m.phase m.opened)
-    ∙ ap (λ (l : List ℕ). l ++ []) (sym (used_same m m' w b S)), λ on.
-    (refl, rw (p, o) (next (awaited S m.phase m.opened))))
+stays_grow S kind n m m' w b p o none = (
+  [],
+  omega arith,
+  at (awaited S m.phase m.opened)
+      ∙ ap (λ (l : List ℕ). l ++ []) (sym (used_same m m' w b S)),
+  λ on.
+      (refl, rw (p, o) (next (awaited S m.phase m.opened))),
+)
   where
     at : (o : Option ℕ) → (seat m S).used ++ taken o kind n ≡ (seat m S).used ++ []
     at None = refl
@@ -161,8 +170,11 @@ lines_grow r S c kind n m = record {
     plays = λ text move is reading room timely. rw is (plays_grow S c text move n m p);
     decides = λ text move v is reading room timely. rw is (decides_grow S c text move n m (Decided v) p);
   };
-  behind = λ p. record { row = row; passes =
-      λ none. apart_grow S kind n m (open_turn (other c) m) (After c) p refl refl refl refl };
+  behind = λ p. record {
+    row = row;
+    passes =
+        λ none. apart_grow S kind n m (open_turn (other c) m) (After c) p refl refl refl refl;
+  };
 }
   where
     row : InTurn r c kind m (λ m'. Grows S kind n m m')
@@ -178,11 +190,11 @@ lines_grow r S c kind n m = record {
 abbrev Ends : Rules → Colour → Match → List Event → List ℕ → Type 0
 Ends r S m T before =
     (rest : List ℕ) × (length rest ≤ 1) × (before ++ turn_times S (awaited S m.phase m.opened) T
-        ≡ (seat (match_from r m T) S).used ++ rest) × (is_on (match_from r m T).phase ≡ true → rest ≡ [])
+    ≡ (seat (match_from r m T) S).used ++ rest) × (is_on (match_from r m T).phase ≡ true → rest ≡ [])
 
 own_line : (S : Colour) (opened n : ℕ) (T : List Event) (b : Bool)
     → (if true && b then (n - opened) ∷ turn_times S None T else turn_times S (Some opened) T)
-        ≡ (if b then (n - opened) ∷ [] else []) ++ turn_times S (if b then None else Some opened) T
+    ≡ (if b then (n - opened) ∷ [] else []) ++ turn_times S (if b then None else Some opened) T
 own_line S opened n T true = refl
 own_line S opened n T false = refl
 
@@ -190,7 +202,7 @@ before_line_times : (S c d : Colour) (opened : ℕ) (text : Option (List ℕ)) (
     ≡ true
     → turn_times S (awaited S (Before d) opened) (Line c text n ∷ T)
     ≡ taken (awaited S (Before d) opened) (kind_heard text) n
-        ++ turn_times S (awaited_then (awaited S (Before d) opened) (kind_heard text)) T
+    ++ turn_times S (awaited_then (awaited S (Before d) opened) (kind_heard text)) T
 before_line_times White White White opened text n T h = own_line White opened n T (is_move (kind_heard text))
 before_line_times Black Black Black opened text n T h = own_line Black opened n T (is_move (kind_heard text))
 before_line_times White Black Black opened text n T h = refl
@@ -202,7 +214,7 @@ before_line_times S Black White opened text n T h = cc
 line_times : (S c : Colour) (p : Phase) (opened : ℕ) (text : Option (List ℕ)) (n : ℕ) (T : List Event) → reads p c
     ≡ true
     → turn_times S (awaited S p opened) (Line c text n ∷ T) ≡ taken (awaited S p opened) (kind_heard text) n
-        ++ turn_times S (awaited_then (awaited S p opened) (kind_heard text)) T
+    ++ turn_times S (awaited_then (awaited S p opened) (kind_heard text)) T
 line_times S c (Before d) opened text n T h = before_line_times S c d opened text n T h
 line_times S c (Hello d) opened text n T h = refl
 line_times S c (Setup d) opened text n T h = refl
@@ -214,21 +226,21 @@ line_goes_on : (r : Rules) (S c : Colour) (text : Option (List ℕ)) (n : ℕ) (
     (T : List Event) → reads m.phase c ≡ true → fits_from r due m' T ≡ true
     → Grows S (kind_heard text) n m m' → Ends r S m' T (seat m' S).used
     → (rest : List ℕ) × (length rest ≤ 1) × ((seat m S).used
-        ++ turn_times S (awaited S m.phase m.opened) (Line c text n ∷ T) ≡ (seat (match_from r m' T) S).used ++ rest)
+    ++ turn_times S (awaited S m.phase m.opened) (Line c text n ∷ T) ≡ (seat (match_from r m' T) S).used ++ rest)
     × (is_on (match_from r m' T).phase ≡ true → rest ≡ [])
 line_goes_on r S c text n due m m' T here f g e = at (is_on m'.phase) refl
   where
     at : (b : Bool) → is_on m'.phase ≡ b → (rest : List ℕ) × (length rest ≤ 1)
         × ((seat m S).used ++ turn_times S (awaited S m.phase m.opened) (Line c text n ∷ T)
-            ≡ (seat (match_from r m' T) S).used ++ rest) × (is_on (match_from r m' T).phase ≡ true → rest ≡ [])
+        ≡ (seat (match_from r m' T) S).used ++ rest) × (is_on (match_from r m' T).phase ≡ true → rest ≡ [])
     at true on = (
       e.0,
       e.1,
       ap (λ (l : List ℕ). (seat m S).used ++ l) (line_times S c m.phase m.opened text n T here)
           ∙ sym (append_assoc (seat m S).used (taken (awaited S m.phase m.opened) (kind_heard text) n)
-              (turn_times S (awaited_then (awaited S m.phase m.opened) (kind_heard text)) T))
+          (turn_times S (awaited_then (awaited S m.phase m.opened) (kind_heard text)) T))
           ∙ ap (λ (l : List ℕ). l ++ turn_times S (awaited_then (awaited S m.phase m.opened) (kind_heard text)) T)
-              (g.2 ∙ ap (λ (l : List ℕ). (seat m' S).used ++ l) (g.3 on).0 ∙ append-nil (seat m' S).used)
+          (g.2 ∙ ap (λ (l : List ℕ). (seat m' S).used ++ l) (g.3 on).0 ∙ append-nil (seat m' S).used)
           ∙ ap (λ (o : Option ℕ). (seat m' S).used ++ turn_times S o T) (sym (g.3 on).1)
           ∙ e.2,
       e.3,
@@ -246,7 +258,7 @@ stopped : (r : Rules) (S : Colour) (due : Colour → List SentLine) (o : Option 
     → m'.white.used ≡ m.white.used → m'.black.used ≡ m.black.used → is_on m'.phase ≡ false
     → fits_from r due m' T ≡ true
     → (rest : List ℕ) × (length rest ≤ 1) × ((seat m S).used ++ turn_times S o T ≡ (seat (match_from r m' T) S).used
-        ++ rest) × (is_on (match_from r m' T).phase ≡ true → rest ≡ [])
+    ++ rest) × (is_on (match_from r m' T).phase ≡ true → rest ≡ [])
 stopped r S due o m m' T w b off f = rw (over_stops r due m' T off f)
     ([], omega arith, ap (λ (l : List ℕ). l ++ []) (sym (used_same m m' w b S)), λ on. refl)
 
@@ -255,30 +267,35 @@ opened_goes_on : (r : Rules) (S c : Colour) (n : ℕ) (m : Match) (T : List Even
     → Ends r S m (Opened c n ∷ T) (seat m S).used
 opened_goes_on r S c n m T p e =
     let m' : Match = record m { phase = Before c; opened = n } in
-    rw p (e.0, e.1, ap (λ (l : List ℕ). l ++ turn_times S (if same_colour c S then Some n else None) T)
-        (sym (used_same m m' refl refl S)) ∙ e.2, e.3)
+    rw p (
+      e.0,
+      e.1,
+      ap (λ (l : List ℕ). l ++ turn_times S (if same_colour c S then Some n else None) T)
+          (sym (used_same m m' refl refl S)) ∙ e.2,
+      e.3,
+    )
 
 used_from : (r : Rules) (S : Colour) (due : Colour → List SentLine) (m : Match) (T : List Event) → fits_from r due m T
     ≡ true → Ends r S m T (seat m S).used
 used_from r S due m [] f = ([], omega arith, refl, λ on. refl)
 used_from r S due m (Line c t n ∷ T) f =
     line_goes_on r S c t n (block r m (after r m (Line c t n))) m (after r m (Line c t n)) T
-        (and_first (reads m.phase c) _ f) (and_second (reads m.phase c) _ f)
+    (and_first (reads m.phase c) _ f) (and_second (reads m.phase c) _ f)
     (line_outcome r c (kind_heard t) n m (λ m'. Grows S (kind_heard t) n m m') (and_first (reads m.phase c) _ f)
-        (lines_grow r S c (kind_heard t) n m))
+    (lines_grow r S c (kind_heard t) n m))
     (used_from r S (block r m (after r m (Line c t n))) (after r m (Line c t n)) T (and_second (reads m.phase c) _ f))
 used_from r S due m (Opened c n ∷ T) f =
     opened_goes_on r S c n m T (opens_at m.phase c (and_first (opens m.phase c) _ f))
     (used_from r S (block r m (after r m (Opened c n))) (after r m (Opened c n)) T (and_second (opens m.phase c) _ f))
 used_from r S due m (OutputEnds c ∷ T) f =
     stopped r S (block r m (after r m (OutputEnds c))) (awaited S m.phase m.opened) m (after r m (OutputEnds c)) T refl
-        refl refl (and_second (fits_next due m (OutputEnds c)) _ f)
+    refl refl (and_second (fits_next due m (OutputEnds c)) _ f)
 used_from r S due m (FailsToRead c ∷ T) f =
     stopped r S (block r m (after r m (FailsToRead c))) (awaited S m.phase m.opened) m (after r m (FailsToRead c)) T
-        refl refl refl (and_second (fits_next due m (FailsToRead c)) _ f)
+    refl refl refl (and_second (fits_next due m (FailsToRead c)) _ f)
 used_from r S due m (FailsToWrite c ∷ T) f =
     stopped r S (block r m (after r m (FailsToWrite c))) (awaited S m.phase m.opened) m (after r m (FailsToWrite c)) T
-        refl refl refl (and_second (fits_next due m (FailsToWrite c)) _ f)
+    refl refl refl (and_second (fits_next due m (FailsToWrite c)) _ f)
 
 pub used_times_are_differences : UsedTimesAreDifferences
 used_times_are_differences r T White f = used_from r White (entry r start) start T f
