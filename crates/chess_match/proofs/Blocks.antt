@@ -1,20 +1,15 @@
 -- What the blocks of an event hold of lines of one kind.
-use Rattle.std.proofs.Common.{◌≡◌, Bool, true, false, not, ◌&&◌, List, [], ◌∷◌, ◌++◌, refl, ap, ◌∙◌}
+use Rattle.std.proofs.Common.{◌≡◌, Bool, true, false, not, ◌&&◌, List, [], ◌∷◌, ◌++◌, refl, ap, ◌∙◌, sym, append-nil}
 use Rattle.std.specs.Prelude.{if◌then◌else◌, codes}
 use Rattle.std.specs.List.{flat_map}
-use Rattle.std.proofs.Math.Seq.{drop-length}
 use Rattle.std.proofs.lemmas.Grind.{flat_map-append}
 use Rattle.chess_base.specs.declared.man.Colour.{Colour}
-use Rattle.chess_base.specs.declared.man.Colour.TheVariants.{White, Black}
-use Rattle.chess_base.specs.Men.{other, same_colour}
+use Rattle.chess_base.specs.Men.{other}
 use Rattle.chess_match.specs.Items.{Item, takes}
-use Rattle.chess_match.specs.Match.{Match, Seat, seat}
+use Rattle.chess_match.specs.Match.{Match, seat}
 use Rattle.chess_match.specs.Rules.{Rules}
 use Rattle.chess_match.specs.Sent.{SentLine, Answered, DrawOffered, answers_to, block, entry, is_same_phase, new_items, draw_line}
-use Rattle.chess_match.specs.Transcript.{joined_blocks, reads, is_on}
-use Rattle.chess_match.specs.declared.phase.Phase.{Phase}
-use Rattle.chess_match.specs.declared.phase.Phase.TheVariants.{Hello, Setup, Opening, Before, After, Over}
-use Rattle.chess_match.specs.declared.reason.Reason.{Reason}
+use Rattle.chess_match.specs.Transcript.{joined_blocks}
 
 pub if_nil : {A : Type 0} (b : Bool) (xs : List A) → xs ≡ [] → (if b then [] else xs) ≡ []
 if_nil true xs e = refl
@@ -46,44 +41,11 @@ of_block {A} f a d r m m' S =
     split true ls = refl
     split false ls = refl
 
-unheard : (s : Seat) → answers_to (new_items s s) ≡ []
-unheard s = ap (λ (items : List Item). answers_to items) (drop-length s.items)
-
-unoffered : (told s : Seat) → draw_line told s s ≡ []
-unoffered told s = at s.offers (takes (codes "draw") told.items)
-  where
-    at : (o t : Bool) → (if not o && o && t then DrawOffered ∷ [] else []) ≡ []
-    at true t = refl
-    at false t = refl
-
--- where the engines' seats stay as they are
-pub quiet_block : (r : Rules) (m m' : Match) → m'.white ≡ m.white → m'.black ≡ m.black → (S : Colour) → block r m m' S
-    ≡ (if is_same_phase m.phase m'.phase then [] else entry r m' S)
-unfolding block
-quiet_block r m m' w b White = rw (w, b, unheard m.white, unoffered m.white m.black) refl
-quiet_block r m m' w b Black = rw (w, b, unheard m.black, unoffered m.black m.white) refl
-
 pub joined_at : (b : Bool) (x : List SentLine) (bs : List (List SentLine))
     → joined_blocks ((if b then [] else x ∷ []) ++ bs) ≡ (if b then [] else x) ++ joined_blocks bs
 joined_at true x bs = refl
 joined_at false x bs = refl
 
-pub same_as : (c : Colour) → same_colour c c ≡ true
-same_as White = refl
-same_as Black = refl
-
-pub stays_in : (p : Phase) (S : Colour) → reads p S ≡ true → is_same_phase p p ≡ true
-stays_in (Hello c) S h = same_as c
-stays_in (Setup c) S h = same_as c
-stays_in (Before c) S h = same_as c
-stays_in (After c) S h = same_as c
-stays_in (Opening c) S h = cc
-stays_in (Over x) S h = cc
-
-pub leaves_for : (p : Phase) (reason : Reason) → is_on p ≡ true → is_same_phase p (Over reason) ≡ false
-leaves_for (Hello c) reason on = refl
-leaves_for (Setup c) reason on = refl
-leaves_for (Opening c) reason on = refl
-leaves_for (Before c) reason on = refl
-leaves_for (After c) reason on = refl
-leaves_for (Over x) reason on = cc
+-- what was told so far, and what is told now
+pub told_more : {A : Type 0} (X all all' t : List A) → X ++ [] ≡ all → all' ≡ all ++ t → X ++ t ≡ all'
+told_more {A} X all all' t h e = ap (λ (l : List A). l ++ t) (sym (append-nil X) ∙ h) ∙ sym e

@@ -1,7 +1,6 @@
 -- No clock underflows.
-use Rattle.std.proofs.Common.{◌≡◌, ℕ, ◌+◌, ◌-◌, ◌≤◌, true, List, [], ◌∷◌, ◌++◌, length, length-append, arith, zero-add, ◌∙◌, ap}
+use Rattle.std.proofs.Common.{◌≡◌, ℕ, ◌+◌, ◌-◌, ◌≤◌, true, List, [], ◌∷◌, ◌++◌, length, length-append, arith}
 use Rattle.std.specs.Prelude.{sum}
-use Rattle.std.proofs.lemmas.List.Sums.{sum_by-append}
 use Rattle.chess_base.specs.declared.man.Colour.{Colour}
 use Rattle.chess_base.specs.declared.man.Colour.TheVariants.{White, Black}
 use Rattle.chess_base.specs.declared.man.Move.{Move}
@@ -14,15 +13,13 @@ use Rattle.chess_match.specs.Rules.{Rules}
 use Rattle.chess_match.specs.Sent.{SentLine, entry}
 use Rattle.chess_match.specs.Transcript.{fits_next, fits, match_of}
 use Rattle.chess_match.proofs.Allotment.{allotted_grows}
-use Rattle.chess_match.proofs.Outcomes.{offering, InTurn, event_outcome, kept_by}
+use Rattle.chess_match.proofs.Outcomes.{InTurn, event_outcome, kept_by}
+use Rattle.chess_match.proofs.Going.{offered, sum-snoc}
 
 -- neither side used more than it was given
 abbrev IsInTime : LevelSeen → Match → Type 0
 IsInTime level m = (sum m.white.used ≤ allotted level (length m.white.used))
     × (sum m.black.used ≤ allotted level (length m.black.used))
-
-sum-snoc : (xs : List ℕ) (x : ℕ) → sum (xs ++ x ∷ []) ≡ sum xs + x
-sum-snoc xs x = sum_by-append (λ (n : ℕ). n) xs (x ∷ []) ∙ ap (λ n. sum xs + n) (zero-add x)
 
 used_more : (level : LevelSeen) (xs : List ℕ) (x : ℕ) → sum xs ≤ allotted level (length xs)
     → x ≤ left level (length xs) (sum xs)
@@ -37,9 +34,9 @@ heard : (level : LevelSeen) (S : Colour) (items : List Item) (m : Match) → IsI
 heard level White items m w = w
 heard level Black items m w = w
 
-offered : (level : LevelSeen) (S : Colour) (m : Match) → IsInTime level m → IsInTime level (offering S m)
-offered level White m w = w
-offered level Black m w = w
+offered_in_time : (level : LevelSeen) (S : Colour) (m : Match) → IsInTime level m → IsInTime level (offered S m)
+offered_in_time level White m w = w
+offered_in_time level Black m w = w
 
 played : (r : Rules) (S : Colour) (move : Move) (used : ℕ) (m : Match) → used ≤ clock r m S → IsInTime r.level m
     → IsInTime r.level (played_by S move used m)
@@ -52,7 +49,7 @@ in_turn r S kind m w = record {
   ends = λ reason n. w;
   counts = λ k n. w;
   offers =
-      λ k own theirs. offered r.level S m w;
+      λ k own theirs. offered_in_time r.level S m w;
 }
 
 step : (r : Rules) (due : Colour → List SentLine) (m : Match) (e : Event) → fits_next due m e ≡ true

@@ -15,7 +15,8 @@ use Rattle.chess_match.specs.declared.phase.Phase.{Phase}
 use Rattle.chess_match.specs.declared.phase.Phase.TheVariants.{Hello, Setup, Opening, Before, After, Over}
 use Rattle.chess_match.specs.declared.reason.Reason.{Reason}
 use Rattle.chess_match.specs.declared.reason.Reason.TheVariants.{Agreed, Decided}
-use Rattle.chess_match.proofs.Outcomes.{offering, Lines, line_outcome, opens_at, and_first, and_second}
+use Rattle.chess_match.proofs.Outcomes.{Lines, line_outcome, opens_at, and_first, and_second}
+use Rattle.chess_match.proofs.Going.{offered}
 
 abbrev one_if : Bool → ℕ
 one_if true = 1
@@ -113,10 +114,10 @@ offer_more limit k n count true e h = cc
 offer_more limit k n count false e h = omega (arith, h)
 
 before_offers : (r : Rules) (k : ℕ) (S : Colour) (m : Match) → m.phase ≡ Before S → FewIn r k (Before S) m
-    → (seat m S).offers ≡ false → Few r (k + 1) (offering S m)
-before_offers r k White m e w none = from_phase r (k + 1) (offering White m) (Before White) e
+    → (seat m S).offers ≡ false → Few r (k + 1) (offered S m)
+before_offers r k White m e w none = from_phase r (k + 1) (offered White m) (Before White) e
     (offer_more r.limit k (length m.played) m.count m.white.offers none w.0, w.1, w.2)
-before_offers r k Black m e w none = from_phase r (k + 1) (offering Black m) (Before Black) e
+before_offers r k Black m e w none = from_phase r (k + 1) (offered Black m) (Before Black) e
     (offer_more r.limit k (length m.played) m.count m.black.offers none w.0, w.1, w.2)
 
 plays_more : (r : Rules) (k : ℕ) (S : Colour) (move : Move) (used : ℕ) (m : Match) → FewIn r k (Before S) m
@@ -145,10 +146,10 @@ offer_after k n count true e h = cc
 offer_after k n count false e h = omega (arith, h)
 
 after_offers : (r : Rules) (k : ℕ) (S : Colour) (m : Match) → m.phase ≡ After S → FewIn r k (After S) m
-    → (seat m S).offers ≡ false → Few r (k + 1) (offering S m)
-after_offers r k White m e w none = from_phase r (k + 1) (offering White m) (After White) e
+    → (seat m S).offers ≡ false → Few r (k + 1) (offered S m)
+after_offers r k White m e w none = from_phase r (k + 1) (offered White m) (After White) e
     (offer_after k (length m.played) m.count m.white.offers none w.0, w.1, w.2)
-after_offers r k Black m e w none = from_phase r (k + 1) (offering Black m) (After Black) e
+after_offers r k Black m e w none = from_phase r (k + 1) (offered Black m) (After Black) e
     (offer_after k (length m.played) m.count m.black.offers none w.0, w.1, w.2)
 
 after_passes : (r : Rules) (k : ℕ) (S : Colour) (m : Match) → FewIn r k (After S) m

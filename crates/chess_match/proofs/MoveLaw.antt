@@ -25,8 +25,11 @@ use Rattle.chess_match.specs.declared.reason.Reason.{Reason}
 use Rattle.chess_match.specs.declared.reason.Reason.TheVariants.{Decided, Faulted}
 use Rattle.chess_match.specs.declared.reason.MatchFault.{MatchFault}
 use Rattle.chess_match.specs.declared.reason.MatchFault.TheVariants.{NoDone, Ended, Read, Write}
-use Rattle.chess_match.proofs.Blocks.{if_nil, of_block, quiet_block, joined_at, stays_in, leaves_for}
-use Rattle.chess_match.proofs.Outcomes.{offering, Lines, InTurn, line_outcome, opens_at, and_first, and_second, on_reads}
+use Rattle.chess_match.proofs.Blocks.{if_nil, of_block, joined_at}
+use Rattle.chess_match.proofs.Outcomes.{Lines, InTurn, line_outcome, opens_at, and_first, and_second}
+use Rattle.chess_match.proofs.Going.{hear_phase, leaves, offered, plain_block, reads_on, reads_stays}
+use Rattle.chess_match.proofs.Seats.{hear_played, hear_untold, items_same}
+use Rattle.chess_match.proofs.Blocks.{told_more}
 
 -- ---- who moves
 
@@ -262,11 +265,6 @@ SofarBy r X O items ms untold = X ++ untold_by r O items ms untold
 abbrev Sofar : Rules → List (List ℕ) → Colour → Match → Type 0
 Sofar r X O m = SofarBy r X O (seat m O).items m.played m.untold
 
-items_same : (m m' : Match) → m'.white.items ≡ m.white.items → m'.black.items ≡ m.black.items → (O : Colour)
-    → (seat m' O).items ≡ (seat m O).items
-items_same m m' w b White = w
-items_same m m' w b Black = b
-
 carried : (r : Rules) (X : List (List ℕ)) (O : Colour) (m m' : Match) → m'.played ≡ m.played → m'.untold ≡ m.untold
     → m'.white.items ≡ m.white.items → m'.black.items ≡ m.black.items
     → Sofar r X O m → Sofar r X O m'
@@ -285,34 +283,23 @@ fresh r X O m m' p u p' u' h =
     at [] (Some c) p u h = cc
     at (x ∷ ms) untold p u h = cc
 
-pub hear_played : (S : Colour) (items : List Item) (m : Match) → (hear S items m).played ≡ m.played
-hear_played White items m = refl
-hear_played Black items m = refl
-
-pub hear_untold : (S : Colour) (items : List Item) (m : Match) → (hear S items m).untold ≡ m.untold
-hear_untold White items m = refl
-hear_untold Black items m = refl
-
 texts_more : (r : Rules) (as_san : Bool) (S T : Colour) (ms : List Move) (move : Move) → mover r.first ms ≡ T
     → texts_from r as_san S r.first [] (ms ++ move ∷ []) ≡ texts_from r as_san S r.first [] ms
     ++ (if same_colour T S then r.move_text as_san (ms ++ move ∷ []) ∷ [] else [])
 texts_more r as_san S T ms move e = rw e at (texts-snoc r as_san S r.first [] ms move)
-
-more : (r : Rules) (X A A' t : List (List ℕ)) → X ++ [] ≡ A → A' ≡ A ++ t → X ++ t ≡ A'
-more r X A A' t h e = ap (λ (l : List (List ℕ)). l ++ t) (sym (append-nil X) ∙ h) ∙ sym e
 
 -- S's move is played, and the other is still to be told it
 moved : (r : Rules) (X : List (List ℕ)) (S O : Colour) (items : List Item) (ms : List Move) (move : Move)
     → mover r.first ms ≡ S → SofarBy r X O items ms None
     → SofarBy r X O items (ms ++ move ∷ []) (Some (other S))
 moved r X White Black items ms move e h =
-    more r X _ _ _ h (texts_more r (takes (codes "san") items) White White ms move e)
+    told_more X _ _ _ h (texts_more r (takes (codes "san") items) White White ms move e)
 moved r X Black White items ms move e h =
-    more r X _ _ _ h (texts_more r (takes (codes "san") items) Black Black ms move e)
+    told_more X _ _ _ h (texts_more r (takes (codes "san") items) Black Black ms move e)
 moved r X White White items ms move e h =
-    more r X _ _ _ h (texts_more r (takes (codes "san") items) Black White ms move e)
+    told_more X _ _ _ h (texts_more r (takes (codes "san") items) Black White ms move e)
 moved r X Black Black items ms move e h =
-    more r X _ _ _ h (texts_more r (takes (codes "san") items) White Black ms move e)
+    told_more X _ _ _ h (texts_more r (takes (codes "san") items) White Black ms move e)
 
 pub some_move : (ms : List Move) (move : Move) → 0 < length (ms ++ move ∷ [])
 some_move ms move = let l : length (ms ++ move ∷ []) ≡ length ms + 1 = length-append ms (move ∷ []) in omega (arith, l)
@@ -342,7 +329,7 @@ ends_goes : (r : Rules) (X : List (List ℕ)) (O : Colour) (reason : Reason) (m 
     → is_unwritten (fault_of reason) O ≡ false → Sofar r X O m
     → Goes r X O m (over reason m)
 ends_goes r X O reason m on n h = (
-  over_told r X O false m.phase reason m (leaves_for m.phase reason on) n
+  over_told r X O false m.phase reason m (leaves m.phase reason on) n
       (carried r X O m (over reason m) refl refl refl refl h),
   tt,
 )
@@ -350,21 +337,21 @@ ends_goes r X O reason m on n h = (
 counts_goes : (r : Rules) (X : List (List ℕ)) (S O : Colour) (n : ℕ) (m : Match) → reads m.phase S ≡ true → Orderly r m
     → Sofar r X O m → Goes r X O m (record m { count = n })
 counts_goes r X S O n m here o h = (
-  stays_told r X O m.phase (record m { count = n }) (stays_in m.phase S here) (on_reads m.phase S here)
+  stays_told r X O m.phase (record m { count = n }) (reads_stays m.phase S here) (reads_on m.phase S here)
       (carried r X O m (record m { count = n }) refl refl refl refl h),
   o,
 )
 
 offers_goes : (r : Rules) (X : List (List ℕ)) (S O : Colour) (m : Match) → reads m.phase S ≡ true → Orderly r m
-    → Sofar r X O m → Goes r X O m (offering S m)
+    → Sofar r X O m → Goes r X O m (offered S m)
 offers_goes r X White O m here o h = (
-  stays_told r X O m.phase (offering White m) (stays_in m.phase White here) (on_reads m.phase White here)
-      (carried r X O m (offering White m) refl refl refl refl h),
+  stays_told r X O m.phase (offered White m) (reads_stays m.phase White here) (reads_on m.phase White here)
+      (carried r X O m (offered White m) refl refl refl refl h),
   o,
 )
 offers_goes r X Black O m here o h = (
-  stays_told r X O m.phase (offering Black m) (stays_in m.phase Black here) (on_reads m.phase Black here)
-      (carried r X O m (offering Black m) refl refl refl refl h),
+  stays_told r X O m.phase (offered Black m) (reads_stays m.phase Black here) (reads_on m.phase Black here)
+      (carried r X O m (offered Black m) refl refl refl refl h),
   o,
 )
 
@@ -421,7 +408,7 @@ hello_over : (r : Rules) (X : List (List ℕ)) (S O : Colour) (items : List Item
     → is_on m.phase ≡ true → is_unwritten (fault_of reason) O ≡ false
     → (m.played ≡ []) × (m.untold ≡ None) → Sofar r X O m → Goes r X O m (over reason (hear S items m))
 hello_over r X S O items reason m on n k h = (
-  over_told r X O false m.phase reason (hear S items m) (leaves_for m.phase reason on) n
+  over_told r X O false m.phase reason (hear S items m) (leaves m.phase reason on) n
       (fresh r X O m (over reason (hear S items m)) k.0 k.1 (hear_played S items m ∙ k.0) (hear_untold S items m ∙ k.1)
       h),
   tt,
@@ -432,13 +419,13 @@ hello_counts : (r : Rules) (X : List (List ℕ)) (S O : Colour) (items : List It
     → (let m' = hear S items m in Goes r X O m (record m' { count = m.count + 1 }))
 hello_counts r X White O items m here k o h = (
   stays_told r X O m.phase (let m' = hear White items m in record m' { count = m.count + 1 })
-      (stays_in m.phase White here) (on_reads m.phase White here)
+      (reads_stays m.phase White here) (reads_on m.phase White here)
       (fresh r X O m (let m' = hear White items m in record m' { count = m.count + 1 }) k.0 k.1 k.0 k.1 h),
   o,
 )
 hello_counts r X Black O items m here k o h = (
   stays_told r X O m.phase (let m' = hear Black items m in record m' { count = m.count + 1 })
-      (stays_in m.phase Black here) (on_reads m.phase Black here)
+      (reads_stays m.phase Black here) (reads_on m.phase Black here)
       (fresh r X O m (let m' = hear Black items m in record m' { count = m.count + 1 }) k.0 k.1 k.0 k.1 h),
   o,
 )
@@ -498,7 +485,7 @@ lines_go : (r : Rules) (X : List (List ℕ)) (S O : Colour) (kind : LineKind) (m
     ≡ true → Orderly r m → Sofar r X O m
     → Lines r S kind moment m (λ m'. Goes r X O m m')
 lines_go r X S O kind moment m here o h =
-    let on : is_on m.phase ≡ true = on_reads m.phase S here in
+    let on : is_on m.phase ≡ true = reads_on m.phase S here in
     record {
       hello_ends = λ p d. hello_over r X S O (items_heard kind) (Faulted S NoDone) m on refl
           (orderly_in r m (Hello S) p o) h;
@@ -520,7 +507,7 @@ lines_go r X S O kind moment m here o h =
   where
     row : InTurn r S kind m (λ m'. Goes r X O m m')
     row = record {
-      ends = λ reason n. ends_goes r X O reason m (on_reads m.phase S here) (n O) h;
+      ends = λ reason n. ends_goes r X O reason m (reads_on m.phase S here) (n O) h;
       counts = λ none few. counts_goes r X S O (m.count + 1) m here o h;
       offers = λ none own theirs. offers_goes r X S O m here o h;
     }
@@ -544,32 +531,28 @@ step_goes r X O due m (Opened S n) f o h = (
       (carried r X O m (record m { phase = Before S; opened = n }) refl refl refl refl h),
   orderly_in r m (Opening S) (opens_at m.phase S f) o,
 )
-step_goes r X O due m (OutputEnds S) f o h = faulted (Faulted S Ended) (on_reads m.phase S f) refl
+step_goes r X O due m (OutputEnds S) f o h = faulted (Faulted S Ended) (reads_on m.phase S f) refl
   where
     faulted : (reason : Reason) → is_on m.phase ≡ true → is_unwritten (fault_of reason) O ≡ false
         → Told r X O false m.phase (over reason m) × Unit {0}
     faulted reason on n = (
-      over_told r X O false m.phase reason m (leaves_for m.phase reason on) n
+      over_told r X O false m.phase reason m (leaves m.phase reason on) n
           (carried r X O m (over reason m) refl refl refl refl h),
       tt,
     )
 step_goes r X O due m (FailsToRead S) f o h = (
-  over_told r X O false m.phase (Faulted S Read) m (leaves_for m.phase (Faulted S Read) (on_reads m.phase S f)) refl
+  over_told r X O false m.phase (Faulted S Read) m (leaves m.phase (Faulted S Read) (reads_on m.phase S f)) refl
       (carried r X O m (over (Faulted S Read) m) refl refl refl refl h),
   tt,
 )
 step_goes r X O due m (FailsToWrite S) f o h = (
   over_told r X O (same_colour S O) m.phase (Faulted S Write) m
-      (leaves_for m.phase (Faulted S Write) (and_first (is_on m.phase) _ f)) refl
+      (leaves m.phase (Faulted S Write) (and_first (is_on m.phase) _ f)) refl
       (carried r X O m (over (Faulted S Write) m) refl refl refl refl h),
   tt,
 )
 
 -- ---- blocks that aren't sent tell no move
-
-pub hear_phase : (S : Colour) (items : List Item) (m : Match) → (hear S items m).phase ≡ m.phase
-hear_phase White items m = refl
-hear_phase Black items m = refl
 
 abbrev told_now : Rules → Match → Match → Colour → List (List ℕ)
 told_now r m m' O = if is_same_phase m.phase m'.phase then [] else entry_moves r m' O m'.phase
@@ -583,11 +566,11 @@ not_on h = cc
 
 same_tells_none : (r : Rules) (S O : Colour) (m m' : Match) → m'.phase ≡ m.phase → reads m.phase S ≡ true
     → TellsNone r S O m m'
-same_tells_none r S O m m' e here on some = rw (e, stays_in m.phase S here) refl
+same_tells_none r S O m m' e here on some = rw (e, reads_stays m.phase S here) refl
 
 opening_apart : (r : Rules) (S : Colour) (m : Match) → m.phase ≡ After S → block r m (open_turn (other S) m) S ≡ []
-opening_apart r White m p = quiet_block r m (open_turn Black m) refl refl White ∙ rw p refl
-opening_apart r Black m p = quiet_block r m (open_turn White m) refl refl Black ∙ rw p refl
+opening_apart r White m p = plain_block r m (open_turn Black m) false refl refl (rw p refl) White
+opening_apart r Black m p = plain_block r m (open_turn White m) false refl refl (rw p refl) Black
 
 passes_none : (r : Rules) (S O : Colour) (m : Match) → m.phase ≡ After S → TellsNone r S O m (open_turn (other S) m)
 passes_none r S O m p on some = let none : 0 < 0 = rw (opening_apart r S m p) at some in absurd (omega (arith, none))
@@ -597,9 +580,9 @@ plays_none : (r : Rules) (S O : Colour) (move : Move) (used : ℕ) (m : Match)
 plays_none r White O move used m on some = if_nil (is_same_phase m.phase (After White)) [] refl
 plays_none r Black O move used m on some = if_nil (is_same_phase m.phase (After Black)) [] refl
 
-offers_none : (r : Rules) (S O : Colour) (m : Match) → reads m.phase S ≡ true → TellsNone r S O m (offering S m)
-offers_none r White O m here on some = rw (stays_in m.phase White here) refl
-offers_none r Black O m here on some = rw (stays_in m.phase Black here) refl
+offers_none : (r : Rules) (S O : Colour) (m : Match) → reads m.phase S ≡ true → TellsNone r S O m (offered S m)
+offers_none r White O m here on some = rw (reads_stays m.phase White here) refl
+offers_none r Black O m here on some = rw (reads_stays m.phase Black here) refl
 
 lines_none : (r : Rules) (S O : Colour) (kind : LineKind) (moment : ℕ) (m : Match) → reads m.phase S ≡ true
     → Orderly r m → Lines r S kind moment m (λ m'. TellsNone r S O m m')
@@ -702,10 +685,10 @@ told_at r O due m e T f o =
 -- ---- the transcript
 
 pub fits_on : (due : Colour → List SentLine) (m : Match) (e : Event) → fits_next due m e ≡ true → is_on m.phase ≡ true
-fits_on due m (Line S t n) f = on_reads m.phase S f
+fits_on due m (Line S t n) f = reads_on m.phase S f
 fits_on due m (Opened S n) f = rw (opens_at m.phase S f) refl
-fits_on due m (OutputEnds S) f = on_reads m.phase S f
-fits_on due m (FailsToRead S) f = on_reads m.phase S f
+fits_on due m (OutputEnds S) f = reads_on m.phase S f
+fits_on due m (FailsToRead S) f = reads_on m.phase S f
 fits_on due m (FailsToWrite S) f = and_first (is_on m.phase) _ f
 
 calm : (r : Rules) (m : Match) (e : Event) (O : Colour) → is_on (after r m e).phase ≡ true → fails_at e O ≡ false

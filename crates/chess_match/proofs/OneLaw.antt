@@ -12,9 +12,9 @@ use Rattle.chess_match.specs.Sent.{SentLine, block, entry}
 use Rattle.chess_match.specs.Transcript.{reads, opens, is_on, ending_in, match_from, fits_next, fits_from, lines_of, line_in, moments_of, has_end, has_read_failure, has_write_failure, is_end_of, is_read_failure_of, fails_at}
 use Rattle.chess_match.specs.declared.phase.Phase.{Phase}
 use Rattle.chess_match.specs.declared.phase.Phase.TheVariants.{Hello, Setup, Opening, Before, After, Over}
-use Rattle.chess_match.proofs.Blocks.{same_as}
 use Rattle.chess_match.proofs.MoveLaw.{fits_on, same_is, not_on}
 use Rattle.chess_match.proofs.Outcomes.{and_first, and_second}
+use Rattle.chess_match.proofs.Going.{same_colour-self}
 
 or_right : (a b : Bool) → b ≡ true → a || b ≡ true
 or_right true b h = refl
@@ -131,7 +131,7 @@ ended_none : (r : Rules) (s : Streams) (m : Match) (c : Colour) (T : List Event)
     → fits_from r (block r m (after r m (OutputEnds c))) (after r m (OutputEnds c)) T ≡ true → IsOf s (OutputEnds c ∷ T)
     → (s.lines c ≡ []) × (s.fails c ≡ false)
 ended_none r s m c T f i =
-    let k = i.ends c (or_left (same_colour c c) (has_end c T) (same_as c)) in
+    let k = i.ends c (or_left (same_colour c c) (has_end c T) (same_colour-self c)) in
     (no_line r (block r m (after r m (OutputEnds c))) (after r m (OutputEnds c)) c T (s.lines c) refl f k.0, k.1)
 
 failed_none : (r : Rules) (s : Streams) (m : Match) (c : Colour) (T : List Event)
@@ -139,11 +139,11 @@ failed_none : (r : Rules) (s : Streams) (m : Match) (c : Colour) (T : List Event
     → IsOf s (FailsToRead c ∷ T)
     → (s.lines c ≡ []) × (s.fails c ≡ true)
 failed_none r s m c T f i =
-    let k = i.failures c (or_left (same_colour c c) (has_read_failure c T) (same_as c)) in
+    let k = i.failures c (or_left (same_colour c c) (has_read_failure c T) (same_colour-self c)) in
     (no_line r (block r m (after r m (FailsToRead c))) (after r m (FailsToRead c)) c T (s.lines c) refl f k.0, k.1)
 
 no_write : {A : Type 0} (s : Streams) (c : Colour) (T : List Event) → IsOf s (FailsToWrite c ∷ T) → A
-no_write s c T i = not_on (sym (or_first (same_colour c c) (has_write_failure c T) (i.writes c)) ∙ same_as c)
+no_write s c T i = not_on (sym (or_first (same_colour c c) (has_write_failure c T) (i.writes c)) ∙ same_colour-self c)
 
 line_not_ended : {A : Type 0} (r : Rules) (s : Streams) (m : Match) (c d : Colour) (t : Option (List ℕ)) (n : ℕ)
     (T U : List Event) → c ≡ d → IsOf s (Line c t n ∷ T)

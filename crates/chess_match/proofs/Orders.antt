@@ -16,8 +16,10 @@ use Rattle.chess_match.specs.declared.phase.Phase.{Phase}
 use Rattle.chess_match.specs.declared.phase.Phase.TheVariants.{Hello, Setup, Opening, Before, After, Over}
 use Rattle.chess_match.specs.declared.reason.MatchFault.TheVariants.{NoDone}
 use Rattle.chess_match.specs.declared.reason.Reason.TheVariants.{Faulted}
-use Rattle.chess_match.proofs.MoveLaw.{mover, mover-snoc, OrderlyIn, Orderly, orderly_in, hear_played, hear_untold, some_move, moves_are_told}
-use Rattle.chess_match.proofs.Outcomes.{offering, Lines, InTurn, line_outcome, kept_by, opens_at}
+use Rattle.chess_match.proofs.MoveLaw.{mover, mover-snoc, OrderlyIn, Orderly, orderly_in, some_move, moves_are_told}
+use Rattle.chess_match.proofs.Outcomes.{Lines, InTurn, line_outcome, kept_by, opens_at}
+use Rattle.chess_match.proofs.Going.{offered}
+use Rattle.chess_match.proofs.Seats.{hear_played, hear_untold}
 
 -- how many of these moves, which c begins, are C's
 abbrev pub turns_of : Colour → Colour → List Move → ℕ
@@ -112,7 +114,7 @@ hello_kept : (r : Rules) (S : Colour) (items : List Item) (n : ℕ) (m : Match) 
 hello_kept r White items n m k = k
 hello_kept r Black items n m k = k
 
-offers_kept : (r : Rules) (S : Colour) (m : Match) → Kept r m → Kept r (offering S m)
+offers_kept : (r : Rules) (S : Colour) (m : Match) → Kept r m → Kept r (offered S m)
 offers_kept r White m k = k
 offers_kept r Black m k = k
 

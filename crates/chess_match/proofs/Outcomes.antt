@@ -10,7 +10,7 @@ use Rattle.chess_game.specs.declared.ends.Verdict.{Verdict}
 use Rattle.chess_match.specs.EngineLines.{kind_heard, LineKind, Features, Moves, Resigns, OffersDraw, ClaimsDraw, ClaimsWin, Rejects, Answers, SaysElse}
 use Rattle.chess_match.specs.Items.{Item, has_done}
 use Rattle.chess_match.specs.Laws.{move_said}
-use Rattle.chess_match.specs.Match.{Match, Event, Line, Opened, OutputEnds, FailsToRead, FailsToWrite, after, after_kind, items_heard, seat, with_seat, clock, over, ignore, enter, open_turn, hear, greeted, hello_line, judged, lack, ready, begun, is_pong, setup_line, decide, played_by, move_row, offer_row, draw_row, was_told, either_way, before_row, before_line, after_line, ping_number}
+use Rattle.chess_match.specs.Match.{Match, Event, Line, Opened, OutputEnds, FailsToRead, FailsToWrite, after, after_kind, items_heard, seat, clock, over, ignore, enter, open_turn, hear, greeted, hello_line, judged, lack, ready, begun, is_pong, setup_line, decide, played_by, move_row, offer_row, draw_row, was_told, either_way, before_row, before_line, after_line, ping_number}
 use Rattle.chess_match.specs.Rules.{Rules}
 use Rattle.chess_match.specs.Sent.{SentLine, block, is_unwritten}
 use Rattle.chess_match.specs.Transcript.{reads, opens, is_on, fails_at, fits_next, fits_from, match_from}
@@ -22,28 +22,21 @@ use Rattle.chess_match.specs.declared.reason.MatchFault.{MatchFault}
 use Rattle.chess_match.specs.declared.reason.MatchFault.TheVariants.{Flood, NoDone, Ended, Read, Write}
 use Rattle.chess_match.specs.declared.reason.Reason.{Reason}
 use Rattle.chess_match.specs.declared.reason.Reason.TheVariants.{Decided, Claimed, Agreed, Resigns as ResignsBy, MovesIllegally, MovesOutOfTurn, ClaimsFalsely, RejectsLegalMove, Forfeits, ForfeitsToBareKing, GameTooLong, Faulted}
+use Rattle.chess_match.proofs.Going.{offered, reads_on}
 
 by_test : (P : Match → Type 0) (b : Bool) {x y : Match} → (b ≡ true → P x) → (b ≡ false → P y) → P (if b then x else y)
 by_test P true f g = f refl
 by_test P false f g = g refl
 
--- S's offer comes to stand
-abbrev pub offering : Colour → Match → Match
-offering S m = with_seat m S (record { items = (seat m S).items; used = (seat m S).used; offers = true })
-
 -- no write failed
 abbrev pub IsNoWrite : Reason → Type 0
 IsNoWrite reason = (O : Colour) → is_unwritten (fault_of reason) O ≡ false
 
--- what a line of S that isn't played makes of a match, once its turn is on or in its setup
-pub record Ignored (r : Rules) (S : Colour) (kind : LineKind) (m : Match) (P : Match → Type 0) : Type 0 where
-  pub ends : (reason : Reason) → IsNoWrite reason → P (over reason m)
-  pub counts : m.count + 1 < 10000 → P (record m { count = m.count + 1 })
-
+-- what a line of S that isn't played makes of a match, once its turn is on
 pub record InTurn (r : Rules) (S : Colour) (kind : LineKind) (m : Match) (P : Match → Type 0) : Type 0 where
   pub ends : (reason : Reason) → IsNoWrite reason → P (over reason m)
   pub counts : move_said kind ≡ [] → m.count + 1 < 10000 → P (record m { count = m.count + 1 })
-  pub offers : move_said kind ≡ [] → (seat m S).offers ≡ false → (seat m (other S)).offers ≡ false → P (offering S m)
+  pub offers : move_said kind ≡ [] → (seat m S).offers ≡ false → (seat m (other S)).offers ≡ false → P (offered S m)
 
 pub record BeforeMove (r : Rules) (S : Colour) (kind : LineKind) (moment : ℕ) (m : Match) (P : Match → Type 0) : Type 0
   where
@@ -245,14 +238,6 @@ pub record Events (r : Rules) (m : Match) (e : Event) (P : Match → Type 0) : T
   pub faulted : (S : Colour) (f : MatchFault) → is_on m.phase ≡ true
       → ((O : Colour) → is_unwritten (Some (S, f)) O ≡ fails_at e O) → P (over (Faulted S f) m)
 
-pub on_reads : (p : Phase) (S : Colour) → reads p S ≡ true → is_on p ≡ true
-on_reads (Hello c) S h = refl
-on_reads (Setup c) S h = refl
-on_reads (Before c) S h = refl
-on_reads (After c) S h = refl
-on_reads (Opening c) S h = cc
-on_reads (Over x) S h = cc
-
 pub opens_at : (p : Phase) (S : Colour) → opens p S ≡ true → p ≡ Opening S
 opens_at (Opening White) White h = refl
 opens_at (Opening Black) Black h = refl
@@ -281,8 +266,8 @@ pub event_outcome : (r : Rules) (due : Colour → List SentLine) (m : Match) (e 
 event_outcome r due m (Line S text moment) P h v =
     line_outcome r S (kind_heard text) moment m P h (v.line S text moment refl h)
 event_outcome r due m (Opened S moment) P h v = v.opened S moment refl (opens_at m.phase S h)
-event_outcome r due m (OutputEnds S) P h v = v.faulted S Ended (on_reads m.phase S h) (λ O. refl)
-event_outcome r due m (FailsToRead S) P h v = v.faulted S Read (on_reads m.phase S h) (λ O. refl)
+event_outcome r due m (OutputEnds S) P h v = v.faulted S Ended (reads_on m.phase S h) (λ O. refl)
+event_outcome r due m (FailsToRead S) P h v = v.faulted S Read (reads_on m.phase S h) (λ O. refl)
 event_outcome r due m (FailsToWrite S) P h v = v.faulted S Write (and_first (is_on m.phase) _ h) (λ O. refl)
 
 -- what each event that fits keeps is so at the end

@@ -17,10 +17,12 @@ use Rattle.chess_match.specs.declared.phase.Phase.{Phase}
 use Rattle.chess_match.specs.declared.phase.Phase.TheVariants.{Hello, Setup, Opening, Before, After, Over}
 use Rattle.chess_match.specs.declared.reason.MatchFault.TheVariants.{NoDone}
 use Rattle.chess_match.specs.declared.reason.Reason.TheVariants.{Decided, Faulted}
-use Rattle.chess_match.proofs.MoveLaw.{not_on, hear_played, mover, mover-snoc, Orderly, orderly_in}
+use Rattle.chess_match.proofs.MoveLaw.{not_on, mover, mover-snoc, Orderly, orderly_in}
 use Rattle.chess_match.proofs.OneLaw.{over_stops}
 use Rattle.chess_match.proofs.Orders.{Kept, step}
-use Rattle.chess_match.proofs.Outcomes.{offering, Lines, line_outcome, opens_at, and_first, and_second}
+use Rattle.chess_match.proofs.Outcomes.{Lines, line_outcome, opens_at, and_first, and_second}
+use Rattle.chess_match.proofs.Going.{offered}
+use Rattle.chess_match.proofs.Seats.{hear_played}
 
 -- the `move` lines to come of an engine, in this phase
 abbrev ahead : Phase → Colour → List (Option (List ℕ)) → List (List ℕ)
@@ -281,9 +283,9 @@ after_same : (r : Rules) (d : Colour) (t : Option (List ℕ)) (m m' : Match) →
     → m'.played ≡ m.played → move_said (kind_heard t) ≡ [] → Steps r d t m m'
 after_same r d t m m' p e q h = on_steps r d t m m' (rw (e, p) refl) q (λ lines S. rw (e, p) (turn_same d t lines S h))
 
-offering_phase : (d : Colour) (m : Match) → ((offering d m).phase ≡ m.phase) × ((offering d m).played ≡ m.played)
-offering_phase White m = (refl, refl)
-offering_phase Black m = (refl, refl)
+offered_phase : (d : Colour) (m : Match) → ((offered d m).phase ≡ m.phase) × ((offered d m).played ≡ m.played)
+offered_phase White m = (refl, refl)
+offered_phase Black m = (refl, refl)
 
 played_phase : (d : Colour) (move : Move) (used : ℕ) (m : Match) → ((played_by d move used m).phase ≡ After d)
     × ((played_by d move used m).played ≡ m.played ++ move ∷ [])
@@ -312,7 +314,7 @@ lines_step r d t n m o = record {
     row = record {
       ends = λ reason w. over_steps r d t m (over reason m) refl refl;
       counts = λ none few. before_same r d t m (record m { count = m.count + 1 }) p refl refl none;
-      offers = λ none own theirs. before_same r d t m (offering d m) p (offering_phase d m).0 (offering_phase d m).1
+      offers = λ none own theirs. before_same r d t m (offered d m) p (offered_phase d m).0 (offered_phase d m).1
           none;
     };
     plays = λ text move is reading room timely. plays text move p is reading;
@@ -322,7 +324,7 @@ lines_step r d t n m o = record {
     row = record {
       ends = λ reason w. over_steps r d t m (over reason m) refl refl;
       counts = λ none few. after_same r d t m (record m { count = m.count + 1 }) p refl refl none;
-      offers = λ none own theirs. after_same r d t m (offering d m) p (offering_phase d m).0 (offering_phase d m).1
+      offers = λ none own theirs. after_same r d t m (offered d m) p (offered_phase d m).0 (offered_phase d m).1
           none;
     };
     passes = λ none. on_steps r d t m (open_turn (other d) m) refl refl (λ lines S. rw p (turn_same d t lines S none));

@@ -15,12 +15,13 @@ use Rattle.chess_match.specs.Rules.{Rules}
 use Rattle.chess_match.specs.Sent.{SentLine, Answered, DrawOffered, block, entry, entry_to, is_same_phase}
 use Rattle.chess_match.specs.Transcript.{is_on, reads, match_from, fits_next, fits_from, is_dropped, fails_at, blocks_from, joined_blocks}
 use Rattle.chess_match.specs.declared.phase.Phase.{Phase}
-use Rattle.chess_match.specs.declared.phase.Phase.TheVariants.{Hello, Setup, Opening, Before, After, Over}
+use Rattle.chess_match.specs.declared.phase.Phase.TheVariants.{Opening, Over}
 use Rattle.chess_match.specs.declared.reason.MatchFault.TheVariants.{Write}
 use Rattle.chess_match.specs.declared.reason.Reason.TheVariants.{Faulted}
-use Rattle.chess_match.proofs.Blocks.{if_nil, of_block, quiet_block, joined_at, stays_in}
-use Rattle.chess_match.proofs.MoveLaw.{same_is, not_on, hear_phase, or_false}
-use Rattle.chess_match.proofs.Outcomes.{offering, Lines, InTurn, line_outcome, and_first, and_second}
+use Rattle.chess_match.proofs.Blocks.{if_nil, of_block, joined_at}
+use Rattle.chess_match.proofs.MoveLaw.{same_is, not_on, or_false}
+use Rattle.chess_match.proofs.Outcomes.{Lines, InTurn, line_outcome, and_first, and_second}
+use Rattle.chess_match.proofs.Going.{hear_phase, is_opening, offered, plain_block, reads_stays}
 
 -- what S is told of a kind where a match goes from m to m'
 abbrev pub now : {A : Type 0} → (SentLine → List A) → Rules → Colour → Match → Match → List A
@@ -65,14 +66,6 @@ gathered {A} f a d r S Q step unsent due m (e ∷ T) X fits q =
 
 -- ---- lines that openings alone hold
 
-abbrev pub is_opening : Phase → Bool
-is_opening (Opening c) = true
-is_opening (Hello c) = false
-is_opening (Setup c) = false
-is_opening (Before c) = false
-is_opening (After c) = false
-is_opening (Over x) = false
-
 abbrev pub InOpenings : {A : Type 0} → (SentLine → List A) → Type 0
 InOpenings f = (r : Rules) (m : Match) (S : Colour) (p : Phase) → is_opening p ≡ false → flat_map f (entry_to r m S p)
     ≡ []
@@ -83,7 +76,7 @@ TellsNone f r S m m' = is_on m'.phase ≡ true → 0 < length (block r m m' S) �
 
 same_tells_none : {A : Type 0} (f : SentLine → List A) (r : Rules) (S : Colour) (m m' : Match) → m'.phase ≡ m.phase
     → reads m.phase S ≡ true → TellsNone f r S m m'
-same_tells_none f r S m m' e here on some = rw (e, stays_in m.phase S here) refl
+same_tells_none f r S m m' e here on some = rw (e, reads_stays m.phase S here) refl
 
 quiet_tells_none : {A : Type 0} (f : SentLine → List A) (r : Rules) (S : Colour) (m m' : Match) → InOpenings f
     → is_opening m'.phase ≡ false → TellsNone f r S m m'
@@ -92,7 +85,7 @@ quiet_tells_none f r S m m' i e on some =
 
 opening_apart : (r : Rules) (S c : Colour) (m : Match) → same_colour c S ≡ false → is_same_phase m.phase (Opening c)
     ≡ false → block r m (open_turn c m) S ≡ []
-opening_apart r S c m apart out = quiet_block r m (open_turn c m) refl refl S ∙ rw (out, apart) refl
+opening_apart r S c m apart out = plain_block r m (open_turn c m) false refl refl out S ∙ rw apart refl
 
 sends_nothing : {B : Type 0} (xs : List SentLine) → xs ≡ [] → 0 < length xs → B
 sends_nothing [] e some = absurd (omega (arith, some))
@@ -114,9 +107,9 @@ plays_none f r White move used m i = quiet_tells_none f r White m (played_by Whi
 plays_none f r Black move used m i = quiet_tells_none f r Black m (played_by Black move used m) i refl
 
 offers_none : {A : Type 0} (f : SentLine → List A) (r : Rules) (S : Colour) (m : Match) → reads m.phase S ≡ true
-    → TellsNone f r S m (offering S m)
-offers_none f r White m here = same_tells_none f r White m (offering White m) refl here
-offers_none f r Black m here = same_tells_none f r Black m (offering Black m) refl here
+    → TellsNone f r S m (offered S m)
+offers_none f r White m here = same_tells_none f r White m (offered White m) refl here
+offers_none f r Black m here = same_tells_none f r Black m (offered Black m) refl here
 
 lines_none : {A : Type 0} (f : SentLine → List A) (r : Rules) (S : Colour) (kind : LineKind) (moment : ℕ) (m : Match)
     → InOpenings f → reads m.phase S ≡ true

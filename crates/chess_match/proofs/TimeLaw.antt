@@ -1,9 +1,9 @@
 -- The times that an engine is told are the clocks.
-use Rattle.std.proofs.Common.{◌≡◌, ℕ, ◌+◌, ◌-◌, ◌/◌, ◌≤◌, Bool, true, false, ◌||◌, List, [], ◌∷◌, ◌++◌, length, length-append, drop, refl, ap, sym, subst, ◌∙◌, append-nil, zero-add, Option, None, Some, arith}
+use Rattle.std.proofs.Common.{◌≡◌, ℕ, ◌+◌, ◌-◌, ◌/◌, ◌≤◌, Bool, true, false, ◌||◌, List, [], ◌∷◌, ◌++◌, length, length-append, drop, refl, ap, subst, ◌∙◌, append-nil, Option, None, Some, arith}
 use Rattle.std.specs.Prelude.{if◌then◌else◌, nat_lt, codes, sum}
 use Rattle.std.specs.List.{flat_map}
 use Rattle.std.proofs.lemmas.Grind.{flat_map-append}
-use Rattle.std.proofs.lemmas.List.Sums.{sum_by-append, sum_by-cons}
+use Rattle.std.proofs.lemmas.List.Sums.{sum_by-cons}
 use Rattle.chess_base.specs.declared.man.Colour.{Colour}
 use Rattle.chess_base.specs.declared.man.Colour.TheVariants.{White, Black}
 use Rattle.chess_base.specs.declared.man.Move.{Move}
@@ -26,8 +26,11 @@ use Rattle.chess_match.specs.declared.reason.MatchFault.TheVariants.{NoDone, End
 use Rattle.chess_match.specs.declared.reason.Reason.{Reason}
 use Rattle.chess_match.specs.declared.reason.Reason.TheVariants.{Decided, Faulted}
 use Rattle.chess_match.proofs.Blocks.{if_nil}
-use Rattle.chess_match.proofs.Outcomes.{offering, Lines, InTurn, line_outcome, opens_at}
-use Rattle.chess_match.proofs.Telling.{now, gathered, unsent, is_opening, InOpenings}
+use Rattle.chess_match.proofs.Outcomes.{Lines, InTurn, line_outcome, opens_at}
+use Rattle.chess_match.proofs.Telling.{now, gathered, unsent, InOpenings}
+use Rattle.chess_match.proofs.Going.{is_opening, offered, sum-snoc}
+use Rattle.chess_match.proofs.Seats.{hear_used, items_same, used_same}
+use Rattle.chess_match.proofs.Blocks.{told_more}
 
 -- ---- the lines
 
@@ -330,9 +333,6 @@ from-append true level us t = refl
 from-append false level [] t = refl
 from-append false level (u ∷ us) t = refl
 
-sum-snoc : (xs : List ℕ) (x : ℕ) → sum (xs ++ x ∷ []) ≡ sum xs + x
-sum-snoc xs x = sum_by-append (λ (n : ℕ). n) xs (x ∷ []) ∙ ap (λ n. sum xs + n) (zero-add x)
-
 all_more : (whole : Bool) (r : Rules) (takes : Bool) (used : List ℕ) (u : ℕ) → all_told whole r takes (used ++ u ∷ [])
     ≡ all_told whole r takes used ++ last_told r takes (used ++ u ∷ [])
 all_more whole r false used u = refl
@@ -343,17 +343,14 @@ all_more whole r true used u =
     (sum (used ++ u ∷ [])) (omega (arith, l)) (omega (arith, s)))
     ∙ from-append whole r.level used (left r.level (length (used ++ u ∷ [])) (sum (used ++ u ∷ [])) / 10 ∷ [])
 
-more : (X A A' t : List ℕ) → X ++ [] ≡ A → A' ≡ A ++ t → X ++ t ≡ A'
-more X A A' t h e = ap (λ (l : List ℕ). l ++ t) (sym (append-nil X) ∙ h) ∙ sym e
-
 -- the side whose clock it is has moved
 charged_times : (own : Bool) (r : Rules) (S : Colour) (X : List ℕ) (takes : Bool) (used : List ℕ) (u : ℕ)
     → TimesIn own r S (Before (told_of own S)) X takes used
     → TimesIn own r S (After (told_of own S)) X takes (used ++ u ∷ [])
-charged_times true r White X takes used u h = more X _ _ _ h (all_more true r takes used u)
-charged_times true r Black X takes used u h = more X _ _ _ h (all_more true r takes used u)
-charged_times false r White X takes used u h = more X _ _ _ h (all_more (same_colour White r.first) r takes used u)
-charged_times false r Black X takes used u h = more X _ _ _ h (all_more (same_colour Black r.first) r takes used u)
+charged_times true r White X takes used u h = told_more X _ _ _ h (all_more true r takes used u)
+charged_times true r Black X takes used u h = told_more X _ _ _ h (all_more true r takes used u)
+charged_times false r White X takes used u h = told_more X _ _ _ h (all_more (same_colour White r.first) r takes used u)
+charged_times false r Black X takes used u h = told_more X _ _ _ h (all_more (same_colour Black r.first) r takes used u)
 
 -- the other has
 still_times : (own : Bool) (r : Rules) (S : Colour) (X : List ℕ) (takes : Bool) (used : List ℕ)
@@ -365,16 +362,6 @@ still_times false r White X takes used h = h
 still_times false r Black X takes used h = h
 
 -- ---- the matches
-
-items_same : (m m' : Match) → m'.white.items ≡ m.white.items → m'.black.items ≡ m.black.items → (S : Colour)
-    → (seat m' S).items ≡ (seat m S).items
-items_same m m' w b White = w
-items_same m m' w b Black = b
-
-used_same : (m m' : Match) → m'.white.used ≡ m.white.used → m'.black.used ≡ m.black.used → (S : Colour)
-    → (seat m' S).used ≡ (seat m S).used
-used_same m m' w b White = w
-used_same m m' w b Black = b
 
 carried : (own : Bool) (r : Rules) (S : Colour) (p : Phase) (X : List ℕ) (m m' : Match) → m'.white.items ≡ m.white.items
     → m'.black.items ≡ m.black.items
@@ -415,13 +402,13 @@ counts_goes own r S c X n m here h =
     (carried own r S m.phase X m (record m { count = n }) refl refl refl refl h)
 
 offers_goes : (own : Bool) (r : Rules) (S c : Colour) (X : List ℕ) (m : Match) → reads m.phase c ≡ true
-    → Times own r S X m → Goes own r S X m (offering c m)
+    → Times own r S X m → Goes own r S X m (offered c m)
 offers_goes own r S White X m here h =
-    quiet_goes own r S X m (offering White m) (not_opening m.phase White here)
-    (carried own r S m.phase X m (offering White m) refl refl refl refl h)
+    quiet_goes own r S X m (offered White m) (not_opening m.phase White here)
+    (carried own r S m.phase X m (offered White m) refl refl refl refl h)
 offers_goes own r S Black X m here h =
-    quiet_goes own r S X m (offering Black m) (not_opening m.phase Black here)
-    (carried own r S m.phase X m (offering Black m) refl refl refl refl h)
+    quiet_goes own r S X m (offered Black m) (not_opening m.phase Black here)
+    (carried own r S m.phase X m (offered Black m) refl refl refl refl h)
 
 played_times : (own : Bool) (r : Rules) (S c : Colour) (X : List ℕ) (move : Move) (used : ℕ) (m : Match)
     → TimesOf own r S (Before c) X m → TimesOf own r S (After c) X (played_by c move used m)
@@ -472,11 +459,6 @@ turn_goes own r S c X m out h =
         → TimesOf own r S (Opening c) (X ++ (if same_colour c S then clock_told own r (open_turn c m) S else []))
         (open_turn c m)
     carried_turn i u = rw (i, u) h
-
-hear_used : (c : Colour) (items : List Item) (m : Match) → ((hear c items m).white.used ≡ m.white.used)
-    × ((hear c items m).black.used ≡ m.black.used)
-hear_used White items m = (refl, refl)
-hear_used Black items m = (refl, refl)
 
 -- in a hello nothing was told, and no move made
 hello_goes : (own : Bool) (r : Rules) (S c d : Colour) (X : List ℕ) (items : List Item) (n : ℕ) (p : Phase) (m : Match)

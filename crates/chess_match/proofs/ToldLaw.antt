@@ -20,7 +20,9 @@ use Rattle.chess_match.specs.declared.reason.Reason.TheVariants.{Decided, Faulte
 use Rattle.chess_match.proofs.MoveLaw.{not_on, nothing_owed, moves_are_told}
 use Rattle.chess_match.proofs.OneLaw.{over_stops}
 use Rattle.chess_match.proofs.ReadLaw.{with_line, no_lines, lines_by, moves_are_read}
-use Rattle.chess_match.proofs.Outcomes.{offering, Lines, InTurn, line_outcome, opens_at, and_first, and_second}
+use Rattle.chess_match.proofs.Outcomes.{Lines, InTurn, line_outcome, opens_at, and_first, and_second}
+use Rattle.chess_match.proofs.Going.{offered}
+use Rattle.chess_match.proofs.Seats.{items_same}
 
 -- the items that lines to come say
 abbrev said_ahead : Phase → Colour → List (Option (List ℕ)) → List Item
@@ -50,11 +52,6 @@ Says d t m m' =
     ++ said_ahead m.phase S (with_line d t lines S) ≡ (seat m' S).items ++ said_ahead m'.phase S (lines S))
     × (is_on m'.phase ≡ false → (S : Colour) → (seat m S).items ++ said_ahead m.phase S (with_line d t no_lines S)
     ≡ (seat m' S).items)
-
-items_same : (m m' : Match) → m'.white.items ≡ m.white.items → m'.black.items ≡ m.black.items → (S : Colour)
-    → (seat m' S).items ≡ (seat m S).items
-items_same m m' w b White = w
-items_same m m' w b Black = b
 
 -- no hello is on
 abbrev is_greeted : Phase → Bool
@@ -184,9 +181,9 @@ lines_say r d t n m = record {
   };
 }
   where
-    offers : (c : Colour) → is_greeted m.phase ≡ true → Says d t m (offering c m)
-    offers White g = greeted_says d t m (offering White m) g g refl refl
-    offers Black g = greeted_says d t m (offering Black m) g g refl refl
+    offers : (c : Colour) → is_greeted m.phase ≡ true → Says d t m (offered c m)
+    offers White g = greeted_says d t m (offered White m) g g refl refl
+    offers Black g = greeted_says d t m (offered Black m) g g refl refl
 
     row : is_greeted m.phase ≡ true → InTurn r d (kind_heard t) m (λ m'. Says d t m m')
     row g = record {

@@ -19,7 +19,9 @@ use Rattle.chess_match.specs.declared.reason.Reason.{Reason}
 use Rattle.chess_match.specs.declared.reason.Reason.TheVariants.{Decided, Faulted}
 use Rattle.chess_match.proofs.MoveLaw.{not_on}
 use Rattle.chess_match.proofs.OneLaw.{over_stops}
-use Rattle.chess_match.proofs.Outcomes.{offering, Lines, InTurn, line_outcome, opens_at, and_first, and_second}
+use Rattle.chess_match.proofs.Outcomes.{Lines, InTurn, line_outcome, opens_at, and_first, and_second}
+use Rattle.chess_match.proofs.Going.{offered}
+use Rattle.chess_match.proofs.Seats.{hear_used, used_same}
 
 -- the moment of the opening, where a move of S is awaited
 abbrev awaited : Colour → Phase → ℕ → Option ℕ
@@ -54,11 +56,6 @@ taken_short (Some k) kind n = at (is_move kind)
     at : (b : Bool) → length (if b then (n - k) ∷ [] else []) ≤ 1
     at true = omega arith
     at false = omega arith
-
-used_same : (m m' : Match) → m'.white.used ≡ m.white.used → m'.black.used ≡ m.black.used → (S : Colour)
-    → (seat m' S).used ≡ (seat m S).used
-used_same m m' w b White = w
-used_same m m' w b Black = b
 
 -- the match is over, with the same times
 ends_grow : (S : Colour) (kind : LineKind) (n : ℕ) (m m' : Match) → m'.white.used ≡ m.white.used → m'.black.used
@@ -129,11 +126,6 @@ decides_grow Black Black text move n m reason p =
 decides_grow White Black text move n m reason p = rw p ([], omega arith, refl, λ on. not_on on)
 decides_grow Black White text move n m reason p = rw p ([], omega arith, refl, λ on. not_on on)
 
-hear_used : (c : Colour) (items : List Item) (m : Match) → ((hear c items m).white.used ≡ m.white.used)
-    × ((hear c items m).black.used ≡ m.black.used)
-hear_used White items m = (refl, refl)
-hear_used Black items m = (refl, refl)
-
 hello_counts : (S c : Colour) (items : List Item) (k : ℕ) (kind : LineKind) (n : ℕ) (m : Match) → m.phase ≡ Hello c
     → (let m' = hear c items m in Grows S kind n m (record m' { count = k }))
 hello_counts S White items k kind n m p =
@@ -144,9 +136,9 @@ hello_counts S Black items k kind n m p =
     (rw p refl)
 
 offers_grow : (S c : Colour) (kind : LineKind) (n : ℕ) (m : Match) → is_move kind ≡ false
-    → Grows S kind n m (offering c m)
-offers_grow S White kind n m none = stays_grow S kind n m (offering White m) refl refl refl refl none
-offers_grow S Black kind n m none = stays_grow S kind n m (offering Black m) refl refl refl refl none
+    → Grows S kind n m (offered c m)
+offers_grow S White kind n m none = stays_grow S kind n m (offered White m) refl refl refl refl none
+offers_grow S Black kind n m none = stays_grow S kind n m (offered Black m) refl refl refl refl none
 
 lines_grow : (r : Rules) (S c : Colour) (kind : LineKind) (n : ℕ) (m : Match)
     → Lines r c kind n m (λ m'. Grows S kind n m m')
