@@ -9,6 +9,8 @@ use chess_base::{Colour, Position, Variant, read_fen_as};
 use chess_game::{Game, Outcome};
 use chess_moves::Plain;
 use std::alloc::Global;
+use std::cell::Cell;
+use std::io::Write;
 use std::process::Abort;
 use std::test::Fail;
 
@@ -35,13 +37,30 @@ impl Moments for Listed<'_> {
     }
 }
 
-/// What two engines say, the calls of their writers that fail, 0 for none, and the moments.
+/// What two engines say, the calls of their readers and writers that fail, 0 for none, and the moments.
+#[derive(Clone, Copy)]
 struct Said<'a> {
     white: &'a [u8],
     black: &'a [u8],
+    white_read: u64,
     white_write: u64,
+    black_read: u64,
     black_write: u64,
     moments: &'a [u64],
+}
+
+impl<'a> Said<'a> {
+    fn of(white: &'a [u8], black: &'a [u8]) -> Self {
+        Said {
+            white,
+            black,
+            white_read: 0,
+            white_write: 0,
+            black_read: 0,
+            black_write: 0,
+            moments: &[],
+        }
+    }
 }
 
 /// What came of a match.
@@ -62,11 +81,11 @@ fn play(rt: &impl Abort, alloc: Global, start: Position, said: &Said<'_>) -> Res
     let mut game = Game::open(alloc, Plain::new(), 100)?;
     let mut scratch = Plain::new();
     let mut white = Ends {
-        reader: Counted::reading(PieceReader::new(said.white, 1024, 0)),
+        reader: Counted::reading(PieceReader::new(said.white, 9, said.white_read)),
         writer: Counted::writing(PieceWriter::new(alloc, 1024, said.white_write)),
     };
     let mut black = Ends {
-        reader: Counted::reading(PieceReader::new(said.black, 1024, 0)),
+        reader: Counted::reading(PieceReader::new(said.black, 9, said.black_read)),
         writer: Counted::writing(PieceWriter::new(alloc, 1024, said.black_write)),
     };
     let mut moments = Listed { rest: said.moments };
@@ -117,13 +136,10 @@ const BLACK: &[u8] =
 
 #[test]
 fn mate_and_names(rt: HostRuntime) -> Result<(), Fail> {
-    let said = Said {
-        white: b"feature ping=1 usermove=1 myname=\"first\" done=1\npong 1\nmove f2f3\npong 2\nmove g2g4\npong 3\n",
-        black: BLACK,
-        white_write: 0,
-        black_write: 0,
-        moments: &[],
-    };
+    let said = Said::of(
+        b"feature ping=1 usermove=1 myname=\"first\" done=1\npong 1\nmove f2f3\npong 2\nmove g2g4\npong 3\n",
+        BLACK,
+    );
     let played = play(&rt, rt.alloc(), Position::initial(), &said)?;
     is_end(
         &rt,
@@ -141,13 +157,7 @@ fn mate_and_names(rt: HostRuntime) -> Result<(), Fail> {
 
 #[test]
 fn kinds_of_ends(rt: HostRuntime) -> Result<(), Fail> {
-    let illegal = Said {
-        white: b"feature ping=1 done=1\npong 1\nmove e2e5\n",
-        black: BLACK,
-        white_write: 0,
-        black_write: 0,
-        moments: &[],
-    };
+    let illegal = Said::of(b"feature ping=1 done=1\npong 1\nmove e2e5\n", BLACK);
     let played = play(&rt, rt.alloc(), Position::initial(), &illegal)?;
     is_end(
         &rt,
@@ -157,13 +167,8 @@ fn kinds_of_ends(rt: HostRuntime) -> Result<(), Fail> {
         HowEnded::RulesInfraction,
         None,
     );
-    let late = Said {
-        white: b"feature ping=1 done=1\npong 1\nmove e2e4\n",
-        black: BLACK,
-        white_write: 0,
-        black_write: 0,
-        moments: &[0, 0, 0, 0, 5000, 15001],
-    };
+    let mut late = Said::of(b"feature ping=1 done=1\npong 1\nmove e2e4\n", BLACK);
+    late.moments = &[0, 0, 0, 0, 5000, 15001];
     let played = play(&rt, rt.alloc(), Position::initial(), &late)?;
     is_end(
         &rt,
@@ -190,13 +195,7 @@ fn hellos_of_many_lines(rt: HostRuntime) -> Result<(), Fail> {
         ),
     ] {
         let white = with_lines(rt.alloc(), b"", count, behind)?;
-        let said = Said {
-            white: white.as_slice(),
-            black: BLACK,
-            white_write: 0,
-            black_write: 0,
-            moments: &[],
-        };
+        let said = Said::of(white.as_slice(), BLACK);
         let played = play(&rt, rt.alloc(), Position::initial(), &said)?;
         is_end(&rt, &played, outcome, comment, HowEnded::Normal, fault);
     }
@@ -222,13 +221,7 @@ fn floods(rt: HostRuntime) -> Result<(), Fail> {
         ),
     ] {
         let white = with_lines(rt.alloc(), front, 9999, behind)?;
-        let said = Said {
-            white: white.as_slice(),
-            black: BLACK,
-            white_write: 0,
-            black_write: 0,
-            moments: &[],
-        };
+        let said = Said::of(white.as_slice(), BLACK);
         let played = play(&rt, rt.alloc(), Position::initial(), &said)?;
         is_end(&rt, &played, outcome, comment, HowEnded::Normal, fault);
         assert_eq!(rt; played.moves, 1);
@@ -244,13 +237,7 @@ fn lines_that_are_too_long(rt: HostRuntime) -> Result<(), Fail> {
         white.extend_from_slice(b" ")?;
     }
     white.extend_from_slice(b"\nresign\n")?;
-    let said = Said {
-        white: white.as_slice(),
-        black: BLACK,
-        white_write: 0,
-        black_write: 0,
-        moments: &[],
-    };
+    let said = Said::of(white.as_slice(), BLACK);
     let played = play(&rt, rt.alloc(), Position::initial(), &said)?;
     is_end(
         &rt,
@@ -266,13 +253,10 @@ fn lines_that_are_too_long(rt: HostRuntime) -> Result<(), Fail> {
 
 #[test]
 fn outputs_that_end(rt: HostRuntime) -> Result<(), Fail> {
-    let said = Said {
-        white: b"feature ping=1 done=1\npong 1\nmove f2f3\npong 2\nmov",
-        black: BLACK,
-        white_write: 0,
-        black_write: 0,
-        moments: &[],
-    };
+    let said = Said::of(
+        b"feature ping=1 done=1\npong 1\nmove f2f3\npong 2\nmov",
+        BLACK,
+    );
     let played = play(&rt, rt.alloc(), Position::initial(), &said)?;
     is_end(
         &rt,
@@ -298,13 +282,10 @@ fn castling_start(rt: &impl Abort) -> Position {
 
 #[test]
 fn a_match_of_chess960(rt: HostRuntime) -> Result<(), Fail> {
-    let said = Said {
-        white: CASTLES,
-        black: b"feature ping=1 setboard=1 done=1\npong 1\nresign\n",
-        white_write: 0,
-        black_write: 0,
-        moments: &[],
-    };
+    let said = Said::of(
+        CASTLES,
+        b"feature ping=1 setboard=1 done=1\npong 1\nresign\n",
+    );
     let played = play(&rt, rt.alloc(), castling_start(&rt), &said)?;
     is_end(
         &rt,
@@ -339,13 +320,7 @@ fn engines_without_chess960(rt: HostRuntime) -> Result<(), Fail> {
             MatchFault::NoSetboard,
         ),
     ] {
-        let said = Said {
-            white: CASTLES,
-            black,
-            white_write: 0,
-            black_write: 0,
-            moments: &[],
-        };
+        let said = Said::of(CASTLES, black);
         let played = play(&rt, rt.alloc(), castling_start(&rt), &said)?;
         is_end(
             &rt,
@@ -356,5 +331,243 @@ fn engines_without_chess960(rt: HostRuntime) -> Result<(), Fail> {
             Some((Colour::Black, fault)),
         );
     }
+    Ok(())
+}
+
+const WHITE: &[u8] =
+    b"feature ping=1 usermove=1 done=1\npong 1\nmove f2f3\npong 2\nmove g2g4\npong 3\n";
+
+// Whether a text is a beginning of another, and then an end of one line, `quit` behind it.
+fn is_cut_off(text: &[u8], whole: &[u8], end: &[u8]) -> bool {
+    if text.len() < end.len() {
+        return false;
+    }
+    let front = text.len() - end.len();
+    &text[front..] == end && is_beginning(&text[..front], whole)
+}
+
+fn is_beginning(text: &[u8], whole: &[u8]) -> bool {
+    text.len() <= whole.len() && text == &whole[..text.len()]
+}
+
+#[test]
+fn reads_that_fail_in_turn(rt: HostRuntime) -> Result<(), Fail> {
+    let whole = play(
+        &rt,
+        rt.alloc(),
+        Position::initial(),
+        &Said::of(WHITE, BLACK),
+    )?;
+    let mut failures = 0;
+    for call in 1..100 {
+        let mut said = Said::of(WHITE, BLACK);
+        said.white_read = call;
+        let played = play(&rt, rt.alloc(), Position::initial(), &said)?;
+        if played.end.fault.is_none() {
+            break;
+        }
+        failures += 1;
+        is_end(
+            &rt,
+            &played,
+            Outcome::Unfinished,
+            b"White can not be read",
+            HowEnded::Normal,
+            Some((Colour::White, MatchFault::Read)),
+        );
+        assert!(rt;
+            is_cut_off(
+                played.to_white.as_slice(),
+                whole.to_white.as_slice(),
+                b"result * {White can not be read}\nquit\n"
+            )
+        );
+    }
+    assert!(rt; failures > 5);
+    for call in 1..100 {
+        let mut said = Said::of(WHITE, BLACK);
+        said.black_read = call;
+        let played = play(&rt, rt.alloc(), Position::initial(), &said)?;
+        if played.end.fault.is_none() {
+            break;
+        }
+        is_end(
+            &rt,
+            &played,
+            Outcome::Unfinished,
+            b"Black can not be read",
+            HowEnded::Normal,
+            Some((Colour::Black, MatchFault::Read)),
+        );
+    }
+    Ok(())
+}
+
+#[test]
+fn writes_that_fail_in_turn(rt: HostRuntime) -> Result<(), Fail> {
+    let whole = play(
+        &rt,
+        rt.alloc(),
+        Position::initial(),
+        &Said::of(WHITE, BLACK),
+    )?;
+    let mut failures = 0;
+    for call in 1..100 {
+        let mut said = Said::of(WHITE, BLACK);
+        said.white_write = call;
+        let played = play(&rt, rt.alloc(), Position::initial(), &said)?;
+        if played.end.fault.is_none() {
+            break;
+        }
+        failures += 1;
+        assert_eq!(rt; played.end.fault, Some((Colour::White, MatchFault::Write)));
+        assert!(rt; is_beginning(played.to_white.as_slice(), whole.to_white.as_slice()));
+    }
+    // Eight blocks, each written by one call and flushed by another.
+    assert_eq!(rt; failures, 16);
+    for call in 1..100 {
+        let mut said = Said::of(WHITE, BLACK);
+        said.black_write = call;
+        let played = play(&rt, rt.alloc(), Position::initial(), &said)?;
+        if played.end.fault.is_none() {
+            break;
+        }
+        assert_eq!(rt; played.end.fault, Some((Colour::Black, MatchFault::Write)));
+        assert!(rt; is_beginning(played.to_black.as_slice(), whole.to_black.as_slice()));
+    }
+    Ok(())
+}
+
+#[test]
+fn writes_that_fail_at_one_event(rt: HostRuntime) -> Result<(), Fail> {
+    // White's answers are taken and the flush fails; then Black's end lines fail.
+    let mut said = Said::of(WHITE, BLACK);
+    said.white_write = 4;
+    said.black_write = 1;
+    let played = play(&rt, rt.alloc(), Position::initial(), &said)?;
+    is_end(
+        &rt,
+        &played,
+        Outcome::Unfinished,
+        b"White can not be written",
+        HowEnded::Normal,
+        Some((Colour::White, MatchFault::Write)),
+    );
+    // Both end lines fail: the outcome stands, and White's failure is the first.
+    let mut said = Said::of(WHITE, BLACK);
+    said.white_write = 15;
+    said.black_write = 13;
+    let played = play(&rt, rt.alloc(), Position::initial(), &said)?;
+    is_end(
+        &rt,
+        &played,
+        Outcome::BlackWins,
+        b"Black mates",
+        HowEnded::Normal,
+        Some((Colour::White, MatchFault::Write)),
+    );
+    Ok(())
+}
+
+/// Takes all bytes, and tells the number of its last call among those of both engines' writers.
+#[derive(Drop)]
+struct Numbered<'a> {
+    calls: &'a Cell<u64>,
+    last: &'a Cell<u64>,
+}
+
+impl Write for Numbered<'_> {
+    ghost use Rattle.std.specs.Prelude.{None};
+
+    ghost contents = { λ w. None };
+
+    fn write(&mut self, buf: &[u8]) -> std::io::Result<usize> {
+        self.calls.set(self.calls.get().saturating_add(1));
+        self.last.set(self.calls.get());
+        Ok(buf.len())
+    }
+
+    fn flush(&mut self) -> std::io::Result<()> {
+        Ok(())
+    }
+}
+
+#[test]
+fn end_lines_to_white_first(rt: HostRuntime) -> Result<(), Fail> {
+    let calls = Cell::new(0);
+    let white_last = Cell::new(0);
+    let black_last = Cell::new(0);
+    let level = match Level::read(b"0 0:10 0") {
+        Some(level) => level,
+        None => panic!(rt; "level"),
+    };
+    let setup = Setup {
+        start: Position::initial(),
+        level,
+    };
+    let mut game = Game::open(rt.alloc(), Plain::new(), 100)?;
+    let mut scratch = Plain::new();
+    let mut white = Ends {
+        reader: Counted::reading(PieceReader::new(WHITE, 1024, 0)),
+        writer: Counted::writing(Numbered {
+            calls: &calls,
+            last: &white_last,
+        }),
+    };
+    let mut black = Ends {
+        reader: Counted::reading(PieceReader::new(BLACK, 1024, 0)),
+        writer: Counted::writing(Numbered {
+            calls: &calls,
+            last: &black_last,
+        }),
+    };
+    let mut moments = Listed { rest: &[] };
+    let end = run_match(
+        &mut white,
+        &mut black,
+        &mut moments,
+        &setup,
+        &mut game,
+        &mut scratch,
+    );
+    assert_eq!(rt; end.outcome, Outcome::BlackWins);
+    assert_eq!(rt; white_last.get() + 1, black_last.get());
+    Ok(())
+}
+
+// A text so many times.
+fn add_times(text: &mut Vec<u8>, word: &[u8], count: usize) -> Result<(), Fail> {
+    for _ in 0..count {
+        text.extend_from_slice(word)?;
+    }
+    Ok(())
+}
+
+#[test]
+fn feature_lines_of_many_items(rt: HostRuntime) -> Result<(), Fail> {
+    let mut white = Vec::new(rt.alloc());
+    white.extend_from_slice(b"feature ")?;
+    add_times(&mut white, b"a=1 ", 1700)?;
+    add_times(&mut white, b"n", 1000)?;
+    white.extend_from_slice(b"=1 b=\"\" ping=1 done=1\npong 1\n\0\nresign\n")?;
+    let said = Said::of(white.as_slice(), BLACK);
+    let played = play(&rt, rt.alloc(), Position::initial(), &said)?;
+    is_end(
+        &rt,
+        &played,
+        Outcome::BlackWins,
+        b"White resigns",
+        HowEnded::Normal,
+        None,
+    );
+    let mut sent = Vec::new(rt.alloc());
+    sent.extend_from_slice(b"xboard\nprotover 2\n")?;
+    add_times(&mut sent, b"rejected a\n", 1700)?;
+    sent.extend_from_slice(b"rejected ")?;
+    add_times(&mut sent, b"n", 1000)?;
+    sent.extend_from_slice(
+        b"\nrejected b\naccepted ping\naccepted done\nnew\nlevel 0 0:10 0\nnopost\neasy\nforce\nping 1\ntime 1000\notim 1000\ngo\nresult 0-1 {White resigns}\nquit\n",
+    )?;
+    assert_eq!(rt; played.to_white.as_slice(), sent.as_slice());
     Ok(())
 }

@@ -38,35 +38,45 @@ use chess_pgn::TagText;
 /// The two ends of an engine: what reads its output, and what writes its input.
 #[derive(Drop)]
 pub struct Ends<R, W> {
+    /// It gives the engine's output.
     pub reader: R,
+    /// It takes the engine's input.
     pub writer: W,
 }
 
 /// What a match begins from.
 #[derive(Clone, Copy)]
 pub struct Setup {
+    /// Where the game starts; the variant is that of this position.
     pub start: Position,
+    /// The level of time of both sides.
     pub level: Level,
 }
 
 /// How a match ended.
 #[derive(Drop)]
 pub struct MatchEnd {
+    /// The outcome: `Unfinished` where a fault ended the match, or where no further move has room.
     pub outcome: Outcome,
-    /// What is said of the end.
+    /// What is said of the end, as the engines were told it behind `result`.
     pub comment: Comment,
     /// How it came, as the PGN tag `Termination` tells it.
     pub ended: HowEnded,
     /// The name that White's engine gave itself; empty where it gave none.
     pub white_name: TagText,
+    /// The name that Black's engine gave itself; empty where it gave none.
     pub black_name: TagText,
-    /// The first fault, and the side of which it is told.
+    /// The first fault, and the side of which it is told. One that first comes in the end lines leaves the outcome.
     pub fault: Option<(Colour, MatchFault)>,
 }
 
-/// Plays one game between two engines, to its end. Each is sent what the protocol asks for, block by block, before its
-/// next line is read; `moments` is asked once after each line, and once at the end of each turn's opening. The game
-/// begins anew from the start.
+/// Plays one game between two engines by the Chess Engine Communication Protocol, version 2, to its end; the game begins
+/// anew from the start, and `scratch` is any board, which holds anything afterwards. Each engine is sent what the protocol
+/// asks for, block by block, before the next line is read; `moments` is asked once after each line, and once at the end of
+/// each turn's opening. No memory is taken. An engine that never answers is waited for.
+///
+/// In the contract there is a transcript of the match: the lines, moments, ends and failures in their order. It agrees with
+/// both engines' devices and with the moments, and it tells all that was sent, the game and the end.
 pub fn run_match<R: Input, W: Output, M: Moments, B: Board>(
     white: &mut Ends<R, W>,
     black: &mut Ends<R, W>,

@@ -4,6 +4,7 @@ ghost use Rattle.std.specs.Prelude.{◌≡◌, ◌≢◌, ◌+◌, false, Ok, If
 ghost use Rattle.arrayvec.specs.ArrayVec.{array_vec_len};
 ghost use Rattle.chess_base.specs.Devices.{Puts};
 ghost use Rattle.chess_match.specs.Items.{items_of};
+ghost use Rattle.chess_pgn.specs.Waiting.{Adds};
 ghost use Rattle.chess_match.specs.Match.{Match};
 ghost use Rattle.chess_match.specs.Rules.{Rules};
 ghost use Rattle.chess_base.specs.Men.{same_colour};
@@ -257,7 +258,22 @@ fn add_entry<G: Played, S: Board>(
     }
 }
 
-// Answers an item of that name.
+// Adds the answer to an item of that name.
+fn add_answer(block: &mut Block, name: &[u8])
+    requires { array_vec_len block.old + length name.now + 10 ≤ 600 }
+    ensures text { block.new.items ≡ block.old.items ++ answer_line name.now }
+    ensures len { array_vec_len block.new ≡ array_vec_len block.old + length name.now + 10 }
+{
+    if is_known(name) {
+        add(block, b"accepted ");
+    } else {
+        add(block, b"rejected ");
+    }
+    add(block, name);
+    add(block, b"\n");
+}
+
+// Writes the answer to an item of that name.
 fn put_answer<W: Output>(writer: &mut W, name: &[u8]) -> Result<(), WriteFault>
     ensures { Puts (W.seen writer.old) (W.seen writer.new) result (answer_line name.now) }
 {
@@ -268,16 +284,61 @@ fn put_answer<W: Output>(writer: &mut W, name: &[u8]) -> Result<(), WriteFault>
     }
 }
 
+// Writes what waits.
+fn put_block<W: Output>(writer: &mut W, block: &mut Block) -> Result<(), WriteFault>
+    ensures puts { Puts (W.seen writer.old) (W.seen writer.new) result block.old.items }
+    ensures empty { IfOk result (λ u. block.new.items ≡ []) }
+    ensures len { IfOk result (λ u. array_vec_len block.new ≤ 290) }
+{
+    match put(writer, block.as_slice()) {
+        Ok(()) => {}
+        Err(fault) => return Err(fault),
+    }
+    block.clear();
+    Ok(())
+}
+
+// Whether the answer to an item of that name fits behind what waits, so that there is room for the rest of a block too.
+fn has_room(block: &Block, name: &[u8]) -> bool
+    ensures { result ≡ true → array_vec_len block.now + length name.now ≤ 280 }
+{
+    name.len() <= 280 && block.len() <= 280 - name.len()
+}
+
+// Answers an item of that name behind what waits; where there is no room for it, what waits is written first, and then the
+// answer.
+fn answer<W: Output>(writer: &mut W, block: &mut Block, name: &[u8]) -> Result<(), WriteFault>
+    requires { array_vec_len block.old ≤ 290 }
+    ensures adds { Adds (W.seen writer.old) (W.seen writer.new) block.old.items block.new.items result (answer_line name.now) }
+    ensures len { IfOk result (λ u. array_vec_len block.new ≤ 290) }
+{
+    if has_room(block, name) {
+        add_answer(block, name);
+        return Ok(());
+    }
+    match put_block(writer, block) {
+        Ok(()) => {}
+        Err(fault) => return Err(fault),
+    }
+    put_answer(writer, name)
+}
+
 // Answers the items of a text, and tells whether there are any.
-fn put_answers<W: Output>(writer: &mut W, text: &[u8]) -> Result<bool, WriteFault>
-    ensures puts { Puts (W.seen writer.old) (W.seen writer.new) result (bytes_of (answers_to (items_of text.now))) }
+fn answer_items<W: Output>(
+    writer: &mut W,
+    block: &mut Block,
+    text: &[u8],
+) -> Result<bool, WriteFault>
+    requires { array_vec_len block.old ≤ 290 }
+    ensures adds { Adds (W.seen writer.old) (W.seen writer.new) block.old.items block.new.items result (bytes_of (answers_to (items_of text.now))) }
+    ensures len { IfOk result (λ some. array_vec_len block.new ≤ 290) }
     ensures due { IsErr result → 0 < length (answers_to (items_of text.now)) }
     ensures some { IfOk result (λ some. some ≡ true → 0 < length (answers_to (items_of text.now))) }
 {
     let mut rest = text;
     let mut some = false;
     while let Some((item, behind)) = next_item(rest) {
-        match put_answer(writer, item.name) {
+        match answer(writer, block, item.name) {
             Ok(()) => {}
             Err(fault) => return Err(fault),
         }
@@ -291,14 +352,17 @@ fn put_answers<W: Output>(writer: &mut W, text: &[u8]) -> Result<bool, WriteFaul
 }
 
 // Answers the items of a text, if they are that side's, and tells whether there are any.
-#[tactic(auto, unfolding(crate::specs::Sent::bytes_of), using(chess_base::proofs::DeviceLaws::took_none))]
-fn put_own_answers<W: Output>(
+#[tactic(auto, unfolding(crate::specs::Sent::bytes_of), using(chess_pgn::proofs::Added::added_none))]
+fn answer_own_items<W: Output>(
     writer: &mut W,
+    block: &mut Block,
     given: Given,
     text: &[u8],
     side: Colour,
 ) -> Result<bool, WriteFault>
-    ensures puts { Puts (W.seen writer.old) (W.seen writer.new) result (bytes_of (to given.answers side (answers_to (items_of text.now)))) }
+    requires { array_vec_len block.old ≤ 290 }
+    ensures adds { Adds (W.seen writer.old) (W.seen writer.new) block.old.items block.new.items result (bytes_of (to given.answers side (answers_to (items_of text.now)))) }
+    ensures len { IfOk result (λ some. array_vec_len block.new ≤ 290) }
     ensures due { IsErr result → 0 < length (to given.answers side (answers_to (items_of text.now))) }
     ensures some { IfOk result (λ some. some ≡ true → 0 < length (to given.answers side (answers_to (items_of text.now)))) }
 {
@@ -306,7 +370,7 @@ fn put_own_answers<W: Output>(
         None => Ok(false),
         Some(answering) => {
             if is_side(answering, side) {
-                put_answers(writer, text)
+                answer_items(writer, block, text)
             } else {
                 Ok(false)
             }
@@ -375,7 +439,7 @@ fn put_and_flush<W: Output>(writer: &mut W, text: &[u8], is_due: bool) -> Result
 }
 
 /// Writes and flushes the block that is given for a side, if it isn't empty: answers to the items of a text, an offer, and
-/// what the phase gives.
+/// what the phase gives. It is written by one call, unless there are more answers than fit the buffer.
 pub(crate) fn send<W: Output, G: Played, S: Board>(
     writer: &mut W,
     core: &Core,
@@ -389,11 +453,11 @@ pub(crate) fn send<W: Output, G: Played, S: Board>(
     ensures puts { (r : Rules) (m : Match) → G.plays game.now r → Stands r core.now (G.played game.now) m → Puts (W.seen writer.old) (W.seen writer.new) result (bytes_of (given_block r given (items_of text.now) m side)) }
     ensures due { (r : Rules) (m : Match) → G.plays game.now r → Stands r core.now (G.played game.now) m → IsErr result → 0 < length (given_block r given (items_of text.now) m side) }
 {
-    let answered = match put_own_answers(writer, given, text, side) {
+    let mut block = Block::new();
+    let answered = match answer_own_items(writer, &mut block, given, text, side) {
         Ok(answered) => answered,
         Err(fault) => return Err(fault),
     };
-    let mut block = Block::new();
     add_offer(&mut block, given, side);
     add_entered(&mut block, core, game, scratch, given, side);
     put_and_flush(writer, block.as_slice(), answered)
