@@ -1,0 +1,92 @@
+-- No clock underflows.
+use Rattle.std.proofs.Common.{◌≡◌, ℕ, ◌+◌, ◌-◌, ◌≤◌, true, List, [], ◌∷◌, ◌++◌, length, length-append, arith}
+use Rattle.std.specs.Prelude.{sum}
+use Rattle.chess_base.specs.declared.man.Colour.{Colour}
+use Rattle.chess_base.specs.declared.man.Colour.TheVariants.{White, Black}
+use Rattle.chess_base.specs.declared.man.Move.{Move}
+use Rattle.chess_match.specs.EngineLines.{LineKind, kind_heard}
+use Rattle.chess_match.specs.Items.{Item}
+use Rattle.chess_match.specs.Laws.{ClocksDoNotUnderflow}
+use Rattle.chess_match.specs.Levels.{LevelSeen, allotted, left}
+use Rattle.chess_match.specs.Match.{Match, Event, hear, start, clock, played_by, after}
+use Rattle.chess_match.specs.Rules.{Rules}
+use Rattle.chess_match.specs.Sent.{SentLine, entry}
+use Rattle.chess_match.specs.Transcript.{fits_next, fits, match_of}
+use Rattle.chess_match.proofs.Allotment.{allotted_grows}
+use Rattle.chess_match.proofs.Outcomes.{InTurn, event_outcome, kept_by}
+use Rattle.chess_match.proofs.Going.{offered, sum-snoc}
+
+-- neither side used more than it was given
+abbrev IsInTime : LevelSeen → Match → Type 0
+IsInTime level m = (sum m.white.used ≤ allotted level (length m.white.used))
+    × (sum m.black.used ≤ allotted level (length m.black.used))
+
+used_more : (level : LevelSeen) (xs : List ℕ) (x : ℕ) → sum xs ≤ allotted level (length xs)
+    → x ≤ left level (length xs) (sum xs)
+    → sum (xs ++ x ∷ []) ≤ allotted level (length (xs ++ x ∷ []))
+unfolding left
+used_more level xs x w timely =
+    let grows : allotted level (length xs) ≤ allotted level (length xs + 1) = allotted_grows level (length xs) in
+    rw (sum-snoc xs x, length-append xs (x ∷ [])) (omega (arith, grows, w, timely))
+
+heard : (level : LevelSeen) (S : Colour) (items : List Item) (m : Match) → IsInTime level m
+    → IsInTime level (hear S items m)
+heard level White items m w = w
+heard level Black items m w = w
+
+offered_in_time : (level : LevelSeen) (S : Colour) (m : Match) → IsInTime level m → IsInTime level (offered S m)
+offered_in_time level White m w = w
+offered_in_time level Black m w = w
+
+played : (r : Rules) (S : Colour) (move : Move) (used : ℕ) (m : Match) → used ≤ clock r m S → IsInTime r.level m
+    → IsInTime r.level (played_by S move used m)
+played r White move used m timely w = (used_more r.level m.white.used used w.0 timely, w.1)
+played r Black move used m timely w = (w.0, used_more r.level m.black.used used w.1 timely)
+
+in_turn : (r : Rules) (S : Colour) (kind : LineKind) (m : Match) → IsInTime r.level m
+    → InTurn r S kind m (λ m'. IsInTime r.level m')
+in_turn r S kind m w = record {
+  ends = λ reason n. w;
+  counts = λ k n. w;
+  offers =
+      λ k own theirs. offered_in_time r.level S m w;
+}
+
+step : (r : Rules) (due : Colour → List SentLine) (m : Match) (e : Event) → fits_next due m e ≡ true
+    → IsInTime r.level m → IsInTime r.level (after r m e)
+step r due m e f w =
+    let P : Match → Type 0 = λ m'. IsInTime r.level m' in
+    event_outcome r due m e P f (record {
+      line = λ S text moment is h. record {
+        hello_ends = λ p d. heard r.level S _ m w;
+        hello_counts = λ p d k. heard r.level S _ m w;
+        hello_next = λ p s d. heard r.level S _ m w;
+        hello_judged = λ p s d c x. heard r.level S _ m w;
+        hello_done = λ p s d. heard r.level S _ m w;
+        setup_ends = λ p reason n. w;
+        setup_counts = λ p k n. w;
+        setup_next = λ p s k. w;
+        setup_done = λ p s k. w;
+        before = λ p. record {
+          row = in_turn r S (kind_heard text) m w;
+          plays = λ text' move k rd room timely. played r S move _ m timely w;
+          decides = λ text' move v k rd room timely. played r S move _ m timely w;
+        };
+        behind = λ p. record { row = in_turn r S (kind_heard text) m w; passes = λ k. w };
+      };
+      opened = λ S moment is p. w;
+      faulted = λ S x on u. w;
+    })
+
+in_time : (r : Rules) (T : List Event) → fits r T ≡ true → IsInTime r.level (match_of r T)
+in_time r T f = kept_by r (λ m. IsInTime r.level m) (step r) (entry r start) start T f (omega arith, omega arith)
+
+sums : (given used : ℕ) → used ≤ given → given - used + used ≡ given
+sums given used h = omega (arith, h)
+
+pub clocks_do_not_underflow : ClocksDoNotUnderflow
+unfolding left
+clocks_do_not_underflow r T White f = sums (allotted r.level (length (match_of r T).white.used))
+    (sum (match_of r T).white.used) (in_time r T f).0
+clocks_do_not_underflow r T Black f = sums (allotted r.level (length (match_of r T).black.used))
+    (sum (match_of r T).black.used) (in_time r T f).1

@@ -1,0 +1,244 @@
+-- A match ends within so many lines.
+use Rattle.std.proofs.Common.{◌≡◌, ℕ, ◌+◌, ◌*◌, ◌≤◌, ◌<◌, Bool, true, false, List, [], ◌∷◌, ◌++◌, length, length-append, refl, sym, subst, arith}
+use Rattle.chess_base.specs.declared.man.Colour.{Colour}
+use Rattle.chess_base.specs.declared.man.Colour.TheVariants.{White, Black}
+use Rattle.chess_base.specs.declared.man.Move.{Move}
+use Rattle.chess_base.specs.Men.{other}
+use Rattle.chess_match.specs.EngineLines.{LineKind, kind_heard}
+use Rattle.chess_match.specs.Items.{Item}
+use Rattle.chess_match.specs.Laws.{LinesAreFew, line_count}
+use Rattle.chess_match.specs.Match.{Match, Event, items_heard, Line, Opened, OutputEnds, FailsToRead, FailsToWrite, seat, hear, start, over, enter, open_turn, played_by, after}
+use Rattle.chess_match.specs.Rules.{Rules}
+use Rattle.chess_match.specs.Sent.{SentLine, entry, block}
+use Rattle.chess_match.specs.Transcript.{reads, opens, fits_next, fits_from}
+use Rattle.chess_match.specs.declared.phase.Phase.{Phase}
+use Rattle.chess_match.specs.declared.phase.Phase.TheVariants.{Hello, Setup, Opening, Before, After, Over}
+use Rattle.chess_match.specs.declared.reason.Reason.{Reason}
+use Rattle.chess_match.specs.declared.reason.Reason.TheVariants.{Agreed, Decided}
+use Rattle.chess_match.proofs.Outcomes.{Lines, line_outcome, opens_at, and_first, and_second}
+use Rattle.chess_match.proofs.Going.{offered}
+
+abbrev one_if : Bool → ℕ
+one_if true = 1
+one_if false = 0
+
+abbrev all_lines : Rules → ℕ
+all_lines r = 22000 + 10002 * (r.limit + 1)
+
+-- before a match in this phase, with so many lines ignored, so many moves played, and an offer of that side or none,
+-- there were at most so many lines
+abbrev AreFew : ℕ → ℕ → Phase → ℕ → ℕ → (Colour → Bool) → Type 0
+AreFew limit k (Hello White) count n offers = (k ≤ count) × (count < 1000) × (n ≡ 0)
+AreFew limit k (Hello Black) count n offers = (k ≤ 1000 + count) × (count < 1000) × (n ≡ 0)
+AreFew limit k (Setup White) count n offers = (k ≤ 2000 + count) × (count < 10000) × (n ≡ 0)
+AreFew limit k (Setup Black) count n offers = (k ≤ 12000 + count) × (count < 10000) × (n ≡ 0)
+AreFew limit k (Opening c) count n offers = (k ≤ 22000 + 10002 * n) × (count < 10000) × (n ≤ limit)
+AreFew limit k (Before c) count n offers = (k ≤ 22000 + 10002 * n + count + one_if (offers c)) × (count < 10000)
+    × (n ≤ limit)
+AreFew limit k (After c) count n offers = (k + 10001 ≤ 22000 + 10002 * n + count + one_if (offers c)) × (count < 10000)
+    × (n ≤ limit)
+AreFew limit k (Over reason) count n offers = k ≤ 22000 + 10002 * (limit + 1)
+
+abbrev Few : Rules → ℕ → Match → Type 0
+Few r k m = AreFew r.limit k m.phase m.count (length m.played) (λ c. (seat m c).offers)
+
+abbrev FewIn : Rules → ℕ → Phase → Match → Type 0
+FewIn r k p m = AreFew r.limit k p m.count (length m.played) (λ c. (seat m c).offers)
+
+into_phase : (r : Rules) (k : ℕ) (m : Match) (p : Phase) → m.phase ≡ p → Few r k m → FewIn r k p m
+into_phase r k m p e w = subst (λ (q : Phase). FewIn r k q m) e w
+
+from_phase : (r : Rules) (k : ℕ) (m : Match) (p : Phase) → m.phase ≡ p → FewIn r k p m → Few r k m
+from_phase r k m p e w = subst (λ (q : Phase). FewIn r k q m) (sym e) w
+
+at_most_one : (b : Bool) → one_if b ≤ 1
+at_most_one true = omega arith
+at_most_one false = omega arith
+
+-- one line more
+
+heard_ends : (r : Rules) (k : ℕ) (S : Colour) (items : List Item) (reason : Reason) (m : Match) → FewIn r k (Hello S) m
+    → Few r (k + 1) (over reason (hear S items m))
+heard_ends r k White items reason m w = omega (arith, w.0, w.1)
+heard_ends r k Black items reason m w = omega (arith, w.0, w.1)
+
+heard_counts : (r : Rules) (k : ℕ) (S : Colour) (items : List Item) (m : Match) → m.phase ≡ Hello S
+    → FewIn r k (Hello S) m → m.count + 1 < 1000
+    → (let m' = hear S items m in Few r (k + 1) (record m' { count = m.count + 1 }))
+heard_counts r k White items m e w few = from_phase r (k + 1)
+    (let m' = hear White items m in record m' { count = m.count + 1 }) (Hello White) e (omega (arith, w.0), few, w.2)
+heard_counts r k Black items m e w few = from_phase r (k + 1)
+    (let m' = hear Black items m in record m' { count = m.count + 1 }) (Hello Black) e (omega (arith, w.0), few, w.2)
+
+heard_next : (r : Rules) (k : ℕ) (S : Colour) (items : List Item) (m : Match) → S ≡ White → FewIn r k (Hello White) m
+    → Few r (k + 1) (enter (Hello Black) (hear S items m))
+heard_next r k White items m s w = (omega (arith, w.0, w.1), omega arith, w.2)
+heard_next r k Black items m s w = cc
+
+heard_done : (r : Rules) (k : ℕ) (S : Colour) (items : List Item) (m : Match) → S ≡ Black → FewIn r k (Hello Black) m
+    → Few r (k + 1) (enter (Setup White) (hear S items m))
+heard_done r k Black items m s w = (omega (arith, w.0, w.1), omega arith, w.2)
+heard_done r k White items m s w = cc
+
+heard_judged : (r : Rules) (k : ℕ) (S : Colour) (items : List Item) (reason : Reason) (m : Match) → S ≡ Black
+    → FewIn r k (Hello Black) m → Few r (k + 1) (enter (Over reason) (hear S items m))
+heard_judged r k Black items reason m s w = omega (arith, w.0, w.1)
+heard_judged r k White items reason m s w = cc
+
+setup_over : (r : Rules) (k : ℕ) (S : Colour) (reason : Reason) (m : Match) → FewIn r k (Setup S) m
+    → Few r (k + 1) (over reason m)
+setup_over r k White reason m w = omega (arith, w.0, w.1)
+setup_over r k Black reason m w = omega (arith, w.0, w.1)
+
+setup_more : (r : Rules) (k : ℕ) (S : Colour) (m : Match) → m.phase ≡ Setup S → FewIn r k (Setup S) m
+    → m.count + 1 < 10000 → Few r (k + 1) (record m { count = m.count + 1 })
+setup_more r k White m e w few = from_phase r (k + 1) (record m { count = m.count + 1 }) (Setup White) e
+    (omega (arith, w.0), few, w.2)
+setup_more r k Black m e w few = from_phase r (k + 1) (record m { count = m.count + 1 }) (Setup Black) e
+    (omega (arith, w.0), few, w.2)
+
+before_over : (r : Rules) (k : ℕ) (S : Colour) (reason : Reason) (m : Match) → FewIn r k (Before S) m
+    → Few r (k + 1) (over reason m)
+before_over r k S reason m w = omega (arith, w.0, w.1, w.2, at_most_one (seat m S).offers)
+
+before_more : (r : Rules) (k : ℕ) (S : Colour) (m : Match) → m.phase ≡ Before S → FewIn r k (Before S) m
+    → m.count + 1 < 10000 → Few r (k + 1) (record m { count = m.count + 1 })
+before_more r k White m e w few = from_phase r (k + 1) (record m { count = m.count + 1 }) (Before White) e
+    (omega (arith, w.0), few, w.2)
+before_more r k Black m e w few = from_phase r (k + 1) (record m { count = m.count + 1 }) (Before Black) e
+    (omega (arith, w.0), few, w.2)
+
+offer_more : (limit k n count : ℕ) (o : Bool) → o ≡ false → k ≤ 22000 + 10002 * n + count + one_if o
+    → k + 1 ≤ 22000 + 10002 * n + count + 1
+offer_more limit k n count true e h = cc
+offer_more limit k n count false e h = omega (arith, h)
+
+before_offers : (r : Rules) (k : ℕ) (S : Colour) (m : Match) → m.phase ≡ Before S → FewIn r k (Before S) m
+    → (seat m S).offers ≡ false → Few r (k + 1) (offered S m)
+before_offers r k White m e w none = from_phase r (k + 1) (offered White m) (Before White) e
+    (offer_more r.limit k (length m.played) m.count m.white.offers none w.0, w.1, w.2)
+before_offers r k Black m e w none = from_phase r (k + 1) (offered Black m) (Before Black) e
+    (offer_more r.limit k (length m.played) m.count m.black.offers none w.0, w.1, w.2)
+
+plays_more : (r : Rules) (k : ℕ) (S : Colour) (move : Move) (used : ℕ) (m : Match) → FewIn r k (Before S) m
+    → length m.played < r.limit → Few r (k + 1) (played_by S move used m)
+plays_more r k White move used m w room =
+    let l : length (m.played ++ move ∷ []) ≡ length m.played + 1 =
+    length-append m.played (move ∷ []) in (omega (arith, w.0, l), w.1, omega (arith, l, room))
+plays_more r k Black move used m w room =
+    let l : length (m.played ++ move ∷ []) ≡ length m.played + 1 =
+    length-append m.played (move ∷ []) in (omega (arith, w.0, l), w.1, omega (arith, l, room))
+
+after_over : (r : Rules) (k : ℕ) (S : Colour) (reason : Reason) (m : Match) → FewIn r k (After S) m
+    → Few r (k + 1) (over reason m)
+after_over r k S reason m w = omega (arith, w.0, w.1, w.2, at_most_one (seat m S).offers)
+
+after_more : (r : Rules) (k : ℕ) (S : Colour) (m : Match) → m.phase ≡ After S → FewIn r k (After S) m
+    → m.count + 1 < 10000 → Few r (k + 1) (record m { count = m.count + 1 })
+after_more r k White m e w few = from_phase r (k + 1) (record m { count = m.count + 1 }) (After White) e
+    (omega (arith, w.0), few, w.2)
+after_more r k Black m e w few = from_phase r (k + 1) (record m { count = m.count + 1 }) (After Black) e
+    (omega (arith, w.0), few, w.2)
+
+offer_after : (k n count : ℕ) (o : Bool) → o ≡ false → k + 10001 ≤ 22000 + 10002 * n + count + one_if o
+    → k + 1 + 10001 ≤ 22000 + 10002 * n + count + 1
+offer_after k n count true e h = cc
+offer_after k n count false e h = omega (arith, h)
+
+after_offers : (r : Rules) (k : ℕ) (S : Colour) (m : Match) → m.phase ≡ After S → FewIn r k (After S) m
+    → (seat m S).offers ≡ false → Few r (k + 1) (offered S m)
+after_offers r k White m e w none = from_phase r (k + 1) (offered White m) (After White) e
+    (offer_after k (length m.played) m.count m.white.offers none w.0, w.1, w.2)
+after_offers r k Black m e w none = from_phase r (k + 1) (offered Black m) (After Black) e
+    (offer_after k (length m.played) m.count m.black.offers none w.0, w.1, w.2)
+
+after_passes : (r : Rules) (k : ℕ) (S : Colour) (m : Match) → FewIn r k (After S) m
+    → Few r (k + 1) (open_turn (other S) m)
+after_passes r k S m w = (omega (arith, w.0, w.1, at_most_one (seat m S).offers), omega arith, w.2)
+
+-- a match that is over had no more lines than all
+few_over : (r : Rules) (k : ℕ) (reason : Reason) (m : Match) → Few r k m → Few r k (over reason m)
+few_over r k reason m w = at m.phase w
+  where
+    at : (p : Phase) → FewIn r k p m → k ≤ 22000 + 10002 * (r.limit + 1)
+    at (Hello White) w = omega (arith, w.0, w.1)
+    at (Hello Black) w = omega (arith, w.0, w.1)
+    at (Setup White) w = omega (arith, w.0, w.1)
+    at (Setup Black) w = omega (arith, w.0, w.1)
+    at (Opening c) w = omega (arith, w.0, w.1, w.2)
+    at (Before c) w = omega (arith, w.0, w.1, w.2, at_most_one (seat m c).offers)
+    at (After c) w = omega (arith, w.0, w.1, w.2, at_most_one (seat m c).offers)
+    at (Over x) w = w
+
+lines : (r : Rules) (k : ℕ) (S : Colour) (kind : LineKind) (moment : ℕ) (m : Match) → Few r k m
+    → Lines r S kind moment m (λ m'. Few r (k + 1) m')
+lines r k S kind moment m w = record {
+  hello_ends = λ p d. heard_ends r k S (items_heard kind) Agreed m (into_phase r k m (Hello S) p w);
+  hello_counts = λ p d few. heard_counts r k S (items_heard kind) m p (into_phase r k m (Hello S) p w) few;
+  hello_next = λ p s d. heard_next r k S (items_heard kind) m s (into_phase r k m (Hello White) p w);
+  hello_judged = λ p s d c x. heard_judged r k S (items_heard kind) Agreed m s (into_phase r k m (Hello Black) p w);
+  hello_done = λ p s d. heard_done r k S (items_heard kind) m s (into_phase r k m (Hello Black) p w);
+  setup_ends = λ p reason n. setup_over r k S reason m (into_phase r k m (Setup S) p w);
+  setup_counts = λ p pong few. setup_more r k S m p (into_phase r k m (Setup S) p w) few;
+  setup_next = λ p s pong. setup_next (into_phase r k m (Setup White) p w);
+  setup_done = λ p s pong. setup_done (into_phase r k m (Setup Black) p w);
+  before = λ p. record {
+    row = record {
+      ends = λ reason n. before_over r k S reason m (into_phase r k m (Before S) p w);
+      counts = λ none few. before_more r k S m p (into_phase r k m (Before S) p w) few;
+      offers = λ none own theirs. before_offers r k S m p (into_phase r k m (Before S) p w) own;
+    };
+    plays = λ text move is reading room timely. plays_more r k S move _ m (into_phase r k m (Before S) p w) room;
+    decides = λ text move v is reading room timely. before_over r k S (Decided v) m (into_phase r k m (Before S) p w);
+  };
+  behind = λ p. record {
+    row = record {
+      ends = λ reason n. after_over r k S reason m (into_phase r k m (After S) p w);
+      counts = λ none few. after_more r k S m p (into_phase r k m (After S) p w) few;
+      offers = λ none own theirs. after_offers r k S m p (into_phase r k m (After S) p w) own;
+    };
+    passes = λ none. after_passes r k S m (into_phase r k m (After S) p w);
+  };
+}
+  where
+    setup_next : FewIn r k (Setup White) m → Few r (k + 1) (enter (Setup Black) m)
+    setup_next w = (omega (arith, w.0, w.1), omega arith, w.2)
+
+    setup_done : FewIn r k (Setup Black) m → Few r (k + 1) (open_turn r.first m)
+    setup_done w = (omega (arith, w.0, w.1, w.2), omega arith, omega (arith, w.2))
+
+opened : (r : Rules) (k : ℕ) (S : Colour) (moment : ℕ) (m : Match) → FewIn r k (Opening S) m
+    → Few r k (record m { phase = Before S; opened = moment })
+opened r k White moment m w = (omega (arith, w.0), w.1, w.2)
+opened r k Black moment m w = (omega (arith, w.0), w.1, w.2)
+
+few_opened : (r : Rules) (k : ℕ) (S : Colour) (moment : ℕ) (m : Match) → opens m.phase S ≡ true → Few r k m
+    → Few r k (record m { phase = Before S; opened = moment })
+few_opened r k S moment m o w = opened r k S moment m (into_phase r k m (Opening S) (opens_at m.phase S o) w)
+
+-- after so many lines a match goes on for few more
+few : (r : Rules) (due : Colour → List SentLine) (m : Match) (T : List Event) (k : ℕ) → fits_from r due m T ≡ true
+    → Few r k m → k + line_count T ≤ 22000 + 10002 * (r.limit + 1)
+few r due m [] k f w = let h : k ≤ 22000 + 10002 * (r.limit + 1) = few_over r k Agreed m w in omega (arith, h)
+few r due m (Line S t n ∷ T) k f w =
+    let here : reads m.phase S ≡ true = and_first (reads m.phase S) _ f in
+    let next : Few r (k + 1) (after r m (Line S t n)) =
+    line_outcome r S (kind_heard t) n m (λ m'. Few r (k + 1) m') here (lines r k S (kind_heard t) n m w) in
+    let h : k + 1 + line_count T ≤ 22000 + 10002 * (r.limit + 1) =
+    few r (block r m (after r m (Line S t n))) (after r m (Line S t n)) T (k + 1)
+    (and_second (reads m.phase S) _ f) next in
+    omega (arith, h)
+few r due m (Opened S n ∷ T) k f w =
+    few r (block r m (after r m (Opened S n))) (after r m (Opened S n)) T k (and_second (opens m.phase S) _ f)
+    (few_opened r k S n m (and_first (opens m.phase S) _ f) w)
+few r due m (OutputEnds S ∷ T) k f w = few r (block r m (after r m (OutputEnds S))) (after r m (OutputEnds S)) T k
+    (and_second (fits_next due m (OutputEnds S)) _ f) (few_over r k Agreed m w)
+few r due m (FailsToRead S ∷ T) k f w = few r (block r m (after r m (FailsToRead S))) (after r m (FailsToRead S)) T k
+    (and_second (fits_next due m (FailsToRead S)) _ f) (few_over r k Agreed m w)
+few r due m (FailsToWrite S ∷ T) k f w = few r (block r m (after r m (FailsToWrite S))) (after r m (FailsToWrite S)) T k
+    (and_second (fits_next due m (FailsToWrite S)) _ f) (few_over r k Agreed m w)
+
+pub lines_are_few : LinesAreFew
+lines_are_few r T f =
+    let h : 0 + line_count T ≤ 22000 + 10002 * (r.limit + 1) =
+    few r (entry r start) start T 0 f (omega arith, omega arith, refl) in omega (arith, h)

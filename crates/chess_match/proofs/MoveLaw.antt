@@ -1,0 +1,762 @@
+-- An engine is told the other's moves, each once and in order.
+use Rattle.std.proofs.Common.{◌≡◌, ℕ, ◌+◌, ◌-◌, ◌/◌, ◌<◌, Bool, true, false, not, ◌&&◌, ◌||◌, List, [], ◌∷◌, ◌++◌, length, length-append, refl, ap, sym, subst, ◌∙◌, append-nil, append_assoc, Option, None, Some, arith}
+use Rattle.std.specs.Prelude.{if◌then◌else◌, nat_lt, codes, is_some}
+use Rattle.std.specs.List.{flat_map}
+use Rattle.std.proofs.lemmas.Bool.{lt-ltb, ltb-true}
+use Rattle.std.proofs.lemmas.Grind.{flat_map-append}
+use Rattle.chess_base.specs.declared.man.Colour.{Colour}
+use Rattle.chess_base.specs.declared.man.Colour.TheVariants.{White, Black}
+use Rattle.chess_base.specs.declared.man.Move.{Move}
+use Rattle.chess_base.specs.Men.{other, same_colour}
+use Rattle.chess_game.specs.declared.ends.Verdict.{Verdict}
+use Rattle.chess_match.specs.EngineLines.{LineKind, kind_heard}
+use Rattle.chess_match.specs.Items.{Item, takes}
+use Rattle.chess_match.specs.Laws.{move_told, moves_told, texts_from, move_texts, owed_to, MovesAreTold, AllMovesAreTold}
+use Rattle.chess_match.specs.Match.{Match, Event, Line, Opened, OutputEnds, FailsToRead, FailsToWrite, items_heard, seat, hear, start, over, enter, open_turn, played_by, after, clock, ping_number}
+use Rattle.chess_match.specs.Reasons.{fault_of}
+use Rattle.chess_match.specs.Rules.{Rules}
+use Rattle.chess_match.specs.Sent.{SentLine, Xboard, Protover, LevelSet, Nopost, Easy, Force, Ping, Go, Time, Otim, block, entry, entry_to, is_same_phase, is_unwritten, setup_lines, variant_lines, start_lines, opening_lines, last_move, last_move_lines, clock_lines, end_lines, untold_lines}
+use Rattle.chess_match.specs.Transcript.{is_on, reads, ending_in, match_of, match_from, fits, fits_next, fits_from, is_dropped, fails_at, blocks_from, joined_blocks, sent, has_write_failure}
+use Rattle.chess_base.specs.declared.man.Variant.{Variant}
+use Rattle.chess_base.specs.declared.man.Variant.TheVariants.{Normal, Fischerandom}
+use Rattle.chess_match.specs.declared.phase.Phase.{Phase}
+use Rattle.chess_match.specs.declared.phase.Phase.TheVariants.{Hello, Setup, Opening, Before, After, Over}
+use Rattle.chess_match.specs.declared.reason.Reason.{Reason}
+use Rattle.chess_match.specs.declared.reason.Reason.TheVariants.{Decided, Faulted}
+use Rattle.chess_match.specs.declared.reason.MatchFault.{MatchFault}
+use Rattle.chess_match.specs.declared.reason.MatchFault.TheVariants.{NoDone, Ended, Read, Write}
+use Rattle.chess_match.proofs.Blocks.{if_nil, of_block, joined_at}
+use Rattle.chess_match.proofs.Outcomes.{Lines, InTurn, line_outcome, opens_at, and_first, and_second}
+use Rattle.chess_match.proofs.Going.{hear_phase, leaves, offered, plain_block, reads_on, reads_stays}
+use Rattle.chess_match.proofs.Seats.{hear_played, hear_untold, items_same}
+use Rattle.chess_match.proofs.Blocks.{told_more}
+
+-- ---- who moves
+
+-- who is on move behind these moves, which c begins
+abbrev pub mover : Colour → List Move → Colour
+mover c [] = c
+mover c (m ∷ ms) = mover (other c) ms
+
+pub mover-snoc : (c : Colour) (ms : List Move) (m : Move) → mover c (ms ++ m ∷ []) ≡ other (mover c ms)
+mover-snoc c [] m = refl
+mover-snoc c (x ∷ ms) m = mover-snoc (other c) ms m
+
+texts-snoc : (r : Rules) (as_san : Bool) (S c : Colour) (before ms : List Move) (m : Move)
+    → texts_from r as_san S c before (ms ++ m ∷ [])
+    ≡ texts_from r as_san S c before ms ++ (if same_colour (mover c ms) S then r.move_text as_san
+    (before ++ (ms ++ m ∷ [])) ∷ [] else [])
+texts-snoc r as_san S c before [] m = append-nil
+    (if same_colour c S then r.move_text as_san (before ++ m ∷ []) ∷ [] else [])
+texts-snoc r as_san S c before (x ∷ ms) m =
+    rw (texts-snoc r as_san S (other c) (before ++ x ∷ []) ms m, append_assoc before (x ∷ []) (ms ++ m ∷ []))
+    (sym (append_assoc (if same_colour c S then r.move_text as_san (before ++ x ∷ []) ∷ [] else [])
+    (texts_from r as_san S (other c) (before ++ x ∷ []) ms)
+    (if same_colour (mover (other c) ms) S then r.move_text as_san (before ++ (x ∷ (ms ++ m ∷ []))) ∷ [] else [])))
+
+-- ---- what is so of every match
+
+-- no move stands before the first turn; a turn is of the side on move, which was told the last move in its opening, and
+-- which the other is still to be told once it has moved
+abbrev pub OrderlyIn : Colour → Phase → List Move → Option Colour → Type 0
+OrderlyIn first (Hello c) played untold = (played ≡ []) × (untold ≡ None)
+OrderlyIn first (Setup c) played untold = (played ≡ []) × (untold ≡ None)
+OrderlyIn first (Opening c) played untold = (mover first played ≡ c) × (untold ≡ None)
+OrderlyIn first (Before c) played untold = (mover first played ≡ c) × (untold ≡ None)
+OrderlyIn first (After c) played untold = (mover first played ≡ other c) × (untold ≡ Some (other c))
+    × (0 < length played)
+OrderlyIn first (Over reason) played untold = Unit {0}
+
+abbrev pub Orderly : Rules → Match → Type 0
+Orderly r m = OrderlyIn r.first m.phase m.played m.untold
+
+pub orderly_in : (r : Rules) (m : Match) (p : Phase) → m.phase ≡ p → Orderly r m → OrderlyIn r.first p m.played m.untold
+orderly_in r m p e o = subst (λ (q : Phase). OrderlyIn r.first q m.played m.untold) e o
+
+-- ---- what a phase tells of moves
+
+abbrev last_text : Rules → Match → Colour → List (List ℕ)
+last_text r m O = r.move_text (takes (codes "san") (seat m O).items) m.played ∷ []
+
+abbrev untold_by : Rules → Colour → List Item → List Move → Option Colour → List (List ℕ)
+untold_by r O items ms None = []
+untold_by r O items ms (Some c) = if same_colour c O then r.move_text (takes (codes "san") items) ms ∷ [] else []
+
+abbrev untold_text : Rules → Match → Colour → Option Colour → List (List ℕ)
+untold_text r m O untold = untold_by r O (seat m O).items m.played untold
+
+abbrev entry_moves : Rules → Match → Colour → Phase → List (List ℕ)
+entry_moves r m O (Hello c) = []
+entry_moves r m O (Setup c) = []
+entry_moves r m O (Opening c) = if same_colour c O then (if nat_lt 0 (length m.played) then last_text r m O else [])
+    else []
+entry_moves r m O (Before c) = []
+entry_moves r m O (After c) = []
+entry_moves r m O (Over reason) = if is_unwritten (fault_of reason) O then [] else untold_text r m O m.untold
+
+setup_moves : (r : Rules) → moves_told (setup_lines r) ≡ []
+unfolding setup_lines
+setup_moves r = at r.variant r.start_fen
+  where
+    at : (v : Variant) (fen : Option (List ℕ))
+        → flat_map move_told (variant_lines v ++ (LevelSet
+        r.level ∷ Nopost ∷ Easy ∷ Force ∷ (start_lines fen ++ Ping 1 ∷ []))) ≡ []
+    at Normal None = refl
+    at Normal (Some fen) = refl
+    at Fischerandom None = refl
+    at Fischerandom (Some fen) = refl
+
+clock_moves : (r : Rules) (m : Match) (O : Colour) → moves_told (clock_lines r m O) ≡ []
+unfolding clock_lines
+clock_moves r m O = at (takes (codes "time") (seat m O).items)
+  where
+    at : (b : Bool) → flat_map move_told (if b then Time (clock r m O / 10) ∷ Otim (clock r m (other O) / 10) ∷ []
+        else []) ≡ []
+    at true = refl
+    at false = refl
+
+last_moves : (r : Rules) (m : Match) (O : Colour) → moves_told (last_move_lines r m O)
+    ≡ (if nat_lt 0 (length m.played) then last_text r m O else [])
+unfolding last_move
+last_moves r m O = at (nat_lt 0 (length m.played))
+  where
+    at : (b : Bool) → flat_map move_told (if b then last_move r m O ∷ [] else []) ≡ (if b then last_text r m O else [])
+    at true = refl
+    at false = refl
+
+opening_moves : (r : Rules) (m : Match) (O : Colour) → moves_told (opening_lines r m O)
+    ≡ (if nat_lt 0 (length m.played) then last_text r m O else [])
+unfolding opening_lines
+opening_moves r m O = at (nat_lt 0 (length (seat m O).used))
+  where
+    at : (b : Bool) → flat_map move_told (if b then clock_lines r m O
+        ++ last_move_lines r m O else last_move_lines r m O ++ (clock_lines r m O ++ Go ∷ []))
+        ≡ (if nat_lt 0 (length m.played) then last_text r m O else [])
+    at true = rw (flat_map-append move_told (clock_lines r m O) (last_move_lines r m O), clock_moves r m O)
+        (last_moves r m O)
+    at false = rw (
+      flat_map-append move_told (last_move_lines r m O) (clock_lines r m O ++ Go ∷ []),
+      flat_map-append move_told (clock_lines r m O) (Go ∷ []),
+      clock_moves r m O,
+      append-nil (flat_map move_told (last_move_lines r m O)),
+    ) (last_moves r m O)
+
+untold_moves : (r : Rules) (m : Match) (O : Colour) (untold : Option Colour) → moves_told (untold_lines r m O untold)
+    ≡ untold_text r m O untold
+unfolding last_move
+untold_moves r m O None = refl
+untold_moves r m O (Some c) = at (same_colour c O)
+  where
+    at : (b : Bool) → flat_map move_told (if b then last_move r m O ∷ [] else []) ≡ (if b then last_text r m O else [])
+    at true = refl
+    at false = refl
+
+end_moves : (r : Rules) (m : Match) (O : Colour) (reason : Reason) → moves_told (end_lines r m O reason)
+    ≡ untold_text r m O m.untold
+unfolding end_lines
+end_moves r m O reason = flat_map-append move_told (untold_lines r m O m.untold) _
+    ∙ append-nil (flat_map move_told (untold_lines r m O m.untold)) ∙ untold_moves r m O m.untold
+
+entry_told : (r : Rules) (m : Match) (O : Colour) (p : Phase) → moves_told (entry_to r m O p) ≡ entry_moves r m O p
+entry_told r m O (Hello c) = at (same_colour c O)
+  where
+    at : (b : Bool) → flat_map move_told (if b then Xboard ∷ Protover ∷ [] else []) ≡ []
+    at true = refl
+    at false = refl
+entry_told r m O (Setup c) = at (same_colour c O)
+  where
+    at : (b : Bool) → flat_map move_told (if b then setup_lines r else []) ≡ []
+    at true = setup_moves r
+    at false = refl
+entry_told r m O (Opening c) = at (same_colour c O)
+  where
+    at : (b : Bool) → flat_map move_told (if b then opening_lines r m O else [])
+        ≡ (if b then (if nat_lt 0 (length m.played) then last_text r m O else []) else [])
+    at true = opening_moves r m O
+    at false = refl
+entry_told r m O (Before c) = refl
+entry_told r m O (After c) = at (same_colour c O)
+  where
+    at : (b : Bool) → flat_map move_told (if b then Ping (ping_number m O) ∷ [] else []) ≡ []
+    at true = refl
+    at false = refl
+entry_told r m O (Over reason) = at (is_unwritten (fault_of reason) O)
+  where
+    at : (b : Bool) → flat_map move_told (if b then [] else end_lines r m O reason)
+        ≡ (if b then [] else untold_text r m O m.untold)
+    at true = refl
+    at false = end_moves r m O reason
+
+told_block : (r : Rules) (m m' : Match) (O : Colour) → moves_told (block r m m' O)
+    ≡ (if is_same_phase m.phase m'.phase then [] else entry_moves r m' O m'.phase)
+told_block r m m' O = of_block move_told (λ i. refl) refl r m m' O
+    ∙ ap (λ (l : List (List ℕ)). if is_same_phase m.phase m'.phase then [] else l) (entry_told r m' O m'.phase)
+
+-- ---- one event
+
+abbrev all_texts : Rules → Match → Colour → List (List ℕ)
+all_texts r m O = move_texts r m O (other O)
+
+-- where a match goes to m' from a phase, what was told before, what is told now, and what is owed then are the other's
+-- moves
+abbrev Told : Rules → List (List ℕ) → Colour → Bool → Phase → Match → Type 0
+Told r X O failed p m' = (X ++ (if is_same_phase p m'.phase then [] else entry_moves r m' O m'.phase))
+    ++ owed_to r m' O m'.untold failed ≡ all_texts r m' O
+
+owed_on : (r : Rules) (m : Match) (O : Colour) (untold : Option Colour) (failed : Bool) → is_on m.phase ≡ true
+    → owed_to r m O untold failed ≡ untold_text r m O untold
+owed_on r m O None failed on = refl
+owed_on r m O (Some c) failed on = rw on (at (same_colour c O))
+  where
+    at : (b : Bool) → (if b && true then last_text r m O else []) ≡ (if b then last_text r m O else [])
+    at true = refl
+    at false = refl
+
+-- the match stays in its phase
+stays_told : (r : Rules) (X : List (List ℕ)) (O : Colour) (p : Phase) (m' : Match) → is_same_phase p m'.phase ≡ true
+    → is_on m'.phase ≡ true
+    → X ++ untold_text r m' O m'.untold ≡ all_texts r m' O → Told r X O false p m'
+stays_told r X O p m' same on h = rw (same, append-nil X, owed_on r m' O m'.untold false on) h
+
+-- nothing is told on the way into this phase
+quiet_told : (r : Rules) (X : List (List ℕ)) (O : Colour) (p : Phase) (m' : Match) → entry_moves r m' O m'.phase ≡ []
+    → is_on m'.phase ≡ true
+    → X ++ untold_text r m' O m'.untold ≡ all_texts r m' O → Told r X O false p m'
+quiet_told r X O p m' none on h = rw (
+  if_nil (is_same_phase p m'.phase) (entry_moves r m' O m'.phase) none,
+  append-nil
+      X,
+  owed_on r m' O m'.untold false on,
+) h
+
+-- what is owed is told where the match is over, unless a write failed
+ended_told : (r : Rules) (X A : List (List ℕ)) (O : Colour) (failed : Bool) (reason : Reason) (m : Match)
+    (untold : Option Colour) → X ++ untold_text r (over reason m) O untold ≡ A
+    → (X ++ (if failed then [] else untold_text r (over reason m) O untold))
+    ++ owed_to r (over reason m) O untold failed ≡ A
+ended_told r X A O true reason m None h = append-nil (X ++ []) ∙ h
+ended_told r X A O false reason m None h = append-nil (X ++ []) ∙ h
+ended_told r X A O failed reason m (Some c) h = at (same_colour c O) failed h
+  where
+    t : List (List ℕ)
+    t = last_text r (over reason m) O
+
+    at : (b failed : Bool) → X ++ (if b then last_text r (over reason m) O else []) ≡ A
+        → (X ++ (if failed then [] else (if b then last_text r (over reason m) O else [])))
+        ++ (if b && (false || failed) then last_text r (over reason m) O else []) ≡ A
+    at true true h = rw (append-nil X) h
+    at false true h = append-nil (X ++ []) ∙ h
+    at true false h = append-nil (X ++ last_text r (over reason m) O) ∙ h
+    at false false h = append-nil (X ++ []) ∙ h
+
+over_told : (r : Rules) (X : List (List ℕ)) (O : Colour) (failed : Bool) (p : Phase) (reason : Reason) (m : Match)
+    → is_same_phase p (Over reason) ≡ false
+    → is_unwritten (fault_of reason) O ≡ failed → X ++ untold_text r (over reason m) O m.untold
+    ≡ all_texts r (over reason m) O → Told r X O failed p (over reason m)
+over_told r X O failed p reason m out u h =
+    rw (out, u) (ended_told r X (all_texts r (over reason m) O) O failed reason m m.untold h)
+
+-- ---- what was told before is carried on
+
+abbrev SofarBy : Rules → List (List ℕ) → Colour → List Item → List Move → Option Colour → Type 0
+SofarBy r X O items ms untold = X ++ untold_by r O items ms untold
+    ≡ texts_from r (takes (codes "san") items) (other O) r.first [] ms
+
+abbrev Sofar : Rules → List (List ℕ) → Colour → Match → Type 0
+Sofar r X O m = SofarBy r X O (seat m O).items m.played m.untold
+
+carried : (r : Rules) (X : List (List ℕ)) (O : Colour) (m m' : Match) → m'.played ≡ m.played → m'.untold ≡ m.untold
+    → m'.white.items ≡ m.white.items → m'.black.items ≡ m.black.items
+    → Sofar r X O m → Sofar r X O m'
+carried r X O m m' p u w b h =
+    rw (p, u, items_same m m' w b O) h
+
+-- nothing is told, and nothing was, where no move stands
+fresh : (r : Rules) (X : List (List ℕ)) (O : Colour) (m m' : Match) → m.played ≡ [] → m.untold ≡ None → m'.played ≡ []
+    → m'.untold ≡ None → Sofar r X O m → Sofar r X O m'
+fresh r X O m m' p u p' u' h =
+    let none : X ++ [] ≡ [] = at m.played m.untold p u h in rw (p', u') none
+  where
+    at : (ms : List Move) (untold : Option Colour) → ms ≡ [] → untold ≡ None → SofarBy r X O (seat m O).items ms untold
+        → X ++ [] ≡ []
+    at [] None p u h = h
+    at [] (Some c) p u h = cc
+    at (x ∷ ms) untold p u h = cc
+
+texts_more : (r : Rules) (as_san : Bool) (S T : Colour) (ms : List Move) (move : Move) → mover r.first ms ≡ T
+    → texts_from r as_san S r.first [] (ms ++ move ∷ []) ≡ texts_from r as_san S r.first [] ms
+    ++ (if same_colour T S then r.move_text as_san (ms ++ move ∷ []) ∷ [] else [])
+texts_more r as_san S T ms move e = rw e at (texts-snoc r as_san S r.first [] ms move)
+
+-- S's move is played, and the other is still to be told it
+moved : (r : Rules) (X : List (List ℕ)) (S O : Colour) (items : List Item) (ms : List Move) (move : Move)
+    → mover r.first ms ≡ S → SofarBy r X O items ms None
+    → SofarBy r X O items (ms ++ move ∷ []) (Some (other S))
+moved r X White Black items ms move e h =
+    told_more X _ _ _ h (texts_more r (takes (codes "san") items) White White ms move e)
+moved r X Black White items ms move e h =
+    told_more X _ _ _ h (texts_more r (takes (codes "san") items) Black Black ms move e)
+moved r X White White items ms move e h =
+    told_more X _ _ _ h (texts_more r (takes (codes "san") items) Black White ms move e)
+moved r X Black Black items ms move e h =
+    told_more X _ _ _ h (texts_more r (takes (codes "san") items) White Black ms move e)
+
+pub some_move : (ms : List Move) (move : Move) → 0 < length (ms ++ move ∷ [])
+some_move ms move = let l : length (ms ++ move ∷ []) ≡ length ms + 1 = length-append ms (move ∷ []) in omega (arith, l)
+
+-- ---- the lines
+
+abbrev Goes : Rules → List (List ℕ) → Colour → Match → Match → Type 0
+Goes r X O m m' = Told r X O false m.phase m' × Orderly r m'
+
+played_goes : (r : Rules) (X : List (List ℕ)) (S O : Colour) (move : Move) (used : ℕ) (m : Match) → m.phase ≡ Before S
+    → Orderly r m → Sofar r X O m
+    → Sofar r X O (played_by S move used m)
+played_goes r X White White move used m p o h =
+    moved r X White White m.white.items m.played move (orderly_in r m (Before White) p o).0
+    (rw (orderly_in r m (Before White) p o).1 at h)
+played_goes r X White Black move used m p o h =
+    moved r X White Black m.black.items m.played move (orderly_in r m (Before White) p o).0
+    (rw (orderly_in r m (Before White) p o).1 at h)
+played_goes r X Black White move used m p o h =
+    moved r X Black White m.white.items m.played move (orderly_in r m (Before Black) p o).0
+    (rw (orderly_in r m (Before Black) p o).1 at h)
+played_goes r X Black Black move used m p o h =
+    moved r X Black Black m.black.items m.played move (orderly_in r m (Before Black) p o).0
+    (rw (orderly_in r m (Before Black) p o).1 at h)
+
+ends_goes : (r : Rules) (X : List (List ℕ)) (O : Colour) (reason : Reason) (m : Match) → is_on m.phase ≡ true
+    → is_unwritten (fault_of reason) O ≡ false → Sofar r X O m
+    → Goes r X O m (over reason m)
+ends_goes r X O reason m on n h = (
+  over_told r X O false m.phase reason m (leaves m.phase reason on) n
+      (carried r X O m (over reason m) refl refl refl refl h),
+  tt,
+)
+
+counts_goes : (r : Rules) (X : List (List ℕ)) (S O : Colour) (n : ℕ) (m : Match) → reads m.phase S ≡ true → Orderly r m
+    → Sofar r X O m → Goes r X O m (record m { count = n })
+counts_goes r X S O n m here o h = (
+  stays_told r X O m.phase (record m { count = n }) (reads_stays m.phase S here) (reads_on m.phase S here)
+      (carried r X O m (record m { count = n }) refl refl refl refl h),
+  o,
+)
+
+offers_goes : (r : Rules) (X : List (List ℕ)) (S O : Colour) (m : Match) → reads m.phase S ≡ true → Orderly r m
+    → Sofar r X O m → Goes r X O m (offered S m)
+offers_goes r X White O m here o h = (
+  stays_told r X O m.phase (offered White m) (reads_stays m.phase White here) (reads_on m.phase White here)
+      (carried r X O m (offered White m) refl refl refl refl h),
+  o,
+)
+offers_goes r X Black O m here o h = (
+  stays_told r X O m.phase (offered Black m) (reads_stays m.phase Black here) (reads_on m.phase Black here)
+      (carried r X O m (offered Black m) refl refl refl refl h),
+  o,
+)
+
+plays_goes : (r : Rules) (X : List (List ℕ)) (S O : Colour) (move : Move) (used : ℕ) (m : Match) → m.phase ≡ Before S
+    → Orderly r m → Sofar r X O m → Goes r X O m (played_by S move used m)
+plays_goes r X White O move used m p o h = (
+  quiet_told r X O m.phase (played_by White move used m) refl refl (played_goes r X White O move used m p o h),
+  (mover-snoc r.first m.played move ∙ ap other (orderly_in r m (Before White) p o).0, refl, some_move m.played move),
+)
+plays_goes r X Black O move used m p o h = (
+  quiet_told r X O m.phase (played_by Black move used m) refl refl (played_goes r X Black O move used m p o h),
+  (mover-snoc r.first m.played move ∙ ap other (orderly_in r m (Before Black) p o).0, refl, some_move m.played move),
+)
+
+decides_goes : (r : Rules) (X : List (List ℕ)) (S O : Colour) (move : Move) (used : ℕ) (v : Verdict) (m : Match)
+    → m.phase ≡ Before S → Orderly r m → Sofar r X O m
+    → Goes r X O m (over (Decided v) (played_by S move used m))
+decides_goes r X S O move used v m p o h = (
+  over_told r X O false m.phase (Decided v) (played_by S move used m) (rw p refl) refl
+      (carried r X O (played_by S move used m) (over (Decided v) (played_by S move used m)) refl refl refl refl
+      (played_goes r X S O move used m p o h)),
+  tt,
+)
+
+-- the turn passes to the other side, whose opening tells it the last move
+opening_told : (r : Rules) (X : List (List ℕ)) (O c : Colour) (items : List Item) (ms : List Move) → 0 < length ms
+    → SofarBy r X O items ms (Some c)
+    → X ++ (if same_colour c O then (if nat_lt 0 (length ms) then r.move_text (takes (codes "san") items) ms ∷ []
+    else []) else []) ≡ texts_from r (takes (codes "san") items) (other O) r.first [] ms
+opening_told r X O c items ms some h = rw (lt-ltb 0 (length ms) some) h
+
+passes_told : (r : Rules) (X : List (List ℕ)) (O c : Colour) (items : List Item) (m m' : Match) → (seat m' O).items
+    ≡ items → m'.played ≡ m.played → m'.untold ≡ None → m'.phase ≡ Opening c
+    → 0 < length m.played → is_same_phase m.phase (Opening c) ≡ false → SofarBy r X O items m.played (Some c)
+    → Told r X O false m.phase m'
+passes_told r X O c items m m' i p u e some out h =
+    rw (e, u, p, i, out) (append-nil (X ++ (if same_colour c O
+    then (if nat_lt 0 (length m.played) then r.move_text (takes (codes "san") items) m.played ∷ [] else [])
+    else []))
+    ∙ opening_told r X O c items m.played some h)
+
+passes_goes : (r : Rules) (X : List (List ℕ)) (S O : Colour) (m : Match) → m.phase ≡ After S → Orderly r m
+    → Sofar r X O m → Goes r X O m (open_turn (other S) m)
+passes_goes r X S O m p o h =
+    let known = orderly_in r m (After S) p o in (
+      passes_told r X O (other S) (seat m O).items m (open_turn (other S) m)
+          (items_same m (open_turn (other S) m) refl refl O) refl refl refl known.2 (rw p refl) (rw known.1 at h),
+      (known.0, refl),
+    )
+
+-- before the first move
+
+hello_over : (r : Rules) (X : List (List ℕ)) (S O : Colour) (items : List Item) (reason : Reason) (m : Match)
+    → is_on m.phase ≡ true → is_unwritten (fault_of reason) O ≡ false
+    → (m.played ≡ []) × (m.untold ≡ None) → Sofar r X O m → Goes r X O m (over reason (hear S items m))
+hello_over r X S O items reason m on n k h = (
+  over_told r X O false m.phase reason (hear S items m) (leaves m.phase reason on) n
+      (fresh r X O m (over reason (hear S items m)) k.0 k.1 (hear_played S items m ∙ k.0) (hear_untold S items m ∙ k.1)
+      h),
+  tt,
+)
+
+hello_counts : (r : Rules) (X : List (List ℕ)) (S O : Colour) (items : List Item) (m : Match) → reads m.phase S ≡ true
+    → (m.played ≡ []) × (m.untold ≡ None) → Orderly r m → Sofar r X O m
+    → (let m' = hear S items m in Goes r X O m (record m' { count = m.count + 1 }))
+hello_counts r X White O items m here k o h = (
+  stays_told r X O m.phase (let m' = hear White items m in record m' { count = m.count + 1 })
+      (reads_stays m.phase White here) (reads_on m.phase White here)
+      (fresh r X O m (let m' = hear White items m in record m' { count = m.count + 1 }) k.0 k.1 k.0 k.1 h),
+  o,
+)
+hello_counts r X Black O items m here k o h = (
+  stays_told r X O m.phase (let m' = hear Black items m in record m' { count = m.count + 1 })
+      (reads_stays m.phase Black here) (reads_on m.phase Black here)
+      (fresh r X O m (let m' = hear Black items m in record m' { count = m.count + 1 }) k.0 k.1 k.0 k.1 h),
+  o,
+)
+
+hello_enters : (r : Rules) (X : List (List ℕ)) (S O : Colour) (items : List Item) (m : Match) → (m.played ≡ [])
+    × (m.untold ≡ None) → Sofar r X O m
+    → (Goes r X O m (enter (Hello Black) (hear S items m))) × (Goes r X O m (enter (Setup White) (hear S items m)))
+hello_enters r X S O items m k h = (
+  (
+    quiet_told r X O m.phase (enter (Hello Black) (hear S items m)) refl refl
+        (fresh r X O m (enter (Hello Black) (hear S items m)) k.0 k.1 (hear_played S items m ∙ k.0)
+        (hear_untold S items m ∙ k.1) h),
+    (hear_played S items m ∙ k.0, hear_untold S items m ∙ k.1),
+  ),
+  (
+    quiet_told r X O m.phase (enter (Setup White) (hear S items m)) refl refl
+        (fresh r X O m (enter (Setup White) (hear S items m)) k.0 k.1 (hear_played S items m ∙ k.0)
+        (hear_untold S items m ∙ k.1) h),
+    (hear_played S items m ∙ k.0, hear_untold S items m ∙ k.1),
+  ),
+)
+
+setup_enters : (r : Rules) (X : List (List ℕ)) (O : Colour) (m : Match) → (m.played ≡ []) × (m.untold ≡ None)
+    → Sofar r X O m → Goes r X O m (enter (Setup Black) m)
+setup_enters r X O m k h = (
+  quiet_told r X O m.phase (enter (Setup Black) m) refl refl
+      (fresh r X O m (enter (Setup Black) m) k.0 k.1 k.0 k.1 h),
+  k,
+)
+
+none_told : (c O : Colour) (t : List (List ℕ)) (ms : List Move) → ms ≡ []
+    → (if same_colour c O then (if nat_lt 0 (length ms) then t else []) else []) ≡ []
+none_told c O t ms e = rw e (if_nil (same_colour c O) [] refl)
+
+setup_opens : (r : Rules) (X : List (List ℕ)) (O : Colour) (m : Match) → (m.played ≡ []) × (m.untold ≡ None)
+    → Sofar r X O m → Goes r X O m (open_turn r.first m)
+setup_opens r X O m k h = (
+  quiet_told r X O m.phase (open_turn r.first m)
+      (none_told r.first O (last_text r (open_turn r.first m) O) m.played k.0) refl
+      (fresh r X O m (open_turn r.first m) k.0 k.1 k.0 refl h),
+  (rw (k.0) refl, refl),
+)
+
+judged_told : (r : Rules) (X : List (List ℕ)) (O c : Colour) (f : MatchFault) (p : Phase) (m : Match) → m.untold ≡ None
+    → Sofar r X O (enter (Over (Faulted c f)) m)
+    → Told r X O false p (enter (Over (Faulted c f)) m)
+judged_told r X O c f p m u h = rw u (at (is_same_phase p (Over (Faulted c f))) (is_unwritten (Some (c, f)) O)
+    (rw u at h))
+  where
+    at : (b w : Bool) → X ++ [] ≡ all_texts r (enter (Over (Faulted c f)) m) O
+        → (X ++ (if b then [] else (if w then [] else []))) ++ [] ≡ all_texts r (enter (Over (Faulted c f)) m) O
+    at true w h = append-nil (X ++ []) ∙ h
+    at false true h = append-nil (X ++ []) ∙ h
+    at false false h = append-nil (X ++ []) ∙ h
+
+lines_go : (r : Rules) (X : List (List ℕ)) (S O : Colour) (kind : LineKind) (moment : ℕ) (m : Match) → reads m.phase S
+    ≡ true → Orderly r m → Sofar r X O m
+    → Lines r S kind moment m (λ m'. Goes r X O m m')
+lines_go r X S O kind moment m here o h =
+    let on : is_on m.phase ≡ true = reads_on m.phase S here in
+    record {
+      hello_ends = λ p d. hello_over r X S O (items_heard kind) (Faulted S NoDone) m on refl
+          (orderly_in r m (Hello S) p o) h;
+      hello_counts = λ p d few. hello_counts r X S O (items_heard kind) m here (orderly_in r m (Hello S) p o) o h;
+      hello_next = λ p s d. (hello_enters r X S O (items_heard kind) m (orderly_in r m (Hello White) p o) h).0;
+      hello_judged = λ p s d c f. hello_judged c f (orderly_in r m (Hello Black) p o);
+      hello_done = λ p s d. (hello_enters r X S O (items_heard kind) m (orderly_in r m (Hello Black) p o) h).1;
+      setup_ends = λ p reason n. ends_goes r X O reason m on (n O) h;
+      setup_counts = λ p pong few. counts_goes r X S O (m.count + 1) m here o h;
+      setup_next = λ p s pong. setup_enters r X O m (orderly_in r m (Setup White) p o) h;
+      setup_done = λ p s pong. setup_opens r X O m (orderly_in r m (Setup Black) p o) h;
+      before = λ p. record {
+        row = row;
+        plays = λ text move is reading room timely. plays_goes r X S O move (moment - m.opened) m p o h;
+        decides = λ text move v is reading room timely. decides_goes r X S O move (moment - m.opened) v m p o h;
+      };
+      behind = λ p. record { row = row; passes = λ none. passes_goes r X S O m p o h };
+    }
+  where
+    row : InTurn r S kind m (λ m'. Goes r X O m m')
+    row = record {
+      ends = λ reason n. ends_goes r X O reason m (reads_on m.phase S here) (n O) h;
+      counts = λ none few. counts_goes r X S O (m.count + 1) m here o h;
+      offers = λ none own theirs. offers_goes r X S O m here o h;
+    }
+
+    hello_judged : (c : Colour) (f : MatchFault) → (m.played ≡ []) × (m.untold ≡ None)
+        → Goes r X O m (enter (Over (Faulted c f)) (hear S (items_heard kind) m))
+    hello_judged c f k = (
+      judged_told r X O c f m.phase (hear S (items_heard kind) m) (hear_untold S (items_heard kind) m ∙ k.1)
+          (fresh r X O m (enter (Over (Faulted c f)) (hear S (items_heard kind) m)) k.0 k.1
+          (hear_played S (items_heard kind) m ∙ k.0) (hear_untold S (items_heard kind) m ∙ k.1) h),
+      tt,
+    )
+
+step_goes : (r : Rules) (X : List (List ℕ)) (O : Colour) (due : Colour → List SentLine) (m : Match) (e : Event)
+    → fits_next due m e ≡ true → Orderly r m → Sofar r X O m
+    → Told r X O (fails_at e O) m.phase (after r m e) × Orderly r (after r m e)
+step_goes r X O due m (Line S t n) f o h =
+    line_outcome r S (kind_heard t) n m (λ m'. Goes r X O m m') f (lines_go r X S O (kind_heard t) n m f o h)
+step_goes r X O due m (Opened S n) f o h = (
+  quiet_told r X O m.phase (record m { phase = Before S; opened = n }) refl refl
+      (carried r X O m (record m { phase = Before S; opened = n }) refl refl refl refl h),
+  orderly_in r m (Opening S) (opens_at m.phase S f) o,
+)
+step_goes r X O due m (OutputEnds S) f o h = faulted (Faulted S Ended) (reads_on m.phase S f) refl
+  where
+    faulted : (reason : Reason) → is_on m.phase ≡ true → is_unwritten (fault_of reason) O ≡ false
+        → Told r X O false m.phase (over reason m) × Unit {0}
+    faulted reason on n = (
+      over_told r X O false m.phase reason m (leaves m.phase reason on) n
+          (carried r X O m (over reason m) refl refl refl refl h),
+      tt,
+    )
+step_goes r X O due m (FailsToRead S) f o h = (
+  over_told r X O false m.phase (Faulted S Read) m (leaves m.phase (Faulted S Read) (reads_on m.phase S f)) refl
+      (carried r X O m (over (Faulted S Read) m) refl refl refl refl h),
+  tt,
+)
+step_goes r X O due m (FailsToWrite S) f o h = (
+  over_told r X O (same_colour S O) m.phase (Faulted S Write) m
+      (leaves m.phase (Faulted S Write) (and_first (is_on m.phase) _ f)) refl
+      (carried r X O m (over (Faulted S Write) m) refl refl refl refl h),
+  tt,
+)
+
+-- ---- blocks that aren't sent tell no move
+
+abbrev told_now : Rules → Match → Match → Colour → List (List ℕ)
+told_now r m m' O = if is_same_phase m.phase m'.phase then [] else entry_moves r m' O m'.phase
+
+-- where a line gives its own engine something to send, and the match goes on, it tells the other engine no move
+abbrev TellsNone : Rules → Colour → Colour → Match → Match → Type 0
+TellsNone r S O m m' = is_on m'.phase ≡ true → 0 < length (block r m m' S) → told_now r m m' O ≡ []
+
+pub not_on : {A : Type 0} → false ≡ true → A
+not_on h = cc
+
+same_tells_none : (r : Rules) (S O : Colour) (m m' : Match) → m'.phase ≡ m.phase → reads m.phase S ≡ true
+    → TellsNone r S O m m'
+same_tells_none r S O m m' e here on some = rw (e, reads_stays m.phase S here) refl
+
+opening_apart : (r : Rules) (S : Colour) (m : Match) → m.phase ≡ After S → block r m (open_turn (other S) m) S ≡ []
+opening_apart r White m p = plain_block r m (open_turn Black m) false refl refl (rw p refl) White
+opening_apart r Black m p = plain_block r m (open_turn White m) false refl refl (rw p refl) Black
+
+passes_none : (r : Rules) (S O : Colour) (m : Match) → m.phase ≡ After S → TellsNone r S O m (open_turn (other S) m)
+passes_none r S O m p on some = let none : 0 < 0 = rw (opening_apart r S m p) at some in absurd (omega (arith, none))
+
+plays_none : (r : Rules) (S O : Colour) (move : Move) (used : ℕ) (m : Match)
+    → TellsNone r S O m (played_by S move used m)
+plays_none r White O move used m on some = if_nil (is_same_phase m.phase (After White)) [] refl
+plays_none r Black O move used m on some = if_nil (is_same_phase m.phase (After Black)) [] refl
+
+offers_none : (r : Rules) (S O : Colour) (m : Match) → reads m.phase S ≡ true → TellsNone r S O m (offered S m)
+offers_none r White O m here on some = rw (reads_stays m.phase White here) refl
+offers_none r Black O m here on some = rw (reads_stays m.phase Black here) refl
+
+lines_none : (r : Rules) (S O : Colour) (kind : LineKind) (moment : ℕ) (m : Match) → reads m.phase S ≡ true
+    → Orderly r m → Lines r S kind moment m (λ m'. TellsNone r S O m m')
+lines_none r S O kind moment m here o = record {
+  hello_ends = λ p d on some. not_on on;
+  hello_counts = λ p d few. same_tells_none r S O m
+      (let m' = hear S (items_heard kind) m in record m' { count = m.count + 1 }) (hear_phase S (items_heard kind) m)
+      here;
+  hello_next = λ p s d on some. if_nil (is_same_phase m.phase (Hello Black)) [] refl;
+  hello_judged = λ p s d c f on some. not_on on;
+  hello_done = λ p s d on some. if_nil (is_same_phase m.phase (Setup White)) [] refl;
+  setup_ends = λ p reason n on some. not_on on;
+  setup_counts = λ p pong few. same_tells_none r S O m (record m { count = m.count + 1 }) refl here;
+  setup_next = λ p s pong on some. if_nil (is_same_phase m.phase (Setup Black)) [] refl;
+  setup_done = λ p s pong on some. opens_none (orderly_in r m (Setup Black) p o).0;
+  before = λ p. record {
+    row = row;
+    plays = λ text move is reading room timely. plays_none r S O move (moment - m.opened) m;
+    decides = λ text move v is reading room timely on some. not_on on;
+  };
+  behind = λ p. record { row = row; passes = λ none. passes_none r S O m p };
+}
+  where
+    row : InTurn r S kind m (λ m'. TellsNone r S O m m')
+    row = record {
+      ends = λ reason n on some. not_on on;
+      counts = λ none few. same_tells_none r S O m (record m { count = m.count + 1 }) refl here;
+      offers = λ none own theirs. offers_none r S O m here;
+    }
+
+    opens_none : m.played ≡ [] → told_now r m (open_turn r.first m) O ≡ []
+    opens_none e = if_nil (is_same_phase m.phase (Opening r.first))
+        (entry_moves r (open_turn r.first m) O (Opening r.first))
+        (none_told r.first O (last_text r (open_turn r.first m) O) m.played e)
+
+pub same_is : (c d : Colour) → same_colour c d ≡ true → c ≡ d
+same_is White White h = refl
+same_is Black Black h = refl
+same_is White Black h = cc
+same_is Black White h = cc
+
+dropped_line : (r : Rules) (O S d : Colour) (t : Option (List ℕ)) (n : ℕ) (due : Colour → List SentLine) (m : Match)
+    (T : List Event) → fits_next due m (Line S t n) ≡ true
+    → fits_next (block r m (after r m (Line S t n))) (after r m (Line S t n)) (FailsToWrite d) ≡ true → Orderly r m
+    → same_colour S d ≡ true → told_now r m (after r m (Line S t n)) O ≡ []
+dropped_line r O S d t n due m T f g o e =
+    line_outcome r S (kind_heard t) n m (λ m'. TellsNone r S O m m') f (lines_none r S O (kind_heard t) n m f o)
+    (and_first (is_on (after r m (Line S t n)).phase) _ g)
+    (rw (same_is S d e) (ltb-true 0 (length (block r m (after r m (Line S t n)) d))
+    (and_second (is_on (after r m (Line S t n)).phase) _ g)))
+
+failed_none : (r : Rules) (O S : Colour) (m : Match) → same_colour S O ≡ true
+    → told_now r m (over (Faulted S Write) m) O ≡ []
+failed_none r O S m e = rw e (if_nil (is_same_phase m.phase (Over (Faulted S Write))) [] refl)
+
+pub or_false : (b : Bool) → b || false ≡ b
+or_false true = refl
+or_false false = refl
+
+pub or_assoc : (a b c : Bool) → (a || b) || c ≡ a || (b || c)
+or_assoc true b c = refl
+or_assoc false b c = refl
+
+-- a block that isn't sent tells no move
+unsent_none : (r : Rules) (O : Colour) (due : Colour → List SentLine) (m : Match) (e : Event) (T : List Event)
+    → fits_from r due m (e ∷ T) ≡ true → Orderly r m
+    → is_dropped e T O || fails_at e O ≡ true → told_now r m (after r m e) O ≡ []
+unsent_none r O due m (FailsToWrite S) T f o h = failed_none r O S m h
+unsent_none r O due m (Line S t n) (FailsToWrite d ∷ T) f o h =
+    dropped_line r O S d t n due m T (and_first (reads m.phase S) _ f)
+    (and_first _ _ (and_second (reads m.phase S) _ f)) o
+    (and_first (same_colour S d) _ (sym (or_false (same_colour S d && not (same_colour d O))) ∙ h))
+unsent_none r O due m (Line S t n) [] f o h = cc
+unsent_none r O due m (Line S t n) (Line d u k ∷ T) f o h = cc
+unsent_none r O due m (Line S t n) (Opened d k ∷ T) f o h = cc
+unsent_none r O due m (Line S t n) (OutputEnds d ∷ T) f o h = cc
+unsent_none r O due m (Line S t n) (FailsToRead d ∷ T) f o h = cc
+unsent_none r O due m (Opened S n) T f o h = cc
+unsent_none r O due m (OutputEnds S) T f o h = cc
+unsent_none r O due m (FailsToRead S) T f o h = cc
+
+-- what is told by the block of an event, if it is sent
+told_at : (r : Rules) (O : Colour) (due : Colour → List SentLine) (m : Match) (e : Event) (T : List Event)
+    → fits_from r due m (e ∷ T) ≡ true → Orderly r m
+    → moves_told (joined_blocks (blocks_from r O m (e ∷ T))) ≡ told_now r m (after r m e) O
+    ++ moves_told (joined_blocks (blocks_from r O (after r m e) T))
+told_at r O due m e T f o =
+    ap (λ (ls : List SentLine). moves_told ls)
+    (joined_at (is_dropped e T O || fails_at e O) (block r m (after r m e) O) (blocks_from r O (after r m e) T))
+    ∙ flat_map-append move_told (if is_dropped e T O || fails_at e O then [] else block r m (after r m e) O)
+    (joined_blocks (blocks_from r O (after r m e) T))
+    ∙ ap (λ (l : List (List ℕ)). l ++ moves_told (joined_blocks (blocks_from r O (after r m e) T)))
+    (at (is_dropped e T O || fails_at e O) refl)
+  where
+    at : (b : Bool) → is_dropped e T O || fails_at e O ≡ b → moves_told (if b then [] else block r m (after r m e) O)
+        ≡ told_now r m (after r m e) O
+    at true h = sym (unsent_none r O due m e T f o h)
+    at false h = told_block r m (after r m e) O
+
+-- ---- the transcript
+
+pub fits_on : (due : Colour → List SentLine) (m : Match) (e : Event) → fits_next due m e ≡ true → is_on m.phase ≡ true
+fits_on due m (Line S t n) f = reads_on m.phase S f
+fits_on due m (Opened S n) f = rw (opens_at m.phase S f) refl
+fits_on due m (OutputEnds S) f = reads_on m.phase S f
+fits_on due m (FailsToRead S) f = reads_on m.phase S f
+fits_on due m (FailsToWrite S) f = and_first (is_on m.phase) _ f
+
+calm : (r : Rules) (m : Match) (e : Event) (O : Colour) → is_on (after r m e).phase ≡ true → fails_at e O ≡ false
+calm r m (Line S t n) O on = refl
+calm r m (Opened S n) O on = refl
+calm r m (OutputEnds S) O on = refl
+calm r m (FailsToRead S) O on = refl
+calm r m (FailsToWrite S) O on = not_on on
+
+joined_more : (X t M R o A : List (List ℕ)) → M ≡ t ++ R → (X ++ t) ++ (R ++ o) ≡ A → X ++ (M ++ o) ≡ A
+joined_more X t M R o A e h = rw (e, append_assoc t R o, ← append_assoc X t (R ++ o)) h
+
+told_from : (r : Rules) (O : Colour) (due : Colour → List SentLine) (m : Match) (T : List Event) (X : List (List ℕ))
+    (failed : Bool) → fits_from r due m T ≡ true → Orderly r m
+    → (is_on m.phase ≡ true → failed ≡ false) → X ++ owed_to r m O m.untold failed ≡ all_texts r m O
+    → (X ++ (moves_told (joined_blocks (blocks_from r O m T))
+    ++ owed_to r (match_from r m T) O (match_from r m T).untold (failed || has_write_failure O T))
+    ≡ all_texts r (match_from r m T) O)
+    × Orderly r (match_from r m T)
+told_from r O due m [] X failed f o quiet h = (rw (or_false failed) h, o)
+told_from r O due m (e ∷ T) X failed f o quiet h =
+    let here : fits_next due m e ≡ true = and_first (fits_next due m e) _ f in
+    let on : is_on m.phase ≡ true = fits_on due m e here in
+    let s : Told r X O (fails_at e O) m.phase (after r m e) × Orderly r (after r m e) =
+    step_goes r X O due m e here o (rw (owed_on r m O m.untold failed on) at h) in
+    let rest = told_from r O (block r m (after r m e)) (after r m e) T (X ++ told_now r m (after r m e) O)
+    (fails_at e O) (and_second (fits_next due m e) _ f) s.1 (calm r m e O) s.0 in (
+      rw (quiet on) (joined_more X (told_now r m (after r m e) O)
+          (moves_told (joined_blocks (blocks_from r O m (e ∷ T))))
+          (moves_told (joined_blocks (blocks_from r O (after r m e) T)))
+          (owed_to r (match_from r (after r m e) T) O (match_from r (after r m e) T).untold
+          (fails_at e O || has_write_failure O T)) (all_texts r (match_from r (after r m e) T) O)
+          (told_at r O due m e T f o) rest.0),
+      rest.1,
+    )
+
+pub moves_are_told : MovesAreTold
+moves_are_told r T O f =
+    ap (λ (l : List (List ℕ)). l ++ owed_to r (match_of r T) O (match_of r T).untold (has_write_failure O T)) first
+    ∙ (told_from r O (entry r start) start T [] false f (refl, refl) (λ on. refl) refl).0
+  where
+    first : moves_told (sent r O T) ≡ moves_told (joined_blocks (blocks_from r O start T))
+    first = flat_map-append move_told (entry r start O) (joined_blocks (blocks_from r O start T))
+        ∙ ap (λ (l : List (List ℕ)). l ++ moves_told (joined_blocks (blocks_from r O start T)))
+        (entry_told r start O (Hello White))
+
+-- every match is orderly
+pub orderly : (r : Rules) (T : List Event) → fits r T ≡ true → Orderly r (match_of r T)
+orderly r T f = (told_from r White (entry r start) start T [] false f (refl, refl) (λ on. refl) refl).1
+
+pub nothing_owed : (r : Rules) (m : Match) (O : Colour) (untold : Option Colour) → is_some (ending_in m.phase) ≡ true
+    → owed_to r m O untold false ≡ []
+nothing_owed r m O None h = refl
+nothing_owed r m O (Some c) h = at m.phase (same_colour c O) h
+  where
+    at : (p : Phase) (b : Bool) → is_some (ending_in p) ≡ true
+        → (if b && (is_on p || false) then last_text r m O else []) ≡ []
+    at (Over x) true h = refl
+    at (Over x) false h = refl
+    at (Hello c) b h = cc
+    at (Setup c) b h = cc
+    at (Opening c) b h = cc
+    at (Before c) b h = cc
+    at (After c) b h = cc
+
+pub all_moves_are_told : AllMovesAreTold
+all_moves_are_told r T O f ended quiet =
+    sym (append-nil (moves_told (sent r O T)))
+    ∙ ap (λ (l : List (List ℕ)). moves_told (sent r O T) ++ l)
+    (sym (rw quiet (nothing_owed r (match_of r T) O (match_of r T).untold ended)))
+    ∙ moves_are_told r T O f

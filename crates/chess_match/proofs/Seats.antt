@@ -1,0 +1,30 @@
+-- What a match keeps of each engine.
+use Rattle.std.proofs.Common.{◌≡◌, List, refl}
+use Rattle.chess_base.specs.declared.man.Colour.{Colour}
+use Rattle.chess_base.specs.declared.man.Colour.TheVariants.{White, Black}
+use Rattle.chess_match.specs.Items.{Item}
+use Rattle.chess_match.specs.Match.{Match, seat, hear}
+
+pub items_same : (m m' : Match) → m'.white.items ≡ m.white.items → m'.black.items ≡ m.black.items → (S : Colour)
+    → (seat m' S).items ≡ (seat m S).items
+items_same m m' w b White = w
+items_same m m' w b Black = b
+
+pub used_same : (m m' : Match) → m'.white.used ≡ m.white.used → m'.black.used ≡ m.black.used → (S : Colour)
+    → (seat m' S).used ≡ (seat m S).used
+used_same m m' w b White = w
+used_same m m' w b Black = b
+
+-- what a line of a hello leaves as it was
+pub hear_used : (S : Colour) (items : List Item) (m : Match)
+    → ((hear S items m).white.used ≡ m.white.used) × ((hear S items m).black.used ≡ m.black.used)
+hear_used White items m = (refl, refl)
+hear_used Black items m = (refl, refl)
+
+pub hear_played : (S : Colour) (items : List Item) (m : Match) → (hear S items m).played ≡ m.played
+hear_played White items m = refl
+hear_played Black items m = refl
+
+pub hear_untold : (S : Colour) (items : List Item) (m : Match) → (hear S items m).untold ≡ m.untold
+hear_untold White items m = refl
+hear_untold Black items m = refl

@@ -1,0 +1,622 @@
+-- The times that an engine is told are the clocks.
+use Rattle.std.proofs.Common.{◌≡◌, ℕ, ◌+◌, ◌-◌, ◌/◌, ◌≤◌, Bool, true, false, ◌||◌, List, [], ◌∷◌, ◌++◌, length, length-append, drop, refl, ap, subst, ◌∙◌, append-nil, Option, None, Some, arith}
+use Rattle.std.specs.Prelude.{if◌then◌else◌, nat_lt, codes, sum}
+use Rattle.std.specs.List.{flat_map}
+use Rattle.std.proofs.lemmas.Grind.{flat_map-append}
+use Rattle.std.proofs.lemmas.List.Sums.{sum_by-cons}
+use Rattle.chess_base.specs.declared.man.Colour.{Colour}
+use Rattle.chess_base.specs.declared.man.Colour.TheVariants.{White, Black}
+use Rattle.chess_base.specs.declared.man.Move.{Move}
+use Rattle.chess_base.specs.declared.man.Variant.{Variant}
+use Rattle.chess_base.specs.declared.man.Variant.TheVariants.{Normal, Fischerandom}
+use Rattle.chess_base.specs.Men.{other, same_colour}
+use Rattle.chess_game.specs.declared.ends.Verdict.{Verdict}
+use Rattle.chess_match.specs.EngineLines.{LineKind, kind_heard}
+use Rattle.chess_match.specs.Items.{Item, takes}
+use Rattle.chess_match.specs.Laws.{centiseconds, time_told, otim_told, TimesAreClocks, OtherTimesAreClocks}
+use Rattle.chess_match.specs.Levels.{LevelSeen, left}
+use Rattle.chess_match.specs.Match.{Match, Event, Line, Opened, OutputEnds, FailsToRead, FailsToWrite, items_heard, seat, hear, start, over, enter, open_turn, played_by, after, clock, ping_number}
+use Rattle.chess_match.specs.Reasons.{fault_of}
+use Rattle.chess_match.specs.Rules.{Rules}
+use Rattle.chess_match.specs.Sent.{SentLine, Answered, DrawOffered, New, Xboard, Protover, LevelSet, Nopost, Easy, Force, Ping, Go, Time, Otim, entry, entry_to, is_same_phase, is_unwritten, setup_lines, variant_lines, start_lines, opening_lines, last_move, last_move_lines, clock_lines, end_lines, untold_lines}
+use Rattle.chess_match.specs.Transcript.{reads, match_of, fits, fits_next, blocks_from, joined_blocks, sent}
+use Rattle.chess_match.specs.declared.phase.Phase.{Phase}
+use Rattle.chess_match.specs.declared.phase.Phase.TheVariants.{Hello, Setup, Opening, Before, After, Over}
+use Rattle.chess_match.specs.declared.reason.MatchFault.TheVariants.{NoDone, Ended, Read, Write}
+use Rattle.chess_match.specs.declared.reason.Reason.{Reason}
+use Rattle.chess_match.specs.declared.reason.Reason.TheVariants.{Decided, Faulted}
+use Rattle.chess_match.proofs.Blocks.{if_nil}
+use Rattle.chess_match.proofs.Outcomes.{Lines, InTurn, line_outcome, opens_at}
+use Rattle.chess_match.proofs.Telling.{now, gathered, unsent, InOpenings}
+use Rattle.chess_match.proofs.Going.{is_opening, offered, sum-snoc}
+use Rattle.chess_match.proofs.Seats.{hear_used, items_same, used_same}
+use Rattle.chess_match.proofs.Blocks.{told_more}
+
+-- ---- the lines
+
+-- the numbers of `time` lines, or of `otim` lines
+abbrev numbers : Bool → SentLine → List ℕ
+numbers true = time_told
+numbers false = otim_told
+
+-- whose clock they tell to S
+abbrev told_of : Bool → Colour → Colour
+told_of true S = S
+told_of false S = other S
+
+no_answer : (own : Bool) (i : Item) → numbers own (Answered i) ≡ []
+no_answer true i = refl
+no_answer false i = refl
+
+no_offer : (own : Bool) → numbers own DrawOffered ≡ []
+no_offer true = refl
+no_offer false = refl
+
+setup_times : (own : Bool) (r : Rules) → flat_map (numbers own) (setup_lines r) ≡ []
+unfolding setup_lines
+setup_times own r = at own r.variant r.start_fen
+  where
+    at : (own : Bool) (v : Variant) (fen : Option (List ℕ))
+        → flat_map (numbers own) (New ∷ (variant_lines v
+        ++ (LevelSet r.level ∷ Nopost ∷ Easy ∷ Force ∷ (start_lines fen ++ Ping 1 ∷ [])))) ≡ []
+    at true Normal None = refl
+    at true Normal (Some fen) = refl
+    at true Fischerandom None = refl
+    at true Fischerandom (Some fen) = refl
+    at false Normal None = refl
+    at false Normal (Some fen) = refl
+    at false Fischerandom None = refl
+    at false Fischerandom (Some fen) = refl
+
+last_times : (own : Bool) (r : Rules) (m : Match) (S : Colour) → flat_map (numbers own) (last_move_lines r m S) ≡ []
+unfolding last_move
+last_times own r m S = at own (nat_lt 0 (length m.played))
+  where
+    at : (own b : Bool) → flat_map (numbers own) (if b then last_move r m S ∷ [] else []) ≡ []
+    at true true = refl
+    at false true = refl
+    at true false = refl
+    at false false = refl
+
+untold_times : (own : Bool) (r : Rules) (m : Match) (S : Colour) (untold : Option Colour)
+    → flat_map (numbers own) (untold_lines r m S untold) ≡ []
+unfolding last_move
+untold_times true r m S None = refl
+untold_times false r m S None = refl
+untold_times own r m S (Some c) = at own (same_colour c S)
+  where
+    at : (own b : Bool) → flat_map (numbers own) (if b then last_move r m S ∷ [] else []) ≡ []
+    at true true = refl
+    at false true = refl
+    at true false = refl
+    at false false = refl
+
+end_times : (own : Bool) (r : Rules) (m : Match) (S : Colour) (reason : Reason)
+    → flat_map (numbers own) (end_lines r m S reason) ≡ []
+unfolding end_lines
+end_times true r m S reason = flat_map-append time_told (untold_lines r m S m.untold) _
+    ∙ append-nil (flat_map time_told (untold_lines r m S m.untold)) ∙ untold_times true r m S m.untold
+end_times false r m S reason = flat_map-append otim_told (untold_lines r m S m.untold) _
+    ∙ append-nil (flat_map otim_told (untold_lines r m S m.untold)) ∙ untold_times false r m S m.untold
+
+-- the clock that is told in an opening, where the engine takes `time`
+abbrev clock_told : Bool → Rules → Match → Colour → List ℕ
+clock_told own r m S = if takes (codes "time") (seat m S).items then clock r m (told_of own S) / 10 ∷ [] else []
+
+clock_times : (own : Bool) (r : Rules) (m : Match) (S : Colour) → flat_map (numbers own) (clock_lines r m S)
+    ≡ clock_told own r m S
+unfolding clock_lines
+clock_times own r m S = at own (takes (codes "time") (seat m S).items)
+  where
+    at : (own b : Bool) → flat_map (numbers own)
+        (if b then Time (clock r m S / 10) ∷ Otim (clock r m (other S) / 10) ∷ [] else [])
+        ≡ (if b then clock r m (told_of own S) / 10 ∷ [] else [])
+    at true true = refl
+    at false true = refl
+    at true false = refl
+    at false false = refl
+
+go_times : (own : Bool) → flat_map (numbers own) (Go ∷ []) ≡ []
+go_times true = refl
+go_times false = refl
+
+opening_times : (own : Bool) (r : Rules) (m : Match) (S : Colour) → flat_map (numbers own) (opening_lines r m S)
+    ≡ clock_told own r m S
+unfolding opening_lines
+opening_times own r m S = at (nat_lt 0 (length (seat m S).used))
+  where
+    at : (b : Bool) → flat_map (numbers own)
+        (if b then clock_lines r m S ++ last_move_lines r m S else last_move_lines r m S
+        ++ (clock_lines r m S ++ Go ∷ [])) ≡ clock_told own r m S
+    at true = flat_map-append (numbers own) (clock_lines r m S) (last_move_lines r m S)
+        ∙ rw (last_times own r m S, append-nil (flat_map (numbers own) (clock_lines r m S))) (clock_times own r m S)
+    at false =
+        flat_map-append (numbers own) (last_move_lines r m S) (clock_lines r m S ++ Go ∷ [])
+        ∙ rw (
+          last_times own r m S,
+          flat_map-append (numbers own) (clock_lines r m S) (Go ∷ []),
+          go_times own,
+          append-nil (flat_map (numbers own) (clock_lines r m S)),
+        ) (clock_times own r m S)
+
+in_openings : (own : Bool) → InOpenings (numbers own)
+in_openings own r m S (Hello c) e = at own (same_colour c S)
+  where
+    at : (own b : Bool) → flat_map (numbers own) (if b then Xboard ∷ Protover ∷ [] else []) ≡ []
+    at true true = refl
+    at false true = refl
+    at true false = refl
+    at false false = refl
+in_openings own r m S (Setup c) e = at (same_colour c S)
+  where
+    at : (b : Bool) → flat_map (numbers own) (if b then setup_lines r else []) ≡ []
+    at true = setup_times own r
+    at false = refl
+in_openings own r m S (Before c) e = refl
+in_openings own r m S (After c) e = at own (same_colour c S)
+  where
+    at : (own b : Bool) → flat_map (numbers own) (if b then Ping (ping_number m S) ∷ [] else []) ≡ []
+    at true true = refl
+    at false true = refl
+    at true false = refl
+    at false false = refl
+in_openings own r m S (Over reason) e = at (is_unwritten (fault_of reason) S)
+  where
+    at : (b : Bool) → flat_map (numbers own) (if b then [] else end_lines r m S reason) ≡ []
+    at true = refl
+    at false = end_times own r m S reason
+in_openings own r m S (Opening c) e = cc
+
+opening_told : (own : Bool) (r : Rules) (m : Match) (S c : Colour) → flat_map (numbers own) (entry_to r m S (Opening c))
+    ≡ (if same_colour c S then clock_told own r m S else [])
+opening_told own r m S c = at (same_colour c S)
+  where
+    at : (b : Bool) → flat_map (numbers own) (if b then opening_lines r m S else [])
+        ≡ (if b then clock_told own r m S else [])
+    at true = opening_times own r m S
+    at false = refl
+
+-- ---- the clocks
+
+centiseconds-snoc : (level : LevelSeen) (k spent : ℕ) (us : List ℕ) (u n t : ℕ) → n ≡ k + length us + 1 → t
+    ≡ spent + sum us + u
+    → centiseconds level k spent (us ++ u ∷ []) ≡ centiseconds level k spent us ++ left level n t / 10 ∷ []
+centiseconds-snoc level k spent [] u n t e f =
+    let a : n ≡ k + 1 = omega (arith, e) in
+    let b : t ≡ spent + u = omega (arith, f) in
+    rw (a, b) refl
+centiseconds-snoc level k spent (x ∷ us) u n t e f =
+    let s : sum (x ∷ us) ≡ x + sum us = sum_by-cons (λ (y : ℕ). y) x us in
+    ap (λ (l : List ℕ). left level k spent / 10 ∷ l)
+    (centiseconds-snoc level (k + 1) (spent + x) us u n t (omega (arith, e)) (omega (arith, f, s)))
+
+-- all of a list, or all but its first
+abbrev from : Bool → List ℕ → List ℕ
+from true xs = xs
+from false xs = drop 1 xs
+
+abbrev all_told : Bool → Rules → Bool → List ℕ → List ℕ
+all_told whole r takes used = if takes then from whole (centiseconds r.level 0 0 used) else []
+
+abbrev last_told : Rules → Bool → List ℕ → List ℕ
+last_told r takes used = if takes then left r.level (length used) (sum used) / 10 ∷ [] else []
+
+-- what is still to be told in this phase: the last, where S's turn wasn't opened since the clock changed
+abbrev pending : Bool → Phase → Colour → List ℕ → List ℕ
+pending true (Opening c) S t = if same_colour c S then [] else t
+pending true (Before c) S t = if same_colour c S then [] else t
+pending true (After c) S t = t
+pending false (After c) S t = if same_colour c S then [] else t
+pending own p S t = []
+
+abbrev is_whole : Bool → Rules → Colour → Bool
+is_whole own r S = own || same_colour S r.first
+
+abbrev TimesIn : Bool → Rules → Colour → Phase → List ℕ → Bool → List ℕ → Type 0
+TimesIn own r S (Hello c) X takes used = (X ≡ []) × (used ≡ [])
+TimesIn own r S (Setup c) X takes used = (X ≡ []) × (used ≡ [])
+TimesIn own r S (Opening c) X takes used = X ++ pending own (Opening c) S (last_told r takes used)
+    ≡ all_told (is_whole own r S) r takes used
+TimesIn own r S (Before c) X takes used = X ++ pending own (Before c) S (last_told r takes used)
+    ≡ all_told (is_whole own r S) r takes used
+TimesIn own r S (After c) X takes used = X ++ pending own (After c) S (last_told r takes used)
+    ≡ all_told (is_whole own r S) r takes used
+TimesIn own r S (Over reason) X takes used = (rest : List ℕ) × (length rest ≤ 1)
+    × (X ++ rest ≡ all_told (is_whole own r S) r takes used)
+
+abbrev TimesOf : Bool → Rules → Colour → Phase → List ℕ → Match → Type 0
+TimesOf own r S p X m = TimesIn own r S p X (takes (codes "time") (seat m S).items) (seat m (told_of own S)).used
+
+abbrev Times : Bool → Rules → Colour → List ℕ → Match → Type 0
+Times own r S X m = TimesOf own r S m.phase X m
+
+times_in : (own : Bool) (r : Rules) (S : Colour) (X : List ℕ) (m : Match) (p : Phase) → m.phase ≡ p → Times own r S X m
+    → TimesOf own r S p X m
+times_in own r S X m p e h = subst (λ (q : Phase). TimesOf own r S q X m) e h
+
+-- ---- lists
+
+last_short : (r : Rules) (takes : Bool) (used : List ℕ) → length (last_told r takes used) ≤ 1
+last_short r true used = omega arith
+last_short r false used = omega arith
+
+if_short : (b : Bool) (t : List ℕ) → length t ≤ 1 → length (if b then [] else t) ≤ 1
+if_short true t h = omega arith
+if_short false t h = h
+
+pending_short : (own : Bool) (p : Phase) (S : Colour) (t : List ℕ) → length t ≤ 1 → length (pending own p S t) ≤ 1
+pending_short true (Opening c) S t h = if_short (same_colour c S) t h
+pending_short true (Before c) S t h = if_short (same_colour c S) t h
+pending_short true (After c) S t h = h
+pending_short false (After c) S t h = if_short (same_colour c S) t h
+pending_short true (Hello c) S t h = omega arith
+pending_short true (Setup c) S t h = omega arith
+pending_short true (Over x) S t h = omega arith
+pending_short false (Hello c) S t h = omega arith
+pending_short false (Setup c) S t h = omega arith
+pending_short false (Opening c) S t h = omega arith
+pending_short false (Before c) S t h = omega arith
+pending_short false (Over x) S t h = omega arith
+
+all_short : (whole : Bool) (r : Rules) (takes : Bool) → length (all_told whole r takes []) ≤ 1
+all_short true r true = omega arith
+all_short false r true = omega arith
+all_short true r false = omega arith
+all_short false r false = omega arith
+
+empty_over : (own : Bool) (r : Rules) (S : Colour) (X : List ℕ) (takes : Bool) (used : List ℕ) → X ≡ [] → used ≡ []
+    → (rest : List ℕ) × (length rest ≤ 1) × (X ++ rest ≡ all_told (is_whole own r S) r takes used)
+empty_over own r S X takes used x u = rw (x, u)
+    (all_told (is_whole own r S) r takes [], all_short (is_whole own r S) r takes, refl)
+
+over_times : (own : Bool) (r : Rules) (S : Colour) (X : List ℕ) (takes : Bool) (used : List ℕ) (p : Phase)
+    → TimesIn own r S p X takes used
+    → (rest : List ℕ) × (length rest ≤ 1) × (X ++ rest ≡ all_told (is_whole own r S) r takes used)
+over_times own r S X takes used (Hello c) h = empty_over own r S X takes used h.0 h.1
+over_times own r S X takes used (Setup c) h = empty_over own r S X takes used h.0 h.1
+over_times own r S X takes used (Opening c) h = (
+  pending own (Opening c) S (last_told r takes used),
+  pending_short own (Opening c) S (last_told r takes used)
+      (last_short r takes used),
+  h,
+)
+over_times own r S X takes used (Before c) h = (
+  pending own (Before c) S (last_told r takes used),
+  pending_short own (Before c) S (last_told r takes used)
+      (last_short r takes used),
+  h,
+)
+over_times own r S X takes used (After c) h = (
+  pending own (After c) S (last_told r takes used),
+  pending_short own (After c) S (last_told r takes used)
+      (last_short r takes used),
+  h,
+)
+over_times own r S X takes used (Over reason) h = h
+
+-- the turn passes
+passes_times : (own : Bool) (c S : Colour) (X t A : List ℕ) → X ++ pending own (After c) S t ≡ A
+    → (X ++ (if same_colour (other c) S then t else [])) ++ pending own (Opening (other c)) S t ≡ A
+passes_times true White White X t A h = rw (append-nil X) h
+passes_times true Black Black X t A h = rw (append-nil X) h
+passes_times true White Black X t A h = append-nil (X ++ t) ∙ h
+passes_times true Black White X t A h = append-nil (X ++ t) ∙ h
+passes_times false White White X t A h = append-nil (X ++ []) ∙ h
+passes_times false Black Black X t A h = append-nil (X ++ []) ∙ h
+passes_times false White Black X t A h = append-nil (X ++ t) ∙ h
+passes_times false Black White X t A h = append-nil (X ++ t) ∙ h
+
+-- the first turn is opened
+opens_times : (own : Bool) (r : Rules) (S c : Colour) (takes : Bool)
+    → (if same_colour c S then last_told r takes [] else []) ++ pending own (Opening c) S (last_told r takes [])
+    ≡ all_told (own || same_colour S c) r takes []
+opens_times true r White White true = refl
+opens_times true r Black Black true = refl
+opens_times true r White Black true = refl
+opens_times true r Black White true = refl
+opens_times true r White White false = refl
+opens_times true r Black Black false = refl
+opens_times true r White Black false = refl
+opens_times true r Black White false = refl
+opens_times false r White White true = refl
+opens_times false r Black Black true = refl
+opens_times false r White Black true = refl
+opens_times false r Black White true = refl
+opens_times false r White White false = refl
+opens_times false r Black Black false = refl
+opens_times false r White Black false = refl
+opens_times false r Black White false = refl
+
+from-append : (whole : Bool) (level : LevelSeen) (us : List ℕ) (t : List ℕ)
+    → from whole (centiseconds level 0 0 us ++ t) ≡ from whole (centiseconds level 0 0 us) ++ t
+from-append true level us t = refl
+from-append false level [] t = refl
+from-append false level (u ∷ us) t = refl
+
+all_more : (whole : Bool) (r : Rules) (takes : Bool) (used : List ℕ) (u : ℕ) → all_told whole r takes (used ++ u ∷ [])
+    ≡ all_told whole r takes used ++ last_told r takes (used ++ u ∷ [])
+all_more whole r false used u = refl
+all_more whole r true used u =
+    let l : length (used ++ u ∷ []) ≡ length used + 1 = length-append used (u ∷ []) in
+    let s : sum (used ++ u ∷ []) ≡ sum used + u = sum-snoc used u in
+    ap (λ (xs : List ℕ). from whole xs) (centiseconds-snoc r.level 0 0 used u (length (used ++ u ∷ []))
+    (sum (used ++ u ∷ [])) (omega (arith, l)) (omega (arith, s)))
+    ∙ from-append whole r.level used (left r.level (length (used ++ u ∷ [])) (sum (used ++ u ∷ [])) / 10 ∷ [])
+
+-- the side whose clock it is has moved
+charged_times : (own : Bool) (r : Rules) (S : Colour) (X : List ℕ) (takes : Bool) (used : List ℕ) (u : ℕ)
+    → TimesIn own r S (Before (told_of own S)) X takes used
+    → TimesIn own r S (After (told_of own S)) X takes (used ++ u ∷ [])
+charged_times true r White X takes used u h = told_more X _ _ _ h (all_more true r takes used u)
+charged_times true r Black X takes used u h = told_more X _ _ _ h (all_more true r takes used u)
+charged_times false r White X takes used u h = told_more X _ _ _ h (all_more (same_colour White r.first) r takes used u)
+charged_times false r Black X takes used u h = told_more X _ _ _ h (all_more (same_colour Black r.first) r takes used u)
+
+-- the other has
+still_times : (own : Bool) (r : Rules) (S : Colour) (X : List ℕ) (takes : Bool) (used : List ℕ)
+    → TimesIn own r S (Before (other (told_of own S))) X takes used
+    → TimesIn own r S (After (other (told_of own S))) X takes used
+still_times true r White X takes used h = h
+still_times true r Black X takes used h = h
+still_times false r White X takes used h = h
+still_times false r Black X takes used h = h
+
+-- ---- the matches
+
+carried : (own : Bool) (r : Rules) (S : Colour) (p : Phase) (X : List ℕ) (m m' : Match) → m'.white.items ≡ m.white.items
+    → m'.black.items ≡ m.black.items
+    → m'.white.used ≡ m.white.used → m'.black.used ≡ m.black.used → TimesOf own r S p X m → TimesOf own r S p X m'
+carried own r S p X m m' wi bi wu bu h = rw (items_same m m' wi bi S, used_same m m' wu bu (told_of own S)) h
+
+abbrev Goes : Bool → Rules → Colour → List ℕ → Match → Match → Type 0
+Goes own r S X m m' = Times own r S (X ++ now (numbers own) r S m m') m'
+
+quiet_now : (own : Bool) (r : Rules) (S : Colour) (m m' : Match) → is_opening m'.phase ≡ false
+    → now (numbers own) r S m m' ≡ []
+quiet_now own r S m m' e = if_nil (is_same_phase m.phase m'.phase) (flat_map (numbers own) (entry r m' S))
+    (in_openings own r m' S m'.phase e)
+
+quiet_goes : (own : Bool) (r : Rules) (S : Colour) (X : List ℕ) (m m' : Match) → is_opening m'.phase ≡ false
+    → Times own r S X m' → Goes own r S X m m'
+quiet_goes own r S X m m' e h = rw (quiet_now own r S m m' e, append-nil X) h
+
+not_opening : (p : Phase) (S : Colour) → reads p S ≡ true → is_opening p ≡ false
+not_opening (Hello c) S h = refl
+not_opening (Setup c) S h = refl
+not_opening (Before c) S h = refl
+not_opening (After c) S h = refl
+not_opening (Opening c) S h = cc
+not_opening (Over x) S h = cc
+
+over_goes : (own : Bool) (r : Rules) (S : Colour) (X : List ℕ) (reason : Reason) (m : Match) → Times own r S X m
+    → Goes own r S X m (over reason m)
+over_goes own r S X reason m h =
+    quiet_goes own r S X m (over reason m) refl
+    (carried own r S (Over reason) X m (over reason m) refl refl refl refl
+    (over_times own r S X (takes (codes "time") (seat m S).items) (seat m (told_of own S)).used m.phase h))
+
+counts_goes : (own : Bool) (r : Rules) (S c : Colour) (X : List ℕ) (n : ℕ) (m : Match) → reads m.phase c ≡ true
+    → Times own r S X m → Goes own r S X m (record m { count = n })
+counts_goes own r S c X n m here h =
+    quiet_goes own r S X m (record m { count = n }) (not_opening m.phase c here)
+    (carried own r S m.phase X m (record m { count = n }) refl refl refl refl h)
+
+offers_goes : (own : Bool) (r : Rules) (S c : Colour) (X : List ℕ) (m : Match) → reads m.phase c ≡ true
+    → Times own r S X m → Goes own r S X m (offered c m)
+offers_goes own r S White X m here h =
+    quiet_goes own r S X m (offered White m) (not_opening m.phase White here)
+    (carried own r S m.phase X m (offered White m) refl refl refl refl h)
+offers_goes own r S Black X m here h =
+    quiet_goes own r S X m (offered Black m) (not_opening m.phase Black here)
+    (carried own r S m.phase X m (offered Black m) refl refl refl refl h)
+
+played_times : (own : Bool) (r : Rules) (S c : Colour) (X : List ℕ) (move : Move) (used : ℕ) (m : Match)
+    → TimesOf own r S (Before c) X m → TimesOf own r S (After c) X (played_by c move used m)
+played_times true r White White X move used m h =
+    charged_times true r White X (takes (codes "time") m.white.items) m.white.used used h
+played_times true r Black Black X move used m h =
+    charged_times true r Black X (takes (codes "time") m.black.items) m.black.used used h
+played_times true r White Black X move used m h =
+    still_times true r White X (takes (codes "time") m.white.items) m.white.used h
+played_times true r Black White X move used m h =
+    still_times true r Black X (takes (codes "time") m.black.items) m.black.used h
+played_times false r White Black X move used m h =
+    charged_times false r White X (takes (codes "time") m.white.items) m.black.used used h
+played_times false r Black White X move used m h =
+    charged_times false r Black X (takes (codes "time") m.black.items) m.white.used used h
+played_times false r White White X move used m h =
+    still_times false r White X (takes (codes "time") m.white.items) m.black.used h
+played_times false r Black Black X move used m h =
+    still_times false r Black X (takes (codes "time") m.black.items) m.white.used h
+
+plays_goes : (own : Bool) (r : Rules) (S c : Colour) (X : List ℕ) (move : Move) (used : ℕ) (m : Match)
+    → TimesOf own r S (Before c) X m → Goes own r S X m (played_by c move used m)
+plays_goes own r S White X move used m h =
+    quiet_goes own r S X m (played_by White move used m) refl (played_times own r S White X move used m h)
+plays_goes own r S Black X move used m h =
+    quiet_goes own r S X m (played_by Black move used m) refl (played_times own r S Black X move used m h)
+
+decides_goes : (own : Bool) (r : Rules) (S c : Colour) (X : List ℕ) (move : Move) (used : ℕ) (v : Verdict) (m : Match)
+    → TimesOf own r S (Before c) X m
+    → Goes own r S X m (over (Decided v) (played_by c move used m))
+decides_goes own r S c X move used v m h =
+    let m' = played_by c move used m in
+    quiet_goes own r S X m (over (Decided v) m') refl
+    (carried own r S (Over (Decided v)) X m' (over (Decided v) m') refl refl refl refl
+    (over_times own r S X (takes (codes "time") (seat m' S).items) (seat m' (told_of own S)).used (After c)
+    (played_times own r S c X move used m h)))
+
+turn_goes : (own : Bool) (r : Rules) (S c : Colour) (X : List ℕ) (m : Match) → is_same_phase m.phase (Opening c) ≡ false
+    → (X ++ (if same_colour c S then clock_told own r m S else [])) ++ pending own (Opening c) S (clock_told own r m S)
+    ≡ all_told (is_whole own r S) r (takes (codes "time") (seat m S).items) (seat m (told_of own S)).used
+    → Goes own r S X m (open_turn c m)
+turn_goes own r S c X m out h =
+    rw (out, opening_told own r (open_turn c m) S c)
+    (carried_turn (items_same m (open_turn c m) refl refl S) (used_same m (open_turn c m) refl refl (told_of own S)))
+  where
+    carried_turn : (seat (open_turn c m) S).items ≡ (seat m S).items → (seat (open_turn c m) (told_of own S)).used
+        ≡ (seat m (told_of own S)).used
+        → TimesOf own r S (Opening c) (X ++ (if same_colour c S then clock_told own r (open_turn c m) S else []))
+        (open_turn c m)
+    carried_turn i u = rw (i, u) h
+
+-- in a hello nothing was told, and no move made
+hello_goes : (own : Bool) (r : Rules) (S c d : Colour) (X : List ℕ) (items : List Item) (n : ℕ) (p : Phase) (m : Match)
+    → TimesOf own r S (Hello d) X m → (reason : Reason)
+    → (Times own r S X (enter (Hello Black) (hear c items m)))
+    × (Times own r S X (enter (Setup White) (hear c items m)))
+    × (Times own r S X (enter (Over reason) (hear c items m))) × (Times own r S X (over reason (hear c items m)))
+hello_goes own r S c d X items n p m h reason =
+    let u = hear_used c items m in
+    let used : (m' : Match) → m'.white.used ≡ m.white.used → m'.black.used ≡ m.black.used
+    → (seat m' (told_of own S)).used ≡ [] = λ m' w b. used_same m m' w b (told_of own S) ∙ h.1 in (
+      (h.0, used (enter (Hello Black) (hear c items m)) u.0 u.1),
+      (h.0, used (enter (Setup White) (hear c items m)) u.0 u.1),
+      empty_over own r S X _ _ h.0 (used (enter (Over reason) (hear c items m)) u.0 u.1),
+      empty_over own r S X _ _ h.0 (used (over reason (hear c items m)) u.0 u.1),
+    )
+
+hello_counts : (own : Bool) (r : Rules) (S c : Colour) (X : List ℕ) (items : List Item) (n : ℕ) (m : Match) → m.phase
+    ≡ Hello c → TimesOf own r S (Hello c) X m
+    → (let m' = hear c items m in Goes own r S X m (record m' { count = n }))
+hello_counts own r S White X items n m p h =
+    let m' = hear White items m in
+    let m'' : Match = record m' { count = n } in
+    counted m'' p (used_same m m'' refl refl (told_of own S) ∙ h.1) h.0
+  where
+    counted : (m'' : Match) → m''.phase ≡ Hello White → (seat m'' (told_of own S)).used ≡ [] → X ≡ []
+        → Goes own r S X m m''
+    counted m'' p u x = quiet_goes own r S X m m'' (rw p refl) (rw p (x, u))
+hello_counts own r S Black X items n m p h =
+    let m' = hear Black items m in
+    let m'' : Match = record m' { count = n } in
+    counted m'' p (used_same m m'' refl refl (told_of own S) ∙ h.1) h.0
+  where
+    counted : (m'' : Match) → m''.phase ≡ Hello Black → (seat m'' (told_of own S)).used ≡ [] → X ≡ []
+        → Goes own r S X m m''
+    counted m'' p u x = quiet_goes own r S X m m'' (rw p refl) (rw p (x, u))
+
+first_turn : (own : Bool) (r : Rules) (S : Colour) (X : List ℕ) (takes : Bool) (used : List ℕ) → X ≡ [] → used ≡ []
+    → (X ++ (if same_colour r.first S then last_told r takes used else []))
+    ++ pending own (Opening r.first) S (last_told r takes used) ≡ all_told (is_whole own r S) r takes used
+first_turn own r S X takes used x u = rw (x, u) (opens_times own r S r.first takes)
+
+lines_go : (own : Bool) (r : Rules) (S c : Colour) (X : List ℕ) (kind : LineKind) (moment : ℕ) (m : Match)
+    → reads m.phase c ≡ true → Times own r S X m
+    → Lines r c kind moment m (λ m'. Goes own r S X m m')
+lines_go own r S c X kind moment m here h = record {
+  hello_ends = λ p d. quiet_goes own r S X m (over (Faulted c NoDone) (hear c (items_heard kind) m)) refl
+      (hello p (Faulted c NoDone)).3;
+  hello_counts = λ p d few. hello_counts own r S c X (items_heard kind) (m.count + 1) m p
+      (times_in own r S X m (Hello c) p h);
+  hello_next = λ p s d. quiet_goes own r S X m (enter (Hello Black) (hear c (items_heard kind) m)) refl (hello_at p).0;
+  hello_judged = λ p s d b f. quiet_goes own r S X m (enter (Over (Faulted b f)) (hear c (items_heard kind) m)) refl
+      (hello_judged p (Faulted b f)).2;
+  hello_done = λ p s d. quiet_goes own r S X m (enter (Setup White) (hear c (items_heard kind) m)) refl
+      (hello_judged p (Faulted c NoDone)).1;
+  setup_ends = λ p reason n. over_goes own r S X reason m h;
+  setup_counts = λ p pong few. counts_goes own r S c X (m.count + 1) m here h;
+  setup_next = λ p s pong. quiet_goes own r S X m (enter (Setup Black) m) refl
+      (carried own r S (Setup Black) X m (enter (Setup Black) m) refl refl refl refl
+      (times_in own r S X m (Setup White) p h));
+  setup_done = λ p s pong. turn_goes own r S r.first X m (rw p refl)
+      (first_turn own r S X (takes (codes "time") (seat m S).items) (seat m (told_of own S)).used
+      (times_in own r S X m (Setup Black) p h).0 (times_in own r S X m (Setup Black) p h).1);
+  before = λ p. record {
+    row = row;
+    plays = λ text move is reading room timely. plays_goes own r S c X move (moment - m.opened) m
+        (times_in own r S X m (Before c) p h);
+    decides = λ text move v is reading room timely. decides_goes own r S c X move (moment - m.opened) v m
+        (times_in own r S X m (Before c) p h);
+  };
+  behind = λ p. record {
+    row = row;
+    passes = λ none. turn_goes own r S (other c) X m (rw p refl)
+        (passes_times own c S X (clock_told own r m S) _ (times_in own r S X m (After c) p h));
+  };
+}
+  where
+    row : InTurn r c kind m (λ m'. Goes own r S X m m')
+    row = record {
+      ends = λ reason n. over_goes own r S X reason m h;
+      counts = λ none few. counts_goes own r S c X (m.count + 1) m here h;
+      offers = λ none own' theirs. offers_goes own r S c X m here h;
+    }
+
+    hello : m.phase ≡ Hello c → (reason : Reason)
+        → (Times own r S X (enter (Hello Black) (hear c (items_heard kind) m)))
+        × (Times own r S X (enter (Setup White) (hear c (items_heard kind) m)))
+        × (Times own r S X (enter (Over reason) (hear c (items_heard kind) m)))
+        × (Times own r S X (over reason (hear c (items_heard kind) m)))
+    hello p reason = hello_goes own r S c c X (items_heard kind) 0 m.phase m (times_in own r S X m (Hello c) p h) reason
+
+    hello_at : m.phase ≡ Hello White → (Times own r S X (enter (Hello Black) (hear c (items_heard kind) m)))
+        × (Times own r S X (enter (Setup White) (hear c (items_heard kind) m)))
+        × (Times own r S X (enter (Over (Faulted c NoDone)) (hear c (items_heard kind) m)))
+        × (Times own r S X (over (Faulted c NoDone) (hear c (items_heard kind) m)))
+    hello_at p = hello_goes own r S c White X (items_heard kind) 0 m.phase m (times_in own r S X m (Hello White) p h)
+        (Faulted c NoDone)
+
+    hello_judged : m.phase ≡ Hello Black → (reason : Reason)
+        → (Times own r S X (enter (Hello Black) (hear c (items_heard kind) m)))
+        × (Times own r S X (enter (Setup White) (hear c (items_heard kind) m)))
+        × (Times own r S X (enter (Over reason) (hear c (items_heard kind) m)))
+        × (Times own r S X (over reason (hear c (items_heard kind) m)))
+    hello_judged p reason = hello_goes own r S c Black X (items_heard kind) 0 m.phase m
+        (times_in own r S X m (Hello Black) p h) reason
+
+step : (own : Bool) (r : Rules) (S : Colour) (due : Colour → List SentLine) (m : Match) (e : Event) (X : List ℕ)
+    → fits_next due m e ≡ true → Times own r S X m → Goes own r S X m (after r m e)
+step own r S due m (Line c t n) X f h = line_outcome r c (kind_heard t) n m (λ m'. Goes own r S X m m') f
+    (lines_go own r S c X (kind_heard t) n m f h)
+step own r S due m (Opened c n) X f h =
+    quiet_goes own r S X m (record m { phase = Before c; opened = n }) refl
+    (carried own r S (Before c) X m (record m { phase = Before c; opened = n }) refl refl refl refl
+    (opened own (times_in own r S X m (Opening c) (opens_at m.phase c f) h)))
+  where
+    opened : (own : Bool) → TimesOf own r S (Opening c) X m → TimesOf own r S (Before c) X m
+    opened true h = h
+    opened false h = h
+step own r S due m (OutputEnds c) X f h = over_goes own r S X (Faulted c Ended) m h
+step own r S due m (FailsToRead c) X f h = over_goes own r S X (Faulted c Read) m h
+step own r S due m (FailsToWrite c) X f h = over_goes own r S X (Faulted c Write) m h
+
+-- ---- the transcript
+
+times_so : (own : Bool) (r : Rules) (S : Colour) (T : List Event) → fits r T ≡ true
+    → Times own r S (flat_map (numbers own) (sent r S T)) (match_of r T)
+times_so own r S T f =
+    rw (
+      flat_map-append (numbers own) (entry r start S) (joined_blocks (blocks_from r S start T)),
+      in_openings own r
+          start S (Hello White) refl,
+    )
+    (gathered (numbers own) (no_answer own) (no_offer own) r S (λ X m. Times own r S X m) (step own r S)
+    (unsent (numbers own) r S (in_openings own)) (entry r start) start T [] f (refl, none S own))
+  where
+    none : (S : Colour) (own : Bool) → (seat start (told_of own S)).used ≡ []
+    none White true = refl
+    none Black true = refl
+    none White false = refl
+    none Black false = refl
+
+pub times_are_clocks : TimesAreClocks
+times_are_clocks r T S f = over_times true r S (flat_map time_told (sent r S T))
+    (takes (codes "time") (seat (match_of r T) S).items) (seat (match_of r T) S).used (match_of r T).phase
+    (times_so true r S T f)
+
+pub other_times_are_clocks : OtherTimesAreClocks
+other_times_are_clocks r T S f =
+    at (same_colour S r.first) (over_times false r S (flat_map otim_told (sent r S T))
+    (takes (codes "time") (seat (match_of r T) S).items) (seat (match_of r T) (other S)).used (match_of r T).phase
+    (times_so false r S T f))
+  where
+    at : (whole : Bool) → (rest : List ℕ) × (length rest ≤ 1)
+        × (flat_map otim_told (sent r S T) ++ rest
+        ≡ all_told whole r (takes (codes "time") (seat (match_of r T) S).items) (seat (match_of r T) (other S)).used)
+        → (rest : List ℕ) × (length rest ≤ 1) × (flat_map otim_told (sent r S T) ++ rest
+        ≡ (if takes (codes "time") (seat (match_of r T) S).items
+        then (if whole then centiseconds r.level 0 0 (seat (match_of r T) (other S)).used else drop 1
+        (centiseconds r.level 0 0 (seat (match_of r T) (other S)).used)) else []))
+    at true h = h
+    at false h = h

@@ -1,0 +1,294 @@
+-- Each used time is the moment of its move's line less the moment of its turn's opening.
+use Rattle.std.proofs.Common.{◌≡◌, ℕ, ◌+◌, ◌-◌, ◌≤◌, Bool, true, false, ◌&&◌, List, [], ◌∷◌, ◌++◌, length, refl, ap, sym, ◌∙◌, append-nil, append_assoc, Option, None, Some, arith}
+use Rattle.std.specs.Prelude.{if◌then◌else◌}
+use Rattle.chess_base.specs.declared.man.Colour.{Colour}
+use Rattle.chess_base.specs.declared.man.Colour.TheVariants.{White, Black}
+use Rattle.chess_base.specs.declared.man.Move.{Move}
+use Rattle.chess_base.specs.Men.{other, same_colour}
+use Rattle.chess_match.specs.EngineLines.{LineKind, kind_heard, Features, Moves, Resigns, OffersDraw, ClaimsDraw, ClaimsWin, Rejects, Answers, SaysElse}
+use Rattle.chess_match.specs.Items.{Item}
+use Rattle.chess_match.specs.Laws.{is_move, move_said, turn_times, UsedTimesAreDifferences}
+use Rattle.chess_match.specs.Match.{Match, Event, Line, Opened, OutputEnds, FailsToRead, FailsToWrite, items_heard, seat, hear, start, over, enter, open_turn, played_by, after}
+use Rattle.chess_match.specs.Rules.{Rules}
+use Rattle.chess_match.specs.Sent.{SentLine, block, entry}
+use Rattle.chess_match.specs.Transcript.{is_on, reads, opens, match_from, fits_next, fits_from}
+use Rattle.chess_match.specs.declared.phase.Phase.{Phase}
+use Rattle.chess_match.specs.declared.phase.Phase.TheVariants.{Hello, Setup, Opening, Before, After, Over}
+use Rattle.chess_match.specs.declared.reason.MatchFault.TheVariants.{NoDone}
+use Rattle.chess_match.specs.declared.reason.Reason.{Reason}
+use Rattle.chess_match.specs.declared.reason.Reason.TheVariants.{Decided, Faulted}
+use Rattle.chess_match.proofs.MoveLaw.{not_on}
+use Rattle.chess_match.proofs.OneLaw.{over_stops}
+use Rattle.chess_match.proofs.Outcomes.{Lines, InTurn, line_outcome, opens_at, and_first, and_second}
+use Rattle.chess_match.proofs.Going.{offered}
+use Rattle.chess_match.proofs.Seats.{hear_used, used_same}
+
+-- the moment of the opening, where a move of S is awaited
+abbrev awaited : Colour → Phase → ℕ → Option ℕ
+awaited S (Before c) opened = if same_colour c S then Some opened else None
+awaited S (Hello c) opened = None
+awaited S (Setup c) opened = None
+awaited S (Opening c) opened = None
+awaited S (After c) opened = None
+awaited S (Over x) opened = None
+
+-- the time that a line of S takes, where it is a move that is awaited
+abbrev taken : Option ℕ → LineKind → ℕ → List ℕ
+taken None kind n = []
+taken (Some k) kind n = if is_move kind then (n - k) ∷ [] else []
+
+abbrev awaited_then : Option ℕ → LineKind → Option ℕ
+awaited_then None kind = None
+awaited_then (Some k) kind = if is_move kind then None else Some k
+
+-- a line of c takes from m to m': S's times grow by what it takes, if the match goes on, and else perhaps by less
+abbrev Grows : Colour → LineKind → ℕ → Match → Match → Type 0
+Grows S kind n m m' =
+    (rest : List ℕ) × (length rest ≤ 1) × ((seat m S).used ++ taken (awaited S m.phase m.opened) kind n
+    ≡ (seat m' S).used ++ rest)
+    × (is_on m'.phase ≡ true → (rest ≡ []) × (awaited S m'.phase m'.opened
+    ≡ awaited_then (awaited S m.phase m.opened) kind))
+
+taken_short : (o : Option ℕ) (kind : LineKind) (n : ℕ) → length (taken o kind n) ≤ 1
+taken_short None kind n = omega arith
+taken_short (Some k) kind n = at (is_move kind)
+  where
+    at : (b : Bool) → length (if b then (n - k) ∷ [] else []) ≤ 1
+    at true = omega arith
+    at false = omega arith
+
+-- the match is over, with the same times
+ends_grow : (S : Colour) (kind : LineKind) (n : ℕ) (m m' : Match) → m'.white.used ≡ m.white.used → m'.black.used
+    ≡ m.black.used → is_on m'.phase ≡ false → Grows S kind n m m'
+ends_grow S kind n m m' w b off = (
+  taken (awaited S m.phase m.opened) kind n,
+  taken_short (awaited S m.phase m.opened) kind n,
+  ap
+      (λ (l : List ℕ). l ++ taken (awaited S m.phase m.opened) kind n) (sym (used_same m m' w b S)),
+  λ on. not_on
+      (sym off ∙ on),
+)
+
+not_move : (kind : LineKind) → move_said kind ≡ [] → is_move kind ≡ false
+not_move (Features t) h = refl
+not_move (Moves t) h = cc
+not_move Resigns h = refl
+not_move OffersDraw h = refl
+not_move ClaimsDraw h = refl
+not_move (ClaimsWin c) h = refl
+not_move Rejects h = refl
+not_move (Answers n) h = refl
+not_move SaysElse h = refl
+
+-- a line that is no move leaves all as it was
+stays_grow : (S : Colour) (kind : LineKind) (n : ℕ) (m m' : Match) → m'.white.used ≡ m.white.used → m'.black.used
+    ≡ m.black.used → m'.phase ≡ m.phase → m'.opened ≡ m.opened
+    → is_move kind ≡ false → Grows S kind n m m'
+stays_grow S kind n m m' w b p o none = (
+  [],
+  omega arith,
+  at (awaited S m.phase m.opened)
+      ∙ ap (λ (l : List ℕ). l ++ []) (sym (used_same m m' w b S)),
+  λ on.
+      (refl, rw (p, o) (next (awaited S m.phase m.opened))),
+)
+  where
+    at : (o : Option ℕ) → (seat m S).used ++ taken o kind n ≡ (seat m S).used ++ []
+    at None = refl
+    at (Some k) = rw none refl
+
+    next : (o : Option ℕ) → o ≡ awaited_then o kind
+    next None = refl
+    next (Some k) = rw none refl
+
+-- no move is awaited before the line or behind it
+apart_grow : (S : Colour) (kind : LineKind) (n : ℕ) (m m' : Match) (p : Phase) → m.phase ≡ p → awaited S p m.opened
+    ≡ None → m'.white.used ≡ m.white.used → m'.black.used ≡ m.black.used
+    → awaited S m'.phase m'.opened ≡ None → Grows S kind n m m'
+apart_grow S kind n m m' p e a w b t =
+    rw (e, a) ([], omega arith, ap (λ (l : List ℕ). l ++ []) (sym (used_same m m' w b S)), λ on. (refl, t))
+
+plays_grow : (S c : Colour) (text : List ℕ) (move : Move) (n : ℕ) (m : Match) → m.phase ≡ Before c
+    → Grows S (Moves text) n m (played_by c move (n - m.opened) m)
+plays_grow White White text move n m p = rw p
+    ([], omega arith, sym (append-nil (m.white.used ++ (n - m.opened) ∷ [])), λ on. (refl, refl))
+plays_grow Black Black text move n m p = rw p
+    ([], omega arith, sym (append-nil (m.black.used ++ (n - m.opened) ∷ [])), λ on. (refl, refl))
+plays_grow White Black text move n m p = rw p ([], omega arith, refl, λ on. (refl, refl))
+plays_grow Black White text move n m p = rw p ([], omega arith, refl, λ on. (refl, refl))
+
+decides_grow : (S c : Colour) (text : List ℕ) (move : Move) (n : ℕ) (m : Match) (reason : Reason) → m.phase ≡ Before c
+    → Grows S (Moves text) n m (over reason (played_by c move (n - m.opened) m))
+decides_grow White White text move n m reason p =
+    rw p ([], omega arith, sym (append-nil (m.white.used ++ (n - m.opened) ∷ [])), λ on. not_on on)
+decides_grow Black Black text move n m reason p =
+    rw p ([], omega arith, sym (append-nil (m.black.used ++ (n - m.opened) ∷ [])), λ on. not_on on)
+decides_grow White Black text move n m reason p = rw p ([], omega arith, refl, λ on. not_on on)
+decides_grow Black White text move n m reason p = rw p ([], omega arith, refl, λ on. not_on on)
+
+hello_counts : (S c : Colour) (items : List Item) (k : ℕ) (kind : LineKind) (n : ℕ) (m : Match) → m.phase ≡ Hello c
+    → (let m' = hear c items m in Grows S kind n m (record m' { count = k }))
+hello_counts S White items k kind n m p =
+    let m' = hear White items m in apart_grow S kind n m (record m' { count = k }) (Hello White) p refl refl refl
+    (rw p refl)
+hello_counts S Black items k kind n m p =
+    let m' = hear Black items m in apart_grow S kind n m (record m' { count = k }) (Hello Black) p refl refl refl
+    (rw p refl)
+
+offers_grow : (S c : Colour) (kind : LineKind) (n : ℕ) (m : Match) → is_move kind ≡ false
+    → Grows S kind n m (offered c m)
+offers_grow S White kind n m none = stays_grow S kind n m (offered White m) refl refl refl refl none
+offers_grow S Black kind n m none = stays_grow S kind n m (offered Black m) refl refl refl refl none
+
+lines_grow : (r : Rules) (S c : Colour) (kind : LineKind) (n : ℕ) (m : Match)
+    → Lines r c kind n m (λ m'. Grows S kind n m m')
+lines_grow r S c kind n m = record {
+  hello_ends = λ p d. ends_grow S kind n m (over (Faulted c NoDone) (hear c (items_heard kind) m))
+      (hear_used c (items_heard kind) m).0 (hear_used c (items_heard kind) m).1 refl;
+  hello_counts = λ p d few. hello_counts S c (items_heard kind) (m.count + 1) kind n m p;
+  hello_next = λ p s d. apart_grow S kind n m (enter (Hello Black) (hear c (items_heard kind) m)) (Hello White) p refl
+      (hear_used c (items_heard kind) m).0 (hear_used c (items_heard kind) m).1 refl;
+  hello_judged = λ p s d b f. ends_grow S kind n m (enter (Over (Faulted b f)) (hear c (items_heard kind) m))
+      (hear_used c (items_heard kind) m).0 (hear_used c (items_heard kind) m).1 refl;
+  hello_done = λ p s d. apart_grow S kind n m (enter (Setup White) (hear c (items_heard kind) m)) (Hello Black) p refl
+      (hear_used c (items_heard kind) m).0 (hear_used c (items_heard kind) m).1 refl;
+  setup_ends = λ p reason n'. ends_grow S kind n m (over reason m) refl refl refl;
+  setup_counts = λ p pong few. apart_grow S kind n m (record m { count = m.count + 1 }) (Setup c) p refl refl refl
+      (rw p refl);
+  setup_next = λ p s pong. apart_grow S kind n m (enter (Setup Black) m) (Setup White) p refl refl refl refl;
+  setup_done = λ p s pong. apart_grow S kind n m (open_turn r.first m) (Setup Black) p refl refl refl refl;
+  before = λ p. record {
+    row = row;
+    plays = λ text move is reading room timely. rw is (plays_grow S c text move n m p);
+    decides = λ text move v is reading room timely. rw is (decides_grow S c text move n m (Decided v) p);
+  };
+  behind = λ p. record {
+    row = row;
+    passes =
+        λ none. apart_grow S kind n m (open_turn (other c) m) (After c) p refl refl refl refl;
+  };
+}
+  where
+    row : InTurn r c kind m (λ m'. Grows S kind n m m')
+    row = record {
+      ends = λ reason n'. ends_grow S kind n m (over reason m) refl refl refl;
+      counts = λ none few. stays_grow S kind n m (record m { count = m.count + 1 }) refl refl refl refl
+          (not_move kind none);
+      offers = λ none own theirs. offers_grow S c kind n m (not_move kind none);
+    }
+
+-- ---- the transcript
+
+abbrev Ends : Rules → Colour → Match → List Event → List ℕ → Type 0
+Ends r S m T before =
+    (rest : List ℕ) × (length rest ≤ 1) × (before ++ turn_times S (awaited S m.phase m.opened) T
+    ≡ (seat (match_from r m T) S).used ++ rest) × (is_on (match_from r m T).phase ≡ true → rest ≡ [])
+
+own_line : (S : Colour) (opened n : ℕ) (T : List Event) (b : Bool)
+    → (if true && b then (n - opened) ∷ turn_times S None T else turn_times S (Some opened) T)
+    ≡ (if b then (n - opened) ∷ [] else []) ++ turn_times S (if b then None else Some opened) T
+own_line S opened n T true = refl
+own_line S opened n T false = refl
+
+before_line_times : (S c d : Colour) (opened : ℕ) (text : Option (List ℕ)) (n : ℕ) (T : List Event) → same_colour d c
+    ≡ true
+    → turn_times S (awaited S (Before d) opened) (Line c text n ∷ T)
+    ≡ taken (awaited S (Before d) opened) (kind_heard text) n
+    ++ turn_times S (awaited_then (awaited S (Before d) opened) (kind_heard text)) T
+before_line_times White White White opened text n T h = own_line White opened n T (is_move (kind_heard text))
+before_line_times Black Black Black opened text n T h = own_line Black opened n T (is_move (kind_heard text))
+before_line_times White Black Black opened text n T h = refl
+before_line_times Black White White opened text n T h = refl
+before_line_times S White Black opened text n T h = cc
+before_line_times S Black White opened text n T h = cc
+
+-- a line that a turn reads is S's, if S's move is awaited
+line_times : (S c : Colour) (p : Phase) (opened : ℕ) (text : Option (List ℕ)) (n : ℕ) (T : List Event) → reads p c
+    ≡ true
+    → turn_times S (awaited S p opened) (Line c text n ∷ T) ≡ taken (awaited S p opened) (kind_heard text) n
+    ++ turn_times S (awaited_then (awaited S p opened) (kind_heard text)) T
+line_times S c (Before d) opened text n T h = before_line_times S c d opened text n T h
+line_times S c (Hello d) opened text n T h = refl
+line_times S c (Setup d) opened text n T h = refl
+line_times S c (After d) opened text n T h = refl
+line_times S c (Opening d) opened text n T h = refl
+line_times S c (Over x) opened text n T h = refl
+
+line_goes_on : (r : Rules) (S c : Colour) (text : Option (List ℕ)) (n : ℕ) (due : Colour → List SentLine) (m m' : Match)
+    (T : List Event) → reads m.phase c ≡ true → fits_from r due m' T ≡ true
+    → Grows S (kind_heard text) n m m' → Ends r S m' T (seat m' S).used
+    → (rest : List ℕ) × (length rest ≤ 1) × ((seat m S).used
+    ++ turn_times S (awaited S m.phase m.opened) (Line c text n ∷ T) ≡ (seat (match_from r m' T) S).used ++ rest)
+    × (is_on (match_from r m' T).phase ≡ true → rest ≡ [])
+line_goes_on r S c text n due m m' T here f g e = at (is_on m'.phase) refl
+  where
+    at : (b : Bool) → is_on m'.phase ≡ b → (rest : List ℕ) × (length rest ≤ 1)
+        × ((seat m S).used ++ turn_times S (awaited S m.phase m.opened) (Line c text n ∷ T)
+        ≡ (seat (match_from r m' T) S).used ++ rest) × (is_on (match_from r m' T).phase ≡ true → rest ≡ [])
+    at true on = (
+      e.0,
+      e.1,
+      ap (λ (l : List ℕ). (seat m S).used ++ l) (line_times S c m.phase m.opened text n T here)
+          ∙ sym (append_assoc (seat m S).used (taken (awaited S m.phase m.opened) (kind_heard text) n)
+          (turn_times S (awaited_then (awaited S m.phase m.opened) (kind_heard text)) T))
+          ∙ ap (λ (l : List ℕ). l ++ turn_times S (awaited_then (awaited S m.phase m.opened) (kind_heard text)) T)
+          (g.2 ∙ ap (λ (l : List ℕ). (seat m' S).used ++ l) (g.3 on).0 ∙ append-nil (seat m' S).used)
+          ∙ ap (λ (o : Option ℕ). (seat m' S).used ++ turn_times S o T) (sym (g.3 on).1)
+          ∙ e.2,
+      e.3,
+    )
+    at false off = rw (over_stops r due m' T off f) (
+      g.0,
+      g.1,
+      ap (λ (l : List ℕ). (seat m S).used ++ l)
+          (line_times S c m.phase m.opened text n [] here
+          ∙ append-nil (taken (awaited S m.phase m.opened) (kind_heard text) n)) ∙ g.2,
+      λ on. not_on (sym off ∙ on),
+    )
+
+stopped : (r : Rules) (S : Colour) (due : Colour → List SentLine) (o : Option ℕ) (m m' : Match) (T : List Event)
+    → m'.white.used ≡ m.white.used → m'.black.used ≡ m.black.used → is_on m'.phase ≡ false
+    → fits_from r due m' T ≡ true
+    → (rest : List ℕ) × (length rest ≤ 1) × ((seat m S).used ++ turn_times S o T ≡ (seat (match_from r m' T) S).used
+    ++ rest) × (is_on (match_from r m' T).phase ≡ true → rest ≡ [])
+stopped r S due o m m' T w b off f = rw (over_stops r due m' T off f)
+    ([], omega arith, ap (λ (l : List ℕ). l ++ []) (sym (used_same m m' w b S)), λ on. refl)
+
+opened_goes_on : (r : Rules) (S c : Colour) (n : ℕ) (m : Match) (T : List Event) → m.phase ≡ Opening c
+    → (let m' : Match = record m { phase = Before c; opened = n } in Ends r S m' T (seat m' S).used)
+    → Ends r S m (Opened c n ∷ T) (seat m S).used
+opened_goes_on r S c n m T p e =
+    let m' : Match = record m { phase = Before c; opened = n } in
+    rw p (
+      e.0,
+      e.1,
+      ap (λ (l : List ℕ). l ++ turn_times S (if same_colour c S then Some n else None) T)
+          (sym (used_same m m' refl refl S)) ∙ e.2,
+      e.3,
+    )
+
+used_from : (r : Rules) (S : Colour) (due : Colour → List SentLine) (m : Match) (T : List Event) → fits_from r due m T
+    ≡ true → Ends r S m T (seat m S).used
+used_from r S due m [] f = ([], omega arith, refl, λ on. refl)
+used_from r S due m (Line c t n ∷ T) f =
+    line_goes_on r S c t n (block r m (after r m (Line c t n))) m (after r m (Line c t n)) T
+    (and_first (reads m.phase c) _ f) (and_second (reads m.phase c) _ f)
+    (line_outcome r c (kind_heard t) n m (λ m'. Grows S (kind_heard t) n m m') (and_first (reads m.phase c) _ f)
+    (lines_grow r S c (kind_heard t) n m))
+    (used_from r S (block r m (after r m (Line c t n))) (after r m (Line c t n)) T (and_second (reads m.phase c) _ f))
+used_from r S due m (Opened c n ∷ T) f =
+    opened_goes_on r S c n m T (opens_at m.phase c (and_first (opens m.phase c) _ f))
+    (used_from r S (block r m (after r m (Opened c n))) (after r m (Opened c n)) T (and_second (opens m.phase c) _ f))
+used_from r S due m (OutputEnds c ∷ T) f =
+    stopped r S (block r m (after r m (OutputEnds c))) (awaited S m.phase m.opened) m (after r m (OutputEnds c)) T refl
+    refl refl (and_second (fits_next due m (OutputEnds c)) _ f)
+used_from r S due m (FailsToRead c ∷ T) f =
+    stopped r S (block r m (after r m (FailsToRead c))) (awaited S m.phase m.opened) m (after r m (FailsToRead c)) T
+    refl refl refl (and_second (fits_next due m (FailsToRead c)) _ f)
+used_from r S due m (FailsToWrite c ∷ T) f =
+    stopped r S (block r m (after r m (FailsToWrite c))) (awaited S m.phase m.opened) m (after r m (FailsToWrite c)) T
+    refl refl refl (and_second (fits_next due m (FailsToWrite c)) _ f)
+
+pub used_times_are_differences : UsedTimesAreDifferences
+used_times_are_differences r T White f = used_from r White (entry r start) start T f
+used_times_are_differences r T Black f = used_from r Black (entry r start) start T f

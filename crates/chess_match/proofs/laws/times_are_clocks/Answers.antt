@@ -1,0 +1,8 @@
+use Rattle.chess_match.proofs.TimeLaw.{times_are_clocks, other_times_are_clocks}
+use Rattle.chess_match.proofs.laws.times_are_clocks.Goals as goal
+
+pub returns-clause-own : goal.returns-clause-own
+returns-clause-own c = times_are_clocks
+
+pub returns-clause-others : goal.returns-clause-others
+returns-clause-others c = other_times_are_clocks
