@@ -1,3 +1,5 @@
+ghost use Rattle.std.specs.Prelude.{◌≡◌, OnOk};
+
 use crate::bits::Bits;
 use chess_base::{Position, Variant, read_fen, read_fen_as};
 use chess_moves::Board;
@@ -5,7 +7,9 @@ use std::process::Abort;
 use std::test::Fail;
 
 /// How many lines of so many legal moves there are: the last moves are counted, and each move before is made and taken back.
-fn lines<B: Board>(board: &mut B, depth: u32) -> Result<u64, &'static str> {
+fn lines<B: Board>(board: &mut B, depth: u32) -> Result<u64, &'static str>
+    ensures { OnOk result (B.position board.new ≡ B.position board.old) }
+{
     if depth <= 1 {
         return Ok(board.legal_move_count() as u64);
     }
