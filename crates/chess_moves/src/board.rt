@@ -44,11 +44,11 @@ pub trait Board {
         ensures moves { result.items ≡ moves (position self.now) }
         ensures legal { All (λ m. IsTrue (is_legal (position self.now) m)) result.items };
 
-    /// How many legal moves there are. It makes no list.
+    /// How many legal moves there are.
     fn legal_move_count(&self) -> usize
         ensures { result ≡ length (moves (position self.now)) };
 
-    /// Whether there is a legal move. It looks no further than the first.
+    /// Whether there is a legal move. It looks no further than the first man that has one.
     fn has_legal_move(&self) -> bool
         ensures { result ≡ nat_lt 0 (length (moves (position self.now))) };
 
