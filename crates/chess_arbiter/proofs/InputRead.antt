@@ -2,8 +2,8 @@
 use Rattle.std.proofs.Common.{◌≡◌, ◌≤◌, ◌<◌, ◌-◌, ◌==◌, nat_eq, length-append, ◌∙◌, ℕ, List, [], ◌++◌, length, take, Result, Ok, Err, is_ok, is_err, false, if◌then◌else◌, refl, ap, subst, append-nil, arith}
 use Rattle.std.proofs.lemmas.List.{length-take-le}
 use Rattle.std.specs.Io.KnownBytes.{Consumes}
-use Rattle.chess_base.specs.Devices.{InputState, GavePiece, FailedToRead, risen}
-use Rattle.chess_base.proofs.DeviceLaws.{consumes_more, consumes_none, consumes_kept}
+use Rattle.byte_devices.specs.Devices.{InputState, GavePiece, FailedToRead, risen}
+use Rattle.byte_devices.proofs.DeviceLaws.{consumes_more, consumes_none, consumes_kept}
 use Rattle.chess_arbiter.specs.declared.program.ProgramFault.TheVariants.{ReadFailed, NoMemory, InputTooLong}
 use Rattle.chess_arbiter.specs.Verify.{IsFront, IsAll, IsNotHad}
 

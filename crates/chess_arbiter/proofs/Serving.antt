@@ -1,6 +1,6 @@
 -- A session that was opened serves the standard devices.
 use Rattle.std.proofs.Common.{◌≡◌, Ok, Err, subst}
-use Rattle.chess_base.specs.Devices.{InputState, OutputState}
+use Rattle.byte_devices.specs.Devices.{InputState, OutputState}
 use Rattle.chess_cecp.specs.declared.run.End.{End}
 use Rattle.chess_cecp.specs.declared.run.Fault.{Fault}
 use Rattle.chess_cecp.specs.declared.run.Fault.TheVariants.{Write}

@@ -5,7 +5,7 @@ ghost use Rattle.chess_arbiter.specs.Program.{asks_for_session, asks_to_verify, 
 
 use crate::verify::{Verified, verify};
 use arrayvec::ArrayString;
-use chess_base::device::{Input, Output, put};
+use byte_devices::{Input, Output, put};
 use chess_cecp::{End, Fault, Session, run_session};
 use chess_moves::Plain;
 use chess_pgn::Tags;

@@ -1,7 +1,7 @@
 //! The program on the standard streams.
 
 use crate::program::{ProgramFault, run_program, tell};
-use chess_base::device::Counted;
+use byte_devices::Counted;
 use std::alloc::AllocError;
 use std::process::ExitCode;
 use std::{env, io};

@@ -1,6 +1,6 @@
 use crate::program::{ProgramFault, run_program, tell};
 use crate::standard::{status_of, words_fault};
-use chess_base::device::{Counted, GatedWriter, PieceReader, PieceWriter};
+use byte_devices::{Counted, GatedWriter, PieceReader, PieceWriter};
 use std::cell::Cell;
 use std::io::{self, Read};
 use std::test::Fail;

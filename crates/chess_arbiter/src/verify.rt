@@ -2,12 +2,12 @@
 
 ghost use Rattle.std.specs.Prelude.{◌≡◌, ◌≤◌, ◌+◌, ◌++◌, IfOk, IfErr, length, decimal};
 ghost use Rattle.arrayvec.specs.ArrayVec.{array_vec_len};
-ghost use Rattle.chess_base.specs.Devices.{Puts};
+ghost use Rattle.byte_devices.specs.Devices.{Puts};
 ghost use Rattle.chess_arbiter.specs.Verify.{IsAll, IsNotHad, fault_name, told_termination, report_text, report_line, Told, HandedOn, Verifies};
 
 use crate::program::ProgramFault;
 use arrayvec::ArrayVec;
-use chess_base::device::{Input, Output, WriteFault, put};
+use byte_devices::{Input, Output, WriteFault, put};
 use chess_game::Game;
 use chess_moves::Plain;
 use chess_pgn::{PgnEnd, PgnFault, PgnFaultKind, Termination, read_pgn};

@@ -16,8 +16,6 @@ pub mod FaultsLemmas
 pub mod InitialIsSound
 pub mod Lengths
 pub mod RanksText
-pub mod DeviceLaws
-pub mod Unflushed
 pub mod Ranks
 pub mod Splits
 pub mod Placements

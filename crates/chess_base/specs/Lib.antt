@@ -19,5 +19,3 @@ pub mod RightNames
 pub mod Reading
 pub mod Spelling
 pub mod FenFaults
-pub mod Devices
-pub mod Counting

@@ -12,6 +12,3 @@ mod writing;
 
 pub use reading::{read_fen, read_fen_as};
 pub use writing::{FenText, write_fen};
-
-#[cfg(test)]
-mod tests;

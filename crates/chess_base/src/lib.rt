@@ -1,11 +1,10 @@
-//! Squares, men, moves and sound positions, the rules of chess said plainly, FEN; and what gives and takes bytes.
+//! Squares, men, moves and sound positions, the rules of chess said plainly, and FEN.
 #![tactic(auto)]
 
 mod after;
 pub mod attack;
 pub mod before;
 mod castling;
-pub mod device;
 mod fault;
 mod fen;
 mod initial;
@@ -29,8 +28,3 @@ pub use man::{CastlingSide, Colour, ColourRights, Kind, Man, Move, Rights, Varia
 pub use position::Position;
 pub use setup::{COUNTER_LIMIT, Saved, Setup};
 pub use square::Square;
-
-#[cfg(test)]
-mod chess960_tests;
-#[cfg(test)]
-mod tests;

@@ -4,8 +4,8 @@ use Rattle.std.proofs.Math.Seq.{take-append_seam}
 use Rattle.chess_cecp.proofs.Parts.{line_ended, ten_step, byte_step}
 use Rattle.std.specs.Io.KnownBytes.{Consumes}
 use Rattle.std.specs.Bool.{MatchBool}
-use Rattle.chess_base.specs.Devices.{InputState, GavePiece, risen}
-use Rattle.chess_base.proofs.DeviceLaws.{consumes_more, consumes_none}
+use Rattle.byte_devices.specs.Devices.{InputState, GavePiece, risen}
+use Rattle.byte_devices.proofs.DeviceLaws.{consumes_more, consumes_none}
 use Rattle.chess_cecp.specs.Lines.{LineSeen, Held, nothing_held, lines_from, lines_held, line_of, HasNoEnd}
 use Rattle.chess_cecp.specs.Next.{before_piece, Waits, work, NextLine, HeldLine}
 

@@ -9,8 +9,8 @@ use Rattle.std.proofs.Common.{Option, subst}
 use Rattle.std.specs.Io.KnownBytes.{Consumes, Appends, IsAtEnd}
 use Rattle.std.specs.Bool.{MatchBool}
 use Rattle.std.proofs.lemmas.Grind.{common_steps}
-use Rattle.chess_base.specs.Devices.{InputState, OutputState, Sent, TookThenFailed, BreaksOff, risen, raised}
-use Rattle.chess_base.proofs.DeviceLaws.{consumes_more, consumes_none, appends_more, appends_none}
+use Rattle.byte_devices.specs.Devices.{InputState, OutputState, Sent, TookThenFailed, BreaksOff, risen, raised}
+use Rattle.byte_devices.proofs.DeviceLaws.{consumes_more, consumes_none, appends_more, appends_none}
 use Rattle.chess_cecp.specs.Lines.{LineSeen, Held, nothing_held, lines_heard, lines_held, lines, whole}
 use Rattle.chess_cecp.specs.Next.{before_piece, Waits, GotLine, GotLast, NextLine}
 use Rattle.chess_cecp.specs.Held.{Seen}

@@ -2,7 +2,7 @@
 use Rattle.std.specs.Prelude.{◌≡◌, ℕ, ◌+◌, ◌-◌, ◌*◌, ◌<◌, ◌≤◌, ◌⊎◌, Bool, true, false, List, [], ◌∷◌, ◌++◌, length, take, Option, None, Some, Result, Ok, Err}
 use Rattle.std.specs.Bool.{MatchBool}
 use Rattle.std.specs.Io.KnownBytes.{Consumes, IsAtEnd}
-use Rattle.chess_base.specs.Devices.{InputState, risen, GavePiece, FailedToRead}
+use Rattle.byte_devices.specs.Devices.{InputState, risen, GavePiece, FailedToRead}
 use Rattle.chess_cecp.specs.Lines.{LineSeen, Held, nothing_held, lines_from, lines_held}
 
 -- bytes less the last piece

@@ -2,7 +2,7 @@
 use Rattle.std.specs.Prelude.{◌≡◌, ℕ, ◌+◌, ◌<◌, Bool, true, false, List, [], ◌∷◌, ◌++◌, length, Result, Ok, Err}
 use Rattle.std.specs.Option.{IfSome}
 use Rattle.std.specs.Io.KnownBytes.{Consumes, Appends, IsAtEnd}
-use Rattle.chess_base.specs.Devices.{InputState, OutputState, risen, raised, Begins}
+use Rattle.byte_devices.specs.Devices.{InputState, OutputState, risen, raised, Begins}
 use Rattle.chess_cecp.specs.Lines.{LineSeen, lines_heard, lines, whole}
 use Rattle.chess_cecp.specs.Next.{before_piece}
 use Rattle.chess_cecp.specs.Held.{Seen}

@@ -1,7 +1,7 @@
 -- What a session answers: the table of commands.
 use Rattle.std.specs.Prelude.{◌⊎◌, ℕ, ◌||◌, ◌&&◌, not, nat_le, nat_lt, if◌then◌else◌, Bool, true, false, List, [], ◌∷◌, ◌++◌, length, codes, decimal, Option, None, Some, Result, Ok, Err}
 use Rattle.std.specs.Str.{bytes_eq}
-use Rattle.chess_base.specs.Devices.{Begins}
+use Rattle.byte_devices.specs.Devices.{Begins}
 use Rattle.chess_base.specs.declared.fault.FenFault.{FenFault}
 use Rattle.chess_base.specs.declared.fault.FenFault.TheVariants.{Fields, Placement, Side, Castling, EnPassant, Counters, Kings, Pawns, Men, Check}
 use Rattle.chess_base.specs.declared.man.Move.{Move}

@@ -17,6 +17,3 @@ pub use lines::{Line, Lines};
 pub use run::{End, Fault, run_session};
 pub use session::{Go, Session};
 pub use trim::{is_blank, trim_start};
-
-#[cfg(test)]
-mod tests;

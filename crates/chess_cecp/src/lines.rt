@@ -1,13 +1,13 @@
 //! The lines of a stream, in whatever pieces it comes.
 
 ghost use Rattle.std.specs.Prelude.{◌≡◌, ◌+◌, ◌≤◌, ◌==◌, [], ◌∷◌, ◌++◌, length, take, true, false, MatchOption, MatchResult};
-ghost use Rattle.chess_base.specs.Devices.{GavePiece, FailedToRead};
+ghost use Rattle.byte_devices.specs.Devices.{GavePiece, FailedToRead};
 ghost use Rattle.chess_cecp.specs.Lines.{line_of, nothing_held, trimmed};
 ghost use Rattle.chess_cecp.specs.Next.{NextLine, SameLines, HeldLine, Filled};
 
 use crate::trim::trim;
 use arrayvec::ArrayVec;
-use chess_base::device::{Input, ReadFault};
+use byte_devices::{Input, ReadFault};
 use std::marker::Model;
 
 /// A line: its text, or of one that is too long its first 64 bytes; and whether byte 10 ended it.

@@ -5,7 +5,7 @@ ghost use Rattle.chess_cecp.specs.Run.{Transcript, Ran};
 
 use crate::lines::Lines;
 use crate::session::{Go, Session};
-use chess_base::device::{Input, Output};
+use byte_devices::{Input, Output};
 use chess_moves::Board;
 
 /// How a session ended.

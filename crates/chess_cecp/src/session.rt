@@ -1,7 +1,7 @@
 //! A session: one game, and the answers to lines.
 
 ghost use Rattle.std.specs.Prelude.{◌≡◌, ◌≤◌, [], if◌then◌else◌, IfOk, false, length, codes};
-ghost use Rattle.chess_base.specs.Devices.{Sends};
+ghost use Rattle.byte_devices.specs.Devices.{Sends};
 ghost use Rattle.chess_base.specs.MoveList.{moves};
 ghost use Rattle.chess_base.specs.Reading.{fen_reading_as};
 ghost use Rattle.chess_base.specs.Writing.{fen};
@@ -19,7 +19,7 @@ use crate::answer::{
 use crate::command::{Command, argument, read_command};
 use crate::declaring::declared_by;
 use crate::lines::Line;
-use chess_base::device::{Output, WriteFault, put};
+use byte_devices::{Output, WriteFault, put};
 use chess_base::{Position, Variant, read_fen_as, write_fen};
 use chess_game::{Comment, Game, Outcome};
 use chess_moves::Board;

@@ -10,6 +10,3 @@ mod results;
 pub use ends::{Claims, Verdict};
 pub use game::{BoardSaysOtherwise, Game, NoMove, PlayRefusal};
 pub use results::{Comment, Declared, Outcome};
-
-#[cfg(test)]
-mod tests;

@@ -1,8 +1,8 @@
 -- Texts that are written and flushed, one behind another.
 use Rattle.std.proofs.Common.{◌≡◌, ℕ, List, [], ◌++◌, ap, ◌∙◌, refl, Result, Ok, Err}
 use Rattle.std.specs.Result.{is_err}
-use Rattle.chess_base.specs.Devices.{OutputState, Took, TookThenFailed, Sent, Sends, raised, risen}
-use Rattle.chess_base.proofs.DeviceLaws.{appends_more, appends_none, breaks_more}
+use Rattle.byte_devices.specs.Devices.{OutputState, Took, TookThenFailed, Sent, Sends, raised, risen}
+use Rattle.byte_devices.proofs.DeviceLaws.{appends_more, appends_none, breaks_more}
 use Rattle.chess_match.specs.Run.{Flushed, FlushedThenFailed}
 use Rattle.chess_match.specs.Told.{SendsIf}
 

@@ -3,7 +3,7 @@ use Rattle.std.proofs.Common.{◌≡◌, ℕ, Bool, true, false, inl, inr, List,
 use Rattle.std.specs.Bool.{MatchBool}
 use Rattle.std.specs.Io.KnownBytes.{Consumes, IsAtEnd}
 use Rattle.chess_base.specs.declared.man.Colour.{Colour}
-use Rattle.chess_base.specs.Devices.{InputState, risen}
+use Rattle.byte_devices.specs.Devices.{InputState, risen}
 use Rattle.chess_cecp.specs.Lines.{LineSeen, Held, lines_heard, lines_held}
 use Rattle.chess_cecp.specs.Run.{risen_if}
 use Rattle.chess_match.specs.Delivering.{is_heard_of, Tells, HearsAt}

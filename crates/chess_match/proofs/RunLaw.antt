@@ -5,7 +5,7 @@ use Rattle.std.specs.Option.{IfSome}
 use Rattle.std.specs.Io.KnownBytes.{Consumes}
 use Rattle.std.proofs.lemmas.List.{append_cancel_right}
 use Rattle.chess_base.specs.declared.man.Colour.{Colour}
-use Rattle.chess_base.specs.Devices.{InputState, OutputState, risen}
+use Rattle.byte_devices.specs.Devices.{InputState, OutputState, risen}
 use Rattle.chess_cecp.specs.Run.{risen_if}
 use Rattle.chess_match.specs.Laws.{Streams, IsOf, TellsAll, OnlyOneOfARun}
 use Rattle.chess_match.specs.Match.{Match, Event, Line, Opened, OutputEnds, FailsToRead, FailsToWrite, start, after}

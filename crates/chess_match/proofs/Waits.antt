@@ -1,8 +1,8 @@
 -- Answers that wait in a buffer.
 use Rattle.std.proofs.Common.{◌≡◌, ℕ, List, [], ◌++◌, Result, Ok, Err, refl, sym, ap, ◌∙◌, subst, append_assoc, append-nil}
 use Rattle.std.specs.Result.{is_err}
-use Rattle.chess_base.specs.Devices.{OutputState, Took, Puts, Sends}
-use Rattle.chess_base.proofs.DeviceLaws.{took_none, took_more, breaks_more}
+use Rattle.byte_devices.specs.Devices.{OutputState, Took, Puts, Sends}
+use Rattle.byte_devices.proofs.DeviceLaws.{took_none, took_more, breaks_more}
 use Rattle.chess_pgn.specs.Waiting.{TookSome, Adds}
 use Rattle.chess_match.specs.Run.{Flushed}
 use Rattle.chess_match.specs.Told.{SendsIf}

@@ -5,7 +5,7 @@ use Rattle.std.specs.Io.KnownBytes.{Consumes}
 use Rattle.chess_base.specs.declared.man.Colour.{Colour}
 use Rattle.chess_base.specs.declared.man.Colour.TheVariants.{White, Black}
 use Rattle.chess_base.specs.declared.man.Move.{Move}
-use Rattle.chess_base.specs.Devices.{InputState, OutputState, BreaksOff}
+use Rattle.byte_devices.specs.Devices.{InputState, OutputState, BreaksOff}
 use Rattle.chess_base.specs.Men.{other, same_colour}
 use Rattle.chess_cecp.specs.Lines.{LineSeen, Held}
 use Rattle.chess_cecp.specs.Next.{GotLine, GotLast, GotNone, GotFault}

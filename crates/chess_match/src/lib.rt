@@ -33,8 +33,3 @@ pub use moments::Moments;
 pub use phase::Phase;
 pub use reason::{DrawClaim, MatchFault, Reason};
 pub use run::{Ends, MatchEnd, Setup, run_match};
-
-#[cfg(test)]
-mod match_tests;
-#[cfg(test)]
-mod tests;

@@ -28,7 +28,7 @@ use crate::played::Played;
 use crate::reason::{MatchFault, Reason, first_fault};
 use crate::sending::send;
 use crate::state::{Core, ENTRY, Given};
-use chess_base::device::{Input, Output, ReadFault};
+use byte_devices::{Input, Output, ReadFault};
 use chess_base::{Colour, Position};
 use chess_cecp::{Line, Lines};
 use chess_game::{Comment, Game, Outcome};

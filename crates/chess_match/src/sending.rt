@@ -2,7 +2,7 @@
 
 ghost use Rattle.std.specs.Prelude.{◌≡◌, ◌≢◌, ◌+◌, false, Ok, IfOk, ◌≤◌, ◌<◌, ◌++◌, ◌∷◌, [], length, IsErr, List, is_some, true, nat_lt, if◌then◌else◌};
 ghost use Rattle.arrayvec.specs.ArrayVec.{array_vec_len};
-ghost use Rattle.chess_base.specs.Devices.{Puts, Sends};
+ghost use Rattle.byte_devices.specs.Devices.{Puts, Sends};
 ghost use Rattle.std.specs.Result.{is_err};
 ghost use Rattle.chess_match.specs.Told.{SendsIf};
 ghost use Rattle.chess_match.specs.Items.{items_of};
@@ -22,7 +22,7 @@ use crate::phase::Phase;
 use crate::played::Played;
 use crate::reason::{MatchFault, Reason};
 use crate::state::{Core, Given};
-use chess_base::device::{Output, WriteFault, put, put_parts};
+use byte_devices::{Output, WriteFault, put, put_parts};
 use chess_base::{Colour, Variant};
 use chess_moves::Board;
 

@@ -4,8 +4,8 @@ use Rattle.std.specs.List.{flat_map}
 use Rattle.std.proofs.Math.Seq.{take-suc}
 use Rattle.std.proofs.lemmas.List.{take-append-drop}
 use Rattle.std.proofs.lemmas.List.Concat.{flat_map-append}
-use Rattle.chess_base.specs.Devices.{OutputState, BreaksOff, Puts}
-use Rattle.chess_base.proofs.DeviceLaws.{took_none, took_more, breaks_more, breaks_longer}
+use Rattle.byte_devices.specs.Devices.{OutputState, BreaksOff, Puts}
+use Rattle.byte_devices.proofs.DeviceLaws.{took_none, took_more, breaks_more, breaks_longer}
 use Rattle.chess_pgn.specs.Waiting.{TookSome, Adds}
 
 -- ---- texts that are added

@@ -8,7 +8,7 @@ use Rattle.std.proofs.lemmas.Fmt.{length-decimal-le}
 use Rattle.chess_base.specs.declared.man.Move.{Move}
 use Rattle.chess_base.specs.declared.man.Variant.{Variant}
 use Rattle.chess_base.specs.declared.setup.Setup.{Setup}
-use Rattle.chess_base.specs.Devices.{OutputState, BreaksOff, Puts}
+use Rattle.byte_devices.specs.Devices.{OutputState, BreaksOff, Puts}
 use Rattle.chess_base.specs.Moves.{is_legal, after}
 use Rattle.chess_game.specs.Game.{State, outcome_now}
 use Rattle.chess_game.specs.Results.{outcome_text}

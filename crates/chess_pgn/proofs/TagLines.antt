@@ -1,7 +1,7 @@
 -- Lines of tags, one behind another.
 use Rattle.std.proofs.Common.{◌≡◌, ℕ, ◌+◌, ◌<◌, List, [], ◌∷◌, ◌++◌, length, get_or, take, refl, sym, ap, subst, ◌∙◌}
 use Rattle.std.specs.List.{flat_map}
-use Rattle.chess_base.specs.Devices.{OutputState, BreaksOff}
+use Rattle.byte_devices.specs.Devices.{OutputState, BreaksOff}
 use Rattle.chess_pgn.specs.Waiting.{TookSome}
 use Rattle.chess_pgn.specs.Written.{tag_line, ended}
 use Rattle.chess_pgn.specs.Tags.{tag_lines_of}

@@ -1,6 +1,6 @@
 -- Text that waits before it is written.
 use Rattle.std.specs.Prelude.{◌≡◌, ℕ, List, ◌++◌, Result, Ok, Err}
-use Rattle.chess_base.specs.Devices.{OutputState, Took, BreaksOff}
+use Rattle.byte_devices.specs.Devices.{OutputState, Took, BreaksOff}
 
 -- a text was added behind what waited: the writer took a beginning of both, and the rest waits
 pub record TookSome (old new : OutputState) (waiting left text : List ℕ) : Type 0 where

@@ -1,11 +1,11 @@
 //! Text that waits before it is written, so that a writer is called once for many lines.
 
 ghost use Rattle.std.specs.Prelude.{◌≡◌, ◌+◌, ◌≤◌, ◌<◌, [], length, OnOk};
-ghost use Rattle.chess_base.specs.Devices.{Puts, joined};
+ghost use Rattle.byte_devices.specs.Devices.{Puts, joined};
 ghost use Rattle.chess_pgn.specs.Waiting.{Adds};
 
 use arrayvec::ArrayVec;
-use chess_base::device::{Output, WriteFault, put};
+use byte_devices::{Output, WriteFault, put};
 use std::marker::Model;
 
 // The most bytes that wait.

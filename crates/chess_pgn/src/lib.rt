@@ -24,10 +24,3 @@ pub use read::{PgnEnd, PgnFault, PgnFaultKind, read_pgn};
 pub use tags::{HowEnded, TagText, Tags};
 pub use termination::Termination;
 pub use write::write_pgn;
-
-#[cfg(test)]
-mod read_tests;
-#[cfg(test)]
-mod tests;
-#[cfg(test)]
-mod write_tests;

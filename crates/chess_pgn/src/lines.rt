@@ -1,12 +1,12 @@
 //! Lines of a game's text, each behind the same prefix.
 
 ghost use Rattle.std.specs.Prelude.{◌≡◌, ◌+◌, ◌≤◌, ◌<◌, [], ◌∷◌, ◌++◌, length};
-ghost use Rattle.chess_base.specs.Devices.{Puts};
+ghost use Rattle.byte_devices.specs.Devices.{Puts};
 ghost use Rattle.chess_pgn.specs.Waiting.{Adds};
 ghost use Rattle.chess_pgn.specs.Written.{placed, column_behind, line_close};
 
 use crate::buffer::TextBuffer;
-use chess_base::device::{Output, WriteFault};
+use byte_devices::{Output, WriteFault};
 
 // The most bytes of a line of moves, its prefix and its end not counted (PGN standard of 1994, section 4.3).
 const LINE_LEN: usize = 79;

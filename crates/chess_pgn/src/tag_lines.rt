@@ -9,7 +9,7 @@ ghost use Rattle.chess_pgn.specs.Tags.{tag_lines_of};
 use crate::lines::LineWriter;
 use crate::tags::TagPair;
 use arrayvec::ArrayVec;
-use chess_base::device::{Output, WriteFault};
+use byte_devices::{Output, WriteFault};
 
 // The line of a tag, put together.
 type TagLine = ArrayVec<u8, 256>;

@@ -2,7 +2,7 @@
 
 ghost use Rattle.std.specs.Prelude.{◌≡◌, ◌≤◌, ◌<◌, [], ◌∷◌, ◌++◌, true, length, decimal, OnOk, IsTrue};
 ghost use Rattle.arrayvec.specs.ArrayVec.{array_vec_len};
-ghost use Rattle.chess_base.specs.Devices.{Puts};
+ghost use Rattle.byte_devices.specs.Devices.{Puts};
 ghost use Rattle.chess_base.specs.Moves.{is_legal, after};
 ghost use Rattle.chess_pgn.specs.GameText.{roster_lines, is_initial, fen_lines, start_lines_in, last_lines, further_lines, tag_lines, number_token, tokens_of_move, move_tokens, game_tokens, placed_all, column_behind_all, pgn};
 ghost use Rattle.chess_pgn.specs.Waiting.{Adds};
@@ -13,7 +13,7 @@ use crate::tag_lines::put_tags;
 use crate::tags::{TagPair, Tags};
 use crate::termination::Termination;
 use arrayvec::ArrayVec;
-use chess_base::device::{Output, WriteFault};
+use byte_devices::{Output, WriteFault};
 use chess_base::{Colour, Move, Position, Setup, Variant, write_fen};
 use chess_game::{Game, Outcome};
 use chess_moves::Board;

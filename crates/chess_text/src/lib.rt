@@ -17,6 +17,3 @@ pub use laws::{
 };
 pub use reading::{Reading, has_move_shape, read_move};
 pub use writing::{SanText, san};
-
-#[cfg(test)]
-mod tests;

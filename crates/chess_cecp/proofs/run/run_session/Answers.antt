@@ -1,6 +1,6 @@
 use Rattle.std.proofs.Common.{[], subst, sym}
 use Rattle.chess_cecp.specs.Lines.{Held}
-use Rattle.chess_base.specs.declared.device.traits.ReadFault.{ReadFault}
+use Rattle.byte_devices.specs.declared.traits.ReadFault.{ReadFault}
 use Rattle.chess_cecp.proofs.RunLemmas.{SoFar, start, reached, go_on, by_quit, by_write, by_last, by_end, by_read, quit_told, on_told}
 use Rattle.chess_cecp.proofs.run.run_session.Goals as goal
 

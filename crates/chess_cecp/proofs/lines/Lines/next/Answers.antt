@@ -1,5 +1,5 @@
 use Rattle.std.proofs.Common.{arith, sym, subst, None, ◌∙◌}
-use Rattle.chess_base.specs.declared.device.traits.ReadFault.{ReadFault}
+use Rattle.byte_devices.specs.declared.traits.ReadFault.{ReadFault}
 use Rattle.chess_cecp.specs.Lines.{Held}
 use Rattle.chess_cecp.specs.Next.{HeldLine}
 use Rattle.chess_cecp.proofs.Reading.{piece_on, end_none, end_last, both_empty}

@@ -1,5 +1,5 @@
 use Rattle.std.proofs.Common.{take}
-use Rattle.chess_base.specs.Devices.{joined}
+use Rattle.byte_devices.specs.Devices.{joined}
 use Rattle.chess_pgn.specs.Waiting.{TookSome}
 use Rattle.chess_pgn.proofs.buffer.TextBuffer.add_parts.Given as goal
 

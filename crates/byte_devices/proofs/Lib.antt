@@ -1,0 +1,2 @@
+pub mod DeviceLaws
+pub mod Unflushed

@@ -1,0 +1,213 @@
+//! An input or an output out of any reader or writer of std.
+
+ghost use Rattle.std.specs.Prelude.{◌≡◌, ◌==◌, ◌-◌, ◌^◌, ◌<◌, false};
+ghost use Rattle.byte_devices.specs.Devices.{risen};
+ghost use Rattle.byte_devices.specs.Counting.{no_counts, one_failure_more, passed_on, counts_after_read, write_passed_on, counts_after_write, counts_after_flush};
+
+use crate::traits::{Input, Output, ReadFault, WriteFault};
+use std::io::{self, Read, Write};
+
+// The counts of a reader's or a writer's calls: failures, ends, the length of the last piece that was read, how many were,
+// and how many bytes were taken since the last flush that succeeded.
+#[derive(Drop)]
+pub(crate) struct Counts {
+    failures: u64,
+    ends: u64,
+    last: usize,
+    pieces: u64,
+    unflushed: u64,
+}
+
+// What is made of a device's answers.
+impl Counts {
+    fn new() -> Self
+        ensures { result ≡ no_counts }
+    {
+        Counts {
+            failures: 0,
+            ends: 0,
+            last: 0,
+            pieces: 0,
+            unflushed: 0,
+        }
+    }
+
+    // Whether no piece more can be counted.
+    fn is_spent(&self) -> bool
+        ensures value { result ≡ (self.now.pieces == 2 ^ 64 - 1) }
+        ensures room { result ≡ false → self.now.pieces < 2 ^ 64 - 1 }
+    {
+        self.pieces == u64::MAX
+    }
+
+    fn fail(&mut self)
+        ensures { self.new ≡ one_failure_more self.old }
+    {
+        self.failures = count_up(self.failures);
+    }
+
+    fn end_read(&mut self, answered: io::Result<usize>) -> Result<usize, ReadFault>
+        requires { self.old.pieces < 2 ^ 64 - 1 }
+        ensures answer { result ≡ passed_on (record {}) answered }
+        ensures counts { self.new ≡ counts_after_read self.old answered }
+    {
+        match answered {
+            Ok(count) => {
+                self.pieces += 1;
+                self.last = count;
+                if count == 0 {
+                    self.ends = count_up(self.ends);
+                }
+                Ok(count)
+            }
+            Err(_) => {
+                self.fail();
+                Err(ReadFault)
+            }
+        }
+    }
+
+    // A write of a piece of that length.
+    fn end_write(&mut self, len: usize, answered: io::Result<usize>) -> Result<usize, WriteFault>
+        ensures answer { result ≡ write_passed_on (record {}) len answered }
+        ensures counts { self.new ≡ counts_after_write self.old result }
+    {
+        match answered {
+            Ok(0) if len > 0 => {
+                self.fail();
+                Err(WriteFault)
+            }
+            Ok(count) => {
+                self.unflushed = self.unflushed.saturating_add(count as u64);
+                Ok(count)
+            }
+            Err(_) => {
+                self.fail();
+                Err(WriteFault)
+            }
+        }
+    }
+
+    fn end_flush(&mut self, answered: io::Result<()>) -> Result<(), WriteFault>
+        ensures answer { result ≡ passed_on (record {}) answered }
+        ensures counts { self.new ≡ counts_after_flush self.old result }
+    {
+        match answered {
+            Ok(()) => {
+                self.unflushed = 0;
+                Ok(())
+            }
+            Err(_) => {
+                self.fail();
+                Err(WriteFault)
+            }
+        }
+    }
+}
+
+/// A reader or a writer, with the counts of its calls. Each call is one call of the device with the same piece. Each `Err`
+/// is a failure, and so is a write that takes nothing of a piece that isn't empty. A count that has reached 2^64 - 1 stays
+/// there, and after as many pieces each read is a failure, with no call of the device.
+#[derive(Drop)]
+pub struct Counted<D> {
+    device: D,
+    counts: Counts,
+}
+
+impl<D> Counted<D> {
+    fn new(device: D) -> Self
+        ensures { result ≡ record { device = device; counts = no_counts } }
+    {
+        Counted {
+            device,
+            counts: Counts::new(),
+        }
+    }
+}
+
+impl<R: Read> Counted<R> {
+    /// An input out of a reader. Nothing is buffered: each piece is one read.
+    pub fn reading(reader: R) -> Self
+        ensures { ⟦<Counted<R> as Input>⟧.seen result ≡ record { known_bytes = R.remaining reader; failure_count = 0; end_count = 0; last_len = 0; pieces_left = 2 ^ 64 - 1 } }
+    {
+        Counted::new(reader)
+    }
+
+    /// The reader.
+    pub fn reader(&self) -> &R
+        ensures { R.remaining result.now ≡ (⟦<Counted<R> as Input>⟧.seen self.now).known_bytes }
+    {
+        &self.device
+    }
+}
+
+impl<W: Write> Counted<W> {
+    /// An output out of a writer. Nothing is buffered: each write is one write.
+    pub fn writing(writer: W) -> Self
+        ensures { ⟦<Counted<W> as Output>⟧.seen result ≡ record { known_bytes = W.contents writer; failure_count = 0; unflushed = 0 } }
+    {
+        Counted::new(writer)
+    }
+
+    /// The writer.
+    pub fn writer(&self) -> &W
+        ensures { W.contents result.now ≡ (⟦<Counted<W> as Output>⟧.seen self.now).known_bytes }
+    {
+        &self.device
+    }
+
+    /// The writer, taken out.
+    pub fn into_writer(self) -> W
+        ensures { W.contents result ≡ (⟦<Counted<W> as Output>⟧.seen self).known_bytes }
+    {
+        let Counted { device, counts: _ } = self;
+        device
+    }
+}
+
+// A count after one more, which stays at its largest.
+#[tactic(auto, unfolding(crate::specs::Devices::risen))]
+pub(crate) fn count_up(count: u64) -> u64
+    ensures { result ≡ risen count }
+{
+    count.saturating_add(1)
+}
+
+impl<R: Read> Input for Counted<R> {
+    ghost use Rattle.std.specs.Prelude.{◌-◌, ◌^◌};
+
+    ghost seen = { λ c. record {
+      known_bytes = R.remaining c.device;
+      failure_count = c.counts.failures;
+      end_count = c.counts.ends;
+      last_len = c.counts.last;
+      pieces_left = 2 ^ 64 - 1 - c.counts.pieces;
+    } };
+
+    fn read(&mut self, buf: &mut [u8]) -> Result<usize, ReadFault> {
+        if self.counts.is_spent() {
+            self.counts.fail();
+            return Err(ReadFault);
+        }
+        let answered = self.device.read(buf);
+        self.counts.end_read(answered)
+    }
+}
+
+impl<W: Write> Output for Counted<W> {
+    ghost seen = { λ c. record {
+      known_bytes = W.contents c.device;
+      failure_count = c.counts.failures;
+      unflushed = c.counts.unflushed;
+    } };
+
+    fn write(&mut self, buf: &[u8]) -> Result<usize, WriteFault> {
+        let answered = self.device.write(buf);
+        self.counts.end_write(buf.len(), answered)
+    }
+
+    fn flush(&mut self) -> Result<(), WriteFault> {
+        let answered = self.device.flush();
+        self.counts.end_flush(answered)
+    }
+}

@@ -1,0 +1,123 @@
+//! A reader and a writer over memory with a gate between them, for tests of what was written and flushed when more was
+//! asked for. What the gate holds at a call no contract can say, so it is shown by tests.
+
+ghost use Rattle.std.specs.Prelude.{◌≡◌, [], ◌<◌, ◌≤◌, ◌==◌, length, min, position, IfOk, IfSome, is_err, if◌then◌else◌};
+ghost use Rattle.std.specs.Io.{ReadsAtMost, WritesAtMost};
+ghost use Rattle.std.specs.Io.KnownBytes.{ReadConsumes, WriteAppends};
+ghost use Rattle.byte_devices.specs.Devices.{risen, first_line_len};
+
+use crate::counted::count_up;
+use std::alloc::Global;
+use std::cell::Cell;
+use std::io::{Error, ErrorKind, Read, Result, Write};
+
+/// Gives one line at a call, and shuts the gate behind it; a flush of its `GatedWriter` opens it, and a write shuts it too.
+/// Where the gate is shut, a read fails and is counted: it came too early, before the answer to the last line was handed on.
+#[derive(Drop)]
+pub struct GatedReader<'a> {
+    /// The bytes that are still to be given.
+    pub rest: &'a [u8],
+    /// How often it was asked too early.
+    pub early: u64,
+    /// Whether the gate is open.
+    pub open: &'a Cell<bool>,
+}
+
+impl<'a> GatedReader<'a> {
+    /// A reader that gave nothing yet. The gate is to be open for its first line.
+    pub fn new(bytes: &'a [u8], open: &'a Cell<bool>) -> Self
+        ensures bytes { result.rest.now ≡ bytes.now }
+        ensures early { result.early ≡ 0 }
+    {
+        GatedReader {
+            rest: bytes,
+            early: 0,
+            open,
+        }
+    }
+}
+
+// The place of the first byte 10.
+fn line_end(text: &[u8]) -> Option<usize>
+    ensures value { result ≡ position (λ b. b == 10) text.now }
+    ensures in_range { IfSome result (λ at. at < length text.now) }
+{
+    text.iter().position(|byte| *byte == b'\n')
+}
+
+// The length of the first line, with its byte 10.
+fn line_len(text: &[u8]) -> usize
+    ensures value { result ≡ first_line_len text.now }
+    ensures in_range { result ≤ length text.now }
+    ensures some { 0 < length text.now → 0 < result }
+{
+    match line_end(text) {
+        Some(at) => at + 1,
+        None => text.len(),
+    }
+}
+
+impl Read for GatedReader<'_> {
+    ghost use Rattle.std.specs.Prelude.{Some};
+
+    ghost remaining = { λ r. Some r.rest.now };
+
+    fn read(&mut self, buf: &mut [u8]) -> Result<usize>
+        ensures bound { ReadsAtMost result buf.new }
+        ensures bytes { ReadConsumes (Some self.old.rest.now) (Some self.new.rest.now) result buf.new }
+        ensures line { IfOk result (λ n. n ≡ min (first_line_len self.old.rest.now) (length buf.old)) }
+        ensures early { self.new.early ≡ (if is_err result then risen self.old.early else self.old.early) }
+    {
+        if !self.open.replace(false) {
+            self.early = count_up(self.early);
+            return Err(Error::from(ErrorKind::Other));
+        }
+        let count = line_len(self.rest).min(buf.len());
+        let (piece, rest) = self.rest.split_at(count);
+        buf[..count].copy_from_slice(piece);
+        self.rest = rest;
+        Ok(count)
+    }
+}
+
+/// Takes all bytes. A write shuts the gate, and a flush opens it.
+#[derive(Drop)]
+pub struct GatedWriter<'a> {
+    /// The bytes that it took.
+    pub bytes: Vec<u8>,
+    /// Whether the gate is open.
+    pub open: &'a Cell<bool>,
+}
+
+impl<'a> GatedWriter<'a> {
+    /// A writer that took nothing yet.
+    pub fn new(alloc: Global, open: &'a Cell<bool>) -> Self
+        ensures { result.bytes.items ≡ [] }
+    {
+        GatedWriter {
+            bytes: Vec::new(alloc),
+            open,
+        }
+    }
+}
+
+impl Write for GatedWriter<'_> {
+    ghost use Rattle.std.specs.Prelude.{Some};
+
+    ghost contents = { λ w. Some w.bytes.items };
+
+    fn write(&mut self, buf: &[u8]) -> Result<usize>
+        ensures bound { WritesAtMost result buf.now }
+        ensures bytes { WriteAppends (Some self.old.bytes.items) (Some self.new.bytes.items) result buf.now }
+        ensures whole { IfOk result (λ n. n ≡ length buf.now) }
+    {
+        self.open.set(false);
+        self.bytes.extend_from_slice(buf)?;
+        Ok(buf.len())
+    }
+
+    fn flush(&mut self) -> Result<()> {
+        self.open.set(true);
+        Ok(())
+    }
+}

@@ -1,0 +1,138 @@
+//! A reader and a writer over memory, for tests: they cut pieces as told, fail at one call, and go on.
+
+ghost use Rattle.std.specs.Prelude.{◌≡◌, [], ◌<◌, ◌↔◌, min, length, IsErr, IfOk, IfErr};
+ghost use Rattle.std.specs.Io.{ReadsAtMost, WritesAtMost};
+ghost use Rattle.std.specs.Io.KnownBytes.{ReadConsumes, WriteAppends, Keeps};
+ghost use Rattle.byte_devices.specs.Devices.{risen};
+
+use crate::counted::count_up;
+use std::alloc::Global;
+use std::io::{Error, ErrorKind, Read, Result, Write};
+
+/// Gives the bytes in pieces of at most `cut` bytes. The call numbered `fails_at`, from 1 on, fails and moves no byte;
+/// 0 stands for none.
+#[derive(Drop)]
+pub struct PieceReader<'a> {
+    /// The bytes that are still to be given.
+    pub rest: &'a [u8],
+    /// The most bytes of a piece.
+    pub cut: usize,
+    /// The number of the call that fails, 0 for none.
+    pub fails_at: u64,
+    /// How many calls there were.
+    pub calls: u64,
+    ghost cut_some: { 0 < cut },
+}
+
+impl<'a> PieceReader<'a> {
+    /// A reader that was not called yet.
+    pub fn new(bytes: &'a [u8], cut: usize, fails_at: u64) -> Self
+        requires { 0 < cut }
+        ensures bytes { result.rest.now ≡ bytes.now }
+        ensures cut { result.cut ≡ cut }
+        ensures fails { result.fails_at ≡ fails_at }
+        ensures calls { result.calls ≡ 0 }
+    {
+        PieceReader {
+            rest: bytes,
+            cut,
+            fails_at,
+            calls: 0,
+        }
+    }
+}
+
+impl Read for PieceReader<'_> {
+    ghost use Rattle.std.specs.Prelude.{Some};
+
+    ghost remaining = { λ r. Some r.rest.now };
+
+    fn read(&mut self, buf: &mut [u8]) -> Result<usize>
+        ensures bound { ReadsAtMost result buf.new }
+        ensures bytes { ReadConsumes (Some self.old.rest.now) (Some self.new.rest.now) result buf.new }
+        ensures calls { self.new.calls ≡ risen self.old.calls }
+        ensures fails { IsErr result ↔ (self.new.calls ≡ self.old.fails_at) }
+        ensures len { IfOk result (λ n. n ≡ min self.old.cut (min (length buf.old) (length self.old.rest.now))) }
+        ensures cut { self.new.cut ≡ self.old.cut }
+        ensures fails_at { self.new.fails_at ≡ self.old.fails_at }
+    {
+        self.calls = count_up(self.calls);
+        if self.calls == self.fails_at {
+            return Err(Error::from(ErrorKind::Other));
+        }
+        let count = self.cut.min(buf.len()).min(self.rest.len());
+        let (piece, rest) = self.rest.split_at(count);
+        buf[..count].copy_from_slice(piece);
+        self.rest = rest;
+        Ok(count)
+    }
+}
+
+/// Takes at most `cut` bytes at a time. The call numbered `fails_at`, from 1 on, fails and takes nothing, a flush
+/// too; 0 stands for none.
+#[derive(Drop)]
+pub struct PieceWriter {
+    /// The bytes that it took.
+    pub bytes: Vec<u8>,
+    /// The most bytes that it takes at a time.
+    pub cut: usize,
+    /// The number of the call that fails, 0 for none.
+    pub fails_at: u64,
+    /// How many calls there were.
+    pub calls: u64,
+}
+
+impl PieceWriter {
+    /// A writer that took nothing yet.
+    pub fn new(alloc: Global, cut: usize, fails_at: u64) -> Self
+        ensures bytes { result.bytes.items ≡ [] }
+        ensures cut { result.cut ≡ cut }
+        ensures fails { result.fails_at ≡ fails_at }
+        ensures calls { result.calls ≡ 0 }
+    {
+        PieceWriter {
+            bytes: Vec::new(alloc),
+            cut,
+            fails_at,
+            calls: 0,
+        }
+    }
+}
+
+impl Write for PieceWriter {
+    ghost use Rattle.std.specs.Prelude.{Some};
+
+    ghost contents = { λ w. Some w.bytes.items };
+
+    fn write(&mut self, buf: &[u8]) -> Result<usize>
+        ensures bound { WritesAtMost result buf.now }
+        ensures bytes { WriteAppends (Some self.old.bytes.items) (Some self.new.bytes.items) result buf.now }
+        ensures calls { self.new.calls ≡ risen self.old.calls }
+        ensures fails { self.new.calls ≡ self.old.fails_at → IsErr result }
+        ensures len { IfOk result (λ n. n ≡ min self.old.cut (length buf.now)) }
+        ensures cut { self.new.cut ≡ self.old.cut }
+        ensures fails_at { self.new.fails_at ≡ self.old.fails_at }
+    {
+        self.calls = count_up(self.calls);
+        if self.calls == self.fails_at {
+            return Err(Error::from(ErrorKind::Other));
+        }
+        let count = self.cut.min(buf.len());
+        self.bytes.extend_from_slice(&buf[..count])?;
+        Ok(count)
+    }
+
+    fn flush(&mut self) -> Result<()>
+        ensures bytes { Keeps (Some self.old.bytes.items) (Some self.new.bytes.items) }
+        ensures calls { self.new.calls ≡ risen self.old.calls }
+        ensures fails { IsErr result ↔ (self.new.calls ≡ self.old.fails_at) }
+        ensures cut { self.new.cut ≡ self.old.cut }
+        ensures fails_at { self.new.fails_at ≡ self.old.fails_at }
+    {
+        self.calls = count_up(self.calls);
+        if self.calls == self.fails_at {
+            return Err(Error::from(ErrorKind::Other));
+        }
+        Ok(())
+    }
+}

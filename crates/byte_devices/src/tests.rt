@@ -1,0 +1,217 @@
+ghost use Rattle.std.specs.Prelude.{◌≤◌, IfOk};
+
+use crate::{
+    Counted, GatedReader, GatedWriter, Input, Output, PieceReader, PieceWriter, ReadFault,
+    WriteFault, put, put_parts,
+};
+use std::cell::Cell;
+use std::io::{self, Read, Write};
+use std::process::Abort;
+use std::test::Fail;
+
+const TEXT: &[u8] = b"new\ne2e4\n";
+
+// Reads a piece, which is to be this one.
+fn gives<R: Input>(rt: &impl Abort, input: &mut R, piece: Result<&[u8], ReadFault>) {
+    let mut buffer = [0; 16];
+    match (input.read(&mut buffer), piece) {
+        (Ok(count), Ok(piece)) => assert_eq!(rt; &buffer[..count], piece),
+        (Err(_), Err(_)) => {}
+        (Ok(count), Err(_)) => assert!(rt; false, "gave {count} bytes in place of a failure"),
+        (Err(_), Ok(piece)) => assert!(rt; false, "failed in place of {piece:?}"),
+    }
+}
+
+#[test]
+fn healthy_devices_never_fail(rt: HostRuntime) -> Result<(), Fail> {
+    let mut input = Counted::reading(TEXT);
+    gives(&rt, &mut input, Ok(TEXT));
+    gives(&rt, &mut input, Ok(b""));
+    gives(&rt, &mut input, Ok(b""));
+    let mut output = Counted::writing(Vec::new(rt.alloc()));
+    assert_eq!(rt; put(&mut output, TEXT), Ok(()));
+    assert_eq!(rt; put(&mut output, b""), Ok(()));
+    assert_eq!(rt; output.write(b""), Ok(0));
+    assert_eq!(rt; output.flush(), Ok(()));
+    assert_eq!(rt; output.writer().as_slice(), TEXT);
+    let parts = [b"pong ".as_slice(), b"7", b"", b"\n"];
+    assert_eq!(rt; put_parts(&mut output, &parts), Ok(()));
+    assert_eq!(rt;
+        output.into_writer().as_slice(),
+        b"new\ne2e4\npong 7\n".as_slice()
+    );
+    Ok(())
+}
+
+#[test]
+fn pieces_are_cut_as_told(rt: HostRuntime) {
+    for cut in 1..4 {
+        let mut input = Counted::reading(PieceReader::new(TEXT, cut, 0));
+        for piece in TEXT.chunks(cut) {
+            gives(&rt, &mut input, Ok(piece));
+        }
+        gives(&rt, &mut input, Ok(b""));
+    }
+}
+
+#[test]
+fn one_call_fails_and_the_next_goes_on(rt: HostRuntime) {
+    let mut input = Counted::reading(PieceReader::new(TEXT, 4, 2));
+    gives(&rt, &mut input, Ok(b"new\n"));
+    gives(&rt, &mut input, Err(ReadFault));
+    gives(&rt, &mut input, Ok(b"e2e4"));
+    let mut output = Counted::writing(PieceWriter::new(rt.alloc(), 16, 2));
+    assert_eq!(rt; put(&mut output, b"new\n"), Ok(()));
+    assert_eq!(rt; output.flush(), Err(WriteFault));
+    assert_eq!(rt; output.flush(), Ok(()));
+    assert_eq!(rt; put(&mut output, b"e2e4"), Ok(()));
+    assert_eq!(rt; output.writer().bytes.as_slice(), b"new\ne2e4".as_slice());
+}
+
+// The bytes at a time, the call that fails, the answer, and what was taken of the parts.
+#[test]
+fn parts_break_off_where_a_write_fails(rt: HostRuntime) {
+    let parts = [b"pong ".as_slice(), b"7", b"\n"];
+    let rows: [(usize, u64, Result<(), WriteFault>, &[u8]); 6] = [
+        (16, 0, Ok(()), b"pong 7\n"),
+        (1, 0, Ok(()), b"pong 7\n"),
+        (0, 0, Err(WriteFault), b""),
+        (16, 1, Err(WriteFault), b""),
+        (2, 3, Err(WriteFault), b"pong"),
+        (16, 3, Err(WriteFault), b"pong 7"),
+    ];
+    for (cut, fails_at, answer, taken) in rows {
+        let mut output = Counted::writing(PieceWriter::new(rt.alloc(), cut, fails_at));
+        assert_eq!(rt;
+            put_parts(&mut output, &parts),
+            answer,
+            "cut {cut}, fails at {fails_at}"
+        );
+        assert_eq!(rt; output.writer().bytes.as_slice(), taken);
+    }
+}
+
+// A device that counts its calls and the bytes of their pieces, and answers all alike: so many bytes, or a failure.
+#[derive(Drop)]
+struct Asked {
+    calls: u64,
+    bytes: u64,
+    answer: Option<usize>,
+}
+
+impl Asked {
+    fn answering(answer: Option<usize>) -> Self {
+        Asked {
+            calls: 0,
+            bytes: 0,
+            answer,
+        }
+    }
+
+    fn ask(&mut self, len: usize) -> io::Result<usize>
+        ensures { IfOk result (λ n. n ≤ len) }
+    {
+        self.calls = self.calls.saturating_add(1);
+        self.bytes = self.bytes.saturating_add(len as u64);
+        match self.answer {
+            Some(count) => Ok(count.min(len)),
+            None => Err(io::Error::from(io::ErrorKind::Other)),
+        }
+    }
+}
+
+impl Read for Asked {
+    ghost use Rattle.std.specs.Prelude.{None};
+
+    ghost remaining = { λ a. None };
+
+    fn read(&mut self, buf: &mut [u8]) -> io::Result<usize> {
+        self.ask(buf.len())
+    }
+}
+
+impl Write for Asked {
+    ghost use Rattle.std.specs.Prelude.{None};
+
+    ghost contents = { λ a. None };
+
+    fn write(&mut self, buf: &[u8]) -> io::Result<usize> {
+        self.ask(buf.len())
+    }
+
+    fn flush(&mut self) -> io::Result<()> {
+        match self.ask(0) {
+            Ok(_) => Ok(()),
+            Err(error) => Err(error),
+        }
+    }
+}
+
+const PIECE: [u8; 9000] = [0; 9000];
+
+// Each read is one call of the device with all of the piece, whatever came before.
+#[test]
+fn a_read_is_one_read_of_the_device(rt: HostRuntime) {
+    let mut buffer = PIECE;
+    let rows = [
+        (Some(9000), Ok(9000)),
+        (Some(1), Ok(1)),
+        (Some(0), Ok(0)),
+        (None, Err(ReadFault)),
+    ];
+    for (answer, wanted) in rows {
+        let mut input = Counted::reading(Asked::answering(answer));
+        for calls in 1..1500 {
+            assert_eq!(rt; input.read(&mut buffer), wanted);
+            assert_eq!(rt; input.reader().calls, calls);
+            assert_eq!(rt; input.reader().bytes, calls * 9000);
+        }
+    }
+}
+
+// So is each write, and each flush one flush.
+#[test]
+fn a_write_is_one_write_of_the_device(rt: HostRuntime) {
+    let rows = [
+        (Some(9000), Ok(9000), Ok(())),
+        (Some(1), Ok(1), Ok(())),
+        (Some(0), Err(WriteFault), Ok(())),
+        (None, Err(WriteFault), Err(WriteFault)),
+    ];
+    for (answer, wrote, flushed) in rows {
+        let mut output = Counted::writing(Asked::answering(answer));
+        for calls in 1..1500 {
+            assert_eq!(rt; output.write(&PIECE), wrote);
+            assert_eq!(rt; output.writer().calls, calls);
+            assert_eq!(rt; output.writer().bytes, calls * 9000);
+        }
+        let mut output = Counted::writing(Asked::answering(answer));
+        for calls in 1..1500 {
+            assert_eq!(rt; output.flush(), flushed);
+            assert_eq!(rt; output.writer().calls, calls);
+        }
+    }
+}
+
+#[test]
+fn gate_opens_at_each_flush_for_one_line(rt: HostRuntime) {
+    let open = Cell::new(true);
+    let mut input = Counted::reading(GatedReader::new(b"new\ne2e4\nping 1\nquit\n", &open));
+    let mut output = Counted::writing(GatedWriter::new(rt.alloc(), &open));
+    gives(&rt, &mut input, Ok(b"new\n"));
+    gives(&rt, &mut input, Err(ReadFault));
+    assert_eq!(rt; put(&mut output, b"pong 1\n"), Ok(()));
+    gives(&rt, &mut input, Err(ReadFault));
+    assert_eq!(rt; output.flush(), Ok(()));
+    gives(&rt, &mut input, Ok(b"e2e4\n"));
+    assert_eq!(rt; input.reader().early, 2);
+    // A second line needs a second flush, and that behind all that was written.
+    gives(&rt, &mut input, Err(ReadFault));
+    assert_eq!(rt; output.flush(), Ok(()));
+    assert_eq!(rt; put(&mut output, b"x"), Ok(()));
+    gives(&rt, &mut input, Err(ReadFault));
+    assert_eq!(rt; output.flush(), Ok(()));
+    gives(&rt, &mut input, Ok(b"ping 1\n"));
+    assert_eq!(rt; input.reader().early, 4);
+    assert_eq!(rt; output.writer().bytes.as_slice(), b"pong 1\nx".as_slice());
+}

@@ -1,0 +1,58 @@
+//! What reads pieces, and what takes them.
+
+ghost use Rattle.std.specs.Prelude.{◌<◌, length};
+ghost use Rattle.byte_devices.specs.Devices.{InputState, OutputState, ReadStep, WriteStep, FlushStep, Puts, joined};
+
+/// A read failed. What was read before stays.
+#[derive(Clone, Copy, Debug, PartialEq, Eq)]
+pub struct ReadFault;
+
+/// A write or a flush failed. What was taken before stays taken.
+#[derive(Clone, Copy, Debug, PartialEq, Eq)]
+pub struct WriteFault;
+
+/// What gives bytes, in pieces. Its contract counts the calls that failed and the ends that were told.
+pub trait Input {
+    /// What contracts see of it: the bytes still to come where they are known, and the counts.
+    ghost seen: { Self → InputState };
+
+    /// Reads a piece into the front of `buf`, and answers its length in bytes, 0 for the end.
+    fn read(&mut self, buf: &mut [u8]) -> Result<usize, ReadFault>
+        requires { 0 < length buf.old }
+        ensures { ReadStep (seen self.old) (seen self.new) result buf.new };
+}
+
+/// What takes bytes. Its contract counts the calls that failed, and the bytes that are not flushed.
+pub trait Output {
+    /// What contracts see of it: the bytes that it took where they are known, and the counts.
+    ghost seen: { Self → OutputState };
+
+    /// Takes a beginning of `buf`, and answers how many bytes.
+    fn write(&mut self, buf: &[u8]) -> Result<usize, WriteFault>
+        ensures { WriteStep (seen self.old) (seen self.new) result buf.now };
+
+    /// Hands on what was taken, so that a reader at the other end has it.
+    fn flush(&mut self) -> Result<(), WriteFault>
+        ensures { FlushStep (seen self.old) (seen self.new) result };
+}
+
+/// Writes all of a text. After a fault a beginning of it was taken.
+pub fn put<W: Output>(writer: &mut W, text: &[u8]) -> Result<(), WriteFault>
+    ensures { Puts (W.seen writer.old) (W.seen writer.new) result text.now }
+{
+    let mut at = 0;
+    while at < text.len() {
+        at += writer.write(&text[at..])?;
+    }
+    Ok(())
+}
+
+/// Writes texts, one behind another. After a fault a beginning of them was taken.
+pub fn put_parts<W: Output>(writer: &mut W, parts: &[&[u8]]) -> Result<(), WriteFault>
+    ensures { Puts (W.seen writer.old) (W.seen writer.new) result (joined parts.now) }
+{
+    for part in parts {
+        put(writer, part)?;
+    }
+    Ok(())
+}

@@ -1,0 +1,317 @@
+use chess_base::{
+    Colour, ColourRights, FenFault, Kind, Man, Move, Position, Rights, Setup, Square, Variant,
+    read_fen, read_fen_as, write_fen,
+};
+use std::test::Fail;
+
+// A FEN, and what is written of its position in Chess960.
+#[test]
+fn rights_are_read_and_written_by_files(rt: HostRuntime) -> Result<(), Fail> {
+    let rows: [(&[u8], &[u8]); 8] = [
+        (
+            b"rnbqkbnr/pppppppp/8/8/8/8/PPPPPPPP/RNBQKBNR w KQkq - 0 1",
+            b"rnbqkbnr/pppppppp/8/8/8/8/PPPPPPPP/RNBQKBNR w HAha - 0 1",
+        ),
+        (
+            b"rnbqkbnr/pppppppp/8/8/8/8/PPPPPPPP/RNBQKBNR w aqHK - 0 1",
+            b"",
+        ),
+        (
+            b"rnbqkbnr/pppppppp/8/8/8/8/PPPPPPPP/RNBQKBNR w ahAK - 0 1",
+            b"rnbqkbnr/pppppppp/8/8/8/8/PPPPPPPP/RNBQKBNR w HAha - 0 1",
+        ),
+        (
+            b"4k3/8/8/8/8/8/8/RK5R w KQ - 0 1",
+            b"4k3/8/8/8/8/8/8/RK5R w HA - 0 1",
+        ),
+        (
+            b"4k3/8/8/8/8/8/8/RK4RR w K - 0 1",
+            b"4k3/8/8/8/8/8/8/RK4RR w H - 0 1",
+        ),
+        (
+            b"4k3/8/8/8/8/8/8/RK4RR w G - 0 1",
+            b"4k3/8/8/8/8/8/8/RK4RR w G - 0 1",
+        ),
+        (
+            b"rk5r/8/8/8/8/8/8/4K3 b qk - 0 1",
+            b"rk5r/8/8/8/8/8/8/4K3 b ha - 0 1",
+        ),
+        (
+            b"4k3/8/8/8/8/8/8/rRK5 w B - 0 1",
+            b"4k3/8/8/8/8/8/8/rRK5 w B - 0 1",
+        ),
+    ];
+    for (text, written) in rows {
+        match read_fen_as(Variant::Fischerandom, text) {
+            Ok(position) => {
+                assert_eq!(rt; position.variant(), Variant::Fischerandom);
+                assert_eq!(rt; write_fen(&position).as_slice(), written);
+            }
+            Err(fault) => {
+                assert_eq!(rt; fault, FenFault::Castling, "at {text:?}");
+                assert!(rt; written.is_empty(), "at {text:?}");
+            }
+        }
+    }
+    Ok(())
+}
+
+// Each field of rights but the last two's names no rook, one right twice, two on one side, or is no such field. The last two have
+// a fault that is told before the squares of the rights, and one that is told after their spelling.
+#[test]
+fn bad_rights_are_refused(rt: HostRuntime) -> Result<(), Fail> {
+    let rows: [(&[u8], FenFault); 16] = [
+        (b"4k3/8/8/8/8/8/8/RK5R w C - 0 1", FenFault::Castling),
+        (b"4k3/8/8/8/8/8/8/RK5R w B - 0 1", FenFault::Castling),
+        (b"4k3/8/8/8/8/8/8/RK6 w K - 0 1", FenFault::Castling),
+        (b"4k3/8/8/8/8/8/8/RK5R w k - 0 1", FenFault::Castling),
+        (b"4k3/8/8/8/8/8/8/RK5R w h - 0 1", FenFault::Castling),
+        (b"4k3/8/8/8/8/8/1K6/R6R w HA - 0 1", FenFault::Castling),
+        (b"4k3/8/8/8/8/8/8/RK5R w HK - 0 1", FenFault::Castling),
+        (b"4k3/8/8/8/8/8/8/RK4RR w GH - 0 1", FenFault::Castling),
+        (b"4k3/8/8/8/8/8/8/RK4RR w KG - 0 1", FenFault::Castling),
+        (b"4k3/8/8/8/8/8/8/RK5R w HH - 0 1", FenFault::Castling),
+        (b"4k3/8/8/8/8/8/8/RK5R w I - 0 1", FenFault::Castling),
+        (b"4k3/8/8/8/8/8/8/RK5R w HAhab - 0 1", FenFault::Castling),
+        (b"4k3/8/8/8/8/8/8/RK5R w H- - 0 1", FenFault::Castling),
+        (b"4k3/8/8/8/8/8/8/RK5R x HH - 0 1", FenFault::Side),
+        (b"4k3/8/8/8/8/8/8/RK3K1R w C - 0 1", FenFault::Kings),
+        (b"4k3/8/8/8/8/8/8/RK5R w HH e4 0 1", FenFault::Castling),
+    ];
+    for (text, fault) in rows {
+        let found = read_fen_as(Variant::Fischerandom, text);
+        assert!(rt; found.err() == Some(fault), "at {text:?}");
+    }
+    Ok(())
+}
+
+#[test]
+fn normal_chess_knows_no_letters_of_files(rt: HostRuntime) -> Result<(), Fail> {
+    let text = b"r3k2r/8/8/8/8/8/8/R3K2R w HAha - 0 1".as_slice();
+    assert!(rt; read_fen(text).err() == Some(FenFault::Castling));
+    assert!(rt; read_fen_as(Variant::Normal, text).err() == Some(FenFault::Castling));
+    assert!(rt; read_fen_as(Variant::Fischerandom, text).is_ok());
+    Ok(())
+}
+
+fn square(file: u8, rank: u8) -> Square {
+    Square::new(rank.wrapping_sub(b'1') % 8 * 8 + file.wrapping_sub(b'a') % 8)
+}
+
+fn play(position: Position, squares: &[u8; 4]) -> Option<Position> {
+    let [from_file, from_rank, to_file, to_rank] = *squares;
+    let m = Move {
+        from: square(from_file, from_rank),
+        to: square(to_file, to_rank),
+        promotion: None,
+    };
+    let again = m;
+    position.is_legal(m).then(|| position.after(again))
+}
+
+// A position, the squares of king and rook, and the FEN after castling; nothing where it is illegal. The king stays, the rook stays,
+// and they change places, on both sides; then out of, through and into attacked squares, with b1 attacked, and off a pin.
+#[test]
+fn castling_leaves_its_positions(rt: HostRuntime) -> Result<(), Fail> {
+    let rows: [(&[u8], &[u8; 4], &[u8]); 12] = [
+        (
+            b"4k3/8/8/8/8/8/8/6KR w H - 0 1",
+            b"g1h1",
+            b"4k3/8/8/8/8/8/8/5RK1 b - - 1 1",
+        ),
+        (
+            b"4k3/8/8/8/8/8/8/4KR2 w F - 0 1",
+            b"e1f1",
+            b"4k3/8/8/8/8/8/8/5RK1 b - - 1 1",
+        ),
+        (
+            b"4k3/8/8/8/8/8/8/5KR1 w G - 0 1",
+            b"f1g1",
+            b"4k3/8/8/8/8/8/8/5RK1 b - - 1 1",
+        ),
+        (
+            b"4k3/8/8/8/8/8/8/1RK5 w B - 0 1",
+            b"c1b1",
+            b"4k3/8/8/8/8/8/8/2KR4 b - - 1 1",
+        ),
+        (
+            b"4k3/8/8/8/8/8/8/3RK3 w D - 0 1",
+            b"e1d1",
+            b"4k3/8/8/8/8/8/8/2KR4 b - - 1 1",
+        ),
+        (
+            b"2rk4/8/8/8/8/8/8/6K1 b c - 0 1",
+            b"d8c8",
+            b"2kr4/8/8/8/8/8/8/6K1 w - - 1 2",
+        ),
+        (b"4kr2/8/8/8/8/8/8/5KR1 w G - 0 1", b"f1g1", b""),
+        (b"k4r2/8/8/8/8/8/8/3K3R w H - 0 1", b"d1h1", b""),
+        (b"k5r1/8/8/8/8/8/8/3K3R w H - 0 1", b"d1h1", b""),
+        (
+            b"1r5k/8/8/8/8/8/8/R3K3 w A - 0 1",
+            b"e1a1",
+            b"1r5k/8/8/8/8/8/8/2KR4 b - - 1 1",
+        ),
+        (b"4k3/8/8/8/8/8/8/rRK5 w B - 0 1", b"c1b1", b""),
+        (b"4k3/8/8/8/8/8/8/2NRK3 w D - 0 1", b"e1d1", b""),
+    ];
+    for (start, squares, fen) in rows {
+        let start = read_fen_as(Variant::Fischerandom, start)
+            .ok()
+            .ok_or("sound")?;
+        match play(start, squares) {
+            Some(position) => assert_eq!(rt; write_fen(&position).as_slice(), fen),
+            None => assert!(rt; fen.is_empty(), "at {squares:?}"),
+        }
+    }
+    Ok(())
+}
+
+// Puts a man on the free place of that number.
+fn put_on_free(rank: &mut [u8; 8], place: usize, man: u8) {
+    let mut left = place;
+    for index in 0..8 {
+        if rank[index] == b'-' {
+            if left == 0 {
+                rank[index] = man;
+                return;
+            }
+            left -= 1;
+        }
+    }
+}
+
+// The first rank of the start with that number, 0 to 959, by the usual numbering: the bishops, the queen, then the knights by a
+// table; a rook, the king and a rook on what is left.
+fn start_rank(number: usize) -> [u8; 8] {
+    const KNIGHTS: [(usize, usize); 10] = [
+        (0, 1),
+        (0, 2),
+        (0, 3),
+        (0, 4),
+        (1, 2),
+        (1, 3),
+        (1, 4),
+        (2, 3),
+        (2, 4),
+        (3, 4),
+    ];
+    let mut rank = [b'-'; 8];
+    rank[number % 4 * 2 + 1] = b'b';
+    rank[number / 4 % 4 * 2] = b'b';
+    put_on_free(&mut rank, number / 16 % 6, b'q');
+    let (first, second) = KNIGHTS[number / 96 % 10];
+    put_on_free(&mut rank, second, b'n');
+    put_on_free(&mut rank, first, b'n');
+    put_on_free(&mut rank, 0, b'r');
+    put_on_free(&mut rank, 0, b'k');
+    put_on_free(&mut rank, 0, b'r');
+    rank
+}
+
+fn place_of(rank: &[u8; 8], man: u8) -> Option<u8> {
+    for index in 0..8 {
+        if rank[index as usize] == man {
+            return Some(index);
+        }
+    }
+    None
+}
+
+fn last_place_of(rank: &[u8; 8], man: u8) -> Option<u8> {
+    let mut last = None;
+    for index in 0..8 {
+        if rank[index as usize] == man {
+            last = Some(index);
+        }
+    }
+    last
+}
+
+const fn man(colour: Colour, kind: Kind) -> Option<Man> {
+    Some(Man { colour, kind })
+}
+
+// The start with its kings, rooks and pawns alone.
+fn start(king: u8, left: u8, right: u8) -> Setup {
+    let mut men = [None; 64];
+    for file in 0..8 {
+        men[8 + file] = man(Colour::White, Kind::Pawn);
+        men[48 + file] = man(Colour::Black, Kind::Pawn);
+    }
+    for rook in [left, right] {
+        men[rook as usize % 8] = man(Colour::White, Kind::Rook);
+        men[56 + rook as usize % 8] = man(Colour::Black, Kind::Rook);
+    }
+    men[king as usize % 8] = man(Colour::White, Kind::King);
+    men[56 + king as usize % 8] = man(Colour::Black, Kind::King);
+    let white = ColourRights {
+        king_side: Some(Square::new(right % 8)),
+        queen_side: Some(Square::new(left % 8)),
+    };
+    let black = ColourRights {
+        king_side: Some(Square::new(56 + right % 8)),
+        queen_side: Some(Square::new(56 + left % 8)),
+    };
+    Setup {
+        variant: Variant::Fischerandom,
+        men,
+        side: Colour::White,
+        rights: Rights { white, black },
+        target: None,
+        halfmove: 0,
+        fullmove: 1,
+    }
+}
+
+// Whether castling with that rook is legal; then king and rook stand on those squares.
+fn castles(position: Position, king: u8, rook: u8, ends: (u8, u8)) -> Result<bool, Fail> {
+    let m = Move {
+        from: Square::new(king % 8),
+        to: Square::new(rook % 8),
+        promotion: None,
+    };
+    let again = m;
+    if !position.is_legal(m) {
+        return Ok(false);
+    }
+    let after = position.after(again);
+    if after.at(Square::new(ends.0 % 8)) != man(Colour::White, Kind::King)
+        || after.at(Square::new(ends.1 % 8)) != man(Colour::White, Kind::Rook)
+    {
+        return Err("king and rook stand elsewhere".into());
+    }
+    Ok(true)
+}
+
+// From each of the 960 starts with its other men gone. How often each castling is legal was counted by Stockfish.
+#[test]
+fn kings_castle_from_every_start(rt: HostRuntime) -> Result<(), Fail> {
+    let mut king_side: u32 = 0;
+    let mut queen_side: u32 = 0;
+    for number in 0..960 {
+        let rank = start_rank(number);
+        let king = place_of(&rank, b'k').ok_or("a king")?;
+        let left = place_of(&rank, b'r').ok_or("a rook")?;
+        let right = last_place_of(&rank, b'r').ok_or("a rook")?;
+        let position = Position::new(start(king, left, right)).ok().ok_or("sound")?;
+        if castles(position, king, right, (6, 5))? {
+            king_side = king_side.saturating_add(1);
+        }
+        if castles(position, king, left, (2, 3))? {
+            queen_side = queen_side.saturating_add(1);
+        }
+    }
+    assert_eq!(rt; start_rank(518).as_slice(), b"rnbqkbnr".as_slice());
+    assert_eq!(rt; (king_side, queen_side), (942, 888));
+    Ok(())
+}
+
+#[test]
+fn squares_are_attacked(rt: HostRuntime) -> Result<(), Fail> {
+    let position = Position::initial();
+    assert!(rt; position.attacked(Square::new(16), Colour::White));
+    assert!(rt; !position.attacked(Square::new(24), Colour::White));
+    assert!(rt; !position.attacked(Square::new(16), Colour::Black));
+    Ok(())
+}

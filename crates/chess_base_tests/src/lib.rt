@@ -1,0 +1,9 @@
+//! What chess_base's calls answer, on the rows of the specification and on cases from outside.
+#![tactic(auto)]
+
+#[cfg(test)]
+mod chess960;
+#[cfg(test)]
+mod fen;
+#[cfg(test)]
+mod positions;

@@ -1,0 +1,280 @@
+use chess_base::{
+    Colour, ColourRights, FenFault, Kind, Man, Move, Position, Rights, Setup, Square, Variant,
+    read_fen, write_fen,
+};
+use std::test::Fail;
+
+fn man(letter: u8) -> Option<Man> {
+    let kind = match letter.to_ascii_lowercase() {
+        b'k' => Kind::King,
+        b'q' => Kind::Queen,
+        b'r' => Kind::Rook,
+        b'b' => Kind::Bishop,
+        b'n' => Kind::Knight,
+        b'p' => Kind::Pawn,
+        _ => return None,
+    };
+    let colour = if letter.is_ascii_uppercase() {
+        Colour::White
+    } else {
+        Colour::Black
+    };
+    Some(Man { colour, kind })
+}
+
+// The men of a board, told from the eighth rank down, with all rights.
+fn setup(rows: &[u8; 64], side: Colour) -> Setup {
+    let mut men = [None; 64];
+    for (place, letter) in rows.iter().enumerate() {
+        men[place ^ 56] = man(*letter);
+    }
+    let white = ColourRights {
+        king_side: Some(Square::new(7)),
+        queen_side: Some(Square::new(0)),
+    };
+    let black = ColourRights {
+        king_side: Some(Square::new(63)),
+        queen_side: Some(Square::new(56)),
+    };
+    Setup {
+        variant: Variant::Normal,
+        men,
+        side,
+        rights: Rights { white, black },
+        target: None,
+        halfmove: 0,
+        fullmove: 1,
+    }
+}
+
+fn legal_moves(position: &Position) -> u32 {
+    let promotions = [
+        None,
+        Some(Kind::Queen),
+        Some(Kind::Rook),
+        Some(Kind::Bishop),
+        Some(Kind::Knight),
+    ];
+    let mut count: u32 = 0;
+    for from in 0..64 {
+        for to in 0..64 {
+            for promotion in promotions {
+                let m = Move {
+                    from: Square::new(from),
+                    to: Square::new(to),
+                    promotion,
+                };
+                if position.is_legal(m) {
+                    count = count.saturating_add(1);
+                }
+            }
+        }
+    }
+    count
+}
+
+fn legal_pairs(position: &Position) -> u32 {
+    let promotions = [
+        None,
+        Some(Kind::Queen),
+        Some(Kind::Rook),
+        Some(Kind::Bishop),
+        Some(Kind::Knight),
+    ];
+    let mut count: u32 = 0;
+    for from in 0..64 {
+        for to in 0..64 {
+            for promotion in promotions {
+                let m = Move {
+                    from: Square::new(from),
+                    to: Square::new(to),
+                    promotion,
+                };
+                let again = m;
+                if position.is_legal(m) {
+                    count = count.saturating_add(legal_moves(&position.after(again)));
+                }
+            }
+        }
+    }
+    count
+}
+
+const INITIAL: &[u8; 64] = b"rnbqkbnrpppppppp................................PPPPPPPPRNBQKBNR";
+
+// The second of the usual test positions of move generators, "Kiwipete".
+const KIWIPETE: &[u8] = b"r3k2r/p1ppqpb1/bn2pnp1/3PN3/1p2P3/2N2Q1p/PPPBBPPP/R3K2R w KQkq - 0 1";
+
+// A sound position whose FEN is as long as one can be: no two empty squares stand side by side.
+const LONGEST: &[u8] =
+    b"r1b1k1n1/1p1p1p1p/p1p1p1p1/1q1r1b1n/P1P1P1P1/1Q1R1B1N/1P1P1P1P/R1B1K1N1 b Qq e3 999999 999999";
+
+#[test]
+fn initial_position_has_20_moves(rt: HostRuntime) -> Result<(), Fail> {
+    let position = Position::initial();
+    assert!(rt; Position::new(setup(INITIAL, Colour::White)).ok() == Some(position));
+    assert_eq!(rt; legal_moves(&position), 20);
+    assert_eq!(rt; legal_pairs(&position), 400);
+    Ok(())
+}
+
+#[test]
+fn test_positions_have_their_moves(rt: HostRuntime) -> Result<(), Fail> {
+    let rows: [(&[u8], u32); 4] = [
+        (KIWIPETE, 48),
+        (b"8/2p5/3p4/KP5r/1R3p1k/8/4P1P1/8 w - - 0 1", 14),
+        (
+            b"r3k2r/Pppp1ppp/1b3nbN/nP6/BBP1P3/q4N2/Pp1P2PP/R2Q1RK1 w kq - 0 1",
+            6,
+        ),
+        (
+            b"rnbq1k1r/pp1Pbppp/2p5/8/2B5/8/PPP1NnPP/RNBQK2R w KQ - 1 8",
+            44,
+        ),
+    ];
+    for (fen, moves) in rows {
+        let position = read_fen(fen).ok().ok_or("sound")?;
+        assert_eq!(rt; legal_moves(&position), moves, "at {fen:?}");
+    }
+    let kiwipete = read_fen(KIWIPETE).ok().ok_or("sound")?;
+    assert_eq!(rt; legal_pairs(&kiwipete), 2039);
+    Ok(())
+}
+
+fn square(file: u8, rank: u8) -> Square {
+    Square::new(rank.wrapping_sub(b'1') % 8 * 8 + file.wrapping_sub(b'a') % 8)
+}
+
+fn play(position: Position, squares: &[u8; 4], promotion: Option<Kind>) -> Option<Position> {
+    let [from_file, from_rank, to_file, to_rank] = *squares;
+    let m = Move {
+        from: square(from_file, from_rank),
+        to: square(to_file, to_rank),
+        promotion,
+    };
+    let again = m;
+    position.is_legal(m).then(|| position.after(again))
+}
+
+// A position, a move, and the FEN after it; none where the move is illegal.
+#[test]
+fn moves_leave_their_positions(rt: HostRuntime) -> Result<(), Fail> {
+    type Row = (
+        &'static [u8],
+        &'static [u8; 4],
+        Option<Kind>,
+        Option<&'static [u8]>,
+    );
+    let rows: [Row; 8] = [
+        (
+            b"rnbqkbnr/pppppppp/8/8/8/8/PPPPPPPP/RNBQKBNR w KQkq - 0 1",
+            b"e2e4",
+            None,
+            Some(b"rnbqkbnr/pppppppp/8/8/4P3/8/PPPP1PPP/RNBQKBNR b KQkq e3 0 1"),
+        ),
+        (
+            b"4k3/8/8/8/8/8/1r6/R3K3 w Q - 0 1",
+            b"e1c1",
+            None,
+            Some(b"4k3/8/8/8/8/8/1r6/2KR4 b - - 1 1"),
+        ),
+        (b"8/4P3/8/8/8/2k5/8/4K3 w - - 0 1", b"e7e8", None, None),
+        (
+            b"8/4P3/8/8/8/2k5/8/4K3 w - - 0 1",
+            b"e7e8",
+            Some(Kind::King),
+            None,
+        ),
+        (
+            b"8/4P3/8/8/8/2k5/8/4K3 w - - 0 1",
+            b"e7e8",
+            Some(Kind::Queen),
+            Some(b"4Q3/8/8/8/8/2k5/8/4K3 b - - 0 1"),
+        ),
+        (b"7k/8/8/K2pP2r/8/8/8/8 w - d6 0 1", b"e5d6", None, None),
+        (
+            b"4k3/8/8/3pP3/8/8/8/4K3 w - d6 0 1",
+            b"e5d6",
+            None,
+            Some(b"4k3/8/3P4/8/8/8/8/4K3 b - - 0 1"),
+        ),
+        (
+            LONGEST,
+            b"h5f4",
+            None,
+            Some(
+                b"r1b1k1n1/1p1p1p1p/p1p1p1p1/1q1r1b2/P1P1PnP1/1Q1R1B1N/1P1P1P1P/R1B1K1N1 w Qq - 999999 999999",
+            ),
+        ),
+    ];
+    for (start, squares, promotion, fen) in rows {
+        let start = read_fen(start).ok().ok_or("sound")?;
+        match (play(start, squares, promotion), fen) {
+            (Some(position), Some(fen)) => assert_eq!(rt; write_fen(&position).as_slice(), fen),
+            (position, fen) => assert_eq!(rt; position.is_some(), fen.is_some(), "at {squares:?}"),
+        }
+    }
+    Ok(())
+}
+
+#[test]
+fn positions_are_written(rt: HostRuntime) -> Result<(), Fail> {
+    assert_eq!(rt;
+        write_fen(&Position::initial()).as_slice(),
+        b"rnbqkbnr/pppppppp/8/8/8/8/PPPPPPPP/RNBQKBNR w KQkq - 0 1".as_slice()
+    );
+    let longest = read_fen(LONGEST).ok().ok_or("sound")?;
+    assert_eq!(rt; write_fen(&longest).as_slice(), LONGEST);
+    Ok(())
+}
+
+// 1. e4 a6 2. e5 d5 3. exd6.
+#[test]
+fn pawn_taken_en_passant_is_gone(rt: HostRuntime) -> Result<(), Fail> {
+    let position = play(Position::initial(), b"e2e4", None).ok_or("e4")?;
+    assert_eq!(rt; position.setup().target, Some(Square::new(20)));
+    let position = play(position, b"a7a6", None).ok_or("a6")?;
+    assert_eq!(rt; position.setup().target, None);
+    let position = play(position, b"e4e5", None).ok_or("e5")?;
+    let position = play(position, b"d7d5", None).ok_or("d5")?;
+    let position = play(position, b"e5d6", None).ok_or("exd6")?;
+    assert_eq!(rt; position.at(Square::new(35)), None);
+    assert_eq!(rt; position.at(Square::new(43)), man(b'P'));
+    assert_eq!(rt; position.side(), Colour::Black);
+    assert_eq!(rt; position.setup().fullmove, 3);
+    assert_eq!(rt; position.setup().halfmove, 0);
+    Ok(())
+}
+
+#[test]
+fn castling_moves_the_rook_and_ends_both_rights(rt: HostRuntime) -> Result<(), Fail> {
+    let position = read_fen(KIWIPETE).ok().ok_or("sound")?;
+    let position = play(position, b"e1c1", None).ok_or("O-O-O")?;
+    assert_eq!(rt; position.at(Square::new(0)), None);
+    assert_eq!(rt; position.at(Square::new(3)), man(b'R'));
+    assert_eq!(rt; position.at(Square::new(2)), man(b'K'));
+    assert_eq!(rt; position.setup().rights.white.king_side, None);
+    assert_eq!(rt; position.setup().rights.white.queen_side, None);
+    assert_eq!(rt;
+        position.setup().rights.black.king_side,
+        Some(Square::new(63))
+    );
+    Ok(())
+}
+
+// Each setup has the later fault too.
+#[test]
+fn first_fault_is_named(rt: HostRuntime) -> Result<(), Fail> {
+    let mut faulty = setup(INITIAL, Colour::White);
+    faulty.men[3] = man(b'K');
+    faulty.men[59] = man(b'p');
+    assert!(rt; Position::new(faulty).err() == Some(FenFault::Kings));
+    faulty.fullmove = 0;
+    assert!(rt; Position::new(faulty).err() == Some(FenFault::Counters));
+    let mut faulty = setup(INITIAL, Colour::White);
+    faulty.men[7] = man(b'P');
+    assert!(rt; Position::new(faulty).err() == Some(FenFault::Pawns));
+    faulty.men[7] = None;
+    assert!(rt; Position::new(faulty).err() == Some(FenFault::Castling));
+    Ok(())
+}

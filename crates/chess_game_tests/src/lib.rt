@@ -1,0 +1,5 @@
+//! What chess_game's calls answer, on the rows of the specification and on cases from outside.
+#![tactic(auto)]
+
+#[cfg(test)]
+mod tests;

@@ -1,0 +1,778 @@
+use chess_base::{Kind, Move, Position, Saved, Setup, Square, read_fen, write_fen};
+use chess_game::{
+    BoardSaysOtherwise, Claims, Comment, Game, NoMove, Outcome, PlayRefusal, Verdict,
+};
+use chess_moves::{Board, MoveList, Plain, SquareSet};
+use std::cell::Cell;
+use std::process::Abort;
+use std::test::Fail;
+
+/// How often each call that changes a board was made.
+#[derive(Drop)]
+struct Calls {
+    set: Cell<u32>,
+    make: Cell<u32>,
+    take_back: Cell<u32>,
+}
+
+impl Calls {
+    fn none() -> Self {
+        Calls {
+            set: Cell::new(0),
+            make: Cell::new(0),
+            take_back: Cell::new(0),
+        }
+    }
+
+    // How often `set`, `make` and `take_back` were called since this was last asked.
+    fn since(&self) -> (u32, u32, u32) {
+        (
+            self.set.replace(0),
+            self.make.replace(0),
+            self.take_back.replace(0),
+        )
+    }
+}
+
+fn count_up(count: &Cell<u32>) {
+    count.set(count.get().wrapping_add(1));
+}
+
+/// A board that counts the calls that change it.
+#[derive(Drop)]
+struct Counting<'a> {
+    plain: Plain,
+    calls: &'a Calls,
+}
+
+impl Board for Counting<'_> {
+    ghost position = { λ b. b.plain };
+
+    fn set(&mut self, to: &Position) {
+        count_up(&self.calls.set);
+        self.plain.set(to);
+    }
+
+    fn position(&self) -> Position {
+        self.plain.position()
+    }
+
+    fn setup(&self) -> &Setup {
+        self.plain.setup()
+    }
+
+    fn legal_moves(&self) -> MoveList {
+        self.plain.legal_moves()
+    }
+
+    fn legal_move_count(&self) -> usize {
+        self.plain.legal_move_count()
+    }
+
+    fn has_legal_move(&self) -> bool {
+        self.plain.has_legal_move()
+    }
+
+    fn is_legal(&self, m: &Move) -> bool {
+        self.plain.is_legal(m)
+    }
+
+    fn origins(&self, kind: Kind, to: Square) -> SquareSet {
+        self.plain.origins(kind, to)
+    }
+
+    fn in_check(&self) -> bool {
+        self.plain.in_check()
+    }
+
+    fn make(&mut self, m: Move) -> Saved {
+        count_up(&self.calls.make);
+        self.plain.make(m)
+    }
+
+    fn take_back(&mut self, m: Move, saved: Saved) {
+        count_up(&self.calls.take_back);
+        self.plain.take_back(m, saved);
+    }
+}
+
+fn square(file: u8, rank: u8) -> Square {
+    Square::new(rank.wrapping_sub(b'1') % 8 * 8 + file.wrapping_sub(b'a') % 8)
+}
+
+// A move by its squares, as `e2e4`.
+fn by_squares(squares: &[u8; 4]) -> Move {
+    let [from_file, from_rank, to_file, to_rank] = *squares;
+    Move {
+        from: square(from_file, from_rank),
+        to: square(to_file, to_rank),
+        promotion: None,
+    }
+}
+
+// Plays moves, as `e2e4 e7e5`, none of which is refused.
+fn play_all<B: Board>(game: &mut Game<B>, moves: &[u8]) -> Result<(), Fail> {
+    for word in moves.chunks(5) {
+        let [from_file, from_rank, to_file, to_rank, ..] = *word else {
+            return Err("no move".into());
+        };
+        game.play(by_squares(&[from_file, from_rank, to_file, to_rank]))?;
+    }
+    Ok(())
+}
+
+// What was declared: the outcome and the comment.
+fn said<B: Board>(game: &Game<B>) -> Option<(Outcome, &[u8])> {
+    game.declared()
+        .map(|declared| (declared.outcome, declared.comment.as_bytes()))
+}
+
+const INITIAL: &[u8] = b"rnbqkbnr/pppppppp/8/8/8/8/PPPPPPPP/RNBQKBNR w KQkq - 0 1";
+
+const STARTS: [(&[u8], Option<Verdict>); 24] = [
+    // The order: mate and stalemate before the rest, bare material before 75 moves.
+    (b"7k/6Q1/6K1/8/8/8/8/8 b - - 0 1", Some(Verdict::WhiteMates)),
+    (b"8/8/8/8/8/6k1/6q1/7K w - - 0 1", Some(Verdict::BlackMates)),
+    (
+        b"R6k/8/6K1/8/8/8/8/8 b - - 150 200",
+        Some(Verdict::WhiteMates),
+    ),
+    (b"7k/5Q2/6K1/8/8/8/8/8 b - - 0 1", Some(Verdict::Stalemate)),
+    (
+        b"7k/5Q2/6K1/8/8/8/8/8 b - - 150 200",
+        Some(Verdict::Stalemate),
+    ),
+    (b"k7/8/1K1B4/8/8/8/8/8 b - - 0 1", Some(Verdict::Stalemate)),
+    (
+        b"4k3/8/8/8/8/8/8/4K3 w - - 150 100",
+        Some(Verdict::InsufficientMaterial),
+    ),
+    (
+        b"4k3/8/8/8/8/8/8/R3K3 w - - 150 100",
+        Some(Verdict::SeventyFiveMoves),
+    ),
+    (b"4k3/8/8/8/8/8/8/R3K3 w - - 149 100", None),
+    // No man; one bishop or knight; bishops on squares of one colour.
+    (
+        b"4k3/8/8/8/8/8/8/4K3 w - - 0 1",
+        Some(Verdict::InsufficientMaterial),
+    ),
+    (
+        b"8/8/4k3/8/8/3BK3/8/8 w - - 0 1",
+        Some(Verdict::InsufficientMaterial),
+    ),
+    (
+        b"8/8/4k3/8/8/3NK3/8/8 w - - 0 1",
+        Some(Verdict::InsufficientMaterial),
+    ),
+    (
+        b"8/8/3nk3/8/8/4K3/8/8 w - - 0 1",
+        Some(Verdict::InsufficientMaterial),
+    ),
+    (
+        b"4kb2/8/8/8/8/8/8/2B1K3 w - - 0 1",
+        Some(Verdict::InsufficientMaterial),
+    ),
+    (
+        b"4k3/8/8/8/8/4B3/8/2B1K3 w - - 0 1",
+        Some(Verdict::InsufficientMaterial),
+    ),
+    (
+        b"4kb2/8/8/8/8/4B3/8/2B1K3 w - - 0 1",
+        Some(Verdict::InsufficientMaterial),
+    ),
+    // Bishops on squares of both colours, two knights, a knight and a bishop; a pawn, a rook, a queen.
+    (b"2b1k3/8/8/8/8/8/8/2B1K3 w - - 0 1", None),
+    (b"4k3/8/8/8/8/8/8/2B1KB2 w - - 0 1", None),
+    (b"4k3/8/8/8/8/8/8/1N2K1N1 w - - 0 1", None),
+    (b"1n2k3/8/8/8/8/8/8/1N2K3 w - - 0 1", None),
+    (b"1n2k3/8/8/8/8/8/8/2B1K3 w - - 0 1", None),
+    (b"4k3/8/8/8/8/8/4P3/4K3 w - - 0 1", None),
+    (b"4k3/8/8/8/8/8/8/R3K3 w - - 0 1", None),
+    (b"4k3/8/8/8/8/8/8/Q3K3 w - - 0 1", None),
+];
+
+// What may be claimed.
+const NONE: Claims = Claims {
+    threefold: false,
+    fifty_moves: false,
+};
+
+const THREEFOLD: Claims = Claims {
+    threefold: true,
+    fifty_moves: false,
+};
+
+const FIFTY_MOVES: Claims = Claims {
+    threefold: false,
+    fifty_moves: true,
+};
+
+const BOTH: Claims = Claims {
+    threefold: true,
+    fifty_moves: true,
+};
+
+/// A start, moves from there, and what is told of the game then.
+struct Told {
+    start: &'static [u8],
+    moves: &'static [u8],
+    verdict: Option<Verdict>,
+    repetitions: u32,
+    halfmove: u32,
+    claims: Claims,
+}
+
+const LINES: [Told; 27] = [
+    // The third, the fourth and the fifth time.
+    Told {
+        start: b"rnbqkbnr/pppppppp/8/8/8/8/PPPPPPPP/RNBQKBNR w KQkq - 0 1",
+        moves: b"g1f3 g8f6 f3g1 f6g8 g1f3 g8f6 f3g1 f6g8",
+        verdict: None,
+        repetitions: 3,
+        halfmove: 8,
+        claims: THREEFOLD,
+    },
+    Told {
+        start: b"rnbqkbnr/pppppppp/8/8/8/8/PPPPPPPP/RNBQKBNR w KQkq - 0 1",
+        moves: b"g1f3 g8f6 f3g1 f6g8 g1f3 g8f6 f3g1 f6g8 g1f3 g8f6 f3g1 f6g8",
+        verdict: None,
+        repetitions: 4,
+        halfmove: 12,
+        claims: THREEFOLD,
+    },
+    Told {
+        start: b"rnbqkbnr/pppppppp/8/8/8/8/PPPPPPPP/RNBQKBNR w KQkq - 0 1",
+        moves: b"g1f3 g8f6 f3g1 f6g8 g1f3 g8f6 f3g1 f6g8 g1f3 g8f6 f3g1 f6g8 g1f3 g8f6 f3g1",
+        verdict: None,
+        repetitions: 4,
+        halfmove: 15,
+        claims: THREEFOLD,
+    },
+    Told {
+        start: b"rnbqkbnr/pppppppp/8/8/8/8/PPPPPPPP/RNBQKBNR w KQkq - 0 1",
+        moves: b"g1f3 g8f6 f3g1 f6g8 g1f3 g8f6 f3g1 f6g8 g1f3 g8f6 f3g1 f6g8 g1f3 g8f6 f3g1 f6g8",
+        verdict: Some(Verdict::FivefoldRepetition),
+        repetitions: 5,
+        halfmove: 16,
+        claims: THREEFOLD,
+    },
+    // The clock goes on from the start's; the fifth time before 75 moves, and the fourth.
+    Told {
+        start: b"rnbqkbnr/pppppppp/8/8/8/8/PPPPPPPP/RNBQKBNR w KQkq - 92 50",
+        moves: b"g1f3 g8f6 f3g1 f6g8 g1f3 g8f6 f3g1 f6g8",
+        verdict: None,
+        repetitions: 3,
+        halfmove: 100,
+        claims: BOTH,
+    },
+    Told {
+        start: b"rnbqkbnr/pppppppp/8/8/8/8/PPPPPPPP/RNBQKBNR w KQkq - 134 80",
+        moves: b"g1f3 g8f6 f3g1 f6g8 g1f3 g8f6 f3g1 f6g8 g1f3 g8f6 f3g1 f6g8 g1f3 g8f6 f3g1 f6g8",
+        verdict: Some(Verdict::FivefoldRepetition),
+        repetitions: 5,
+        halfmove: 150,
+        claims: BOTH,
+    },
+    Told {
+        start: b"rnbqkbnr/pppppppp/8/8/8/8/PPPPPPPP/RNBQKBNR w KQkq - 135 80",
+        moves: b"g1f3 g8f6 f3g1 f6g8 g1f3 g8f6 f3g1 f6g8 g1f3 g8f6 f3g1 f6g8 g1f3 g8f6 f3g1",
+        verdict: Some(Verdict::SeventyFiveMoves),
+        repetitions: 4,
+        halfmove: 150,
+        claims: BOTH,
+    },
+    // A target on which nobody may capture tells nothing: no pawn stands beside it, also after a move that set it; a pin.
+    Told {
+        start: b"rnbqkbnr/pppppppp/8/8/4P3/8/PPPP1PPP/RNBQKBNR b KQkq e3 0 1",
+        moves: b"g8f6 g1f3 f6g8 f3g1",
+        verdict: None,
+        repetitions: 2,
+        halfmove: 4,
+        claims: NONE,
+    },
+    Told {
+        start: b"rnbqkbnr/pppppppp/8/8/8/8/PPPPPPPP/RNBQKBNR w KQkq - 0 1",
+        moves: b"e2e4 g8f6 g1f3 f6g8 f3g1",
+        verdict: None,
+        repetitions: 2,
+        halfmove: 4,
+        claims: NONE,
+    },
+    Told {
+        start: b"3k4/8/8/8/3pP3/8/8/3RK3 b - e3 0 1",
+        moves: b"d8c8 e1e2 c8d8 e2e1",
+        verdict: None,
+        repetitions: 2,
+        halfmove: 4,
+        claims: NONE,
+    },
+    // Games on which programs differ: the third time counts the position behind a double advance that nobody could answer en
+    // passant; the capturing pawn would uncover its king along the rank.
+    Told {
+        start: b"rnbqkbnr/pppppppp/8/8/8/8/PPPPPPPP/RNBQKBNR w KQkq - 0 1",
+        moves: b"a2a4 b7b5 h2h3 g8h6 b1c3 h6g8 e2e3 g8h6 d2d4 g7g6 a4a5 e7e5 d1f3 b8a6 f3d1 a6b8 d1f3 h6f5 f3d1 f5h6",
+        verdict: None,
+        repetitions: 3,
+        halfmove: 8,
+        claims: THREEFOLD,
+    },
+    Told {
+        start: b"7k/8/8/K2pP2r/8/8/8/8 w - d6 0 1",
+        moves: b"a5a4 h8g8 a4a5 g8h8 a5a4 h8g8 a4a5 g8h8",
+        verdict: None,
+        repetitions: 3,
+        halfmove: 8,
+        claims: THREEFOLD,
+    },
+    // A capture on the target was possible once, and never again.
+    Told {
+        start: b"4k3/8/8/8/3pP3/8/8/4K3 b - e3 0 1",
+        moves: b"e8d8 e1d1 d8e8 d1e1",
+        verdict: None,
+        repetitions: 1,
+        halfmove: 4,
+        claims: NONE,
+    },
+    Told {
+        start: b"4k3/8/8/8/3pP3/8/8/4K3 b - e3 0 1",
+        moves: b"e8d8 e1d1 d8e8 d1e1 e8d8 e1d1 d8e8 d1e1",
+        verdict: None,
+        repetitions: 2,
+        halfmove: 8,
+        claims: NONE,
+    },
+    // A right that is lost makes another position.
+    Told {
+        start: b"4k3/8/8/8/8/8/8/R3K3 w Q - 0 1",
+        moves: b"a1a2 e8e7 a2a1 e7e8",
+        verdict: None,
+        repetitions: 1,
+        halfmove: 4,
+        claims: NONE,
+    },
+    Told {
+        start: b"4k3/8/8/8/8/8/8/R3K3 w Q - 0 1",
+        moves: b"a1a2 e8e7 a2a1 e7e8 a1a2 e8e7 a2a1 e7e8",
+        verdict: None,
+        repetitions: 2,
+        halfmove: 8,
+        claims: NONE,
+    },
+    // The same men with the other side on move are another position; like men in one another's place are not.
+    Told {
+        start: b"4k3/8/8/8/8/8/8/R3K3 w - - 0 1",
+        moves: b"e1d1 e8d8 d1d2 d8e8 d2e1",
+        verdict: None,
+        repetitions: 1,
+        halfmove: 5,
+        claims: NONE,
+    },
+    Told {
+        start: b"4k3/8/8/8/8/8/8/RR2K3 w - - 0 1",
+        moves: b"a1a2 e8e7 b1a1 e7e8 a2b2 e8e7 b2b1 e7e8",
+        verdict: None,
+        repetitions: 2,
+        halfmove: 8,
+        claims: NONE,
+    },
+    // 50 and 75 moves; mate comes first, a pawn move and a capture begin anew.
+    Told {
+        start: b"4k3/8/8/8/8/8/8/R3K3 w - - 99 80",
+        moves: b"",
+        verdict: None,
+        repetitions: 1,
+        halfmove: 99,
+        claims: NONE,
+    },
+    Told {
+        start: b"4k3/8/8/8/8/8/8/R3K3 w - - 99 80",
+        moves: b"a1a2",
+        verdict: None,
+        repetitions: 1,
+        halfmove: 100,
+        claims: FIFTY_MOVES,
+    },
+    Told {
+        start: b"4k3/8/8/8/8/8/8/R3K3 w - - 148 80",
+        moves: b"a1a2",
+        verdict: None,
+        repetitions: 1,
+        halfmove: 149,
+        claims: FIFTY_MOVES,
+    },
+    Told {
+        start: b"4k3/8/8/8/8/8/8/R3K3 w - - 149 80",
+        moves: b"a1a2",
+        verdict: Some(Verdict::SeventyFiveMoves),
+        repetitions: 1,
+        halfmove: 150,
+        claims: FIFTY_MOVES,
+    },
+    Told {
+        start: b"7k/8/6K1/8/8/8/8/R7 w - - 149 200",
+        moves: b"a1a8",
+        verdict: Some(Verdict::WhiteMates),
+        repetitions: 1,
+        halfmove: 150,
+        claims: FIFTY_MOVES,
+    },
+    Told {
+        start: b"4k3/8/8/8/8/8/4P3/4K3 w - - 149 80",
+        moves: b"e2e3",
+        verdict: None,
+        repetitions: 1,
+        halfmove: 0,
+        claims: NONE,
+    },
+    Told {
+        start: b"4k3/8/8/8/8/8/4p3/4K3 w - - 149 80",
+        moves: b"e1e2",
+        verdict: Some(Verdict::InsufficientMaterial),
+        repetitions: 1,
+        halfmove: 0,
+        claims: NONE,
+    },
+    // Mate by Black, and by White: 1. e4 e5 2. Bc4 Nc6 3. Qh5 Nf6 4. Qxf7#.
+    Told {
+        start: b"rnbqkbnr/pppppppp/8/8/8/8/PPPPPPPP/RNBQKBNR w KQkq - 0 1",
+        moves: b"f2f3 e7e5 g2g4 d8h4",
+        verdict: Some(Verdict::BlackMates),
+        repetitions: 1,
+        halfmove: 1,
+        claims: NONE,
+    },
+    Told {
+        start: b"rnbqkbnr/pppppppp/8/8/8/8/PPPPPPPP/RNBQKBNR w KQkq - 0 1",
+        moves: b"e2e4 e7e5 f1c4 b8c6 d1h5 g8f6 h5f7",
+        verdict: Some(Verdict::WhiteMates),
+        repetitions: 1,
+        halfmove: 0,
+        claims: NONE,
+    },
+];
+
+// The outcome where nothing was declared.
+fn undeclared(verdict: Option<Verdict>) -> Outcome {
+    match verdict {
+        None => Outcome::Unfinished,
+        Some(Verdict::WhiteMates) => Outcome::WhiteWins,
+        Some(Verdict::BlackMates) => Outcome::BlackWins,
+        Some(_) => Outcome::Draw,
+    }
+}
+
+fn ends_as_told<B: Board>(rt: &impl Abort, game: &mut Game<B>) -> Result<(), Fail> {
+    for (start, verdict) in STARTS {
+        game.restart(&read_fen(start)?);
+        assert_eq!(rt; game.verdict(), verdict, "at {start:?}");
+        assert_eq!(rt; game.outcome(), undeclared(verdict), "at {start:?}");
+        assert_eq!(rt; game.is_over(), verdict.is_some(), "at {start:?}");
+        assert_eq!(rt; game.repetitions(), 1, "at {start:?}");
+    }
+    for told in &LINES {
+        game.restart(&read_fen(told.start)?);
+        play_all(game, told.moves)?;
+        assert_eq!(rt; game.verdict(), told.verdict, "after {:?}", told.moves);
+        assert_eq!(rt;
+            game.outcome(),
+            undeclared(told.verdict),
+            "after {:?}",
+            told.moves
+        );
+        assert_eq!(rt;
+            game.repetitions(),
+            told.repetitions,
+            "after {:?}",
+            told.moves
+        );
+        assert_eq!(rt;
+            game.position().setup().halfmove,
+            told.halfmove,
+            "after {:?}",
+            told.moves
+        );
+        assert_eq!(rt; game.claims(), told.claims, "after {:?}", told.moves);
+    }
+    Ok(())
+}
+
+#[test]
+fn ends_and_claims(rt: HostRuntime) -> Result<(), Fail> {
+    let mut game = Game::open(rt.alloc(), Plain::new(), 100)?;
+    ends_as_told(&rt, &mut game)?;
+    let calls = Calls::none();
+    let board = Counting {
+        plain: Plain::new(),
+        calls: &calls,
+    };
+    let mut game = Game::open(rt.alloc(), board, 100)?;
+    ends_as_told(&rt, &mut game)?;
+    Ok(())
+}
+
+// 1. f3 e5 2. g4 Qh4#. The game is over until its last move is taken back, whatever is declared.
+#[test]
+fn mate_stands_against_declared_results(rt: HostRuntime) -> Result<(), Fail> {
+    let mut game = Game::open(rt.alloc(), Plain::new(), 100)?;
+    play_all(&mut game, b"f2f3 e7e5 g2g4 d8h4")?;
+    assert_eq!(rt; game.play(by_squares(b"a2a3")), Err(PlayRefusal::Over));
+    for outcome in [Outcome::WhiteWins, Outcome::Draw, Outcome::Unfinished] {
+        let refused = game.declare(outcome, Comment::cut(b"x"));
+        assert_eq!(rt; refused, Err(BoardSaysOtherwise));
+        assert!(rt; game.declared().is_none());
+    }
+    assert_eq!(rt;
+        game.declare(Outcome::BlackWins, Comment::cut(b"mate")),
+        Ok(())
+    );
+    assert_eq!(rt; said(&game), Some((Outcome::BlackWins, b"mate".as_slice())));
+    game.clear_declared();
+    assert!(rt; game.declared().is_none());
+    assert!(rt; game.is_over());
+    assert_eq!(rt; game.outcome(), Outcome::BlackWins);
+    assert_eq!(rt; game.ply(), 4);
+    assert_eq!(rt; game.take_back(), Ok(by_squares(b"d8h4")));
+    assert_eq!(rt; game.verdict(), None);
+    assert_eq!(rt; game.outcome(), Outcome::Unfinished);
+    assert_eq!(rt; game.play(by_squares(b"d8e7")), Ok(()));
+    Ok(())
+}
+
+#[test]
+fn declared_results_end_the_game(rt: HostRuntime) -> Result<(), Fail> {
+    let mut game = Game::open(rt.alloc(), Plain::new(), 100)?;
+    assert_eq!(rt; game.declare(Outcome::Draw, Comment::cut(b"a{b}c")), Ok(()));
+    assert_eq!(rt; said(&game), Some((Outcome::Draw, b"a?b?c".as_slice())));
+    assert_eq!(rt; game.verdict(), None);
+    assert_eq!(rt; game.outcome(), Outcome::Draw);
+    assert_eq!(rt; game.play(by_squares(b"e2e4")), Err(PlayRefusal::Over));
+    // What is declared anew takes its place. A game that was given up is over too.
+    assert_eq!(rt;
+        game.declare(Outcome::Unfinished, Comment::cut(b"")),
+        Ok(())
+    );
+    assert_eq!(rt; said(&game), Some((Outcome::Unfinished, b"".as_slice())));
+    assert_eq!(rt; game.outcome(), Outcome::Unfinished);
+    assert!(rt; game.is_over());
+    assert_eq!(rt; game.play(by_squares(b"e2e4")), Err(PlayRefusal::Over));
+    // No move stands that could be taken back, so the result stays.
+    assert_eq!(rt; game.take_back(), Err(NoMove));
+    assert!(rt; game.declared().is_some());
+    game.clear_declared();
+    assert!(rt; !game.is_over());
+    assert_eq!(rt; game.play(by_squares(b"e2e4")), Ok(()));
+    // A move that is taken back, and a new start, clear the result.
+    assert_eq!(rt;
+        game.declare(Outcome::WhiteWins, Comment::cut(b"Black resigns")),
+        Ok(())
+    );
+    assert_eq!(rt; game.take_back(), Ok(by_squares(b"e2e4")));
+    assert!(rt; game.declared().is_none());
+    assert_eq!(rt;
+        game.declare(Outcome::BlackWins, Comment::cut(b"White resigns")),
+        Ok(())
+    );
+    game.restart(&Position::initial());
+    assert!(rt; game.declared().is_none());
+    assert_eq!(rt; game.outcome(), Outcome::Unfinished);
+    Ok(())
+}
+
+// A claim at the third time ends the game; without it, the fifth time does.
+#[test]
+fn fifth_time_is_taken_back(rt: HostRuntime) -> Result<(), Fail> {
+    let mut game = Game::open(rt.alloc(), Plain::new(), 100)?;
+    play_all(&mut game, b"g1f3 g8f6 f3g1 f6g8 g1f3 g8f6 f3g1 f6g8")?;
+    assert_eq!(rt; game.claims(), THREEFOLD);
+    let claimed = game.declare(Outcome::Draw, Comment::cut(b"Threefold repetition"));
+    assert_eq!(rt; claimed, Ok(()));
+    assert_eq!(rt; game.play(by_squares(b"g1f3")), Err(PlayRefusal::Over));
+    game.clear_declared();
+    play_all(&mut game, b"g1f3 g8f6 f3g1 f6g8 g1f3 g8f6 f3g1 f6g8")?;
+    assert_eq!(rt; game.verdict(), Some(Verdict::FivefoldRepetition));
+    assert_eq!(rt; game.play(by_squares(b"e2e4")), Err(PlayRefusal::Over));
+    assert_eq!(rt; game.take_back(), Ok(by_squares(b"f6g8")));
+    assert_eq!(rt; game.ply(), 15);
+    assert_eq!(rt; game.verdict(), None);
+    assert_eq!(rt; game.repetitions(), 4);
+    assert_eq!(rt; game.position().setup().halfmove, 15);
+    assert_eq!(rt; game.claims(), THREEFOLD);
+    Ok(())
+}
+
+// A game over comes before the limit, and the limit before an illegal move.
+#[test]
+fn no_more_moves_than_the_limit(rt: HostRuntime) -> Result<(), Fail> {
+    let mut game = Game::open(rt.alloc(), Plain::new(), 3)?;
+    assert_eq!(rt; game.play(by_squares(b"e2e5")), Err(PlayRefusal::Illegal));
+    play_all(&mut game, b"e2e4 e7e5")?;
+    assert!(rt; !game.is_full());
+    assert_eq!(rt; game.play(by_squares(b"g1f3")), Ok(()));
+    assert!(rt; game.is_full());
+    assert!(rt; !game.is_over());
+    assert_eq!(rt; game.play(by_squares(b"b8c6")), Err(PlayRefusal::TooLong));
+    assert_eq!(rt; game.play(by_squares(b"a1a1")), Err(PlayRefusal::TooLong));
+    assert_eq!(rt;
+        game.declare(Outcome::Unfinished, Comment::cut(b"Game too long")),
+        Ok(())
+    );
+    assert_eq!(rt; game.play(by_squares(b"b8c6")), Err(PlayRefusal::Over));
+    assert_eq!(rt; game.take_back(), Ok(by_squares(b"g1f3")));
+    assert_eq!(rt; game.play(by_squares(b"g1e2")), Ok(()));
+    assert_eq!(rt; game.play(by_squares(b"b8c6")), Err(PlayRefusal::TooLong));
+    game.restart(&Position::initial());
+    assert!(rt; !game.is_full());
+    Ok(())
+}
+
+// The FEN after each half-move.
+#[test]
+fn positions_of_a_line(rt: HostRuntime) -> Result<(), Fail> {
+    let positions: [&[u8]; 5] = [
+        b"rnbqkbnr/pppppppp/8/8/4P3/8/PPPP1PPP/RNBQKBNR b KQkq e3 0 1",
+        b"rnbqkb1r/pppppppp/5n2/8/4P3/8/PPPP1PPP/RNBQKBNR w KQkq - 1 2",
+        b"rnbqkb1r/pppppppp/5n2/8/4P3/5N2/PPPP1PPP/RNBQKB1R b KQkq - 2 2",
+        b"rnbqkbnr/pppppppp/8/8/4P3/5N2/PPPP1PPP/RNBQKB1R w KQkq - 3 3",
+        b"rnbqkbnr/pppppppp/8/8/4P3/8/PPPP1PPP/RNBQKBNR b KQkq - 4 3",
+    ];
+    let mut game = Game::open(rt.alloc(), Plain::new(), 100)?;
+    assert_eq!(rt; game.take_back(), Err(NoMove));
+    game.restart(&read_fen(positions[0])?);
+    play_all(&mut game, b"g8f6 g1f3 f6g8 f3g1")?;
+    assert_eq!(rt; game.ply(), 4);
+    for (ply, fen) in positions.iter().enumerate() {
+        assert_eq!(rt; write_fen(&game.position_at(ply)).as_slice(), *fen);
+    }
+    assert_eq!(rt; game.move_at(0), by_squares(b"g8f6"));
+    assert_eq!(rt; game.move_at(3), by_squares(b"f3g1"));
+    assert_eq!(rt; write_fen(&game.start()).as_slice(), positions[0]);
+    assert_eq!(rt; write_fen(&game.position()).as_slice(), positions[4]);
+    assert_eq!(rt;
+        write_fen(&game.board().position()).as_slice(),
+        positions[4]
+    );
+    assert_eq!(rt; game.take_back(), Ok(by_squares(b"f3g1")));
+    assert_eq!(rt; write_fen(&game.position()).as_slice(), positions[3]);
+    Ok(())
+}
+
+// A board that was elsewhere is at the initial position once a game has it.
+#[test]
+fn game_opens_at_the_initial_position(rt: HostRuntime) -> Result<(), Fail> {
+    let mut board = Plain::new();
+    board.set(&read_fen(b"4k3/8/8/8/8/8/8/R3K3 w - - 99 80")?);
+    let game = Game::open(rt.alloc(), board, 20_000)?;
+    assert_eq!(rt; write_fen(&game.position()).as_slice(), INITIAL);
+    assert_eq!(rt; write_fen(&game.start()).as_slice(), INITIAL);
+    assert_eq!(rt; game.ply(), 0);
+    assert_eq!(rt; game.verdict(), None);
+    assert!(rt; game.declared().is_none());
+    assert!(rt; !game.is_full());
+    Ok(())
+}
+
+#[test]
+fn promotion_to_a_knight_leaves_too_few_men(rt: HostRuntime) -> Result<(), Fail> {
+    let mut game = Game::open(rt.alloc(), Plain::new(), 100)?;
+    game.restart(&read_fen(b"8/4P3/8/8/8/2k5/8/4K3 w - - 0 1")?);
+    assert_eq!(rt; game.play(by_squares(b"e7e8")), Err(PlayRefusal::Illegal));
+    let promotion = Move {
+        promotion: Some(Kind::Knight),
+        ..by_squares(b"e7e8")
+    };
+    assert_eq!(rt; game.play(promotion), Ok(()));
+    assert_eq!(rt; game.verdict(), Some(Verdict::InsufficientMaterial));
+    Ok(())
+}
+
+// Nothing is replayed: how often `set`, `make` and `take_back` of the board are called.
+#[test]
+fn each_move_is_made_once(rt: HostRuntime) -> Result<(), Fail> {
+    let calls = Calls::none();
+    let board = Counting {
+        plain: Plain::new(),
+        calls: &calls,
+    };
+    let mut game = Game::open(rt.alloc(), board, 9)?;
+    assert_eq!(rt; calls.since(), (1, 0, 0));
+    game.restart(&read_fen(INITIAL)?);
+    assert_eq!(rt; calls.since(), (1, 0, 0));
+    let moves = [
+        b"g1f3", b"g8f6", b"f3g1", b"f6g8", b"g1f3", b"g8f6", b"f3g1", b"f6g8", b"e2e4",
+    ];
+    for squares in moves {
+        assert_eq!(rt; game.play(by_squares(squares)), Ok(()));
+        assert_eq!(rt; calls.since(), (0, 1, 0));
+        assert!(rt; game.play(by_squares(squares)).is_err());
+        assert_eq!(rt; calls.since(), (0, 0, 0));
+    }
+    // What is asked of the game asks for none of them.
+    assert_eq!(rt; game.repetitions(), 1);
+    assert_eq!(rt; game.ply(), 9);
+    assert_eq!(rt;
+        write_fen(&game.position_at(8)).as_slice(),
+        b"rnbqkbnr/pppppppp/8/8/8/8/PPPPPPPP/RNBQKBNR w KQkq - 8 5".as_slice()
+    );
+    assert_eq!(rt; game.declare(Outcome::Draw, Comment::cut(b"x")), Ok(()));
+    assert_eq!(rt; game.play(by_squares(b"e7e5")), Err(PlayRefusal::Over));
+    assert_eq!(rt; calls.since(), (0, 0, 0));
+    for squares in moves.iter().rev() {
+        assert_eq!(rt; game.take_back(), Ok(by_squares(squares)));
+        assert_eq!(rt; calls.since(), (0, 0, 1));
+    }
+    assert_eq!(rt; game.take_back(), Err(NoMove));
+    assert_eq!(rt; calls.since(), (0, 0, 0));
+    Ok(())
+}
+
+#[test]
+fn results_are_written(rt: HostRuntime) {
+    let outcomes: [(Outcome, &[u8]); 4] = [
+        (Outcome::WhiteWins, b"1-0"),
+        (Outcome::BlackWins, b"0-1"),
+        (Outcome::Draw, b"1/2-1/2"),
+        (Outcome::Unfinished, b"*"),
+    ];
+    for (outcome, text) in outcomes {
+        assert_eq!(rt; outcome.text(), text);
+    }
+    let verdicts: [(Verdict, &[u8], &[u8]); 6] = [
+        (Verdict::WhiteMates, b"1-0", b"White mates"),
+        (Verdict::BlackMates, b"0-1", b"Black mates"),
+        (Verdict::Stalemate, b"1/2-1/2", b"Stalemate"),
+        (
+            Verdict::InsufficientMaterial,
+            b"1/2-1/2",
+            b"Insufficient material",
+        ),
+        (
+            Verdict::FivefoldRepetition,
+            b"1/2-1/2",
+            b"Fivefold repetition",
+        ),
+        (Verdict::SeventyFiveMoves, b"1/2-1/2", b"75-move rule"),
+    ];
+    for (verdict, outcome, comment) in verdicts {
+        assert_eq!(rt; verdict.outcome().text(), outcome);
+        assert_eq!(rt; verdict.comment(), comment);
+    }
+}
+
+#[test]
+fn comments_are_cut(rt: HostRuntime) {
+    let sixty = [b'z'; 60];
+    let texts: [(&[u8], &[u8]); 5] = [
+        (b"", b""),
+        (b"Black resigns", b"Black resigns"),
+        (b"a{b}c", b"a?b?c"),
+        (b"\x1f ~\x7f\x80\xc8\xff\0\n", b"? ~??????"),
+        (&sixty, &sixty),
+    ];
+    for (text, comment) in texts {
+        assert_eq!(rt; Comment::cut(text).as_bytes(), comment);
+    }
+    let mut longer = [b'z'; 61];
+    longer[60] = b'y';
+    assert_eq!(rt; Comment::cut(&longer).as_bytes(), sixty.as_slice());
+}

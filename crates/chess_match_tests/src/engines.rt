@@ -1,0 +1,479 @@
+use byte_devices::{Counted, PieceReader, PieceWriter};
+use chess_base::{Colour, Position, read_fen};
+use chess_game::Game;
+use chess_match::{Ends, Level, MatchFault, Moments, Setup, run_match};
+use chess_moves::Plain;
+use std::alloc::Global;
+use std::cell::Cell;
+use std::io::{Error, ErrorKind, Read, Write};
+use std::process::Abort;
+use std::test::Fail;
+
+/// Moments in a list, and then zeros.
+#[derive(Drop)]
+struct Listed<'a> {
+    rest: &'a [u64],
+}
+
+impl Moments for Listed<'_> {
+    ghost use Rattle.std.specs.Prelude.{None};
+
+    ghost coming = { λ m n. None };
+
+    fn now(&mut self) -> u64 {
+        match self.rest {
+            [] => 0,
+            [first, behind @ ..] => {
+                let moment = *first;
+                self.rest = behind;
+                moment
+            }
+        }
+    }
+}
+
+/// A match: its level and start, what the engines say, the moments, and what the engines are sent.
+struct Row {
+    level: &'static [u8],
+    start: &'static [u8],
+    white: &'static [u8],
+    black: &'static [u8],
+    moments: &'static [u64],
+    to_white: &'static [u8],
+    to_black: &'static [u8],
+}
+
+const ROWS: [Row; 12] = [
+    Row {
+        level: b"0 0:10 0",
+        start: b"",
+        white: b"feature ping=1 usermove=1 done=1\npong 1\nmove f2f3\npong 2\nmove g2g4\npong 3\n",
+        black: b"feature ping=1 done=1\npong 1\nmove e7e5\npong 2\nmove d8h4\n",
+        moments: &[0, 0, 0, 0, 0, 0, 0, 0, 0, 0, 0, 0, 0, 0, 0],
+        to_white: b"xboard\nprotover 2\naccepted ping\naccepted usermove\naccepted done\nnew\nlevel 0 0:10 0\nnopost\neasy\nforce\nping 1\ntime 1000\notim 1000\ngo\nping 2\ntime 1000\notim 1000\nusermove e7e5\nping 3\nusermove d8h4\nresult 0-1 {Black mates}\nquit\n",
+        to_black: b"xboard\nprotover 2\naccepted ping\naccepted done\nnew\nlevel 0 0:10 0\nnopost\neasy\nforce\nping 1\nf2f3\ntime 1000\notim 1000\ngo\nping 2\ntime 1000\notim 1000\ng2g4\nresult 0-1 {Black mates}\nquit\n",
+    },
+    Row {
+        level: b"0 0:10 0",
+        start: b"",
+        white: b"feature ping=1 usermove=1 done=1\npong 1\nmove e2e5\n",
+        black: b"feature ping=1 done=1\npong 1\n",
+        moments: &[0, 0, 0, 0, 0, 0],
+        to_white: b"xboard\nprotover 2\naccepted ping\naccepted usermove\naccepted done\nnew\nlevel 0 0:10 0\nnopost\neasy\nforce\nping 1\ntime 1000\notim 1000\ngo\nresult 0-1 {White makes an illegal move}\nquit\n",
+        to_black: b"xboard\nprotover 2\naccepted ping\naccepted done\nnew\nlevel 0 0:10 0\nnopost\neasy\nforce\nping 1\nresult 0-1 {White makes an illegal move}\nquit\n",
+    },
+    Row {
+        level: b"0 0:10 0",
+        start: b"",
+        white: b"feature ping=1 done=1\npong 1\nmove g1f3\npong 2\nmove f3g1\npong 3\nmove g1f3\npong 4\nmove f3g1\npong 5\n",
+        black: b"feature ping=1 done=1\npong 1\nmove g8f6\npong 2\nmove f6g8\n1/2-1/2 {Draw by repetition}\npong 3\nmove g8f6\npong 4\nmove f6g8\n1/2-1/2 {Draw by repetition}\n",
+        moments: &[
+            0, 0, 0, 0, 0, 0, 0, 0, 0, 0, 0, 0, 0, 0, 0, 0, 0, 0, 0, 0, 0, 0, 0, 0, 0, 0, 0, 0, 0,
+        ],
+        to_white: b"xboard\nprotover 2\naccepted ping\naccepted done\nnew\nlevel 0 0:10 0\nnopost\neasy\nforce\nping 1\ntime 1000\notim 1000\ngo\nping 2\ntime 1000\notim 1000\ng8f6\nping 3\ndraw\ntime 1000\notim 1000\nf6g8\nping 4\ntime 1000\notim 1000\ng8f6\nping 5\nf6g8\nresult 1/2-1/2 {Threefold repetition}\nquit\n",
+        to_black: b"xboard\nprotover 2\naccepted ping\naccepted done\nnew\nlevel 0 0:10 0\nnopost\neasy\nforce\nping 1\ng1f3\ntime 1000\notim 1000\ngo\nping 2\ntime 1000\notim 1000\nf3g1\nping 3\ntime 1000\notim 1000\ng1f3\nping 4\ntime 1000\notim 1000\nf3g1\nping 5\nresult 1/2-1/2 {Threefold repetition}\nquit\n",
+    },
+    Row {
+        level: b"0 0:10 2",
+        start: b"",
+        white: b"feature ping=1 usermove=1 done=1\npong 1\nmove e2e4\npong 2\n",
+        black: b"feature ping=1 done=1\npong 1\nmove e7e5\npong 2\n",
+        moments: &[0, 0, 0, 0, 5000, 15000, 16000, 16000, 16000, 16000, 16000],
+        to_white: b"xboard\nprotover 2\naccepted ping\naccepted usermove\naccepted done\nnew\nlevel 0 0:10 2\nnopost\neasy\nforce\nping 1\ntime 1000\notim 1000\ngo\nping 2\ntime 200\notim 1200\nusermove e7e5\nresult * {White ended its output}\nquit\n",
+        to_black: b"xboard\nprotover 2\naccepted ping\naccepted done\nnew\nlevel 0 0:10 2\nnopost\neasy\nforce\nping 1\ne2e4\ntime 1000\notim 200\ngo\nping 2\nresult * {White ended its output}\nquit\n",
+    },
+    Row {
+        level: b"0 0:10 2",
+        start: b"",
+        white: b"feature ping=1 usermove=1 done=1\npong 1\nmove e2e4\n",
+        black: b"feature ping=1 done=1\npong 1\n",
+        moments: &[0, 0, 0, 0, 5000, 15001],
+        to_white: b"xboard\nprotover 2\naccepted ping\naccepted usermove\naccepted done\nnew\nlevel 0 0:10 2\nnopost\neasy\nforce\nping 1\ntime 1000\notim 1000\ngo\nresult 0-1 {White forfeits on time}\nquit\n",
+        to_black: b"xboard\nprotover 2\naccepted ping\naccepted done\nnew\nlevel 0 0:10 2\nnopost\neasy\nforce\nping 1\nresult 0-1 {White forfeits on time}\nquit\n",
+    },
+    Row {
+        level: b"0 0:10 2",
+        start: b"4k3/8/8/8/8/8/8/R3K3 w - - 0 1",
+        white: b"feature ping=1 setboard=1 done=1\npong 1\nx\n",
+        black: b"feature ping=1 setboard=1 done=1\npong 1\n",
+        moments: &[0, 0, 0, 0, 5000, 15001],
+        to_white: b"xboard\nprotover 2\naccepted ping\naccepted setboard\naccepted done\nnew\nlevel 0 0:10 2\nnopost\neasy\nforce\nsetboard 4k3/8/8/8/8/8/8/R3K3 w - - 0 1\nping 1\ntime 1000\notim 1000\ngo\nresult 1/2-1/2 {Time forfeit against a bare king}\nquit\n",
+        to_black: b"xboard\nprotover 2\naccepted ping\naccepted setboard\naccepted done\nnew\nlevel 0 0:10 2\nnopost\neasy\nforce\nsetboard 4k3/8/8/8/8/8/8/R3K3 w - - 0 1\nping 1\nresult 1/2-1/2 {Time forfeit against a bare king}\nquit\n",
+    },
+    Row {
+        level: b"2 1 3",
+        start: b"",
+        white: b"feature ping=1 usermove=1 done=1\npong 1\nmove f2f3\npong 2\nmove g2g4\npong 3\n",
+        black: b"feature ping=1 done=1\npong 1\nmove e7e5\npong 2\nmove d8h4\n",
+        moments: &[
+            0, 0, 0, 0, 0, 10000, 10000, 10000, 10000, 10000, 10000, 30000, 30000, 30000, 30000,
+        ],
+        to_white: b"xboard\nprotover 2\naccepted ping\naccepted usermove\naccepted done\nnew\nlevel 2 1 3\nnopost\neasy\nforce\nping 1\ntime 6000\notim 6000\ngo\nping 2\ntime 5300\notim 6300\nusermove e7e5\nping 3\nusermove d8h4\nresult 0-1 {Black mates}\nquit\n",
+        to_black: b"xboard\nprotover 2\naccepted ping\naccepted done\nnew\nlevel 2 1 3\nnopost\neasy\nforce\nping 1\nf2f3\ntime 6000\notim 5300\ngo\nping 2\ntime 6300\notim 9600\ng2g4\nresult 0-1 {Black mates}\nquit\n",
+    },
+    Row {
+        level: b"0 0:10 0",
+        start: b"",
+        white: b"feature ping=1 foo=\"a b\" sigint=x san=1\nfeature done=1\n",
+        black: b"feature done=1\n",
+        moments: &[0, 0, 0],
+        to_white: b"xboard\nprotover 2\naccepted ping\nrejected foo\naccepted done\nresult * {Black has no ping}\nquit\n",
+        to_black: b"xboard\nprotover 2\naccepted done\nresult * {Black has no ping}\nquit\n",
+    },
+    Row {
+        level: b"0 0:10 0",
+        start: b"",
+        white: b"feature ping=1 usermove=1 done=1\npong 1\nmove f2f3\npong 2\noffer draw\n",
+        black: b"feature ping=1 done=1\npong 1\noffer draw\nmove e7e5\npong 2\n",
+        moments: &[0, 0, 0, 0, 0, 0, 0, 0, 0, 0, 0, 0, 0],
+        to_white: b"xboard\nprotover 2\naccepted ping\naccepted usermove\naccepted done\nnew\nlevel 0 0:10 0\nnopost\neasy\nforce\nping 1\ntime 1000\notim 1000\ngo\nping 2\ndraw\ntime 1000\notim 1000\nusermove e7e5\nresult 1/2-1/2 {Draw agreed}\nquit\n",
+        to_black: b"xboard\nprotover 2\naccepted ping\naccepted done\nnew\nlevel 0 0:10 0\nnopost\neasy\nforce\nping 1\nf2f3\ntime 1000\notim 1000\ngo\nping 2\nresult 1/2-1/2 {Draw agreed}\nquit\n",
+    },
+    Row {
+        level: b"0 0:10 0",
+        start: b"",
+        white: b"feature ping=1 usermove=1 done=1\npong 1\nmove f2f3\nmove g2g4\n",
+        black: b"feature ping=1 done=1\npong 1\n",
+        moments: &[0, 0, 0, 0, 0, 0, 0],
+        to_white: b"xboard\nprotover 2\naccepted ping\naccepted usermove\naccepted done\nnew\nlevel 0 0:10 0\nnopost\neasy\nforce\nping 1\ntime 1000\notim 1000\ngo\nping 2\nresult 0-1 {White moves out of turn}\nquit\n",
+        to_black: b"xboard\nprotover 2\naccepted ping\naccepted done\nnew\nlevel 0 0:10 0\nnopost\neasy\nforce\nping 1\nf2f3\nresult 0-1 {White moves out of turn}\nquit\n",
+    },
+    Row {
+        level: b"0 0:10 0",
+        start: b"",
+        white: b"feature ping=1 usermove=1 done=1\npong 1\nmove f2f3\npong 2\n",
+        black: b"feature ping=1 done=1\npong 1\n0-1 {mate}\n",
+        moments: &[0, 0, 0, 0, 0, 0, 0, 0, 0],
+        to_white: b"xboard\nprotover 2\naccepted ping\naccepted usermove\naccepted done\nnew\nlevel 0 0:10 0\nnopost\neasy\nforce\nping 1\ntime 1000\notim 1000\ngo\nping 2\nresult 1-0 {Black makes a false claim}\nquit\n",
+        to_black: b"xboard\nprotover 2\naccepted ping\naccepted done\nnew\nlevel 0 0:10 0\nnopost\neasy\nforce\nping 1\nf2f3\ntime 1000\notim 1000\ngo\nresult 1-0 {Black makes a false claim}\nquit\n",
+    },
+    Row {
+        level: b"0 0:10 0",
+        start: b"",
+        white: b"feature ping=1 usermove=1 done=1\npong 1\nmove f2f3\npong 2\n",
+        black: b"feature ping=1 done=1\npong 1\nresign\n",
+        moments: &[0, 0, 0, 0, 5000, 4000, 4000, 4000, 4000],
+        to_white: b"xboard\nprotover 2\naccepted ping\naccepted usermove\naccepted done\nnew\nlevel 0 0:10 0\nnopost\neasy\nforce\nping 1\ntime 1000\notim 1000\ngo\nping 2\nresult 1-0 {Black resigns}\nquit\n",
+        to_black: b"xboard\nprotover 2\naccepted ping\naccepted done\nnew\nlevel 0 0:10 0\nnopost\neasy\nforce\nping 1\nf2f3\ntime 1000\notim 1000\ngo\nresult 1-0 {Black resigns}\nquit\n",
+    },
+];
+
+type TestEnds<'a> = Ends<Counted<PieceReader<'a>>, Counted<PieceWriter>>;
+
+// An engine's ends, with the numbers of the read and of the write that fail, 0 for none.
+fn ends(alloc: Global, bytes: &[u8], cut: usize, read: u64, write: u64) -> TestEnds<'_> {
+    Ends {
+        reader: Counted::reading(PieceReader::new(bytes, cut.max(1), read)),
+        writer: Counted::writing(PieceWriter::new(alloc, 1024, write)),
+    }
+}
+
+// The first row over devices that may fail. The fault at the end, and what both took.
+fn broken<'a>(
+    rt: &impl Abort,
+    alloc: Global,
+    mut white: TestEnds<'a>,
+    mut black: TestEnds<'a>,
+    fault: Option<(Colour, MatchFault)>,
+    to_white: &[u8],
+    to_black: &[u8],
+) -> Result<(), Fail> {
+    let level = match Level::read(ROWS[0].level) {
+        Some(level) => level,
+        None => panic!(rt; "level"),
+    };
+    let setup = Setup {
+        start: Position::initial(),
+        level,
+    };
+    let mut game = Game::open(alloc, Plain::new(), 100)?;
+    let mut scratch = Plain::new();
+    let mut moments = Listed { rest: &[] };
+    let end = run_match(
+        &mut white,
+        &mut black,
+        &mut moments,
+        &setup,
+        &mut game,
+        &mut scratch,
+    );
+    assert_eq!(rt; end.fault, fault);
+    assert_eq!(rt; white.writer.writer().bytes.as_slice(), to_white);
+    assert_eq!(rt; black.writer.writer().bytes.as_slice(), to_black);
+    Ok(())
+}
+
+#[test]
+fn devices_that_fail(rt: HostRuntime) -> Result<(), Fail> {
+    let row = &ROWS[0];
+    broken(
+        &rt,
+        rt.alloc(),
+        ends(rt.alloc(), row.white, 1024, 1, 0),
+        ends(rt.alloc(), row.black, 1024, 0, 0),
+        Some((Colour::White, MatchFault::Read)),
+        b"xboard\nprotover 2\nresult * {White can not be read}\nquit\n",
+        b"result * {White can not be read}\nquit\n",
+    )?;
+    broken(
+        &rt,
+        rt.alloc(),
+        ends(rt.alloc(), row.white, 1024, 0, 0),
+        ends(rt.alloc(), row.black, 1024, 0, 1),
+        Some((Colour::Black, MatchFault::Write)),
+        b"xboard\nprotover 2\naccepted ping\naccepted usermove\naccepted done\nresult * {Black can not be written}\nquit\n",
+        b"",
+    )?;
+    broken(
+        &rt,
+        rt.alloc(),
+        ends(rt.alloc(), row.white, 1024, 0, 1),
+        ends(rt.alloc(), row.black, 1024, 0, 0),
+        Some((Colour::White, MatchFault::Write)),
+        b"",
+        b"result * {White can not be written}\nquit\n",
+    )?;
+    // White's fourth call is the flush of its answers: the block was taken.
+    broken(
+        &rt,
+        rt.alloc(),
+        ends(rt.alloc(), row.white, 1024, 0, 4),
+        ends(rt.alloc(), row.black, 1024, 0, 0),
+        Some((Colour::White, MatchFault::Write)),
+        b"xboard\nprotover 2\naccepted ping\naccepted usermove\naccepted done\n",
+        b"result * {White can not be written}\nquit\n",
+    )?;
+    // The end lines to White fail: the outcome stands, and Black has all of its row.
+    broken(
+        &rt,
+        rt.alloc(),
+        ends(rt.alloc(), row.white, 1024, 0, 15),
+        ends(rt.alloc(), row.black, 1024, 0, 0),
+        Some((Colour::White, MatchFault::Write)),
+        b"xboard\nprotover 2\naccepted ping\naccepted usermove\naccepted done\nnew\nlevel 0 0:10 0\nnopost\neasy\nforce\nping 1\ntime 1000\notim 1000\ngo\nping 2\ntime 1000\notim 1000\nusermove e7e5\nping 3\n",
+        row.to_black,
+    )
+}
+
+fn check(rt: &impl Abort, alloc: Global, row: &Row, cut: usize) -> Result<(), Fail> {
+    let level = match Level::read(row.level) {
+        Some(level) => level,
+        None => panic!(rt; "level"),
+    };
+    let start = if row.start.is_empty() {
+        Position::initial()
+    } else {
+        match read_fen(row.start) {
+            Ok(start) => start,
+            Err(_) => panic!(rt; "start"),
+        }
+    };
+    let setup = Setup { start, level };
+    let mut game = Game::open(alloc, Plain::new(), 100)?;
+    let mut scratch = Plain::new();
+    let mut white = ends(alloc, row.white, cut, 0, 0);
+    let mut black = ends(alloc, row.black, cut, 0, 0);
+    let mut moments = Listed { rest: row.moments };
+    let _end = run_match(
+        &mut white,
+        &mut black,
+        &mut moments,
+        &setup,
+        &mut game,
+        &mut scratch,
+    );
+    assert_eq!(rt; white.writer.writer().bytes.as_slice(), row.to_white);
+    assert_eq!(rt; black.writer.writer().bytes.as_slice(), row.to_black);
+    Ok(())
+}
+
+#[test]
+fn worked_matches(rt: HostRuntime) -> Result<(), Fail> {
+    for row in &ROWS {
+        for cut in [1, 7, 1024] {
+            check(&rt, rt.alloc(), row, cut)?;
+        }
+    }
+    Ok(())
+}
+
+/// What two engines' devices see of one another: how many lines were flushed to each, and how many were read.
+#[derive(Drop)]
+struct Shared {
+    white: Cell<u64>,
+    black: Cell<u64>,
+    reads: Cell<u64>,
+}
+
+impl Shared {
+    fn flushed(&self, side: Colour) -> &Cell<u64> {
+        match side {
+            Colour::White => &self.white,
+            Colour::Black => &self.black,
+        }
+    }
+}
+
+/// Gives one line at a call, where so many lines were flushed; it counts its reads with the other engine's.
+#[derive(Drop)]
+struct Scripted<'a> {
+    lines: &'static [(u64, &'static [u8])],
+    shared: &'a Shared,
+    side: Colour,
+}
+
+impl Read for Scripted<'_> {
+    ghost use Rattle.std.specs.Prelude.{None};
+
+    ghost remaining = { λ r. None };
+
+    fn read(&mut self, buf: &mut [u8]) -> std::io::Result<usize> {
+        match self.lines {
+            [] => Ok(0),
+            [first, behind @ ..] => {
+                if self.shared.flushed(self.side).get() < first.0 {
+                    return Err(Error::from(ErrorKind::Other));
+                }
+                let count = first.1.len().min(buf.len());
+                buf[..count].copy_from_slice(&first.1[..count]);
+                self.lines = behind;
+                self.shared
+                    .reads
+                    .set(self.shared.reads.get().saturating_add(1));
+                Ok(count)
+            }
+        }
+    }
+}
+
+// How many lines a text has.
+fn line_count(text: &[u8]) -> u64 {
+    let mut count: u64 = 0;
+    for byte in text {
+        if *byte == b'\n' {
+            count = count.saturating_add(1);
+        }
+    }
+    count
+}
+
+/// Takes all bytes, and tells at a flush how many lines it took.
+#[derive(Drop)]
+struct Flushed<'a> {
+    bytes: Vec<u8>,
+    shared: &'a Shared,
+    side: Colour,
+}
+
+impl Write for Flushed<'_> {
+    ghost use Rattle.std.specs.Prelude.{None};
+
+    ghost contents = { λ w. None };
+
+    fn write(&mut self, buf: &[u8]) -> std::io::Result<usize> {
+        self.bytes.extend_from_slice(buf)?;
+        Ok(buf.len())
+    }
+
+    fn flush(&mut self) -> std::io::Result<()> {
+        self.shared
+            .flushed(self.side)
+            .set(line_count(self.bytes.as_slice()));
+        Ok(())
+    }
+}
+
+/// A second for each read.
+#[derive(Drop)]
+struct Ticks<'a> {
+    shared: &'a Shared,
+}
+
+impl Moments for Ticks<'_> {
+    ghost use Rattle.std.specs.Prelude.{None};
+
+    ghost coming = { λ m n. None };
+
+    fn now(&mut self) -> u64 {
+        self.shared.reads.get().saturating_mul(1000)
+    }
+}
+
+const WHITE_SAYS: [(u64, &'static [u8]); 6] = [
+    (2, b"feature ping=1 usermove=1 done=1\n"),
+    (11, b"pong 1\n"),
+    (14, b"move f2f3\n"),
+    (15, b"pong 2\n"),
+    (18, b"move g2g4\n"),
+    (19, b"pong 3\n"),
+];
+
+const BLACK_SAYS: [(u64, &'static [u8]); 5] = [
+    (2, b"feature ping=1 done=1\n"),
+    (10, b"pong 1\n"),
+    (14, b"move e7e5\n"),
+    (15, b"pong 2\n"),
+    (18, b"move d8h4\n"),
+];
+
+#[test]
+fn blocks_are_flushed_and_moments_asked_in_time(rt: HostRuntime) -> Result<(), Fail> {
+    let shared = Shared {
+        white: Cell::new(0),
+        black: Cell::new(0),
+        reads: Cell::new(0),
+    };
+    let mut white = Ends {
+        reader: Counted::reading(Scripted {
+            lines: &WHITE_SAYS,
+            shared: &shared,
+            side: Colour::White,
+        }),
+        writer: Counted::writing(Flushed {
+            bytes: Vec::new(rt.alloc()),
+            shared: &shared,
+            side: Colour::White,
+        }),
+    };
+    let mut black = Ends {
+        reader: Counted::reading(Scripted {
+            lines: &BLACK_SAYS,
+            shared: &shared,
+            side: Colour::Black,
+        }),
+        writer: Counted::writing(Flushed {
+            bytes: Vec::new(rt.alloc()),
+            shared: &shared,
+            side: Colour::Black,
+        }),
+    };
+    let level = match Level::read(b"0 0:10 0") {
+        Some(level) => level,
+        None => panic!(rt; "level"),
+    };
+    let setup = Setup {
+        start: Position::initial(),
+        level,
+    };
+    let mut game = Game::open(rt.alloc(), Plain::new(), 100)?;
+    let mut scratch = Plain::new();
+    let mut moments = Ticks { shared: &shared };
+    let end = run_match(
+        &mut white,
+        &mut black,
+        &mut moments,
+        &setup,
+        &mut game,
+        &mut scratch,
+    );
+    assert_eq!(rt; end.fault, None);
+    assert_eq!(rt;
+        white.writer.writer().bytes.as_slice(),
+        b"xboard\nprotover 2\naccepted ping\naccepted usermove\naccepted done\nnew\nlevel 0 0:10 0\nnopost\neasy\nforce\nping 1\ntime 1000\notim 1000\ngo\nping 2\ntime 900\notim 900\nusermove e7e5\nping 3\nusermove d8h4\nresult 0-1 {Black mates}\nquit\n".as_slice()
+    );
+    assert_eq!(rt;
+        black.writer.writer().bytes.as_slice(),
+        b"xboard\nprotover 2\naccepted ping\naccepted done\nnew\nlevel 0 0:10 0\nnopost\neasy\nforce\nping 1\nf2f3\ntime 1000\notim 900\ngo\nping 2\ntime 900\notim 800\ng2g4\nresult 0-1 {Black mates}\nquit\n".as_slice()
+    );
+    Ok(())
+}

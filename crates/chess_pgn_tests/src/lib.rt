@@ -1,0 +1,7 @@
+//! What chess_pgn's calls write and read, on the rows of the specification and on cases from outside.
+#![tactic(auto)]
+
+#[cfg(test)]
+mod reading;
+#[cfg(test)]
+mod writing;

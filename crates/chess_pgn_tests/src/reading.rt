@@ -1,0 +1,758 @@
+use chess_base::write_fen;
+use chess_game::{Game, Outcome, Verdict};
+use chess_moves::Plain;
+use chess_pgn::{PgnEnd, PgnFault, PgnFaultKind, Termination, read_pgn};
+use std::process::Abort;
+use std::test::Fail;
+
+// What is to be answered.
+#[derive(Clone, Copy)]
+enum Wanted {
+    Ended(Outcome, usize),
+    EndedAs(Outcome, Termination, usize),
+    Fault(PgnFaultKind, usize),
+    NoGame,
+}
+
+impl Wanted {
+    fn answer(self) -> Result<Option<PgnEnd>, PgnFault> {
+        match self {
+            Wanted::Ended(outcome, place) => Ok(Some(PgnEnd {
+                outcome,
+                termination: None,
+                place,
+            })),
+            Wanted::EndedAs(outcome, termination, place) => Ok(Some(PgnEnd {
+                outcome,
+                termination: Some(termination),
+                place,
+            })),
+            Wanted::Fault(kind, place) => Err(PgnFault { kind, place }),
+            Wanted::NoGame => Ok(None),
+        }
+    }
+}
+
+// A text, the answer, how many half-moves stand then, and the outcome that is declared.
+struct Row {
+    text: &'static [u8],
+    wanted: Wanted,
+    ply: usize,
+    declared: Option<Outcome>,
+}
+
+const ROWS: [Row; 77] = [
+    // The two rows of the command `verify`.
+    Row {
+        text: b"1.e4 {a} e5 (1...c5 2.Nf3) 2.Nf3 $1 *",
+        wanted: Wanted::Ended(Outcome::Unfinished, 37),
+        ply: 3,
+        declared: None,
+    },
+    Row {
+        text: b"1. e4 e4 *",
+        wanted: Wanted::Fault(PgnFaultKind::IllegalMove, 6),
+        ply: 1,
+        declared: None,
+    },
+    // Each fault, with its place.
+    Row {
+        text: b"1. e4",
+        wanted: Wanted::Fault(PgnFaultKind::NoResult, 5),
+        ply: 1,
+        declared: None,
+    },
+    Row {
+        text: b"1. e4 {x",
+        wanted: Wanted::Fault(PgnFaultKind::UnclosedComment, 6),
+        ply: 1,
+        declared: None,
+    },
+    Row {
+        text: b"1. e4 (e5 *",
+        wanted: Wanted::Fault(PgnFaultKind::UnclosedVariation, 6),
+        ply: 1,
+        declared: None,
+    },
+    Row {
+        text: b"1. e4 & *",
+        wanted: Wanted::Fault(PgnFaultKind::BadToken, 6),
+        ply: 1,
+        declared: None,
+    },
+    Row {
+        text: b"[Event \"x\" 1. e4 *",
+        wanted: Wanted::Fault(PgnFaultKind::BadTag, 0),
+        ply: 0,
+        declared: None,
+    },
+    Row {
+        text: b"[FEN \"8/8/8/8/8/8/8/8 w - - 0 1\"] *",
+        wanted: Wanted::Fault(PgnFaultKind::BadFen, 6),
+        ply: 0,
+        declared: None,
+    },
+    Row {
+        text: b"[FEN \"4k3/8/8/8/8/5N2/8/1N2K3 w - - 0 1\"] Nd2 *",
+        wanted: Wanted::Fault(PgnFaultKind::AmbiguousMove, 42),
+        ply: 0,
+        declared: None,
+    },
+    Row {
+        text: b"1. f3 e5 2. g4 Qh4 a3 *",
+        wanted: Wanted::Fault(PgnFaultKind::AfterEnd, 19),
+        ply: 4,
+        declared: None,
+    },
+    // The place of a bad FEN is behind the quote, whatever stands around it.
+    Row {
+        text: b"\n[ FEN \n\"x\"  ]*",
+        wanted: Wanted::Fault(PgnFaultKind::BadFen, 9),
+        ply: 0,
+        declared: None,
+    },
+    // A comment in a variation is the fault.
+    Row {
+        text: b"e4 (e5 {a) *",
+        wanted: Wanted::Fault(PgnFaultKind::UnclosedComment, 7),
+        ply: 1,
+        declared: None,
+    },
+    // Behind the end any move is one too many, but a word that is no move is told as such.
+    Row {
+        text: b"1. f3 e5 2. g4 Qh4# Nd2 *",
+        wanted: Wanted::Fault(PgnFaultKind::AfterEnd, 20),
+        ply: 4,
+        declared: None,
+    },
+    Row {
+        text: b"1. f3 e5 2. g4 Qh4# Qa9 *",
+        wanted: Wanted::Fault(PgnFaultKind::BadToken, 20),
+        ply: 4,
+        declared: None,
+    },
+    // Words that are no move.
+    Row {
+        text: b"1. e4 1-0!",
+        wanted: Wanted::Fault(PgnFaultKind::BadToken, 6),
+        ply: 1,
+        declared: None,
+    },
+    Row {
+        text: b"1. e4 e5-e6 *",
+        wanted: Wanted::Fault(PgnFaultKind::BadToken, 6),
+        ply: 1,
+        declared: None,
+    },
+    Row {
+        text: b"1. e4 -- *",
+        wanted: Wanted::Fault(PgnFaultKind::BadToken, 6),
+        ply: 1,
+        declared: None,
+    },
+    // Terminations.
+    Row {
+        text: b"1. e4 1-0",
+        wanted: Wanted::Ended(Outcome::WhiteWins, 9),
+        ply: 1,
+        declared: Some(Outcome::WhiteWins),
+    },
+    Row {
+        text: b"1. e4 0-1 1. d4",
+        wanted: Wanted::Ended(Outcome::BlackWins, 9),
+        ply: 1,
+        declared: Some(Outcome::BlackWins),
+    },
+    Row {
+        text: b"1/2-1/2",
+        wanted: Wanted::Ended(Outcome::Draw, 7),
+        ply: 0,
+        declared: Some(Outcome::Draw),
+    },
+    Row {
+        text: b"1.e4*",
+        wanted: Wanted::Ended(Outcome::Unfinished, 5),
+        ply: 1,
+        declared: None,
+    },
+    // Where the board has a verdict, it stands.
+    Row {
+        text: b"1. f3 e5 2. g4 Qh4# 1-0",
+        wanted: Wanted::Ended(Outcome::WhiteWins, 23),
+        ply: 4,
+        declared: None,
+    },
+    Row {
+        text: b"1. f3 e5 2. g4 Qh4# 0-1",
+        wanted: Wanted::Ended(Outcome::BlackWins, 23),
+        ply: 4,
+        declared: None,
+    },
+    // A position occurs for the fifth time.
+    Row {
+        text: b"Nf3 Nf6 Ng1 Ng8 Nf3 Nf6 Ng1 Ng8 Nf3 Nf6 Ng1 Ng8 Nf3 Nf6 Ng1 Ng8 *",
+        wanted: Wanted::Ended(Outcome::Unfinished, 65),
+        ply: 16,
+        declared: None,
+    },
+    Row {
+        text: b"Nf3 Nf6 Ng1 Ng8 Nf3 Nf6 Ng1 Ng8 Nf3 Nf6 Ng1 Ng8 Nf3 Nf6 Ng1 Ng8 e4 *",
+        wanted: Wanted::Fault(PgnFaultKind::AfterEnd, 64),
+        ply: 16,
+        declared: None,
+    },
+    // No tag, number, move or termination.
+    Row {
+        text: b"",
+        wanted: Wanted::NoGame,
+        ply: 0,
+        declared: None,
+    },
+    Row {
+        text: b" {1. e4} ; d4\n(c4 *) $1 !? ..\n% x\n",
+        wanted: Wanted::NoGame,
+        ply: 0,
+        declared: None,
+    },
+    Row {
+        text: b"[Event \"x\"]\n",
+        wanted: Wanted::Fault(PgnFaultKind::NoResult, 12),
+        ply: 0,
+        declared: None,
+    },
+    Row {
+        text: b"[FEN \"4k3/8/8/8/8/8/4P3/4K3 w - - 0 1\"]",
+        wanted: Wanted::Fault(PgnFaultKind::NoResult, 39),
+        ply: 0,
+        declared: None,
+    },
+    Row {
+        text: b"1",
+        wanted: Wanted::Fault(PgnFaultKind::NoResult, 1),
+        ply: 0,
+        declared: None,
+    },
+    // A bracket behind a number or move, whether it begins a tag or not.
+    Row {
+        text: b"e4 [White \"x\"] *",
+        wanted: Wanted::Fault(PgnFaultKind::NoResult, 3),
+        ply: 1,
+        declared: None,
+    },
+    Row {
+        text: b"1. [White \"x\"] e4 *",
+        wanted: Wanted::Fault(PgnFaultKind::NoResult, 3),
+        ply: 0,
+        declared: None,
+    },
+    Row {
+        text: b"1. e4 [x",
+        wanted: Wanted::Fault(PgnFaultKind::NoResult, 6),
+        ply: 1,
+        declared: None,
+    },
+    Row {
+        text: b"{a} !! $3 [White \"x\"] e4 *",
+        wanted: Wanted::Ended(Outcome::Unfinished, 26),
+        ply: 1,
+        declared: None,
+    },
+    // Only the tag FEN is used.
+    Row {
+        text: b"[Result \"0-1\"] [SetUp \"1\"] 1. e4 1-0",
+        wanted: Wanted::Ended(Outcome::WhiteWins, 36),
+        ply: 1,
+        declared: Some(Outcome::WhiteWins),
+    },
+    Row {
+        text: b"[Fen \"x\"] [FEN_ \"x\"] 1. e4 *",
+        wanted: Wanted::Ended(Outcome::Unfinished, 28),
+        ply: 1,
+        declared: None,
+    },
+    Row {
+        text: b"[FEN \"4k3/8/8/8/8/8/4p3/K7 b - - 0 1\"] 1... e1=Q+ *",
+        wanted: Wanted::Ended(Outcome::Unfinished, 51),
+        ply: 1,
+        declared: None,
+    },
+    // The last FEN counts; here e4 is no move in the first.
+    Row {
+        text: b"[FEN \"4k3/8/8/8/8/8/4p3/K7 b - - 0 1\"] [FEN \"4k3/8/8/8/8/8/4P3/4K3 w - - 0 1\"] e4 *",
+        wanted: Wanted::Ended(Outcome::Unfinished, 83),
+        ply: 1,
+        declared: None,
+    },
+    // A start without a move left: black is stalemated.
+    Row {
+        text: b"[FEN \"7k/5Q2/6K1/8/8/8/8/8 b - - 0 1\"] 0-1",
+        wanted: Wanted::Ended(Outcome::BlackWins, 42),
+        ply: 0,
+        declared: None,
+    },
+    // A byte order mark at place 0 alone.
+    Row {
+        text: b"\xEF\xBB\xBF1. e4 *",
+        wanted: Wanted::Ended(Outcome::Unfinished, 10),
+        ply: 1,
+        declared: None,
+    },
+    Row {
+        text: b" \xEF\xBB\xBF1. e4 *",
+        wanted: Wanted::Fault(PgnFaultKind::BadToken, 1),
+        ply: 0,
+        declared: None,
+    },
+    // `%` lines, and `;` comments.
+    Row {
+        text: b"% 1. d4\n1. e4\n%e5\n*",
+        wanted: Wanted::Ended(Outcome::Unfinished, 19),
+        ply: 1,
+        declared: None,
+    },
+    Row {
+        text: b"1. e4 %",
+        wanted: Wanted::Fault(PgnFaultKind::BadToken, 6),
+        ply: 1,
+        declared: None,
+    },
+    Row {
+        text: b"1. e4 ; e5 Nf3 * {\n e5 *",
+        wanted: Wanted::Ended(Outcome::Unfinished, 24),
+        ply: 2,
+        declared: None,
+    },
+    // Glyphs and marks.
+    Row {
+        text: b"1. e4! $1 $ $12 e5?! !? *",
+        wanted: Wanted::Ended(Outcome::Unfinished, 25),
+        ply: 2,
+        declared: None,
+    },
+    // Variations in one another, with comments that hold brackets.
+    Row {
+        text: b"1. e4 (1. d4 (1. c4 {)} c5 ; )\n) d5) e5 *",
+        wanted: Wanted::Ended(Outcome::Unfinished, 41),
+        ply: 2,
+        declared: None,
+    },
+    Row {
+        text: b"1. e4 (1. d4 (1. c4) *",
+        wanted: Wanted::Fault(PgnFaultKind::UnclosedVariation, 6),
+        ply: 1,
+        declared: None,
+    },
+    Row {
+        text: b"1. e4 ) *",
+        wanted: Wanted::Fault(PgnFaultKind::BadToken, 6),
+        ply: 1,
+        declared: None,
+    },
+    // The value of a number isn't looked at.
+    Row {
+        text: b"99. e4 0 007... e5 *",
+        wanted: Wanted::Ended(Outcome::Unfinished, 20),
+        ply: 2,
+        declared: None,
+    },
+    // Castling with zeros, which the pawn on b7 stops; promotion without `=`, coordinates, more than SAN asks for.
+    Row {
+        text: b"[FEN \"r3k2r/1P6/8/8/8/8/8/R3K2R w KQkq - 0 1\"] 0-0 0-0-0 *",
+        wanted: Wanted::Fault(PgnFaultKind::IllegalMove, 51),
+        ply: 1,
+        declared: None,
+    },
+    Row {
+        text: b"[FEN \"r3k2r/1P6/8/8/8/8/8/R3K2R w KQkq - 0 1\"] 0-0 Ke7 b7b8q Ra8xb8 *",
+        wanted: Wanted::Ended(Outcome::Unfinished, 69),
+        ply: 4,
+        declared: None,
+    },
+    // Where a move could be read as a number or an outcome, it isn't one.
+    Row {
+        text: b"1.e4 e5 2.0-0 *",
+        wanted: Wanted::Fault(PgnFaultKind::IllegalMove, 10),
+        ply: 2,
+        declared: None,
+    },
+    Row {
+        text: b"1.e4 e5 2.0-1",
+        wanted: Wanted::Ended(Outcome::BlackWins, 13),
+        ply: 2,
+        declared: Some(Outcome::BlackWins),
+    },
+    // A variation that is not closed, with others in it.
+    Row {
+        text: b"(a (b {c} d)",
+        wanted: Wanted::Fault(PgnFaultKind::UnclosedVariation, 0),
+        ply: 0,
+        declared: None,
+    },
+    Row {
+        text: b"(a {)} (b) ; )\n c) e4 *",
+        wanted: Wanted::Ended(Outcome::Unfinished, 23),
+        ply: 1,
+        declared: None,
+    },
+    Row {
+        text: b"(a\n%)\nb) e4 *",
+        wanted: Wanted::Ended(Outcome::Unfinished, 13),
+        ply: 1,
+        declared: None,
+    },
+    Row {
+        text: b"(a {b) (c {d",
+        wanted: Wanted::Fault(PgnFaultKind::UnclosedComment, 3),
+        ply: 0,
+        declared: None,
+    },
+    // A line that begins with `%`: at the text's first byte, or after byte 10.
+    Row {
+        text: b"% x y\ne4\n%z\ne5 % e6",
+        wanted: Wanted::Fault(PgnFaultKind::BadToken, 15),
+        ply: 2,
+        declared: None,
+    },
+    Row {
+        text: b"%",
+        wanted: Wanted::NoGame,
+        ply: 0,
+        declared: None,
+    },
+    Row {
+        text: b"\r%x",
+        wanted: Wanted::Fault(PgnFaultKind::BadToken, 1),
+        ply: 0,
+        declared: None,
+    },
+    // Not in a comment in braces, and not in a comment to the line's end.
+    Row {
+        text: b"{\n%}\ne4",
+        wanted: Wanted::Fault(PgnFaultKind::NoResult, 7),
+        ply: 1,
+        declared: None,
+    },
+    Row {
+        text: b"e4 ; % x\ne5;",
+        wanted: Wanted::Fault(PgnFaultKind::NoResult, 12),
+        ply: 2,
+        declared: None,
+    },
+    // A byte order mark is no line's first byte.
+    Row {
+        text: b"\xEF\xBB\xBF%x\ne4",
+        wanted: Wanted::Fault(PgnFaultKind::BadToken, 3),
+        ply: 0,
+        declared: None,
+    },
+    Row {
+        text: b"e4 \xEF\xBB\xBF",
+        wanted: Wanted::Fault(PgnFaultKind::BadToken, 3),
+        ply: 1,
+        declared: None,
+    },
+    // Glyphs, a star by itself, and bytes that no token has.
+    Row {
+        text: b"$12e4 $ e5$",
+        wanted: Wanted::Fault(PgnFaultKind::NoResult, 11),
+        ply: 2,
+        declared: None,
+    },
+    Row {
+        text: b"e4*e8=Q",
+        wanted: Wanted::Ended(Outcome::Unfinished, 3),
+        ply: 1,
+        declared: None,
+    },
+    Row {
+        text: b"e4,",
+        wanted: Wanted::Fault(PgnFaultKind::BadToken, 2),
+        ply: 1,
+        declared: None,
+    },
+    Row {
+        text: b"\x00",
+        wanted: Wanted::Fault(PgnFaultKind::BadToken, 0),
+        ply: 0,
+        declared: None,
+    },
+    Row {
+        text: b"}",
+        wanted: Wanted::Fault(PgnFaultKind::BadToken, 0),
+        ply: 0,
+        declared: None,
+    },
+    // Tags, with gaps and `%` lines between their parts; a backslash keeps a quote.
+    Row {
+        text: b"[ a_1\n%x]\n\"b%\" \t]e4 *",
+        wanted: Wanted::Ended(Outcome::Unfinished, 21),
+        ply: 1,
+        declared: None,
+    },
+    Row {
+        text: b"[A \"b\\\"c\\\\\"] *",
+        wanted: Wanted::Ended(Outcome::Unfinished, 14),
+        ply: 0,
+        declared: None,
+    },
+    Row {
+        text: b"[A \"b\nc\"] *",
+        wanted: Wanted::Fault(PgnFaultKind::BadTag, 0),
+        ply: 0,
+        declared: None,
+    },
+    Row {
+        text: b"[A \"b\\",
+        wanted: Wanted::Fault(PgnFaultKind::BadTag, 0),
+        ply: 0,
+        declared: None,
+    },
+    Row {
+        text: b"[ \"b\"]",
+        wanted: Wanted::Fault(PgnFaultKind::BadTag, 0),
+        ply: 0,
+        declared: None,
+    },
+    // Words that are neither moves, nor numbers, nor terminations.
+    Row {
+        text: b"1/2",
+        wanted: Wanted::Fault(PgnFaultKind::BadToken, 0),
+        ply: 0,
+        declared: None,
+    },
+    Row {
+        text: b"!1",
+        wanted: Wanted::Fault(PgnFaultKind::BadToken, 0),
+        ply: 0,
+        declared: None,
+    },
+    Row {
+        text: b"1!",
+        wanted: Wanted::Fault(PgnFaultKind::BadToken, 0),
+        ply: 0,
+        declared: None,
+    },
+];
+
+// The outcome that is declared with an empty comment.
+fn declared(rt: &impl Abort, game: &Game<Plain>) -> Option<Outcome> {
+    let declared = game.declared()?;
+    assert_eq!(rt; declared.comment.as_bytes(), b"".as_slice());
+    Some(declared.outcome)
+}
+
+#[test]
+fn games_are_read(rt: HostRuntime) -> Result<(), Fail> {
+    let mut game = Game::open(rt.alloc(), Plain::new(), 100)?;
+    for row in &ROWS {
+        assert_eq!(rt;
+            read_pgn(row.text, 0, &mut game),
+            row.wanted.answer(),
+            "at {:?}",
+            row.text
+        );
+        assert_eq!(rt; game.ply(), row.ply, "at {:?}", row.text);
+        assert_eq!(rt; declared(&rt, &game), row.declared, "at {:?}", row.text);
+    }
+    Ok(())
+}
+
+// Texts of both variants, and what is read of them.
+const VARIANTS: [Row; 14] = [
+    Row {
+        text: b"[Variant \"Chess960\"] [FEN \"4k3/8/8/8/8/8/8/RK5R w HA - 0 1\"] 1. O-O-O *",
+        wanted: Wanted::Ended(Outcome::Unfinished, 71),
+        ply: 1,
+        declared: None,
+    },
+    // The tag may stand behind the FEN, and the last one counts.
+    Row {
+        text: b"[FEN \"4k3/8/8/8/8/8/8/RK5R w HA - 0 1\"] [Variant \"x\"] [Variant \"FISCHERRANDOM\"] b1h1 *",
+        wanted: Wanted::Ended(Outcome::Unfinished, 86),
+        ply: 1,
+        declared: None,
+    },
+    Row {
+        text: b"[Variant \"fischerandom\"] [Variant \"x\"] [FEN \"4k3/8/8/8/8/8/8/RK5R w HA - 0 1\"] *",
+        wanted: Wanted::Fault(PgnFaultKind::BadFen, 45),
+        ply: 0,
+        declared: None,
+    },
+    // Without a FEN it is the initial position of Chess960, in which the king takes its rook to castle.
+    Row {
+        text: b"[Variant \"fischerandom\"] e4 e5 Nf3 Nf6 Be2 Be7 e1h1 e8g8 *",
+        wanted: Wanted::Fault(PgnFaultKind::IllegalMove, 52),
+        ply: 7,
+        declared: None,
+    },
+    Row {
+        text: b"[variant \"fischerandom\"] e4 e5 Nf3 Nf6 Be2 Be7 e1g1 e8h8 *",
+        wanted: Wanted::Fault(PgnFaultKind::IllegalMove, 52),
+        ply: 7,
+        declared: None,
+    },
+    // Comments, marks and variations don't end the look for the tag; a number, a move and an outcome do.
+    Row {
+        text: b"{x} !? (e4) [Variant \"chess960\"] e4 e5 Nf3 Nf6 Be2 Be7 e1h1 *",
+        wanted: Wanted::Ended(Outcome::Unfinished, 61),
+        ply: 7,
+        declared: None,
+    },
+    Row {
+        text: b"1. [Variant \"chess960\"] e4 *",
+        wanted: Wanted::Fault(PgnFaultKind::NoResult, 3),
+        ply: 0,
+        declared: None,
+    },
+    Row {
+        text: b"e4 e5 Nf3 Nf6 Be2 Be7 e1h1 [Variant \"chess960\"] *",
+        wanted: Wanted::Fault(PgnFaultKind::IllegalMove, 22),
+        ply: 6,
+        declared: None,
+    },
+    Row {
+        text: b"e4 e5 Nf3 Nf6 Be2 Be7 e1g1 * [Variant \"chess960\"] *",
+        wanted: Wanted::Ended(Outcome::Unfinished, 28),
+        ply: 7,
+        declared: None,
+    },
+    // How a game ended: the last tag counts, and only before the first number or move.
+    Row {
+        text: b"[Termination \"death\"] [Termination \"Rules Infraction\"] 0-1",
+        wanted: Wanted::EndedAs(Outcome::BlackWins, Termination::RulesInfraction, 58),
+        ply: 0,
+        declared: Some(Outcome::BlackWins),
+    },
+    Row {
+        text: b"[Termination \"death\"] [Termination \"normal \"] 0-1",
+        wanted: Wanted::Ended(Outcome::BlackWins, 49),
+        ply: 0,
+        declared: Some(Outcome::BlackWins),
+    },
+    Row {
+        text: b"[Termination \"UNTERMINATED\"] [termination \"x\"] 1-0",
+        wanted: Wanted::EndedAs(Outcome::WhiteWins, Termination::Unterminated, 50),
+        ply: 0,
+        declared: Some(Outcome::WhiteWins),
+    },
+    Row {
+        text: b"[Termination \"emergency\"] [FEN \"4k3/8/8/8/8/8/4P3/4K3 w - - 0 1\"] e4 *",
+        wanted: Wanted::EndedAs(Outcome::Unfinished, Termination::Emergency, 70),
+        ply: 1,
+        declared: None,
+    },
+    Row {
+        text: b"[Termination \"adjudication\"] e4 [Termination \"death\"] *",
+        wanted: Wanted::Fault(PgnFaultKind::NoResult, 32),
+        ply: 1,
+        declared: None,
+    },
+];
+
+#[test]
+fn variants_and_terminations_are_read(rt: HostRuntime) -> Result<(), Fail> {
+    let mut game = Game::open(rt.alloc(), Plain::new(), 100)?;
+    for row in &VARIANTS {
+        assert_eq!(rt;
+            read_pgn(row.text, 0, &mut game),
+            row.wanted.answer(),
+            "at {:?}",
+            row.text
+        );
+        assert_eq!(rt; game.ply(), row.ply, "at {:?}", row.text);
+        assert_eq!(rt; declared(&rt, &game), row.declared, "at {:?}", row.text);
+    }
+    Ok(())
+}
+
+#[test]
+fn a_game_of_one_move_is_full(rt: HostRuntime) -> Result<(), Fail> {
+    let mut game = Game::open(rt.alloc(), Plain::new(), 1)?;
+    for text in [b"1. e4 e5 *".as_slice(), b"1. e4 e4 *".as_slice()] {
+        assert_eq!(rt;
+            read_pgn(text, 0, &mut game),
+            Wanted::Fault(PgnFaultKind::TooLong, 6).answer()
+        );
+        assert_eq!(rt; game.ply(), 1);
+        assert_eq!(rt; game.outcome(), Outcome::Unfinished);
+    }
+    assert_eq!(rt;
+        read_pgn(b"1. e4 1-0", 0, &mut game),
+        Wanted::Ended(Outcome::WhiteWins, 9).answer()
+    );
+    assert_eq!(rt; game.outcome(), Outcome::WhiteWins);
+    Ok(())
+}
+
+#[test]
+fn games_are_read_one_after_the_other(rt: HostRuntime) -> Result<(), Fail> {
+    let mut game = Game::open(rt.alloc(), Plain::new(), 100)?;
+    let text: &[u8] = b"* 1. d4 1/2-1/2[White \"x\"]\ne4 0-1 {end}\n";
+    let rows = [
+        (0, Wanted::Ended(Outcome::Unfinished, 1), 0),
+        (1, Wanted::Ended(Outcome::Draw, 15), 1),
+        (15, Wanted::Ended(Outcome::BlackWins, 33), 1),
+        (33, Wanted::NoGame, 0),
+        (40, Wanted::NoGame, 0),
+    ];
+    for (at, wanted, ply) in rows {
+        assert!(rt; at <= text.len());
+        assert_eq!(rt; read_pgn(text, at, &mut game), wanted.answer(), "at {at}");
+        assert_eq!(rt; game.ply(), ply, "at {at}");
+    }
+    // With no game left, it is the initial position with nothing declared.
+    assert!(rt; game.declared().is_none());
+    let initial: &[u8] = b"rnbqkbnr/pppppppp/8/8/8/8/PPPPPPPP/RNBQKBNR w KQkq - 0 1";
+    assert_eq!(rt; write_fen(&game.position()).as_slice(), initial);
+    Ok(())
+}
+
+#[test]
+fn a_bad_fen_leaves_the_start_before_it(rt: HostRuntime) -> Result<(), Fail> {
+    let mut game = Game::open(rt.alloc(), Plain::new(), 100)?;
+    let fen: &[u8] = b"4k3/8/8/8/8/8/4P3/4K3 w - - 0 1";
+    assert_eq!(rt;
+        read_pgn(
+            b"[FEN \"4k3/8/8/8/8/8/4P3/4K3 w - - 0 1\"]\n[FEN \"x\"] e4 *",
+            0,
+            &mut game
+        ),
+        Wanted::Fault(PgnFaultKind::BadFen, 46).answer()
+    );
+    assert_eq!(rt; write_fen(&game.start()).as_slice(), fen);
+    assert_eq!(rt; write_fen(&game.position()).as_slice(), fen);
+    Ok(())
+}
+
+// Morphy against the Duke of Brunswick and Count Isouard, Paris 1858.
+const OPERA: &[u8] = b"[Event \"?\"]
+[Site \"Paris FRA\"]
+[Date \"1858.11.02\"]
+[Round \"?\"]
+[White \"Paul Morphy\"]
+[Black \"Duke Karl \\\"Brunswick\\\" / Count Isouard\"]
+[Result \"1-0\"]
+
+1. e4 e5 2. Nf3 d6 {This is the Philidor Defence.} 3. d4 Bg4?! 4. dxe5 Bxf3 (4...
+dxe5 5. Qxd8+ Kxd8 6. Nxe5) 5. Qxf3 dxe5 6. Bc4 Nf6 ; 6... Qf6 is better
+7. Qb3 Qe7 8. Nc3 (8. Qxb7 Qb4+ {an exchange of queens}) 8... c6 9. Bg5 b5 $2
+10. Nxb5 cxb5 11. Bxb5+ Nbd7 12. O-O-O Rd8 13. Rxd7 Rxd7 14. Rd1 Qe6
+15. Bxd7+ Nxd7 16. Qb8+!! Nxb8 17. Rd8# 1-0
+";
+
+#[test]
+fn a_whole_game_is_read(rt: HostRuntime) -> Result<(), Fail> {
+    let mut game = Game::open(rt.alloc(), Plain::new(), 100)?;
+    assert_eq!(rt;
+        read_pgn(OPERA, 0, &mut game),
+        Wanted::Ended(Outcome::WhiteWins, OPERA.len() - 1).answer()
+    );
+    assert_eq!(rt; game.ply(), 33);
+    assert_eq!(rt; game.verdict(), Some(Verdict::WhiteMates));
+    assert!(rt; game.declared().is_none());
+    assert_eq!(rt;
+        write_fen(&game.position()).as_slice(),
+        b"1n1Rkb1r/p4ppp/4q3/4p1B1/4P3/8/PPP2PPP/2K5 b k - 1 17".as_slice()
+    );
+    Ok(())
+}

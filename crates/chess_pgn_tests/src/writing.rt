@@ -1,0 +1,271 @@
+use byte_devices::{Counted, PieceWriter, WriteFault};
+use chess_base::{Variant, read_fen, read_fen_as};
+use chess_game::{Comment, Game, Outcome};
+use chess_moves::Plain;
+use chess_pgn::{
+    HowEnded, TagText, Tags, games_are_in_filled_lines, games_are_of_tokens, lines_are_filled,
+    normal_is_kept, pgn_is_read_back, write_pgn,
+};
+use chess_text::{Reading, read_move};
+use std::alloc::Global;
+use std::process::Abort;
+use std::test::Fail;
+
+// A game from a position, or from the initial one, with the moves between spaces.
+fn played(alloc: Global, fen: &[u8], moves: &[u8]) -> Result<Game<Plain>, Fail> {
+    let mut game = Game::open(alloc, Plain::new(), 100)?;
+    if !fen.is_empty() {
+        game.restart(&read_fen(fen).ok().ok_or("sound")?);
+    }
+    for word in moves.split(|byte| *byte == b' ') {
+        if let Reading::Move(m) = read_move(game.board(), word) {
+            game.play(m).or(Err("played"))?;
+        }
+    }
+    Ok(game)
+}
+
+// Its text, by a writer that takes so many bytes at a time.
+fn written(
+    alloc: Global,
+    game: &Game<Plain>,
+    tags: &Tags,
+    prefix: &[u8],
+    cut: usize,
+) -> Result<Vec<u8>, Fail> {
+    let mut writer = Counted::writing(PieceWriter::new(alloc, cut, 0));
+    let mut scratch = Plain::new();
+    write_pgn(game, &mut scratch, tags, prefix, &mut writer).or(Err("written"))?;
+    Ok(writer.into_writer().bytes)
+}
+
+/// A game that has no tags but the seven with `?`, and its text without the first six lines, each behind `# `.
+struct GameRow {
+    fen: &'static [u8],
+    moves: &'static [u8],
+    text: &'static [u8],
+}
+
+const FIRST_LINES: &[u8] =
+    b"# [Event \"?\"]\n# [Site \"?\"]\n# [Date \"????.??.??\"]\n# [Round \"?\"]\n# [White \"?\"]\n# [Black \"?\"]\n";
+
+const GAMES: [GameRow; 10] = [
+    GameRow {
+        fen: b"",
+        moves: b"",
+        text: b"# [Result \"*\"]\n# [Termination \"unterminated\"]\n# \n# *\n# \n",
+    },
+    // Both knights go to and fro eight times: the position comes for the fifth time.
+    GameRow {
+        fen: b"",
+        moves: b"g1f3 g8f6 f3g1 f6g8 g1f3 g8f6 f3g1 f6g8 g1f3 g8f6 f3g1 f6g8 g1f3 g8f6 f3g1 f6g8",
+        text: b"# [Result \"1/2-1/2\"]\n# [Termination \"normal\"]\n# \n# 1. Nf3 Nf6 2. Ng1 Ng8 3. Nf3 Nf6 4. Ng1 Ng8 5. Nf3 Nf6 6. Ng1 Ng8 7. Nf3 Nf6 8.\n# Ng1 Ng8 1/2-1/2\n# \n",
+    },
+    // The same from move 10 on, so that fewer stand in the first line.
+    GameRow {
+        fen: b"rnbqkbnr/pppppppp/8/8/8/8/PPPPPPPP/RNBQKBNR w KQkq - 0 10",
+        moves: b"g1f3 g8f6 f3g1 f6g8 g1f3 g8f6 f3g1 f6g8 g1f3 g8f6 f3g1 f6g8 g1f3 g8f6 f3g1 f6g8",
+        text: b"# [Result \"1/2-1/2\"]\n# [FEN \"rnbqkbnr/pppppppp/8/8/8/8/PPPPPPPP/RNBQKBNR w KQkq - 0 10\"]\n# [SetUp \"1\"]\n# [Termination \"normal\"]\n# \n# 10. Nf3 Nf6 11. Ng1 Ng8 12. Nf3 Nf6 13. Ng1 Ng8 14. Nf3 Nf6 15. Ng1 Ng8 16. Nf3\n# Nf6 17. Ng1 Ng8 1/2-1/2\n# \n",
+    },
+    // Mate.
+    GameRow {
+        fen: b"",
+        moves: b"f2f3 e7e5 g2g4 d8h4",
+        text: b"# [Result \"0-1\"]\n# [Termination \"normal\"]\n# \n# 1. f3 e5 2. g4 Qh4# 0-1\n# \n",
+    },
+    // Black moves first and promotes.
+    GameRow {
+        fen: b"4k3/8/8/8/8/8/4p3/K7 b - - 0 1",
+        moves: b"e2e1q",
+        text: b"# [Result \"*\"]\n# [FEN \"4k3/8/8/8/8/8/4p3/K7 b - - 0 1\"]\n# [SetUp \"1\"]\n# [Termination \"unterminated\"]\n# \n# 1... e1=Q+ *\n# \n",
+    },
+    // The number stands only before the first of Black's moves.
+    GameRow {
+        fen: b"4k3/8/8/8/8/8/4p3/K7 b - - 0 1",
+        moves: b"e2e1q a1a2 e1e2 a2a1",
+        text: b"# [Result \"*\"]\n# [FEN \"4k3/8/8/8/8/8/4p3/K7 b - - 0 1\"]\n# [SetUp \"1\"]\n# [Termination \"unterminated\"]\n# \n# 1... e1=Q+ 2. Ka2 Qe2+ 3. Ka1 *\n# \n",
+    },
+    // The other knight is pinned.
+    GameRow {
+        fen: b"4k3/8/8/8/1b6/2N5/8/4K1N1 w - - 0 1",
+        moves: b"g1e2",
+        text: b"# [Result \"*\"]\n# [FEN \"4k3/8/8/8/1b6/2N5/8/4K1N1 w - - 0 1\"]\n# [SetUp \"1\"]\n# [Termination \"unterminated\"]\n# \n# 1. Ne2 *\n# \n",
+    },
+    // The other knight is not.
+    GameRow {
+        fen: b"4k3/8/8/8/8/5N2/8/1N2K3 w - - 0 1",
+        moves: b"Nbd2",
+        text: b"# [Result \"*\"]\n# [FEN \"4k3/8/8/8/8/5N2/8/1N2K3 w - - 0 1\"]\n# [SetUp \"1\"]\n# [Termination \"unterminated\"]\n# \n# 1. Nbd2 *\n# \n",
+    },
+    // The men of the initial position at another clock are another start.
+    GameRow {
+        fen: b"rnbqkbnr/pppppppp/8/8/8/8/PPPPPPPP/RNBQKBNR w KQkq - 1 1",
+        moves: b"e2e4",
+        text: b"# [Result \"*\"]\n# [FEN \"rnbqkbnr/pppppppp/8/8/8/8/PPPPPPPP/RNBQKBNR w KQkq - 1 1\"]\n# [SetUp \"1\"]\n# [Termination \"unterminated\"]\n# \n# 1. e4 *\n# \n",
+    },
+    // The greatest number, at which it stays.
+    GameRow {
+        fen: b"4k3/8/8/8/8/8/8/R3K3 b Q - 0 999999",
+        moves: b"e8e7 e1c1",
+        text: b"# [Result \"*\"]\n# [FEN \"4k3/8/8/8/8/8/8/R3K3 b Q - 0 999999\"]\n# [SetUp \"1\"]\n# [Termination \"unterminated\"]\n# \n# 999999... Ke7 999999. O-O-O *\n# \n",
+    },
+];
+
+#[test]
+fn games_are_written(rt: HostRuntime) -> Result<(), Fail> {
+    for row in &GAMES {
+        let game = played(rt.alloc(), row.fen, row.moves)?;
+        let mut text = Vec::new(rt.alloc());
+        text.extend_from_slice(FIRST_LINES)?;
+        text.extend_from_slice(row.text)?;
+        for cut in [9000, 1] {
+            let found = written(rt.alloc(), &game, &Tags::default(), b"# ", cut)?;
+            assert_eq!(rt; found.as_slice(), text.as_slice());
+        }
+    }
+    Ok(())
+}
+
+#[test]
+fn tags_and_declared_results_are_written(rt: HostRuntime) -> Result<(), Fail> {
+    let mut game = played(rt.alloc(), b"", b"e4 c5")?;
+    game.declare(Outcome::WhiteWins, Comment::cut(b"Black resigns"))
+        .or(Err("declared"))?;
+    let tags = Tags {
+        event: TagText::cut(b"A \"B\" \\"),
+        site: TagText::cut(b""),
+        date: TagText::cut(b"2024.12.31"),
+        round: TagText::cut(b"3.1"),
+        white: TagText::cut(b"]{}"),
+        black: TagText::cut(b"\n"),
+        ended: HowEnded::RulesInfraction,
+    };
+    let text = written(rt.alloc(), &game, &tags, b"", 9000)?;
+    assert_eq!(rt;
+        text.as_slice(),
+        b"[Event \"A \\\"B\\\" \\\\\"]\n[Site \"\"]\n[Date \"2024.12.31\"]\n[Round \"3.1\"]\n[White \"]{}\"]\n[Black \"?\"]\n[Result \"1-0\"]\n[Termination \"rules infraction\"]\n\n1. e4 c5 1-0\n\n".as_slice()
+    );
+    Ok(())
+}
+
+// How a game ended stands behind its start's tags and before that of the variant.
+#[test]
+fn the_end_of_a_game_of_chess960_is_written(rt: HostRuntime) -> Result<(), Fail> {
+    let mut game = Game::open(rt.alloc(), Plain::new(), 100)?;
+    let start = read_fen_as(Variant::Fischerandom, b"4k3/8/8/8/8/8/8/RK5R w HA - 0 1");
+    game.restart(&start.ok().ok_or("sound")?);
+    if let Reading::Move(m) = read_move(game.board(), b"O-O-O") {
+        game.play(m).or(Err("played"))?;
+    }
+    let tags = Tags {
+        ended: HowEnded::TimeForfeit,
+        ..Tags::default()
+    };
+    let unended: &[u8] =
+        b"[FEN \"4k3/8/8/8/8/8/8/RK5R w HA - 0 1\"]\n[SetUp \"1\"]\n[Termination \"unterminated\"]\n[Variant \"fischerandom\"]\n\n1. O-O-O *\n\n";
+    let text = written(rt.alloc(), &game, &tags, b"", 9000)?;
+    assert!(rt; text.as_slice().ends_with(unended));
+    game.declare(Outcome::Draw, Comment::cut(b""))
+        .or(Err("declared"))?;
+    let ended: &[u8] =
+        b"[FEN \"4k3/8/8/8/8/8/8/RK5R w HA - 0 1\"]\n[SetUp \"1\"]\n[Termination \"time forfeit\"]\n[Variant \"fischerandom\"]\n\n1. O-O-O 1/2-1/2\n\n";
+    let text = written(rt.alloc(), &game, &tags, b"", 9000)?;
+    assert!(rt; text.as_slice().ends_with(ended));
+    Ok(())
+}
+
+#[test]
+fn each_declared_result_is_written(rt: HostRuntime) -> Result<(), Fail> {
+    let mut game = played(rt.alloc(), b"", b"e4")?;
+    for (outcome, line) in [
+        (Outcome::BlackWins, b"\n1. e4 0-1\n\n".as_slice()),
+        (Outcome::Draw, b"\n1. e4 1/2-1/2\n\n".as_slice()),
+        (Outcome::Unfinished, b"\n1. e4 *\n\n".as_slice()),
+    ] {
+        game.declare(outcome, Comment::cut(b""))
+            .or(Err("declared"))?;
+        let text = written(rt.alloc(), &game, &Tags::default(), b"", 9000)?;
+        assert!(rt; text.as_slice().ends_with(line));
+    }
+    Ok(())
+}
+
+// However the writer fails, a beginning was taken; it is told exactly then.
+#[test]
+fn failures_leave_a_beginning(rt: HostRuntime) -> Result<(), Fail> {
+    let game = played(rt.alloc(), GAMES[4].fen, GAMES[4].moves)?;
+    let whole = written(rt.alloc(), &game, &Tags::default(), b"# ", 9000)?;
+    let calls = (whole.len() as u64).div_ceil(7);
+    for fails_at in 1..=calls + 1 {
+        let mut writer = Counted::writing(PieceWriter::new(rt.alloc(), 7, fails_at));
+        // What the scratch board was at makes no difference.
+        let mut scratch = Plain::new();
+        let result = write_pgn(&game, &mut scratch, &Tags::default(), b"# ", &mut writer);
+        let taken = writer.into_writer().bytes;
+        if fails_at <= calls {
+            assert_eq!(rt; result, Err(WriteFault));
+            assert_eq!(rt; taken.len() as u64, 7 * (fails_at - 1));
+            assert!(rt; whole.starts_with(taken.as_slice()));
+        } else {
+            assert_eq!(rt; result, Ok(()));
+            assert_eq!(rt; taken.as_slice(), whole.as_slice());
+        }
+    }
+    Ok(())
+}
+
+#[test]
+fn tag_texts_are_cut(rt: HostRuntime) {
+    let long: &[u8] = b"123456789012345678901234567890123456789012345678901234567890X";
+    assert_eq!(rt; TagText::cut(long).as_bytes(), &long[..60]);
+    assert_eq!(rt;
+        TagText::cut(b"\x1F\xC3\xA9~\x7F \n{}").as_bytes(),
+        b"???~? ?{}".as_slice()
+    );
+    let tags = Tags::default();
+    for text in [
+        &tags.event,
+        &tags.site,
+        &tags.round,
+        &tags.white,
+        &tags.black,
+    ] {
+        assert_eq!(rt; text.as_bytes(), b"?".as_slice());
+    }
+    assert_eq!(rt; tags.date.as_bytes(), b"????.??.??".as_slice());
+}
+
+#[test]
+fn a_prefix_longer_than_the_buffer_is_written(rt: HostRuntime) -> Result<(), Fail> {
+    let prefix = vec![in rt.alloc(); b'p'; 5000]?;
+    let game = played(rt.alloc(), b"", b"")?;
+    let found = written(rt.alloc(), &game, &Tags::default(), prefix.as_slice(), 9000)?;
+    let mut text = Vec::new(rt.alloc());
+    for line in [
+        b"[Event \"?\"]\n".as_slice(),
+        b"[Site \"?\"]\n",
+        b"[Date \"????.??.??\"]\n",
+        b"[Round \"?\"]\n",
+        b"[White \"?\"]\n",
+        b"[Black \"?\"]\n",
+        b"[Result \"*\"]\n",
+        b"[Termination \"unterminated\"]\n",
+        b"\n",
+        b"*\n",
+        b"\n",
+    ] {
+        text.extend_from_slice(prefix.as_slice())?;
+        text.extend_from_slice(line)?;
+    }
+    assert_eq!(rt; found.as_slice(), text.as_slice());
+    Ok(())
+}
+
+#[test]
+fn laws_are_called() {
+    lines_are_filled();
+    games_are_in_filled_lines();
+    games_are_of_tokens();
+    normal_is_kept();
+    pgn_is_read_back();
+}

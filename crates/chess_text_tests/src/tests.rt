@@ -1,0 +1,395 @@
+use chess_base::{Kind, Move, Square, read_fen, write_fen};
+use chess_moves::{Board, Plain};
+use chess_text::{
+    Reading, coordinate, coordinate_spells_its_move, has_move_shape, normal_is_kept, read_move,
+    san, san_is_a_word, san_spells_its_move, texts_have_parts,
+};
+use std::process::Abort;
+use std::test::Fail;
+
+// What is to come of a text: the move with this coordinate text, or none.
+#[derive(Clone, Copy)]
+enum Wanted {
+    Move(&'static [u8]),
+    Ambiguous,
+    NoSuch,
+    NotAMove,
+}
+
+fn board_at(fen: &[u8]) -> Result<Plain, Fail> {
+    let position = read_fen(fen).ok().ok_or("sound")?;
+    let mut board = Plain::new();
+    board.set(&position);
+    Ok(board)
+}
+
+fn check(rt: &impl Abort, board: &Plain, text: &[u8], wanted: Wanted) {
+    let found = read_move(board, text);
+    match (found, wanted) {
+        (Reading::Move(m), Wanted::Move(name)) => {
+            assert_eq!(rt; coordinate(m).as_slice(), name, "at {text:?}");
+        }
+        (Reading::Ambiguous, Wanted::Ambiguous)
+        | (Reading::NoSuch, Wanted::NoSuch)
+        | (Reading::NotAMove, Wanted::NotAMove) => {}
+        _ => assert!(rt; false, "{text:?} is {found:?}"),
+    }
+    assert_eq!(rt;
+        has_move_shape(text),
+        found != Reading::NotAMove,
+        "at {text:?}"
+    );
+}
+
+fn check_all(rt: &impl Abort, fen: &[u8], rows: &[(&[u8], Wanted)]) -> Result<(), Fail> {
+    let board = board_at(fen)?;
+    for (text, wanted) in rows {
+        check(rt, &board, text, *wanted);
+    }
+    Ok(())
+}
+
+// Both castlings, a capture en passant, a pinned knight on c3 and one that may move.
+const MIDDLE_GAME: &[u8] = b"r3k2r/ppp2ppp/2n2n2/3pP3/1b6/2N2N2/PPP2PPP/R3K2R w KQkq d6 0 8";
+
+const MIDDLE_GAME_TEXTS: [(&[u8], Wanted); 103] = [
+    (b"e6", Wanted::Move(b"e5e6")),
+    (b"e5e6", Wanted::Move(b"e5e6")),
+    (b"ee6", Wanted::Move(b"e5e6")),
+    (b"e5-e6", Wanted::NotAMove),
+    (b"e5xe6", Wanted::NoSuch),
+    (b"exe6", Wanted::NoSuch),
+    (b"e6+#!?", Wanted::Move(b"e5e6")),
+    (b"e6??", Wanted::Move(b"e5e6")),
+    (b"e6!x", Wanted::NotAMove),
+    (b"++e6", Wanted::NotAMove),
+    (b"e6 ", Wanted::NotAMove),
+    (b"e6=", Wanted::NotAMove),
+    (b"e6e", Wanted::NotAMove),
+    (b"e5e6q", Wanted::NoSuch),
+    (b"Pe6", Wanted::NotAMove),
+    (b"exd6", Wanted::Move(b"e5d6")),
+    (b"ed6", Wanted::Move(b"e5d6")),
+    (b"e5d6", Wanted::Move(b"e5d6")),
+    (b"e5xd6", Wanted::Move(b"e5d6")),
+    (b"d6", Wanted::NoSuch),
+    (b"exd6e.p.", Wanted::NotAMove),
+    (b"exf6", Wanted::Move(b"e5f6")),
+    (b"dxe6", Wanted::NoSuch),
+    (b"xe6", Wanted::NotAMove),
+    (b"xd6", Wanted::NotAMove),
+    (b"4e5", Wanted::NotAMove),
+    (b"O-O", Wanted::Move(b"e1g1")),
+    (b"0-0", Wanted::Move(b"e1g1")),
+    (b"O-O-O", Wanted::Move(b"e1c1")),
+    (b"0-0-0", Wanted::Move(b"e1c1")),
+    (b"O-O+", Wanted::Move(b"e1g1")),
+    (b"O-O-O!?", Wanted::Move(b"e1c1")),
+    (b"0-0#", Wanted::Move(b"e1g1")),
+    (b"0-0-0-0", Wanted::NotAMove),
+    (b"O-O-O-O", Wanted::NotAMove),
+    (b"o-o", Wanted::NotAMove),
+    (b"OO", Wanted::NotAMove),
+    (b"O-0", Wanted::NotAMove),
+    (b"e1g1", Wanted::Move(b"e1g1")),
+    (b"e1c1", Wanted::Move(b"e1c1")),
+    (b"e1g1+", Wanted::Move(b"e1g1")),
+    (b"Kg1", Wanted::NoSuch),
+    (b"Ke1g1", Wanted::NoSuch),
+    (b"Kc1", Wanted::NoSuch),
+    (b"Kf1", Wanted::Move(b"e1f1")),
+    (b"Kxf1", Wanted::NoSuch),
+    (b"KE2", Wanted::NotAMove),
+    (b"ke2", Wanted::NotAMove),
+    (b"Ke2", Wanted::Move(b"e1e2")),
+    (b"Nd2", Wanted::Move(b"f3d2")),
+    (b"Nd4", Wanted::Move(b"f3d4")),
+    (b"Nd4+", Wanted::Move(b"f3d4")),
+    (b"Nxd5", Wanted::NoSuch),
+    (b"Ne4", Wanted::NoSuch),
+    (b"Ng5", Wanted::Move(b"f3g5")),
+    (b"Nfg5", Wanted::Move(b"f3g5")),
+    (b"N3g5", Wanted::Move(b"f3g5")),
+    (b"Nf3g5", Wanted::Move(b"f3g5")),
+    (b"Ncg5", Wanted::NoSuch),
+    (b"N5g5", Wanted::NoSuch),
+    (b"Nf3xg5", Wanted::NoSuch),
+    (b"nd4", Wanted::NotAMove),
+    (b"Nf3=Q", Wanted::NotAMove),
+    (b"Nf3", Wanted::NoSuch),
+    (b"f3g5", Wanted::Move(b"f3g5")),
+    (b"f3g5n", Wanted::NoSuch),
+    (b"N", Wanted::NotAMove),
+    (b"Nf", Wanted::NotAMove),
+    (b"N5", Wanted::NotAMove),
+    (b"Rd1", Wanted::Move(b"a1d1")),
+    (b"Rad1", Wanted::Move(b"a1d1")),
+    (b"R1d1", Wanted::Move(b"a1d1")),
+    (b"Rhd1", Wanted::NoSuch),
+    (b"Rf1", Wanted::Move(b"h1f1")),
+    (b"R1f1", Wanted::Move(b"h1f1")),
+    (b"a4", Wanted::Move(b"a2a4")),
+    (b"aa4", Wanted::Move(b"a2a4")),
+    (b"a2a4q", Wanted::NoSuch),
+    (b"a4=Q", Wanted::NoSuch),
+    (b"a5", Wanted::NoSuch),
+    (b"b4", Wanted::NoSuch),
+    (b"bb3", Wanted::Move(b"b2b3")),
+    (b"bxc3", Wanted::NoSuch),
+    (b"Bxc3", Wanted::NoSuch),
+    (b"bc3", Wanted::NoSuch),
+    (b"cc3", Wanted::NoSuch),
+    (b"c2c3", Wanted::NoSuch),
+    (b"", Wanted::NotAMove),
+    (b"+", Wanted::NotAMove),
+    (b"!?", Wanted::NotAMove),
+    (b"e", Wanted::NotAMove),
+    (b"h9", Wanted::NotAMove),
+    (b"i4", Wanted::NotAMove),
+    (b"e0", Wanted::NotAMove),
+    (b"e7e8k", Wanted::NotAMove),
+    (b"e7e8", Wanted::NoSuch),
+    (b"e7e8q", Wanted::NoSuch),
+    (b"\xe2\x99\x98d4", Wanted::NotAMove),
+    (b"\xe2\x99\x9ee5", Wanted::NotAMove),
+    (b"\0e4", Wanted::NotAMove),
+    (b"--", Wanted::NotAMove),
+    (b"Z0", Wanted::NotAMove),
+    (b"@@@@", Wanted::NotAMove),
+];
+
+#[test]
+fn texts_in_a_middle_game(rt: HostRuntime) -> Result<(), Fail> {
+    check_all(&rt, MIDDLE_GAME, MIDDLE_GAME_TEXTS.as_slice())
+}
+
+// A pawn on e7 may go on or capture on either side.
+const PROMOTION: &[u8] = b"3r1n1k/4P3/8/8/8/8/8/4K3 w - - 0 1";
+
+const PROMOTION_TEXTS: [(&[u8], Wanted); 42] = [
+    (b"e8=Q", Wanted::Move(b"e7e8q")),
+    (b"e8Q", Wanted::Move(b"e7e8q")),
+    (b"e8q", Wanted::Move(b"e7e8q")),
+    (b"e8=q", Wanted::Move(b"e7e8q")),
+    (b"e8", Wanted::NoSuch),
+    (b"e7e8", Wanted::NoSuch),
+    (b"e7e8q", Wanted::Move(b"e7e8q")),
+    (b"e7e8Q", Wanted::Move(b"e7e8q")),
+    (b"e7e8=Q", Wanted::Move(b"e7e8q")),
+    (b"e8=R", Wanted::Move(b"e7e8r")),
+    (b"e8=B", Wanted::Move(b"e7e8b")),
+    (b"e8=N!?", Wanted::Move(b"e7e8n")),
+    (b"e8b", Wanted::Move(b"e7e8b")),
+    (b"e8=K", Wanted::NotAMove),
+    (b"e8=P", Wanted::NotAMove),
+    (b"e8k", Wanted::NotAMove),
+    (b"e7e8k", Wanted::NotAMove),
+    (b"e8==Q", Wanted::NotAMove),
+    (b"e8=QQ", Wanted::NotAMove),
+    (b"e8=", Wanted::NotAMove),
+    (b"e8=Q=", Wanted::NotAMove),
+    (b"exd8=N+", Wanted::Move(b"e7d8n")),
+    (b"ed8=N", Wanted::Move(b"e7d8n")),
+    (b"ed8n", Wanted::Move(b"e7d8n")),
+    (b"e7d8n", Wanted::Move(b"e7d8n")),
+    (b"e7xd8=R", Wanted::Move(b"e7d8r")),
+    (b"exd8", Wanted::NoSuch),
+    (b"d8=Q", Wanted::NoSuch),
+    (b"exf8=B#", Wanted::Move(b"e7f8b")),
+    (b"fxe8=Q", Wanted::NoSuch),
+    (b"exe8=Q", Wanted::NoSuch),
+    (b"ee8=Q", Wanted::Move(b"e7e8q")),
+    (b"xe8=Q", Wanted::NotAMove),
+    (b"Ke2", Wanted::Move(b"e1e2")),
+    (b"Kd1", Wanted::NoSuch),
+    (b"Kxe2", Wanted::NoSuch),
+    (b"Ke2=Q", Wanted::NotAMove),
+    (b"O-O", Wanted::NoSuch),
+    (b"e1f2", Wanted::Move(b"e1f2")),
+    (b"e1f2q", Wanted::NoSuch),
+    (b"Qe8", Wanted::NoSuch),
+    (b"8=Q", Wanted::NotAMove),
+];
+
+#[test]
+fn texts_of_promotions(rt: HostRuntime) -> Result<(), Fail> {
+    check_all(&rt, PROMOTION, PROMOTION_TEXTS.as_slice())
+}
+
+// Three queens attack e1.
+const QUEENS: &[u8] = b"8/k7/8/8/4Q2Q/8/K7/7Q w - - 0 1";
+
+const QUEENS_TEXTS: [(&[u8], Wanted); 23] = [
+    (b"Qe1", Wanted::Ambiguous),
+    (b"Qee1", Wanted::Move(b"e4e1")),
+    (b"Q4e1", Wanted::Ambiguous),
+    (b"Q1e1", Wanted::Move(b"h1e1")),
+    (b"Qhe1", Wanted::Ambiguous),
+    (b"Qh4e1", Wanted::Move(b"h4e1")),
+    (b"Qh1e1", Wanted::Move(b"h1e1")),
+    (b"Qe4e1", Wanted::Move(b"e4e1")),
+    (b"h4e1", Wanted::Move(b"h4e1")),
+    (b"Qxe1", Wanted::NoSuch),
+    (b"Qh4xe1", Wanted::NoSuch),
+    (b"Qe1+", Wanted::Ambiguous),
+    (b"Qd5", Wanted::Move(b"e4d5")),
+    (b"Qh3", Wanted::Ambiguous),
+    (b"Q4h3", Wanted::Move(b"h4h3")),
+    (b"Q1h3", Wanted::Move(b"h1h3")),
+    (b"Qhh3", Wanted::Ambiguous),
+    (b"Ka1", Wanted::Move(b"a2a1")),
+    (b"he1", Wanted::NoSuch),
+    (b"a7a8", Wanted::NoSuch),
+    (b"e1", Wanted::NoSuch),
+    (b"QE1", Wanted::NotAMove),
+    (b"qe1", Wanted::NotAMove),
+];
+
+#[test]
+fn texts_of_three_queens(rt: HostRuntime) -> Result<(), Fail> {
+    check_all(&rt, QUEENS, QUEENS_TEXTS.as_slice())
+}
+
+#[test]
+fn long_runs_of_marks(rt: HostRuntime) -> Result<(), Fail> {
+    let board = Plain::new();
+    let mut text = [b'+'; 1024];
+    check(&rt, &board, &text, Wanted::NotAMove);
+    text[0] = b'e';
+    text[1] = b'4';
+    check(&rt, &board, &text, Wanted::Move(b"e2e4"));
+    text[1023] = b'4';
+    check(&rt, &board, &text, Wanted::NotAMove);
+    Ok(())
+}
+
+// A position, a move by coordinates, and its SAN.
+const WRITTEN: [(&[u8], &[u8], &[u8]); 24] = [
+    (
+        b"rnbqkbnr/pppppppp/8/8/8/8/PPPPPPPP/RNBQKBNR w KQkq - 0 1",
+        b"g1f3",
+        b"Nf3",
+    ),
+    (
+        b"r3k2r/ppp2ppp/2n2n2/3pP3/1b6/2N2N2/PPP2PPP/R3K2R w KQkq d6 0 8",
+        b"e5d6",
+        b"exd6",
+    ),
+    (
+        b"r3k2r/ppp2ppp/2n2n2/3pP3/1b6/2N2N2/PPP2PPP/R3K2R w KQkq d6 0 8",
+        b"e1g1",
+        b"O-O",
+    ),
+    (
+        b"r3k2r/ppp2ppp/2n2n2/3pP3/1b6/2N2N2/PPP2PPP/R3K2R w KQkq d6 0 8",
+        b"e1c1",
+        b"O-O-O",
+    ),
+    (b"3r1n1k/4P3/8/8/8/8/8/4K3 w - - 0 1", b"e7e8q", b"e8=Q"),
+    (b"3r1n1k/4P3/8/8/8/8/8/4K3 w - - 0 1", b"e7d8n", b"exd8=N"),
+    (b"3r1n1k/4P3/8/8/8/8/8/4K3 w - - 0 1", b"e7f8q", b"exf8=Q+"),
+    (b"3r1n1k/4P3/8/8/8/8/8/4K3 w - - 0 1", b"e7f8b", b"exf8=B"),
+    (b"4k3/8/8/8/8/8/4p3/K7 b - - 0 1", b"e2e1q", b"e1=Q+"),
+    (b"8/k7/8/8/4Q2Q/8/K7/7Q w - - 0 1", b"h4e1", b"Qh4e1"),
+    (b"8/k7/8/8/4Q2Q/8/K7/7Q w - - 0 1", b"e4e1", b"Qee1"),
+    (b"8/k7/8/8/4Q2Q/8/K7/7Q w - - 0 1", b"h1e1", b"Q1e1"),
+    (b"8/k7/8/8/4Q2Q/8/K7/7Q w - - 0 1", b"e4d5", b"Qd5"),
+    (b"8/8/8/k7/4Q2Q/8/K7/4n2Q w - - 0 1", b"h4e1", b"Qh4xe1+"),
+    (b"4k3/8/8/8/1b6/2N5/8/4K1N1 w - - 0 1", b"g1e2", b"Ne2"),
+    (b"4k3/8/8/R7/8/8/8/R3K3 w - - 0 1", b"a1a3", b"R1a3"),
+    (b"4k3/8/8/8/8/8/4K3/R6R w - - 0 1", b"a1d1", b"Rad1"),
+    (b"4k3/8/8/8/8/5N2/8/1N2K3 w - - 0 1", b"b1d2", b"Nbd2"),
+    (b"4k3/8/8/3p4/2P1P3/8/8/4K3 w - - 0 1", b"c4d5", b"cxd5"),
+    (b"5k2/8/8/8/8/8/8/4K2R w K - 0 1", b"e1g1", b"O-O+"),
+    (b"3k4/8/8/8/8/8/8/R3K3 w Q - 0 1", b"e1c1", b"O-O-O+"),
+    (
+        b"rnbqkbnr/pppp1ppp/8/4p3/6P1/5P2/PPPPP2P/RNBQKBNR b KQkq g3 0 2",
+        b"d8h4",
+        b"Qh4#",
+    ),
+    (
+        b"r1bqkb1r/pppp1ppp/2n2n2/4p2Q/2B1P3/8/PPPP1PPP/RNB1K1NR w KQkq - 4 4",
+        b"h5f7",
+        b"Qxf7#",
+    ),
+    (b"7k/8/6K1/8/8/8/8/5Q2 w - - 0 1", b"f1f7", b"Qf7"),
+];
+
+#[test]
+fn san_of_moves(rt: HostRuntime) -> Result<(), Fail> {
+    for (fen, name, wanted) in &WRITTEN {
+        let mut board = board_at(fen)?;
+        let Reading::Move(m) = read_move(&board, name) else {
+            return Err("a legal move".into());
+        };
+        assert_eq!(rt; san(&mut board, m).as_slice(), *wanted);
+        assert_eq!(rt; write_fen(&board.position()).as_slice(), *fen);
+    }
+    Ok(())
+}
+
+// Morphy against the Duke of Brunswick and Count Isouard, Paris 1858.
+const OPERA_GAME: [&[u8]; 33] = [
+    b"e4", b"e5", b"Nf3", b"d6", b"d4", b"Bg4", b"dxe5", b"Bxf3", b"Qxf3", b"dxe5", b"Bc4", b"Nf6",
+    b"Qb3", b"Qe7", b"Nc3", b"c6", b"Bg5", b"b5", b"Nxb5", b"cxb5", b"Bxb5+", b"Nbd7", b"O-O-O",
+    b"Rd8", b"Rxd7", b"Rxd7", b"Rd1", b"Qe6", b"Bxd7+", b"Nxd7", b"Qb8+", b"Nxb8", b"Rd8#",
+];
+
+#[test]
+fn a_game_is_read_and_written(rt: HostRuntime) -> Result<(), Fail> {
+    let mut board = Plain::new();
+    for text in &OPERA_GAME {
+        let Reading::Move(m) = read_move(&board, text) else {
+            return Err("a legal move".into());
+        };
+        let again = m;
+        assert_eq!(rt; san(&mut board, again).as_slice(), *text);
+        let _saved = board.make(m);
+    }
+    assert_eq!(rt;
+        write_fen(&board.position()).as_slice(),
+        b"1n1Rkb1r/p4ppp/4q3/4p1B1/4P3/8/PPP2PPP/2K5 b k - 1 17".as_slice()
+    );
+    Ok(())
+}
+
+#[test]
+fn moves_from_the_initial_position(rt: HostRuntime) -> Result<(), Fail> {
+    let mut board = Plain::new();
+    check(&rt, &board, b"bc3", Wanted::NoSuch);
+    check(&rt, &board, b"O-O", Wanted::NoSuch);
+    for text in [b"e4!?".as_slice(), b"e5".as_slice(), b"Nge2".as_slice()] {
+        let Reading::Move(m) = read_move(&board, text) else {
+            return Err("a legal move".into());
+        };
+        let _saved = board.make(m);
+    }
+    assert_eq!(rt;
+        write_fen(&board.position()).as_slice(),
+        b"rnbqkbnr/pppp1ppp/8/4p3/4P3/8/PPPPNPPP/RNBQKB1R b KQkq - 1 2".as_slice()
+    );
+    Ok(())
+}
+
+#[test]
+fn a_pawn_becomes_what_is_named(rt: HostRuntime) -> Result<(), Fail> {
+    let board = board_at(b"8/4P3/8/8/8/2k5/8/4K3 w - - 0 1")?;
+    check(&rt, &board, b"e8", Wanted::NoSuch);
+    check(&rt, &board, b"e8=N!?", Wanted::Move(b"e7e8n"));
+    let m = Move {
+        from: Square::new(52),
+        to: Square::new(60),
+        promotion: Some(Kind::Knight),
+    };
+    assert_eq!(rt; coordinate(m).as_slice(), b"e7e8n".as_slice());
+    Ok(())
+}
+
+#[test]
+fn laws_do_nothing(_rt: HostRuntime) {
+    san_spells_its_move();
+    san_is_a_word();
+    coordinate_spells_its_move();
+    texts_have_parts();
+    normal_is_kept();
+}
