@@ -15,6 +15,3 @@ mod tables;
 mod targets;
 
 pub use bits::Bits;
-
-#[cfg(test)]
-mod tests;

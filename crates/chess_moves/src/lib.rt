@@ -11,6 +11,3 @@ pub use board::{Board, MoveList, make_then_take_back};
 pub use listing::would_promote;
 pub use plain::Plain;
 pub use set::SquareSet;
-
-#[cfg(test)]
-mod tests;
