@@ -1,15 +1,17 @@
 //! The program on an input, an output and an error output.
 
-ghost use Rattle.std.specs.Prelude.{◌≡◌};
+ghost use Rattle.std.specs.Prelude.{◌≡◌, IfOk};
+ghost use Rattle.chess_cecp.specs.Held.{opened};
+ghost use Rattle.chess_pgn.specs.Tags.{default_tags};
 ghost use Rattle.chess_arbiter.specs.Program.{asks_for_session, asks_to_verify, fault_status, Served, RanProgram};
 
 use crate::verify::{Verified, verify};
 use arrayvec::ArrayString;
 use byte_devices::{Input, Output, put};
+use chess_bits::Bits;
 use chess_cecp::{End, Fault, Session, run_session};
-use chess_moves::Plain;
 use chess_pgn::Tags;
-use std::alloc::Global;
+use std::alloc::{AllocError, Global};
 use std::fmt::Write;
 use std::process::Processes;
 use std::rt::Clock;
@@ -88,6 +90,15 @@ fn told<E: Output>(errors: &mut E, fault: ProgramFault) -> u8
     fault.status()
 }
 
+// A session as `new` leaves it, with its boards.
+fn open_session(alloc: Global) -> Result<Session<Bits>, AllocError>
+    ensures { IfOk result (λ s. s ≡ opened default_tags 20000) }
+{
+    let board = Bits::open(alloc)?;
+    let scratch = Bits::open(alloc)?;
+    Session::open(alloc, board, scratch, Tags::default(), SESSION_LIMIT)
+}
+
 // A session on the input and the output.
 fn serve<R: Input, W: Output>(
     alloc: Global,
@@ -96,9 +107,7 @@ fn serve<R: Input, W: Output>(
 ) -> Result<End, ProgramFault>
     ensures { Served (R.seen input.old) (R.seen input.new) (W.seen output.old) (W.seen output.new) result }
 {
-    let (board, scratch) = (Plain::new(), Plain::new());
-    let Ok(mut session) = Session::open(alloc, board, scratch, Tags::default(), SESSION_LIMIT)
-    else {
+    let Ok(mut session) = open_session(alloc) else {
         return Err(ProgramFault::NoMemory);
     };
     match run_session(input, output, &mut session) {

@@ -8,11 +8,11 @@ ghost use Rattle.chess_arbiter.specs.Verify.{IsAll, IsNotHad, fault_name, told_t
 use crate::program::ProgramFault;
 use arrayvec::ArrayVec;
 use byte_devices::{Input, Output, WriteFault, put};
+use chess_bits::Bits;
 use chess_game::Game;
-use chess_moves::Plain;
 use chess_pgn::{PgnEnd, PgnFault, PgnFaultKind, Termination, read_pgn};
 use itoa::Buffer;
-use std::alloc::Global;
+use std::alloc::{AllocError, Global};
 
 // The most bytes of a text of games.
 const INPUT_LIMIT: usize = 16_777_216;
@@ -162,10 +162,18 @@ fn tell<W: Output>(output: &mut W, number: usize, report: &Report) -> Result<(),
     put(output, report_line(number, report).as_slice())
 }
 
+// A game with its board.
+fn open_game(alloc: Global) -> Result<Game<Bits>, AllocError>
+    ensures { IfOk result (λ g. g.limit ≡ 20000) }
+{
+    let board = Bits::open(alloc)?;
+    Game::open(alloc, board, GAME_LIMIT)
+}
+
 // Reads game after game of a text and tells each.
 fn tell_each<W: Output>(
     text: &[u8],
-    game: &mut Game<Plain>,
+    game: &mut Game<Bits>,
     output: &mut W,
 ) -> Result<Verified, WriteFault>
     requires few { length text.now ≤ 16777216 }
@@ -194,7 +202,7 @@ fn tell_each<W: Output>(
 // Tells the games of a text, and hands the lines on.
 fn tell_games<W: Output>(
     text: &[u8],
-    game: &mut Game<Plain>,
+    game: &mut Game<Bits>,
     output: &mut W,
 ) -> Result<Verified, WriteFault>
     requires few { length text.now ≤ 16777216 }
@@ -220,7 +228,7 @@ pub(crate) fn verify<R: Input, W: Output>(
     ensures { Verifies (R.seen input.old) (R.seen input.new) (W.seen output.old) (W.seen output.new) result }
 {
     let text = read_all(alloc, input)?;
-    let Ok(mut game) = Game::open(alloc, Plain::new(), GAME_LIMIT) else {
+    let Ok(mut game) = open_game(alloc) else {
         return Err(ProgramFault::NoMemory);
     };
     match tell_games(text.as_slice(), &mut game, output) {

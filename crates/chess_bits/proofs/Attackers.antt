@@ -1,5 +1,6 @@
 -- Who attacks a square, seen from that square.
 use Rattle.std.proofs.Common.{◌≡◌, ℕ, zero, suc, ◌<◌, Bool, true, false, not, ◌&&◌, ◌||◌, ◌==◌, refl, ◌∙◌, ap, arith, Option, Some, None, is_none}
+use Rattle.std.proofs.lemmas.Bool.{eqb-true}
 use Rattle.std.proofs.lemmas.Bool.Decides.{nat_tests}
 use Rattle.chess_base.specs.declared.man.Colour.{Colour}
 use Rattle.chess_base.specs.declared.man.Colour.TheVariants.{White, Black}
@@ -12,6 +13,7 @@ use Rattle.chess_base.specs.Attacks.{is_clear, could_capture, could_capture_as, 
 use Rattle.chess_bits.specs.declared.line.Line.TheVariants.{Rank, File, Diagonal, Antidiagonal}
 use Rattle.chess_bits.specs.declared.table.Shape.TheVariants as shape
 use Rattle.chess_moves.specs.Sets.{has}
+use Rattle.chess_moves.proofs.Words.{has_zero}
 use Rattle.chess_bits.specs.Rays.{is_on_ray, is_open}
 use Rattle.chess_bits.specs.Shapes.{in_shape}
 use Rattle.chess_bits.specs.Occupancy.{IsOccupied}
@@ -94,7 +96,7 @@ knight_back : (men : Men) (c : Colour) (a b : ℕ) → in_shape shape.Knight b a
 unfolding in_shape could_capture
 knight_back men c a b = rw (gap_back (file b) (file a), gap_back (rank b) (rank a)) refl
 
-pawn_back : (men : Men) (c : Colour) (a b : ℕ) → in_shape (shape.Pawn (other c)) b a ≡ could_capture men c Pawn a b
+pub pawn_back : (men : Men) (c : Colour) (a b : ℕ) → in_shape (shape.Pawn (other c)) b a ≡ could_capture men c Pawn a b
 unfolding in_shape could_capture
 pawn_back men White a b = rw (gap_back (file b) (file a)) refl
 pawn_back men Black a b = rw (gap_back (file b) (file a)) refl
@@ -178,3 +180,13 @@ pub attacked_is : (w : ℕ) (men : Men) (b : ℕ) (c : Colour) → ((k : ℕ) �
 unfolding is_attacked
 attacked_is w men b c h =
     not_not (some_square (λ k. has w k)) ∙ some_square_same (λ k. has w k) (λ k. is_of c (man_at men k) && attacks men k b) h
+
+-- where a set is empty, no man is met
+pub none_there : (w k : ℕ) → (w == 0) ≡ true → has w k ≡ false
+none_there w k e = let empty : w ≡ 0 = eqb-true w 0 e in rw empty (has_zero k)
+
+pub none_met : (a s o m : Bool) → ((a && s) && m) ≡ false → ((a && s && o) && m) ≡ false
+none_met true true true m h = h
+none_met true true false m h = refl
+none_met true false o m h = refl
+none_met false s o m h = refl

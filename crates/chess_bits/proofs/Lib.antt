@@ -12,5 +12,6 @@ pub mod KingAfter
 pub mod Patterns
 pub mod TargetsOf
 pub mod Listed
+mod Counted
 pub mod OriginsOf
 pub mod CastlingBySets

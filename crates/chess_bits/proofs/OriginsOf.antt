@@ -1,23 +1,33 @@
--- From where officers go to a square: from where they are attacked that stand there.
-use Rattle.std.proofs.Common.{◌≡◌, ℕ, ◌<◌, true, false, not, ◌&&◌, refl, sym, ap, ◌∙◌}
-use Rattle.std.proofs.lemmas.Bool.{and_parts, and_from}
+-- From where pawns go to a square, and officers: from where they are attacked that stand there.
+use Rattle.std.proofs.Common.{◌≡◌, ℕ, ◌+◌, ◌<◌, ◌≤◌, ◌⊎◌, inl, inr, Bool, true, false, not, ◌&&◌, ◌||◌, ◌==◌, nat_lt, None, refl, sym, ap, ◌∙◌, arith}
+use Rattle.std.proofs.lemmas.Bool.{and_parts, and_from, or_left, or_right, or_cases, eq-eqb, lt-ltb, not-true}
+use Rattle.std.proofs.lemmas.Bool.Decides.{nat_tests}
 use Rattle.chess_base.specs.declared.man.Colour.{Colour}
+use Rattle.chess_base.specs.declared.man.Colour.TheVariants.{White, Black}
 use Rattle.chess_base.specs.declared.man.Kind.{Kind}
 use Rattle.chess_base.specs.declared.man.Kind.TheVariants.{King, Queen, Rook, Bishop, Knight, Pawn}
 use Rattle.chess_base.specs.declared.man.Move.{Move}
 use Rattle.chess_base.specs.declared.setup.Setup.{Setup}
 use Rattle.chess_base.specs.Attacks.{is_clear, could_capture}
-use Rattle.chess_base.specs.Men.{Men, man_at, is_of, is_man, same_kind}
-use Rattle.chess_base.specs.Moves.{is_legal}
-use Rattle.chess_base.specs.Squares.{file, rank}
+use Rattle.chess_base.specs.Men.{Men, man_at, other, is_of, is_man, same_kind, forward, pawn_rank}
+use Rattle.chess_base.specs.MoveList.{triple}
+use Rattle.chess_base.specs.Moves.{is_legal, pawn_advances, pawn_captures}
+use Rattle.chess_base.specs.Sound.{IsSound, no_pawn_on_end_ranks, pawn_may_stand}
+use Rattle.chess_base.specs.Squares.{file, rank, is_square}
+use Rattle.chess_base.proofs.Changes.{advance_goes}
 use Rattle.chess_base.proofs.MenFacts.{is_of-from_is_man}
+use Rattle.chess_base.proofs.OverSquares.{each_square-at}
 use Rattle.chess_moves.specs.Sets.{has, HasOrigins}
 use Rattle.chess_moves.proofs.Origins.{begins_below}
+use Rattle.chess_bits.specs.declared.line.Line.TheVariants.{File}
+use Rattle.chess_bits.specs.declared.table.Shape.TheVariants as shape
 use Rattle.chess_bits.specs.Goes.{man_goes}
-use Rattle.chess_bits.proofs.Attackers.{each_square_same, between_back, eq_back, gap_back, diagonal_back}
-use Rattle.chess_bits.proofs.Patterns.{man_complete}
+use Rattle.chess_bits.specs.Rays.{is_on_ray}
+use Rattle.chess_bits.specs.Shapes.{in_shape}
+use Rattle.chess_bits.proofs.Attackers.{each_square_same, between_back, eq_back, gap_back, diagonal_back, pawn_back}
+use Rattle.chess_bits.proofs.Patterns.{man_complete, pawn_goes, legal_goes}
 use Rattle.chess_bits.proofs.Reached.{line_back}
-use Rattle.chess_bits.proofs.TargetsOf.{man_told, officer_is, ends_below}
+use Rattle.chess_bits.proofs.TargetsOf.{man_told, officer_is, ends_below, captures_is}
 
 clear_back : (men : Men) (a b : ℕ) → is_clear men a b ≡ is_clear men b a
 unfolding is_clear
@@ -51,3 +61,66 @@ officer_origins p kind to w u v no_pawn no_king all men reached = λ m legal man
     let low = begins_below p m legal in
     all m.from ∙ and_from (has u m.from) (has v m.from) (men m.from low ∙ man)
     (reached m.from low ∙ ap (λ t. could_capture p.men p.side kind t m.from) (sym there) ∙ officer_attacks p kind m no_pawn no_king legal man)
+
+-- ---- pawns
+
+pawn_kind : (kind : Kind) → same_kind Pawn kind ≡ true → kind ≡ Pawn
+pawn_kind King e = cc
+pawn_kind Queen e = cc
+pawn_kind Rook e = cc
+pawn_kind Bishop e = cc
+pawn_kind Knight e = cc
+pawn_kind Pawn e = refl
+
+-- no pawn stands on the lowest rank
+off_lowest : (men : Men) (c : Colour) (a : ℕ) → is_man c Pawn (man_at men a) ≡ true → pawn_may_stand men a ≡ true → 8 ≤ a
+unfolding pawn_may_stand
+off_lowest men White a man e = let f = not-true _ (rw man at e) in grind (arith, nat_tests, f)
+off_lowest men Black a man e = by (is_man White Pawn (man_at men a)) (rw man at e)
+  where
+    by : (w : Bool) → not ((w || true) && ((rank a == 0) || (rank a == 7))) ≡ true → 8 ≤ a
+    by true h = let f = not-true _ h in grind (arith, nat_tests, f)
+    by false h = let f = not-true _ h in grind (arith, nat_tests, f)
+
+ray_above : (a b : ℕ) → file b ≡ file a → b < a → is_on_ray File true b a ≡ true
+ray_above a b same less = and_from (file b == file a) (nat_lt b a) (eq-eqb (file b) (file a) same) (lt-ltb b a less)
+
+ray_below : (a b : ℕ) → file b ≡ file a → a < b → is_on_ray File false b a ≡ true
+ray_below a b same less = and_from (file b == file a) (nat_lt a b) (eq-eqb (file b) (file a) same) (lt-ltb a b less)
+
+-- it advances on its file
+file_steps : (c : Colour) (a b : ℕ) → 8 ≤ a → (b ≡ forward c a) ⊎ ((rank a ≡ pawn_rank c) × (b ≡ forward c (forward c a)))
+    → (is_on_ray File true b a || is_on_ray File false b a) ≡ true
+file_steps White a b high (inl e) = or_right (is_on_ray File true b a) (is_on_ray File false b a) (ray_below a b (omega (arith, e)) (omega (arith, e)))
+file_steps White a b high (inr e) = or_right (is_on_ray File true b a) (is_on_ray File false b a) (ray_below a b (omega (arith, e.1)) (omega (arith, e.1)))
+file_steps Black a b high (inl e) = or_left (is_on_ray File true b a) (is_on_ray File false b a) (ray_above a b (omega (arith, e, high)) (omega (arith, e, high)))
+file_steps Black a b high (inr e) = or_left (is_on_ray File true b a) (is_on_ray File false b a) (ray_above a b (omega (arith, e.0, e.1)) (omega (arith, e.0, e.1)))
+
+pawn_start : (p : Setup) (m : Move) → IsSound p → is_man p.side Pawn (man_at p.men m.from) ≡ true → is_legal p m ≡ true
+    → ((is_on_ray File true m.to m.from || is_on_ray File false m.to m.from) || in_shape (shape.Pawn (other p.side)) m.to m.from) ≡ true
+unfolding no_pawn_on_end_ranks
+pawn_start p m sound pawn legal =
+    let low = begins_below p m legal in
+    let high = ends_below p m legal in
+    let goes : (pawn_advances p (triple m.from m.to None) || pawn_captures p (triple m.from m.to None)) ≡ true =
+    sym (pawn_goes p m.from m.to _ (man_told p.side Pawn (man_at p.men m.from) pawn) refl refl low high) ∙ (legal_goes p m legal).0 in
+    elim (or_cases (pawn_advances p (triple m.from m.to None)) (pawn_captures p (triple m.from m.to None)) goes) [
+      | inl ahead ↦
+          or_left (is_on_ray File true m.to m.from || is_on_ray File false m.to m.from) (in_shape (shape.Pawn (other p.side)) m.to m.from)
+          (file_steps p.side m.from m.to (off_lowest p.men p.side m.from pawn (each_square-at _ sound.pawns m.from low)) (advance_goes p (triple m.from m.to None) ahead))
+      | inr takes ↦
+          or_right (is_on_ray File true m.to m.from || is_on_ray File false m.to m.from) (in_shape (shape.Pawn (other p.side)) m.to m.from)
+          (pawn_back p.men p.side m.from m.to
+          ∙ (and_parts (could_capture p.men p.side Pawn m.from m.to) (is_of (other p.side) (man_at p.men m.to) || is_square p.target m.to) (captures_is p m.from m.to pawn ∙ takes)).0)
+    ]
+
+pub pawn_origins : (p : Setup) (kind : Kind) (to w u v : ℕ) → IsSound p → same_kind Pawn kind ≡ true
+    → ((k : ℕ) → has w k ≡ (has u k && has v k))
+    → ((k : ℕ) → k < 64 → has u k ≡ is_man p.side kind (man_at p.men k))
+    → ((k : ℕ) → k < 64 → has v k ≡ ((is_on_ray File true to k || is_on_ray File false to k) || in_shape (shape.Pawn (other p.side)) to k))
+    → HasOrigins p kind to w
+pawn_origins p kind to w u v sound is all men starts = λ m legal man there.
+    let low = begins_below p m legal in
+    let pawn : is_man p.side Pawn (man_at p.men m.from) ≡ true = ap (λ k. is_man p.side k (man_at p.men m.from)) (sym (pawn_kind kind is)) ∙ man in
+    all m.from ∙ and_from (has u m.from) (has v m.from) (men m.from low ∙ man)
+    (starts m.from low ∙ ap (λ t. (is_on_ray File true t m.from || is_on_ray File false t m.from) || in_shape (shape.Pawn (other p.side)) t m.from) (sym there) ∙ pawn_start p m sound pawn legal)

@@ -1,9 +1,9 @@
--- The squares that a man could_capture on an empty board, and the rays.
+-- The squares that a man could_capture on an empty board, ranks and files, diagonals, and the rays.
 use Rattle.std.specs.Prelude.{ℕ, ◌==◌, nat_le, Bool, not, ◌&&◌, ◌||◌}
-use Rattle.chess_base.specs.Squares.{file, rank, gap}
+use Rattle.chess_base.specs.Squares.{file, rank, gap, share_rank_or_file, share_diagonal}
 use Rattle.chess_base.specs.Attacks.{is_rank_ahead}
 use Rattle.chess_bits.specs.declared.table.Shape.{Shape}
-use Rattle.chess_bits.specs.declared.table.Shape.TheVariants.{King, Knight, Pawn, Ray}
+use Rattle.chess_bits.specs.declared.table.Shape.TheVariants.{King, Knight, Pawn, Lines, Diagonals, Ray}
 use Rattle.chess_bits.specs.Rays.{is_on_ray}
 
 unfoldable pub in_shape : Shape → ℕ → ℕ → Bool
@@ -11,4 +11,6 @@ in_shape King a b = not (a == b) && nat_le (gap (file a) (file b)) 1 && nat_le (
 in_shape Knight a b =
     ((gap (file a) (file b) == 1) && (gap (rank a) (rank b) == 2)) || ((gap (file a) (file b) == 2) && (gap (rank a) (rank b) == 1))
 in_shape (Pawn c) a b = (gap (file a) (file b) == 1) && is_rank_ahead c a b
+in_shape Lines a b = not (b == a) && share_rank_or_file b a
+in_shape Diagonals a b = not (b == a) && share_diagonal b a
 in_shape (Ray l up) a b = is_on_ray l up a b

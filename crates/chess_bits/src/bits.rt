@@ -107,7 +107,7 @@ impl Board for Bits {
     }
 
     fn legal_move_count(&self) -> usize {
-        self.legal_moves().len()
+        self.count()
     }
 
     fn has_legal_move(&self) -> bool {
@@ -125,7 +125,7 @@ impl Board for Bits {
         self.is_safe_after(m)
     }
 
-    // Pawns and kings are few: all are told. Another man is one that attacks the square.
+    // The king, the pawns of the square's file and those that attack it, and the other men that attack it.
     fn origins(&self, kind: Kind, to: Square) -> SquareSet {
         let side = self.setup.side;
         let men = self.sets.of(side);
@@ -134,7 +134,7 @@ impl Board for Bits {
             return own;
         }
         if is_pawn(kind) {
-            return own;
+            return own.intersection(self.pawn_starts(to));
         }
         let reached = reached_from(&self.tables, self.sets.occupied(), side, kind, to);
         own.intersection(reached)

@@ -91,6 +91,40 @@ pub(crate) fn along_diagonals(
     up.union(down).union(left.union(right))
 }
 
+// Of these men those that are on the square's rank or file, with nothing between.
+#[tactic(auto, unfolding(crate::specs::Shapes::in_shape))]
+fn met_on_lines(
+    tables: &AttackTables,
+    square: Square,
+    occupied: SquareSet,
+    men: SquareSet,
+) -> SquareSet
+    ensures { (k : ℕ) → k < 64 → has result k ≡ ((not (k == square) && share_rank_or_file k square && is_open occupied square k) && has men k) }
+{
+    let near = tables.at(Shape::Lines, square).intersection(men);
+    if near.is_empty() {
+        return near;
+    }
+    along_lines(tables, square, occupied).intersection(men)
+}
+
+// Of these men those that are on a diagonal of the square, with nothing between.
+#[tactic(auto, unfolding(crate::specs::Shapes::in_shape))]
+fn met_on_diagonals(
+    tables: &AttackTables,
+    square: Square,
+    occupied: SquareSet,
+    men: SquareSet,
+) -> SquareSet
+    ensures { (k : ℕ) → k < 64 → has result k ≡ ((not (k == square) && share_diagonal k square && is_open occupied square k) && has men k) }
+{
+    let near = tables.at(Shape::Diagonals, square).intersection(men);
+    if near.is_empty() {
+        return near;
+    }
+    along_diagonals(tables, square, occupied).intersection(men)
+}
+
 impl Kinds {
     /// The squares of these men of a kind.
     pub fn of(&self, kind: Kind) -> SquareSet
@@ -110,12 +144,10 @@ impl Kinds {
         ensures { (men : Men) → IsKinds self.now.sets colour men → IsOccupied occupied men → (k : ℕ) → k < 64 → has result k ≡ (is_of colour (man_at men k) && attacks men k square) }
     {
         let queens = self.of(Kind::Queen);
-        let lines = along_lines(tables, square, occupied).intersection(
-            self.of(Kind::Rook).union(queens),
-        );
-        let diagonals = along_diagonals(tables, square, occupied).intersection(
-            self.of(Kind::Bishop).union(queens),
-        );
+        let straight = self.of(Kind::Rook).union(queens);
+        let lines = met_on_lines(tables, square, occupied, straight);
+        let aslant = self.of(Kind::Bishop).union(queens);
+        let diagonals = met_on_diagonals(tables, square, occupied, aslant);
         let kings = tables
             .at(Shape::King, square)
             .intersection(self.of(Kind::King));

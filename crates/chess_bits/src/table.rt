@@ -13,6 +13,10 @@ pub enum Shape {
     King,
     Knight,
     Pawn(Colour),
+    /// The other squares of its rank and file.
+    Lines,
+    /// The other squares of its diagonals.
+    Diagonals,
     Ray(Line, bool),
 }
 
@@ -27,6 +31,8 @@ fn in_shape(shape: Shape, a: Square, b: Square) -> bool
         Shape::Knight => files == 1 && ranks == 2 || files == 2 && ranks == 1,
         Shape::Pawn(Colour::White) => files == 1 && b.rank() == a.rank() + 1,
         Shape::Pawn(Colour::Black) => files == 1 && a.rank() == b.rank() + 1,
+        Shape::Lines => b != a && (b.file() == a.file() || b.rank() == a.rank()),
+        Shape::Diagonals => b != a && b.file().abs_diff(a.file()) == b.rank().abs_diff(a.rank()),
         Shape::Ray(line, up) => is_on_ray(line, up, a, b),
     }
 }

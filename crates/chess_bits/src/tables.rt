@@ -2,7 +2,7 @@ ghost use Rattle.std.specs.Prelude.{◌≡◌, ℕ, ◌<◌, ◌&&◌, ◌||◌,
 ghost use Rattle.chess_moves.specs.Sets.{has, IsNearest};
 ghost use Rattle.chess_bits.specs.Shapes.{in_shape};
 ghost use Rattle.chess_bits.specs.Rays.{is_on_ray, is_open};
-ghost use Rattle.chess_bits.specs.declared.table.Shape.TheVariants.{King, Knight, Pawn, Ray};
+ghost use Rattle.chess_bits.specs.declared.table.Shape.TheVariants.{King, Knight, Pawn, Lines, Diagonals, Ray};
 ghost use Rattle.chess_bits.specs.declared.line.Line.TheVariants.{Rank, File, Diagonal, Antidiagonal};
 ghost use Rattle.chess_base.specs.declared.man.Colour.TheVariants.{White, Black};
 
@@ -18,6 +18,8 @@ struct Tables {
     knight: Table,
     white_pawn: Table,
     black_pawn: Table,
+    lines: Table,
+    diagonals: Table,
     rank_up: Table,
     rank_down: Table,
     file_up: Table,
@@ -30,6 +32,8 @@ struct Tables {
     ghost of_knight: { knight ≡ Knight },
     ghost of_white_pawn: { white_pawn ≡ Pawn White },
     ghost of_black_pawn: { black_pawn ≡ Pawn Black },
+    ghost of_lines: { lines ≡ Lines },
+    ghost of_diagonals: { diagonals ≡ Diagonals },
     ghost of_rank_up: { rank_up ≡ Ray Rank true },
     ghost of_rank_down: { rank_down ≡ Ray Rank false },
     ghost of_file_up: { file_up ≡ Ray File true },
@@ -53,6 +57,8 @@ impl AttackTables {
             knight: Table::new(Shape::Knight),
             white_pawn: Table::new(Shape::Pawn(Colour::White)),
             black_pawn: Table::new(Shape::Pawn(Colour::Black)),
+            lines: Table::new(Shape::Lines),
+            diagonals: Table::new(Shape::Diagonals),
             rank_up: Table::new(Shape::Ray(Line::Rank, true)),
             rank_down: Table::new(Shape::Ray(Line::Rank, false)),
             file_up: Table::new(Shape::Ray(Line::File, true)),
@@ -76,6 +82,8 @@ impl AttackTables {
             Shape::Knight => &tables.knight,
             Shape::Pawn(Colour::White) => &tables.white_pawn,
             Shape::Pawn(Colour::Black) => &tables.black_pawn,
+            Shape::Lines => &tables.lines,
+            Shape::Diagonals => &tables.diagonals,
             Shape::Ray(Line::Rank, true) => &tables.rank_up,
             Shape::Ray(Line::Rank, false) => &tables.rank_down,
             Shape::Ray(Line::File, true) => &tables.file_up,

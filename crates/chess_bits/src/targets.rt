@@ -1,17 +1,23 @@
 //! Where men go: sets of end squares, whatever becomes of the king.
 
-ghost use Rattle.std.specs.Prelude.{◌≡◌, ◌+◌, ◌≤◌, ◌<◌, ℕ, ◌&&◌, ◌||◌, not, true, None, MatchOption};
+ghost use Rattle.std.specs.Prelude.{◌≡◌, ◌+◌, ◌≤◌, ◌<◌, ℕ, ◌&&◌, ◌||◌, not, true, false, None, MatchOption};
 ghost use Rattle.chess_base.specs.Attacks.{could_capture};
-ghost use Rattle.chess_base.specs.Men.{man_at, is_of, is_man, same_kind, forward, pawn_rank};
+ghost use Rattle.chess_base.specs.Men.{man_at, other, is_of, is_man, same_kind, forward, pawn_rank};
 ghost use Rattle.chess_base.specs.MoveList.{triple};
 ghost use Rattle.chess_base.specs.Moves.{is_legal, pawn_advances, pawn_captures};
 ghost use Rattle.chess_base.specs.declared.man.Kind.TheVariants.{King, Pawn};
 ghost use Rattle.chess_bits.specs.Goes.{goes, castling_or, man_goes};
+ghost use Rattle.chess_bits.specs.declared.line.Line.TheVariants.{File};
+ghost use Rattle.chess_bits.specs.declared.table.Shape.TheVariants.{Pawn as PawnAttack};
+ghost use Rattle.chess_bits.specs.Rays.{is_on_ray};
+ghost use Rattle.chess_bits.specs.Shapes.{in_shape};
 ghost use Rattle.chess_moves.specs.Sets.{has};
 
 use crate::bits::Bits;
 use crate::king::set_of;
+use crate::line::Line;
 use crate::reaching::reached_from;
+use crate::table::Shape;
 use chess_base::attack::{is_man, is_of};
 use chess_base::rules::{castle_of, castled_king_file, home_square, right_of};
 use chess_base::{CastlingSide, Colour, Kind, Move, Square, Variant};
@@ -146,6 +152,17 @@ impl Bits {
         let taken = self.sets.all(side.other());
         let aims = taken.union(set_of(self.setup.target));
         reached.intersection(aims)
+    }
+
+    // The squares from which pawns of the side on move may go to one: those of its file, and those from which they attack it.
+    #[tactic(auto, unfolding(crate::specs::Shapes::in_shape))]
+    pub(crate) fn pawn_starts(&self, to: Square) -> SquareSet
+        ensures { (k : ℕ) → k < 64 → has result k ≡ ((is_on_ray File true to k || is_on_ray File false to k) || in_shape (PawnAttack (other (self.now).side)) to k) }
+    {
+        let above = self.tables.at(Shape::Ray(Line::File, true), to);
+        let below = self.tables.at(Shape::Ray(Line::File, false), to);
+        let aside = self.tables.at(Shape::Pawn(self.setup.side.other()), to);
+        above.union(below).union(aside)
     }
 
     // Where the own pawn goes that stands there.

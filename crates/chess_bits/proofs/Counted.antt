@@ -1,0 +1,50 @@
+-- Legal moves counted.
+use Rattle.std.proofs.Common.{◌≡◌, ℕ, ◌+◌, ◌≤◌, inl, inr, Bool, true, false, cond, Option, Some, None, List, [], ◌∷◌, length, refl, sym, ap, ◌∙◌, length-append, arith}
+use Rattle.std.proofs.lemmas.Bool.{cases_Bool}
+use Rattle.std.specs.List.{filter, flat_map}
+use Rattle.chess_base.specs.declared.man.Kind.TheVariants.{Queen, Rook, Bishop, Knight}
+use Rattle.chess_base.specs.declared.setup.Setup.{Setup}
+use Rattle.chess_base.specs.MoveList.{triple, moves}
+use Rattle.chess_base.specs.Moves.{is_legal}
+use Rattle.chess_base.specs.Sound.{IsSound}
+use Rattle.chess_moves.specs.Candidates.{would_promote, moves_between, moves_from}
+use Rattle.chess_moves.proofs.Parts.{all_promote, none_promotes}
+use Rattle.chess_moves.proofs.Room.{moves_fit}
+
+counted : {A : Type 0} (q : A → Bool) (x : A) (xs : List A) → length (filter q (x ∷ xs)) ≡ cond (q x) 1 0 + length (filter q xs)
+counted q x xs = elim (cases_Bool (q x)) [ inl kept ↦ rw kept (omega arith) | inr left ↦ rw left (omega arith) ]
+
+four_counted : {A : Type 0} (q : A → Bool) (w x y z : A) → cond (q w) 1 0 + cond (q x) 1 0 + cond (q y) 1 0 + cond (q z) 1 0 ≡ length (filter q (w ∷ x ∷ y ∷ z ∷ []))
+four_counted q w x y z =
+    let first = counted q w (x ∷ y ∷ z ∷ []) in
+    let second = counted q x (y ∷ z ∷ []) in
+    let third = counted q y (z ∷ []) in
+    let last : length (filter q (z ∷ [])) ≡ cond (q z) 1 0 + 0 = counted q z [] in
+    omega (arith, first, second, third, last)
+
+-- the promotions to each kind are all moves of a pawn that promotes
+pub promotions_counted : (p : Setup) (a b : ℕ) → would_promote p a b ≡ true
+    → cond (is_legal p (triple a b (Some Queen))) 1 0 + cond (is_legal p (triple a b (Some Rook))) 1 0 + cond (is_legal p (triple a b (Some Bishop))) 1 0 + cond (is_legal p (triple a b (Some Knight))) 1 0
+    ≡ length (moves_between p a b)
+promotions_counted p a b e =
+    four_counted (λ m. is_legal p m) (triple a b (Some Queen)) (triple a b (Some Rook)) (triple a b (Some Bishop)) (triple a b (Some Knight)) ∙ ap length (sym (all_promote p a b e))
+
+-- and elsewhere there is one move at most
+pub one_counted : (p : Setup) (a b : ℕ) → would_promote p a b ≡ false → cond (is_legal p (triple a b None)) 1 0 ≡ length (moves_between p a b)
+one_counted p a b e =
+    let one : length (filter (λ m. is_legal p m) (triple a b None ∷ [])) ≡ cond (is_legal p (triple a b None)) 1 0 + 0 = counted (λ m. is_legal p m) (triple a b None) [] in
+    let all = ap length (none_promotes p a b e) in
+    omega (arith, one, all)
+
+-- the moves of the next man are counted with those before
+pub count_fits : (p : Setup) (n : ℕ) (ms : List ℕ) (s : ℕ) (ns : List ℕ) → IsSound p → ms ≡ s ∷ ns → n + length (flat_map (λ a. moves_from p a) ms) ≡ length (moves p)
+    → n + length (moves_from p s) ≤ 896
+count_fits p n ms s ns sound e h =
+    let fits = moves_fit p sound in
+    let parts = length-append (moves_from p s) (flat_map (λ a. moves_from p a) ns) in
+    let all : n + length (flat_map (λ a. moves_from p a) (s ∷ ns)) ≡ length (moves p) = rw e at h in
+    omega (arith, fits, parts, all)
+
+-- before the first
+pub none_counted : {m n : ℕ} → m ≡ n → 0 + m ≡ n
+none_counted e = omega (arith, e)

@@ -1,0 +1,17 @@
+use Rattle.std.proofs.Common.{◌≡◌, ◌+◌, length, true}
+use Rattle.std.specs.List.{flat_map}
+use Rattle.chess_moves.specs.Candidates.{moves_between, moves_from}
+use Rattle.chess_moves.specs.Sets.{members}
+use Rattle.chess_bits.specs.Goes.{goes}
+use Rattle.chess_bits.proofs.Listed.{Each}
+use Rattle.chess_bits.proofs.bits.Bits.count_from.Given as goal
+
+-- the moves counted and those to the squares that are left are all, and the man goes to each of these
+abbrev pub invariant-loop-to : goal.invariant-loop-to
+invariant-loop-to l = record {
+  all : l.count + length (flat_map (λ b. moves_between l.self l.from b) (members l.targets)) ≡ length (moves_from l.self l.from);
+  goes : Each (λ b. goes l.self l.from b ≡ true) (members l.targets);
+}
+
+abbrev pub decreases-loop-to : goal.decreases-loop-to
+decreases-loop-to l = length (members l.targets)

@@ -1,0 +1,17 @@
+use Rattle.std.proofs.Common.{◌≡◌, length, true}
+use Rattle.std.specs.List.{flat_map}
+use Rattle.chess_moves.specs.Candidates.{moves_between, moves_from}
+use Rattle.chess_moves.specs.Sets.{members}
+use Rattle.chess_bits.specs.Goes.{goes}
+use Rattle.chess_bits.proofs.Listed.{Each}
+use Rattle.chess_bits.proofs.bits.Bits.has_move_from.Given as goal
+
+-- none of the squares so far is the end of a legal move, and the man goes to each of those that are left
+abbrev pub invariant-loop-to : goal.invariant-loop-to
+invariant-loop-to l = record {
+  moves : flat_map (λ b. moves_between l.self l.from b) (members l.targets) ≡ moves_from l.self l.from;
+  goes : Each (λ b. goes l.self l.from b ≡ true) (members l.targets);
+}
+
+abbrev pub decreases-loop-to : goal.decreases-loop-to
+decreases-loop-to l = length (members l.targets)

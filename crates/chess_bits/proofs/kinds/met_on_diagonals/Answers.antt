@@ -1,0 +1,15 @@
+use Rattle.std.proofs.Common.{◌==◌, not, sym, ◌∙◌}
+use Rattle.chess_base.specs.Squares.{share_diagonal}
+use Rattle.chess_moves.specs.Sets.{has}
+use Rattle.chess_bits.specs.Rays.{is_open}
+use Rattle.chess_bits.specs.Shapes.{in_shape}
+use Rattle.chess_bits.proofs.Attackers.{none_there, none_met}
+use Rattle.chess_bits.proofs.kinds.met_on_diagonals.Goals as goal
+
+pub returns-then-is_empty : goal.returns-then-is_empty
+unfolding in_shape
+returns-then-is_empty c =
+    λ k h.
+    let none = none_there c.intersection-near.result k (sym c.is_empty.ensures.zero ∙ c.if-is_empty.true) in
+    let near = rw (c.at.ensures k h) at (c.intersection-near.ensures k) in
+    none ∙ sym (none_met (not (k == c.args.square)) (share_diagonal k c.args.square) (is_open c.args.occupied c.args.square k) (has c.args.men k) (sym near ∙ none))
