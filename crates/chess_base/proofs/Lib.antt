@@ -24,6 +24,7 @@ pub mod Placements
 pub mod SpelledRanks
 pub mod RookAmong
 pub mod RightsBack
+pub mod NamedRooks
 pub mod Joined
 pub mod RoundTrip
 pub mod SpelledRights
