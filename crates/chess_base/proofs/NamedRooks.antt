@@ -293,4 +293,5 @@ spelled_of text p l h = record { letters = l; white_king_side = h White KingSide
 pub rights_named : RightsAreNamed
 rights_named text p e sound = (
   (λ h. (subst (λ v. IsCastling v text) e h.letters, λ c w. named_by p.men c w text (right_of p.rights c w) (stands_of p e sound c w) (held_of p.variant p.men text c w (right_of p.rights c w) e (field_of text p h c w)))),
-  (λ h. spelled_of text p (subst (λ v. IsCastling v text) (sym e) h.0) (λ c w. of_held p.variant p.men text c w (right_of p.rights c w) e (told_by p.men c w text (right_of p.rights c w) (stands_of p e sound c w) (h.1 c w)))))
+  (λ h. spelled_of text p (subst (λ v. IsCastling v text) (sym e) h.0) (λ c w. of_held p.variant p.men text c w (right_of p.rights c w) e (told_by p.men c w text (right_of p.rights c w) (stands_of p e sound c w) (h.1 c w)))),
+)
