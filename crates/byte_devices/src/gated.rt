@@ -1,9 +1,9 @@
 //! A reader and a writer over memory with a gate between them, for tests of what was written and flushed when more was
 //! asked for. What the gate holds at a call no contract can say, so it is shown by tests.
 
-ghost use Rattle.std.specs.Prelude.{◌≡◌, [], ◌<◌, ◌≤◌, ◌==◌, length, min, position, IfOk, IfSome, is_err, if◌then◌else◌};
+ghost use Rattle.std.specs.Prelude.{◌≡◌, [], ◌<◌, ◌≤◌, ◌==◌, ◌+◌, length, min, position, IsOk, IfOk, OnErr, IfSome, is_err, vec_len, vec_capacity, if◌then◌else◌};
 ghost use Rattle.std.specs.Io.{ReadsAtMost, WritesAtMost};
-ghost use Rattle.std.specs.Io.KnownBytes.{ReadConsumes, WriteAppends};
+ghost use Rattle.std.specs.Io.KnownBytes.{ReadConsumes, WriteAppends, Keeps};
 ghost use Rattle.byte_devices.specs.Devices.{risen, first_line_len};
 
 use crate::counted::count_up;
@@ -110,13 +110,18 @@ impl Write for GatedWriter<'_> {
         ensures bound { WritesAtMost result buf.now }
         ensures bytes { WriteAppends (Some self.old.bytes.items) (Some self.new.bytes.items) result buf.now }
         ensures whole { IfOk result (λ n. n ≡ length buf.now) }
+        // It fails only where more memory was needed.
+        ensures only { OnErr result (vec_capacity self.old.bytes < vec_len self.old.bytes + length buf.now) }
     {
         self.open.set(false);
         self.bytes.extend_from_slice(buf)?;
         Ok(buf.len())
     }
 
-    fn flush(&mut self) -> Result<()> {
+    fn flush(&mut self) -> Result<()>
+        ensures bytes { Keeps (Some self.old.bytes.items) (Some self.new.bytes.items) }
+        ensures never_fails { IsOk result }
+    {
         self.open.set(true);
         Ok(())
     }

@@ -1,6 +1,6 @@
 //! A reader and a writer over memory, for tests: they cut pieces as told, fail at one call, and go on.
 
-ghost use Rattle.std.specs.Prelude.{◌≡◌, [], ◌<◌, ◌↔◌, min, length, IsErr, IfOk, IfErr};
+ghost use Rattle.std.specs.Prelude.{◌≡◌, [], ◌<◌, ◌+◌, ◌⊎◌, ◌↔◌, min, length, IsErr, IfOk, IfErr, OnErr, vec_len, vec_capacity};
 ghost use Rattle.std.specs.Io.{ReadsAtMost, WritesAtMost};
 ghost use Rattle.std.specs.Io.KnownBytes.{ReadConsumes, WriteAppends, Keeps};
 ghost use Rattle.byte_devices.specs.Devices.{risen};
@@ -109,6 +109,8 @@ impl Write for PieceWriter {
         ensures bytes { WriteAppends (Some self.old.bytes.items) (Some self.new.bytes.items) result buf.now }
         ensures calls { self.new.calls ≡ risen self.old.calls }
         ensures fails { self.new.calls ≡ self.old.fails_at → IsErr result }
+        // Another call fails only where more memory was needed.
+        ensures only { OnErr result ((self.new.calls ≡ self.old.fails_at) ⊎ (vec_capacity self.old.bytes < vec_len self.old.bytes + min self.old.cut (length buf.now))) }
         ensures len { IfOk result (λ n. n ≡ min self.old.cut (length buf.now)) }
         ensures cut { self.new.cut ≡ self.old.cut }
         ensures fails_at { self.new.fails_at ≡ self.old.fails_at }

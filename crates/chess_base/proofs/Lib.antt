@@ -22,6 +22,7 @@ pub mod Placements
 pub mod SpelledRanks
 pub mod RookAmong
 pub mod RightsBack
+pub mod NamedRooks
 pub mod Joined
 pub mod RoundTrip
 pub mod SpelledRights

@@ -23,12 +23,12 @@ use Rattle.chess_base.specs.Spelling.{IsCastling}
 use Rattle.chess_base.proofs.SpelledRights.{times-cons}
 
 -- what a right that stands says of king and rook
-record Beside (men : Men) (c : Colour) (w : CastlingSide) (s : ℕ) : Type 0 where
-  king : ℕ
-  at : king_square men c ≡ Some king
-  king_rank : rank king ≡ first_rank c
-  rook_rank : rank s ≡ first_rank c
-  side : is_to_side w king s ≡ true
+pub record Beside (men : Men) (c : Colour) (w : CastlingSide) (s : ℕ) : Type 0 where
+  pub king : ℕ
+  pub at : king_square men c ≡ Some king
+  pub king_rank : rank king ≡ first_rank c
+  pub rook_rank : rank s ≡ first_rank c
+  pub side : is_to_side w king s ≡ true
 
 beside_by : (men : Men) (c : Colour) (w : CastlingSide) (s : ℕ) (o : Option ℕ) → king_square men c ≡ o → is_beside c w o s ≡ true → Beside men c w s
 beside_by men c w s None at e = cc
@@ -37,7 +37,7 @@ beside_by men c w s (Some k) at e =
     let one = and_parts (eqb (rank k) (first_rank c)) (eqb (rank s) (first_rank c)) two.0 in
     record { king = k; at = at; king_rank = eqb-true (rank k) (first_rank c) one.0; rook_rank = eqb-true (rank s) (first_rank c) one.1; side = two.1 }
 
-beside : (men : Men) (c : Colour) (w : CastlingSide) (s : ℕ) → right_stands_at Fischerandom men c w (Some s) ≡ true → Beside men c w s
+pub beside : (men : Men) (c : Colour) (w : CastlingSide) (s : ℕ) → right_stands_at Fischerandom men c w (Some s) ≡ true → Beside men c w s
 beside men c w s e = beside_by men c w s (king_square men c) refl (and_parts (is_beside c w (king_square men c) s) (is_man c Rook (man_at men s)) e).0
 
 abbrev other_side : CastlingSide → CastlingSide
@@ -46,7 +46,7 @@ other_side QueenSide = KingSide
 
 -- ---- a letter that is written, among those of sides and files
 
-no_side_letter : (c d : Colour) (w : CastlingSide) (f : ℕ) → f < 8 → eqb (first_letter c + f) (side_letter d w) ≡ false
+pub no_side_letter : (c d : Colour) (w : CastlingSide) (f : ℕ) → f < 8 → eqb (first_letter c + f) (side_letter d w) ≡ false
 no_side_letter White White KingSide f h = grind (arith, nat_tests)
 no_side_letter White White QueenSide f h = grind (arith, nat_tests)
 no_side_letter White Black KingSide f h = grind (arith, nat_tests)
@@ -56,7 +56,7 @@ no_side_letter Black White QueenSide f h = grind (arith, nat_tests)
 no_side_letter Black Black KingSide f h = grind (arith, nat_tests)
 no_side_letter Black Black QueenSide f h = grind (arith, nat_tests)
 
-own_file : (c : Colour) (f : ℕ) → f < 8 → names_file c (first_letter c + f) ≡ true
+pub own_file : (c : Colour) (f : ℕ) → f < 8 → names_file c (first_letter c + f) ≡ true
 own_file White f h = grind (arith, nat_tests)
 own_file Black f h = grind (arith, nat_tests)
 
@@ -64,7 +64,7 @@ other_file : (c : Colour) (f : ℕ) → f < 8 → names_file (other c) (first_le
 other_file White f h = grind (arith, nat_tests)
 other_file Black f h = grind (arith, nat_tests)
 
-file_back : (c : Colour) (s : ℕ) → rank s ≡ first_rank c → home_square c ((first_letter c + file s) - first_letter c) ≡ s
+pub file_back : (c : Colour) (s : ℕ) → rank s ≡ first_rank c → home_square c ((first_letter c + file s) - first_letter c) ≡ s
 file_back White s e = omega arith
 file_back Black s e = omega arith
 
@@ -76,12 +76,12 @@ towards_other : (w : CastlingSide) (k s : ℕ) → is_to_side w k s ≡ true →
 towards_other KingSide k s e = grind (arith, nat_tests, e)
 towards_other QueenSide k s e = grind (arith, nat_tests, e)
 
-file_in : (s : ℕ) → file s < 8
+pub file_in : (s : ℕ) → file s < 8
 file_in s = omega arith
 
 -- ---- which right it names
 
-named_own : (men : Men) (c : Colour) (w : CastlingSide) (s : ℕ) → Beside men c w s → named_square men c w (first_letter c + file s) ≡ Some s
+pub named_own : (men : Men) (c : Colour) (w : CastlingSide) (s : ℕ) → Beside men c w s → named_square men c w (first_letter c + file s) ≡ Some s
 named_own men c w s b =
     let t : is_towards w (king_square men c) s ≡ true = rw b.at (towards_own w b.king s b.side) in
     rw (no_side_letter c c w (file s) (file_in s), own_file c (file s) (file_in s), file_back c s b.rook_rank, t) refl
@@ -94,7 +94,7 @@ named_other_side men c w s b =
 named_other_colour : (men : Men) (c : Colour) (w : CastlingSide) (s : ℕ) → named_square men (other c) w (first_letter c + file s) ≡ None
 named_other_colour men c w s = rw (no_side_letter c (other c) w (file s) (file_in s), other_file c (file s) (file_in s)) refl
 
-only-none : (o : Option ℕ) → only_one_of o None ≡ o
+pub only-none : (o : Option ℕ) → only_one_of o None ≡ o
 only-none None = refl
 only-none (Some s) = refl
 
@@ -111,7 +111,7 @@ colour_text : (men : Men) (c : Colour) (w u : CastlingSide) (found o : Option �
 colour_text men c w u found None = refl
 colour_text men c w u found (Some s) = ap (only_one_of found) (named_other_colour men c u s) ∙ only-none found
 
-after-append : (men : Men) (c : Colour) (w : CastlingSide) (found : Option ℕ) (xs ys : List ℕ) → right_after_letters men c w found (xs ++ ys) ≡ right_after_letters men c w (right_after_letters men c w found xs) ys
+pub after-append : (men : Men) (c : Colour) (w : CastlingSide) (found : Option ℕ) (xs ys : List ℕ) → right_after_letters men c w found (xs ++ ys) ≡ right_after_letters men c w (right_after_letters men c w found xs) ys
 after-append men c w found [] ys = refl
 after-append men c w found (x ∷ xs) ys = after-append men c w (only_one_of found (named_square men c w x)) xs ys
 

@@ -16,6 +16,7 @@ pub mod Writing
 pub mod Normal
 pub mod Texts
 pub mod RightNames
+pub mod NamedRooks
 pub mod Reading
 pub mod Spelling
 pub mod FenFaults

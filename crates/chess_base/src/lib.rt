@@ -22,7 +22,7 @@ pub use fault::FenFault;
 pub use fen::{FenText, read_fen, read_fen_as, write_fen};
 pub use laws::{
     after_is_sound, before_undoes_after, moves_rise, normal_is_kept, reserve_never_grows,
-    written_is_spelled,
+    rights_are_named, written_is_spelled,
 };
 pub use man::{CastlingSide, Colour, ColourRights, Kind, Man, Move, Rights, Variant};
 pub use position::Position;

@@ -1,6 +1,6 @@
 //! Sets of squares.
 
-ghost use Rattle.std.specs.Prelude.{◌≡◌, ℕ, ◌<◌, ◌&&◌, ◌||◌, not, ◌==◌, true, false, MatchOption, [], ◌∷◌};
+ghost use Rattle.std.specs.Prelude.{◌≡◌, ℕ, ◌<◌, ◌&&◌, ◌||◌, not, ◌==◌, true, false, MatchOption, IfNone, [], ◌∷◌};
 ghost use Rattle.chess_base.specs.Squares.{some_square};
 ghost use Rattle.chess_moves.specs.Sets.{has, IsNearest, members};
 
@@ -113,7 +113,8 @@ impl SquareSet {
     /// Takes the lowest square out; `None` where none is left.
     #[tactic(auto, using(crate::proofs::Members::members_none, crate::proofs::Members::members_first))]
     pub fn take_first(&mut self) -> Option<Square>
-        ensures { MatchOption result (members self.old ≡ []) (λ s. members self.old ≡ s ∷ members self.new) }
+        ensures next { MatchOption result (members self.old ≡ []) (λ s. members self.old ≡ s ∷ members self.new) }
+        ensures none_left { IfNone result (self.new ≡ self.old) }
     {
         let set = *self;
         if set.is_empty() {
