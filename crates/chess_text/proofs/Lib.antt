@@ -13,6 +13,7 @@ pub mod CoordinateLaw
 pub mod Solid
 pub mod Words
 pub mod SanLaw
+pub mod ShownLaw
 pub mod Origins
 mod Promoting
 pub mod NormalTexts

@@ -393,11 +393,11 @@ unfolding san
 san_text p m h = ap (san_as p m) (described_is p m h)
 
 -- what the laws say of a text
-record Law (p : Setup) (m : Move) (text : List ℕ) : Type 0 where
-  has_shape : shape text ≡ true
-  alone : SpellsAlone p text m
+pub record Law (p : Setup) (m : Move) (text : List ℕ) : Type 0 where
+  pub has_shape : shape text ≡ true
+  pub alone : SpellsAlone p text m
 
-castling_law : (p : Setup) (m : Move) (text : List ℕ) (w : CastlingSide) → IsSound p → IsMove p m → castling p m ≡ Some w → unmarked text ≡ castling_text w → Law p m text
+pub castling_law : (p : Setup) (m : Move) (text : List ℕ) (w : CastlingSide) → IsSound p → IsMove p m → castling p m ≡ Some w → unmarked text ≡ castling_text w → Law p m text
 castling_law p m text w sound h e bare =
     let is : IsCastling (unmarked text) w = rw bare (castling_is w) in
     record {

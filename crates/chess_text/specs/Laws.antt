@@ -12,7 +12,7 @@ use Rattle.chess_text.specs.declared.parts.Parts.{Parts}
 use Rattle.chess_text.specs.declared.reading.Reading.TheVariants as reads
 use Rattle.chess_text.specs.Parts.{AreParts, unmarked, parts_at, parts_text}
 use Rattle.chess_text.specs.Moves.{is_castling_text, is_form, fits, spells_described, spells, shape, reading, coordinate}
-use Rattle.chess_text.specs.San.{san}
+use Rattle.chess_text.specs.San.{san, shown_move}
 
 -- the text spells the move, and of the legal moves no other
 abbrev pub SpellsAlone : Setup → List ℕ → Move → Type 0
@@ -66,6 +66,16 @@ CoordinateHasShape = (p : Setup) → (m : Move) → IsSound p → IsTrue (is_leg
 
 abbrev pub CoordinateIsReadBack : Type 0
 CoordinateIsReadBack = (p : Setup) → (m : Move) → IsSound p → IsTrue (is_legal p m) → reading p (coordinate m) ≡ reads.Move m
+
+-- and of the text that lists and lines of moves show
+abbrev pub ShownMoveSpellsItsMove : Type 0
+ShownMoveSpellsItsMove = (p : Setup) → (m : Move) → IsSound p → IsTrue (is_legal p m) → SpellsAlone p (shown_move p m) m
+
+abbrev pub ShownMoveHasShape : Type 0
+ShownMoveHasShape = (p : Setup) → (m : Move) → IsSound p → IsTrue (is_legal p m) → IsTrue (shape (shown_move p m))
+
+abbrev pub ShownMoveIsReadBack : Type 0
+ShownMoveIsReadBack = (p : Setup) → (m : Move) → IsSound p → IsTrue (is_legal p m) → reading p (shown_move p m) ≡ reads.Move m
 
 -- parts are read of a text exactly where it is the text of these
 abbrev pub PartsAreTheTexts : Type 0

@@ -49,7 +49,7 @@ end_text e = square_text e.to ++ optional promotion_text e.promotion
 abbrev pub parts_text : Parts → List ℕ
 parts_text q = optional kind_text q.letter ++ (optional file_text q.file ++ (optional rank_text q.rank ++ (when q.takes (byte "x" ∷ []) ++ end_text q.end)))
 
--- the men that a letter names, and those that a pawn may become (3.7.3.4)
+-- the men that a letter names, and those that a pawn may become (3.7)
 abbrev pub officers : List Kind
 officers = King ∷ Queen ∷ Rook ∷ Bishop ∷ Knight ∷ []
 

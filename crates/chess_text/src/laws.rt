@@ -1,6 +1,6 @@
 //! Laws of the texts. A caller learns one by calling its function, which does nothing.
 
-ghost use Rattle.chess_text.specs.Laws.{SanSpellsItsMove, SanHasShape, SanIsReadBack, SanIsShort, SanHasBytes, SanBeginsWithLetter, ReadMovesAreLegal, CoordinateSpellsItsMove, CoordinateHasShape, CoordinateIsReadBack, PartsAreTheTexts, PartsAreRead, SpelledByText, ShapedByText};
+ghost use Rattle.chess_text.specs.Laws.{SanSpellsItsMove, SanHasShape, SanIsReadBack, SanIsShort, SanHasBytes, SanBeginsWithLetter, ReadMovesAreLegal, CoordinateSpellsItsMove, CoordinateHasShape, CoordinateIsReadBack, ShownMoveSpellsItsMove, ShownMoveHasShape, ShownMoveIsReadBack, PartsAreTheTexts, PartsAreRead, SpelledByText, ShapedByText};
 ghost use Rattle.std.specs.Prelude.{◌≡◌};
 ghost use Rattle.chess_base.specs.declared.man.Variant.TheVariants.{Normal};
 ghost use Rattle.chess_base.specs.declared.setup.Setup.{Setup};
@@ -31,6 +31,14 @@ pub fn coordinate_spells_its_move()
     ensures spells { CoordinateSpellsItsMove }
     ensures shape { CoordinateHasShape }
     ensures read_back { CoordinateIsReadBack }
+{}
+
+/// The text of a legal move of a sound position as lists and lines of moves show it, castling in Chess960 among them, spells
+/// it and no other legal move, and is read as it.
+pub fn move_text_spells_its_move()
+    ensures spells { ShownMoveSpellsItsMove }
+    ensures shape { ShownMoveHasShape }
+    ensures read_back { ShownMoveIsReadBack }
 {}
 
 /// The parts of a text are those that it is written from; so a text spells the castling that it names, or what the parts fit

@@ -1,0 +1,11 @@
+use Rattle.chess_text.proofs.ShownLaw.{shown_alone, shown_shape, shown_read}
+use Rattle.chess_text.proofs.laws.move_text_spells_its_move.Goals as goal
+
+pub returns-clause-spells : goal.returns-clause-spells
+returns-clause-spells c = shown_alone
+
+pub returns-clause-shape : goal.returns-clause-shape
+returns-clause-shape c = shown_shape
+
+pub returns-clause-read_back : goal.returns-clause-read_back
+returns-clause-read_back c = shown_read
