@@ -1,8 +1,9 @@
-use chess_base::{Kind, Move, Square, read_fen, write_fen};
+use chess_base::{Kind, Move, Square, Variant, read_fen, read_fen_as, write_fen};
 use chess_moves::{Board, Plain};
 use chess_text::{
-    Reading, coordinate, coordinate_spells_its_move, has_move_shape, normal_is_kept, read_move,
-    san, san_is_a_word, san_spells_its_move, texts_have_parts,
+    Reading, coordinate, coordinate_spells_its_move, has_move_shape, move_text,
+    move_text_spells_its_move, normal_is_kept, read_move, read_moves_are_legal, san, san_is_a_word,
+    san_spells_its_move, texts_have_parts,
 };
 use std::process::Abort;
 use std::test::Fail;
@@ -385,11 +386,50 @@ fn a_pawn_becomes_what_is_named(rt: HostRuntime) -> Result<(), Fail> {
     Ok(())
 }
 
+// With the king on b1 and rooks on a1 and h1: the text of a move, and how the move is shown.
+const SHOWN: [(&[u8], &[u8]); 5] = [
+    (b"b1a1", b"O-O-O"),
+    (b"b1h1", b"O-O"),
+    (b"O-O", b"O-O"),
+    (b"Kc1", b"b1c1"),
+    (b"h1g1", b"h1g1"),
+];
+
+#[test]
+fn castling_in_chess960_is_shown_by_its_side(rt: HostRuntime) -> Result<(), Fail> {
+    let fen = b"4k3/8/8/8/8/8/8/RK5R w KQ - 0 1";
+    let position = read_fen_as(Variant::Fischerandom, fen).ok().ok_or("sound")?;
+    let mut board = Plain::new();
+    board.set(&position);
+    for (name, wanted) in &SHOWN {
+        let Reading::Move(m) = read_move(&board, name) else {
+            return Err("a legal move".into());
+        };
+        assert_eq!(rt; move_text(&position, m).as_slice(), *wanted);
+    }
+    Ok(())
+}
+
+#[test]
+fn castling_in_normal_chess_is_shown_by_the_kings_squares(rt: HostRuntime) -> Result<(), Fail> {
+    let board = board_at(b"5k2/8/8/8/8/8/8/4K2R w K - 0 1")?;
+    let Reading::Move(m) = read_move(&board, b"O-O") else {
+        return Err("a legal move".into());
+    };
+    assert_eq!(rt;
+        move_text(&board.position(), m).as_slice(),
+        b"e1g1".as_slice()
+    );
+    Ok(())
+}
+
 #[test]
 fn laws_do_nothing(_rt: HostRuntime) {
     san_spells_its_move();
     san_is_a_word();
     coordinate_spells_its_move();
+    move_text_spells_its_move();
+    read_moves_are_legal();
     texts_have_parts();
     normal_is_kept();
 }
