@@ -8,7 +8,8 @@ pub enum FenFault {
     Placement,
     /// The second field is neither `w` nor `b`.
     Side,
-    /// The third field spells no rights, or a right stands without its king or its rook at home.
+    /// The third field spells no rights, or a right has not its king and its rook where they belong; in Chess960 also where a letter
+    /// names no rook on that side of the king, or two letters name one side.
     Castling,
     /// The fourth field spells no target, or the target is not the empty square behind an enemy pawn's double advance.
     EnPassant,

@@ -63,7 +63,8 @@ pub struct ColourRights {
     pub queen_side: Option<Square>,
 }
 
-/// The castling rights of both colours (Laws of Chess 2023, article 3.8.2.1). In FEN, White's are `K` and `Q`, Black's `k` and `q`.
+/// The castling rights of both colours (Laws of Chess 2023, article 3.8.2.1). In FEN, White's are `K` and `Q`,
+/// Black's `k` and `q`; in Chess960 they are written as the files of their rooks.
 #[derive(Clone, Copy, Debug, PartialEq, Eq)]
 pub struct Rights {
     pub white: ColourRights,

@@ -1,6 +1,6 @@
 //! Sets of squares.
 
-ghost use Rattle.std.specs.Prelude.{◌≡◌, ℕ, ◌<◌, ◌&&◌, ◌||◌, not, ◌==◌, true, false, MatchOption, IfNone, [], ◌∷◌};
+ghost use Rattle.std.specs.Prelude.{◌≡◌, ℕ, ◌<◌, ◌&&◌, ◌||◌, not, ◌==◌, true, false, MatchOption, [], ◌∷◌};
 ghost use Rattle.chess_base.specs.Squares.{some_square};
 ghost use Rattle.chess_moves.specs.Sets.{has, IsNearest, members};
 
@@ -113,8 +113,7 @@ impl SquareSet {
     /// Takes the lowest square out; `None` where none is left.
     #[tactic(auto, using(crate::proofs::Members::members_none, crate::proofs::Members::members_first))]
     pub fn take_first(&mut self) -> Option<Square>
-        ensures next { MatchOption result (members self.old ≡ []) (λ s. members self.old ≡ s ∷ members self.new) }
-        ensures none_left { IfNone result (self.new ≡ self.old) }
+        ensures { MatchOption result ((members self.old ≡ []) × (self.new ≡ self.old)) (λ s. members self.old ≡ s ∷ members self.new) }
     {
         let set = *self;
         if set.is_empty() {
