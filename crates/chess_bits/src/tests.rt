@@ -107,3 +107,28 @@ fn lines_of_chess960_are_counted(rt: HostRuntime) -> Result<(), Fail> {
     }
     Ok(())
 }
+
+// Positions with pawns and with castling, and how many lines of 4 legal moves there are from each, as stockfish 15 counts them.
+const LINES_OF_FOUR: [(Variant, &'static [u8], u64); 2] = [
+    (
+        Variant::Normal,
+        b"8/2p5/3p4/KP5r/1R3p1k/8/4P1P1/8 w - - 0 1",
+        43_238,
+    ),
+    (
+        Variant::Fischerandom,
+        b"1rk5/3p4/8/8/8/8/4P3/1RK5 w Bb - 0 1",
+        30_194,
+    ),
+];
+
+#[test]
+fn lines_of_four_moves_are_counted(rt: HostRuntime) -> Result<(), Fail> {
+    let mut board = Bits::open(rt.alloc()).ok().ok_or("memory")?;
+    for (variant, fen, count) in LINES_OF_FOUR.as_slice() {
+        let start = read_fen_as(*variant, fen).ok().ok_or("sound")?;
+        board.set(&start);
+        assert_eq!(rt; lines(&mut board, 4)?, *count);
+    }
+    Ok(())
+}
