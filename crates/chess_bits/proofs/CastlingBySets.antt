@@ -1,31 +1,31 @@
 -- Castling, told by sets: its squares are on one rank, and its ways are sets.
-use Rattle.std.proofs.Common.{◌≡◌, ℕ, zero, suc, ◌<◌, ◌≤◌, inl, inr, Bool, true, false, not, ◌&&◌, ◌||◌, ◌==◌, nat_lt, Option, Some, None, is_none, refl, sym, ap, subst, ◌∙◌, arith}
+use Rattle.std.proofs.Common.{◌≡◌, ℕ, zero, suc, ◌<◌, ◌≤◌, Bool, true, false, not, ◌&&◌, ◌||◌, ◌==◌, nat_lt, Option, Some, None, is_none, refl, sym, ap, subst, ◌∙◌, arith}
 use Rattle.std.proofs.lemmas.Bool.Decides.{nat_tests}
-use Rattle.std.proofs.lemmas.Bool.{and_parts, and_from, and_left, eqb-true, eq-eqb, false_from_ne_true, both_ways}
+use Rattle.std.proofs.lemmas.Bool.{and_parts, eqb-true, eq-eqb}
 use Rattle.chess_base.specs.declared.castling.Castle.{Castle}
 use Rattle.chess_base.specs.declared.man.CastlingSide.{CastlingSide}
 use Rattle.chess_base.specs.declared.man.CastlingSide.TheVariants.{KingSide, QueenSide}
 use Rattle.chess_base.specs.declared.man.Colour.{Colour}
 use Rattle.chess_base.specs.declared.man.Colour.TheVariants.{White, Black}
-use Rattle.chess_base.specs.declared.man.Kind.TheVariants.{King, Rook, Pawn}
+use Rattle.chess_base.specs.declared.man.Kind.TheVariants.{King, Rook}
 use Rattle.chess_base.specs.declared.man.Move.{Move}
 use Rattle.chess_base.specs.declared.man.Variant.{Variant}
 use Rattle.chess_base.specs.declared.man.Variant.TheVariants.{Normal, Fischerandom}
 use Rattle.chess_base.specs.declared.setup.Setup.{Setup}
 use Rattle.chess_base.specs.Attacks.{is_attacked}
-use Rattle.chess_base.specs.Castling.{home_square, king_home_file, rook_file, castled_king_file, castled_rook_file, right_of, king_square, is_to_side, is_beside, stand_for_castling, right_stands, names_castling_with, names_castling, castling, castle_from, castle_of, castles, is_on_way, castling_crosses, castling_way_is_empty, castling_way_is_safe}
+use Rattle.chess_base.specs.Castling.{home_square, king_home_file, rook_file, castled_king_file, castled_rook_file, right_of, king_square, is_to_side, is_beside, stand_for_castling, right_stands, names_castling_with, castling, castle_from, castle_of, castles, is_on_way, castling_crosses, castling_way_is_empty, castling_way_is_safe}
 use Rattle.chess_base.specs.Men.{Men, man_at, other, is_man, first_rank}
 use Rattle.chess_base.specs.MoveList.{triple}
 use Rattle.chess_base.specs.Moves.{has_pattern, is_legal, castles_or_moves, promotion_fits}
 use Rattle.chess_base.specs.Sound.{IsSound}
-use Rattle.chess_base.specs.Squares.{rank, is_between, lies_inside, each_below, some_below, each_square, some_square}
+use Rattle.chess_base.specs.Squares.{rank, is_between, each_below, some_below, each_square, some_square}
 use Rattle.chess_base.proofs.Castlings.{right_stands_of, right_that_stands}
 use Rattle.chess_base.proofs.Landing.{says_from_castling, castling_says, castle_there, no_castle}
 use Rattle.chess_base.proofs.MenFacts.{in_board}
 use Rattle.chess_moves.specs.Candidates.{would_promote}
 use Rattle.chess_bits.specs.declared.line.Line.TheVariants.{Rank}
 use Rattle.chess_bits.specs.Goes.{goes}
-use Rattle.chess_bits.specs.Rays.{is_on_ray, same_line}
+use Rattle.chess_bits.specs.Rays.{is_on_ray}
 use Rattle.chess_bits.proofs.Geometry.{between_on_line}
 use Rattle.chess_bits.proofs.Patterns.{pattern_by, officer_goes, not_promoting}
 use Rattle.chess_bits.proofs.TargetsOf.{man_told}

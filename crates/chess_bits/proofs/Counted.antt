@@ -1,14 +1,15 @@
 -- Legal moves counted.
-use Rattle.std.proofs.Common.{◌≡◌, ℕ, ◌+◌, ◌≤◌, inl, inr, Bool, true, false, cond, Option, Some, None, List, [], ◌∷◌, length, refl, sym, ap, ◌∙◌, length-append, arith}
-use Rattle.std.proofs.lemmas.Bool.{cases_Bool}
+use Rattle.std.proofs.Common.{◌≡◌, ℕ, ◌+◌, ◌≤◌, inl, inr, Bool, true, false, cond, Some, None, List, [], ◌∷◌, length, sym, ap, ◌∙◌, length-append, nat_lt, ◌<◌, arith}
+use Rattle.std.proofs.lemmas.Bool.{cases_Bool, lt-ltb, ltb-true}
 use Rattle.std.specs.List.{filter, flat_map}
 use Rattle.chess_base.specs.declared.man.Kind.TheVariants.{Queen, Rook, Bishop, Knight}
 use Rattle.chess_base.specs.declared.setup.Setup.{Setup}
-use Rattle.chess_base.specs.MoveList.{triple, moves}
+use Rattle.chess_base.specs.MoveList.{triple, squares, moves}
 use Rattle.chess_base.specs.Moves.{is_legal}
 use Rattle.chess_base.specs.Sound.{IsSound}
 use Rattle.chess_moves.specs.Candidates.{would_promote, moves_between, moves_from}
-use Rattle.chess_moves.proofs.Parts.{all_promote, none_promotes}
+use Rattle.chess_moves.specs.Sets.{has, members}
+use Rattle.chess_moves.proofs.Parts.{moves-by_start, all_promote, none_promotes}
 use Rattle.chess_moves.proofs.Room.{moves_fit}
 
 counted : {A : Type 0} (q : A → Bool) (x : A) (xs : List A) → length (filter q (x ∷ xs)) ≡ cond (q x) 1 0 + length (filter q xs)
@@ -48,3 +49,20 @@ count_fits p n ms s ns sound e h =
 -- before the first
 pub none_counted : {m n : ℕ} → m ≡ n → 0 + m ≡ n
 none_counted e = omega (arith, e)
+
+-- some men's moves are no more than all
+fewer : {A : Type 0} (g : ℕ → List A) (q : ℕ → Bool) (xs : List ℕ) → length (flat_map g (filter q xs)) ≤ length (flat_map g xs)
+fewer g q [] = omega arith
+fewer g q (x ∷ xs) =
+    let rest = fewer g q xs in
+    let all = length-append (g x) (flat_map g xs) in
+    let some = length-append (g x) (flat_map g (filter q xs)) in
+    elim (cases_Bool (q x)) [ inl kept ↦ rw kept (omega (arith, rest, all, some)) | inr left ↦ rw left (omega (arith, rest, all)) ]
+
+pub some_of : (p : Setup) (w : ℕ) → nat_lt 0 (length (flat_map (λ a. moves_from p a) (members w))) ≡ true → true ≡ nat_lt 0 (length (moves p))
+unfolding members
+some_of p w h =
+    let less = fewer (λ a. moves_from p a) (λ k. has w k) squares in
+    let all = ap length (moves-by_start p) in
+    let some : 0 < length (flat_map (λ a. moves_from p a) (filter (λ k. has w k) squares)) = ltb-true _ _ h in
+    sym (lt-ltb 0 (length (moves p)) (omega (arith, less, all, some)))

@@ -15,3 +15,4 @@ pub mod Listed
 mod Counted
 pub mod OriginsOf
 pub mod CastlingBySets
+pub mod Freely

@@ -1,5 +1,5 @@
 -- From where pawns go to a square, and officers: from where they are attacked that stand there.
-use Rattle.std.proofs.Common.{◌≡◌, ℕ, ◌+◌, ◌<◌, ◌≤◌, ◌⊎◌, inl, inr, Bool, true, false, not, ◌&&◌, ◌||◌, ◌==◌, nat_lt, None, refl, sym, ap, ◌∙◌, arith}
+use Rattle.std.proofs.Common.{◌≡◌, ℕ, ◌<◌, ◌≤◌, ◌⊎◌, inl, inr, Bool, true, false, not, ◌&&◌, ◌||◌, ◌==◌, nat_lt, None, refl, sym, ap, ◌∙◌, arith}
 use Rattle.std.proofs.lemmas.Bool.{and_parts, and_from, or_left, or_right, or_cases, eq-eqb, lt-ltb, not-true}
 use Rattle.std.proofs.lemmas.Bool.Decides.{nat_tests}
 use Rattle.chess_base.specs.declared.man.Colour.{Colour}
@@ -73,7 +73,7 @@ pawn_kind Knight e = cc
 pawn_kind Pawn e = refl
 
 -- no pawn stands on the lowest rank
-off_lowest : (men : Men) (c : Colour) (a : ℕ) → is_man c Pawn (man_at men a) ≡ true → pawn_may_stand men a ≡ true → 8 ≤ a
+pub off_lowest : (men : Men) (c : Colour) (a : ℕ) → is_man c Pawn (man_at men a) ≡ true → pawn_may_stand men a ≡ true → 8 ≤ a
 unfolding pawn_may_stand
 off_lowest men White a man e = let f = not-true _ (rw man at e) in grind (arith, nat_tests, f)
 off_lowest men Black a man e = by (is_man White Pawn (man_at men a)) (rw man at e)

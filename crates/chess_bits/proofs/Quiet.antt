@@ -2,19 +2,21 @@
 use Rattle.std.proofs.Common.{◌≡◌, ℕ, ◌<◌, inl, inr, Bool, true, false, not, ◌&&◌, ◌||◌, ◌==◌, cond, refl, ◌∙◌, arith, Option, Some, None, is_none}
 use Rattle.std.proofs.lemmas.Bool.{and_parts, and_from, cases_Bool, eqb-true, both_ways, false_from_ne_true}
 use Rattle.std.proofs.lemmas.Bool.Decides.{nat_tests}
+use Rattle.chess_base.specs.declared.man.CastlingSide.TheVariants.{KingSide, QueenSide}
 use Rattle.chess_base.specs.declared.man.Colour.{Colour}
 use Rattle.chess_base.specs.declared.man.Kind.{Kind}
 use Rattle.chess_base.specs.declared.man.Kind.TheVariants.{King, Queen, Rook, Bishop, Knight, Pawn}
 use Rattle.chess_base.specs.declared.man.Man.{Man}
 use Rattle.chess_base.specs.declared.man.Move.{Move}
-use Rattle.chess_base.specs.Squares.{share_rank_or_file, share_diagonal, is_between, is_between_on_file, is_between_on_rank, is_between_on_diagonal}
-use Rattle.chess_base.specs.Men.{Men, man_at, other, is_of}
+use Rattle.chess_base.specs.Squares.{is_square, share_rank_or_file, share_diagonal, is_between, is_between_on_file, is_between_on_rank, is_between_on_diagonal}
+use Rattle.chess_base.specs.Men.{Men, man_at, other, is_man, is_of}
 use Rattle.chess_base.specs.Attacks.{is_clear, could_capture, could_capture_as, attacks, is_attacked}
 use Rattle.chess_base.specs.declared.setup.Setup.{Setup}
-use Rattle.chess_base.specs.Moves.{man_that_lands, men_after, second_square_emptied}
-use Rattle.chess_base.specs.Castling.{lands_on, castling_rook_to}
+use Rattle.chess_base.specs.Moves.{is_en_passant, man_that_lands, men_after, second_square_emptied, steps_of}
+use Rattle.chess_base.specs.Castling.{castle_of, lands_on, castling_rook_to}
 use Rattle.chess_base.proofs.MenAfter.{man_after, man_at-men_after}
 use Rattle.chess_base.proofs.OverSquares.{some_square-at, some_square-none, each_square-all, each_square-at}
+use Rattle.chess_bits.proofs.TargetsOf.{no_king_says, none_castles}
 
 -- what lies between a and b shares a line or a diagonal with b
 between_shares : (a b x : ℕ) → is_between a b x ≡ true → (share_rank_or_file x b || share_diagonal x b) ≡ true
@@ -106,3 +108,22 @@ stays_safe p m king l h off before =
     let hit : could_capture_as p.men (man_at p.men a) a king ≡ true =
     could_capture_as_clear p.men (men_after p m) (man_at p.men a) a king (clear_before p m a king h off) (rw (← stood) both.1) in
     both_ways _ before (some_square-at _ a k (and_from _ _ was hit))))
+
+-- ---- moves that change only their two squares
+
+not_passing : (p : Setup) (m : Move) → (is_man p.side Pawn (man_at p.men m.from) && is_square p.target m.to) ≡ false → is_en_passant p m ≡ false
+unfolding is_en_passant
+not_passing p m h = out (is_man p.side Pawn (man_at p.men m.from)) (attacks p.men m.from m.to) (is_square p.target m.to) h
+  where
+    out : (a b c : Bool) → (a && c) ≡ false → ((a && b) && c) ≡ false
+    out true true c e = e
+    out true false c e = refl
+    out false b c e = refl
+
+pub plain_steps : (p : Setup) (m : Move) → is_man p.side King (man_at p.men m.from) ≡ false → (is_man p.side Pawn (man_at p.men m.from) && is_square p.target m.to) ≡ false
+    → record { from = m.from; second_from = None; second_to = None; second = Some (record { colour = p.side; kind = Rook }); to = m.to; mover = man_that_lands (man_at p.men m.from) m.promotion } ≡ steps_of p m
+unfolding second_square_emptied castling_rook_to lands_on
+plain_steps p m no_king no_passing =
+    let still = not_passing p m no_passing in
+    let no_castle : castle_of p m ≡ None = none_castles p m (no_king_says p m KingSide no_king) (no_king_says p m QueenSide no_king) in
+    rw (still, no_castle) refl

@@ -40,7 +40,7 @@ steps_of_man : (p : Setup) (a b : ℕ) (x : Man) → man_at p.men a ≡ Some x �
 unfolding man_moves attacks
 steps_of_man p a b x at own = ap (λ o. could_capture_as p.men o a b && not (is_of p.side (man_at p.men b))) at ∙ ap (λ c. could_capture p.men c x.kind a b && not (is_of p.side (man_at p.men b))) own
 
-no_king_says : (p : Setup) (m : Move) (w : CastlingSide) → is_man p.side King (man_at p.men m.from) ≡ false → says_castling p m w ≡ false
+pub no_king_says : (p : Setup) (m : Move) (w : CastlingSide) → is_man p.side King (man_at p.men m.from) ≡ false → says_castling p m w ≡ false
 unfolding says_castling
 no_king_says p m w h = rw h refl
 
@@ -48,7 +48,7 @@ neither : (p : Setup) (m : Move) → says_castling p m KingSide ≡ false → sa
 unfolding castling
 neither p m k q = rw (k, q) refl
 
-none_castles : (p : Setup) (m : Move) → says_castling p m KingSide ≡ false → says_castling p m QueenSide ≡ false → castle_of p m ≡ None
+pub none_castles : (p : Setup) (m : Move) → says_castling p m KingSide ≡ false → says_castling p m QueenSide ≡ false → castle_of p m ≡ None
 none_castles p m k q = no_castle p m (neither p m k q)
 
 no_king_kind : (p : Setup) (a : ℕ) (x : Man) → man_at p.men a ≡ Some x → same_kind King x.kind ≡ false → is_man p.side King (man_at p.men a) ≡ false

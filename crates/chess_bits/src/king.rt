@@ -8,8 +8,9 @@ ghost use Rattle.chess_base.specs.declared.man.Kind.TheVariants.{King};
 ghost use Rattle.chess_moves.specs.Sets.{has};
 
 use crate::bits::Bits;
+use crate::placing::steps_made;
 use chess_base::attack::is_man;
-use chess_base::rules::{Steps, steps_of};
+use chess_base::rules::Steps;
 use chess_base::{Kind, Move, Square};
 use chess_moves::SquareSet;
 
@@ -60,7 +61,7 @@ impl Bits {
         requires { IsTrue (has_pattern self.now m.now) }
         ensures { result ≡ is_legal self.now m.now }
     {
-        let steps = steps_of(&self.setup, m);
+        let steps = steps_made(&self.setup, m);
         let king = self.king_after(m, &steps);
         let filled = filled_by(&steps);
         let changed = filled.union(emptied_by(&steps));

@@ -3,18 +3,20 @@
 ghost use Rattle.std.specs.Prelude.{◌≡◌, length, IsTrue};
 ghost use Rattle.chess_base.specs.Before.{before};
 ghost use Rattle.chess_base.specs.Men.{with_man};
-ghost use Rattle.chess_base.specs.Moves.{after, is_legal};
+ghost use Rattle.chess_base.specs.Moves.{after, is_legal, steps_of};
 ghost use Rattle.chess_base.specs.Sound.{IsSound};
+ghost use Rattle.chess_base.specs.Squares.{is_square};
 ghost use Rattle.chess_base.specs.Steps.{men_stepped};
 ghost use Rattle.chess_bits.specs.BoardSets.{IsSets};
 ghost use Rattle.chess_moves.specs.Made.{IsMade};
 
 use crate::sets::Sets;
+use chess_base::attack::is_man;
 use chess_base::before::steps_back;
 use chess_base::rules::{
-    Steps, fullmove_after, halfmove_after, rights_after, steps_of, target_after,
+    Steps, fullmove_after, halfmove_after, man_that_lands, rights_after, steps_of, target_after,
 };
-use chess_base::{Man, Move, Saved, Setup, Square};
+use chess_base::{Kind, Man, Move, Saved, Setup, Square};
 
 // Changes what stands on a square, if there is one.
 fn place(men: &mut [Option<Man>; 64], sets: &mut Sets, square: Option<Square>, man: Option<Man>)
@@ -54,6 +56,43 @@ fn take_steps(men: &mut [Option<Man>; 64], sets: &mut Sets, steps: &Steps)
     place(men, sets, Some(steps.to), steps.mover);
 }
 
+// Whether the target is that square.
+fn is_target(setup: &Setup, square: Square) -> bool
+    ensures { result ≡ is_square (setup.now).target square }
+{
+    match setup.target {
+        None => false,
+        Some(target) => target == square,
+    }
+}
+
+/// What the move changes: but for a king's moves and captures en passant, its two squares alone.
+#[tactic(auto, using(crate::proofs::Quiet::plain_steps))]
+pub(crate) fn steps_made(setup: &Setup, m: &Move) -> Steps
+    requires { IsSound setup.now }
+    ensures { result ≡ steps_of setup.now m.now }
+{
+    let side = setup.side;
+    let man = setup.men[m.from.index()];
+    if is_man(side, Kind::King, man) {
+        return steps_of(setup, m);
+    }
+    if is_man(side, Kind::Pawn, man) && is_target(setup, m.to) {
+        return steps_of(setup, m);
+    }
+    Steps {
+        from: m.from,
+        second_from: None,
+        second_to: None,
+        second: Some(Man {
+            colour: side,
+            kind: Kind::Rook,
+        }),
+        to: m.to,
+        mover: man_that_lands(man, m.promotion),
+    }
+}
+
 // Makes the legal move.
 #[tactic(auto, unfolding(chess_base::specs::Moves::after, chess_base::specs::Moves::men_after))]
 pub(crate) fn move_on(setup: &mut Setup, sets: &mut Sets, m: &Move)
@@ -65,7 +104,7 @@ pub(crate) fn move_on(setup: &mut Setup, sets: &mut Sets, m: &Move)
     let rights = rights_after(setup, m);
     let target = target_after(setup, m);
     let halfmove = halfmove_after(setup, m);
-    let steps = steps_of(setup, m);
+    let steps = steps_made(setup, m);
     take_steps(&mut setup.men, sets, &steps);
     setup.fullmove = fullmove_after(setup.side, setup.fullmove);
     setup.side = setup.side.other();

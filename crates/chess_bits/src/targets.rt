@@ -34,7 +34,7 @@ fn ahead(colour: Colour, square: Square) -> Option<Square>
     }
 }
 
-fn pawn_rank(colour: Colour) -> u8
+pub(crate) fn pawn_rank(colour: Colour) -> u8
     ensures { result ≡ pawn_rank colour }
 {
     match colour {

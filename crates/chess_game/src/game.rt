@@ -72,16 +72,16 @@ impl<B: Board> Model for Game<B> {
 }
 
 // The present position.
-fn present(start: &Known, places: &[Place]) -> Known
+fn present<'a>(start: &'a Known, places: &'a [Place]) -> &'a Known
     requires start { IsKnown start.now }
     requires follows { Follows start.now.position places.now }
-    ensures known { IsKnown result }
-    ensures position { result.position ≡ last start.now.position (moves_of places.now) }
+    ensures known { IsKnown result.now }
+    ensures position { result.now.position ≡ last start.now.position (moves_of places.now) }
 {
     if places.is_empty() {
-        *start
+        start
     } else {
-        places[places.len() - 1].reached
+        &places[places.len() - 1].reached
     }
 }
 
@@ -101,12 +101,12 @@ fn repetitions(start: &Known, places: &[Place]) -> usize
     while left > 0 {
         left -= 1;
         let reached = &places[left].reached;
-        count += reached.times_met(left + 1 == places.len(), &now);
+        count += reached.times_met(left + 1 == places.len(), now);
         if reached.position.setup().halfmove == 0 {
             return count;
         }
     }
-    count + start.times_same(&now)
+    count + start.times_same(now)
 }
 
 // The verdict on a game that is kept so.

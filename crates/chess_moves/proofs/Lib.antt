@@ -8,3 +8,4 @@ pub mod Words
 pub mod Members
 pub mod Origins
 pub mod SomeMember
+pub mod Counting

@@ -1,6 +1,6 @@
 //! Sets of squares.
 
-ghost use Rattle.std.specs.Prelude.{◌≡◌, ℕ, ◌<◌, ◌&&◌, ◌||◌, not, ◌==◌, true, false, MatchOption, [], ◌∷◌};
+ghost use Rattle.std.specs.Prelude.{◌≡◌, ℕ, ◌<◌, ◌&&◌, ◌||◌, not, ◌==◌, true, false, MatchOption, [], ◌∷◌, length};
 ghost use Rattle.chess_base.specs.Squares.{some_square};
 ghost use Rattle.chess_moves.specs.Sets.{has, IsNearest, members};
 
@@ -58,6 +58,14 @@ impl SquareSet {
         ensures none { result ≡ not (some_square (λ k. has self k)) }
     {
         self.word == 0
+    }
+
+    /// How many squares are in the set.
+    #[tactic(auto, using(crate::proofs::Counting::members_counted))]
+    pub fn len(self) -> usize
+        ensures { result ≡ length (members self) }
+    {
+        self.word.count_ones() as usize
     }
 
     /// The squares of either set.

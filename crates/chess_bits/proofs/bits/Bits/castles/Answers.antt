@@ -1,4 +1,4 @@
-use Rattle.std.proofs.Common.{◌≡◌, ◌&&◌, ◌||◌, ◌==◌, ℕ, ◌<◌, not, true, false, is_none, refl, sym, ap, ◌∙◌}
+use Rattle.std.proofs.Common.{◌≡◌, ◌&&◌, ◌||◌, ◌==◌, ℕ, ◌<◌, not, true, false, is_none, refl, sym, ◌∙◌}
 use Rattle.std.proofs.lemmas.Bool.{and_left}
 use Rattle.chess_base.specs.Castling.{is_on_way, castling_way_is_empty, castling_way_is_safe}
 use Rattle.chess_base.specs.Men.{man_at}

@@ -1,4 +1,4 @@
-use Rattle.std.proofs.Common.{◌≡◌, ◌<◌, true, false, sym, subst, ◌∙◌}
+use Rattle.std.proofs.Common.{◌<◌, sym, subst, ◌∙◌}
 use Rattle.chess_bits.proofs.CastlingBySets.{on_rank, castle_pattern, not_castling}
 use Rattle.chess_bits.proofs.bits.Bits.castles_legally.Goals as goal
 

@@ -16,9 +16,9 @@ returns c =
     let by = c.other-by.result in
     let pattern : has_pattern p m ≡ true = rw c.self.view_is c.requires in
     let filled : (k : ℕ) → k < 64 → has c.filled_by-filled.result k ≡ is_filled p m k =
-    λ k low. c.filled_by-filled.ensures k ∙ ap (λ (t : Steps). (t.to == k) || is_square t.second_to k) c.steps_of-steps.ensures in
+    λ k low. c.filled_by-filled.ensures k ∙ ap (λ (t : Steps). (t.to == k) || is_square t.second_to k) c.steps_made-steps.ensures in
     let emptied : (k : ℕ) → has c.emptied_by.result k ≡ _ =
-    λ k. c.emptied_by.ensures k ∙ ap (λ (t : Steps). is_square t.second_from k || (t.from == k)) c.steps_of-steps.ensures in
+    λ k. c.emptied_by.ensures k ∙ ap (λ (t : Steps). is_square t.second_from k || (t.from == k)) c.steps_made-steps.ensures in
     let changed : (k : ℕ) → k < 64 → has c.union-changed.result k ≡ is_changed p m k =
     λ k low. c.union-changed.ensures k ∙ rw (filled k low, emptied k) refl in
     let later : IsLater c.union-changed.result c.filled_by-filled.result by p.men (men_after p m) =

@@ -1,5 +1,4 @@
 use Rattle.std.proofs.Common.{rules, arith, ◌≡◌, sym, refl, true, false, not, ◌||◌}
-use Rattle.std.proofs.lemmas.Grind.{common_steps}
 use Rattle.chess_base.specs.Men.{other}
 use Rattle.chess_base.specs.Attacks.{is_attacked}
 use Rattle.chess_base.proofs.OverSquares.{each_square-all, each_square-fails}

@@ -1,0 +1,152 @@
+-- Men that are on no line with their king, which is not in check: where they go, they go legally.
+use Rattle.std.proofs.Common.{◌≡◌, ℕ, ◌+◌, ◌<◌, ◌≤◌, ◌⊎◌, inl, inr, Bool, true, false, not, ◌&&◌, ◌||◌, ◌==◌, Option, Some, None, List, [], ◌∷◌, length, refl, sym, ap, ◌∙◌, length-append, arith}
+use Rattle.std.specs.List.{flat_map}
+use Rattle.std.specs.Option.{is_some}
+use Rattle.std.proofs.lemmas.Bool.{and_parts, and_right, or_cases, or_left, or_right, or_parts, eqb-true, eq-eqb, ne_eqb, false_from_ne_true, both_ways}
+use Rattle.chess_base.specs.declared.man.Colour.{Colour}
+use Rattle.chess_base.specs.declared.man.Colour.TheVariants.{White, Black}
+use Rattle.chess_base.specs.declared.man.CastlingSide.TheVariants.{KingSide, QueenSide}
+use Rattle.chess_base.specs.declared.man.Kind.TheVariants.{King, Pawn}
+use Rattle.chess_base.specs.declared.man.Man.{Man}
+use Rattle.chess_base.specs.declared.man.Move.{Move}
+use Rattle.chess_base.specs.declared.setup.Setup.{Setup}
+use Rattle.chess_base.specs.Attacks.{attacks, is_in_check, is_attacked, is_rank_ahead}
+use Rattle.chess_base.specs.Castling.{castle_of, castling_rook_to}
+use Rattle.chess_base.specs.Men.{man_at, other, is_of, is_man, forward, first_rank, pawn_rank}
+use Rattle.chess_base.specs.MoveList.{triple}
+use Rattle.chess_base.specs.Moves.{has_pattern, is_legal, is_en_passant, man_that_lands, men_after, second_square_emptied, pawn_advances, pawn_captures}
+use Rattle.chess_base.specs.Sound.{IsSound, no_pawn_on_end_ranks}
+use Rattle.chess_base.specs.Squares.{file, rank, is_square, share_rank_or_file, share_diagonal}
+use Rattle.chess_base.proofs.Changes.{advance_goes, pawn_attack}
+use Rattle.chess_base.proofs.OverSquares.{each_square-at}
+use Rattle.chess_moves.specs.Candidates.{would_promote, moves_between, moves_from}
+use Rattle.chess_moves.specs.Sets.{has, members}
+use Rattle.chess_bits.specs.Goes.{goes, IsFree}
+use Rattle.chess_bits.proofs.AfterSets.{check_is}
+use Rattle.chess_bits.proofs.Counted.{one_counted}
+use Rattle.chess_bits.proofs.KingAfter.{mover_some, mover_own, king_stays, check_after, legal_is}
+use Rattle.chess_bits.proofs.Listed.{Each, each_member, from_targets, pattern_of}
+use Rattle.chess_bits.proofs.OriginsOf.{off_lowest}
+use Rattle.chess_bits.proofs.Patterns.{pawn_goes}
+use Rattle.chess_bits.proofs.Quiet.{IsPlain, stays_safe}
+use Rattle.chess_bits.proofs.TargetsOf.{man_told, no_king_says, none_castles}
+
+-- ---- the king stays safe
+
+lands_same : (o : Option Man) → man_that_lands o None ≡ o
+lands_same None = refl
+lands_same (Some x) = refl
+
+off_king : (p : Setup) (a king : ℕ) → a < 64 → ((k : ℕ) → k < 64 → is_man p.side King (man_at p.men k) ≡ (k == king))
+    → (share_rank_or_file a king || share_diagonal a king) ≡ false → is_man p.side King (man_at p.men a) ≡ false
+off_king p a king low one off =
+    one a low
+    ∙ false_from_ne_true (a == king)
+    (λ e. both_ways (share_rank_or_file a king || share_diagonal a king) off
+    (or_left (share_rank_or_file a king) (share_diagonal a king) (or_left (file a == file king) (rank a == rank king) (eq-eqb (file a) (file king) (ap (λ s. file s) (eqb-true a king e))))))
+
+free_is_legal : (p : Setup) (a b king : ℕ) → IsSound p → IsFree p a → a < 64 → king < 64 → ((k : ℕ) → k < 64 → is_man p.side King (man_at p.men k) ≡ (k == king))
+    → goes p a b ≡ true → would_promote p a b ≡ false → is_en_passant p (triple a b None) ≡ false → is_legal p (triple a b None) ≡ true
+unfolding second_square_emptied castling_rook_to
+free_is_legal p a b king sound free low there one go stays no_passing =
+    let m = triple a b None in
+    let pattern : has_pattern p m ≡ true = pattern_of p a b None go (rw stays refl) in
+    let off = free.away king there (one king there ∙ eq-eqb king king refl) in
+    let no_king = off_king p a king low one off in
+    let no_castle : castle_of p m ≡ None = none_castles p m (no_king_says p m KingSide no_king) (no_king_says p m QueenSide no_king) in
+    let plain : IsPlain p m = record { also = rw (no_passing, no_castle) refl; rook = rw no_castle refl; mover = mover_some p m pattern; own = mover_own p m pattern } in
+    let calm : is_attacked p.men king (other p.side) ≡ false = sym (check_is p.men p.side king there one) ∙ free.calm in
+    let safe : is_attacked (men_after p m) king (other p.side) ≡ false = stays_safe p m king there plain off calm in
+    let king_there : is_man p.side King (man_at (men_after p m) king) ≡ true =
+    king_stays p m king sound pattern one (ap (λ o. is_man p.side King o) (lands_same (man_at p.men a)) ∙ no_king) in
+    sym (legal_is p m pattern) ∙ ap not (check_after p m king sound pattern there king_there ∙ safe)
+
+-- ---- what is no pawn, and pawns that neither promote nor take en passant
+
+-- no move of the man on a promotes or takes en passant
+pub record IsUsual (p : Setup) (a : ℕ) : Type 0 where
+  pub stays : (b : ℕ) → b < 64 → goes p a b ≡ true → would_promote p a b ≡ false
+  pub passes : (b : ℕ) → is_en_passant p (triple a b None) ≡ false
+
+no_pawn_usual : (p : Setup) (a : ℕ) → is_man p.side Pawn (man_at p.men a) ≡ false → IsUsual p a
+unfolding would_promote is_en_passant
+no_pawn_usual p a no_pawn = record { stays = λ b low go. rw no_pawn refl; passes = λ b. rw no_pawn refl }
+
+advance_stays : (c : Colour) (a b : ℕ) → 8 ≤ a → a < 64 → (rank a ≡ pawn_rank (other c) → ⊥) → (b ≡ forward c a) ⊎ ((rank a ≡ pawn_rank c) × (b ≡ forward c (forward c a)))
+    → rank b ≡ first_rank (other c) → ⊥
+advance_stays White a b high low off (inl e) = λ last. off (omega (arith, e, last))
+advance_stays White a b high low off (inr e) = λ last. absurd (omega (arith, e.0, e.1, last))
+advance_stays Black a b high low off (inl e) = λ last. off (omega (arith, e, last, high))
+advance_stays Black a b high low off (inr e) = λ last. absurd (omega (arith, e.0, e.1, last))
+
+capture_stays : (c : Colour) (a b : ℕ) → (rank a ≡ pawn_rank (other c) → ⊥) → is_rank_ahead c a b ≡ true → rank b ≡ first_rank (other c) → ⊥
+capture_stays White a b off ahead = λ last. let e = eqb-true (rank b) (rank a + 1) ahead in off (omega (arith, e, last))
+capture_stays Black a b off ahead = λ last. let e = eqb-true (rank a) (rank b + 1) ahead in off (omega (arith, e, last))
+
+pawn_usual : (p : Setup) (a : ℕ) → IsSound p → a < 64 → is_man p.side Pawn (man_at p.men a) ≡ true → p.target ≡ None → (rank a ≡ pawn_rank (other p.side) → ⊥) → IsUsual p a
+unfolding would_promote is_en_passant no_pawn_on_end_ranks pawn_captures
+pawn_usual p a sound low pawn no_target off = record {
+  stays = λ b high go. and_right (is_man p.side Pawn (man_at p.men a)) (rank b == first_rank (other p.side)) (ne_eqb (rank b) (first_rank (other p.side)) (last b high go));
+  passes = λ b. and_right (is_man p.side Pawn (man_at p.men a) && attacks p.men a b) (is_square p.target b) (rw no_target refl);
+}
+  where
+    last : (b : ℕ) → b < 64 → goes p a b ≡ true → rank b ≡ first_rank (other p.side) → ⊥
+    last b high go =
+        let told : (pawn_advances p (triple a b None) || pawn_captures p (triple a b None)) ≡ true =
+        sym (pawn_goes p a b _ (man_told p.side Pawn (man_at p.men a) pawn) refl refl low high) ∙ go in
+        elim (or_cases (pawn_advances p (triple a b None)) (pawn_captures p (triple a b None)) told) [
+          | inl ahead ↦ advance_stays p.side a b (off_lowest p.men p.side a pawn (each_square-at _ sound.pawns a low)) low off (advance_goes p (triple a b None) ahead)
+          | inr takes ↦
+              capture_stays p.side a b off
+              (pawn_attack p.men p.side a b pawn (and_parts (attacks p.men a b) (is_of (other p.side) (man_at p.men b) || is_square p.target b) takes).0).1
+        ]
+
+-- as the code tells it
+pub usual_from : (p : Setup) (a : ℕ) (t r : Bool) → IsSound p → a < 64 → t ≡ is_some p.target → r ≡ (rank a == pawn_rank (other p.side))
+    → (is_man p.side Pawn (man_at p.men a) && (t || r)) ≡ false → IsUsual p a
+usual_from p a t r sound low target rank_is h = by (is_man p.side Pawn (man_at p.men a)) refl h
+  where
+    none_set : (o : Option ℕ) → is_some o ≡ false → o ≡ None
+    none_set None e = refl
+    none_set (Some x) e = cc
+
+    by : (b : Bool) → is_man p.side Pawn (man_at p.men a) ≡ b → (b && (t || r)) ≡ false → IsUsual p a
+    by false e g = no_pawn_usual p a e
+    by true e g =
+        let neither = or_parts t r g in
+        pawn_usual p a sound low e (none_set p.target (sym target ∙ neither.0)) (λ same. both_ways (rank a == pawn_rank (other p.side)) (sym rank_is ∙ neither.1) (eq-eqb (rank a) (pawn_rank (other p.side)) same))
+
+-- ---- so each square is the end of one legal move
+
+all_once : {A : Type 0} (g : ℕ → List A) (ms : List ℕ) → Each (λ b. length (g b) ≡ 1) ms → length (flat_map g ms) ≡ length ms
+all_once g [] h = refl
+all_once g (x ∷ xs) h =
+    let rest = all_once g xs h.1 in
+    let once : length (g x) ≡ 1 = h.0 in
+    let parts = length-append (g x) (flat_map g xs) in
+    omega (arith, rest, once, parts)
+
+pub free_counted : (p : Setup) (a king w : ℕ) → IsSound p → IsFree p a → IsUsual p a → a < 64 → king < 64 → ((k : ℕ) → k < 64 → is_man p.side King (man_at p.men k) ≡ (k == king))
+    → ((k : ℕ) → k < 64 → has w k ≡ true → goes p a k ≡ true) → ((m : Move) → is_legal p m ≡ true → m.from ≡ a → has w m.to ≡ true)
+    → length (members w) ≡ length (moves_from p a)
+free_counted p a king w sound free usual low there one sets all =
+    sym (all_once (λ b. moves_between p a b) (members w) (each_member w (λ b. length (moves_between p a b) ≡ 1) once)) ∙ ap length (from_targets p a w all)
+  where
+    once : (b : ℕ) → b < 64 → has w b ≡ true → length (moves_between p a b) ≡ 1
+    once b high h =
+        let go = sets b high h in
+        let legal = free_is_legal p a b king sound free low there one go (usual.stays b high go) (usual.passes b) in
+        sym (rw legal at (one_counted p a b (usual.stays b high go)))
+
+-- ---- the set of the free men
+
+pub freed : (p : Setup) (a king : ℕ) → is_in_check p.men p.side ≡ false → ((k : ℕ) → k < 64 → is_man p.side King (man_at p.men k) ≡ (k == king))
+    → (((not (a == king) && share_rank_or_file a king) || (not (a == king) && share_diagonal a king)) || (a == king)) ≡ false → IsFree p a
+freed p a king calm one out = record {
+  calm = calm;
+  away = λ k low man. let at : k ≡ king = eqb-true k king (sym (one k low) ∙ man) in rw at (apart (a == king) (share_rank_or_file a king) (share_diagonal a king) out);
+}
+  where
+    apart : (e l d : Bool) → (((not e && l) || (not e && d)) || e) ≡ false → (l || d) ≡ false
+    apart true l d h = absurd (both_ways _ h (or_right ((false && l) || (false && d)) true refl))
+    apart false l d h = (or_parts (l || d) false h).0
