@@ -1,0 +1,3 @@
+mod Literals
+mod Readings
+pub mod Required
