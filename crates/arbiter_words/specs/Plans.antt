@@ -124,6 +124,16 @@ IsReadBy names words (Err f) = (takes_words names words ≡ true → IsNoWordsFa
 abbrev pub IsReading : List Text → Result Plan WordsFault → Type 0
 IsReading words result = (names : Lent) × AreVariants names × IsReadBy names words result
 
+-- the command that a plan is asked for by
+abbrev pub command_name : Plan → Text
+command_name Session = codes "session"
+command_name Verify = codes "verify"
+command_name (Stub words) = codes "stub"
+command_name (Match plan) = codes "match"
+
+abbrev pub PlansAreNamed : Type 0
+PlansAreNamed = (p : Text × List Row) (plan : Plan) → IsPlanOf p plan → p.0 ≡ command_name plan
+
 -- the words are taken, and ask for the command of that name with no arguments
 pub record AskFor (words : List Text) (name : Text) : Type 0 where
   pub taken : (names : Lent) → takes_words names words ≡ true

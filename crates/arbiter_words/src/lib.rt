@@ -9,7 +9,7 @@ mod reading;
 mod spelled;
 
 pub use fault::WordsFault;
-pub use laws::plain_words_are_taken;
+pub use laws::{plain_words_are_taken, plans_are_named};
 pub use plan::{MatchPlan, Plan};
 pub use reading::read_words;
 

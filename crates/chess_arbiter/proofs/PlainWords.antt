@@ -1,44 +1,25 @@
 -- What no words, `session` and `verify` do.
-use Rattle.std.proofs.Common.{◌≡◌, ◌∙◌, ◌<◌, ℕ, List, [], length, lit<, codes, Result, Ok, Err, refl, sym, ap, subst, arith}
+use Rattle.std.proofs.Common.{◌≡◌, ◌∙◌, ◌<◌, ℕ, List, [], length, lit<, codes, Result, Ok, Err, refl, sym, ap, subst, inl, arith}
 use Rattle.clap.specs.Words.{Row, Text}
 use Rattle.arbiter_words.specs.Grammar.{AreVariants, Lent, asked}
-use Rattle.arbiter_words.specs.Plans.{AskFor, IsPlanOf, IsPlanned, IsReadBy, IsReading, IsSpelledOf}
+use Rattle.arbiter_words.specs.Plans.{AskFor, IsReading, PlansAreNamed, command_name}
 use Rattle.arbiter_words.specs.declared.fault.WordsFault.{WordsFault}
 use Rattle.arbiter_words.specs.declared.fault.WordsFault.TheVariants as words
 use Rattle.arbiter_words.specs.declared.plan.Plan.{Plan}
 use Rattle.arbiter_words.specs.declared.plan.Plan.TheVariants.{Session, Verify, Stub, Match}
-use Rattle.arbiter_words.specs.declared.spelled.Spelled.{Spelled}
-use Rattle.arbiter_words.specs.declared.spelled.Spelled.TheVariants as spelled
 use Rattle.chess_base.specs.Devices.{InputState, OutputState}
 use Rattle.chess_base.proofs.DeviceLaws.{consumes_none}
-use Rattle.std.specs.Prelude.{inl}
 use Rattle.chess_arbiter.specs.Laws.{ServesSession, VerifiesGames}
 use Rattle.chess_arbiter.specs.Program.{IsUntouched, RanPlan, RanProgram, RanSession, RanVerify}
 use Rattle.chess_arbiter.specs.Verify.{IsFront, LacksMemory}
 use Rattle.chess_arbiter.specs.declared.fault.ProgramFault.TheVariants.{NoMemory}
 
--- the word that a plan is asked for by
-abbrev word_of : Plan → Text
-word_of Session = codes "session"
-word_of Verify = codes "verify"
-word_of (Stub words) = codes "stub"
-word_of (Match plan) = codes "match"
-
-planned_word : (p : Text × List Row) (s : Spelled) (plan : Plan) → IsSpelledOf p s → IsPlanned s plan → p.0 ≡ word_of plan
-planned_word p spelled.Session plan is e = is ∙ ap word_of (sym e)
-planned_word p spelled.Verify plan is e = is ∙ ap word_of (sym e)
-planned_word p (spelled.Stub words) plan is e = is.0 ∙ ap word_of (sym e)
-planned_word p (spelled.Match m) plan is e = is.0 ∙ ap word_of (sym e.1)
-
-plan_word : (p : Text × List Row) (plan : Plan) → IsPlanOf p plan → p.0 ≡ word_of plan
-plan_word p plan (s, is, e) = planned_word p s plan is e
-
 shorter : (xs ys : Text) → length xs < length ys → xs ≡ ys → ⊥
 shorter xs ys lt e = let same : length xs ≡ length ys = ap length e in absurd (omega arith)
 
 -- a plan that was read of words that ask for that command
-read_word : (words : List Text) (name : Text) (plan : Plan) → AskFor words name → IsReading words (Ok plan) → name ≡ word_of plan
-read_word words name plan a (names, are, is) = sym (ap (λ (p : Text × List Row). p.0) (a.asked names)) ∙ plan_word (asked names words) plan is
+read_word : PlansAreNamed → (words : List Text) (name : Text) (plan : Plan) → AskFor words name → IsReading words (Ok plan) → name ≡ command_name plan
+read_word named words name plan a (names, are, is) = sym (ap (λ (p : Text × List Row). p.0) (a.asked names)) ∙ named (asked names words) plan is
 
 -- words that are taken and ask for no match are refused for want of memory alone
 abbrev IsWant : WordsFault → Type 0
@@ -48,9 +29,9 @@ IsWant _ = ⊥
 refused_word : (words : List Text) (name : Text) (fault : WordsFault) → AskFor words name → (name ≡ codes "match" → ⊥) → IsReading words (Err fault) → IsWant fault
 refused_word ws name (words.Words e) a other (names, are, (taken, is)) = absurd (taken (a.taken names))
 refused_word ws name words.NoMemory a other (names, are, (taken, is)) = tt
-refused_word ws name words.BadLevel a other (names, are, (taken, (m, named, rest))) = absurd (other (sym (ap (λ (p : Text × List Row). p.0) (a.asked names)) ∙ named))
-refused_word ws name (words.BadFen f) a other (names, are, (taken, (m, named, rest))) = absurd (other (sym (ap (λ (p : Text × List Row). p.0) (a.asked names)) ∙ named))
-refused_word ws name words.BadDate a other (names, are, (taken, (m, named, rest))) = absurd (other (sym (ap (λ (p : Text × List Row). p.0) (a.asked names)) ∙ named))
+refused_word ws name words.BadLevel a other (names, are, (taken, (m, named, rest, h))) = absurd (other (sym (ap (λ (p : Text × List Row). p.0) (a.asked names)) ∙ named))
+refused_word ws name (words.BadFen f) a other (names, are, (taken, (m, named, rest, h))) = absurd (other (sym (ap (λ (p : Text × List Row). p.0) (a.asked names)) ∙ named))
+refused_word ws name words.BadDate a other (names, are, (taken, (m, named, rest, h))) = absurd (other (sym (ap (λ (p : Text × List Row). p.0) (a.asked names)) ∙ named))
 
 no_match_by_session : codes "session" ≡ codes "match" → ⊥
 no_match_by_session e = shorter (codes "match") (codes "session") (lit< tt) (sym e)
@@ -75,24 +56,24 @@ verify_or_want words.BadLevel r r' w w' status want ran = absurd want
 verify_or_want (words.BadFen f) r r' w w' status want ran = absurd want
 verify_or_want words.BadDate r r' w w' status want ran = absurd want
 
-serves : (words : List Text) → AskFor words (codes "session") → (read : Result Plan WordsFault) → IsReading words read
+serves : PlansAreNamed → (words : List Text) → AskFor words (codes "session") → (read : Result Plan WordsFault) → IsReading words read
     → (r r' : InputState) (w w' : OutputState) (status : ℕ) → RanPlan read r r' w w' status → RanSession r r' w w' status
-serves ws a (Ok Session) is r r' w w' status ran = ran
-serves ws a (Ok Verify) is r r' w w' status ran = absurd (shorter (codes "verify") (codes "session") (lit< tt) (sym (read_word ws (codes "session") Verify a is)))
-serves ws a (Ok (Stub s)) is r r' w w' status ran = absurd (shorter (codes "stub") (codes "session") (lit< tt) (sym (read_word ws (codes "session") (Stub s) a is)))
-serves ws a (Ok (Match m)) is r r' w w' status ran = absurd (no_match_by_session (read_word ws (codes "session") (Match m) a is))
-serves ws a (Err fault) is r r' w w' status ran = session_or_want fault r r' w w' status (refused_word ws (codes "session") fault a no_match_by_session is) ran
+serves named ws a (Ok Session) is r r' w w' status ran = ran
+serves named ws a (Ok Verify) is r r' w w' status ran = absurd (shorter (codes "verify") (codes "session") (lit< tt) (sym (read_word named ws (codes "session") Verify a is)))
+serves named ws a (Ok (Stub s)) is r r' w w' status ran = absurd (shorter (codes "stub") (codes "session") (lit< tt) (sym (read_word named ws (codes "session") (Stub s) a is)))
+serves named ws a (Ok (Match m)) is r r' w w' status ran = absurd (no_match_by_session (read_word named ws (codes "session") (Match m) a is))
+serves named ws a (Err fault) is r r' w w' status ran = session_or_want fault r r' w w' status (refused_word ws (codes "session") fault a no_match_by_session is) ran
 
-verifies : (words : List Text) → AskFor words (codes "verify") → (read : Result Plan WordsFault) → IsReading words read
+verifies : PlansAreNamed → (words : List Text) → AskFor words (codes "verify") → (read : Result Plan WordsFault) → IsReading words read
     → (r r' : InputState) (w w' : OutputState) (status : ℕ) → RanPlan read r r' w w' status → RanVerify r r' w w' status
-verifies ws a (Ok Session) is r r' w w' status ran = absurd (shorter (codes "verify") (codes "session") (lit< tt) (read_word ws (codes "verify") Session a is))
-verifies ws a (Ok Verify) is r r' w w' status ran = ran
-verifies ws a (Ok (Stub s)) is r r' w w' status ran = absurd (shorter (codes "stub") (codes "verify") (lit< tt) (sym (read_word ws (codes "verify") (Stub s) a is)))
-verifies ws a (Ok (Match m)) is r r' w w' status ran = absurd (no_match_by_verify (read_word ws (codes "verify") (Match m) a is))
-verifies ws a (Err fault) is r r' w w' status ran = verify_or_want fault r r' w w' status (refused_word ws (codes "verify") fault a no_match_by_verify is) ran
+verifies named ws a (Ok Session) is r r' w w' status ran = absurd (shorter (codes "verify") (codes "session") (lit< tt) (read_word named ws (codes "verify") Session a is))
+verifies named ws a (Ok Verify) is r r' w w' status ran = ran
+verifies named ws a (Ok (Stub s)) is r r' w w' status ran = absurd (shorter (codes "stub") (codes "verify") (lit< tt) (sym (read_word named ws (codes "verify") (Stub s) a is)))
+verifies named ws a (Ok (Match m)) is r r' w w' status ran = absurd (no_match_by_verify (read_word named ws (codes "verify") (Match m) a is))
+verifies named ws a (Err fault) is r r' w w' status ran = verify_or_want fault r r' w w' status (refused_word ws (codes "verify") fault a no_match_by_verify is) ran
 
-pub serves_session : (words : List Text) → AskFor words (codes "session") → ServesSession words
-serves_session ws a r r' w w' status (read, (is, ran)) = serves ws a read is r r' w w' status ran
+pub serves_session : PlansAreNamed → (words : List Text) → AskFor words (codes "session") → ServesSession words
+serves_session named ws a r r' w w' status (read, is, ran) = serves named ws a read is r r' w w' status ran
 
-pub verifies_games : (words : List Text) → AskFor words (codes "verify") → VerifiesGames words
-verifies_games ws a r r' w w' status (read, (is, ran)) = verifies ws a read is r r' w w' status ran
+pub verifies_games : PlansAreNamed → (words : List Text) → AskFor words (codes "verify") → VerifiesGames words
+verifies_games named ws a r r' w w' status (read, is, ran) = verifies named ws a read is r r' w w' status ran

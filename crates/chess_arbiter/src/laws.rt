@@ -3,7 +3,7 @@
 ghost use Rattle.std.specs.Prelude.{[], ◌∷◌, codes};
 ghost use Rattle.chess_arbiter.specs.Laws.{ServesSession, VerifiesGames};
 
-use arbiter_words::plain_words_are_taken;
+use arbiter_words::{plain_words_are_taken, plans_are_named};
 
 /// No words, or `session` alone, serve a session, and `verify` alone verifies games: such words are never refused, whatever
 /// else the grammar of the words has.
@@ -13,4 +13,5 @@ pub fn plain_words_do_what_they_say()
     ensures verify { VerifiesGames (codes "verify" ∷ []) }
 {
     plain_words_are_taken();
+    plans_are_named();
 }
