@@ -4,7 +4,7 @@ use Rattle.std.proofs.lemmas.List.{length-take-le}
 use Rattle.std.specs.Io.KnownBytes.{Consumes}
 use Rattle.byte_devices.specs.Devices.{InputState, GavePiece, FailedToRead, risen}
 use Rattle.byte_devices.proofs.DeviceLaws.{consumes_more, consumes_none, consumes_kept}
-use Rattle.chess_arbiter.specs.declared.program.ProgramFault.TheVariants.{ReadFailed, NoMemory, InputTooLong}
+use Rattle.chess_arbiter.specs.declared.fault.ProgramFault.TheVariants.{ReadFailed, NoMemory, InputTooLong}
 use Rattle.chess_arbiter.specs.Verify.{IsFront, IsAll, IsNotHad}
 
 -- nothing was read

@@ -8,7 +8,7 @@ use Rattle.chess_cecp.specs.Held.{Seen, opened}
 use Rattle.chess_pgn.specs.Tags.{default_tags}
 use Rattle.chess_cecp.specs.Run.{Transcript, Ran}
 use Rattle.chess_arbiter.specs.Program.{Served}
-use Rattle.chess_arbiter.specs.declared.program.ProgramFault.TheVariants.{WriteFailed}
+use Rattle.chess_arbiter.specs.declared.fault.ProgramFault.TheVariants.{WriteFailed}
 
 pub served : (r r' : InputState) (w w' : OutputState) (s s' : Seen) (end : End) → s ≡ opened default_tags 20000 → (t : Transcript) × Ran r r' w w' s s' t (Ok end) → Served r r' w w' (Ok end)
 served r r' w w' s s' end is (t, ran) = (s', t, subst (λ v. Ran r r' w w' v s' t (Ok end)) is ran)

@@ -1,25 +1,23 @@
 -- What the program does with its words and its devices.
-use Rattle.std.specs.Prelude.{◌≡◌, ℕ, Bool, true, false, List, [], ◌∷◌, codes, Result, Ok, Err}
-use Rattle.std.specs.Str.{bytes_eq}
-use Rattle.std.specs.Borrow.{Bor}
-use Rattle.std.specs.Bool.{MatchBool}
-use Rattle.byte_devices.specs.Devices.{InputState, OutputState}
+use Rattle.std.specs.Prelude.{◌≡◌, ◌≢◌, ◌⊎◌, ℕ, List, Result, Ok, Err}
+use Rattle.clap.specs.Words.{Text, kind_of}
+use Rattle.clap.specs.declared.error.kind.ErrorKind.TheVariants.{DisplayHelp, DisplayVersion}
+use Rattle.arbiter_words.specs.Plans.{IsReading}
+use Rattle.arbiter_words.specs.declared.plan.Plan.{Plan}
+use Rattle.arbiter_words.specs.declared.plan.Plan.TheVariants.{Session, Verify, Stub, Match}
+use Rattle.arbiter_words.specs.declared.fault.WordsFault.{WordsFault}
+use Rattle.arbiter_words.specs.declared.fault.WordsFault.TheVariants as words
+use Rattle.byte_devices.specs.Devices.{InputState, OutputState, BreaksOff, Sent}
 use Rattle.chess_cecp.specs.declared.run.End.{End}
 use Rattle.chess_cecp.specs.declared.run.Fault.TheVariants.{Read, Write}
 use Rattle.chess_cecp.specs.Held.{Seen, opened}
 use Rattle.chess_pgn.specs.Tags.{default_tags}
 use Rattle.chess_cecp.specs.Run.{Transcript, Ran}
-use Rattle.chess_arbiter.specs.declared.program.ProgramFault.{ProgramFault}
+use Rattle.chess_arbiter.specs.declared.fault.ProgramFault.{ProgramFault}
 use Rattle.chess_arbiter.specs.declared.verify.Verified.{Verified}
 use Rattle.chess_arbiter.specs.declared.verify.Verified.TheVariants.{EachGame, FaultTold}
 use Rattle.chess_arbiter.specs.Verify.{Verifies}
-use Rattle.chess_arbiter.specs.declared.program.ProgramFault.TheVariants.{ReadFailed, WriteFailed, NoMemory, InputTooLong, WrongWords}
-
--- no words, or `session` alone
-abbrev pub asks_for_session : List (Bor (List ℕ)) → Bool
-asks_for_session [] = true
-asks_for_session (word ∷ []) = bytes_eq word.now (codes "session")
-asks_for_session (word ∷ next ∷ words) = false
+use Rattle.chess_arbiter.specs.declared.fault.ProgramFault.TheVariants.{ReadFailed, WriteFailed, NoMemory, InputTooLong, WrongWords}
 
 -- nothing was read or written
 pub record IsUntouched (r r' : InputState) (w w' : OutputState) : Type 0 where
@@ -46,23 +44,53 @@ abbrev pub status_of : Result End ProgramFault → ℕ
 status_of (Ok end) = 0
 status_of (Err fault) = fault_status fault
 
--- `verify` alone
-abbrev pub asks_to_verify : List (Bor (List ℕ)) → Bool
-asks_to_verify [] = false
-asks_to_verify (word ∷ []) = bytes_eq word.now (codes "verify")
-asks_to_verify (word ∷ next ∷ words) = false
-
 abbrev pub verify_status : Result Verified ProgramFault → ℕ
 verify_status (Ok EachGame) = 0
 verify_status (Ok FaultTold) = 1
 verify_status (Err fault) = fault_status fault
 
--- where the words ask for a session, one was served, and where they ask to verify games, those of the input were; the status
--- tells how that ended. Other words are wrong
-abbrev pub RanProgram : List (Bor (List ℕ)) → InputState → InputState → OutputState → OutputState → ℕ → Type 0
-RanProgram words r r' w w' status =
-    MatchBool (asks_for_session words)
-    ((outcome : Result End ProgramFault) × Served r r' w w' outcome × (status ≡ status_of outcome))
-    (MatchBool (asks_to_verify words)
-    ((outcome : Result Verified ProgramFault) × Verifies r r' w w' outcome × (status ≡ verify_status outcome))
-    (IsUntouched r r' w w' × (status ≡ 2)))
+-- a session ran, and the status tells how it ended
+abbrev pub RanSession : InputState → InputState → OutputState → OutputState → ℕ → Type 0
+RanSession r r' w w' status = (outcome : Result End ProgramFault) × Served r r' w w' outcome × (status ≡ status_of outcome)
+
+-- the games of the input were verified, and the status tells whether there was a fault
+abbrev pub RanVerify : InputState → InputState → OutputState → OutputState → ℕ → Type 0
+RanVerify r r' w w' status = (outcome : Result Verified ProgramFault) × Verifies r r' w w' outcome × (status ≡ verify_status outcome)
+
+-- a text of help was written and flushed, or a beginning of it was written, or there was no memory for it
+abbrev pub Shown : {A : Type 0} → OutputState → OutputState → Result A ProgramFault → Type 0
+Shown w w' (Ok _) = (text : List ℕ) × Sent w w' text
+Shown w w' (Err ReadFailed) = ⊥
+Shown w w' (Err WriteFailed) = (text : List ℕ) × BreaksOff w w' text
+Shown w w' (Err NoMemory) = w' ≡ w
+Shown w w' (Err InputTooLong) = ⊥
+Shown w w' (Err WrongWords) = ⊥
+
+abbrev pub shown_status : {A : Type 0} → Result A ProgramFault → ℕ
+shown_status (Ok _) = 0
+shown_status (Err fault) = fault_status fault
+
+-- a text of help was shown, and the status tells whether
+abbrev pub RanHelp : OutputState → OutputState → ℕ → Type 0
+RanHelp w w' status = (outcome : Result (Unit {0}) ProgramFault) × Shown w w' outcome × (status ≡ shown_status outcome)
+
+-- what is told of words that ask for nothing: help and the version on the output, all else on the error output
+abbrev pub ToldWords : WordsFault → OutputState → OutputState → ℕ → Type 0
+ToldWords (words.Words e) w w' status =
+    ((kind_of e ≢ DisplayHelp) → (kind_of e ≢ DisplayVersion) → (w' ≡ w) × (status ≡ 2))
+    × ((kind_of e ≡ DisplayHelp) ⊎ (kind_of e ≡ DisplayVersion) → RanHelp w w' status)
+ToldWords words.NoMemory w w' status = (w' ≡ w) × (status ≡ 1)
+ToldWords fault w w' status = (w' ≡ w) × (status ≡ 2)
+
+-- what the words ask for was done, or was told why they ask for nothing. Words that ask for a match or a stub are wrong
+-- words so far
+abbrev pub RanPlan : Result Plan WordsFault → InputState → InputState → OutputState → OutputState → ℕ → Type 0
+RanPlan (Ok Session) r r' w w' status = RanSession r r' w w' status
+RanPlan (Ok Verify) r r' w w' status = RanVerify r r' w w' status
+RanPlan (Ok (Stub words)) r r' w w' status = IsUntouched r r' w w' × (status ≡ 2)
+RanPlan (Ok (Match plan)) r r' w w' status = IsUntouched r r' w w' × (status ≡ 2)
+RanPlan (Err fault) r r' w w' status = (r' ≡ r) × ToldWords fault w w' status
+
+-- the words were read, and what they ask for was done
+abbrev pub RanProgram : List Text → InputState → InputState → OutputState → OutputState → ℕ → Type 0
+RanProgram words r r' w w' status = (read : Result Plan WordsFault) × IsReading words read × RanPlan read r r' w w' status

@@ -8,8 +8,8 @@ use Rattle.chess_pgn.specs.declared.read.PgnFaultKind.TheVariants.{BadTag, BadFe
 use Rattle.chess_pgn.specs.declared.termination.Termination.{Termination}
 use Rattle.chess_pgn.specs.Terminations.{termination_text}
 use Rattle.chess_pgn.specs.GameRead.{GameRead, pgn_read}
-use Rattle.chess_arbiter.specs.declared.program.ProgramFault.{ProgramFault}
-use Rattle.chess_arbiter.specs.declared.program.ProgramFault.TheVariants.{ReadFailed, WriteFailed, NoMemory, InputTooLong, WrongWords}
+use Rattle.chess_arbiter.specs.declared.fault.ProgramFault.{ProgramFault}
+use Rattle.chess_arbiter.specs.declared.fault.ProgramFault.TheVariants.{ReadFailed, WriteFailed, NoMemory, InputTooLong, WrongWords}
 use Rattle.chess_arbiter.specs.declared.verify.Report.{Report}
 use Rattle.chess_arbiter.specs.declared.verify.Report.TheVariants.{Game, Faulty}
 use Rattle.chess_arbiter.specs.declared.verify.Verified.{Verified}

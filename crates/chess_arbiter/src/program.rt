@@ -1,94 +1,25 @@
 //! The program on an input, an output and an error output.
 
-ghost use Rattle.std.specs.Prelude.{◌≡◌, IfOk};
+ghost use Rattle.std.specs.Prelude.{◌≡◌, IfOk, map};
+ghost use Rattle.byte_devices.specs.Devices.{Sends};
 ghost use Rattle.chess_cecp.specs.Held.{opened};
 ghost use Rattle.chess_pgn.specs.Tags.{default_tags};
-ghost use Rattle.chess_arbiter.specs.Program.{asks_for_session, asks_to_verify, fault_status, Served, RanProgram};
+ghost use Rattle.chess_arbiter.specs.Program.{Served, Shown, RanHelp, RanProgram, RanSession, RanVerify, ToldWords};
 
+use crate::fault::{ProgramFault, tell_text, told};
 use crate::verify::{Verified, verify};
-use arrayvec::ArrayString;
-use byte_devices::{Input, Output, put};
+use arbiter_words::{Plan, WordsFault, read_words};
+use byte_devices::{Input, Output, WriteFault, put};
 use chess_bits::Bits;
 use chess_cecp::{End, Fault, Session, run_session};
 use chess_pgn::Tags;
 use std::alloc::{AllocError, Global};
-use std::fmt::Write;
+use std::fmt::Display;
 use std::process::Processes;
 use std::rt::Clock;
-use thiserror::Error;
 
 /// The number of half-moves that can stand in the program's session.
 const SESSION_LIMIT: u32 = 20_000;
-
-/// Why the program ended otherwise than by `quit` or the input's end.
-#[derive(Clone, Copy, Debug, PartialEq, Eq, Error)]
-pub enum ProgramFault {
-    /// A read of the standard input failed.
-    #[error("read failed")]
-    ReadFailed,
-    /// A write or a flush of the standard output failed.
-    #[error("write failed")]
-    WriteFailed,
-    /// There was no memory to open a session.
-    #[error("no memory")]
-    NoMemory,
-    /// The text of games is longer than 16,777,216 bytes.
-    #[error("input too long")]
-    InputTooLong,
-    /// The program's words are not those of any of its forms.
-    #[error("wrong words")]
-    WrongWords,
-}
-
-impl ProgramFault {
-    /// The program's exit status: 1 where a device or memory failed, 2 for wrong words.
-    pub fn status(self) -> u8
-        ensures { result ≡ Rattle.chess_arbiter.specs.Program.fault_status self }
-    {
-        match self {
-            ProgramFault::ReadFailed
-            | ProgramFault::WriteFailed
-            | ProgramFault::NoMemory
-            | ProgramFault::InputTooLong => 1,
-            ProgramFault::WrongWords => 2,
-        }
-    }
-}
-
-/// Writes a fault as the line `arbiter: FAULT`. A failed error output is passed over.
-pub fn tell<E: Output>(errors: &mut E, fault: ProgramFault) {
-    let mut line: ArrayString<80> = ArrayString::new();
-    if writeln!(line, "arbiter: {fault}").is_ok() && put(errors, line.as_str().as_bytes()).is_ok() {
-        let _ = errors.flush();
-    }
-}
-
-fn asks_for_session(words: &[&str]) -> bool
-    ensures { result ≡ asks_for_session words.now }
-{
-    match words {
-        [] => true,
-        [word] => *word == "session",
-        _ => false,
-    }
-}
-
-fn asks_to_verify(words: &[&str]) -> bool
-    ensures { result ≡ asks_to_verify words.now }
-{
-    match words {
-        [word] => *word == "verify",
-        _ => false,
-    }
-}
-
-// Tells a fault, and gives its status.
-fn told<E: Output>(errors: &mut E, fault: ProgramFault) -> u8
-    ensures { result ≡ fault_status fault }
-{
-    tell(errors, fault);
-    fault.status()
-}
 
 // A session as `new` leaves it, with its boards.
 fn open_session(alloc: Global) -> Result<Session<Bits>, AllocError>
@@ -117,32 +48,119 @@ fn serve<R: Input, W: Output>(
     }
 }
 
-/// Runs the program on its words and gives its exit status: 0 where the session ended by `quit` or the input's end, or each
-/// game was verified; 1 where a device or memory failed, or a game has a fault; 2 for wrong words. No words, or `session`:
-/// a session of at most 20,000 half-moves. `verify`: the games of a text, told one by one. A fault, but for that of a game,
-/// is told on the error output as `arbiter: FAULT`.
-pub fn run_program<P: Processes + Clock, R: Input, W: Output, E: Output>(
-    _rt: &P,
+// A session, told, with its status.
+fn session<R: Input, W: Output, E: Output>(
     alloc: Global,
-    words: &[&str],
     input: &mut R,
     output: &mut W,
     errors: &mut E,
 ) -> u8
-    ensures { RanProgram words.now (R.seen input.old) (R.seen input.new) (W.seen output.old) (W.seen output.new) result }
+    ensures { RanSession (R.seen input.old) (R.seen input.new) (W.seen output.old) (W.seen output.new) result }
 {
-    if asks_for_session(words) {
-        match serve(alloc, input, output) {
-            Ok(_) => 0,
-            Err(fault) => told(errors, fault),
+    match serve(alloc, input, output) {
+        Ok(_) => 0,
+        Err(fault) => told(errors, &fault, fault.status()),
+    }
+}
+
+// The games of the input verified, with the status.
+fn verified<R: Input, W: Output, E: Output>(
+    alloc: Global,
+    input: &mut R,
+    output: &mut W,
+    errors: &mut E,
+) -> u8
+    ensures { RanVerify (R.seen input.old) (R.seen input.new) (W.seen output.old) (W.seen output.new) result }
+{
+    match verify(alloc, input, output) {
+        Ok(Verified::EachGame) => 0,
+        Ok(Verified::FaultTold) => 1,
+        Err(fault) => told(errors, &fault, fault.status()),
+    }
+}
+
+// Writes a text and hands it on.
+fn send<W: Output>(output: &mut W, text: &[u8]) -> Result<(), WriteFault>
+    ensures { Sends (W.seen output.old) (W.seen output.new) result text.now }
+{
+    put(output, text)?;
+    output.flush()
+}
+
+// Writes a text of help, as it is displayed.
+fn show<W: Output, D: Display>(alloc: Global, help: &D, output: &mut W) -> Result<(), ProgramFault>
+    ensures { Shown (W.seen output.old) (W.seen output.new) result }
+{
+    let text = match format!(in alloc; "{help}") {
+        Ok(text) => text,
+        Err(_) => return Err(ProgramFault::NoMemory),
+    };
+    match send(output, text.as_bytes()) {
+        Ok(()) => Ok(()),
+        Err(_) => Err(ProgramFault::WriteFailed),
+    }
+}
+
+// A text of help, with the status.
+fn help<W: Output, E: Output, D: Display>(
+    alloc: Global,
+    help: &D,
+    output: &mut W,
+    errors: &mut E,
+) -> u8
+    ensures { RanHelp (W.seen output.old) (W.seen output.new) result }
+{
+    match show(alloc, help, output) {
+        Ok(()) => 0,
+        Err(fault) => told(errors, &fault, fault.status()),
+    }
+}
+
+// Tells why the words ask for nothing: help and the version on the output, all else on the error output.
+fn told_words<W: Output, E: Output>(
+    alloc: Global,
+    fault: &WordsFault,
+    output: &mut W,
+    errors: &mut E,
+) -> u8
+    ensures { ToldWords fault.now (W.seen output.old) (W.seen output.new) result }
+{
+    match fault {
+        WordsFault::Words(error) => {
+            if error.use_stderr() {
+                tell_text(errors, error);
+                return 2;
+            }
+            help(alloc, error, output, errors)
         }
-    } else if asks_to_verify(words) {
-        match verify(alloc, input, output) {
-            Ok(Verified::EachGame) => 0,
-            Ok(Verified::FaultTold) => 1,
-            Err(fault) => told(errors, fault),
+        WordsFault::NoMemory => told(errors, fault, 1),
+        WordsFault::BadLevel | WordsFault::BadFen(_) | WordsFault::BadDate => {
+            told(errors, fault, 2)
         }
-    } else {
-        told(errors, ProgramFault::WrongWords)
+    }
+}
+
+/// Runs the program on its words and gives its exit status: 0 where the session ended by `quit` or the input's end, each
+/// game was verified, or help was shown; 1 where a device or memory failed, or a game has a fault; 2 for wrong words. No
+/// words, or `session`: a session of at most 20,000 half-moves. `verify`: the games of a text, told one by one. A fault, but
+/// for that of a game, is told on the error output as `arbiter: FAULT`, and wrong words by the text of `clap`.
+pub fn run_program<'a, P: Processes + Clock, R: Input, W: Output, E: Output>(
+    _rt: &P,
+    alloc: Global,
+    words: &'a [&'a str],
+    input: &mut R,
+    output: &mut W,
+    errors: &mut E,
+) -> u8
+    ensures { RanProgram (map (λ w. w.now) words.entry.now) (R.seen input.old) (R.seen input.new) (W.seen output.old) (W.seen output.new) result }
+{
+    let plan = match read_words(alloc, words) {
+        Ok(plan) => plan,
+        Err(fault) => return told_words(alloc, &fault, output, errors),
+    };
+    match plan {
+        Plan::Session => session(alloc, input, output, errors),
+        Plan::Verify => verified(alloc, input, output, errors),
+        Plan::Stub(_) | Plan::Match(_) => told(errors, &ProgramFault::WrongWords, 2),
     }
 }

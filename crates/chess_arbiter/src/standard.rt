@@ -1,6 +1,7 @@
 //! The program on the standard streams.
 
-use crate::program::{ProgramFault, run_program, tell};
+use crate::fault::{ProgramFault, tell};
+use crate::program::run_program;
 use byte_devices::Counted;
 use std::alloc::AllocError;
 use std::process::ExitCode;
@@ -48,7 +49,7 @@ pub fn run(rt: &HostRuntime) -> ExitCode {
         Ok(status) => ExitCode::from(status),
         Err(error) => {
             let fault = words_fault(&error);
-            tell(&mut Counted::writing(rt.stderr()), fault);
+            tell(&mut Counted::writing(rt.stderr()), &fault);
             ExitCode::from(fault.status())
         }
     }

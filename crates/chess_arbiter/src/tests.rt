@@ -1,4 +1,5 @@
-use crate::program::{ProgramFault, run_program, tell};
+use crate::fault::{ProgramFault, tell};
+use crate::program::run_program;
 use crate::standard::{status_of, words_fault};
 use byte_devices::{Counted, GatedWriter, PieceReader, PieceWriter};
 use std::cell::Cell;
@@ -45,31 +46,31 @@ const CASES: [Case; 15] = [
         input: b"ping 7\n",
         fails: (0, 0),
         output: b"",
-        errors: b"arbiter: wrong words\n",
+        errors: b"error: unexpected argument 'session' found\n\nUsage: arbiter session\n\nFor more information, try '--help'.\n",
         status: 2,
     },
     Case {
-        words: &["sessions"],
+        words: &["help"],
         input: b"ping 7\n",
         fails: (0, 0),
         output: b"",
-        errors: b"arbiter: wrong words\n",
+        errors: b"error: unrecognized subcommand 'help'\n\nUsage: arbiter [COMMAND]\n\nFor more information, try '--help'.\n",
         status: 2,
     },
     Case {
-        words: &["--help"],
+        words: &["--version"],
         input: b"ping 7\n",
         fails: (0, 0),
-        output: b"",
-        errors: b"arbiter: wrong words\n",
-        status: 2,
+        output: b"arbiter 0.1.0\n",
+        errors: b"",
+        status: 0,
     },
     Case {
         words: &[""],
         input: b"ping 7\n",
         fails: (0, 0),
         output: b"",
-        errors: b"arbiter: wrong words\n",
+        errors: b"error: unrecognized subcommand ''\n\nUsage: arbiter [COMMAND]\n\nFor more information, try '--help'.\n",
         status: 2,
     },
     Case {
@@ -126,7 +127,7 @@ const CASES: [Case; 15] = [
         input: b"*",
         fails: (0, 0),
         output: b"",
-        errors: b"arbiter: wrong words\n",
+        errors: b"error: unexpected argument 'x' found\n\nUsage: arbiter verify\n\nFor more information, try '--help'.\n",
         status: 2,
     },
     // The flush of the first answer.
@@ -309,14 +310,77 @@ fn a_failed_error_output_changes_no_status(rt: HostRuntime) {
         &mut output,
         &mut errors,
     );
-    assert_eq!(rt; errors.writer().bytes.as_slice(), b"arb".as_slice());
+    assert_eq!(rt; errors.writer().bytes.as_slice(), b"err".as_slice());
     assert_eq!(rt; status, 2);
+}
+
+// Words that ask for help, and what their help must name.
+const HELP: [(&[&str], &[&str]); 3] = [
+    (&["--help"], &["session", "verify", "--help", "--version"]),
+    (
+        &["session", "-h"],
+        &[
+            "new",
+            "setboard",
+            "undo",
+            "remove",
+            "claim",
+            "result",
+            "showfen",
+            "showmoves",
+            "showstate",
+            "showpgn",
+            "ping",
+            "protover",
+            "variant",
+            "quit",
+        ],
+    ),
+    (&["verify", "--help"], &["games.pgn", "at byte"]),
+];
+
+#[test]
+fn help_names_the_words(rt: HostRuntime) -> Result<(), Fail> {
+    for (words, named) in &HELP {
+        let mut input = Counted::reading(b"ping 1\n".as_slice());
+        let mut output = Counted::writing(Vec::<u8>::new(rt.alloc()));
+        let mut errors = Counted::writing(Vec::<u8>::new(rt.alloc()));
+        let status = run_program(&rt, rt.alloc(), words, &mut input, &mut output, &mut errors);
+        let help = std::str::from_utf8(output.writer().as_slice())?;
+        for name in *named {
+            assert!(rt; help.contains(*name));
+        }
+        assert_eq!(rt; errors.writer().as_slice(), b"".as_slice());
+        assert_eq!(rt; status, 0);
+    }
+    Ok(())
+}
+
+#[test]
+fn help_on_a_failed_output(rt: HostRuntime) {
+    let mut input = Counted::reading(b"".as_slice());
+    let mut output = Counted::writing(PieceWriter::new(rt.alloc(), 3, 2));
+    let mut errors = Counted::writing(Vec::<u8>::new(rt.alloc()));
+    let status = run_program(
+        &rt,
+        rt.alloc(),
+        &["--version"],
+        &mut input,
+        &mut output,
+        &mut errors,
+    );
+    assert_eq!(rt; output.writer().bytes.as_slice(), b"arb".as_slice());
+    assert_eq!(rt;
+        errors.writer().as_slice(),
+        b"arbiter: write failed\n".as_slice()
+    );
+    assert_eq!(rt; status, 1);
 }
 
 #[test]
 fn faults_are_told_on_a_line(rt: HostRuntime) {
     let mut errors = Counted::writing(Vec::<u8>::new(rt.alloc()));
-    tell(&mut errors, ProgramFault::NoMemory);
+    tell(&mut errors, &ProgramFault::NoMemory);
     assert_eq!(rt;
         errors.writer().as_slice(),
         b"arbiter: no memory\n".as_slice()

@@ -5,7 +5,7 @@ ghost use Rattle.arrayvec.specs.ArrayVec.{array_vec_len};
 ghost use Rattle.byte_devices.specs.Devices.{Puts};
 ghost use Rattle.chess_arbiter.specs.Verify.{IsAll, IsNotHad, fault_name, told_termination, report_text, report_line, Told, HandedOn, Verifies};
 
-use crate::program::ProgramFault;
+use crate::fault::ProgramFault;
 use arrayvec::ArrayVec;
 use byte_devices::{Input, Output, WriteFault, put};
 use chess_bits::Bits;

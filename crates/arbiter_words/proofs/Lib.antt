@@ -1,0 +1,4 @@
+mod Literals
+mod Names
+mod Readings
+pub mod Required

@@ -1,0 +1,33 @@
+use Rattle.std.proofs.Common.{rules, ◌≡◌, ◌∙◌, ap, ap₂, codes, Bool, false, ◌||◌}
+use Rattle.std.proofs.lemmas.Result.{IfOk-weaker}
+use Rattle.clap.specs.Words.{app_of, rule_of, with_rule}
+use Rattle.clap.specs.declared.builder.command.Command.TheViews.{out-Command as fields_of}
+use Rattle.arbiter_words.specs.Grammar.{option_rule, needed}
+use Rattle.arbiter_words.proofs.grammar.match_command.Goals as goal
+
+pub returns-clause-app : goal.returns-clause-app
+returns-clause-app c =
+    let level : rule_of c.option.result ≡ option_rule (codes "level") = search rules in
+    let fen : rule_of c.option-2.result ≡ option_rule (codes "fen") = search rules in
+    let date : rule_of c.option-3.result ≡ option_rule (codes "date") = search rules in
+    let white : rule_of c.needed_option.result ≡ needed (option_rule (codes "white")) = search rules in
+    let black : rule_of c.needed_option-2.result ≡ needed (option_rule (codes "black")) = search rules in
+    let variant = c.variant_option.ensures.rule in
+    let e1 = c.in_ok-arg.ensures.shape c.needed_option.ensures.local ∙ ap₂ with_rule c.command.ensures.app white in
+    let e2 = c.in_ok-arg-2.ensures.shape c.needed_option-2.ensures.local ∙ ap₂ with_rule e1 black in
+    let e3 = c.in_ok-arg-3.ensures.shape c.option.ensures.local ∙ ap₂ with_rule e2 level in
+    let e4 = c.in_ok-arg-4.ensures.shape c.option-2.ensures.local ∙ ap₂ with_rule e3 fen in
+    let e5 = c.in_ok-arg-5.ensures.shape c.games_option.ensures.local ∙ ap₂ with_rule e4 c.games_option.ensures.rule in
+    let e6 = c.in_ok-arg-6.ensures.shape c.option-3.ensures.local ∙ ap₂ with_rule e5 date in
+    IfOk-weaker c.arg-7.result _ _ (λ r h. (variant.0, variant.1, h.shape c.variant_option.ensures.local ∙ ap₂ with_rule e6 variant.2)) c.arg-7.ensures
+
+pub returns-clause-local : goal.returns-clause-local
+returns-clause-local c =
+    let or : Bool → Bool → Bool = λ a b. a || b in
+    let e1 = c.in_ok-arg.ensures.globals ∙ ap₂ or c.command.ensures.local c.needed_option.ensures.local in
+    let e2 = c.in_ok-arg-2.ensures.globals ∙ ap₂ or e1 c.needed_option-2.ensures.local in
+    let e3 = c.in_ok-arg-3.ensures.globals ∙ ap₂ or e2 c.option.ensures.local in
+    let e4 = c.in_ok-arg-4.ensures.globals ∙ ap₂ or e3 c.option-2.ensures.local in
+    let e5 = c.in_ok-arg-5.ensures.globals ∙ ap₂ or e4 c.games_option.ensures.local in
+    let e6 = c.in_ok-arg-6.ensures.globals ∙ ap₂ or e5 c.option-3.ensures.local in
+    IfOk-weaker c.arg-7.result _ _ (λ r h. h.globals ∙ ap₂ or e6 c.variant_option.ensures.local) c.arg-7.ensures

@@ -1,0 +1,47 @@
+use Rattle.std.proofs.Common.{rules, IsErr, ◌≡◌, ◌∙◌, ap, map, [], ◌∷◌, codes, IfOk, IfErr, List, Result, Ok, Err, Bor, refl, true, sym}
+use Rattle.clap.specs.Words.{App, FailsBy, HasMatchesOf, Kinds, Text, app_of, fault_of, is_simple, is_simple_and_free, kind_of, subcommand_of, takes}
+use Rattle.clap.specs.declared.error.Error.{Error}
+use Rattle.clap.specs.declared.error.kind.ErrorKind.TheVariants.{OutOfMemory}
+use Rattle.clap.specs.declared.parser.matches.ArgMatches.{ArgMatches}
+use Rattle.arbiter_words.specs.Grammar.{Lent, arbiter_app}
+use Rattle.arbiter_words.specs.Plans.{IsParsed, IsParsedBy}
+use Rattle.arbiter_words.proofs.reading.parsed.Goals as goal
+
+simple : (names : Lent) → is_simple (arbiter_app names) ≡ true
+simple names = refl
+
+free : (names : Lent) → is_simple_and_free (arbiter_app names) ≡ true
+free names = refl
+
+abbrev lent : Text → Bor Text
+lent t = record { ref_ptr = (0, 0); now = t }
+
+-- names, for where there was no memory for a grammar
+abbrev some_names : Lent
+some_names = record { ref_ptr = (0, 0); now = lent (codes "normal") ∷ lent (codes "fischerandom") ∷ [] }
+
+parsed_by : (names : Lent) (a : App) (words : List Text) → a ≡ arbiter_app names → (r : Result ArgMatches Error)
+    → IfOk r (HasMatchesOf a words) → IfErr r (λ e. takes a words ≡ true → kind_of e ≡ OutOfMemory)
+    → (is_simple_and_free a ≡ true → FailsBy (fault_of a words) r) → IsParsedBy names words r
+parsed_by names a words e (Ok m) h p k = (
+  (h (ap is_simple e ∙ simple names)).1 ∙ ap (λ (b : App). subcommand_of b words) e,
+  sym (ap (λ (b : App). fault_of b words) e) ∙ k (ap is_simple_and_free e ∙ free names),
+)
+parsed_by names a words e (Err x) h p k = λ t. p (ap (λ (b : App). takes b words) e ∙ t)
+
+-- there was no memory for a grammar
+without_grammar : (words : List Text) (r : Result ArgMatches Error) → IsErr r → IfErr r (λ e. kind_of e ≡ OutOfMemory) → IsParsed words r
+without_grammar words (Ok m) is none = cc
+without_grammar words (Err e) is none = (some_names, refl, λ t. none)
+
+pub returns-in_err-arbiter_command : goal.returns-in_err-arbiter_command
+returns-in_err-arbiter_command c =
+    let is : IsErr c.from_residual.result = search rules in
+    let none : IfErr c.from_residual.result (λ e. kind_of e ≡ OutOfMemory) = search rules in
+    without_grammar (map (λ w. w.now) c.args.words.now) c.from_residual.result is none
+
+pub returns : goal.returns
+returns c =
+    let given = c.in_ok-arbiter_command.ensures in
+    let m = c.try_get_matches_from.ensures in
+    (given.0, given.1, parsed_by given.0 _ (map (λ w. w.now) c.args.words.now) given.2 c.try_get_matches_from.result m.matches m.passes m.kinds)

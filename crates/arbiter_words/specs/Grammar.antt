@@ -1,0 +1,68 @@
+-- The grammar of the command line, as `clap` sees it.
+use Rattle.std.specs.Prelude.{◌≡◌, Bool, List, codes, [], ◌∷◌, Some, map, true, unwrap_or}
+use Rattle.std.specs.Borrow.{Bor}
+use Rattle.clap.specs.Words.{App, Row, Rule, Text, new_app, new_rule, subcommand_of, takes, with_rule, with_subcommand}
+use Rattle.clap.specs.declared.builder.value_parser.ValueParser.TheVariants.{Names, Unsigned}
+use Rattle.clap.specs.declared.builder.action.ArgAction.TheVariants.{Append}
+
+-- `--NAME TEXT`
+abbrev pub option_rule : Text → Rule
+option_rule name = record (new_rule name) { long = Some name; value_names = 1 }
+
+abbrev pub needed : Rule → Rule
+needed r = record r { required = true }
+
+-- `--games N`, from 1 to 1,000
+abbrev pub games_rule : Rule
+games_rule = record (option_rule (codes "games")) { parser = Some (Unsigned 1 1000) }
+
+-- the names that `--variant` takes, wherever they stand in memory: a grammar holds references to them
+abbrev pub Lent : Type 0
+Lent = Bor (List (Bor Text))
+
+abbrev pub AreVariants : Lent → Type 0
+AreVariants names = map (λ n. n.now) names.now ≡ codes "normal" ∷ codes "fischerandom" ∷ []
+
+-- `--variant NAME`
+abbrev pub variant_rule : Lent → Rule
+variant_rule names = record (option_rule (codes "variant")) { parser = Some (Names names) }
+
+abbrev pub match_app : Lent → App
+match_app names = with_rule (with_rule (with_rule (with_rule (with_rule (with_rule (with_rule
+    (new_app (codes "match"))
+    (needed (option_rule (codes "white"))))
+    (needed (option_rule (codes "black"))))
+    (option_rule (codes "level")))
+    (option_rule (codes "fen")))
+    games_rule)
+    (option_rule (codes "date")))
+    (variant_rule names)
+
+abbrev pub stub_app : App
+stub_app = with_rule (new_app (codes "stub")) (record (new_rule (codes "words")) {
+  action = Some Append;
+})
+
+abbrev pub bare_app : App
+bare_app = let a = new_app (codes "arbiter") in
+    record a { top = record a.top { has_version = true; no_binary_name = true; disable_help_subcommand = true } }
+
+abbrev pub arbiter_app : Lent → App
+arbiter_app names = with_subcommand (with_subcommand (with_subcommand (with_subcommand bare_app
+    (new_app (codes "session")).top) (new_app (codes "verify")).top) stub_app.top) (match_app names).top
+
+-- a grammar is that of a match, or the whole one, with some such names
+abbrev pub GivesMatchApp : App → Type 0
+GivesMatchApp app = (names : Lent) × AreVariants names × (app ≡ match_app names)
+
+abbrev pub GivesArbiterApp : App → Type 0
+GivesArbiterApp app = (names : Lent) × AreVariants names × (app ≡ arbiter_app names)
+
+-- the words, by `clap`'s meaning of the grammar: the subcommand with its matches, `session` with none where no
+-- subcommand is named
+abbrev pub asked : Lent → List Text → Text × List Row
+asked names words = unwrap_or (subcommand_of (arbiter_app names) words) (codes "session", [])
+
+-- `clap` promises to take the words
+abbrev pub takes_words : Lent → List Text → Bool
+takes_words names words = takes (arbiter_app names) words

@@ -1,0 +1,167 @@
+-- What a plan has to do with the words.
+use Rattle.std.specs.Prelude.{◌≡◌, ◌≢◌, ◌⊎◌, ◌≤◌, ◌&&◌, ℕ, Bool, List, [], codes, length, map, nat_le, option_map, if◌then◌else◌, Option, Some, None, Result, Ok, Err, is_some, true, false, unwrap_or, ⊤}
+use Rattle.std.specs.List.{list_all}
+use Rattle.std.specs.Option.{option_map_or}
+use Rattle.std.specs.Str.{bytes_eq}
+use Rattle.std.specs.Str.Parse.{digits_value, without_leading_plus}
+use Rattle.clap.specs.Words.{Row, Text, all_of, fault_of, first_of, kind_of, subcommand_of, subcommand_rows_of}
+use Rattle.clap.specs.ValueTests.{is_unsigned_in}
+use Rattle.clap.specs.declared.error.Error.{Error}
+use Rattle.clap.specs.declared.error.kind.ErrorKind.{ErrorKind}
+use Rattle.clap.specs.declared.error.kind.ErrorKind.TheVariants.{OutOfMemory}
+use Rattle.clap.specs.declared.parser.matches.ArgMatches.{ArgMatches}
+use Rattle.arbiter_words.specs.Grammar.{AreVariants, Lent, arbiter_app, asked, takes_words}
+use Rattle.arbiter_words.specs.declared.plan.Plan.{Plan}
+use Rattle.arbiter_words.specs.declared.plan.Plan.TheVariants.{Session, Verify, Stub, Match}
+use Rattle.arbiter_words.specs.declared.plan.MatchPlan.{MatchPlan}
+use Rattle.arbiter_words.specs.declared.fault.WordsFault.{WordsFault}
+use Rattle.arbiter_words.specs.declared.fault.WordsFault.TheVariants.{Words, NoMemory, BadLevel, BadFen, BadDate}
+use Rattle.arbiter_words.specs.declared.spelled.MatchWords.{MatchWords}
+use Rattle.arbiter_words.specs.declared.spelled.Spelled.{Spelled}
+use Rattle.arbiter_words.specs.declared.spelled.Spelled.TheVariants as spelled
+use Rattle.chess_base.specs.Initial.{initial_setup_of}
+use Rattle.chess_base.specs.Reading.{fen_reading_as}
+use Rattle.chess_base.specs.declared.fault.FenFault.{FenFault}
+use Rattle.chess_base.specs.declared.man.Variant.{Variant}
+use Rattle.chess_base.specs.declared.man.Variant.TheVariants.{Normal, Fischerandom}
+use Rattle.chess_base.specs.declared.setup.Setup.{Setup}
+use Rattle.chess_match.specs.Levels.{LevelSeen, level_of}
+
+-- ---- what is spelled
+
+-- what an option has, or else its default
+abbrev pub text_or : Text → List Row → Text → Text
+text_or name rows default = unwrap_or (first_of name rows) default
+
+-- the number of games, 1 where none is given
+abbrev pub games_in : List Row → ℕ
+games_in rows = option_map_or (λ t. digits_value 10 (without_leading_plus t)) (first_of (codes "games") rows) 1
+
+abbrev pub variant_named : Text → Variant
+variant_named name = if bytes_eq name (codes "fischerandom") then Fischerandom else Normal
+
+-- the variant, normal chess where none is given
+abbrev pub variant_in : List Row → Variant
+variant_in rows = variant_named (text_or (codes "variant") rows (codes "normal"))
+
+pub record IsMatchOf (rows : List Row) (m : MatchWords) : Type 0 where
+  pub white : first_of (codes "white") rows ≡ Some m.white.now
+  pub black : first_of (codes "black") rows ≡ Some m.black.now
+  pub level : m.level.now ≡ text_or (codes "level") rows (codes "40 5 0")
+  pub fen : option_map (λ t. t.now) m.fen ≡ first_of (codes "fen") rows
+  pub games : m.games ≡ games_in rows
+  pub games_range : (1 ≤ m.games) × (m.games ≤ 1000)
+  pub date : m.date.now ≡ text_or (codes "date") rows (codes "????.??.??")
+  pub variant : m.variant ≡ variant_in rows
+
+-- what the words ask for, as it is spelled
+abbrev pub IsSpelledOf : Text × List Row → Spelled → Type 0
+IsSpelledOf p spelled.Session = p.0 ≡ codes "session"
+IsSpelledOf p spelled.Verify = p.0 ≡ codes "verify"
+IsSpelledOf p (spelled.Stub words) = (p.0 ≡ codes "stub") × (map (λ w. w.now) words.items ≡ unwrap_or (all_of (codes "words") p.1) [])
+IsSpelledOf p (spelled.Match m) = (p.0 ≡ codes "match") × IsMatchOf p.1 m
+
+-- ---- what it means
+
+-- the position that a match starts in: what the FEN spells, or else the variant's initial one
+abbrev pub start_of : Variant → Option Text → Result Setup FenFault
+start_of v None = Ok (initial_setup_of v)
+start_of v (Some text) = fen_reading_as v text
+
+-- at most 60 bytes from 32 to 126
+abbrev pub is_date : Text → Bool
+is_date text = nat_le (length text) 60 && list_all (λ b. nat_le 32 b && nat_le b 126) text
+
+-- a match is played by what the words spell
+pub record IsMatchPlan (m : MatchWords) (plan : MatchPlan) : Type 0 where
+  pub white : plan.white ≡ m.white
+  pub black : plan.black ≡ m.black
+  pub level : level_of m.level.now ≡ Some plan.level
+  pub start : start_of m.variant (option_map (λ t. t.now) m.fen) ≡ Ok plan.start
+  pub games : plan.games ≡ m.games
+  pub date : plan.date ≡ m.date
+  pub good_date : is_date m.date.now ≡ true
+
+-- the fault is that of the first of level, FEN and date that isn't in its form
+abbrev pub IsMatchFault : MatchWords → WordsFault → Type 0
+IsMatchFault m (Words e) = ⊥
+IsMatchFault m NoMemory = ⊥
+IsMatchFault m BadLevel = level_of m.level.now ≡ None
+IsMatchFault m (BadFen f) = (l : LevelSeen) × (level_of m.level.now ≡ Some l) × (start_of m.variant (option_map (λ t. t.now) m.fen) ≡ Err f)
+IsMatchFault m BadDate = (l : LevelSeen) × (p : Setup) × (level_of m.level.now ≡ Some l) × (start_of m.variant (option_map (λ t. t.now) m.fen) ≡ Ok p) × (is_date m.date.now ≡ false)
+
+abbrev pub IsPlanned : Spelled → Plan → Type 0
+IsPlanned spelled.Session plan = plan ≡ Session
+IsPlanned spelled.Verify plan = plan ≡ Verify
+IsPlanned (spelled.Stub words) plan = plan ≡ Stub words
+IsPlanned (spelled.Match m) plan = (p : MatchPlan) × (plan ≡ Match p) × IsMatchPlan m p
+
+abbrev pub IsPlanFault : Spelled → WordsFault → Type 0
+IsPlanFault (spelled.Match m) f = IsMatchFault m f
+IsPlanFault _ f = ⊥
+
+-- the plan is what the words ask for
+abbrev pub IsPlanOf : Text × List Row → Plan → Type 0
+IsPlanOf p plan = (s : Spelled) × IsSpelledOf p s × IsPlanned s plan
+
+-- a level, FEN or date out of its form is told only where a match was asked for by it
+abbrev pub IsFaultOf : Text × List Row → WordsFault → Type 0
+IsFaultOf p (Words e) = ⊤
+IsFaultOf p NoMemory = ⊤
+IsFaultOf p f = (m : MatchWords) × (p.0 ≡ codes "match") × IsMatchOf p.1 m × IsMatchFault m f
+
+abbrev pub IsNoWordsFault : WordsFault → Type 0
+IsNoWordsFault (Words e) = ⊥
+IsNoWordsFault _ = ⊤
+
+-- a plan is what the words ask for. Words that `clap` promises to take are never refused as words; and a level, FEN or date
+-- out of its form is told as IsFaultOf says
+abbrev pub IsReadBy : Lent → List Text → Result Plan WordsFault → Type 0
+IsReadBy names words (Ok plan) = IsPlanOf (asked names words) plan
+IsReadBy names words (Err f) = (takes_words names words ≡ true → IsNoWordsFault f) × IsFaultOf (asked names words) f
+
+-- the words are read by the grammar
+abbrev pub IsReading : List Text → Result Plan WordsFault → Type 0
+IsReading words result = (names : Lent) × AreVariants names × IsReadBy names words result
+
+-- the command that a plan is asked for by
+abbrev pub command_name : Plan → Text
+command_name Session = codes "session"
+command_name Verify = codes "verify"
+command_name (Stub words) = codes "stub"
+command_name (Match plan) = codes "match"
+
+abbrev pub PlansAreNamed : Type 0
+PlansAreNamed = (p : Text × List Row) (plan : Plan) → IsPlanOf p plan → p.0 ≡ command_name plan
+
+-- the words are taken, and ask for the command of that name with no arguments
+pub record AskFor (words : List Text) (name : Text) : Type 0 where
+  pub taken : (names : Lent) → takes_words names words ≡ true
+  pub asked : (names : Lent) → asked names words ≡ (name, [])
+
+-- ---- on the way there
+
+-- what `clap` gives for the words, by the grammar
+abbrev pub IsParsedBy : Lent → List Text → Result ArgMatches Error → Type 0
+IsParsedBy names words (Ok m) = (subcommand_rows_of m ≡ subcommand_of (arbiter_app names) words) × (fault_of (arbiter_app names) words ≡ [])
+IsParsedBy names words (Err e) = takes_words names words ≡ true → kind_of e ≡ OutOfMemory
+
+abbrev pub IsParsed : List Text → Result ArgMatches Error → Type 0
+IsParsed words result = (names : Lent) × AreVariants names × IsParsedBy names words result
+
+-- the name is a subcommand's
+abbrev pub IsCommand : Text → Type 0
+IsCommand name = (name ≡ codes "session") ⊎ (name ≡ codes "verify") ⊎ (name ≡ codes "stub") ⊎ (name ≡ codes "match")
+
+-- both programs are given where a match is asked for
+abbrev pub NamesBoth : Text × List Row → Type 0
+NamesBoth p = p.0 ≡ codes "match" → (is_some (first_of (codes "white") p.1) ≡ true) × (is_some (first_of (codes "black") p.1) ≡ true)
+
+-- where a number of games is given, it is from 1 to 1,000
+abbrev pub HasGames : List Row → Type 0
+HasGames rows = (t : Text) → first_of (codes "games") rows ≡ Some t → is_unsigned_in 1 1000 t ≡ true
+
+abbrev pub FitsKind : ErrorKind → WordsFault → Type 0
+FitsKind k (Words e) = k ≢ OutOfMemory
+FitsKind k NoMemory = k ≡ OutOfMemory
+FitsKind k _ = ⊥

@@ -1,0 +1,17 @@
+//! The words of the command line: what they ask for.
+#![tactic(auto)]
+
+mod fault;
+mod grammar;
+mod laws;
+mod plan;
+mod reading;
+mod spelled;
+
+pub use fault::WordsFault;
+pub use laws::{plain_words_are_taken, plans_are_named};
+pub use plan::{MatchPlan, Plan};
+pub use reading::read_words;
+
+#[cfg(test)]
+mod tests;

@@ -1,0 +1,105 @@
+//! What words ask for.
+
+ghost use Rattle.std.specs.Prelude.{◌≡◌, ◌&&◌, IfErr, IfOk, nat_le, option_map};
+ghost use Rattle.std.specs.List.{list_all};
+ghost use Rattle.arbiter_words.specs.Plans.{IsMatchFault, IsMatchPlan, IsPlanFault, IsPlanned, is_date as date_test, start_of};
+
+use crate::fault::WordsFault;
+use crate::spelled::{MatchWords, Spelled};
+use chess_base::{FenFault, Position, Variant, read_fen_as};
+use chess_match::Level;
+
+/// What a match is played by.
+#[derive(Clone, Copy)]
+pub struct MatchPlan<'a> {
+    /// The command of the first engine, which has White in odd games.
+    pub white: &'a str,
+    /// The command of the second engine.
+    pub black: &'a str,
+    /// The level of time of both.
+    pub level: Level,
+    /// Where each game starts; its variant is that of the match.
+    pub start: Position,
+    /// How many games, from 1 to 1,000.
+    pub games: u16,
+    /// The date that each game tells.
+    pub date: &'a str,
+}
+
+/// What the words ask for.
+#[derive(Drop)]
+pub enum Plan<'a> {
+    /// A session on the standard streams.
+    Session,
+    /// To verify the games on the standard input.
+    Verify,
+    /// To be an engine that plays these words.
+    Stub(Vec<&'a str>),
+    /// Games between two engines.
+    Match(MatchPlan<'a>),
+}
+
+// Whether all bytes are from 32 to 126.
+fn is_plain(bytes: &[u8]) -> bool
+    ensures { result ≡ list_all (λ b. nat_le 32 b && nat_le b 126) bytes.now }
+{
+    bytes.iter().all(|b| 32 <= *b && *b <= 126)
+}
+
+// Whether a text may be a date.
+fn is_date(text: &str) -> bool
+    ensures { result ≡ date_test text.now }
+{
+    text.len() <= 60 && is_plain(text.as_bytes())
+}
+
+// The position that a match starts in.
+fn start_of(variant: Variant, fen: Option<&str>) -> Result<Position, FenFault>
+    ensures { result ≡ start_of variant (option_map (λ t. t.now) fen.entry) }
+{
+    match fen {
+        None => Ok(Position::initial_of(variant)),
+        Some(text) => read_fen_as(variant, text.as_bytes()),
+    }
+}
+
+// What a match is played by, where level, FEN and date are in their form; else the first of them that isn't.
+fn judged<'a>(words: &MatchWords<'a>) -> Result<MatchPlan<'a>, WordsFault>
+    ensures plan { IfOk result (IsMatchPlan words.now) }
+    ensures fault { IfErr result (IsMatchFault words.now) }
+{
+    let Some(level) = Level::read(words.level.as_bytes()) else {
+        return Err(WordsFault::BadLevel);
+    };
+    let start = match start_of(words.variant, words.fen) {
+        Ok(start) => start,
+        Err(fault) => return Err(WordsFault::BadFen(fault)),
+    };
+    if !is_date(words.date) {
+        return Err(WordsFault::BadDate);
+    }
+    Ok(MatchPlan {
+        white: words.white,
+        black: words.black,
+        level,
+        start,
+        games: words.games,
+        date: words.date,
+    })
+}
+
+// The plan, where what is spelled is in its form.
+pub(crate) fn planned<'a>(spelled: Spelled<'a>) -> Result<Plan<'a>, WordsFault>
+    ensures plan { IfOk result (IsPlanned spelled.entry) }
+    ensures fault { IfErr result (IsPlanFault spelled.entry) }
+{
+    match spelled {
+        Spelled::Session => Ok(Plan::Session),
+        Spelled::Verify => Ok(Plan::Verify),
+        Spelled::Stub(words) => Ok(Plan::Stub(words)),
+        Spelled::Match(words) => match judged(&words) {
+            Ok(plan) => Ok(Plan::Match(plan)),
+            Err(fault) => Err(fault),
+        },
+    }
+}

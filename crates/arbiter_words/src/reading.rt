@@ -1,0 +1,51 @@
+//! Reading the words.
+
+ghost use Rattle.std.specs.Prelude.{◌≡◌, [], IfErr, IfOk, map, option_map, true};
+ghost use Rattle.clap.specs.Words.{found_of, kind_of, rows_of, subcommand_of, subcommand_rows_of, fault_of};
+ghost use Rattle.arbiter_words.specs.Grammar.{AreVariants, arbiter_app, takes_words};
+ghost use Rattle.arbiter_words.specs.Plans.{IsParsed, IsReading};
+
+use crate::fault::{WordsFault, refusal};
+use crate::grammar::arbiter_command;
+use crate::plan::{Plan, planned};
+use crate::spelled::{Spelled, spelled_in};
+use clap::error::ErrorKind;
+use clap::{ArgMatches, Error};
+use std::alloc::{AllocError, Global};
+
+// What `clap` finds in the words.
+fn parsed<'a>(alloc: Global, words: &'a [&'a str]) -> Result<ArgMatches<'a>, Error>
+    ensures { IsParsed (map (λ w. w.now) words.entry.now) result }
+{
+    arbiter_command(alloc)?.try_get_matches_from(words)
+}
+
+// The subcommand that was met, with its matches.
+fn entered<'m, 'a>(matches: &'m ArgMatches<'a>) -> Option<(&'a str, &'m ArgMatches<'a>)>
+    ensures { option_map (λ p. (p.0.now, rows_of (found_of p.1.now))) result
+        ≡ subcommand_rows_of matches.now }
+{
+    matches.subcommand()
+}
+
+/// Reads the words behind the program's name.
+///
+/// # Errors
+/// Where `clap` refuses the words or asks to show help or the version, where there is no memory, and where level, FEN or
+/// date of a match isn't in its form, the first of them.
+pub fn read_words<'a>(alloc: Global, words: &'a [&'a str]) -> Result<Plan<'a>, WordsFault>
+    ensures { IsReading (map (λ w. w.now) words.entry.now) result }
+{
+    let matches = match parsed(alloc, words) {
+        Ok(matches) => matches,
+        Err(error) => return Err(refusal(error)),
+    };
+    let spelled = match entered(&matches) {
+        None => Spelled::Session,
+        Some((name, found)) => match spelled_in(alloc, name, found) {
+            Ok(spelled) => spelled,
+            Err(AllocError) => return Err(WordsFault::NoMemory),
+        },
+    };
+    planned(spelled)
+}

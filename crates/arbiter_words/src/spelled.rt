@@ -1,0 +1,130 @@
+//! What words ask for, as they spell it.
+
+ghost use Rattle.std.specs.Prelude.{◌≡◌, ◌≤◌, [], IfOk, IfSome, IsSome, true, codes, is_some, map, option_map, unwrap_or};
+ghost use Rattle.clap.specs.Words.{all_of, first_of, found_of, rows_of, subcommand_rows_of};
+ghost use Rattle.arbiter_words.specs.Plans.{HasGames, IsCommand, IsMatchOf, IsSpelledOf, NamesBoth, games_in, text_or, variant_in, variant_named};
+
+use chess_base::Variant;
+use clap::ArgMatches;
+use std::alloc::{AllocError, Global};
+
+/// What a match is played by, as it is spelled.
+#[derive(Clone, Copy, Debug)]
+pub(crate) struct MatchWords<'a> {
+    pub white: &'a str,
+    pub black: &'a str,
+    pub level: &'a str,
+    pub fen: Option<&'a str>,
+    pub games: u16,
+    pub date: &'a str,
+    pub variant: Variant,
+}
+
+/// What the words ask for, as it is spelled.
+#[derive(Drop)]
+pub(crate) enum Spelled<'a> {
+    Session,
+    Verify,
+    Stub(Vec<&'a str>),
+    Match(MatchWords<'a>),
+}
+
+// The value of an option, or its default.
+fn text_or<'a>(found: &ArgMatches<'a>, name: &str, default: &'a str) -> &'a str
+    ensures { result.now ≡ text_or name.now (rows_of (found_of found.now)) default.entry.now }
+{
+    match found.get_str(name) {
+        Some(text) => text,
+        None => default,
+    }
+}
+
+// The words behind `stub`.
+fn stub_words<'a>(alloc: Global, found: &ArgMatches<'a>) -> Result<Vec<&'a str>, AllocError>
+    ensures { IfOk result (λ v. map (λ w. w.now) v.items
+        ≡ unwrap_or (all_of (codes "words") (rows_of (found_of found.now))) []) }
+{
+    match found.get_strs("words") {
+        Some(words) => words.to_vec(alloc),
+        None => Ok(Vec::new(alloc)),
+    }
+}
+
+// The number of games.
+fn games_of(found: &ArgMatches<'_>) -> u16
+    requires { HasGames (rows_of (found_of found.now)) }
+    ensures value { result ≡ games_in (rows_of (found_of found.now)) }
+    ensures range { (1 ≤ result) × (result ≤ 1000) }
+{
+    match found.get_str("games") {
+        None => 1,
+        Some(text) => match text.parse::<u16>() {
+            Ok(games) => games,
+            Err(_) => unreachable!(),
+        },
+    }
+}
+
+// The variant of that name.
+fn variant_named(name: &str) -> Variant
+    ensures { result ≡ variant_named name.now }
+{
+    if name == "fischerandom" {
+        Variant::Fischerandom
+    } else {
+        Variant::Normal
+    }
+}
+
+// The variant.
+fn variant_of(found: &ArgMatches<'_>) -> Variant
+    ensures { result ≡ variant_in (rows_of (found_of found.now)) }
+{
+    variant_named(text_or(found, "variant", "normal"))
+}
+
+fn match_words<'a>(found: &ArgMatches<'a>) -> Option<MatchWords<'a>>
+    requires { HasGames (rows_of (found_of found.now)) }
+    ensures given { IfSome result (IsMatchOf (rows_of (found_of found.now))) }
+    ensures needed { (is_some (first_of (codes "white") (rows_of (found_of found.now))) ≡ true)
+        → (is_some (first_of (codes "black") (rows_of (found_of found.now))) ≡ true) → IsSome result }
+{
+    let white = found.get_str("white")?;
+    let black = found.get_str("black")?;
+    Some(MatchWords {
+        white,
+        black,
+        level: text_or(found, "level", "40 5 0"),
+        fen: found.get_str("fen"),
+        games: games_of(found),
+        date: text_or(found, "date", "????.??.??"),
+        variant: variant_of(found),
+    })
+}
+
+// What a command's matches spell.
+pub(crate) fn spelled_in<'a>(
+    alloc: Global,
+    name: &str,
+    found: &ArgMatches<'a>,
+) -> Result<Spelled<'a>, AllocError>
+    requires known { IsCommand name.now }
+    requires both { NamesBoth (name.now, rows_of (found_of found.now)) }
+    requires games { HasGames (rows_of (found_of found.now)) }
+    ensures { IfOk result (IsSpelledOf (name.now, rows_of (found_of found.now))) }
+{
+    if name == "verify" {
+        return Ok(Spelled::Verify);
+    }
+    if name == "stub" {
+        let words = stub_words(alloc, found)?;
+        return Ok(Spelled::Stub(words));
+    }
+    if name == "match" {
+        return match match_words(found) {
+            Some(words) => Ok(Spelled::Match(words)),
+            None => unreachable!(),
+        };
+    }
+    Ok(Spelled::Session)
+}

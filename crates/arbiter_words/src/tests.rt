@@ -1,0 +1,260 @@
+use crate::{MatchPlan, Plan, WordsFault, read_words};
+use chess_base::{Variant, write_fen};
+use std::alloc::Global;
+use std::test::Fail;
+
+fn match_of<'a>(alloc: Global, words: &'a [&'a str]) -> Result<MatchPlan<'a>, Fail> {
+    match read_words(alloc, words)? {
+        Plan::Match(plan) => Ok(plan),
+        _ => Err(Fail::new("another plan")),
+    }
+}
+
+#[test]
+fn plans_without_arguments(rt: HostRuntime) -> Result<(), Fail> {
+    let none: [&str; 0] = [];
+    assert!(rt; matches!(read_words(rt.alloc(), none.as_slice())?, Plan::Session));
+    assert!(rt;
+        matches!(
+            read_words(rt.alloc(), ["session"].as_slice())?,
+            Plan::Session
+        )
+    );
+    assert!(rt; matches!(read_words(rt.alloc(), ["verify"].as_slice())?, Plan::Verify));
+    Ok(())
+}
+
+#[test]
+fn a_stub_keeps_its_words(rt: HostRuntime) -> Result<(), Fail> {
+    for (words, count) in [
+        (["stub", "e2e4", "offer"].as_slice(), 2),
+        (["stub"].as_slice(), 0),
+        (["stub", "--", "-x"].as_slice(), 1),
+    ] {
+        let Plan::Stub(found) = read_words(rt.alloc(), words)? else {
+            return Err(Fail::new("another plan"));
+        };
+        assert_eq!(rt; found.len(), count);
+        assert!(rt; words.ends_with(found.as_slice()));
+    }
+    Ok(())
+}
+
+#[test]
+fn a_match_by_default(rt: HostRuntime) -> Result<(), Fail> {
+    let words = ["match", "--white", "a b", "--black=c"];
+    let plan = match_of(rt.alloc(), words.as_slice())?;
+    assert!(rt; plan.white == "a b" && plan.black == "c");
+    assert!(rt;
+        plan.level.moves() == 40 && plan.level.base() == 300 && plan.level.increment() == 0
+    );
+    assert_eq!(rt;
+        write_fen(&plan.start).as_slice(),
+        b"rnbqkbnr/pppppppp/8/8/8/8/PPPPPPPP/RNBQKBNR w KQkq - 0 1".as_slice()
+    );
+    assert_eq!(rt; plan.games, 1);
+    assert!(rt; plan.date == "????.??.??");
+    Ok(())
+}
+
+#[test]
+fn a_match_with_all_options(rt: HostRuntime) -> Result<(), Fail> {
+    let words = [
+        "match",
+        "--date",
+        "2026.11.23",
+        "--games",
+        "1000",
+        "--fen",
+        "4k3/8/8/8/8/8/8/RK5R w KQ - 0 1",
+        "--level=0 0:30 1",
+        "--variant",
+        "fischerandom",
+        "--black",
+        "y",
+        "--white=-x",
+    ];
+    let plan = match_of(rt.alloc(), words.as_slice())?;
+    assert!(rt; plan.white == "-x" && plan.black == "y");
+    assert!(rt; plan.level.moves() == 0 && plan.level.base() == 30 && plan.level.increment() == 1);
+    assert_eq!(rt; plan.start.variant(), Variant::Fischerandom);
+    assert_eq!(rt;
+        write_fen(&plan.start).as_slice(),
+        b"4k3/8/8/8/8/8/8/RK5R w HA - 0 1".as_slice()
+    );
+    assert_eq!(rt; plan.games, 1000);
+    assert!(rt; plan.date == "2026.11.23");
+    Ok(())
+}
+
+#[test]
+fn a_variant_has_its_initial_position(rt: HostRuntime) -> Result<(), Fail> {
+    for (name, fen) in [
+        (
+            "normal",
+            b"rnbqkbnr/pppppppp/8/8/8/8/PPPPPPPP/RNBQKBNR w KQkq - 0 1".as_slice(),
+        ),
+        (
+            "fischerandom",
+            b"rnbqkbnr/pppppppp/8/8/8/8/PPPPPPPP/RNBQKBNR w HAha - 0 1".as_slice(),
+        ),
+    ] {
+        let words = ["match", "--white", "x", "--black", "y", "--variant", name];
+        let plan = match_of(rt.alloc(), words.as_slice())?;
+        assert_eq!(rt; write_fen(&plan.start).as_slice(), fen);
+    }
+    Ok(())
+}
+
+// Words that ask for nothing: what is told of them.
+#[test]
+fn faults_are_told(rt: HostRuntime) -> Result<(), Fail> {
+    let bare = "8/8/8/8/8/8/8/8 w - - 0 1";
+    let cases = [
+        (
+            ["--level", "40 5", "--fen", "x", "--date", "\u{7f}"],
+            "bad level",
+        ),
+        (
+            ["--level", "0 0:60 0", "--fen", "x", "--date", "x"],
+            "bad level",
+        ),
+        (
+            ["--level", "40 5 0", "--fen", bare, "--date", "\u{7f}"],
+            "illegal position (kings)",
+        ),
+        (
+            ["--level", "40 5 0", "--fen", "4k3/8 w - -", "--date", "x"],
+            "illegal position (placement)",
+        ),
+        (
+            [
+                "--level",
+                "0 1 0",
+                "--fen",
+                "4k3/8/8/8/8/8/8/4K3 w - - 0 1",
+                "--date",
+                "\u{7f}",
+            ],
+            "bad date",
+        ),
+        (
+            [
+                "--level",
+                "0 1 0",
+                "--fen",
+                "4k3/8/8/8/8/8/8/4K3 w - - 0 1",
+                "--date",
+                "é",
+            ],
+            "bad date",
+        ),
+        (
+            [
+                "--games",
+                "1",
+                "--variant",
+                "normal",
+                "--date",
+                "0123456789012345678901234567890123456789012345678901234567890",
+            ],
+            "bad date",
+        ),
+        (
+            [
+                "--games",
+                "1",
+                "--variant",
+                "normal",
+                "--fen",
+                "4k3/8/8/8/8/8/8/RK5R w HA - 0 1",
+            ],
+            "illegal position (castling)",
+        ),
+    ];
+    for ([a, b, c, d, e, f], wanted) in cases {
+        let words = ["match", "--white", "x", "--black", "y", a, b, c, d, e, f];
+        let Err(fault) = read_words(rt.alloc(), words.as_slice()) else {
+            return Err(Fail::new("a plan"));
+        };
+        let told = format!(in rt.alloc(); "{fault}")?;
+        assert!(rt; told.as_str() == wanted);
+    }
+    Ok(())
+}
+
+// Words that are none of the program's forms, or ask for help: the status that `clap` gives them.
+#[test]
+fn other_words_are_refused(rt: HostRuntime) -> Result<(), Fail> {
+    let cases = [
+        (["match", "--white", "x"].as_slice(), 2),
+        (
+            ["match", "--white", "x", "--white", "y", "--black", "z"].as_slice(),
+            2,
+        ),
+        (["match", "--white", "-x", "--black", "y"].as_slice(), 2),
+        (
+            ["match", "--white", "x", "--black", "--date", "y"].as_slice(),
+            2,
+        ),
+        (
+            ["match", "--white", "x", "--black", "y", "--games", "0"].as_slice(),
+            2,
+        ),
+        (
+            ["match", "--white", "x", "--black", "y", "--games", "1001"].as_slice(),
+            2,
+        ),
+        (
+            ["match", "--white", "x", "--black", "y", "--games", "two"].as_slice(),
+            2,
+        ),
+        (
+            [
+                "match",
+                "--white",
+                "x",
+                "--black",
+                "y",
+                "--variant",
+                "atomic",
+            ]
+            .as_slice(),
+            2,
+        ),
+        (
+            [
+                "match",
+                "--white",
+                "x",
+                "--black",
+                "y",
+                "--variant",
+                "Normal",
+            ]
+            .as_slice(),
+            2,
+        ),
+        (["match", "--white", "x", "--black", "y", "z"].as_slice(), 2),
+        (["stub", "-x"].as_slice(), 2),
+        (["mat"].as_slice(), 2),
+        ([""].as_slice(), 2),
+        (["help"].as_slice(), 2),
+        (["session", "x"].as_slice(), 2),
+        (["verify", "--version"].as_slice(), 2),
+        (["--white", "x"].as_slice(), 2),
+        (["--help"].as_slice(), 0),
+        (["-h"].as_slice(), 0),
+        (["match", "--help"].as_slice(), 0),
+        (["stub", "e2e4", "--help"].as_slice(), 0),
+        (["--version"].as_slice(), 0),
+        (["-V"].as_slice(), 0),
+    ];
+    for (words, status) in cases {
+        match read_words(rt.alloc(), words) {
+            Err(WordsFault::Words(error)) => assert_eq!(rt; error.exit_code(), status),
+            _ => return Err(Fail::new("not clap's fault")),
+        }
+    }
+    Ok(())
+}

@@ -1,0 +1,80 @@
+//! What the program tells on its error output.
+
+ghost use Rattle.std.specs.Prelude.{◌≡◌};
+ghost use Rattle.chess_arbiter.specs.Program.{fault_status};
+
+use byte_devices::{Output, put};
+use std::fmt;
+use std::fmt::{Display, Write};
+use thiserror::Error;
+
+/// Why the program ended otherwise than it was asked to.
+#[derive(Clone, Copy, Debug, PartialEq, Eq, Error)]
+pub enum ProgramFault {
+    /// A read of the standard input failed.
+    #[error("read failed")]
+    ReadFailed,
+    /// A write or a flush of the standard output failed.
+    #[error("write failed")]
+    WriteFailed,
+    /// There was no memory.
+    #[error("no memory")]
+    NoMemory,
+    /// The text of games is longer than 16,777,216 bytes.
+    #[error("input too long")]
+    InputTooLong,
+    /// The program's words are not those of any of its forms.
+    #[error("wrong words")]
+    WrongWords,
+}
+
+impl ProgramFault {
+    /// The program's exit status: 1 where a device or memory failed, 2 for wrong words.
+    pub fn status(self) -> u8
+        ensures { result ≡ fault_status self }
+    {
+        match self {
+            ProgramFault::ReadFailed
+            | ProgramFault::WriteFailed
+            | ProgramFault::NoMemory
+            | ProgramFault::InputTooLong => 1,
+            ProgramFault::WrongWords => 2,
+        }
+    }
+}
+
+// An output that takes text.
+#[derive(Drop)]
+struct TextOn<'a, W> {
+    output: &'a mut W,
+}
+
+impl<W: Output> fmt::Write for TextOn<'_, W> {
+    fn write_str(&mut self, text: &str) -> fmt::Result {
+        put(self.output, text.as_bytes()).map_err(|_| fmt::Error)
+    }
+}
+
+/// Writes a text to the error output. A failed one is passed over.
+pub(crate) fn tell_text<E: Output, D: Display>(errors: &mut E, text: &D) {
+    let mut output = TextOn { output: errors };
+    if write!(output, "{text}").is_ok() {
+        let _ = errors.flush();
+    }
+}
+
+/// Writes a fault as the line `arbiter: FAULT`. A failed error output is passed over.
+pub(crate) fn tell<E: Output, D: Display>(errors: &mut E, fault: &D) {
+    let mut output = TextOn { output: errors };
+    if writeln!(output, "arbiter: {fault}").is_ok() {
+        let _ = errors.flush();
+    }
+}
+
+// Tells a fault, and gives that status.
+pub(crate) fn told<E: Output, D: Display>(errors: &mut E, fault: &D, status: u8) -> u8
+    ensures { result ≡ status }
+{
+    tell(errors, fault);
+    status
+}

@@ -1,0 +1,17 @@
+//! Laws of the program. A caller learns one by calling its function, which does nothing.
+
+ghost use Rattle.std.specs.Prelude.{[], ◌∷◌, codes};
+ghost use Rattle.chess_arbiter.specs.Laws.{ServesSession, VerifiesGames};
+
+use arbiter_words::{plain_words_are_taken, plans_are_named};
+
+/// No words, or `session` alone, serve a session, and `verify` alone verifies games: such words are never refused, whatever
+/// else the grammar of the words has.
+pub fn plain_words_do_what_they_say()
+    ensures none { ServesSession [] }
+    ensures session { ServesSession (codes "session" ∷ []) }
+    ensures verify { VerifiesGames (codes "verify" ∷ []) }
+{
+    plain_words_are_taken();
+    plans_are_named();
+}
