@@ -1,14 +1,6 @@
-use crate::{MatchPlan, Plan, WordsFault, read_words};
+use crate::{Plan, WordsFault, read_words};
 use chess_base::{Variant, write_fen};
-use std::alloc::Global;
 use std::test::Fail;
-
-fn match_of<'a>(alloc: Global, words: &'a [&'a str]) -> Result<MatchPlan<'a>, Fail> {
-    match read_words(alloc, words)? {
-        Plan::Match(plan) => Ok(plan),
-        _ => Err(Fail::new("another plan")),
-    }
-}
 
 #[test]
 fn plans_without_arguments(rt: HostRuntime) -> Result<(), Fail> {
@@ -43,7 +35,9 @@ fn a_stub_keeps_its_words(rt: HostRuntime) -> Result<(), Fail> {
 #[test]
 fn a_match_by_default(rt: HostRuntime) -> Result<(), Fail> {
     let words = ["match", "--white", "a b", "--black=c"];
-    let plan = match_of(rt.alloc(), words.as_slice())?;
+    let Plan::Match(plan) = read_words(rt.alloc(), words.as_slice())? else {
+        return Err(Fail::new("another plan"));
+    };
     assert!(rt; plan.white == "a b" && plan.black == "c");
     assert!(rt;
         plan.level.moves() == 40 && plan.level.base() == 300 && plan.level.increment() == 0
@@ -74,7 +68,9 @@ fn a_match_with_all_options(rt: HostRuntime) -> Result<(), Fail> {
         "y",
         "--white=-x",
     ];
-    let plan = match_of(rt.alloc(), words.as_slice())?;
+    let Plan::Match(plan) = read_words(rt.alloc(), words.as_slice())? else {
+        return Err(Fail::new("another plan"));
+    };
     assert!(rt; plan.white == "-x" && plan.black == "y");
     assert!(rt; plan.level.moves() == 0 && plan.level.base() == 30 && plan.level.increment() == 1);
     assert_eq!(rt; plan.start.variant(), Variant::Fischerandom);
@@ -100,7 +96,9 @@ fn a_variant_has_its_initial_position(rt: HostRuntime) -> Result<(), Fail> {
         ),
     ] {
         let words = ["match", "--white", "x", "--black", "y", "--variant", name];
-        let plan = match_of(rt.alloc(), words.as_slice())?;
+        let Plan::Match(plan) = read_words(rt.alloc(), words.as_slice())? else {
+            return Err(Fail::new("another plan"));
+        };
         assert_eq!(rt; write_fen(&plan.start).as_slice(), fen);
     }
     Ok(())
