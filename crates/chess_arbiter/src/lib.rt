@@ -18,4 +18,6 @@ pub use program::run_program;
 pub use standard::run;
 
 #[cfg(test)]
+mod engine_tests;
+#[cfg(test)]
 mod tests;
