@@ -16,6 +16,11 @@ use Rattle.chess_cecp.specs.Run.{Transcript, Ran}
 use Rattle.chess_arbiter.specs.declared.fault.ProgramFault.{ProgramFault}
 use Rattle.chess_arbiter.specs.declared.verify.Verified.{Verified}
 use Rattle.chess_arbiter.specs.declared.verify.Verified.TheVariants.{EachGame, FaultTold}
+use Rattle.arbiter_words.specs.declared.plan.MatchPlan.{MatchPlan}
+use Rattle.chess_arbiter.specs.Games.{RanGames}
+use Rattle.chess_arbiter.specs.declared.games.GamesFault.{GamesFault}
+use Rattle.chess_arbiter.specs.Stub.{StubRan, Words, beginning}
+use Rattle.chess_arbiter.specs.declared.stub.StubFault.{StubFault}
 use Rattle.chess_arbiter.specs.Verify.{Verifies}
 use Rattle.chess_arbiter.specs.declared.fault.ProgramFault.TheVariants.{ReadFailed, WriteFailed, NoMemory, InputTooLong, WrongWords}
 
@@ -82,13 +87,28 @@ ToldWords (words.Words e) w w' status =
 ToldWords words.NoMemory w w' status = (w' ≡ w) × (status ≡ 1)
 ToldWords fault w w' status = (w' ≡ w) × (status ≡ 2)
 
--- what the words ask for was done, or was told why they ask for nothing. Words that ask for a match or a stub are wrong
--- words so far
+-- a stub ran, and the status tells whether a device failed
+abbrev pub stub_status : {A : Type 0} → Result A StubFault → ℕ
+stub_status (Ok _) = 0
+stub_status (Err fault) = 1
+
+abbrev pub RanStub : Words → InputState → InputState → OutputState → OutputState → ℕ → Type 0
+RanStub words r r' w w' status = (outcome : Result (Unit {0}) StubFault) × StubRan r r' w w' (beginning words) outcome × (status ≡ stub_status outcome)
+
+-- the games of a match were played and told, and the status tells whether anything failed
+abbrev pub games_status : {A : Type 0} → Result A GamesFault → ℕ
+games_status (Ok _) = 0
+games_status (Err fault) = 1
+
+abbrev pub RanMatch : MatchPlan → OutputState → OutputState → ℕ → Type 0
+RanMatch plan w w' status = (outcome : Result (Unit {0}) GamesFault) × RanGames plan w w' outcome × (status ≡ games_status outcome)
+
+-- what the words ask for was done, or was told why they ask for nothing
 abbrev pub RanPlan : Result Plan WordsFault → InputState → InputState → OutputState → OutputState → ℕ → Type 0
 RanPlan (Ok Session) r r' w w' status = RanSession r r' w w' status
 RanPlan (Ok Verify) r r' w w' status = RanVerify r r' w w' status
-RanPlan (Ok (Stub words)) r r' w w' status = IsUntouched r r' w w' × (status ≡ 2)
-RanPlan (Ok (Match plan)) r r' w w' status = IsUntouched r r' w w' × (status ≡ 2)
+RanPlan (Ok (Stub words)) r r' w w' status = RanStub words.items r r' w w' status
+RanPlan (Ok (Match plan)) r r' w w' status = (r' ≡ r) × RanMatch plan w w' status
 RanPlan (Err fault) r r' w w' status = (r' ≡ r) × ToldWords fault w w' status
 
 -- the words were read, and what they ask for was done

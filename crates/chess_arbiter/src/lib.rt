@@ -1,10 +1,15 @@
 //! The arbiter as a program: what its words ask for, on an input, an output and an error output.
 #![tactic(auto)]
 
+mod engine;
 mod fault;
+mod games;
 mod laws;
+mod moments;
 mod program;
+mod score;
 mod standard;
+mod stub;
 mod verify;
 
 pub use fault::ProgramFault;
@@ -12,5 +17,7 @@ pub use laws::plain_words_do_what_they_say;
 pub use program::run_program;
 pub use standard::run;
 
+#[cfg(test)]
+mod engine_tests;
 #[cfg(test)]
 mod tests;

@@ -4,11 +4,13 @@ ghost use Rattle.std.specs.Prelude.{◌≡◌, IfOk, map};
 ghost use Rattle.byte_devices.specs.Devices.{Sends};
 ghost use Rattle.chess_cecp.specs.Held.{opened};
 ghost use Rattle.chess_pgn.specs.Tags.{default_tags};
-ghost use Rattle.chess_arbiter.specs.Program.{Served, Shown, RanHelp, RanProgram, RanSession, RanVerify, ToldWords};
+ghost use Rattle.chess_arbiter.specs.Program.{Served, Shown, RanHelp, RanMatch, RanProgram, RanSession, RanStub, RanVerify, ToldWords};
 
 use crate::fault::{ProgramFault, tell_text, told};
+use crate::games::play_games;
+use crate::stub::{StubFault, run_stub};
 use crate::verify::{Verified, verify};
-use arbiter_words::{Plan, WordsFault, read_words};
+use arbiter_words::{MatchPlan, Plan, WordsFault, read_words};
 use byte_devices::{Input, Output, WriteFault, put};
 use chess_bits::Bits;
 use chess_cecp::{End, Fault, Session, run_session};
@@ -140,12 +142,44 @@ fn told_words<W: Output, E: Output>(
     }
 }
 
+// A stub, with its status.
+fn stubbed<R: Input, W: Output, E: Output>(
+    words: &[&str],
+    input: &mut R,
+    output: &mut W,
+    errors: &mut E,
+) -> u8
+    ensures { RanStub words.now (R.seen input.old) (R.seen input.new) (W.seen output.old) (W.seen output.new) result }
+{
+    match run_stub(words, input, output) {
+        Ok(()) => 0,
+        Err(StubFault::Read) => told(errors, &ProgramFault::ReadFailed, 1),
+        Err(StubFault::Write) => told(errors, &ProgramFault::WriteFailed, 1),
+    }
+}
+
+// The games of a match, with the status.
+fn matched<P: Processes + Clock, W: Output, E: Output>(
+    rt: &P,
+    alloc: Global,
+    plan: &MatchPlan<'_>,
+    output: &mut W,
+    errors: &mut E,
+) -> u8
+    ensures { RanMatch plan.now (W.seen output.old) (W.seen output.new) result }
+{
+    match play_games(rt, alloc, plan, output) {
+        Ok(()) => 0,
+        Err(fault) => told(errors, &fault, 1),
+    }
+}
+
 /// Runs the program on its words and gives its exit status: 0 where the session ended by `quit` or the input's end, each
 /// game was verified, or help was shown; 1 where a device or memory failed, or a game has a fault; 2 for wrong words. No
 /// words, or `session`: a session of at most 20,000 half-moves. `verify`: the games of a text, told one by one. A fault, but
 /// for that of a game, is told on the error output as `arbiter: FAULT`, and wrong words by the text of `clap`.
 pub fn run_program<'a, P: Processes + Clock, R: Input, W: Output, E: Output>(
-    _rt: &P,
+    rt: &P,
     alloc: Global,
     words: &'a [&'a str],
     input: &mut R,
@@ -161,6 +195,7 @@ pub fn run_program<'a, P: Processes + Clock, R: Input, W: Output, E: Output>(
     match plan {
         Plan::Session => session(alloc, input, output, errors),
         Plan::Verify => verified(alloc, input, output, errors),
-        Plan::Stub(_) | Plan::Match(_) => told(errors, &ProgramFault::WrongWords, 2),
+        Plan::Stub(words) => stubbed(words.as_slice(), input, output, errors),
+        Plan::Match(plan) => matched(rt, alloc, &plan, output, errors),
     }
 }

@@ -1,0 +1,33 @@
+use Rattle.std.proofs.Common.{◌≡◌, ◌∙◌, None, Some, false, true, is_err, sym, rules}
+use Rattle.chess_arbiter.specs.Games.{score_line}
+use Rattle.chess_arbiter.proofs.GamesTold.{all_told, fault_told, is_broken, is_sent, score_broken}
+use Rattle.chess_arbiter.proofs.games.play_games.Goals as goal
+
+pub returns-then-is_err : goal.returns-then-is_err
+returns-then-is_err g c =
+    let w = g.W.Output.seen c.args.output.now in
+    let w' = g.W.Output.seen c.play_each.new.output in
+    let w'' = g.W.Output.seen c.write_score.new.output in
+    let played = c.in-Ok-play_each.played in
+    score_broken c.args.plan.now w w' w'' played c.in-Ok-play_each.ensures
+    (is_broken w' w'' c.write_score.result (score_line played.score) c.write_score.ensures (sym c.is_err.ensures.value ∙ c.if-is_err.true))
+
+pub returns-in-None : goal.returns-in-None
+returns-in-None g c =
+    let w = g.W.Output.seen c.args.output.now in
+    let w' = g.W.Output.seen c.play_each.new.output in
+    let w'' = g.W.Output.seen c.write_score.new.output in
+    let played = c.in-Ok-play_each.played in
+    let none : played.fault ≡ None = search rules in
+    all_told c.args.plan.now w w' w'' played c.in-Ok-play_each.ensures
+    (is_sent w' w'' c.write_score.result (score_line played.score) c.write_score.ensures (sym c.is_err.ensures.value ∙ c.if-is_err.false)) none
+
+pub returns : goal.returns
+returns g c =
+    let w = g.W.Output.seen c.args.output.now in
+    let w' = g.W.Output.seen c.play_each.new.output in
+    let w'' = g.W.Output.seen c.write_score.new.output in
+    let played = c.in-Ok-play_each.played in
+    let is : played.fault ≡ Some (c.in-Some.number, c.in-Some.side, c.in-Some.fault) = search rules in
+    fault_told c.args.plan.now w w' w'' played c.in-Ok-play_each.ensures c.in-Some.number c.in-Some.side c.in-Some.fault c.fault_text.result
+    (is_sent w' w'' c.write_score.result (score_line played.score) c.write_score.ensures (sym c.is_err.ensures.value ∙ c.if-is_err.false)) is

@@ -1,0 +1,183 @@
+-- The games of a match: who plays which colour, how each is told, and the score.
+use Rattle.std.specs.Prelude.{◌≡◌, ◌⊎◌, ℕ, ◌+◌, ◌<◌, ◌%◌, ◌==◌, Bool, true, false, not, if◌then◌else◌, min, List, [], ◌∷◌, ◌++◌, length, codes, decimal, Option, None, Some, is_some, Result, Ok, Err}
+use Rattle.std.specs.List.{list_all}
+use Rattle.arbiter_words.specs.declared.plan.MatchPlan.{MatchPlan}
+use Rattle.chess_game.specs.declared.results.Outcome.{Outcome}
+use Rattle.chess_game.specs.declared.results.Outcome.TheVariants.{WhiteWins, BlackWins, Draw, Unfinished}
+use Rattle.chess_base.specs.declared.man.Colour.{Colour}
+use Rattle.chess_base.specs.declared.setup.Setup.{Setup}
+use Rattle.byte_devices.specs.Devices.{OutputState, Begins, BreaksOff, Sent}
+use Rattle.chess_game.specs.Game.{Seen}
+use Rattle.chess_match.specs.Levels.{LevelSeen}
+use Rattle.chess_match.specs.Run.{Ports, Ran, Flushed, FlushedThenFailed}
+use Rattle.chess_match.specs.declared.reason.MatchFault.{MatchFault}
+use Rattle.chess_match.specs.declared.run.MatchEnd.{MatchEnd}
+use Rattle.chess_pgn.specs.GameText.{pgn}
+use Rattle.chess_arbiter.specs.declared.games.GamesFault.{GamesFault}
+use Rattle.chess_arbiter.specs.declared.games.GamesFault.TheVariants.{WriteFailed, NoMemory, CanNotStart, Game}
+use Rattle.chess_arbiter.specs.declared.games.Played.{Played}
+use Rattle.chess_pgn.specs.Written.{cut_tag}
+use Rattle.chess_pgn.specs.declared.tags.Tags.{Tags}
+use Rattle.chess_arbiter.specs.declared.score.Score.{Score}
+
+-- in odd games the first engine has White
+abbrev pub is_odd : ℕ → Bool
+is_odd number = number % 2 == 1
+
+-- the command of White's engine, and that of Black's
+abbrev pub white_command : MatchPlan → ℕ → List ℕ
+white_command plan number = if is_odd number then plan.white.now else plan.black.now
+
+abbrev pub black_command : MatchPlan → ℕ → List ℕ
+black_command plan number = if is_odd number then plan.black.now else plan.white.now
+
+-- the name that an engine gave itself, or else its command
+abbrev pub name_of : List ℕ → List ℕ → List ℕ
+name_of [] command = cut_tag command
+name_of (c ∷ cs) command = cut_tag (c ∷ cs)
+
+-- the tags of the game with that number
+abbrev pub tags_of : MatchPlan → ℕ → MatchEnd → Tags
+tags_of plan number end = record {
+  event = codes "CECP match";
+  site = codes "?";
+  date = cut_tag plan.date.now;
+  round = cut_tag (decimal number);
+  white = name_of end.white_name (white_command plan number);
+  black = name_of end.black_name (black_command plan number);
+  ended = end.ended;
+}
+
+-- ---- the score
+
+abbrev pub no_score : Score
+no_score = record { first = 0; second = 0; drawn = 0; unfinished = 0 }
+
+-- one more; there are at most 1,000 games, so no count comes to 65,535
+abbrev pub one_more : ℕ → ℕ
+one_more n = min (n + 1) 65535
+
+-- a win of the first engine, or of the second, more
+abbrev pub won : Bool → Score → Score
+won true s = record { first = one_more s.first; second = s.second; drawn = s.drawn; unfinished = s.unfinished }
+won false s = record { first = s.first; second = one_more s.second; drawn = s.drawn; unfinished = s.unfinished }
+
+-- a game with that outcome more, in which the first engine had White or not
+abbrev pub scored : Bool → Outcome → Score → Score
+scored first_has_white WhiteWins s = won first_has_white s
+scored first_has_white BlackWins s = won (not first_has_white) s
+scored first_has_white Draw s = record { first = s.first; second = s.second; drawn = one_more s.drawn; unfinished = s.unfinished }
+scored first_has_white Unfinished s = record { first = s.first; second = s.second; drawn = s.drawn; unfinished = one_more s.unfinished }
+
+unfoldable pub score_line : Score → List ℕ
+score_line s =
+    codes "score first " ++ (decimal s.first ++ (codes " second " ++ (decimal s.second ++ (codes " drawn " ++ (decimal s.drawn ++ (codes " unfinished " ++ (decimal s.unfinished ++ 10 ∷ [])))))))
+
+-- ---- one game
+
+-- a game from that start was played between two engines, whatever these sent
+abbrev pub IsMatchEnd : Setup → LevelSeen → Seen → Seen → MatchEnd → Type 0
+IsMatchEnd start level g g' end =
+    (w : Ports) × (w' : Ports) × (coming : ℕ → Option ℕ) × (coming' : ℕ → Option ℕ) × Ran start level g g' end w w' coming coming'
+
+-- a game as it is told: how it stands, and how it ended
+pub record GameTold : Type 0 where
+  pub game : Seen
+  pub end : MatchEnd
+
+-- it is one of the plan, of at most 20,000 half-moves
+abbrev pub IsOfPlan : MatchPlan → GameTold → Type 0
+IsOfPlan plan told = (before : Seen) × (before.limit ≡ 20000) × IsMatchEnd plan.start plan.level before told.game told.end
+
+-- its text, where it has that number
+abbrev pub game_text : MatchPlan → ℕ → GameTold → List ℕ
+game_text plan number told = pgn [] (tags_of plan number told.end) told.game.state
+
+-- an engine of that command could not be started, or there was no memory
+abbrev pub FailsToStart : List ℕ → GamesFault → Type 0
+FailsToStart command WriteFailed = ⊥
+FailsToStart command NoMemory = Unit {0}
+FailsToStart command (CanNotStart c) = c.now ≡ command
+FailsToStart command (Game number text) = ⊥
+
+-- that is so of one of the engines of the game with that number
+abbrev pub IsStartFault : MatchPlan → ℕ → GamesFault → Type 0
+IsStartFault plan number fault = FailsToStart (white_command plan number) fault ⊎ FailsToStart (black_command plan number) fault
+
+-- the game with that number was played, and its text was written and flushed; or its engines could not be started, and
+-- nothing was written; or a beginning of its text was
+abbrev pub PlayedOne : MatchPlan → ℕ → OutputState → OutputState → Result MatchEnd GamesFault → Type 0
+PlayedOne plan number w w' (Ok end) = (game : Seen) × IsOfPlan plan (record { game = game; end = end }) × Sent w w' (game_text plan number (record { game = game; end = end }))
+PlayedOne plan number w w' (Err WriteFailed) = (told : GameTold) × IsOfPlan plan told × BreaksOff w w' (game_text plan number told)
+PlayedOne plan number w w' (Err fault) = IsStartFault plan number fault × (w' ≡ w)
+
+-- ---- the games
+
+abbrev pub AreOfPlan : MatchPlan → List GameTold → Type 0
+AreOfPlan plan [] = Unit {0}
+AreOfPlan plan (told ∷ rest) = IsOfPlan plan told × AreOfPlan plan rest
+
+-- none of them has a fault
+abbrev pub are_sound : List GameTold → Bool
+are_sound games = list_all (λ told. not (is_some told.end.fault)) games
+
+-- the texts of games with numbers from there on
+abbrev pub game_texts : MatchPlan → ℕ → List GameTold → List ℕ
+game_texts plan number [] = []
+game_texts plan number (told ∷ rest) = game_text plan number told ++ game_texts plan (number + 1) rest
+
+abbrev pub score_on : ℕ → List GameTold → Score → Score
+score_on number [] s = s
+score_on number (told ∷ rest) s = score_on (number + 1) rest (scored (is_odd number) told.end.outcome s)
+
+abbrev pub score_of : List GameTold → Score
+score_of games = score_on 1 games no_score
+
+-- games without a fault, all that the plan asks for, or fewer
+pub record SoundGames (plan : MatchPlan) (games : List GameTold) : Type 0 where
+  pub of_plan : AreOfPlan plan games
+  pub sound : are_sound games ≡ true
+
+-- where all were played, or one more with a fault
+abbrev pub EndsGames : MatchPlan → List GameTold → Option (ℕ × Colour × MatchFault) → Type 0
+EndsGames plan games None = SoundGames plan games × (length games ≡ plan.games)
+EndsGames plan games (Some (number, side, fault)) =
+    (before : List GameTold) × (last : GameTold)
+    × (games ≡ before ++ last ∷ []) × SoundGames plan before × IsOfPlan plan last × (last.end.fault ≡ Some (side, fault))
+    × (number ≡ length before + 1) × (length before < plan.games)
+
+-- the games before were played and told, and the next could not be started; or a beginning of its text was written
+abbrev pub BrokeOff : MatchPlan → OutputState → OutputState → GamesFault → Type 0
+BrokeOff plan w w' WriteFailed =
+    (games : List GameTold) × (next : GameTold) × (start : List ℕ)
+    × SoundGames plan games × (length games < plan.games) × IsOfPlan plan next
+    × Begins start (game_text plan (length games + 1) next) × FlushedThenFailed w w' (game_texts plan 1 games) start
+BrokeOff plan w w' fault =
+    (games : List GameTold) × SoundGames plan games × (length games < plan.games)
+    × IsStartFault plan (length games + 1) fault × Flushed w w' (game_texts plan 1 games)
+
+-- games were played, each was told, and the score counts them
+abbrev pub HasPlayed : MatchPlan → OutputState → OutputState → Result Played GamesFault → Type 0
+HasPlayed plan w w' (Ok played) =
+    (games : List GameTold) × EndsGames plan games played.fault × (played.score ≡ score_of games) × Flushed w w' (game_texts plan 1 games)
+HasPlayed plan w w' (Err fault) = BrokeOff plan w w' fault
+
+-- the text of a match: each game, and then the score
+abbrev pub match_text : MatchPlan → List GameTold → List ℕ
+match_text plan games = game_texts plan 1 games ++ score_line (score_of games)
+
+-- the games were told, and then a beginning of the score was
+abbrev pub BrokeOffAtScore : MatchPlan → OutputState → OutputState → Type 0
+BrokeOffAtScore plan w w' =
+    (games : List GameTold) × (last : Option (ℕ × Colour × MatchFault)) × (start : List ℕ)
+    × EndsGames plan games last × Begins start (score_line (score_of games)) × FlushedThenFailed w w' (game_texts plan 1 games) start
+
+-- all games were played, or one with a fault was the last: they were told, and then the score. Where something broke off,
+-- the games before were told
+abbrev pub RanGames : {A : Type 0} → MatchPlan → OutputState → OutputState → Result A GamesFault → Type 0
+RanGames plan w w' (Ok _) = (games : List GameTold) × EndsGames plan games None × Flushed w w' (match_text plan games)
+RanGames plan w w' (Err (Game number text)) =
+    (games : List GameTold) × (side : Colour) × (fault : MatchFault)
+    × EndsGames plan games (Some (number, side, fault)) × Flushed w w' (match_text plan games)
+RanGames plan w w' (Err WriteFailed) = BrokeOff plan w w' WriteFailed ⊎ BrokeOffAtScore plan w w'
+RanGames plan w w' (Err fault) = (w' ≡ w) ⊎ BrokeOff plan w w' fault

@@ -1,0 +1,190 @@
+-- An engine that plays the words that it is given.
+use Rattle.std.specs.Prelude.{◌≡◌, ◌⊎◌, ◌≤◌, ◌||◌, ℕ, Bool, true, false, if◌then◌else◌, List, [], ◌∷◌, ◌++◌, length, codes, decimal, Option, Some, None, is_some, drop, Result, Ok, Err}
+use Rattle.std.specs.Borrow.{Bor}
+use Rattle.std.specs.Str.{bytes_eq}
+use Rattle.std.specs.Io.KnownBytes.{IsAtEnd}
+use Rattle.byte_devices.specs.Devices.{InputState, OutputState, Begins, Took, Sent, BreaksOff}
+use Rattle.chess_cecp.specs.Commands.{command_of, word_of}
+use Rattle.chess_cecp.specs.Lines.{LineSeen, whole}
+use Rattle.chess_cecp.specs.Next.{before_piece}
+use Rattle.chess_cecp.specs.Run.{FitsDevices, LeavesUnflushed, Transcript, lines_given}
+use Rattle.chess_cecp.specs.declared.command.Command.{Command}
+use Rattle.chess_cecp.specs.declared.command.Command.TheVariants.{New, UserMove, Ping, Protover, Go, Quit, Silent}
+use Rattle.chess_arbiter.specs.declared.stub.Stub.{Stub}
+use Rattle.chess_arbiter.specs.declared.stub.Onward.{Onward}
+use Rattle.chess_arbiter.specs.declared.stub.Onward.TheVariants.{On, Over}
+use Rattle.chess_arbiter.specs.declared.stub.StubFault.{StubFault}
+use Rattle.chess_arbiter.specs.declared.stub.StubFault.TheVariants.{Read, Write}
+
+abbrev pub Words : Type 0
+Words = List (Bor (List ℕ))
+
+-- the words that are left, and whether it plays
+pub record StubState : Type 0 where
+  pub words : Words
+  pub plays : Bool
+
+-- what a line gives: what is said, what is left, and whether the stub ends
+pub record Reply : Type 0 where
+  pub text : List ℕ
+  pub state : StubState
+  pub ends : Bool
+
+-- ---- a turn
+
+-- what a word is that is said behind a move
+abbrev pub remark : List ℕ → Option (List ℕ)
+remark word =
+    if bytes_eq word (codes "offer") then Some (codes "offer draw" ++ 10 ∷ [])
+    else if bytes_eq word (codes "claim") then Some (codes "1/2-1/2 {Draw by repetition}" ++ 10 ∷ [])
+    else None
+
+abbrev pub before_others : Option (List ℕ) → List ℕ → List ℕ
+before_others None others = []
+before_others (Some text) others = text ++ others
+
+-- what is said of words behind a move: of the first ones that are remarks
+unfoldable pub remarks : Words → List ℕ
+remarks [] = []
+remarks (word ∷ words) = before_others (remark word.now) (remarks words)
+
+-- the words behind these
+unfoldable pub behind_remarks : Words → Words
+behind_remarks [] = []
+behind_remarks (word ∷ words) = if is_some (remark word.now) then behind_remarks words else word ∷ words
+
+-- what a word is that is played
+abbrev pub move_text : List ℕ → List ℕ
+move_text word =
+    if bytes_eq word (codes "resign") then codes "resign" ++ 10 ∷ []
+    else codes "move " ++ (word ++ 10 ∷ [])
+
+-- a turn: the next word is played, and with none left it resigns
+abbrev pub turn : Words → Reply
+turn [] = record { text = codes "resign" ++ 10 ∷ []; state = record { words = []; plays = true }; ends = false }
+turn (word ∷ words) =
+    if bytes_eq word.now (codes "end") then record { text = codes "mov"; state = record { words = words; plays = true }; ends = true }
+    else record { text = move_text word.now ++ remarks words; state = record { words = behind_remarks words; plays = true }; ends = false }
+
+-- ---- a line
+
+abbrev pub says : StubState → List ℕ → Reply
+says s text = record { text = text; state = s; ends = false }
+
+abbrev pub stopped : StubState → StubState
+stopped s = record { words = s.words; plays = false }
+
+abbrev pub features : List ℕ
+features = codes "feature ping=1 setboard=1 usermove=1 myname=\"stub\" done=1" ++ 10 ∷ []
+
+-- one row for each command; of all others it says nothing
+abbrev pub row : StubState → List ℕ → Command → Reply
+row s text (Protover n) = says s features
+row s text (Ping n) = says s (codes "pong " ++ (decimal n ++ 10 ∷ []))
+row s text New = says (stopped s) []
+row s text Go = turn s.words
+row s text UserMove = if s.plays then turn s.words else says s []
+row s text Quit = record { text = []; state = s; ends = true }
+row s text Silent = if bytes_eq (word_of text) (codes "force") then says (stopped s) [] else says s []
+row s text _ = says s []
+
+-- of a line that is too long it says nothing
+unfoldable pub reply : StubState → LineSeen → Reply
+reply s line = if line.too_long then says s [] else row s line.text (command_of line.text)
+
+-- ---- what code does of it
+
+-- where a stub with these words stands
+abbrev pub state_at : Words → Stub → StubState
+state_at words stub = record { words = drop stub.at words; plays = stub.plays }
+
+-- at its beginning
+abbrev pub beginning : Words → StubState
+beginning words = record { words = words; plays = false }
+
+abbrev pub onward_of : Bool → Onward
+onward_of true = Over
+onward_of false = On
+
+-- the stub stands where the reply says, and goes on as it says
+abbrev pub Stands : Words → Reply → Stub × Onward → Type 0
+Stands words r (stub, onward) = (stub.at ≤ length words) × (state_at words stub ≡ r.state) × (onward ≡ onward_of r.ends)
+
+-- the remarks from there on were said, or a beginning of them
+abbrev pub SaysRemarks : {E : Type 0} → Words → ℕ → OutputState → OutputState → Result ℕ E → Type 0
+SaysRemarks words from w w' (Ok at) = Took w w' (remarks (drop from words)) × (at ≤ length words) × (drop at words ≡ behind_remarks (drop from words))
+SaysRemarks words from w w' (Err e) = BreaksOff w w' (remarks (drop from words))
+
+-- a reply was given, or a beginning of it
+abbrev pub Gives : {E : Type 0} → Words → Reply → OutputState → OutputState → Result (Stub × Onward) E → Type 0
+Gives words r w w' (Ok next) = Took w w' r.text × Stands words r next
+Gives words r w w' (Err e) = BreaksOff w w' r.text
+
+-- and then flushed
+abbrev pub GivesAndFlushes : {E : Type 0} → Words → Reply → OutputState → OutputState → Result (Stub × Onward) E → Type 0
+GivesAndFlushes words r w w' (Ok next) = Sent w w' r.text × Stands words r next
+GivesAndFlushes words r w w' (Err e) = BreaksOff w w' r.text
+
+-- ---- a run
+
+-- the parts of the reply to a line
+unfoldable pub said : StubState → LineSeen → List ℕ
+said s line = (reply s line).text
+
+unfoldable pub after : StubState → LineSeen → StubState
+after s line = (reply s line).state
+
+unfoldable pub ends_at : StubState → LineSeen → Bool
+ends_at s line = (reply s line).ends
+
+-- what is said to lines, up to the one at which the stub ends
+abbrev pub replies : StubState → List LineSeen → List ℕ
+replies s [] = []
+replies s (line ∷ lines) = if ends_at s line then said s line else said s line ++ replies (after s line) lines
+
+-- where the stub stands then
+abbrev pub standing : StubState → List LineSeen → StubState
+standing s [] = s
+standing s (line ∷ lines) = if ends_at s line then after s line else standing (after s line) lines
+
+-- whether it ends at one of them
+abbrev pub ends_in : StubState → List LineSeen → Bool
+ends_in s [] = false
+ends_in s (line ∷ lines) = ends_at s line || ends_in (after s line) lines
+
+-- the line behind those before, at none of which the stub ends, is the one at which the call ended: nothing was read while a
+-- whole line was unanswered, so before the last piece fewer lines were whole
+pub record EndsAt (s : StubState) (t : Transcript) (last_len : ℕ) (before : List LineSeen) (line : LineSeen) (after : List LineSeen) : Type 0 where
+  pub lines : lines_given t ≡ before ++ line ∷ after
+  pub goes_on : ends_in s before ≡ false
+  pub on_demand : length (whole 1024 (before_piece last_len t.given)) ≤ length before
+
+-- an end by a line
+abbrev pub ByLine : StubState → Transcript → ℕ → Type 0
+ByLine s t last_len =
+    (before : List LineSeen) × (line : LineSeen) × (after : List LineSeen)
+    × EndsAt s t last_len before line after × (ends_at (standing s before) line ≡ true)
+
+-- an end by the input's end
+pub record ByInput (s : StubState) (t : Transcript) (r' : InputState) : Type 0 where
+  pub told : t.told ≡ true
+  pub at_end : IsAtEnd r'.known_bytes
+  pub goes_on : ends_in s (lines_given t) ≡ false
+
+-- an end by a write or a flush that failed: a beginning of the reply to the line was written
+abbrev pub ByWrite : OutputState → OutputState → StubState → Transcript → ℕ → Type 0
+ByWrite w w' s t last_len =
+    (before : List LineSeen) × (line : LineSeen) × (after : List LineSeen) × (start : List ℕ)
+    × EndsAt s t last_len before line after
+    × Begins start (said (standing s before) line)
+    × (t.taken ≡ replies s before ++ start)
+    × LeavesUnflushed w w' start
+
+-- the whole promise, as that of a session: each reply was flushed before anything else
+abbrev pub StubRan : {A : Type 0} → InputState → InputState → OutputState → OutputState → StubState → Result A StubFault → Type 0
+StubRan r r' w w' s (Ok _) =
+    (t : Transcript) × FitsDevices r r' w w' t false false × (ByLine s t r'.last_len ⊎ ByInput s t r') × (t.taken ≡ replies s (lines_given t)) × LeavesUnflushed w w' []
+StubRan r r' w w' s (Err Read) =
+    (t : Transcript) × FitsDevices r r' w w' t true false × (t.told ≡ false) × (ends_in s (lines_given t) ≡ false) × (t.taken ≡ replies s (lines_given t)) × LeavesUnflushed w w' []
+StubRan r r' w w' s (Err Write) =
+    (t : Transcript) × FitsDevices r r' w w' t false true × ByWrite w w' s t r'.last_len

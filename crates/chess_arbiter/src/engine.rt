@@ -1,0 +1,108 @@
+//! Engines as processes.
+
+use byte_devices::Counted;
+use chess_match::Ends;
+use std::alloc::Global;
+use std::process::{Child, Command, OpenProcess, Processes, Stdio};
+use std::rt::Clock;
+use std::time::Duration;
+use std::{io, thread};
+
+/// Why an engine could not be started.
+#[derive(Clone, Copy, Debug, PartialEq, Eq)]
+pub(crate) enum StartFault {
+    NoMemory,
+    CanNotStart,
+}
+
+/// A running engine, with this process's ends of its pipes.
+#[derive(Drop)]
+pub(crate) struct Engine<P: OpenProcess + Drop> {
+    pub child: Child<P>,
+    /// What reads its output, and what writes its input.
+    pub ends: Ends<Counted<P::Stdout>, Counted<P::Stdin>>,
+}
+
+// Why the system did not start a program.
+fn start_fault(error: &io::Error) -> StartFault {
+    if error.kind() == io::ErrorKind::OutOfMemory {
+        StartFault::NoMemory
+    } else {
+        StartFault::CanNotStart
+    }
+}
+
+// Cuts a command at blanks: the program and its words.
+fn command_of(alloc: Global, text: &str) -> Result<Command, StartFault> {
+    let mut parts = text.split([' ', '\t']).filter(|part| !part.is_empty());
+    let Some(program) = parts.next() else {
+        return Err(StartFault::CanNotStart);
+    };
+    let Ok(mut command) = Command::new(alloc, program) else {
+        return Err(StartFault::NoMemory);
+    };
+    for part in parts {
+        if command.arg(part).is_err() {
+            return Err(StartFault::NoMemory);
+        }
+    }
+    Ok(command)
+}
+
+/// Starts an engine by its command, cut at blanks, with pipes at its input and output; its error output is that of this
+/// process. A name without a slash is looked for on the path.
+///
+/// # Errors
+/// Where the command has no word, where there is no such program, or no memory.
+pub(crate) fn start<R: Processes>(
+    rt: &R,
+    alloc: Global,
+    text: &str,
+) -> Result<Engine<R::Started>, StartFault> {
+    let mut command = command_of(alloc, text)?;
+    command.stdin(Stdio::piped());
+    command.stdout(Stdio::piped());
+    let mut child = match command.spawn(rt) {
+        Ok(child) => child,
+        Err(error) => return Err(start_fault(&error)),
+    };
+    match (child.stdin.take(), child.stdout.take()) {
+        (Some(input), Some(output)) => Ok(Engine {
+            child,
+            ends: Ends {
+                reader: Counted::reading(output),
+                writer: Counted::writing(input),
+            },
+        }),
+        (input, output) => {
+            drop(input);
+            drop(output);
+            let _ = child.wait();
+            Err(StartFault::CanNotStart)
+        }
+    }
+}
+
+// How often an engine is asked whether it has ended, a millisecond apart, before its output is closed.
+const GRACE: u32 = 500;
+
+// Waits a little for the end of an engine whose input is closed, so that its last words meet an open pipe.
+fn give_grace<C: Clock, P: OpenProcess>(rt: &C, child: &mut Child<P>) {
+    for _ in 0..GRACE {
+        match child.try_wait() {
+            Ok(None) => {}
+            _ => break,
+        }
+        thread::sleep(rt, Duration::from_millis(1));
+    }
+}
+
+/// Closes an engine's input, gives it half a second to end by itself, closes its output and waits for its end.
+pub(crate) fn finish<C: Clock, P: OpenProcess + Drop>(rt: &C, engine: Engine<P>) {
+    let Engine { mut child, ends } = engine;
+    let Ends { reader, writer } = ends;
+    drop(writer);
+    give_grace(rt, &mut child);
+    drop(reader);
+    let _ = child.wait();
+}

@@ -1,0 +1,445 @@
+//! Matches between engines that run as processes: the program itself, as a stub.
+
+use crate::moments::SinceStart;
+use crate::program::run_program;
+use byte_devices::{Counted, PieceReader, PieceWriter};
+use chess_match::Moments;
+use std::alloc::Global;
+use std::env;
+use std::test::Fail;
+
+// What a child of a test runs: the program, on the words behind this test's name. It also runs by itself, with no words.
+#[test]
+fn acts_as_the_program(rt: HostRuntime) -> Result<(), Fail> {
+    let owned = env::args(&rt)?.skip(2).collect::<Vec<String>>(rt.alloc())?;
+    let mut words = Vec::new(rt.alloc());
+    for word in &owned {
+        words.push(word.as_str())?;
+    }
+    let _status = run_program(
+        &rt,
+        rt.alloc(),
+        words.as_slice(),
+        &mut Counted::reading(rt.stdin()),
+        &mut Counted::writing(rt.stdout()),
+        &mut Counted::writing(rt.stderr()),
+    );
+    Ok(())
+}
+
+// The command of a stub that plays these words.
+fn stub(rt: &HostRuntime, words: &str) -> Result<String, Fail> {
+    let program = env::args(rt)?.next().ok_or("the program's name")?;
+    Ok(format!(in rt.alloc(); "{program} engine_tests::acts_as_the_program stub {words}")?)
+}
+
+/// A match over processes: the words of both stubs, the other words, what is written, told and answered.
+struct Played {
+    white: &'static str,
+    black: &'static str,
+    others: &'static [&'static str],
+    output: &'static str,
+    errors: &'static str,
+    status: u8,
+}
+
+const PLAYED: [Played; 7] = [
+    Played {
+        white: "f2f3 g2g4",
+        black: "e7e5 d8h4",
+        others: &[],
+        output: "[Event \"CECP match\"]\n[Site \"?\"]\n[Date \"????.??.??\"]\n[Round \"1\"]\n[White \"stub\"]\n[Black \"stub\"]\n[Result \"0-1\"]\n[Termination \"normal\"]\n\n1. f3 e5 2. g4 Qh4# 0-1\n\nscore first 0 second 1 drawn 0 unfinished 0\n",
+        errors: "",
+        status: 0,
+    },
+    // The second game's White begins with Black's first move.
+    Played {
+        white: "f2f3 g2g4",
+        black: "e7e5 d8h4",
+        others: &["--games", "2", "--date", "2026.11.23"],
+        output: "[Event \"CECP match\"]\n[Site \"?\"]\n[Date \"2026.11.23\"]\n[Round \"1\"]\n[White \"stub\"]\n[Black \"stub\"]\n[Result \"0-1\"]\n[Termination \"normal\"]\n\n1. f3 e5 2. g4 Qh4# 0-1\n\n[Event \"CECP match\"]\n[Site \"?\"]\n[Date \"2026.11.23\"]\n[Round \"2\"]\n[White \"stub\"]\n[Black \"stub\"]\n[Result \"0-1\"]\n[Termination \"rules infraction\"]\n\n0-1\n\nscore first 1 second 1 drawn 0 unfinished 0\n",
+        errors: "",
+        status: 0,
+    },
+    // A fault ends the match, whatever number of games was asked for.
+    Played {
+        white: "end",
+        black: "",
+        others: &["--games", "3"],
+        output: "[Event \"CECP match\"]\n[Site \"?\"]\n[Date \"????.??.??\"]\n[Round \"1\"]\n[White \"stub\"]\n[Black \"stub\"]\n[Result \"*\"]\n[Termination \"unterminated\"]\n\n*\n\nscore first 0 second 0 drawn 0 unfinished 1\n",
+        errors: "arbiter: game 1: White ended its output\n",
+        status: 1,
+    },
+    Played {
+        white: "e2e4 end",
+        black: "e7e5 end",
+        others: &[],
+        output: "[Event \"CECP match\"]\n[Site \"?\"]\n[Date \"????.??.??\"]\n[Round \"1\"]\n[White \"stub\"]\n[Black \"stub\"]\n[Result \"*\"]\n[Termination \"unterminated\"]\n\n1. e4 e5 *\n\nscore first 0 second 0 drawn 0 unfinished 1\n",
+        errors: "arbiter: game 1: White ended its output\n",
+        status: 1,
+    },
+    Played {
+        white: "g1f3 f3g1 g1f3 f3g1",
+        black: "g8f6 f6g8 g8f6 f6g8 claim",
+        others: &["--level", "0 1 0"],
+        output: "[Event \"CECP match\"]\n[Site \"?\"]\n[Date \"????.??.??\"]\n[Round \"1\"]\n[White \"stub\"]\n[Black \"stub\"]\n[Result \"1/2-1/2\"]\n[Termination \"normal\"]\n\n1. Nf3 Nf6 2. Ng1 Ng8 3. Nf3 Nf6 4. Ng1 Ng8 1/2-1/2\n\nscore first 0 second 0 drawn 1 unfinished 0\n",
+        errors: "",
+        status: 0,
+    },
+    Played {
+        white: "",
+        black: "e2e3",
+        others: &["--fen", "4k3/8/8/8/8/8/4P3/4K3 w - - 5 9"],
+        output: "[Event \"CECP match\"]\n[Site \"?\"]\n[Date \"????.??.??\"]\n[Round \"1\"]\n[White \"stub\"]\n[Black \"stub\"]\n[Result \"0-1\"]\n[FEN \"4k3/8/8/8/8/8/4P3/4K3 w - - 5 9\"]\n[SetUp \"1\"]\n[Termination \"normal\"]\n\n0-1\n\nscore first 0 second 1 drawn 0 unfinished 0\n",
+        errors: "",
+        status: 0,
+    },
+    // The stub says nothing of variants, so it is taken to play each.
+    Played {
+        white: "O-O",
+        black: "",
+        others: &[
+            "--variant",
+            "fischerandom",
+            "--fen",
+            "4k3/8/8/8/8/8/8/RK5R w KQ - 0 1",
+        ],
+        output: "[Event \"CECP match\"]\n[Site \"?\"]\n[Date \"????.??.??\"]\n[Round \"1\"]\n[White \"stub\"]\n[Black \"stub\"]\n[Result \"1-0\"]\n[FEN \"4k3/8/8/8/8/8/8/RK5R w HA - 0 1\"]\n[SetUp \"1\"]\n[Termination \"normal\"]\n[Variant \"fischerandom\"]\n\n1. O-O 1-0\n\nscore first 1 second 0 drawn 0 unfinished 0\n",
+        errors: "",
+        status: 0,
+    },
+];
+
+// The words of a match.
+fn words_of(rt: &HostRuntime, played: &Played) -> Result<Vec<String>, Fail> {
+    let mut words = Vec::new(rt.alloc());
+    words.push(String::from_str(rt.alloc(), "match")?)?;
+    words.push(String::from_str(rt.alloc(), "--white")?)?;
+    words.push(stub(rt, played.white)?)?;
+    words.push(String::from_str(rt.alloc(), "--black")?)?;
+    words.push(stub(rt, played.black)?)?;
+    for word in played.others {
+        words.push(String::from_str(rt.alloc(), word)?)?;
+    }
+    Ok(words)
+}
+
+#[test]
+fn stubs_play(rt: HostRuntime) -> Result<(), Fail> {
+    for played in &PLAYED {
+        let owned = words_of(&rt, played)?;
+        let mut words = Vec::new(rt.alloc());
+        for word in &owned {
+            words.push(word.as_str())?;
+        }
+        // The input is not read, so its failure is not met.
+        let mut input = Counted::reading(PieceReader::new(b"x", 1, 1));
+        let mut output = Counted::writing(Vec::<u8>::new(rt.alloc()));
+        let mut errors = Counted::writing(Vec::<u8>::new(rt.alloc()));
+        let status = run_program(
+            &rt,
+            rt.alloc(),
+            words.as_slice(),
+            &mut input,
+            &mut output,
+            &mut errors,
+        );
+        assert_eq!(rt;
+            std::str::from_utf8(output.writer().as_slice())?,
+            played.output
+        );
+        assert_eq!(rt;
+            std::str::from_utf8(errors.writer().as_slice())?,
+            played.errors
+        );
+        assert_eq!(rt; status, played.status);
+    }
+    Ok(())
+}
+
+// Whether a match ends before a game, with that told.
+fn ends_early(rt: &HostRuntime, words: &[&str], told: &[u8], wanted: u8) -> bool {
+    let mut input = Counted::reading(b"".as_slice());
+    let mut output = Counted::writing(Vec::<u8>::new(rt.alloc()));
+    let mut errors = Counted::writing(Vec::<u8>::new(rt.alloc()));
+    let status = run_program(rt, rt.alloc(), words, &mut input, &mut output, &mut errors);
+    output.writer().is_empty() && errors.writer().as_slice() == told && status == wanted
+}
+
+#[test]
+fn engines_that_can_not_start(rt: HostRuntime) -> Result<(), Fail> {
+    let stub = stub(&rt, "e2e4")?;
+    assert!(rt;
+        ends_early(
+            &rt,
+            &[
+                "match",
+                "--white",
+                "/no/such/engine x",
+                "--black",
+                stub.as_str()
+            ],
+            b"arbiter: can not start /no/such/engine x\n",
+            1
+        )
+    );
+    assert!(rt;
+        ends_early(
+            &rt,
+            &[
+                "match",
+                "--white",
+                stub.as_str(),
+                "--black",
+                "/no/such/engine"
+            ],
+            b"arbiter: can not start /no/such/engine\n",
+            1
+        )
+    );
+    assert!(rt;
+        ends_early(
+            &rt,
+            &["match", "--white", stub.as_str(), "--black", " \t"],
+            b"arbiter: can not start  \t\n",
+            1
+        )
+    );
+    Ok(())
+}
+
+#[test]
+fn matches_out_of_form(rt: HostRuntime) {
+    assert!(rt;
+        ends_early(
+            &rt,
+            &["match", "--white", "x", "--black", "y", "--level", "40 5"],
+            b"arbiter: bad level\n",
+            2
+        )
+    );
+    assert!(rt;
+        ends_early(
+            &rt,
+            &[
+                "match", "--white", "x", "--black", "y", "--level", "0 0:60 0"
+            ],
+            b"arbiter: bad level\n",
+            2
+        )
+    );
+    assert!(rt;
+        ends_early(
+            &rt,
+            &[
+                "match",
+                "--white",
+                "x",
+                "--black",
+                "y",
+                "--fen",
+                "8/8/8/8/8/8/8/8 w - - 0 1"
+            ],
+            b"arbiter: illegal position (kings)\n",
+            2
+        )
+    );
+    assert!(rt;
+        ends_early(
+            &rt,
+            &["match", "--white", "x", "--black", "y", "--date", "\u{7f}"],
+            b"arbiter: bad date\n",
+            2
+        )
+    );
+}
+
+// The output fails at the calls of a match of two games: at most this number.
+#[test]
+fn a_match_on_a_failed_output(rt: HostRuntime) -> Result<(), Fail> {
+    let (white, black) = (stub(&rt, "")?, stub(&rt, "")?);
+    let words = [
+        "match",
+        "--white",
+        white.as_str(),
+        "--black",
+        black.as_str(),
+        "--games",
+        "2",
+    ];
+    let mut whole = Counted::writing(Vec::<u8>::new(rt.alloc()));
+    let mut nothing = Counted::reading(b"".as_slice());
+    let mut errors = Counted::writing(Vec::<u8>::new(rt.alloc()));
+    let status = run_program(
+        &rt,
+        rt.alloc(),
+        words.as_slice(),
+        &mut nothing,
+        &mut whole,
+        &mut errors,
+    );
+    assert_eq!(rt; status, 0);
+    for fails in 1..=6 {
+        let mut output = Counted::writing(PieceWriter::new(rt.alloc(), 4096, fails));
+        let mut errors = Counted::writing(Vec::<u8>::new(rt.alloc()));
+        let status = run_program(
+            &rt,
+            rt.alloc(),
+            words.as_slice(),
+            &mut nothing,
+            &mut output,
+            &mut errors,
+        );
+        assert!(rt; whole.writer().starts_with(output.writer().bytes.as_slice()));
+        assert_eq!(rt;
+            errors.writer().as_slice(),
+            b"arbiter: write failed\n".as_slice()
+        );
+        assert_eq!(rt; status, 1);
+    }
+    Ok(())
+}
+
+#[test]
+fn moments_rise(rt: HostRuntime) {
+    let mut moments = SinceStart::new(&rt);
+    for _ in 0..100_000_000 {
+        if moments.now() >= 50 {
+            return;
+        }
+    }
+    assert!(rt; false);
+}
+
+/// A stub over memory: its words, the input, where calls of the devices fail (0: nowhere), and what is said.
+struct Said {
+    words: &'static [&'static str],
+    input: &'static [u8],
+    fails: (u64, u64),
+    output: &'static [u8],
+    errors: &'static [u8],
+    status: u8,
+}
+
+const SAID: [Said; 12] = [
+    Said {
+        words: &["stub", "e2e4", "offer"],
+        input: b"protover 2\nping 3\ngo\nusermove e7e5\n",
+        fails: (0, 0),
+        output: b"feature ping=1 setboard=1 usermove=1 myname=\"stub\" done=1\npong 3\nmove e2e4\noffer draw\nresign\n",
+        errors: b"",
+        status: 0,
+    },
+    Said {
+        words: &["stub"],
+        input: b"xboard\nnew\nusermove e2e4\nforce\nlevel 40 5 0\ntime 3\ndraw\n\nping x\nusermove\nundo\n?\nresult * {x}\n",
+        fails: (0, 0),
+        output: b"",
+        errors: b"",
+        status: 0,
+    },
+    // It plays from `go` on, up to `new` or `force`.
+    Said {
+        words: &["stub", "a", "b", "c"],
+        input: b"usermove x\ngo\nusermove x\nforce\nusermove x\ngo\nnew\nusermove x\ngo\n",
+        fails: (0, 0),
+        output: b"move a\nmove b\nmove c\nresign\n",
+        errors: b"",
+        status: 0,
+    },
+    Said {
+        words: &[
+            "stub", "e2e4", "claim", "offer", "claim", "offers", "resign", "offer",
+        ],
+        input: b"go\r\n usermove x \nusermove x\nusermove x\n",
+        fails: (0, 0),
+        output: b"move e2e4\n1/2-1/2 {Draw by repetition}\noffer draw\n1/2-1/2 {Draw by repetition}\nmove offers\nresign\noffer draw\nresign\n",
+        errors: b"",
+        status: 0,
+    },
+    Said {
+        words: &["stub", "end", "e2e4"],
+        input: b"go\nping 1\n",
+        fails: (0, 0),
+        output: b"mov",
+        errors: b"",
+        status: 0,
+    },
+    Said {
+        words: &["stub", "e2e4"],
+        input: b"quit\ngo\n",
+        fails: (0, 0),
+        output: b"",
+        errors: b"",
+        status: 0,
+    },
+    Said {
+        words: &["stub"],
+        input: b"ping 007",
+        fails: (0, 0),
+        output: b"pong 7\n",
+        errors: b"",
+        status: 0,
+    },
+    // The first word is played, whatever it is; it is longer than a line that is put together.
+    Said {
+        words: &["stub", "0123456789012345678901234567890123456789"],
+        input: b"go\n",
+        fails: (0, 0),
+        output: b"move 0123456789012345678901234567890123456789\n",
+        errors: b"",
+        status: 0,
+    },
+    Said {
+        words: &["stub", "offer"],
+        input: b"go\n",
+        fails: (0, 0),
+        output: b"move offer\n",
+        errors: b"",
+        status: 0,
+    },
+    Said {
+        words: &["stub", "e2e4"],
+        input: b"ping 1\nping 2\ngo\n",
+        fails: (2, 0),
+        output: b"pong 1\npong 2\nmove e2e4\n",
+        errors: b"arbiter: read failed\n",
+        status: 1,
+    },
+    Said {
+        words: &["stub", "e2e4"],
+        input: b"ping 1\nping 2\ngo\n",
+        fails: (0, 3),
+        output: b"pong 1\n",
+        errors: b"arbiter: write failed\n",
+        status: 1,
+    },
+    Said {
+        words: &["stub", "e2e4"],
+        input: b"ping 1\nping 2\ngo\n",
+        fails: (0, 4),
+        output: b"pong 1\npong 2\n",
+        errors: b"arbiter: write failed\n",
+        status: 1,
+    },
+];
+
+#[test]
+fn stubs_say(rt: HostRuntime) {
+    for said in &SAID {
+        let mut input = Counted::reading(PieceReader::new(said.input, 1024, said.fails.0));
+        let mut output = Counted::writing(PieceWriter::new(rt.alloc(), 1024, said.fails.1));
+        let mut errors = Counted::writing(Vec::<u8>::new(rt.alloc()));
+        let status = run_program(
+            &rt,
+            rt.alloc(),
+            said.words,
+            &mut input,
+            &mut output,
+            &mut errors,
+        );
+        assert_eq!(rt; output.writer().bytes.as_slice(), said.output);
+        assert_eq!(rt; errors.writer().as_slice(), said.errors);
+        assert_eq!(rt; status, said.status);
+    }
+}

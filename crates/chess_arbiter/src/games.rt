@@ -1,0 +1,309 @@
+//! The games of a match, one after another.
+
+ghost use Rattle.std.specs.Prelude.{◌≡◌, ◌⊎◌, [], IfErr};
+ghost use Rattle.byte_devices.specs.Devices.{Sends};
+ghost use Rattle.chess_pgn.specs.GameText.{pgn};
+ghost use Rattle.chess_arbiter.specs.Games.{FailsToStart, HasPlayed, IsMatchEnd, PlayedOne, RanGames, black_command, is_odd, name_of, score_line, tags_of, white_command};
+
+use crate::engine::{Engine, StartFault, finish, start};
+use crate::fault::ProgramFault;
+use crate::moments::SinceStart;
+use crate::score::Score;
+use arbiter_words::MatchPlan;
+use byte_devices::{Output, WriteFault, put};
+use chess_base::Colour;
+use chess_game::Game;
+use chess_match::{Ends, MatchEnd, MatchFault, Moments, Reason, Setup, run_match};
+use chess_moves::Plain;
+use chess_pgn::{TagText, Tags, write_pgn};
+use itoa::Buffer;
+use std::alloc::Global;
+use std::process::{OpenProcess, Processes};
+use std::rt::Clock;
+use thiserror::Error;
+
+// The most half-moves of a game.
+const GAME_LIMIT: u32 = 20_000;
+
+/// Why a match was not played to its end.
+#[derive(Clone, Copy, Debug, Error)]
+pub(crate) enum GamesFault<'a> {
+    /// A write or a flush of the output failed.
+    #[error("write failed")]
+    WriteFailed,
+    /// There was no memory.
+    #[error("no memory")]
+    NoMemory,
+    /// An engine of that command could not be started.
+    #[error("can not start {0}")]
+    CanNotStart(&'a str),
+    /// An engine failed in that game.
+    #[error("game {0}: {1}")]
+    Game(u32, &'static str),
+}
+
+// What a fault of a side's engine is told as.
+fn fault_text(side: Colour, fault: MatchFault) -> &'static str {
+    str::from_utf8(Reason::Faulted(side, fault).comment()).unwrap_or("?")
+}
+
+// Whether the first engine has White.
+fn is_odd(number: u32) -> bool
+    ensures { result ≡ is_odd number }
+{
+    number % 2 == 1
+}
+
+// The command of White's engine.
+fn white_command<'a>(plan: &MatchPlan<'a>, number: u32) -> &'a str
+    ensures { result.now ≡ white_command plan.now number }
+{
+    if is_odd(number) {
+        plan.white
+    } else {
+        plan.black
+    }
+}
+
+// The command of Black's engine.
+fn black_command<'a>(plan: &MatchPlan<'a>, number: u32) -> &'a str
+    ensures { result.now ≡ black_command plan.now number }
+{
+    if is_odd(number) {
+        plan.black
+    } else {
+        plan.white
+    }
+}
+
+// The name that an engine gave itself, or else its command.
+fn name_of(name: &TagText, command: &str) -> TagText
+    ensures { result ≡ name_of name.now command.now }
+{
+    let given = name.as_bytes();
+    if given.is_empty() {
+        TagText::cut(command.as_bytes())
+    } else {
+        TagText::cut(given)
+    }
+}
+
+// The tags of the game with that number.
+fn tags_of(plan: &MatchPlan<'_>, number: u32, end: &MatchEnd) -> Tags
+    ensures { result ≡ tags_of plan.now number end.now }
+{
+    let mut buffer = Buffer::new();
+    Tags {
+        event: TagText::cut(b"CECP match"),
+        site: TagText::cut(b"?"),
+        date: TagText::cut(plan.date.as_bytes()),
+        round: TagText::cut(buffer.format(number).as_bytes()),
+        white: name_of(&end.white_name, white_command(plan, number)),
+        black: name_of(&end.black_name, black_command(plan, number)),
+        ended: end.ended,
+    }
+}
+
+// One game between two engines that run; both are ended.
+fn play_game<C: Clock, P: OpenProcess + Drop, M: Moments>(
+    rt: &C,
+    white: Engine<P>,
+    black: Engine<P>,
+    moments: &mut M,
+    setup: &Setup,
+    game: &mut Game<Plain>,
+    scratch: &mut Plain,
+) -> MatchEnd
+    ensures played { IsMatchEnd setup.now.start setup.now.level game.old game.new result }
+    ensures limit { game.new.limit ≡ game.old.limit }
+{
+    let Engine {
+        child: white_child,
+        ends: mut white_ends,
+    } = white;
+    let Engine {
+        child: black_child,
+        ends: mut black_ends,
+    } = black;
+    let end = run_match(
+        &mut white_ends,
+        &mut black_ends,
+        moments,
+        setup,
+        game,
+        scratch,
+    );
+    finish(
+        rt,
+        Engine {
+            child: white_child,
+            ends: white_ends,
+        },
+    );
+    finish(
+        rt,
+        Engine {
+            child: black_child,
+            ends: black_ends,
+        },
+    );
+    end
+}
+
+// Writes a game's text and hands it on.
+fn write_game<W: Output>(
+    game: &Game<Plain>,
+    scratch: &mut Plain,
+    tags: &Tags,
+    output: &mut W,
+) -> Result<(), WriteFault>
+    ensures { Sends (W.seen output.old) (W.seen output.new) result (pgn [] tags.now game.now.state) }
+{
+    write_pgn(game, scratch, tags, b"", output)?;
+    output.flush()
+}
+
+// Writes the score and hands it on.
+fn write_score<W: Output>(score: Score, output: &mut W) -> Result<(), WriteFault>
+    ensures { Sends (W.seen output.old) (W.seen output.new) result (score_line score) }
+{
+    put(output, score.line().as_slice())?;
+    output.flush()
+}
+
+// What a fault at the start of an engine is told as.
+fn start_fault<'a>(fault: StartFault, command: &'a str) -> GamesFault<'a>
+    ensures { FailsToStart command.entry.now result }
+{
+    match fault {
+        StartFault::NoMemory => GamesFault::NoMemory,
+        StartFault::CanNotStart => GamesFault::CanNotStart(command),
+    }
+}
+
+// Starts both engines of a game. Where Black's can't be started, White's is ended.
+fn start_both<'a, P: Processes + Clock>(
+    rt: &P,
+    alloc: Global,
+    white: &'a str,
+    black: &'a str,
+) -> Result<(Engine<P::Started>, Engine<P::Started>), GamesFault<'a>>
+    ensures { IfErr result (λ f. FailsToStart white.entry.now f ⊎ FailsToStart black.entry.now f) }
+{
+    let white_engine = match start(rt, alloc, white) {
+        Ok(engine) => engine,
+        Err(fault) => return Err(start_fault(fault, white)),
+    };
+    match start(rt, alloc, black) {
+        Ok(black_engine) => Ok((white_engine, black_engine)),
+        Err(fault) => {
+            finish(rt, white_engine);
+            Err(start_fault(fault, black))
+        }
+    }
+}
+
+// Plays the game with that number, writes its text and hands it on.
+fn play_one<'a, P: Processes + Clock, M: Moments, W: Output>(
+    rt: &P,
+    alloc: Global,
+    plan: &MatchPlan<'a>,
+    number: u32,
+    moments: &mut M,
+    game: &mut Game<Plain>,
+    scratch: &mut Plain,
+    output: &mut W,
+) -> Result<MatchEnd, GamesFault<'a>>
+    requires limit { game.old.limit ≡ 20000 }
+    ensures limit { game.new.limit ≡ 20000 }
+    ensures played { PlayedOne plan.now number (W.seen output.old) (W.seen output.new) result }
+{
+    let (white, black) = match start_both(
+        rt,
+        alloc,
+        white_command(plan, number),
+        black_command(plan, number),
+    ) {
+        Ok(engines) => engines,
+        Err(fault) => return Err(fault),
+    };
+    let setup = Setup {
+        start: plan.start,
+        level: plan.level,
+    };
+    let end = play_game(rt, white, black, moments, &setup, game, scratch);
+    let tags = tags_of(plan, number, &end);
+    match write_game(game, scratch, &tags, output) {
+        Ok(()) => Ok(end),
+        Err(_) => Err(GamesFault::WriteFailed),
+    }
+}
+
+/// The score of the games that were played, and the fault that ended them.
+#[derive(Clone, Copy)]
+struct Played {
+    score: Score,
+    fault: Option<(u32, Colour, MatchFault)>,
+}
+
+// Plays game after game, up to the first with a fault.
+fn play_each<'a, P: Processes + Clock, M: Moments, W: Output>(
+    rt: &P,
+    alloc: Global,
+    plan: &MatchPlan<'a>,
+    moments: &mut M,
+    game: &mut Game<Plain>,
+    output: &mut W,
+) -> Result<Played, GamesFault<'a>>
+    requires { game.old.limit ≡ 20000 }
+    ensures { HasPlayed plan.now (W.seen output.old) (W.seen output.new) result }
+{
+    let mut scratch = Plain::new();
+    let mut score = Score::new();
+    let mut number: u32 = 0;
+    while number < u32::from(plan.games) {
+        number += 1;
+        let end = match play_one(rt, alloc, plan, number, moments, game, &mut scratch, output) {
+            Ok(end) => end,
+            Err(fault) => return Err(fault),
+        };
+        score = score.after(is_odd(number), end.outcome);
+        if let Some((side, fault)) = end.fault {
+            return Ok(Played {
+                score,
+                fault: Some((number, side, fault)),
+            });
+        }
+    }
+    Ok(Played { score, fault: None })
+}
+
+/// Plays the games of a match, with colours changed after each, and writes each game's text and then the score.
+///
+/// # Errors
+/// Where an engine can't be started, there is no memory, the output failed, or an engine failed in a game, which is then
+/// the last.
+pub(crate) fn play_games<'a, P: Processes + Clock, W: Output>(
+    rt: &P,
+    alloc: Global,
+    plan: &MatchPlan<'a>,
+    output: &mut W,
+) -> Result<(), GamesFault<'a>>
+    ensures { RanGames plan.now (W.seen output.old) (W.seen output.new) result }
+{
+    let Ok(mut game) = Game::open(alloc, Plain::new(), GAME_LIMIT) else {
+        return Err(GamesFault::NoMemory);
+    };
+    let mut moments = SinceStart::new(rt);
+    let played = match play_each(rt, alloc, plan, &mut moments, &mut game, output) {
+        Ok(played) => played,
+        Err(fault) => return Err(fault),
+    };
+    if write_score(played.score, output).is_err() {
+        return Err(GamesFault::WriteFailed);
+    }
+    match played.fault {
+        None => Ok(()),
+        Some((number, side, fault)) => Err(GamesFault::Game(number, fault_text(side, fault))),
+    }
+}

@@ -1,0 +1,39 @@
+//! Moments by a clock.
+
+use chess_match::Moments;
+use std::rt::Clock;
+use std::time::Instant;
+
+/// The milliseconds since this was made, by a runtime's monotonic clock; 0 where that can't be read.
+#[derive(Drop)]
+pub(crate) struct SinceStart<'a, R> {
+    rt: &'a R,
+    start: Option<Instant>,
+}
+
+impl<'a, R: Clock> SinceStart<'a, R> {
+    /// From now on.
+    pub fn new(rt: &'a R) -> Self {
+        SinceStart {
+            rt,
+            start: Instant::now(rt).ok(),
+        }
+    }
+}
+
+impl<R: Clock> Moments for SinceStart<'_, R> {
+    ghost use Rattle.std.specs.Prelude.{None};
+
+    // What the clock will tell isn't known.
+    ghost coming = { λ m n. None };
+
+    fn now(&mut self) -> u64 {
+        let Some(start) = self.start else {
+            return 0;
+        };
+        match Instant::now(self.rt) {
+            Ok(now) => u64::try_from(now.duration_since(start).as_millis()).unwrap_or(u64::MAX),
+            Err(_) => 0,
+        }
+    }
+}
