@@ -1,8 +1,7 @@
 -- Men that are on no line with their king, which is not in check: where they go, they go legally.
 use Rattle.std.proofs.Common.{◌≡◌, ℕ, ◌+◌, ◌<◌, ◌≤◌, ◌⊎◌, inl, inr, Bool, true, false, not, ◌&&◌, ◌||◌, ◌==◌, Option, Some, None, List, [], ◌∷◌, length, refl, sym, ap, ◌∙◌, length-append, arith}
 use Rattle.std.specs.List.{flat_map}
-use Rattle.std.specs.Option.{is_some}
-use Rattle.std.proofs.lemmas.Bool.{and_parts, and_right, or_cases, or_left, or_right, or_parts, eqb-true, eq-eqb, ne_eqb, false_from_ne_true, both_ways}
+use Rattle.std.proofs.lemmas.Bool.{and_parts, and_right, or_cases, or_left, or_right, or_parts, eqb-true, eq-eqb, ne_eqb, false_from_ne_true, both_ways, cases_Bool, and_left}
 use Rattle.chess_base.specs.declared.man.Colour.{Colour}
 use Rattle.chess_base.specs.declared.man.Colour.TheVariants.{White, Black}
 use Rattle.chess_base.specs.declared.man.CastlingSide.TheVariants.{KingSide, QueenSide}
@@ -10,7 +9,7 @@ use Rattle.chess_base.specs.declared.man.Kind.TheVariants.{King, Pawn}
 use Rattle.chess_base.specs.declared.man.Man.{Man}
 use Rattle.chess_base.specs.declared.man.Move.{Move}
 use Rattle.chess_base.specs.declared.setup.Setup.{Setup}
-use Rattle.chess_base.specs.Attacks.{attacks, is_in_check, is_attacked, is_rank_ahead}
+use Rattle.chess_base.specs.Attacks.{attacks, is_in_check, is_attacked, is_rank_ahead, could_capture, could_capture_as}
 use Rattle.chess_base.specs.Castling.{castle_of, castling_rook_to}
 use Rattle.chess_base.specs.Men.{man_at, other, is_of, is_man, forward, first_rank, pawn_rank}
 use Rattle.chess_base.specs.MoveList.{triple}
@@ -21,7 +20,9 @@ use Rattle.chess_base.proofs.Changes.{advance_goes, pawn_attack}
 use Rattle.chess_base.proofs.OverSquares.{each_square-at}
 use Rattle.chess_moves.specs.Candidates.{would_promote, moves_between, moves_from}
 use Rattle.chess_moves.specs.Sets.{has, members}
-use Rattle.chess_bits.specs.Goes.{goes, IsFree}
+use Rattle.chess_bits.specs.declared.table.Shape.TheVariants as shape
+use Rattle.chess_bits.specs.Shapes.{in_shape}
+use Rattle.chess_bits.specs.Goes.{goes, aims_at, IsFree}
 use Rattle.chess_bits.proofs.AfterSets.{check_is}
 use Rattle.chess_bits.proofs.Counted.{one_counted}
 use Rattle.chess_bits.proofs.KingAfter.{mover_some, mover_own, king_stays, check_after, legal_is}
@@ -29,6 +30,7 @@ use Rattle.chess_bits.proofs.Listed.{Each, each_member, from_targets, pattern_of
 use Rattle.chess_bits.proofs.OriginsOf.{off_lowest}
 use Rattle.chess_bits.proofs.Patterns.{pawn_goes}
 use Rattle.chess_bits.proofs.Quiet.{IsPlain, stays_safe}
+use Rattle.chess_bits.proofs.Reached.{pawn_from}
 use Rattle.chess_bits.proofs.TargetsOf.{man_told, no_king_says, none_castles}
 
 -- ---- the king stays safe
@@ -83,11 +85,26 @@ capture_stays : (c : Colour) (a b : ℕ) → (rank a ≡ pawn_rank (other c) →
 capture_stays White a b off ahead = λ last. let e = eqb-true (rank b) (rank a + 1) ahead in off (omega (arith, e, last))
 capture_stays Black a b off ahead = λ last. let e = eqb-true (rank a) (rank b + 1) ahead in off (omega (arith, e, last))
 
-pawn_usual : (p : Setup) (a : ℕ) → IsSound p → a < 64 → is_man p.side Pawn (man_at p.men a) ≡ true → p.target ≡ None → (rank a ≡ pawn_rank (other p.side) → ⊥) → IsUsual p a
+-- a pawn that doesn't attack the target doesn't take there
+not_taken : (p : Setup) (a b : ℕ) (o : Option ℕ) → is_man p.side Pawn (man_at p.men a) ≡ true → aims_at o p.side a ≡ false
+    → ((is_man p.side Pawn (man_at p.men a) && attacks p.men a b) && is_square o b) ≡ false
+unfolding attacks
+not_taken p a b None pawn off = and_right (is_man p.side Pawn (man_at p.men a) && attacks p.men a b) false refl
+not_taken p a b (Some t) pawn off =
+    elim (cases_Bool (t == b)) [
+      | inl same ↦
+          let at : t ≡ b = eqb-true t b same in
+          let miss : could_capture p.men p.side Pawn a b ≡ false = sym (pawn_from p.men p.side a b) ∙ ap (λ s. in_shape (shape.Pawn p.side) a s) (sym at) ∙ off in
+          let free : attacks p.men a b ≡ false = ap (λ x. could_capture_as p.men x a b) (man_told p.side Pawn (man_at p.men a) pawn) ∙ miss in
+          and_left (is_man p.side Pawn (man_at p.men a) && attacks p.men a b) (t == b) (and_right (is_man p.side Pawn (man_at p.men a)) (attacks p.men a b) free)
+      | inr apart ↦ and_right (is_man p.side Pawn (man_at p.men a) && attacks p.men a b) (t == b) apart
+    ]
+
+pawn_usual : (p : Setup) (a : ℕ) → IsSound p → a < 64 → is_man p.side Pawn (man_at p.men a) ≡ true → aims_at p.target p.side a ≡ false → (rank a ≡ pawn_rank (other p.side) → ⊥) → IsUsual p a
 unfolding would_promote is_en_passant no_pawn_on_end_ranks pawn_captures
 pawn_usual p a sound low pawn no_target off = record {
   stays = λ b high go. and_right (is_man p.side Pawn (man_at p.men a)) (rank b == first_rank (other p.side)) (ne_eqb (rank b) (first_rank (other p.side)) (last b high go));
-  passes = λ b. and_right (is_man p.side Pawn (man_at p.men a) && attacks p.men a b) (is_square p.target b) (rw no_target refl);
+  passes = λ b. not_taken p a b p.target pawn no_target;
 }
   where
     last : (b : ℕ) → b < 64 → goes p a b ≡ true → rank b ≡ first_rank (other p.side) → ⊥
@@ -102,19 +119,15 @@ pawn_usual p a sound low pawn no_target off = record {
         ]
 
 -- as the code tells it
-pub usual_from : (p : Setup) (a : ℕ) (t r : Bool) → IsSound p → a < 64 → t ≡ is_some p.target → r ≡ (rank a == pawn_rank (other p.side))
-    → (is_man p.side Pawn (man_at p.men a) && (t || r)) ≡ false → IsUsual p a
-usual_from p a t r sound low target rank_is h = by (is_man p.side Pawn (man_at p.men a)) refl h
+pub usual_from : (p : Setup) (a : ℕ) → IsSound p → a < 64
+    → (is_man p.side Pawn (man_at p.men a) && (aims_at p.target p.side a || (rank a == pawn_rank (other p.side)))) ≡ false → IsUsual p a
+usual_from p a sound low h = by (is_man p.side Pawn (man_at p.men a)) refl h
   where
-    none_set : (o : Option ℕ) → is_some o ≡ false → o ≡ None
-    none_set None e = refl
-    none_set (Some x) e = cc
-
-    by : (b : Bool) → is_man p.side Pawn (man_at p.men a) ≡ b → (b && (t || r)) ≡ false → IsUsual p a
+    by : (b : Bool) → is_man p.side Pawn (man_at p.men a) ≡ b → (b && (aims_at p.target p.side a || (rank a == pawn_rank (other p.side)))) ≡ false → IsUsual p a
     by false e g = no_pawn_usual p a e
     by true e g =
-        let neither = or_parts t r g in
-        pawn_usual p a sound low e (none_set p.target (sym target ∙ neither.0)) (λ same. both_ways (rank a == pawn_rank (other p.side)) (sym rank_is ∙ neither.1) (eq-eqb (rank a) (pawn_rank (other p.side)) same))
+        let neither = or_parts (aims_at p.target p.side a) (rank a == pawn_rank (other p.side)) g in
+        pawn_usual p a sound low e neither.0 (λ same. both_ways (rank a == pawn_rank (other p.side)) neither.1 (eq-eqb (rank a) (pawn_rank (other p.side)) same))
 
 -- ---- so each square is the end of one legal move
 

@@ -15,6 +15,8 @@ use Rattle.chess_base.specs.Men.{man_at, is_man}
 use Rattle.chess_base.specs.MoveList.{triple}
 use Rattle.chess_base.specs.Moves.{has_pattern, is_legal, man_moves}
 use Rattle.chess_base.specs.Squares.{share_rank_or_file, share_diagonal}
+use Rattle.chess_bits.specs.declared.table.Shape.TheVariants as shape
+use Rattle.chess_bits.specs.Shapes.{in_shape}
 use Rattle.chess_moves.specs.Candidates.{would_promote}
 
 -- where a pawn promotes, one promotion stands for all: to a queen
@@ -48,3 +50,8 @@ man_goes p a b = legal_or p (triple a b None) (castle_of p (triple a b None)) (m
 pub record IsFree (p : Setup) (a : ℕ) : Type 0 where
   pub calm : is_in_check p.men p.side ≡ false
   pub away : (k : ℕ) → k < 64 → is_man p.side King (man_at p.men k) ≡ true → (share_rank_or_file a k || share_diagonal a k) ≡ false
+
+-- a pawn of colour c on a attacks that square, if there is one
+abbrev pub aims_at : Option ℕ → Colour → ℕ → Bool
+aims_at None c a = false
+aims_at (Some t) c a = in_shape (shape.Pawn c) a t

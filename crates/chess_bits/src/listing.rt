@@ -2,7 +2,6 @@
 
 ghost use Rattle.std.specs.Prelude.{◌≡◌, ◌+◌, ◌≤◌, ◌<◌, ◌++◌, ℕ, length, get_or, nat_lt, cond, true, IsTrue, Option, Some, ◌==◌, ◌&&◌, ◌||◌};
 ghost use Rattle.std.specs.List.{flat_map};
-ghost use Rattle.std.specs.Option.{is_some};
 ghost use Rattle.arrayvec.specs.ArrayVec.{array_vec_len};
 ghost use Rattle.chess_base.specs.Men.{man_at, other, is_man, pawn_rank};
 ghost use Rattle.chess_base.specs.MoveList.{moves, triple};
@@ -10,7 +9,7 @@ ghost use Rattle.chess_base.specs.Moves.{has_pattern, is_legal, promotion_fits};
 ghost use Rattle.chess_base.specs.Squares.{rank};
 ghost use Rattle.chess_base.specs.declared.man.Kind.{Kind as ManKind};
 ghost use Rattle.chess_base.specs.declared.man.Kind.TheVariants.{Pawn};
-ghost use Rattle.chess_bits.specs.Goes.{goes, IsFree};
+ghost use Rattle.chess_bits.specs.Goes.{goes, aims_at, IsFree};
 ghost use Rattle.chess_moves.specs.Candidates.{would_promote, moves_with, moves_between, moves_from};
 ghost use Rattle.chess_moves.specs.Sets.{has, members};
 
@@ -171,13 +170,27 @@ impl Bits {
         self.sets.all(side).without(bound)
     }
 
-    // Whether a pawn of the side on move stands there that may promote, or there is a square to take on en passant.
+    // Whether a pawn of the side on move that stands there attacks the target.
+    fn aims_at_target(&self, from: Square) -> bool
+        ensures { result ≡ aims_at (self.now).target (self.now).side from }
+    {
+        match self.setup.target {
+            None => false,
+            Some(target) => {
+                let _end = target.number();
+                let aims = self.tables.at(Shape::Pawn(self.setup.side), from);
+                aims.contains(target)
+            }
+        }
+    }
+
+    // Whether a pawn of the side on move stands there that may promote or take en passant.
     fn is_unusual(&self, from: Square) -> bool
-        ensures { result ≡ (is_man (self.now).side Pawn (man_at (self.now).men from) && (is_some (self.now).target || (rank from == pawn_rank (other (self.now).side)))) }
+        ensures { result ≡ (is_man (self.now).side Pawn (man_at (self.now).men from) && (aims_at (self.now).target (self.now).side from || (rank from == pawn_rank (other (self.now).side)))) }
     {
         let side = self.setup.side;
         is_man(side, Kind::Pawn, self.setup.men[from.index()])
-            && (self.setup.target.is_some() || from.rank() == pawn_rank(side.other()))
+            && (self.aims_at_target(from) || from.rank() == pawn_rank(side.other()))
     }
 
     // How many legal moves the free man has that stands there.
