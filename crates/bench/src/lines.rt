@@ -4,7 +4,8 @@ ghost use Rattle.std.specs.Prelude.{◌≡◌};
 
 use chess_moves::Board;
 
-/// How many lines of so many legal moves there are. The last moves are counted and not made.
+/// How many lines of so many legal moves there are. The last moves are counted and not made, and nothing is called for them
+/// that has room for a list.
 pub fn count_lines<B: Board>(board: &mut B, depth: u8) -> u64
     ensures { B.position board.new ≡ B.position board.old }
 {
@@ -18,7 +19,12 @@ pub fn count_lines<B: Board>(board: &mut B, depth: u8) -> u64
     let mut count: u64 = 0;
     for m in moves.as_slice() {
         let saved = board.make(*m);
-        count = count.saturating_add(count_lines(board, depth - 1));
+        let further = if depth == 2 {
+            board.legal_move_count() as u64
+        } else {
+            count_lines(board, depth - 1)
+        };
+        count = count.saturating_add(further);
         board.take_back(*m, saved);
     }
     count

@@ -1,8 +1,7 @@
 -- Men that are on no line with their king, which is not in check: where they go, they go legally.
-use Rattle.std.proofs.Common.{◌≡◌, ℕ, ◌+◌, ◌<◌, ◌≤◌, ◌⊎◌, inl, inr, Bool, true, false, not, ◌&&◌, ◌||◌, ◌==◌, Option, Some, None, List, [], ◌∷◌, length, refl, sym, ap, ◌∙◌, length-append, arith}
+use Rattle.std.proofs.Common.{◌≡◌, ℕ, ◌+◌, ◌<◌, ◌≤◌, ◌⊎◌, inl, inr, Bool, true, false, not, ◌&&◌, ◌||◌, ◌==◌, Option, Some, None, List, [], ◌∷◌, length, refl, sym, ap, ◌∙◌, length-append, subst, arith}
 use Rattle.std.specs.List.{flat_map}
-use Rattle.std.specs.Option.{is_some}
-use Rattle.std.proofs.lemmas.Bool.{and_parts, and_right, or_cases, or_left, or_right, or_parts, eqb-true, eq-eqb, ne_eqb, false_from_ne_true, both_ways}
+use Rattle.std.proofs.lemmas.Bool.{and_parts, and_right, or_cases, or_parts, eqb-true, eq-eqb, ne_eqb, both_ways, cases_Bool, and_left}
 use Rattle.chess_base.specs.declared.man.Colour.{Colour}
 use Rattle.chess_base.specs.declared.man.Colour.TheVariants.{White, Black}
 use Rattle.chess_base.specs.declared.man.CastlingSide.TheVariants.{KingSide, QueenSide}
@@ -10,25 +9,28 @@ use Rattle.chess_base.specs.declared.man.Kind.TheVariants.{King, Pawn}
 use Rattle.chess_base.specs.declared.man.Man.{Man}
 use Rattle.chess_base.specs.declared.man.Move.{Move}
 use Rattle.chess_base.specs.declared.setup.Setup.{Setup}
-use Rattle.chess_base.specs.Attacks.{attacks, is_in_check, is_attacked, is_rank_ahead}
+use Rattle.chess_base.specs.Attacks.{attacks, is_in_check, is_attacked, is_rank_ahead, could_capture, could_capture_as}
 use Rattle.chess_base.specs.Castling.{castle_of, castling_rook_to}
 use Rattle.chess_base.specs.Men.{man_at, other, is_of, is_man, forward, first_rank, pawn_rank}
 use Rattle.chess_base.specs.MoveList.{triple}
 use Rattle.chess_base.specs.Moves.{has_pattern, is_legal, is_en_passant, man_that_lands, men_after, second_square_emptied, pawn_advances, pawn_captures}
 use Rattle.chess_base.specs.Sound.{IsSound, no_pawn_on_end_ranks}
-use Rattle.chess_base.specs.Squares.{file, rank, is_square, share_rank_or_file, share_diagonal}
+use Rattle.chess_base.specs.Squares.{rank, is_square, share_rank_or_file, share_diagonal}
 use Rattle.chess_base.proofs.Changes.{advance_goes, pawn_attack}
 use Rattle.chess_base.proofs.OverSquares.{each_square-at}
 use Rattle.chess_moves.specs.Candidates.{would_promote, moves_between, moves_from}
 use Rattle.chess_moves.specs.Sets.{has, members}
-use Rattle.chess_bits.specs.Goes.{goes, IsFree}
+use Rattle.chess_bits.specs.declared.table.Shape.TheVariants as shape
+use Rattle.chess_bits.specs.Shapes.{in_shape}
+use Rattle.chess_bits.specs.Goes.{goes, aims_at, IsUnaimed, IsFree}
 use Rattle.chess_bits.proofs.AfterSets.{check_is}
 use Rattle.chess_bits.proofs.Counted.{one_counted}
 use Rattle.chess_bits.proofs.KingAfter.{mover_some, mover_own, king_stays, check_after, legal_is}
 use Rattle.chess_bits.proofs.Listed.{Each, each_member, from_targets, pattern_of}
 use Rattle.chess_bits.proofs.OriginsOf.{off_lowest}
 use Rattle.chess_bits.proofs.Patterns.{pawn_goes}
-use Rattle.chess_bits.proofs.Quiet.{IsPlain, stays_safe}
+use Rattle.chess_bits.proofs.Quiet.{IsPlain, stays_safe, stays_unaimed}
+use Rattle.chess_bits.proofs.Reached.{pawn_from}
 use Rattle.chess_bits.proofs.TargetsOf.{man_told, no_king_says, none_castles}
 
 -- ---- the king stays safe
@@ -37,26 +39,19 @@ lands_same : (o : Option Man) → man_that_lands o None ≡ o
 lands_same None = refl
 lands_same (Some x) = refl
 
-off_king : (p : Setup) (a king : ℕ) → a < 64 → ((k : ℕ) → k < 64 → is_man p.side King (man_at p.men k) ≡ (k == king))
-    → (share_rank_or_file a king || share_diagonal a king) ≡ false → is_man p.side King (man_at p.men a) ≡ false
-off_king p a king low one off =
-    one a low
-    ∙ false_from_ne_true (a == king)
-    (λ e. both_ways (share_rank_or_file a king || share_diagonal a king) off
-    (or_left (share_rank_or_file a king) (share_diagonal a king) (or_left (file a == file king) (rank a == rank king) (eq-eqb (file a) (file king) (ap (λ s. file s) (eqb-true a king e))))))
-
 free_is_legal : (p : Setup) (a b king : ℕ) → IsSound p → IsFree p a → a < 64 → king < 64 → ((k : ℕ) → k < 64 → is_man p.side King (man_at p.men k) ≡ (k == king))
     → goes p a b ≡ true → would_promote p a b ≡ false → is_en_passant p (triple a b None) ≡ false → is_legal p (triple a b None) ≡ true
 unfolding second_square_emptied castling_rook_to
 free_is_legal p a b king sound free low there one go stays no_passing =
     let m = triple a b None in
     let pattern : has_pattern p m ≡ true = pattern_of p a b None go (rw stays refl) in
-    let off = free.away king there (one king there ∙ eq-eqb king king refl) in
-    let no_king = off_king p a king low one off in
+    let here : is_man p.side King (man_at p.men king) ≡ true = one king there ∙ eq-eqb king king refl in
+    let no_king : is_man p.side King (man_at p.men a) ≡ false = one a low ∙ free.apart king there here in
     let no_castle : castle_of p m ≡ None = none_castles p m (no_king_says p m KingSide no_king) (no_king_says p m QueenSide no_king) in
     let plain : IsPlain p m = record { also = rw (no_passing, no_castle) refl; rook = rw no_castle refl; mover = mover_some p m pattern; own = mover_own p m pattern } in
     let calm : is_attacked p.men king (other p.side) ≡ false = sym (check_is p.men p.side king there one) ∙ free.calm in
-    let safe : is_attacked (men_after p m) king (other p.side) ≡ false = stays_safe p m king there plain off calm in
+    let safe : is_attacked (men_after p m) king (other p.side) ≡ false =
+    elim (free.away king there here) [ inl off ↦ stays_safe p m king there plain off calm | inr unaimed ↦ stays_unaimed p m king plain unaimed calm ] in
     let king_there : is_man p.side King (man_at (men_after p m) king) ≡ true =
     king_stays p m king sound pattern one (ap (λ o. is_man p.side King o) (lands_same (man_at p.men a)) ∙ no_king) in
     sym (legal_is p m pattern) ∙ ap not (check_after p m king sound pattern there king_there ∙ safe)
@@ -83,11 +78,26 @@ capture_stays : (c : Colour) (a b : ℕ) → (rank a ≡ pawn_rank (other c) →
 capture_stays White a b off ahead = λ last. let e = eqb-true (rank b) (rank a + 1) ahead in off (omega (arith, e, last))
 capture_stays Black a b off ahead = λ last. let e = eqb-true (rank a) (rank b + 1) ahead in off (omega (arith, e, last))
 
-pawn_usual : (p : Setup) (a : ℕ) → IsSound p → a < 64 → is_man p.side Pawn (man_at p.men a) ≡ true → p.target ≡ None → (rank a ≡ pawn_rank (other p.side) → ⊥) → IsUsual p a
+-- a pawn that doesn't attack the target doesn't take there
+not_taken : (p : Setup) (a b : ℕ) (o : Option ℕ) → is_man p.side Pawn (man_at p.men a) ≡ true → aims_at o p.side a ≡ false
+    → ((is_man p.side Pawn (man_at p.men a) && attacks p.men a b) && is_square o b) ≡ false
+unfolding attacks
+not_taken p a b None pawn off = and_right (is_man p.side Pawn (man_at p.men a) && attacks p.men a b) false refl
+not_taken p a b (Some t) pawn off =
+    elim (cases_Bool (t == b)) [
+      | inl same ↦
+          let at : t ≡ b = eqb-true t b same in
+          let miss : could_capture p.men p.side Pawn a b ≡ false = sym (pawn_from p.men p.side a b) ∙ ap (λ s. in_shape (shape.Pawn p.side) a s) (sym at) ∙ off in
+          let free : attacks p.men a b ≡ false = ap (λ x. could_capture_as p.men x a b) (man_told p.side Pawn (man_at p.men a) pawn) ∙ miss in
+          and_left (is_man p.side Pawn (man_at p.men a) && attacks p.men a b) (t == b) (and_right (is_man p.side Pawn (man_at p.men a)) (attacks p.men a b) free)
+      | inr apart ↦ and_right (is_man p.side Pawn (man_at p.men a) && attacks p.men a b) (t == b) apart
+    ]
+
+pawn_usual : (p : Setup) (a : ℕ) → IsSound p → a < 64 → is_man p.side Pawn (man_at p.men a) ≡ true → aims_at p.target p.side a ≡ false → (rank a ≡ pawn_rank (other p.side) → ⊥) → IsUsual p a
 unfolding would_promote is_en_passant no_pawn_on_end_ranks pawn_captures
 pawn_usual p a sound low pawn no_target off = record {
   stays = λ b high go. and_right (is_man p.side Pawn (man_at p.men a)) (rank b == first_rank (other p.side)) (ne_eqb (rank b) (first_rank (other p.side)) (last b high go));
-  passes = λ b. and_right (is_man p.side Pawn (man_at p.men a) && attacks p.men a b) (is_square p.target b) (rw no_target refl);
+  passes = λ b. not_taken p a b p.target pawn no_target;
 }
   where
     last : (b : ℕ) → b < 64 → goes p a b ≡ true → rank b ≡ first_rank (other p.side) → ⊥
@@ -102,19 +112,15 @@ pawn_usual p a sound low pawn no_target off = record {
         ]
 
 -- as the code tells it
-pub usual_from : (p : Setup) (a : ℕ) (t r : Bool) → IsSound p → a < 64 → t ≡ is_some p.target → r ≡ (rank a == pawn_rank (other p.side))
-    → (is_man p.side Pawn (man_at p.men a) && (t || r)) ≡ false → IsUsual p a
-usual_from p a t r sound low target rank_is h = by (is_man p.side Pawn (man_at p.men a)) refl h
+pub usual_from : (p : Setup) (a : ℕ) → IsSound p → a < 64
+    → (is_man p.side Pawn (man_at p.men a) && (aims_at p.target p.side a || (rank a == pawn_rank (other p.side)))) ≡ false → IsUsual p a
+usual_from p a sound low h = by (is_man p.side Pawn (man_at p.men a)) refl h
   where
-    none_set : (o : Option ℕ) → is_some o ≡ false → o ≡ None
-    none_set None e = refl
-    none_set (Some x) e = cc
-
-    by : (b : Bool) → is_man p.side Pawn (man_at p.men a) ≡ b → (b && (t || r)) ≡ false → IsUsual p a
+    by : (b : Bool) → is_man p.side Pawn (man_at p.men a) ≡ b → (b && (aims_at p.target p.side a || (rank a == pawn_rank (other p.side)))) ≡ false → IsUsual p a
     by false e g = no_pawn_usual p a e
     by true e g =
-        let neither = or_parts t r g in
-        pawn_usual p a sound low e (none_set p.target (sym target ∙ neither.0)) (λ same. both_ways (rank a == pawn_rank (other p.side)) (sym rank_is ∙ neither.1) (eq-eqb (rank a) (pawn_rank (other p.side)) same))
+        let neither = or_parts (aims_at p.target p.side a) (rank a == pawn_rank (other p.side)) g in
+        pawn_usual p a sound low e neither.0 (λ same. both_ways (rank a == pawn_rank (other p.side)) neither.1 (eq-eqb (rank a) (pawn_rank (other p.side)) same))
 
 -- ---- so each square is the end of one legal move
 
@@ -140,13 +146,28 @@ free_counted p a king w sound free usual low there one sets all =
 
 -- ---- the set of the free men
 
+at_king : (p : Setup) (a king : ℕ) (P : ℕ → Type 0) → ((k : ℕ) → k < 64 → is_man p.side King (man_at p.men k) ≡ (k == king)) → P king
+    → (k : ℕ) → k < 64 → is_man p.side King (man_at p.men k) ≡ true → P k
+at_king p a king P one h k low man = subst P (sym (eqb-true k king (sym (one k low) ∙ man))) h
+
 pub freed : (p : Setup) (a king : ℕ) → is_in_check p.men p.side ≡ false → ((k : ℕ) → k < 64 → is_man p.side King (man_at p.men k) ≡ (k == king))
-    → (((not (a == king) && share_rank_or_file a king) || (not (a == king) && share_diagonal a king)) || (a == king)) ≡ false → IsFree p a
-freed p a king calm one out = record {
+    → (a == king) ≡ false → (((not (a == king) && share_rank_or_file a king) || (not (a == king) && share_diagonal a king)) ≡ false) ⊎ IsUnaimed p king → IsFree p a
+freed p a king calm one out away = record {
   calm = calm;
-  away = λ k low man. let at : k ≡ king = eqb-true k king (sym (one k low) ∙ man) in rw at (apart (a == king) (share_rank_or_file a king) (share_diagonal a king) out);
+  apart = at_king p a king (λ k. (a == k) ≡ false) one out;
+  away = at_king p a king (λ k. ((share_rank_or_file a k || share_diagonal a k) ≡ false) ⊎ IsUnaimed p k) one
+      (elim away [ inl off ↦ inl (off_lines (a == king) (share_rank_or_file a king) (share_diagonal a king) out off) | inr unaimed ↦ inr unaimed ]);
 }
   where
-    apart : (e l d : Bool) → (((not e && l) || (not e && d)) || e) ≡ false → (l || d) ≡ false
-    apart true l d h = absurd (both_ways _ h (or_right ((false && l) || (false && d)) true refl))
-    apart false l d h = (or_parts (l || d) false h).0
+    off_lines : (e l d : Bool) → e ≡ false → ((not e && l) || (not e && d)) ≡ false → (l || d) ≡ false
+    off_lines true l d out h = cc
+    off_lines false l d out h = h
+
+-- what a set tells that is empty
+pub from_not : (b : Bool) → not b ≡ false → b ≡ true
+from_not true h = refl
+from_not false h = cc
+
+pub and_true_left : (a b : Bool) → a ≡ true → (a && b) ≡ false → b ≡ false
+and_true_left true b e h = h
+and_true_left false b e h = cc

@@ -9,13 +9,14 @@ use Rattle.chess_base.specs.declared.man.Kind.TheVariants.{King, Queen, Rook, Bi
 use Rattle.chess_base.specs.declared.man.Man.{Man}
 use Rattle.chess_base.specs.declared.man.Move.{Move}
 use Rattle.chess_base.specs.Squares.{is_square, share_rank_or_file, share_diagonal, is_between, is_between_on_file, is_between_on_rank, is_between_on_diagonal}
-use Rattle.chess_base.specs.Men.{Men, man_at, other, is_man, is_of}
+use Rattle.chess_base.specs.Men.{Men, man_at, other, same_kind, is_man, is_of}
 use Rattle.chess_base.specs.Attacks.{is_clear, could_capture, could_capture_as, attacks, is_attacked}
 use Rattle.chess_base.specs.declared.setup.Setup.{Setup}
 use Rattle.chess_base.specs.Moves.{is_en_passant, man_that_lands, men_after, second_square_emptied, steps_of}
 use Rattle.chess_base.specs.Castling.{castle_of, lands_on, castling_rook_to}
 use Rattle.chess_base.proofs.MenAfter.{man_after, man_at-men_after}
 use Rattle.chess_base.proofs.OverSquares.{some_square-at, some_square-none, each_square-all, each_square-at}
+use Rattle.chess_bits.specs.Goes.{IsUnaimed}
 use Rattle.chess_bits.proofs.TargetsOf.{no_king_says, none_castles}
 
 -- what lies between a and b shares a line or a diagonal with b
@@ -107,6 +108,61 @@ stays_safe p m king l h off before =
     let was : is_of (other p.side) (man_at p.men a) ≡ true = rw (← stood) both.0 in
     let hit : could_capture_as p.men (man_at p.men a) a king ≡ true =
     could_capture_as_clear p.men (men_after p m) (man_at p.men a) a king (clear_before p m a king h off) (rw (← stood) both.1) in
+    both_ways _ before (some_square-at _ a k (and_from _ _ was hit))))
+
+-- ---- and so does any other man where nobody aims at the king along a line
+
+queen_off : (n s d : Bool) → (n && s) ≡ false → (n && d) ≡ false → (n && (s || d)) ≡ false
+queen_off true true d h g = h
+queen_off true false d h g = g
+queen_off false s d h g = refl
+
+unaimed_clear : (men later : Men) (c : Colour) (k : Kind) (a b : ℕ)
+    → ((same_kind Rook k || same_kind Queen k) ≡ true → (not (a == b) && share_rank_or_file a b) ≡ false)
+    → ((same_kind Bishop k || same_kind Queen k) ≡ true → (not (a == b) && share_diagonal a b) ≡ false)
+    → could_capture later c k a b ≡ true → could_capture men c k a b ≡ true
+unfolding could_capture
+unaimed_clear men later c King a b l d e = e
+unaimed_clear men later c Knight a b l d e = e
+unaimed_clear men later c Pawn a b l d e = e
+unaimed_clear men later c Queen a b l d e =
+    absurd (both_ways (not (a == b) && (share_rank_or_file a b || share_diagonal a b)) (queen_off (not (a == b)) (share_rank_or_file a b) (share_diagonal a b) (l refl) (d refl))
+    (and_parts (not (a == b) && (share_rank_or_file a b || share_diagonal a b)) (is_clear later a b) e).0)
+unaimed_clear men later c Rook a b l d e =
+    absurd (both_ways (not (a == b) && share_rank_or_file a b) (l refl) (and_parts (not (a == b) && share_rank_or_file a b) (is_clear later a b) e).0)
+unaimed_clear men later c Bishop a b l d e =
+    absurd (both_ways (not (a == b) && share_diagonal a b) (d refl) (and_parts (not (a == b) && share_diagonal a b) (is_clear later a b) e).0)
+
+of_kinds : (c : Colour) (x : Man) (j k : Kind) → is_of c (Some x) ≡ true → (same_kind j x.kind || same_kind k x.kind) ≡ true → (is_man c j (Some x) || is_man c k (Some x)) ≡ true
+unfolding is_of is_man
+of_kinds c x j k own h = rw own h
+
+unaimed_hit : (p : Setup) (later : Men) (a king : ℕ) (o : Option Man) → a < 64 → man_at p.men a ≡ o → is_of (other p.side) o ≡ true → IsUnaimed p king
+    → could_capture_as later o a king ≡ true → could_capture_as p.men o a king ≡ true
+unaimed_hit p later a king None low at own u e = cc
+unaimed_hit p later a king (Some x) low at own u e =
+    unaimed_clear p.men later x.colour x.kind a king
+    (λ h. u.lines a low (rw at (of_kinds (other p.side) x Rook Queen own h)))
+    (λ h. u.diagonals a low (rw at (of_kinds (other p.side) x Bishop Queen own h)))
+    e
+
+pub stays_unaimed : (p : Setup) (m : Move) (king : ℕ) → IsPlain p m → IsUnaimed p king
+    → is_attacked p.men king (other p.side) ≡ false
+    → is_attacked (men_after p m) king (other p.side) ≡ false
+unfolding is_attacked attacks
+stays_unaimed p m king h unaimed before =
+    some_square-none _
+    (λ a k.
+    false_from_ne_true _
+    (λ e.
+    let both = and_parts (is_of (other p.side) (man_at (men_after p m) a)) (could_capture_as (men_after p m) (man_at (men_after p m) a) a king) e in
+    let stood : man_at (men_after p m) a ≡ man_at p.men a =
+    plain_after p m a h k
+    ∙ enemy_before (lands_on p m == a) (m.from == a) (man_that_lands (man_at p.men m.from) m.promotion) (man_at p.men a) (other p.side) h.own
+    (rw (plain_after p m a h k) at both.0) in
+    let was : is_of (other p.side) (man_at p.men a) ≡ true = rw (← stood) both.0 in
+    let hit : could_capture_as p.men (man_at p.men a) a king ≡ true =
+    unaimed_hit p (men_after p m) a king (man_at p.men a) k refl was unaimed (rw (← stood) both.1) in
     both_ways _ before (some_square-at _ a k (and_from _ _ was hit))))
 
 -- ---- moves that change only their two squares

@@ -1,20 +1,22 @@
 -- Where the men of the side on move go, whatever becomes of their king.
-use Rattle.std.specs.Prelude.{◌≡◌, ℕ, ◌<◌, ◌==◌, ◌||◌, Bool, true, false, Option, Some, None, if◌then◌else◌}
+use Rattle.std.specs.Prelude.{◌≡◌, ℕ, ◌<◌, ◌⊎◌, ◌==◌, not, ◌&&◌, ◌||◌, Bool, true, false, Option, Some, None, if◌then◌else◌}
 use Rattle.chess_base.specs.declared.castling.Castle.{Castle}
 use Rattle.chess_base.specs.declared.man.CastlingSide.{CastlingSide}
 use Rattle.chess_base.specs.declared.man.Colour.{Colour}
 use Rattle.chess_base.specs.declared.man.Kind.{Kind}
-use Rattle.chess_base.specs.declared.man.Kind.TheVariants.{King, Queen}
+use Rattle.chess_base.specs.declared.man.Kind.TheVariants.{King, Queen, Rook, Bishop}
 use Rattle.chess_base.specs.declared.man.Move.{Move}
 use Rattle.chess_base.specs.declared.man.Variant.{Variant}
 use Rattle.chess_base.specs.declared.man.Variant.TheVariants.{Normal, Fischerandom}
 use Rattle.chess_base.specs.declared.setup.Setup.{Setup}
 use Rattle.chess_base.specs.Attacks.{is_in_check}
 use Rattle.chess_base.specs.Castling.{home_square, castled_king_file, right_of, castle_of}
-use Rattle.chess_base.specs.Men.{man_at, is_man}
+use Rattle.chess_base.specs.Men.{man_at, other, is_man}
 use Rattle.chess_base.specs.MoveList.{triple}
 use Rattle.chess_base.specs.Moves.{has_pattern, is_legal, man_moves}
 use Rattle.chess_base.specs.Squares.{share_rank_or_file, share_diagonal}
+use Rattle.chess_bits.specs.declared.table.Shape.TheVariants as shape
+use Rattle.chess_bits.specs.Shapes.{in_shape}
 use Rattle.chess_moves.specs.Candidates.{would_promote}
 
 -- where a pawn promotes, one promotion stands for all: to a queen
@@ -44,7 +46,21 @@ castling_or p w a b s =
 abbrev pub man_goes : Setup → ℕ → ℕ → Bool
 man_goes p a b = legal_or p (triple a b None) (castle_of p (triple a b None)) (man_moves p (triple a b None))
 
--- the king of the side on move is not in check, and what stands on a is on no line with it
+-- no queen or rook of the other side shares a rank or file with k, and no queen or bishop a diagonal
+pub record IsUnaimed (p : Setup) (k : ℕ) : Type 0 where
+  pub lines : (a : ℕ) → a < 64 → (is_man (other p.side) Rook (man_at p.men a) || is_man (other p.side) Queen (man_at p.men a)) ≡ true
+      → (not (a == k) && share_rank_or_file a k) ≡ false
+  pub diagonals : (a : ℕ) → a < 64 → (is_man (other p.side) Bishop (man_at p.men a) || is_man (other p.side) Queen (man_at p.men a)) ≡ true
+      → (not (a == k) && share_diagonal a k) ≡ false
+
+-- the king of the side on move is not in check, what stands on a is another man, and it is on no line with the king, or no
+-- man of the other side aims along one
 pub record IsFree (p : Setup) (a : ℕ) : Type 0 where
   pub calm : is_in_check p.men p.side ≡ false
-  pub away : (k : ℕ) → k < 64 → is_man p.side King (man_at p.men k) ≡ true → (share_rank_or_file a k || share_diagonal a k) ≡ false
+  pub apart : (k : ℕ) → k < 64 → is_man p.side King (man_at p.men k) ≡ true → (a == k) ≡ false
+  pub away : (k : ℕ) → k < 64 → is_man p.side King (man_at p.men k) ≡ true → ((share_rank_or_file a k || share_diagonal a k) ≡ false) ⊎ IsUnaimed p k
+
+-- a pawn of colour c on a attacks that square, if there is one
+abbrev pub aims_at : Option ℕ → Colour → ℕ → Bool
+aims_at None c a = false
+aims_at (Some t) c a = in_shape (shape.Pawn c) a t

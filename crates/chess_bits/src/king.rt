@@ -25,6 +25,7 @@ pub(crate) fn set_of(square: Option<Square>) -> SquareSet
 }
 
 // The squares on which men arrive.
+#[inline(always)]
 fn filled_by(steps: &Steps) -> SquareSet
     ensures { (k : ℕ) → has result k ≡ ((steps.now.to == k) || is_square steps.now.second_to k) }
 {
@@ -33,6 +34,7 @@ fn filled_by(steps: &Steps) -> SquareSet
 }
 
 // The squares that men leave.
+#[inline(always)]
 fn emptied_by(steps: &Steps) -> SquareSet
     ensures { (k : ℕ) → has result k ≡ (is_square steps.now.second_from k || (steps.now.from == k)) }
 {

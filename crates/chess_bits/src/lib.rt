@@ -3,6 +3,7 @@
 
 mod bits;
 mod castling;
+mod counting;
 mod kinds;
 mod king;
 mod line;

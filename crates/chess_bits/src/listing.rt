@@ -1,25 +1,16 @@
 //! The list of legal moves: man by man, and end square by end square.
 
-ghost use Rattle.std.specs.Prelude.{◌≡◌, ◌+◌, ◌≤◌, ◌<◌, ◌++◌, ℕ, length, get_or, nat_lt, cond, true, IsTrue, Option, Some, ◌==◌, ◌&&◌, ◌||◌};
-ghost use Rattle.std.specs.List.{flat_map};
-ghost use Rattle.std.specs.Option.{is_some};
+ghost use Rattle.std.specs.Prelude.{◌≡◌, ◌+◌, ◌≤◌, ◌<◌, ◌++◌, ℕ, length, get_or, true, Option};
 ghost use Rattle.arrayvec.specs.ArrayVec.{array_vec_len};
-ghost use Rattle.chess_base.specs.Men.{man_at, other, is_man, pawn_rank};
-ghost use Rattle.chess_base.specs.MoveList.{moves, triple};
-ghost use Rattle.chess_base.specs.Moves.{has_pattern, is_legal, promotion_fits};
-ghost use Rattle.chess_base.specs.Squares.{rank};
+ghost use Rattle.chess_base.specs.MoveList.{moves};
+ghost use Rattle.chess_base.specs.Moves.{promotion_fits};
 ghost use Rattle.chess_base.specs.declared.man.Kind.{Kind as ManKind};
-ghost use Rattle.chess_base.specs.declared.man.Kind.TheVariants.{Pawn};
-ghost use Rattle.chess_bits.specs.Goes.{goes, IsFree};
+ghost use Rattle.chess_bits.specs.Goes.{goes};
 ghost use Rattle.chess_moves.specs.Candidates.{would_promote, moves_with, moves_between, moves_from};
-ghost use Rattle.chess_moves.specs.Sets.{has, members};
 
 use crate::bits::Bits;
-use crate::table::Shape;
-use crate::targets::pawn_rank;
-use chess_base::attack::is_man;
 use chess_base::{Kind, Move, Square};
-use chess_moves::{Board, MoveList, SquareSet, would_promote};
+use chess_moves::{MoveList, would_promote};
 
 // Whether a promotion stands exactly with a move that promotes.
 pub(crate) fn promotion_fits(promotes: bool, promotion: Option<Kind>) -> bool
@@ -98,164 +89,5 @@ impl Bits {
             self.add_moves_from(from, &mut list);
         }
         list
-    }
-
-    // How often a move with a man's pattern is legal: once or never.
-    fn times_legal(&self, m: &Move) -> usize
-        requires { IsTrue (has_pattern self.now m.now) }
-        ensures value { result ≡ cond (is_legal self.now m.now) 1 0 }
-        ensures few { result ≤ 1 }
-    {
-        if self.is_safe_after(m) { 1 } else { 0 }
-    }
-
-    // How often a pawn's promotion to that kind is legal.
-    fn times_promoted(&self, from: Square, to: Square, kind: Kind) -> usize
-        requires goes { goes self.now from to ≡ true }
-        requires fits { promotion_fits (would_promote self.now from to) (Some kind) ≡ true }
-        ensures value { result ≡ cond (is_legal self.now (triple from to (Some kind))) 1 0 }
-        ensures few { result ≤ 1 }
-    {
-        self.times_legal(&Move {
-            from,
-            to,
-            promotion: Some(kind),
-        })
-    }
-
-    // How many legal moves there are from there to there.
-    fn count_between(&self, from: Square, to: Square) -> usize
-        requires { goes self.now from to ≡ true }
-        ensures { result ≡ length (moves_between self.now from to) }
-    {
-        if would_promote(&self.setup, from, to) {
-            self.times_promoted(from, to, Kind::Queen)
-                + self.times_promoted(from, to, Kind::Rook)
-                + self.times_promoted(from, to, Kind::Bishop)
-                + self.times_promoted(from, to, Kind::Knight)
-        } else {
-            self.times_legal(&Move {
-                from,
-                to,
-                promotion: None,
-            })
-        }
-    }
-
-    // How many legal moves there are from there.
-    fn count_from(&self, from: Square) -> usize
-        requires { length (moves_from self.now from) ≤ 896 }
-        ensures { result ≡ length (moves_from self.now from) }
-    {
-        let mut count = 0;
-        let mut targets = self.targets(from);
-        while let Some(to) = targets.take_first() {
-            count += self.count_between(from, to);
-        }
-        count
-    }
-
-    // The men of the side on move that may go anywhere, as far as their king is concerned.
-    #[tactic(auto, unfolding(crate::specs::Shapes::in_shape))]
-    fn free_men(&self) -> SquareSet
-        ensures { (k : ℕ) → k < 64 → has result k ≡ true → IsFree self.now k }
-    {
-        if self.in_check() {
-            return SquareSet::empty();
-        }
-        let side = self.setup.side;
-        let king = self.king(side);
-        let lines = self.tables.at(Shape::Lines, king);
-        let met = lines.union(self.tables.at(Shape::Diagonals, king));
-        let bound = met.union(SquareSet::single(king));
-        self.sets.all(side).without(bound)
-    }
-
-    // Whether a pawn of the side on move stands there that may promote, or there is a square to take on en passant.
-    fn is_unusual(&self, from: Square) -> bool
-        ensures { result ≡ (is_man (self.now).side Pawn (man_at (self.now).men from) && (is_some (self.now).target || (rank from == pawn_rank (other (self.now).side)))) }
-    {
-        let side = self.setup.side;
-        is_man(side, Kind::Pawn, self.setup.men[from.index()])
-            && (self.setup.target.is_some() || from.rank() == pawn_rank(side.other()))
-    }
-
-    // How many legal moves the free man has that stands there.
-    fn count_free(&self, from: Square) -> usize
-        requires free { IsFree self.now from }
-        requires few { length (moves_from self.now from) ≤ 896 }
-        ensures { result ≡ length (moves_from self.now from) }
-    {
-        let _start = from.number();
-        if self.is_unusual(from) {
-            return self.count_from(from);
-        }
-        let _king = self.king(self.setup.side);
-        self.targets(from).len()
-    }
-
-    // How many legal moves the man there has, if those men are free.
-    fn count_of(&self, from: Square, free: SquareSet) -> usize
-        requires free { (k : ℕ) → k < 64 → has free k ≡ true → IsFree self.now k }
-        requires few { length (moves_from self.now from) ≤ 896 }
-        ensures { result ≡ length (moves_from self.now from) }
-    {
-        let _start = from.number();
-        if free.contains(from) {
-            self.count_free(from)
-        } else {
-            self.count_from(from)
-        }
-    }
-
-    // How many legal moves there are.
-    pub(crate) fn count(&self) -> usize
-        ensures { result ≡ length (moves self.now) }
-    {
-        let free = self.free_men();
-        let mut count = 0;
-        let mut men = self.sets.all(self.setup.side);
-        while let Some(from) = men.take_first() {
-            count += self.count_of(from, free);
-        }
-        count
-    }
-
-    // Whether there is a legal move from there. It looks no further than the first.
-    fn has_move_from(&self, from: Square) -> bool
-        ensures { result ≡ nat_lt 0 (length (moves_from self.now from)) }
-    {
-        let mut targets = self.targets(from);
-        while let Some(to) = targets.take_first() {
-            if self.count_between(from, to) > 0 {
-                return true;
-            }
-        }
-        false
-    }
-
-    // Whether one of these men has a legal move. It looks no further than the first.
-    fn has_move_of(&self, men: SquareSet) -> bool
-        ensures { result ≡ nat_lt 0 (length (flat_map (λ a. moves_from self.now a) (members men))) }
-    {
-        let mut rest = men;
-        while let Some(from) = rest.take_first() {
-            if self.has_move_from(from) {
-                return true;
-            }
-        }
-        false
-    }
-
-    // Whether there is a legal move. Pawns come first, since they mostly have one, and it is found at once.
-    pub(crate) fn has_move(&self) -> bool
-        ensures { result ≡ nat_lt 0 (length (moves self.now)) }
-    {
-        let side = self.setup.side;
-        let men = self.sets.of(side);
-        if self.has_move_of(men.of(Kind::Pawn)) {
-            return true;
-        }
-        self.has_move_of(self.sets.all(side))
     }
 }

@@ -148,7 +148,7 @@ impl Bits {
         ensures { (k : ℕ) → k < 64 → has result k ≡ pawn_captures self.now (triple from k None) }
     {
         let side = self.setup.side;
-        let reached = reached_from(&self.tables, self.sets.occupied(), side, Kind::Pawn, from);
+        let reached = self.tables.at(Shape::Pawn(side), from);
         let taken = self.sets.all(side.other());
         let aims = taken.union(set_of(self.setup.target));
         reached.intersection(aims)

@@ -1,6 +1,7 @@
 use Rattle.std.proofs.Common.{◌≡◌, ◌∙◌, true}
 use Rattle.chess_base.specs.declared.man.Kind.TheVariants.{Pawn}
 use Rattle.chess_base.specs.Men.{man_at, is_man}
+use Rattle.chess_bits.proofs.Reached.{pawn_from}
 use Rattle.chess_bits.proofs.TargetsOf.{captures_is}
 use Rattle.chess_bits.proofs.bits.Bits.captures.Goals as goal
 
@@ -11,4 +12,4 @@ returns c = λ k low.
     let pawn : is_man p.side Pawn (man_at men c.args.from) ≡ true = rw c.self.view_is c.requires in
     rw (← c.self.view_is)
     (c.intersection.ensures k
-    ∙ rw (c.reached_from-reached.ensures men (c.occupied.ensures men c.self.invariant.1) k low, c.union-aims.ensures k, c.all-taken.ensures men c.self.invariant.1 k low, c.set_of.ensures k, c.other.ensures) (captures_is p c.args.from k pawn))
+    ∙ rw (c.at-reached.ensures k low, pawn_from men p.side c.args.from k, c.union-aims.ensures k, c.all-taken.ensures men c.self.invariant.1 k low, c.set_of.ensures k, c.other.ensures) (captures_is p c.args.from k pawn))

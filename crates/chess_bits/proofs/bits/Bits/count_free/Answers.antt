@@ -1,4 +1,4 @@
-use Rattle.std.proofs.Common.{◌<◌, sym, subst, ◌∙◌, refl}
+use Rattle.std.proofs.Common.{◌<◌, sym, subst, ◌∙◌}
 use Rattle.chess_base.specs.Sound.{IsSound}
 use Rattle.chess_bits.proofs.Freely.{usual_from, free_counted}
 use Rattle.chess_bits.proofs.bits.Bits.count_free.Goals as goal
@@ -8,6 +8,6 @@ returns c =
     let p = c.args.self.now in
     let low : c.args.from < 64 = subst (λ n. n < 64) c.number-start.ensures.value c.number-start.ensures.in_range in
     let sound : IsSound p = rw (← c.self.view_is) c.self.invariant.0 in
-    let usual = usual_from p c.args.from _ _ sound low refl refl (sym c.is_unusual.ensures ∙ c.if-is_unusual.false) in
+    let usual = usual_from p c.args.from sound low (sym c.is_unusual.ensures ∙ c.if-is_unusual.false) in
     let alone = rw c.self.view_is at c.king-king.ensures.alone in
     c.len.ensures ∙ free_counted p c.args.from c.king-king.result c.targets.result sound c.requires.free usual low c.king-king.ensures.in_range alone c.targets.ensures.sound c.targets.ensures.complete
