@@ -1,26 +1,30 @@
-//! Measures the crates below the program. `bench DEPTH [FEN..]` counts the lines of legal moves from a position, and
-//! `bench games FILE` the games and half-moves of a PGN file, reading each. It writes the counts, and on standard error how
-//! many lines or half-moves a second it made.
+//! Measures the crates below the program. `bench DEPTH [FEN..]` counts the lines of legal moves from a position,
+//! `bench games FILE` the games and half-moves of a PGN file, reading each, and `bench match TIMES` the half-moves of so many
+//! matches between two engines in memory, each of 500. It writes the counts, and on standard error how many lines or
+//! half-moves a second it made.
 #![tactic(auto)]
 
 mod games;
 mod lines;
+mod relay;
 #[cfg(test)]
 mod tests;
 
 use chess_base::{Position, read_fen};
 use chess_bits::Bits;
 use chess_game::Game;
+use chess_match::Level;
 use chess_moves::Board;
 use games::read_games;
 use lines::count_lines;
+use relay::{relay, write_script};
 use std::alloc::{AllocError, Global};
 use std::process::ExitCode;
 use std::time::{Duration, Instant};
 use std::{env, fs, io};
 
 const USAGE: &str =
-    "usage: bench DEPTH [FEN..], with DEPTH from 0 to 255; no FEN is the initial position\n       bench games FILE";
+    "usage: bench DEPTH [FEN..], with DEPTH from 0 to 255; no FEN is the initial position\n       bench games FILE\n       bench match TIMES";
 
 // The most half-moves of a game.
 const GAME_LIMIT: u32 = 20_000;
@@ -86,6 +90,29 @@ fn measure_games(rt: &HostRuntime, path: &str) -> io::Result<ExitCode> {
     }
 }
 
+// The half-moves of a match.
+const MATCH_LEN: usize = 500;
+
+// Plays a match between two engines in memory so many times.
+fn measure_matches(rt: &HostRuntime, times: u32) -> io::Result<ExitCode> {
+    let mut game = Game::open(rt.alloc(), Bits::open(rt.alloc())?, GAME_LIMIT)?;
+    let mut scratch = Bits::open(rt.alloc())?;
+    let script = write_script(rt.alloc(), &mut game, MATCH_LEN)?;
+    let Some(level) = Level::read(b"0 60 0") else {
+        return misused(rt);
+    };
+    let mut half_moves: u64 = 0;
+    let begun = Instant::now(rt)?;
+    for _ in 0..times {
+        let played = relay(rt.alloc(), &script, level, &mut game, &mut scratch);
+        half_moves = half_moves.saturating_add(played as u64);
+    }
+    let rate = a_second(half_moves, begun.elapsed(rt)?);
+    println!(rt; "{times} matches, {half_moves} half-moves")?;
+    eprintln!(rt; "{rate} half-moves a second")?;
+    Ok(ExitCode::SUCCESS)
+}
+
 fn misused(rt: &HostRuntime) -> io::Result<ExitCode> {
     eprintln!(rt; "{USAGE}")?;
     Ok(ExitCode::from(2))
@@ -95,6 +122,10 @@ fn run(rt: &HostRuntime) -> io::Result<ExitCode> {
     let words = words_of(rt)?;
     match words.as_slice() {
         [first, path] if first.as_str() == "games" => measure_games(rt, path.as_str()),
+        [first, times] if first.as_str() == "match" => match times.parse() {
+            Ok(times) => measure_matches(rt, times),
+            Err(_) => misused(rt),
+        },
         [depth, fen @ ..] => match depth.parse() {
             Ok(depth) => measure_lines(rt, depth, fen),
             Err(_) => misused(rt),

@@ -1,7 +1,10 @@
 use crate::games::{Tally, read_games};
+use crate::relay::{relay, write_script};
 use chess_game::Game;
+use chess_match::Level;
 use chess_moves::Plain;
 use chess_pgn::{PgnFault, PgnFaultKind};
+use std::test::Fail;
 
 #[test]
 fn games_are_counted(rt: HostRuntime) {
@@ -24,4 +27,14 @@ fn games_are_counted(rt: HostRuntime) {
         place: 8,
     };
     assert_eq!(rt; read_games(b"* 1. e4 Ke2 *", &mut game), Err(fault));
+}
+
+#[test]
+fn matches_are_relayed(rt: HostRuntime) -> Result<(), Fail> {
+    let mut game = Game::open(rt.alloc(), Plain::new(), 100)?;
+    let script = write_script(rt.alloc(), &mut game, 40)?;
+    let level = Level::read(b"0 60 0").ok_or("level")?;
+    let played = relay(rt.alloc(), &script, level, &mut game, &mut Plain::new());
+    assert_eq!(rt; played, 40);
+    Ok(())
 }

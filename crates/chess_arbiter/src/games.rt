@@ -1,6 +1,6 @@
 //! The games of a match, one after another.
 
-ghost use Rattle.std.specs.Prelude.{◌≡◌, ◌⊎◌, [], IfErr};
+ghost use Rattle.std.specs.Prelude.{◌≡◌, ◌⊎◌, [], IfErr, IfOk};
 ghost use Rattle.byte_devices.specs.Devices.{Sends};
 ghost use Rattle.chess_pgn.specs.GameText.{pgn};
 ghost use Rattle.chess_arbiter.specs.Games.{FailsToStart, HasPlayed, IsMatchEnd, PlayedOne, RanGames, black_command, is_odd, name_of, score_line, tags_of, white_command};
@@ -12,12 +12,12 @@ use crate::score::Score;
 use arbiter_words::MatchPlan;
 use byte_devices::{Output, WriteFault, put};
 use chess_base::Colour;
+use chess_bits::Bits;
 use chess_game::Game;
 use chess_match::{Ends, MatchEnd, MatchFault, Moments, Reason, Setup, run_match};
-use chess_moves::Plain;
 use chess_pgn::{TagText, Tags, write_pgn};
 use itoa::Buffer;
-use std::alloc::Global;
+use std::alloc::{AllocError, Global};
 use std::process::{OpenProcess, Processes};
 use std::rt::Clock;
 use thiserror::Error;
@@ -111,8 +111,8 @@ fn play_game<C: Clock, P: OpenProcess + Drop, M: Moments>(
     black: Engine<P>,
     moments: &mut M,
     setup: &Setup,
-    game: &mut Game<Plain>,
-    scratch: &mut Plain,
+    game: &mut Game<Bits>,
+    scratch: &mut Bits,
 ) -> MatchEnd
     ensures played { IsMatchEnd setup.now.start setup.now.level game.old game.new result }
     ensures limit { game.new.limit ≡ game.old.limit }
@@ -152,8 +152,8 @@ fn play_game<C: Clock, P: OpenProcess + Drop, M: Moments>(
 
 // Writes a game's text and hands it on.
 fn write_game<W: Output>(
-    game: &Game<Plain>,
-    scratch: &mut Plain,
+    game: &Game<Bits>,
+    scratch: &mut Bits,
     tags: &Tags,
     output: &mut W,
 ) -> Result<(), WriteFault>
@@ -210,8 +210,8 @@ fn play_one<'a, P: Processes + Clock, M: Moments, W: Output>(
     plan: &MatchPlan<'a>,
     number: u32,
     moments: &mut M,
-    game: &mut Game<Plain>,
-    scratch: &mut Plain,
+    game: &mut Game<Bits>,
+    scratch: &mut Bits,
     output: &mut W,
 ) -> Result<MatchEnd, GamesFault<'a>>
     requires limit { game.old.limit ≡ 20000 }
@@ -252,18 +252,18 @@ fn play_each<'a, P: Processes + Clock, M: Moments, W: Output>(
     alloc: Global,
     plan: &MatchPlan<'a>,
     moments: &mut M,
-    game: &mut Game<Plain>,
+    game: &mut Game<Bits>,
+    scratch: &mut Bits,
     output: &mut W,
 ) -> Result<Played, GamesFault<'a>>
     requires { game.old.limit ≡ 20000 }
     ensures { HasPlayed plan.now (W.seen output.old) (W.seen output.new) result }
 {
-    let mut scratch = Plain::new();
     let mut score = Score::new();
     let mut number: u32 = 0;
     while number < u32::from(plan.games) {
         number += 1;
-        let end = match play_one(rt, alloc, plan, number, moments, game, &mut scratch, output) {
+        let end = match play_one(rt, alloc, plan, number, moments, game, scratch, output) {
             Ok(end) => end,
             Err(fault) => return Err(fault),
         };
@@ -276,6 +276,14 @@ fn play_each<'a, P: Processes + Clock, M: Moments, W: Output>(
         }
     }
     Ok(Played { score, fault: None })
+}
+
+// A game with its board.
+fn open_game(alloc: Global) -> Result<Game<Bits>, AllocError>
+    ensures { IfOk result (λ g. g.limit ≡ 20000) }
+{
+    let board = Bits::open(alloc)?;
+    Game::open(alloc, board, GAME_LIMIT)
 }
 
 /// Plays the games of a match, with colours changed after each, and writes each game's text and then the score.
@@ -291,11 +299,22 @@ pub(crate) fn play_games<'a, P: Processes + Clock, W: Output>(
 ) -> Result<(), GamesFault<'a>>
     ensures { RanGames plan.now (W.seen output.old) (W.seen output.new) result }
 {
-    let Ok(mut game) = Game::open(alloc, Plain::new(), GAME_LIMIT) else {
+    let Ok(mut scratch) = Bits::open(alloc) else {
+        return Err(GamesFault::NoMemory);
+    };
+    let Ok(mut game) = open_game(alloc) else {
         return Err(GamesFault::NoMemory);
     };
     let mut moments = SinceStart::new(rt);
-    let played = match play_each(rt, alloc, plan, &mut moments, &mut game, output) {
+    let played = match play_each(
+        rt,
+        alloc,
+        plan,
+        &mut moments,
+        &mut game,
+        &mut scratch,
+        output,
+    ) {
         Ok(played) => played,
         Err(fault) => return Err(fault),
     };

@@ -1,0 +1,139 @@
+//! Relaying the moves of a game between two engines in memory.
+
+use byte_devices::{Counted, PieceReader, PieceWriter};
+use chess_base::{Kind, Man, Move, Position, Setup};
+use chess_game::Game;
+use chess_match::{Ends, Level, Moments, run_match};
+use chess_moves::Board;
+use chess_text::coordinate;
+use std::alloc::{AllocError, Global};
+
+/// What two engines say in a match.
+#[derive(Drop)]
+pub struct Script {
+    pub white: Vec<u8>,
+    pub black: Vec<u8>,
+}
+
+// The moments of a clock that stands.
+#[derive(Drop)]
+struct Standing;
+
+impl Moments for Standing {
+    ghost use Rattle.std.specs.Prelude.{None};
+
+    ghost coming = { λ m n. None };
+
+    fn now(&mut self) -> u64 {
+        0
+    }
+}
+
+// What comes behind a number in a sequence that looks like dice.
+fn next_number(number: u32) -> u32 {
+    number.wrapping_mul(1_664_525).wrapping_add(1_013_904_223)
+}
+
+// Whether a move takes nothing, and moves a pawn just where none was moved for twenty half-moves: so the game goes on.
+fn goes_on(setup: &Setup, m: Move) -> bool {
+    let is_pawn = matches!(
+        setup.men[m.from.index()],
+        Some(Man {
+            kind: Kind::Pawn,
+            ..
+        })
+    );
+    setup.men[m.to.index()].is_none() && is_pawn == (setup.halfmove > 20)
+}
+
+// The first such legal move from that place of their list on, and then from its beginning; else the one at that place.
+fn next_move<B: Board>(board: &B, place: usize) -> Option<Move> {
+    let moves = board.legal_moves();
+    let (front, behind) = moves.as_slice().split_at_checked(place)?;
+    let setup = board.setup();
+    for m in behind {
+        if goes_on(setup, *m) {
+            return Some(*m);
+        }
+    }
+    for m in front {
+        if goes_on(setup, *m) {
+            return Some(*m);
+        }
+    }
+    behind.first().copied()
+}
+
+// A move, and the answer to the `ping` behind it.
+fn say_move(said: &mut Vec<u8>, m: Move, number: usize) -> Result<(), AllocError> {
+    let mut buffer = itoa::Buffer::new();
+    said.extend_from_slice(b"move ")?;
+    said.extend_from_slice(coordinate(m).as_slice())?;
+    said.extend_from_slice(b"\npong ")?;
+    said.extend_from_slice(buffer.format(number).as_bytes())?;
+    said.extend_from_slice(b"\n")
+}
+
+fn greeting(alloc: Global) -> Result<Vec<u8>, AllocError> {
+    let mut said = Vec::new(alloc);
+    said.extend_from_slice(b"feature ping=1 usermove=1 setboard=1 done=1\npong 1\n")?;
+    Ok(said)
+}
+
+/// What two engines say that play a game of up to so many half-moves, in which hardly a man is taken; the game is played
+/// here.
+///
+/// # Errors
+/// Where memory is wanting.
+pub fn write_script<B: Board>(
+    alloc: Global,
+    game: &mut Game<B>,
+    half_moves: usize,
+) -> Result<Script, AllocError> {
+    let mut script = Script {
+        white: greeting(alloc)?,
+        black: greeting(alloc)?,
+    };
+    let mut number: u32 = 1;
+    for half_move in 0..half_moves {
+        number = next_number(number);
+        let place = (number >> 16) as usize % game.board().legal_move_count().max(1);
+        let Some(m) = next_move(game.board(), place) else {
+            return Ok(script);
+        };
+        if game.play(m).is_err() {
+            return Ok(script);
+        }
+        let answer = half_move / 2 + 2;
+        if half_move % 2 == 0 {
+            say_move(&mut script.white, m, answer)?;
+        } else {
+            say_move(&mut script.black, m, answer)?;
+        }
+    }
+    Ok(script)
+}
+
+/// Plays a match between two engines that say this, in pieces of 4,096 bytes, and tells its half-moves.
+pub fn relay<B: Board>(
+    alloc: Global,
+    script: &Script,
+    level: Level,
+    game: &mut Game<B>,
+    scratch: &mut B,
+) -> usize {
+    let mut white = Ends {
+        reader: Counted::reading(PieceReader::new(script.white.as_slice(), 4096, 0)),
+        writer: Counted::writing(PieceWriter::new(alloc, 4096, 0)),
+    };
+    let mut black = Ends {
+        reader: Counted::reading(PieceReader::new(script.black.as_slice(), 4096, 0)),
+        writer: Counted::writing(PieceWriter::new(alloc, 4096, 0)),
+    };
+    let setup = chess_match::Setup {
+        start: Position::initial(),
+        level,
+    };
+    run_match(&mut white, &mut black, &mut Standing, &setup, game, scratch);
+    game.ply()
+}
