@@ -1,7 +1,7 @@
 //! Relaying the moves of a game between two engines in memory.
 
 use byte_devices::{Counted, PieceReader, PieceWriter};
-use chess_base::{Kind, Man, Move, Position, Setup};
+use chess_base::{Kind, Move, Position, Setup};
 use chess_game::Game;
 use chess_match::{Ends, Level, Moments, run_match};
 use chess_moves::Board;
@@ -36,13 +36,8 @@ fn next_number(number: u32) -> u32 {
 
 // Whether a move takes nothing, and moves a pawn just where none was moved for twenty half-moves: so the game goes on.
 fn goes_on(setup: &Setup, m: Move) -> bool {
-    let is_pawn = matches!(
-        setup.men[m.from.index()],
-        Some(Man {
-            kind: Kind::Pawn,
-            ..
-        })
-    );
+    let man = setup.men[m.from.index()];
+    let is_pawn = man.is_some_and(|man| man.kind == Kind::Pawn);
     setup.men[m.to.index()].is_none() && is_pawn == (setup.halfmove > 20)
 }
 

@@ -3,11 +3,8 @@ use chess_arbiter::run_program;
 use std::alloc::Global;
 use std::test::Fail;
 
-/// A line to the program, with what it answers.
-struct Line {
-    text: &'static [u8],
-    answer: &'static [u8],
-}
+/// A line to the program, and what it answers.
+type Line = (&'static [u8], &'static [u8]);
 
 /// Words of the program, and lines to it.
 struct Talk {
@@ -15,53 +12,49 @@ struct Talk {
     lines: &'static [Line],
 }
 
-const fn line(text: &'static [u8], answer: &'static [u8]) -> Line {
-    Line { text, answer }
-}
-
 const TALKS: [Talk; 3] = [
     Talk {
         words: &[],
         lines: &[
-            line(b"new\n", b""),
-            line(b"e2e4\n", b""),
-            line(b"ping 7\n", b"pong 7\n"),
-            line(b"undo\n", b""),
-            line(
+            (b"new\n", b""),
+            (b"e2e4\n", b""),
+            (b"ping 7\n", b"pong 7\n"),
+            (b"undo\n", b""),
+            (
                 b"showfen\n",
                 b"# fen rnbqkbnr/pppppppp/8/8/8/8/PPPPPPPP/RNBQKBNR w KQkq - 0 1\n",
             ),
-            line(b"undo\n", b"Error (command not legal now): undo\n"),
+            (b"undo\n", b"Error (command not legal now): undo\n"),
         ],
     },
     Talk {
         words: &["session"],
         lines: &[
-            line(b"f3\r\n", b""),
-            line(b"\n", b""),
-            line(b"e5\n", b""),
-            line(b"g4\n", b""),
-            line(b"Qh4\n", b"0-1 {Black mates}\n"),
-            line(b"Nf3\n", b"Illegal move (game over): Nf3\n"),
-            line(
+            (b"f3\r\n", b""),
+            (b"\n", b""),
+            (b"e5\n", b""),
+            (b"g4\n", b""),
+            (b"Qh4\n", b"0-1 {Black mates}\n"),
+            (b"Nf3\n", b"Illegal move (game over): Nf3\n"),
+            (
                 b"setboard 8/8/8/8/8/8/8/8 w - - 0 1\n",
                 b"tellusererror Illegal position (kings)\n",
             ),
-            line(b"quit\n", b""),
+            (b"quit\n", b""),
         ],
     },
     Talk {
         words: &["stub", "e2e4", "offer", "d2d4"],
         lines: &[
-            line(b"xboard\n", b""),
-            line(
+            (b"xboard\n", b""),
+            (
                 b"protover 2\n",
                 b"feature ping=1 setboard=1 usermove=1 myname=\"stub\" done=1\n",
             ),
-            line(b"ping 3\n", b"pong 3\n"),
-            line(b"go\n", b"move e2e4\noffer draw\n"),
-            line(b"usermove e7e5\n", b"move d2d4\n"),
-            line(b"quit\n", b""),
+            (b"ping 3\n", b"pong 3\n"),
+            (b"go\n", b"move e2e4\noffer draw\n"),
+            (b"usermove e7e5\n", b"move d2d4\n"),
+            (b"quit\n", b""),
         ],
     },
 ];
@@ -114,12 +107,12 @@ fn run(rt: &HostRuntime, words: &[&str], input: &[u8], devices: Devices) -> Outc
 fn answered(alloc: Global, lines: &[Line], given: usize) -> Result<(Vec<u8>, usize), Fail> {
     let mut answers = Vec::new(alloc);
     let mut read: usize = 0;
-    for line in lines {
-        let end = read.saturating_add(line.text.len());
+    for (text, answer) in lines {
+        let end = read.saturating_add(text.len());
         if end > given {
             break;
         }
-        answers.extend_from_slice(line.answer)?;
+        answers.extend_from_slice(answer)?;
         read = end;
     }
     Ok((answers, read))
@@ -127,8 +120,8 @@ fn answered(alloc: Global, lines: &[Line], given: usize) -> Result<(Vec<u8>, usi
 
 fn input_of(alloc: Global, lines: &[Line]) -> Result<Vec<u8>, Fail> {
     let mut input = Vec::new(alloc);
-    for line in lines {
-        input.extend_from_slice(line.text)?;
+    for (text, _) in lines {
+        input.extend_from_slice(text)?;
     }
     Ok(input)
 }
