@@ -241,6 +241,7 @@ class Sources:
         self.imports = {}
         self.models = {}
         self.ghosts = {}
+        self.members = {}
         self.exports = {}
         self.words = {}
         for crate in crates():
@@ -269,6 +270,8 @@ class Sources:
                 self.models[(crate, model)] = (path, m.group(1))
             if is_trait and (m := re.match(r"^\s+(?:pub )?ghost (\w+): \{(.*)\}", line)):
                 self.ghosts.setdefault(owner, []).append((path, m.group(2)))
+            if of_trait and (m := re.match(r"^\s+ghost (\w+) = ", line)):
+                self.members.setdefault((crate, owner), set()).add(m.group(1))
             if m := re.match(r"^\s*(pub )?(?:pub\(\w+\) )?(?:const )?fn (\w+)", line):
                 is_pub = bool(m.group(1)) or is_trait or of_trait
                 i = self.read_function(crate, path, lines, i, owner, m.group(2), is_pub)

@@ -1,0 +1,217 @@
+#!/usr/bin/env python3
+"""Checks the documents against the sources.
+
+    tools/theorems.py           tells each thing in docs/THEOREMS.md that the sources do not have: a function, clause, definition or
+                                test that is not in its file, a wrong body that stands there not just once, figures that are old;
+                                and each link of a document that leads to no file or to no heading
+    tools/theorems.py --fill    writes the figures and the links of docs/THEOREMS.md anew, and then checks
+
+The exit status is 0 where all is as it says."""
+
+import re
+import sys
+
+import reach
+from sources import TOP, wrong_bodies
+
+PAGE = "docs/THEOREMS.md"
+
+SHORT = {
+    "devices": "byte_devices",
+    "base": "chess_base",
+    "moves": "chess_moves",
+    "bits": "chess_bits",
+    "game": "chess_game",
+    "text": "chess_text",
+    "pgn": "chess_pgn",
+    "cecp": "chess_cecp",
+    "match": "chess_match",
+    "words": "arbiter_words",
+    "arbiter": "chess_arbiter",
+    "base_tests": "chess_base_tests",
+    "boards_tests": "boards_tests",
+    "game_tests": "chess_game_tests",
+    "text_tests": "chess_text_tests",
+    "pgn_tests": "chess_pgn_tests",
+    "cecp_tests": "chess_cecp_tests",
+    "match_tests": "chess_match_tests",
+}
+
+FAULTS = []
+
+
+def fault(where, what):
+    FAULTS.append(f"{where}: {what}")
+
+
+def documents():
+    return sorted(TOP.glob("*.md")) + sorted(TOP.glob("docs/*.md"))
+
+
+# ---- short links: `[base/Moves]`, `[base/position.rt]`
+
+SHORT_LINK = re.compile(r"\[([a-z_]+/[\w.]+)\](?!\(|:)")
+
+
+def target_of(label):
+    """The file that a short link means, from the top; None where there is none."""
+    crate, _, name = label.partition("/")
+    crate = SHORT.get(crate)
+    if not crate:
+        return None
+    if name.endswith(".rt"):
+        found = sorted((TOP / "crates" / crate / "src").glob(f"**/{name}"), key=lambda p: len(p.parts))
+    else:
+        found = sorted((TOP / "crates" / crate / "specs").glob(f"**/{name}.antt"), key=lambda p: len(p.parts))
+    return found[0].relative_to(TOP).as_posix() if found else None
+
+
+def links_of(text):
+    labels = sorted({m.group(1) for m in SHORT_LINK.finditer(text)})
+    return "\n".join(f"[{label}]: ../{target_of(label)}" for label in labels if target_of(label))
+
+
+def between(text, mark, inner=None):
+    """What stands between the two comments of a mark; or the text with something else there."""
+    pattern = re.compile(rf"(<!-- {mark} -->\n)(.*?)(<!-- /{mark} -->)", re.S)
+    if inner is None:
+        return pattern.search(text).group(2).strip()
+    return pattern.sub(lambda m: f"{m.group(1)}{inner}\n{m.group(3)}", text)
+
+
+# ---- what a line of the page names
+
+NAMES = re.compile(r"`([^`]+)`(?: \(([^)]*)\))?")
+
+
+def items(line):
+    """The names of a line with what stands in brackets behind each, and the short link behind `in`."""
+    start = 0
+    for m in re.finditer(r" in \[([a-z_]+/[\w.]+)\]", line):
+        for name in NAMES.finditer(line[start:m.start()]):
+            yield name.group(1), name.group(2), m.group(1)
+        start = m.end()
+
+
+def clauses_in(brackets):
+    return [] if brackets is None or brackets == "its clause" else re.findall(r"`(\w+)`", brackets)
+
+
+def check_theorem(where, line, sources):
+    if not list(items(line)):
+        fault(where, "names no function")
+    for name, brackets, label in items(line):
+        path = target_of(label)
+        found = [f for f in sources.functions if f.full_name == name and f.path == path]
+        if not found:
+            fault(where, f"{name} is not in {path}")
+            continue
+        if brackets is None:
+            fault(where, f"{name}: no clause is named")
+            continue
+        clauses = {n for f in found for kind, n, _ in f.clauses if kind == "ensures"}
+        clauses |= sources.members.get((found[0].crate, found[0].owner), set())
+        for clause in clauses_in(brackets) or [""]:
+            if clause not in clauses:
+                fault(where, f"{name} has no clause {clause or 'without a name'}, but {sorted(clauses)}")
+
+
+def check_read(where, line, specs):
+    for m in re.finditer(r"\[([a-z_]+/\w+)\](?: \(([^)]*)\))?", line):
+        path = target_of(m.group(1))
+        names = {k.name for k in specs.definitions if k.path == path}
+        for name in clauses_in(m.group(2)):
+            if name not in names:
+                fault(where, f"{name} is not defined in {path}")
+
+
+def check_tests(where, line, sources):
+    for names, label in re.findall(r"((?:`\w+`(?:, )?)+) in \[([a-z_]+/[\w.]+)\]", line):
+        path = target_of(label)
+        for name in re.findall(r"\w+", names):
+            if not any(f.name == name and f.path == path for f in sources.functions):
+                fault(where, f"the test {name} is not in {path}")
+
+
+def check_wrong_bodies(text):
+    """Each wrong body stands on the page just once, under its crate."""
+    told = {"Refused": {}, "Only read": {}}
+    for kind, crate, names in re.findall(r"^- (Refused|Only read) \((\w+)\): (.*)$", text, re.M):
+        told[kind].setdefault(crate, []).extend(re.findall(r"`(\w+)`", names))
+    read_only = {}
+    for path in sorted(TOP.glob("crates/*/must-fail/*.md")):
+        read_only.setdefault(path.parent.parent.name, []).append(path.stem)
+    for kind, there in (("Refused", wrong_bodies()), ("Only read", read_only)):
+        for crate in sorted(set(there) | set(told[kind])):
+            named, real = told[kind].get(crate, []), there.get(crate, [])
+            for name in sorted(set(real) - set(named)):
+                fault(PAGE, f"the wrong body {name} of {crate} is missing under {kind}")
+            for name in sorted(set(named) - set(real)):
+                fault(PAGE, f"{crate} has no wrong body {name} to be {kind.lower()}")
+            for name in sorted({n for n in named if named.count(n) > 1}):
+                fault(PAGE, f"the wrong body {name} of {crate} stands there more than once")
+    return {kind: sum(len(names) for names in crates.values()) for kind, crates in told.items()}
+
+
+# ---- links
+
+def slug(heading):
+    text = re.sub(r"[^\w\- ]", "", heading.replace("`", "").strip().lower())
+    return text.replace(" ", "-")
+
+
+def headings_of(path):
+    return {slug(h) for h in re.findall(r"^#+ (.*)$", path.read_text(encoding="utf-8"), re.M)}
+
+
+def check_links(path):
+    text = re.sub(r"```.*?```", "", path.read_text(encoding="utf-8"), flags=re.S)
+    where = path.relative_to(TOP).as_posix()
+    targets = re.findall(r"\]\(([^)\s]+)\)", text) + re.findall(r"^\[[^\]]+\]: (\S+)$", text, re.M)
+    for target in targets:
+        if target.startswith(("http:", "https:")):
+            continue
+        file, _, part = target.partition("#")
+        there = (path.parent / file).resolve() if file else path
+        if not there.exists():
+            fault(where, f"the link {target} leads to no file")
+        elif part and there.suffix == ".md" and part not in headings_of(there):
+            fault(where, f"the link {target} leads to no heading")
+    if where == PAGE:
+        for label in {m.group(1) for m in SHORT_LINK.finditer(text)}:
+            if not target_of(label):
+                fault(where, f"the link [{label}] leads to no file")
+
+
+def main(words):
+    page = TOP / PAGE
+    text = page.read_text(encoding="utf-8")
+    reached = reach.Reach()
+    figures, links = reach.table(reached), links_of(text)
+    if words[:1] == ["--fill"]:
+        text = between(between(text, "reach", figures), "links", links)
+        page.write_text(text, encoding="utf-8")
+    if between(text, "reach") != figures:
+        fault(PAGE, "the figures are old; --fill writes them anew")
+    if between(text, "links") != links:
+        fault(PAGE, "the links are old; --fill writes them anew")
+    for number, line in enumerate(text.split("\n"), 1):
+        where = f"{PAGE}:{number}"
+        if line.startswith("- Theorem: "):
+            check_theorem(where, line, reached.sources)
+        elif line.startswith("- Read: "):
+            check_read(where, line, reached.specs)
+        elif line.startswith("- Tests: "):
+            check_tests(where, line, reached.sources)
+    counts = check_wrong_bodies(text)
+    for path in documents():
+        check_links(path)
+    for told in FAULTS:
+        print(told)
+    theorems = len(re.findall(r"^- Theorem: ", text, re.M))
+    print(f"{theorems} claims, {counts['Refused']} wrong bodies refused, {counts['Only read']} only read, {len(FAULTS)} faults")
+    return 1 if FAULTS else 0
+
+
+if __name__ == "__main__":
+    sys.exit(main(sys.argv[1:]))
