@@ -3,8 +3,9 @@
 
     tools/theorems.py           tells each thing in docs/THEOREMS.md that the sources do not have: a function, clause, definition or
                                 test that is not in its file, a wrong body that stands there not just once, figures that are old;
-                                and each link of a document that leads to no file or to no heading
-    tools/theorems.py --fill    writes the figures and the links of docs/THEOREMS.md anew, and then checks
+                                each link of a document that leads to no file or to no heading; and each file of specs/ that does not
+                                stand in docs/DEFINITIONS.md just once
+    tools/theorems.py --fill    writes the figures and the short links of both anew, and then checks
 
 The exit status is 0 where all is as it says."""
 
@@ -15,6 +16,7 @@ import reach
 from sources import TOP, wrong_bodies
 
 PAGE = "docs/THEOREMS.md"
+ORDER = "docs/DEFINITIONS.md"
 
 SHORT = {
     "devices": "byte_devices",
@@ -177,24 +179,41 @@ def check_links(path):
             fault(where, f"the link {target} leads to no file")
         elif part and there.suffix == ".md" and part not in headings_of(there):
             fault(where, f"the link {target} leads to no heading")
-    if where == PAGE:
+    if where in (PAGE, ORDER):
         for label in {m.group(1) for m in SHORT_LINK.finditer(text)}:
             if not target_of(label):
                 fault(where, f"the link [{label}] leads to no file")
 
 
+def check_order(text, reached):
+    """Each file of specs/ stands in the order of reading just once, but for those that only list the others."""
+    named = [target_of(label) for label in re.findall(r"^\| \[([a-z_]+/\w+)\] ", text, re.M)]
+    for path in reached.specs.files:
+        if named.count(path) != 1:
+            fault(ORDER, f"{path} stands there {named.count(path)} times")
+
+
+def filled(page, is_to_fill, figures):
+    """The text of a page, with figures and short links as they are now, or as they stand there."""
+    path = TOP / page
+    text = path.read_text(encoding="utf-8")
+    for mark, now in (("reach", figures), ("links", links_of(text))):
+        if now is None or between(text, mark) == now:
+            continue
+        if is_to_fill:
+            text = between(text, mark, now)
+        else:
+            fault(page, f"its {'figures' if mark == 'reach' else 'links'} are old; --fill writes them anew")
+    if is_to_fill:
+        path.write_text(text, encoding="utf-8")
+    return text
+
+
 def main(words):
-    page = TOP / PAGE
-    text = page.read_text(encoding="utf-8")
+    is_to_fill = words[:1] == ["--fill"]
     reached = reach.Reach()
-    figures, links = reach.table(reached), links_of(text)
-    if words[:1] == ["--fill"]:
-        text = between(between(text, "reach", figures), "links", links)
-        page.write_text(text, encoding="utf-8")
-    if between(text, "reach") != figures:
-        fault(PAGE, "the figures are old; --fill writes them anew")
-    if between(text, "links") != links:
-        fault(PAGE, "the links are old; --fill writes them anew")
+    text = filled(PAGE, is_to_fill, reach.table(reached))
+    check_order(filled(ORDER, is_to_fill, None), reached)
     for number, line in enumerate(text.split("\n"), 1):
         where = f"{PAGE}:{number}"
         if line.startswith("- Theorem: "):
