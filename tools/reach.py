@@ -12,6 +12,8 @@ prover is asked."""
 
 import sys
 
+sys.dont_write_bytecode = True
+
 from sources import TOP, Sources, Specs, read
 
 HEADLINES = [

@@ -62,6 +62,12 @@ def crates():
     return sorted(p.parent.name for p in TOP.glob("crates/*/src"))
 
 
+def used_crates():
+    """The libraries that each crate names in crates.txt."""
+    lines = [l.split("#")[0] for l in read("crates.txt").split("\n")]
+    return {name.strip(): used.split() for name, _, used in (l.partition(":") for l in lines) if name.strip()}
+
+
 def without_comment(line):
     return re.sub(r"(^|\s)--(\s.*)?$", "", line).rstrip()
 
@@ -243,7 +249,7 @@ class Sources:
         self.ghosts = {}
         self.members = {}
         self.exports = {}
-        self.words = {}
+        self.uses = used_crates()
         for crate in crates():
             for path in sorted((TOP / "crates" / crate / "src").glob("**/*.rt")):
                 self.read_file(crate, path.relative_to(TOP).as_posix())
@@ -251,7 +257,6 @@ class Sources:
 
     def read_file(self, crate, path):
         lines = read(path).split("\n")
-        self.words[path] = set(re.findall(r"\w+", "\n".join(lines)))
         names, aliases = imports_of(lines, "ghost use ")
         self.imports[path] = (names, aliases)
         owner, model, is_trait, of_trait = "", None, False, False
@@ -330,19 +335,21 @@ class Sources:
     def is_law(self, f):
         return self.is_public(f) and f.path.endswith("/laws.rt")
 
-    def names_in(self, specs, f):
-        """The definitions that its clauses name, with those by which contracts see its arguments."""
+    def names_in(self, specs, f, wanted=None):
+        """The definitions that its clauses name, or the wanted ones of them, with those by which contracts see its arguments."""
         names, aliases = self.imports[f.path]
         parameters = set(re.findall(r"(?:^|[(,\s])(?:mut )?([a-z_]\w*):", f.signature))
         found = set()
-        for _, _, text in f.clauses:
+        for kind, name, text in f.clauses:
+            if wanted is not None and kind == "ensures" and name not in wanted:
+                continue
             bound = parameters | {w for g in re.findall(r"λ ([^.]*)\.", text) for w in re.findall(WORD, g)}
             bound |= {w for g in re.findall(rf"\(((?:{WORD} )+):", text) for w in g.split()}
             used = {w for w in bound if not re.search(rf"(?<![\w.']){re.escape(w)}\.(now|old|new|entry)", text)}
             found |= specs.resolve(text, names, aliases, None, bound - (used & set(names) & parameters))
         for word in set(re.findall(r"\w+", f.signature)) | {f.owner}:
             for (crate, model), (path, text) in self.models.items():
-                if model == word and (crate == f.crate or model in self.exports[crate]):
+                if model == word and (crate == f.crate or crate in self.uses.get(f.crate, []) and model in self.exports[crate]):
                     found |= specs.resolve(text, *self.imports[path])
             for path, text in self.ghosts.get(word, []):
                 found |= specs.resolve(text, *self.imports[path])

@@ -5,12 +5,14 @@
                                 test that is not in its file, a wrong body that stands there not just once, figures that are old;
                                 each link of a document that leads to no file or to no heading; and each file of specs/ that does not
                                 stand in docs/DEFINITIONS.md just once
-    tools/theorems.py --fill    writes the figures and the short links of both anew, and then checks
+    tools/theorems.py --fill    writes the figures, the files that each claim rests on and the short links anew, and then checks
 
 The exit status is 0 where all is as it says."""
 
 import re
 import sys
+
+sys.dont_write_bytecode = True
 
 import reach
 from sources import TOP, wrong_bodies
@@ -185,18 +187,89 @@ def check_links(path):
                 fault(where, f"the link [{label}] leads to no file")
 
 
-def check_order(text, reached):
-    """Each file of specs/ stands in the order of reading just once, but for those that only list the others."""
-    named = [target_of(label) for label in re.findall(r"^\| \[([a-z_]+/\w+)\] ", text, re.M)]
-    for path in reached.specs.files:
-        if named.count(path) != 1:
-            fault(ORDER, f"{path} stands there {named.count(path)} times")
+def check_order(text, specs):
+    """Each file of specs/ stands in the order of reading just once, behind those on which it rests; the order."""
+    order = [target_of(label) for label in re.findall(r"^\| \[([a-z_]+/\w+)\] ", text, re.M)]
+    place = {path: i for i, path in enumerate(order)}
+    for path in specs.files:
+        if order.count(path) != 1:
+            fault(ORDER, f"{path} stands there {order.count(path)} times")
+    for key in specs.definitions:
+        for other in specs.references(key):
+            if place.get(other.path, -1) > place.get(key.path, len(order)):
+                fault(ORDER, f"{key.path} stands before {other.path}, of which it names {other.name}")
+    return place
 
 
-def filled(page, is_to_fill, figures):
-    """The text of a page, with figures and short links as they are now, or as they stand there."""
+# ---- what a claim says is to be read
+
+class Claim:
+    """A heading of the page with the lines below it."""
+
+    def __init__(self, text):
+        self.text = text
+        self.slug = slug(text.split("\n")[0])
+        self.theorem = self.line("Theorem")
+        read = self.line("Read")
+        self.links = re.findall(r"\]\(#([^)]+)\)", read)
+        self.begins = read.split(";")[0] if self.links else ""
+        self.names = {target_of(m.group(1)): clauses_in(m.group(2)) for m in READ.finditer(read)}
+
+    def line(self, kind):
+        found = re.search(rf"^- {kind}: (.*)$", self.text, re.M)
+        return found.group(1) if found else ""
+
+
+READ = re.compile(r"\[([a-z_]+/\w+)\](?: \(([^)]*)\))?")
+
+
+def label_of(path):
+    crate, _, file = path[len("crates/"):].partition("/specs/")
+    return f"{next(short for short, whole in SHORT.items() if whole == crate)}/{file[: -len('.antt')].split('/')[-1]}"
+
+
+def with_reading(text, reached, place):
+    """The page with each claim's files in the order of reading: those that it names, and those that its clauses and the
+    definitions that it names reach, less those of the claims that it stands on. A clause counts at the first claim that has it."""
+    head, *parts = re.split(r"^(?=### )", text, flags=re.M)
+    claims = [Claim(part[len("### "):]) for part in parts]
+    by_slug = {c.slug: c for c in claims}
+    seen = set()
+    for claim in claims:
+        roots = {k for k in reached.specs.definitions if k.name in claim.names.get(k.path, [])}
+        for name, brackets, label in items(claim.theorem):
+            wanted = {c for c in clauses_in(brackets) or [""] if (label, name, c) not in seen}
+            seen |= {(label, name, c) for c in wanted}
+            for f in reached.sources.functions:
+                if wanted and f.full_name == name and f.path == target_of(label):
+                    roots |= reached.sources.names_in(reached.specs, f, wanted)
+        claim.reached = {k.path for k in reached.specs.reached(roots)}
+    told = {}
+
+    def told_by(claim):
+        if claim.slug not in told:
+            told[claim.slug] = set(claim.reached)
+            for link in claim.links:
+                told[claim.slug] |= told_by(by_slug[link])
+        return told[claim.slug]
+
+    for i, claim in enumerate(claims):
+        below = set().union(*[told_by(by_slug[link]) for link in claim.links])
+        files = sorted((claim.reached - below) | {p for p, names in claim.names.items() if names}, key=lambda p: place.get(p, 0))
+        shown = [f"[{label_of(p)}]" + (f" ({', '.join(f'`{n}`' for n in claim.names[p])})" if claim.names.get(p) else "") for p in files]
+        line = "- Read: " + "; ".join(([claim.begins] if claim.begins else []) + shown)
+        parts[i] = re.sub(r"^- Read: .*$", lambda m: line, parts[i], flags=re.M)
+    return head + "".join(parts)
+
+
+def filled(page, is_to_fill, figures, reading):
+    """The text of a page, with figures, files to read and short links as they are now, or as they stand there."""
     path = TOP / page
     text = path.read_text(encoding="utf-8")
+    if reading and (now := reading(text)) != text:
+        if not is_to_fill:
+            fault(page, "the files that a claim rests on are others; --fill writes them anew")
+        text = now if is_to_fill else text
     for mark, now in (("reach", figures), ("links", links_of(text))):
         if now is None or between(text, mark) == now:
             continue
@@ -212,8 +285,8 @@ def filled(page, is_to_fill, figures):
 def main(words):
     is_to_fill = words[:1] == ["--fill"]
     reached = reach.Reach()
-    text = filled(PAGE, is_to_fill, reach.table(reached))
-    check_order(filled(ORDER, is_to_fill, None), reached)
+    place = check_order(filled(ORDER, is_to_fill, None, None), reached.specs)
+    text = filled(PAGE, is_to_fill, reach.table(reached), lambda t: with_reading(t, reached, place))
     for number, line in enumerate(text.split("\n"), 1):
         where = f"{PAGE}:{number}"
         if line.startswith("- Theorem: "):
