@@ -234,6 +234,8 @@ def with_reading(text, reached, place):
     head, *parts = re.split(r"^(?=### )", text, flags=re.M)
     claims = [Claim(part[len("### "):]) for part in parts]
     by_slug = {c.slug: c for c in claims}
+    for claim in claims:
+        claim.below = [by_slug[link] for link in claim.links if link in by_slug]
     seen = set()
     for claim in claims:
         roots = {k for k in reached.specs.definitions if k.name in claim.names.get(k.path, [])}
@@ -249,12 +251,12 @@ def with_reading(text, reached, place):
     def told_by(claim):
         if claim.slug not in told:
             told[claim.slug] = set(claim.reached)
-            for link in claim.links:
-                told[claim.slug] |= told_by(by_slug[link])
+            for other in claim.below:
+                told[claim.slug] |= told_by(other)
         return told[claim.slug]
 
     for i, claim in enumerate(claims):
-        below = set().union(*[told_by(by_slug[link]) for link in claim.links])
+        below = set().union(*map(told_by, claim.below))
         files = sorted((claim.reached - below) | {p for p, names in claim.names.items() if names}, key=lambda p: place.get(p, 0))
         shown = [f"[{label_of(p)}]" + (f" ({', '.join(f'`{n}`' for n in claim.names[p])})" if claim.names.get(p) else "") for p in files]
         line = "- Read: " + "; ".join(([claim.begins] if claim.begins else []) + shown)
@@ -296,6 +298,9 @@ def main(words):
         elif line.startswith("- Tests: "):
             check_tests(where, line, reached.sources)
     counts = check_wrong_bodies(text)
+    for number in re.findall(r"(\d+) wrong bodies", (TOP / "README.md").read_text(encoding="utf-8")):
+        if int(number) != counts["Refused"]:
+            fault("README.md", f"{number} wrong bodies are told, but there are {counts['Refused']}")
     for path in documents():
         check_links(path)
     for told in FAULTS:
