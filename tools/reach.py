@@ -14,7 +14,7 @@ import sys
 
 sys.dont_write_bytecode = True
 
-from sources import TOP, Sources, Specs, read
+from sources import TOP, Sources, Specs, imports_of, read, reading_order
 
 HEADLINES = [
     "run_program", "run_session", "run_match", "read_words",
@@ -40,7 +40,7 @@ class Reach:
     def __init__(self):
         self.specs = Specs()
         self.sources = Sources()
-        self.order = self.reading_order()
+        self.order = reading_order(read("docs/DEFINITIONS.md"))
 
     def functions(self, name):
         """The public functions of that name; of methods the ones of the type itself."""
@@ -53,23 +53,6 @@ class Reach:
         for f in functions:
             roots |= self.sources.names_in(self.specs, f)
         return self.specs.reached(roots)
-
-    def reading_order(self):
-        """Files from the ground up: crates as crates.txt has them, files as each Lib has them."""
-        order = []
-        for line in read("crates.txt").split("\n"):
-            crate = line.split(":")[0].strip()
-            order += self.files_in(crate, "Lib") if crate else []
-        return order
-
-    def files_in(self, crate, module):
-        path = TOP / "crates" / crate / "specs" / ("/".join(module.split(".")) + ".antt")
-        if not path.exists():
-            return []
-        inner = [l.split()[2] for l in path.read_text(encoding="utf-8").split("\n") if l.startswith("pub mod ")]
-        own = [path.relative_to(TOP).as_posix()]
-        prefix = "" if module == "Lib" else module + "."
-        return own + [f for name in inner for f in self.files_in(crate, prefix + name)]
 
     def by_file(self, keys):
         files = {}
@@ -101,8 +84,6 @@ class Reach:
 
     def named_in(self, folder, ending, prefix):
         """What the files of a folder name anywhere."""
-        from sources import imports_of
-
         found = set()
         for path in sorted(TOP.glob(f"crates/*/{folder}/**/*{ending}")):
             lines = path.read_text(encoding="utf-8").split("\n")
@@ -178,4 +159,7 @@ def main(words):
 
 
 if __name__ == "__main__":
-    main(sys.argv[1:])
+    try:
+        main(sys.argv[1:])
+    except BrokenPipeError:
+        sys.stderr.close()

@@ -10,6 +10,29 @@ TOP = Path(__file__).resolve().parent.parent
 WORD = r"[A-Za-z_]\w*'*"
 
 
+# the names by which the documents call the crates
+SHORT = {
+    "devices": "byte_devices",
+    "base": "chess_base",
+    "moves": "chess_moves",
+    "bits": "chess_bits",
+    "game": "chess_game",
+    "text": "chess_text",
+    "pgn": "chess_pgn",
+    "cecp": "chess_cecp",
+    "match": "chess_match",
+    "words": "arbiter_words",
+    "arbiter": "chess_arbiter",
+    "base_tests": "chess_base_tests",
+    "boards_tests": "boards_tests",
+    "game_tests": "chess_game_tests",
+    "text_tests": "chess_text_tests",
+    "pgn_tests": "chess_pgn_tests",
+    "cecp_tests": "chess_cecp_tests",
+    "match_tests": "chess_match_tests",
+}
+
+
 @dataclass(frozen=True)
 class Name:
     """A definition: the crate, the file in its specs/ and the definition's name."""
@@ -362,3 +385,23 @@ def wrong_bodies():
     for path in sorted(TOP.glob("crates/*/must-fail/*.edit")):
         found.setdefault(path.parent.parent.name, []).append(path.stem)
     return found
+
+
+# ---- documents
+
+def target_of(label):
+    """The file that a short link means, from the top; None where there is none."""
+    crate, _, name = label.partition("/")
+    crate = SHORT.get(crate)
+    if not crate:
+        return None
+    if name.endswith(".rt"):
+        found = sorted((TOP / "crates" / crate / "src").glob(f"**/{name}"), key=lambda p: len(p.parts))
+    else:
+        found = sorted((TOP / "crates" / crate / "specs").glob(f"**/{name}.antt"), key=lambda p: len(p.parts))
+    return found[0].relative_to(TOP).as_posix() if found else None
+
+
+def reading_order(text):
+    """The files of specs/ as the tables of docs/DEFINITIONS.md have them."""
+    return [target_of(label) for label in re.findall(r"^\| \[([a-z_]+/\w+)\] ", text, re.M)]

@@ -15,31 +15,10 @@ import sys
 sys.dont_write_bytecode = True
 
 import reach
-from sources import TOP, wrong_bodies
+from sources import SHORT, TOP, reading_order, target_of, wrong_bodies
 
 PAGE = "docs/THEOREMS.md"
 ORDER = "docs/DEFINITIONS.md"
-
-SHORT = {
-    "devices": "byte_devices",
-    "base": "chess_base",
-    "moves": "chess_moves",
-    "bits": "chess_bits",
-    "game": "chess_game",
-    "text": "chess_text",
-    "pgn": "chess_pgn",
-    "cecp": "chess_cecp",
-    "match": "chess_match",
-    "words": "arbiter_words",
-    "arbiter": "chess_arbiter",
-    "base_tests": "chess_base_tests",
-    "boards_tests": "boards_tests",
-    "game_tests": "chess_game_tests",
-    "text_tests": "chess_text_tests",
-    "pgn_tests": "chess_pgn_tests",
-    "cecp_tests": "chess_cecp_tests",
-    "match_tests": "chess_match_tests",
-}
 
 FAULTS = []
 
@@ -55,19 +34,6 @@ def documents():
 # ---- short links: `[base/Moves]`, `[base/position.rt]`
 
 SHORT_LINK = re.compile(r"\[([a-z_]+/[\w.]+)\](?!\(|:)")
-
-
-def target_of(label):
-    """The file that a short link means, from the top; None where there is none."""
-    crate, _, name = label.partition("/")
-    crate = SHORT.get(crate)
-    if not crate:
-        return None
-    if name.endswith(".rt"):
-        found = sorted((TOP / "crates" / crate / "src").glob(f"**/{name}"), key=lambda p: len(p.parts))
-    else:
-        found = sorted((TOP / "crates" / crate / "specs").glob(f"**/{name}.antt"), key=lambda p: len(p.parts))
-    return found[0].relative_to(TOP).as_posix() if found else None
 
 
 def links_of(text):
@@ -189,7 +155,7 @@ def check_links(path):
 
 def check_order(text, specs):
     """Each file of specs/ stands in the order of reading just once, behind those on which it rests; the order."""
-    order = [target_of(label) for label in re.findall(r"^\| \[([a-z_]+/\w+)\] ", text, re.M)]
+    order = reading_order(text)
     place = {path: i for i, path in enumerate(order)}
     for path in specs.files:
         if order.count(path) != 1:
