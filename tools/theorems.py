@@ -1,11 +1,12 @@
 #!/usr/bin/env python3
 """Checks the documents against the sources.
 
-    tools/theorems.py           tells each thing in docs/THEOREMS.md that the sources do not have: a function, clause, definition or
-                                test that is not in its file, a wrong body that stands there not just once, figures that are old;
-                                each link of a document that leads to no file or to no heading; and each file of specs/ that does not
-                                stand in docs/DEFINITIONS.md just once
-    tools/theorems.py --fill    writes the figures, the files that each claim rests on and the short links anew, and then checks
+    tools/theorems.py           tells where docs/THEOREMS.md names a function, clause, definition or test that is not in its file;
+                                where it leaves out a clause of a public function; which wrong body does not stand there just
+                                once; whether its figures and its files to read are old; which file of specs/ does not stand in
+                                docs/DEFINITIONS.md just once, behind those on which it rests; and which link of a document leads
+                                to no file or to no heading
+    tools/theorems.py --fill    writes the figures, the files to read and the short links anew, and then checks
 
 The exit status is 0 where all is as it says."""
 
@@ -84,6 +85,18 @@ def check_theorem(where, line, sources):
         for clause in clauses_in(brackets) or [""]:
             if clause not in clauses:
                 fault(where, f"{name} has no clause {clause or 'without a name'}, but {sorted(clauses)}")
+
+
+def check_all_are_told(text, sources):
+    """Each clause of a function that a user of the crates can call is named at some claim."""
+    told = set()
+    for line in re.findall(r"^- Theorem: (.*)$", text, re.M):
+        for name, brackets, label in items(line):
+            told |= {(target_of(label), name, clause) for clause in clauses_in(brackets) or [""]}
+    for f in sources.functions:
+        for kind, clause, _ in f.clauses if sources.is_public(f) else []:
+            if kind == "ensures" and (f.path, f.full_name, clause) not in told:
+                fault(PAGE, f"{f.full_name} of {f.path} is not told{f' by its clause {clause}' if clause else ''}")
 
 
 def check_read(where, line, specs):
@@ -263,6 +276,7 @@ def main(words):
             check_read(where, line, reached.specs)
         elif line.startswith("- Tests: "):
             check_tests(where, line, reached.sources)
+    check_all_are_told(text, reached.sources)
     counts = check_wrong_bodies(text)
     for number in re.findall(r"(\d+) wrong bodies", (TOP / "README.md").read_text(encoding="utf-8")):
         if int(number) != counts["Refused"]:
