@@ -6,7 +6,8 @@
                                 once; whether its figures and its files to read are old; which file of specs/ does not stand in
                                 docs/DEFINITIONS.md just once, behind those on which it rests; and which link of a document leads
                                 to no file or to no heading
-    tools/theorems.py --fill    writes the figures, the files to read and the short links anew, and then checks
+    tools/theorems.py --fill    writes the figures, the files to read and the short links anew, moves wrong bodies that are tried
+                                by now to the refused ones, and then checks
 
 The exit status is 0 where all is as it says."""
 
@@ -114,6 +115,24 @@ def check_tests(where, line, sources):
         for name in re.findall(r"\w+", names):
             if not any(f.name == name and f.path == path for f in sources.functions):
                 fault(where, f"the test {name} is not in {path}")
+
+
+def with_tried(text):
+    """The page with wrong bodies that are tried by now moved, at their claim, from those that are only read to those refused."""
+    tried = wrong_bodies()
+    parts = re.split(r"^(?=### )", text, flags=re.M)
+    for i, part in enumerate(parts):
+        for crate, names in re.findall(r"^- Only read \((\w+)\): (.*)$", part, re.M):
+            names = re.findall(r"`(\w+)`", names)
+            moved = [n for n in names if n in tried.get(crate, [])]
+            refused = re.search(rf"^- Refused \({crate}\): (.*)\n", part, re.M)
+            all_refused = sorted(moved + (re.findall(r"`(\w+)`", refused.group(1)) if refused else []))
+            lines = [("Refused", all_refused), ("Only read", [n for n in names if n not in moved])]
+            shown = "".join(f"- {kind} ({crate}): {', '.join(f'`{n}`' for n in ns)}\n" for kind, ns in lines if ns)
+            part = part.replace(refused.group(0), "") if refused else part
+            part = re.sub(rf"^- Only read \({crate}\): .*\n", lambda m: shown, part, flags=re.M)
+        parts[i] = part
+    return "".join(parts)
 
 
 def check_wrong_bodies(text):
@@ -249,7 +268,7 @@ def filled(page, is_to_fill, figures, reading):
     text = path.read_text(encoding="utf-8")
     if reading and (now := reading(text)) != text:
         if not is_to_fill:
-            fault(page, "the files that a claim rests on are others; --fill writes them anew")
+            fault(page, "files to read are others, or wrong bodies that were only read are tried; --fill writes them anew")
         text = now if is_to_fill else text
     for mark, now in (("reach", figures), ("links", links_of(text))):
         if now is None or between(text, mark) == now:
@@ -267,7 +286,7 @@ def main(words):
     is_to_fill = words[:1] == ["--fill"]
     reached = reach.Reach()
     place = check_order(filled(ORDER, is_to_fill, None, None), reached.specs)
-    text = filled(PAGE, is_to_fill, reach.table(reached), lambda t: with_reading(t, reached, place))
+    text = filled(PAGE, is_to_fill, reach.table(reached), lambda t: with_reading(with_tried(t), reached, place))
     for number, line in enumerate(text.split("\n"), 1):
         where = f"{PAGE}:{number}"
         if line.startswith("- Theorem: "):
