@@ -1,0 +1,165 @@
+#!/usr/bin/env python3
+"""What a theorem rests on: counts, from the sources, which definitions of specs/ the contract of a function reaches.
+
+    tools/reach.py              the table of docs/THEOREMS.md
+    tools/reach.py NAME..       what these functions reach, file by file in reading order (`run_match`, `Game::play`)
+    tools/reach.py --rooms      for each file of specs/ which of its definitions serve the program, other calls, laws, or only ties
+    tools/reach.py --rooms NAME the definitions of one room: program, calls, laws, ties, proofs, nothing
+
+A function reaches the definitions that its clauses name, those by which contracts see its arguments, and what these name in turn.
+A definition's lines are counted without comments, imports and empty lines. Names are resolved by the imports of their file; no
+prover is asked."""
+
+import sys
+
+sys.dont_write_bytecode = True
+
+from sources import TOP, Sources, Specs, imports_of, read, reading_order
+
+HEADLINES = [
+    "run_program", "run_session", "run_match", "read_words",
+    "read_pgn", "write_pgn", "read_move", "san", "move_text", "read_fen", "read_fen_as", "write_fen",
+    "Session::answer", "Lines::next", "read_command", "read_engine_line",
+    "Game::play", "Game::take_back", "Game::declare", "Game::verdict", "Game::claims", "Game::repetitions",
+    "Position::new", "Position::is_legal", "Position::after", "Position::attacked",
+    "Board::legal_moves", "Board::make", "Board::take_back", "make_then_take_back",
+    "put", "Input::read", "Output::write",
+]
+
+ROOMS = {
+    "program": "reached by the contract of run_program",
+    "calls": "not by that, but by the contract of another function that a user of the crates can call",
+    "laws": "only by laws",
+    "ties": "only by contracts within a crate",
+    "proofs": "named only in proofs",
+    "nothing": "named by nothing",
+}
+
+
+class Reach:
+    def __init__(self):
+        self.specs = Specs()
+        self.sources = Sources()
+        self.order = reading_order(read("docs/DEFINITIONS.md"))
+
+    def functions(self, name):
+        """The public functions of that name; of methods the ones of the type itself."""
+        found = [f for f in self.sources.functions if self.sources.is_public(f) and f.clauses and name in (f.full_name, f.name)]
+        exact = [f for f in found if f.full_name == name]
+        return exact or found
+
+    def of(self, functions):
+        roots = set()
+        for f in functions:
+            roots |= self.sources.names_in(self.specs, f)
+        return self.specs.reached(roots)
+
+    def by_file(self, keys):
+        files = {}
+        for key in keys:
+            files.setdefault(key.path, []).append(key.name)
+        place = {path: i for i, path in enumerate(self.order)}
+        return sorted(files.items(), key=lambda item: place.get(item[0], len(place)))
+
+    # ---- rooms
+
+    def rooms(self):
+        """Each definition's room: the first that fits."""
+        s = self.sources
+        public = [f for f in s.functions if s.is_public(f)]
+        program = self.of([f for f in public if f.name == "run_program"])
+        calls = self.of([f for f in public if not s.is_law(f)])
+        laws = self.of([f for f in public if s.is_law(f)])
+        ties = self.specs.reached(self.named_in("src", ".rt", "ghost use "))
+        proofs = self.specs.reached(self.named_in("proofs", ".antt", "use "))
+        found = {}
+        for key in self.specs.definitions:
+            for room, keys in (("program", program), ("calls", calls), ("laws", laws), ("ties", ties), ("proofs", proofs)):
+                if key in keys:
+                    found[key] = room
+                    break
+            else:
+                found[key] = "nothing"
+        return found
+
+    def named_in(self, folder, ending, prefix):
+        """What the files of a folder name anywhere."""
+        found = set()
+        for path in sorted(TOP.glob(f"crates/*/{folder}/**/*{ending}")):
+            lines = path.read_text(encoding="utf-8").split("\n")
+            names, aliases = imports_of(lines, prefix)
+            text = "\n".join(l for l in lines if not l.strip().startswith((prefix, "use ", "#[", "//", "--")))
+            found |= self.specs.resolve(text, names, aliases)
+        return found
+
+
+def table(reach):
+    """The table of docs/THEOREMS.md."""
+    everything = reach.specs.count(reach.specs.definitions)
+    rows = ["| theorem | definitions | lines | files |", "|---|---:|---:|---:|"]
+    for name in HEADLINES:
+        functions = reach.functions(name)
+        if not functions:
+            raise SystemExit(f"no public function with a contract is named {name}")
+        d, l, f = reach.specs.count(reach.of(functions))
+        rows.append(f"| `{name}` | {d} | {l} | {f} |")
+    laws = reach.of([f for f in reach.sources.functions if reach.sources.is_law(f)])
+    d, l, f = reach.specs.count(laws)
+    rows.append(f"| all laws | {d} | {l} | {f} |")
+    rows.append(f"| all that specs/ holds | {everything[0]} | {everything[1]} | {len(reach.specs.files)} |")
+    rooms = reach.rooms()
+    rows += ["", "Each definition is counted in the first of these rooms that it serves; `--rooms` tells them file by file:", ""]
+    rows += ["| room | definitions | lines | which |", "|---|---:|---:|---|"]
+    for room, meaning in ROOMS.items():
+        keys = [k for k, r in rooms.items() if r == room]
+        d, l, _ = reach.specs.count(keys)
+        rows.append(f"| {room} | {d} | {l} | {meaning} |")
+    return "\n".join(rows)
+
+
+def show(reach, name):
+    functions = reach.functions(name)
+    if not functions:
+        raise SystemExit(f"no public function with a contract is named {name}")
+    keys = reach.of(functions)
+    d, l, f = reach.specs.count(keys)
+    print(f"{name}: {d} definitions, {l} lines, {f} files")
+    for path, names in reach.by_file(keys):
+        print(f"  {path}: {' '.join(n for n in in_order(reach, path) if n in names)}")
+
+
+def in_order(reach, path):
+    return [k.name for k in reach.specs.definitions if k.path == path]
+
+
+def show_rooms(reach, wanted):
+    rooms = reach.rooms()
+    for path in reach.order:
+        keys = [k for k in reach.specs.definitions if k.path == path]
+        if not keys:
+            continue
+        if wanted:
+            names = [k.name for k in keys if rooms[k] == wanted]
+            if names:
+                print(f"{path} ({len(names)} of {len(keys)}): {' '.join(names)}")
+            continue
+        counts = [f"{room} {n}" for room in ROOMS if (n := sum(rooms[k] == room for k in keys))]
+        print(f"{path}: {', '.join(counts)}")
+
+
+def main(words):
+    reach = Reach()
+    if words[:1] == ["--rooms"]:
+        show_rooms(reach, words[1] if len(words) > 1 else None)
+    elif words:
+        for name in words:
+            show(reach, name)
+    else:
+        print(table(reach))
+
+
+if __name__ == "__main__":
+    try:
+        main(sys.argv[1:])
+    except BrokenPipeError:
+        sys.stderr.close()

@@ -1,0 +1,407 @@
+"""The sources, as far as the documents speak of them: the definitions in specs/, the public functions with their clauses, and the
+wrong bodies in must-fail/. Told by their shape, as the formatter leaves it; no prover is asked."""
+
+import re
+from dataclasses import dataclass, field
+from pathlib import Path
+
+TOP = Path(__file__).resolve().parent.parent
+
+WORD = r"[A-Za-z_]\w*'*"
+
+
+# the names by which the documents call the crates
+SHORT = {
+    "devices": "byte_devices",
+    "base": "chess_base",
+    "moves": "chess_moves",
+    "bits": "chess_bits",
+    "game": "chess_game",
+    "text": "chess_text",
+    "pgn": "chess_pgn",
+    "cecp": "chess_cecp",
+    "match": "chess_match",
+    "words": "arbiter_words",
+    "arbiter": "chess_arbiter",
+    "base_tests": "chess_base_tests",
+    "boards_tests": "boards_tests",
+    "game_tests": "chess_game_tests",
+    "text_tests": "chess_text_tests",
+    "pgn_tests": "chess_pgn_tests",
+    "cecp_tests": "chess_cecp_tests",
+    "match_tests": "chess_match_tests",
+}
+
+
+@dataclass(frozen=True)
+class Name:
+    """A definition: the crate, the file in its specs/ and the definition's name."""
+
+    crate: str
+    module: str
+    name: str
+
+    @property
+    def path(self):
+        folders = self.module.split(".")
+        return f"crates/{self.crate}/specs/{'/'.join(folders)}.antt"
+
+
+@dataclass
+class Definition:
+    key: Name
+    kind: str
+    body: list = field(default_factory=list)
+    constructors: list = field(default_factory=list)
+
+    @property
+    def lines(self):
+        return len(self.body)
+
+
+@dataclass
+class Function:
+    """A function with its contract. `owner` is the type or the trait that has it, if one does."""
+
+    crate: str
+    path: str
+    owner: str
+    name: str
+    is_pub: bool
+    signature: str
+    clauses: list = field(default_factory=list)  # (requires or ensures, name or '', text)
+    body_is_empty: bool = False
+
+    @property
+    def full_name(self):
+        return f"{self.owner}::{self.name}" if self.owner else self.name
+
+
+def read(path):
+    return (TOP / path).read_text(encoding="utf-8")
+
+
+def crates():
+    return sorted(p.parent.name for p in TOP.glob("crates/*/src"))
+
+
+def used_crates():
+    """The libraries that each crate names in crates.txt."""
+    lines = [l.split("#")[0] for l in read("crates.txt").split("\n")]
+    return {name.strip(): used.split() for name, _, used in (l.partition(":") for l in lines) if name.strip()}
+
+
+def without_comment(line):
+    return re.sub(r"(^|\s)--(\s.*)?$", "", line).rstrip()
+
+
+# ---- imports
+
+def imported_names(text):
+    """The names in braces, with the names that they have here: `a, b as c`."""
+    for part in text.split(","):
+        part = part.strip()
+        if part:
+            there, _, here = part.partition(" as ")
+            yield there.strip(), (here or there).strip()
+
+
+def imports_of(lines, prefix):
+    """Local name to (crate, module, name), and local alias to (crate, module)."""
+    names, aliases = {}, {}
+    for line in lines:
+        line = line.strip().rstrip(";")
+        if not line.startswith(prefix):
+            continue
+        m = re.match(r"(?:ghost )?use Rattle\.(\w+)\.specs\.([\w.]+?)\.\{(.*)\}$", line)
+        if m and not m.group(2).startswith("declared"):
+            for there, here in imported_names(m.group(3)):
+                names[here] = (m.group(1), m.group(2), there)
+            continue
+        m = re.match(r"(?:ghost )?use Rattle\.(\w+)\.specs\.([\w.]+) as (\w+)$", line)
+        if m and not m.group(2).startswith("declared"):
+            aliases[m.group(3)] = (m.group(1), m.group(2))
+    return names, aliases
+
+
+# ---- definitions
+
+HEAD = re.compile(r"^(abbrev|unfoldable|record|data|pub record|pub data)(?: pub)? (\S+)")
+
+
+class Specs:
+    """All definitions of all specs/."""
+
+    def __init__(self):
+        self.definitions = {}
+        self.files = []
+        self.imports = {}
+        self.constructors = {}
+        self.infix = []
+        for path in sorted(TOP.glob("crates/*/specs/**/*.antt")):
+            relative = path.relative_to(TOP).as_posix()
+            crate = relative.split("/")[1]
+            module = relative.split("/specs/")[1][: -len(".antt")].replace("/", ".")
+            self.read_file(relative, crate, module)
+
+    def read_file(self, path, crate, module):
+        lines = read(path).split("\n")
+        found = 0
+        current = None
+        for raw in lines:
+            line = without_comment(raw)
+            if not line.strip():
+                continue
+            m = HEAD.match(line)
+            if m:
+                key = Name(crate, module, m.group(2))
+                current = Definition(key, m.group(1).replace("pub ", ""))
+                self.definitions[key] = current
+                if "◌" in key.name:
+                    self.infix.append(key)
+                found += 1
+            elif re.match(r"^(use|infix\w*|pub mod) ", line):
+                current = None
+            if current:
+                current.body.append(line)
+                if current.kind == "data" and (c := re.match(rf"^  ({WORD}) :", line)):
+                    current.constructors.append(c.group(1))
+                    self.constructors[Name(crate, module, c.group(1))] = current.key
+        if found:
+            self.files.append(path)
+        self.imports[(crate, module)] = imports_of(lines, "use ")
+
+    def find(self, crate, module, name):
+        """The definition, or the data type whose constructor has that name."""
+        key = Name(crate, module, name)
+        return key if key in self.definitions else self.constructors.get(key)
+
+    def resolve(self, text, names, aliases, home=None, bound=frozenset()):
+        """The definitions that a text names."""
+        found = set()
+        for m in re.finditer(rf"(?<![\w.'])({WORD})(?:\.({WORD}))?", text):
+            first, second = m.group(1), m.group(2)
+            if first in bound or is_field(text, m.end(1)):
+                continue
+            if first in aliases and second:
+                found.add(self.find(*aliases[first], second))
+            elif first in names:
+                found.add(self.find(*names[first]))
+            elif home:
+                found.add(self.find(*home, first))
+        for here, there in names.items():
+            if "◌" in here and here.strip("◌") in text.split():
+                found.add(self.find(*there))
+        if home:
+            found |= {k for k in self.infix if (k.crate, k.module) == home and k.name.strip("◌") in text.split()}
+        found.discard(None)
+        return found
+
+    def references(self, key):
+        definition = self.definitions[key]
+        names, aliases = self.imports[(key.crate, key.module)]
+        found = set()
+        if definition.kind in ("record", "data"):
+            bound = set(re.findall(rf"[({{]((?:{WORD} )+):", definition.body[0]))
+            bound = {w for group in bound for w in group.split()}
+            text = "\n".join([definition.body[0].split(" where")[0]] + [re.sub(rf"^  (pub )?{WORD} :", "  ", l) for l in definition.body[1:]])
+            found = self.resolve(text, names, aliases, (key.crate, key.module), bound)
+        else:
+            for equation in equations(definition):
+                found |= self.resolve(equation, names, aliases, (key.crate, key.module), bound_in(equation, key.name))
+        if "do" in re.findall(WORD, "\n".join(definition.body)):
+            found |= {k for k in self.infix if (k.crate, k.module) == (key.crate, key.module) and k.name == "◌>>=◌"}
+        found.discard(key)
+        return found
+
+    def reached(self, roots):
+        seen, left = set(), list(roots)
+        while left:
+            key = left.pop()
+            if key not in seen:
+                seen.add(key)
+                left += self.references(key)
+        return seen
+
+    def count(self, keys):
+        """How many definitions, how many lines of them, and in how many files."""
+        return len(keys), sum(self.definitions[k].lines for k in keys), len({k.path for k in keys})
+
+
+def is_field(text, end):
+    """A field in a record literal: `name =`, and no `==`."""
+    return bool(re.match(r" = ", text[end:end + 3]))
+
+
+def equations(definition):
+    """The type, and each equation by itself: a line that begins at the margin, with what is indented below it."""
+    parts = []
+    for line in definition.body:
+        if line.startswith(" ") and parts:
+            parts[-1] += "\n" + line
+        else:
+            parts.append(line)
+    return parts
+
+
+def bound_in(equation, name):
+    """Names that stand for values in it: small letters left of `=`, behind λ, in binders and behind `let`."""
+    bound = set()
+    m = re.match(r"^(.*?) =(\s|$)", equation.split("\n")[0] + " ")
+    if m and not re.match(r"^(abbrev|unfoldable)", equation):
+        for word in re.findall(WORD, m.group(1)):
+            if word[0].islower() and word != name:
+                bound.add(word)
+    for group in re.findall(r"λ ([^.]*)\.", equation):
+        bound |= set(re.findall(WORD, group))
+    for group in re.findall(rf"\(((?:{WORD} )+):", equation):
+        bound |= set(group.split())
+    bound |= set(re.findall(rf"\blet ({WORD}) =", equation))
+    return bound
+
+
+# ---- functions
+
+class Sources:
+    """All functions of a tree, and which of them a user of a crate can call."""
+
+    def __init__(self):
+        self.functions = []
+        self.imports = {}
+        self.models = {}
+        self.ghosts = {}
+        self.members = {}
+        self.exports = {}
+        self.uses = used_crates()
+        for crate in crates():
+            for path in sorted((TOP / "crates" / crate / "src").glob("**/*.rt")):
+                self.read_file(crate, path.relative_to(TOP).as_posix())
+            self.exports[crate] = self.exported(crate)
+
+    def read_file(self, crate, path):
+        lines = read(path).split("\n")
+        names, aliases = imports_of(lines, "ghost use ")
+        self.imports[path] = (names, aliases)
+        owner, model, is_trait, of_trait = "", None, False, False
+        i = 0
+        while i < len(lines):
+            line = lines[i]
+            if m := re.match(r"^(?:pub(?:\(crate\))? )?trait (\w+)", line):
+                owner, model, is_trait, of_trait = m.group(1), None, True, False
+            elif m := re.match(r"^impl(?:<.*?>+)? (?:(.+?) for )?([\w:]+)", line):
+                what = m.group(1)
+                owner, is_trait, of_trait = m.group(2).split("::")[-1], False, bool(what)
+                model = owner if what == "Model" else None
+            elif re.match(r"^\}", line):
+                owner, model, is_trait, of_trait = "", None, False, False
+            if model and (m := re.match(r"^\s+ghost Value = \{(.*)\};", line)):
+                self.models[(crate, model)] = (path, m.group(1))
+            if is_trait and (m := re.match(r"^\s+(?:pub )?ghost (\w+): \{(.*)\}", line)):
+                self.ghosts.setdefault(owner, []).append((path, m.group(2)))
+            if of_trait and (m := re.match(r"^\s+ghost (\w+) = ", line)):
+                self.members.setdefault((crate, owner), set()).add(m.group(1))
+            if m := re.match(r"^\s*(pub )?(?:pub\(\w+\) )?(?:const )?fn (\w+)", line):
+                is_pub = bool(m.group(1)) or is_trait or of_trait
+                i = self.read_function(crate, path, lines, i, owner, m.group(2), is_pub)
+            i += 1
+
+    def read_function(self, crate, path, lines, i, owner, name, is_pub):
+        signature, clauses, kind = [], [], None
+        indent = len(lines[i]) - len(lines[i].lstrip())
+        while True:
+            line = lines[i]
+            if m := re.match(r"^\s+(requires|ensures|decreases)( \w+)? \{(.*)$", line):
+                kind = m.group(1)
+                clauses.append([kind, (m.group(2) or "").strip(), m.group(3)])
+            elif kind and line.strip() not in ("{", "{}", "}") and not line.strip().startswith("//"):
+                clauses[-1][2] += "\n" + line
+            elif not kind:
+                signature.append(line)
+            at_margin = len(line) - len(line.lstrip()) == indent
+            ends_here = line.rstrip().endswith(";") and (kind or ")" in line)
+            if at_margin and line.strip() in ("{", "{}"):
+                break
+            if not kind and line.rstrip().endswith("{") or ends_here:
+                break
+            i += 1
+        self.functions.append(Function(crate, path, owner, name, is_pub, "\n".join(signature), [tuple(c) for c in clauses], lines[i].strip() == "{}"))
+        return i
+
+    def exported(self, crate):
+        """The names that a crate offers: of `pub use`, and of `pub mod` with what that offers in turn."""
+        names, left, seen = set(), [], set()
+        for top in ("lib.rt", "main.rt"):
+            if (TOP / "crates" / crate / "src" / top).exists():
+                left.append(f"crates/{crate}/src/{top}")
+        while left:
+            path = left.pop()
+            if path in seen or not (TOP / path).exists():
+                continue
+            seen.add(path)
+            text = read(path)
+            for module in re.findall(r"^pub mod (\w+);", text, re.M):
+                inner = f"crates/{crate}/src/{module}.rt"
+                left.append(inner)
+                if (TOP / inner).exists():
+                    names |= set(re.findall(r"^pub (?:const )?(?:fn|struct|enum|trait|const|type) (\w+)", read(inner), re.M))
+            for used in re.findall(r"^pub use ([^;]+);", text, re.M):
+                inside = re.search(r"\{([^}]*)\}", used, re.S)
+                words = inside.group(1) if inside else used.split("::")[-1]
+                names |= {here for _, here in imported_names(words.replace("\n", " "))}
+        return names
+
+    def is_public(self, f):
+        if "tests" in f.path or f.crate.endswith("_tests"):
+            return False
+        return f.is_pub and (f.owner or f.name) in self.exports[f.crate]
+
+    def is_law(self, f):
+        return self.is_public(f) and f.path.endswith("/laws.rt")
+
+    def names_in(self, specs, f, wanted=None):
+        """The definitions that its clauses name, or the wanted ones of them, with those by which contracts see its arguments."""
+        names, aliases = self.imports[f.path]
+        parameters = set(re.findall(r"(?:^|[(,\s])(?:mut )?([a-z_]\w*):", f.signature))
+        found = set()
+        for kind, name, text in f.clauses:
+            if wanted is not None and kind == "ensures" and name not in wanted:
+                continue
+            bound = parameters | {w for g in re.findall(r"λ ([^.]*)\.", text) for w in re.findall(WORD, g)}
+            bound |= {w for g in re.findall(rf"\(((?:{WORD} )+):", text) for w in g.split()}
+            used = {w for w in bound if not re.search(rf"(?<![\w.']){re.escape(w)}\.(now|old|new|entry)", text)}
+            found |= specs.resolve(text, names, aliases, None, bound - (used & set(names) & parameters))
+        for word in set(re.findall(r"\w+", f.signature)) | {f.owner}:
+            for (crate, model), (path, text) in self.models.items():
+                if model == word and (crate == f.crate or crate in self.uses.get(f.crate, []) and model in self.exports[crate]):
+                    found |= specs.resolve(text, *self.imports[path])
+            for path, text in self.ghosts.get(word, []):
+                found |= specs.resolve(text, *self.imports[path])
+        return found
+
+
+def wrong_bodies():
+    """The names of the wrong bodies by crate: those that the gate tries."""
+    found = {}
+    for path in sorted(TOP.glob("crates/*/must-fail/*.edit")):
+        found.setdefault(path.parent.parent.name, []).append(path.stem)
+    return found
+
+
+# ---- documents
+
+def target_of(label):
+    """The file that a short link means, from the top; None where there is none."""
+    crate, _, name = label.partition("/")
+    crate = SHORT.get(crate)
+    if not crate:
+        return None
+    if name.endswith(".rt"):
+        found = sorted((TOP / "crates" / crate / "src").glob(f"**/{name}"), key=lambda p: len(p.parts))
+    else:
+        found = sorted((TOP / "crates" / crate / "specs").glob(f"**/{name}.antt"), key=lambda p: len(p.parts))
+    return found[0].relative_to(TOP).as_posix() if found else None
+
+
+def reading_order(text):
+    """The files of specs/ as the tables of docs/DEFINITIONS.md have them."""
+    return [target_of(label) for label in re.findall(r"^\| \[([a-z_]+/\w+)\] ", text, re.M)]
