@@ -29,6 +29,7 @@ SHORT = {
     "text_tests": "chess_text_tests",
     "pgn_tests": "chess_pgn_tests",
     "cecp_tests": "chess_cecp_tests",
+    "arbiter_tests": "chess_arbiter_tests",
     "match_tests": "chess_match_tests",
 }
 
