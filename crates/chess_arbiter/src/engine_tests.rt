@@ -5,8 +5,8 @@ use crate::program::run_program;
 use byte_devices::{Counted, PieceReader, PieceWriter};
 use chess_match::Moments;
 use std::alloc::Global;
-use std::env;
 use std::test::Fail;
+use std::{env, fs};
 
 // What a child of a test runs: the program, on the words behind this test's name. It also runs by itself, with no words.
 #[test]
@@ -153,6 +153,38 @@ fn stubs_play(rt: HostRuntime) -> Result<(), Fail> {
             played.errors
         );
         assert_eq!(rt; status, played.status);
+    }
+    Ok(())
+}
+
+// How many descriptors this process holds open, and which processes it started that still stand.
+fn held(rt: &HostRuntime) -> Result<(usize, Vec<u8>), Fail> {
+    let open = fs::read_dir(rt, "/proc/self/fd")?.count();
+    Ok((open, fs::read(rt, "/proc/thread-self/children")?))
+}
+
+#[test]
+fn engines_leave_nothing_behind(rt: HostRuntime) -> Result<(), Fail> {
+    let (open_before, children_before) = held(&rt)?;
+    for played in &PLAYED {
+        let owned = words_of(&rt, played)?;
+        let mut words = Vec::new(rt.alloc());
+        for word in &owned {
+            words.push(word.as_str())?;
+        }
+        let mut output = Counted::writing(Vec::<u8>::new(rt.alloc()));
+        let mut errors = Counted::writing(Vec::<u8>::new(rt.alloc()));
+        let _status = run_program(
+            &rt,
+            rt.alloc(),
+            words.as_slice(),
+            &mut Counted::reading(b"".as_slice()),
+            &mut output,
+            &mut errors,
+        );
+        let (open, children) = held(&rt)?;
+        assert_eq!(rt; open, open_before);
+        assert_eq!(rt; children.as_slice(), children_before.as_slice());
     }
     Ok(())
 }
