@@ -23,7 +23,7 @@ wrong words.";
 
 const SESSION_EXAMPLES: &str = "Commands of a session, one a line:
   new                                the initial position; after variant fischerandom that of Chess960
-  setboard 7k/8/6K1/8/8/8/8/R7 w - - 0 1
+  setboard 7k/8/6K1/7P/8/8/8/8 w - - 0 1
   e2e4, Nf3, O-O, usermove e7e8q     a move
   undo, remove                       takes one half-move back, or two
   claim                              a draw by threefold repetition or the 50-move rule

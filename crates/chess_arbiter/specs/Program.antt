@@ -38,6 +38,7 @@ Served r r' w w' (Err NoMemory) = IsUntouched r r' w w'
 Served r r' w w' (Err InputTooLong) = ⊥
 Served r r' w w' (Err WrongWords) = ⊥
 
+-- the exit status of a fault of the program: 2 for wrong words, else 1
 abbrev pub fault_status : ProgramFault → ℕ
 fault_status ReadFailed = 1
 fault_status WriteFailed = 1

@@ -56,13 +56,13 @@ pub data Extent : Type 0 where
   All : Extent
   First : Extent
 
--- no game is left
+-- no game is left; of first reports this isn't asked
 abbrev pub EndsAt : Extent → List ℕ → ℕ → Type 0
 EndsAt All text at = (read_at text at).answer ≡ Ok None
 EndsAt First text at = Unit {0}
 
 -- these are reports on the games of a text from a place on: each game begins where the one before ended, and one with a
--- fault is the last
+-- fault is the last. A report is how many half-moves a game has and how its text ended, or its fault
 abbrev pub AreReports : Extent → List ℕ → ℕ → List Report → Type 0
 AreReports extent text at [] = EndsAt extent text at
 AreReports extent text at (Game plies end ∷ rest) = ((read_at text at).answer ≡ Ok (Some end)) × (plies ≡ length (read_at text at).state.moves) × AreReports extent text end.place rest

@@ -1,4 +1,5 @@
--- What the fault of a text says of the text, as a relation.
+-- What the fault of a text says of the text, as a relation: a wrong number of fields; the first field that spells
+-- nothing; or, of what is spelled, the first condition of soundness that fails.
 use Rattle.std.specs.Prelude.{◌≡◌, ◌≢◌, ◌⊎◌, ℕ, List, ◌∷◌, length, Option, Some}
 use Rattle.chess_base.specs.declared.man.Colour.{Colour}
 use Rattle.chess_base.specs.declared.man.Variant.{Variant}

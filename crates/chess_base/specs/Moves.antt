@@ -127,7 +127,8 @@ abbrev pub fullmove_after : Colour → ℕ → ℕ
 fullmove_after White n = n
 fullmove_after Black n = min (n + 1) COUNTER_LIMIT
 
--- the position after a move
+-- the whole position after a move: the men after its steps, the other side on move, and rights, target and counters by
+-- their rules. Castling, en passant and promotion are cases of one change, `steps_of`
 unfoldable pub after : Setup → Move → Setup
 after p m = record {
   variant = p.variant;

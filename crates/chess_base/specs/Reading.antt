@@ -1,5 +1,6 @@
 -- What a text describes, field by field, and the position that it spells, or its first fault. This project's own beside
--- the standard: the counters may be left out, and a fullmove number of 0 is read as 1.
+-- the standard: the counters may be left out, and a fullmove number of 0 is read as 1. Spelling and FenFaults say the
+-- same as relations; that both agree is proved by the clauses `found`, `only`, `told` and `refused` of `read_fen_as`.
 use Rattle.std.specs.Prelude.{◌≡◌, ℕ, max, List, [], ◌∷◌, Option, Some, None, Result, Ok, Err, ◌==◌, if◌then◌else◌}
 use Rattle.std.specs.Option.{ok_or}
 use Rattle.chess_base.specs.declared.man.Colour.{Colour}

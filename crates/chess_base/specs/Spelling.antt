@@ -1,4 +1,5 @@
--- Which texts spell a position, as a relation (PGN standard of 1994, section 16.1.3).
+-- Which texts spell a position, as a relation (PGN standard of 1994, section 16.1.3): what each field stands for. One
+-- or more spaces separate the fields, and may stand at both ends.
 use Rattle.std.specs.Prelude.{◌≡◌, ℕ, ◌+◌, ◌<◌, ◌≤◌, ◌⊎◌, List, [], ◌∷◌, ◌++◌, length, replicate, Option, Some, None, IfSome, IsSome, IsTrue, ◌↔◌, codes, max, ◌==◌}
 use Rattle.std.specs.List.{slice_split, AllZip, AllByRecursion}
 use Rattle.std.specs.Str.Parse.{digits_value}

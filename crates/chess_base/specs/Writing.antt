@@ -1,4 +1,5 @@
--- The one FEN that is written for a position (PGN standard of 1994, section 16.1).
+-- The one FEN that is written for a position (PGN standard of 1994, section 16.1). The target is written as the
+-- position holds it, whether or not it can be captured on; numbers have no leading zeros.
 use Rattle.std.specs.Prelude.{ℕ, zero, suc, ◌+◌, ◌*◌, List, [], ◌∷◌, ◌++◌, map, take, drop, Option, Some, None, decimal, codes}
 use Rattle.std.specs.List.{join_with_byte}
 use Rattle.chess_base.specs.declared.man.Man.{Man}
@@ -13,7 +14,7 @@ use Rattle.chess_base.specs.declared.setup.Setup.{Setup}
 use Rattle.chess_base.specs.Squares.{file, rank}
 use Rattle.chess_base.specs.Letters.{letter, byte, space, stroke}
 
--- a run of empty squares
+-- a run of empty squares is one digit, and nothing where there is none
 abbrev pub run_text : ℕ → List ℕ
 run_text zero = []
 run_text (suc n) = (byte "0" + suc n) ∷ []

@@ -1,4 +1,4 @@
--- What a line commands (Chess Engine Communication Protocol, version 2).
+-- What a line commands, by its first word (Chess Engine Communication Protocol, version 2).
 use Rattle.std.specs.Prelude.{ℕ, ◌==◌, ◌&&◌, ◌||◌, nat_lt, nat_le, if◌then◌else◌, Bool, List, [], ◌∷◌, length, drop, codes, Option, None, Some}
 use Rattle.std.specs.List.{list_all, list_any}
 use Rattle.std.specs.Str.{bytes_eq}
@@ -49,7 +49,8 @@ is_told_of_playing word = is_named word playing_words
 unfoldable pub is_told_of_clocks : List ℕ → Bool
 is_told_of_clocks word = is_named word clock_words
 
--- the command that a first word names, with this argument; a word that is no command's name may be a move
+-- the command that a first word names, with this argument. A line whose first word is no command's name, and that has a
+-- move's shape, is a move
 abbrev pub command_by : List ℕ → List ℕ → List ℕ → Command
 command_by word argument text =
     if bytes_eq word [] || is_told_of_playing word || is_told_of_clocks word then Silent

@@ -38,7 +38,8 @@ declared_as None comment = None
 declared_as (Some o) None = None
 declared_as (Some o) (Some comment) = Some (record { outcome = o; comment = cut_comment comment })
 
--- the result that the argument of `result` declares, if it declares one
+-- the result that the argument of `result` declares, if it declares one: an outcome, and behind it nothing or a text
+-- from a brace to a last brace, of which the game keeps what a comment can hold
 unfoldable pub declared_by : List ℕ → Option Declared
 declared_by argument = declared_as (outcome_named (word_of argument)) (comment_told (argument_of argument))
 

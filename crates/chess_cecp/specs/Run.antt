@@ -1,4 +1,5 @@
--- What a run of a session promises.
+-- What a run of a session promises, for each of its four ends: by `quit`, by the input's end, by a read that failed, by
+-- a write or a flush that failed.
 use Rattle.std.specs.Prelude.{◌≡◌, ℕ, ◌+◌, ◌<◌, Bool, true, false, List, [], ◌∷◌, ◌++◌, length, Result, Ok, Err}
 use Rattle.std.specs.Option.{IfSome}
 use Rattle.std.specs.Io.KnownBytes.{Consumes, Appends, IsAtEnd}
@@ -22,7 +23,8 @@ abbrev pub risen_if : Bool → ℕ → ℕ
 risen_if true n = risen n
 risen_if false n = n
 
--- the transcript is that of the devices, as far as they tell
+-- the transcript is that of the devices, as far as they tell. Their counts show that a device failed exactly where that
+-- is said of it here
 pub record FitsDevices (r r' : InputState) (w w' : OutputState) (t : Transcript) (read_failed write_failed : Bool) : Type 0 where
   pub given : Consumes r.known_bytes r'.known_bytes t.given
   pub taken : Appends w.known_bytes w'.known_bytes t.taken

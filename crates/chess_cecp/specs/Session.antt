@@ -1,4 +1,4 @@
--- What a session answers: the table of commands.
+-- What a session answers: the table of commands, a row for each kind. From one line to the next only the game changes.
 use Rattle.std.specs.Prelude.{◌⊎◌, ℕ, ◌||◌, ◌&&◌, not, nat_le, nat_lt, if◌then◌else◌, Bool, true, false, List, [], ◌∷◌, ◌++◌, length, codes, decimal, Option, None, Some, Result, Ok, Err}
 use Rattle.std.specs.Str.{bytes_eq}
 use Rattle.byte_devices.specs.Devices.{Begins}

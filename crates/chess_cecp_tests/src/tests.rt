@@ -20,7 +20,7 @@ struct Run {
     end: End,
 }
 
-// The rows of the first stage, and what stands beside them.
+// The worked rows, and what stands beside them.
 const RUNS: [Run; 33] = [
     Run {
         input: b"new\ne2e4\nping 7\nundo\nshowfen\nquit\nshowfen\n",

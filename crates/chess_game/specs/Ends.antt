@@ -40,7 +40,8 @@ is_minor o = is_kind Bishop o || is_kind Knight o
 unfoldable pub has_bishop_on : Colour → Men → Bool
 has_bishop_on c men = some_square (λ s. same_colour c (square_colour s) && is_kind Bishop (man_at men s))
 
--- no pawn, rook or queen, and at most one bishop or knight in all, or no knight and all bishops on squares of one colour (5.2.2)
+-- no pawn, rook or queen, and at most one bishop or knight in all, or no knight and all bishops on squares of one
+-- colour (5.2.2): the dead positions that material alone tells; others are not judged
 unfoldable pub is_bare : Men → Bool
 is_bare men =
     not (list_any is_heavy men)

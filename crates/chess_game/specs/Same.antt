@@ -43,7 +43,8 @@ live_target p = if list_any (λ m. is_en_passant p m) (moves p) then p.target el
 abbrev pub captures_legally : Setup → ℕ → ℕ → Bool
 captures_legally p b a = is_en_passant p (triple a b None) && is_legal p (triple a b None)
 
--- the same side on move, the same men on the same squares, the same rights, and the same pawn to capture en passant
+-- the same side on move, the same men on the same squares, the same rights, and the same pawn to capture en passant;
+-- clock and number make no difference
 unfoldable pub same : Setup → Setup → Bool
 same p q = same_colour p.side q.side && same_men p.men q.men && same_rights p.rights q.rights && same_square (live_target p) (live_target q)
 

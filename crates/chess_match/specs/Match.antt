@@ -39,6 +39,8 @@ pub record Seat : Type 0 where
   -- its offer of a draw stands
   pub offers : Bool
 
+-- what is known of a match. Its phase is a side's hello, setup or opening, before its move or after it; or it is over,
+-- and why
 pub record Match : Type 0 where
   pub phase : Phase
   pub white : Seat

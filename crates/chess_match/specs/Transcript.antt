@@ -1,4 +1,5 @@
--- A transcript of a match, and what it says.
+-- A transcript of a match, a list of events, and what it says: whether it fits, how it ends, both names, and the blocks
+-- that each side is sent.
 use Rattle.std.specs.Prelude.{ℕ, ◌&&◌, ◌||◌, nat_lt, Bool, true, false, not, if◌then◌else◌, List, [], ◌∷◌, ◌++◌, length, codes, Option, None, Some}
 use Rattle.chess_base.specs.declared.man.Colour.{Colour}
 use Rattle.chess_base.specs.Men.{same_colour}

@@ -1,4 +1,6 @@
--- A game read from a text (PGN standard of 1994, sections 7 to 9; which words are taken is this project's own).
+-- A game read from a text (PGN standard of 1994, sections 7 to 9; which words are taken is this project's own). Token
+-- after token: the tag FEN gives the start, a move's word its move by its reading in the position reached, and an
+-- outcome ends the game. The first token that can't be taken is the fault, with its place.
 use Rattle.std.specs.Prelude.{ℕ, ◌+◌, ◌-◌, nat_lt, ◌||◌, Bool, true, false, if◌then◌else◌, List, [], ◌∷◌, length, Option, Some, None, is_some, Result, Ok, Err, codes}
 use Rattle.std.specs.Str.{bytes_eq, str_eq_ignore_ascii_case}
 use Rattle.chess_base.specs.declared.fault.FenFault.{FenFault}

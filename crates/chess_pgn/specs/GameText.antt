@@ -52,6 +52,7 @@ last_lines v termination = tag_line (codes "Termination") (termination_text term
 abbrev pub further_lines : Setup → Termination → List (List ℕ)
 further_lines start termination = start_lines_in start.variant start ++ last_lines start.variant termination
 
+-- all tags of a game; Termination is `unterminated` where there is no outcome
 abbrev pub tag_lines : Tags → State → List (List ℕ)
 tag_lines t s = roster_lines t (outcome_now s) ++ further_lines s.start (termination_of t.ended (outcome_now s))
 

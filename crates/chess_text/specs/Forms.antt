@@ -1,4 +1,5 @@
--- What a text is read as, before any position is looked at: castling, or parts of a form.
+-- What a text is read as, before any position is looked at: castling, or parts of a form. Then, in a position, the one
+-- square on which each move ends that it spells.
 use Rattle.std.specs.Prelude.{Bool, ◌≡◌, ◌&&◌, ◌+◌, ◌*◌, nat_lt, if◌then◌else◌, List, ℕ, map, Option, Some, None}
 use Rattle.std.specs.List.{list_any, filter}
 use Rattle.std.specs.Str.{bytes_eq}

@@ -33,7 +33,8 @@ abbrev pub described_as : Setup → Move → Option Man → Option Described
 described_as p m None = None
 described_as p m (Some x) = Some (record { man = x.kind; from = m.from; to = m.to; promotion = m.promotion; captures = captures p m; castles = castling p m })
 
--- a move of the man on its start square
+-- what is so of a move in a position: the man on its start square, both squares, the promotion, whether it captures,
+-- and to which side it castles; nothing where no man stands there
 unfoldable pub described : Setup → Move → Option Described
 described p m = described_as p m (man_at p.men m.from)
 
@@ -88,6 +89,7 @@ is_from_file q d =
     is_none q.letter && names q.file (file d.from) && admits q.rank (rank d.from) && same_kind Pawn d.man
     && (not q.takes || d.captures) && (q.end.to == d.to) && promotes_so q.end.promotion d.promotion
 
+-- the parts fit the move in one of these four forms
 unfoldable pub fits : Parts → Described → Bool
 fits q d = is_by_squares q d || is_by_letter q d || is_straight q d || is_from_file q d
 
@@ -126,7 +128,8 @@ one_of [] = reads.NoSuch
 one_of (m ∷ []) = reads.Move m
 one_of (m ∷ n ∷ ms) = reads.Ambiguous
 
--- what a text is in a position: of its legal moves those that it spells
+-- what a text is in a position, by the legal moves that it spells: one is the move, several are ambiguous, none is no
+-- such move. What has no move's shape is no move
 unfoldable pub reading : Setup → List ℕ → Reading
 reading p text = if shape text then one_of (filter (λ m. spells p text m) (moves p)) else reads.NotAMove
 

@@ -1,4 +1,7 @@
--- The text that is written for a move (PGN standard of 1994, section 8.2.3).
+-- The text that is written for a move (PGN standard of 1994, section 8.2.3). Castling is `O-O` or `O-O-O`. A pawn's
+-- move is for a capture its file and `x`, the end square, and for a promotion `=` and a letter; another man's its
+-- letter, what tells its start square from those of its rivals, `x` for a capture, and the end square. Last comes `#`
+-- for mate, else `+` for check.
 use Rattle.std.specs.Prelude.{ℕ, false, true, Bool, not, ◌&&◌, ◌||◌, ◌==◌, is_none, IsTrue, if◌then◌else◌, List, [], ◌∷◌, ◌++◌, length, map, Option, Some, None, codes}
 use Rattle.std.specs.List.{list_any, filter}
 use Rattle.std.specs.Option.{option_map}
