@@ -35,7 +35,7 @@ use Rattle.chess_bits.proofs.TargetsOf.{man_told, no_king_says, none_castles}
 
 -- ---- the king stays safe
 
-lands_same : (o : Option Man) → man_that_lands o None ≡ o
+pub lands_same : (o : Option Man) → man_that_lands o None ≡ o
 lands_same None = refl
 lands_same (Some x) = refl
 
@@ -124,7 +124,7 @@ usual_from p a sound low h = by (is_man p.side Pawn (man_at p.men a)) refl h
 
 -- ---- so each square is the end of one legal move
 
-all_once : {A : Type 0} (g : ℕ → List A) (ms : List ℕ) → Each (λ b. length (g b) ≡ 1) ms → length (flat_map g ms) ≡ length ms
+pub all_once : {A : Type 0} (g : ℕ → List A) (ms : List ℕ) → Each (λ b. length (g b) ≡ 1) ms → length (flat_map g ms) ≡ length ms
 all_once g [] h = refl
 all_once g (x ∷ xs) h =
     let rest = all_once g xs h.1 in

@@ -16,3 +16,5 @@ mod Counted
 pub mod OriginsOf
 pub mod CastlingBySets
 pub mod Freely
+pub mod Lifted
+pub mod KingSteps

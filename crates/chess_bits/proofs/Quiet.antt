@@ -52,7 +52,7 @@ pub record IsPlain (p : Setup) (m : Move) : Type 0 where
   pub mover : is_none (man_that_lands (man_at p.men m.from) m.promotion) ≡ false
   pub own : is_of (other p.side) (man_that_lands (man_at p.men m.from) m.promotion) ≡ false
 
-plain_after : (p : Setup) (m : Move) (k : ℕ) → IsPlain p m → k < 64
+pub plain_after : (p : Setup) (m : Move) (k : ℕ) → IsPlain p m → k < 64
     → man_at (men_after p m) k ≡ cond (lands_on p m == k) (man_that_lands (man_at p.men m.from) m.promotion) (cond (m.from == k) None (man_at p.men k))
 unfolding man_after
 plain_after p m k h l = man_at-men_after p m k l ∙ rw (h.also, h.rook) refl
@@ -167,7 +167,7 @@ stays_unaimed p m king h unaimed before =
 
 -- ---- moves that change only their two squares
 
-not_passing : (p : Setup) (m : Move) → (is_man p.side Pawn (man_at p.men m.from) && is_square p.target m.to) ≡ false → is_en_passant p m ≡ false
+pub not_passing : (p : Setup) (m : Move) → (is_man p.side Pawn (man_at p.men m.from) && is_square p.target m.to) ≡ false → is_en_passant p m ≡ false
 unfolding is_en_passant
 not_passing p m h = out (is_man p.side Pawn (man_at p.men m.from)) (attacks p.men m.from m.to) (is_square p.target m.to) h
   where

@@ -11,7 +11,7 @@ use Rattle.chess_base.specs.declared.man.Variant.TheVariants.{Normal, Fischerand
 use Rattle.chess_base.specs.declared.setup.Setup.{Setup}
 use Rattle.chess_base.specs.Attacks.{is_in_check}
 use Rattle.chess_base.specs.Castling.{home_square, castled_king_file, right_of, castle_of}
-use Rattle.chess_base.specs.Men.{man_at, other, is_man}
+use Rattle.chess_base.specs.Men.{Men, man_at, with_man, other, is_man}
 use Rattle.chess_base.specs.MoveList.{triple}
 use Rattle.chess_base.specs.Moves.{has_pattern, is_legal, man_moves}
 use Rattle.chess_base.specs.Squares.{share_rank_or_file, share_diagonal}
@@ -45,6 +45,10 @@ castling_or p w a b s =
 -- where a man other than a pawn goes; castling is told as it is legal
 abbrev pub man_goes : Setup → ℕ → ℕ → Bool
 man_goes p a b = legal_or p (triple a b None) (castle_of p (triple a b None)) (man_moves p (triple a b None))
+
+-- the men, but for the one on a
+abbrev pub lifted : Men → ℕ → Men
+lifted men a = with_man men (Some a) None
 
 -- no queen or rook of the other side shares a rank or file with k, and no queen or bishop a diagonal
 pub record IsUnaimed (p : Setup) (k : ℕ) : Type 0 where

@@ -1,12 +1,12 @@
 //! How many legal moves there are, and whether there is one: man by man, with no list.
 
-ghost use Rattle.std.specs.Prelude.{◌≡◌, ◌≤◌, ◌<◌, ◌==◌, ◌&&◌, ◌||◌, ℕ, length, nat_lt, cond, true, false, IsTrue, Some};
+ghost use Rattle.std.specs.Prelude.{◌≡◌, ◌≤◌, ◌<◌, ◌==◌, ◌&&◌, ◌||◌, ℕ, length, nat_lt, cond, true, false, IsTrue, Some, None};
 ghost use Rattle.std.specs.List.{flat_map};
 ghost use Rattle.chess_base.specs.Men.{man_at, other, is_man, pawn_rank};
 ghost use Rattle.chess_base.specs.MoveList.{moves, triple};
-ghost use Rattle.chess_base.specs.Moves.{has_pattern, is_legal, promotion_fits};
+ghost use Rattle.chess_base.specs.Moves.{has_pattern, is_legal, man_moves, promotion_fits};
 ghost use Rattle.chess_base.specs.Squares.{rank};
-ghost use Rattle.chess_base.specs.declared.man.Kind.TheVariants.{Pawn};
+ghost use Rattle.chess_base.specs.declared.man.Kind.TheVariants.{King, Pawn};
 ghost use Rattle.chess_bits.specs.Goes.{goes, aims_at, IsUnaimed, IsFree};
 ghost use Rattle.chess_moves.specs.Candidates.{would_promote, moves_between, moves_from};
 ghost use Rattle.chess_moves.specs.Sets.{has, members};
@@ -70,6 +70,31 @@ impl Bits {
         let mut targets = self.targets(from);
         while let Some(to) = targets.take_first() {
             count += self.count_between(from, to);
+        }
+        count
+    }
+
+    // How many legal moves a step of the king is: one or none.
+    fn times_stepped(&self, king: Square, to: Square) -> usize
+        requires king { is_man (self.now).side King (man_at (self.now).men king) ≡ true }
+        requires step { man_moves self.now (triple king to None) ≡ true }
+        ensures { result ≡ length (moves_between self.now king to) }
+    {
+        if self.is_safe_step(king, to) { 1 } else { 0 }
+    }
+
+    // How many legal moves the king has: his steps, and castling.
+    fn count_king(&self, king: Square) -> usize
+        requires king { is_man (self.now).side King (man_at (self.now).men king) ≡ true }
+        requires few { length (moves_from self.now king) ≤ 896 }
+        ensures { result ≡ length (moves_from self.now king) }
+    {
+        let _start = king.number();
+        let _sound = self.setup();
+        let mut count = self.castling_ends(king).len();
+        let mut steps = self.steps(Kind::King, king);
+        while let Some(to) = steps.take_first() {
+            count += self.times_stepped(king, to);
         }
         count
     }
@@ -154,10 +179,12 @@ impl Bits {
     {
         let _start = from.number();
         if free.contains(from) {
-            self.count_free(from)
-        } else {
-            self.count_from(from)
+            return self.count_free(from);
         }
+        if is_man(self.setup.side, Kind::King, self.setup.men[from.index()]) {
+            return self.count_king(from);
+        }
+        self.count_from(from)
     }
 
     // How many legal moves there are.

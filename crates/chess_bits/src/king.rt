@@ -1,8 +1,9 @@
 //! The king's safety after a move, told by the sets after it: no move is made.
 
-ghost use Rattle.std.specs.Prelude.{◌≡◌, ◌==◌, ◌||◌, ◌<◌, ℕ, true, IsTrue};
+ghost use Rattle.std.specs.Prelude.{◌≡◌, ◌==◌, ◌||◌, ◌<◌, ℕ, true, None, IsTrue};
 ghost use Rattle.chess_base.specs.Men.{man_at, is_man};
-ghost use Rattle.chess_base.specs.Moves.{has_pattern, is_legal, men_after, steps_of};
+ghost use Rattle.chess_base.specs.MoveList.{triple};
+ghost use Rattle.chess_base.specs.Moves.{has_pattern, is_legal, man_moves, men_after, steps_of};
 ghost use Rattle.chess_base.specs.Squares.{is_square};
 ghost use Rattle.chess_base.specs.declared.man.Kind.TheVariants.{King};
 ghost use Rattle.chess_moves.specs.Sets.{has};
@@ -56,6 +57,19 @@ impl Bits {
         } else {
             self.king(self.setup.side)
         }
+    }
+
+    // Whether a step of the king is legal: nothing attacks its end square once he has left his own.
+    pub(crate) fn is_safe_step(&self, king: Square, to: Square) -> bool
+        requires king { is_man (self.now).side King (man_at (self.now).men king) ≡ true }
+        requires step { man_moves self.now (triple king to None) ≡ true }
+        ensures { result ≡ is_legal self.now (triple king to None) }
+    {
+        let _start = king.number();
+        let _end = to.number();
+        let by = self.setup.side.other();
+        let left = self.sets.occupied().without(SquareSet::single(king));
+        !self.sets.of(by).attacks(&self.tables, by, to, left)
     }
 
     // Whether a move with a man's pattern is legal: the king of the side on move is safe after it.

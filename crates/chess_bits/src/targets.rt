@@ -6,7 +6,8 @@ ghost use Rattle.chess_base.specs.Men.{man_at, other, is_of, is_man, same_kind, 
 ghost use Rattle.chess_base.specs.MoveList.{triple};
 ghost use Rattle.chess_base.specs.Moves.{is_legal, pawn_advances, pawn_captures};
 ghost use Rattle.chess_base.specs.declared.man.Kind.TheVariants.{King, Pawn};
-ghost use Rattle.chess_bits.specs.Goes.{goes, castling_or, man_goes};
+ghost use Rattle.chess_base.specs.Castling.{castle_of};
+ghost use Rattle.chess_bits.specs.Goes.{goes, legal_or, castling_or, man_goes};
 ghost use Rattle.chess_bits.specs.declared.line.Line.TheVariants.{File};
 ghost use Rattle.chess_bits.specs.declared.table.Shape.TheVariants.{Pawn as PawnAttack};
 ghost use Rattle.chess_bits.specs.Rays.{is_on_ray};
@@ -57,7 +58,7 @@ pub(crate) fn is_pawn(kind: Kind) -> bool
 
 impl Bits {
     // Where a man of that kind attacks from there what is no own man.
-    fn steps(&self, kind: Kind, from: Square) -> SquareSet
+    pub(crate) fn steps(&self, kind: Kind, from: Square) -> SquareSet
         ensures { (k : ℕ) → k < 64 → has result k ≡ (could_capture (self.now).men (self.now).side kind from k && not (is_of (self.now).side (man_at (self.now).men k))) }
     {
         let side = self.setup.side;
@@ -96,6 +97,15 @@ impl Bits {
         } else {
             targets.without(end)
         }
+    }
+
+    // The end squares of the king's legal castlings.
+    pub(crate) fn castling_ends(&self, king: Square) -> SquareSet
+        ensures { (k : ℕ) → k < 64 → has result k ≡ legal_or self.now (triple king k None) (castle_of self.now (triple king k None)) false }
+    {
+        let none = SquareSet::empty();
+        let far = self.with_castling(none, king, CastlingSide::QueenSide);
+        self.with_castling(far, king, CastlingSide::KingSide)
     }
 
     // Where the own man goes that stands there and is no pawn; castling is told as it is legal.
