@@ -18,3 +18,4 @@ pub mod CastlingBySets
 pub mod Freely
 pub mod Lifted
 pub mod KingSteps
+pub mod AnyMember

@@ -53,9 +53,9 @@ impl Bits {
         ensures { result ≡ each_square (λ x. not (has way x) || not (is_attacked (self.now).men x (other (self.now).side))) }
     {
         let by = self.setup.side.other();
-        for number in 0..64 {
-            let x = Square::new(number);
-            if way.contains(x) && self.is_attacked(x, by) {
+        let mut rest = way;
+        while let Some(x) = rest.take_first() {
+            if self.is_attacked(x, by) {
                 return false;
             }
         }
