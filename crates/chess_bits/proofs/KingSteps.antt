@@ -55,7 +55,7 @@ no_hit_as : (men : Men) (o : Option Man) (b : ℕ) → could_capture_as men o b 
 no_hit_as men None b = refl
 no_hit_as men (Some x) b = no_self_hit men x.colour x.kind b
 
-not_between_end : (a b : ℕ) → is_between a b b ≡ false
+pub not_between_end : (a b : ℕ) → is_between a b b ≡ false
 unfolding is_between is_between_on_file is_between_on_rank is_between_on_diagonal
 not_between_end a b = grind (arith, nat_tests)
 

@@ -19,3 +19,4 @@ pub mod Freely
 pub mod Lifted
 pub mod KingSteps
 pub mod AnyMember
+pub mod Shields

@@ -7,7 +7,7 @@ ghost use Rattle.chess_base.specs.MoveList.{moves, triple};
 ghost use Rattle.chess_base.specs.Moves.{has_pattern, is_legal, man_moves, promotion_fits};
 ghost use Rattle.chess_base.specs.Squares.{rank};
 ghost use Rattle.chess_base.specs.declared.man.Kind.TheVariants.{King, Pawn};
-ghost use Rattle.chess_bits.specs.Goes.{goes, aims_at, IsUnaimed, IsFree};
+ghost use Rattle.chess_bits.specs.Goes.{goes, aims_at, IsFree};
 ghost use Rattle.chess_moves.specs.Candidates.{would_promote, moves_between, moves_from};
 ghost use Rattle.chess_moves.specs.Sets.{has, members};
 
@@ -97,41 +97,6 @@ impl Bits {
             count += self.times_stepped(king, to);
         }
         count
-    }
-
-    // Whether a man of the other side would attack the square along a line, were nothing between.
-    #[tactic(auto, unfolding(crate::specs::Shapes::in_shape))]
-    fn is_aimed_at(&self, square: Square) -> bool
-        ensures { result ≡ false → IsUnaimed self.now square }
-    {
-        let by = self.setup.side.other();
-        let men = self.sets.of(by);
-        let queens = men.of(Kind::Queen);
-        let rooks = men.of(Kind::Rook).union(queens);
-        let straight = rooks.intersection(self.tables.at(Shape::Lines, square));
-        let bishops = men.of(Kind::Bishop).union(queens);
-        let aslant = bishops.intersection(self.tables.at(Shape::Diagonals, square));
-        let aimed = straight.union(aslant);
-        !aimed.is_empty()
-    }
-
-    // The men of the side on move that may go anywhere, as far as their king is concerned.
-    #[tactic(auto, unfolding(crate::specs::Shapes::in_shape))]
-    fn free_men(&self) -> SquareSet
-        ensures { (k : ℕ) → k < 64 → has result k ≡ true → IsFree self.now k }
-    {
-        if self.in_check() {
-            return SquareSet::empty();
-        }
-        let side = self.setup.side;
-        let king = self.king(side);
-        let others = self.sets.all(side).without(SquareSet::single(king));
-        if !self.is_aimed_at(king) {
-            return others;
-        }
-        let lines = self.tables.at(Shape::Lines, king);
-        let met = lines.union(self.tables.at(Shape::Diagonals, king));
-        others.without(met)
     }
 
     // Whether a pawn of the side on move that stands there attacks the target.
