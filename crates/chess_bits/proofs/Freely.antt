@@ -63,7 +63,7 @@ pub record IsUsual (p : Setup) (a : ℕ) : Type 0 where
   pub stays : (b : ℕ) → b < 64 → goes p a b ≡ true → would_promote p a b ≡ false
   pub passes : (b : ℕ) → is_en_passant p (triple a b None) ≡ false
 
-no_pawn_usual : (p : Setup) (a : ℕ) → is_man p.side Pawn (man_at p.men a) ≡ false → IsUsual p a
+pub no_pawn_usual : (p : Setup) (a : ℕ) → is_man p.side Pawn (man_at p.men a) ≡ false → IsUsual p a
 unfolding would_promote is_en_passant
 no_pawn_usual p a no_pawn = record { stays = λ b low go. rw no_pawn refl; passes = λ b. rw no_pawn refl }
 
@@ -93,7 +93,7 @@ not_taken p a b (Some t) pawn off =
       | inr apart ↦ and_right (is_man p.side Pawn (man_at p.men a) && attacks p.men a b) (t == b) apart
     ]
 
-pawn_usual : (p : Setup) (a : ℕ) → IsSound p → a < 64 → is_man p.side Pawn (man_at p.men a) ≡ true → aims_at p.target p.side a ≡ false → (rank a ≡ pawn_rank (other p.side) → ⊥) → IsUsual p a
+pub pawn_usual : (p : Setup) (a : ℕ) → IsSound p → a < 64 → is_man p.side Pawn (man_at p.men a) ≡ true → aims_at p.target p.side a ≡ false → (rank a ≡ pawn_rank (other p.side) → ⊥) → IsUsual p a
 unfolding would_promote is_en_passant no_pawn_on_end_ranks pawn_captures
 pawn_usual p a sound low pawn no_target off = record {
   stays = λ b high go. and_right (is_man p.side Pawn (man_at p.men a)) (rank b == first_rank (other p.side)) (ne_eqb (rank b) (first_rank (other p.side)) (last b high go));

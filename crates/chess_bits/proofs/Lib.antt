@@ -20,3 +20,4 @@ pub mod Lifted
 pub mod KingSteps
 pub mod AnyMember
 pub mod Shields
+pub mod KindsCounted

@@ -18,6 +18,7 @@ use Rattle.chess_base.specs.Squares.{share_rank_or_file, share_diagonal}
 use Rattle.chess_bits.specs.declared.table.Shape.TheVariants as shape
 use Rattle.chess_bits.specs.Shapes.{in_shape}
 use Rattle.chess_moves.specs.Candidates.{would_promote}
+use Rattle.chess_moves.specs.Sets.{has}
 
 -- where a pawn promotes, one promotion stands for all: to a queen
 abbrev pub usual_promotion : Setup → ℕ → ℕ → Option Kind
@@ -65,6 +66,10 @@ OpensNoDiagonal p a k =
 pub record IsFree (p : Setup) (a : ℕ) : Type 0 where
   pub apart : (k : ℕ) → k < 64 → is_man p.side King (man_at p.men k) ≡ true → (a == k) ≡ false
   pub safe : (k : ℕ) → k < 64 → is_man p.side King (man_at p.men k) ≡ true → is_attacked (lifted p.men a) k (other p.side) ≡ false
+
+-- on each square of the set stands a man of that kind of the side on move, and it is free
+abbrev pub AreFree : Setup → Kind → ℕ → Type 0
+AreFree p kind w = (k : ℕ) → k < 64 → has w k ≡ true → (is_man p.side kind (man_at p.men k) ≡ true) × IsFree p k
 
 -- a pawn of colour c on a attacks that square, if there is one
 abbrev pub aims_at : Option ℕ → Colour → ℕ → Bool

@@ -13,8 +13,8 @@ ghost use Rattle.chess_moves.specs.Sets.{has};
 use crate::bits::Bits;
 use crate::line::Line;
 use crate::table::Shape;
-use chess_base::rules::Castle;
-use chess_base::{Move, Square};
+use chess_base::rules::{Castle, Steps};
+use chess_base::{Kind, Man, Move, Square};
 use chess_moves::{Board, SquareSet};
 
 impl Bits {
@@ -92,6 +92,21 @@ impl Bits {
         if !self.castles(castle) {
             return false;
         }
-        self.is_safe_after(m)
+        let side = self.setup.side;
+        let steps = Steps {
+            from: m.from,
+            second_from: Some(castle.rook_from),
+            second_to: Some(castle.rook_to),
+            second: Some(Man {
+                colour: side,
+                kind: Kind::Rook,
+            }),
+            to: castle.king_to,
+            mover: Some(Man {
+                colour: side,
+                kind: Kind::King,
+            }),
+        };
+        self.is_safe_by(m, &steps)
     }
 }

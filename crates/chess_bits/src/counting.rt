@@ -1,19 +1,19 @@
 //! How many legal moves there are, and whether there is one: man by man, with no list.
 
-ghost use Rattle.std.specs.Prelude.{◌≡◌, ◌≤◌, ◌<◌, ◌==◌, ◌&&◌, ◌||◌, ℕ, length, nat_lt, cond, true, false, IsTrue, Some, None};
+ghost use Rattle.std.specs.Prelude.{◌≡◌, ◌+◌, ◌≤◌, ◌<◌, ◌==◌, ◌&&◌, ◌||◌, ℕ, length, nat_lt, cond, true, false, IsTrue, Some, None};
 ghost use Rattle.std.specs.List.{flat_map};
-ghost use Rattle.chess_base.specs.Men.{man_at, other, is_man, pawn_rank};
+ghost use Rattle.chess_base.specs.Men.{man_at, other, is_man, same_kind, pawn_rank};
 ghost use Rattle.chess_base.specs.MoveList.{moves, triple};
 ghost use Rattle.chess_base.specs.Moves.{has_pattern, is_legal, man_moves, promotion_fits};
 ghost use Rattle.chess_base.specs.Squares.{rank};
 ghost use Rattle.chess_base.specs.declared.man.Kind.TheVariants.{King, Pawn};
-ghost use Rattle.chess_bits.specs.Goes.{goes, aims_at, IsFree};
+ghost use Rattle.chess_bits.specs.Goes.{goes, aims_at, IsFree, AreFree};
 ghost use Rattle.chess_moves.specs.Candidates.{would_promote, moves_between, moves_from};
 ghost use Rattle.chess_moves.specs.Sets.{has, members};
 
 use crate::bits::Bits;
 use crate::table::Shape;
-use crate::targets::pawn_rank;
+use crate::targets::{is_pawn, pawn_rank};
 use chess_base::attack::is_man;
 use chess_base::{Kind, Move, Square};
 use chess_moves::{Board, SquareSet, would_promote};
@@ -113,56 +113,130 @@ impl Bits {
         }
     }
 
-    // Whether a pawn of the side on move stands there that may promote or take en passant.
-    fn is_unusual(&self, from: Square) -> bool
-        ensures { result ≡ (is_man (self.now).side Pawn (man_at (self.now).men from) && (aims_at (self.now).target (self.now).side from || (rank from == pawn_rank (other (self.now).side)))) }
+    // Whether the pawn there may promote or take en passant.
+    fn is_unusual_pawn(&self, from: Square) -> bool
+        ensures { result ≡ (aims_at (self.now).target (self.now).side from || (rank from == pawn_rank (other (self.now).side))) }
     {
-        let side = self.setup.side;
-        is_man(side, Kind::Pawn, self.setup.men[from.index()])
-            && (self.aims_at_target(from) || from.rank() == pawn_rank(side.other()))
+        self.aims_at_target(from) || from.rank() == pawn_rank(self.setup.side.other())
     }
 
-    // How many legal moves the free man has that stands there.
-    fn count_free(&self, from: Square) -> usize
+    // How many legal moves the free pawn has that stands there.
+    fn count_pawn(&self, from: Square) -> usize
+        requires pawn { is_man (self.now).side Pawn (man_at (self.now).men from) ≡ true }
         requires free { IsFree self.now from }
         requires few { length (moves_from self.now from) ≤ 896 }
         ensures { result ≡ length (moves_from self.now from) }
     {
         let _start = from.number();
-        if self.is_unusual(from) {
+        if self.is_unusual_pawn(from) {
             return self.count_from(from);
         }
         let _king = self.king(self.setup.side);
-        self.targets(from).len()
+        self.pawn_targets(from).len()
     }
 
-    // How many legal moves the man there has, if those men are free.
-    fn count_of(&self, from: Square, free: SquareSet) -> usize
-        requires free { (k : ℕ) → k < 64 → has free k ≡ true → IsFree self.now k }
-        requires few { length (moves_from self.now from) ≤ 896 }
+    // How many legal moves these free pawns have.
+    fn count_pawns(&self, men: SquareSet) -> usize
+        requires free { AreFree self.now Pawn men }
+        requires few { length (flat_map (λ a. moves_from self.now a) (members men)) ≤ 896 }
+        ensures { result ≡ length (flat_map (λ a. moves_from self.now a) (members men)) }
+    {
+        let mut count = 0;
+        let mut rest = men;
+        while let Some(from) = rest.take_first() {
+            count += self.count_pawn(from);
+        }
+        count
+    }
+
+    // How many legal moves the free man of that kind has that stands there: it is neither king nor pawn.
+    #[inline(always)]
+    fn count_officer(&self, kind: Kind, from: Square) -> usize
+        requires kind { (same_kind King kind || same_kind Pawn kind) ≡ false }
+        requires officer { is_man (self.now).side kind (man_at (self.now).men from) ≡ true }
+        requires free { IsFree self.now from }
         ensures { result ≡ length (moves_from self.now from) }
     {
         let _start = from.number();
-        if free.contains(from) {
-            return self.count_free(from);
+        let _king = self.king(self.setup.side);
+        self.steps(kind, from).len()
+    }
+
+    // How many legal moves these free men of a kind have.
+    #[inline(always)]
+    fn count_officers(&self, kind: Kind, men: SquareSet) -> usize
+        requires kind { (same_kind King kind || same_kind Pawn kind) ≡ false }
+        requires free { AreFree self.now kind men }
+        requires few { length (flat_map (λ a. moves_from self.now a) (members men)) ≤ 896 }
+        ensures { result ≡ length (flat_map (λ a. moves_from self.now a) (members men)) }
+    {
+        let mut count = 0;
+        let mut rest = men;
+        while let Some(from) = rest.take_first() {
+            count += self.count_officer(kind, from);
         }
+        count
+    }
+
+    // Takes the free men of a kind from these, and tells how many legal moves they have.
+    #[inline(always)]
+    fn count_kind(&self, kind: Kind, free: SquareSet, men: &mut SquareSet) -> usize
+        requires kind { same_kind King kind ≡ false }
+        requires free { (k : ℕ) → k < 64 → has free k ≡ true → IsFree self.now k }
+        requires few { length (flat_map (λ a. moves_from self.now a) (members men.old)) ≤ 896 }
+        ensures { result + length (flat_map (λ a. moves_from self.now a) (members men.new)) ≡ length (flat_map (λ a. moves_from self.now a) (members men.old)) }
+    {
+        let all = *men;
+        let own = self.sets.of(self.setup.side);
+        let chosen = own.of(kind).intersection(free);
+        let taken = all.intersection(chosen);
+        *men = all.without(chosen);
+        if is_pawn(kind) {
+            self.count_pawns(taken)
+        } else {
+            self.count_officers(kind, taken)
+        }
+    }
+
+    // How many legal moves the man there has.
+    fn count_of(&self, from: Square) -> usize
+        requires { length (moves_from self.now from) ≤ 896 }
+        ensures { result ≡ length (moves_from self.now from) }
+    {
         if is_man(self.setup.side, Kind::King, self.setup.men[from.index()]) {
             return self.count_king(from);
         }
         self.count_from(from)
     }
 
-    // How many legal moves there are.
+    // How many legal moves these men have, each looked at alone.
+    fn count_each(&self, men: SquareSet) -> usize
+        requires { length (flat_map (λ a. moves_from self.now a) (members men)) ≤ 896 }
+        ensures { result ≡ length (flat_map (λ a. moves_from self.now a) (members men)) }
+    {
+        let mut count = 0;
+        let mut rest = men;
+        while let Some(from) = rest.take_first() {
+            count += self.count_of(from);
+        }
+        count
+    }
+
+    // How many legal moves there are: those of the free men kind by kind, and then those of the king and of the men that
+    // may shield him.
     pub(crate) fn count(&self) -> usize
         ensures { result ≡ length (moves self.now) }
     {
+        let _sound = self.setup();
         let free = self.free_men();
-        let mut count = 0;
         let mut men = self.sets.all(self.setup.side);
-        while let Some(from) = men.take_first() {
-            count += self.count_of(from, free);
-        }
-        count
+        let pawns = self.count_kind(Kind::Pawn, free, &mut men);
+        let knights = self.count_kind(Kind::Knight, free, &mut men);
+        let bishops = self.count_kind(Kind::Bishop, free, &mut men);
+        let rooks = self.count_kind(Kind::Rook, free, &mut men);
+        let queens = self.count_kind(Kind::Queen, free, &mut men);
+        let others = self.count_each(men);
+        pawns + knights + bishops + rooks + queens + others
     }
 
     // Whether there is a legal move from there. It looks no further than the first.

@@ -78,9 +78,18 @@ impl Bits {
         ensures { result ≡ is_legal self.now m.now }
     {
         let steps = steps_made(&self.setup, m);
-        let king = self.king_after(m, &steps);
-        let filled = filled_by(&steps);
-        let changed = filled.union(emptied_by(&steps));
+        self.is_safe_by(m, &steps)
+    }
+
+    // The same, where the move's steps are known.
+    pub(crate) fn is_safe_by(&self, m: &Move, steps: &Steps) -> bool
+        requires pattern { IsTrue (has_pattern self.now m.now) }
+        requires steps { steps.now ≡ steps_of self.now m.now }
+        ensures { result ≡ is_legal self.now m.now }
+    {
+        let king = self.king_after(m, steps);
+        let filled = filled_by(steps);
+        let changed = filled.union(emptied_by(steps));
         let kept = self.sets.occupied().without(changed);
         let occupied = filled.union(kept);
         let by = self.setup.side.other();

@@ -176,7 +176,7 @@ impl Bits {
     }
 
     // Where the own pawn goes that stands there.
-    fn pawn_targets(&self, from: Square) -> SquareSet
+    pub(crate) fn pawn_targets(&self, from: Square) -> SquareSet
         requires { is_man (self.now).side Pawn (man_at (self.now).men from) ≡ true }
         ensures { (k : ℕ) → k < 64 → has result k ≡ (pawn_advances self.now (triple from k None) || pawn_captures self.now (triple from k None)) }
     {
