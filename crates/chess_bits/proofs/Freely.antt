@@ -1,5 +1,5 @@
 -- Men without which their king is not attacked: where they go, they go legally.
-use Rattle.std.proofs.Common.{◌≡◌, ℕ, ◌+◌, ◌<◌, ◌≤◌, ◌⊎◌, inl, inr, Bool, true, false, not, ◌&&◌, ◌||◌, ◌==◌, Option, Some, None, cond, List, [], ◌∷◌, length, refl, sym, ap, ◌∙◌, length-append, subst, arith}
+use Rattle.std.proofs.Common.{◌≡◌, ℕ, ◌+◌, ◌<◌, ◌≤◌, ◌⊎◌, inl, inr, Bool, true, false, not, ◌&&◌, ◌||◌, ◌==◌, Option, Some, None, cond, List, [], ◌∷◌, ◌++◌, length, refl, sym, ap, ◌∙◌, length-append, subst, arith}
 use Rattle.std.specs.List.{flat_map}
 use Rattle.std.proofs.lemmas.Bool.{and_parts, and_from, false_from_ne_true, and_right, or_cases, or_parts, eqb-true, eq-eqb, ne_eqb, both_ways, cases_Bool, and_left}
 use Rattle.chess_base.specs.declared.man.Colour.{Colour}
@@ -28,7 +28,8 @@ use Rattle.chess_bits.specs.Goes.{goes, aims_at, OpensNoLine, OpensNoDiagonal, I
 use Rattle.chess_bits.proofs.AfterSets.{check_is}
 use Rattle.chess_bits.proofs.Counted.{one_counted}
 use Rattle.chess_bits.proofs.KingAfter.{mover_some, mover_own, king_stays, check_after, legal_is}
-use Rattle.chess_bits.proofs.Listed.{Each, each_member, from_targets, pattern_of}
+use Rattle.chess_moves.proofs.Parts.{none_promotes}
+use Rattle.chess_bits.proofs.Listed.{Each, each_member, room_for, from_targets, pattern_of}
 use Rattle.chess_bits.proofs.OriginsOf.{off_lowest}
 use Rattle.chess_bits.proofs.Patterns.{pawn_goes}
 use Rattle.chess_bits.proofs.Quiet.{IsPlain, stays_safe}
@@ -218,3 +219,19 @@ from_not false h = cc
 pub and_true_left : (a b : Bool) → a ≡ true → (a && b) ≡ false → b ≡ false
 and_true_left true b e h = h
 and_true_left false b e h = cc
+
+-- and that is the move that is listed
+pub free_listed : (p : Setup) (a king w : ℕ) → IsSound p → IsFree p a → IsUsual p a → a < 64 → king < 64 → ((k : ℕ) → k < 64 → is_man p.side King (man_at p.men k) ≡ (k == king))
+    → ((k : ℕ) → k < 64 → has w k ≡ true → goes p a k ≡ true) → (b : ℕ) → b < 64 → has w b ≡ true → moves_between p a b ≡ triple a b None ∷ []
+free_listed p a king w sound free usual low there one sets b high h =
+    let go = sets b high h in
+    let stays = usual.stays b high go in
+    let legal = free_is_legal p a b king sound free low there one go stays (usual.passes b) in
+    none_promotes p a b stays ∙ rw legal refl
+
+-- its place in the list
+pub one_fits : {A : Type 0} (g : ℕ → List A) (x : A) (now whole : List A) (ms : List ℕ) (s : ℕ) (ns : List ℕ) (n : ℕ) → ms ≡ s ∷ ns → now ++ flat_map g ms ≡ whole → length whole ≤ n → g s ≡ x ∷ [] → length now < n
+one_fits g x now whole ms s ns n e h fits one =
+    let room = room_for g now whole ms s ns n e h fits in
+    let single : length (g s) ≡ 1 = ap length one in
+    omega (arith, room, single)

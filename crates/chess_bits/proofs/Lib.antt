@@ -21,3 +21,4 @@ pub mod KingSteps
 pub mod AnyMember
 pub mod Shields
 pub mod KindsCounted
+pub mod CastlingAtHome

@@ -26,7 +26,7 @@ use Rattle.chess_base.proofs.Landing.{no_castle}
 use Rattle.chess_base.proofs.MenFacts.{same_colour-self, same_colour-true}
 use Rattle.chess_moves.specs.Sets.{has}
 use Rattle.chess_moves.proofs.Reach.{own_man_moves}
-use Rattle.chess_bits.specs.Goes.{goes, names_end, legal_or, castling_or, man_goes}
+use Rattle.chess_bits.specs.Goes.{goes, names_end, castling_end, legal_or, castling_or, man_goes}
 use Rattle.chess_bits.proofs.Patterns.{pawn_goes, legal_goes, man_sound, man_complete}
 
 -- ---- officers
@@ -106,10 +106,6 @@ ends_are p a b z f t none far near =
 -- what `with_castling` answers
 pub no_right : (p : Setup) (w : CastlingSide) (a b : ℕ) (s : Bool) → right_of p.rights p.side w ≡ None → s ≡ castling_or p w a b s
 no_right p w a b s e = rw e refl
-
-abbrev pub castling_end : Variant → Colour → CastlingSide → ℕ → ℕ
-castling_end Normal c w rook = home_square c (castled_king_file w)
-castling_end Fischerandom c w rook = rook
 
 named : (v : Variant) (c : Colour) (w : CastlingSide) (rook b : ℕ) → names_end v c w (Some rook) b ≡ (b == castling_end v c w rook)
 named Normal c w rook b = refl

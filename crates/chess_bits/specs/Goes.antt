@@ -34,6 +34,11 @@ names_end v c w None b = false
 names_end Normal c w (Some rook) b = b == home_square c (castled_king_file w)
 names_end Fischerandom c w (Some rook) b = b == rook
 
+-- the end square that names castling with that rook
+abbrev pub castling_end : Variant → Colour → CastlingSide → ℕ → ℕ
+castling_end Normal c w rook = home_square c (castled_king_file w)
+castling_end Fischerandom c w rook = rook
+
 -- s, but for castling, which is told as it is legal
 abbrev pub legal_or : Setup → Move → Option Castle → Bool → Bool
 legal_or p m None s = s

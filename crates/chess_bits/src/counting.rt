@@ -120,6 +120,14 @@ impl Bits {
         self.aims_at_target(from) || from.rank() == pawn_rank(self.setup.side.other())
     }
 
+    // Whether a pawn of the side on move stands there that may promote or take en passant.
+    pub(crate) fn is_unusual(&self, from: Square) -> bool
+        ensures { result ≡ (is_man (self.now).side Pawn (man_at (self.now).men from) && (aims_at (self.now).target (self.now).side from || (rank from == pawn_rank (other (self.now).side)))) }
+    {
+        let side = self.setup.side;
+        is_man(side, Kind::Pawn, self.setup.men[from.index()]) && self.is_unusual_pawn(from)
+    }
+
     // How many legal moves the free pawn has that stands there.
     fn count_pawn(&self, from: Square) -> usize
         requires pawn { is_man (self.now).side Pawn (man_at (self.now).men from) ≡ true }
