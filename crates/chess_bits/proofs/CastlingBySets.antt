@@ -161,7 +161,7 @@ way_is_safe men c k way h = each_same_below 64 _ _ (λ x low. ap (λ t. not t ||
 
 -- ---- the pattern of castling
 
-king_goes : (p : Setup) (m : Move) (k : Castle) → castle_of p m ≡ Some k → (o : Option CastlingSide) → castling p m ≡ o → is_man p.side King (man_at p.men m.from) ≡ true
+pub king_goes : (p : Setup) (m : Move) (k : Castle) → castle_of p m ≡ Some k → (o : Option CastlingSide) → castling p m ≡ o → is_man p.side King (man_at p.men m.from) ≡ true
 king_goes p m k e None none = let gone = no_castle p m none in absurd cc
 king_goes p m k e (Some w) says = (castling_says p m w (says_from_castling p m w says)).0
 

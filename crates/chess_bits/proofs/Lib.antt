@@ -22,3 +22,4 @@ pub mod AnyMember
 pub mod Shields
 pub mod KindsCounted
 pub mod CastlingAtHome
+pub mod CastlingSafely

@@ -36,7 +36,7 @@ could_capture_clear men later c Queen a b h e = last_of_three (not (a == b)) (sh
 could_capture_clear men later c Rook a b h e = last_of_three (not (a == b)) (share_rank_or_file a b) _ _ h e
 could_capture_clear men later c Bishop a b h e = last_of_three (not (a == b)) (share_diagonal a b) _ _ h e
 
-could_capture_as_clear : (men later : Men) (o : Option Man) (a b : ℕ) → (is_clear later a b ≡ true → is_clear men a b ≡ true)
+pub could_capture_as_clear : (men later : Men) (o : Option Man) (a b : ℕ) → (is_clear later a b ≡ true → is_clear men a b ≡ true)
     → could_capture_as later o a b ≡ true → could_capture_as men o a b ≡ true
 could_capture_as_clear men later None a b h e = e
 could_capture_as_clear men later (Some x) a b h e = could_capture_clear men later x.colour x.kind a b h e
