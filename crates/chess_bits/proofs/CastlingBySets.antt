@@ -7,21 +7,22 @@ use Rattle.chess_base.specs.declared.man.CastlingSide.{CastlingSide}
 use Rattle.chess_base.specs.declared.man.CastlingSide.TheVariants.{KingSide, QueenSide}
 use Rattle.chess_base.specs.declared.man.Colour.{Colour}
 use Rattle.chess_base.specs.declared.man.Colour.TheVariants.{White, Black}
-use Rattle.chess_base.specs.declared.man.Kind.TheVariants.{King, Rook}
+use Rattle.chess_base.specs.declared.man.Kind.TheVariants.{King, Rook, Pawn}
 use Rattle.chess_base.specs.declared.man.Move.{Move}
 use Rattle.chess_base.specs.declared.man.Variant.{Variant}
 use Rattle.chess_base.specs.declared.man.Variant.TheVariants.{Normal, Fischerandom}
 use Rattle.chess_base.specs.declared.setup.Setup.{Setup}
 use Rattle.chess_base.specs.Attacks.{is_attacked}
-use Rattle.chess_base.specs.Castling.{home_square, king_home_file, rook_file, castled_king_file, castled_rook_file, right_of, king_square, is_to_side, is_beside, stand_for_castling, right_stands, names_castling_with, castling, castle_from, castle_of, castles, is_on_way, castling_crosses, castling_way_is_empty, castling_way_is_safe}
+use Rattle.chess_base.specs.Castling.{home_square, king_home_file, rook_file, castled_king_file, castled_rook_file, right_of, king_square, is_to_side, is_beside, stand_for_castling, right_stands, names_castling_with, castling, castle_from, castle_of, castles, is_on_way, castling_crosses, castling_way_is_empty, castling_way_is_safe, castling_rook_to, lands_on}
 use Rattle.chess_base.specs.Men.{Men, man_at, other, is_man, first_rank}
 use Rattle.chess_base.specs.MoveList.{triple}
-use Rattle.chess_base.specs.Moves.{has_pattern, is_legal, castles_or_moves, promotion_fits}
+use Rattle.chess_base.specs.Moves.{has_pattern, is_legal, castles_or_moves, promotion_fits, man_that_lands, second_square_emptied, steps_of}
 use Rattle.chess_base.specs.Sound.{IsSound}
 use Rattle.chess_base.specs.Squares.{rank, is_between, each_below, some_below, each_square, some_square}
 use Rattle.chess_base.proofs.Castlings.{right_stands_of, right_that_stands}
 use Rattle.chess_base.proofs.Landing.{says_from_castling, castling_says, castle_there, no_castle}
-use Rattle.chess_base.proofs.MenFacts.{in_board}
+use Rattle.chess_base.proofs.Changes.{no_en_passant}
+use Rattle.chess_base.proofs.MenFacts.{in_board, is_man-kind}
 use Rattle.chess_moves.specs.Candidates.{would_promote}
 use Rattle.chess_bits.specs.declared.line.Line.TheVariants.{Rank}
 use Rattle.chess_bits.specs.Goes.{goes}
@@ -160,7 +161,7 @@ way_is_safe men c k way h = each_same_below 64 _ _ (λ x low. ap (λ t. not t ||
 
 -- ---- the pattern of castling
 
-king_goes : (p : Setup) (m : Move) (k : Castle) → castle_of p m ≡ Some k → (o : Option CastlingSide) → castling p m ≡ o → is_man p.side King (man_at p.men m.from) ≡ true
+pub king_goes : (p : Setup) (m : Move) (k : Castle) → castle_of p m ≡ Some k → (o : Option CastlingSide) → castling p m ≡ o → is_man p.side King (man_at p.men m.from) ≡ true
 king_goes p m k e None none = let gone = no_castle p m none in absurd cc
 king_goes p m k e (Some w) says = (castling_says p m w (says_from_castling p m w says)).0
 
@@ -189,6 +190,17 @@ pub castle_pattern : (p : Setup) (m : Move) (k : Castle) → IsSound p → m.to 
 castle_pattern p m k sound high none e =
     ap (λ o. has_pattern p (triple m.from m.to o)) none
     ∙ castle_pattern_by p m.from m.to k sound high (ap (λ o. castle_of p (triple m.from m.to o)) (sym none) ∙ e)
+
+-- and its steps
+pub castle_steps : (p : Setup) (m : Move) (k : Castle) → castle_of p m ≡ Some k → m.promotion ≡ None
+    → record { from = m.from; second_from = Some k.rook_from; second_to = Some k.rook_to; second = Some (record { colour = p.side; kind = Rook }); to = k.king_to; mover = Some (record { colour = p.side; kind = King }) } ≡ steps_of p m
+unfolding second_square_emptied castling_rook_to lands_on
+castle_steps p m k e none =
+    let king = king_goes p m k e (castling p m) refl in
+    let still = no_en_passant p m (is_man-kind p.side p.side King Pawn (man_at p.men m.from) refl king) in
+    let mover : man_that_lands (man_at p.men m.from) m.promotion ≡ Some (record { colour = p.side; kind = King }) =
+    ap (λ o. man_that_lands (man_at p.men m.from) o) none ∙ ap (λ o. man_that_lands o None) (man_told p.side King (man_at p.men m.from) king) in
+    rw (still, e, mover) refl
 
 pub not_castling : (p : Setup) (m : Move) → has_pattern p m ≡ false → false ≡ is_legal p m
 unfolding is_legal

@@ -1,41 +1,44 @@
--- Men that are on no line with their king, which is not in check: where they go, they go legally.
-use Rattle.std.proofs.Common.{◌≡◌, ℕ, ◌+◌, ◌<◌, ◌≤◌, ◌⊎◌, inl, inr, Bool, true, false, not, ◌&&◌, ◌||◌, ◌==◌, Option, Some, None, List, [], ◌∷◌, length, refl, sym, ap, ◌∙◌, length-append, subst, arith}
+-- Men without which their king is not attacked: where they go, they go legally.
+use Rattle.std.proofs.Common.{◌≡◌, ℕ, ◌+◌, ◌<◌, ◌≤◌, ◌⊎◌, inl, inr, Bool, true, false, not, ◌&&◌, ◌||◌, ◌==◌, Option, Some, None, cond, List, [], ◌∷◌, ◌++◌, length, refl, sym, ap, ◌∙◌, length-append, subst, arith}
 use Rattle.std.specs.List.{flat_map}
-use Rattle.std.proofs.lemmas.Bool.{and_parts, and_right, or_cases, or_parts, eqb-true, eq-eqb, ne_eqb, both_ways, cases_Bool, and_left}
+use Rattle.std.proofs.lemmas.Bool.{and_parts, and_from, false_from_ne_true, and_right, or_cases, or_parts, eqb-true, eq-eqb, ne_eqb, both_ways, cases_Bool, and_left}
 use Rattle.chess_base.specs.declared.man.Colour.{Colour}
 use Rattle.chess_base.specs.declared.man.Colour.TheVariants.{White, Black}
 use Rattle.chess_base.specs.declared.man.CastlingSide.TheVariants.{KingSide, QueenSide}
-use Rattle.chess_base.specs.declared.man.Kind.TheVariants.{King, Pawn}
+use Rattle.chess_base.specs.declared.man.Kind.{Kind}
+use Rattle.chess_base.specs.declared.man.Kind.TheVariants.{King, Queen, Rook, Bishop, Knight, Pawn}
 use Rattle.chess_base.specs.declared.man.Man.{Man}
 use Rattle.chess_base.specs.declared.man.Move.{Move}
 use Rattle.chess_base.specs.declared.setup.Setup.{Setup}
-use Rattle.chess_base.specs.Attacks.{attacks, is_in_check, is_attacked, is_rank_ahead, could_capture, could_capture_as}
+use Rattle.chess_base.specs.Attacks.{attacks, is_clear, is_in_check, is_attacked, is_rank_ahead, could_capture, could_capture_as}
 use Rattle.chess_base.specs.Castling.{castle_of, castling_rook_to}
-use Rattle.chess_base.specs.Men.{man_at, other, is_of, is_man, forward, first_rank, pawn_rank}
+use Rattle.chess_base.specs.Men.{Men, man_at, same_kind, other, is_of, is_man, forward, first_rank, pawn_rank}
 use Rattle.chess_base.specs.MoveList.{triple}
 use Rattle.chess_base.specs.Moves.{has_pattern, is_legal, is_en_passant, man_that_lands, men_after, second_square_emptied, pawn_advances, pawn_captures}
 use Rattle.chess_base.specs.Sound.{IsSound, no_pawn_on_end_ranks}
-use Rattle.chess_base.specs.Squares.{rank, is_square, share_rank_or_file, share_diagonal}
+use Rattle.chess_base.specs.Squares.{rank, some_square, is_square, share_rank_or_file, share_diagonal}
 use Rattle.chess_base.proofs.Changes.{advance_goes, pawn_attack}
-use Rattle.chess_base.proofs.OverSquares.{each_square-at}
+use Rattle.chess_base.proofs.OverSquares.{each_square-at, some_square-at, some_square-none}
+use Rattle.chess_bits.proofs.Lifted.{lifted_at}
 use Rattle.chess_moves.specs.Candidates.{would_promote, moves_between, moves_from}
 use Rattle.chess_moves.specs.Sets.{has, members}
 use Rattle.chess_bits.specs.declared.table.Shape.TheVariants as shape
 use Rattle.chess_bits.specs.Shapes.{in_shape}
-use Rattle.chess_bits.specs.Goes.{goes, aims_at, IsUnaimed, IsFree}
+use Rattle.chess_bits.specs.Goes.{goes, aims_at, OpensNoLine, OpensNoDiagonal, IsFree, lifted}
 use Rattle.chess_bits.proofs.AfterSets.{check_is}
 use Rattle.chess_bits.proofs.Counted.{one_counted}
 use Rattle.chess_bits.proofs.KingAfter.{mover_some, mover_own, king_stays, check_after, legal_is}
-use Rattle.chess_bits.proofs.Listed.{Each, each_member, from_targets, pattern_of}
+use Rattle.chess_moves.proofs.Parts.{none_promotes}
+use Rattle.chess_bits.proofs.Listed.{Each, each_member, room_for, from_targets, pattern_of}
 use Rattle.chess_bits.proofs.OriginsOf.{off_lowest}
 use Rattle.chess_bits.proofs.Patterns.{pawn_goes}
-use Rattle.chess_bits.proofs.Quiet.{IsPlain, stays_safe, stays_unaimed}
+use Rattle.chess_bits.proofs.Quiet.{IsPlain, stays_safe}
 use Rattle.chess_bits.proofs.Reached.{pawn_from}
 use Rattle.chess_bits.proofs.TargetsOf.{man_told, no_king_says, none_castles}
 
 -- ---- the king stays safe
 
-lands_same : (o : Option Man) → man_that_lands o None ≡ o
+pub lands_same : (o : Option Man) → man_that_lands o None ≡ o
 lands_same None = refl
 lands_same (Some x) = refl
 
@@ -49,9 +52,7 @@ free_is_legal p a b king sound free low there one go stays no_passing =
     let no_king : is_man p.side King (man_at p.men a) ≡ false = one a low ∙ free.apart king there here in
     let no_castle : castle_of p m ≡ None = none_castles p m (no_king_says p m KingSide no_king) (no_king_says p m QueenSide no_king) in
     let plain : IsPlain p m = record { also = rw (no_passing, no_castle) refl; rook = rw no_castle refl; mover = mover_some p m pattern; own = mover_own p m pattern } in
-    let calm : is_attacked p.men king (other p.side) ≡ false = sym (check_is p.men p.side king there one) ∙ free.calm in
-    let safe : is_attacked (men_after p m) king (other p.side) ≡ false =
-    elim (free.away king there here) [ inl off ↦ stays_safe p m king there plain off calm | inr unaimed ↦ stays_unaimed p m king plain unaimed calm ] in
+    let safe : is_attacked (men_after p m) king (other p.side) ≡ false = stays_safe p m king sound.board low plain (free.safe king there here) in
     let king_there : is_man p.side King (man_at (men_after p m) king) ≡ true =
     king_stays p m king sound pattern one (ap (λ o. is_man p.side King o) (lands_same (man_at p.men a)) ∙ no_king) in
     sym (legal_is p m pattern) ∙ ap not (check_after p m king sound pattern there king_there ∙ safe)
@@ -63,7 +64,7 @@ pub record IsUsual (p : Setup) (a : ℕ) : Type 0 where
   pub stays : (b : ℕ) → b < 64 → goes p a b ≡ true → would_promote p a b ≡ false
   pub passes : (b : ℕ) → is_en_passant p (triple a b None) ≡ false
 
-no_pawn_usual : (p : Setup) (a : ℕ) → is_man p.side Pawn (man_at p.men a) ≡ false → IsUsual p a
+pub no_pawn_usual : (p : Setup) (a : ℕ) → is_man p.side Pawn (man_at p.men a) ≡ false → IsUsual p a
 unfolding would_promote is_en_passant
 no_pawn_usual p a no_pawn = record { stays = λ b low go. rw no_pawn refl; passes = λ b. rw no_pawn refl }
 
@@ -93,7 +94,7 @@ not_taken p a b (Some t) pawn off =
       | inr apart ↦ and_right (is_man p.side Pawn (man_at p.men a) && attacks p.men a b) (t == b) apart
     ]
 
-pawn_usual : (p : Setup) (a : ℕ) → IsSound p → a < 64 → is_man p.side Pawn (man_at p.men a) ≡ true → aims_at p.target p.side a ≡ false → (rank a ≡ pawn_rank (other p.side) → ⊥) → IsUsual p a
+pub pawn_usual : (p : Setup) (a : ℕ) → IsSound p → a < 64 → is_man p.side Pawn (man_at p.men a) ≡ true → aims_at p.target p.side a ≡ false → (rank a ≡ pawn_rank (other p.side) → ⊥) → IsUsual p a
 unfolding would_promote is_en_passant no_pawn_on_end_ranks pawn_captures
 pawn_usual p a sound low pawn no_target off = record {
   stays = λ b high go. and_right (is_man p.side Pawn (man_at p.men a)) (rank b == first_rank (other p.side)) (ne_eqb (rank b) (first_rank (other p.side)) (last b high go));
@@ -124,7 +125,7 @@ usual_from p a sound low h = by (is_man p.side Pawn (man_at p.men a)) refl h
 
 -- ---- so each square is the end of one legal move
 
-all_once : {A : Type 0} (g : ℕ → List A) (ms : List ℕ) → Each (λ b. length (g b) ≡ 1) ms → length (flat_map g ms) ≡ length ms
+pub all_once : {A : Type 0} (g : ℕ → List A) (ms : List ℕ) → Each (λ b. length (g b) ≡ 1) ms → length (flat_map g ms) ≡ length ms
 all_once g [] h = refl
 all_once g (x ∷ xs) h =
     let rest = all_once g xs h.1 in
@@ -150,18 +151,65 @@ at_king : (p : Setup) (a king : ℕ) (P : ℕ → Type 0) → ((k : ℕ) → k <
     → (k : ℕ) → k < 64 → is_man p.side King (man_at p.men k) ≡ true → P k
 at_king p a king P one h k low man = subst P (sym (eqb-true k king (sym (one k low) ∙ man))) h
 
-pub freed : (p : Setup) (a king : ℕ) → is_in_check p.men p.side ≡ false → ((k : ℕ) → k < 64 → is_man p.side King (man_at p.men k) ≡ (k == king))
-    → (a == king) ≡ false → (((not (a == king) && share_rank_or_file a king) || (not (a == king) && share_diagonal a king)) ≡ false) ⊎ IsUnaimed p king → IsFree p a
-freed p a king calm one out away = record {
-  calm = calm;
+-- what attacks with that man taken off attacks as it is, if that opens nothing
+last_told : (n s t u : Bool) → ((n && s) ≡ true → t ≡ true → u ≡ true) → (n && s && t) ≡ true → (n && s && u) ≡ true
+last_told true true t u h e = h refl e
+last_told true false t u h e = e
+last_told false s t u h e = e
+
+queen_told : (n s d t u : Bool) → ((n && s) ≡ true → t ≡ true → u ≡ true) → ((n && d) ≡ true → t ≡ true → u ≡ true) → (n && (s || d) && t) ≡ true → (n && (s || d) && u) ≡ true
+queen_told true true d t u h g e = h refl e
+queen_told true false true t u h g e = g refl e
+queen_told true false false t u h g e = e
+queen_told false s d t u h g e = e
+
+capture_before : (men later : Men) (c : Colour) (k : Kind) (a b : ℕ)
+    → ((same_kind Rook k || same_kind Queen k) ≡ true → (not (a == b) && share_rank_or_file a b) ≡ true → is_clear later a b ≡ true → is_clear men a b ≡ true)
+    → ((same_kind Bishop k || same_kind Queen k) ≡ true → (not (a == b) && share_diagonal a b) ≡ true → is_clear later a b ≡ true → is_clear men a b ≡ true)
+    → could_capture later c k a b ≡ true → could_capture men c k a b ≡ true
+unfolding could_capture
+capture_before men later c King a b l d e = e
+capture_before men later c Knight a b l d e = e
+capture_before men later c Pawn a b l d e = e
+capture_before men later c Queen a b l d e = queen_told (not (a == b)) (share_rank_or_file a b) (share_diagonal a b) (is_clear later a b) (is_clear men a b) (l refl) (d refl) e
+capture_before men later c Rook a b l d e = last_told (not (a == b)) (share_rank_or_file a b) (is_clear later a b) (is_clear men a b) (l refl) e
+capture_before men later c Bishop a b l d e = last_told (not (a == b)) (share_diagonal a b) (is_clear later a b) (is_clear men a b) (d refl) e
+
+of_kinds : (c : Colour) (x : Man) (j k : Kind) → is_of c (Some x) ≡ true → (same_kind j x.kind || same_kind k x.kind) ≡ true → (is_man c j (Some x) || is_man c k (Some x)) ≡ true
+unfolding is_of is_man
+of_kinds c x j k own h = rw own h
+
+hits_before : (p : Setup) (a b king : ℕ) (o : Option Man) → b < 64 → man_at p.men b ≡ o → is_of (other p.side) o ≡ true → OpensNoLine p a king → OpensNoDiagonal p a king
+    → could_capture_as (lifted p.men a) o b king ≡ true → could_capture_as p.men o b king ≡ true
+hits_before p a b king None low at own lines diagonals e = cc
+hits_before p a b king (Some x) low at own lines diagonals e =
+    capture_before p.men (lifted p.men a) x.colour x.kind b king
+    (λ h. lines b low (rw at (of_kinds (other p.side) x Rook Queen own h)))
+    (λ h. diagonals b low (rw at (of_kinds (other p.side) x Bishop Queen own h)))
+    e
+
+lifted_enemy : (t : Bool) (o : Option Man) (c : Colour) → is_of c (cond t None o) ≡ true → cond t None o ≡ o
+unfolding is_of
+lifted_enemy true o c h = cc
+lifted_enemy false o c h = refl
+
+pub freed : (p : Setup) (a king : ℕ) → IsSound p → a < 64 → king < 64 → is_in_check p.men p.side ≡ false → ((k : ℕ) → k < 64 → is_man p.side King (man_at p.men k) ≡ (k == king))
+    → (a == king) ≡ false → OpensNoLine p a king → OpensNoDiagonal p a king → IsFree p a
+unfolding is_attacked attacks
+freed p a king sound low there calm one out lines diagonals = record {
   apart = at_king p a king (λ k. (a == k) ≡ false) one out;
-  away = at_king p a king (λ k. ((share_rank_or_file a k || share_diagonal a k) ≡ false) ⊎ IsUnaimed p k) one
-      (elim away [ inl off ↦ inl (off_lines (a == king) (share_rank_or_file a king) (share_diagonal a king) out off) | inr unaimed ↦ inr unaimed ]);
+  safe = at_king p a king (λ k. some_square (λ b. is_of (other p.side) (man_at (lifted p.men a) b) && could_capture_as (lifted p.men a) (man_at (lifted p.men a) b) b k) ≡ false) one
+      (some_square-none _
+      (λ b l.
+      false_from_ne_true _
+      (λ e.
+      let both = and_parts (is_of (other p.side) (man_at (lifted p.men a) b)) (could_capture_as (lifted p.men a) (man_at (lifted p.men a) b) b king) e in
+      let stood : man_at (lifted p.men a) b ≡ man_at p.men b =
+      lifted_at p.men a b sound.board low ∙ lifted_enemy (b == a) (man_at p.men b) (other p.side) (rw (lifted_at p.men a b sound.board low) at both.0) in
+      let was : is_of (other p.side) (man_at p.men b) ≡ true = rw (← stood) both.0 in
+      let hit : could_capture_as p.men (man_at p.men b) b king ≡ true = hits_before p a b king (man_at p.men b) l refl was lines diagonals (rw (← stood) both.1) in
+      both_ways (is_attacked p.men king (other p.side)) (sym (check_is p.men p.side king there one) ∙ calm) (some_square-at _ b l (and_from _ _ was hit)))));
 }
-  where
-    off_lines : (e l d : Bool) → e ≡ false → ((not e && l) || (not e && d)) ≡ false → (l || d) ≡ false
-    off_lines true l d out h = cc
-    off_lines false l d out h = h
 
 -- what a set tells that is empty
 pub from_not : (b : Bool) → not b ≡ false → b ≡ true
@@ -171,3 +219,19 @@ from_not false h = cc
 pub and_true_left : (a b : Bool) → a ≡ true → (a && b) ≡ false → b ≡ false
 and_true_left true b e h = h
 and_true_left false b e h = cc
+
+-- and that is the move that is listed
+pub free_listed : (p : Setup) (a king w : ℕ) → IsSound p → IsFree p a → IsUsual p a → a < 64 → king < 64 → ((k : ℕ) → k < 64 → is_man p.side King (man_at p.men k) ≡ (k == king))
+    → ((k : ℕ) → k < 64 → has w k ≡ true → goes p a k ≡ true) → (b : ℕ) → b < 64 → has w b ≡ true → moves_between p a b ≡ triple a b None ∷ []
+free_listed p a king w sound free usual low there one sets b high h =
+    let go = sets b high h in
+    let stays = usual.stays b high go in
+    let legal = free_is_legal p a b king sound free low there one go stays (usual.passes b) in
+    none_promotes p a b stays ∙ rw legal refl
+
+-- its place in the list
+pub one_fits : {A : Type 0} (g : ℕ → List A) (x : A) (now whole : List A) (ms : List ℕ) (s : ℕ) (ns : List ℕ) (n : ℕ) → ms ≡ s ∷ ns → now ++ flat_map g ms ≡ whole → length whole ≤ n → g s ≡ x ∷ [] → length now < n
+one_fits g x now whole ms s ns n e h fits one =
+    let room = room_for g now whole ms s ns n e h fits in
+    let single : length (g s) ≡ 1 = ap length one in
+    omega (arith, room, single)

@@ -16,3 +16,10 @@ mod Counted
 pub mod OriginsOf
 pub mod CastlingBySets
 pub mod Freely
+pub mod Lifted
+pub mod KingSteps
+pub mod AnyMember
+pub mod Shields
+pub mod KindsCounted
+pub mod CastlingAtHome
+pub mod CastlingSafely

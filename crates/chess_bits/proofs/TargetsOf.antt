@@ -26,7 +26,7 @@ use Rattle.chess_base.proofs.Landing.{no_castle}
 use Rattle.chess_base.proofs.MenFacts.{same_colour-self, same_colour-true}
 use Rattle.chess_moves.specs.Sets.{has}
 use Rattle.chess_moves.proofs.Reach.{own_man_moves}
-use Rattle.chess_bits.specs.Goes.{goes, names_end, legal_or, castling_or, man_goes}
+use Rattle.chess_bits.specs.Goes.{goes, names_end, castling_end, legal_or, castling_or, man_goes}
 use Rattle.chess_bits.proofs.Patterns.{pawn_goes, legal_goes, man_sound, man_complete}
 
 -- ---- officers
@@ -35,7 +35,7 @@ own_colour : (c : Colour) (x : Man) (o : Option Man) → o ≡ Some x → is_of 
 unfolding is_of
 own_colour c x o at own = let own' : same_colour c x.colour ≡ true = rw at at own in sym (same_colour-true c x.colour own')
 
-steps_of_man : (p : Setup) (a b : ℕ) (x : Man) → man_at p.men a ≡ Some x → x.colour ≡ p.side
+pub steps_of_man : (p : Setup) (a b : ℕ) (x : Man) → man_at p.men a ≡ Some x → x.colour ≡ p.side
     → man_moves p (triple a b None) ≡ (could_capture p.men p.side x.kind a b && not (is_of p.side (man_at p.men b)))
 unfolding man_moves attacks
 steps_of_man p a b x at own = ap (λ o. could_capture_as p.men o a b && not (is_of p.side (man_at p.men b))) at ∙ ap (λ c. could_capture p.men c x.kind a b && not (is_of p.side (man_at p.men b))) own
@@ -94,13 +94,18 @@ king_is p a b x s f t at own steps far near =
     (names_end p.variant p.side QueenSide (right_of p.rights p.side QueenSide) b) (man_moves p (triple a b None))
     (λ k q. none_castles p (triple a b None) (not_said p a b KingSide k) (not_said p a b QueenSide q))
 
+-- castling alone
+pub ends_are : (p : Setup) (a b : ℕ) (z f t : Bool) → z ≡ false → f ≡ castling_or p QueenSide a b z → t ≡ castling_or p KingSide a b f
+    → t ≡ legal_or p (triple a b None) (castle_of p (triple a b None)) false
+ends_are p a b z f t none far near =
+    near ∙ ap (castling_or p KingSide a b) (far ∙ ap (castling_or p QueenSide a b) none)
+    ∙ told p (triple a b None) (castle_of p (triple a b None)) (names_end p.variant p.side KingSide (right_of p.rights p.side KingSide) b)
+    (names_end p.variant p.side QueenSide (right_of p.rights p.side QueenSide) b) false
+    (λ k q. none_castles p (triple a b None) (not_said p a b KingSide k) (not_said p a b QueenSide q))
+
 -- what `with_castling` answers
 pub no_right : (p : Setup) (w : CastlingSide) (a b : ℕ) (s : Bool) → right_of p.rights p.side w ≡ None → s ≡ castling_or p w a b s
 no_right p w a b s e = rw e refl
-
-abbrev pub castling_end : Variant → Colour → CastlingSide → ℕ → ℕ
-castling_end Normal c w rook = home_square c (castled_king_file w)
-castling_end Fischerandom c w rook = rook
 
 named : (v : Variant) (c : Colour) (w : CastlingSide) (rook b : ℕ) → names_end v c w (Some rook) b ≡ (b == castling_end v c w rook)
 named Normal c w rook b = refl

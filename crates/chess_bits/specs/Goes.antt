@@ -1,5 +1,5 @@
 -- Where the men of the side on move go, whatever becomes of their king.
-use Rattle.std.specs.Prelude.{◌≡◌, ℕ, ◌<◌, ◌⊎◌, ◌==◌, not, ◌&&◌, ◌||◌, Bool, true, false, Option, Some, None, if◌then◌else◌}
+use Rattle.std.specs.Prelude.{◌≡◌, ℕ, ◌<◌, ◌==◌, not, ◌&&◌, ◌||◌, Bool, true, false, Option, Some, None, if◌then◌else◌}
 use Rattle.chess_base.specs.declared.castling.Castle.{Castle}
 use Rattle.chess_base.specs.declared.man.CastlingSide.{CastlingSide}
 use Rattle.chess_base.specs.declared.man.Colour.{Colour}
@@ -9,15 +9,16 @@ use Rattle.chess_base.specs.declared.man.Move.{Move}
 use Rattle.chess_base.specs.declared.man.Variant.{Variant}
 use Rattle.chess_base.specs.declared.man.Variant.TheVariants.{Normal, Fischerandom}
 use Rattle.chess_base.specs.declared.setup.Setup.{Setup}
-use Rattle.chess_base.specs.Attacks.{is_in_check}
+use Rattle.chess_base.specs.Attacks.{is_clear, is_attacked}
 use Rattle.chess_base.specs.Castling.{home_square, castled_king_file, right_of, castle_of}
-use Rattle.chess_base.specs.Men.{man_at, other, is_man}
+use Rattle.chess_base.specs.Men.{Men, man_at, with_man, other, is_man}
 use Rattle.chess_base.specs.MoveList.{triple}
 use Rattle.chess_base.specs.Moves.{has_pattern, is_legal, man_moves}
 use Rattle.chess_base.specs.Squares.{share_rank_or_file, share_diagonal}
 use Rattle.chess_bits.specs.declared.table.Shape.TheVariants as shape
 use Rattle.chess_bits.specs.Shapes.{in_shape}
 use Rattle.chess_moves.specs.Candidates.{would_promote}
+use Rattle.chess_moves.specs.Sets.{has}
 
 -- where a pawn promotes, one promotion stands for all: to a queen
 abbrev pub usual_promotion : Setup → ℕ → ℕ → Option Kind
@@ -33,6 +34,11 @@ names_end v c w None b = false
 names_end Normal c w (Some rook) b = b == home_square c (castled_king_file w)
 names_end Fischerandom c w (Some rook) b = b == rook
 
+-- the end square that names castling with that rook
+abbrev pub castling_end : Variant → Colour → CastlingSide → ℕ → ℕ
+castling_end Normal c w rook = home_square c (castled_king_file w)
+castling_end Fischerandom c w rook = rook
+
 -- s, but for castling, which is told as it is legal
 abbrev pub legal_or : Setup → Move → Option Castle → Bool → Bool
 legal_or p m None s = s
@@ -46,19 +52,29 @@ castling_or p w a b s =
 abbrev pub man_goes : Setup → ℕ → ℕ → Bool
 man_goes p a b = legal_or p (triple a b None) (castle_of p (triple a b None)) (man_moves p (triple a b None))
 
--- no queen or rook of the other side shares a rank or file with k, and no queen or bishop a diagonal
-pub record IsUnaimed (p : Setup) (k : ℕ) : Type 0 where
-  pub lines : (a : ℕ) → a < 64 → (is_man (other p.side) Rook (man_at p.men a) || is_man (other p.side) Queen (man_at p.men a)) ≡ true
-      → (not (a == k) && share_rank_or_file a k) ≡ false
-  pub diagonals : (a : ℕ) → a < 64 → (is_man (other p.side) Bishop (man_at p.men a) || is_man (other p.side) Queen (man_at p.men a)) ≡ true
-      → (not (a == k) && share_diagonal a k) ≡ false
+-- the men, but for the one on a
+abbrev pub lifted : Men → ℕ → Men
+lifted men a = with_man men (Some a) None
 
--- the king of the side on move is not in check, what stands on a is another man, and it is on no line with the king, or no
--- man of the other side aims along one
+-- taken off, the man on a opens no rank or file to k for a rook or queen of the other side; and no diagonal for a bishop or queen
+abbrev pub OpensNoLine : Setup → ℕ → ℕ → Type 0
+OpensNoLine p a k =
+    (b : ℕ) → b < 64 → (is_man (other p.side) Rook (man_at p.men b) || is_man (other p.side) Queen (man_at p.men b)) ≡ true
+    → (not (b == k) && share_rank_or_file b k) ≡ true → is_clear (lifted p.men a) b k ≡ true → is_clear p.men b k ≡ true
+
+abbrev pub OpensNoDiagonal : Setup → ℕ → ℕ → Type 0
+OpensNoDiagonal p a k =
+    (b : ℕ) → b < 64 → (is_man (other p.side) Bishop (man_at p.men b) || is_man (other p.side) Queen (man_at p.men b)) ≡ true
+    → (not (b == k) && share_diagonal b k) ≡ true → is_clear (lifted p.men a) b k ≡ true → is_clear p.men b k ≡ true
+
+-- what stands on a is not the king of the side on move, and he is not attacked though it be taken off
 pub record IsFree (p : Setup) (a : ℕ) : Type 0 where
-  pub calm : is_in_check p.men p.side ≡ false
   pub apart : (k : ℕ) → k < 64 → is_man p.side King (man_at p.men k) ≡ true → (a == k) ≡ false
-  pub away : (k : ℕ) → k < 64 → is_man p.side King (man_at p.men k) ≡ true → ((share_rank_or_file a k || share_diagonal a k) ≡ false) ⊎ IsUnaimed p k
+  pub safe : (k : ℕ) → k < 64 → is_man p.side King (man_at p.men k) ≡ true → is_attacked (lifted p.men a) k (other p.side) ≡ false
+
+-- on each square of the set stands a man of that kind of the side on move, and it is free
+abbrev pub AreFree : Setup → Kind → ℕ → Type 0
+AreFree p kind w = (k : ℕ) → k < 64 → has w k ≡ true → (is_man p.side kind (man_at p.men k) ≡ true) × IsFree p k
 
 -- a pawn of colour c on a attacks that square, if there is one
 abbrev pub aims_at : Option ℕ → Colour → ℕ → Bool

@@ -1,10 +1,10 @@
 //! Castling, told by sets.
 
-ghost use Rattle.std.specs.Prelude.{◌≡◌, ◌<◌, ℕ, ◌&&◌, ◌||◌, not, true, false, None, Some};
+ghost use Rattle.std.specs.Prelude.{◌≡◌, ◌<◌, ℕ, ◌&&◌, ◌||◌, not, true, false, None, Some, IsTrue};
 ghost use Rattle.chess_base.specs.Attacks.{is_attacked};
 ghost use Rattle.chess_base.specs.Castling.{castle_of, is_on_way, castling_way_is_empty, castling_way_is_safe};
 ghost use Rattle.chess_base.specs.Men.{other};
-ghost use Rattle.chess_base.specs.Moves.{is_legal};
+ghost use Rattle.chess_base.specs.Moves.{has_pattern, is_legal};
 ghost use Rattle.chess_base.specs.Squares.{rank, is_between, each_square};
 ghost use Rattle.chess_bits.specs.Rays.{is_on_ray};
 ghost use Rattle.chess_bits.specs.declared.line.Line.TheVariants.{Rank};
@@ -13,8 +13,8 @@ ghost use Rattle.chess_moves.specs.Sets.{has};
 use crate::bits::Bits;
 use crate::line::Line;
 use crate::table::Shape;
-use chess_base::rules::Castle;
-use chess_base::{Move, Square};
+use chess_base::rules::{Castle, Steps};
+use chess_base::{Kind, Man, Move, Square, Variant};
 use chess_moves::{Board, SquareSet};
 
 impl Bits {
@@ -53,9 +53,9 @@ impl Bits {
         ensures { result ≡ each_square (λ x. not (has way x) || not (is_attacked (self.now).men x (other (self.now).side))) }
     {
         let by = self.setup.side.other();
-        for number in 0..64 {
-            let x = Square::new(number);
-            if way.contains(x) && self.is_attacked(x, by) {
+        let mut rest = way;
+        while let Some(x) = rest.take_first() {
+            if self.is_attacked(x, by) {
                 return false;
             }
         }
@@ -92,6 +92,35 @@ impl Bits {
         if !self.castles(castle) {
             return false;
         }
-        self.is_safe_after(m)
+        match self.setup.variant {
+            Variant::Normal => true,
+            Variant::Fischerandom => self.is_safe_castled(m, castle),
+        }
+    }
+
+    // Whether the king is safe after castling that nothing prevents: in Chess960 the rook may have stood between him and an
+    // attacker.
+    fn is_safe_castled(&self, m: &Move, castle: &Castle) -> bool
+        requires castle { castle_of self.now m.now ≡ Some castle.now }
+        requires none { m.now.promotion ≡ None }
+        requires pattern { IsTrue (has_pattern self.now m.now) }
+        ensures { result ≡ is_legal self.now m.now }
+    {
+        let side = self.setup.side;
+        let steps = Steps {
+            from: m.from,
+            second_from: Some(castle.rook_from),
+            second_to: Some(castle.rook_to),
+            second: Some(Man {
+                colour: side,
+                kind: Kind::Rook,
+            }),
+            to: castle.king_to,
+            mover: Some(Man {
+                colour: side,
+                kind: Kind::King,
+            }),
+        };
+        self.is_safe_by(m, &steps)
     }
 }

@@ -1,19 +1,19 @@
 //! How many legal moves there are, and whether there is one: man by man, with no list.
 
-ghost use Rattle.std.specs.Prelude.{◌≡◌, ◌≤◌, ◌<◌, ◌==◌, ◌&&◌, ◌||◌, ℕ, length, nat_lt, cond, true, false, IsTrue, Some};
+ghost use Rattle.std.specs.Prelude.{◌≡◌, ◌+◌, ◌≤◌, ◌<◌, ◌==◌, ◌&&◌, ◌||◌, ℕ, length, nat_lt, cond, true, false, IsTrue, Some, None};
 ghost use Rattle.std.specs.List.{flat_map};
-ghost use Rattle.chess_base.specs.Men.{man_at, other, is_man, pawn_rank};
+ghost use Rattle.chess_base.specs.Men.{man_at, other, is_man, same_kind, pawn_rank};
 ghost use Rattle.chess_base.specs.MoveList.{moves, triple};
-ghost use Rattle.chess_base.specs.Moves.{has_pattern, is_legal, promotion_fits};
+ghost use Rattle.chess_base.specs.Moves.{has_pattern, is_legal, man_moves, promotion_fits};
 ghost use Rattle.chess_base.specs.Squares.{rank};
-ghost use Rattle.chess_base.specs.declared.man.Kind.TheVariants.{Pawn};
-ghost use Rattle.chess_bits.specs.Goes.{goes, aims_at, IsUnaimed, IsFree};
+ghost use Rattle.chess_base.specs.declared.man.Kind.TheVariants.{King, Pawn};
+ghost use Rattle.chess_bits.specs.Goes.{goes, aims_at, IsFree, AreFree};
 ghost use Rattle.chess_moves.specs.Candidates.{would_promote, moves_between, moves_from};
 ghost use Rattle.chess_moves.specs.Sets.{has, members};
 
 use crate::bits::Bits;
 use crate::table::Shape;
-use crate::targets::pawn_rank;
+use crate::targets::{is_pawn, pawn_rank};
 use chess_base::attack::is_man;
 use chess_base::{Kind, Move, Square};
 use chess_moves::{Board, SquareSet, would_promote};
@@ -74,39 +74,29 @@ impl Bits {
         count
     }
 
-    // Whether a man of the other side would attack the square along a line, were nothing between.
-    #[tactic(auto, unfolding(crate::specs::Shapes::in_shape))]
-    fn is_aimed_at(&self, square: Square) -> bool
-        ensures { result ≡ false → IsUnaimed self.now square }
+    // How many legal moves a step of the king is: one or none.
+    fn times_stepped(&self, king: Square, to: Square) -> usize
+        requires king { is_man (self.now).side King (man_at (self.now).men king) ≡ true }
+        requires step { man_moves self.now (triple king to None) ≡ true }
+        ensures { result ≡ length (moves_between self.now king to) }
     {
-        let by = self.setup.side.other();
-        let men = self.sets.of(by);
-        let queens = men.of(Kind::Queen);
-        let rooks = men.of(Kind::Rook).union(queens);
-        let straight = rooks.intersection(self.tables.at(Shape::Lines, square));
-        let bishops = men.of(Kind::Bishop).union(queens);
-        let aslant = bishops.intersection(self.tables.at(Shape::Diagonals, square));
-        let aimed = straight.union(aslant);
-        !aimed.is_empty()
+        if self.is_safe_step(king, to) { 1 } else { 0 }
     }
 
-    // The men of the side on move that may go anywhere, as far as their king is concerned.
-    #[tactic(auto, unfolding(crate::specs::Shapes::in_shape))]
-    fn free_men(&self) -> SquareSet
-        ensures { (k : ℕ) → k < 64 → has result k ≡ true → IsFree self.now k }
+    // How many legal moves the king has: his steps, and castling.
+    fn count_king(&self, king: Square) -> usize
+        requires king { is_man (self.now).side King (man_at (self.now).men king) ≡ true }
+        requires few { length (moves_from self.now king) ≤ 896 }
+        ensures { result ≡ length (moves_from self.now king) }
     {
-        if self.in_check() {
-            return SquareSet::empty();
+        let _start = king.number();
+        let _sound = self.setup();
+        let mut count = self.castling_ends(king).len();
+        let mut steps = self.steps(Kind::King, king);
+        while let Some(to) = steps.take_first() {
+            count += self.times_stepped(king, to);
         }
-        let side = self.setup.side;
-        let king = self.king(side);
-        let others = self.sets.all(side).without(SquareSet::single(king));
-        if !self.is_aimed_at(king) {
-            return others;
-        }
-        let lines = self.tables.at(Shape::Lines, king);
-        let met = lines.union(self.tables.at(Shape::Diagonals, king));
-        others.without(met)
+        count
     }
 
     // Whether a pawn of the side on move that stands there attacks the target.
@@ -123,54 +113,138 @@ impl Bits {
         }
     }
 
+    // Whether the pawn there may promote or take en passant.
+    fn is_unusual_pawn(&self, from: Square) -> bool
+        ensures { result ≡ (aims_at (self.now).target (self.now).side from || (rank from == pawn_rank (other (self.now).side))) }
+    {
+        self.aims_at_target(from) || from.rank() == pawn_rank(self.setup.side.other())
+    }
+
     // Whether a pawn of the side on move stands there that may promote or take en passant.
-    fn is_unusual(&self, from: Square) -> bool
+    pub(crate) fn is_unusual(&self, from: Square) -> bool
         ensures { result ≡ (is_man (self.now).side Pawn (man_at (self.now).men from) && (aims_at (self.now).target (self.now).side from || (rank from == pawn_rank (other (self.now).side)))) }
     {
         let side = self.setup.side;
-        is_man(side, Kind::Pawn, self.setup.men[from.index()])
-            && (self.aims_at_target(from) || from.rank() == pawn_rank(side.other()))
+        is_man(side, Kind::Pawn, self.setup.men[from.index()]) && self.is_unusual_pawn(from)
     }
 
-    // How many legal moves the free man has that stands there.
-    fn count_free(&self, from: Square) -> usize
+    // How many legal moves the free pawn has that stands there.
+    fn count_pawn(&self, from: Square) -> usize
+        requires pawn { is_man (self.now).side Pawn (man_at (self.now).men from) ≡ true }
         requires free { IsFree self.now from }
         requires few { length (moves_from self.now from) ≤ 896 }
         ensures { result ≡ length (moves_from self.now from) }
     {
         let _start = from.number();
-        if self.is_unusual(from) {
+        if self.is_unusual_pawn(from) {
             return self.count_from(from);
         }
         let _king = self.king(self.setup.side);
-        self.targets(from).len()
+        self.pawn_targets(from).len()
     }
 
-    // How many legal moves the man there has, if those men are free.
-    fn count_of(&self, from: Square, free: SquareSet) -> usize
-        requires free { (k : ℕ) → k < 64 → has free k ≡ true → IsFree self.now k }
-        requires few { length (moves_from self.now from) ≤ 896 }
+    // How many legal moves these free pawns have.
+    fn count_pawns(&self, men: SquareSet) -> usize
+        requires free { AreFree self.now Pawn men }
+        requires few { length (flat_map (λ a. moves_from self.now a) (members men)) ≤ 896 }
+        ensures { result ≡ length (flat_map (λ a. moves_from self.now a) (members men)) }
+    {
+        let mut count = 0;
+        let mut rest = men;
+        while let Some(from) = rest.take_first() {
+            count += self.count_pawn(from);
+        }
+        count
+    }
+
+    // How many legal moves the free man of that kind has that stands there: it is neither king nor pawn.
+    #[inline(always)]
+    fn count_officer(&self, kind: Kind, from: Square) -> usize
+        requires kind { (same_kind King kind || same_kind Pawn kind) ≡ false }
+        requires officer { is_man (self.now).side kind (man_at (self.now).men from) ≡ true }
+        requires free { IsFree self.now from }
         ensures { result ≡ length (moves_from self.now from) }
     {
         let _start = from.number();
-        if free.contains(from) {
-            self.count_free(from)
+        let _king = self.king(self.setup.side);
+        self.steps(kind, from).len()
+    }
+
+    // How many legal moves these free men of a kind have.
+    #[inline(always)]
+    fn count_officers(&self, kind: Kind, men: SquareSet) -> usize
+        requires kind { (same_kind King kind || same_kind Pawn kind) ≡ false }
+        requires free { AreFree self.now kind men }
+        requires few { length (flat_map (λ a. moves_from self.now a) (members men)) ≤ 896 }
+        ensures { result ≡ length (flat_map (λ a. moves_from self.now a) (members men)) }
+    {
+        let mut count = 0;
+        let mut rest = men;
+        while let Some(from) = rest.take_first() {
+            count += self.count_officer(kind, from);
+        }
+        count
+    }
+
+    // Takes the free men of a kind from these, and tells how many legal moves they have.
+    #[inline(always)]
+    fn count_kind(&self, kind: Kind, free: SquareSet, men: &mut SquareSet) -> usize
+        requires kind { same_kind King kind ≡ false }
+        requires free { (k : ℕ) → k < 64 → has free k ≡ true → IsFree self.now k }
+        requires few { length (flat_map (λ a. moves_from self.now a) (members men.old)) ≤ 896 }
+        ensures { result + length (flat_map (λ a. moves_from self.now a) (members men.new)) ≡ length (flat_map (λ a. moves_from self.now a) (members men.old)) }
+    {
+        let all = *men;
+        let own = self.sets.of(self.setup.side);
+        let chosen = own.of(kind).intersection(free);
+        let taken = all.intersection(chosen);
+        *men = all.without(chosen);
+        if is_pawn(kind) {
+            self.count_pawns(taken)
         } else {
-            self.count_from(from)
+            self.count_officers(kind, taken)
         }
     }
 
-    // How many legal moves there are.
+    // How many legal moves the man there has.
+    fn count_of(&self, from: Square) -> usize
+        requires { length (moves_from self.now from) ≤ 896 }
+        ensures { result ≡ length (moves_from self.now from) }
+    {
+        if is_man(self.setup.side, Kind::King, self.setup.men[from.index()]) {
+            return self.count_king(from);
+        }
+        self.count_from(from)
+    }
+
+    // How many legal moves these men have, each looked at alone.
+    fn count_each(&self, men: SquareSet) -> usize
+        requires { length (flat_map (λ a. moves_from self.now a) (members men)) ≤ 896 }
+        ensures { result ≡ length (flat_map (λ a. moves_from self.now a) (members men)) }
+    {
+        let mut count = 0;
+        let mut rest = men;
+        while let Some(from) = rest.take_first() {
+            count += self.count_of(from);
+        }
+        count
+    }
+
+    // How many legal moves there are: those of the free men kind by kind, and then those of the king and of the men that
+    // may shield him.
     pub(crate) fn count(&self) -> usize
         ensures { result ≡ length (moves self.now) }
     {
+        let _sound = self.setup();
         let free = self.free_men();
-        let mut count = 0;
         let mut men = self.sets.all(self.setup.side);
-        while let Some(from) = men.take_first() {
-            count += self.count_of(from, free);
-        }
-        count
+        let pawns = self.count_kind(Kind::Pawn, free, &mut men);
+        let knights = self.count_kind(Kind::Knight, free, &mut men);
+        let bishops = self.count_kind(Kind::Bishop, free, &mut men);
+        let rooks = self.count_kind(Kind::Rook, free, &mut men);
+        let queens = self.count_kind(Kind::Queen, free, &mut men);
+        let others = self.count_each(men);
+        pawns + knights + bishops + rooks + queens + others
     }
 
     // Whether there is a legal move from there. It looks no further than the first.

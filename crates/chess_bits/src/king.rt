@@ -1,8 +1,9 @@
 //! The king's safety after a move, told by the sets after it: no move is made.
 
-ghost use Rattle.std.specs.Prelude.{◌≡◌, ◌==◌, ◌||◌, ◌<◌, ℕ, true, IsTrue};
+ghost use Rattle.std.specs.Prelude.{◌≡◌, ◌==◌, ◌||◌, ◌<◌, ℕ, true, None, IsTrue};
 ghost use Rattle.chess_base.specs.Men.{man_at, is_man};
-ghost use Rattle.chess_base.specs.Moves.{has_pattern, is_legal, men_after, steps_of};
+ghost use Rattle.chess_base.specs.MoveList.{triple};
+ghost use Rattle.chess_base.specs.Moves.{has_pattern, is_legal, man_moves, men_after, steps_of};
 ghost use Rattle.chess_base.specs.Squares.{is_square};
 ghost use Rattle.chess_base.specs.declared.man.Kind.TheVariants.{King};
 ghost use Rattle.chess_moves.specs.Sets.{has};
@@ -58,15 +59,37 @@ impl Bits {
         }
     }
 
+    // Whether a step of the king is legal: nothing attacks its end square once he has left his own.
+    pub(crate) fn is_safe_step(&self, king: Square, to: Square) -> bool
+        requires king { is_man (self.now).side King (man_at (self.now).men king) ≡ true }
+        requires step { man_moves self.now (triple king to None) ≡ true }
+        ensures { result ≡ is_legal self.now (triple king to None) }
+    {
+        let _start = king.number();
+        let _end = to.number();
+        let by = self.setup.side.other();
+        let left = self.sets.occupied().without(SquareSet::single(king));
+        !self.sets.of(by).attacks(&self.tables, by, to, left)
+    }
+
     // Whether a move with a man's pattern is legal: the king of the side on move is safe after it.
     pub(crate) fn is_safe_after(&self, m: &Move) -> bool
         requires { IsTrue (has_pattern self.now m.now) }
         ensures { result ≡ is_legal self.now m.now }
     {
         let steps = steps_made(&self.setup, m);
-        let king = self.king_after(m, &steps);
-        let filled = filled_by(&steps);
-        let changed = filled.union(emptied_by(&steps));
+        self.is_safe_by(m, &steps)
+    }
+
+    // The same, where the move's steps are known.
+    pub(crate) fn is_safe_by(&self, m: &Move, steps: &Steps) -> bool
+        requires pattern { IsTrue (has_pattern self.now m.now) }
+        requires steps { steps.now ≡ steps_of self.now m.now }
+        ensures { result ≡ is_legal self.now m.now }
+    {
+        let king = self.king_after(m, steps);
+        let filled = filled_by(steps);
+        let changed = filled.union(emptied_by(steps));
         let kept = self.sets.occupied().without(changed);
         let occupied = filled.union(kept);
         let by = self.setup.side.other();

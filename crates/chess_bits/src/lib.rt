@@ -11,6 +11,7 @@ mod listing;
 mod placing;
 mod reaching;
 mod sets;
+mod shielding;
 mod table;
 mod tables;
 mod targets;

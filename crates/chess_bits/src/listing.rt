@@ -1,16 +1,20 @@
 //! The list of legal moves: man by man, and end square by end square.
 
-ghost use Rattle.std.specs.Prelude.{◌≡◌, ◌+◌, ◌≤◌, ◌<◌, ◌++◌, ℕ, length, get_or, true, Option};
+ghost use Rattle.std.specs.Prelude.{◌≡◌, ◌+◌, ◌≤◌, ◌<◌, ◌==◌, ◌&&◌, ◌||◌, ◌++◌, ℕ, length, get_or, true, false, Option};
 ghost use Rattle.arrayvec.specs.ArrayVec.{array_vec_len};
+ghost use Rattle.chess_base.specs.Men.{man_at, other, is_man, pawn_rank};
 ghost use Rattle.chess_base.specs.MoveList.{moves};
 ghost use Rattle.chess_base.specs.Moves.{promotion_fits};
+ghost use Rattle.chess_base.specs.Squares.{rank};
 ghost use Rattle.chess_base.specs.declared.man.Kind.{Kind as ManKind};
-ghost use Rattle.chess_bits.specs.Goes.{goes};
+ghost use Rattle.chess_base.specs.declared.man.Kind.TheVariants.{Pawn};
+ghost use Rattle.chess_bits.specs.Goes.{goes, aims_at, IsFree};
 ghost use Rattle.chess_moves.specs.Candidates.{would_promote, moves_with, moves_between, moves_from};
+ghost use Rattle.chess_moves.specs.Sets.{has};
 
 use crate::bits::Bits;
 use chess_base::{Kind, Move, Square};
-use chess_moves::{MoveList, would_promote};
+use chess_moves::{MoveList, SquareSet, would_promote};
 
 // Whether a promotion stands exactly with a move that promotes.
 pub(crate) fn promotion_fits(promotes: bool, promotion: Option<Kind>) -> bool
@@ -79,14 +83,61 @@ impl Bits {
         }
     }
 
+    // Adds the legal moves of a free man, who is no pawn that may promote or take en passant: he goes as he may.
+    fn add_usual_moves(&self, from: Square, list: &mut MoveList)
+        requires free { IsFree self.now from }
+        requires usual { (is_man (self.now).side Pawn (man_at (self.now).men from) && (aims_at (self.now).target (self.now).side from || (rank from == pawn_rank (other (self.now).side)))) ≡ false }
+        requires room { array_vec_len list.old + length (moves_from self.now from) ≤ 896 }
+        ensures { list.new.items ≡ list.old.items ++ moves_from self.now from }
+    {
+        let _start = from.number();
+        let _king = self.king(self.setup.side);
+        let mut targets = self.targets(from);
+        while let Some(to) = targets.take_first() {
+            list.push(Move {
+                from,
+                to,
+                promotion: None,
+            });
+        }
+    }
+
+    // Adds the legal moves of a free man.
+    fn add_free_moves(&self, from: Square, list: &mut MoveList)
+        requires free { IsFree self.now from }
+        requires room { array_vec_len list.old + length (moves_from self.now from) ≤ 896 }
+        ensures { list.new.items ≡ list.old.items ++ moves_from self.now from }
+    {
+        if self.is_unusual(from) {
+            self.add_moves_from(from, list);
+        } else {
+            self.add_usual_moves(from, list);
+        }
+    }
+
+    // Adds the legal moves of the man there, if those men are free.
+    fn add_moves_of(&self, from: Square, free: SquareSet, list: &mut MoveList)
+        requires free { (k : ℕ) → k < 64 → has free k ≡ true → IsFree self.now k }
+        requires room { array_vec_len list.old + length (moves_from self.now from) ≤ 896 }
+        ensures { list.new.items ≡ list.old.items ++ moves_from self.now from }
+    {
+        let _start = from.number();
+        if free.contains(from) {
+            self.add_free_moves(from, list);
+        } else {
+            self.add_moves_from(from, list);
+        }
+    }
+
     // All legal moves, in order.
     pub(crate) fn moves(&self) -> MoveList
         ensures { result.items ≡ moves self.now }
     {
+        let free = self.free_men();
         let mut list = MoveList::new();
         let mut men = self.sets.all(self.setup.side);
         while let Some(from) = men.take_first() {
-            self.add_moves_from(from, &mut list);
+            self.add_moves_of(from, free, &mut list);
         }
         list
     }

@@ -1,12 +1,13 @@
 //! Where men go: sets of end squares, whatever becomes of the king.
 
-ghost use Rattle.std.specs.Prelude.{◌≡◌, ◌+◌, ◌≤◌, ◌<◌, ℕ, ◌&&◌, ◌||◌, not, true, false, None, MatchOption};
+ghost use Rattle.std.specs.Prelude.{◌≡◌, ◌+◌, ◌≤◌, ◌<◌, ℕ, ◌&&◌, ◌||◌, not, true, false, Some, None, MatchOption};
 ghost use Rattle.chess_base.specs.Attacks.{could_capture};
 ghost use Rattle.chess_base.specs.Men.{man_at, other, is_of, is_man, same_kind, forward, pawn_rank};
 ghost use Rattle.chess_base.specs.MoveList.{triple};
 ghost use Rattle.chess_base.specs.Moves.{is_legal, pawn_advances, pawn_captures};
 ghost use Rattle.chess_base.specs.declared.man.Kind.TheVariants.{King, Pawn};
-ghost use Rattle.chess_bits.specs.Goes.{goes, castling_or, man_goes};
+ghost use Rattle.chess_base.specs.Castling.{right_of, castled_rook_file, castle_of};
+ghost use Rattle.chess_bits.specs.Goes.{goes, castling_end, legal_or, castling_or, man_goes};
 ghost use Rattle.chess_bits.specs.declared.line.Line.TheVariants.{File};
 ghost use Rattle.chess_bits.specs.declared.table.Shape.TheVariants.{Pawn as PawnAttack};
 ghost use Rattle.chess_bits.specs.Rays.{is_on_ray};
@@ -19,7 +20,7 @@ use crate::line::Line;
 use crate::reaching::reached_from;
 use crate::table::Shape;
 use chess_base::attack::{is_man, is_of};
-use chess_base::rules::{castle_of, castled_king_file, home_square, right_of};
+use chess_base::rules::{Castle, castle_of, castled_king_file, home_square, right_of};
 use chess_base::{CastlingSide, Colour, Kind, Move, Square, Variant};
 use chess_moves::SquareSet;
 
@@ -43,6 +44,17 @@ pub(crate) fn pawn_rank(colour: Colour) -> u8
     }
 }
 
+// The file to which castling on that side takes the rook (Laws of Chess 2023, article 3.8.2).
+fn castled_rook_file(castling_side: CastlingSide) -> u8
+    ensures value { result ≡ castled_rook_file castling_side }
+    ensures in_range { result < 8 }
+{
+    match castling_side {
+        CastlingSide::KingSide => 5,
+        CastlingSide::QueenSide => 3,
+    }
+}
+
 pub(crate) fn is_king(kind: Kind) -> bool
     ensures { result ≡ same_kind King kind }
 {
@@ -57,12 +69,36 @@ pub(crate) fn is_pawn(kind: Kind) -> bool
 
 impl Bits {
     // Where a man of that kind attacks from there what is no own man.
-    fn steps(&self, kind: Kind, from: Square) -> SquareSet
+    pub(crate) fn steps(&self, kind: Kind, from: Square) -> SquareSet
         ensures { (k : ℕ) → k < 64 → has result k ≡ (could_capture (self.now).men (self.now).side kind from k && not (is_of (self.now).side (man_at (self.now).men k))) }
     {
         let side = self.setup.side;
         let reached = reached_from(&self.tables, self.sets.occupied(), side, kind, from);
         reached.without(self.sets.all(side))
+    }
+
+    // The squares of the castling that the move is, if it is one: its end names castling to that side with the rook of the
+    // right. In normal chess a king whose right stands is at home, so no more has to be asked.
+    fn castle_to(&self, m: &Move, castling_side: CastlingSide, rook: Square) -> Option<Castle>
+        requires right { right_of (self.now).rights (self.now).side castling_side ≡ Some rook }
+        requires end { m.now.to ≡ castling_end (self.now).variant (self.now).side castling_side rook }
+        requires none { m.now.promotion ≡ None }
+        ensures { result ≡ castle_of self.now m.now }
+    {
+        let _start = m.from.number();
+        let side = self.setup.side;
+        if !is_man(side, Kind::King, self.setup.men[m.from.index()]) {
+            return None;
+        }
+        match self.setup.variant {
+            Variant::Fischerandom => castle_of(&self.setup, m),
+            Variant::Normal => Some(Castle {
+                king_from: m.from,
+                king_to: m.to,
+                rook_from: rook,
+                rook_to: home_square(side, castled_rook_file(castling_side)),
+            }),
+        }
     }
 
     // These squares, where castling to that side is told as it is legal.
@@ -87,7 +123,7 @@ impl Bits {
             to,
             promotion: None,
         };
-        let Some(castle) = castle_of(&self.setup, &m) else {
+        let Some(castle) = self.castle_to(&m, castling_side, rook) else {
             return targets;
         };
         let end = SquareSet::single(to);
@@ -96,6 +132,15 @@ impl Bits {
         } else {
             targets.without(end)
         }
+    }
+
+    // The end squares of the king's legal castlings.
+    pub(crate) fn castling_ends(&self, king: Square) -> SquareSet
+        ensures { (k : ℕ) → k < 64 → has result k ≡ legal_or self.now (triple king k None) (castle_of self.now (triple king k None)) false }
+    {
+        let none = SquareSet::empty();
+        let far = self.with_castling(none, king, CastlingSide::QueenSide);
+        self.with_castling(far, king, CastlingSide::KingSide)
     }
 
     // Where the own man goes that stands there and is no pawn; castling is told as it is legal.
@@ -166,7 +211,7 @@ impl Bits {
     }
 
     // Where the own pawn goes that stands there.
-    fn pawn_targets(&self, from: Square) -> SquareSet
+    pub(crate) fn pawn_targets(&self, from: Square) -> SquareSet
         requires { is_man (self.now).side Pawn (man_at (self.now).men from) ≡ true }
         ensures { (k : ℕ) → k < 64 → has result k ≡ (pawn_advances self.now (triple from k None) || pawn_captures self.now (triple from k None)) }
     {

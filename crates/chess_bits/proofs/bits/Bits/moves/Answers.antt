@@ -10,7 +10,7 @@ loop-from-init c =
     let own : (k : ℕ) → k < 64 → has c.all-men.result k ≡ is_of c.args.self.now.side (man_at c.args.self.now.men k) = rw (← c.self.view_is) (c.all-men.ensures c.self.inside.setup.men c.self.invariant.1) in
     rw c.new-list.ensures (from_men c.args.self.now c.all-men.result own)
 
-pub add_moves_from-requires : goal.add_moves_from-requires
-add_moves_from-requires c =
+pub add_moves_of-requires-clause-room : goal.add_moves_of-requires-clause-room
+add_moves_of-requires-clause-room c =
     let sound : IsSound c.args.self.now = rw (← c.self.view_is) c.self.invariant.0 in
     fits_from c.args.self.now c.loop-from.list.items _ c.in-Some.from _ sound c.in-Some.ensures c.loop-from.invariant

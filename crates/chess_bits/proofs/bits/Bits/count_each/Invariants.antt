@@ -1,13 +1,12 @@
 use Rattle.std.proofs.Common.{◌≡◌, ◌+◌, length}
 use Rattle.std.specs.List.{flat_map}
-use Rattle.chess_base.specs.MoveList.{moves}
 use Rattle.chess_moves.specs.Candidates.{moves_from}
 use Rattle.chess_moves.specs.Sets.{members}
-use Rattle.chess_bits.proofs.bits.Bits.count.Given as goal
+use Rattle.chess_bits.proofs.bits.Bits.count_each.Given as goal
 
 -- the moves counted and those of the men that are left are all
 abbrev pub invariant-loop-from : goal.invariant-loop-from
-invariant-loop-from l = l.count + length (flat_map (λ a. moves_from l.self a) (members l.men)) ≡ length (moves l.self)
+invariant-loop-from l = l.count + length (flat_map (λ a. moves_from l.self a) (members l.rest)) ≡ length (flat_map (λ a. moves_from l.self a) (members l.fn.men))
 
 abbrev pub decreases-loop-from : goal.decreases-loop-from
-decreases-loop-from l = length (members l.men)
+decreases-loop-from l = length (members l.rest)

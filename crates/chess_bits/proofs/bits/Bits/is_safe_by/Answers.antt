@@ -1,24 +1,25 @@
 use Rattle.std.proofs.Common.{◌≡◌, ◌==◌, ◌||◌, ℕ, ◌<◌, not, true, refl, sym, ap, ◌∙◌}
 use Rattle.chess_base.specs.declared.steps.Steps.{Steps}
 use Rattle.chess_base.specs.Attacks.{is_attacked}
-use Rattle.chess_base.specs.Moves.{has_pattern, men_after}
+use Rattle.chess_base.specs.Moves.{has_pattern, men_after, steps_of}
 use Rattle.chess_base.specs.Squares.{is_square}
 use Rattle.chess_moves.specs.Sets.{has}
 use Rattle.chess_bits.specs.Occupancy.{IsOccupied, IsLater}
 use Rattle.chess_bits.proofs.AfterSets.{is_changed, is_filled, later_after}
 use Rattle.chess_bits.proofs.KingAfter.{mover_some, mover_own, check_after, legal_is}
-use Rattle.chess_bits.proofs.bits.Bits.is_safe_after.Goals as goal
+use Rattle.chess_bits.proofs.bits.Bits.is_safe_by.Goals as goal
 
 pub returns : goal.returns
 returns c =
     let p = c.self.inside.setup in
     let m = c.args.m.now in
     let by = c.other-by.result in
-    let pattern : has_pattern p m ≡ true = rw c.self.view_is c.requires in
+    let pattern : has_pattern p m ≡ true = rw c.self.view_is c.requires.pattern in
+    let steps : c.args.steps.now ≡ steps_of p m = rw c.self.view_is c.requires.steps in
     let filled : (k : ℕ) → k < 64 → has c.filled_by-filled.result k ≡ is_filled p m k =
-    λ k low. c.filled_by-filled.ensures k ∙ ap (λ (t : Steps). (t.to == k) || is_square t.second_to k) c.steps_made-steps.ensures in
+    λ k low. c.filled_by-filled.ensures k ∙ ap (λ (t : Steps). (t.to == k) || is_square t.second_to k) steps in
     let emptied : (k : ℕ) → has c.emptied_by.result k ≡ _ =
-    λ k. c.emptied_by.ensures k ∙ ap (λ (t : Steps). is_square t.second_from k || (t.from == k)) c.steps_made-steps.ensures in
+    λ k. c.emptied_by.ensures k ∙ ap (λ (t : Steps). is_square t.second_from k || (t.from == k)) steps in
     let changed : (k : ℕ) → k < 64 → has c.union-changed.result k ≡ is_changed p m k =
     λ k low. c.union-changed.ensures k ∙ rw (filled k low, emptied k) refl in
     let later : IsLater c.union-changed.result c.filled_by-filled.result by p.men (men_after p m) =

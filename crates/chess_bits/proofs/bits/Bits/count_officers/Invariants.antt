@@ -1,0 +1,18 @@
+use Rattle.std.proofs.Common.{◌≡◌, ◌+◌, length, true}
+use Rattle.std.specs.List.{flat_map}
+use Rattle.chess_base.specs.Men.{man_at, is_man}
+use Rattle.chess_bits.specs.Goes.{IsFree}
+use Rattle.chess_bits.proofs.Listed.{Each}
+use Rattle.chess_moves.specs.Candidates.{moves_from}
+use Rattle.chess_moves.specs.Sets.{members}
+use Rattle.chess_bits.proofs.bits.Bits.count_officers.Given as goal
+
+-- the moves counted and those of the men that are left are all, and each of these is free
+abbrev pub invariant-loop-from : goal.invariant-loop-from
+invariant-loop-from l = record {
+  all : l.count + length (flat_map (λ a. moves_from l.self a) (members l.rest)) ≡ length (flat_map (λ a. moves_from l.self a) (members l.fn.men));
+  free : Each (λ a. (is_man l.self.side l.kind (man_at l.self.men a) ≡ true) × IsFree l.self a) (members l.rest);
+}
+
+abbrev pub decreases-loop-from : goal.decreases-loop-from
+decreases-loop-from l = length (members l.rest)

@@ -1,0 +1,77 @@
+//! The own men that may shield their king.
+
+ghost use Rattle.std.specs.Prelude.{◌≡◌, ◌<◌, ℕ, true, false};
+ghost use Rattle.chess_base.specs.Men.{man_at, is_of};
+ghost use Rattle.chess_bits.specs.Goes.{OpensNoLine, OpensNoDiagonal, IsFree};
+ghost use Rattle.chess_moves.specs.Sets.{has};
+
+use crate::bits::Bits;
+use crate::kinds::{along_diagonals, along_lines};
+use crate::table::Shape;
+use chess_base::{Kind, Square};
+use chess_moves::{Board, SquareSet};
+
+impl Bits {
+    // Own men of which no other opens a rank or file to the king: none, if a rook or queen would still be hidden were all
+    // of them taken off that he sees.
+    #[tactic(auto, unfolding(crate::specs::Shapes::in_shape))]
+    fn line_shields(&self, king: Square) -> SquareSet
+        ensures { (a : ℕ) → a < 64 → is_of (self.now).side (man_at (self.now).men a) ≡ true → has result a ≡ false → OpensNoLine self.now a king }
+    {
+        let _king = king.number();
+        let side = self.setup.side;
+        let men = self.sets.of(side.other());
+        let straight = men.of(Kind::Rook).union(men.of(Kind::Queen));
+        let aimed = straight.intersection(self.tables.at(Shape::Lines, king));
+        if aimed.is_empty() {
+            return aimed;
+        }
+        let occupied = self.sets.occupied();
+        let seen = along_lines(&self.tables, king, occupied);
+        let near = seen.intersection(self.sets.all(side));
+        let opened = along_lines(&self.tables, king, occupied.without(near));
+        let hidden = aimed.intersection(opened);
+        if hidden.is_empty() {
+            return hidden;
+        }
+        near
+    }
+
+    // Own men of which no other opens a diagonal to the king.
+    #[tactic(auto, unfolding(crate::specs::Shapes::in_shape))]
+    fn diagonal_shields(&self, king: Square) -> SquareSet
+        ensures { (a : ℕ) → a < 64 → is_of (self.now).side (man_at (self.now).men a) ≡ true → has result a ≡ false → OpensNoDiagonal self.now a king }
+    {
+        let _king = king.number();
+        let side = self.setup.side;
+        let men = self.sets.of(side.other());
+        let aslant = men.of(Kind::Bishop).union(men.of(Kind::Queen));
+        let aimed = aslant.intersection(self.tables.at(Shape::Diagonals, king));
+        if aimed.is_empty() {
+            return aimed;
+        }
+        let occupied = self.sets.occupied();
+        let seen = along_diagonals(&self.tables, king, occupied);
+        let near = seen.intersection(self.sets.all(side));
+        let opened = along_diagonals(&self.tables, king, occupied.without(near));
+        let hidden = aimed.intersection(opened);
+        if hidden.is_empty() {
+            return hidden;
+        }
+        near
+    }
+
+    // The men of the side on move that may go anywhere, as far as their king is concerned.
+    pub(crate) fn free_men(&self) -> SquareSet
+        ensures { (k : ℕ) → k < 64 → has result k ≡ true → IsFree self.now k }
+    {
+        if self.in_check() {
+            return SquareSet::empty();
+        }
+        let side = self.setup.side;
+        let king = self.king(side);
+        let shields = self.line_shields(king).union(self.diagonal_shields(king));
+        let others = self.sets.all(side).without(SquareSet::single(king));
+        others.without(shields)
+    }
+}
