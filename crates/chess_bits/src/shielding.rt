@@ -12,8 +12,8 @@ use chess_base::{Kind, Square};
 use chess_moves::{Board, SquareSet};
 
 impl Bits {
-    // Own men of which no other opens a rank or file to the king: none, if a rook or queen would still be hidden were all
-    // of them taken off that he sees.
+    // The own men that the king sees on his rank and file, if one of them hides a rook or queen from him, and else none:
+    // taking off any other man opens neither.
     #[tactic(auto, unfolding(crate::specs::Shapes::in_shape))]
     fn line_shields(&self, king: Square) -> SquareSet
         ensures { (a : ℕ) → a < 64 → is_of (self.now).side (man_at (self.now).men a) ≡ true → has result a ≡ false → OpensNoLine self.now a king }
@@ -37,7 +37,7 @@ impl Bits {
         near
     }
 
-    // Own men of which no other opens a diagonal to the king.
+    // The own men that the king sees on his diagonals, if one of them hides a bishop or queen from him, and else none.
     #[tactic(auto, unfolding(crate::specs::Shapes::in_shape))]
     fn diagonal_shields(&self, king: Square) -> SquareSet
         ensures { (a : ℕ) → a < 64 → is_of (self.now).side (man_at (self.now).men a) ≡ true → has result a ≡ false → OpensNoDiagonal self.now a king }
