@@ -21,3 +21,4 @@ pub mod ShortTokens
 pub mod FenVariants
 pub mod OfTokens
 pub mod NormalGames
+pub mod FaultPlaces

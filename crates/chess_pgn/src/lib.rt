@@ -5,6 +5,7 @@ mod buffer;
 mod bytes;
 mod laws;
 mod lines;
+mod local_laws;
 mod read;
 mod skips;
 mod tag;
@@ -20,6 +21,7 @@ pub use laws::{
     games_are_in_filled_lines, games_are_of_tokens, lines_are_filled, normal_is_kept,
     pgn_is_read_back,
 };
+pub use local_laws::faults_have_places;
 pub use read::{PgnEnd, PgnFault, PgnFaultKind, read_pgn};
 pub use tags::{HowEnded, TagText, Tags};
 pub use termination::Termination;
