@@ -1,5 +1,5 @@
 -- A fault's place is in the text, and not before the place where reading began.
-use Rattle.std.proofs.Common.{◌≡◌, ℕ, zero, suc, ◌-◌, ◌≤◌, Bool, true, false, eqb, List, [], ◌∷◌, length, take, drop, Option, Some, None, Result, Ok, Err, IfErr, refl, sym, ap, subst, arith}
+use Rattle.std.proofs.Common.{◌≡◌, ℕ, zero, suc, ◌-◌, ◌≤◌, Bool, true, eqb, List, [], ◌∷◌, length, take, drop, Option, Result, Ok, Err, IfErr, ap, arith}
 use Rattle.std.specs.Prelude.{codes, is_some, nat_lt, ◌&&◌}
 use Rattle.std.specs.Str.{bytes_eq}
 use Rattle.std.proofs.lemmas.Bool.{and_parts}
@@ -16,7 +16,6 @@ use Rattle.chess_text.specs.declared.reading.Reading.TheVariants as reads
 use Rattle.chess_text.specs.Moves.{reading}
 use Rattle.chess_pgn.specs.declared.read.PgnEnd.{PgnEnd}
 use Rattle.chess_pgn.specs.declared.read.PgnFault.{PgnFault}
-use Rattle.chess_pgn.specs.declared.read.PgnFaultKind.TheVariants.{NoResult}
 use Rattle.chess_pgn.specs.declared.word.WordKind.{WordKind}
 use Rattle.chess_pgn.specs.declared.word.WordKind.TheVariants.{End, Number, Marks, Move}
 use Rattle.chess_pgn.specs.GameRead.{SoFar, GameRead, Step, On, Stop, unless_full, move_step, word_step, fen_step, tag_step, step, go_on, game_of, at_text_end, nothing_read, variant_told, pgn_read}
@@ -27,7 +26,6 @@ use Rattle.chess_pgn.specs.Words.{kind_of}
 use Rattle.chess_pgn.proofs.Cuts.{pick}
 use Rattle.chess_pgn.proofs.PgnPieces.{shorter}
 use Rattle.chess_pgn.proofs.TokenPlaces.{within}
-use Rattle.chess_pgn.proofs.Walk.{none_left}
 
 -- a fault has its place from the first on and up to the last
 abbrev FaultIn : ℕ → ℕ → Result (Option PgnEnd) PgnFault → Type 0
@@ -102,7 +100,7 @@ game_in limit total (suc n) begins g (c ∷ rest) =
 
 -- ---- the place where reading begins
 
-behind : (text : List ℕ) (at : ℕ) → at ≤ length text → (at ≤ first_place text at) × (first_place text at ≤ length text)
+pub behind : (text : List ℕ) (at : ℕ) → at ≤ length text → (at ≤ first_place text at) × (first_place text at ≤ length text)
 behind text at h = pick (λ (n : ℕ). (at ≤ n) × (n ≤ length text)) (eqb at 0 && bytes_eq (take 3 text) (239 ∷ 187 ∷ 191 ∷ [])) _ _ (λ e. mark (and_parts (eqb at 0) _ e)) (λ _. (omega arith, h))
   where
     mark : (eqb at 0 ≡ true) × (bytes_eq (take 3 text) (239 ∷ 187 ∷ 191 ∷ []) ≡ true) → (at ≤ 3) × (3 ≤ length text)

@@ -22,3 +22,4 @@ pub mod FenVariants
 pub mod OfTokens
 pub mod NormalGames
 pub mod FaultPlaces
+pub mod Settled
