@@ -1,7 +1,7 @@
 //! Laws of the words. A caller learns one by calling its function, which does nothing.
 
 ghost use Rattle.std.specs.Prelude.{[], ◌∷◌, codes};
-ghost use Rattle.arbiter_words.specs.Plans.{AskFor, PlansAreNamed};
+ghost use Rattle.arbiter_words.specs.Plans.{AskFor, PlansAreNamed, VerifyIsAsSpelled};
 
 /// No words, `session` alone and `verify` alone are taken, and ask for what they say.
 pub fn plain_words_are_taken()
@@ -13,4 +13,9 @@ pub fn plain_words_are_taken()
 /// A plan is that of the command that was asked for.
 pub fn plans_are_named()
     ensures { PlansAreNamed }
+{}
+
+/// A plan to verify is told by the words behind `verify`.
+pub fn verify_is_as_spelled()
+    ensures { VerifyIsAsSpelled }
 {}

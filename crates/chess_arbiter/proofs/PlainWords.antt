@@ -1,16 +1,17 @@
 -- What no words, `session` and `verify` do.
-use Rattle.std.proofs.Common.{◌≡◌, ◌∙◌, ◌<◌, ℕ, List, [], length, lit<, codes, Result, Ok, Err, refl, sym, ap, subst, inl, arith}
+use Rattle.std.proofs.Common.{◌≡◌, ◌∙◌, ◌<◌, ℕ, false, List, [], length, lit<, codes, Result, Ok, Err, refl, sym, ap, subst, inl, arith}
 use Rattle.clap.specs.Words.{Row, Text}
 use Rattle.arbiter_words.specs.Grammar.{AreVariants, Lent, asked}
-use Rattle.arbiter_words.specs.Plans.{AskFor, IsReading, PlansAreNamed, command_name}
+use Rattle.arbiter_words.specs.Plans.{AskFor, IsReading, PlansAreNamed, VerifyIsAsSpelled, command_name, verify_plan_of}
 use Rattle.arbiter_words.specs.declared.fault.WordsFault.{WordsFault}
 use Rattle.arbiter_words.specs.declared.fault.WordsFault.TheVariants as words
 use Rattle.arbiter_words.specs.declared.plan.Plan.{Plan}
+use Rattle.arbiter_words.specs.declared.plan.VerifyPlan.{VerifyPlan}
 use Rattle.arbiter_words.specs.declared.plan.Plan.TheVariants.{Session, Verify, Stub, Match}
 use Rattle.byte_devices.specs.Devices.{InputState, OutputState}
 use Rattle.byte_devices.proofs.DeviceLaws.{consumes_none}
 use Rattle.chess_arbiter.specs.Laws.{ServesSession, VerifiesGames}
-use Rattle.chess_arbiter.specs.Program.{IsUntouched, RanPlan, RanProgram, RanSession, RanVerify}
+use Rattle.chess_arbiter.specs.Program.{IsUntouched, RanPlan, RanProgram, RanSession, RanVerify, RanVerifyIf, has_words}
 use Rattle.chess_arbiter.specs.Verify.{IsFront, LacksMemory}
 use Rattle.chess_arbiter.specs.declared.fault.ProgramFault.TheVariants.{NoMemory}
 
@@ -59,21 +60,26 @@ verify_or_want words.BadDate r r' w w' status want ran = absurd want
 serves : PlansAreNamed → (words : List Text) → AskFor words (codes "session") → (read : Result Plan WordsFault) → IsReading words read
     → (r r' : InputState) (w w' : OutputState) (status : ℕ) → RanPlan read r r' w w' status → RanSession r r' w w' status
 serves named ws a (Ok Session) is r r' w w' status ran = ran
-serves named ws a (Ok Verify) is r r' w w' status ran = absurd (shorter (codes "verify") (codes "session") (lit< tt) (sym (read_word named ws (codes "session") Verify a is)))
+serves named ws a (Ok (Verify v)) is r r' w w' status ran = absurd (shorter (codes "verify") (codes "session") (lit< tt) (sym (read_word named ws (codes "session") (Verify v) a is)))
 serves named ws a (Ok (Stub s)) is r r' w w' status ran = absurd (shorter (codes "stub") (codes "session") (lit< tt) (sym (read_word named ws (codes "session") (Stub s) a is)))
 serves named ws a (Ok (Match m)) is r r' w w' status ran = absurd (no_match_by_session (read_word named ws (codes "session") (Match m) a is))
 serves named ws a (Err fault) is r r' w w' status ran = session_or_want fault r r' w w' status (refused_word ws (codes "session") fault a no_match_by_session is) ran
 
-verifies : PlansAreNamed → (words : List Text) → AskFor words (codes "verify") → (read : Result Plan WordsFault) → IsReading words read
+-- `verify` alone has none of its words
+without_words : VerifyIsAsSpelled → (words : List Text) (v : VerifyPlan) → AskFor words (codes "verify") → IsReading words (Ok (Verify v)) → has_words v ≡ false
+without_words spelled ws v a (names, are, is) =
+    ap has_words (spelled (asked names ws) v is ∙ ap (λ (p : Text × List Row). verify_plan_of p.1) (a.asked names))
+
+verifies : PlansAreNamed → VerifyIsAsSpelled → (words : List Text) → AskFor words (codes "verify") → (read : Result Plan WordsFault) → IsReading words read
     → (r r' : InputState) (w w' : OutputState) (status : ℕ) → RanPlan read r r' w w' status → RanVerify r r' w w' status
-verifies named ws a (Ok Session) is r r' w w' status ran = absurd (shorter (codes "verify") (codes "session") (lit< tt) (read_word named ws (codes "verify") Session a is))
-verifies named ws a (Ok Verify) is r r' w w' status ran = ran
-verifies named ws a (Ok (Stub s)) is r r' w w' status ran = absurd (shorter (codes "stub") (codes "verify") (lit< tt) (sym (read_word named ws (codes "verify") (Stub s) a is)))
-verifies named ws a (Ok (Match m)) is r r' w w' status ran = absurd (no_match_by_verify (read_word named ws (codes "verify") (Match m) a is))
-verifies named ws a (Err fault) is r r' w w' status ran = verify_or_want fault r r' w w' status (refused_word ws (codes "verify") fault a no_match_by_verify is) ran
+verifies named spelled ws a (Ok Session) is r r' w w' status ran = absurd (shorter (codes "verify") (codes "session") (lit< tt) (read_word named ws (codes "verify") Session a is))
+verifies named spelled ws a (Ok (Verify v)) is r r' w w' status ran = subst (λ b. RanVerifyIf b v r r' w w' status) (without_words spelled ws v a is) ran
+verifies named spelled ws a (Ok (Stub s)) is r r' w w' status ran = absurd (shorter (codes "stub") (codes "verify") (lit< tt) (sym (read_word named ws (codes "verify") (Stub s) a is)))
+verifies named spelled ws a (Ok (Match m)) is r r' w w' status ran = absurd (no_match_by_verify (read_word named ws (codes "verify") (Match m) a is))
+verifies named spelled ws a (Err fault) is r r' w w' status ran = verify_or_want fault r r' w w' status (refused_word ws (codes "verify") fault a no_match_by_verify is) ran
 
 pub serves_session : PlansAreNamed → (words : List Text) → AskFor words (codes "session") → ServesSession words
 serves_session named ws a r r' w w' status (read, is, ran) = serves named ws a read is r r' w w' status ran
 
-pub verifies_games : PlansAreNamed → (words : List Text) → AskFor words (codes "verify") → VerifiesGames words
-verifies_games named ws a r r' w w' status (read, is, ran) = verifies named ws a read is r r' w w' status ran
+pub verifies_games : PlansAreNamed → VerifyIsAsSpelled → (words : List Text) → AskFor words (codes "verify") → VerifiesGames words
+verifies_games named spelled ws a r r' w w' status (read, is, ran) = verifies named spelled ws a read is r r' w w' status ran
