@@ -23,3 +23,4 @@ pub mod OfTokens
 pub mod NormalGames
 pub mod FaultPlaces
 pub mod Settled
+pub mod MovedReads

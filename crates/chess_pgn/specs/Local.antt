@@ -1,5 +1,5 @@
 -- Where a game is read: what the beginning of a text settles, whatever follows it, and which places are told.
-use Rattle.std.specs.Prelude.{◌≡◌, ◌≤◌, ℕ, ◌+◌, ◌-◌, Bool, true, false, not, ◌&&◌, ◌||◌, ◌==◌, nat_lt, nat_le, List, [], ◌∷◌, ◌++◌, length, drop, Option, Some, None, Result, Ok, Err, IfErr}
+use Rattle.std.specs.Prelude.{◌≡◌, ◌≤◌, ◌<◌, ℕ, ◌+◌, ◌-◌, Bool, true, false, not, ◌&&◌, ◌||◌, ◌==◌, nat_lt, nat_le, List, [], ◌∷◌, ◌++◌, length, drop, Option, Some, None, Result, Ok, Err, IfErr}
 use Rattle.std.specs.List.{list_any, prefix_len, take_while}
 use Rattle.chess_base.specs.declared.man.Variant.{Variant}
 use Rattle.chess_base.specs.declared.man.Variant.TheVariants.{Normal}
@@ -7,7 +7,7 @@ use Rattle.chess_pgn.specs.declared.read.PgnEnd.{PgnEnd}
 use Rattle.chess_pgn.specs.declared.read.PgnFault.{PgnFault}
 use Rattle.chess_pgn.specs.declared.read.PgnFaultKind.{PgnFaultKind}
 use Rattle.chess_pgn.specs.declared.read.PgnFaultKind.TheVariants.{BadTag, BadFen, BadToken, IllegalMove, AmbiguousMove, AfterEnd, TooLong, UnclosedComment, UnclosedVariation, NoResult}
-use Rattle.chess_pgn.specs.GameRead.{told_by, pgn_read}
+use Rattle.chess_pgn.specs.GameRead.{GameRead, told_by, pgn_read}
 use Rattle.chess_pgn.specs.Tokens.{Token, Skip, Tag, Word, Bad_tag, Unclosed_comment, Unclosed_variation, Bad, is_name_byte, is_word_byte, behind_gap, behind_next, string_at, first_place, tokens_from}
 
 -- ---- bytes behind an opening bracket that more bytes could make a tag of: they end in a gap, in the name, or in a string
@@ -98,6 +98,19 @@ is_settled limit text at = (nat_lt 0 at || nat_le 3 (length text)) && settles_an
 -- what the beginning of a text settles is read so in the whole text
 abbrev pub ReadingIsLocal : Type 0
 ReadingIsLocal = (limit : ℕ) (front rest : List ℕ) (at : ℕ) → at ≤ length front → is_settled limit front at ≡ true → pgn_read limit (front ++ rest) at ≡ pgn_read limit front at
+
+-- a game read so many bytes later
+abbrev pub moved_answer : ℕ → Result (Option PgnEnd) PgnFault → Result (Option PgnEnd) PgnFault
+moved_answer n (Ok None) = Ok None
+moved_answer n (Ok (Some e)) = Ok (Some (record { outcome = e.outcome; termination = e.termination; place = n + e.place }))
+moved_answer n (Err f) = Err (record { kind = f.kind; place = n + f.place })
+
+abbrev pub moved : ℕ → GameRead → GameRead
+moved n r = record { state = r.state; answer = moved_answer n r.answer }
+
+-- behind the byte before it a game is read the same, whatever stands before that byte
+abbrev pub ReadingIsMoved : Type 0
+ReadingIsMoved = (limit : ℕ) (before text : List ℕ) (at : ℕ) → 0 < at → at ≤ length text → pgn_read limit (before ++ text) (length before + at) ≡ moved (length before) (pgn_read limit text at)
 
 -- a fault's place is in the text, and not before the place where reading began
 abbrev pub FaultsHavePlaces : Type 0
