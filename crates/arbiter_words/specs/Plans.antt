@@ -1,10 +1,11 @@
 -- What a plan has to do with the words.
 use Rattle.std.specs.Prelude.{◌≡◌, ◌≢◌, ◌⊎◌, ◌≤◌, ◌&&◌, ℕ, Bool, List, [], codes, length, map, nat_le, option_map, if◌then◌else◌, Option, Some, None, Result, Ok, Err, is_some, true, false, unwrap_or, ⊤}
-use Rattle.std.specs.List.{list_all}
+use Rattle.std.specs.List.{list_all, list_any}
 use Rattle.std.specs.Option.{option_map_or}
 use Rattle.std.specs.Str.{bytes_eq}
 use Rattle.std.specs.Str.Parse.{digits_value, without_leading_plus}
 use Rattle.clap.specs.Words.{Row, Text, all_of, fault_of, first_of, kind_of, subcommand_of, subcommand_rows_of}
+use Rattle.clap.specs.Facts.{explicit_source}
 use Rattle.clap.specs.ValueTests.{is_unsigned_in}
 use Rattle.clap.specs.declared.error.Error.{Error}
 use Rattle.clap.specs.declared.error.kind.ErrorKind.{ErrorKind}
@@ -150,10 +151,19 @@ PlansAreNamed = (p : Text × List Row) (plan : Plan) → IsPlanOf p plan → p.0
 abbrev pub VerifyIsAsSpelled : Type 0
 VerifyIsAsSpelled = (p : Text × List Row) (v : VerifyPlan) → IsPlanOf p (Verify v) → v ≡ verify_plan_of p.1
 
--- the words are taken, and ask for the command of that name with no arguments
+-- the words are taken, and ask for the command of that name, with no argument that a word gives
 pub record AskFor (words : List Text) (name : Text) : Type 0 where
   pub taken : (names : Lent) → takes_words names words ≡ true
-  pub asked : (names : Lent) → asked names words ≡ (name, [])
+  pub named : (names : Lent) → (asked names words).0 ≡ name
+  pub bare : (names : Lent) → list_any (λ r. explicit_source r.source) (asked names words).1 ≡ false
+
+-- as `verify` alone verifies
+abbrev pub bare_plan : VerifyPlan
+bare_plan = record { keep_going = false; quiet = false }
+
+-- the words tell to verify so
+abbrev pub VerifyAsBare : List Text → Type 0
+VerifyAsBare words = (names : Lent) → verify_plan_of (asked names words).1 ≡ bare_plan
 
 -- ---- on the way there
 

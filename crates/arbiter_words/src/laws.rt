@@ -1,13 +1,14 @@
 //! Laws of the words. A caller learns one by calling its function, which does nothing.
 
 ghost use Rattle.std.specs.Prelude.{[], ◌∷◌, codes};
-ghost use Rattle.arbiter_words.specs.Plans.{AskFor, PlansAreNamed, VerifyIsAsSpelled};
+ghost use Rattle.arbiter_words.specs.Plans.{AskFor, PlansAreNamed, VerifyAsBare, VerifyIsAsSpelled};
 
-/// No words, `session` alone and `verify` alone are taken, and ask for what they say.
+/// No words, `session` alone and `verify` alone are taken, and ask for what they say; `verify` alone tells none of its words.
 pub fn plain_words_are_taken()
     ensures none { AskFor [] (codes "session") }
     ensures session { AskFor (codes "session" ∷ []) (codes "session") }
     ensures verify { AskFor (codes "verify" ∷ []) (codes "verify") }
+    ensures bare { VerifyAsBare (codes "verify" ∷ []) }
 {}
 
 /// A plan is that of the command that was asked for.
