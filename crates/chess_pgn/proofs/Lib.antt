@@ -24,3 +24,4 @@ pub mod NormalGames
 pub mod FaultPlaces
 pub mod Settled
 pub mod MovedReads
+pub mod SettledTold

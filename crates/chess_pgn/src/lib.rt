@@ -7,6 +7,7 @@ mod laws;
 mod lines;
 mod local_laws;
 mod read;
+mod settling;
 mod skips;
 mod tag;
 mod tag_lines;
@@ -23,6 +24,7 @@ pub use laws::{
 };
 pub use local_laws::{faults_have_places, reading_is_local, reading_is_moved};
 pub use read::{PgnEnd, PgnFault, PgnFaultKind, read_pgn};
+pub use settling::settles;
 pub use tags::{HowEnded, TagText, Tags};
 pub use termination::Termination;
 pub use write::write_pgn;
