@@ -1,10 +1,10 @@
 //! The program on an input, an output and an error output.
 
-ghost use Rattle.std.specs.Prelude.{◌≡◌, IfOk, map};
+ghost use Rattle.std.specs.Prelude.{◌≡◌, IfOk, Ok, map};
 ghost use Rattle.byte_devices.specs.Devices.{Sends};
 ghost use Rattle.chess_cecp.specs.Held.{opened};
 ghost use Rattle.chess_pgn.specs.Tags.{default_tags};
-ghost use Rattle.chess_arbiter.specs.Program.{Served, Shown, RanHelp, RanMatch, RanProgram, RanSession, RanStub, RanVerify, RanVerifyBy, RanVerifyIf, ToldWords, has_words};
+ghost use Rattle.chess_arbiter.specs.Program.{Served, Shown, RanHelp, RanMatch, RanProgram, RanSession, RanStub, RanVerify, RanVerifyBy, RanVerifyIf, ToldWords, has_words, verify_status};
 
 use crate::collection::verify_by;
 use crate::fault::{ProgramFault, tell_text, told};
@@ -82,6 +82,16 @@ fn verified<R: Input, W: Output, E: Output>(
     }
 }
 
+// The status of games that were verified.
+fn verified_status(verified: Verified) -> u8
+    ensures { result ≡ verify_status (Ok verified) }
+{
+    match verified {
+        Verified::EachGame => 0,
+        Verified::FaultTold => 1,
+    }
+}
+
 // The games of the input verified by words of `verify`, with the status.
 fn verified_by<R: Input, W: Output, E: Output>(
     alloc: Global,
@@ -93,8 +103,7 @@ fn verified_by<R: Input, W: Output, E: Output>(
     ensures { RanVerifyBy plan (R.seen input.old) (R.seen input.new) (W.seen output.old) (W.seen output.new) result }
 {
     match verify_by(alloc, plan, input, output) {
-        Ok(Verified::EachGame) => 0,
-        Ok(Verified::FaultTold) => 1,
+        Ok(verified) => verified_status(verified),
         Err(fault) => told(errors, &fault, fault.status()),
     }
 }
