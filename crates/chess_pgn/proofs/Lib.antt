@@ -25,3 +25,4 @@ pub mod FaultPlaces
 pub mod Settled
 pub mod MovedReads
 pub mod SettledTold
+pub mod SettledStays

@@ -32,11 +32,11 @@ use Rattle.chess_pgn.proofs.PgnPieces.{shorter}
 use Rattle.chess_pgn.proofs.Walk.{none_left}
 
 -- a property of two choices by one test
-both : {A B : Type 0} (P : A → B → Type 0) (t : Bool) (x y : A) (u v : B) → (t ≡ true → P x u) → (t ≡ false → P y v) → P (cond t x y) (cond t u v)
+pub both : {A B : Type 0} (P : A → B → Type 0) (t : Bool) (x y : A) (u v : B) → (t ≡ true → P x u) → (t ≡ false → P y v) → P (cond t x y) (cond t u v)
 both P true x y u v f g = f refl
 both P false x y u v f g = g refl
 
-the_second : (a b : Bool) → (a || b) ≡ true → a ≡ false → b ≡ true
+pub the_second : (a b : Bool) → (a || b) ≡ true → a ≡ false → b ≡ true
 the_second true b e f = absurd (true≢false f)
 the_second false b e f = e
 
@@ -45,7 +45,7 @@ not_both a e f = true≢false (sym e ∙ f)
 
 -- ---- tokens, with more bytes left
 
-abbrev shift : ℕ → Token → Token
+abbrev pub shift : ℕ → Token → Token
 shift m Skip = Skip
 shift m (Tag name text left) = Tag name text (left + m)
 shift m (Word word) = Word word
@@ -55,7 +55,7 @@ shift m Unclosed_variation = Unclosed_variation
 shift m Bad = Bad
 
 -- a tag, or none
-abbrev IsOfBracket : Token → Type 0
+abbrev pub IsOfBracket : Token → Type 0
 IsOfBracket Skip = ⊥
 IsOfBracket (Tag name text left) = Unit {0}
 IsOfBracket (Word word) = ⊥
@@ -65,7 +65,7 @@ IsOfBracket Unclosed_variation = ⊥
 IsOfBracket Bad = ⊥
 
 -- what a token p of a text that begins with c becomes where more bytes follow
-data Kept (more : List ℕ) (c : ℕ) (rest : List ℕ) (unclosed : Bool) (p q : Token × List ℕ) : Type 0 where
+pub data Kept (more : List ℕ) (c : ℕ) (rest : List ℕ) (unclosed : Bool) (p q : Token × List ℕ) : Type 0 where
   same : q ≡ (shift (length more) p.0, p.1 ++ more) → Kept more c rest unclosed p q
   skipped : p ≡ (Skip, []) → Kept more c rest unclosed p q
   whole : (word : List ℕ) → p ≡ (Word word, []) → length word ≡ suc (length rest) → list_any (λ b. not (is_word_byte b)) (c ∷ rest) ≡ false → Kept more c rest unclosed p q
@@ -77,12 +77,12 @@ data Kept (more : List ℕ) (c : ℕ) (rest : List ℕ) (unclosed : Bool) (p q :
 
 -- ---- runs of bytes
 
-record Stops (p : ℕ → Bool) (xs more : List ℕ) : Type 0 where
-  len : prefix_len p (xs ++ more) ≡ prefix_len p xs
-  before : prefix_len p xs < length xs
+pub record Stops (p : ℕ → Bool) (xs more : List ℕ) : Type 0 where
+  pub len : prefix_len p (xs ++ more) ≡ prefix_len p xs
+  pub before : prefix_len p xs < length xs
 
 -- all pass, or one stops the run whatever follows
-run_stops : (p : ℕ → Bool) (xs more : List ℕ) → (prefix_len p xs ≡ length xs) ⊎ Stops p xs more
+pub run_stops : (p : ℕ → Bool) (xs more : List ℕ) → (prefix_len p xs ≡ length xs) ⊎ Stops p xs more
 run_stops p [] more = inl refl
 run_stops p (x ∷ xs) more = by_test (p x) refl (run_stops p xs more)
   where
@@ -106,16 +106,16 @@ run_stops p (x ∷ xs) more = by_test (p x) refl (run_stops p xs more)
           before = subst (λ n. n < suc (length xs)) (sym is) few;
         })
 
-drop_stops : (p : ℕ → Bool) (xs more : List ℕ) → Stops p xs more → drop (prefix_len p (xs ++ more)) (xs ++ more) ≡ drop (prefix_len p xs) xs ++ more
+pub drop_stops : (p : ℕ → Bool) (xs more : List ℕ) → Stops p xs more → drop (prefix_len p (xs ++ more)) (xs ++ more) ≡ drop (prefix_len p xs) xs ++ more
 drop_stops p xs more k = let few = k.before in ap (λ n. drop n (xs ++ more)) k.len ∙ drop-append-le (prefix_len p xs) xs more (omega (arith, few))
 
-take_stops : (p : ℕ → Bool) (xs more : List ℕ) → Stops p xs more → take_while p (xs ++ more) ≡ take_while p xs
+pub take_stops : (p : ℕ → Bool) (xs more : List ℕ) → Stops p xs more → take_while p (xs ++ more) ≡ take_while p xs
 take_stops p xs more k = let few = k.before in ap (λ n. take n (xs ++ more)) k.len ∙ take-append-le (prefix_len p xs) xs more (omega (arith, few))
 
-drop_whole : (p : ℕ → Bool) (xs : List ℕ) → prefix_len p xs ≡ length xs → drop (prefix_len p xs) xs ≡ []
+pub drop_whole : (p : ℕ → Bool) (xs : List ℕ) → prefix_len p xs ≡ length xs → drop (prefix_len p xs) xs ≡ []
 drop_whole p xs e = ap (λ n. drop n xs) e ∙ drop-length xs
 
-take_whole : (p : ℕ → Bool) (xs : List ℕ) → prefix_len p xs ≡ length xs → take_while p xs ≡ xs
+pub take_whole : (p : ℕ → Bool) (xs : List ℕ) → prefix_len p xs ≡ length xs → take_while p xs ≡ xs
 take_whole p xs e = ap (λ n. take n xs) e ∙ take_all (length xs) xs (omega arith)
 
 all_pass : (p : ℕ → Bool) (xs : List ℕ) → prefix_len p xs ≡ length xs → list_any (λ c. not (p c)) xs ≡ false
@@ -134,17 +134,17 @@ all_pass p (x ∷ xs) e = by_test (p x) refl (all_pass p xs)
 -- ---- one kind of token after another, where more bytes follow
 
 module _ (more : List ℕ) where
-  abbrev GapKept : List ℕ → List ℕ → Type 0
+  abbrev pub GapKept : List ℕ → List ℕ → Type 0
   GapKept p q = (p ≡ []) ⊎ (q ≡ p ++ more)
 
-  gap_kept : (skips begins : Bool) (text : List ℕ) → GapKept (behind_gap skips begins text) (behind_gap skips begins (text ++ more))
+  pub gap_kept : (skips begins : Bool) (text : List ℕ) → GapKept (behind_gap skips begins text) (behind_gap skips begins (text ++ more))
   gap_kept skips begins [] = inl refl
   gap_kept true begins (c ∷ rest) = gap_kept (not (eqb c 10)) true rest
   gap_kept false begins (c ∷ rest) =
       both GapKept (begins && eqb c 37) _ _ _ _ (λ _. gap_kept true false rest) (λ _.
       both GapKept (is_blank c) _ _ _ _ (λ _. gap_kept false (eqb c 10) rest) (λ _. inr refl))
 
-  abbrev SomeKept : Option (List ℕ) → Option (List ℕ) → Type 0
+  abbrev pub SomeKept : Option (List ℕ) → Option (List ℕ) → Type 0
   SomeKept o u = IfSome o (λ r. u ≡ Some (r ++ more))
 
   brace_kept : (text : List ℕ) → SomeKept (behind_brace text) (behind_brace (text ++ more))
@@ -153,7 +153,7 @@ module _ (more : List ℕ) where
 
   -- ---- strings
 
-  abbrev StringKept : Option (List ℕ × List ℕ) → Option (List ℕ × List ℕ) → Type 0
+  abbrev pub StringKept : Option (List ℕ × List ℕ) → Option (List ℕ × List ℕ) → Type 0
   StringKept o u = IfSome o (λ (f : List ℕ × List ℕ). u ≡ Some (f.0, f.1 ++ more))
 
   onto_kept : (front : List ℕ) (o u : Option (List ℕ × List ℕ)) → StringKept o u → StringKept (onto front o) (onto front u)
@@ -164,7 +164,7 @@ module _ (more : List ℕ) where
   closing c [] e = rw e refl
   closing c (d ∷ ys) e = rw e refl
 
-  string_kept : (text : List ℕ) → StringKept (string_at text) (string_at (text ++ more))
+  pub string_kept : (text : List ℕ) → StringKept (string_at text) (string_at (text ++ more))
   string_kept [] = tt
   string_kept (c ∷ []) = pick (λ o. StringKept o (string_at (c ∷ more))) (eqb c 34) _ _ (λ e. closing c more e) (λ _. tt)
   string_kept (c ∷ d ∷ rest) =
@@ -174,10 +174,10 @@ module _ (more : List ℕ) where
       onto_kept (c ∷ []) (string_at (d ∷ rest)) _ (string_kept (d ∷ rest)))))
 
   -- one that meets the end of its line is never closed
-  abbrev Never : Bool → Option (List ℕ × List ℕ) → Option (List ℕ × List ℕ) → Type 0
+  abbrev pub Never : Bool → Option (List ℕ × List ℕ) → Option (List ℕ × List ℕ) → Type 0
   Never ten o u = o ≡ None → ten ≡ true → u ≡ None
 
-  abbrev has_ten : List ℕ → Bool
+  abbrev pub has_ten : List ℕ → Bool
   has_ten text = list_any (λ b. eqb b 10) text
 
   onto_never : (front : List ℕ) (ten : Bool) (o u : Option (List ℕ × List ℕ)) → Never ten o u → Never ten (onto front o) (onto front u)
@@ -188,7 +188,7 @@ module _ (more : List ℕ) where
   ended c [] e f = rw e refl
   ended c (d ∷ ys) e f = rw (e, f) refl
 
-  string_never : (text : List ℕ) → Never (has_ten text) (string_at text) (string_at (text ++ more))
+  pub string_never : (text : List ℕ) → Never (has_ten text) (string_at text) (string_at (text ++ more))
   string_never [] = λ e t. absurd (true≢false (sym t))
   string_never (c ∷ []) =
       pick (λ o. Never (has_ten (c ∷ [])) o (string_at (c ∷ more))) (eqb c 34) _ _ (λ _. λ e t. absurd (cc))
@@ -353,7 +353,7 @@ module _ (more : List ℕ) where
 
   -- ---- tokens
 
-  kept : (begins : Bool) (c : ℕ) (rest : List ℕ) → Kept more c rest (is_open_tag rest) (token_at begins c rest) (token_at begins c (rest ++ more))
+  pub kept : (begins : Bool) (c : ℕ) (rest : List ℕ) → Kept more c rest (is_open_tag rest) (token_at begins c rest) (token_at begins c (rest ++ more))
   unfolding token_at
   kept begins c rest =
       let unclosed : Bool = is_open_tag rest in
@@ -384,7 +384,7 @@ token_suffix begins c rest = by_test (eqb c 10) refl
 
 -- ---- steps, where more bytes follow
 
-shift_told : (m : ℕ) (v : Variant) (t : Token) → told_by v (shift m t) ≡ told_by v t
+pub shift_told : (m : ℕ) (v : Variant) (t : Token) → told_by v (shift m t) ≡ told_by v t
 shift_told m v Skip = refl
 shift_told m v (Tag name text left) = refl
 shift_told m v (Word word) = refl
@@ -454,7 +454,7 @@ module _ (limit : ℕ) (g : SoFar) (fresh : g.is_begun ≡ false) where
   stays_open total left v u Unclosed_variation e = absurd (cc)
   stays_open total left v u Bad e = absurd (cc)
 
-not_is : (b : Bool) → not b ≡ true → b ≡ false
+pub not_is : (b : Bool) → not b ≡ true → b ≡ false
 not_is true e = absurd (true≢false (sym e))
 not_is false e = refl
 
@@ -470,7 +470,7 @@ fen_or_not UnclosedComment = inr tt
 fen_or_not UnclosedVariation = inr tt
 fen_or_not NoResult = inr tt
 
-test_parts : (a b : Bool) → (a && b) ≡ true → (a ≡ true) × (b ≡ true)
+pub test_parts : (a b : Bool) → (a && b) ≡ true → (a ≡ true) × (b ≡ true)
 test_parts true b e = (refl, e)
 test_parts false b e = absurd (true≢false (sym e))
 
@@ -516,10 +516,10 @@ module _ (limit : ℕ) (front more : List ℕ) where
     abbrev left : ℕ
     left = suc (length rest)
 
-    few : suc (length rest) ≤ length front
+    pub few : suc (length rest) ≤ length front
     few = let all = ap length there.is in let sum = length-append there.front (c ∷ rest) in omega (arith, all, sum)
 
-    at_rest : drop (length front - suc (length rest)) front ≡ c ∷ rest
+    pub at_rest : drop (length front - suc (length rest)) front ≡ c ∷ rest
     at_rest =
         let all = ap length there.is in
         let sum = length-append there.front (c ∷ rest) in
@@ -582,7 +582,7 @@ module _ (limit : ℕ) (front more : List ℕ) where
         → (game_of limit (length front + length more) g (tokens_of n' ends (xs ++ more)) ≡ game_of limit (length front) g (tokens_of n ends xs))
         × (g.is_begun ≡ false → NoFen (game_of limit (length front) g (tokens_of n ends xs)).answer → (v : Variant) → variant_told v (tokens_of n' ends (xs ++ more)) ≡ variant_told v (tokens_of n ends xs))
 
-    left_more : suc (length (rest ++ more)) ≡ suc (length rest) + length more
+    pub left_more : suc (length (rest ++ more)) ≡ suc (length rest) + length more
     left_more = let sum = length-append rest more in omega (arith, sum)
 
     step_same : (g : SoFar) (t : Token) → step limit (length front + length more) g (suc (length (rest ++ more))) (shift (length more) t) ≡ step limit (length front) g (suc (length rest)) t
@@ -665,10 +665,10 @@ module _ (limit : ℕ) (front more : List ℕ) where
     settles n ends v p = settled_by (is_firm front (suc (length rest)) p.0) (told_by v p.0) (λ u. settles_variant front u (tokens_of n ends p.1))
 
     module _ (n n' : ℕ) (ends : Bool) (v : Variant) where
-      none_told : (u : Variant) → settles_variant front u (tokens_of n ends []) ≡ true → ⊥
+      pub none_told : (u : Variant) → settles_variant front u (tokens_of n ends []) ≡ true → ⊥
       none_told u h = true≢false (sym h ∙ ap (settles_variant front u) (none_left n ends))
 
-      word_told : (word : List ℕ) → length word ≡ suc (length rest) → (k : WordKind) → settled_by (nat_lt (length word) (suc (length rest))) (behind_word v k) (λ u. settles_variant front u (tokens_of n ends [])) ≡ true → ⊥
+      pub word_told : (word : List ℕ) → length word ≡ suc (length rest) → (k : WordKind) → settled_by (nat_lt (length word) (suc (length rest))) (behind_word v k) (λ u. settles_variant front u (tokens_of n ends [])) ≡ true → ⊥
       word_told word all (End o) h = let less = ltb-true (length word) (suc (length rest)) h in omega (arith, less, all)
       word_told word all Number h = let less = ltb-true (length word) (suc (length rest)) h in omega (arith, less, all)
       word_told word all Marks h = none_told v h
@@ -682,7 +682,7 @@ module _ (limit : ℕ) (front more : List ℕ) where
           by_told None h = refl
           by_told (Some u) h = later u h
 
-      is_closed : not (is_open_tag (drop (length front - suc (length rest) + 1) front)) ≡ true → is_open_tag rest ≡ true → ⊥
+      pub is_closed : not (is_open_tag (drop (length front - suc (length rest) + 1) front)) ≡ true → is_open_tag rest ≡ true → ⊥
       is_closed h unclosed = true≢false (sym h ∙ ap (λ (r : List ℕ). not (is_open_tag r)) behind_rest ∙ ap not unclosed)
 
       told_at : (p q : Token × List ℕ) → LaterTold n n' ends p.1 → Kept more c rest (is_open_tag rest) p q → settles n ends v p ≡ true → tells n' ends v q ≡ tells n ends v p
@@ -697,13 +697,13 @@ module _ (limit : ℕ) (front more : List ℕ) where
 
   -- ---- all tokens
 
-  next_there : (begins : Bool) (c : ℕ) (rest : List ℕ) → Suffix front (c ∷ rest) → Suffix front (token_at begins c rest).1
+  pub next_there : (begins : Bool) (c : ℕ) (rest : List ℕ) → Suffix front (c ∷ rest) → Suffix front (token_at begins c rest).1
   next_there begins c rest there = suffix_then front (c ∷ rest) (token_at begins c rest).1 there (token_suffix begins c rest)
 
-  fewer_left : (begins : Bool) (c : ℕ) (rest : List ℕ) (n : ℕ) → length (c ∷ rest) ≤ suc n → length (token_at begins c rest).1 ≤ n
+  pub fewer_left : (begins : Bool) (c : ℕ) (rest : List ℕ) (n : ℕ) → length (c ∷ rest) ≤ suc n → length (token_at begins c rest).1 ≤ n
   fewer_left begins c rest n h = let less = shorter begins c rest in omega (arith, h, less)
 
-  fewer_more : (begins : Bool) (c : ℕ) (rest : List ℕ) (n : ℕ) → length (c ∷ rest ++ more) ≤ suc n → length ((token_at begins c rest).1 ++ more) ≤ n
+  pub fewer_more : (begins : Bool) (c : ℕ) (rest : List ℕ) (n : ℕ) → length (c ∷ rest ++ more) ≤ suc n → length ((token_at begins c rest).1 ++ more) ≤ n
   fewer_more begins c rest n h =
       let less = shorter begins c rest in
       let one = length-append rest more in
@@ -738,7 +738,7 @@ module _ (limit : ℕ) (front more : List ℕ) where
   -- ---- the text from a place on
 
   module _ (at : ℕ) (inside : at ≤ length front) where
-    line_same : begins_line (front ++ more) at ≡ begins_line front at
+    pub line_same : begins_line (front ++ more) at ≡ begins_line front at
     line_same = by_test (eqb at 0) refl
       where
         by_test : (b : Bool) → eqb at 0 ≡ b → begins_line (front ++ more) at ≡ begins_line front at
@@ -747,10 +747,10 @@ module _ (limit : ℕ) (front more : List ℕ) where
             let some : 0 < at = grind (arith, nat_tests, e) in
             ap (λ x. eqb at 0 || eqb x 10) (get_or_append_left front more 0 (at - 1) (omega (arith, some, inside)))
 
-    rest_same : drop at (front ++ more) ≡ drop at front ++ more
+    pub rest_same : drop at (front ++ more) ≡ drop at front ++ more
     rest_same = drop-append-le at front more inside
 
-    rest_there : Suffix front (drop at front)
+    pub rest_there : Suffix front (drop at front)
     rest_there = record { front = take at front; is = sym (take-append-drop at front) }
 
   -- ---- a game
@@ -767,13 +767,13 @@ module _ (limit : ℕ) (front more : List ℕ) where
   settled_fault at here UnclosedVariation h = absurd (true≢false (sym h))
   settled_fault at here NoResult h = ltb-true here (length front) h
 
-  settled_answer : (at : ℕ) (r : Result (Option PgnEnd) PgnFault) → settles_answer front at r ≡ true → Settled r
+  pub settled_answer : (at : ℕ) (r : Result (Option PgnEnd) PgnFault) → settles_answer front at r ≡ true → Settled r
   settled_answer at (Ok None) h = absurd (true≢false (sym h))
   settled_answer at (Ok (Some e)) h = ltb-true e.place (length front) h
   settled_answer at (Err f) h = settled_fault at f.place f.kind h
 
   -- where a byte order mark could stand three bytes do
-  place_same : (at : ℕ) → (nat_lt 0 at || nat_le 3 (length front)) ≡ true → first_place (front ++ more) at ≡ first_place front at
+  pub place_same : (at : ℕ) → (nat_lt 0 at || nat_le 3 (length front)) ≡ true → first_place (front ++ more) at ≡ first_place front at
   place_same at h = by_test (eqb at 0) refl
     where
       by_test : (b : Bool) → eqb at 0 ≡ b → first_place (front ++ more) at ≡ first_place front at
@@ -790,10 +790,10 @@ module _ (limit : ℕ) (front more : List ℕ) where
     abbrev longer : List (ℕ × Token)
     longer = tokens_of (length (front ++ more)) (begins_line front place) (drop place front ++ more)
 
-    few_here : length (drop place front) ≤ length front
+    pub few_here : length (drop place front) ≤ length front
     few_here = let rest = length-drop place front in omega (arith, rest)
 
-    few_longer : length (drop place front ++ more) ≤ length (front ++ more)
+    pub few_longer : length (drop place front ++ more) ≤ length (front ++ more)
     few_longer =
         let rest = length-drop place front in
         let one = length-append (drop place front) more in
@@ -827,7 +827,7 @@ module _ (limit : ℕ) (front more : List ℕ) where
         ∙ ap (λ n. game_of limit n g longer) (length-append front more)
         ∙ here.0
 
-  read_same : (at : ℕ) → at ≤ length front → is_settled limit front at ≡ true → pgn_read limit (front ++ more) at ≡ pgn_read limit front at
+  pub read_same : (at : ℕ) → at ≤ length front → is_settled limit front at ≡ true → pgn_read limit (front ++ more) at ≡ pgn_read limit front at
   unfolding pgn_read tokens_from is_settled
   read_same at inside settled =
       let parts = test_parts (nat_lt 0 at || nat_le 3 (length front)) (settles_answer front at (pgn_read limit front at).answer) settled in

@@ -99,6 +99,10 @@ is_settled limit text at = (nat_lt 0 at || nat_le 3 (length text)) && settles_an
 abbrev pub ReadingIsLocal : Type 0
 ReadingIsLocal = (limit : ℕ) (front rest : List ℕ) (at : ℕ) → at ≤ length front → is_settled limit front at ≡ true → pgn_read limit (front ++ rest) at ≡ pgn_read limit front at
 
+-- what the beginning of a text settles is settled by every longer one
+abbrev pub SettledStays : Type 0
+SettledStays = (limit : ℕ) (front rest : List ℕ) (at : ℕ) → at ≤ length front → is_settled limit front at ≡ true → is_settled limit (front ++ rest) at ≡ true
+
 -- a game read so many bytes later
 abbrev pub moved_answer : ℕ → Result (Option PgnEnd) PgnFault → Result (Option PgnEnd) PgnFault
 moved_answer n (Ok None) = Ok None
