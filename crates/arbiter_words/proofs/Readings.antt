@@ -30,7 +30,7 @@ match_fault p m BadDate taken name is h = ((λ t. tt), (m, name, is, h))
 
 plan_fault : (p : Text × List Row) (s : Spelled) (f : WordsFault) (taken : Type 0) → IsSpelledOf p s → IsPlanFault s f → (taken → IsNoWordsFault f) × IsFaultOf p f
 plan_fault p spelled.Session f taken is h = absurd h
-plan_fault p spelled.Verify f taken is h = absurd h
+plan_fault p (spelled.Verify v) f taken is h = absurd h
 plan_fault p (spelled.Stub words) f taken is h = absurd h
 plan_fault p (spelled.Match m) f taken is h = match_fault p m f taken is.0 is.1 h
 

@@ -49,12 +49,12 @@ abbrev HasValues : List Row → Type 0
 HasValues [] = Unit {0}
 HasValues (r ∷ rs) = HasValue r × HasValues rs
 
--- a use of the argument has a value, or asks for help
+-- a use of the argument has a value, or asks for help, or a value stands for one that has none
 abbrev pub asks : Rule → Bool
-asks a = nat_lt 0 (unwrap_or_range a.range).start_inclusive || is_request (action_of a)
+asks a = (nat_lt 0 (unwrap_or_range a.range).start_inclusive || is_request (action_of a)) || nat_lt 0 (length a.missing)
 
 abbrev Asks : Rule → Type 0
-Asks a = (asks a ≡ true) × (is_its a.id ≡ true → (t : Text) → value_passes a t ≡ is_games t) × AreGames a.id a.defaults
+Asks a = (asks a ≡ true) × (is_its a.id ≡ true → (t : Text) → value_passes a t ≡ is_games t) × AreGames a.id a.defaults × AreGames a.id a.missing
 
 abbrev AllAsk : List Rule → Type 0
 AllAsk [] = Unit {0}
@@ -182,9 +182,22 @@ games_of_use again a v vs rows asks e = λ f. elim (checked (action_of a) again 
   | inr bad ↦ absurd (requests_fail (action_of a) again a (v ∷ vs) rows bad e)
 ]
 
+the_first : (a b : Bool) → (a || b) ≡ true → b ≡ false → a ≡ true
+the_first true b e f = refl
+the_first false b e f = absurd (true≢false (sym e ∙ f))
+
+-- a use with no value, for which these stand
+used_missing : (again : Bool) (a : Rule) (rows : List Row) → Asks a → (ms : List Text) → a.missing ≡ ms → use_fault again a [] rows ≡ [] → HasValues rows
+    → HasValues (used_as (action_of a) a.id (reading_by a) ms rows)
+used_missing again a rows asks [] is none h =
+    let first = the_first (nat_lt 0 (unwrap_or_range a.range).start_inclusive || is_request (action_of a)) (nat_lt 0 (length a.missing)) asks.0 (ap (λ (ms : List Text). nat_lt 0 (length ms)) is) in
+    absurd (no_value (nat_lt 0 (unwrap_or_range a.range).start_inclusive) again a rows refl first none)
+used_missing again a rows asks (m ∷ ms) is none h =
+    used_as_kept (action_of a) a.id (reading_by a) m ms rows (λ f. sym (ap (list_all is_games) is) ∙ asks.3 f) h
+
 used_kept : (again : Bool) (a : Rule) (values : List Text) (rows : List Row) → Asks a → use_fault again a values rows ≡ [] → HasValues rows
     → HasValues (used a values rows)
-used_kept again a [] rows asks none h = absurd (no_value (nat_lt 0 (unwrap_or_range a.range).start_inclusive) again a rows refl asks.0 none)
+used_kept again a [] rows asks none h = used_missing again a rows asks a.missing refl none h
 used_kept again a (v ∷ vs) rows asks none h =
     used_as_kept (action_of a) a.id (reading_by a) v vs rows (games_of_use again a v vs rows asks (no_kinds _ _ none).1) h
 
@@ -471,22 +484,22 @@ subs_need names =
     let not_session : codes "session" ≡ codes "match" → ⊥ = λ e. shorter (codes "match") (codes "session") (lit< tt) (sym e) in
     let not_verify : codes "verify" ≡ codes "match" → ⊥ = λ e. shorter (codes "match") (codes "verify") (lit< tt) (sym e) in
     let not_stub : codes "stub" ≡ codes "match" → ⊥ = λ e. shorter (codes "stub") (codes "match") (lit< tt) e in (
-      ((((refl, (λ f. absurd (true≢false (sym f))), (λ f. absurd (true≢false (sym f))))), tt), λ rows none e. absurd (not_session e), inl refl),
+      ((((refl, (λ f. absurd (true≢false (sym f))), (λ f. absurd (true≢false (sym f))), (λ f. absurd (true≢false (sym f))))), tt), λ rows none e. absurd (not_session e), inl refl),
       (
-        ((((refl, (λ f. absurd (true≢false (sym f))), (λ f. absurd (true≢false (sym f))))), tt), λ rows none e. absurd (not_verify e), inr (inl refl)),
+        (((refl, (λ f. absurd (true≢false (sym f))), (λ f. absurd (true≢false (sym f))), (λ f. absurd (true≢false (sym f)))), ((refl, (λ f. absurd (true≢false (sym f))), (λ f. absurd (true≢false (sym f))), (λ f. absurd (true≢false (sym f)))), ((refl, (λ f. absurd (true≢false (sym f))), (λ f. absurd (true≢false (sym f))), (λ f. absurd (true≢false (sym f)))), tt))), λ rows none e. absurd (not_verify e), inr (inl refl)),
         (
-          (((refl, (λ f. absurd (true≢false (sym f))), (λ f. absurd (true≢false (sym f)))), ((refl, (λ f. absurd (true≢false (sym f))), (λ f. absurd (true≢false (sym f)))), tt)), λ rows none e. absurd (not_stub e), inr (inr (inl refl))),
+          (((refl, (λ f. absurd (true≢false (sym f))), (λ f. absurd (true≢false (sym f))), (λ f. absurd (true≢false (sym f)))), ((refl, (λ f. absurd (true≢false (sym f))), (λ f. absurd (true≢false (sym f))), (λ f. absurd (true≢false (sym f)))), tt)), λ rows none e. absurd (not_stub e), inr (inr (inl refl))),
           (
             (
               (
-                (refl, (λ f. absurd (true≢false (sym f))), (λ f. absurd (true≢false (sym f)))),
+                (refl, (λ f. absurd (true≢false (sym f))), (λ f. absurd (true≢false (sym f))), (λ f. absurd (true≢false (sym f)))),
                 (
-                  (refl, (λ f. absurd (true≢false (sym f))), (λ f. absurd (true≢false (sym f)))),
+                  (refl, (λ f. absurd (true≢false (sym f))), (λ f. absurd (true≢false (sym f))), (λ f. absurd (true≢false (sym f)))),
                   (
-                    (refl, (λ f. absurd (true≢false (sym f))), (λ f. absurd (true≢false (sym f)))),
+                    (refl, (λ f. absurd (true≢false (sym f))), (λ f. absurd (true≢false (sym f))), (λ f. absurd (true≢false (sym f)))),
                     (
-                      (refl, (λ f. absurd (true≢false (sym f))), (λ f. absurd (true≢false (sym f)))),
-                      ((refl, (λ f t. refl), (λ f. refl)), ((refl, (λ f. absurd (true≢false (sym f))), (λ f. absurd (true≢false (sym f)))), ((refl, (λ f. absurd (true≢false (sym f))), (λ f. absurd (true≢false (sym f)))), ((refl, (λ f. absurd (true≢false (sym f))), (λ f. absurd (true≢false (sym f)))), tt)))),
+                      (refl, (λ f. absurd (true≢false (sym f))), (λ f. absurd (true≢false (sym f))), (λ f. absurd (true≢false (sym f)))),
+                      ((refl, (λ f t. refl), (λ f. refl), (λ f. refl)), ((refl, (λ f. absurd (true≢false (sym f))), (λ f. absurd (true≢false (sym f))), (λ f. absurd (true≢false (sym f)))), ((refl, (λ f. absurd (true≢false (sym f))), (λ f. absurd (true≢false (sym f))), (λ f. absurd (true≢false (sym f)))), ((refl, (λ f. absurd (true≢false (sym f))), (λ f. absurd (true≢false (sym f))), (λ f. absurd (true≢false (sym f)))), tt)))),
                     ),
                   ),
                 ),

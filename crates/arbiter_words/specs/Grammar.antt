@@ -3,11 +3,15 @@ use Rattle.std.specs.Prelude.{◌≡◌, Bool, List, codes, [], ◌∷◌, Some,
 use Rattle.std.specs.Borrow.{Bor}
 use Rattle.clap.specs.Words.{App, Row, Rule, Text, new_app, new_rule, subcommand_of, takes, with_rule, with_subcommand}
 use Rattle.clap.specs.declared.builder.value_parser.ValueParser.TheVariants.{Names, Unsigned}
-use Rattle.clap.specs.declared.builder.action.ArgAction.TheVariants.{Append}
+use Rattle.clap.specs.declared.builder.action.ArgAction.TheVariants.{Append, SetTrue}
 
 -- `--NAME TEXT`
 abbrev pub option_rule : Text → Rule
 option_rule name = record (new_rule name) { long = Some name; value_names = 1 }
+
+-- `--NAME`, which takes no text
+abbrev pub flag_rule : Text → Rule
+flag_rule name = record (new_rule name) { long = Some name; action = Some SetTrue }
 
 abbrev pub needed : Rule → Rule
 needed r = record r { required = true }
@@ -38,6 +42,12 @@ match_app names = with_rule (with_rule (with_rule (with_rule (with_rule (with_ru
     (option_rule (codes "date")))
     (variant_rule names)
 
+abbrev pub verify_app : App
+verify_app = with_rule (with_rule
+    (new_app (codes "verify"))
+    (flag_rule (codes "keep-going")))
+    (flag_rule (codes "quiet"))
+
 abbrev pub stub_app : App
 stub_app = with_rule (new_app (codes "stub")) (record (new_rule (codes "words")) {
   action = Some Append;
@@ -49,7 +59,7 @@ bare_app = let a = new_app (codes "arbiter") in
 
 abbrev pub arbiter_app : Lent → App
 arbiter_app names = with_subcommand (with_subcommand (with_subcommand (with_subcommand bare_app
-    (new_app (codes "session")).top) (new_app (codes "verify")).top) stub_app.top) (match_app names).top
+    (new_app (codes "session")).top) verify_app.top) stub_app.top) (match_app names).top
 
 -- a grammar is that of a match, or the whole one, with some such names
 abbrev pub GivesMatchApp : App → Type 0

@@ -1,10 +1,11 @@
 -- What a plan has to do with the words.
 use Rattle.std.specs.Prelude.{◌≡◌, ◌≢◌, ◌⊎◌, ◌≤◌, ◌&&◌, ℕ, Bool, List, [], codes, length, map, nat_le, option_map, if◌then◌else◌, Option, Some, None, Result, Ok, Err, is_some, true, false, unwrap_or, ⊤}
-use Rattle.std.specs.List.{list_all}
+use Rattle.std.specs.List.{list_all, list_any}
 use Rattle.std.specs.Option.{option_map_or}
 use Rattle.std.specs.Str.{bytes_eq}
 use Rattle.std.specs.Str.Parse.{digits_value, without_leading_plus}
 use Rattle.clap.specs.Words.{Row, Text, all_of, fault_of, first_of, kind_of, subcommand_of, subcommand_rows_of}
+use Rattle.clap.specs.Facts.{explicit_source}
 use Rattle.clap.specs.ValueTests.{is_unsigned_in}
 use Rattle.clap.specs.declared.error.Error.{Error}
 use Rattle.clap.specs.declared.error.kind.ErrorKind.{ErrorKind}
@@ -14,6 +15,7 @@ use Rattle.arbiter_words.specs.Grammar.{AreVariants, Lent, arbiter_app, asked, t
 use Rattle.arbiter_words.specs.declared.plan.Plan.{Plan}
 use Rattle.arbiter_words.specs.declared.plan.Plan.TheVariants.{Session, Verify, Stub, Match}
 use Rattle.arbiter_words.specs.declared.plan.MatchPlan.{MatchPlan}
+use Rattle.arbiter_words.specs.declared.plan.VerifyPlan.{VerifyPlan}
 use Rattle.arbiter_words.specs.declared.fault.WordsFault.{WordsFault}
 use Rattle.arbiter_words.specs.declared.fault.WordsFault.TheVariants.{Words, NoMemory, BadLevel, BadFen, BadDate}
 use Rattle.arbiter_words.specs.declared.spelled.MatchWords.{MatchWords}
@@ -44,6 +46,17 @@ variant_named name = if bytes_eq name (codes "fischerandom") then Fischerandom e
 abbrev pub variant_in : List Row → Variant
 variant_in rows = variant_named (text_or (codes "variant") rows (codes "normal"))
 
+-- a word that takes no text was given
+abbrev pub is_set : Text → List Row → Bool
+is_set name rows = bytes_eq (text_or name rows (codes "false")) (codes "true")
+
+-- how the words of `verify` tell to verify
+abbrev pub verify_plan_of : List Row → VerifyPlan
+verify_plan_of rows = record {
+  keep_going = is_set (codes "keep-going") rows;
+  quiet = is_set (codes "quiet") rows;
+}
+
 pub record IsMatchOf (rows : List Row) (m : MatchWords) : Type 0 where
   pub white : first_of (codes "white") rows ≡ Some m.white.now
   pub black : first_of (codes "black") rows ≡ Some m.black.now
@@ -57,7 +70,7 @@ pub record IsMatchOf (rows : List Row) (m : MatchWords) : Type 0 where
 -- what the words ask for, as it is spelled
 abbrev pub IsSpelledOf : Text × List Row → Spelled → Type 0
 IsSpelledOf p spelled.Session = p.0 ≡ codes "session"
-IsSpelledOf p spelled.Verify = p.0 ≡ codes "verify"
+IsSpelledOf p (spelled.Verify v) = (p.0 ≡ codes "verify") × (v ≡ verify_plan_of p.1)
 IsSpelledOf p (spelled.Stub words) = (p.0 ≡ codes "stub") × (map (λ w. w.now) words.items ≡ unwrap_or (all_of (codes "words") p.1) [])
 IsSpelledOf p (spelled.Match m) = (p.0 ≡ codes "match") × IsMatchOf p.1 m
 
@@ -92,7 +105,7 @@ IsMatchFault m BadDate = (l : LevelSeen) × (p : Setup) × (level_of m.level.now
 
 abbrev pub IsPlanned : Spelled → Plan → Type 0
 IsPlanned spelled.Session plan = plan ≡ Session
-IsPlanned spelled.Verify plan = plan ≡ Verify
+IsPlanned (spelled.Verify v) plan = plan ≡ Verify v
 IsPlanned (spelled.Stub words) plan = plan ≡ Stub words
 IsPlanned (spelled.Match m) plan = (p : MatchPlan) × (plan ≡ Match p) × IsMatchPlan m p
 
@@ -127,17 +140,30 @@ IsReading words result = (names : Lent) × AreVariants names × IsReadBy names w
 -- the command that a plan is asked for by
 abbrev pub command_name : Plan → Text
 command_name Session = codes "session"
-command_name Verify = codes "verify"
+command_name (Verify v) = codes "verify"
 command_name (Stub words) = codes "stub"
 command_name (Match plan) = codes "match"
 
 abbrev pub PlansAreNamed : Type 0
 PlansAreNamed = (p : Text × List Row) (plan : Plan) → IsPlanOf p plan → p.0 ≡ command_name plan
 
--- the words are taken, and ask for the command of that name with no arguments
+-- a plan to verify is told by the words of `verify`
+abbrev pub VerifyIsAsSpelled : Type 0
+VerifyIsAsSpelled = (p : Text × List Row) (v : VerifyPlan) → IsPlanOf p (Verify v) → v ≡ verify_plan_of p.1
+
+-- the words are taken, and ask for the command of that name, with no argument that a word gives
 pub record AskFor (words : List Text) (name : Text) : Type 0 where
   pub taken : (names : Lent) → takes_words names words ≡ true
-  pub asked : (names : Lent) → asked names words ≡ (name, [])
+  pub named : (names : Lent) → (asked names words).0 ≡ name
+  pub bare : (names : Lent) → list_any (λ r. explicit_source r.source) (asked names words).1 ≡ false
+
+-- as `verify` alone verifies
+abbrev pub bare_plan : VerifyPlan
+bare_plan = record { keep_going = false; quiet = false }
+
+-- the words tell to verify so
+abbrev pub VerifyAsBare : List Text → Type 0
+VerifyAsBare words = (names : Lent) → verify_plan_of (asked names words).1 ≡ bare_plan
 
 -- ---- on the way there
 

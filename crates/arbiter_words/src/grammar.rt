@@ -3,7 +3,7 @@
 ghost use Rattle.std.specs.Prelude.{◌≡◌, IfOk, false};
 ghost use Rattle.clap.specs.Words.{app_of, new_app, rule_of};
 ghost use Rattle.clap.specs.declared.builder.command.Command.TheViews.{out-Command as fields_of};
-ghost use Rattle.arbiter_words.specs.Grammar.{AreVariants, GivesMatchApp, GivesArbiterApp, games_rule, needed, option_rule, stub_app, variant_rule};
+ghost use Rattle.arbiter_words.specs.Grammar.{AreVariants, GivesMatchApp, GivesArbiterApp, flag_rule, games_rule, needed, option_rule, stub_app, variant_rule, verify_app};
 
 use clap::builder::ValueParser;
 use clap::{Arg, ArgAction, Command};
@@ -37,8 +37,12 @@ Example:
 const VERIFY_EXAMPLES: &str =
     "A game's line is `game 1: 40 half-moves, 1-0`, or where it has a fault, which ends it, `game 1: illegal move at byte 6`.
 
-Example:
-  arbiter verify < games.pgn";
+Examples:
+  arbiter verify < games.pgn
+  arbiter verify --keep-going --quiet < games.pgn
+
+The second writes a line for each game with a fault, which it goes on behind, and last
+`games 2 half-moves 91 faults 1`: how many games have none, and how many half-moves these have.";
 
 const STUB_EXAMPLES: &str =
     "Each time that the stub is to move it plays the next word: a move, `resign`, or `end`, with which it ends its output;
@@ -76,6 +80,17 @@ fn option<'a>(alloc: Global, name: &'a str, value: &'a str, help: &'a str) -> Ar
     Arg::new(alloc, name)
         .long(name)
         .value_name(value)
+        .help(help)
+}
+
+// An option that takes no text.
+fn flag<'a>(alloc: Global, name: &'a str, help: &'a str) -> Arg<'a>
+    ensures rule { rule_of result ≡ flag_rule name.entry.now }
+    ensures local { result.global ≡ false }
+{
+    Arg::new(alloc, name)
+        .long(name)
+        .action(ArgAction::SetTrue)
         .help(help)
 }
 
@@ -152,6 +167,28 @@ fn match_command<'a>(alloc: Global) -> Result<Command<'a>, AllocError>
     .arg(variant_option(alloc))
 }
 
+fn verify_command<'a>(alloc: Global) -> Result<Command<'a>, AllocError>
+    ensures app { IfOk result (λ c. app_of c ≡ verify_app) }
+    ensures local { IfOk result (λ c. (fields_of c).has_globals ≡ false) }
+{
+    command(
+        alloc,
+        "verify",
+        "Verifies the games of a PGN text on standard input",
+        VERIFY_EXAMPLES,
+    )
+    .arg(flag(
+        alloc,
+        "keep-going",
+        "Goes on behind a fault, at the next line that begins with `[Event `, and counts at the end",
+    ))?
+    .arg(flag(
+        alloc,
+        "quiet",
+        "Leaves out the lines of games without a fault",
+    ))
+}
+
 fn stub_command<'a>(alloc: Global) -> Result<Command<'a>, AllocError>
     ensures app { IfOk result (λ c. app_of c ≡ stub_app) }
     ensures local { IfOk result (λ c. (fields_of c).has_globals ≡ false) }
@@ -178,12 +215,7 @@ pub(crate) fn arbiter_command<'a>(alloc: Global) -> Result<Command<'a>, AllocErr
         "Serves a session on standard input and output, as no words do",
         SESSION_EXAMPLES,
     );
-    let verify = command(
-        alloc,
-        "verify",
-        "Verifies the games of a PGN text on standard input",
-        VERIFY_EXAMPLES,
-    );
+    let verify = verify_command(alloc)?;
     let stub = stub_command(alloc)?;
     let matches = match_command(alloc)?;
     command(alloc, "arbiter", ABOUT, EXAMPLES)

@@ -1,16 +1,22 @@
 //! Laws of the words. A caller learns one by calling its function, which does nothing.
 
 ghost use Rattle.std.specs.Prelude.{[], ◌∷◌, codes};
-ghost use Rattle.arbiter_words.specs.Plans.{AskFor, PlansAreNamed};
+ghost use Rattle.arbiter_words.specs.Plans.{AskFor, PlansAreNamed, VerifyAsBare, VerifyIsAsSpelled};
 
-/// No words, `session` alone and `verify` alone are taken, and ask for what they say.
+/// No words, `session` alone and `verify` alone are taken, and ask for what they say; `verify` alone tells none of its words.
 pub fn plain_words_are_taken()
     ensures none { AskFor [] (codes "session") }
     ensures session { AskFor (codes "session" ∷ []) (codes "session") }
     ensures verify { AskFor (codes "verify" ∷ []) (codes "verify") }
+    ensures bare { VerifyAsBare (codes "verify" ∷ []) }
 {}
 
 /// A plan is that of the command that was asked for.
 pub fn plans_are_named()
     ensures { PlansAreNamed }
+{}
+
+/// A plan to verify is told by the words behind `verify`.
+pub fn verify_is_as_spelled()
+    ensures { VerifyIsAsSpelled }
 {}

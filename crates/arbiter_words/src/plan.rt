@@ -26,13 +26,22 @@ pub struct MatchPlan<'a> {
     pub date: &'a str,
 }
 
+/// How the games on the standard input are verified.
+#[derive(Clone, Copy, Debug, PartialEq, Eq)]
+pub struct VerifyPlan {
+    /// Whether a fault is gone on behind, at the next game, and the games are counted at the end.
+    pub keep_going: bool,
+    /// Whether the lines of games without a fault are left out.
+    pub quiet: bool,
+}
+
 /// What the words ask for.
 #[derive(Drop)]
 pub enum Plan<'a> {
     /// A session on the standard streams.
     Session,
     /// To verify the games on the standard input.
-    Verify,
+    Verify(VerifyPlan),
     /// To be an engine that plays these words.
     Stub(Vec<&'a str>),
     /// Games between two engines.
@@ -95,7 +104,7 @@ pub(crate) fn planned<'a>(spelled: Spelled<'a>) -> Result<Plan<'a>, WordsFault>
 {
     match spelled {
         Spelled::Session => Ok(Plan::Session),
-        Spelled::Verify => Ok(Plan::Verify),
+        Spelled::Verify(plan) => Ok(Plan::Verify(plan)),
         Spelled::Stub(words) => Ok(Plan::Stub(words)),
         Spelled::Match(words) => match judged(&words) {
             Ok(plan) => Ok(Plan::Match(plan)),

@@ -2,8 +2,9 @@
 
 ghost use Rattle.std.specs.Prelude.{◌≡◌, ◌≤◌, [], IfOk, IfSome, IsSome, true, codes, is_some, map, option_map, unwrap_or};
 ghost use Rattle.clap.specs.Words.{all_of, first_of, found_of, rows_of, subcommand_rows_of};
-ghost use Rattle.arbiter_words.specs.Plans.{HasGames, IsCommand, IsMatchOf, IsSpelledOf, NamesBoth, games_in, text_or, variant_in, variant_named};
+ghost use Rattle.arbiter_words.specs.Plans.{HasGames, IsCommand, IsMatchOf, IsSpelledOf, NamesBoth, games_in, is_set, text_or, variant_in, variant_named, verify_plan_of};
 
+use crate::plan::VerifyPlan;
 use chess_base::Variant;
 use clap::ArgMatches;
 use std::alloc::{AllocError, Global};
@@ -24,7 +25,7 @@ pub(crate) struct MatchWords<'a> {
 #[derive(Drop)]
 pub(crate) enum Spelled<'a> {
     Session,
-    Verify,
+    Verify(VerifyPlan),
     Stub(Vec<&'a str>),
     Match(MatchWords<'a>),
 }
@@ -36,6 +37,23 @@ fn text_or<'a>(found: &ArgMatches<'a>, name: &str, default: &'a str) -> &'a str
     match found.get_str(name) {
         Some(text) => text,
         None => default,
+    }
+}
+
+// Whether a word that takes no text was given.
+fn is_set(found: &ArgMatches<'_>, name: &str) -> bool
+    ensures { result ≡ is_set name.now (rows_of (found_of found.now)) }
+{
+    text_or(found, name, "false") == "true"
+}
+
+// How to verify.
+fn verify_plan(found: &ArgMatches<'_>) -> VerifyPlan
+    ensures { result ≡ verify_plan_of (rows_of (found_of found.now)) }
+{
+    VerifyPlan {
+        keep_going: is_set(found, "keep-going"),
+        quiet: is_set(found, "quiet"),
     }
 }
 
@@ -114,7 +132,7 @@ pub(crate) fn spelled_in<'a>(
     ensures { IfOk result (IsSpelledOf (name.now, rows_of (found_of found.now))) }
 {
     if name == "verify" {
-        return Ok(Spelled::Verify);
+        return Ok(Spelled::Verify(verify_plan(found)));
     }
     if name == "stub" {
         let words = stub_words(alloc, found)?;

@@ -1,4 +1,4 @@
-use crate::{Plan, WordsFault, read_words};
+use crate::{Plan, VerifyPlan, WordsFault, read_words};
 use chess_base::{Variant, write_fen};
 use std::test::Fail;
 
@@ -12,7 +12,24 @@ fn plans_without_arguments(rt: HostRuntime) -> Result<(), Fail> {
             Plan::Session
         )
     );
-    assert!(rt; matches!(read_words(rt.alloc(), ["verify"].as_slice())?, Plan::Verify));
+    Ok(())
+}
+
+// The words of `verify` go together in any order.
+#[test]
+fn verify_by_its_words(rt: HostRuntime) -> Result<(), Fail> {
+    for (words, keep_going, quiet) in [
+        (["verify"].as_slice(), false, false),
+        (["verify", "--keep-going"].as_slice(), true, false),
+        (["verify", "--quiet"].as_slice(), false, true),
+        (["verify", "--keep-going", "--quiet"].as_slice(), true, true),
+        (["verify", "--quiet", "--keep-going"].as_slice(), true, true),
+    ] {
+        let Plan::Verify(plan) = read_words(rt.alloc(), words)? else {
+            return Err(Fail::new("another plan"));
+        };
+        assert_eq!(rt; plan, VerifyPlan { keep_going, quiet });
+    }
     Ok(())
 }
 
@@ -240,6 +257,11 @@ fn other_words_are_refused(rt: HostRuntime) -> Result<(), Fail> {
         (["help"].as_slice(), 2),
         (["session", "x"].as_slice(), 2),
         (["verify", "--version"].as_slice(), 2),
+        (["verify", "--keep"].as_slice(), 2),
+        (["verify", "--quiet=true"].as_slice(), 2),
+        (["verify", "--quiet", "--quiet"].as_slice(), 2),
+        (["session", "--quiet"].as_slice(), 2),
+        (["verify", "--quiet", "--help"].as_slice(), 0),
         (["--white", "x"].as_slice(), 2),
         (["--help"].as_slice(), 0),
         (["-h"].as_slice(), 0),

@@ -1,16 +1,17 @@
 -- What no words, `session` and `verify` do.
-use Rattle.std.proofs.Common.{◌≡◌, ◌∙◌, ◌<◌, ℕ, List, [], length, lit<, codes, Result, Ok, Err, refl, sym, ap, subst, inl, arith}
+use Rattle.std.proofs.Common.{◌≡◌, ◌∙◌, ◌<◌, ℕ, false, List, [], length, lit<, codes, Result, Ok, Err, refl, sym, ap, subst, inl, arith}
 use Rattle.clap.specs.Words.{Row, Text}
 use Rattle.arbiter_words.specs.Grammar.{AreVariants, Lent, asked}
-use Rattle.arbiter_words.specs.Plans.{AskFor, IsReading, PlansAreNamed, command_name}
+use Rattle.arbiter_words.specs.Plans.{AskFor, IsReading, PlansAreNamed, VerifyAsBare, VerifyIsAsSpelled, command_name}
 use Rattle.arbiter_words.specs.declared.fault.WordsFault.{WordsFault}
 use Rattle.arbiter_words.specs.declared.fault.WordsFault.TheVariants as words
 use Rattle.arbiter_words.specs.declared.plan.Plan.{Plan}
+use Rattle.arbiter_words.specs.declared.plan.VerifyPlan.{VerifyPlan}
 use Rattle.arbiter_words.specs.declared.plan.Plan.TheVariants.{Session, Verify, Stub, Match}
 use Rattle.byte_devices.specs.Devices.{InputState, OutputState}
 use Rattle.byte_devices.proofs.DeviceLaws.{consumes_none}
 use Rattle.chess_arbiter.specs.Laws.{ServesSession, VerifiesGames}
-use Rattle.chess_arbiter.specs.Program.{IsUntouched, RanPlan, RanProgram, RanSession, RanVerify}
+use Rattle.chess_arbiter.specs.Program.{IsUntouched, RanPlan, RanProgram, RanSession, RanVerify, RanVerifyIf, has_words}
 use Rattle.chess_arbiter.specs.Verify.{IsFront, LacksMemory}
 use Rattle.chess_arbiter.specs.declared.fault.ProgramFault.TheVariants.{NoMemory}
 
@@ -19,7 +20,7 @@ shorter xs ys lt e = let same : length xs ≡ length ys = ap length e in absurd 
 
 -- a plan that was read of words that ask for that command
 read_word : PlansAreNamed → (words : List Text) (name : Text) (plan : Plan) → AskFor words name → IsReading words (Ok plan) → name ≡ command_name plan
-read_word named words name plan a (names, are, is) = sym (ap (λ (p : Text × List Row). p.0) (a.asked names)) ∙ named (asked names words) plan is
+read_word named words name plan a (names, are, is) = sym (a.named names) ∙ named (asked names words) plan is
 
 -- words that are taken and ask for no match are refused for want of memory alone
 abbrev IsWant : WordsFault → Type 0
@@ -29,9 +30,9 @@ IsWant _ = ⊥
 refused_word : (words : List Text) (name : Text) (fault : WordsFault) → AskFor words name → (name ≡ codes "match" → ⊥) → IsReading words (Err fault) → IsWant fault
 refused_word ws name (words.Words e) a other (names, are, (taken, is)) = absurd (taken (a.taken names))
 refused_word ws name words.NoMemory a other (names, are, (taken, is)) = tt
-refused_word ws name words.BadLevel a other (names, are, (taken, (m, named, rest, h))) = absurd (other (sym (ap (λ (p : Text × List Row). p.0) (a.asked names)) ∙ named))
-refused_word ws name (words.BadFen f) a other (names, are, (taken, (m, named, rest, h))) = absurd (other (sym (ap (λ (p : Text × List Row). p.0) (a.asked names)) ∙ named))
-refused_word ws name words.BadDate a other (names, are, (taken, (m, named, rest, h))) = absurd (other (sym (ap (λ (p : Text × List Row). p.0) (a.asked names)) ∙ named))
+refused_word ws name words.BadLevel a other (names, are, (taken, (m, named, rest, h))) = absurd (other (sym (a.named names) ∙ named))
+refused_word ws name (words.BadFen f) a other (names, are, (taken, (m, named, rest, h))) = absurd (other (sym (a.named names) ∙ named))
+refused_word ws name words.BadDate a other (names, are, (taken, (m, named, rest, h))) = absurd (other (sym (a.named names) ∙ named))
 
 no_match_by_session : codes "session" ≡ codes "match" → ⊥
 no_match_by_session e = shorter (codes "match") (codes "session") (lit< tt) (sym e)
@@ -59,21 +60,25 @@ verify_or_want words.BadDate r r' w w' status want ran = absurd want
 serves : PlansAreNamed → (words : List Text) → AskFor words (codes "session") → (read : Result Plan WordsFault) → IsReading words read
     → (r r' : InputState) (w w' : OutputState) (status : ℕ) → RanPlan read r r' w w' status → RanSession r r' w w' status
 serves named ws a (Ok Session) is r r' w w' status ran = ran
-serves named ws a (Ok Verify) is r r' w w' status ran = absurd (shorter (codes "verify") (codes "session") (lit< tt) (sym (read_word named ws (codes "session") Verify a is)))
+serves named ws a (Ok (Verify v)) is r r' w w' status ran = absurd (shorter (codes "verify") (codes "session") (lit< tt) (sym (read_word named ws (codes "session") (Verify v) a is)))
 serves named ws a (Ok (Stub s)) is r r' w w' status ran = absurd (shorter (codes "stub") (codes "session") (lit< tt) (sym (read_word named ws (codes "session") (Stub s) a is)))
 serves named ws a (Ok (Match m)) is r r' w w' status ran = absurd (no_match_by_session (read_word named ws (codes "session") (Match m) a is))
 serves named ws a (Err fault) is r r' w w' status ran = session_or_want fault r r' w w' status (refused_word ws (codes "session") fault a no_match_by_session is) ran
 
-verifies : PlansAreNamed → (words : List Text) → AskFor words (codes "verify") → (read : Result Plan WordsFault) → IsReading words read
+-- `verify` alone has none of its words
+without_words : VerifyIsAsSpelled → (words : List Text) (v : VerifyPlan) → VerifyAsBare words → IsReading words (Ok (Verify v)) → has_words v ≡ false
+without_words spelled ws v bare (names, are, is) = ap has_words (spelled (asked names ws) v is ∙ bare names)
+
+verifies : PlansAreNamed → VerifyIsAsSpelled → (words : List Text) → AskFor words (codes "verify") → VerifyAsBare words → (read : Result Plan WordsFault) → IsReading words read
     → (r r' : InputState) (w w' : OutputState) (status : ℕ) → RanPlan read r r' w w' status → RanVerify r r' w w' status
-verifies named ws a (Ok Session) is r r' w w' status ran = absurd (shorter (codes "verify") (codes "session") (lit< tt) (read_word named ws (codes "verify") Session a is))
-verifies named ws a (Ok Verify) is r r' w w' status ran = ran
-verifies named ws a (Ok (Stub s)) is r r' w w' status ran = absurd (shorter (codes "stub") (codes "verify") (lit< tt) (sym (read_word named ws (codes "verify") (Stub s) a is)))
-verifies named ws a (Ok (Match m)) is r r' w w' status ran = absurd (no_match_by_verify (read_word named ws (codes "verify") (Match m) a is))
-verifies named ws a (Err fault) is r r' w w' status ran = verify_or_want fault r r' w w' status (refused_word ws (codes "verify") fault a no_match_by_verify is) ran
+verifies named spelled ws a bare (Ok Session) is r r' w w' status ran = absurd (shorter (codes "verify") (codes "session") (lit< tt) (read_word named ws (codes "verify") Session a is))
+verifies named spelled ws a bare (Ok (Verify v)) is r r' w w' status ran = subst (λ b. RanVerifyIf b v r r' w w' status) (without_words spelled ws v bare is) ran
+verifies named spelled ws a bare (Ok (Stub s)) is r r' w w' status ran = absurd (shorter (codes "stub") (codes "verify") (lit< tt) (sym (read_word named ws (codes "verify") (Stub s) a is)))
+verifies named spelled ws a bare (Ok (Match m)) is r r' w w' status ran = absurd (no_match_by_verify (read_word named ws (codes "verify") (Match m) a is))
+verifies named spelled ws a bare (Err fault) is r r' w w' status ran = verify_or_want fault r r' w w' status (refused_word ws (codes "verify") fault a no_match_by_verify is) ran
 
 pub serves_session : PlansAreNamed → (words : List Text) → AskFor words (codes "session") → ServesSession words
 serves_session named ws a r r' w w' status (read, is, ran) = serves named ws a read is r r' w w' status ran
 
-pub verifies_games : PlansAreNamed → (words : List Text) → AskFor words (codes "verify") → VerifiesGames words
-verifies_games named ws a r r' w w' status (read, is, ran) = verifies named ws a read is r r' w w' status ran
+pub verifies_games : PlansAreNamed → VerifyIsAsSpelled → (words : List Text) → AskFor words (codes "verify") → VerifyAsBare words → VerifiesGames words
+verifies_games named spelled ws a bare r r' w w' status (read, is, ran) = verifies named spelled ws a bare read is r r' w w' status ran

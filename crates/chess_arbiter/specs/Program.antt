@@ -1,5 +1,5 @@
 -- What the program does with its words and its devices.
-use Rattle.std.specs.Prelude.{◌≡◌, ◌≢◌, ◌⊎◌, ℕ, List, Result, Ok, Err}
+use Rattle.std.specs.Prelude.{◌≡◌, ◌≢◌, ◌⊎◌, ◌||◌, ℕ, Bool, true, false, List, Result, Ok, Err}
 use Rattle.clap.specs.Words.{Text, kind_of}
 use Rattle.clap.specs.declared.error.kind.ErrorKind.TheVariants.{DisplayHelp, DisplayVersion}
 use Rattle.arbiter_words.specs.Plans.{IsReading}
@@ -17,6 +17,8 @@ use Rattle.chess_arbiter.specs.declared.fault.ProgramFault.{ProgramFault}
 use Rattle.chess_arbiter.specs.declared.verify.Verified.{Verified}
 use Rattle.chess_arbiter.specs.declared.verify.Verified.TheVariants.{EachGame, FaultTold}
 use Rattle.arbiter_words.specs.declared.plan.MatchPlan.{MatchPlan}
+use Rattle.arbiter_words.specs.declared.plan.VerifyPlan.{VerifyPlan}
+use Rattle.chess_arbiter.specs.Collection.{VerifiesBy}
 use Rattle.chess_arbiter.specs.Games.{RanGames}
 use Rattle.chess_arbiter.specs.declared.games.GamesFault.{GamesFault}
 use Rattle.chess_arbiter.specs.Stub.{StubRan, Words, beginning}
@@ -63,6 +65,19 @@ RanSession r r' w w' status = (outcome : Result End ProgramFault) × Served r r'
 abbrev pub RanVerify : InputState → InputState → OutputState → OutputState → ℕ → Type 0
 RanVerify r r' w w' status = (outcome : Result Verified ProgramFault) × Verifies r r' w w' outcome × (status ≡ verify_status outcome)
 
+-- they were verified by words of `verify`
+abbrev pub RanVerifyBy : VerifyPlan → InputState → InputState → OutputState → OutputState → ℕ → Type 0
+RanVerifyBy plan r r' w w' status = (outcome : Result Verified ProgramFault) × VerifiesBy plan r r' w w' outcome × (status ≡ verify_status outcome)
+
+-- `verify` has any of its words
+abbrev pub has_words : VerifyPlan → Bool
+has_words plan = plan.keep_going || plan.quiet
+
+-- with words or with none
+abbrev pub RanVerifyIf : Bool → VerifyPlan → InputState → InputState → OutputState → OutputState → ℕ → Type 0
+RanVerifyIf true plan r r' w w' status = RanVerifyBy plan r r' w w' status
+RanVerifyIf false plan r r' w w' status = RanVerify r r' w w' status
+
 -- a text of help was written and flushed, or a beginning of it was written, or there was no memory for it
 abbrev pub Shown : {A : Type 0} → OutputState → OutputState → Result A ProgramFault → Type 0
 Shown w w' (Ok _) = (text : List ℕ) × Sent w w' text
@@ -107,7 +122,7 @@ RanMatch plan w w' status = (outcome : Result (Unit {0}) GamesFault) × RanGames
 -- what the words ask for was done, or was told why they ask for nothing
 abbrev pub RanPlan : Result Plan WordsFault → InputState → InputState → OutputState → OutputState → ℕ → Type 0
 RanPlan (Ok Session) r r' w w' status = RanSession r r' w w' status
-RanPlan (Ok Verify) r r' w w' status = RanVerify r r' w w' status
+RanPlan (Ok (Verify plan)) r r' w w' status = RanVerifyIf (has_words plan) plan r r' w w' status
 RanPlan (Ok (Stub words)) r r' w w' status = RanStub words.items r r' w w' status
 RanPlan (Ok (Match plan)) r r' w w' status = (r' ≡ r) × RanMatch plan w w' status
 RanPlan (Err fault) r r' w w' status = (r' ≡ r) × ToldWords fault w w' status

@@ -3,7 +3,7 @@
 ghost use Rattle.std.specs.Prelude.{[], ◌∷◌, codes};
 ghost use Rattle.chess_arbiter.specs.Laws.{ServesSession, VerifiesGames};
 
-use arbiter_words::{plain_words_are_taken, plans_are_named};
+use arbiter_words::{plain_words_are_taken, plans_are_named, verify_is_as_spelled};
 
 /// No words, or `session` alone, serve a session, and `verify` alone verifies games: such words are never refused, whatever
 /// else the grammar of the words has.
@@ -14,4 +14,5 @@ pub fn plain_words_do_what_they_say()
 {
     plain_words_are_taken();
     plans_are_named();
+    verify_is_as_spelled();
 }

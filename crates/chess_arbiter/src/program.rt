@@ -1,16 +1,17 @@
 //! The program on an input, an output and an error output.
 
-ghost use Rattle.std.specs.Prelude.{◌≡◌, IfOk, map};
+ghost use Rattle.std.specs.Prelude.{◌≡◌, IfOk, Ok, map};
 ghost use Rattle.byte_devices.specs.Devices.{Sends};
 ghost use Rattle.chess_cecp.specs.Held.{opened};
 ghost use Rattle.chess_pgn.specs.Tags.{default_tags};
-ghost use Rattle.chess_arbiter.specs.Program.{Served, Shown, RanHelp, RanMatch, RanProgram, RanSession, RanStub, RanVerify, ToldWords};
+ghost use Rattle.chess_arbiter.specs.Program.{Served, Shown, RanHelp, RanMatch, RanProgram, RanSession, RanStub, RanVerify, RanVerifyBy, RanVerifyIf, ToldWords, has_words, verify_status};
 
+use crate::collection::verify_by;
 use crate::fault::{ProgramFault, tell_text, told};
 use crate::games::play_games;
 use crate::stub::{StubFault, run_stub};
 use crate::verify::{Verified, verify};
-use arbiter_words::{MatchPlan, Plan, WordsFault, read_words};
+use arbiter_words::{MatchPlan, Plan, VerifyPlan, WordsFault, read_words};
 use byte_devices::{Input, Output, WriteFault, put};
 use chess_bits::Bits;
 use chess_cecp::{End, Fault, Session, run_session};
@@ -78,6 +79,56 @@ fn verified<R: Input, W: Output, E: Output>(
         Ok(Verified::EachGame) => 0,
         Ok(Verified::FaultTold) => 1,
         Err(fault) => told(errors, &fault, fault.status()),
+    }
+}
+
+// The status of games that were verified.
+fn verified_status(verified: Verified) -> u8
+    ensures { result ≡ verify_status (Ok verified) }
+{
+    match verified {
+        Verified::EachGame => 0,
+        Verified::FaultTold => 1,
+    }
+}
+
+// The games of the input verified by words of `verify`, with the status.
+fn verified_by<R: Input, W: Output, E: Output>(
+    alloc: Global,
+    plan: VerifyPlan,
+    input: &mut R,
+    output: &mut W,
+    errors: &mut E,
+) -> u8
+    ensures { RanVerifyBy plan (R.seen input.old) (R.seen input.new) (W.seen output.old) (W.seen output.new) result }
+{
+    match verify_by(alloc, plan, input, output) {
+        Ok(verified) => verified_status(verified),
+        Err(fault) => told(errors, &fault, fault.status()),
+    }
+}
+
+// Whether `verify` has any of its words.
+fn has_words(plan: VerifyPlan) -> bool
+    ensures { result ≡ has_words plan }
+{
+    plan.keep_going || plan.quiet
+}
+
+// The games of the input verified, by words or by none.
+fn verified_if<R: Input, W: Output, E: Output>(
+    alloc: Global,
+    plan: VerifyPlan,
+    input: &mut R,
+    output: &mut W,
+    errors: &mut E,
+) -> u8
+    ensures { RanVerifyIf (has_words plan) plan (R.seen input.old) (R.seen input.new) (W.seen output.old) (W.seen output.new) result }
+{
+    if has_words(plan) {
+        verified_by(alloc, plan, input, output, errors)
+    } else {
+        verified(alloc, input, output, errors)
     }
 }
 
@@ -194,7 +245,7 @@ pub fn run_program<'a, P: Processes + Clock, R: Input, W: Output, E: Output>(
     };
     match plan {
         Plan::Session => session(alloc, input, output, errors),
-        Plan::Verify => verified(alloc, input, output, errors),
+        Plan::Verify(plan) => verified_if(alloc, plan, input, output, errors),
         Plan::Stub(words) => stubbed(words.as_slice(), input, output, errors),
         Plan::Match(plan) => matched(rt, alloc, &plan, output, errors),
     }

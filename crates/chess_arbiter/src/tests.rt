@@ -16,7 +16,7 @@ struct Case {
     status: u8,
 }
 
-const CASES: [Case; 15] = [
+const CASES: [Case; 18] = [
     Case {
         words: &[],
         input: b"new\ne2e4\nping 7\nundo\nshowfen\nquit\nshowfen\n",
@@ -127,8 +127,33 @@ const CASES: [Case; 15] = [
         input: b"*",
         fails: (0, 0),
         output: b"",
-        errors: b"error: unexpected argument 'x' found\n\nUsage: arbiter verify\n\nFor more information, try '--help'.\n",
+        errors: b"error: unexpected argument 'x' found\n\nUsage: arbiter verify [OPTIONS]\n\nFor more information, try '--help'.\n",
         status: 2,
+    },
+    // The line of the counts, and the flush behind it.
+    Case {
+        words: &["verify", "--keep-going", "--quiet"],
+        input: b"1. e4 *",
+        fails: (0, 1),
+        output: b"",
+        errors: b"arbiter: write failed\n",
+        status: 1,
+    },
+    Case {
+        words: &["verify", "--keep-going", "--quiet"],
+        input: b"1. e4 *",
+        fails: (0, 2),
+        output: b"games 1 half-moves 1 faults 0\n",
+        errors: b"arbiter: write failed\n",
+        status: 1,
+    },
+    Case {
+        words: &["verify", "--keep-going"],
+        input: b"1. e4 *",
+        fails: (2, 0),
+        output: b"",
+        errors: b"arbiter: read failed\n",
+        status: 1,
     },
     // The flush of the first answer.
     Case {
@@ -314,6 +339,93 @@ fn a_failed_error_output_changes_no_status(rt: HostRuntime) {
     assert_eq!(rt; status, 2);
 }
 
+// The second of three games has a fault, and no line's end stands behind the last.
+const COLLECTION: &[u8] =
+    b"[Event \"a\"]\n\n1. e4 e5 *\n\n[Event \"b\"]\n\n1. e4 e4 *\n\n[Event \"c\"]\n\n1. d4 1-0";
+
+// Texts as they are verified by words of `verify`: what is told, and the status.
+const BY_WORDS: [(&[&str], &[u8], &[u8], u8); 11] = [
+    (
+        &["verify", "--keep-going"],
+        COLLECTION,
+        b"game 1: 2 half-moves, *\ngame 2: illegal move at byte 44\ngame 3: 1 half-moves, 1-0\ngames 2 half-moves 3 faults 1\n",
+        1,
+    ),
+    (
+        &["verify", "--keep-going", "--quiet"],
+        COLLECTION,
+        b"game 2: illegal move at byte 44\ngames 2 half-moves 3 faults 1\n",
+        1,
+    ),
+    (
+        &["verify", "--quiet", "--keep-going"],
+        COLLECTION,
+        b"game 2: illegal move at byte 44\ngames 2 half-moves 3 faults 1\n",
+        1,
+    ),
+    (
+        &["verify", "--quiet"],
+        COLLECTION,
+        b"game 2: illegal move at byte 44\n",
+        1,
+    ),
+    (&["verify", "--quiet"], b"1. e4 * 1. d4 *", b"", 0),
+    (
+        &["verify", "--keep-going"],
+        b"1. e4 * 1. d4 d5 *",
+        b"game 1: 1 half-moves, *\ngame 2: 2 half-moves, *\ngames 2 half-moves 3 faults 0\n",
+        0,
+    ),
+    (
+        &["verify", "--keep-going"],
+        b"",
+        b"games 0 half-moves 0 faults 0\n",
+        0,
+    ),
+    // A line that begins with another tag begins no game, nor does a bracket within a line.
+    (
+        &["verify", "--keep-going"],
+        b"1. e4 e4 *\n[Site \"x\"]\n *\n [Event \"y\"] *",
+        b"game 1: illegal move at byte 6\ngames 0 half-moves 0 faults 1\n",
+        1,
+    ),
+    // The fault stands at a line of a tag Event: the next one is behind it.
+    (
+        &["verify", "--keep-going"],
+        b"1. e4\n[Event \"x\"]\n[Event \"y\"] 1. e4 *",
+        b"game 1: no result at byte 6\ngame 2: 1 half-moves, *\ngames 1 half-moves 1 faults 1\n",
+        1,
+    ),
+    // The last fault may be at the text's end.
+    (
+        &["verify", "--keep-going"],
+        b"1. e4\n[Event ",
+        b"game 1: no result at byte 6\ngames 0 half-moves 0 faults 1\n",
+        1,
+    ),
+    (
+        &["verify", "--keep-going"],
+        b"1. e4 & *\n[Event ",
+        b"game 1: bad token at byte 6\ngame 2: bad tag at byte 10\ngames 0 half-moves 0 faults 2\n",
+        1,
+    ),
+];
+
+#[test]
+fn games_verified_by_words(rt: HostRuntime) {
+    for (words, text, told, status) in &BY_WORDS {
+        for cut in [1, 7, 100] {
+            let mut input = Counted::reading(PieceReader::new(text, cut, 0));
+            let mut output = Counted::writing(Vec::<u8>::new(rt.alloc()));
+            let mut errors = Counted::writing(Vec::<u8>::new(rt.alloc()));
+            let ended = run_program(&rt, rt.alloc(), words, &mut input, &mut output, &mut errors);
+            assert_eq!(rt; output.writer().as_slice(), *told);
+            assert_eq!(rt; errors.writer().as_slice(), b"".as_slice());
+            assert_eq!(rt; ended, *status);
+        }
+    }
+}
+
 // Words that ask for help, and what their help must name.
 const HELP: [(&[&str], &[&str]); 3] = [
     (&["--help"], &["session", "verify", "--help", "--version"]),
@@ -336,7 +448,10 @@ const HELP: [(&[&str], &[&str]); 3] = [
             "quit",
         ],
     ),
-    (&["verify", "--help"], &["games.pgn", "at byte"]),
+    (
+        &["verify", "--help"],
+        &["games.pgn", "at byte", "--keep-going --quiet", "faults 1"],
+    ),
 ];
 
 #[test]

@@ -27,7 +27,7 @@ const GAME_LIMIT: u32 = 20_000;
 const LINE_LEN: usize = 120;
 
 // A line on a game.
-type ReportLine = ArrayVec<u8, LINE_LEN>;
+pub(crate) type ReportLine = ArrayVec<u8, LINE_LEN>;
 
 /// How verifying ended.
 #[derive(Clone, Copy, Debug, PartialEq, Eq)]
@@ -48,7 +48,7 @@ pub(crate) enum Report {
 }
 
 // All bytes of the input.
-fn read_all<R: Input>(alloc: Global, input: &mut R) -> Result<Vec<u8>, ProgramFault>
+pub(crate) fn read_all<R: Input>(alloc: Global, input: &mut R) -> Result<Vec<u8>, ProgramFault>
     ensures all { IfOk result (λ text. IsAll (R.seen input.old) (R.seen input.new) text.items) }
     ensures failed { IfErr result (λ f. IsNotHad (R.seen input.old) (R.seen input.new) f) }
 {
@@ -90,7 +90,7 @@ fn fault_name(kind: PgnFaultKind) -> &'static [u8]
 }
 
 // A text at the end of a line.
-fn write_text(line: &mut ReportLine, text: &[u8])
+pub(crate) fn write_text(line: &mut ReportLine, text: &[u8])
     requires { array_vec_len line.old + length text.now ≤ 120 }
     ensures text { line.new.items ≡ line.old.items ++ text.now }
     ensures len { array_vec_len line.new ≡ array_vec_len line.old + length text.now }
@@ -99,7 +99,7 @@ fn write_text(line: &mut ReportLine, text: &[u8])
 }
 
 // A number at the end of a line.
-fn write_number(line: &mut ReportLine, number: usize)
+pub(crate) fn write_number(line: &mut ReportLine, number: usize)
     requires { array_vec_len line.old + 20 ≤ 120 }
     ensures text { line.new.items ≡ line.old.items ++ decimal number }
     ensures len { array_vec_len line.new ≤ array_vec_len line.old + 20 }
@@ -156,14 +156,18 @@ fn report_line(number: usize, report: &Report) -> ReportLine
 }
 
 // Writes the line of the game with that number.
-fn tell<W: Output>(output: &mut W, number: usize, report: &Report) -> Result<(), WriteFault>
+pub(crate) fn tell<W: Output>(
+    output: &mut W,
+    number: usize,
+    report: &Report,
+) -> Result<(), WriteFault>
     ensures { Puts (W.seen output.old) (W.seen output.new) result (report_line number report.now) }
 {
     put(output, report_line(number, report).as_slice())
 }
 
 // A game with its board.
-fn open_game(alloc: Global) -> Result<Game<Bits>, AllocError>
+pub(crate) fn open_game(alloc: Global) -> Result<Game<Bits>, AllocError>
     ensures { IfOk result (λ g. g.limit ≡ 20000) }
 {
     let board = Bits::open(alloc)?;

@@ -93,13 +93,13 @@ pub record Suffix (text rest : List ℕ) : Type 0 where
   pub front : List ℕ
   pub is : text ≡ front ++ rest
 
-suffix_all : (text : List ℕ) → Suffix text text
+pub suffix_all : (text : List ℕ) → Suffix text text
 suffix_all text = record { front = []; is = refl }
 
 suffix_more : (c : ℕ) (text rest : List ℕ) → Suffix text rest → Suffix (c ∷ text) rest
 suffix_more c text rest h = record { front = c ∷ h.front; is = ap (λ xs. c ∷ xs) h.is }
 
-suffix_then : (text more rest : List ℕ) → Suffix text more → Suffix more rest → Suffix text rest
+pub suffix_then : (text more rest : List ℕ) → Suffix text more → Suffix more rest → Suffix text rest
 suffix_then text more rest h k = record { front = h.front ++ k.front; is = h.is ∙ ap (λ xs. h.front ++ xs) k.is ∙ sym (append_assoc h.front k.front rest) }
 
 suffix_cut : (text more rest : List ℕ) → Suffix text more → Cut more rest → Cut text rest
@@ -109,7 +109,7 @@ suffix_left : (text more rest : List ℕ) → Suffix text more → Left more res
 suffix_left text more rest h (inl e) = inl e
 suffix_left text more rest h (inr k) = inr (suffix_cut text more rest h k)
 
-cut_suffix : (text rest : List ℕ) → Cut text rest → Suffix text rest
+pub cut_suffix : (text rest : List ℕ) → Cut text rest → Suffix text rest
 cut_suffix text rest k = record { front = k.front ++ k.last ∷ []; is = k.is ∙ sym (append_assoc k.front (k.last ∷ []) rest) }
 
 pub gap_suffix : (skips begins : Bool) (text : List ℕ) → Suffix text (behind_gap skips begins text)

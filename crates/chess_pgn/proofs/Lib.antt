@@ -21,3 +21,8 @@ pub mod ShortTokens
 pub mod FenVariants
 pub mod OfTokens
 pub mod NormalGames
+pub mod FaultPlaces
+pub mod Settled
+pub mod MovedReads
+pub mod SettledTold
+pub mod SettledStays

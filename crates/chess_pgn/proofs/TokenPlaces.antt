@@ -76,7 +76,7 @@ comment_within n (Some rest) = tt
 front_fewer : (n : ℕ) (text : List ℕ) → length (take n text) ≤ length text
 front_fewer n text = omega (arith, ap length (take-append-drop n text), length-append (take n text) (drop n text))
 
-within : (begins : Bool) (c : ℕ) (rest : List ℕ) → Within (suc (length rest)) (token_at begins c rest)
+pub within : (begins : Bool) (c : ℕ) (rest : List ℕ) → Within (suc (length rest)) (token_at begins c rest)
 unfolding token_at
 within begins c rest =
     let n : ℕ = suc (length rest) in

@@ -49,7 +49,7 @@ enough (suc n) (suc m) begins [] h k = refl
 enough (suc n) (suc m) begins (c ∷ rest) h k =
     ap (λ tokens. (length (c ∷ rest), (token_at begins c rest).0) ∷ tokens) (enough n m (eqb c 10) (token_at begins c rest).1 (omega (arith, h, shorter begins c rest)) (omega (arith, k, shorter begins c rest)))
 
-none_left : (n : ℕ) (begins : Bool) → tokens_of n begins [] ≡ []
+pub none_left : (n : ℕ) (begins : Bool) → tokens_of n begins [] ≡ []
 unfolding tokens_of
 none_left zero begins = refl
 none_left (suc n) begins = refl

@@ -11,4 +11,5 @@ pub mod GameSteps
 pub mod GameText
 pub mod PgnLaw
 pub mod Retold
+pub mod Local
 pub mod Normal

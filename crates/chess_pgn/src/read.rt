@@ -284,7 +284,7 @@ fn variant_named(text: &[u8]) -> Variant
 }
 
 // The variant behind a token, if more tags may follow it.
-fn told_by(variant: Variant, token: &Token<'_>) -> Option<Variant>
+pub(crate) fn told_by(variant: Variant, token: &Token<'_>) -> Option<Variant>
     ensures { result ≡ told_by variant (token_seen token.now) }
 {
     match token {

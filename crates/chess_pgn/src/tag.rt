@@ -19,7 +19,7 @@ pub(crate) struct Tag<'a> {
 }
 
 // A name, and what stands behind it.
-fn split_name(text: &[u8]) -> (&[u8], &[u8])
+pub(crate) fn split_name(text: &[u8]) -> (&[u8], &[u8])
     ensures name { result.0.now ≡ take_while is_name_byte text.now }
     ensures rest { result.1.now ≡ drop (prefix_len is_name_byte text.now) text.now }
 {
@@ -31,7 +31,7 @@ fn split_name(text: &[u8]) -> (&[u8], &[u8])
 }
 
 // Behind a gap and this byte, if it stands there.
-fn behind_next(byte: u8, text: &[u8]) -> Option<&[u8]>
+pub(crate) fn behind_next(byte: u8, text: &[u8]) -> Option<&[u8]>
     ensures { option_map (λ r. r.now) result ≡ behind_next byte text.now }
 {
     match behind_gap(text) {
@@ -41,7 +41,7 @@ fn behind_next(byte: u8, text: &[u8]) -> Option<&[u8]>
 }
 
 // A string's bytes up to its closing quote, and what stands behind that. A backslash keeps the next byte from being one.
-fn split_string(text: &[u8]) -> Option<(&[u8], &[u8])>
+pub(crate) fn split_string(text: &[u8]) -> Option<(&[u8], &[u8])>
     ensures { option_map (λ r. (r.0.now, r.1.now)) result ≡ string_at text.now }
 {
     let mut is_kept = false;

@@ -1,0 +1,21 @@
+//! Laws of where a game is read, each the contract of a function that does nothing.
+
+ghost use Rattle.chess_pgn.specs.Local.{FaultsHavePlaces, ReadingIsLocal, ReadingIsMoved, SettledStays};
+
+/// Reading a game is local: what the beginning of a text settles is read so in the whole text, whatever follows, and each
+/// longer beginning settles it too. Settled is a game that ended, where a byte stands behind its end, and a fault where the
+/// last byte that it hangs on stands in the beginning.
+pub fn reading_is_local()
+    ensures local { ReadingIsLocal }
+    ensures stays { SettledStays }
+{}
+
+/// A fault's place is in the text, and not before the place where reading began.
+pub fn faults_have_places()
+    ensures { FaultsHavePlaces }
+{}
+
+/// A game is read the same whatever stands before the byte before it; its places are told from the text's first byte on.
+pub fn reading_is_moved()
+    ensures { ReadingIsMoved }
+{}
