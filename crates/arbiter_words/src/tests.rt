@@ -22,16 +22,8 @@ fn verify_by_its_words(rt: HostRuntime) -> Result<(), Fail> {
         (["verify"].as_slice(), false, false),
         (["verify", "--keep-going"].as_slice(), true, false),
         (["verify", "--quiet"].as_slice(), false, true),
-        (
-            ["verify", "--keep-going", "--quiet"].as_slice(),
-            true,
-            true,
-        ),
-        (
-            ["verify", "--quiet", "--keep-going"].as_slice(),
-            true,
-            true,
-        ),
+        (["verify", "--keep-going", "--quiet"].as_slice(), true, true),
+        (["verify", "--quiet", "--keep-going"].as_slice(), true, true),
     ] {
         let Plan::Verify(plan) = read_words(rt.alloc(), words)? else {
             return Err(Fail::new("another plan"));

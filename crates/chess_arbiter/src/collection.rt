@@ -7,7 +7,9 @@ ghost use Rattle.chess_arbiter.specs.declared.verify.Verified.TheVariants.{EachG
 ghost use Rattle.chess_arbiter.specs.Collection.{is_event_line, IsNextEvent, IsNext, is_told, told_line, counts_line, counts_if, CountsEach, HandedOnBy, VerifiesBy};
 
 use crate::fault::ProgramFault;
-use crate::verify::{Report, ReportLine, Verified, open_game, read_all, tell, write_number, write_text};
+use crate::verify::{
+    Report, ReportLine, Verified, open_game, read_all, tell, write_number, write_text,
+};
 use arbiter_words::VerifyPlan;
 use byte_devices::{Input, Output, WriteFault, put};
 use chess_bits::Bits;

@@ -156,7 +156,11 @@ fn report_line(number: usize, report: &Report) -> ReportLine
 }
 
 // Writes the line of the game with that number.
-pub(crate) fn tell<W: Output>(output: &mut W, number: usize, report: &Report) -> Result<(), WriteFault>
+pub(crate) fn tell<W: Output>(
+    output: &mut W,
+    number: usize,
+    report: &Report,
+) -> Result<(), WriteFault>
     ensures { Puts (W.seen output.old) (W.seen output.new) result (report_line number report.now) }
 {
     put(output, report_line(number, report).as_slice())

@@ -628,8 +628,8 @@ module _ (limit : ℕ) (front more : List ℕ) where
       bracket_step true e Bad_tag is h unclosed = (same_fault (cond g.is_begun NoResult BadTag), not_both g.is_begun e)
       bracket_step true e (Tag name text string) is h unclosed = (
         ap (λ b. cond b (fails g NoResult (length front + length more - suc (length (rest ++ more)))) (tag_step g name text (length front + length more - string))) e
-        ∙ same_fault NoResult
-        ∙ ap (λ b. fails g (cond b NoResult BadTag) (length front - suc (length rest))) (sym e),
+            ∙ same_fault NoResult
+            ∙ ap (λ b. fails g (cond b NoResult BadTag) (length front - suc (length rest))) (sym e),
         not_both g.is_begun e,
       )
 
