@@ -26,3 +26,4 @@ pub mod Settled
 pub mod MovedReads
 pub mod SettledTold
 pub mod SettledStays
+pub mod MoveBytes

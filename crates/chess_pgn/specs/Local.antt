@@ -1,5 +1,5 @@
 -- Where a game is read: what the beginning of a text settles, whatever follows it, and which places are told.
-use Rattle.std.specs.Prelude.{◌≡◌, ◌≤◌, ◌<◌, ℕ, ◌+◌, ◌-◌, Bool, true, false, not, ◌&&◌, ◌||◌, ◌==◌, nat_lt, nat_le, List, [], ◌∷◌, ◌++◌, length, drop, Option, Some, None, Result, Ok, Err, IfErr}
+use Rattle.std.specs.Prelude.{◌≡◌, ◌≤◌, ◌<◌, ℕ, ◌+◌, ◌-◌, Bool, true, false, not, ◌&&◌, ◌||◌, ◌==◌, nat_lt, nat_le, List, [], ◌∷◌, ◌++◌, length, drop, Option, Some, None, Result, Ok, Err, IfOk, IfErr, IfSome}
 use Rattle.std.specs.List.{list_any, prefix_len, take_while}
 use Rattle.chess_base.specs.declared.man.Variant.{Variant}
 use Rattle.chess_base.specs.declared.man.Variant.TheVariants.{Normal}
@@ -119,3 +119,8 @@ ReadingIsMoved = (limit : ℕ) (before text : List ℕ) (at : ℕ) → 0 < at �
 -- a fault's place is in the text, and not before the place where reading began
 abbrev pub FaultsHavePlaces : Type 0
 FaultsHavePlaces = (limit : ℕ) (text : List ℕ) (at : ℕ) → at ≤ length text → IfErr (pgn_read limit text at).answer (λ f. (at ≤ f.place) × (f.place ≤ length text))
+
+-- a half-move takes at least a byte of the text that a game has from the place on
+abbrev pub HalfMovesHaveBytes : Type 0
+HalfMovesHaveBytes =
+    (limit : ℕ) (text : List ℕ) (at : ℕ) → at ≤ length text → IfOk (pgn_read limit text at).answer (λ o. IfSome o (λ e. length (pgn_read limit text at).state.moves + at ≤ e.place))
