@@ -27,3 +27,4 @@ pub mod MovedReads
 pub mod SettledTold
 pub mod SettledStays
 pub mod MoveBytes
+pub mod SettledMoved
