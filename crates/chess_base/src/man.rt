@@ -4,6 +4,7 @@ ghost use Rattle.std.specs.Prelude.{◌≡◌};
 ghost use Rattle.chess_base.specs.Men.{other, is_of, is_man, same_kind, same_colour};
 
 use crate::square::Square;
+use std::fmt;
 
 /// The two players and their men (Laws of Chess 2023, article 1.1).
 #[derive(Clone, Copy, Debug, PartialEq, Eq)]
@@ -24,6 +25,15 @@ impl Colour {
     }
 }
 
+impl fmt::Display for Colour {
+    fn fmt<W: fmt::Write>(&self, f: &mut fmt::Formatter<W>) -> fmt::Result {
+        f.write_str(match self {
+            Colour::White => "white",
+            Colour::Black => "black",
+        })
+    }
+}
+
 /// The kinds of men (Laws of Chess 2023, article 2.2).
 #[derive(Clone, Copy, Debug, PartialEq, Eq)]
 pub enum Kind {
@@ -33,6 +43,19 @@ pub enum Kind {
     Bishop,
     Knight,
     Pawn,
+}
+
+impl fmt::Display for Kind {
+    fn fmt<W: fmt::Write>(&self, f: &mut fmt::Formatter<W>) -> fmt::Result {
+        f.write_str(match self {
+            Kind::King => "king",
+            Kind::Queen => "queen",
+            Kind::Rook => "rook",
+            Kind::Bishop => "bishop",
+            Kind::Knight => "knight",
+            Kind::Pawn => "pawn",
+        })
+    }
 }
 
 /// Which rules hold for castling: those of normal chess, or of Chess960 (Laws of Chess 2023, guideline II).

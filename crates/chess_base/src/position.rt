@@ -20,7 +20,7 @@ use crate::square::Square;
 use std::marker::Model;
 
 /// A position, always sound: it meets `IsSound` of specs/Sound. In contracts it is its `Setup`.
-#[derive(Clone, Copy, PartialEq, Eq)]
+#[derive(Clone, Copy, Debug, PartialEq, Eq)]
 pub struct Position {
     setup: Setup,
 }

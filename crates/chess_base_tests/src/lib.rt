@@ -7,3 +7,5 @@ mod chess960;
 mod fen;
 #[cfg(test)]
 mod positions;
+#[cfg(test)]
+mod squares;

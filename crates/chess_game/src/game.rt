@@ -1,6 +1,7 @@
 //! One game: the moves that stand, and the positions that they gave.
 
-ghost use Rattle.std.specs.Prelude.{false, ◌≡◌, ◌≤◌, ◌<◌, ◌+◌, IfOk, None, Some, length, take, slice_get};
+ghost use Rattle.std.specs.Prelude.{false, ◌≡◌, ◌≤◌, ◌<◌, ◌+◌, ◌↔◌, IsTrue, IsFalse, IsNone, IsOk, IsErr, IfOk, OnOk, OnErr, Err, None, Some, [], ◌∷◌, ◌++◌, length, take, slice_get};
+ghost use Rattle.chess_base.specs.Moves.{is_legal};
 ghost use Rattle.std.specs.Option.{option_map};
 ghost use Rattle.chess_game.specs.Line.{last};
 ghost use Rattle.chess_game.specs.Same.{rep};
@@ -177,6 +178,16 @@ impl<B: Board> Game<B> {
     pub fn play(&mut self, m: Move) -> Result<(), PlayRefusal>
         ensures answer { result ≡ unless_refused (play_refusal self.old m) }
         ensures game { self.new ≡ after_play self.old m (play_refusal self.old m) }
+
+        // The same in single facts.
+        ensures refused { OnErr result (self.new ≡ self.old) }
+        ensures over { (result ≡ Err PlayRefusal.Over) ↔ IsTrue (is_over self.old.state) }
+        ensures too_long { result ≡ Err PlayRefusal.TooLong → self.old.limit ≤ length self.old.state.moves }
+        ensures illegal { result ≡ Err PlayRefusal.Illegal → IsFalse (is_legal (current self.old.state) m) }
+        ensures legal { OnOk result (IsTrue (is_legal (current self.old.state) m)) }
+        ensures moves { OnOk result (self.new.state.moves ≡ self.old.state.moves ++ m ∷ []) }
+        ensures undeclared { OnOk result (IsNone self.new.state.declared) }
+        ensures kept { (self.new.limit ≡ self.old.limit) × (self.new.state.start ≡ self.old.state.start) }
     {
         if self.is_over() {
             return Err(PlayRefusal::Over);
@@ -218,6 +229,13 @@ impl<B: Board> Game<B> {
     pub fn take_back(&mut self) -> Result<Move, NoMove>
         ensures answer { result ≡ last_move self.old.state.moves }
         ensures game { self.new ≡ after_take_back self.old }
+
+        // The same in single facts.
+        ensures refused { OnErr result (self.new ≡ self.old) }
+        ensures none { IsErr result ↔ (self.old.state.moves ≡ []) }
+        ensures last { IfOk result (λ m. self.old.state.moves ≡ self.new.state.moves ++ m ∷ []) }
+        ensures undeclared { OnOk result (IsNone self.new.state.declared) }
+        ensures kept { (self.new.limit ≡ self.old.limit) × (self.new.state.start ≡ self.old.state.start) }
     {
         match self.places.pop() {
             None => Err(NoMove),
@@ -238,6 +256,13 @@ impl<B: Board> Game<B> {
     pub fn declare(&mut self, outcome: Outcome, comment: Comment) -> Result<(), BoardSaysOtherwise>
         ensures answer { result ≡ unless_refused (declare_refusal self.old outcome) }
         ensures game { self.new ≡ after_declare self.old (record { outcome = outcome; comment = comment }) }
+
+        // The same in single facts.
+        ensures refused { OnErr result (self.new ≡ self.old) }
+        ensures free { IsNone (verdict_now self.old.state) → IsOk result }
+        ensures declared { OnOk result (self.new.state.declared ≡ Some (record { outcome = outcome; comment = comment })) }
+        ensures moves { self.new.state.moves ≡ self.old.state.moves }
+        ensures kept { (self.new.limit ≡ self.old.limit) × (self.new.state.start ≡ self.old.state.start) }
     {
         if let Some(verdict) = self.verdict
             && !verdict.outcome().is(outcome)
