@@ -66,3 +66,12 @@ some_of p w h =
     let all = ap length (moves-by_start p) in
     let some : 0 < length (flat_map (λ a. moves_from p a) (filter (λ k. has w k) squares)) = ltb-true _ _ h in
     sym (lt-ltb 0 (length (moves p)) (omega (arith, less, all, some)))
+
+-- and no more than a list holds
+pub some_fit : (p : Setup) (w : ℕ) → IsSound p → length (flat_map (λ a. moves_from p a) (members w)) ≤ 896
+unfolding members
+some_fit p w sound =
+    let less = fewer (λ a. moves_from p a) (λ k. has w k) squares in
+    let all = ap length (moves-by_start p) in
+    let fits = moves_fit p sound in
+    omega (arith, less, all, fits)

@@ -144,3 +144,19 @@ diagonal_of b k high low h =
       | inl e ↦ (Diagonal, e, λ a l f. share_diagonal_is a k l low ∙ or_left (same_line Diagonal a k) (same_line Antidiagonal a k) f)
       | inr e ↦ (Antidiagonal, e, λ a l f. share_diagonal_is a k l low ∙ or_right (same_line Diagonal a k) (same_line Antidiagonal a k) f)
     ]
+
+-- a man on none of the lines of k stands between k and nothing
+pub off_line : (men : Men) (a b k : ℕ) → length men ≡ 64 → a < 64 → share_rank_or_file a k ≡ false → share_rank_or_file b k ≡ true → is_clear (lifted men a) b k ≡ true → is_clear men b k ≡ true
+off_line men a b k all low off on clear =
+    let line = line_of b k on in
+    clear_without men a b k all low (λ inside. both_ways (share_rank_or_file a k) off (line.2 a (line_on line.0 b k a line.1 inside))) clear
+
+pub off_diagonal : (men : Men) (a b k : ℕ) → length men ≡ 64 → a < 64 → b < 64 → k < 64 → share_diagonal a k ≡ false → share_diagonal b k ≡ true → is_clear (lifted men a) b k ≡ true → is_clear men b k ≡ true
+off_diagonal men a b k all low high there off on clear =
+    let line = diagonal_of b k high there on in
+    clear_without men a b k all low (λ inside. both_ways (share_diagonal a k) off (line.2 a low (line_on line.0 b k a line.1 inside))) clear
+
+-- what a table of lines tells of another square
+pub off_shape : (same share : Bool) → same ≡ false → (not same && share) ≡ false → share ≡ false
+off_shape true share e h = cc
+off_shape false share e h = h

@@ -6,7 +6,7 @@ ghost use Rattle.chess_base.specs.Men.{man_at, other, is_man, same_kind, pawn_ra
 ghost use Rattle.chess_base.specs.MoveList.{moves, triple};
 ghost use Rattle.chess_base.specs.Moves.{has_pattern, is_legal, man_moves, promotion_fits};
 ghost use Rattle.chess_base.specs.Squares.{rank};
-ghost use Rattle.chess_base.specs.declared.man.Kind.TheVariants.{King, Pawn};
+ghost use Rattle.chess_base.specs.declared.man.Kind.TheVariants.{King, Knight, Pawn};
 ghost use Rattle.chess_bits.specs.Goes.{goes, aims_at, IsFree, AreFree};
 ghost use Rattle.chess_moves.specs.Candidates.{would_promote, moves_between, moves_from};
 ghost use Rattle.chess_moves.specs.Sets.{has, members};
@@ -273,15 +273,57 @@ impl Bits {
         false
     }
 
-    // Whether there is a legal move. Pawns come first, since they mostly have one, and it is found at once.
+    // Whether one of these free pawns has a legal move.
+    fn has_pawn_move(&self, men: SquareSet) -> bool
+        requires free { AreFree self.now Pawn men }
+        requires few { length (flat_map (λ a. moves_from self.now a) (members men)) ≤ 896 }
+        ensures { result ≡ nat_lt 0 (length (flat_map (λ a. moves_from self.now a) (members men))) }
+    {
+        let mut rest = men;
+        while let Some(from) = rest.take_first() {
+            if self.count_pawn(from) > 0 {
+                return true;
+            }
+        }
+        false
+    }
+
+    // Whether one of these free knights has a legal move.
+    fn has_knight_move(&self, men: SquareSet) -> bool
+        requires { AreFree self.now Knight men }
+        ensures { result ≡ nat_lt 0 (length (flat_map (λ a. moves_from self.now a) (members men))) }
+    {
+        let mut rest = men;
+        while let Some(from) = rest.take_first() {
+            if self.count_officer(Kind::Knight, from) > 0 {
+                return true;
+            }
+        }
+        false
+    }
+
+    // Whether a knight or pawn off its king's lines has a legal move, where he is not in check. Mostly one has.
+    fn has_usual_move(&self) -> bool
+        ensures { result ≡ true → nat_lt 0 (length (moves self.now)) ≡ true }
+    {
+        let _sound = self.setup();
+        let men = self.sets.of(self.setup.side);
+        let free = self.men_off_lines();
+        let knights = men.of(Kind::Knight);
+        let pawns = men.of(Kind::Pawn);
+        if self.has_knight_move(knights.intersection(free)) {
+            return true;
+        }
+        self.has_pawn_move(pawns.intersection(free))
+    }
+
+    // Whether there is a legal move. It looks no further than the first.
     pub(crate) fn has_move(&self) -> bool
         ensures { result ≡ nat_lt 0 (length (moves self.now)) }
     {
-        let side = self.setup.side;
-        let men = self.sets.of(side);
-        if self.has_move_of(men.of(Kind::Pawn)) {
+        if self.has_usual_move() {
             return true;
         }
-        self.has_move_of(self.sets.all(side))
+        self.has_move_of(self.sets.all(self.setup.side))
     }
 }

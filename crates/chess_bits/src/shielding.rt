@@ -74,4 +74,22 @@ impl Bits {
         let others = self.sets.all(side).without(SquareSet::single(king));
         others.without(shields)
     }
+
+    // The men of the side on move that stand on none of their king's lines, where he is not in check: they may go anywhere,
+    // as far as he is concerned. They are found sooner than all free men.
+    #[tactic(auto, unfolding(crate::specs::Shapes::in_shape))]
+    pub(crate) fn men_off_lines(&self) -> SquareSet
+        ensures { (k : ℕ) → k < 64 → has result k ≡ true → IsFree self.now k }
+    {
+        if self.in_check() {
+            return SquareSet::empty();
+        }
+        let side = self.setup.side;
+        let king = self.king(side);
+        let straight = self.tables.at(Shape::Lines, king);
+        let aslant = self.tables.at(Shape::Diagonals, king);
+        let lines = straight.union(aslant);
+        let men = self.sets.all(side).without(SquareSet::single(king));
+        men.without(lines)
+    }
 }

@@ -23,8 +23,10 @@ use Rattle.chess_text.specs.declared.described.Described.{Described}
 use Rattle.chess_text.specs.declared.form.Form.{Form}
 use Rattle.chess_text.specs.declared.form.Form.TheVariants.{Castling, Walk}
 use Rattle.chess_text.specs.declared.parts.Parts.{Parts}
-use Rattle.chess_text.specs.Moves.{described, described_as, names, admits, is_by_squares, is_by_letter, is_straight, is_from_file, fits, passes}
-use Rattle.chess_text.specs.Forms.{same_side, form_fits, is_spelled, end_of, spelled_with, named_square, IsStart}
+use Rattle.chess_text.specs.declared.reading.Reading.{Reading}
+use Rattle.chess_text.specs.declared.reading.Reading.TheVariants as reads
+use Rattle.chess_text.specs.Moves.{one_of, described, described_as, names, admits, is_by_squares, is_by_letter, is_straight, is_from_file, fits, passes}
+use Rattle.chess_text.specs.Forms.{same_side, form_fits, is_spelled, end_of, spelled_with, with_move, with_moves, named_square, IsStart}
 use Rattle.chess_text.proofs.Alone.{castled}
 use Rattle.chess_text.proofs.AllMoves.{none-kept}
 use Rattle.chess_text.proofs.Legal.{castling_says, legal_move, IsMove, told_of, described_is}
@@ -178,23 +180,25 @@ spelled_from form p w start = flat_map_members _ w (λ k low out. none_there k o
         let there : has w k ≡ true = start (triple k (end_of form p) x) both.0 both.1 in
         cc))
 
+-- ---- what a text is that spells some moves
+
+with_both : (found : Reading) (xs ys : List Move) → with_moves found (xs ++ ys) ≡ with_moves (with_moves found xs) ys
+with_both found [] ys = refl
+with_both found (x ∷ xs) ys = with_both (with_move found x) xs ys
+
+stays_ambiguous : (ms : List Move) → with_moves reads.Ambiguous ms ≡ reads.Ambiguous
+stays_ambiguous [] = refl
+stays_ambiguous (m ∷ ms) = stays_ambiguous ms
+
+pub one_found : (ms : List Move) → with_moves reads.NoSuch ms ≡ one_of ms
+one_found [] = refl
+one_found (m ∷ []) = refl
+one_found (m ∷ n ∷ ms) = stays_ambiguous ms
+
 -- one square more
-pub more_spelled : {A : Type 0} (f : ℕ → List A) (now next whole : List A) (s : ℕ) (ms ns : List ℕ) → ms ≡ s ∷ ns → now ++ flat_map f ms ≡ whole → next ≡ now ++ f s → next ++ flat_map f ns ≡ whole
-more_spelled f now next whole s ms ns e h n = rw n (append_assoc now (f s) (flat_map f ns) ∙ (rw e at h))
+pub more_found : (f : ℕ → List Move) (found next whole : Reading) (s : ℕ) (ms ns : List ℕ) → ms ≡ s ∷ ns → with_moves found (flat_map f ms) ≡ whole → next ≡ with_moves found (f s) → with_moves next (flat_map f ns) ≡ whole
+more_found f found next whole s ms ns e h n = rw n (sym (with_both found (f s) (flat_map f ns)) ∙ (rw e at h))
 
 -- no square is left
-pub last_spelled : {A : Type 0} (f : ℕ → List A) (now whole : List A) (ms : List ℕ) → ms ≡ [] → now ++ flat_map f ms ≡ whole → now ≡ whole
-last_spelled f now whole ms e h = sym (append-nil now) ∙ (rw e at h)
-
--- a set has at most 64 squares
-sixty_four : length squares ≡ 64
-unfolding squares
-sixty_four = refl
-
-pub members_few : (w : ℕ) → length (members w) ≤ 64
-unfolding members
-members_few w =
-    let counted = length-filter (λ k. has w k) squares in
-    let few = count_by-le-length (λ k. has w k) squares in
-    let all = sixty_four in
-    omega (arith, counted, few, all)
+pub last_found : (f : ℕ → List Move) (found whole : Reading) (ms : List ℕ) → ms ≡ [] → with_moves found (flat_map f ms) ≡ whole → found ≡ whole
+last_found f found whole ms e h = rw e at h

@@ -1,6 +1,6 @@
 -- What a text is read as, before any position is looked at: castling, or parts of a form. Then, in a position, the one
 -- square on which each move ends that it spells.
-use Rattle.std.specs.Prelude.{Bool, ◌≡◌, ◌&&◌, ◌+◌, ◌*◌, nat_lt, if◌then◌else◌, List, ℕ, map, Option, Some, None}
+use Rattle.std.specs.Prelude.{Bool, ◌≡◌, ◌&&◌, ◌+◌, ◌*◌, nat_lt, if◌then◌else◌, List, [], ◌∷◌, ℕ, map, Option, Some, None}
 use Rattle.std.specs.List.{list_any, filter}
 use Rattle.std.specs.Str.{bytes_eq}
 use Rattle.chess_base.specs.declared.man.CastlingSide.{CastlingSide}
@@ -20,6 +20,8 @@ use Rattle.chess_text.specs.declared.form.Form.TheVariants.{Castling, Walk}
 use Rattle.chess_text.specs.declared.parts.Parts.{Parts}
 use Rattle.chess_text.specs.Parts.{unmarked, parts_at}
 use Rattle.chess_moves.specs.Sets.{has}
+use Rattle.chess_text.specs.declared.reading.Reading.{Reading}
+use Rattle.chess_text.specs.declared.reading.Reading.TheVariants as reads
 use Rattle.chess_text.specs.Moves.{castling_texts, described, fits, is_form, passes}
 
 -- the side of the castling that a text without marks names
@@ -67,6 +69,18 @@ end_of (Walk q) p = q.end.to
 -- the legal moves from a to b, with one of these promotions, that the form spells
 abbrev pub spelled_with : Form → Setup → ℕ → ℕ → List (Option Kind) → List Move
 spelled_with form p a b ks = filter (λ m. is_spelled form p m && is_legal p m) (map (triple a b) ks)
+
+-- what a text is that spells this move too
+abbrev pub with_move : Reading → Move → Reading
+with_move reads.NoSuch m = reads.Move m
+with_move (reads.Move n) m = reads.Ambiguous
+with_move reads.Ambiguous m = reads.Ambiguous
+with_move reads.NotAMove m = reads.NotAMove
+
+-- what a text is that spells these moves too
+abbrev pub with_moves : Reading → List Move → Reading
+with_moves found [] = found
+with_moves found (m ∷ ms) = with_moves (with_move found m) ms
 
 -- the square of a file and a rank, if both are named and are on the board
 abbrev pub named_square : Option ℕ → Option ℕ → Option ℕ

@@ -1,25 +1,17 @@
 //! Reading the text of a move.
 
-ghost use Rattle.std.specs.Prelude.{◌≡◌, ◌≤◌, ◌+◌, ◌++◌, length};
+ghost use Rattle.std.specs.Prelude.{◌≡◌};
 ghost use Rattle.std.specs.List.{filter};
-ghost use Rattle.arrayvec.specs.ArrayVec.{array_vec_len};
 ghost use Rattle.chess_base.specs.MoveList.{promotions, moves};
 ghost use Rattle.chess_text.specs.Moves.{shape, one_of, reading, IsLegalReading};
 ghost use Rattle.chess_text.specs.declared.form.Form.TheVariants.{Walk};
-ghost use Rattle.chess_text.specs.Forms.{is_spelled, castling_end, end_of, spelled_with, named_square, IsStart};
+ghost use Rattle.chess_text.specs.Forms.{is_spelled, castling_end, end_of, spelled_with, with_move, with_moves, named_square, IsStart};
 
 use crate::form::{Form, is_spelled, read_form};
 use crate::parts::Parts;
-use arrayvec::ArrayVec;
 use chess_base::rules::{castled_king_file, home_square, right_of};
 use chess_base::{CastlingSide, Colour, Kind, Move, Setup, Square, Variant};
 use chess_moves::{Board, SquareSet, would_promote};
-
-// The most moves that end on one square: five from each square, by what the man becomes.
-const SPELLED_LIMIT: usize = 320;
-
-// Moves that a text spells.
-type SpelledMoves = ArrayVec<Move, SPELLED_LIMIT>;
 
 /// What a text is in a position.
 #[derive(Clone, Copy, Debug, PartialEq, Eq)]
@@ -111,19 +103,29 @@ fn form_origins<B: Board>(board: &B, form: &Form, to: Square) -> SquareSet
     }
 }
 
-// Adds the legal moves from there to there, with one of those promotions, that the form spells.
-fn add_spelled<B: Board>(
+// What a text is that spells this move too.
+fn with_move(found: Reading, m: Move) -> Reading
+    ensures { result ≡ with_move found m }
+{
+    match found {
+        Reading::NoSuch => Reading::Move(m),
+        Reading::Move(_) | Reading::Ambiguous => Reading::Ambiguous,
+        Reading::NotAMove => Reading::NotAMove,
+    }
+}
+
+// What a text is that spells the legal moves too from there to there, with one of those promotions, that the form spells.
+fn with_spelled<B: Board>(
     board: &B,
     form: &Form,
     from: Square,
     to: Square,
     promotions: &[Option<Kind>],
-    list: &mut SpelledMoves,
-)
-    requires room { array_vec_len list.old + length promotions.now ≤ 320 }
-    ensures moves { list.new.items ≡ list.old.items ++ spelled_with form.now (B.position board.now) from to promotions.now }
-    ensures len { array_vec_len list.new ≤ array_vec_len list.old + length promotions.now }
+    before: Reading,
+) -> Reading
+    ensures { result ≡ with_moves before (spelled_with form.now (B.position board.now) from to promotions.now) }
 {
+    let mut found = before;
     for promotion in promotions {
         let m = Move {
             from,
@@ -131,23 +133,22 @@ fn add_spelled<B: Board>(
             promotion: *promotion,
         };
         if is_spelled(form, board.setup(), &m) && board.is_legal(&m) {
-            list.push(m);
+            found = with_move(found, m);
         }
     }
+    found
 }
 
-// Adds the legal moves from there to there that the form spells.
+// What a text is that spells the legal moves too from there to there that the form spells.
 #[tactic(auto, using(crate::proofs::Promoting::all_promote, crate::proofs::Promoting::none_promotes))]
-fn add_spelled_between<B: Board>(
+fn with_spelled_between<B: Board>(
     board: &B,
     form: &Form,
     from: Square,
     to: Square,
-    list: &mut SpelledMoves,
-)
-    requires room { array_vec_len list.old + 5 ≤ 320 }
-    ensures moves { list.new.items ≡ list.old.items ++ spelled_with form.now (B.position board.now) from to promotions }
-    ensures len { array_vec_len list.new ≤ array_vec_len list.old + 5 }
+    found: Reading,
+) -> Reading
+    ensures { result ≡ with_moves found (spelled_with form.now (B.position board.now) from to promotions) }
 {
     if would_promote(board.setup(), from, to) {
         let promotions = [
@@ -156,34 +157,23 @@ fn add_spelled_between<B: Board>(
             Some(Kind::Bishop),
             Some(Kind::Knight),
         ];
-        add_spelled(board, form, from, to, &promotions, list);
+        with_spelled(board, form, from, to, &promotions, found)
     } else {
-        add_spelled(board, form, from, to, &[None], list);
+        with_spelled(board, form, from, to, &[None], found)
     }
 }
 
-// The legal moves that the form spells.
-fn spelled_moves<B: Board>(board: &B, form: &Form) -> SpelledMoves
-    ensures { result.items ≡ filter (λ m. is_spelled form.now (B.position board.now) m) (moves (B.position board.now)) }
+// What a text of that form is: of the legal moves it may spell one, several or none.
+fn spelled<B: Board>(board: &B, form: &Form) -> Reading
+    ensures { result ≡ one_of (filter (λ m. is_spelled form.now (B.position board.now) m) (moves (B.position board.now))) }
 {
     let to = end_square(form, board.setup());
-    let mut list = SpelledMoves::new();
+    let mut found = Reading::NoSuch;
     let mut rest = form_origins(board, form, to);
     while let Some(from) = rest.take_first() {
-        add_spelled_between(board, form, from, to, &mut list);
+        found = with_spelled_between(board, form, from, to, found);
     }
-    list
-}
-
-// What a text is that spells these legal moves.
-fn one_of(moves: &[Move]) -> Reading
-    ensures { result ≡ one_of moves.now }
-{
-    match moves {
-        [] => Reading::NoSuch,
-        [m] => Reading::Move(*m),
-        _ => Reading::Ambiguous,
-    }
+    found
 }
 
 /// What a text is in the board's position: of the legal moves it may spell one, several or none. Whether a mark `+` or `#` is
@@ -195,6 +185,5 @@ pub fn read_move<B: Board>(board: &B, text: &[u8]) -> Reading
     let Some(form) = read_form(text) else {
         return Reading::NotAMove;
     };
-    let spelled = spelled_moves(board, &form);
-    one_of(spelled.as_slice())
+    spelled(board, &form)
 }
