@@ -7,7 +7,7 @@ use Rattle.std.specs.Io.{WritesAtMost}
 use Rattle.std.specs.Io.KnownBytes.{Keeps, Appends, WriteAppends}
 use Rattle.byte_devices.specs.declared.counted.Counts.{Counts}
 use Rattle.byte_devices.specs.Devices.{OutputState, TookThenFailed, WriteStep, risen, raised}
-use Rattle.byte_devices.specs.Counting.{raised_by, one_failure_more, write_passed_on, counts_after_write}
+use Rattle.byte_devices.specs.ties.Counting.{raised_by, one_failure_more, write_passed_on, counts_after_write}
 
 raised_past : (c : ℕ) (bs : List ℕ) → raised (risen c) bs ≡ min (c + 1 + length bs) (2 ^ 64 - 1)
 unfolding risen

@@ -1,2 +1,2 @@
 pub mod Devices
-pub mod Counting
+pub mod ties

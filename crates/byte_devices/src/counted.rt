@@ -2,7 +2,7 @@
 
 ghost use Rattle.std.specs.Prelude.{◌≡◌, ◌==◌, ◌-◌, ◌^◌, ◌<◌, false};
 ghost use Rattle.byte_devices.specs.Devices.{risen};
-ghost use Rattle.byte_devices.specs.Counting.{no_counts, one_failure_more, passed_on, counts_after_read, write_passed_on, counts_after_write, counts_after_flush};
+ghost use Rattle.byte_devices.specs.ties.Counting.{no_counts, one_failure_more, passed_on, counts_after_read, write_passed_on, counts_after_write, counts_after_flush};
 
 use crate::traits::{Input, Output, ReadFault, WriteFault};
 use std::io::{self, Read, Write};

@@ -10,7 +10,7 @@ use Rattle.arbiter_words.specs.declared.plan.VerifyPlan.{VerifyPlan}
 use Rattle.arbiter_words.specs.declared.plan.Plan.TheVariants.{Session, Verify, Stub, Match}
 use Rattle.byte_devices.specs.Devices.{InputState, OutputState}
 use Rattle.byte_devices.proofs.DeviceLaws.{consumes_none}
-use Rattle.chess_arbiter.specs.Laws.{ServesSession, VerifiesGames}
+use Rattle.chess_arbiter.specs.laws.Laws.{ServesSession, VerifiesGames}
 use Rattle.chess_arbiter.specs.Program.{IsUntouched, RanPlan, RanProgram, RanSession, RanVerify, RanVerifyIf, has_words}
 use Rattle.chess_arbiter.specs.Verify.{IsFront, LacksMemory}
 use Rattle.chess_arbiter.specs.declared.fault.ProgramFault.TheVariants.{NoMemory}

@@ -1,7 +1,7 @@
 //! Laws of the program. A caller learns one by calling its function, which does nothing.
 
 ghost use Rattle.std.specs.Prelude.{[], ◌∷◌, codes};
-ghost use Rattle.chess_arbiter.specs.Laws.{ServesSession, VerifiesGames};
+ghost use Rattle.chess_arbiter.specs.laws.Laws.{ServesSession, VerifiesGames};
 
 use arbiter_words::{plain_words_are_taken, plans_are_named, verify_is_as_spelled};
 

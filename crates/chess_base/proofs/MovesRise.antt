@@ -10,7 +10,7 @@ use Rattle.chess_base.specs.declared.setup.Setup.{Setup}
 use Rattle.chess_base.specs.Squares.{from_below}
 use Rattle.chess_base.specs.Moves.{is_legal}
 use Rattle.chess_base.specs.MoveList.{promotions, triple, squares, all_triples, moves}
-use Rattle.chess_base.specs.Laws.{promotion_place, ComesBefore, ByStart, ByEnd, ByPromotion}
+use Rattle.chess_base.specs.laws.Laws.{promotion_place, ComesBefore, ByStart, ByEnd, ByPromotion}
 
 -- ---- lists
 

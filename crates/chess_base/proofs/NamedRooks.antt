@@ -18,8 +18,8 @@ use Rattle.chess_base.specs.Texts.{first_letter, names_file}
 use Rattle.chess_base.specs.RightNames.{side_letter, is_towards, nowhere, edge_file, rook_among, outer_rook, named_square, only_one_of, right_after_letters}
 use Rattle.chess_base.specs.Spelling.{IsCastling, IsHeld, SpellsRights}
 use Rattle.chess_base.specs.Sound.{IsSound}
-use Rattle.chess_base.specs.NamedRooks.{IsOutermost, NamesRook, NamesNone, RightIsNamed}
-use Rattle.chess_base.specs.Laws.{RightsAreNamed}
+use Rattle.chess_base.specs.laws.NamedRooks.{IsOutermost, NamesRook, NamesNone, RightIsNamed}
+use Rattle.chess_base.specs.laws.Laws.{RightsAreNamed}
 use Rattle.chess_base.proofs.Castlings.{right_stands_of}
 use Rattle.chess_base.proofs.RightsBack.{Beside, beside, no_side_letter, own_file, file_back, file_in, named_own, only-none, after-append}
 

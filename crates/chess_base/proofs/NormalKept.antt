@@ -18,7 +18,7 @@ use Rattle.chess_base.specs.Moves.{behind, is_en_passant, man_that_lands, castle
 use Rattle.chess_base.specs.Castling.{names_castling, says_castling, castling, castle_by, castle_of, mover_to, rook_from, rook_to, lands_on, castling_rook_to, castled_king_file, right_of, right_stands, right_stands_at, home_square, king_home_file}
 use Rattle.chess_base.specs.Steps.{men_stepped}
 use Rattle.chess_base.specs.Writing.{rights_text, right_text}
-use Rattle.chess_base.specs.Normal.{normal_right_stands_at, normal_says_castling, normal_castling, normal_castle_of, normal_moves_as, normal_has_pattern, normal_men_after, normal_after, normal_is_legal, letter_if, normal_rights_text, NormalIsKept}
+use Rattle.chess_base.specs.laws.Normal.{normal_right_stands_at, normal_says_castling, normal_castling, normal_castle_of, normal_moves_as, normal_has_pattern, normal_men_after, normal_after, normal_is_legal, letter_if, normal_rights_text, NormalIsKept}
 
 in_turn : (a b c : Bool) → (a && (b && c)) ≡ (true && a && b && c)
 in_turn true true c = refl

@@ -18,7 +18,7 @@ use Rattle.chess_base.specs.Attacks.{is_rank_ahead, is_in_check}
 use Rattle.chess_base.specs.Sound.{IsSound, no_pawn_on_end_ranks, pawn_may_stand}
 use Rattle.chess_base.specs.Castling.{castle_from, lands_on, castles}
 use Rattle.chess_base.specs.Moves.{man_that_lands, man_moves, has_pattern, is_legal, men_after, halfmove_after, resets_clock, after}
-use Rattle.chess_base.specs.Reserve.{ranks_to_go, weight, reserve}
+use Rattle.chess_base.specs.laws.Reserve.{ranks_to_go, weight, reserve}
 use Rattle.chess_base.proofs.OverSquares.{each_square-at}
 use Rattle.chess_base.proofs.MenAfter.{length-from_below, get_or-from_below}
 use Rattle.chess_base.proofs.MenFacts.{same_colour-true, is_of-from_is_man, is_man-kind, is_none-None, in_board}

@@ -8,15 +8,12 @@ pub mod Moves
 pub mod Faults
 pub mod Initial
 pub mod MoveList
-pub mod Reserve
-pub mod Laws
 pub mod Before
 pub mod Letters
 pub mod Writing
-pub mod Normal
 pub mod Texts
 pub mod RightNames
-pub mod NamedRooks
 pub mod Reading
 pub mod Spelling
 pub mod FenFaults
+pub mod laws

@@ -17,7 +17,7 @@ use Rattle.chess_base.proofs.MenAfter.{man_after, man_at-men_after}
 use Rattle.chess_base.proofs.MenFacts.{not_is_man}
 use Rattle.chess_base.proofs.OverSquares.{some_square-at, some_square-none}
 use Rattle.chess_moves.specs.Sets.{has}
-use Rattle.chess_bits.specs.Occupancy.{IsLater}
+use Rattle.chess_bits.specs.ties.Occupancy.{IsLater}
 
 -- the squares that a move changes, and those that it fills
 abbrev pub is_changed : Setup → Move → ℕ → Bool

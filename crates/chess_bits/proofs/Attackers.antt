@@ -14,9 +14,9 @@ use Rattle.chess_bits.specs.declared.line.Line.TheVariants.{Rank, File, Diagonal
 use Rattle.chess_bits.specs.declared.table.Shape.TheVariants as shape
 use Rattle.chess_moves.specs.Sets.{has}
 use Rattle.chess_moves.proofs.Words.{has_zero}
-use Rattle.chess_bits.specs.Rays.{is_on_ray, is_open}
-use Rattle.chess_bits.specs.Shapes.{in_shape}
-use Rattle.chess_bits.specs.Occupancy.{IsOccupied}
+use Rattle.chess_bits.specs.ties.Rays.{is_on_ray, is_open}
+use Rattle.chess_bits.specs.ties.Shapes.{in_shape}
+use Rattle.chess_bits.specs.ties.Occupancy.{IsOccupied}
 
 -- the four rays along lines, and the four along diagonals
 pub on_lines : (a b : ℕ) (o : Bool)

@@ -5,7 +5,7 @@ use Rattle.std.proofs.lemmas.Bool.{and_parts, cases_Bool}
 use Rattle.chess_base.specs.Squares.{is_between}
 use Rattle.chess_bits.specs.declared.line.Line.{Line}
 use Rattle.chess_moves.specs.Sets.{has, is_past}
-use Rattle.chess_bits.specs.Rays.{same_line, is_on_ray, is_open}
+use Rattle.chess_bits.specs.ties.Rays.{same_line, is_on_ray, is_open}
 use Rattle.chess_bits.proofs.Geometry.{between_on_line}
 use Rattle.chess_base.proofs.OverSquares.{each_square-all, each_square-fails}
 

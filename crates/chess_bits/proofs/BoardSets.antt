@@ -8,7 +8,7 @@ use Rattle.chess_base.specs.declared.man.Man.{Man}
 use Rattle.chess_base.specs.Men.{Men, man_at, is_of, is_man, other, kind_number}
 use Rattle.chess_moves.specs.Sets.{has}
 use Rattle.std.proofs.lemmas.List.{set-get_or}
-use Rattle.chess_bits.specs.KindSets.{IsKinds}
+use Rattle.chess_bits.specs.ties.KindSets.{IsKinds}
 
 -- the sets of a colour none of whose men came or went
 pub kinds_kept : (sets : List ℕ) (men : Men) (c : Colour) (s : ℕ) (o : Option Man) → length men ≡ 64 → s < 64

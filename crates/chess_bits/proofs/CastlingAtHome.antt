@@ -15,7 +15,7 @@ use Rattle.chess_base.specs.MoveList.{triple}
 use Rattle.chess_base.specs.Sound.{IsSound}
 use Rattle.chess_base.proofs.Castlings.{right_stands_of, right_that_stands}
 use Rattle.chess_base.specs.declared.man.Variant.{Variant}
-use Rattle.chess_bits.specs.Goes.{castling_end}
+use Rattle.chess_bits.specs.ties.Goes.{castling_end}
 use Rattle.chess_bits.proofs.OneKing.{alone, has_king}
 
 stands : (p : Setup) (w : CastlingSide) (rook : ℕ) → IsSound p → p.variant ≡ Normal → right_of p.rights p.side w ≡ Some rook → stand_for_castling Normal p.men p.side w rook ≡ true

@@ -23,10 +23,10 @@ use Rattle.chess_base.proofs.Castlings.{right_stands_of, right_that_stands}
 use Rattle.chess_base.proofs.Landing.{says_from_castling, castling_says, castle_there, no_castle}
 use Rattle.chess_base.proofs.Changes.{no_en_passant}
 use Rattle.chess_base.proofs.MenFacts.{in_board, is_man-kind}
-use Rattle.chess_moves.specs.Candidates.{would_promote}
+use Rattle.chess_moves.specs.Promoting.{would_promote}
 use Rattle.chess_bits.specs.declared.line.Line.TheVariants.{Rank}
-use Rattle.chess_bits.specs.Goes.{goes}
-use Rattle.chess_bits.specs.Rays.{is_on_ray}
+use Rattle.chess_bits.specs.ties.Goes.{goes}
+use Rattle.chess_bits.specs.ties.Rays.{is_on_ray}
 use Rattle.chess_bits.proofs.Geometry.{between_on_line}
 use Rattle.chess_bits.proofs.Patterns.{pattern_by, officer_goes, not_promoting}
 use Rattle.chess_bits.proofs.TargetsOf.{man_told}

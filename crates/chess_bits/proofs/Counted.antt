@@ -7,7 +7,8 @@ use Rattle.chess_base.specs.declared.setup.Setup.{Setup}
 use Rattle.chess_base.specs.MoveList.{triple, squares, moves}
 use Rattle.chess_base.specs.Moves.{is_legal}
 use Rattle.chess_base.specs.Sound.{IsSound}
-use Rattle.chess_moves.specs.Candidates.{would_promote, moves_between, moves_from}
+use Rattle.chess_moves.specs.ties.Candidates.{moves_between, moves_from}
+use Rattle.chess_moves.specs.Promoting.{would_promote}
 use Rattle.chess_moves.specs.Sets.{has, members}
 use Rattle.chess_moves.proofs.Parts.{moves-by_start, all_promote, none_promotes}
 use Rattle.chess_moves.proofs.Room.{moves_fit}

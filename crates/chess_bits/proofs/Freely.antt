@@ -20,11 +20,12 @@ use Rattle.chess_base.specs.Squares.{rank, some_square, is_square, share_rank_or
 use Rattle.chess_base.proofs.Changes.{advance_goes, pawn_attack}
 use Rattle.chess_base.proofs.OverSquares.{each_square-at, some_square-at, some_square-none}
 use Rattle.chess_bits.proofs.Lifted.{lifted_at}
-use Rattle.chess_moves.specs.Candidates.{would_promote, moves_between, moves_from}
+use Rattle.chess_moves.specs.ties.Candidates.{moves_between, moves_from}
+use Rattle.chess_moves.specs.Promoting.{would_promote}
 use Rattle.chess_moves.specs.Sets.{has, members}
 use Rattle.chess_bits.specs.declared.table.Shape.TheVariants as shape
-use Rattle.chess_bits.specs.Shapes.{in_shape}
-use Rattle.chess_bits.specs.Goes.{goes, aims_at, OpensNoLine, OpensNoDiagonal, IsFree, lifted}
+use Rattle.chess_bits.specs.ties.Shapes.{in_shape}
+use Rattle.chess_bits.specs.ties.Goes.{goes, aims_at, OpensNoLine, OpensNoDiagonal, IsFree, lifted}
 use Rattle.chess_bits.proofs.AfterSets.{check_is}
 use Rattle.chess_bits.proofs.Counted.{one_counted}
 use Rattle.chess_bits.proofs.KingAfter.{mover_some, mover_own, king_stays, check_after, legal_is}

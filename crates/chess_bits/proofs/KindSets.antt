@@ -9,8 +9,8 @@ use Rattle.chess_base.specs.Men.{Men, man_at, is_man, kind_number}
 use Rattle.chess_base.proofs.MenFacts.{same_colour-self}
 use Rattle.chess_moves.specs.Sets.{has}
 use Rattle.std.specs.Prelude.{slice_index}
-use Rattle.chess_bits.specs.Occupancy.{IsLater}
-use Rattle.chess_bits.specs.KindSets.{IsKinds}
+use Rattle.chess_bits.specs.ties.Occupancy.{IsLater}
+use Rattle.chess_bits.specs.ties.KindSets.{IsKinds}
 
 kind_below : (x : Kind) → kind_number x < 6
 kind_below King = omega arith

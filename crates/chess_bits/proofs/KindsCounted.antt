@@ -12,9 +12,9 @@ use Rattle.chess_base.specs.Moves.{pawn_advances, pawn_captures}
 use Rattle.chess_base.specs.Sound.{IsSound}
 use Rattle.chess_base.specs.Squares.{rank}
 use Rattle.chess_base.proofs.MenFacts.{is_of-from_is_man}
-use Rattle.chess_moves.specs.Candidates.{moves_from}
+use Rattle.chess_moves.specs.ties.Candidates.{moves_from}
 use Rattle.chess_moves.specs.Sets.{has, members}
-use Rattle.chess_bits.specs.Goes.{aims_at, man_goes, IsFree, AreFree}
+use Rattle.chess_bits.specs.ties.Goes.{aims_at, man_goes, IsFree, AreFree}
 use Rattle.chess_bits.proofs.Freely.{no_pawn_usual, pawn_usual, free_counted}
 use Rattle.chess_bits.proofs.TargetsOf.{man_told, officer_is, man_set_sound, man_set_complete, pawn_sound, pawn_complete}
 

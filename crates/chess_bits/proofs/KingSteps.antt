@@ -24,9 +24,10 @@ use Rattle.chess_base.specs.Sound.{IsSound}
 use Rattle.chess_base.specs.Squares.{file, rank, gap, is_between, is_between_on_file, is_between_on_rank, is_between_on_diagonal}
 use Rattle.chess_base.proofs.Castlings.{right_stands_of, castling_rook_stands}
 use Rattle.chess_base.proofs.MenFacts.{is_of-from_is_man}
-use Rattle.chess_moves.specs.Candidates.{would_promote, moves_between, moves_from}
+use Rattle.chess_moves.specs.ties.Candidates.{moves_between, moves_from}
+use Rattle.chess_moves.specs.Promoting.{would_promote}
 use Rattle.chess_moves.specs.Sets.{has, members}
-use Rattle.chess_bits.specs.Goes.{goes, legal_or, lifted}
+use Rattle.chess_bits.specs.ties.Goes.{goes, legal_or, lifted}
 use Rattle.chess_bits.proofs.Attackers.{each_square_same, some_square_same, eq_back}
 use Rattle.chess_bits.proofs.Counted.{one_counted}
 use Rattle.chess_bits.proofs.Freely.{lands_same, all_once}

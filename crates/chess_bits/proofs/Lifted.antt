@@ -7,9 +7,9 @@ use Rattle.chess_base.specs.declared.man.Man.{Man}
 use Rattle.chess_base.specs.Men.{Men, man_at, is_of, is_man}
 use Rattle.chess_base.proofs.MenFacts.{not_is_man}
 use Rattle.chess_moves.specs.Sets.{has}
-use Rattle.chess_bits.specs.Goes.{lifted}
-use Rattle.chess_bits.specs.KindSets.{IsKinds}
-use Rattle.chess_bits.specs.Occupancy.{IsOccupied}
+use Rattle.chess_bits.specs.ties.Goes.{lifted}
+use Rattle.chess_bits.specs.ties.KindSets.{IsKinds}
+use Rattle.chess_bits.specs.ties.Occupancy.{IsOccupied}
 
 pub lifted_at : (men : Men) (a k : ℕ) → length men ≡ 64 → a < 64 → man_at (lifted men a) k ≡ cond (k == a) None (man_at men k)
 lifted_at men a k all low =

@@ -12,12 +12,13 @@ use Rattle.chess_base.specs.Men.{man_at, is_of}
 use Rattle.chess_base.specs.MoveList.{triple, squares, moves}
 use Rattle.chess_base.specs.Moves.{has_pattern, is_legal, promotion_fits}
 use Rattle.chess_base.specs.Sound.{IsSound}
-use Rattle.chess_moves.specs.Candidates.{would_promote, moves_between, moves_from}
+use Rattle.chess_moves.specs.ties.Candidates.{moves_between, moves_from}
+use Rattle.chess_moves.specs.Promoting.{would_promote}
 use Rattle.chess_moves.specs.Sets.{has, members}
 use Rattle.chess_moves.proofs.Members.{flat_map_members}
 use Rattle.chess_moves.proofs.Parts.{moves-by_start, none_from}
 use Rattle.chess_moves.proofs.Room.{moves_fit}
-use Rattle.chess_bits.specs.Goes.{goes}
+use Rattle.chess_bits.specs.ties.Goes.{goes}
 use Rattle.chess_bits.proofs.Patterns.{pattern_is}
 
 -- ---- members

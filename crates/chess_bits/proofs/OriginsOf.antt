@@ -21,9 +21,9 @@ use Rattle.chess_moves.specs.Sets.{has, HasOrigins}
 use Rattle.chess_moves.proofs.Origins.{begins_below}
 use Rattle.chess_bits.specs.declared.line.Line.TheVariants.{File}
 use Rattle.chess_bits.specs.declared.table.Shape.TheVariants as shape
-use Rattle.chess_bits.specs.Goes.{man_goes}
-use Rattle.chess_bits.specs.Rays.{is_on_ray}
-use Rattle.chess_bits.specs.Shapes.{in_shape}
+use Rattle.chess_bits.specs.ties.Goes.{man_goes}
+use Rattle.chess_bits.specs.ties.Rays.{is_on_ray}
+use Rattle.chess_bits.specs.ties.Shapes.{in_shape}
 use Rattle.chess_bits.proofs.Attackers.{each_square_same, between_back, eq_back, gap_back, diagonal_back, pawn_back}
 use Rattle.chess_bits.proofs.Patterns.{man_complete, pawn_goes, legal_goes}
 use Rattle.chess_bits.proofs.Reached.{line_back}

@@ -15,9 +15,9 @@ use Rattle.chess_base.specs.MoveList.{triple}
 use Rattle.chess_base.specs.Moves.{has_pattern, is_legal, after, moves_as, castles_or_moves, man_moves, pawn_moves, pawn_advances, pawn_captures, is_double_advance, promotion_fits}
 use Rattle.chess_base.specs.Squares.{rank}
 use Rattle.chess_base.proofs.MenFacts.{same_colour-self}
-use Rattle.chess_moves.specs.Candidates.{would_promote}
+use Rattle.chess_moves.specs.Promoting.{would_promote}
 use Rattle.chess_moves.specs.Sets.{has}
-use Rattle.chess_bits.specs.Goes.{usual_promotion, goes, legal_or, man_goes}
+use Rattle.chess_bits.specs.ties.Goes.{usual_promotion, goes, legal_or, man_goes}
 
 and_true : (b : Bool) → (b && true) ≡ b
 and_true true = refl

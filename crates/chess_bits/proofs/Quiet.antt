@@ -15,7 +15,7 @@ use Rattle.chess_base.specs.Moves.{is_en_passant, man_that_lands, men_after, sec
 use Rattle.chess_base.specs.Castling.{castle_of, lands_on, castling_rook_to}
 use Rattle.chess_base.proofs.MenAfter.{man_after, man_at-men_after}
 use Rattle.chess_base.proofs.OverSquares.{some_square-at, some_square-none, each_square-all, each_square-at}
-use Rattle.chess_bits.specs.Goes.{lifted}
+use Rattle.chess_bits.specs.ties.Goes.{lifted}
 use Rattle.chess_bits.proofs.Attackers.{eq_back}
 use Rattle.chess_bits.proofs.Lifted.{lifted_at}
 use Rattle.chess_bits.proofs.TargetsOf.{no_king_says, none_castles}

@@ -6,9 +6,9 @@ use Rattle.chess_base.specs.Squares.{file, rank, is_between, share_rank_or_file,
 use Rattle.chess_base.specs.Men.{Men, man_at}
 use Rattle.chess_base.specs.Attacks.{is_clear, could_capture}
 use Rattle.chess_bits.specs.declared.table.Shape.TheVariants as shape
-use Rattle.chess_bits.specs.Rays.{is_open}
-use Rattle.chess_bits.specs.Shapes.{in_shape}
-use Rattle.chess_bits.specs.Occupancy.{IsOccupied}
+use Rattle.chess_bits.specs.ties.Rays.{is_open}
+use Rattle.chess_bits.specs.ties.Shapes.{in_shape}
+use Rattle.chess_bits.specs.ties.Occupancy.{IsOccupied}
 use Rattle.chess_bits.proofs.Attackers.{each_square_same, de_morgan, eq_back, diagonal_back, queen_parts}
 
 pub knight_from : (men : Men) (c : Colour) (a b : ℕ) → in_shape shape.Knight a b ≡ could_capture men c Knight a b

@@ -10,9 +10,9 @@ use Rattle.chess_base.proofs.OverSquares.{each_square-all, each_square-at}
 use Rattle.chess_moves.specs.Sets.{has}
 use Rattle.chess_bits.specs.declared.line.Line.{Line}
 use Rattle.chess_bits.specs.declared.line.Line.TheVariants.{Rank, File, Diagonal, Antidiagonal}
-use Rattle.chess_bits.specs.Goes.{lifted}
-use Rattle.chess_bits.specs.Occupancy.{IsOccupied}
-use Rattle.chess_bits.specs.Rays.{line_number, same_line, is_open}
+use Rattle.chess_bits.specs.ties.Goes.{lifted}
+use Rattle.chess_bits.specs.ties.Occupancy.{IsOccupied}
+use Rattle.chess_bits.specs.ties.Rays.{line_number, same_line, is_open}
 use Rattle.chess_bits.proofs.Attackers.{between_back}
 use Rattle.chess_bits.proofs.Geometry.{share_diagonal_is, between_on_line}
 use Rattle.chess_bits.proofs.KingSteps.{not_between_end}

@@ -8,10 +8,10 @@ use Rattle.chess_base.specs.declared.man.Man.{Man}
 use Rattle.std.specs.Prelude.{slice_index}
 use Rattle.chess_base.specs.Men.{Men, man_at, is_of, is_man, kind_number}
 use Rattle.chess_moves.specs.Sets.{has}
-use Rattle.chess_bits.specs.Occupancy.{IsOccupied}
+use Rattle.chess_bits.specs.ties.Occupancy.{IsOccupied}
 use Rattle.chess_bits.specs.declared.sets.Sets.{Sets}
-use Rattle.chess_bits.specs.KindSets.{IsKinds}
-use Rattle.chess_bits.specs.BoardSets.{IsSets}
+use Rattle.chess_bits.specs.ties.KindSets.{IsKinds}
+use Rattle.chess_bits.specs.ties.BoardSets.{IsSets}
 
 pub kinds_same : (sets : List ℕ) (c : Colour) (a b : Men) → ((k : ℕ) → k < 64 → man_at a k ≡ man_at b k) → IsKinds sets c a → IsKinds sets c b
 kinds_same sets c a b same h = record { of_kind = λ kind k low. h.of_kind kind k low ∙ ap (is_man c kind) (same k low) }

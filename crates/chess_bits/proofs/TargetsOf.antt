@@ -26,7 +26,7 @@ use Rattle.chess_base.proofs.Landing.{no_castle}
 use Rattle.chess_base.proofs.MenFacts.{same_colour-self, same_colour-true}
 use Rattle.chess_moves.specs.Sets.{has}
 use Rattle.chess_moves.proofs.Reach.{own_man_moves}
-use Rattle.chess_bits.specs.Goes.{goes, names_end, castling_end, legal_or, castling_or, man_goes}
+use Rattle.chess_bits.specs.ties.Goes.{goes, names_end, castling_end, legal_or, castling_or, man_goes}
 use Rattle.chess_bits.proofs.Patterns.{pawn_goes, legal_goes, man_sound, man_complete}
 
 -- ---- officers

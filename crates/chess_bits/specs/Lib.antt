@@ -1,6 +1,1 @@
-pub mod Rays
-pub mod Shapes
-pub mod Occupancy
-pub mod KindSets
-pub mod BoardSets
-pub mod Goes
+pub mod ties

@@ -5,7 +5,7 @@ ghost use Rattle.chess_base.specs.Attacks.{is_attacked};
 ghost use Rattle.chess_base.specs.Initial.{initial_setup};
 ghost use Rattle.chess_base.specs.Men.{Men, man_at, is_man};
 ghost use Rattle.chess_base.specs.declared.man.Kind.TheVariants.{King};
-ghost use Rattle.chess_bits.specs.Occupancy.{IsOccupied};
+ghost use Rattle.chess_bits.specs.ties.Occupancy.{IsOccupied};
 
 use crate::listing::promotion_fits;
 use crate::placing::{move_back, move_on};
@@ -34,7 +34,7 @@ impl Model for Bits {
     ghost Value = { Setup };
 
     ghost use Rattle.chess_base.specs.Sound.{IsSound};
-    ghost use Rattle.chess_bits.specs.BoardSets.{IsSets};
+    ghost use Rattle.chess_bits.specs.ties.BoardSets.{IsSets};
 
     ghost view = { λ b. b.setup };
 

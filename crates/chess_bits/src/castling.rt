@@ -6,7 +6,7 @@ ghost use Rattle.chess_base.specs.Castling.{castle_of, is_on_way, castling_way_i
 ghost use Rattle.chess_base.specs.Men.{other};
 ghost use Rattle.chess_base.specs.Moves.{has_pattern, is_legal};
 ghost use Rattle.chess_base.specs.Squares.{rank, is_between, each_square};
-ghost use Rattle.chess_bits.specs.Rays.{is_on_ray};
+ghost use Rattle.chess_bits.specs.ties.Rays.{is_on_ray};
 ghost use Rattle.chess_bits.specs.declared.line.Line.TheVariants.{Rank};
 ghost use Rattle.chess_moves.specs.Sets.{has};
 
@@ -19,7 +19,7 @@ use chess_moves::{Board, SquareSet};
 
 impl Bits {
     // The squares of a rank above one square and below another.
-    #[tactic(auto, unfolding(crate::specs::Shapes::in_shape))]
+    #[tactic(auto, unfolding(crate::specs::ties::Shapes::in_shape))]
     fn above_and_below(&self, low: Square, high: Square) -> SquareSet
         ensures { (k : ℕ) → k < 64 → has result k ≡ (is_on_ray Rank true low k && is_on_ray Rank false high k) }
     {

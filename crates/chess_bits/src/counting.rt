@@ -7,8 +7,9 @@ ghost use Rattle.chess_base.specs.MoveList.{moves, triple};
 ghost use Rattle.chess_base.specs.Moves.{has_pattern, is_legal, man_moves, promotion_fits};
 ghost use Rattle.chess_base.specs.Squares.{rank};
 ghost use Rattle.chess_base.specs.declared.man.Kind.TheVariants.{King, Knight, Pawn};
-ghost use Rattle.chess_bits.specs.Goes.{goes, aims_at, IsFree, AreFree};
-ghost use Rattle.chess_moves.specs.Candidates.{would_promote, moves_between, moves_from};
+ghost use Rattle.chess_bits.specs.ties.Goes.{goes, aims_at, IsFree, AreFree};
+ghost use Rattle.chess_moves.specs.ties.Candidates.{moves_between, moves_from};
+ghost use Rattle.chess_moves.specs.Promoting.{would_promote};
 ghost use Rattle.chess_moves.specs.Sets.{has, members};
 
 use crate::bits::Bits;

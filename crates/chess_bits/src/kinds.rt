@@ -6,9 +6,9 @@ ghost use Rattle.chess_base.specs.Squares.{share_rank_or_file, share_diagonal};
 ghost use Rattle.chess_base.specs.Men.{Men, man_at, is_of, other, kind_number};
 ghost use Rattle.chess_base.specs.Attacks.{attacks, is_attacked};
 ghost use Rattle.chess_moves.specs.Sets.{has};
-ghost use Rattle.chess_bits.specs.Rays.{is_open};
-ghost use Rattle.chess_bits.specs.Occupancy.{IsOccupied, IsLater};
-ghost use Rattle.chess_bits.specs.KindSets.{IsKinds};
+ghost use Rattle.chess_bits.specs.ties.Rays.{is_open};
+ghost use Rattle.chess_bits.specs.ties.Occupancy.{IsOccupied, IsLater};
+ghost use Rattle.chess_bits.specs.ties.KindSets.{IsKinds};
 
 use crate::line::Line;
 use crate::table::Shape;
@@ -92,7 +92,7 @@ pub(crate) fn along_diagonals(
 }
 
 // Of these men those that are on the square's rank or file, with nothing between.
-#[tactic(auto, unfolding(crate::specs::Shapes::in_shape))]
+#[tactic(auto, unfolding(crate::specs::ties::Shapes::in_shape))]
 fn met_on_lines(
     tables: &AttackTables,
     square: Square,
@@ -109,7 +109,7 @@ fn met_on_lines(
 }
 
 // Of these men those that are on a diagonal of the square, with nothing between.
-#[tactic(auto, unfolding(crate::specs::Shapes::in_shape))]
+#[tactic(auto, unfolding(crate::specs::ties::Shapes::in_shape))]
 fn met_on_diagonals(
     tables: &AttackTables,
     square: Square,

@@ -1,5 +1,5 @@
 ghost use Rattle.std.specs.Prelude.{◌≡◌};
-ghost use Rattle.chess_bits.specs.Rays.{line_number, is_on_ray};
+ghost use Rattle.chess_bits.specs.ties.Rays.{line_number, is_on_ray};
 
 use chess_base::Square;
 

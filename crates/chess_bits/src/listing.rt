@@ -8,8 +8,9 @@ ghost use Rattle.chess_base.specs.Moves.{promotion_fits};
 ghost use Rattle.chess_base.specs.Squares.{rank};
 ghost use Rattle.chess_base.specs.declared.man.Kind.{Kind as ManKind};
 ghost use Rattle.chess_base.specs.declared.man.Kind.TheVariants.{Pawn};
-ghost use Rattle.chess_bits.specs.Goes.{goes, aims_at, IsFree};
-ghost use Rattle.chess_moves.specs.Candidates.{would_promote, moves_with, moves_between, moves_from};
+ghost use Rattle.chess_bits.specs.ties.Goes.{goes, aims_at, IsFree};
+ghost use Rattle.chess_moves.specs.ties.Candidates.{moves_with, moves_between, moves_from};
+ghost use Rattle.chess_moves.specs.Promoting.{would_promote};
 ghost use Rattle.chess_moves.specs.Sets.{has};
 
 use crate::bits::Bits;

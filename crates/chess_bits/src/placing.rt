@@ -7,7 +7,7 @@ ghost use Rattle.chess_base.specs.Moves.{after, is_legal, steps_of};
 ghost use Rattle.chess_base.specs.Sound.{IsSound};
 ghost use Rattle.chess_base.specs.Squares.{is_square};
 ghost use Rattle.chess_base.specs.Steps.{men_stepped};
-ghost use Rattle.chess_bits.specs.BoardSets.{IsSets};
+ghost use Rattle.chess_bits.specs.ties.BoardSets.{IsSets};
 ghost use Rattle.chess_moves.specs.Made.{IsMade};
 
 use crate::sets::Sets;

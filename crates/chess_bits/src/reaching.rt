@@ -3,7 +3,7 @@
 ghost use Rattle.std.specs.Prelude.{◌≡◌, ℕ, ◌<◌};
 ghost use Rattle.chess_base.specs.Attacks.{could_capture};
 ghost use Rattle.chess_base.specs.Men.{Men};
-ghost use Rattle.chess_bits.specs.Occupancy.{IsOccupied};
+ghost use Rattle.chess_bits.specs.ties.Occupancy.{IsOccupied};
 ghost use Rattle.chess_moves.specs.Sets.{has};
 
 use crate::kinds::{along_diagonals, along_lines};

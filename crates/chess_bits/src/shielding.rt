@@ -2,7 +2,7 @@
 
 ghost use Rattle.std.specs.Prelude.{◌≡◌, ◌<◌, ℕ, true, false};
 ghost use Rattle.chess_base.specs.Men.{man_at, is_of};
-ghost use Rattle.chess_bits.specs.Goes.{OpensNoLine, OpensNoDiagonal, IsFree};
+ghost use Rattle.chess_bits.specs.ties.Goes.{OpensNoLine, OpensNoDiagonal, IsFree};
 ghost use Rattle.chess_moves.specs.Sets.{has};
 
 use crate::bits::Bits;
@@ -14,7 +14,7 @@ use chess_moves::{Board, SquareSet};
 impl Bits {
     // The own men that the king sees on his rank and file, if one of them hides a rook or queen from him, and else none:
     // taking off any other man opens neither.
-    #[tactic(auto, unfolding(crate::specs::Shapes::in_shape))]
+    #[tactic(auto, unfolding(crate::specs::ties::Shapes::in_shape))]
     fn line_shields(&self, king: Square) -> SquareSet
         ensures { (a : ℕ) → a < 64 → is_of (self.now).side (man_at (self.now).men a) ≡ true → has result a ≡ false → OpensNoLine self.now a king }
     {
@@ -38,7 +38,7 @@ impl Bits {
     }
 
     // The own men that the king sees on his diagonals, if one of them hides a bishop or queen from him, and else none.
-    #[tactic(auto, unfolding(crate::specs::Shapes::in_shape))]
+    #[tactic(auto, unfolding(crate::specs::ties::Shapes::in_shape))]
     fn diagonal_shields(&self, king: Square) -> SquareSet
         ensures { (a : ℕ) → a < 64 → is_of (self.now).side (man_at (self.now).men a) ≡ true → has result a ≡ false → OpensNoDiagonal self.now a king }
     {
@@ -77,7 +77,7 @@ impl Bits {
 
     // The men of the side on move that stand on none of their king's lines, where he is not in check: they may go anywhere,
     // as far as he is concerned. They are found sooner than all free men.
-    #[tactic(auto, unfolding(crate::specs::Shapes::in_shape))]
+    #[tactic(auto, unfolding(crate::specs::ties::Shapes::in_shape))]
     pub(crate) fn men_off_lines(&self) -> SquareSet
         ensures { (k : ℕ) → k < 64 → has result k ≡ true → IsFree self.now k }
     {

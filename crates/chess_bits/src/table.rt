@@ -1,6 +1,6 @@
 ghost use Rattle.std.specs.Prelude.{◌≡◌, ℕ, ◌<◌};
 ghost use Rattle.chess_moves.specs.Sets.{has};
-ghost use Rattle.chess_bits.specs.Shapes.{in_shape};
+ghost use Rattle.chess_bits.specs.ties.Shapes.{in_shape};
 
 use crate::line::{Line, is_on_ray};
 use chess_base::{Colour, Square};
@@ -20,7 +20,7 @@ pub enum Shape {
     Ray(Line, bool),
 }
 
-#[tactic(auto, unfolding(crate::specs::Shapes::in_shape))]
+#[tactic(auto, unfolding(crate::specs::ties::Shapes::in_shape))]
 fn in_shape(shape: Shape, a: Square, b: Square) -> bool
     ensures { result ≡ in_shape shape a b }
 {
@@ -64,7 +64,7 @@ impl Model for Table {
     ghost Value = { Shape };
 
     ghost use Rattle.chess_moves.specs.Sets.{has};
-    ghost use Rattle.chess_bits.specs.Shapes.{in_shape};
+    ghost use Rattle.chess_bits.specs.ties.Shapes.{in_shape};
 
     ghost view = { λ t. t.shape };
 

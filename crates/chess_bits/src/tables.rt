@@ -1,7 +1,7 @@
 ghost use Rattle.std.specs.Prelude.{◌≡◌, ℕ, ◌<◌, ◌&&◌, ◌||◌, true, false};
 ghost use Rattle.chess_moves.specs.Sets.{has, IsNearest};
-ghost use Rattle.chess_bits.specs.Shapes.{in_shape};
-ghost use Rattle.chess_bits.specs.Rays.{is_on_ray, is_open};
+ghost use Rattle.chess_bits.specs.ties.Shapes.{in_shape};
+ghost use Rattle.chess_bits.specs.ties.Rays.{is_on_ray, is_open};
 ghost use Rattle.chess_bits.specs.declared.table.Shape.TheVariants.{King, Knight, Pawn, Lines, Diagonals, Ray};
 ghost use Rattle.chess_bits.specs.declared.line.Line.TheVariants.{Rank, File, Diagonal, Antidiagonal};
 ghost use Rattle.chess_base.specs.declared.man.Colour.TheVariants.{White, Black};
@@ -102,7 +102,7 @@ impl AttackTables {
     }
 
     /// The squares of a ray up to and with its first square in occupied.
-    #[tactic(auto, using(crate::proofs::Blockers::swept), unfolding(crate::specs::Shapes::in_shape))]
+    #[tactic(auto, using(crate::proofs::Blockers::swept), unfolding(crate::specs::ties::Shapes::in_shape))]
     pub fn sweep(&self, line: Line, up: bool, from: Square, occupied: SquareSet) -> SquareSet
         ensures { (k : ℕ) → k < 64 → has result k ≡ (is_on_ray line up from k && is_open occupied from k) }
     {

@@ -7,11 +7,11 @@ ghost use Rattle.chess_base.specs.MoveList.{triple};
 ghost use Rattle.chess_base.specs.Moves.{is_legal, pawn_advances, pawn_captures};
 ghost use Rattle.chess_base.specs.declared.man.Kind.TheVariants.{King, Pawn};
 ghost use Rattle.chess_base.specs.Castling.{right_of, castled_rook_file, castle_of};
-ghost use Rattle.chess_bits.specs.Goes.{goes, castling_end, legal_or, castling_or, man_goes};
+ghost use Rattle.chess_bits.specs.ties.Goes.{goes, castling_end, legal_or, castling_or, man_goes};
 ghost use Rattle.chess_bits.specs.declared.line.Line.TheVariants.{File};
 ghost use Rattle.chess_bits.specs.declared.table.Shape.TheVariants.{Pawn as PawnAttack};
-ghost use Rattle.chess_bits.specs.Rays.{is_on_ray};
-ghost use Rattle.chess_bits.specs.Shapes.{in_shape};
+ghost use Rattle.chess_bits.specs.ties.Rays.{is_on_ray};
+ghost use Rattle.chess_bits.specs.ties.Shapes.{in_shape};
 ghost use Rattle.chess_moves.specs.Sets.{has};
 
 use crate::bits::Bits;
@@ -200,7 +200,7 @@ impl Bits {
     }
 
     // The squares from which pawns of the side on move may go to one: those of its file, and those from which they attack it.
-    #[tactic(auto, unfolding(crate::specs::Shapes::in_shape))]
+    #[tactic(auto, unfolding(crate::specs::ties::Shapes::in_shape))]
     pub(crate) fn pawn_starts(&self, to: Square) -> SquareSet
         ensures { (k : ℕ) → k < 64 → has result k ≡ ((is_on_ray File true to k || is_on_ray File false to k) || in_shape (PawnAttack (other (self.now).side)) to k) }
     {

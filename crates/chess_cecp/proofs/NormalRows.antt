@@ -16,7 +16,7 @@ use Rattle.chess_game.specs.Line.{last}
 use Rattle.chess_pgn.specs.declared.tags.Tags.{Tags}
 use Rattle.chess_cecp.specs.declared.command.Command.{Command}
 use Rattle.chess_cecp.specs.declared.command.Command.TheVariants.{New, SetBoard, UserMove, BareMove, Undo, Remove, Declare, Claim, Ping, Protover, Variant, Go, ShowFen, ShowMoves, ShowState, ShowPgn, Quit, Silent, BadNumber, Unknown}
-use Rattle.chess_cecp.specs.Normal.{normal_row_of, normal_moves_line}
+use Rattle.chess_cecp.specs.laws.Normal.{normal_row_of, normal_moves_line}
 use Rattle.chess_cecp.specs.Session.{Row, row, says, setboard_row, moves_line, shown, line_text}
 
 -- what a move leaves is of the variant of the position before it

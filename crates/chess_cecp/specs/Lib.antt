@@ -5,4 +5,4 @@ pub mod Declaring
 pub mod Held
 pub mod Session
 pub mod Run
-pub mod Normal
+pub mod laws

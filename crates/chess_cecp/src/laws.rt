@@ -7,7 +7,7 @@ ghost use Rattle.chess_pgn.specs.declared.tags.Tags.{Tags};
 ghost use Rattle.chess_cecp.specs.declared.command.Command.{Command};
 ghost use Rattle.chess_cecp.specs.Held.{Seen};
 ghost use Rattle.chess_cecp.specs.Lines.{LineSeen, lines_heard, line_of, HasNoEnd};
-ghost use Rattle.chess_cecp.specs.Normal.{normal_row_of};
+ghost use Rattle.chess_cecp.specs.laws.Normal.{normal_row_of};
 ghost use Rattle.chess_cecp.specs.Session.{row, next_state, answer_to, IsRefusal};
 
 /// The lines are the pieces that byte 10 ends, and what follows the last one, if it isn't empty and the end was told.

@@ -5,7 +5,7 @@ use Rattle.chess_base.specs.declared.setup.Setup.{Setup}
 use Rattle.chess_base.specs.Moves.{after}
 use Rattle.chess_game.specs.Line.{line, last}
 use Rattle.chess_game.specs.Same.{same, rep}
-use Rattle.chess_game.specs.Places.{moves_of, Follows}
+use Rattle.chess_game.specs.ties.Places.{moves_of, Follows}
 use Rattle.chess_game.specs.declared.game.Place.{Place}
 
 abbrev pub one_if : Bool → ℕ

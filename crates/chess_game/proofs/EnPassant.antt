@@ -13,7 +13,7 @@ use Rattle.chess_base.specs.Moves.{is_legal, is_en_passant}
 use Rattle.chess_base.specs.Squares.{is_square}
 use Rattle.chess_base.specs.Sound.{IsSound, target_is_behind_double_advance, target_is_behind_double_advance_at}
 use Rattle.chess_base.specs.Squares.{rank}
-use Rattle.chess_moves.specs.Candidates.{would_promote}
+use Rattle.chess_moves.specs.Promoting.{would_promote}
 use Rattle.chess_moves.specs.Sets.{HasOrigins}
 use Rattle.chess_moves.proofs.Reach.{promotes_on_last_rank}
 use Rattle.chess_moves.proofs.SomeMember.{AllFound}

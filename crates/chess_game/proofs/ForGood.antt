@@ -12,11 +12,11 @@ use Rattle.chess_base.specs.Men.{Men, man_at, same_colour, same_kind}
 use Rattle.chess_base.specs.Moves.{after}
 use Rattle.chess_base.specs.Squares.{from_below}
 use Rattle.chess_base.specs.Squares.{each_square}
-use Rattle.chess_base.specs.Reserve.{reserve, weight, ranks_to_go}
-use Rattle.chess_base.specs.Laws.{ReserveNeverGrows, ReserveFallsForGood}
+use Rattle.chess_base.specs.laws.Reserve.{reserve, weight, ranks_to_go}
+use Rattle.chess_base.specs.laws.Laws.{ReserveNeverGrows, ReserveFallsForGood}
 use Rattle.chess_game.specs.Line.{last}
 use Rattle.chess_game.specs.Same.{same, rep, same_man, same_men, same_rights, same_square, live_target}
-use Rattle.chess_game.specs.Places.{moves_of, Follows}
+use Rattle.chess_game.specs.ties.Places.{moves_of, Follows}
 use Rattle.chess_game.specs.declared.game.Place.{Place}
 use Rattle.chess_game.proofs.Below.{each_below-at}
 use Rattle.chess_game.proofs.Counting.{seen, seen-more, counted, one_if}

@@ -6,7 +6,7 @@ use Rattle.chess_base.specs.declared.setup.Setup.{Setup}
 use Rattle.chess_base.specs.declared.man.Move.{Move}
 use Rattle.chess_game.specs.Ends.{verdict}
 use Rattle.chess_game.specs.Game.{State, last_move, is_over}
-use Rattle.chess_game.specs.Places.{moves_of, IsJudged}
+use Rattle.chess_game.specs.ties.Places.{moves_of, IsJudged}
 use Rattle.chess_game.specs.declared.ends.Verdict.{Verdict}
 use Rattle.chess_game.specs.declared.game.Place.{Place}
 

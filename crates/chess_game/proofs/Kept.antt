@@ -7,7 +7,7 @@ use Rattle.chess_base.specs.declared.setup.Setup.{Setup}
 use Rattle.chess_base.specs.Moves.{after}
 use Rattle.chess_moves.specs.Made.{WasMade}
 use Rattle.chess_game.specs.Line.{last, IsLine}
-use Rattle.chess_game.specs.Places.{moves_of, IsKnown, Follows}
+use Rattle.chess_game.specs.ties.Places.{moves_of, IsKnown, Follows}
 use Rattle.chess_game.specs.Game.{Seen, is_full}
 use Rattle.chess_game.specs.declared.game.Place.{Place}
 use Rattle.chess_game.specs.declared.results.Declared.{Declared}

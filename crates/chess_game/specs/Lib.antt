@@ -3,4 +3,4 @@ pub mod Same
 pub mod Results
 pub mod Ends
 pub mod Game
-pub mod Places
+pub mod ties

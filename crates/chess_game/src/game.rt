@@ -7,7 +7,7 @@ ghost use Rattle.chess_game.specs.Line.{last};
 ghost use Rattle.chess_game.specs.Same.{rep};
 ghost use Rattle.chess_game.specs.Ends.{verdict, claims};
 ghost use Rattle.chess_game.specs.Game.{at, from_start, with_declared, current, verdict_now, outcome_now, opened, is_over, is_full, play_refusal, unless_refused, after_play, last_move, after_take_back, declare_refusal, after_declare, IsPlayable};
-ghost use Rattle.chess_game.specs.Places.{moves_of, IsKnown, Follows, IsKept};
+ghost use Rattle.chess_game.specs.ties.Places.{moves_of, IsKnown, Follows, IsKept};
 
 use crate::ends::{Claims, Verdict, is_bare, mates};
 use crate::repetition::Known;
@@ -62,7 +62,7 @@ impl<B: Board> Model for Game<B> {
     ghost Value = { Seen };
 
     ghost use Rattle.std.specs.Prelude.{vec_len, vec_capacity};
-    ghost use Rattle.chess_game.specs.Places.{moves_of, IsKept, IsJudged, HasRoom};
+    ghost use Rattle.chess_game.specs.ties.Places.{moves_of, IsKept, IsJudged, HasRoom};
 
     ghost view = { λ g. record {
       limit = g.limit;

@@ -6,7 +6,7 @@ use Rattle.chess_base.specs.declared.man.Colour.TheVariants.{White, Black}
 use Rattle.chess_base.specs.declared.man.Move.{Move}
 use Rattle.chess_match.specs.EngineLines.{LineKind, kind_heard}
 use Rattle.chess_match.specs.Items.{Item}
-use Rattle.chess_match.specs.Laws.{ClocksDoNotUnderflow}
+use Rattle.chess_match.specs.laws.Laws.{ClocksDoNotUnderflow}
 use Rattle.chess_match.specs.Levels.{LevelSeen, allotted, left}
 use Rattle.chess_match.specs.Match.{Match, Event, hear, start, clock, played_by, after}
 use Rattle.chess_match.specs.Rules.{Rules}

@@ -8,14 +8,14 @@ use Rattle.byte_devices.specs.Devices.{OutputState}
 use Rattle.chess_base.specs.Men.{other}
 use Rattle.chess_match.specs.Clocks.{ClocksSeen, spent_by}
 use Rattle.chess_cecp.specs.Lines.{LineSeen}
-use Rattle.chess_match.specs.Delivering.{Delivered, by_side, by_turn, event_heard}
+use Rattle.chess_match.specs.ties.Delivering.{Delivered, by_side, by_turn, event_heard}
 use Rattle.chess_match.specs.Items.{Item, items_of}
 use Rattle.chess_match.specs.Match.{Match, Event, Line, OutputEnds, FailsToRead, FailsToWrite, after}
 use Rattle.chess_match.specs.Rules.{Rules}
 use Rattle.chess_match.specs.Sent.{SentLine, block, bytes_of}
-use Rattle.chess_match.specs.Stands.{Stands, Goes, clocks_of}
-use Rattle.chess_match.specs.Steps.{IsSane, in_turn}
-use Rattle.chess_match.specs.Told.{SendsIf}
+use Rattle.chess_match.specs.ties.Stands.{Stands, Goes, clocks_of}
+use Rattle.chess_match.specs.ties.Steps.{IsSane, in_turn}
+use Rattle.chess_match.specs.ties.Told.{SendsIf}
 use Rattle.chess_match.specs.Run.{Asked, text_heard}
 use Rattle.chess_match.specs.Transcript.{is_on, reads, moment_in}
 use Rattle.chess_match.specs.declared.state.Core.{Core}

@@ -9,16 +9,16 @@ use Rattle.chess_cecp.specs.Lines.{Held}
 use Rattle.chess_game.specs.Ends.{verdict}
 use Rattle.chess_game.specs.Game as game
 use Rattle.chess_game.specs.Game.{with_declared, verdict_now}
-use Rattle.chess_match.specs.Delivering.{by_side}
+use Rattle.chess_match.specs.ties.Delivering.{by_side}
 use Rattle.chess_match.specs.Levels.{LevelSeen}
 use Rattle.chess_match.specs.Match.{Event, seat}
 use Rattle.chess_match.specs.Reasons.{declared_at}
 use Rattle.chess_match.specs.Rules.{Rules, rules_of}
 use Rattle.chess_match.specs.Run.{Ports, reader_at, writer_at, Heard, Written, game_after, Ran}
-use Rattle.chess_match.specs.Stands.{name_by}
-use Rattle.chess_match.specs.Told.{IsTold}
+use Rattle.chess_match.specs.ties.Stands.{name_by}
+use Rattle.chess_match.specs.ties.Told.{IsTold}
 use Rattle.chess_match.specs.Transcript.{match_of, ending_in, name_of, blocks}
-use Rattle.chess_match.specs.UnderWay.{IsUnderWay}
+use Rattle.chess_match.specs.ties.UnderWay.{IsUnderWay}
 use Rattle.chess_match.specs.declared.phase.Phase.TheVariants.{Over}
 use Rattle.chess_match.specs.declared.reason.Reason.{Reason}
 use Rattle.chess_match.specs.declared.run.Failed.{Failed}

@@ -7,7 +7,7 @@ use Rattle.chess_cecp.specs.Lines.{is_blank, without_front_blanks}
 use Rattle.chess_pgn.specs.Written.{cut_tag}
 use Rattle.chess_match.specs.Words.{is_name_byte, run_of}
 use Rattle.chess_match.specs.Items.{Item, Value, Digits, Quoted, quoted, quote_at, value_of, is_apart, with_value, with_name, item_of, ends_hello, first_items, items_of, has_done, last_value, said_or, takes, said_again, is_one, fischerandom_again, has_fischerandom, plays_fischerandom, told, value_text}
-use Rattle.chess_match.specs.Stands.{features_of, name_by}
+use Rattle.chess_match.specs.ties.Stands.{features_of, name_by}
 use Rattle.chess_match.specs.declared.features.Features.{Features}
 
 -- ---- the last value

@@ -7,7 +7,7 @@ use Rattle.std.proofs.lemmas.List.{append_cancel_right}
 use Rattle.chess_base.specs.declared.man.Colour.{Colour}
 use Rattle.byte_devices.specs.Devices.{InputState, OutputState, risen}
 use Rattle.chess_cecp.specs.Run.{risen_if}
-use Rattle.chess_match.specs.Laws.{Streams, IsOf, TellsAll, OnlyOneOfARun}
+use Rattle.chess_match.specs.laws.Laws.{Streams, IsOf, TellsAll, OnlyOneOfARun}
 use Rattle.chess_match.specs.Match.{Match, Event, Line, Opened, OutputEnds, FailsToRead, FailsToWrite, start, after}
 use Rattle.chess_match.specs.Rules.{Rules}
 use Rattle.chess_match.specs.Run.{Ports, reader_at, writer_at, engine_lines, Heard, Written, IsTranscript}

@@ -3,9 +3,9 @@ use Rattle.std.proofs.Common.{◌≡◌, ℕ, List, [], ◌++◌, Result, Ok, Er
 use Rattle.std.specs.Result.{is_err}
 use Rattle.byte_devices.specs.Devices.{OutputState, Took, Puts, Sends}
 use Rattle.byte_devices.proofs.DeviceLaws.{took_none, took_more, breaks_more}
-use Rattle.chess_pgn.specs.Waiting.{TookSome, Adds}
+use Rattle.chess_pgn.specs.ties.Waiting.{TookSome, Adds}
 use Rattle.chess_match.specs.Run.{Flushed}
-use Rattle.chess_match.specs.Told.{SendsIf}
+use Rattle.chess_match.specs.ties.Told.{SendsIf}
 use Rattle.chess_match.proofs.Due.{first_nil, last_nil}
 use Rattle.chess_match.proofs.Flushes.{flushed_empty, sends_more}
 

@@ -86,7 +86,7 @@ fn move_read(reading: Reading) -> Option<Move>
 }
 
 impl<B: Board> Played for Game<B> {
-    ghost use Rattle.chess_match.specs.Chess.{Plays};
+    ghost use Rattle.chess_match.specs.ties.Chess.{Plays};
 
     ghost plays = { λ g r. Plays g r };
 

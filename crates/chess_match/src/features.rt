@@ -3,7 +3,7 @@
 ghost use Rattle.std.specs.Prelude.{◌≡◌, ◌++◌, ◌∷◌, [], List, is_some};
 ghost use Rattle.chess_match.specs.Items as told;
 ghost use Rattle.chess_match.specs.Seen.{item_seen};
-ghost use Rattle.chess_match.specs.Stands.{features_of};
+ghost use Rattle.chess_match.specs.ties.Stands.{features_of};
 ghost use Rattle.chess_match.specs.Match.{lacking};
 
 use crate::item::Item;

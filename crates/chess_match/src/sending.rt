@@ -4,16 +4,16 @@ ghost use Rattle.std.specs.Prelude.{◌≡◌, ◌≢◌, ◌+◌, false, Ok, If
 ghost use Rattle.arrayvec.specs.ArrayVec.{array_vec_len};
 ghost use Rattle.byte_devices.specs.Devices.{Puts, Sends};
 ghost use Rattle.std.specs.Result.{is_err};
-ghost use Rattle.chess_match.specs.Told.{SendsIf};
+ghost use Rattle.chess_match.specs.ties.Told.{SendsIf};
 ghost use Rattle.chess_match.specs.Items.{items_of};
-ghost use Rattle.chess_pgn.specs.Waiting.{Adds};
+ghost use Rattle.chess_pgn.specs.ties.Waiting.{Adds};
 ghost use Rattle.chess_match.specs.Match.{Match};
 ghost use Rattle.chess_match.specs.Rules.{Rules};
 ghost use Rattle.chess_base.specs.Men.{same_colour};
 ghost use Rattle.chess_base.specs.declared.man.Move.{Move};
 ghost use Rattle.chess_match.specs.Sent.{SentLine, DrawOffered, answer_line, bytes_of, answers_to, last_move, last_move_lines, clock_lines, opening_lines, setup_lines, end_lines, end_block, entry, untold_lines, variant_lines, is_unwritten};
 ghost use Rattle.chess_match.specs.Reasons.{fault_of};
-ghost use Rattle.chess_match.specs.Stands.{Stands, given_block, player, to};
+ghost use Rattle.chess_match.specs.ties.Stands.{Stands, given_block, player, to};
 
 use crate::block::{Block, add, add_end, add_level, add_ping, add_times};
 use crate::features::Features;

@@ -4,7 +4,7 @@ ghost use Rattle.std.specs.Prelude.{◌≡◌, ◌++◌, ◌∷◌, [], List, fa
 ghost use Rattle.chess_match.specs.Seen.{item_seen};
 ghost use Rattle.chess_match.specs.Items as told;
 ghost use Rattle.chess_match.specs.Items.{items_of, has_done};
-ghost use Rattle.chess_match.specs.Stands.{features_of, name_by, Stands};
+ghost use Rattle.chess_match.specs.ties.Stands.{features_of, name_by, Stands};
 ghost use Rattle.chess_match.specs.Match.{start};
 ghost use Rattle.chess_match.specs.Rules.{Rules};
 
@@ -62,7 +62,7 @@ pub(crate) const ENTRY: Given = Given {
 
 impl Player {
     // Nothing was said yet.
-    #[tactic(auto, unfolding(crate::specs::Stands::features_of, crate::specs::Stands::name_by, crate::specs::Items::takes, crate::specs::Items::plays_fischerandom, crate::specs::Items::told))]
+    #[tactic(auto, unfolding(crate::specs::ties::Stands::features_of, crate::specs::ties::Stands::name_by, crate::specs::Items::takes, crate::specs::Items::plays_fischerandom, crate::specs::Items::told))]
     fn new() -> Self
         ensures features { result.features ≡ features_of [] }
         ensures name { result.name ≡ name_by [] }
@@ -121,7 +121,7 @@ impl Core {
 }
 
 // Takes over the name that an item says.
-#[tactic(auto, unfolding(crate::specs::Stands::name_by, crate::specs::Items::told))]
+#[tactic(auto, unfolding(crate::specs::ties::Stands::name_by, crate::specs::Items::told))]
 fn note_name(name: &mut TagText, item: &Item<'_>)
     ensures { (items : List told.Item) → name.old ≡ name_by items → name.new ≡ name_by (items ++ item_seen item.now ∷ []) }
 {

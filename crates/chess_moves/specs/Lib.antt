@@ -1,3 +1,4 @@
 pub mod Made
-pub mod Candidates
 pub mod Sets
+pub mod Promoting
+pub mod ties

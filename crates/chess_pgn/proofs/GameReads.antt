@@ -20,7 +20,7 @@ use Rattle.chess_text.specs.Moves.{reading}
 use Rattle.chess_pgn.specs.Words.{kind_of}
 use Rattle.chess_pgn.specs.Tokens.{Token, Skip, Tag, Word, Bad_tag, Unclosed_comment, Unclosed_variation, Bad, first_place, tokens_from}
 use Rattle.chess_pgn.specs.GameRead.{SoFar, Step, On, Stop, unless_full, move_step, word_step, fen_step, tag_step, step, go_on, game_of, nothing_read, told_by, told_next, variant_told, tokens_read, pgn_read}
-use Rattle.chess_pgn.specs.GameSteps.{so_far}
+use Rattle.chess_pgn.specs.ties.GameSteps.{so_far}
 use Rattle.chess_pgn.proofs.Cuts.{pick}
 
 -- ---- nothing is declared before the game's end

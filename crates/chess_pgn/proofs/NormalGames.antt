@@ -18,7 +18,7 @@ use Rattle.chess_pgn.specs.declared.word.WordKind.{WordKind}
 use Rattle.chess_pgn.specs.declared.word.WordKind.TheVariants.{End, Number, Marks, Move}
 use Rattle.chess_pgn.specs.GameRead.{SoFar, GameRead, Step, On, Stop, fails, fen_step, tag_step, move_step, word_step, step, unless_full, go_on, game_of, nothing_read, behind_word, told_next, variant_told, pgn_read, told_behind}
 use Rattle.chess_pgn.specs.GameText.{start_lines_in, last_lines, further_lines}
-use Rattle.chess_pgn.specs.Normal.{normal_further_lines, normal_tag_step, normal_step, normal_game_of, normal_read, is_mark_word, names_no_variant, NormalIsKept}
+use Rattle.chess_pgn.specs.laws.Normal.{normal_further_lines, normal_tag_step, normal_step, normal_game_of, normal_read, is_mark_word, names_no_variant, NormalIsKept}
 use Rattle.chess_pgn.specs.Tokens.{Token, Skip, Tag, Word, Bad_tag, Unclosed_comment, Unclosed_variation, Bad, first_place, tokens_from}
 use Rattle.chess_pgn.specs.Words.{kind_of}
 use Rattle.chess_pgn.proofs.Cuts.{pick}

@@ -9,7 +9,7 @@ use Rattle.chess_base.specs.declared.man.Colour.{Colour}
 use Rattle.chess_base.specs.declared.man.Colour.TheVariants.{White, Black}
 use Rattle.chess_base.specs.declared.man.Move.{Move}
 use Rattle.chess_base.specs.declared.setup.Setup.{Setup}
-use Rattle.chess_base.specs.Laws.{AfterIsSound}
+use Rattle.chess_base.specs.laws.Laws.{AfterIsSound}
 use Rattle.chess_base.specs.Moves.{after}
 use Rattle.chess_base.specs.Sound.{IsSound}
 use Rattle.chess_game.specs.Ends.{verdict}

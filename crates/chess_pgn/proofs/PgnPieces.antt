@@ -11,7 +11,7 @@ use Rattle.chess_base.specs.Reading.{fen_reading_as}
 use Rattle.chess_base.specs.Writing.{fen}
 use Rattle.chess_base.specs.Sound.{IsSound}
 use Rattle.chess_base.specs.Moves.{is_legal}
-use Rattle.chess_base.specs.Laws.{WrittenIsReadBack}
+use Rattle.chess_base.specs.laws.Laws.{WrittenIsReadBack}
 use Rattle.chess_game.specs.Game.{State, from_start, played, with_declared, current, verdict_now}
 use Rattle.chess_game.specs.Results.{outcome_text}
 use Rattle.chess_game.specs.declared.results.Outcome.{Outcome}

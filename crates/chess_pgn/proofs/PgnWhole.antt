@@ -9,7 +9,7 @@ use Rattle.chess_base.specs.declared.man.Variant.{Variant}
 use Rattle.chess_base.specs.declared.man.Variant.TheVariants.{Normal, Fischerandom}
 use Rattle.chess_base.specs.declared.setup.Setup.{Setup}
 use Rattle.chess_base.specs.Initial.{initial_setup, initial_setup_of}
-use Rattle.chess_base.specs.Laws.{AfterIsSound, WrittenIsReadBack}
+use Rattle.chess_base.specs.laws.Laws.{AfterIsSound, WrittenIsReadBack}
 use Rattle.chess_base.specs.Reading.{fen_reading_as}
 use Rattle.chess_base.specs.Sound.{IsSound}
 use Rattle.chess_base.specs.Writing.{fen}
@@ -24,7 +24,7 @@ use Rattle.chess_pgn.specs.declared.termination.Termination.{Termination}
 use Rattle.chess_pgn.specs.Terminations.{termination_text, termination_of}
 use Rattle.chess_pgn.specs.GameRead.{SoFar, GameRead, declared_behind, game_of, nothing_read, tokens_read, pgn_read}
 use Rattle.chess_pgn.specs.GameText.{is_initial, fen_lines, start_lines_in, last_lines, further_lines, tag_lines, move_tokens, game_tokens, pgn}
-use Rattle.chess_pgn.specs.PgnLaw.{AreTagTexts, IsReadBack, PgnIsReadBack}
+use Rattle.chess_pgn.specs.laws.PgnLaw.{AreTagTexts, IsReadBack, PgnIsReadBack}
 use Rattle.chess_pgn.specs.Tokens.{first_place, begins_line, tokens_of, tokens_from}
 use Rattle.chess_pgn.specs.Written.{tag_line, ended, filled_from}
 use Rattle.chess_pgn.proofs.PgnMoves.{outcome_some, filled_long, outcome_read, read_so_far, moves_read}

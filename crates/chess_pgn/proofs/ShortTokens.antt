@@ -8,7 +8,7 @@ use Rattle.chess_base.specs.declared.man.Colour.{Colour}
 use Rattle.chess_base.specs.declared.man.Colour.TheVariants.{White, Black}
 use Rattle.chess_base.specs.declared.man.Move.{Move}
 use Rattle.chess_base.specs.declared.setup.Setup.{Setup}
-use Rattle.chess_base.specs.Laws.{AfterIsSound}
+use Rattle.chess_base.specs.laws.Laws.{AfterIsSound}
 use Rattle.chess_base.specs.Moves.{after}
 use Rattle.chess_base.specs.Sound.{IsSound}
 use Rattle.chess_game.specs.Game.{State, outcome_now, IsPlayable}
@@ -17,7 +17,7 @@ use Rattle.chess_game.specs.Results.{outcome_text}
 use Rattle.chess_game.specs.declared.results.Outcome.{Outcome}
 use Rattle.chess_game.specs.declared.results.Outcome.TheVariants.{WhiteWins, BlackWins, Draw, Unfinished}
 use Rattle.chess_pgn.specs.GameText.{number_token, move_tokens, game_tokens}
-use Rattle.chess_text.specs.Laws.{SanIsShort}
+use Rattle.chess_text.specs.laws.Laws.{SanIsShort}
 use Rattle.chess_text.specs.San.{san}
 use Rattle.chess_pgn.specs.Written.{AreShort, IsMoveText, move_text_of}
 use Rattle.chess_pgn.proofs.FilledLines.{filled-move_text}

@@ -2,7 +2,7 @@
 use Rattle.std.proofs.Common.{◌≡◌, ℕ, ◌+◌, ◌<◌, List, [], ◌∷◌, ◌++◌, length, get_or, take, refl, sym, ap, subst, ◌∙◌}
 use Rattle.std.specs.List.{flat_map}
 use Rattle.byte_devices.specs.Devices.{OutputState, BreaksOff}
-use Rattle.chess_pgn.specs.Waiting.{TookSome}
+use Rattle.chess_pgn.specs.ties.Waiting.{TookSome}
 use Rattle.chess_pgn.specs.Written.{tag_line, ended}
 use Rattle.chess_pgn.specs.Tags.{tag_lines_of}
 use Rattle.chess_pgn.specs.declared.tags.TagPair.{TagPair}

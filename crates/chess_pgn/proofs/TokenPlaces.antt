@@ -4,7 +4,7 @@ use Rattle.std.specs.Prelude.{◌&&◌, ◌||◌}
 use Rattle.std.specs.List.{prefix_len, take_while}
 use Rattle.std.proofs.lemmas.List.{length-append, length-drop, take-append-drop}
 use Rattle.chess_pgn.specs.Tokens.{Token, Plain, Brace, Line, Inside, is_blank, is_word_byte, is_name_byte, behind_brace, behind_gap, string_at, behind_next, closed, with_text, with_string, with_name, tag_at, variation_at, comment_at, token_at, begins_line, tokens_from}
-use Rattle.chess_pgn.specs.GameSteps.{IsWithin}
+use Rattle.chess_pgn.specs.ties.GameSteps.{IsWithin}
 use Rattle.chess_pgn.proofs.Cuts.{Cut, Suffix, pick, gap_suffix, next_cut}
 use Rattle.chess_pgn.proofs.Walk.{no_token, token_more}
 

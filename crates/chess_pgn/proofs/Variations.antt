@@ -5,7 +5,7 @@ use Rattle.std.proofs.lemmas.Bool.Decides.{nat_tests}
 use Rattle.std.proofs.lemmas.Bool.{and_parts}
 use Rattle.std.proofs.lemmas.List.{take_rest}
 use Rattle.chess_pgn.specs.Tokens.{Token, Unclosed_comment, Skip, Plain, Brace, Line, line_end, behind_brace, variation_at}
-use Rattle.chess_pgn.specs.VariationParts.{behind_part, one_fewer, depth_behind}
+use Rattle.chess_pgn.specs.ties.VariationParts.{behind_part, one_fewer, depth_behind}
 use Rattle.chess_pgn.proofs.Skipped.{line_end-more}
 
 -- a line in a variation

@@ -1,15 +1,10 @@
 pub mod Tokens
 pub mod Words
-pub mod Seen
-pub mod VariationParts
 pub mod Written
-pub mod Waiting
 pub mod Tags
 pub mod Terminations
 pub mod GameRead
-pub mod GameSteps
 pub mod GameText
-pub mod PgnLaw
-pub mod Retold
 pub mod Local
-pub mod Normal
+pub mod laws
+pub mod ties

@@ -145,10 +145,6 @@ token_at line_begins c rest =
     else (if is_word_byte c then (Word (take_while is_word_byte (c ∷ rest)), drop (prefix_len is_word_byte (c ∷ rest)) (c ∷ rest))
     else (Bad, [])))))))))
 
--- the same of any text
-abbrev pub first_token : Bool → List ℕ → Option (Token × List ℕ)
-first_token line_begins [] = None
-first_token line_begins (c ∷ rest) = Some (token_at line_begins c rest)
 
 -- the tokens of a text, each with how many bytes are left where it begins; at most `most` of them
 unfoldable pub tokens_of : ℕ → Bool → List ℕ → List (ℕ × Token)

@@ -2,7 +2,7 @@
 
 ghost use Rattle.std.specs.Prelude.{◌≡◌, ◌+◌, ◌≤◌, ◌<◌, [], length, OnOk};
 ghost use Rattle.byte_devices.specs.Devices.{Puts, joined};
-ghost use Rattle.chess_pgn.specs.Waiting.{Adds};
+ghost use Rattle.chess_pgn.specs.ties.Waiting.{Adds};
 
 use arrayvec::ArrayVec;
 use byte_devices::{Output, WriteFault, put};

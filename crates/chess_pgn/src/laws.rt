@@ -3,9 +3,9 @@
 ghost use Rattle.std.specs.Prelude.{◌≡◌, List, ℕ};
 ghost use Rattle.chess_game.specs.Game.{State, IsPlayable};
 ghost use Rattle.chess_pgn.specs.GameText.{game_tokens};
-ghost use Rattle.chess_pgn.specs.Retold.{GamesAreOfTokens};
-ghost use Rattle.chess_pgn.specs.Normal.{NormalIsKept};
-ghost use Rattle.chess_pgn.specs.PgnLaw.{PgnIsReadBack};
+ghost use Rattle.chess_pgn.specs.laws.Retold.{GamesAreOfTokens};
+ghost use Rattle.chess_pgn.specs.laws.Normal.{NormalIsKept};
+ghost use Rattle.chess_pgn.specs.laws.PgnLaw.{PgnIsReadBack};
 ghost use Rattle.chess_pgn.specs.Written.{AreShort, IsMoveText, move_text_of};
 
 use chess_base::{Position, Variant, after_is_sound, written_is_spelled};

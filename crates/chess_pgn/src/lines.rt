@@ -2,7 +2,7 @@
 
 ghost use Rattle.std.specs.Prelude.{◌≡◌, ◌+◌, ◌≤◌, ◌<◌, [], ◌∷◌, ◌++◌, length};
 ghost use Rattle.byte_devices.specs.Devices.{Puts};
-ghost use Rattle.chess_pgn.specs.Waiting.{Adds};
+ghost use Rattle.chess_pgn.specs.ties.Waiting.{Adds};
 ghost use Rattle.chess_pgn.specs.Written.{placed, column_behind, line_close};
 
 use crate::buffer::TextBuffer;

@@ -6,10 +6,10 @@ ghost use Rattle.chess_game.specs.Game.{State, at as left_at, with_declared, cur
 ghost use Rattle.chess_base.specs.declared.man.Variant.TheVariants.{Normal};
 ghost use Rattle.chess_text.specs.Moves.{reading};
 ghost use Rattle.chess_pgn.specs.Words.{kind_of};
-ghost use Rattle.chess_pgn.specs.Seen.{token_seen, fault_seen};
+ghost use Rattle.chess_pgn.specs.ties.Seen.{token_seen, fault_seen};
 ghost use Rattle.chess_pgn.specs.GameRead.{declared_behind, told_behind, move_step, word_step, tag_step, step, variant_named, told_by, variant_told, pgn_read};
 ghost use Rattle.chess_pgn.specs.Tokens.{tokens_from};
-ghost use Rattle.chess_pgn.specs.GameSteps.{EndsIn, so_far, step_seen, IsWithin};
+ghost use Rattle.chess_pgn.specs.ties.GameSteps.{EndsIn, so_far, step_seen, IsWithin};
 
 use crate::tag::Tag;
 use crate::termination::Termination;

@@ -4,7 +4,7 @@ ghost use Rattle.std.specs.Prelude.{◌≡◌, ◌≤◌, ◌+◌, ◌-◌, ◌|
 ghost use Rattle.std.specs.List.{list_any};
 ghost use Rattle.chess_base.specs.declared.man.Variant.TheVariants.{Normal};
 ghost use Rattle.chess_pgn.specs.Local.{is_gap, is_open_string, is_open_name, is_open_tag, has_word_end, is_firm, settles_variant, settles_fault, settles_answer};
-ghost use Rattle.chess_pgn.specs.Seen.{token_seen, fault_seen};
+ghost use Rattle.chess_pgn.specs.ties.Seen.{token_seen, fault_seen};
 ghost use Rattle.chess_pgn.specs.Tokens.{tokens_from};
 
 use crate::bytes::is_word_byte;

@@ -4,7 +4,7 @@ ghost use Rattle.std.specs.Prelude.{◌≡◌, drop, take_while, Option};
 ghost use Rattle.std.specs.List.{prefix_len};
 ghost use Rattle.std.specs.Option.{option_map};
 ghost use Rattle.chess_pgn.specs.Tokens.{is_name_byte, behind_next, string_at, tag_at};
-ghost use Rattle.chess_pgn.specs.Seen.{tag_seen};
+ghost use Rattle.chess_pgn.specs.ties.Seen.{tag_seen};
 
 use crate::bytes::is_name_byte;
 use crate::skips::behind_gap;

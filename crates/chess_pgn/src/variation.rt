@@ -3,8 +3,8 @@
 ghost use Rattle.std.specs.Prelude.{◌≡◌, ◌+◌, ◌≤◌, ◌<◌, ◌^◌, length, false, IfSome, Option, Result};
 ghost use Rattle.std.specs.Option.{option_map};
 ghost use Rattle.chess_pgn.specs.Tokens.{variation_at, Plain};
-ghost use Rattle.chess_pgn.specs.VariationParts.{behind_part, depth_behind};
-ghost use Rattle.chess_pgn.specs.Seen.{variation_seen};
+ghost use Rattle.chess_pgn.specs.ties.VariationParts.{behind_part, depth_behind};
+ghost use Rattle.chess_pgn.specs.ties.Seen.{variation_seen};
 
 use crate::skips::{behind_brace, line_end};
 use crate::token::TokenFault;

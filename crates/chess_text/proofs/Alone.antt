@@ -13,10 +13,10 @@ use Rattle.chess_text.specs.declared.described.Described.{Described}
 use Rattle.chess_text.specs.declared.parts.Parts.{Parts}
 use Rattle.chess_text.specs.declared.parts.Promotion.{Promotion}
 use Rattle.chess_text.specs.declared.reading.Reading.TheVariants as reads
-use Rattle.chess_text.specs.Laws.{SpellsAlone, IsSpelled, IsShaped}
+use Rattle.chess_text.specs.laws.Laws.{SpellsAlone, IsSpelled, IsShaped}
 use Rattle.chess_text.specs.Parts.{AreParts, unmarked, parts_at, parts_text, parts_of}
 use Rattle.chess_text.specs.Moves.{is_castling_text, passes, is_form, fits, shape, spells_described, spells, one_of, reading, promotes_so}
-use Rattle.chess_text.specs.Forms.{same_side}
+use Rattle.chess_text.specs.ties.Forms.{same_side}
 use Rattle.chess_text.proofs.AllMoves.{only-move}
 use Rattle.chess_text.proofs.Castlings.{IsCastling, names_side, castling_from_name}
 use Rattle.chess_text.proofs.FormFacts.{spelled_castling as castling_spelled}

@@ -8,7 +8,7 @@ use Rattle.chess_base.specs.declared.man.CastlingSide.{CastlingSide}
 use Rattle.chess_base.specs.declared.man.CastlingSide.TheVariants.{KingSide, QueenSide}
 use Rattle.chess_text.specs.Parts.{parts_at}
 use Rattle.chess_text.specs.Moves.{castling_texts}
-use Rattle.chess_text.specs.Forms.{same_side}
+use Rattle.chess_text.specs.ties.Forms.{same_side}
 
 abbrev pub names_side : List ℕ → CastlingSide → Bool
 names_side text w = list_any (bytes_eq text) (castling_texts w)

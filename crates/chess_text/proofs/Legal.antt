@@ -21,7 +21,7 @@ use Rattle.chess_base.specs.Castling.{castling, names_castling, says_castling, c
 use Rattle.chess_base.specs.Squares.{rank}
 use Rattle.chess_text.specs.declared.described.Described.{Described}
 use Rattle.chess_text.specs.Parts.{CanPromote}
-use Rattle.chess_text.specs.Forms.{castling_end}
+use Rattle.chess_text.specs.ties.Forms.{castling_end}
 use Rattle.chess_text.specs.Moves.{captures, described, described_as}
 
 -- what a text can tell of a move of that man

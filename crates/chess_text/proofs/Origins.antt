@@ -26,7 +26,7 @@ use Rattle.chess_text.specs.declared.parts.Parts.{Parts}
 use Rattle.chess_text.specs.declared.reading.Reading.{Reading}
 use Rattle.chess_text.specs.declared.reading.Reading.TheVariants as reads
 use Rattle.chess_text.specs.Moves.{one_of, described, described_as, names, admits, is_by_squares, is_by_letter, is_straight, is_from_file, fits, passes}
-use Rattle.chess_text.specs.Forms.{same_side, form_fits, is_spelled, end_of, spelled_with, with_move, with_moves, named_square, IsStart}
+use Rattle.chess_text.specs.ties.Forms.{same_side, form_fits, is_spelled, end_of, spelled_with, with_move, with_moves, named_square, IsStart}
 use Rattle.chess_text.proofs.Alone.{castled}
 use Rattle.chess_text.proofs.AllMoves.{none-kept}
 use Rattle.chess_text.proofs.Legal.{castling_says, legal_move, IsMove, told_of, described_is}

@@ -7,10 +7,11 @@ use Rattle.chess_base.specs.declared.man.Kind.TheVariants.{Queen, Rook, Bishop, 
 use Rattle.chess_base.specs.declared.setup.Setup.{Setup}
 use Rattle.chess_base.specs.Moves.{is_legal}
 use Rattle.chess_base.specs.MoveList.{promotions, triple}
-use Rattle.chess_moves.specs.Candidates.{would_promote, moves_with, moves_between}
+use Rattle.chess_moves.specs.ties.Candidates.{moves_with, moves_between}
+use Rattle.chess_moves.specs.Promoting.{would_promote}
 use Rattle.chess_moves.proofs.Parts as parts
 use Rattle.chess_text.specs.declared.form.Form.{Form}
-use Rattle.chess_text.specs.Forms.{is_spelled, spelled_with}
+use Rattle.chess_text.specs.ties.Forms.{is_spelled, spelled_with}
 
 both : {A : Type 0} (t q : A → Bool) (xs : List A) → filter (λ x. t x && q x) xs ≡ filter t (filter q xs)
 both t q [] = refl

@@ -25,10 +25,10 @@ use Rattle.chess_text.specs.declared.parts.Parts.{Parts}
 use Rattle.chess_text.specs.declared.parts.Promotion.{Promotion}
 use Rattle.chess_text.specs.declared.reading.Reading.TheVariants as reads
 use Rattle.chess_text.specs.declared.writing.ToldStart.{ToldStart}
-use Rattle.chess_text.specs.Laws.{SpellsAlone, is_san_byte, begins_with_letter}
+use Rattle.chess_text.specs.laws.Laws.{SpellsAlone, is_san_byte, begins_with_letter}
 use Rattle.chess_text.specs.Parts.{AreParts, IsOfficer, CanPromote, unmarked, parts_text}
 use Rattle.chess_text.specs.Moves.{captures, passes, admits, has_equals, promotes_so, is_form, fits, is_by_squares, is_by_letter, is_straight, is_from_file, shape, reading}
-use Rattle.chess_text.specs.Forms.{same_side}
+use Rattle.chess_text.specs.ties.Forms.{same_side}
 use Rattle.chess_text.specs.San.{castling_text, told_start, if_said, pawn_parts, officer_parts, walk_parts, is_rival, rival_starts, text_by_castling, check_mark, san_as, san}
 use Rattle.chess_text.proofs.Alone.{read_alone, spelled_parts, shape_parts, spelled_castling, shape_castling, spells_move, same_kind-self, same_kind-true, move_is, written, promotes-self, promotes-same}
 use Rattle.chess_text.proofs.AllMoves.{any-filter, any-move}

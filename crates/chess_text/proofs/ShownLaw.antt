@@ -10,7 +10,7 @@ use Rattle.chess_base.specs.Castling.{castling}
 use Rattle.chess_base.specs.Moves.{is_legal}
 use Rattle.chess_base.specs.Sound.{IsSound}
 use Rattle.chess_text.specs.declared.reading.Reading.TheVariants as reads
-use Rattle.chess_text.specs.Laws.{SpellsAlone}
+use Rattle.chess_text.specs.laws.Laws.{SpellsAlone}
 use Rattle.chess_text.specs.Moves.{coordinate, shape, reading}
 use Rattle.chess_text.specs.San.{castling_text, shown_as, shown_move}
 use Rattle.chess_text.proofs.Alone.{read_alone}

@@ -17,7 +17,7 @@ use Rattle.chess_text.specs.declared.form.Form.{Form}
 use Rattle.chess_text.specs.declared.form.Form.TheVariants.{Castling, Walk}
 use Rattle.chess_text.specs.declared.parts.Parts.{Parts}
 use Rattle.chess_text.specs.Moves.{described, described_as, is_by_squares, is_by_letter, is_straight, is_from_file, fits, passes}
-use Rattle.chess_text.specs.Forms.{same_side, form_fits, is_spelled, castling_end, end_of, spelled_with}
+use Rattle.chess_text.specs.ties.Forms.{same_side, form_fits, is_spelled, castling_end, end_of, spelled_with}
 use Rattle.chess_text.proofs.Alone.{castled}
 use Rattle.chess_text.proofs.AllMoves.{filter-flat_map, filter-both, none-kept, kept, alone-square}
 use Rattle.chess_text.proofs.Legal.{castling_says, names_end, legal_move}

@@ -1,6 +1,5 @@
 pub mod Parts
 pub mod Moves
-pub mod Forms
 pub mod San
-pub mod Laws
-pub mod Normal
+pub mod laws
+pub mod ties

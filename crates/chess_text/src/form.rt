@@ -1,7 +1,7 @@
 //! What a text is read as, before any position is looked at.
 
 ghost use Rattle.std.specs.Prelude.{◌≡◌};
-ghost use Rattle.chess_text.specs.Forms.{castling_named, form_of, same_side, form_fits, is_spelled};
+ghost use Rattle.chess_text.specs.ties.Forms.{castling_named, form_of, same_side, form_fits, is_spelled};
 
 use crate::described::{Described, describe, fits, is_form};
 use crate::parts::{Parts, read_parts, unmarked};
@@ -25,7 +25,7 @@ fn castling_named(text: &[u8]) -> Option<CastlingSide>
 }
 
 // The form of a text, if it has a move's shape.
-#[tactic(auto, unfolding(crate::specs::Forms::form_of))]
+#[tactic(auto, unfolding(crate::specs::ties::Forms::form_of))]
 pub(crate) fn read_form(text: &[u8]) -> Option<Form>
     ensures { result ≡ form_of text.now }
 {
@@ -51,7 +51,7 @@ fn form_fits(form: &Form, d: &Described) -> bool
 }
 
 // Whether the text of that form spells the move.
-#[tactic(auto, unfolding(crate::specs::Forms::is_spelled))]
+#[tactic(auto, unfolding(crate::specs::ties::Forms::is_spelled))]
 pub(crate) fn is_spelled(form: &Form, setup: &Setup, m: &Move) -> bool
     ensures { result ≡ is_spelled form.now setup.now m.now }
 {

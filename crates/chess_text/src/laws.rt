@@ -1,10 +1,10 @@
 //! Laws of the texts. A caller learns one by calling its function, which does nothing.
 
-ghost use Rattle.chess_text.specs.Laws.{SanSpellsItsMove, SanHasShape, SanIsReadBack, SanIsShort, SanHasBytes, SanBeginsWithLetter, ReadMovesAreLegal, CoordinateSpellsItsMove, CoordinateHasShape, CoordinateIsReadBack, ShownMoveSpellsItsMove, ShownMoveHasShape, ShownMoveIsReadBack, PartsAreTheTexts, PartsAreRead, SpelledByText, ShapedByText};
+ghost use Rattle.chess_text.specs.laws.Laws.{SanSpellsItsMove, SanHasShape, SanIsReadBack, SanIsShort, SanHasBytes, SanBeginsWithLetter, ReadMovesAreLegal, CoordinateSpellsItsMove, CoordinateHasShape, CoordinateIsReadBack, ShownMoveSpellsItsMove, ShownMoveHasShape, ShownMoveIsReadBack, PartsAreTheTexts, PartsAreRead, SpelledByText, ShapedByText};
 ghost use Rattle.std.specs.Prelude.{◌≡◌};
 ghost use Rattle.chess_base.specs.declared.man.Variant.TheVariants.{Normal};
 ghost use Rattle.chess_base.specs.declared.setup.Setup.{Setup};
-ghost use Rattle.chess_text.specs.Normal.{NormalIsKept};
+ghost use Rattle.chess_text.specs.laws.Normal.{NormalIsKept};
 
 /// The SAN of a legal move of a sound position spells it and no other legal move, and is read as it.
 pub fn san_spells_its_move()

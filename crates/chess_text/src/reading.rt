@@ -5,7 +5,7 @@ ghost use Rattle.std.specs.List.{filter};
 ghost use Rattle.chess_base.specs.MoveList.{promotions, moves};
 ghost use Rattle.chess_text.specs.Moves.{shape, one_of, reading, IsLegalReading};
 ghost use Rattle.chess_text.specs.declared.form.Form.TheVariants.{Walk};
-ghost use Rattle.chess_text.specs.Forms.{is_spelled, castling_end, end_of, spelled_with, with_move, with_moves, named_square, IsStart};
+ghost use Rattle.chess_text.specs.ties.Forms.{is_spelled, castling_end, end_of, spelled_with, with_move, with_moves, named_square, IsStart};
 
 use crate::form::{Form, is_spelled, read_form};
 use crate::parts::Parts;

@@ -1,8 +1,8 @@
 use Rattle.std.proofs.Common.{◌==◌, not, sym, ◌∙◌}
 use Rattle.chess_base.specs.Squares.{share_diagonal}
 use Rattle.chess_moves.specs.Sets.{has}
-use Rattle.chess_bits.specs.Rays.{is_open}
-use Rattle.chess_bits.specs.Shapes.{in_shape}
+use Rattle.chess_bits.specs.ties.Rays.{is_open}
+use Rattle.chess_bits.specs.ties.Shapes.{in_shape}
 use Rattle.chess_bits.proofs.Attackers.{none_there, none_met}
 use Rattle.chess_bits.proofs.kinds.met_on_diagonals.Goals as goal
 

@@ -3,7 +3,7 @@ use Rattle.std.proofs.lemmas.Bool.{eqb-true}
 use Rattle.chess_base.specs.declared.setup.Setup.{Setup}
 use Rattle.chess_game.specs.declared.game.Place.{Place}
 use Rattle.chess_game.specs.Line.{last}
-use Rattle.chess_game.specs.Places.{moves_of, Follows}
+use Rattle.chess_game.specs.ties.Places.{moves_of, Follows}
 use Rattle.chess_game.proofs.Kept.{at_place, at_end}
 use Rattle.std.specs.Prelude.{◌==◌, List}
 use Rattle.chess_game.proofs.ForGood.{all_counted, rest_counted}

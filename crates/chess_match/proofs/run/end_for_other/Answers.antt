@@ -5,7 +5,7 @@ use Rattle.chess_base.specs.Men.{other}
 use Rattle.chess_match.specs.Items.{Item, items_of}
 use Rattle.chess_match.specs.Match.{Match, FailsToWrite, after}
 use Rattle.chess_match.specs.Sent.{bytes_of}
-use Rattle.chess_match.specs.Stands.{given_block}
+use Rattle.chess_match.specs.ties.Stands.{given_block}
 use Rattle.chess_match.proofs.Delivers.{last_told, on_too, no_items, sends_if}
 use Rattle.chess_match.proofs.run.end_for_other.Goals as goal
 

@@ -1,5 +1,5 @@
 -- What was heard stands, and its blocks are delivered.
-use Rattle.chess_match.specs.Delivering.{event_heard}
+use Rattle.chess_match.specs.ties.Delivering.{event_heard}
 use Rattle.chess_match.specs.Match.{after}
 use Rattle.chess_match.specs.Sent.{block}
 use Rattle.chess_match.proofs.LinesRead.{heard_sane}

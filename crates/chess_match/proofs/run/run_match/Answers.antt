@@ -5,10 +5,10 @@ use Rattle.chess_base.specs.declared.man.Move.{Move}
 use Rattle.chess_base.specs.declared.setup.Setup.{Setup}
 use Rattle.chess_cecp.specs.Lines.{nothing_held}
 use Rattle.chess_game.specs.Game as game
-use Rattle.chess_match.specs.Delivering.{by_side}
+use Rattle.chess_match.specs.ties.Delivering.{by_side}
 use Rattle.chess_match.specs.Match.{Match, Opened, start}
 use Rattle.chess_match.specs.Rules.{Rules, rules_of}
-use Rattle.chess_match.specs.Stands.{Stands}
+use Rattle.chess_match.specs.ties.Stands.{Stands}
 use Rattle.chess_match.specs.Transcript.{match_of, reads, opens}
 use Rattle.chess_match.specs.declared.phase.Phase.{Phase}
 use Rattle.chess_match.proofs.Delivers.{both_sides}

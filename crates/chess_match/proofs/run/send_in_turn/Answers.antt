@@ -5,8 +5,8 @@ use Rattle.chess_base.specs.Men.{other}
 use Rattle.chess_match.specs.Items.{items_of}
 use Rattle.chess_match.specs.Match.{FailsToWrite, after}
 use Rattle.chess_match.specs.Sent.{block, bytes_of}
-use Rattle.chess_match.specs.Stands.{Stands, given_block}
-use Rattle.chess_match.specs.Told.{SendsIf}
+use Rattle.chess_match.specs.ties.Stands.{Stands, given_block}
+use Rattle.chess_match.specs.ties.Told.{SendsIf}
 use Rattle.chess_match.proofs.Delivers.{on_too, sends_if, first_failed, second_failed}
 use Rattle.chess_match.proofs.run.send_in_turn.Goals as goal
 

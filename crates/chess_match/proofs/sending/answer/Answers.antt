@@ -1,7 +1,7 @@
 -- The answer waits, or what waited is written first, and then the answer.
 use Rattle.std.proofs.Common.{List, ℕ, sym, subst}
 use Rattle.byte_devices.proofs.DeviceLaws.{breaks_longer}
-use Rattle.chess_pgn.specs.Waiting.{TookSome}
+use Rattle.chess_pgn.specs.ties.Waiting.{TookSome}
 use Rattle.chess_match.specs.Sent.{answer_line}
 use Rattle.chess_match.proofs.Waits.{waits, put_after}
 use Rattle.chess_match.proofs.sending.answer.Goals as goal

@@ -1,4 +1,4 @@
-use Rattle.chess_pgn.specs.Seen.{token_seen, fault_seen}
+use Rattle.chess_pgn.specs.ties.Seen.{token_seen, fault_seen}
 use Rattle.chess_pgn.proofs.TokenPlaces.{token_within}
 use Rattle.chess_pgn.proofs.GameReads.{more}
 use Rattle.chess_pgn.proofs.read.read_pgn.Goals as goal

@@ -1,5 +1,5 @@
 use Rattle.std.proofs.Common.{sym, ap, ◌∙◌}
-use Rattle.chess_pgn.specs.Seen.{tag_seen}
+use Rattle.chess_pgn.specs.ties.Seen.{tag_seen}
 use Rattle.chess_pgn.proofs.Strings.{tag_unclosed}
 use Rattle.chess_pgn.proofs.tag.read_tag.Goals as goal
 

@@ -1,5 +1,5 @@
 use Rattle.std.proofs.Common.{◌≡◌, take}
-use Rattle.chess_pgn.specs.Waiting.{TookSome}
+use Rattle.chess_pgn.specs.ties.Waiting.{TookSome}
 use Rattle.chess_pgn.specs.Written.{ended}
 use Rattle.chess_pgn.specs.Tags.{tag_lines_of}
 use Rattle.chess_pgn.proofs.tag_lines.put_tags.Given as goal

@@ -1,5 +1,5 @@
 use Rattle.std.proofs.Common.{refl, arith}
-use Rattle.chess_pgn.specs.Seen.{token_seen, fault_seen}
+use Rattle.chess_pgn.specs.ties.Seen.{token_seen, fault_seen}
 use Rattle.chess_pgn.proofs.Walk.{NextToken, next_token, last_token, no_token_left}
 use Rattle.chess_pgn.proofs.token.next_token.Goals as goal
 

@@ -1,6 +1,6 @@
 use Rattle.std.proofs.Common.{ap, ◌∙◌}
 use Rattle.chess_base.specs.MoveList.{promotions}
-use Rattle.chess_text.specs.Forms.{end_of, spelled_with, with_moves}
+use Rattle.chess_text.specs.ties.Forms.{end_of, spelled_with, with_moves}
 use Rattle.chess_text.specs.declared.reading.Reading.TheVariants as reads
 use Rattle.chess_text.proofs.Origins.{spelled_from, one_found, more_found}
 use Rattle.chess_text.proofs.reading.spelled.Goals as goal

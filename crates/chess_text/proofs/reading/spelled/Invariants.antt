@@ -3,7 +3,7 @@ use Rattle.std.specs.List.{filter, flat_map}
 use Rattle.chess_base.specs.MoveList.{promotions, moves}
 use Rattle.chess_moves.specs.Sets.{members}
 use Rattle.chess_text.specs.Moves.{one_of}
-use Rattle.chess_text.specs.Forms.{is_spelled, end_of, spelled_with, with_moves}
+use Rattle.chess_text.specs.ties.Forms.{is_spelled, end_of, spelled_with, with_moves}
 use Rattle.chess_text.proofs.reading.spelled.Given as goal
 
 -- the squares that are left give the whole

@@ -1,5 +1,5 @@
 use Rattle.std.proofs.Common.{◌≡◌, drop}
-use Rattle.chess_text.specs.Forms.{spelled_with, with_moves}
+use Rattle.chess_text.specs.ties.Forms.{spelled_with, with_moves}
 use Rattle.chess_text.proofs.reading.with_spelled.Given as goal
 
 -- what is left gives the whole

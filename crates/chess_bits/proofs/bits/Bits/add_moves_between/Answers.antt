@@ -1,7 +1,7 @@
 use Rattle.std.proofs.Common.{◌≡◌, ◌+◌, ◌≤◌, ◌++◌, List, length, true, false, sym, ap, subst, ◌∙◌}
 use Rattle.arrayvec.specs.ArrayVec.{array_vec_len}
 use Rattle.chess_base.specs.declared.man.Move.{Move}
-use Rattle.chess_moves.specs.Candidates.{would_promote}
+use Rattle.chess_moves.specs.Promoting.{would_promote}
 use Rattle.chess_moves.proofs.Parts.{all_promote, none_promotes}
 use Rattle.chess_bits.proofs.Listed.{four_fit, none_fit}
 use Rattle.chess_bits.proofs.bits.Bits.add_moves_between.Goals as goal

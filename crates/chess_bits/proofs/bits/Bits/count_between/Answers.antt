@@ -1,5 +1,5 @@
 use Rattle.std.proofs.Common.{◌≡◌, true, false, None, lit<, sym, ◌∙◌}
-use Rattle.chess_moves.specs.Candidates.{would_promote}
+use Rattle.chess_moves.specs.Promoting.{would_promote}
 use Rattle.chess_bits.proofs.Counted.{promotions_counted, one_counted}
 use Rattle.chess_bits.proofs.Listed.{none_fit, pattern_of}
 use Rattle.chess_bits.proofs.bits.Bits.count_between.Goals as goal

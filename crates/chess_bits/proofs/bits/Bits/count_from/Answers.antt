@@ -1,5 +1,5 @@
 use Rattle.std.proofs.Common.{◌≡◌, length, true, ap}
-use Rattle.chess_bits.specs.Goes.{goes}
+use Rattle.chess_bits.specs.ties.Goes.{goes}
 use Rattle.chess_bits.proofs.Counted.{none_counted}
 use Rattle.chess_bits.proofs.Listed.{from_targets, each_member}
 use Rattle.chess_bits.proofs.bits.Bits.count_from.Goals as goal

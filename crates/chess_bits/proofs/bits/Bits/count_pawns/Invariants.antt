@@ -2,9 +2,9 @@ use Rattle.std.proofs.Common.{◌≡◌, ◌+◌, length, true}
 use Rattle.std.specs.List.{flat_map}
 use Rattle.chess_base.specs.declared.man.Kind.TheVariants.{Pawn}
 use Rattle.chess_base.specs.Men.{man_at, is_man}
-use Rattle.chess_bits.specs.Goes.{IsFree}
+use Rattle.chess_bits.specs.ties.Goes.{IsFree}
 use Rattle.chess_bits.proofs.Listed.{Each}
-use Rattle.chess_moves.specs.Candidates.{moves_from}
+use Rattle.chess_moves.specs.ties.Candidates.{moves_from}
 use Rattle.chess_moves.specs.Sets.{members}
 use Rattle.chess_bits.proofs.bits.Bits.count_pawns.Given as goal
 

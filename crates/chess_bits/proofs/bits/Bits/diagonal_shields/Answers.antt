@@ -4,8 +4,8 @@ use Rattle.chess_base.specs.declared.man.Kind.TheVariants.{Queen, Bishop}
 use Rattle.chess_base.specs.Men.{man_at, other, is_of, is_man}
 use Rattle.chess_base.specs.Squares.{share_diagonal}
 use Rattle.chess_moves.specs.Sets.{has}
-use Rattle.chess_bits.specs.Rays.{is_open}
-use Rattle.chess_bits.specs.Shapes.{in_shape}
+use Rattle.chess_bits.specs.ties.Rays.{is_open}
+use Rattle.chess_bits.specs.ties.Shapes.{in_shape}
 use Rattle.chess_bits.proofs.Attackers.{none_there}
 use Rattle.chess_bits.proofs.Shields.{nothing_hidden, nothing_near, diagonal_of}
 use Rattle.chess_bits.proofs.bits.Bits.diagonal_shields.Goals as goal

@@ -1,7 +1,7 @@
 use Rattle.std.proofs.Common.{◌≡◌, true, refl}
 use Rattle.chess_base.specs.declared.man.Kind.TheVariants.{Knight}
 use Rattle.chess_base.specs.Men.{man_at, is_man}
-use Rattle.chess_bits.specs.Goes.{IsFree}
+use Rattle.chess_bits.specs.ties.Goes.{IsFree}
 use Rattle.chess_bits.proofs.Listed.{each_member}
 use Rattle.chess_bits.proofs.bits.Bits.has_knight_move.Goals as goal
 

@@ -4,7 +4,7 @@ use Rattle.chess_base.specs.Attacks.{is_attacked}
 use Rattle.chess_base.specs.Moves.{has_pattern, men_after, steps_of}
 use Rattle.chess_base.specs.Squares.{is_square}
 use Rattle.chess_moves.specs.Sets.{has}
-use Rattle.chess_bits.specs.Occupancy.{IsOccupied, IsLater}
+use Rattle.chess_bits.specs.ties.Occupancy.{IsOccupied, IsLater}
 use Rattle.chess_bits.proofs.AfterSets.{is_changed, is_filled, later_after}
 use Rattle.chess_bits.proofs.KingAfter.{mover_some, mover_own, check_after, legal_is}
 use Rattle.chess_bits.proofs.bits.Bits.is_safe_by.Goals as goal

@@ -4,7 +4,7 @@ use Rattle.chess_base.specs.Attacks.{is_attacked}
 use Rattle.chess_base.specs.Men.{man_at, is_of, is_man}
 use Rattle.chess_base.proofs.MenFacts.{no_other}
 use Rattle.chess_moves.specs.Sets.{has}
-use Rattle.chess_bits.specs.Goes.{lifted}
+use Rattle.chess_bits.specs.ties.Goes.{lifted}
 use Rattle.chess_bits.proofs.KingSteps.{step_is}
 use Rattle.chess_bits.proofs.Lifted.{lifted_kinds, lifted_occupied}
 use Rattle.chess_bits.proofs.bits.Bits.is_safe_step.Goals as goal

@@ -4,8 +4,8 @@ use Rattle.chess_base.specs.declared.man.Kind.TheVariants.{Queen, Rook}
 use Rattle.chess_base.specs.Men.{man_at, other, is_of, is_man}
 use Rattle.chess_base.specs.Squares.{share_rank_or_file}
 use Rattle.chess_moves.specs.Sets.{has}
-use Rattle.chess_bits.specs.Rays.{is_open}
-use Rattle.chess_bits.specs.Shapes.{in_shape}
+use Rattle.chess_bits.specs.ties.Rays.{is_open}
+use Rattle.chess_bits.specs.ties.Shapes.{in_shape}
 use Rattle.chess_bits.proofs.Attackers.{none_there}
 use Rattle.chess_bits.proofs.Shields.{nothing_hidden, nothing_near, line_of}
 use Rattle.chess_bits.proofs.bits.Bits.line_shields.Goals as goal

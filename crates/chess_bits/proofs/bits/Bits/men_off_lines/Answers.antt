@@ -3,7 +3,7 @@ use Rattle.std.proofs.lemmas.Bool.{and_parts, or_parts, both_ways, not-true}
 use Rattle.chess_base.specs.Attacks.{is_in_check}
 use Rattle.chess_base.specs.Squares.{share_rank_or_file, share_diagonal}
 use Rattle.chess_moves.specs.Sets.{has}
-use Rattle.chess_bits.specs.Shapes.{in_shape}
+use Rattle.chess_bits.specs.ties.Shapes.{in_shape}
 use Rattle.chess_bits.proofs.Freely.{freed}
 use Rattle.chess_bits.proofs.Shields.{off_line, off_diagonal, off_shape}
 use Rattle.chess_bits.proofs.bits.Bits.men_off_lines.Goals as goal

@@ -1,6 +1,6 @@
 use Rattle.std.proofs.Common.{◌≡◌, ℕ, ◌<◌}
 use Rattle.chess_base.specs.Men.{man_at}
-use Rattle.chess_bits.specs.BoardSets.{IsSets}
+use Rattle.chess_bits.specs.ties.BoardSets.{IsSets}
 use Rattle.chess_bits.proofs.sets.Sets.standing.Given as goal
 
 -- the men so far stand, and their sets are those of what stands

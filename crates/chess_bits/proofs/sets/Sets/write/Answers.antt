@@ -1,5 +1,5 @@
 use Rattle.std.proofs.Common.{◌≡◌, ◌<◌, length, slice_set, None, ◌∙◌, subst, length-set}
-use Rattle.chess_bits.specs.BoardSets.{IsSets}
+use Rattle.chess_bits.specs.ties.BoardSets.{IsSets}
 use Rattle.chess_bits.proofs.BoardSets.{set_twice, cleared}
 use Rattle.chess_bits.proofs.sets.Sets.write.Goals as goal
 

@@ -1,6 +1,6 @@
 use Rattle.std.proofs.Common.{◌≡◌, ℕ, ◌<◌, get_or}
 use Rattle.chess_moves.specs.Sets.{has}
-use Rattle.chess_bits.specs.Shapes.{in_shape}
+use Rattle.chess_bits.specs.ties.Shapes.{in_shape}
 use Rattle.chess_bits.proofs.table.Table.new.Given as goal
 
 abbrev pub invariant-loop-number : goal.invariant-loop-number

@@ -1,8 +1,8 @@
 use Rattle.std.proofs.Common.{◌≡◌, ℕ, ◌<◌, ◌&&◌, false, sym, ◌∙◌}
 use Rattle.std.proofs.lemmas.Bool.{eqb-true}
 use Rattle.chess_moves.specs.Sets.{has}
-use Rattle.chess_bits.specs.Shapes.{in_shape}
-use Rattle.chess_bits.specs.Rays.{is_on_ray}
+use Rattle.chess_bits.specs.ties.Shapes.{in_shape}
+use Rattle.chess_bits.specs.ties.Rays.{is_on_ray}
 use Rattle.chess_moves.proofs.Words.{has_zero}
 use Rattle.chess_bits.proofs.Blockers.{swept_all}
 use Rattle.chess_bits.proofs.tables.AttackTables.sweep.Goals as goal

@@ -1,6 +1,6 @@
 use Rattle.std.proofs.Common.{◌≡◌, ◌<◌, ◌++◌, ◌∷◌, [], None, false, is_err, length, refl, sym, ◌∙◌, arith}
 use Rattle.chess_game.specs.Game.{is_over, is_full}
-use Rattle.chess_game.specs.Places.{moves_of}
+use Rattle.chess_game.specs.ties.Places.{moves_of}
 use Rattle.chess_game.specs.declared.game.Place.{Place}
 use Rattle.chess_game.proofs.Kept.{added, pushed, room}
 use Rattle.chess_game.proofs.Judged.{judged_more, no_verdict}

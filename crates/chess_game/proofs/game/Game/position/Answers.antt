@@ -1,6 +1,6 @@
 use Rattle.std.proofs.Common.{◌≡◌, length, arith}
 use Rattle.std.proofs.lemmas.List.{length-map}
-use Rattle.chess_game.specs.Places.{moves_of}
+use Rattle.chess_game.specs.ties.Places.{moves_of}
 use Rattle.chess_game.specs.declared.game.Place.{Place}
 use Rattle.chess_game.proofs.Kept.{kept_line}
 use Rattle.chess_game.proofs.game.Game.position.Goals as goal

@@ -1,5 +1,5 @@
 use Rattle.std.proofs.Common.{◌<◌, ◌≤◌, length, arith}
-use Rattle.chess_game.specs.Places.{moves_of}
+use Rattle.chess_game.specs.ties.Places.{moves_of}
 use Rattle.chess_game.proofs.Kept.{reached_by}
 use Rattle.chess_game.proofs.game.Game.position_at.Goals as goal
 

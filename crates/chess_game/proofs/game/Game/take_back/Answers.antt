@@ -1,6 +1,6 @@
 use Rattle.std.proofs.Common.{arith}
 use Rattle.chess_game.specs.Line.{last}
-use Rattle.chess_game.specs.Places.{moves_of}
+use Rattle.chess_game.specs.ties.Places.{moves_of}
 use Rattle.chess_game.proofs.Kept.{taken, fewer}
 use Rattle.chess_game.proofs.Judged.{judged_fewer, last_is}
 use Rattle.chess_game.proofs.game.Game.take_back.Goals as goal

@@ -3,7 +3,7 @@ use Rattle.std.specs.Prelude.{is_some}
 use Rattle.chess_match.specs.Items.{Item}
 use Rattle.chess_match.specs.Match.{lacking, lack}
 use Rattle.chess_match.specs.Rules.{Rules}
-use Rattle.chess_match.specs.Stands.{features_of}
+use Rattle.chess_match.specs.ties.Stands.{features_of}
 use Rattle.chess_match.specs.declared.features.Features.{Features}
 use Rattle.chess_match.specs.declared.reason.MatchFault.{MatchFault}
 use Rattle.chess_base.specs.declared.man.Variant.{Variant}

@@ -5,7 +5,7 @@ use Rattle.chess_match.specs.Items.{has_done}
 use Rattle.chess_match.specs.Match.{hear, items_heard, greeted, enter, hello_line}
 use Rattle.chess_match.specs.Seen.{seen}
 use Rattle.chess_match.specs.Sent.{is_same_phase}
-use Rattle.chess_match.specs.Stands.{Stands}
+use Rattle.chess_match.specs.ties.Stands.{Stands}
 use Rattle.chess_match.specs.declared.reason.MatchFault.TheVariants.{NoDone}
 use Rattle.chess_match.specs.declared.reason.Reason.TheVariants.{Faulted}
 use Rattle.chess_match.specs.declared.phase.Phase.TheVariants.{Over}

@@ -5,7 +5,7 @@ use Rattle.chess_base.specs.declared.man.Move.{Move}
 use Rattle.chess_match.specs.Match.{Match, open_turn}
 use Rattle.chess_match.specs.Rules.{Rules}
 use Rattle.chess_match.specs.Sent.{is_same_phase}
-use Rattle.chess_match.specs.Stands.{Goes}
+use Rattle.chess_match.specs.ties.Stands.{Goes}
 use Rattle.chess_match.specs.Transcript.{is_on}
 use Rattle.chess_match.specs.declared.state.Core.{Core}
 use Rattle.chess_match.specs.declared.state.Given.{Given}

@@ -1,6 +1,6 @@
 use Rattle.std.proofs.Common.{take}
 use Rattle.byte_devices.specs.Devices.{joined}
-use Rattle.chess_pgn.specs.Waiting.{TookSome}
+use Rattle.chess_pgn.specs.ties.Waiting.{TookSome}
 use Rattle.chess_pgn.proofs.buffer.TextBuffer.add_parts.Given as goal
 
 abbrev pub invariant-loop-part : goal.invariant-loop-part

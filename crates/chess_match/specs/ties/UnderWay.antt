@@ -4,12 +4,12 @@ use Rattle.chess_base.specs.declared.man.Colour.{Colour}
 use Rattle.chess_base.specs.declared.man.Move.{Move}
 use Rattle.byte_devices.specs.Devices.{InputState, OutputState}
 use Rattle.chess_cecp.specs.Lines.{Held}
-use Rattle.chess_match.specs.Hearing.{Hearing}
+use Rattle.chess_match.specs.ties.Hearing.{Hearing}
 use Rattle.chess_match.specs.Match.{Event}
 use Rattle.chess_match.specs.Rules.{Rules}
 use Rattle.chess_match.specs.Run.{Heard, Written, Asked}
-use Rattle.chess_match.specs.Stands.{Stands}
-use Rattle.chess_match.specs.Steps.{IsSane}
+use Rattle.chess_match.specs.ties.Stands.{Stands}
+use Rattle.chess_match.specs.ties.Steps.{IsSane}
 use Rattle.chess_match.specs.Transcript.{match_of, fits, blocks, lines_of, moments_of, has_end, has_read_failure, has_write_failure, is_on}
 use Rattle.chess_match.specs.declared.phase.Phase.{Phase}
 use Rattle.chess_match.specs.declared.phase.Phase.TheVariants.{Hello, Setup, Opening, Before, After, Over}

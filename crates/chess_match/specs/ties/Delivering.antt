@@ -13,8 +13,8 @@ use Rattle.chess_match.specs.Match.{Match, Event, Line, Opened, OutputEnds, Fail
 use Rattle.chess_match.specs.Rules.{Rules}
 use Rattle.chess_match.specs.Run.{text_heard, Flushed}
 use Rattle.chess_match.specs.Sent.{SentLine, block, bytes_of}
-use Rattle.chess_match.specs.Stands.{Stands}
-use Rattle.chess_match.specs.Told.{SendsIf}
+use Rattle.chess_match.specs.ties.Stands.{Stands}
+use Rattle.chess_match.specs.ties.Told.{SendsIf}
 use Rattle.chess_match.specs.Transcript.{is_on}
 use Rattle.chess_match.specs.declared.state.Core.{Core}
 

@@ -6,7 +6,7 @@ use Rattle.chess_base.specs.declared.setup.Setup.{Setup}
 use Rattle.chess_base.specs.Castling.{castled_king_file, home_square}
 use Rattle.chess_text.specs.declared.form.Form.{Form}
 use Rattle.chess_text.specs.declared.form.Form.TheVariants.{Castling, Walk}
-use Rattle.chess_text.specs.Forms.{end_of}
+use Rattle.chess_text.specs.ties.Forms.{end_of}
 use Rattle.chess_text.specs.Moves.{coordinate}
 use Rattle.chess_text.specs.San.{shown_move}
 

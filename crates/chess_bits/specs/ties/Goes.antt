@@ -16,8 +16,8 @@ use Rattle.chess_base.specs.MoveList.{triple}
 use Rattle.chess_base.specs.Moves.{has_pattern, is_legal, man_moves}
 use Rattle.chess_base.specs.Squares.{share_rank_or_file, share_diagonal}
 use Rattle.chess_bits.specs.declared.table.Shape.TheVariants as shape
-use Rattle.chess_bits.specs.Shapes.{in_shape}
-use Rattle.chess_moves.specs.Candidates.{would_promote}
+use Rattle.chess_bits.specs.ties.Shapes.{in_shape}
+use Rattle.chess_moves.specs.Promoting.{would_promote}
 use Rattle.chess_moves.specs.Sets.{has}
 
 -- where a pawn promotes, one promotion stands for all: to a queen

@@ -3,7 +3,7 @@ use Rattle.std.specs.Prelude.{ℕ, ◌<◌, ◌≡◌}
 use Rattle.chess_base.specs.declared.man.Colour.TheVariants.{White, Black}
 use Rattle.chess_base.specs.Men.{Men, man_at, is_of}
 use Rattle.chess_bits.specs.declared.sets.Sets.{Sets}
-use Rattle.chess_bits.specs.KindSets.{IsKinds}
+use Rattle.chess_bits.specs.ties.KindSets.{IsKinds}
 use Rattle.chess_moves.specs.Sets.{has}
 
 pub record IsSets (s : Sets) (men : Men) : Type 0 where

@@ -4,7 +4,7 @@ use Rattle.chess_base.specs.Squares.{file, rank, gap, share_rank_or_file, share_
 use Rattle.chess_base.specs.Attacks.{is_rank_ahead}
 use Rattle.chess_bits.specs.declared.table.Shape.{Shape}
 use Rattle.chess_bits.specs.declared.table.Shape.TheVariants.{King, Knight, Pawn, Lines, Diagonals, Ray}
-use Rattle.chess_bits.specs.Rays.{is_on_ray}
+use Rattle.chess_bits.specs.ties.Rays.{is_on_ray}
 
 unfoldable pub in_shape : Shape → ℕ → ℕ → Bool
 in_shape King a b = not (a == b) && nat_le (gap (file a) (file b)) 1 && nat_le (gap (rank a) (rank b)) 1

@@ -1,0 +1,5 @@
+-- Claims beside the definitions: each is the contract of a function that does nothing.
+pub mod Reserve
+pub mod Laws
+pub mod Normal
+pub mod NamedRooks

@@ -1,0 +1,9 @@
+-- What only joins code to the definitions: no claim rests on it.
+pub mod Stands
+pub mod Chess
+pub mod Steps
+pub mod Hearing
+pub mod Told
+pub mod Awaits
+pub mod Delivering
+pub mod UnderWay
