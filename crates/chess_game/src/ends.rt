@@ -1,11 +1,12 @@
 //! How a game ends by what stands on the board and by its line, and what may be claimed.
 
-ghost use Rattle.std.specs.Prelude.{◌≡◌, ◌≤◌, ◌<◌, length, count_by};
+ghost use Rattle.std.specs.Prelude.{◌≡◌, ◌≤◌, ◌<◌, Some, length, count_by};
 ghost use Rattle.std.specs.List.{list_any};
 ghost use Rattle.chess_game.specs.Ends.{is_kind, is_heavy, is_minor, has_bishop_on, is_bare, square_colour, mates, verdict_outcome, verdict_comment};
 
 use crate::results::Outcome;
 use chess_base::{Colour, Kind, Man};
+use std::fmt;
 
 /// Why a game is over by what stands on the board and by its line, the first that holds in this order.
 #[derive(Clone, Copy, Debug, PartialEq, Eq)]
@@ -40,19 +41,35 @@ impl Verdict {
         }
     }
 
-    /// The comment that stands in braces behind its outcome.
-    pub fn comment(self) -> &'static [u8]
+    /// What is said of it, such as `White mates`.
+    pub fn as_str(self) -> &'static str
         ensures value { result.now ≡ verdict_comment self }
         ensures short { length result.now ≤ 60 }
     {
         match self {
-            Verdict::WhiteMates => b"White mates",
-            Verdict::BlackMates => b"Black mates",
-            Verdict::Stalemate => b"Stalemate",
-            Verdict::InsufficientMaterial => b"Insufficient material",
-            Verdict::FivefoldRepetition => b"Fivefold repetition",
-            Verdict::SeventyFiveMoves => b"75-move rule",
+            Verdict::WhiteMates => "White mates",
+            Verdict::BlackMates => "Black mates",
+            Verdict::Stalemate => "Stalemate",
+            Verdict::InsufficientMaterial => "Insufficient material",
+            Verdict::FivefoldRepetition => "Fivefold repetition",
+            Verdict::SeventyFiveMoves => "75-move rule",
         }
+    }
+
+    /// The same as the comment that stands in braces behind its outcome.
+    pub fn comment(self) -> &'static [u8]
+        ensures value { result.now ≡ verdict_comment self }
+        ensures short { length result.now ≤ 60 }
+    {
+        self.as_str().as_bytes()
+    }
+}
+
+impl fmt::Display for Verdict {
+    ghost output = { λ v. Some (verdict_comment v) };
+
+    fn fmt<W: fmt::Write>(&self, f: &mut fmt::Formatter<W>) -> fmt::Result {
+        f.write_str(self.as_str())
     }
 }
 

@@ -18,22 +18,27 @@ use std::alloc::{AllocError, Global};
 use std::marker::Model;
 
 /// Why a move is not played.
-#[derive(Clone, Copy, Debug, PartialEq, Eq)]
+#[derive(Clone, Copy, Debug, PartialEq, Eq, thiserror::Error)]
 pub enum PlayRefusal {
     /// The game is over, by a verdict or a declared result.
+    #[error("the game is over")]
     Over,
     /// As many half-moves stand as can.
+    #[error("no more moves can stand")]
     TooLong,
     /// The move is not legal in the present position.
+    #[error("the move is not legal")]
     Illegal,
 }
 
 /// No move stands that could be taken back.
-#[derive(Clone, Copy, Debug, PartialEq, Eq)]
+#[derive(Clone, Copy, Debug, PartialEq, Eq, thiserror::Error)]
+#[error("no move stands")]
 pub struct NoMove;
 
 /// The verdict on the game has another outcome than the one to be declared.
-#[derive(Clone, Copy, Debug, PartialEq, Eq)]
+#[derive(Clone, Copy, Debug, PartialEq, Eq, thiserror::Error)]
+#[error("the verdict on the game has another outcome")]
 pub struct BoardSaysOtherwise;
 
 // A move that was played: what it did not keep, and the position that it gave.

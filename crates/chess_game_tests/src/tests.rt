@@ -760,6 +760,18 @@ fn results_are_written(rt: HostRuntime) {
 }
 
 #[test]
+fn results_are_shown(rt: HostRuntime) -> Result<(), Fail> {
+    let told = format!(in rt.alloc(); "{} {{{}}}", Outcome::WhiteWins, Verdict::WhiteMates)?;
+    assert_eq!(rt; told.as_bytes(), b"1-0 {White mates}".as_slice());
+    let told = format!(in rt.alloc(); "{}, {}", PlayRefusal::Illegal, NoMove)?;
+    assert_eq!(rt;
+        told.as_bytes(),
+        b"the move is not legal, no move stands".as_slice()
+    );
+    Ok(())
+}
+
+#[test]
 fn comments_are_cut(rt: HostRuntime) {
     let sixty = [b'z'; 60];
     let texts: [(&[u8], &[u8]); 5] = [
