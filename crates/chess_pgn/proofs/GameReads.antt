@@ -1,5 +1,8 @@
 -- Reading a game, token by token.
-use Rattle.std.proofs.Common.{◌≡◌, ℕ, ◌-◌, ◌≤◌, ◌<◌, false, List, [], ◌∷◌, arith, rules, length, Some, None, is_some, Result, Ok, Err, refl, sym, ap, subst, ◌∙◌}
+use Rattle.std.proofs.Common.{◌≡◌, ℕ, suc, ◌+◌, ◌-◌, ◌≤◌, ◌<◌, ◌||◌, ◌==◌, eqb, Bool, true, false, List, [], ◌∷◌, arith, rules, length, get_or, drop, Some, None, is_some, Result, Ok, Err, refl, sym, ap, subst, ◌∙◌}
+use Rattle.std.proofs.Math.Seq.{drop-cons}
+use Rattle.std.proofs.lemmas.Bool.Decides.{nat_tests}
+use Rattle.std.proofs.lemmas.List.{length-drop}
 use Rattle.std.specs.Prelude.{nat_lt, codes}
 use Rattle.std.specs.Str.{bytes_eq}
 use Rattle.chess_base.specs.declared.fault.FenFault.{FenFault}
@@ -18,10 +21,11 @@ use Rattle.chess_text.specs.declared.reading.Reading.{Reading}
 use Rattle.chess_text.specs.declared.reading.Reading.TheVariants as reads
 use Rattle.chess_text.specs.Moves.{reading}
 use Rattle.chess_pgn.specs.Words.{kind_of}
-use Rattle.chess_pgn.specs.Tokens.{Token, Skip, Tag, Word, Bad_tag, Unclosed_comment, Unclosed_variation, Bad, first_place, tokens_from}
+use Rattle.chess_pgn.specs.Tokens.{Token, Skip, Tag, Word, Bad_tag, Unclosed_comment, Unclosed_variation, Bad, first_place, is_blank, token_at, begins_line, tokens_from}
 use Rattle.chess_pgn.specs.GameRead.{SoFar, Step, On, Stop, unless_full, move_step, word_step, fen_step, tag_step, step, go_on, game_of, nothing_read, told_by, told_next, variant_told, tokens_read, pgn_read}
-use Rattle.chess_pgn.specs.ties.GameSteps.{so_far}
+use Rattle.chess_pgn.specs.ties.GameSteps.{so_far, ReadsAlike}
 use Rattle.chess_pgn.proofs.Cuts.{pick}
+use Rattle.chess_pgn.proofs.Walk.{token_more}
 
 -- ---- nothing is declared before the game's end
 
@@ -122,4 +126,36 @@ more limit text from game new p q here behind t r is later h same step_is = reco
   undeclared = subst Undeclared (sym step_is) (keeps game.limit (length text) (so_far game.state p) (length text - here) t r.undeclared);
   same_limit = same ∙ r.same_limit;
   whole = stepped limit text from game p here t (tokens_from text behind) (On (so_far new.state q)) r is step_is;
+}
+
+-- ---- blanks and dots, at which nothing counts
+
+passed_token : (begins : Bool) (c : ℕ) (rest : List ℕ) → (is_blank c || (c == 46)) ≡ true → token_at begins c rest ≡ (Skip, rest)
+unfolding token_at
+passed_token true c rest h =
+    let line : eqb c 37 ≡ false = grind (arith, nat_tests, h) in
+    rw (line, h) refl
+passed_token false c rest h = rw h refl
+
+passed_at : (text : List ℕ) (at c : ℕ) (rest : List ℕ) → drop at text ≡ c ∷ rest → at < length text → (is_blank c || (c == 46)) ≡ true → ReadsAlike text at (at + 1)
+passed_at text at c rest is low h =
+    let left : suc (length rest) ≡ length text - at = sym (ap length is) ∙ length-drop at text in
+    let place : length text - length rest ≡ at + 1 = omega (arith, left, low) in
+    λ limit g.
+    ap (game_of limit (length text) g) (token_more text at c rest is (omega (arith, low)))
+    ∙ ap (λ (t : Token × List ℕ). game_of limit (length text) g ((length text - at, t.0) ∷ tokens_from text (length text - length t.1))) (passed_token (begins_line text at) c rest h)
+    ∙ ap (λ n. game_of limit (length text) g (tokens_from text n)) place
+
+-- one more
+pub passed : (text : List ℕ) (from at : ℕ) → ReadsAlike text from at → at < length text → (is_blank (get_or text at 0) || (get_or text at 0 == 46)) ≡ true → ReadsAlike text from (at + 1)
+passed text from at so low h = λ limit g. so limit g ∙ passed_at text at (get_or text at 0) (drop (suc at) text) (drop-cons text at 0 low) low h limit g
+
+-- reading goes on behind them
+pub alike : (limit : ℕ) (text : List ℕ) (from : ℕ) (game : Seen) (p : Progress) (here there : ℕ) → Reads limit text from game p here → ReadsAlike text here there → here ≤ there → there ≤ length text → Reads limit text from game p there
+alike limit text from game p here there r same behind within = record {
+  behind = (let before = r.behind in omega (arith, before, behind));
+  place = within;
+  undeclared = r.undeclared;
+  same_limit = r.same_limit;
+  whole = sym (same limit (so_far game.state p)) ∙ r.whole;
 }

@@ -1,6 +1,6 @@
 //! Reading a game.
 
-ghost use Rattle.std.specs.Prelude.{◌≡◌, ℕ, ◌+◌, ◌-◌, ◌^◌, ◌≤◌, ◌<◌, true, length, None, IfOk, Err, is_some};
+ghost use Rattle.std.specs.Prelude.{◌≡◌, ℕ, ◌+◌, ◌-◌, ◌^◌, ◌≤◌, ◌<◌, ◌||◌, ◌==◌, true, length, None, IfOk, Err, is_some};
 ghost use Rattle.std.specs.Option.{IfSome};
 ghost use Rattle.chess_game.specs.Game.{State, at as left_at, with_declared, current, verdict_now};
 ghost use Rattle.chess_base.specs.declared.man.Variant.TheVariants.{Normal};
@@ -8,9 +8,10 @@ ghost use Rattle.chess_text.specs.Moves.{reading};
 ghost use Rattle.chess_pgn.specs.Words.{kind_of};
 ghost use Rattle.chess_pgn.specs.ties.Seen.{token_seen, fault_seen};
 ghost use Rattle.chess_pgn.specs.GameRead.{declared_behind, told_behind, move_step, word_step, tag_step, step, variant_named, told_by, variant_told, pgn_read};
-ghost use Rattle.chess_pgn.specs.Tokens.{tokens_from};
-ghost use Rattle.chess_pgn.specs.ties.GameSteps.{EndsIn, so_far, step_seen, IsWithin};
+ghost use Rattle.chess_pgn.specs.Tokens.{is_blank, tokens_from};
+ghost use Rattle.chess_pgn.specs.ties.GameSteps.{EndsIn, so_far, step_seen, IsWithin, ReadsAlike};
 
+use crate::bytes::is_blank;
 use crate::tag::Tag;
 use crate::termination::Termination;
 use crate::token::{Token, TokenFault, first_place, next_token};
@@ -324,6 +325,27 @@ fn told_variant(text: &[u8], at: usize) -> Variant
     }
 }
 
+// Whether the byte counts nothing where a token begins: a blank or a dot.
+fn is_passed(byte: u8) -> bool
+    ensures { result ≡ (is_blank byte || byte == 46) }
+{
+    is_blank(byte) || byte == b'.'
+}
+
+// Behind the blanks and dots from a place on. They are tokens too, but a game is read alike without them.
+fn behind_blanks(text: &[u8], at: usize) -> usize
+    requires { at ≤ length text.now }
+    ensures alike { ReadsAlike text.now at result }
+    ensures behind { at ≤ result }
+    ensures within { result ≤ length text.now }
+{
+    let mut place = at;
+    while place < text.len() && is_passed(text[place]) {
+        place += 1;
+    }
+    place
+}
+
 /// Reads the first game of a text from a place on (PGN standard of 1994; which words are taken is this project's own). The
 /// game begins anew from the initial position or from the last FEN tag's, of the variant that the last tag `Variant` names;
 /// its moves are played as they are met, and the termination's outcome is declared unless there is a verdict or it is `*`. `None` where no tag, number, move or
@@ -357,7 +379,7 @@ pub fn read_pgn<B: Board>(
                     Step::On(further) => progress = further,
                     Step::Ended(end) => return Ok(Some(end)),
                 }
-                place = behind;
+                place = behind_blanks(text, behind);
             }
             Ok(None) if progress.is_met => {
                 return Err(PgnFault {

@@ -1,12 +1,12 @@
 -- What the reader of a game answers, step by step, in the words of the definitions.
-use Rattle.std.specs.Prelude.{ℕ, ◌<◌, ◌≤◌, length, Result, Ok, Err, Some}
+use Rattle.std.specs.Prelude.{◌≡◌, ℕ, ◌<◌, ◌≤◌, List, length, Result, Ok, Err, Some}
 use Rattle.chess_game.specs.Game.{State}
 use Rattle.chess_pgn.specs.declared.read.PgnFault.{PgnFault}
 use Rattle.chess_pgn.specs.declared.read.Progress.{Progress}
 use Rattle.chess_pgn.specs.declared.read.Step as code
 use Rattle.chess_pgn.specs.declared.read.Step.TheVariants as does
-use Rattle.chess_pgn.specs.Tokens.{Token, Skip, Tag, Word, Bad_tag, Unclosed_comment, Unclosed_variation, Bad}
-use Rattle.chess_pgn.specs.GameRead.{SoFar, Step, On, Stop}
+use Rattle.chess_pgn.specs.Tokens.{Token, Skip, Tag, Word, Bad_tag, Unclosed_comment, Unclosed_variation, Bad, tokens_from}
+use Rattle.chess_pgn.specs.GameRead.{SoFar, Step, On, Stop, game_of}
 
 -- the game so far
 abbrev pub so_far : State → Progress → SoFar
@@ -33,3 +33,7 @@ IsWithin left Bad_tag = Unit {0}
 IsWithin left (Unclosed_comment brace) = brace ≤ left
 IsWithin left Unclosed_variation = Unit {0}
 IsWithin left Bad = Unit {0}
+
+-- whatever was read before, the rest of a game is read alike from either place on
+abbrev pub ReadsAlike : List ℕ → ℕ → ℕ → Type 0
+ReadsAlike text a b = (limit : ℕ) (g : SoFar) → game_of limit (length text) g (tokens_from text a) ≡ game_of limit (length text) g (tokens_from text b)

@@ -1,6 +1,6 @@
 use Rattle.chess_pgn.specs.ties.Seen.{token_seen, fault_seen}
 use Rattle.chess_pgn.proofs.TokenPlaces.{token_within}
-use Rattle.chess_pgn.proofs.GameReads.{more}
+use Rattle.chess_pgn.proofs.GameReads.{more, alike}
 use Rattle.chess_pgn.proofs.read.read_pgn.Goals as goal
 
 pub read_token-requires-clause-within : goal.read_token-requires-clause-within
@@ -11,7 +11,8 @@ pub loop-token-preserved : goal.loop-token-preserved
 loop-token-preserved g c =
     let next = rw c.in-Ok-Some.field-0-is at c.in-Ok-Some.ensures in
     let step_is = rw c.in-On.is at c.in_ok-further-in-Ok-Some.ensures.step in
-    more c.args.game.now.limit c.args.text.now c.args.at c.loop-token.game c.read_token.new.game c.loop-token.progress c.in-On.further c.loop-token.place c.in-Ok-Some.behind (token_seen c.in-Ok-Some.token) c.loop-token.invariant next.0 next.1 next.2 c.read_token.ensures.limit step_is
+    let before = more c.args.game.now.limit c.args.text.now c.args.at c.loop-token.game c.read_token.new.game c.loop-token.progress c.in-On.further c.loop-token.place c.in-Ok-Some.behind (token_seen c.in-Ok-Some.token) c.loop-token.invariant next.0 next.1 next.2 c.read_token.ensures.limit step_is in
+    alike c.args.game.now.limit c.args.text.now c.args.at c.read_token.new.game c.in-On.further c.in-Ok-Some.behind c.behind_blanks-place.result before c.behind_blanks-place.ensures.alike c.behind_blanks-place.ensures.behind c.behind_blanks-place.ensures.within
 
 pub told_fault-requires-clause-within : goal.told_fault-requires-clause-within
 told_fault-requires-clause-within g c =
