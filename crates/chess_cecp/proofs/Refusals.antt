@@ -1,5 +1,5 @@
 -- Rows whose text is a refusal change nothing.
-use Rattle.std.proofs.Common.{◌≡◌, ℕ, ◌==◌, ◌||◌, inl, inr, Bool, true, false, List, [], get_or, codes, refl, sym, ap, if◌then◌else◌, length, Option, None, Some}
+use Rattle.std.proofs.Common.{◌≡◌, ℕ, ◌==◌, ◌||◌, inl, inr, Bool, true, false, List, [], get_or, codes, refl, sym, ap, ◌∙◌, if◌then◌else◌, length, Option, None, Some}
 use Rattle.std.specs.Prelude.{nat_le, nat_lt, Result, Ok, Err}
 use Rattle.std.specs.Str.{bytes_eq}
 use Rattle.chess_base.specs.declared.fault.FenFault.{FenFault}
@@ -144,3 +144,11 @@ refused_keeps seen line h =
     (λ k. refl)
     (row_keeps seen.tags seen.limit seen.state line.text (argument_of line.text) (command_of line.text))
     h)
+
+-- the same of a session that is left; and tags and limit stay in any case
+pub refused : (seen left : Seen) (line : LineSeen) → left ≡ next_state seen line → IsRefusal (answer_to seen line) → left ≡ seen
+refused seen left line is h = is ∙ refused_keeps seen line h
+
+pub tags_and_limit_stay : (seen left : Seen) (line : LineSeen) → left ≡ next_state seen line → (left.tags ≡ seen.tags) × (left.limit ≡ seen.limit)
+unfolding next_state
+tags_and_limit_stay seen left line is = (ap (λ (s : Seen). s.tags) is, ap (λ (s : Seen). s.limit) is)

@@ -10,7 +10,7 @@ ghost use Rattle.chess_cecp.specs.Held.{opened, game_of};
 ghost use Rattle.chess_pgn.specs.GameText.{pgn};
 ghost use Rattle.chess_game.specs.Results.{cut_comment};
 ghost use Rattle.chess_cecp.specs.Declaring.{declared_by};
-ghost use Rattle.chess_cecp.specs.Session.{row, move_row, undo_row, remove_row, result_row, draws, claim_row, setboard_row, normal_row, variant_row, stands, next_state, answer_to, is_quit, is_quit_command, shows_pgn, asks_for_pgn, line_text, moves_line};
+ghost use Rattle.chess_cecp.specs.Session.{row, move_row, undo_row, remove_row, result_row, draws, claim_row, setboard_row, normal_row, variant_row, stands, next_state, answer_to, is_quit, is_quit_command, shows_pgn, asks_for_pgn, line_text, moves_line, IsRefusal};
 
 use crate::answer::{
     Answer, write_features, write_illegal_position, write_line, write_moves, write_pong,
@@ -323,6 +323,10 @@ impl<B: Board> Session<B> {
         ensures next { self.new ≡ next_state self.old line.now }
         ensures written { Sends (W.seen writer.old) (W.seen writer.new) result (answer_to self.old line.now) }
         ensures go { IfOk result (λ go. go ≡ (if is_quit line.now then Go.Quit else Go.On)) }
+
+        // In single facts, beside the table.
+        ensures refused { IsRefusal (answer_to self.old line.now) → self.new ≡ self.old }
+        ensures kept { (self.new.tags ≡ self.old.tags) × (self.new.limit ≡ self.old.limit) }
     {
         if asks_for_pgn(line) {
             return match self.send_pgn(writer) {

@@ -1,5 +1,5 @@
 -- Reading a game, token by token.
-use Rattle.std.proofs.Common.{◌≡◌, ℕ, suc, ◌+◌, ◌-◌, ◌≤◌, ◌<◌, ◌||◌, ◌==◌, eqb, Bool, true, false, List, [], ◌∷◌, arith, rules, length, get_or, drop, Some, None, is_some, Result, Ok, Err, refl, sym, ap, subst, ◌∙◌}
+use Rattle.std.proofs.Common.{◌≡◌, ℕ, suc, ◌+◌, ◌-◌, ◌≤◌, ◌<◌, ◌||◌, ◌==◌, eqb, Bool, true, false, List, [], ◌∷◌, arith, rules, length, get_or, drop, Some, None, is_some, Result, Ok, Err, refl, sym, ap, subst, ◌∙◌, Option, IsNone, OnErr}
 use Rattle.std.proofs.Math.Seq.{drop-cons}
 use Rattle.std.proofs.lemmas.Bool.Decides.{nat_tests}
 use Rattle.std.proofs.lemmas.List.{length-drop}
@@ -11,9 +11,11 @@ use Rattle.chess_base.specs.declared.man.Variant.TheVariants.{Normal}
 use Rattle.chess_base.specs.declared.setup.Setup.{Setup}
 use Rattle.chess_base.specs.Initial.{initial_setup_of}
 use Rattle.chess_base.specs.Reading.{fen_reading_as}
-use Rattle.chess_game.specs.Game.{Seen, from_start, current, verdict_now}
+use Rattle.chess_game.specs.Game.{State, Seen, from_start, current, verdict_now}
 use Rattle.chess_game.specs.Game.{at as left_at}
 use Rattle.chess_game.specs.declared.results.Outcome.{Outcome}
+use Rattle.chess_pgn.specs.declared.read.PgnEnd.{PgnEnd}
+use Rattle.chess_pgn.specs.declared.read.PgnFault.{PgnFault}
 use Rattle.chess_pgn.specs.declared.read.Progress.{Progress}
 use Rattle.chess_pgn.specs.declared.word.WordKind.{WordKind}
 use Rattle.chess_pgn.specs.declared.word.WordKind.TheVariants.{End, Number, Marks, Move}
@@ -23,26 +25,26 @@ use Rattle.chess_text.specs.Moves.{reading}
 use Rattle.chess_pgn.specs.Words.{kind_of}
 use Rattle.chess_pgn.specs.Tokens.{Token, Skip, Tag, Word, Bad_tag, Unclosed_comment, Unclosed_variation, Bad, first_place, is_blank, token_at, begins_line, tokens_from}
 use Rattle.chess_pgn.specs.GameRead.{SoFar, Step, On, Stop, unless_full, move_step, word_step, fen_step, tag_step, step, go_on, game_of, nothing_read, told_by, told_next, variant_told, tokens_read, pgn_read}
-use Rattle.chess_pgn.specs.ties.GameSteps.{so_far, ReadsAlike}
+use Rattle.chess_pgn.specs.ties.GameSteps.{so_far, ReadsAlike, step_seen}
 use Rattle.chess_pgn.proofs.Cuts.{pick}
 use Rattle.chess_pgn.proofs.Walk.{token_more}
 
--- ---- nothing is declared before the game's end
+-- ---- nothing is declared before the game's end, and nothing behind a fault
 
 abbrev Undeclared : Step → Type 0
 Undeclared (On g) = g.state.declared ≡ None
-Undeclared (Stop read) = Unit {0}
+Undeclared (Stop read) = OnErr read.answer (read.state.declared ≡ None)
 
-unless_full_keeps : (limit : ℕ) (g : SoFar) (place : ℕ) (next : Step) → Undeclared next → Undeclared (unless_full limit g place next)
-unless_full_keeps limit g place next h =
-    pick Undeclared (is_some (verdict_now g.state)) _ _ (λ _. tt) (λ _.
-    pick Undeclared (nat_lt (length g.state.moves) limit) _ _ (λ _. h) (λ _. tt))
+unless_full_keeps : (limit : ℕ) (g : SoFar) (place : ℕ) (next : Step) → g.state.declared ≡ None → Undeclared next → Undeclared (unless_full limit g place next)
+unless_full_keeps limit g place next h k =
+    pick Undeclared (is_some (verdict_now g.state)) _ _ (λ _. h) (λ _.
+    pick Undeclared (nat_lt (length g.state.moves) limit) _ _ (λ _. k) (λ _. h))
 
 move_keeps : (limit : ℕ) (g : SoFar) (place : ℕ) (r : Reading) → g.state.declared ≡ None → Undeclared (move_step limit g place r)
-move_keeps limit g place reads.NotAMove h = tt
-move_keeps limit g place (reads.Move m) h = unless_full_keeps limit g place _ h
-move_keeps limit g place reads.Ambiguous h = unless_full_keeps limit g place _ tt
-move_keeps limit g place reads.NoSuch h = unless_full_keeps limit g place _ tt
+move_keeps limit g place reads.NotAMove h = h
+move_keeps limit g place (reads.Move m) h = unless_full_keeps limit g place _ h h
+move_keeps limit g place reads.Ambiguous h = unless_full_keeps limit g place _ h h
+move_keeps limit g place reads.NoSuch h = unless_full_keeps limit g place _ h h
 
 word_keeps : (limit : ℕ) (g : SoFar) (place : ℕ) (word : List ℕ) (kind : WordKind) → g.state.declared ≡ None → Undeclared (word_step limit g place word kind)
 word_keeps limit g place word (End o) h = tt
@@ -50,21 +52,30 @@ word_keeps limit g place word Number h = h
 word_keeps limit g place word Marks h = h
 word_keeps limit g place word Move h = move_keeps limit g place (reading (current g.state) word) h
 
-fen_keeps : (g : SoFar) (place : ℕ) (r : Result Setup FenFault) → Undeclared (fen_step g place r)
-fen_keeps g place (Ok start) = refl
-fen_keeps g place (Err fault) = tt
+fen_keeps : (g : SoFar) (place : ℕ) (r : Result Setup FenFault) → g.state.declared ≡ None → Undeclared (fen_step g place r)
+fen_keeps g place (Ok start) h = refl
+fen_keeps g place (Err fault) h = h
 
 tag_keeps : (g : SoFar) (name text : List ℕ) (place : ℕ) → g.state.declared ≡ None → Undeclared (tag_step g name text place)
-tag_keeps g name text place h = pick Undeclared (bytes_eq name (codes "FEN")) _ _ (λ _. fen_keeps g place (fen_reading_as g.state.start.variant text)) (λ _. h)
+tag_keeps g name text place h = pick Undeclared (bytes_eq name (codes "FEN")) _ _ (λ _. fen_keeps g place (fen_reading_as g.state.start.variant text) h) (λ _. h)
 
 keeps : (limit total : ℕ) (g : SoFar) (left : ℕ) (t : Token) → g.state.declared ≡ None → Undeclared (step limit total g left t)
 keeps limit total g left Skip h = h
-keeps limit total g left (Tag name text string) h = pick Undeclared g.is_begun _ _ (λ _. tt) (λ _. tag_keeps g name text (total - string) h)
+keeps limit total g left (Tag name text string) h = pick Undeclared g.is_begun _ _ (λ _. h) (λ _. tag_keeps g name text (total - string) h)
 keeps limit total g left (Word word) h = word_keeps limit g (total - left) word (kind_of word) h
-keeps limit total g left Bad_tag h = tt
-keeps limit total g left (Unclosed_comment brace) h = tt
-keeps limit total g left Unclosed_variation h = tt
-keeps limit total g left Bad h = tt
+keeps limit total g left Bad_tag h = h
+keeps limit total g left (Unclosed_comment brace) h = h
+keeps limit total g left Unclosed_variation h = h
+keeps limit total g left Bad h = h
+
+-- a step that ended at a fault left nothing declared, whatever is answered then
+pub bare_at_fault : (limit total : ℕ) (g : SoFar) (left : ℕ) (t : Token) (s : State) (fault : PgnFault) (r : Result (Option PgnEnd) PgnFault) → g.state.declared ≡ None → step_seen s (Err fault) ≡ step limit total g left t
+    → OnErr r (IsNone s.declared)
+bare_at_fault limit total g left t s fault r h is = on_error r (ap is_some (subst Undeclared (sym is) (keeps limit total g left t h)))
+  where
+    on_error : {P : Type 0} (r : Result (Option PgnEnd) PgnFault) → P → OnErr r P
+    on_error (Ok end) p = tt
+    on_error (Err f) p = p
 
 -- ---- a termination has bytes
 

@@ -1,6 +1,6 @@
 //! Reading a game.
 
-ghost use Rattle.std.specs.Prelude.{◌≡◌, ℕ, ◌+◌, ◌-◌, ◌^◌, ◌≤◌, ◌<◌, ◌||◌, ◌==◌, true, length, None, IfOk, Err, is_some};
+ghost use Rattle.std.specs.Prelude.{◌≡◌, ℕ, ◌+◌, ◌-◌, ◌^◌, ◌≤◌, ◌<◌, ◌||◌, ◌==◌, true, length, None, IfOk, Err, is_some, IsNone, OnErr};
 ghost use Rattle.std.specs.Option.{IfSome};
 ghost use Rattle.chess_game.specs.Game.{State, at as left_at, with_declared, current, verdict_now};
 ghost use Rattle.chess_base.specs.declared.man.Variant.TheVariants.{Normal};
@@ -34,32 +34,43 @@ pub struct PgnEnd {
 }
 
 /// Why a game's text can't be read.
-#[derive(Clone, Copy, Debug, PartialEq, Eq)]
+#[derive(Clone, Copy, Debug, PartialEq, Eq, thiserror::Error)]
 pub enum PgnFaultKind {
     /// A bracket that begins no tag.
+    #[error("a bracket begins no tag")]
     BadTag,
     /// A FEN that spells no sound position; the place is the first byte of its string.
+    #[error("the FEN spells no position")]
     BadFen,
     /// A byte that begins no token, or a word that is no move, number or termination.
+    #[error("this is no token, move, number or termination")]
     BadToken,
     /// A move that is not legal.
+    #[error("the move is not legal")]
     IllegalMove,
     /// A text that several legal moves fit.
+    #[error("several legal moves fit")]
     AmbiguousMove,
     /// A move behind the game's end.
+    #[error("the move is behind the end of the game")]
     AfterEnd,
     /// A move past the game's limit.
+    #[error("the game has more moves than can stand")]
     TooLong,
     /// A comment without its closing brace; the place is its opening brace.
+    #[error("the comment is not closed")]
     UnclosedComment,
     /// A variation without its end; the place is its outermost bracket.
+    #[error("the variation is not closed")]
     UnclosedVariation,
     /// No termination before the next game's tags or the text's end.
+    #[error("the game has no result")]
     NoResult,
 }
 
 /// A fault of a game's text, and its byte.
-#[derive(Clone, Copy, Debug, PartialEq, Eq)]
+#[derive(Clone, Copy, Debug, PartialEq, Eq, thiserror::Error)]
+#[error("{kind} at byte {place}")]
 pub struct PgnFault {
     pub kind: PgnFaultKind,
     /// The byte at which it is, from the text's first byte on.
@@ -364,6 +375,8 @@ pub fn read_pgn<B: Board>(
     ensures game { game.new ≡ left_at game.old (pgn_read game.old.limit text.now at).state }
     ensures within { IfOk result (λ end. IfSome end (λ e. e.place ≤ length text.now)) }
     ensures further { IfOk result (λ end. IfSome end (λ e. at < e.place)) }
+    ensures undeclared { OnErr result (IsNone game.new.state.declared) }
+    ensures limit { game.new.limit ≡ game.old.limit }
 {
     let mut place = first_place(text, at);
     game.restart(&Position::initial_of(told_variant(text, place)));

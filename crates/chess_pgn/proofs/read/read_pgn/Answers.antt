@@ -1,6 +1,8 @@
 use Rattle.chess_pgn.specs.ties.Seen.{token_seen, fault_seen}
 use Rattle.chess_pgn.proofs.TokenPlaces.{token_within}
-use Rattle.chess_pgn.proofs.GameReads.{more, alike}
+use Rattle.chess_pgn.proofs.GameReads.{more, alike, bare_at_fault}
+use Rattle.std.proofs.Common.{length}
+use Rattle.chess_pgn.specs.ties.GameSteps.{so_far}
 use Rattle.chess_pgn.proofs.read.read_pgn.Goals as goal
 
 pub read_token-requires-clause-within : goal.read_token-requires-clause-within
@@ -17,3 +19,8 @@ loop-token-preserved g c =
 pub told_fault-requires-clause-within : goal.told_fault-requires-clause-within
 told_fault-requires-clause-within g c =
     token_within c.args.text.now c.loop-token.place (fault_seen c.in-Err.fault) _ c.loop-token.invariant.place c.in-Err.ensures
+
+pub returns-in_err-further-in-Ok-Some-clause-undeclared : goal.returns-in_err-further-in-Ok-Some-clause-undeclared
+returns-in_err-further-in-Ok-Some-clause-undeclared g c =
+    bare_at_fault c.loop-token.game.limit (length c.args.text.now) (so_far c.loop-token.game.state c.loop-token.progress) _ (token_seen c.in-Ok-Some.token) c.read_token.new.game.state c.in_err-further-in-Ok-Some.field-0.0 c.from_residual.result c.loop-token.invariant.undeclared
+    c.in_err-further-in-Ok-Some.ensures.step
