@@ -303,6 +303,21 @@ impl Bits {
         false
     }
 
+    // Whether one of these kings of the side on move has a legal move.
+    fn has_king_move(&self, men: SquareSet) -> bool
+        requires kings { (k : ℕ) → k < 64 → has men k ≡ true → is_man (self.now).side King (man_at (self.now).men k) ≡ true }
+        requires few { length (flat_map (λ a. moves_from self.now a) (members men)) ≤ 896 }
+        ensures { result ≡ nat_lt 0 (length (flat_map (λ a. moves_from self.now a) (members men))) }
+    {
+        let mut rest = men;
+        while let Some(from) = rest.take_first() {
+            if self.count_king(from) > 0 {
+                return true;
+            }
+        }
+        false
+    }
+
     // Whether a knight or pawn off its king's lines has a legal move, where he is not in check. Mostly one has.
     fn has_usual_move(&self) -> bool
         ensures { result ≡ true → nat_lt 0 (length (moves self.now)) ≡ true }
@@ -318,13 +333,20 @@ impl Bits {
         self.has_pawn_move(pawns.intersection(free))
     }
 
-    // Whether there is a legal move. It looks no further than the first.
+    // Whether there is a legal move. It looks no further than the first man that has one, and sees to the king early, since in
+    // check he mostly has one.
     pub(crate) fn has_move(&self) -> bool
         ensures { result ≡ nat_lt 0 (length (moves self.now)) }
     {
+        let _sound = self.setup();
         if self.has_usual_move() {
             return true;
         }
-        self.has_move_of(self.sets.all(self.setup.side))
+        let side = self.setup.side;
+        let kings = self.sets.of(side).of(Kind::King);
+        if self.has_king_move(kings) {
+            return true;
+        }
+        self.has_move_of(self.sets.all(side))
     }
 }

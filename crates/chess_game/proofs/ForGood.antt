@@ -1,6 +1,8 @@
 -- No position before a capture or a pawn move is the same as one after it.
 use Rattle.std.proofs.Common.{◌≡◌, ◌∙◌, inl, inr, ℕ, zero, suc, ◌+◌, ◌<◌, ◌≤◌, Bool, true, false, List, [], ◌∷◌, length, take, get_or, count_by, Option, None, Some, refl, sym, ap, subst, arith}
-use Rattle.std.specs.Prelude.{◌==◌, ◌&&◌, sum, if◌then◌else◌}
+use Rattle.std.specs.Prelude.{◌==◌, ◌&&◌, nat_le, sum, if◌then◌else◌}
+use Rattle.std.proofs.lemmas.Bool.Decides.{nat_tests}
+use Rattle.chess_base.specs.declared.man.Move.{Move}
 use Rattle.std.proofs.lemmas.Bool.{cases_Bool, and_parts, eqb-true}
 use Rattle.std.proofs.lemmas.List.Sums.{sum_by-cons}
 use Rattle.chess_base.specs.declared.man.Colour.{Colour}
@@ -8,7 +10,7 @@ use Rattle.chess_base.specs.declared.man.Colour.TheVariants.{White, Black}
 use Rattle.chess_base.specs.declared.man.Kind.TheVariants.{Pawn}
 use Rattle.chess_base.specs.declared.man.Man.{Man}
 use Rattle.chess_base.specs.declared.setup.Setup.{Setup}
-use Rattle.chess_base.specs.Men.{Men, man_at, same_colour, same_kind}
+use Rattle.chess_base.specs.Men.{Men, man_at, other, same_colour, same_kind}
 use Rattle.chess_base.specs.Moves.{after}
 use Rattle.chess_base.specs.Squares.{from_below}
 use Rattle.chess_base.specs.Squares.{each_square}
@@ -122,3 +124,76 @@ rest_counted grows falls p xs q count k left d f at h one_more e zeroed =
     let e' : count + seen p (take (k + 1) xs) q ≡ seen p xs q = subst (λ n. count + seen p (take n xs) q ≡ seen p xs q) one_more e in
     let whole = counted p xs q f at in
     omega (arith, e', more, before, whole)
+
+-- ---- sides take turns
+
+at_most_one : (b : Bool) → one_if b ≤ 1
+at_most_one true = omega arith
+at_most_one false = omega arith
+
+opposite : (c : Colour) → same_colour (other c) c ≡ false
+opposite White = refl
+opposite Black = refl
+
+first_holds : (a b c d : Bool) → (a && b && c && d) ≡ true → a ≡ true
+first_holds true b c d e = refl
+first_holds false b c d e = e
+
+off_first : (a b c d : Bool) → a ≡ false → (a && b && c && d) ≡ false
+off_first a b c d e = rw e refl
+
+-- of two positions with other sides on move not both are the same as a third
+not_both : (p q r : Setup) → r.side ≡ other p.side → one_if (same p q) + one_if (same r q) ≤ 1
+unfolding same
+not_both p q r turn =
+    elim (cases_Bool (same p q)) [
+      | inr off ↦
+          let none : one_if (same p q) ≡ 0 = ap one_if off in
+          let few = at_most_one (same r q) in
+          omega (arith, none, few)
+      | inl on ↦
+          let alike : p.side ≡ q.side = same_colour-is p.side q.side (first_holds (same_colour p.side q.side) (same_men p.men q.men) (same_rights p.rights q.rights) (same_square (live_target p) (live_target q)) on) in
+          let turned : same_colour r.side q.side ≡ false = ap (λ c. same_colour c q.side) (turn ∙ ap other alike) ∙ opposite q.side in
+          let none : one_if (same r q) ≡ 0 = ap one_if (off_first (same_colour r.side q.side) (same_men r.men q.men) (same_rights r.rights q.rights) (same_square (live_target r) (live_target q)) turned) in
+          let few = at_most_one (same p q) in
+          omega (arith, none, few)
+    ]
+
+side_after : (p : Setup) (m : Move) → (after p m).side ≡ other p.side
+unfolding after
+side_after p m = refl
+
+pairs : (p : Setup) (xs : List Place) (q : Setup) → Follows p xs → count_by (λ x. same x.reached.position q) xs + count_by (λ x. same x.reached.position q) xs ≤ length xs + 1
+pairs p [] q f = omega arith
+pairs p (x ∷ []) q f =
+    let all = sum_by-cons (λ z. one_if (same z.reached.position q)) x [] in
+    let few = at_most_one (same x.reached.position q) in
+    omega (arith, all, few)
+pairs p (x ∷ y ∷ zs) q f =
+    let all = sum_by-cons (λ z. one_if (same z.reached.position q)) x (y ∷ zs) in
+    let others = sum_by-cons (λ z. one_if (same z.reached.position q)) y zs in
+    let turn : y.reached.position.side ≡ other x.reached.position.side = ap (λ v. v.side) f.2.0.left ∙ side_after x.reached.position y.made in
+    let both = not_both x.reached.position q y.reached.position turn in
+    let rest = pairs y.reached.position zs q f.2.2 in
+    omega (arith, all, others, both, rest)
+
+pairs_behind : (p : Setup) (xs : List Place) (q : Setup) (k : ℕ) → Follows p xs → k ≤ length xs
+    → count_by (λ x. same x.reached.position q) xs + count_by (λ x. same x.reached.position q) xs + k ≤ count_by (λ x. same x.reached.position q) (take k xs) + count_by (λ x. same x.reached.position q) (take k xs) + length xs + 1
+pairs_behind p xs q zero f h = let all = pairs p xs q f in omega (arith, all)
+pairs_behind p [] q (suc k) f h = absurd (omega (arith, h))
+pairs_behind p (y ∷ ys) q (suc k) f h =
+    let rest = pairs_behind y.reached.position ys q k f.2 (omega (arith, h)) in
+    let all = sum_by-cons (λ z. one_if (same z.reached.position q)) y ys in
+    let front = sum_by-cons (λ z. one_if (same z.reached.position q)) y (take k ys) in
+    omega (arith, rest, all, front)
+
+-- where one of the last eight places was reached by a capture or a pawn move, the position is there at most four times
+pub few_times : ReserveNeverGrows → ReserveFallsForGood → (p : Setup) (xs : List Place) (k : ℕ) (d : Place) → Follows p xs → k < length xs → length xs ≤ k + 8
+    → (get_or xs k d).reached.position.halfmove ≡ 0 → false ≡ nat_le 5 (rep p (moves_of xs))
+few_times grows falls p xs k d f h near zeroed =
+    let before = (none_before grows falls p xs k d f h zeroed).none in
+    let all = counted p xs (last p (moves_of xs)) f refl in
+    let behind = pairs_behind p xs (last p (moves_of xs)) k f (omega (arith, h)) in
+    let few : rep p (moves_of xs) ≤ 4 = omega (arith, before, all, behind, near, h) in
+    let off : nat_le 5 (rep p (moves_of xs)) ≡ false = grind (arith, nat_tests, few) in
+    sym off

@@ -1,6 +1,6 @@
 //! One game: the moves that stand, and the positions that they gave.
 
-ghost use Rattle.std.specs.Prelude.{false, ◌≡◌, ◌≤◌, ◌<◌, ◌+◌, ◌↔◌, IsTrue, IsFalse, IsNone, IsOk, IsErr, IfOk, OnOk, OnErr, Err, None, Some, [], ◌∷◌, ◌++◌, length, take, slice_get};
+ghost use Rattle.std.specs.Prelude.{false, ◌≡◌, ◌≤◌, ◌<◌, ◌+◌, ◌↔◌, IsTrue, IsFalse, IsNone, IsOk, IsErr, IfOk, OnOk, OnErr, Err, None, Some, [], ◌∷◌, ◌++◌, length, take, slice_get, nat_le};
 ghost use Rattle.chess_base.specs.Moves.{is_legal};
 ghost use Rattle.std.specs.Option.{option_map};
 ghost use Rattle.chess_game.specs.Line.{last};
@@ -115,6 +115,24 @@ fn repetitions(start: &Known, places: &[Place]) -> usize
     count + start.times_same(now)
 }
 
+// Whether the present position, of that clock, is there for at least the fifth time. Sides take turns, so that needs more than
+// eight positions since the last capture or pawn move.
+fn is_fivefold(start: &Known, places: &[Place], halfmove: u32) -> bool
+    requires start { IsKnown start.now }
+    requires follows { Follows start.now.position places.now }
+    ensures { result ≡ nat_le 5 (rep start.now.position (moves_of places.now)) }
+{
+    reserve_never_grows();
+    let ago = halfmove as usize;
+    if ago < 8 && ago < places.len() {
+        let first = &places[places.len() - 1 - ago].reached;
+        if first.position.setup().halfmove == 0 {
+            return false;
+        }
+    }
+    repetitions(start, places) >= 5
+}
+
 // The verdict on a game that is kept so.
 #[tactic(auto, unfolding(crate::specs::Ends::verdict))]
 fn verdict_on<B: Board>(board: &B, start: &Known, places: &[Place]) -> Option<Verdict>
@@ -130,7 +148,7 @@ fn verdict_on<B: Board>(board: &B, start: &Known, places: &[Place]) -> Option<Ve
         }
     } else if is_bare(&setup.men) {
         Some(Verdict::InsufficientMaterial)
-    } else if repetitions(start, places) >= 5 {
+    } else if is_fivefold(start, places, setup.halfmove) {
         Some(Verdict::FivefoldRepetition)
     } else if setup.halfmove >= 150 {
         Some(Verdict::SeventyFiveMoves)
