@@ -145,7 +145,6 @@ token_at line_begins c rest =
     else (if is_word_byte c then (Word (take_while is_word_byte (c ∷ rest)), drop (prefix_len is_word_byte (c ∷ rest)) (c ∷ rest))
     else (Bad, [])))))))))
 
-
 -- the tokens of a text, each with how many bytes are left where it begins; at most `most` of them
 unfoldable pub tokens_of : ℕ → Bool → List ℕ → List (ℕ × Token)
 tokens_of zero line_begins text = []
