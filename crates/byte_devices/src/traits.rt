@@ -4,11 +4,13 @@ ghost use Rattle.std.specs.Prelude.{◌<◌, length};
 ghost use Rattle.byte_devices.specs.Devices.{InputState, OutputState, ReadStep, WriteStep, FlushStep, Puts, joined};
 
 /// A read failed. What was read before stays.
-#[derive(Clone, Copy, Debug, PartialEq, Eq)]
+#[derive(Clone, Copy, Debug, PartialEq, Eq, thiserror::Error)]
+#[error("a read failed")]
 pub struct ReadFault;
 
 /// A write or a flush failed. What was taken before stays taken.
-#[derive(Clone, Copy, Debug, PartialEq, Eq)]
+#[derive(Clone, Copy, Debug, PartialEq, Eq, thiserror::Error)]
+#[error("a write or a flush failed")]
 pub struct WriteFault;
 
 /// What gives bytes, in pieces. Its contract counts the calls that failed and the ends that were told.
