@@ -4,7 +4,8 @@ ghost use Rattle.std.specs.Prelude.{◌≡◌, ◌≤◌, ◌<◌, ◌+◌, ◌^
 ghost use Rattle.std.specs.Str.{bytes_eq};
 ghost use Rattle.byte_devices.specs.Devices.{Puts};
 ghost use Rattle.chess_arbiter.specs.declared.verify.Verified.TheVariants.{EachGame, FaultTold};
-ghost use Rattle.chess_arbiter.specs.Collection.{is_event_line, IsNextEvent, IsNext, is_told, told_line, counts_line, counts_if, CountsEach, HandedOnBy, VerifiesBy};
+ghost use Rattle.chess_arbiter.specs.StreamStub.{is_event_line, IsNextEvent};
+ghost use Rattle.chess_arbiter.specs.Collection.{IsNext, is_told, told_line, counts_line, counts_if, CountsEach, HandedOnBy, VerifiesBy};
 
 use crate::fault::ProgramFault;
 use crate::verify::{
@@ -30,7 +31,7 @@ pub(crate) struct Tally {
 
 impl Tally {
     // Nothing yet.
-    fn none() -> Self
+    pub(crate) fn none() -> Self
         ensures { result ≡ record { games = 0; half_moves = 0; faults = 0 } }
     {
         Tally {
@@ -41,7 +42,7 @@ impl Tally {
     }
 
     // And a game with so many half-moves.
-    fn with_game(self, plies: usize) -> Self
+    pub(crate) fn with_game(self, plies: usize) -> Self
         requires games { self.games + 1 < 2 ^ 64 }
         requires half_moves { self.half_moves + plies < 2 ^ 64 }
         ensures { result ≡ record { games = self.games + 1; half_moves = self.half_moves + plies; faults = self.faults } }
@@ -54,7 +55,7 @@ impl Tally {
     }
 
     // And a fault.
-    fn with_fault(self) -> Self
+    pub(crate) fn with_fault(self) -> Self
         requires { self.faults + 1 < 2 ^ 64 }
         ensures { result ≡ record { games = self.games; half_moves = self.half_moves; faults = self.faults + 1 } }
     {
@@ -119,7 +120,7 @@ fn is_told(quiet: bool, report: &Report) -> bool
 }
 
 // Writes the line of the game with that number, if it is told.
-fn tell_line<W: Output>(
+pub(crate) fn tell_line<W: Output>(
     quiet: bool,
     output: &mut W,
     number: usize,
@@ -188,7 +189,11 @@ fn count_each<W: Output>(
 }
 
 // Writes the line of the counts, where they are told.
-fn tell_counts<W: Output>(told: bool, output: &mut W, tally: Tally) -> Result<(), WriteFault>
+pub(crate) fn tell_counts<W: Output>(
+    told: bool,
+    output: &mut W,
+    tally: Tally,
+) -> Result<(), WriteFault>
     ensures { Puts (W.seen output.old) (W.seen output.new) result (counts_if told tally.games tally.half_moves tally.faults) }
 {
     if told {
@@ -198,7 +203,7 @@ fn tell_counts<W: Output>(told: bool, output: &mut W, tally: Tally) -> Result<()
 }
 
 // What the counts come to.
-fn verified_by(tally: Tally) -> Verified
+pub(crate) fn verified_by(tally: Tally) -> Verified
     ensures { result ≡ (if tally.faults == 0 then EachGame else FaultTold) }
 {
     if tally.faults == 0 {

@@ -1,5 +1,5 @@
 use Rattle.std.proofs.Common.{◌≡◌, ◌∙◌, ◌+◌, false, sym, arith}
-use Rattle.chess_arbiter.specs.Collection.{is_event_line}
+use Rattle.chess_arbiter.specs.StreamStub.{is_event_line}
 use Rattle.chess_arbiter.proofs.EventLines.{one_further}
 use Rattle.chess_arbiter.proofs.collection.next_event.Goals as goal
 

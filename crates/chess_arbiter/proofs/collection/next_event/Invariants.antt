@@ -1,5 +1,5 @@
 use Rattle.std.proofs.Common.{◌≡◌, ◌≤◌, ◌<◌, ◌-◌, ℕ, false, length}
-use Rattle.chess_arbiter.specs.Collection.{is_event_line}
+use Rattle.chess_arbiter.specs.StreamStub.{is_event_line}
 use Rattle.chess_arbiter.proofs.collection.next_event.Given as goal
 
 -- no such line begins behind the place and up to here
