@@ -1,12 +1,13 @@
-use Rattle.std.proofs.Common.{◌≡◌, ◌∙◌, ◌^◌, ◌++◌, ◌∷◌, [], List, length, Option, Some, None, Result, Ok, Err, sym, subst, arith}
+use Rattle.std.proofs.Common.{rules, ◌≡◌, ◌∙◌, ◌+◌, ◌++◌, ◌∷◌, [], Bool, length, Option, Some, None, Result, Ok, Err, sym, subst, arith}
 use Rattle.chess_pgn.specs.declared.read.PgnEnd.{PgnEnd}
 use Rattle.chess_pgn.specs.declared.read.PgnFault.{PgnFault}
-use Rattle.chess_arbiter.specs.StreamStub.{StandsBehind, place}
+use Rattle.chess_arbiter.specs.StreamStub.{FindsEvent, StandsBehind, StandsFurther, place}
 use Rattle.chess_arbiter.specs.AnySize.{CountsAny}
+use Rattle.chess_arbiter.specs.Collection.{told_line}
 use Rattle.chess_arbiter.specs.declared.collection.Tally.{Tally}
 use Rattle.chess_arbiter.specs.declared.fault.ProgramFault.{ProgramFault}
 use Rattle.chess_arbiter.specs.declared.verify.Report.TheVariants.{Game, Faulty}
-use Rattle.chess_arbiter.proofs.AnyReports.{SoFar, opened, first_told, stopped, no_less, line_took, line_failed, all_told, game_broken, game_told, fault_broken, lines_took, fault_first, last_told, none_behind, one_behind}
+use Rattle.chess_arbiter.proofs.AnyReports.{SoFar, opened, first_told, stopped, no_less, not_so, is_so, line_took, line_failed, all_told, game_broken, game_told, fault_broken, lines_took, fault_first, last_told, none_behind, one_behind}
 use Rattle.chess_arbiter.proofs.any_size.count_any.Goals as goal
 
 pub loop-read-init : goal.loop-read-init
@@ -56,7 +57,7 @@ with_game-tally-requires-clause-half_moves g c =
     let low = no_less c.loop-read.stream c.read_game.new.self (length c.read_game.new.game.state.moves) c.in-Ok.read c.in-Ok.ensures.behind in
     let is = c.place-place.ensures.value in
     let small = c.place-place.ensures.small in
-    let ended = subst (λ (o : Option PgnEnd). c.in-Ok.read ≡ Ok o) c.in-Ok-Some.field-0-is c.in-Ok-Some.is in
+    let ended : c.in-Ok.read ≡ Ok (Some c.in-Ok-Some.end) = search rules in
     let stands = subst (λ (a : Result (Option PgnEnd) PgnFault). StandsBehind c.loop-read.stream c.read_game.new.self (length c.read_game.new.game.state.moves) a) ended c.in-Ok.ensures.behind in
     let few_moves = i.1.3.few_moves in
     let at = stands.0 in
@@ -75,21 +76,21 @@ pub returns-in-Ok-None : goal.returns-in-Ok-None
 returns-in-Ok-None g c =
     let i = c.loop-read.invariant in
     let on = c.in-Ok.ensures.game (g.R.Input.seen c.args.input.now) i.1.0 i.1.2 in
-    let none = subst (λ (o : Option PgnEnd). c.in-Ok.read ≡ Ok o) c.in-Ok-None.field-0-is c.in-Ok-None.is in
+    let none : c.in-Ok.read ≡ Ok None = search rules in
     all_told c.args.plan c.loop-read.stream c.read_game.new.self (g.R.Input.seen c.args.input.now) (g.R.Input.seen c.read_game.new.input) (g.W.Output.seen c.args.output.now) (g.W.Output.seen c.loop-read.output) i.1.0 c.loop-read.tally i.1.1 i.1.3 c.loop-read.game c.read_game.new.game i.0 c.in-Ok.read on none
 
 pub returns-then-is_err : goal.returns-then-is_err
 returns-then-is_err g c =
     let i = c.loop-read.invariant in
     let on = c.in-Ok.ensures.game (g.R.Input.seen c.args.input.now) i.1.0 i.1.2 in
-    let ended = subst (λ (o : Option PgnEnd). c.in-Ok.read ≡ Ok o) c.in-Ok-Some.field-0-is c.in-Ok-Some.is in
-    let breaks = line_failed c.is_err.result (g.W.Output.seen c.loop-read.output) (g.W.Output.seen c.tell_line.new.output) c.tell_line.result _ c.is_err.ensures.value c.if-is_err.true c.tell_line.ensures in
+    let ended : c.in-Ok.read ≡ Ok (Some c.in-Ok-Some.end) = search rules in
+    let breaks = line_failed c.is_err.result (g.W.Output.seen c.loop-read.output) (g.W.Output.seen c.tell_line.new.output) c.tell_line.result (told_line c.args.plan.quiet (c.loop-read.tally.games + c.loop-read.tally.faults + 1) (Game c.ply-plies.result c.in-Ok-Some.end)) c.is_err.ensures.value c.if-is_err.true c.tell_line.ensures in
     game_broken c.args.plan c.loop-read.stream c.read_game.new.self (g.R.Input.seen c.args.input.now) (g.R.Input.seen c.read_game.new.input) (g.W.Output.seen c.args.output.now) (g.W.Output.seen c.loop-read.output) i.1.0 c.loop-read.tally i.1.1 i.1.3 c.loop-read.game c.read_game.new.game i.0 c.in-Ok.read on (g.W.Output.seen c.tell_line.new.output) c.in-Ok-Some.end c.ply-plies.result ended c.ply-plies.ensures breaks
 
 pub loop-read-smaller-in-Ok-Some : goal.loop-read-smaller-in-Ok-Some
 loop-read-smaller-in-Ok-Some g c =
     let i = c.loop-read.invariant in
-    let ended = subst (λ (o : Option PgnEnd). c.in-Ok.read ≡ Ok o) c.in-Ok-Some.field-0-is c.in-Ok-Some.is in
+    let ended : c.in-Ok.read ≡ Ok (Some c.in-Ok-Some.end) = search rules in
     let stands = subst (λ (a : Result (Option PgnEnd) PgnFault). StandsBehind c.loop-read.stream c.read_game.new.self (length c.read_game.new.game.state.moves) a) ended c.in-Ok.ensures.behind in
     let at = stands.0 in
     let further = stands.1 in
@@ -101,9 +102,9 @@ pub loop-read-preserved-in-Ok-Some : goal.loop-read-preserved-in-Ok-Some
 loop-read-preserved-in-Ok-Some g c =
     let i = c.loop-read.invariant in
     let on = c.in-Ok.ensures.game (g.R.Input.seen c.args.input.now) i.1.0 i.1.2 in
-    let ended = subst (λ (o : Option PgnEnd). c.in-Ok.read ≡ Ok o) c.in-Ok-Some.field-0-is c.in-Ok-Some.is in
+    let ended : c.in-Ok.read ≡ Ok (Some c.in-Ok-Some.end) = search rules in
     let stands = subst (λ (a : Result (Option PgnEnd) PgnFault). StandsBehind c.loop-read.stream c.read_game.new.self (length c.read_game.new.game.state.moves) a) ended c.in-Ok.ensures.behind in
-    let took = line_took c.is_err.result (g.W.Output.seen c.loop-read.output) (g.W.Output.seen c.tell_line.new.output) c.tell_line.result _ c.is_err.ensures.value c.if-is_err.false c.tell_line.ensures in (
+    let took = line_took c.is_err.result (g.W.Output.seen c.loop-read.output) (g.W.Output.seen c.tell_line.new.output) c.tell_line.result (told_line c.args.plan.quiet (c.loop-read.tally.games + c.loop-read.tally.faults + 1) (Game c.ply-plies.result c.in-Ok-Some.end)) c.is_err.ensures.value c.if-is_err.false c.tell_line.ensures in (
       c.in-Ok.ensures.limit ∙ i.0,
       (
         i.1.0 ++ on.0,
@@ -118,15 +119,15 @@ pub returns-then-is_err-2 : goal.returns-then-is_err-2
 returns-then-is_err-2 g c =
     let i = c.loop-read.invariant in
     let on = c.in-Ok.ensures.game (g.R.Input.seen c.args.input.now) i.1.0 i.1.2 in
-    let breaks = line_failed c.is_err-in-Err-read.result (g.W.Output.seen c.loop-read.output) (g.W.Output.seen c.tell_line-in-Err-read.new.output) c.tell_line-in-Err-read.result _ c.is_err-in-Err-read.ensures.value c.if-is_err-2.true c.tell_line-in-Err-read.ensures in
+    let breaks = line_failed c.is_err-in-Err-read.result (g.W.Output.seen c.loop-read.output) (g.W.Output.seen c.tell_line-in-Err-read.new.output) c.tell_line-in-Err-read.result (told_line c.args.plan.quiet (c.loop-read.tally.games + c.loop-read.tally.faults + 1) (Faulty c.in-Err-read.fault)) c.is_err-in-Err-read.ensures.value c.if-is_err-2.true c.tell_line-in-Err-read.ensures in
     fault_broken c.args.plan c.loop-read.stream c.read_game.new.self (g.R.Input.seen c.args.input.now) (g.R.Input.seen c.read_game.new.input) (g.W.Output.seen c.args.output.now) (g.W.Output.seen c.loop-read.output) i.1.0 c.loop-read.tally i.1.1 i.1.3 c.loop-read.game c.read_game.new.game i.0 c.in-Ok.read on (g.W.Output.seen c.tell_line-in-Err-read.new.output) c.in-Err-read.fault c.in-Err-read.is breaks
 
 pub returns-then-not-plan : goal.returns-then-not-plan
 returns-then-not-plan g c =
     let i = c.loop-read.invariant in
     let on = c.in-Ok.ensures.game (g.R.Input.seen c.args.input.now) i.1.0 i.1.2 in
-    let took = line_took c.is_err-in-Err-read.result (g.W.Output.seen c.loop-read.output) (g.W.Output.seen c.tell_line-in-Err-read.new.output) c.tell_line-in-Err-read.result _ c.is_err-in-Err-read.ensures.value c.if-is_err-2.false c.tell_line-in-Err-read.ensures in
-    let alone = not-true c.args.plan.keep_going c.if-not-plan.true in
+    let took = line_took c.is_err-in-Err-read.result (g.W.Output.seen c.loop-read.output) (g.W.Output.seen c.tell_line-in-Err-read.new.output) c.tell_line-in-Err-read.result (told_line c.args.plan.quiet (c.loop-read.tally.games + c.loop-read.tally.faults + 1) (Faulty c.in-Err-read.fault)) c.is_err-in-Err-read.ensures.value c.if-is_err-2.false c.tell_line-in-Err-read.ensures in
+    let alone = not_so c.args.plan.keep_going c.if-not-plan.true in
     subst (λ (t : Tally). CountsAny c.args.plan (g.R.Input.seen c.args.input.now) (g.R.Input.seen c.read_game.new.input) (g.W.Output.seen c.args.output.now) (g.W.Output.seen c.tell_line-in-Err-read.new.output) (Ok t)) (sym c.with_fault-tally.ensures)
     (last_told c.args.plan c.loop-read.stream c.read_game.new.self (g.R.Input.seen c.args.input.now) (g.R.Input.seen c.read_game.new.input) (g.W.Output.seen c.args.output.now) (g.W.Output.seen c.loop-read.output) i.1.0 c.loop-read.tally i.1.1 i.1.3 c.loop-read.game c.read_game.new.game i.0 c.in-Ok.read on (g.W.Output.seen c.tell_line-in-Err-read.new.output) c.in-Err-read.fault c.in-Err-read.is took alone)
 
@@ -134,11 +135,12 @@ pub returns-in-Ok-false : goal.returns-in-Ok-false
 returns-in-Ok-false g c =
     let i = c.loop-read.invariant in
     let on = c.in-Ok.ensures.game (g.R.Input.seen c.args.input.now) i.1.0 i.1.2 in
-    let took = line_took c.is_err-in-Err-read.result (g.W.Output.seen c.loop-read.output) (g.W.Output.seen c.tell_line-in-Err-read.new.output) c.tell_line-in-Err-read.result _ c.is_err-in-Err-read.ensures.value c.if-is_err-2.false c.tell_line-in-Err-read.ensures in
+    let took = line_took c.is_err-in-Err-read.result (g.W.Output.seen c.loop-read.output) (g.W.Output.seen c.tell_line-in-Err-read.new.output) c.tell_line-in-Err-read.result (told_line c.args.plan.quiet (c.loop-read.tally.games + c.loop-read.tally.faults + 1) (Faulty c.in-Err-read.fault)) c.is_err-in-Err-read.ensures.value c.if-is_err-2.false c.tell_line-in-Err-read.ensures in
     let stands = subst (λ (a : Result (Option PgnEnd) PgnFault). StandsBehind c.loop-read.stream c.read_game.new.self (length c.read_game.new.game.state.moves) a) c.in-Err-read.is c.in-Ok.ensures.behind in
-    let keep = c.if-not-plan.false in
+    let keep = is_so c.args.plan.keep_going c.if-not-plan.false in
+    let none = subst (λ (b : Bool). FindsEvent c.read_game.new.self c.next_event.new.self (g.R.Input.seen c.args.input.now) (g.R.Input.seen c.next_event.new.input) (i.1.0 ++ on.0) (Ok b)) c.in-Ok-false.field-0-test (c.in-Ok-false.ensures.event (g.R.Input.seen c.args.input.now) (i.1.0 ++ on.0) on.1) in
     subst (λ (t : Tally). CountsAny c.args.plan (g.R.Input.seen c.args.input.now) (g.R.Input.seen c.next_event.new.input) (g.W.Output.seen c.args.output.now) (g.W.Output.seen c.tell_line-in-Err-read.new.output) (Ok t)) (sym c.with_fault-tally.ensures)
-    (none_behind c.args.plan c.loop-read.stream c.read_game.new.self (g.R.Input.seen c.args.input.now) (g.R.Input.seen c.read_game.new.input) (g.W.Output.seen c.args.output.now) (g.W.Output.seen c.loop-read.output) i.1.0 c.loop-read.tally i.1.1 i.1.3 c.loop-read.game c.read_game.new.game i.0 c.in-Ok.read on (g.W.Output.seen c.tell_line-in-Err-read.new.output) c.in-Err-read.fault c.in-Err-read.is took c.next_event.new.self (g.R.Input.seen c.next_event.new.input) keep stands (c.in-Ok-false.ensures.event (g.R.Input.seen c.args.input.now) (i.1.0 ++ on.0) on.1))
+    (none_behind c.args.plan c.loop-read.stream c.read_game.new.self (g.R.Input.seen c.args.input.now) (g.R.Input.seen c.read_game.new.input) (g.W.Output.seen c.args.output.now) (g.W.Output.seen c.loop-read.output) i.1.0 c.loop-read.tally i.1.1 i.1.3 c.loop-read.game c.read_game.new.game i.0 c.in-Ok.read on (g.W.Output.seen c.tell_line-in-Err-read.new.output) c.in-Err-read.fault c.in-Err-read.is took c.next_event.new.self (g.R.Input.seen c.next_event.new.input) keep stands none)
 
 pub loop-read-smaller : goal.loop-read-smaller
 loop-read-smaller g c =
@@ -146,7 +148,7 @@ loop-read-smaller g c =
     let stands = subst (λ (a : Result (Option PgnEnd) PgnFault). StandsBehind c.loop-read.stream c.read_game.new.self (length c.read_game.new.game.state.moves) a) c.in-Err-read.is c.in-Ok.ensures.behind in
     let at = stands.0 in
     let behind = stands.1 in
-    let further = c.in-Ok-true.ensures.further in
+    let further = subst (λ (b : Bool). StandsFurther c.read_game.new.self c.next_event.new.self b) c.in-Ok-true.field-0-test c.in-Ok-true.ensures.further in
     let is = c.place-place.ensures.value in
     let small = c.place-place.ensures.small in
     omega (arith, at, behind, further, is, small)
@@ -155,17 +157,18 @@ pub loop-read-preserved : goal.loop-read-preserved
 loop-read-preserved g c =
     let i = c.loop-read.invariant in
     let on = c.in-Ok.ensures.game (g.R.Input.seen c.args.input.now) i.1.0 i.1.2 in
-    let took = line_took c.is_err-in-Err-read.result (g.W.Output.seen c.loop-read.output) (g.W.Output.seen c.tell_line-in-Err-read.new.output) c.tell_line-in-Err-read.result _ c.is_err-in-Err-read.ensures.value c.if-is_err-2.false c.tell_line-in-Err-read.ensures in
+    let took = line_took c.is_err-in-Err-read.result (g.W.Output.seen c.loop-read.output) (g.W.Output.seen c.tell_line-in-Err-read.new.output) c.tell_line-in-Err-read.result (told_line c.args.plan.quiet (c.loop-read.tally.games + c.loop-read.tally.faults + 1) (Faulty c.in-Err-read.fault)) c.is_err-in-Err-read.ensures.value c.if-is_err-2.false c.tell_line-in-Err-read.ensures in
     let stands = subst (λ (a : Result (Option PgnEnd) PgnFault). StandsBehind c.loop-read.stream c.read_game.new.self (length c.read_game.new.game.state.moves) a) c.in-Err-read.is c.in-Ok.ensures.behind in
-    let keep = c.if-not-plan.false in
-    let next = c.in-Ok-true.ensures.event (g.R.Input.seen c.args.input.now) (i.1.0 ++ on.0) on.1 in (
+    let keep = is_so c.args.plan.keep_going c.if-not-plan.false in
+    let next = subst (λ (b : Bool). FindsEvent c.read_game.new.self c.next_event.new.self (g.R.Input.seen c.args.input.now) (g.R.Input.seen c.next_event.new.input) (i.1.0 ++ on.0) (Ok b)) c.in-Ok-true.field-0-test (c.in-Ok-true.ensures.event (g.R.Input.seen c.args.input.now) (i.1.0 ++ on.0) on.1) in
+    let further = subst (λ (b : Bool). StandsFurther c.read_game.new.self c.next_event.new.self b) c.in-Ok-true.field-0-test c.in-Ok-true.ensures.further in (
       c.in-Ok.ensures.limit ∙ i.0,
       (
         (i.1.0 ++ on.0) ++ next.0,
         i.1.1 ++ Faulty c.in-Err-read.fault ∷ [],
         next.1,
         subst (λ (t : Tally). SoFar c.args.plan c.next_event.new.self.ended ((i.1.0 ++ on.0) ++ next.0) (g.W.Output.seen c.args.output.now) (g.W.Output.seen c.tell_line-in-Err-read.new.output) (place c.next_event.new.self) t (i.1.1 ++ Faulty c.in-Err-read.fault ∷ [])) (sym c.with_fault-tally.ensures)
-            (one_behind c.args.plan c.loop-read.stream c.read_game.new.self (g.R.Input.seen c.args.input.now) (g.R.Input.seen c.read_game.new.input) (g.W.Output.seen c.args.output.now) (g.W.Output.seen c.loop-read.output) i.1.0 c.loop-read.tally i.1.1 i.1.3 c.loop-read.game c.read_game.new.game i.0 c.in-Ok.read on (g.W.Output.seen c.tell_line-in-Err-read.new.output) c.in-Err-read.fault c.in-Err-read.is took c.next_event.new.self (g.R.Input.seen c.next_event.new.input) keep stands next c.in-Ok-true.ensures.further),
+            (one_behind c.args.plan c.loop-read.stream c.read_game.new.self (g.R.Input.seen c.args.input.now) (g.R.Input.seen c.read_game.new.input) (g.W.Output.seen c.args.output.now) (g.W.Output.seen c.loop-read.output) i.1.0 c.loop-read.tally i.1.1 i.1.3 c.loop-read.game c.read_game.new.game i.0 c.in-Ok.read on (g.W.Output.seen c.tell_line-in-Err-read.new.output) c.in-Err-read.fault c.in-Err-read.is took c.next_event.new.self (g.R.Input.seen c.next_event.new.input) keep stands next further),
       ),
     )
 
@@ -173,7 +176,7 @@ pub returns-in-Err-next_event : goal.returns-in-Err-next_event
 returns-in-Err-next_event g c =
     let i = c.loop-read.invariant in
     let on = c.in-Ok.ensures.game (g.R.Input.seen c.args.input.now) i.1.0 i.1.2 in
-    let took = line_took c.is_err-in-Err-read.result (g.W.Output.seen c.loop-read.output) (g.W.Output.seen c.tell_line-in-Err-read.new.output) c.tell_line-in-Err-read.result _ c.is_err-in-Err-read.ensures.value c.if-is_err-2.false c.tell_line-in-Err-read.ensures in
+    let took = line_took c.is_err-in-Err-read.result (g.W.Output.seen c.loop-read.output) (g.W.Output.seen c.tell_line-in-Err-read.new.output) c.tell_line-in-Err-read.result (told_line c.args.plan.quiet (c.loop-read.tally.games + c.loop-read.tally.faults + 1) (Faulty c.in-Err-read.fault)) c.is_err-in-Err-read.ensures.value c.if-is_err-2.false c.tell_line-in-Err-read.ensures in
     subst (λ (f : ProgramFault). CountsAny c.args.plan (g.R.Input.seen c.args.input.now) (g.R.Input.seen c.next_event.new.input) (g.W.Output.seen c.args.output.now) (g.W.Output.seen c.tell_line-in-Err-read.new.output) (Err f)) (sym c.stream_fault-in-Err-next_event.ensures)
     (stopped c.args.plan c.read_game.new.self (g.R.Input.seen c.args.input.now) (g.R.Input.seen c.next_event.new.input) (g.W.Output.seen c.args.output.now) (g.W.Output.seen c.tell_line-in-Err-read.new.output) (i.1.0 ++ on.0) (i.1.1 ++ Faulty c.in-Err-read.fault ∷ []) (fault_first c.args.plan c.loop-read.stream c.read_game.new.self (g.R.Input.seen c.args.input.now) (g.R.Input.seen c.read_game.new.input) (g.W.Output.seen c.args.output.now) (g.W.Output.seen c.loop-read.output) i.1.0 c.loop-read.tally i.1.1 i.1.3 c.loop-read.game c.read_game.new.game i.0 c.in-Ok.read on (g.W.Output.seen c.tell_line-in-Err-read.new.output) c.in-Err-read.fault c.in-Err-read.is took) (lines_took c.args.plan c.loop-read.stream c.read_game.new.self (g.R.Input.seen c.args.input.now) (g.R.Input.seen c.read_game.new.input) (g.W.Output.seen c.args.output.now) (g.W.Output.seen c.loop-read.output) i.1.0 c.loop-read.tally i.1.1 i.1.3 c.loop-read.game c.read_game.new.game i.0 c.in-Ok.read on (g.W.Output.seen c.tell_line-in-Err-read.new.output) c.in-Err-read.fault c.in-Err-read.is took)
     c.in-Err-next_event.fault c.in-Err-next_event.ensures.going (c.in-Err-next_event.ensures.event (g.R.Input.seen c.args.input.now) (i.1.0 ++ on.0) on.1))
