@@ -9,7 +9,7 @@ abbrev pub invariant-loop-read : goal.invariant-loop-read
 invariant-loop-read g l =
     (l.game.limit ≡ 20000)
     × ((text : List ℕ) × (reports : List Report) × StandsAt l.stream (g.R.Input.seen l.fn.input) (g.R.Input.seen l.input) text
-        × SoFar l.plan l.stream.ended text (g.W.Output.seen l.fn.output) (g.W.Output.seen l.output) (place l.stream) l.tally reports)
+    × SoFar l.plan l.stream.ended text (g.W.Output.seen l.fn.output) (g.W.Output.seen l.output) (place l.stream) l.tally reports)
 
 abbrev pub decreases-loop-read : goal.decreases-loop-read
 decreases-loop-read g l = 2 ^ 64 - place l.stream
