@@ -44,7 +44,7 @@ Examples:
 
 The second writes a line for each game with a fault, which it goes on behind, and last
 `games 2 half-moves 91 faults 1`: how many games have none, and how many half-moves these have.
-The third takes more than 16,777,216 bytes, which are else too many; the lines come as the text is read.";
+The third takes a text of any length, each game of it in 16,777,216 bytes; else all of the text may have as many.";
 
 const STUB_EXAMPLES: &str =
     "Each time that the stub is to move it plays the next word: a move, `resign`, or `end`, with which it ends its output;
