@@ -1,16 +1,16 @@
 -- What the steps of a stream do to the bytes that it holds.
-use Rattle.std.specs.Prelude.{◌≡◌, ◌≤◌, ◌^◌, ℕ, ◌+◌, ◌-◌, Bool, true, ◌&&◌, ◌||◌, ◌==◌, nat_le, if◌then◌else◌, max, false, List, [], ◌++◌, length, drop, Unit, Option, Some, None, Result, Ok, Err}
+use Rattle.std.specs.Prelude.{◌≡◌, ◌≤◌, ◌<◌, ◌^◌, ℕ, ◌+◌, ◌-◌, Bool, true, ◌&&◌, ◌||◌, ◌==◌, nat_le, if◌then◌else◌, max, false, List, [], ◌++◌, length, drop, Option, Some, None, Result, Ok, Err}
 use Rattle.std.specs.List.{prefix_len}
 use Rattle.byte_devices.specs.Devices.{InputState, GavePiece, FailedToRead}
 use Rattle.chess_pgn.specs.declared.read.PgnEnd.{PgnEnd}
 use Rattle.chess_pgn.specs.declared.read.PgnFault.{PgnFault}
 use Rattle.chess_pgn.specs.declared.read.PgnFaultKind.TheVariants.{TooLong}
 use Rattle.chess_pgn.specs.GameRead.{pgn_read}
-use Rattle.chess_pgn.specs.Local.{is_settled}
+use Rattle.chess_pgn.specs.Local.{is_settled, moved_answer}
 use Rattle.chess_pgn.specs.Tokens.{is_blank}
 use Rattle.pgn_stream.specs.declared.stream.StreamFault.{StreamFault}
 use Rattle.pgn_stream.specs.declared.stream.StreamFault.TheVariants.{InputTooLong}
-use Rattle.pgn_stream.specs.Stream.{StreamState, HasRead, BrokeOff, GoesOn, Stops, IsNextEvent}
+use Rattle.pgn_stream.specs.Stream.{StreamState, HasRead, BrokeOff, GoesOn, Stops, IsNextEvent, IsWholeOf, place, game_at}
 
 -- the bytes before the one before the place were let go
 pub record IsSlid (gone : ℕ) (s s' : StreamState) : Type 0 where
@@ -63,6 +63,31 @@ abbrev pub place_behind : ℕ → Result (Option PgnEnd) PgnFault → ℕ
 place_behind at (Ok None) = at
 place_behind at (Ok (Some e)) = e.place
 place_behind at (Err f) = f.place
+
+-- the place of what is read in the window is in it
+abbrev pub IsPlaced : StreamState → ℕ → Result (Option PgnEnd) PgnFault → Type 0
+IsPlaced s plies (Ok None) = s.ended ≡ true
+IsPlaced s plies (Ok (Some e)) = (s.at < e.place) × (plies + s.at ≤ e.place) × (e.place ≤ length s.window)
+IsPlaced s plies (Err f) = (s.at ≤ f.place) × (f.place ≤ length s.window)
+
+-- what each stream keeps: the place is in the window, which has no more bytes than are told of the game there, and the byte
+-- before it, if there is one
+pub record IsSound (s : StreamState) : Type 0 where
+  pub within : s.at ≤ length s.window
+  pub few : length s.window ≤ s.at + 16777217
+  pub behind : 0 < s.before → 0 < s.at
+
+-- ---- the law
+
+-- what a window tells of a game is told of it in each whole text: where the window is full, and doesn't tell it, the game is
+-- too long
+abbrev pub WindowsTell : Type 0
+WindowsTell =
+    (limit : ℕ) (s : StreamState) (text whole : List ℕ) → IsSound s → s.before ≤ length text → s.window ≡ drop s.before text → IsWholeOf s.ended text whole
+    → (is_held limit s ≡ true → (game_at limit whole (place s) ≡ moved_answer s.before (held_answer limit s)) × ((pgn_read limit whole (place s)).state ≡ (pgn_read limit s.window s.at).state))
+    × (is_held limit s ≡ false → is_full s ≡ true → game_at limit whole (place s) ≡ moved_answer s.before (Err (too_long s)))
+
+-- ---- lines of a tag Event
 
 -- the place is at the next line of a tag Event that is held, or where none is, at the last place behind which one may yet come
 abbrev pub FindsHeld : StreamState → StreamState → Bool → Type 0

@@ -116,7 +116,7 @@ Stops r r' text InputTooLong = (more : List ℕ) × IsFront r r' (text ++ more) 
 
 -- this is told of the game at a place of a whole text; where it has no fault, it was played
 pub record IsTold (g g' : Seen) (whole : List ℕ) (from : ℕ) (answer : Result (Option PgnEnd) PgnFault) : Type 0 where
-  pub answer : game_at g.limit whole from ≡ answer
+  pub told : game_at g.limit whole from ≡ answer
   pub played : IfOk answer (λ o. IfSome o (λ e. g' ≡ left_at g (pgn_read g.limit whole from).state))
 
 -- a game is read where the stream stands

@@ -2,6 +2,8 @@
 #![tactic(auto)]
 
 mod events;
+mod laws;
 mod stream;
 
+pub use events::next_event;
 pub use stream::{PgnStream, StreamFault};

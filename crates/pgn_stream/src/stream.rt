@@ -1,6 +1,6 @@
 //! A window over an input, and the games that are read in it.
 
-ghost use Rattle.std.specs.Prelude.{◌≡◌, ◌≤◌, ◌<◌, ◌+◌, ◌^◌, ◌||◌, ◌&&◌, nat_le, if◌then◌else◌, false, true, length, drop, IfOk, None, Some, Err};
+ghost use Rattle.std.specs.Prelude.{◌≡◌, ◌≤◌, ◌<◌, ◌+◌, ◌^◌, ◌||◌, ◌&&◌, nat_le, if◌then◌else◌, false, true, length, drop, IfOk, IfSome, List, None, Some, Err};
 ghost use Rattle.std.specs.List.{prefix_len};
 ghost use Rattle.byte_devices.specs.Devices.{InputState};
 ghost use Rattle.chess_game.specs.Game.{at as left_at};
@@ -8,13 +8,16 @@ ghost use Rattle.chess_pgn.specs.GameRead.{pgn_read};
 ghost use Rattle.chess_pgn.specs.Local.{moved_answer};
 ghost use Rattle.chess_pgn.specs.Tokens.{is_blank};
 ghost use Rattle.pgn_stream.specs.Stream.{unread, place, StandsAt, ReadsGame, StandsBehind, FindsEvent, StandsFurther};
-ghost use Rattle.pgn_stream.specs.Held.{Slides, AddsPiece, is_full, Fills, Refills, is_held, held_answer, too_long, place_behind, FindsHeld};
+ghost use Rattle.pgn_stream.specs.Held.{Slides, AddsPiece, is_full, Fills, Refills, is_held, held_answer, too_long, place_behind, IsPlaced, IsSound, FindsHeld};
 
 use crate::events::next_event;
+use crate::laws::windows_tell;
 use byte_devices::{Input, ReadFault};
 use chess_game::Game;
 use chess_moves::Board;
-use chess_pgn::{PgnEnd, PgnFault, PgnFaultKind, read_pgn, settles};
+use chess_pgn::{
+    PgnEnd, PgnFault, PgnFaultKind, faults_have_places, half_moves_have_bytes, read_pgn, settles,
+};
 use std::alloc::{AllocError, Global};
 use std::marker::Model;
 
@@ -181,7 +184,11 @@ impl PgnStream {
     fn read_held<B: Board>(&self, game: &mut Game<B>) -> Option<Result<Option<PgnEnd>, PgnFault>>
         ensures answer { result ≡ (if is_held game.old.limit self.now then Some (held_answer game.old.limit self.now) else None) }
         ensures game { game.new ≡ left_at game.old (pgn_read game.old.limit self.now.window self.now.at).state }
+        ensures placed { IfSome result (λ answer. IsPlaced self.now (length game.new.state.moves) answer) }
+        ensures sound { IsSound self.now }
     {
+        faults_have_places();
+        half_moves_have_bytes();
         let answer = read_pgn(self.window(), self.at, game);
         if self.ended && self.len <= self.at + GAME_LEN
             || settles(self.window(), self.at, &answer)
@@ -195,6 +202,8 @@ impl PgnStream {
     fn read_full<B: Board>(&self, game: &mut Game<B>) -> Result<Option<PgnEnd>, PgnFault>
         ensures answer { result ≡ (if is_held game.old.limit self.now then held_answer game.old.limit self.now else Err (too_long self.now)) }
         ensures game { game.new ≡ left_at game.old (pgn_read game.old.limit self.now.window self.now.at).state }
+        ensures placed { IsPlaced self.now (length game.new.state.moves) result }
+        ensures sound { IsSound self.now }
     {
         match self.read_held(game) {
             Some(answer) => answer,
@@ -250,6 +259,7 @@ impl PgnStream {
         ensures behind { IfOk result (λ answer. StandsBehind self.old self.new (length game.new.state.moves) answer) }
         ensures limit { game.new.limit ≡ game.old.limit }
     {
+        windows_tell();
         if let Some(answer) = self.read_held(game) {
             return Ok(self.go_on(answer));
         }
