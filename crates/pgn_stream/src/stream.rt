@@ -1,6 +1,6 @@
 //! A window over an input, and the games that are read in it.
 
-ghost use Rattle.std.specs.Prelude.{◌≡◌, ◌≤◌, ◌<◌, ◌+◌, ◌^◌, ◌||◌, ◌&&◌, nat_le, if◌then◌else◌, false, true, length, drop, IfOk, IfSome, List, None, Some, Err};
+ghost use Rattle.std.specs.Prelude.{◌≡◌, ℕ, ◌≤◌, ◌<◌, ◌+◌, ◌^◌, ◌||◌, ◌&&◌, nat_le, if◌then◌else◌, false, true, length, drop, IfOk, IfSome, List, None, Some, Err};
 ghost use Rattle.std.specs.List.{prefix_len};
 ghost use Rattle.byte_devices.specs.Devices.{InputState};
 ghost use Rattle.chess_game.specs.Game.{at as left_at};
@@ -74,16 +74,21 @@ impl Model for PgnStream {
     ghost invariant = { λ s. (vec_len s.bytes ≡ 16777218) × (length s.bytes.items ≡ 16777218) × (s.len ≤ 16777218) × (s.at ≤ s.len) × (s.len ≤ s.at + 16777217) × (0 < s.before → 0 < s.at) × (s.before + 2 ^ 25 ≤ 2 ^ 64) };
 }
 
+// Whether a byte is a blank.
+fn is_blank(byte: u8) -> bool
+    ensures { result ≡ is_blank byte }
+{
+    matches!(byte, b' ' | b'\t' | b'\n' | b'\r')
+}
+
 // How many blanks a text begins with.
 fn blanks(text: &[u8]) -> usize
     ensures value { result ≡ prefix_len is_blank text.now }
     ensures within { result ≤ length text.now }
 {
-    let mut count = 0;
-    while count < text.len() && matches!(text[count], b' ' | b'\t' | b'\n' | b'\r') {
-        count += 1;
-    }
-    count
+    text.iter()
+        .position(|byte| !is_blank(*byte))
+        .unwrap_or(text.len())
 }
 
 impl PgnStream {
