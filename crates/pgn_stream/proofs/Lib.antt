@@ -1,1 +1,3 @@
 pub mod EventLines
+pub mod Blanks
+pub mod Windows

@@ -1,6 +1,6 @@
 //! A window over an input, and the games that are read in it.
 
-ghost use Rattle.std.specs.Prelude.{◌≡◌, ℕ, ◌≤◌, ◌<◌, ◌+◌, ◌^◌, ◌||◌, ◌&&◌, nat_le, if◌then◌else◌, false, true, length, drop, IfOk, IfSome, List, None, Some, Err};
+ghost use Rattle.std.specs.Prelude.{◌≡◌, ℕ, ◌≤◌, ◌<◌, ◌+◌, ◌^◌, ◌||◌, ◌&&◌, nat_le, if◌then◌else◌, false, true, length, drop, not, position, IfOk, IfSome, List, None, Some, Err};
 ghost use Rattle.std.specs.List.{prefix_len};
 ghost use Rattle.byte_devices.specs.Devices.{InputState};
 ghost use Rattle.chess_game.specs.Game.{at as left_at};
@@ -81,14 +81,20 @@ fn is_blank(byte: u8) -> bool
     matches!(byte, b' ' | b'\t' | b'\n' | b'\r')
 }
 
+// The place of the first byte that is no blank.
+fn first_other(text: &[u8]) -> Option<usize>
+    ensures { result ≡ position (λ b. not (is_blank b)) text.now }
+{
+    text.iter().position(|byte| !is_blank(*byte))
+}
+
 // How many blanks a text begins with.
+#[tactic(auto, using(crate::proofs::Blanks::blanks_are, crate::proofs::Blanks::few_blanks))]
 fn blanks(text: &[u8]) -> usize
     ensures value { result ≡ prefix_len is_blank text.now }
     ensures within { result ≤ length text.now }
 {
-    text.iter()
-        .position(|byte| !is_blank(*byte))
-        .unwrap_or(text.len())
+    first_other(text).unwrap_or(text.len())
 }
 
 impl PgnStream {
