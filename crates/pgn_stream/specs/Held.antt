@@ -1,12 +1,12 @@
 -- What the steps of a stream do to the bytes that it holds.
-use Rattle.std.specs.Prelude.{◌≡◌, ◌≤◌, ◌<◌, ◌^◌, ℕ, ◌+◌, ◌-◌, Bool, true, ◌&&◌, ◌||◌, ◌==◌, nat_le, if◌then◌else◌, max, false, List, [], ◌++◌, length, drop, Option, Some, None, Result, Ok, Err}
+use Rattle.std.specs.Prelude.{◌≡◌, ◌≤◌, ◌<◌, ◌^◌, ℕ, ◌+◌, ◌-◌, Bool, true, ◌&&◌, ◌||◌, ◌==◌, nat_lt, nat_le, if◌then◌else◌, max, false, List, [], ◌++◌, length, drop, Option, Some, None, Result, Ok, Err}
 use Rattle.std.specs.List.{prefix_len}
 use Rattle.byte_devices.specs.Devices.{InputState, GavePiece, FailedToRead}
 use Rattle.chess_pgn.specs.declared.read.PgnEnd.{PgnEnd}
 use Rattle.chess_pgn.specs.declared.read.PgnFault.{PgnFault}
 use Rattle.chess_pgn.specs.declared.read.PgnFaultKind.TheVariants.{TooLong}
 use Rattle.chess_pgn.specs.GameRead.{pgn_read}
-use Rattle.chess_pgn.specs.Local.{is_settled, moved_answer}
+use Rattle.chess_pgn.specs.Local.{is_settled, settles_answer, moved_answer}
 use Rattle.chess_pgn.specs.Tokens.{is_blank}
 use Rattle.pgn_stream.specs.declared.stream.StreamFault.{StreamFault}
 use Rattle.pgn_stream.specs.declared.stream.StreamFault.TheVariants.{InputTooLong}
@@ -50,6 +50,10 @@ Refills s s' r r' text (Err e) = Stops r r' text e
 -- the bytes that are held tell how the game is read
 unfoldable pub is_held : ℕ → StreamState → Bool
 is_held limit s = (s.ended && nat_le (length s.window) (s.at + 16777216)) || is_settled limit s.window s.at
+
+-- the same of what was answered there
+abbrev pub is_told_by : StreamState → Result (Option PgnEnd) PgnFault → Bool
+is_told_by s answer = (s.ended && nat_le (length s.window) (s.at + 16777216)) || ((nat_lt 0 s.at || nat_le 3 (length s.window)) && settles_answer s.window s.at answer)
 
 -- how it is read in them
 abbrev pub held_answer : ℕ → StreamState → Result (Option PgnEnd) PgnFault

@@ -8,7 +8,7 @@ ghost use Rattle.chess_pgn.specs.GameRead.{pgn_read};
 ghost use Rattle.chess_pgn.specs.Local.{moved_answer};
 ghost use Rattle.chess_pgn.specs.Tokens.{is_blank};
 ghost use Rattle.pgn_stream.specs.Stream.{unread, place, StandsAt, ReadsGame, StandsBehind, FindsEvent, StandsFurther};
-ghost use Rattle.pgn_stream.specs.Held.{Slides, AddsPiece, is_full, Fills, Refills, is_held, held_answer, too_long, place_behind, IsPlaced, IsSound, FindsHeld};
+ghost use Rattle.pgn_stream.specs.Held.{Slides, AddsPiece, is_full, Fills, Refills, is_told_by, is_held, held_answer, too_long, place_behind, IsPlaced, IsSound, FindsHeld};
 
 use crate::events::next_event;
 use crate::laws::windows_tell;
@@ -190,8 +190,21 @@ impl PgnStream {
         }
     }
 
+    // Whether all of the input that is left is in the window, and no more bytes than a game may have.
+    fn is_last(&self) -> bool
+        ensures { result ≡ self.now.ended && nat_le (length self.now.window) (self.now.at + 16777216) }
+    {
+        self.ended && self.len <= self.at + GAME_LEN
+    }
+
+    // Whether the window tells what was answered of a game that was read in it.
+    fn tells(&self, answer: &Result<Option<PgnEnd>, PgnFault>) -> bool
+        ensures { result ≡ is_told_by self.now answer.now }
+    {
+        self.is_last() || settles(self.window(), self.at, answer)
+    }
+
     // Reads a game in the window, and answers where the window tells how it is read.
-    #[tactic(auto, unfolding(crate::specs::Held::is_held))]
     fn read_held<B: Board>(&self, game: &mut Game<B>) -> Option<Result<Option<PgnEnd>, PgnFault>>
         ensures answer { result ≡ (if is_held game.old.limit self.now then Some (held_answer game.old.limit self.now) else None) }
         ensures game { game.new ≡ left_at game.old (pgn_read game.old.limit self.now.window self.now.at).state }
@@ -201,9 +214,7 @@ impl PgnStream {
         faults_have_places();
         half_moves_have_bytes();
         let answer = read_pgn(self.window(), self.at, game);
-        if self.ended && self.len <= self.at + GAME_LEN
-            || settles(self.window(), self.at, &answer)
-        {
+        if self.tells(&answer) {
             return Some(answer);
         }
         None
