@@ -26,3 +26,5 @@ pub mod Settled
 pub mod MovedReads
 pub mod SettledTold
 pub mod SettledStays
+pub mod MoveBytes
+pub mod SettledMoved

@@ -1,6 +1,6 @@
 -- A game is read the same behind whatever stands before the byte before it.
-use Rattle.std.proofs.Common.{◌≡◌, ℕ, zero, suc, ◌+◌, ◌-◌, ◌≤◌, ◌<◌, Bool, true, false, cond, eqb, List, [], ◌∷◌, ◌++◌, length, drop, Option, Some, None, Result, Ok, Err, refl, sym, ap, subst, ◌∙◌, arith}
-use Rattle.std.specs.Prelude.{◌&&◌, ◌||◌, codes, is_some, nat_lt, get_or}
+use Rattle.std.proofs.Common.{◌≡◌, ℕ, zero, suc, ◌+◌, ◌-◌, ◌≤◌, ◌<◌, Bool, true, false, cond, eqb, List, [], ◌∷◌, ◌++◌, length, drop, None, Result, Ok, Err, refl, sym, ap, ◌∙◌, arith}
+use Rattle.std.specs.Prelude.{◌||◌, codes, is_some, nat_lt, get_or}
 use Rattle.std.specs.Str.{bytes_eq}
 use Rattle.std.proofs.lemmas.Bool.Decides.{nat_tests}
 use Rattle.std.proofs.lemmas.List.{length-append, length-drop, get_or-append_right}
@@ -104,7 +104,7 @@ module _ (k : ℕ) where
 -- ---- the text
 
 -- a place behind the text's first byte
-place_is : (text : List ℕ) (at : ℕ) → 0 < at → first_place text at ≡ at
+pub place_is : (text : List ℕ) (at : ℕ) → 0 < at → first_place text at ≡ at
 place_is text at h = let some : eqb at 0 ≡ false = grind (arith, nat_tests, h) in rw some refl
 
 line_is : (before text : List ℕ) (at : ℕ) → 0 < at → begins_line (before ++ text) (length before + at) ≡ begins_line text at
@@ -116,7 +116,7 @@ line_is before text at h =
     ∙ ap (λ x. eqb x 10) (get_or-append_right before text (length before) (length before + at - 1) 0 refl (omega (arith, h)) ∙ ap (λ i. get_or text i 0) there)
     ∙ sym (ap (λ b. b || eqb (get_or text (at - 1) 0) 10) some)
 
-tokens_are : (before text : List ℕ) (at : ℕ) → 0 < at → tokens_from (before ++ text) (length before + at) ≡ tokens_from text at
+pub tokens_are : (before text : List ℕ) (at : ℕ) → 0 < at → tokens_from (before ++ text) (length before + at) ≡ tokens_from text at
 unfolding tokens_from
 tokens_are before text at h =
     let sum = length-append before text in

@@ -14,11 +14,11 @@ use Rattle.chess_pgn.specs.declared.read.PgnFaultKind.{PgnFaultKind}
 use Rattle.chess_pgn.specs.declared.read.PgnFaultKind.TheVariants.{BadTag, BadFen, BadToken, IllegalMove, AmbiguousMove, AfterEnd, TooLong, UnclosedComment, UnclosedVariation, NoResult}
 use Rattle.chess_pgn.specs.GameRead.{told_by, pgn_read}
 use Rattle.chess_pgn.specs.Local.{is_over, is_gap, if_behind, is_open_behind, is_open_string, is_open_name, is_open_tag, has_word_end, is_firm, settled_by, settles_variant, settles_fault, settles_answer, is_settled, SettledStays}
-use Rattle.chess_pgn.specs.Tokens.{Token, Skip, Tag, Word, Bad_tag, Unclosed_comment, Unclosed_variation, Bad, is_name_byte, is_word_byte, behind_gap, behind_byte, behind_next, string_at, token_at, tokens_of, first_place, begins_line, tokens_from}
+use Rattle.chess_pgn.specs.Tokens.{Token, Skip, Tag, Word, Bad_tag, Unclosed_comment, Unclosed_variation, Bad, is_name_byte, is_word_byte, behind_gap, behind_byte, string_at, token_at, tokens_of, first_place, begins_line, tokens_from}
 use Rattle.chess_pgn.specs.Words.{kind_of}
 use Rattle.chess_pgn.proofs.Cuts.{Suffix}
 use Rattle.chess_pgn.proofs.FaultPlaces.{behind, fault_in_place}
-use Rattle.chess_pgn.proofs.Settled.{both, Kept, same, skipped, whole, no_tag, maybe_tag, open_comment, open_variation, bad, GapKept, gap_kept, has_ten, string_kept, string_never, StringKept, Stops, run_stops, take_stops, drop_stops, take_whole, drop_whole, kept, shift, shift_told, not_is, test_parts, left_more, none_told, word_told, is_closed, next_there, fewer_left, fewer_more, line_same, rest_same, rest_there, few_here, few_longer, place_same, read_same, few}
+use Rattle.chess_pgn.proofs.Settled.{both, Kept, same, skipped, whole, no_tag, maybe_tag, open_comment, open_variation, bad, gap_kept, has_ten, string_kept, string_never, StringKept, Stops, run_stops, take_stops, drop_stops, take_whole, drop_whole, kept, shift, shift_told, not_is, test_parts, none_told, word_told, is_closed, next_there, fewer_left, fewer_more, line_same, rest_same, rest_there, few_here, few_longer, place_same, read_same}
 
 -- ---- bytes behind a bracket that are no tag's
 

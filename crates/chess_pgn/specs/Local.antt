@@ -1,5 +1,5 @@
 -- Where a game is read: what the beginning of a text settles, whatever follows it, and which places are told.
-use Rattle.std.specs.Prelude.{◌≡◌, ◌≤◌, ◌<◌, ℕ, ◌+◌, ◌-◌, Bool, true, false, not, ◌&&◌, ◌||◌, ◌==◌, nat_lt, nat_le, List, [], ◌∷◌, ◌++◌, length, drop, Option, Some, None, Result, Ok, Err, IfErr}
+use Rattle.std.specs.Prelude.{◌≡◌, ◌≤◌, ◌<◌, ℕ, ◌+◌, ◌-◌, Bool, true, false, not, ◌&&◌, ◌||◌, ◌==◌, nat_lt, nat_le, List, [], ◌∷◌, ◌++◌, length, drop, Option, Some, None, Result, Ok, Err, IfOk, IfErr, IfSome}
 use Rattle.std.specs.List.{list_any, prefix_len, take_while}
 use Rattle.chess_base.specs.declared.man.Variant.{Variant}
 use Rattle.chess_base.specs.declared.man.Variant.TheVariants.{Normal}
@@ -116,6 +116,15 @@ moved n r = record { state = r.state; answer = moved_answer n r.answer }
 abbrev pub ReadingIsMoved : Type 0
 ReadingIsMoved = (limit : ℕ) (before text : List ℕ) (at : ℕ) → 0 < at → at ≤ length text → pgn_read limit (before ++ text) (length before + at) ≡ moved (length before) (pgn_read limit text at)
 
+-- and the text settles how it is read, or leaves it open, the same
+abbrev pub SettledIsMoved : Type 0
+SettledIsMoved = (limit : ℕ) (before text : List ℕ) (at : ℕ) → 0 < at → at ≤ length text → is_settled limit (before ++ text) (length before + at) ≡ is_settled limit text at
+
 -- a fault's place is in the text, and not before the place where reading began
 abbrev pub FaultsHavePlaces : Type 0
 FaultsHavePlaces = (limit : ℕ) (text : List ℕ) (at : ℕ) → at ≤ length text → IfErr (pgn_read limit text at).answer (λ f. (at ≤ f.place) × (f.place ≤ length text))
+
+-- a half-move takes at least a byte of the text that a game has from the place on
+abbrev pub HalfMovesHaveBytes : Type 0
+HalfMovesHaveBytes =
+    (limit : ℕ) (text : List ℕ) (at : ℕ) → at ≤ length text → IfOk (pgn_read limit text at).answer (λ o. IfSome o (λ e. length (pgn_read limit text at).state.moves + at ≤ e.place))

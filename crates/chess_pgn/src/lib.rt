@@ -22,7 +22,9 @@ pub use laws::{
     games_are_in_filled_lines, games_are_of_tokens, lines_are_filled, normal_is_kept,
     pgn_is_read_back,
 };
-pub use local_laws::{faults_have_places, reading_is_local, reading_is_moved};
+pub use local_laws::{
+    faults_have_places, half_moves_have_bytes, reading_is_local, reading_is_moved, settled_is_moved,
+};
 pub use read::{PgnEnd, PgnFault, PgnFaultKind, read_pgn};
 pub use settling::settles;
 pub use tags::{HowEnded, TagText, Tags};

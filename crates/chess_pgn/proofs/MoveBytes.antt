@@ -1,0 +1,115 @@
+-- A half-move takes at least a byte of its game's text.
+use Rattle.std.proofs.Common.{ℕ, zero, suc, ◌+◌, ◌-◌, ◌≤◌, Bool, eqb, List, [], ◌∷◌, ◌++◌, length, drop, Option, Some, None, IfSome, IfOk, Result, Ok, Err, arith}
+use Rattle.std.specs.Prelude.{codes, is_some, nat_lt}
+use Rattle.std.specs.Str.{bytes_eq}
+use Rattle.std.proofs.lemmas.List.{length-append, length-drop}
+use Rattle.chess_base.specs.declared.fault.FenFault.{FenFault}
+use Rattle.chess_base.specs.declared.man.Move.{Move as Played}
+use Rattle.chess_base.specs.declared.man.Variant.TheVariants.{Normal}
+use Rattle.chess_base.specs.declared.setup.Setup.{Setup}
+use Rattle.chess_base.specs.Reading.{fen_reading_as}
+use Rattle.chess_game.specs.Game.{current, verdict_now}
+use Rattle.chess_text.specs.declared.reading.Reading.{Reading}
+use Rattle.chess_text.specs.declared.reading.Reading.TheVariants as reads
+use Rattle.chess_text.specs.Moves.{reading}
+use Rattle.chess_pgn.specs.declared.read.PgnEnd.{PgnEnd}
+use Rattle.chess_pgn.specs.declared.read.PgnFault.{PgnFault}
+use Rattle.chess_pgn.specs.declared.word.WordKind.{WordKind}
+use Rattle.chess_pgn.specs.declared.word.WordKind.TheVariants.{End, Number, Marks, Move}
+use Rattle.chess_pgn.specs.GameRead.{SoFar, GameRead, Step, On, Stop, unless_full, move_step, word_step, fen_step, tag_step, step, go_on, game_of, at_text_end, nothing_read, variant_told, pgn_read}
+use Rattle.chess_pgn.specs.Local.{HalfMovesHaveBytes}
+use Rattle.chess_pgn.specs.Tokens.{Token, Skip, Tag, Word, Bad_tag, Unclosed_comment, Unclosed_variation, Bad, token_at, tokens_of, first_place, begins_line, tokens_from}
+use Rattle.chess_pgn.specs.Words.{kind_of}
+use Rattle.chess_pgn.proofs.Cuts.{pick}
+use Rattle.chess_pgn.proofs.FaultPlaces.{behind}
+use Rattle.chess_pgn.proofs.PgnPieces.{shorter}
+
+-- from a place on, behind so many half-moves
+abbrev Fits : ℕ → ℕ → ℕ → Result (Option PgnEnd) PgnFault → Type 0
+Fits first done moves r = IfOk r (λ o. IfSome o (λ e. moves + first ≤ done + e.place))
+
+abbrev StepFits : ℕ → ℕ → Step → Type 0
+StepFits first done (On h) = length h.state.moves ≤ done + 1
+StepFits first done (Stop r) = Fits first done (length r.state.moves) r.answer
+
+module _ (limit first : ℕ) (g : SoFar) where
+  abbrev FitsHere : Step → Type 0
+  FitsHere s = StepFits first (length g.state.moves) s
+
+  unless_fits : (place : ℕ) (next : Step) → FitsHere next → FitsHere (unless_full limit g place next)
+  unless_fits place next h =
+      pick FitsHere (is_some (verdict_now g.state)) _ _ (λ _. tt) (λ _.
+      pick FitsHere (nat_lt (length g.state.moves) limit) _ _ (λ _. h) (λ _. tt))
+
+  move_fits : (place : ℕ) (r : Reading) → FitsHere (move_step limit g place r)
+  move_fits place reads.NotAMove = tt
+  move_fits place (reads.Move m) = unless_fits place _ (one_more m)
+    where
+      one_more : (m : Played) → length (g.state.moves ++ m ∷ []) ≤ length g.state.moves + 1
+      one_more m = let sum = length-append g.state.moves (m ∷ []) in omega (arith, sum)
+  move_fits place reads.Ambiguous = unless_fits place _ tt
+  move_fits place reads.NoSuch = unless_fits place _ tt
+
+  word_fits : (place : ℕ) (word : List ℕ) (kind : WordKind) → first ≤ place → FitsHere (word_step limit g place word kind)
+  word_fits place word (End o) h = omega (arith, h)
+  word_fits place word Number h = omega arith
+  word_fits place word Marks h = omega arith
+  word_fits place word Move h = move_fits place (reading (current g.state) word)
+
+  fen_fits : (place : ℕ) (r : Result Setup FenFault) → FitsHere (fen_step g place r)
+  fen_fits place (Ok start) = omega arith
+  fen_fits place (Err fault) = tt
+
+  tag_fits : (name text : List ℕ) (place : ℕ) → FitsHere (tag_step g name text place)
+  tag_fits name text place = pick FitsHere (bytes_eq name (codes "FEN")) _ _ (λ _. fen_fits place (fen_reading_as g.state.start.variant text)) (λ _. omega arith)
+
+step_fits : (limit total : ℕ) (g : SoFar) (left : ℕ) (t : Token) → StepFits (total - left) (length g.state.moves) (step limit total g left t)
+step_fits limit total g left Skip = omega arith
+step_fits limit total g left (Tag name text string) = pick (StepFits (total - left) (length g.state.moves)) g.is_begun _ _ (λ _. tt) (λ _. tag_fits limit (total - left) g name text (total - string))
+step_fits limit total g left (Word word) = word_fits limit (total - left) g (total - left) word (kind_of word) (omega arith)
+step_fits limit total g left Bad_tag = tt
+step_fits limit total g left (Unclosed_comment brace) = tt
+step_fits limit total g left Unclosed_variation = tt
+step_fits limit total g left Bad = tt
+
+further : (first from done most moves : ℕ) (r : Result (Option PgnEnd) PgnFault) → first + 1 ≤ from → most ≤ done + 1 → Fits from most moves r → Fits first done moves r
+further first from done most moves (Ok None) h k f = tt
+further first from done most moves (Ok (Some e)) h k f = omega (arith, h, k, f)
+further first from done most moves (Err x) h k f = tt
+
+gone_on : (first from done : ℕ) (s : Step) (later : SoFar → GameRead) → first + 1 ≤ from → StepFits first done s → ((h : SoFar) → Fits from (length h.state.moves) (length (later h).state.moves) (later h).answer) → Fits first done (length (go_on s later).state.moves) (go_on s later).answer
+gone_on first from done (On g) later h k f = further first from done (length g.state.moves) (length (later g).state.moves) (later g).answer h k (f g)
+gone_on first from done (Stop r) later h k f = k
+
+ended_fits : (total first done : ℕ) (g : SoFar) → Fits first done (length g.state.moves) (at_text_end total g).answer
+ended_fits total first done g = pick (Fits first done (length g.state.moves)) g.is_met _ _ (λ _. tt) (λ _. tt)
+
+game_fits : (limit total n : ℕ) (begins : Bool) (g : SoFar) (xs : List ℕ) → length xs ≤ total → Fits (total - length xs) (length g.state.moves) (length (game_of limit total g (tokens_of n begins xs)).state.moves) (game_of limit total g (tokens_of n begins xs)).answer
+unfolding tokens_of
+game_fits limit total zero begins g xs h = ended_fits total (total - length xs) (length g.state.moves) g
+game_fits limit total (suc n) begins g [] h = ended_fits total (total - 0) (length g.state.moves) g
+game_fits limit total (suc n) begins g (c ∷ rest) h =
+    let t : Token × List ℕ = token_at begins c rest in
+    let fewer = shorter begins c rest in
+    let nearer : total - suc (length rest) + 1 ≤ total - length t.1 = omega (arith, fewer, h) in
+    let few : length t.1 ≤ total = omega (arith, fewer, h) in
+    gone_on (total - suc (length rest)) (total - length t.1) (length g.state.moves) (step limit total g (suc (length rest)) t.0) (λ u. game_of limit total u (tokens_of n (eqb c 10) t.1)) nearer
+    (step_fits limit total g (suc (length rest)) t.0) (λ u. game_fits limit total n (eqb c 10) u t.1 few)
+
+sooner : (at first moves : ℕ) (r : Result (Option PgnEnd) PgnFault) → at ≤ first → Fits first 0 moves r → IfOk r (λ o. IfSome o (λ e. moves + at ≤ e.place))
+sooner at first moves (Ok None) h f = tt
+sooner at first moves (Ok (Some e)) h f = omega (arith, h, f)
+sooner at first moves (Err x) h f = tt
+
+pub half_moves_have_bytes : HalfMovesHaveBytes
+unfolding pgn_read tokens_from
+half_moves_have_bytes limit text at h =
+    let place : ℕ = first_place text at in
+    let g : SoFar = nothing_read (variant_told Normal (tokens_from text place)) in
+    let inside = behind text at h in
+    let low = inside.0 in
+    let high = inside.1 in
+    let left = length-drop place text in
+    let few : length (drop place text) ≤ length text = omega (arith, left) in
+    let near : at ≤ length text - length (drop place text) = omega (arith, low, high, left) in
+    sooner at (length text - length (drop place text)) _ _ near (game_fits limit (length text) (length text) (begins_line text place) g (drop place text) few)

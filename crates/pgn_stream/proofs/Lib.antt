@@ -1,0 +1,5 @@
+pub mod EventLines
+pub mod Blanks
+pub mod Windows
+pub mod Steps
+pub mod Fills
