@@ -3,3 +3,5 @@ pub mod Blanks
 pub mod Windows
 pub mod Steps
 pub mod Fills
+pub mod Games
+pub mod NextLines

@@ -15,6 +15,7 @@ use Rattle.pgn_stream.specs.Stream.{StreamState, HasRead, BrokeOff, GoesOn, Stop
 -- the bytes before the one before the place were let go
 pub record IsSlid (gone : ℕ) (s s' : StreamState) : Type 0 where
   pub within : gone ≤ s.at
+  pub inside : gone ≤ length s.window
   pub window : s'.window ≡ drop gone s.window
   pub before : s'.before ≡ s.before + gone
   pub at : s'.at + gone ≡ s.at

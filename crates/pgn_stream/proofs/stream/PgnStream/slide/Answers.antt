@@ -1,4 +1,5 @@
 use Rattle.std.proofs.Common.{◌≡◌, ◌≤◌, ◌<◌, ◌+◌, ◌-◌, length, take, drop, refl, sym, ap, subst, ◌∙◌, arith}
+use Rattle.std.proofs.lemmas.List.{length-take-le}
 use Rattle.pgn_stream.specs.Stream.{StreamState}
 use Rattle.pgn_stream.specs.Held.{IsSlid}
 use Rattle.pgn_stream.proofs.Steps.{slid}
@@ -18,6 +19,7 @@ returns c =
           ended = c.self.inside.ended;
         })) c.self.view_is (record {
       within = omega arith;
+      inside = (let all = length-take-le c.self.inside.len c.self.inside.bytes.items (omega (arith, size, low)) in omega (arith, all, inside));
       window = ap (take (c.self.inside.len - gone)) c.copy_within.ensures.items ∙ slid gone c.self.inside.len c.self.inside.bytes.items (omega (arith, is, inside)) (omega (arith, size, low)) ∙ ap (λ n. drop n (take c.self.inside.len c.self.inside.bytes.items)) is;
       before = ap (λ n. c.self.inside.before + n) is;
       at = omega (arith, is);
