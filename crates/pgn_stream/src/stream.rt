@@ -1,6 +1,6 @@
 //! A window over an input, and the games that are read in it.
 
-ghost use Rattle.std.specs.Prelude.{◌≡◌, ℕ, ◌≤◌, ◌<◌, ◌+◌, ◌^◌, ◌||◌, ◌&&◌, nat_le, if◌then◌else◌, false, true, length, drop, not, position, IfOk, IfSome, List, None, Some, Err};
+ghost use Rattle.std.specs.Prelude.{◌≡◌, ℕ, ◌≤◌, ◌<◌, ◌+◌, ◌^◌, ◌||◌, ◌&&◌, nat_le, if◌then◌else◌, false, true, length, drop, not, position, IfErr, IfOk, IfSome, List, None, Some, Err};
 ghost use Rattle.std.specs.List.{prefix_len};
 ghost use Rattle.byte_devices.specs.Devices.{InputState};
 ghost use Rattle.chess_game.specs.Game.{at as left_at};
@@ -179,6 +179,7 @@ impl PgnStream {
         ensures held { (r : InputState) (text : List ℕ) → StandsAt self.old r (R.seen input.old) text → Refills self.old self.new r (R.seen input.new) text result }
         ensures place { IfOk result (λ _. place self.new ≡ place self.old) }
         ensures full { IfOk result (λ _. is_full self.new ≡ true) }
+        ensures going { IfErr result (λ _. self.old.ended ≡ false) }
     {
         if self.ended {
             return Ok(());
@@ -279,6 +280,7 @@ impl PgnStream {
     ) -> Result<Result<Option<PgnEnd>, PgnFault>, StreamFault>
         ensures game { (r : InputState) (text : List ℕ) → StandsAt self.old r (R.seen input.old) text → ReadsGame self.old self.new r (R.seen input.new) text game.old game.new result }
         ensures behind { IfOk result (λ answer. StandsBehind self.old self.new (length game.new.state.moves) answer) }
+        ensures going { IfErr result (λ _. self.old.ended ≡ false) }
         ensures limit { game.new.limit ≡ game.old.limit }
     {
         windows_tell();
