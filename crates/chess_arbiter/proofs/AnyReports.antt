@@ -7,9 +7,9 @@ use Rattle.byte_devices.proofs.DeviceLaws.{took_none, breaks_more, appends_more}
 use Rattle.chess_game.specs.Game.{Seen}
 use Rattle.chess_pgn.specs.declared.read.PgnEnd.{PgnEnd}
 use Rattle.chess_pgn.specs.declared.read.PgnFault.{PgnFault}
-use Rattle.chess_arbiter.specs.StreamStub.{StreamState, unread, place, game_at, is_event_line, IsNextEvent, IsWholeOf, StandsAt, GoesOn, Stops, IsTold, StandsBehind}
-use Rattle.chess_arbiter.specs.declared.stream_stub.StreamFault.{StreamFault}
-use Rattle.chess_arbiter.specs.declared.stream_stub.StreamFault.TheVariants as stream
+use Rattle.pgn_stream.specs.Stream.{StreamState, unread, place, game_at, is_event_line, IsNextEvent, IsWholeOf, StandsAt, GoesOn, Stops, IsTold, StandsBehind}
+use Rattle.pgn_stream.specs.declared.stream.StreamFault.{StreamFault}
+use Rattle.pgn_stream.specs.declared.stream.StreamFault.TheVariants as stream
 use Rattle.chess_arbiter.specs.declared.collection.Tally.{Tally}
 use Rattle.chess_arbiter.specs.declared.fault.ProgramFault.{ProgramFault}
 use Rattle.chess_arbiter.specs.declared.fault.ProgramFault.TheVariants.{ReadFailed, WriteFailed, NoMemory, InputTooLong, WrongWords}
@@ -20,7 +20,7 @@ use Rattle.chess_arbiter.specs.Verify.{Extent, All, First, read_at, verified}
 use Rattle.chess_arbiter.specs.Collection.{IsNext, IsTallyOf, told_line, lines_by, counts_if, text_by}
 use Rattle.chess_arbiter.specs.AnySize.{told_at, AreReportsOfAny, AreReportsOnRead, CountsAny, VerifiesAny, stream_fault}
 use Rattle.chess_arbiter.proofs.Collections.{no_tally, game_more, fault_more, tally_game, tally_fault, line_behind, broken_behind, same_counts, verified_is}
-use Rattle.chess_arbiter.proofs.EventLines.{NoneUpTo, none_yet, one_further, found, nowhere}
+use Rattle.pgn_stream.proofs.EventLines.{NoneUpTo, none_yet, one_further, found, nowhere}
 use Rattle.chess_arbiter.proofs.InputRead.{nothing_read}
 use Rattle.chess_arbiter.proofs.Reports.{counted}
 

@@ -12,7 +12,7 @@ use Rattle.byte_devices.specs.Devices.{InputState, OutputState}
 use Rattle.byte_devices.proofs.DeviceLaws.{consumes_none}
 use Rattle.chess_arbiter.specs.Laws.{ServesSession, VerifiesGames}
 use Rattle.chess_arbiter.specs.Program.{IsUntouched, RanPlan, RanProgram, RanSession, RanVerify, RanVerifyAt, RanVerifyIf, has_words}
-use Rattle.chess_arbiter.specs.StreamStub.{IsFront}
+use Rattle.pgn_stream.specs.Stream.{IsFront}
 use Rattle.chess_arbiter.specs.Verify.{LacksMemory}
 use Rattle.chess_arbiter.specs.declared.fault.ProgramFault.TheVariants.{NoMemory}
 

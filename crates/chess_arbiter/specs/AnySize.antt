@@ -4,9 +4,9 @@ use Rattle.arbiter_words.specs.declared.plan.VerifyPlan.{VerifyPlan}
 use Rattle.byte_devices.specs.Devices.{InputState, OutputState, Took, Sent, BreaksOff}
 use Rattle.chess_pgn.specs.declared.read.PgnEnd.{PgnEnd}
 use Rattle.chess_pgn.specs.declared.read.PgnFault.{PgnFault}
-use Rattle.chess_arbiter.specs.StreamStub.{IsFront, BrokeOff, HasRead, IsPastPlaces, IsWholeOf, game_at}
-use Rattle.chess_arbiter.specs.declared.stream_stub.StreamFault.{StreamFault}
-use Rattle.chess_arbiter.specs.declared.stream_stub.StreamFault.TheVariants as stream
+use Rattle.pgn_stream.specs.Stream.{IsFront, BrokeOff, HasRead, IsPastPlaces, IsWholeOf, game_at}
+use Rattle.pgn_stream.specs.declared.stream.StreamFault.{StreamFault}
+use Rattle.pgn_stream.specs.declared.stream.StreamFault.TheVariants as stream
 use Rattle.chess_arbiter.specs.Collection.{IsNext, IsTallyOf, lines_by, text_by}
 use Rattle.chess_arbiter.specs.declared.collection.Tally.{Tally}
 use Rattle.chess_arbiter.specs.declared.fault.ProgramFault.{ProgramFault}

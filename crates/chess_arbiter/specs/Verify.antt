@@ -8,7 +8,7 @@ use Rattle.chess_pgn.specs.declared.read.PgnFaultKind.TheVariants.{BadTag, BadFe
 use Rattle.chess_pgn.specs.declared.termination.Termination.{Termination}
 use Rattle.chess_pgn.specs.Terminations.{termination_text}
 use Rattle.chess_pgn.specs.GameRead.{GameRead, pgn_read}
-use Rattle.chess_arbiter.specs.StreamStub.{IsFront, BrokeOff}
+use Rattle.pgn_stream.specs.Stream.{IsFront, BrokeOff}
 use Rattle.chess_arbiter.specs.declared.fault.ProgramFault.{ProgramFault}
 use Rattle.chess_arbiter.specs.declared.fault.ProgramFault.TheVariants.{ReadFailed, WriteFailed, NoMemory, InputTooLong, WrongWords}
 use Rattle.chess_arbiter.specs.declared.verify.Report.{Report}

@@ -1,19 +1,19 @@
 //! Verifying a text of any size: each game is told once it is read, and the text is kept nowhere as a whole.
 
 ghost use Rattle.std.specs.Prelude.{◌≡◌};
-ghost use Rattle.chess_arbiter.specs.StreamStub.{unread};
+ghost use Rattle.pgn_stream.specs.Stream.{unread};
 ghost use Rattle.byte_devices.specs.Devices.{Sends};
 ghost use Rattle.chess_arbiter.specs.Collection.{counts_if};
 ghost use Rattle.chess_arbiter.specs.AnySize.{CountsAny, VerifiesAny, stream_fault};
 
 use crate::collection::{Tally, tell_counts, tell_line, verified_by};
 use crate::fault::ProgramFault;
-use crate::stream_stub::{PgnStream, StreamFault};
 use crate::verify::{Report, Verified, open_game};
 use arbiter_words::VerifyPlan;
 use byte_devices::{Input, Output, WriteFault};
 use chess_bits::Bits;
 use chess_game::Game;
+use pgn_stream::{PgnStream, StreamFault};
 use std::alloc::Global;
 
 // The program's fault where the input gave no more.

@@ -1,10 +1,8 @@
 //! Verifying by the words of `verify`: games behind a fault too, or those with a fault alone.
 
-ghost use Rattle.std.specs.Prelude.{◌≡◌, ◌≤◌, ◌<◌, ◌+◌, ◌^◌, ◌==◌, if◌then◌else◌, IfSome, length, take, codes};
-ghost use Rattle.std.specs.Str.{bytes_eq};
+ghost use Rattle.std.specs.Prelude.{◌≡◌, ◌≤◌, ◌<◌, ◌+◌, ◌^◌, ◌==◌, if◌then◌else◌, IfSome, length};
 ghost use Rattle.byte_devices.specs.Devices.{Puts};
 ghost use Rattle.chess_arbiter.specs.declared.verify.Verified.TheVariants.{EachGame, FaultTold};
-ghost use Rattle.chess_arbiter.specs.StreamStub.{is_event_line, IsNextEvent};
 ghost use Rattle.chess_arbiter.specs.Collection.{IsNext, is_told, told_line, counts_line, counts_if, CountsEach, HandedOnBy, VerifiesBy};
 
 use crate::fault::ProgramFault;
@@ -16,6 +14,7 @@ use byte_devices::{Input, Output, WriteFault, put};
 use chess_bits::Bits;
 use chess_game::Game;
 use chess_pgn::{faults_have_places, read_pgn};
+use pgn_stream::next_event;
 use std::alloc::Global;
 
 /// What was counted.
@@ -64,37 +63,6 @@ impl Tally {
             ..self
         }
     }
-}
-
-// Whether a text begins as the line of a tag Event.
-fn begins_event(text: &[u8]) -> bool
-    ensures { result ≡ bytes_eq (take 7 text.now) (codes "[Event ") }
-{
-    text.starts_with(b"[Event ")
-}
-
-// Whether a line begins at the place, and as that of a tag Event.
-fn is_event_line(text: &[u8], place: usize) -> bool
-    requires some { 0 < place }
-    requires within { place ≤ length text.now }
-    ensures { result ≡ is_event_line text.now place }
-{
-    text[place - 1] == b'\n' && begins_event(&text[place..])
-}
-
-// Where the first such line behind a place begins.
-fn next_event(text: &[u8], place: usize) -> Option<usize>
-    ensures first { IsNextEvent text.now place result }
-    ensures within { IfSome result (λ next. next ≤ length text.now) }
-{
-    let mut next = place;
-    while next < text.len() {
-        next += 1;
-        if is_event_line(text, next) {
-            return Some(next);
-        }
-    }
-    None
 }
 
 // Where the next game begins behind a fault at a place.

@@ -11,7 +11,6 @@ mod moments;
 mod program;
 mod score;
 mod standard;
-mod stream_stub;
 mod stub;
 mod verify;
 

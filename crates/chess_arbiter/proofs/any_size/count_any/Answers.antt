@@ -1,7 +1,7 @@
 use Rattle.std.proofs.Common.{rules, ◌≡◌, ◌∙◌, ◌+◌, ◌++◌, ◌∷◌, [], Bool, length, Option, Some, None, Result, Ok, Err, sym, subst, arith}
 use Rattle.chess_pgn.specs.declared.read.PgnEnd.{PgnEnd}
 use Rattle.chess_pgn.specs.declared.read.PgnFault.{PgnFault}
-use Rattle.chess_arbiter.specs.StreamStub.{FindsEvent, StandsBehind, StandsFurther, place}
+use Rattle.pgn_stream.specs.Stream.{FindsEvent, StandsBehind, StandsFurther, place}
 use Rattle.chess_arbiter.specs.AnySize.{CountsAny}
 use Rattle.chess_arbiter.specs.Collection.{told_line}
 use Rattle.chess_arbiter.specs.declared.collection.Tally.{Tally}

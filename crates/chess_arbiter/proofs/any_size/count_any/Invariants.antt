@@ -1,5 +1,5 @@
 use Rattle.std.proofs.Common.{◌≡◌, ◌-◌, ◌^◌, List, ℕ}
-use Rattle.chess_arbiter.specs.StreamStub.{place, StandsAt}
+use Rattle.pgn_stream.specs.Stream.{place, StandsAt}
 use Rattle.chess_arbiter.specs.declared.verify.Report.{Report}
 use Rattle.chess_arbiter.proofs.AnyReports.{SoFar}
 use Rattle.chess_arbiter.proofs.any_size.count_any.Given as goal
