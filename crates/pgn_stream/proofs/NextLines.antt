@@ -1,6 +1,7 @@
 -- The first line of a tag Event behind a stream's place, in each whole text.
-use Rattle.std.proofs.Common.{◌≡◌, ◌≤◌, ◌<◌, ℕ, suc, ◌+◌, ◌-◌, ◌^◌, Bool, true, false, cond, eqb, List, [], ◌∷◌, ◌++◌, length, get_or, take, drop, Option, Some, None, Result, Ok, Err, refl, sym, ap, subst, ◌∙◌, append_assoc, append-nil, arith}
+use Rattle.std.proofs.Common.{◌≡◌, ◌≤◌, ◌<◌, ℕ, suc, ◌+◌, ◌-◌, ◌^◌, Bool, true, false, cond, eqb, List, [], ◌∷◌, ◌++◌, length, get_or, take, drop, Option, Some, None, Result, Ok, Err, IsErr, refl, sym, ap, subst, ◌∙◌, append_assoc, append-nil, arith}
 use Rattle.std.specs.Prelude.{◌&&◌, ◌||◌, codes, max, leb, nat_le}
+use Rattle.std.specs.Result.{IsErrAnd}
 use Rattle.std.specs.Str.{bytes_eq}
 use Rattle.std.proofs.lemmas.Bool.{and_parts}
 use Rattle.std.proofs.lemmas.Bool.Decides.{nat_tests}
@@ -10,7 +11,7 @@ use Rattle.std.proofs.Math.Seq.{drop-append-add}
 use Rattle.byte_devices.specs.Devices.{InputState}
 use Rattle.pgn_stream.specs.declared.stream.StreamFault.{StreamFault}
 use Rattle.pgn_stream.specs.declared.stream.StreamFault.TheVariants.{ReadFailed, InputTooLong}
-use Rattle.pgn_stream.specs.Stream.{StreamState, place, IsWholeOf, StandsAt, GoesOn, Stops, IsFront, BrokeOff, IsPastPlaces, is_event_line, IsNextEvent}
+use Rattle.pgn_stream.specs.Stream.{StreamState, place, IsWholeOf, StandsAt, GoesOn, Stops, IsFront, BrokeOff, IsPastPlaces, FindsEvent, is_event_line, IsNextEvent}
 use Rattle.pgn_stream.specs.Held.{IsSound, FindsHeld, is_full}
 
 -- ---- lines of lists
@@ -136,9 +137,13 @@ looked_on s₀ s s' r i i' text same looked goes =
           ((looked.2 whole later.0).0, subst (λ n. NoneIn (place s₀) n whole) (sym same) (looked.2 whole later.0).1)),
     )
 
-pub stops_on : (r i : InputState) (text more : List ℕ) (e : StreamFault) → Stops r i (text ++ more) e → Stops r i text e
+stops_on : (r i : InputState) (text more : List ℕ) (e : StreamFault) → Stops r i (text ++ more) e → Stops r i text e
 stops_on r i text more ReadFailed h = (more ++ h.0, subst (BrokeOff r i) (append_assoc text more h.0) h.1)
 stops_on r i text more InputTooLong h = (more ++ h.0, subst (IsFront r i) (append_assoc text more h.0) h.1, subst IsPastPlaces (append_assoc text more h.0) h.2)
+
+pub stops_so : (s s' : StreamState) (r i : InputState) (text more : List ℕ) (result : Result Bool StreamFault) (e : StreamFault) → IsErr result → IsErrAnd result (λ f. f ≡ e) → Stops r i (text ++ more) e → FindsEvent s s' r i text result
+stops_so s s' r i text more (Ok b) e is same h = cc
+stops_so s s' r i text more (Err f) e is same h = stops_on r i text more f (subst (Stops r i (text ++ more)) (sym same) h)
 
 -- ---- the ends
 

@@ -1,7 +1,7 @@
 use Rattle.std.proofs.Common.{◌≡◌, ◌≤◌, ◌<◌, ◌+◌, ◌^◌, ◌++◌, length, take, false, ap, sym, subst, ◌∙◌, arith}
 use Rattle.std.proofs.lemmas.List.{length-take-le}
 use Rattle.pgn_stream.specs.Stream.{StreamState, place}
-use Rattle.pgn_stream.proofs.NextLines.{looked_through, looked_on, stops_on, found_next, found_further, none_left, never_back, falls}
+use Rattle.pgn_stream.proofs.NextLines.{looked_through, looked_on, stops_so, found_next, found_further, none_left, never_back, falls}
 use Rattle.pgn_stream.proofs.stream.PgnStream.next_event.Goals as goal
 
 pub returns-then-find_held-clause-event : goal.returns-then-find_held-clause-event
@@ -36,6 +36,5 @@ loop-self-preserved g c = (
 pub returns-in_err-refill-clause-event : goal.returns-in_err-refill-clause-event
 returns-in_err-refill-clause-event g c r text stands =
     let looked = looked_through c.args.self.now c.loop-self.self c.find_held.new.self r (g.R.Input.seen c.loop-self.input) text (c.loop-self.invariant.0 r text stands) c.if-find_held.ensures in
-    let was = c.from_residual.ensures in
-    let stopped = c.in_err-refill.ensures.held r (text ++ looked.0) looked.1 in
-    ?
+    stops_so c.args.self.now c.refill.new.self r (g.R.Input.seen c.refill.new.input) text looked.0 c.from_residual.result c.in_err-refill.field-0.0 c.from_residual.ensures.0 c.from_residual.ensures.1
+    (c.in_err-refill.ensures.held r (text ++ looked.0) looked.1)
