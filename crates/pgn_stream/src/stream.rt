@@ -294,7 +294,9 @@ impl PgnStream {
 
     // Looks in the window for the next line of a tag Event, and goes to it. Where there is none it goes to the last place
     // behind which one may yet come.
-    fn find_held(&mut self) -> bool {
+    fn find_held(&mut self) -> bool
+        ensures { FindsHeld self.old self.new result }
+    {
         match next_event(self.window(), self.at) {
             Some(next) => {
                 self.at = next;
