@@ -486,7 +486,7 @@ subs_need names =
     let not_stub : codes "stub" ≡ codes "match" → ⊥ = λ e. shorter (codes "stub") (codes "match") (lit< tt) e in (
       ((((refl, (λ f. absurd (true≢false (sym f))), (λ f. absurd (true≢false (sym f))), (λ f. absurd (true≢false (sym f))))), tt), λ rows none e. absurd (not_session e), inl refl),
       (
-        (((refl, (λ f. absurd (true≢false (sym f))), (λ f. absurd (true≢false (sym f))), (λ f. absurd (true≢false (sym f)))), ((refl, (λ f. absurd (true≢false (sym f))), (λ f. absurd (true≢false (sym f))), (λ f. absurd (true≢false (sym f)))), ((refl, (λ f. absurd (true≢false (sym f))), (λ f. absurd (true≢false (sym f))), (λ f. absurd (true≢false (sym f)))), tt))), λ rows none e. absurd (not_verify e), inr (inl refl)),
+        (((refl, (λ f. absurd (true≢false (sym f))), (λ f. absurd (true≢false (sym f))), (λ f. absurd (true≢false (sym f)))), ((refl, (λ f. absurd (true≢false (sym f))), (λ f. absurd (true≢false (sym f))), (λ f. absurd (true≢false (sym f)))), ((refl, (λ f. absurd (true≢false (sym f))), (λ f. absurd (true≢false (sym f))), (λ f. absurd (true≢false (sym f)))), ((refl, (λ f. absurd (true≢false (sym f))), (λ f. absurd (true≢false (sym f))), (λ f. absurd (true≢false (sym f)))), tt)))), λ rows none e. absurd (not_verify e), inr (inl refl)),
         (
           (((refl, (λ f. absurd (true≢false (sym f))), (λ f. absurd (true≢false (sym f))), (λ f. absurd (true≢false (sym f)))), ((refl, (λ f. absurd (true≢false (sym f))), (λ f. absurd (true≢false (sym f))), (λ f. absurd (true≢false (sym f)))), tt)), λ rows none e. absurd (not_stub e), inr (inr (inl refl))),
           (

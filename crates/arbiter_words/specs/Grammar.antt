@@ -43,10 +43,11 @@ match_app names = with_rule (with_rule (with_rule (with_rule (with_rule (with_ru
     (variant_rule names)
 
 abbrev pub verify_app : App
-verify_app = with_rule (with_rule
+verify_app = with_rule (with_rule (with_rule
     (new_app (codes "verify"))
     (flag_rule (codes "keep-going")))
-    (flag_rule (codes "quiet"))
+    (flag_rule (codes "quiet")))
+    (flag_rule (codes "any-size"))
 
 abbrev pub stub_app : App
 stub_app = with_rule (new_app (codes "stub")) (record (new_rule (codes "words")) {

@@ -55,6 +55,7 @@ abbrev pub verify_plan_of : List Row → VerifyPlan
 verify_plan_of rows = record {
   keep_going = is_set (codes "keep-going") rows;
   quiet = is_set (codes "quiet") rows;
+  any_size = is_set (codes "any-size") rows;
 }
 
 pub record IsMatchOf (rows : List Row) (m : MatchWords) : Type 0 where
@@ -159,7 +160,7 @@ pub record AskFor (words : List Text) (name : Text) : Type 0 where
 
 -- as `verify` alone verifies
 abbrev pub bare_plan : VerifyPlan
-bare_plan = record { keep_going = false; quiet = false }
+bare_plan = record { keep_going = false; quiet = false; any_size = false }
 
 -- the words tell to verify so
 abbrev pub VerifyAsBare : List Text → Type 0

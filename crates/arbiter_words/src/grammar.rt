@@ -40,9 +40,11 @@ const VERIFY_EXAMPLES: &str =
 Examples:
   arbiter verify < games.pgn
   arbiter verify --keep-going --quiet < games.pgn
+  zcat games.pgn.gz | arbiter verify --any-size --keep-going
 
 The second writes a line for each game with a fault, which it goes on behind, and last
-`games 2 half-moves 91 faults 1`: how many games have none, and how many half-moves these have.";
+`games 2 half-moves 91 faults 1`: how many games have none, and how many half-moves these have.
+The third takes a text of any length, each game of it in 16,777,216 bytes; else all of the text may have as many.";
 
 const STUB_EXAMPLES: &str =
     "Each time that the stub is to move it plays the next word: a move, `resign`, or `end`, with which it ends its output;
@@ -186,6 +188,11 @@ fn verify_command<'a>(alloc: Global) -> Result<Command<'a>, AllocError>
         alloc,
         "quiet",
         "Leaves out the lines of games without a fault",
+    ))?
+    .arg(flag(
+        alloc,
+        "any-size",
+        "Takes a text of any length; a game of it may have 16,777,216 bytes",
     ))
 }
 

@@ -33,6 +33,8 @@ pub struct VerifyPlan {
     pub keep_going: bool,
     /// Whether the lines of games without a fault are left out.
     pub quiet: bool,
+    /// Whether the text may have any length, with each game of it in 16,777,216 bytes.
+    pub any_size: bool,
 }
 
 /// What the words ask for.

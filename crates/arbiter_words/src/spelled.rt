@@ -54,6 +54,7 @@ fn verify_plan(found: &ArgMatches<'_>) -> VerifyPlan
     VerifyPlan {
         keep_going: is_set(found, "keep-going"),
         quiet: is_set(found, "quiet"),
+        any_size: is_set(found, "any-size"),
     }
 }
 

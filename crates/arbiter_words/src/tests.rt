@@ -18,17 +18,83 @@ fn plans_without_arguments(rt: HostRuntime) -> Result<(), Fail> {
 // The words of `verify` go together in any order.
 #[test]
 fn verify_by_its_words(rt: HostRuntime) -> Result<(), Fail> {
-    for (words, keep_going, quiet) in [
-        (["verify"].as_slice(), false, false),
-        (["verify", "--keep-going"].as_slice(), true, false),
-        (["verify", "--quiet"].as_slice(), false, true),
-        (["verify", "--keep-going", "--quiet"].as_slice(), true, true),
-        (["verify", "--quiet", "--keep-going"].as_slice(), true, true),
+    for (words, keep_going, quiet, any_size) in [
+        (["verify"].as_slice(), false, false, false),
+        (["verify", "--keep-going"].as_slice(), true, false, false),
+        (["verify", "--quiet"].as_slice(), false, true, false),
+        (["verify", "--any-size"].as_slice(), false, false, true),
+        (
+            ["verify", "--keep-going", "--quiet"].as_slice(),
+            true,
+            true,
+            false,
+        ),
+        (
+            ["verify", "--quiet", "--keep-going"].as_slice(),
+            true,
+            true,
+            false,
+        ),
+        (
+            ["verify", "--any-size", "--quiet"].as_slice(),
+            false,
+            true,
+            true,
+        ),
+        (
+            ["verify", "--keep-going", "--any-size"].as_slice(),
+            true,
+            false,
+            true,
+        ),
+        (
+            ["verify", "--any-size", "--keep-going", "--quiet"].as_slice(),
+            true,
+            true,
+            true,
+        ),
+        (
+            ["verify", "--any-size", "--quiet", "--keep-going"].as_slice(),
+            true,
+            true,
+            true,
+        ),
+        (
+            ["verify", "--keep-going", "--any-size", "--quiet"].as_slice(),
+            true,
+            true,
+            true,
+        ),
+        (
+            ["verify", "--quiet", "--any-size", "--keep-going"].as_slice(),
+            true,
+            true,
+            true,
+        ),
+        (
+            ["verify", "--keep-going", "--quiet", "--any-size"].as_slice(),
+            true,
+            true,
+            true,
+        ),
+        (
+            ["verify", "--quiet", "--keep-going", "--any-size"].as_slice(),
+            true,
+            true,
+            true,
+        ),
     ] {
         let Plan::Verify(plan) = read_words(rt.alloc(), words)? else {
             return Err(Fail::new("another plan"));
         };
-        assert_eq!(rt; plan, VerifyPlan { keep_going, quiet });
+        assert_eq!(rt;
+            plan,
+            VerifyPlan {
+                keep_going,
+                quiet,
+                any_size
+            }
+        );
     }
     Ok(())
 }
@@ -260,6 +326,11 @@ fn other_words_are_refused(rt: HostRuntime) -> Result<(), Fail> {
         (["verify", "--keep"].as_slice(), 2),
         (["verify", "--quiet=true"].as_slice(), 2),
         (["verify", "--quiet", "--quiet"].as_slice(), 2),
+        (["verify", "--any"].as_slice(), 2),
+        (["verify", "--any-size=true"].as_slice(), 2),
+        (["verify", "--any-size", "--any-size"].as_slice(), 2),
+        (["verify", "--any-size", "16"].as_slice(), 2),
+        (["session", "--any-size"].as_slice(), 2),
         (["session", "--quiet"].as_slice(), 2),
         (["verify", "--quiet", "--help"].as_slice(), 0),
         (["--white", "x"].as_slice(), 2),

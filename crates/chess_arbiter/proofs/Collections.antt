@@ -49,7 +49,7 @@ all_counted (Game plies end ∷ reports) = let rest = all_counted reports in ome
 all_counted (Faulty fault ∷ reports) = let rest = all_counted reports in omega (arith, rest)
 
 -- what the counts come to
-verified_is : (reports : List Report) → verified reports ≡ (if faults_in reports == 0 then EachGame else FaultTold)
+pub verified_is : (reports : List Report) → verified reports ≡ (if faults_in reports == 0 then EachGame else FaultTold)
 verified_is [] = refl
 verified_is (Game plies end ∷ reports) = verified_is reports
 verified_is (Faulty fault ∷ reports) =
@@ -67,7 +67,7 @@ game_more t plies = record { games = t.games + 1; half_moves = t.half_moves + pl
 abbrev pub fault_more : Tally → Tally
 fault_more t = record { games = t.games; half_moves = t.half_moves; faults = t.faults + 1 }
 
-tally_game : (t : Tally) (reports : List Report) (plies : ℕ) (end : PgnEnd) → IsTallyOf t reports → IsTallyOf (game_more t plies) (reports ++ Game plies end ∷ [])
+pub tally_game : (t : Tally) (reports : List Report) (plies : ℕ) (end : PgnEnd) → IsTallyOf t reports → IsTallyOf (game_more t plies) (reports ++ Game plies end ∷ [])
 tally_game t reports plies end h =
     let games = h.games in
     let half_moves = h.half_moves in
@@ -81,7 +81,7 @@ tally_game t reports plies end h =
       faults = omega (arith, faults, more_faults);
     }
 
-tally_fault : (t : Tally) (reports : List Report) (fault : PgnFault) → IsTallyOf t reports → IsTallyOf (fault_more t) (reports ++ Faulty fault ∷ [])
+pub tally_fault : (t : Tally) (reports : List Report) (fault : PgnFault) → IsTallyOf t reports → IsTallyOf (fault_more t) (reports ++ Faulty fault ∷ [])
 tally_fault t reports fault h =
     let games = h.games in
     let half_moves = h.half_moves in
@@ -119,18 +119,27 @@ next_further : (keep : Bool) (text : List ℕ) (place next : ℕ) → IsNext kee
 next_further true text place next h = h.0
 next_further false text place next h = absurd (cc)
 
-module _ (plan : VerifyPlan) (text : List ℕ) (w w' w'' : OutputState) (at : ℕ) (tally : Tally) (reports : List Report) (s : SoFar plan text w w' at tally reports) where
+-- the lines of some reports were told, and that of one more
+module _ (quiet : Bool) (w w' w'' : OutputState) (tally : Tally) (reports : List Report) (c : IsTallyOf tally reports) (t : Took w w' (lines_by quiet 1 reports)) where
   numbered : tally.games + tally.faults + 1 ≡ 1 + length reports
   numbered =
       let all = all_counted reports in
-      let games = s.counted.games in
-      let faults = s.counted.faults in
+      let games = c.games in
+      let faults = c.faults in
       omega (arith, all, games, faults)
 
+  pub line_behind : (r : Report) → Took w' w'' (told_line quiet (tally.games + tally.faults + 1) r) → Took w w'' (lines_by quiet 1 (reports ++ r ∷ []))
+  line_behind r h =
+      rw (lines_more quiet 1 reports r) (took_more w w' w'' (lines_by quiet 1 reports) (told_line quiet (1 + length reports) r) t (subst (λ n. Took w' w'' (told_line quiet n r)) numbered h))
+
+  pub broken_behind : (r : Report) → BreaksOff w' w'' (told_line quiet (tally.games + tally.faults + 1) r) → BreaksOff w w'' (lines_by quiet 1 (reports ++ r ∷ []))
+  broken_behind r h =
+      rw (lines_more quiet 1 reports r) (breaks_more w w' w'' (lines_by quiet 1 reports) (told_line quiet (1 + length reports) r) t (subst (λ n. BreaksOff w' w'' (told_line quiet n r)) numbered h))
+
+module _ (plan : VerifyPlan) (text : List ℕ) (w w' w'' : OutputState) (at : ℕ) (tally : Tally) (reports : List Report) (s : SoFar plan text w w' at tally reports) where
   -- one line more
   line_told : (r : Report) → Took w' w'' (told_line plan.quiet (tally.games + tally.faults + 1) r) → Took w w'' (lines_by plan.quiet 1 (reports ++ r ∷ []))
-  line_told r h =
-      rw (lines_more plan.quiet 1 reports r) (took_more w w' w'' (lines_by plan.quiet 1 reports) (told_line plan.quiet (1 + length reports) r) s.took (subst (λ n. Took w' w'' (told_line plan.quiet n r)) numbered h))
+  line_told = line_behind plan.quiet w w' w'' tally reports s.counted s.took
 
   -- a game more
   pub game_told : (plies : ℕ) (end : PgnEnd) → (read_at text at).answer ≡ Ok (Some end) → plies ≡ length (read_at text at).state.moves → plies ≤ 20000 → at < end.place → end.place ≤ length text
@@ -175,7 +184,7 @@ module _ (plan : VerifyPlan) (text : List ℕ) (w w' w'' : OutputState) (at : �
   broken_off r (Err e) is h failed = (
     reports ++ r ∷ [],
     s.joins First (r ∷ []) is,
-    rw (lines_more plan.quiet 1 reports r) (breaks_more w w' w'' (lines_by plan.quiet 1 reports) (told_line plan.quiet (1 + length reports) r) s.took (subst (λ n. BreaksOff w' w'' (told_line plan.quiet n r)) numbered h)),
+    broken_behind plan.quiet w w' w'' tally reports s.counted s.took r h,
   )
 
 -- the first reports may end behind any fault
@@ -199,7 +208,7 @@ fault_behind law limit text at fault within is = (subst (λ r. IfErr r (λ f. (a
 
 -- ---- the counts, and then the lines were flushed
 
-same_counts : (told : Bool) (tally : Tally) (reports : List Report) → IsTallyOf tally reports → counts_if told tally.games tally.half_moves tally.faults ≡ counts_if told (games_in reports) (half_moves_in reports) (faults_in reports)
+pub same_counts : (told : Bool) (tally : Tally) (reports : List Report) → IsTallyOf tally reports → counts_if told tally.games tally.half_moves tally.faults ≡ counts_if told (games_in reports) (half_moves_in reports) (faults_in reports)
 same_counts told tally reports h =
     ap (λ n. counts_if told n tally.half_moves tally.faults) h.games
     ∙ ap (λ n. counts_if told (games_in reports) n tally.faults) h.half_moves

@@ -5,7 +5,8 @@ use Rattle.std.specs.Io.KnownBytes.{Consumes}
 use Rattle.byte_devices.specs.Devices.{InputState, GavePiece, FailedToRead, risen}
 use Rattle.byte_devices.proofs.DeviceLaws.{consumes_more, consumes_none, consumes_kept}
 use Rattle.chess_arbiter.specs.declared.fault.ProgramFault.TheVariants.{ReadFailed, NoMemory, InputTooLong}
-use Rattle.chess_arbiter.specs.Verify.{IsFront, IsAll, IsNotHad}
+use Rattle.pgn_stream.specs.Stream.{IsFront}
+use Rattle.chess_arbiter.specs.Verify.{IsAll, IsNotHad}
 
 -- nothing was read
 pub nothing_read : (r : InputState) → IsFront r r []

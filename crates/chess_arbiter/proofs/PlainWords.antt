@@ -11,8 +11,9 @@ use Rattle.arbiter_words.specs.declared.plan.Plan.TheVariants.{Session, Verify, 
 use Rattle.byte_devices.specs.Devices.{InputState, OutputState}
 use Rattle.byte_devices.proofs.DeviceLaws.{consumes_none}
 use Rattle.chess_arbiter.specs.laws.Laws.{ServesSession, VerifiesGames}
-use Rattle.chess_arbiter.specs.Program.{IsUntouched, RanPlan, RanProgram, RanSession, RanVerify, RanVerifyIf, has_words}
-use Rattle.chess_arbiter.specs.Verify.{IsFront, LacksMemory}
+use Rattle.chess_arbiter.specs.Program.{IsUntouched, RanPlan, RanProgram, RanSession, RanVerify, RanVerifyAt, RanVerifyIf, has_words}
+use Rattle.pgn_stream.specs.Stream.{IsFront}
+use Rattle.chess_arbiter.specs.Verify.{LacksMemory}
 use Rattle.chess_arbiter.specs.declared.fault.ProgramFault.TheVariants.{NoMemory}
 
 shorter : (xs ys : Text) → length xs < length ys → xs ≡ ys → ⊥
@@ -69,10 +70,14 @@ serves named ws a (Err fault) is r r' w w' status ran = session_or_want fault r 
 without_words : VerifyIsAsSpelled → (words : List Text) (v : VerifyPlan) → VerifyAsBare words → IsReading words (Ok (Verify v)) → has_words v ≡ false
 without_words spelled ws v bare (names, are, is) = ap has_words (spelled (asked names ws) v is ∙ bare names)
 
+kept_whole : VerifyIsAsSpelled → (words : List Text) (v : VerifyPlan) → VerifyAsBare words → IsReading words (Ok (Verify v)) → v.any_size ≡ false
+kept_whole spelled ws v bare (names, are, is) = ap (λ (u : VerifyPlan). u.any_size) (spelled (asked names ws) v is ∙ bare names)
+
 verifies : PlansAreNamed → VerifyIsAsSpelled → (words : List Text) → AskFor words (codes "verify") → VerifyAsBare words → (read : Result Plan WordsFault) → IsReading words read
     → (r r' : InputState) (w w' : OutputState) (status : ℕ) → RanPlan read r r' w w' status → RanVerify r r' w w' status
 verifies named spelled ws a bare (Ok Session) is r r' w w' status ran = absurd (shorter (codes "verify") (codes "session") (lit< tt) (read_word named ws (codes "verify") Session a is))
-verifies named spelled ws a bare (Ok (Verify v)) is r r' w w' status ran = subst (λ b. RanVerifyIf b v r r' w w' status) (without_words spelled ws v bare is) ran
+verifies named spelled ws a bare (Ok (Verify v)) is r r' w w' status ran =
+    subst (λ b. RanVerifyIf b v r r' w w' status) (without_words spelled ws v bare is) (subst (λ b. RanVerifyAt b v r r' w w' status) (kept_whole spelled ws v bare is) ran)
 verifies named spelled ws a bare (Ok (Stub s)) is r r' w w' status ran = absurd (shorter (codes "stub") (codes "verify") (lit< tt) (sym (read_word named ws (codes "verify") (Stub s) a is)))
 verifies named spelled ws a bare (Ok (Match m)) is r r' w w' status ran = absurd (no_match_by_verify (read_word named ws (codes "verify") (Match m) a is))
 verifies named spelled ws a bare (Err fault) is r r' w w' status ran = verify_or_want fault r r' w w' status (refused_word ws (codes "verify") fault a no_match_by_verify is) ran

@@ -1,8 +1,8 @@
 -- What verifying by the words of `verify` tells: of the games behind a fault too, or of games with a fault alone.
-use Rattle.std.specs.Prelude.{◌≡◌, ◌<◌, ℕ, ◌+◌, ◌-◌, Bool, true, false, not, ◌&&◌, ◌==◌, if◌then◌else◌, List, [], ◌∷◌, ◌++◌, length, take, drop, slice_index, codes, decimal, Option, Some, None, Result, Ok, Err}
-use Rattle.std.specs.Str.{bytes_eq}
+use Rattle.std.specs.Prelude.{◌≡◌, ℕ, ◌+◌, Bool, true, false, not, if◌then◌else◌, List, [], ◌∷◌, ◌++◌, length, codes, decimal, Option, Some, None, Result, Ok, Err}
 use Rattle.arbiter_words.specs.declared.plan.VerifyPlan.{VerifyPlan}
 use Rattle.byte_devices.specs.Devices.{InputState, OutputState, Took, Sent, BreaksOff}
+use Rattle.pgn_stream.specs.Stream.{IsNextEvent}
 use Rattle.chess_arbiter.specs.declared.collection.Tally.{Tally}
 use Rattle.chess_arbiter.specs.declared.fault.ProgramFault.{ProgramFault}
 use Rattle.chess_arbiter.specs.declared.fault.ProgramFault.TheVariants.{ReadFailed, WriteFailed, NoMemory, InputTooLong, WrongWords}
@@ -12,15 +12,6 @@ use Rattle.chess_arbiter.specs.declared.verify.Verified.{Verified}
 use Rattle.chess_arbiter.specs.Verify.{IsAll, IsNotHad, LacksMemory, Extent, All, First, EndsAt, read_at, report_line, verified}
 
 -- ---- where the next game begins behind a fault (PGN standard of 1994, section 8.1.1: the tag Event comes first)
-
--- a line begins at the place, behind a byte 10, and it begins with `[Event `
-abbrev pub is_event_line : List ℕ → ℕ → Bool
-is_event_line text place = (slice_index text (place - 1) == 10) && bytes_eq (take 7 (drop place text)) (codes "[Event ")
-
--- the first such line that begins behind a place, if there is one
-abbrev pub IsNextEvent : List ℕ → ℕ → Option ℕ → Type 0
-IsNextEvent text place (Some next) = (place < next) × (is_event_line text next ≡ true) × ((q : ℕ) → place < q → q < next → is_event_line text q ≡ false)
-IsNextEvent text place None = (q : ℕ) → place < q → is_event_line text q ≡ false
 
 -- behind a fault at a place: there, if it is gone on behind, and else nowhere
 abbrev pub IsNext : Bool → List ℕ → ℕ → Option ℕ → Type 0

@@ -18,6 +18,7 @@ use Rattle.chess_arbiter.specs.declared.verify.Verified.{Verified}
 use Rattle.chess_arbiter.specs.declared.verify.Verified.TheVariants.{EachGame, FaultTold}
 use Rattle.arbiter_words.specs.declared.plan.MatchPlan.{MatchPlan}
 use Rattle.arbiter_words.specs.declared.plan.VerifyPlan.{VerifyPlan}
+use Rattle.chess_arbiter.specs.AnySize.{VerifiesAny}
 use Rattle.chess_arbiter.specs.Collection.{VerifiesBy}
 use Rattle.chess_arbiter.specs.Games.{RanGames}
 use Rattle.chess_arbiter.specs.declared.games.GamesFault.{GamesFault}
@@ -69,7 +70,7 @@ RanVerify r r' w w' status = (outcome : Result Verified ProgramFault) × Verifie
 abbrev pub RanVerifyBy : VerifyPlan → InputState → InputState → OutputState → OutputState → ℕ → Type 0
 RanVerifyBy plan r r' w w' status = (outcome : Result Verified ProgramFault) × VerifiesBy plan r r' w w' outcome × (status ≡ verify_status outcome)
 
--- `verify` has any of its words
+-- `verify` has any of its words on what is told
 abbrev pub has_words : VerifyPlan → Bool
 has_words plan = plan.keep_going || plan.quiet
 
@@ -77,6 +78,15 @@ has_words plan = plan.keep_going || plan.quiet
 abbrev pub RanVerifyIf : Bool → VerifyPlan → InputState → InputState → OutputState → OutputState → ℕ → Type 0
 RanVerifyIf true plan r r' w w' status = RanVerifyBy plan r r' w w' status
 RanVerifyIf false plan r r' w w' status = RanVerify r r' w w' status
+
+-- they were verified at any size
+abbrev pub RanVerifyAny : VerifyPlan → InputState → InputState → OutputState → OutputState → ℕ → Type 0
+RanVerifyAny plan r r' w w' status = (outcome : Result Verified ProgramFault) × VerifiesAny plan r r' w w' outcome × (status ≡ verify_status outcome)
+
+-- at any size, or with as many bytes as are kept as a whole
+abbrev pub RanVerifyAt : Bool → VerifyPlan → InputState → InputState → OutputState → OutputState → ℕ → Type 0
+RanVerifyAt true plan r r' w w' status = RanVerifyAny plan r r' w w' status
+RanVerifyAt false plan r r' w w' status = RanVerifyIf (has_words plan) plan r r' w w' status
 
 -- a text of help was written and flushed, or a beginning of it was written, or there was no memory for it
 abbrev pub Shown : {A : Type 0} → OutputState → OutputState → Result A ProgramFault → Type 0
@@ -122,7 +132,7 @@ RanMatch plan w w' status = (outcome : Result (Unit {0}) GamesFault) × RanGames
 -- what the words ask for was done, or was told why they ask for nothing
 abbrev pub RanPlan : Result Plan WordsFault → InputState → InputState → OutputState → OutputState → ℕ → Type 0
 RanPlan (Ok Session) r r' w w' status = RanSession r r' w w' status
-RanPlan (Ok (Verify plan)) r r' w w' status = RanVerifyIf (has_words plan) plan r r' w w' status
+RanPlan (Ok (Verify plan)) r r' w w' status = RanVerifyAt plan.any_size plan r r' w w' status
 RanPlan (Ok (Stub words)) r r' w w' status = RanStub words.items r r' w w' status
 RanPlan (Ok (Match plan)) r r' w w' status = (r' ≡ r) × RanMatch plan w w' status
 RanPlan (Err fault) r r' w w' status = (r' ≡ r) × ToldWords fault w w' status

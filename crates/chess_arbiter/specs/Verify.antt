@@ -8,6 +8,7 @@ use Rattle.chess_pgn.specs.declared.read.PgnFaultKind.TheVariants.{BadTag, BadFe
 use Rattle.chess_pgn.specs.declared.termination.Termination.{Termination}
 use Rattle.chess_pgn.specs.Terminations.{termination_text}
 use Rattle.chess_pgn.specs.GameRead.{GameRead, pgn_read}
+use Rattle.pgn_stream.specs.Stream.{IsFront, BrokeOff}
 use Rattle.chess_arbiter.specs.declared.fault.ProgramFault.{ProgramFault}
 use Rattle.chess_arbiter.specs.declared.fault.ProgramFault.TheVariants.{ReadFailed, WriteFailed, NoMemory, InputTooLong, WrongWords}
 use Rattle.chess_arbiter.specs.declared.verify.Report.{Report}
@@ -17,12 +18,6 @@ use Rattle.chess_arbiter.specs.declared.verify.Verified.TheVariants.{EachGame, F
 
 -- ---- the text
 
--- this is what was read of the input: no read failed, and its end was not told
-pub record IsFront (r r' : InputState) (text : List ℕ) : Type 0 where
-  pub bytes : Consumes r.known_bytes r'.known_bytes text
-  pub failures : r'.failure_count ≡ r.failure_count
-  pub ends : r'.end_count ≡ r.end_count
-
 -- these are all bytes that the input still had to give, and no more than 16,777,216; its end was told once
 pub record IsAll (r r' : InputState) (text : List ℕ) : Type 0 where
   pub bytes : Consumes r.known_bytes r'.known_bytes text
@@ -30,12 +25,6 @@ pub record IsAll (r r' : InputState) (text : List ℕ) : Type 0 where
   pub few : length text ≤ 16777216
   pub failures : r'.failure_count ≡ r.failure_count
   pub ends : r'.end_count ≡ risen r.end_count
-
--- a read failed behind this, and then there was no other
-pub record BrokeOff (r r' : InputState) (text : List ℕ) : Type 0 where
-  pub bytes : Consumes r.known_bytes r'.known_bytes text
-  pub failures : r'.failure_count ≡ risen r.failure_count
-  pub ends : r'.end_count ≡ r.end_count
 
 -- why the bytes of the input are not had: a read failed, or there are more than 16,777,216, or there was no memory
 abbrev pub IsNotHad : InputState → InputState → ProgramFault → Type 0

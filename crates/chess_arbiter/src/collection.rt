@@ -1,10 +1,9 @@
 //! Verifying by the words of `verify`: games behind a fault too, or those with a fault alone.
 
-ghost use Rattle.std.specs.Prelude.{◌≡◌, ◌≤◌, ◌<◌, ◌+◌, ◌^◌, ◌==◌, if◌then◌else◌, IfSome, length, take, codes};
-ghost use Rattle.std.specs.Str.{bytes_eq};
+ghost use Rattle.std.specs.Prelude.{◌≡◌, ◌≤◌, ◌<◌, ◌+◌, ◌^◌, ◌==◌, if◌then◌else◌, IfSome, length};
 ghost use Rattle.byte_devices.specs.Devices.{Puts};
 ghost use Rattle.chess_arbiter.specs.declared.verify.Verified.TheVariants.{EachGame, FaultTold};
-ghost use Rattle.chess_arbiter.specs.Collection.{is_event_line, IsNextEvent, IsNext, is_told, told_line, counts_line, counts_if, CountsEach, HandedOnBy, VerifiesBy};
+ghost use Rattle.chess_arbiter.specs.Collection.{IsNext, is_told, told_line, counts_line, counts_if, CountsEach, HandedOnBy, VerifiesBy};
 
 use crate::fault::ProgramFault;
 use crate::verify::{
@@ -15,6 +14,7 @@ use byte_devices::{Input, Output, WriteFault, put};
 use chess_bits::Bits;
 use chess_game::Game;
 use chess_pgn::{faults_have_places, read_pgn};
+use pgn_stream::next_event;
 use std::alloc::Global;
 
 /// What was counted.
@@ -30,7 +30,7 @@ pub(crate) struct Tally {
 
 impl Tally {
     // Nothing yet.
-    fn none() -> Self
+    pub(crate) fn none() -> Self
         ensures { result ≡ record { games = 0; half_moves = 0; faults = 0 } }
     {
         Tally {
@@ -41,7 +41,7 @@ impl Tally {
     }
 
     // And a game with so many half-moves.
-    fn with_game(self, plies: usize) -> Self
+    pub(crate) fn with_game(self, plies: usize) -> Self
         requires games { self.games + 1 < 2 ^ 64 }
         requires half_moves { self.half_moves + plies < 2 ^ 64 }
         ensures { result ≡ record { games = self.games + 1; half_moves = self.half_moves + plies; faults = self.faults } }
@@ -54,7 +54,7 @@ impl Tally {
     }
 
     // And a fault.
-    fn with_fault(self) -> Self
+    pub(crate) fn with_fault(self) -> Self
         requires { self.faults + 1 < 2 ^ 64 }
         ensures { result ≡ record { games = self.games; half_moves = self.half_moves; faults = self.faults + 1 } }
     {
@@ -63,37 +63,6 @@ impl Tally {
             ..self
         }
     }
-}
-
-// Whether a text begins as the line of a tag Event.
-fn begins_event(text: &[u8]) -> bool
-    ensures { result ≡ bytes_eq (take 7 text.now) (codes "[Event ") }
-{
-    text.starts_with(b"[Event ")
-}
-
-// Whether a line begins at the place, and as that of a tag Event.
-fn is_event_line(text: &[u8], place: usize) -> bool
-    requires some { 0 < place }
-    requires within { place ≤ length text.now }
-    ensures { result ≡ is_event_line text.now place }
-{
-    text[place - 1] == b'\n' && begins_event(&text[place..])
-}
-
-// Where the first such line behind a place begins.
-fn next_event(text: &[u8], place: usize) -> Option<usize>
-    ensures first { IsNextEvent text.now place result }
-    ensures within { IfSome result (λ next. next ≤ length text.now) }
-{
-    let mut next = place;
-    while next < text.len() {
-        next += 1;
-        if is_event_line(text, next) {
-            return Some(next);
-        }
-    }
-    None
 }
 
 // Where the next game begins behind a fault at a place.
@@ -119,7 +88,7 @@ fn is_told(quiet: bool, report: &Report) -> bool
 }
 
 // Writes the line of the game with that number, if it is told.
-fn tell_line<W: Output>(
+pub(crate) fn tell_line<W: Output>(
     quiet: bool,
     output: &mut W,
     number: usize,
@@ -188,7 +157,11 @@ fn count_each<W: Output>(
 }
 
 // Writes the line of the counts, where they are told.
-fn tell_counts<W: Output>(told: bool, output: &mut W, tally: Tally) -> Result<(), WriteFault>
+pub(crate) fn tell_counts<W: Output>(
+    told: bool,
+    output: &mut W,
+    tally: Tally,
+) -> Result<(), WriteFault>
     ensures { Puts (W.seen output.old) (W.seen output.new) result (counts_if told tally.games tally.half_moves tally.faults) }
 {
     if told {
@@ -198,7 +171,7 @@ fn tell_counts<W: Output>(told: bool, output: &mut W, tally: Tally) -> Result<()
 }
 
 // What the counts come to.
-fn verified_by(tally: Tally) -> Verified
+pub(crate) fn verified_by(tally: Tally) -> Verified
     ensures { result ≡ (if tally.faults == 0 then EachGame else FaultTold) }
 {
     if tally.faults == 0 {

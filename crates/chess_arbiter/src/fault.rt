@@ -20,7 +20,7 @@ pub enum ProgramFault {
     /// There was no memory.
     #[error("no memory")]
     NoMemory,
-    /// The text of games is longer than 16,777,216 bytes.
+    /// The text of games is longer than 16,777,216 bytes, or where any size is taken, than places with 64 bits can tell.
     #[error("input too long")]
     InputTooLong,
     /// The program's words are not those of any of its forms.

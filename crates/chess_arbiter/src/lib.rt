@@ -1,6 +1,7 @@
 //! The arbiter as a program: what its words ask for, on an input, an output and an error output.
 #![tactic(auto)]
 
+mod any_size;
 mod collection;
 mod engine;
 mod fault;

@@ -4,8 +4,9 @@ ghost use Rattle.std.specs.Prelude.{◌≡◌, IfOk, Ok, map};
 ghost use Rattle.byte_devices.specs.Devices.{Sends};
 ghost use Rattle.chess_cecp.specs.Held.{opened};
 ghost use Rattle.chess_pgn.specs.Tags.{default_tags};
-ghost use Rattle.chess_arbiter.specs.Program.{Served, Shown, RanHelp, RanMatch, RanProgram, RanSession, RanStub, RanVerify, RanVerifyBy, RanVerifyIf, ToldWords, has_words, verify_status};
+ghost use Rattle.chess_arbiter.specs.Program.{Served, Shown, RanHelp, RanMatch, RanProgram, RanSession, RanStub, RanVerify, RanVerifyAny, RanVerifyAt, RanVerifyBy, RanVerifyIf, ToldWords, has_words, verify_status};
 
+use crate::any_size::verify_any_size;
 use crate::collection::verify_by;
 use crate::fault::{ProgramFault, tell_text, told};
 use crate::games::play_games;
@@ -108,7 +109,7 @@ fn verified_by<R: Input, W: Output, E: Output>(
     }
 }
 
-// Whether `verify` has any of its words.
+// Whether `verify` has any of its words on what is told.
 fn has_words(plan: VerifyPlan) -> bool
     ensures { result ≡ has_words plan }
 {
@@ -129,6 +130,39 @@ fn verified_if<R: Input, W: Output, E: Output>(
         verified_by(alloc, plan, input, output, errors)
     } else {
         verified(alloc, input, output, errors)
+    }
+}
+
+// The games of an input of any size verified, with the status.
+fn verified_any<R: Input, W: Output, E: Output>(
+    alloc: Global,
+    plan: VerifyPlan,
+    input: &mut R,
+    output: &mut W,
+    errors: &mut E,
+) -> u8
+    ensures { RanVerifyAny plan (R.seen input.old) (R.seen input.new) (W.seen output.old) (W.seen output.new) result }
+{
+    match verify_any_size(alloc, plan, input, output) {
+        Ok(verified) => verified_status(verified),
+        Err(fault) => told(errors, &fault, fault.status()),
+    }
+}
+
+// The games of the input verified, of any size or kept as a whole.
+fn verified_at<R: Input, W: Output, E: Output>(
+    alloc: Global,
+    plan: VerifyPlan,
+    input: &mut R,
+    output: &mut W,
+    errors: &mut E,
+) -> u8
+    ensures { RanVerifyAt plan.any_size plan (R.seen input.old) (R.seen input.new) (W.seen output.old) (W.seen output.new) result }
+{
+    if plan.any_size {
+        verified_any(alloc, plan, input, output, errors)
+    } else {
+        verified_if(alloc, plan, input, output, errors)
     }
 }
 
@@ -245,7 +279,7 @@ pub fn run_program<'a, P: Processes + Clock, R: Input, W: Output, E: Output>(
     };
     match plan {
         Plan::Session => session(alloc, input, output, errors),
-        Plan::Verify(plan) => verified_if(alloc, plan, input, output, errors),
+        Plan::Verify(plan) => verified_at(alloc, plan, input, output, errors),
         Plan::Stub(words) => stubbed(words.as_slice(), input, output, errors),
         Plan::Match(plan) => matched(rt, alloc, &plan, output, errors),
     }

@@ -16,7 +16,7 @@ struct Case {
     status: u8,
 }
 
-const CASES: [Case; 18] = [
+const CASES: [Case; 22] = [
     Case {
         words: &[],
         input: b"new\ne2e4\nping 7\nundo\nshowfen\nquit\nshowfen\n",
@@ -153,6 +153,39 @@ const CASES: [Case; 18] = [
         fails: (2, 0),
         output: b"",
         errors: b"arbiter: read failed\n",
+        status: 1,
+    },
+    Case {
+        words: &["verify", "--any-size"],
+        input: b"1. e4 *",
+        fails: (2, 0),
+        output: b"",
+        errors: b"arbiter: read failed\n",
+        status: 1,
+    },
+    Case {
+        words: &["verify", "--any-size"],
+        input: b"* *",
+        fails: (0, 2),
+        output: b"game 1: 0 half-moves, *\n",
+        errors: b"arbiter: write failed\n",
+        status: 1,
+    },
+    // The line of a fault, and the flush behind the counts.
+    Case {
+        words: &["verify", "--any-size", "--quiet"],
+        input: b"1. e5 *",
+        fails: (0, 1),
+        output: b"",
+        errors: b"arbiter: write failed\n",
+        status: 1,
+    },
+    Case {
+        words: &["verify", "--any-size", "--keep-going"],
+        input: b"1. e4 *",
+        fails: (0, 3),
+        output: b"game 1: 1 half-moves, *\ngames 1 half-moves 1 faults 0\n",
+        errors: b"arbiter: write failed\n",
         status: 1,
     },
     // The flush of the first answer.
@@ -426,6 +459,151 @@ fn games_verified_by_words(rt: HostRuntime) {
     }
 }
 
+// With `--any-size` the lines are the same, wherever it stands among the words.
+#[test]
+fn games_of_any_size_by_words(rt: HostRuntime) -> Result<(), Fail> {
+    for (words, text, told, status) in &BY_WORDS {
+        for place in 1..=words.len() {
+            let (front, back) = words.split_at_checked(place).ok_or("a place")?;
+            let mut more = Vec::new(rt.alloc());
+            more.extend_from_slice(front)?;
+            more.push("--any-size")?;
+            more.extend_from_slice(back)?;
+            for cut in [1, 7, 100] {
+                let mut input = Counted::reading(PieceReader::new(text, cut, 0));
+                let mut output = Counted::writing(Vec::<u8>::new(rt.alloc()));
+                let mut errors = Counted::writing(Vec::<u8>::new(rt.alloc()));
+                let ended = run_program(
+                    &rt,
+                    rt.alloc(),
+                    more.as_slice(),
+                    &mut input,
+                    &mut output,
+                    &mut errors,
+                );
+                assert_eq!(rt; output.writer().as_slice(), *told);
+                assert_eq!(rt; errors.writer().as_slice(), b"".as_slice());
+                assert_eq!(rt; ended, *status);
+            }
+        }
+    }
+    Ok(())
+}
+
+// And so they are where no other word stands beside it.
+#[test]
+fn games_of_any_size(rt: HostRuntime) {
+    for (text, told, wanted) in &GAMES {
+        let mut input = Counted::reading(PieceReader::new(text, 1, 0));
+        let mut output = Counted::writing(PieceWriter::new(rt.alloc(), 5, 0));
+        let mut errors = Counted::writing(PieceWriter::new(rt.alloc(), 100, 0));
+        let status = run_program(
+            &rt,
+            rt.alloc(),
+            &["verify", "--any-size"],
+            &mut input,
+            &mut output,
+            &mut errors,
+        );
+        assert_eq!(rt; output.writer().bytes.as_slice(), *told);
+        assert_eq!(rt; errors.writer().bytes.as_slice(), b"".as_slice());
+        assert_eq!(rt; status, *wanted);
+    }
+}
+
+// A comment of many bytes `a` between two texts.
+#[derive(Drop)]
+struct LongComment {
+    front: &'static [u8],
+    inner: usize,
+    back: &'static [u8],
+}
+
+// Puts the beginning of a text into the front of `buf`, as much as has room there, and takes it off the text.
+fn give(text: &mut &'static [u8], buf: &mut [u8]) -> usize {
+    let count = text.len().min(buf.len());
+    let (piece, rest) = text.split_at(count);
+    buf[..count].copy_from_slice(piece);
+    *text = rest;
+    count
+}
+
+impl Read for LongComment {
+    ghost use Rattle.std.specs.Prelude.{None};
+
+    ghost remaining = { λ b. None };
+
+    fn read(&mut self, buf: &mut [u8]) -> io::Result<usize> {
+        if !self.front.is_empty() {
+            return Ok(give(&mut self.front, buf));
+        }
+        let count = self.inner.min(buf.len());
+        if count == 0 {
+            return Ok(give(&mut self.back, buf));
+        }
+        buf[..count].fill(b'a');
+        self.inner -= count;
+        Ok(count)
+    }
+}
+
+// Games with a long comment: words, the text before it, its bytes, the text behind it, what is told, and the status.
+const LONG: [(&[&str], &[u8], usize, &[u8], &[u8], u8); 5] = [
+    // The first game has 16,777,216 bytes.
+    (
+        &["verify", "--any-size"],
+        b"{",
+        16_777_212,
+        b"} *\n1. e4 *",
+        b"game 1: 0 half-moves, *\ngame 2: 1 half-moves, *\n",
+        0,
+    ),
+    // It has one more.
+    (
+        &["verify", "--any-size"],
+        b"{",
+        16_777_213,
+        b"} *\n1. e4 *",
+        b"game 1: too long at byte 0\n",
+        1,
+    ),
+    // Its bytes and the blanks before it are counted from where the game before it ended; its place is its own first byte.
+    (
+        &["verify", "--any-size", "--keep-going"],
+        b"1. e4 *\n\n[Event \"x\"]\n{",
+        16_777_210,
+        b"} *\n\n[Event \"y\"]\n1. d4 d5 *",
+        b"game 1: 1 half-moves, *\ngame 2: too long at byte 9\ngame 3: 2 half-moves, *\ngames 2 half-moves 3 faults 1\n",
+        1,
+    ),
+    // The second game's place is behind the window's bytes.
+    (
+        &["verify", "--any-size"],
+        b"1. e4 * {",
+        16_777_200,
+        b"} * 1. e4 e4 *",
+        b"game 1: 1 half-moves, *\ngame 2: 0 half-moves, *\ngame 3: illegal move at byte 16777219\n",
+        1,
+    ),
+    (&["verify"], b"{", 16_777_212, b"} *\n1. e4 *", b"", 1),
+];
+
+#[test]
+fn games_with_long_comments(rt: HostRuntime) {
+    for (words, front, inner, back, told, status) in &LONG {
+        let mut input = Counted::reading(LongComment {
+            front,
+            inner: *inner,
+            back,
+        });
+        let mut output = Counted::writing(Vec::<u8>::new(rt.alloc()));
+        let mut errors = Counted::writing(Vec::<u8>::new(rt.alloc()));
+        let ended = run_program(&rt, rt.alloc(), words, &mut input, &mut output, &mut errors);
+        assert_eq!(rt; output.writer().as_slice(), *told);
+        assert_eq!(rt; ended, *status);
+    }
+}
+
 // Words that ask for help, and what their help must name.
 const HELP: [(&[&str], &[&str]); 3] = [
     (&["--help"], &["session", "verify", "--help", "--version"]),
@@ -450,7 +628,14 @@ const HELP: [(&[&str], &[&str]); 3] = [
     ),
     (
         &["verify", "--help"],
-        &["games.pgn", "at byte", "--keep-going --quiet", "faults 1"],
+        &[
+            "games.pgn",
+            "at byte",
+            "--keep-going --quiet",
+            "faults 1",
+            "--any-size",
+            "16,777,216 bytes",
+        ],
     ),
 ];
 

@@ -5,7 +5,7 @@ use Rattle.std.specs.Str.{bytes_eq}
 use Rattle.std.proofs.lemmas.Bool.{ltb-true}
 use Rattle.std.proofs.lemmas.Bool.Decides.{nat_tests}
 use Rattle.std.proofs.lemmas.List.{drop_all}
-use Rattle.chess_arbiter.specs.Collection.{is_event_line, IsNextEvent}
+use Rattle.pgn_stream.specs.Stream.{is_event_line, IsNextEvent}
 
 -- none begins behind a place and up to another
 abbrev pub NoneUpTo : List ℕ → ℕ → ℕ → Type 0

@@ -1,7 +1,7 @@
 use Rattle.std.proofs.Common.{◌≡◌, ◌∙◌, ◌+◌, false, sym, arith}
-use Rattle.chess_arbiter.specs.Collection.{is_event_line}
-use Rattle.chess_arbiter.proofs.EventLines.{one_further}
-use Rattle.chess_arbiter.proofs.collection.next_event.Goals as goal
+use Rattle.pgn_stream.specs.Stream.{is_event_line}
+use Rattle.pgn_stream.proofs.EventLines.{one_further}
+use Rattle.pgn_stream.proofs.events.next_event.Goals as goal
 
 pub loop-next-preserved : goal.loop-next-preserved
 loop-next-preserved c =

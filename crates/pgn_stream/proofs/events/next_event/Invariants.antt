@@ -1,6 +1,6 @@
 use Rattle.std.proofs.Common.{◌≡◌, ◌≤◌, ◌<◌, ◌-◌, ℕ, false, length}
-use Rattle.chess_arbiter.specs.Collection.{is_event_line}
-use Rattle.chess_arbiter.proofs.collection.next_event.Given as goal
+use Rattle.pgn_stream.specs.Stream.{is_event_line}
+use Rattle.pgn_stream.proofs.events.next_event.Given as goal
 
 -- no such line begins behind the place and up to here
 abbrev pub invariant-loop-next : goal.invariant-loop-next

@@ -1,0 +1,9 @@
+//! Games of a text of any length, read from an input through one window.
+#![tactic(auto)]
+
+mod events;
+mod laws;
+mod stream;
+
+pub use events::next_event;
+pub use stream::{PgnStream, StreamFault};
