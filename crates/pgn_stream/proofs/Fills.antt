@@ -6,7 +6,7 @@ use Rattle.std.proofs.lemmas.List.{length-append, length-drop, drop-append-le, d
 use Rattle.byte_devices.specs.Devices.{InputState, GavePiece, FailedToRead, risen}
 use Rattle.byte_devices.proofs.DeviceLaws.{consumes_more, consumes_none, consumes_kept}
 use Rattle.pgn_stream.specs.Stream.{StreamState, IsFront, IsWhole, BrokeOff, HasRead, IsWholeOf, StandsAt, GoesOn}
-use Rattle.pgn_stream.specs.Held.{Adds, Fills, IsSlid, is_full}
+use Rattle.pgn_stream.specs.ties.Held.{Adds, Fills, IsSlid, is_full}
 
 -- ---- the input
 

@@ -8,7 +8,7 @@ use Rattle.chess_pgn.specs.declared.read.PgnFault.{PgnFault}
 use Rattle.chess_pgn.specs.GameRead.{pgn_read}
 use Rattle.chess_pgn.specs.Local.{moved_answer}
 use Rattle.pgn_stream.specs.Stream.{StreamState, place, HasRead, IsWholeOf, StandsAt, GoesOn, IsTold}
-use Rattle.pgn_stream.specs.Held.{IsSound, is_full, is_held, held_answer, too_long, place_behind, WindowsTell}
+use Rattle.pgn_stream.specs.ties.Held.{IsSound, is_full, is_held, held_answer, too_long, place_behind, WindowsTell}
 
 -- ---- what is told
 

@@ -12,7 +12,7 @@ use Rattle.byte_devices.specs.Devices.{InputState}
 use Rattle.pgn_stream.specs.declared.stream.StreamFault.{StreamFault}
 use Rattle.pgn_stream.specs.declared.stream.StreamFault.TheVariants.{ReadFailed, InputTooLong}
 use Rattle.pgn_stream.specs.Stream.{StreamState, place, IsWholeOf, StandsAt, GoesOn, Stops, IsFront, BrokeOff, IsPastPlaces, FindsEvent, is_event_line, IsNextEvent}
-use Rattle.pgn_stream.specs.Held.{IsSound, FindsHeld, is_full}
+use Rattle.pgn_stream.specs.ties.Held.{IsSound, FindsHeld, is_full}
 
 -- ---- lines of lists
 

@@ -10,7 +10,7 @@ use Rattle.chess_pgn.specs.declared.read.PgnFault.{PgnFault}
 use Rattle.chess_pgn.specs.GameRead.{pgn_read}
 use Rattle.chess_pgn.specs.Local.{is_settled}
 use Rattle.pgn_stream.specs.Stream.{StreamState}
-use Rattle.pgn_stream.specs.Held.{is_full, is_held, is_told_by, held_answer}
+use Rattle.pgn_stream.specs.ties.Held.{is_full, is_held, is_told_by, held_answer}
 
 -- ---- a piece
 

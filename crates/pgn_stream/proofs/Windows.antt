@@ -12,7 +12,7 @@ use Rattle.chess_pgn.specs.GameRead.{GameRead, pgn_read}
 use Rattle.chess_pgn.specs.Local.{is_settled, moved, moved_answer, ReadingIsLocal, SettledStays, ReadingIsMoved, SettledIsMoved}
 use Rattle.chess_pgn.specs.Tokens.{is_blank}
 use Rattle.pgn_stream.specs.Stream.{StreamState, IsWholeOf, place, first_bytes, is_in_reach, game_begin, game_at}
-use Rattle.pgn_stream.specs.Held.{IsSound, is_full, is_held, held_answer, too_long, WindowsTell}
+use Rattle.pgn_stream.specs.ties.Held.{IsSound, is_full, is_held, held_answer, too_long, WindowsTell}
 
 answer_stays : (r : Result (Option PgnEnd) PgnFault) → moved_answer 0 r ≡ r
 answer_stays (Ok None) = refl

@@ -1,2 +1,2 @@
 pub mod Stream
-pub mod Held
+pub mod ties

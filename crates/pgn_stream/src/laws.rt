@@ -1,6 +1,6 @@
 //! The law by which a window tells of games.
 
-ghost use Rattle.pgn_stream.specs.Held.{WindowsTell};
+ghost use Rattle.pgn_stream.specs.ties.Held.{WindowsTell};
 
 use chess_pgn::{reading_is_local, reading_is_moved, settled_is_moved};
 

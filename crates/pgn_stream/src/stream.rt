@@ -8,7 +8,7 @@ ghost use Rattle.chess_pgn.specs.GameRead.{pgn_read};
 ghost use Rattle.chess_pgn.specs.Local.{moved_answer};
 ghost use Rattle.chess_pgn.specs.Tokens.{is_blank};
 ghost use Rattle.pgn_stream.specs.Stream.{unread, place, StandsAt, ReadsGame, StandsBehind, FindsEvent, StandsFurther};
-ghost use Rattle.pgn_stream.specs.Held.{Slides, AddsPiece, is_full, Fills, Refills, is_told_by, is_held, held_answer, too_long, place_behind, IsPlaced, IsSound, FindsHeld};
+ghost use Rattle.pgn_stream.specs.ties.Held.{Slides, AddsPiece, is_full, Fills, Refills, is_told_by, is_held, held_answer, too_long, place_behind, IsPlaced, IsSound, FindsHeld};
 
 use crate::events::next_event;
 use crate::laws::windows_tell;
@@ -128,7 +128,7 @@ impl PgnStream {
     }
 
     // Whether no more bytes are needed for what is told of the game, or none are left.
-    #[tactic(auto, unfolding(crate::specs::Held::is_full))]
+    #[tactic(auto, unfolding(crate::specs::ties::Held::is_full))]
     fn is_full(&self) -> bool
         ensures { result ≡ is_full self.now }
     {

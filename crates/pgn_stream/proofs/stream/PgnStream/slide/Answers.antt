@@ -1,7 +1,7 @@
 use Rattle.std.proofs.Common.{◌≡◌, ◌≤◌, ◌<◌, ◌+◌, ◌-◌, length, take, drop, refl, sym, ap, subst, ◌∙◌, arith}
 use Rattle.std.proofs.lemmas.List.{length-take-le}
 use Rattle.pgn_stream.specs.Stream.{StreamState}
-use Rattle.pgn_stream.specs.Held.{IsSlid}
+use Rattle.pgn_stream.specs.ties.Held.{IsSlid}
 use Rattle.pgn_stream.proofs.Steps.{slid}
 use Rattle.pgn_stream.proofs.stream.PgnStream.slide.Goals as goal
 
