@@ -1,3 +1,4 @@
+-- Spaces before a field don't count; if any text is left behind them, it up to the next space is the field (Splits).
 use Rattle.std.proofs.Common.{arith, ◌<◌, ◌≡◌, length}
 use Rattle.std.proofs.lemmas.Bool.Decides.{nat_tests}
 use Rattle.chess_base.proofs.Splits.{next_fields, no_fields}

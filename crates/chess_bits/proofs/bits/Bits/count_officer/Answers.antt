@@ -1,3 +1,4 @@
+-- A free man leaves his king safe wherever he goes, so he has one legal move for each of his squares (officer_counted).
 use Rattle.std.proofs.Common.{◌<◌, subst, ◌∙◌}
 use Rattle.chess_base.specs.Sound.{IsSound}
 use Rattle.chess_bits.proofs.KindsCounted.{officer_counted}

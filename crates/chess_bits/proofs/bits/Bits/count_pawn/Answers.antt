@@ -1,3 +1,4 @@
+-- A free pawn that neither promotes nor takes en passant has one legal move for each of its squares (pawn_counted).
 use Rattle.std.proofs.Common.{◌<◌, sym, subst, ◌∙◌}
 use Rattle.chess_base.specs.Sound.{IsSound}
 use Rattle.chess_bits.proofs.KindsCounted.{pawn_counted}
