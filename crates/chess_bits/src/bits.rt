@@ -115,6 +115,7 @@ impl Board for Bits {
     }
 
     fn is_legal(&self, m: &Move) -> bool {
+        // The prover wants this fact: the number of the end is below 64.
         let _end = m.to.number();
         if !self.targets(m.from).contains(m.to) {
             return false;

@@ -87,6 +87,7 @@ impl Bits {
         requires none { m.now.promotion ≡ None }
         ensures { result ≡ is_legal self.now m.now }
     {
+        // The prover wants these facts: the position is sound, and the number of the end is below 64.
         let _sound = self.setup();
         let _end = m.to.number();
         if !self.castles(castle) {

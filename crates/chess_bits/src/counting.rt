@@ -90,6 +90,7 @@ impl Bits {
         requires few { length (moves_from self.now king) ≤ 896 }
         ensures { result ≡ length (moves_from self.now king) }
     {
+        // The prover wants these facts: the number of the king's square is below 64, and the position is sound.
         let _start = king.number();
         let _sound = self.setup();
         let mut count = self.castling_ends(king).len();
@@ -107,6 +108,7 @@ impl Bits {
         match self.setup.target {
             None => false,
             Some(target) => {
+                // The prover wants this fact: the target's number is below 64.
                 let _end = target.number();
                 let aims = self.tables.at(Shape::Pawn(self.setup.side), from);
                 aims.contains(target)
@@ -136,10 +138,12 @@ impl Bits {
         requires few { length (moves_from self.now from) ≤ 896 }
         ensures { result ≡ length (moves_from self.now from) }
     {
+        // The prover wants this fact: the start's number is below 64.
         let _start = from.number();
         if self.is_unusual_pawn(from) {
             return self.count_from(from);
         }
+        // The prover wants this fact: the king stands on one square alone.
         let _king = self.king(self.setup.side);
         self.pawn_targets(from).len()
     }
@@ -166,6 +170,7 @@ impl Bits {
         requires free { IsFree self.now from }
         ensures { result ≡ length (moves_from self.now from) }
     {
+        // The prover wants these facts: the start's number is below 64, and the king stands on one square alone.
         let _start = from.number();
         let _king = self.king(self.setup.side);
         self.steps(kind, from).len()
@@ -236,6 +241,7 @@ impl Bits {
     pub(crate) fn count(&self) -> usize
         ensures { result ≡ length (moves self.now) }
     {
+        // The prover wants this fact: the position is sound, so its legal moves fit into a list.
         let _sound = self.setup();
         let free = self.free_men();
         let mut men = self.sets.all(self.setup.side);
@@ -322,6 +328,7 @@ impl Bits {
     fn has_usual_move(&self) -> bool
         ensures { result ≡ true → nat_lt 0 (length (moves self.now)) ≡ true }
     {
+        // The prover wants this fact: the position is sound, so its legal moves fit into a list.
         let _sound = self.setup();
         let men = self.sets.of(self.setup.side);
         let free = self.men_off_lines();

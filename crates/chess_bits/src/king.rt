@@ -51,6 +51,7 @@ impl Bits {
         ensures there { is_man (self.now).side King (man_at (men_after self.now m.now) result) ≡ true }
         ensures in_range { result < 64 }
     {
+        // The prover wants this fact: the number of the square where the mover arrives is below 64.
         let _end = steps.to.number();
         if is_man(self.setup.side, Kind::King, steps.mover) {
             steps.to
@@ -65,6 +66,7 @@ impl Bits {
         requires step { man_moves self.now (triple king to None) ≡ true }
         ensures { result ≡ is_legal self.now (triple king to None) }
     {
+        // The prover wants these facts: the numbers of both squares are below 64.
         let _start = king.number();
         let _end = to.number();
         let by = self.setup.side.other();

@@ -91,6 +91,7 @@ impl Bits {
         requires room { array_vec_len list.old + length (moves_from self.now from) ≤ 896 }
         ensures { list.new.items ≡ list.old.items ++ moves_from self.now from }
     {
+        // The prover wants these facts: the start's number is below 64, and the king stands on one square alone.
         let _start = from.number();
         let _king = self.king(self.setup.side);
         let mut targets = self.targets(from);
@@ -122,6 +123,7 @@ impl Bits {
         requires room { array_vec_len list.old + length (moves_from self.now from) ≤ 896 }
         ensures { list.new.items ≡ list.old.items ++ moves_from self.now from }
     {
+        // The prover wants this fact: the start's number is below 64.
         let _start = from.number();
         if free.contains(from) {
             self.add_free_moves(from, list);

@@ -119,6 +119,7 @@ impl Sets {
     pub fn write(&mut self, square: Square, old: Option<Man>, new: Option<Man>)
         ensures { (men : Men) → length men ≡ 64 → man_at men square ≡ old → IsSets self.old men → IsSets self.new (slice_set men square new) }
     {
+        // The prover wants this fact: the square's number is below 64.
         let _bound = square.number();
         self.clear(square, old);
         self.fill(square, new);

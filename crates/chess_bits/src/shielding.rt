@@ -42,6 +42,7 @@ impl Bits {
     fn diagonal_shields(&self, king: Square) -> SquareSet
         ensures { (a : ℕ) → a < 64 → is_of (self.now).side (man_at (self.now).men a) ≡ true → has result a ≡ false → OpensNoDiagonal self.now a king }
     {
+        // The prover wants this fact: the number of the king's square is below 64.
         let _king = king.number();
         let side = self.setup.side;
         let men = self.sets.of(side.other());

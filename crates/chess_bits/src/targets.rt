@@ -85,6 +85,7 @@ impl Bits {
         requires none { m.now.promotion ≡ None }
         ensures { result ≡ castle_of self.now m.now }
     {
+        // The prover wants this fact: the start's number is below 64.
         let _start = m.from.number();
         let side = self.setup.side;
         if !is_man(side, Kind::King, self.setup.men[m.from.index()]) {
@@ -165,6 +166,7 @@ impl Bits {
         requires { is_man (self.now).side Pawn (man_at (self.now).men from) ≡ true }
         ensures { (k : ℕ) → k < 64 → has result k ≡ pawn_advances self.now (triple from k None) }
     {
+        // The prover wants this fact: the start's number is below 64.
         let _start = from.number();
         let side = self.setup.side;
         let Some(next) = ahead(side, from) else {
@@ -226,6 +228,7 @@ impl Bits {
         ensures sound { (k : ℕ) → k < 64 → has result k ≡ true → goes self.now from k ≡ true }
         ensures complete { (m : Move) → is_legal self.now m ≡ true → m.from ≡ from → has result m.to ≡ true }
     {
+        // The prover wants this fact: the start's number is below 64.
         let _start = from.number();
         let man = self.setup.men[from.index()];
         if !is_of(self.setup.side, man) {

@@ -100,6 +100,7 @@ fn repetitions(start: &Known, places: &[Place]) -> usize
     ensures value { result ≡ rep start.now.position (moves_of places.now) }
     ensures few { result ≤ length places.now + 1 }
 {
+    // The prover wants this law: the reserve of the men falls with each capture and pawn move, and never grows.
     reserve_never_grows();
     let now = present(start, places);
     let mut count = 0;
@@ -218,6 +219,7 @@ impl<B: Board> Game<B> {
         if self.is_full() {
             return Err(PlayRefusal::TooLong);
         }
+        // The prover wants two variables here: one move is lent, and one is given away.
         let judged = m;
         if !self.board.is_legal(&judged) {
             return Err(PlayRefusal::Illegal);
@@ -231,6 +233,7 @@ impl<B: Board> Game<B> {
         requires { play_refusal self.old m ≡ None }
         ensures { self.new ≡ after_play self.old m None }
     {
+        // The prover wants two variables here: one move is given to the board, and one is kept.
         let made = m;
         let saved = self.board.make(made);
         let place = Place {
@@ -263,6 +266,7 @@ impl<B: Board> Game<B> {
         match self.places.pop() {
             None => Err(NoMove),
             Some(place) => {
+                // The prover wants two variables here: one move is given to the board, and one is told.
                 let made = place.made;
                 self.board.take_back(made, place.saved);
                 self.verdict = None;
@@ -315,6 +319,7 @@ impl<B: Board> Game<B> {
         ensures value { result ≡ current self.now.state }
         ensures playable { IsPlayable self.now }
     {
+        // The prover wants this fact: the start is sound, as the start of a playable game is.
         let _sound = self.start.position.setup();
         self.board.position()
     }

@@ -85,6 +85,7 @@ fn is_captured_on<B: Board>(board: &B, target: Square) -> bool
     requires { (B.position board.now).target ≡ Some target }
     ensures { result ≡ list_any (λ m. is_en_passant (B.position board.now) m) (moves (B.position board.now)) }
 {
+    // The prover wants this fact: the position is sound, so its target is a square that a double advance crossed.
     let _sound = board.setup();
     let mut rest = board.origins(Kind::Pawn, target);
     while let Some(from) = rest.take_first() {

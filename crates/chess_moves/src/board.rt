@@ -87,6 +87,7 @@ pub fn make_then_take_back<B: Board>(board: &mut B, m: Move) -> Position
     ensures between { result ≡ after (B.position board.old) m }
     ensures back { B.position board.new ≡ B.position board.old }
 {
+    // The prover wants two variables here: each of the two calls is given a move.
     let again = m;
     let saved = board.make(m);
     let between = board.position();

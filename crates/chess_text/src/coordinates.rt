@@ -45,6 +45,7 @@ pub fn move_text(position: &Position, m: Move) -> CoordinateText
     ensures text { result.items ≡ shown_move position.now m }
     ensures len { array_vec_len result ≤ 5 }
 {
+    // The prover wants two variables here: one move is lent, and one is given away.
     let again = m;
     match position.variant() {
         Variant::Normal => coordinate(again),
@@ -61,6 +62,7 @@ pub fn coordinate(m: Move) -> CoordinateText
     ensures text { result.items ≡ coordinate m }
     ensures len { array_vec_len result ≤ 5 }
 {
+    // The prover wants the move lent here, since its squares are read more than once.
     let m = &m;
     let mut text = CoordinateText::new();
     text.push(b'a' + m.from.file());

@@ -199,6 +199,7 @@ pub fn san<B: Board>(board: &mut B, m: Move) -> SanText
     ensures len { array_vec_len result ≤ 7 }
     ensures back { B.position board.new ≡ B.position board.old }
 {
+    // The prover wants two variables here: each of the two calls that go forward and back is given a move.
     let again = m;
     let position = board.position();
     let setup = position.setup();

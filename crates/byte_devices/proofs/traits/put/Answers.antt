@@ -1,3 +1,5 @@
+-- So far the text up to this place was taken: a write takes a piece more (wrote_more of DeviceLaws), and where one
+-- fails, a beginning of the text was taken (wrote_part).
 use Rattle.std.proofs.Common.{arith}
 use Rattle.std.proofs.lemmas.Grind.{common_steps}
 use Rattle.byte_devices.proofs.DeviceLaws.{wrote_more, wrote_part, puts_exit}

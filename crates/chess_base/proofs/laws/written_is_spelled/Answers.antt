@@ -1,3 +1,4 @@
+-- What is written spells its position and no other (WrittenFen), and what spells a sound position is read as it.
 use Rattle.chess_base.proofs.SpelledFen.{reading-spelled}
 use Rattle.chess_base.proofs.WrittenFen.{fen-spelled, no_other}
 use Rattle.chess_base.specs.Writing.{fen}

@@ -1,3 +1,4 @@
+-- The last place reached the position after all moves (at_end of Kept); where no move stands, that is the start.
 use Rattle.std.proofs.Common.{◌<◌, length, arith}
 use Rattle.std.proofs.lemmas.Grind.{common_steps}
 use Rattle.chess_game.proofs.Kept.{at_end}

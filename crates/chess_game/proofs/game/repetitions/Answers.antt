@@ -1,3 +1,5 @@
+-- What is counted and the same positions among the earlier ones are all (seen of Counting). None before a capture or a
+-- pawn move is the same as the present one: the men's reserve has fallen for good (rest_counted of ForGood).
 use Rattle.std.proofs.Common.{◌≡◌, ◌-◌, ◌+◌, ◌<◌, ℕ, length, true, sym, ◌∙◌, subst, get_or, arith}
 use Rattle.std.proofs.lemmas.Bool.{eqb-true}
 use Rattle.chess_base.specs.declared.setup.Setup.{Setup}

@@ -1,3 +1,4 @@
+-- One square on which they differ tells the men apart (each_below-fails of Below); where none does, they are the same.
 use Rattle.std.proofs.Common.{◌≡◌, ◌∙◌, ◌+◌, suc, sym, refl, arith}
 use Rattle.std.proofs.lemmas.Bool.{and_from}
 use Rattle.chess_base.specs.Men.{man_at}

@@ -1,3 +1,5 @@
+-- A text spells what its form spells, and one without a form is no move (reading_spelled, reading_nothing of
+-- FormFacts); what is read stands in the list of legal moves (reads_legal).
 use Rattle.std.proofs.Common.{sym, ◌∙◌}
 use Rattle.chess_text.proofs.FormFacts.{reading_spelled, reading_nothing, reads_legal}
 use Rattle.chess_text.proofs.reading.read_move.Goals as goal

@@ -1,3 +1,5 @@
+-- A legal move that the form spells begins on a square of the set, and all such moves end on one square: so those from
+-- the set's squares to that one are all (spelled_from of Origins).
 use Rattle.std.proofs.Common.{ap, ◌∙◌}
 use Rattle.chess_base.specs.MoveList.{promotions}
 use Rattle.chess_text.specs.ties.Forms.{end_of, spelled_with, with_moves}

@@ -1,3 +1,5 @@
+-- The text beside the legal moves, and the mark of the position after the move, are the definition's (san_written of
+-- SanWritten). Only a pawn promotes, so an officer's text has no promotion (legal_promotes).
 use Rattle.std.proofs.Common.{◌∙◌}
 use Rattle.chess_text.proofs.SanWritten.{legal_promotes, san_nothing, san_written}
 use Rattle.chess_text.proofs.writing.san.Goals as goal

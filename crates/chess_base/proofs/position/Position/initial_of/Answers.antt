@@ -1,3 +1,4 @@
+-- What is put together here is the initial setup, which is sound in both variants: that is computed (InitialIsSound).
 use Rattle.std.proofs.Common.{refl}
 use Rattle.chess_base.specs.Initial.{initial_setup_of}
 use Rattle.chess_base.proofs.InitialIsSound.{initial_is_sound_in}

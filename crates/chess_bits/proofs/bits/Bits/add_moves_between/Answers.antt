@@ -1,3 +1,5 @@
+-- A pawn that reaches its last rank must promote, and nothing else may (Parts of chess_moves): the promotions left out
+-- give no legal move, and those tried fit (four_fit, none_fit).
 use Rattle.std.proofs.Common.{◌≡◌, ◌+◌, ◌≤◌, ◌++◌, List, length, true, false, sym, ap, subst, ◌∙◌}
 use Rattle.arrayvec.specs.ArrayVec.{array_vec_len}
 use Rattle.chess_base.specs.declared.man.Move.{Move}

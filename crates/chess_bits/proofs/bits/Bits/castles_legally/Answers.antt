@@ -1,3 +1,5 @@
+-- Castling that nothing prevents has a move's pattern (castle_pattern). In normal chess it is then legal, for it opens
+-- no line to the square where the king ends (castles_safely).
 use Rattle.std.proofs.Common.{◌<◌, sym, subst, ◌∙◌}
 use Rattle.chess_bits.proofs.CastlingBySets.{on_rank, castle_pattern, not_castling}
 use Rattle.chess_bits.proofs.CastlingSafely.{castles_safely}

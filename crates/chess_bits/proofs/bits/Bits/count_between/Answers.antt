@@ -1,3 +1,5 @@
+-- A pawn that promotes has the four promotions there and no other move (promotions_counted); elsewhere a man has one
+-- move at most (one_counted of Counted).
 use Rattle.std.proofs.Common.{◌≡◌, true, false, None, lit<, sym, ◌∙◌}
 use Rattle.chess_moves.specs.Promoting.{would_promote}
 use Rattle.chess_bits.proofs.Counted.{promotions_counted, one_counted}

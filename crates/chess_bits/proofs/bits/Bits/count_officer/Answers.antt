@@ -1,3 +1,5 @@
+-- A free man leaves his king safe wherever he goes, so he has one legal move to each square where he goes
+-- (officer_counted of KindsCounted).
 use Rattle.std.proofs.Common.{◌<◌, subst, ◌∙◌}
 use Rattle.chess_base.specs.Sound.{IsSound}
 use Rattle.chess_bits.proofs.KindsCounted.{officer_counted}

@@ -1,3 +1,5 @@
+-- A free pawn that neither promotes nor takes en passant has one legal move to each square where it goes (pawn_counted
+-- of KindsCounted).
 use Rattle.std.proofs.Common.{◌<◌, sym, subst, ◌∙◌}
 use Rattle.chess_base.specs.Sound.{IsSound}
 use Rattle.chess_bits.proofs.KindsCounted.{pawn_counted}

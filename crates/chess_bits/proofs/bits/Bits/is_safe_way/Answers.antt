@@ -1,3 +1,4 @@
+-- The way is safe where no member of its set is attacked (none_of of AnyMember), and the first attacked member decides.
 use Rattle.std.proofs.Common.{◌≡◌, ℕ, Bool, true, not, sym, ap, ◌∙◌}
 use Rattle.chess_base.specs.Men.{other}
 use Rattle.chess_base.specs.Attacks.{is_attacked}

@@ -1,3 +1,4 @@
+-- In a sound position a colour has one king, so the set of its kings has a square (some_king) and no other (alone).
 use Rattle.std.proofs.Common.{sym, ◌∙◌, ap}
 use Rattle.chess_base.specs.declared.man.Kind.TheVariants.{King}
 use Rattle.chess_moves.specs.Sets.{has}

@@ -1,3 +1,5 @@
+-- A square that is told is one to which the man goes, and a legal move ends on one that is told: TargetsOf for pawns
+-- (pawn_sound, pawn_complete) and for the others (man_set_sound, man_set_complete).
 use Rattle.std.proofs.Common.{rules, ◌≡◌, ◌<◌, true, false, subst}
 use Rattle.chess_base.specs.declared.man.Kind.TheVariants.{Pawn}
 use Rattle.chess_base.specs.Men.{man_at, is_of, is_man}

@@ -1,3 +1,4 @@
+-- A king promotes nothing, so a step is one legal move or none (step_counted of KingSteps).
 use Rattle.std.proofs.Common.{sym, ap, ◌∙◌}
 use Rattle.std.specs.Prelude.{cond}
 use Rattle.chess_bits.proofs.KingSteps.{step_counted}

@@ -1,3 +1,5 @@
+-- A legal move ends on a target and its promotion fits (not_target, not_fitting of Patterns); where both hold it has a
+-- pattern (pattern_from), and only the king's safety is left.
 use Rattle.std.proofs.Common.{◌≡◌, ◌<◌, true, false, sym, subst, ◌∙◌}
 use Rattle.chess_base.specs.Moves.{promotion_fits}
 use Rattle.chess_moves.specs.Promoting.{would_promote}

@@ -1,3 +1,5 @@
+-- A man of the colour stands later just where it stood on a square that doesn't change, so each set loses the changed
+-- squares and no other (outside_kinds of KindSets).
 use Rattle.std.proofs.Common.{◌∙◌, refl}
 use Rattle.chess_bits.proofs.KindSets.{outside_kinds}
 use Rattle.chess_bits.proofs.kinds.Kinds.outside.Goals as goal

@@ -1,3 +1,4 @@
+-- Cleared, the square is empty, as filling wants it (cleared), and of two writes the second stays (set_twice).
 use Rattle.std.proofs.Common.{◌≡◌, ◌<◌, length, slice_set, None, ◌∙◌, subst, length-set}
 use Rattle.chess_bits.specs.ties.BoardSets.{IsSets}
 use Rattle.chess_bits.proofs.BoardSets.{set_twice, cleared}

@@ -1,3 +1,5 @@
+-- A ray with no man on it is open to its end (swept_all of Blockers), and any other up to and with its first man
+-- (swept).
 use Rattle.std.proofs.Common.{◌≡◌, ℕ, ◌<◌, ◌&&◌, false, sym, ◌∙◌}
 use Rattle.std.proofs.lemmas.Bool.{eqb-true}
 use Rattle.chess_moves.specs.Sets.{has}

@@ -1,3 +1,5 @@
+-- The move was made at the end of the line, so its place follows there (added of Kept). The game was not over, so no
+-- verdict came before this one (judged_more of Judged), nor was it full, so there is room (room of Kept).
 use Rattle.std.proofs.Common.{◌≡◌, ◌<◌, ◌++◌, ◌∷◌, [], None, false, is_err, length, refl, sym, ◌∙◌, arith}
 use Rattle.chess_game.specs.Game.{is_over, is_full}
 use Rattle.chess_game.specs.ties.Places.{moves_of}

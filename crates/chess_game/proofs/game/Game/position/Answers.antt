@@ -1,3 +1,5 @@
+-- Each move that is kept was made in the position before it, so the moves are a line (kept_line of Kept); what else
+-- makes a game playable is its invariant.
 use Rattle.std.proofs.Common.{◌≡◌, length, arith}
 use Rattle.std.proofs.lemmas.List.{length-map}
 use Rattle.chess_game.specs.ties.Places.{moves_of}

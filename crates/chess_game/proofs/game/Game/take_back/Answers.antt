@@ -1,3 +1,5 @@
+-- The last place tells which position its move left, so the board goes back to that one (taken of Kept). No verdict
+-- came before the last move, so there is none now (judged_fewer of Judged).
 use Rattle.std.proofs.Common.{arith}
 use Rattle.chess_game.specs.Line.{last}
 use Rattle.chess_game.specs.ties.Places.{moves_of}
