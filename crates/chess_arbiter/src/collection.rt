@@ -129,6 +129,7 @@ fn count_each<W: Output>(
     requires limit { game.old.limit ≡ 20000 }
     ensures { CountsEach plan text.now (W.seen output.old) (W.seen output.new) result }
 {
+    // The prover wants this law: a fault is not before the place where reading its game began.
     faults_have_places();
     let mut at = 0;
     let mut tally = Tally::none();
@@ -137,6 +138,7 @@ fn count_each<W: Output>(
         match read_pgn(text, at, game) {
             Ok(None) => return Ok(tally),
             Ok(Some(end)) => {
+                // The prover wants this fact: a game has no more half-moves than its limit.
                 let _playable = game.position();
                 let plies = game.ply();
                 tell_line(plan.quiet, output, number, &Report::Game { plies, end })?;

@@ -12,6 +12,7 @@ pub fn plain_words_do_what_they_say()
     ensures session { ServesSession (codes "session" ∷ []) }
     ensures verify { VerifiesGames (codes "verify" ∷ []) }
 {
+    // The prover wants these laws of the words: these are taken, and what they ask for is what is planned.
     plain_words_are_taken();
     plans_are_named();
     verify_is_as_spelled();

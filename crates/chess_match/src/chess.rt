@@ -136,6 +136,7 @@ impl<B: Board> Played for Game<B> {
 
     #[tactic(auto, unfolding(crate::specs::Rules::rules_of))]
     fn play(&mut self, chosen: Move) {
+        // The prover wants this law: the move that a text is read as is legal.
         read_moves_are_legal();
         self.play_legal(chosen);
     }

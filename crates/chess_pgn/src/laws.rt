@@ -22,6 +22,7 @@ pub fn lines_are_filled()
 pub fn games_are_in_filled_lines()
     ensures { (prefix : List ℕ) (limit : ℕ) (s : State) → IsPlayable (record { limit = limit; state = s }) → IsMoveText prefix (game_tokens s) (move_text_of prefix (game_tokens s)) }
 {
+    // The prover wants these laws: each position of a game is sound, and the SAN of a legal move is short.
     after_is_sound();
     san_is_a_word();
 }
@@ -40,8 +41,10 @@ pub fn games_are_of_tokens()
 pub fn pgn_is_read_back()
     ensures { PgnIsReadBack }
 {
+    // The prover wants these laws: each position of a game is sound, and a FEN that was written is read back.
     after_is_sound();
     written_is_spelled();
+    // The prover wants this fact: the initial position of normal chess is sound.
     let initial = Position::initial_of(Variant::Normal);
     let _sound = initial.setup();
 }

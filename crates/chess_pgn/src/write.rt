@@ -237,6 +237,7 @@ fn put_moves<B: Board, W: Output>(
     ensures column { OnOk result (lines.new.column ≡ column_behind_all lines.old.column (move_tokens true game.now.state.start game.now.state.moves)) }
     ensures prefix { lines.new.prefix.now ≡ lines.old.prefix.now }
 {
+    // The prover wants this fact: each move of a game is legal in the position before it.
     let _playable = game.position();
     scratch.set(&game.start());
     for ply in 0..game.ply() {
@@ -259,7 +260,9 @@ fn put_move<B: Board, W: Output>(
     ensures prefix { lines.new.prefix.now ≡ lines.old.prefix.now }
     ensures position { OnOk result (B.position board.new ≡ after (B.position board.old) m) }
 {
+    // The prover wants this law: the SAN of a legal move is short enough for a line.
     san_is_a_word();
+    // The prover wants a copy of a move that is passed by value twice.
     let again = m;
     let position = board.position();
     put_number(lines, writer, position.setup(), is_first)?;

@@ -1,3 +1,5 @@
+-- The grammar is built in the order of `arbiter_app`: a subcommand without global arguments is added as
+-- `with_subcommand` adds it. The names of the variants are those that `match_command` holds.
 use Rattle.std.proofs.Common.{rules, ◌≡◌, ◌∙◌, ap, ap₂}
 use Rattle.std.proofs.lemmas.Result.{IfOk-weaker}
 use Rattle.clap.specs.Words.{App, app_of, with_subcommand}

@@ -1,3 +1,5 @@
+-- The command is built in the order of `match_app`: an argument that isn't global is added as `with_rule` adds it, and
+-- adds no global one to those before it.
 use Rattle.std.proofs.Common.{rules, ◌≡◌, ◌∙◌, ap, ap₂, codes, Bool, false, ◌||◌}
 use Rattle.std.proofs.lemmas.Result.{IfOk-weaker}
 use Rattle.clap.specs.Words.{app_of, rule_of, with_rule}

@@ -1,3 +1,5 @@
+-- A value that was given is a number from 1 to 1,000, so it parses (accepts-Accepts); it is the first in the row of the
+-- option (first_value-rows), and without one there is one game.
 use Rattle.std.proofs.Common.{rules, ◌≡◌, ◌∙◌, ◌≤◌, ◌<◌, ◌^◌, ℕ, ap, codes, Option, Some, None, option_map, sym, Bor, arith, false, subst}
 use Rattle.std.specs.Option.{option_map_or}
 use Rattle.std.specs.Str.Parse.{digits_value, without_leading_plus}

@@ -1,3 +1,5 @@
+-- What `clap` finds of an option is the first value in its row (first_value-rows), so each field is as it is spelled;
+-- where both engines are named, both are found.
 use Rattle.std.proofs.Common.{rules, ◌≡◌, ◌∙◌, ap, codes, Option, Some, None, is_some, option_map, sym, Bor, true, true≢false}
 use Rattle.clap.specs.Words.{Text, first_value, found_of}
 use Rattle.clap.proofs.WalkLemmas.{first_value-rows}

@@ -1,3 +1,5 @@
+-- The counts are those of the reports, so the line that tells them stands behind the lines of the reports as the
+-- definition says, and then all is flushed (Collections.handed_on).
 use Rattle.std.proofs.Common.{sym, subst, Ok}
 use Rattle.byte_devices.specs.declared.traits.WriteFault.{WriteFault}
 use Rattle.chess_arbiter.specs.Collection.{HandedOnBy}

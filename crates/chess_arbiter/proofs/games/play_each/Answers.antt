@@ -1,3 +1,5 @@
+-- The games so far were played without a fault and told, and the score counts them (GamesTold.SoFar): a game more keeps
+-- that (GamesTold.one_more), and one with a fault is the last (GamesTold.with_fault).
 use Rattle.std.proofs.Common.{◌≡◌, ◌∙◌, ◌≤◌, ◌<◌, ◌+◌, ◌++◌, ◌∷◌, [], Ok, None, Some, subst, sym, ap, arith, rules}
 use Rattle.chess_arbiter.specs.Games.{GameTold, HasPlayed, is_odd, scored}
 use Rattle.chess_arbiter.specs.declared.score.Score.{Score}

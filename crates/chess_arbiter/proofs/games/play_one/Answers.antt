@@ -1,3 +1,5 @@
+-- The game that the match left is one of the plan, since it began with a limit of 20,000 half-moves, and what was
+-- written is its text with the tags of its end, or a beginning of it.
 use Rattle.std.proofs.Common.{[], subst}
 use Rattle.byte_devices.specs.Devices.{BreaksOff, Sent}
 use Rattle.chess_pgn.specs.GameText.{pgn}

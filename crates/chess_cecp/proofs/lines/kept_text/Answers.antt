@@ -1,3 +1,5 @@
+-- A line that is too long holds 64 bytes at least, of which 64 are kept, and trimming makes no line longer: so it has
+-- room.
 use Rattle.std.proofs.Common.{arith, ◌≤◌, ◌+◌, length, sym, ap}
 use Rattle.std.proofs.lemmas.List.{length-take-le, length-take}
 use Rattle.std.specs.Result.{IsOk}

@@ -1,3 +1,5 @@
+-- The definition turns on the last byte alone, as the code does: a byte 13 goes (Trims.return_then), any other stays
+-- (Trims.return_else), and a text with no byte stays empty.
 use Rattle.std.proofs.Common.{arith, ap, sym, ◌∙◌}
 use Rattle.chess_cecp.specs.Lines.{without_return}
 use Rattle.chess_cecp.proofs.Trims.{return_then, return_else, empty_by_length}

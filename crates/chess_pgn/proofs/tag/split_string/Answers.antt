@@ -1,3 +1,5 @@
+-- The bytes so far, put before the string that the rest holds, are the string of the text. Each byte goes over from the
+-- rest to them, up to the closing quote or the end of the line (Strings).
 use Rattle.std.proofs.Common.{sym, ◌∙◌}
 use Rattle.chess_pgn.specs.Tokens.{string_at}
 use Rattle.chess_pgn.proofs.Strings.{onto-nil, place_line, place_quote, place_kept, place_other}

@@ -1,3 +1,5 @@
+-- The lines that were put so far are those of the first tags. A tag more is a line more (TagLines.tags_more), and a
+-- line that breaks off is a beginning of all of them (TagLines.tags_break).
 use Rattle.std.proofs.Common.{◌∙◌}
 use Rattle.chess_pgn.proofs.Added.{adds_exit}
 use Rattle.chess_pgn.proofs.TagLines.{tags_more, tags_break}

@@ -1,3 +1,5 @@
+-- The rest, with so many variations open, ends where the whole variation ends: each part that is skipped at once is a
+-- step of the definition (Variations.part_behind), and a byte opens at most one more.
 use Rattle.std.proofs.Common.{sym, ◌∙◌, get_or, Some, arith}
 use Rattle.chess_pgn.proofs.Variations.{part_unclosed, part_behind, depth_few}
 use Rattle.chess_pgn.proofs.variation.behind_variation.Goals as goal

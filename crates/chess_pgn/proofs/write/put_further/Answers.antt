@@ -1,3 +1,5 @@
+-- The tags behind the seven are those of the start and then the last ones, so their lines stand one behind another
+-- (GameTexts.further_put).
 use Rattle.chess_pgn.proofs.Added.{adds_exit}
 use Rattle.chess_pgn.proofs.GameTexts.{start_broke, further_put}
 use Rattle.chess_pgn.proofs.write.put_further.Goals as goal

@@ -1,3 +1,4 @@
+-- A game's text has three parts: its tags with an empty line, its move text, and an empty line (GameTexts.game_is).
 use Rattle.std.proofs.Common.{refl, ◌∙◌}
 use Rattle.chess_pgn.proofs.Added.{adds_exit}
 use Rattle.chess_pgn.proofs.GameTexts.{first_broke, second_broke, third_put, game_is}

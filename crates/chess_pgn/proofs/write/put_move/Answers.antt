@@ -1,3 +1,5 @@
+-- The tokens of a move are its number, where it has one, and then its SAN, at the column to which the number came
+-- (GameTexts.move_put).
 use Rattle.std.proofs.Common.{◌∙◌}
 use Rattle.chess_pgn.proofs.Added.{adds_exit}
 use Rattle.chess_pgn.proofs.GameTexts.{number_broke, move_broke, move_put}

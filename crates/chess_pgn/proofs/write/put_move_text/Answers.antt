@@ -1,3 +1,5 @@
+-- The move text has three parts: the tokens of the moves, the outcome at the column to which they came, and the end of
+-- the line (GameTexts.moves_are).
 use Rattle.std.proofs.Common.{refl, ◌∙◌, ap}
 use Rattle.chess_game.specs.Results.{outcome_text}
 use Rattle.chess_pgn.proofs.Added.{adds_exit}

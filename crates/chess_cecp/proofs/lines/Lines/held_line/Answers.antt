@@ -1,3 +1,5 @@
+-- The lines to come are the same while bytes go from the window to the part (Parts.one_byte); at byte 10 the part is
+-- the first of them (Parts.found_line).
 use Rattle.std.proofs.Common.{arith, length, ap}
 use Rattle.chess_cecp.proofs.Parts.{found_line, one_byte, no_line}
 use Rattle.chess_cecp.proofs.lines.Lines.held_line.Goals as goal

@@ -1,3 +1,5 @@
+-- While it has no whole line, what is held stands for all bytes that were given, and a piece more keeps that
+-- (Reading.piece_on). At the input's end the part that is left, if any, is the last line (Reading.end_last).
 use Rattle.std.proofs.Common.{arith, sym, subst, None, ◌∙◌}
 use Rattle.byte_devices.specs.declared.traits.ReadFault.{ReadFault}
 use Rattle.chess_cecp.specs.Lines.{Held}

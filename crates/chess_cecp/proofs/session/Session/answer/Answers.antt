@@ -1,3 +1,5 @@
+-- A line that asks for the game's text has a row of its own: the text is the answer, nothing changes, and it is no quit
+-- (PgnRow.pgn_row). All other lines are told by `obey_line`.
 use Rattle.std.proofs.Common.{refl, sym, ◌∙◌}
 use Rattle.chess_cecp.proofs.PgnRow.{pgn_row}
 use Rattle.chess_cecp.proofs.Refusals.{refused, tags_and_limit_stay}

@@ -1,3 +1,5 @@
+-- What is kept of an engine is what its items say, so it lacks what they lack (lack_of): White is judged first, then
+-- Black.
 use Rattle.std.proofs.Common.{◌≡◌, List, Bool, refl, sym, ◌∙◌, ap, Option, Some, None}
 use Rattle.std.specs.Prelude.{is_some}
 use Rattle.chess_match.specs.Items.{Item}

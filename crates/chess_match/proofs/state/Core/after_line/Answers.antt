@@ -1,3 +1,5 @@
+-- The core and its game stand for the match, and so does what each row of the definition leaves; the side's clock knows
+-- its moves, and so the number of the ping that it is to answer (Going.clocks_moves).
 use Rattle.std.proofs.Common.{◌≡◌, true, false, refl, ◌∙◌, arith, length, eq-eqb, ne_eqb}
 use Rattle.std.specs.Prelude.{◌==◌}
 use Rattle.chess_match.specs.Match.{seat, ping_number, after_line}

@@ -1,3 +1,5 @@
+-- What is kept of the side is what it said so far (Going.kept), and with the items of the text it is what it said then
+-- (Going.heard_stands); the other side stays as it was.
 use Rattle.chess_base.specs.declared.man.Colour.TheVariants.{White, Black}
 use Rattle.chess_match.proofs.Going.{kept, heard_stands}
 use Rattle.chess_match.proofs.state.Core.hear_items.Goals as goal

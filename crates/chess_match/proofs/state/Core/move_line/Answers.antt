@@ -1,3 +1,5 @@
+-- The moves of the game are those of the match, so both find the game full, the text illegal or the verdict. A move
+-- that is played leaves a core that stands for the match with that move (Going.played_goes, played_over_goes).
 use Rattle.std.proofs.Common.{◌≡◌, [], ◌∷◌, ◌++◌, true, false, refl, sym, Some, None, length}
 use Rattle.std.specs.Prelude.{nat_le}
 use Rattle.chess_match.specs.Sent.{is_same_phase}

@@ -1,3 +1,5 @@
+-- The game and its verdict are those of the match: after White's setup comes Black's, and after that the end by the
+-- verdict of the start or the turn of the side on move there.
 use Rattle.std.proofs.Common.{◌≡◌, List, [], true, false, refl, sym, Some, None, subst}
 use Rattle.chess_base.specs.declared.man.Colour.{Colour}
 use Rattle.chess_base.specs.declared.man.Colour.TheVariants.{Black}

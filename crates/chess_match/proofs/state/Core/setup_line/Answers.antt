@@ -1,3 +1,5 @@
+-- Only a pong with number 1 makes the side ready; any other line is ignored, as the match says of a side that it waits
+-- for.
 use Rattle.std.proofs.Common.{◌≡◌, true, false, sym}
 use Rattle.chess_match.specs.Match.{is_pong, setup_line}
 use Rattle.chess_match.specs.Seen.{seen}

@@ -1,3 +1,5 @@
+-- The parts that were added so far are one text: a part more makes it longer (Added.parts_more), and where a part
+-- breaks off, so does the text of all parts (Added.parts_break).
 use Rattle.std.proofs.Common.{List, ℕ, Bor}
 use Rattle.chess_pgn.proofs.Added.{adds_exit, parts_break, parts_more}
 use Rattle.chess_pgn.proofs.buffer.TextBuffer.add_parts.Goals as goal
