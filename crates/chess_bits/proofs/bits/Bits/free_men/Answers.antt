@@ -1,5 +1,5 @@
--- Where the king is not in check, another own man without which no line and no diagonal opens to him is free (freed of
--- Freely); that is each that is no shield.
+-- Where the king is not in check, another own man is free if taking it off opens no line and no diagonal to him (freed
+-- of Freely), and that holds of each that is no shield.
 use Rattle.std.proofs.Common.{◌≡◌, not, true, false, sym, ◌∙◌}
 use Rattle.std.proofs.lemmas.Bool.{and_parts, or_parts, both_ways, not-true}
 use Rattle.chess_base.specs.Attacks.{is_in_check}
