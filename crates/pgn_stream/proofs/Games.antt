@@ -50,13 +50,12 @@ game_told law s s' s'' r i i' text g g' answer told same sound goes left is full
     subst (λ (t : StreamState). GoesOn s t r i' text (λ whole. IsTold g g' whole (place s) told)) (sym e) (
       goes.0,
       record { read = goes.1.read; before = goes.1.before; window = goes.1.window },
-      λ whole w.
-        (
-          (goes.2 whole w).0,
-          subst (IsTold g g' whole (place s)) (sym are)
-              (subst (λ n. IsTold g g' whole n (moved_answer s'.before answer)) same
-                  (told_by law s' r i' (text ++ goes.0) whole g g' answer sound goes.1 w left (is_held g.limit s') refl is full)),
-        ),
+      λ whole w. (
+        (goes.2 whole w).0,
+        subst (IsTold g g' whole (place s)) (sym are)
+            (subst (λ n. IsTold g g' whole n (moved_answer s'.before answer)) same
+            (told_by law s' r i' (text ++ goes.0) whole g g' answer sound goes.1 w left (is_held g.limit s') refl is full)),
+      ),
     )
 
 pub held_told : (b : Bool) (answer held : Result (Option PgnEnd) PgnFault) → Some answer ≡ (if b then Some held else None) → b ≡ true

@@ -1,5 +1,5 @@
 -- The first line of a tag Event behind a stream's place, in each whole text.
-use Rattle.std.proofs.Common.{◌≡◌, ◌≤◌, ◌<◌, ℕ, suc, ◌+◌, ◌-◌, ◌^◌, Bool, true, false, cond, eqb, List, [], ◌∷◌, ◌++◌, length, get_or, take, drop, Option, Some, None, Result, Ok, Err, IsErr, refl, sym, ap, subst, ◌∙◌, append_assoc, append-nil, arith}
+use Rattle.std.proofs.Common.{◌≡◌, ◌≤◌, ◌<◌, ℕ, suc, ◌+◌, ◌-◌, ◌^◌, Bool, true, false, cond, eqb, List, [], ◌∷◌, ◌++◌, length, get_or, take, drop, Option, Some, None, Result, Ok, Err, IfErr, IsErr, refl, sym, ap, subst, ◌∙◌, append_assoc, append-nil, arith}
 use Rattle.std.specs.Prelude.{◌&&◌, ◌||◌, codes, max, leb, nat_le}
 use Rattle.std.specs.Result.{IsErrAnd}
 use Rattle.std.specs.Str.{bytes_eq}
@@ -115,12 +115,11 @@ no_more_held : (s₀ s : StreamState) (r i : InputState) (text : List ℕ) → L
 no_more_held s₀ s r i text looked none = (
   looked.0,
   stands_there s (max s.at (length s.window - 7)) r i (text ++ looked.0) looked.1,
-  λ whole w.
-    (
-      (looked.2 whole w).0,
-      further (place s₀) s r i (text ++ looked.0) whole (max s.at (length s.window - 7)) looked.1 w (looked.2 whole w).1
-          (λ k low high. held_line s r i (text ++ looked.0) looked.1 whole k s.ended w (omega (arith, low)) (omega (arith, low, high)) ∙ none k low),
-    ),
+  λ whole w. (
+    (looked.2 whole w).0,
+    further (place s₀) s r i (text ++ looked.0) whole (max s.at (length s.window - 7)) looked.1 w (looked.2 whole w).1
+        (λ k low high. held_line s r i (text ++ looked.0) looked.1 whole k s.ended w (omega (arith, low)) (omega (arith, low, high)) ∙ none k low),
+  ),
 )
 
 pub looked_through : (s₀ s s' : StreamState) (r i : InputState) (text : List ℕ) → Looked s₀ s r i text → FindsHeld s s' false → Looked s₀ s' r i text
@@ -133,7 +132,7 @@ looked_on s₀ s s' r i i' text same looked goes =
       looked.0 ++ goes.0,
       subst (StandsAt s' r i') is goes.1,
       λ whole w.
-        (let later = goes.2 whole (subst (λ xs. IsWholeOf s'.ended xs whole) (sym is) w) in
+          (let later = goes.2 whole (subst (λ xs. IsWholeOf s'.ended xs whole) (sym is) w) in
           ((looked.2 whole later.0).0, subst (λ n. NoneIn (place s₀) n whole) (sym same) (looked.2 whole later.0).1)),
     )
 
@@ -154,18 +153,17 @@ found_there s₀ s n r i text low looked next =
     let bytes = has_bytes s.window n next.1 in (
       looked.0,
       stands_there s n r i (text ++ looked.0) looked.1,
-      λ whole w.
+      λ whole w. (
+        (looked.2 whole w).0,
         (
-          (looked.2 whole w).0,
-          (
-            omega (arith, low, behind),
-            held_line s r i (text ++ looked.0) looked.1 whole n s.ended w (omega (arith, behind)) bytes ∙ next.1,
-            λ q after ahead.
+          omega (arith, low, behind),
+          held_line s r i (text ++ looked.0) looked.1 whole n s.ended w (omega (arith, behind)) bytes ∙ next.1,
+          λ q after ahead.
               further (place s₀) s r i (text ++ looked.0) whole (n - 1) looked.1 w (looked.2 whole w).1
               (λ k some few. held_line s r i (text ++ looked.0) looked.1 whole k s.ended w (omega (arith, some)) (omega (arith, bytes, few)) ∙ next.2 k some (omega (arith, few, behind)))
               q after (omega (arith, ahead, behind)),
-          ),
         ),
+      ),
     )
 
 pub found_next : (s₀ s s' : StreamState) (r i : InputState) (text : List ℕ) → place s₀ ≤ place s → Looked s₀ s r i text → FindsHeld s s' true
@@ -184,14 +182,13 @@ none_there : (s₀ s : StreamState) (n : ℕ) (r i : InputState) (text : List �
 none_there s₀ s n r i text ended looked none = (
   looked.0,
   stands_there s n r i (text ++ looked.0) looked.1,
-  λ whole w.
-    (
-      (looked.2 whole w).0,
-      λ q after.
+  λ whole w. (
+    (looked.2 whole w).0,
+    λ q after.
         further (place s₀) s r i (text ++ looked.0) whole q looked.1 w (looked.2 whole w).1
         (λ k some few. last_line s r i (text ++ looked.0) looked.1 whole k (subst (λ b. IsWholeOf b (text ++ looked.0) whole) ended w) (omega (arith, some)) ∙ none k some)
         q after (omega arith),
-    ),
+  ),
 )
 
 pub none_left : (s₀ s s' : StreamState) (r i : InputState) (text : List ℕ) → s'.ended ≡ true → Looked s₀ s r i text → FindsHeld s s' false → GoesOn s₀ s' r i text (λ whole. IsNextEvent whole (place s₀) None)
@@ -226,3 +223,11 @@ falls s s' s'' finds going small same full =
     by_end false e h at before window =
         let many : s''.at + 16777217 ≤ length s''.window = grind (arith, nat_tests, h) in
         omega (arith, many, at, before, window, small, same)
+
+-- looking through the window ends no input
+pub not_ended : {P : Type 0} (s s' : StreamState) → FindsHeld s s' false → (s.ended ≡ false → P) → s'.ended ≡ false → P
+not_ended s s' finds before now = before (sym (ap (λ (t : StreamState). t.ended) finds.0) ∙ now)
+
+pub on_err : {P A E : Type 0} (r : Result A E) → P → IfErr r (λ _. P)
+on_err (Ok v) p = tt
+on_err (Err e) p = p

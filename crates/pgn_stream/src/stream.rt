@@ -317,6 +317,7 @@ impl PgnStream {
     pub fn next_event<R: Input>(&mut self, input: &mut R) -> Result<bool, StreamFault>
         ensures event { (r : InputState) (text : List ℕ) → StandsAt self.old r (R.seen input.old) text → FindsEvent self.old self.new r (R.seen input.new) text result }
         ensures further { IfOk result (λ found. StandsFurther self.old self.new found) }
+        ensures going { IfErr result (λ _. self.old.ended ≡ false) }
     {
         loop {
             if self.find_held() {

@@ -1,7 +1,7 @@
 use Rattle.std.proofs.Common.{◌≡◌, ◌≤◌, ◌<◌, ◌+◌, ◌^◌, ◌++◌, length, take, false, ap, sym, subst, ◌∙◌, arith}
 use Rattle.std.proofs.lemmas.List.{length-take-le}
 use Rattle.pgn_stream.specs.Stream.{StreamState, place}
-use Rattle.pgn_stream.proofs.NextLines.{looked_through, looked_on, stops_so, found_next, found_further, none_left, never_back, falls}
+use Rattle.pgn_stream.proofs.NextLines.{looked_through, looked_on, stops_so, found_next, found_further, none_left, never_back, falls, not_ended, on_err}
 use Rattle.pgn_stream.proofs.stream.PgnStream.next_event.Goals as goal
 
 pub returns-then-find_held-clause-event : goal.returns-then-find_held-clause-event
@@ -27,10 +27,11 @@ loop-self-smaller g c =
 pub loop-self-preserved : goal.loop-self-preserved
 loop-self-preserved g c = (
   λ r text stands.
-    (let looked = looked_through c.args.self.now c.loop-self.self c.find_held.new.self r (g.R.Input.seen c.loop-self.input) text (c.loop-self.invariant.0 r text stands) c.if-find_held.ensures in
+      (let looked = looked_through c.args.self.now c.loop-self.self c.find_held.new.self r (g.R.Input.seen c.loop-self.input) text (c.loop-self.invariant.0 r text stands) c.if-find_held.ensures in
       looked_on c.args.self.now c.find_held.new.self c.refill.new.self r (g.R.Input.seen c.loop-self.input) (g.R.Input.seen c.refill.new.input) text c.in_ok-refill.ensures.place looked
       (c.in_ok-refill.ensures.held r (text ++ looked.0) looked.1)),
   never_back c.args.self.now c.loop-self.self c.find_held.new.self c.refill.new.self c.loop-self.invariant.1 c.if-find_held.ensures c.in_ok-refill.ensures.place,
+  λ h. not_ended c.loop-self.self c.find_held.new.self (c.if-find_held.ensures) (c.loop-self.invariant.2) (ap (λ (s : StreamState). s.ended) (sym c.self.view_is) ∙ c.if-self.false),
 )
 
 pub returns-in_err-refill-clause-event : goal.returns-in_err-refill-clause-event
@@ -38,3 +39,7 @@ returns-in_err-refill-clause-event g c r text stands =
     let looked = looked_through c.args.self.now c.loop-self.self c.find_held.new.self r (g.R.Input.seen c.loop-self.input) text (c.loop-self.invariant.0 r text stands) c.if-find_held.ensures in
     stops_so c.args.self.now c.refill.new.self r (g.R.Input.seen c.refill.new.input) text looked.0 c.from_residual.result c.in_err-refill.field-0.0 c.from_residual.ensures.0 c.from_residual.ensures.1
     (c.in_err-refill.ensures.held r (text ++ looked.0) looked.1)
+
+pub returns-in_err-refill-clause-going : goal.returns-in_err-refill-clause-going
+returns-in_err-refill-clause-going g c =
+    on_err c.from_residual.result (not_ended c.loop-self.self c.find_held.new.self c.if-find_held.ensures c.loop-self.invariant.2 (ap (λ (s : StreamState). s.ended) (sym c.self.view_is) ∙ c.if-self.false))

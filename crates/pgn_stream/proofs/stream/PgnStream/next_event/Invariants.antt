@@ -1,4 +1,4 @@
-use Rattle.std.proofs.Common.{◌≤◌, List, ℕ}
+use Rattle.std.proofs.Common.{◌≡◌, ◌≤◌, false, List, ℕ}
 use Rattle.byte_devices.specs.Devices.{InputState}
 use Rattle.pgn_stream.specs.Stream.{place, StandsAt}
 use Rattle.pgn_stream.proofs.NextLines.{Looked, left}
@@ -9,6 +9,7 @@ abbrev pub invariant-loop-self : goal.invariant-loop-self
 invariant-loop-self g l =
     ((r : InputState) (text : List ℕ) → StandsAt l.fn.self r (g.R.Input.seen l.fn.input) text → Looked l.fn.self l.self r (g.R.Input.seen l.input) text)
     × (place l.fn.self ≤ place l.self)
+    × (l.self.ended ≡ false → l.fn.self.ended ≡ false)
 
 abbrev pub decreases-loop-self : goal.decreases-loop-self
 decreases-loop-self g l = left l.self

@@ -13,11 +13,11 @@ returns c =
     let low = c.self.invariant.2 in
     let inside = c.self.invariant.3 in
     subst (λ (s : StreamState). IsSlid (s.at - 1) s (record {
-          window = take (c.self.inside.len - gone) c.copy_within.new.self.items;
-          before = c.self.inside.before + gone;
-          at = c.self.inside.at - gone;
-          ended = c.self.inside.ended;
-        })) c.self.view_is (record {
+      window = take (c.self.inside.len - gone) c.copy_within.new.self.items;
+      before = c.self.inside.before + gone;
+      at = c.self.inside.at - gone;
+      ended = c.self.inside.ended;
+    })) c.self.view_is (record {
       within = omega arith;
       inside = (let all = length-take-le c.self.inside.len c.self.inside.bytes.items (omega (arith, size, low)) in omega (arith, all, inside));
       window = ap (take (c.self.inside.len - gone)) c.copy_within.ensures.items ∙ slid gone c.self.inside.len c.self.inside.bytes.items (omega (arith, is, inside)) (omega (arith, size, low)) ∙ ap (λ n. drop n (take c.self.inside.len c.self.inside.bytes.items)) is;
