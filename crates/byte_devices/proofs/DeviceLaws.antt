@@ -60,19 +60,23 @@ failed_more a b c x y h k = record {
 }
 
 pub breaks_more : (a b c : OutputState) (x y : List ℕ) → Took a b x → BreaksOff b c y → BreaksOff a c (x ++ y)
-breaks_more a b c x y h (start, (rest, is), k) = (x ++ start, (rest, append_assoc x start rest ∙ ap (λ v. x ++ v) is), failed_more a b c x start h k)
+breaks_more a b c x y h (start, (rest, is), k) =
+    (x ++ start, (rest, append_assoc x start rest ∙ ap (λ v. x ++ v) is), failed_more a b c x start h k)
 
 -- a text of which a beginning was written is itself a beginning of a longer one
 pub breaks_longer : (a b : OutputState) (x y : List ℕ) → BreaksOff a b x → BreaksOff a b (x ++ y)
-breaks_longer a b x y (start, (rest, is), k) = (start, (rest ++ y, sym (append_assoc start rest y) ∙ ap (λ v. v ++ y) is), k)
+breaks_longer a b x y (start, (rest, is), k) =
+    (start, (rest ++ y, sym (append_assoc start rest y) ∙ ap (λ v. v ++ y) is), k)
 
 -- a text, and then another: what was written of both
-pub puts_more : {A E : Type 0} (a b c : OutputState) (r : Result A E) (x y : List ℕ) → Took a b x → Puts b c r y → Puts a c r (x ++ y)
+pub puts_more : {A E : Type 0} (a b c : OutputState) (r : Result A E) (x y : List ℕ) → Took a b x → Puts b c r y
+    → Puts a c r (x ++ y)
 puts_more a b c (Ok v) x y h k = took_more a b c x y h k
 puts_more a b c (Err e) x y h k = breaks_more a b c x y h k
 
 -- at the exit of a `?`
-pub puts_exit : {A E : Type 0} (a b : OutputState) (r : Result A E) (x : List ℕ) → BreaksOff a b x → IsErr r → Puts a b r x
+pub puts_exit : {A E : Type 0} (a b : OutputState) (r : Result A E) (x : List ℕ) → BreaksOff a b x → IsErr r
+    → Puts a b r x
 puts_exit a b (Ok v) x h k = cc
 puts_exit a b (Err e) x h k = h
 
@@ -81,13 +85,20 @@ pub rest_is : (at : ℕ) (xs : List ℕ) → take (length xs - at) (drop at xs) 
 rest_is at xs = grind (arith, common_steps)
 
 -- one write more
-pub wrote_more : (a b c : OutputState) (at n : ℕ) (text : List ℕ) → Took a b (take at text) → Took b c (take n (take (length text - at) (drop at text))) → Took a c (take (at + n) text)
+pub wrote_more : (a b c : OutputState) (at n : ℕ) (text : List ℕ) → Took a b (take at text)
+    → Took b c (take n (take (length text - at) (drop at text))) → Took a c (take (at + n) text)
 wrote_more a b c at n text h k =
     rw (take-add at n text) (took_more a b c (take at text) (take n (drop at text)) h (rw (rest_is at text) at k))
 
 -- a write fails
-pub wrote_part : (a b c : OutputState) (at : ℕ) (text : List ℕ) → Took a b (take at text) → TookThenFailed b c [] → BreaksOff a c text
-wrote_part a b c at text h k = (take at text ++ [], (drop at text, rw (append-nil, take-append-drop) refl), failed_more a b c (take at text) [] h k)
+pub wrote_part : (a b c : OutputState) (at : ℕ) (text : List ℕ) → Took a b (take at text) → TookThenFailed b c []
+    → BreaksOff a c text
+wrote_part a b c at text h k = (
+  take at text ++ [],
+  (drop at text, rw (append-nil, take-append-drop) refl),
+  failed_more a b c (take at text) [] h
+      k,
+)
 
 -- a text, and then a flush
 pub sent_on : (a b c : OutputState) (x : List ℕ) → Took a b x → Sent b c [] → Sent a c x
@@ -97,29 +108,38 @@ sent_on a b c x h k = record {
   flushed = k.flushed;
 }
 
-pub flush_on : {A E : Type 0} (a b c : OutputState) (r : Result A E) (x : List ℕ) → Took a b x → FlushStep b c r → Sends a c r x
+pub flush_on : {A E : Type 0} (a b c : OutputState) (r : Result A E) (x : List ℕ) → Took a b x → FlushStep b c r
+    → Sends a c r x
 flush_on a b c (Ok v) x h k = sent_on a b c x h k
 flush_on a b c (Err e) x h k = (x ++ [], ([], append_assoc x [] [] ∙ append-nil x), failed_more a b c x [] h k)
 
 -- at the exit of a `?`
-pub sends_exit : {A E : Type 0} (a b : OutputState) (r : Result A E) (x : List ℕ) → BreaksOff a b x → IsErr r → Sends a b r x
+pub sends_exit : {A E : Type 0} (a b : OutputState) (r : Result A E) (x : List ℕ) → BreaksOff a b x → IsErr r
+    → Sends a b r x
 sends_exit a b (Ok v) x h k = cc
 sends_exit a b (Err e) x h k = h
 
 flat_one : {X : Type 0} (f : X → List ℕ) (x : X) → flat_map f (x ∷ []) ≡ f x
 flat_one f x = append-nil (f x)
 
-flat_more : {X : Type 0} (f : X → List ℕ) (xs : List X) (i : ℕ) (d : X) → i < length xs → flat_map f (take (i + 1) xs) ≡ flat_map f (take i xs) ++ f (get_or xs i d)
+flat_more : {X : Type 0} (f : X → List ℕ) (xs : List X) (i : ℕ) (d : X) → i < length xs
+    → flat_map f (take (i + 1) xs) ≡ flat_map f (take i xs) ++ f (get_or xs i d)
 flat_more f xs i d h =
-    ap (flat_map f) (rw add-one (take-suc xs i d h)) ∙ flat_map-append f (take i xs) (get_or xs i d ∷ []) ∙ ap (λ v. flat_map f (take i xs) ++ v) (flat_one f (get_or xs i d))
+    ap (flat_map f) (rw add-one (take-suc xs i d h)) ∙ flat_map-append f (take i xs) (get_or xs i d ∷ [])
+    ∙ ap (λ v. flat_map f (take i xs) ++ v) (flat_one f (get_or xs i d))
 
 -- texts of the elements of a list, one more of them
-pub parts_more : {X : Type 0} (a b c : OutputState) (f : X → List ℕ) (xs : List X) (i : ℕ) (d : X) → i < length xs → Took a b (flat_map f (take i xs)) → Took b c (f (get_or xs i d)) → Took a c (flat_map f (take (i + 1) xs))
-parts_more a b c f xs i d h s t = rw (flat_more f xs i d h) (took_more a b c (flat_map f (take i xs)) (f (get_or xs i d)) s t)
+pub parts_more : {X : Type 0} (a b c : OutputState) (f : X → List ℕ) (xs : List X) (i : ℕ) (d : X) → i < length xs
+    → Took a b (flat_map f (take i xs)) → Took b c (f (get_or xs i d)) → Took a c (flat_map f (take (i + 1) xs))
+parts_more a b c f xs i d h s t =
+    rw (flat_more f xs i d h) (took_more a b c (flat_map f (take i xs)) (f (get_or xs i d)) s t)
 
 -- one of them broke off
-pub parts_break : {X : Type 0} (a b c : OutputState) (f : X → List ℕ) (xs : List X) (i : ℕ) (d : X) → i < length xs → Took a b (flat_map f (take i xs)) → BreaksOff b c (f (get_or xs i d)) → BreaksOff a c (flat_map f xs)
+pub parts_break : {X : Type 0} (a b c : OutputState) (f : X → List ℕ) (xs : List X) (i : ℕ) (d : X) → i < length xs
+    → Took a b (flat_map f (take i xs)) → BreaksOff b c (f (get_or xs i d)) → BreaksOff a c (flat_map f xs)
 parts_break a b c f xs i d h s t =
     let e : flat_map f xs ≡ flat_map f (take (i + 1) xs) ++ flat_map f (drop (i + 1) xs) =
     ap (flat_map f) (sym (take-append-drop (i + 1) xs)) ∙ flat_map-append f (take (i + 1) xs) (drop (i + 1) xs) in
-    rw e (rw (flat_more f xs i d h) (breaks_longer a c (flat_map f (take i xs) ++ f (get_or xs i d)) (flat_map f (drop (i + 1) xs)) (breaks_more a b c (flat_map f (take i xs)) (f (get_or xs i d)) s t)))
+    rw e (rw (flat_more f xs i d h)
+    (breaks_longer a c (flat_map f (take i xs) ++ f (get_or xs i d)) (flat_map f (drop (i + 1) xs))
+    (breaks_more a b c (flat_map f (take i xs)) (f (get_or xs i d)) s t)))

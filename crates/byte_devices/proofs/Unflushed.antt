@@ -29,7 +29,8 @@ raised_is c (b ∷ bs) =
 abbrev pub state_of : Option (List ℕ) → Counts → OutputState
 state_of known c = record { known_bytes = known; failure_count = c.failures; unflushed = c.unflushed }
 
-wrote : (F : Type 0) (a b : Option (List ℕ)) (old new : Counts) (n : ℕ) (buf : List ℕ) → n ≤ length buf → (0 < length buf → 0 < n) → Appends a b (take n buf)
+wrote : (F : Type 0) (a b : Option (List ℕ)) (old new : Counts) (n : ℕ) (buf : List ℕ) → n ≤ length buf
+    → (0 < length buf → 0 < n) → Appends a b (take n buf)
     → new ≡ counts_after_write {E = F} old (Ok n) → WriteStep {E = F} (state_of a old) (state_of b new) (Ok n) buf
 wrote F a b old new n buf within some bytes is = (
   within,
@@ -37,13 +38,16 @@ wrote F a b old new n buf within some bytes is = (
   record {
     bytes = bytes;
     failures = ap (λ c. c.failures) is;
-    unflushed = ap (λ c. c.unflushed) is ∙ ap (raised_by old.unflushed) (sym (length-take-le n buf within)) ∙ sym (raised_is old.unflushed (take n buf));
+    unflushed = ap (λ c. c.unflushed) is ∙ ap (raised_by old.unflushed) (sym (length-take-le n buf within))
+        ∙ sym (raised_is old.unflushed (take n buf));
   },
 )
 
-failed : {F : Type 0} (fault : F) (a b : Option (List ℕ)) (old new : Counts) (buf : List ℕ) → Appends a b [] → new ≡ one_failure_more old
+failed : {F : Type 0} (fault : F) (a b : Option (List ℕ)) (old new : Counts) (buf : List ℕ) → Appends a b []
+    → new ≡ one_failure_more old
     → WriteStep {E = F} (state_of a old) (state_of b new) (Err fault) buf
-failed fault a b old new buf bytes is = record { bytes = bytes; failures = ap (λ c. c.failures) is; unflushed = ap (λ c. c.unflushed) is }
+failed fault a b old new buf bytes is =
+    record { bytes = bytes; failures = ap (λ c. c.failures) is; unflushed = ap (λ c. c.unflushed) is }
 
 kept : (a b : Option (List ℕ)) → Keeps a b → Appends a b []
 kept None b h = tt
@@ -51,18 +55,26 @@ kept (Some s) None h = absurd h
 kept (Some s) (Some t) h = h ∙ sym (append-nil s)
 
 -- what is made of a writer's answer is a write
-pub counted_write : {E F : Type 0} (fault : F) (a b : Option (List ℕ)) (old new : Counts) (answered : Result ℕ E) (result : Result ℕ F) (buf : List ℕ)
-    → WritesAtMost answered buf → WriteAppends a b answered buf → result ≡ write_passed_on fault (length buf) answered → new ≡ counts_after_write old result
+pub counted_write : {E F : Type 0} (fault : F) (a b : Option (List ℕ)) (old new : Counts) (answered : Result ℕ E)
+    (result : Result ℕ F) (buf : List ℕ)
+    → WritesAtMost answered buf → WriteAppends a b answered buf → result ≡ write_passed_on fault (length buf) answered
+    → new ≡ counts_after_write old result
     → WriteStep (state_of a old) (state_of b new) result buf
 counted_write fault a b old new (Err e) result buf bound bytes is counts =
-    subst (λ r. WriteStep (state_of a old) (state_of b new) r buf) (sym is) (failed fault a b old new buf (kept a b bytes) (counts ∙ ap (counts_after_write old) is))
-counted_write {E = E} {F = F} fault a b old new (Ok n) result buf bound bytes is counts = by_test ((n == 0) && nat_lt 0 (length buf)) refl is
+    subst (λ r. WriteStep (state_of a old) (state_of b new) r buf) (sym is)
+    (failed fault a b old new buf (kept a b bytes) (counts ∙ ap (counts_after_write old) is))
+counted_write {E = E} {F = F} fault a b old new (Ok n) result buf bound bytes is counts =
+    by_test ((n == 0) && nat_lt 0 (length buf)) refl is
   where
-    by_test : (t : Bool) → ((n == 0) && nat_lt 0 (length buf)) ≡ t → result ≡ (if t then Err fault else Ok n) → WriteStep (state_of a old) (state_of b new) result buf
+    by_test : (t : Bool) → ((n == 0) && nat_lt 0 (length buf)) ≡ t → result ≡ (if t then Err fault else Ok n)
+        → WriteStep (state_of a old) (state_of b new) result buf
     by_test true e is =
-        let none : n ≡ 0 = (let both = and_parts (n == 0) (nat_lt 0 (length buf)) e in grind (arith, nat_tests, both)) in
+        let none : n ≡ 0 = (let both = and_parts (n == 0) (nat_lt 0 (length buf)) e in
+        grind (arith, nat_tests, both)) in
         subst (λ r. WriteStep (state_of a old) (state_of b new) r buf) (sym is)
-        (failed fault a b old new buf (subst (λ k. Appends a b (take k buf)) none bytes) (counts ∙ ap (counts_after_write old) is))
+        (failed fault a b old new buf (subst (λ k. Appends a b (take k buf)) none bytes)
+        (counts ∙ ap (counts_after_write old) is))
     by_test false e is =
         subst (λ r. WriteStep (state_of a old) (state_of b new) r buf) (sym is)
-        (wrote F a b old new n buf bound (λ some. grind (arith, nat_tests, e, some)) bytes (counts ∙ ap (counts_after_write old) is))
+        (wrote F a b old new n buf bound (λ some. grind (arith, nat_tests, e, some)) bytes
+        (counts ∙ ap (counts_after_write old) is))

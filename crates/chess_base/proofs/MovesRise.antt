@@ -14,21 +14,26 @@ use Rattle.chess_base.specs.laws.Laws.{promotion_place, ComesBefore, ByStart, By
 
 -- ---- lists
 
-pairs-append : {X : Type 0} (R : X → X → Type 0) (xs ys : List X) → AllPairs R xs → AllPairs R ys → All (λ m. All (R m) ys) xs → AllPairs R (xs ++ ys)
+pairs-append : {X : Type 0} (R : X → X → Type 0) (xs ys : List X) → AllPairs R xs → AllPairs R ys
+    → All (λ m. All (R m) ys) xs → AllPairs R (xs ++ ys)
 pairs-append R [] ys p q across = q
 pairs-append R (x ∷ xs) ys p q across =
     AllPairs-cons R x (xs ++ ys)
     (All-append (R x) xs ys (λ k d h. p 0 (suc k) d (omega arith) (omega arith)) (across 0 x (omega arith)))
-    (pairs-append R xs ys (λ i j d l h. p (suc i) (suc j) d (omega arith) (omega arith)) q (λ k d h. across (suc k) d (omega arith)))
+    (pairs-append R xs ys (λ i j d l h. p (suc i) (suc j) d (omega arith) (omega arith)) q
+    (λ k d h. across (suc k) d (omega arith)))
 
-all-over : {X : Type 0} (Q : X → Type 0) (g : ℕ → List X) (n : ℕ) (f : ℕ → ℕ) → ((k : ℕ) → All Q (g (f k))) → All Q (flat_map g (from_below n f))
+all-over : {X : Type 0} (Q : X → Type 0) (g : ℕ → List X) (n : ℕ) (f : ℕ → ℕ) → ((k : ℕ) → All Q (g (f k)))
+    → All Q (flat_map g (from_below n f))
 all-over Q g zero f h = λ k d past. absurd (omega arith)
 all-over Q g (suc n) f h =
     rw (flat_map-cons g (f 0) (from_below n (λ k. f (suc k))))
-    (All-append Q (g (f 0)) (flat_map g (from_below n (λ k. f (suc k)))) (h 0) (all-over Q g n (λ k. f (suc k)) (λ k. h (suc k))))
+    (All-append Q (g (f 0)) (flat_map g (from_below n (λ k. f (suc k)))) (h 0)
+    (all-over Q g n (λ k. f (suc k)) (λ k. h (suc k))))
 
 -- lists one behind the other rise, where each rises and what one number gives comes before what a higher one gives
-pairs-over : {X : Type 0} (R : X → X → Type 0) (P : ℕ → X → Type 0) (g : ℕ → List X) → ((a : ℕ) → All (P a) (g a)) → ((a : ℕ) → AllPairs R (g a)) → ((a b : ℕ) (m n : X) → a < b → P a m → P b n → R m n)
+pairs-over : {X : Type 0} (R : X → X → Type 0) (P : ℕ → X → Type 0) (g : ℕ → List X) → ((a : ℕ) → All (P a) (g a))
+    → ((a : ℕ) → AllPairs R (g a)) → ((a b : ℕ) (m n : X) → a < b → P a m → P b n → R m n)
     → (n : ℕ) (f : ℕ → ℕ) → ((i j : ℕ) → i < j → f i < f j) → AllPairs R (flat_map g (from_below n f))
 pairs-over R P g holds each before zero f rises = λ i j d l past. absurd (omega arith)
 pairs-over R P g holds each before (suc n) f rises =
@@ -36,7 +41,8 @@ pairs-over R P g holds each before (suc n) f rises =
     (pairs-append R (g (f 0)) (flat_map g (from_below n (λ k. f (suc k)))) (each (f 0))
     (pairs-over R P g holds each before n (λ k. f (suc k)) (λ i j l. rises (suc i) (suc j) (omega arith)))
     (λ k d h. all-over (R (slice_index_or (g (f 0)) k d)) g n (λ b. f (suc b))
-    (λ b. λ i e in'. before (f 0) (f (suc b)) (slice_index_or (g (f 0)) k d) (slice_index_or (g (f (suc b))) i e) (rises 0 (suc b) (omega arith)) (holds (f 0) k d h) (holds (f (suc b)) i e in'))))
+    (λ b. λ i e in'. before (f 0) (f (suc b)) (slice_index_or (g (f 0)) k d) (slice_index_or (g (f (suc b))) i e)
+    (rises 0 (suc b) (omega arith)) (holds (f 0) k d h) (holds (f (suc b)) i e in'))))
 
 -- ---- moves
 
@@ -55,11 +61,13 @@ promotions_rise = λ i j d l h.
     rw (place_at i d early, place_at j d late) l
 
 -- moves that differ by their promotion alone
-triples_rise : (a b : ℕ) (ks : List (Option Kind)) → AllPairs (λ j k. promotion_place j < promotion_place k) ks → AllPairs ComesBefore (map (triple a b) ks)
+triples_rise : (a b : ℕ) (ks : List (Option Kind)) → AllPairs (λ j k. promotion_place j < promotion_place k) ks
+    → AllPairs ComesBefore (map (triple a b) ks)
 triples_rise a b [] p = λ i j d l past. absurd (omega arith)
 triples_rise a b (k ∷ ks) p =
     AllPairs-cons ComesBefore (triple a b k) (map (triple a b) ks)
-    (All-map (ComesBefore (triple a b k)) (triple a b) ks (λ i e h. ByPromotion refl refl (p 0 (suc i) e (omega arith) (omega arith))))
+    (All-map (ComesBefore (triple a b k)) (triple a b) ks
+    (λ i e h. ByPromotion refl refl (p 0 (suc i) e (omega arith) (omega arith))))
     (triples_rise a b ks (λ i j d l h. p (suc i) (suc j) d (omega arith) (omega arith)))
 
 from_one_rise : (a : ℕ) → AllPairs ComesBefore (flat_map (λ b. map (triple a b) promotions) squares)
@@ -72,12 +80,14 @@ from_one_rise a =
 
 starts : (a : ℕ) → All (λ m. m.from ≡ a) (flat_map (λ b. map (triple a b) promotions) squares)
 unfolding squares
-starts a = all-over (λ m. m.from ≡ a) (λ b. map (triple a b) promotions) 64 (λ s. s) (λ b. All-map (λ m. m.from ≡ a) (triple a b) promotions (λ k d h. refl))
+starts a = all-over (λ m. m.from ≡ a) (λ b. map (triple a b) promotions) 64 (λ s. s)
+    (λ b. All-map (λ m. m.from ≡ a) (triple a b) promotions (λ k d h. refl))
 
 all_triples_rise : AllPairs ComesBefore all_triples
 unfolding all_triples squares
 all_triples_rise =
-    pairs-over ComesBefore (λ a m. m.from ≡ a) (λ a. flat_map (λ b. map (triple a b) promotions) squares) starts from_one_rise
+    pairs-over ComesBefore (λ a m. m.from ≡ a) (λ a. flat_map (λ b. map (triple a b) promotions) squares) starts
+    from_one_rise
     (λ a b m n l e f. ByStart (rw (e, f) l)) 64 (λ s. s) (λ i j l. l)
 
 pub moves_rise : (p : Setup) → AllPairs ComesBefore (moves p)

@@ -19,6 +19,8 @@ not_eight : (text : List ℕ) → length (ranks_of text) ≢ 8 → None ≡ plac
 not_eight text h = let t : eqb (length (ranks_of text)) 8 ≡ false = grind (arith, nat_tests) in rw t refl
 
 -- where another rank stands behind the eighth
-pub too_many : (text : List ℕ) (men : List (Option Man)) (rest : Option (Bor (List ℕ))) (left : ℕ) → Stacking text men rest left → left ≤ 0 → is_some rest ≡ true → None ≡ placement_of text
+pub too_many : (text : List ℕ) (men : List (Option Man)) (rest : Option (Bor (List ℕ))) (left : ℕ)
+    → Stacking text men rest left → left ≤ 0 → is_some rest ≡ true → None ≡ placement_of text
 too_many text men None left so_far h some = absurd cc
-too_many text men (Some r) left so_far h some = not_eight text (λ e. omega (arith, e, so_far.count, length-slice_split (λ c. eqb c 47) r.now))
+too_many text men (Some r) left so_far h some =
+    not_eight text (λ e. omega (arith, e, so_far.count, length-slice_split (λ c. eqb c 47) r.now))

@@ -35,27 +35,38 @@ weights_below : ℕ → Men → ℕ
 weights_below n men = sum (from_below n (λ k. weight k (man_at men k)))
 
 weights-set : (n : ℕ) (men : Men) (s : ℕ) (v : Option Man) → length men ≡ n → s < n
-    → from_below n (λ k. weight k (man_at (set men s v) k)) ≡ set (from_below n (λ k. weight k (man_at men k))) s (weight s v)
+    → from_below n (λ k. weight k (man_at (set men s v) k)) ≡ set (from_below n (λ k. weight k (man_at men k))) s
+    (weight s v)
 weights-set n men s v l h =
     let here = λ (k : ℕ). weight k (man_at men k) in
     let there = λ (k : ℕ). weight k (man_at (set men s v) k) in
-    let length' : length (set (from_below n here) s (weight s v)) ≡ n = length-set (from_below n here) s (weight s v) ∙ length-from_below n here in
-    ext_get_or 0 (from_below n there) (set (from_below n here) s (weight s v)) (length-from_below n there ∙ sym length') (λ k h'.
+    let length' : length (set (from_below n here) s (weight s v)) ≡ n = length-set (from_below n here) s (weight s v)
+    ∙ length-from_below n here in
+    ext_get_or 0 (from_below n there) (set (from_below n here) s (weight s v)) (length-from_below n there ∙ sym length')
+    (λ k h'.
     let in' : k < n = omega (arith, length-from_below n there) in
     get_or-from_below n there k 0 in'
     ∙ elim (cases_eq k s) [
-      | inl same ↦ rw (same, get_or-set_same men s v None (omega arith)) (sym (get_or-set_same (from_below n here) s (weight s v) 0 (omega (arith, length-from_below n here))))
-      | inr differs ↦ rw (get_or-set_other men s k v None differs, get_or-set_other (from_below n here) s k (weight s v) 0 differs) (sym (get_or-from_below n here k 0 in'))
+      | inl same ↦ rw (same, get_or-set_same men s v None (omega arith))
+          (sym (get_or-set_same (from_below n here) s (weight s v) 0 (omega (arith, length-from_below n here))))
+      | inr differs ↦ rw (
+        get_or-set_other men s k v None differs,
+        get_or-set_other (from_below n here) s k (weight s v)
+            0 differs,
+      ) (sym (get_or-from_below n here k 0 in'))
     ])
 
-weights_below-set : (n : ℕ) (men : Men) (s : ℕ) (v : Option Man) → length men ≡ n → s < n → weights_below n (set men s v) + weight s (man_at men s) ≡ weights_below n men + weight s v
+weights_below-set : (n : ℕ) (men : Men) (s : ℕ) (v : Option Man) → length men ≡ n → s < n
+    → weights_below n (set men s v) + weight s (man_at men s) ≡ weights_below n men + weight s v
 unfolding weights_below
 weights_below-set n men s v l h =
     let here = λ (k : ℕ). weight k (man_at men k) in
-    let sums = sum_by-set (λ (x : ℕ). x) (from_below n here) s (weight s v) 0 (omega (arith, length-from_below n here)) in
+    let sums = sum_by-set (λ (x : ℕ). x) (from_below n here) s (weight s v) 0
+    (omega (arith, length-from_below n here)) in
     rw (weights-set n men s v l h) (rw (get_or-from_below n here s 0 h) at sums)
 
-reserve-set : (men : Men) (s : ℕ) (v : Option Man) → length men ≡ 64 → s < 64 → reserve (set men s v) + weight s (man_at men s) ≡ reserve men + weight s v
+reserve-set : (men : Men) (s : ℕ) (v : Option Man) → length men ≡ 64 → s < 64
+    → reserve (set men s v) + weight s (man_at men s) ≡ reserve men + weight s v
 unfolding reserve weights_below
 reserve-set men s v l h = weights_below-set 64 men s v l h
 
@@ -68,7 +79,8 @@ weight-none s (Some x) e = cc
 weight-of : (c : Colour) (s : ℕ) (o : Option Man) → is_of c o ≡ true → 1 ≤ weight s o
 unfolding is_of
 weight-of c s None e = cc
-weight-of c s (Some x) e = cond_both (same_kind Pawn x.kind) (1 + ranks_to_go x.colour s) 1 (λ n. 1 ≤ n) (λ _. omega arith) (λ _. omega arith)
+weight-of c s (Some x) e = cond_both (same_kind Pawn x.kind) (1 + ranks_to_go x.colour s) 1 (λ n. 1 ≤ n)
+    (λ _. omega arith) (λ _. omega arith)
 
 weight-pawn : (c : Colour) (s : ℕ) (o : Option Man) → is_man c Pawn o ≡ true → weight s o ≡ 1 + ranks_to_go c s
 unfolding is_man
@@ -84,13 +96,16 @@ weight-no_pawn c s (Some x) own e = let kind : same_kind Pawn x.kind ≡ false =
 
 -- no man weighs more than a pawn there
 weight-at_most : (s : ℕ) (x : Man) → weight s (Some x) ≤ 1 + ranks_to_go x.colour s
-weight-at_most s x = cond_both (same_kind Pawn x.kind) (1 + ranks_to_go x.colour s) 1 (λ n. n ≤ 1 + ranks_to_go x.colour s) (λ _. omega arith) (λ _. omega arith)
+weight-at_most s x = cond_both (same_kind Pawn x.kind) (1 + ranks_to_go x.colour s) 1
+    (λ n. n ≤ 1 + ranks_to_go x.colour s) (λ _. omega arith) (λ _. omega arith)
 
-weight-lands : (c : Colour) (s : ℕ) (o : Option Man) (k : Option Kind) → is_of c o ≡ true → weight s (man_that_lands o k) ≤ 1 + ranks_to_go c s
+weight-lands : (c : Colour) (s : ℕ) (o : Option Man) (k : Option Kind) → is_of c o ≡ true
+    → weight s (man_that_lands o k) ≤ 1 + ranks_to_go c s
 unfolding is_of
 weight-lands c s None k e = cc
 weight-lands c s (Some x) None e = rw (same_colour-true c x.colour e) (weight-at_most s x)
-weight-lands c s (Some x) (Some k) e = rw (same_colour-true c x.colour e) (weight-at_most s (record { colour = x.colour; kind = k }))
+weight-lands c s (Some x) (Some k) e =
+    rw (same_colour-true c x.colour e) (weight-at_most s (record { colour = x.colour; kind = k }))
 
 -- what the mover and a man that it takes on the end square weighed goes, and what lands comes
 
@@ -112,7 +127,8 @@ all_taken s o b e = rw e refl
 
 Spends : Setup → Move → Type 0
 Spends p m =
-    reserve (men_after p m) + weight m.from (man_at p.men m.from) + taken_by (is_of (other p.side) (man_at p.men m.to)) m.to (man_at p.men m.to)
+    reserve (men_after p m) + weight m.from (man_at p.men m.from) + taken_by (is_of (other p.side) (man_at p.men m.to))
+    m.to (man_at p.men m.to)
     ≤ reserve p.men + weight (lands_on p m) (man_that_lands (man_at p.men m.from) m.promotion)
 
 spends_by : (p : Setup) (m : Move) → length p.men ≡ 64 → Change p m → Rest p m → Spends p m
@@ -124,7 +140,8 @@ spends_by p m l h (Alone walk al ra) =
     let l1 = length-set p.men m.from None ∙ l in
     let one = reserve-set p.men m.from None l h.moves.from_in in
     let two = reserve-set (set p.men m.from None) m.to v l1 h.moves.to_in in
-    let at_to : get_or (set p.men m.from None) m.to None ≡ man_at p.men m.to = get_or-set_other p.men m.from m.to None None (from_apart p m h.moves walk) in
+    let at_to : get_or (set p.men m.from None) m.to None ≡ man_at p.men m.to =
+    get_or-set_other p.men m.from m.to None None (from_apart p m h.moves walk) in
     let two' = rw at_to at two in
     let most = taken_at_most (is_of (other p.side) (man_at p.men m.to)) m.to (man_at p.men m.to) in
     rw (walk.lands, list') (omega (arith, one, two', most))
@@ -151,14 +168,17 @@ spends_by p m l h (WithRook e r al ra rook to_free r_free r_to king r_in to_in n
     let l2 = length-set one_gone e None ∙ l1 in
     let l3 = length-set both_gone r (castled_rook p.side) ∙ l2 in
     let e_in = in_board p.men p.side Rook e l rook in
-    let e_from : e ≢ m.from = apart_by (λ o. is_man p.side Rook o) p.men e m.from rook (is_man-kind p.side p.side King Rook (man_at p.men m.from) refl king) in
+    let e_from : e ≢ m.from = apart_by (λ o. is_man p.side Rook o) p.men e m.from rook
+    (is_man-kind p.side p.side King Rook (man_at p.men m.from) refl king) in
     let at_e : get_or one_gone e None ≡ man_at p.men e = get_or-set_other p.men m.from e None None e_from in
     let one = reserve-set p.men m.from None l h.moves.from_in in
     let two = rw at_e at (reserve-set one_gone e None l1 e_in) in
     let three = reserve-set both_gone r (castled_rook p.side) l2 r_in in
     let four = reserve-set (set both_gone r (castled_rook p.side)) (lands_on p m) v l3 to_in in
-    let left = weight-no_pawn p.side e (man_at p.men e) (is_of-from_is_man p.side Rook (man_at p.men e) rook) (is_man-kind p.side p.side Rook Pawn (man_at p.men e) refl rook) in
-    let none : taken_by (is_of (other p.side) (man_at p.men m.to)) m.to (man_at p.men m.to) ≡ 0 = none_taken m.to (man_at p.men m.to) (is_of (other p.side) (man_at p.men m.to)) no_enemy in
+    let left = weight-no_pawn p.side e (man_at p.men e) (is_of-from_is_man p.side Rook (man_at p.men e) rook)
+    (is_man-kind p.side p.side Rook Pawn (man_at p.men e) refl rook) in
+    let none : taken_by (is_of (other p.side) (man_at p.men m.to)) m.to (man_at p.men m.to) ≡ 0 =
+    none_taken m.to (man_at p.men m.to) (is_of (other p.side) (man_at p.men m.to)) no_enemy in
     rw list' (omega (arith, one, two, three, four, left, none))
 
 spends : (p : Setup) (m : Move) → IsSound p → Change p m → Spends p m
@@ -166,22 +186,29 @@ spends p m sound h = spends_by p m sound.board h h.rest
 
 -- a pawn goes ahead
 
-pawn_off_ends_at : (men : Men) (c : Colour) (s : ℕ) → is_man c Pawn (man_at men s) ≡ true → pawn_may_stand men s ≡ true → (rank s ≢ 0) × (rank s ≢ 7)
+pawn_off_ends_at : (men : Men) (c : Colour) (s : ℕ) → is_man c Pawn (man_at men s) ≡ true → pawn_may_stand men s ≡ true
+    → (rank s ≢ 0) × (rank s ≢ 7)
 unfolding pawn_may_stand
 pawn_off_ends_at men c s man e =
     let pawn : (is_man White Pawn (man_at men s) || is_man Black Pawn (man_at men s)) ≡ true = of_some_colour c man in
-    let e' : ((rank s == 0) || (rank s == 7)) ≡ false = rw pawn at (not-true _ e) in
-    ((λ r. both_ways (rank s == 0) (or_parts (rank s == 0) (rank s == 7) e').0 (eq-eqb (rank s) 0 r)), (λ r. both_ways (rank s == 7) (or_parts (rank s == 0) (rank s == 7) e').1 (eq-eqb (rank s) 7 r)))
+    let e' : ((rank s == 0) || (rank s == 7)) ≡ false = rw pawn at (not-true _ e) in (
+      (λ r. both_ways (rank s == 0) (or_parts (rank s == 0) (rank s == 7) e').0 (eq-eqb (rank s) 0 r)),
+      (λ r. both_ways (rank s == 7) (or_parts (rank s == 0) (rank s == 7) e').1 (eq-eqb (rank s) 7 r)),
+    )
   where
-    of_some_colour : (d : Colour) → is_man d Pawn (man_at men s) ≡ true → (is_man White Pawn (man_at men s) || is_man Black Pawn (man_at men s)) ≡ true
+    of_some_colour : (d : Colour) → is_man d Pawn (man_at men s) ≡ true
+        → (is_man White Pawn (man_at men s) || is_man Black Pawn (man_at men s)) ≡ true
     of_some_colour White h = or_left _ _ h
     of_some_colour Black h = or_right _ _ h
 
-pawn_off_ends : (p : Setup) (m : Move) → IsSound p → Moves p m → is_man p.side Pawn (man_at p.men m.from) ≡ true → (rank m.from ≢ 0) × (rank m.from ≢ 7)
+pawn_off_ends : (p : Setup) (m : Move) → IsSound p → Moves p m → is_man p.side Pawn (man_at p.men m.from) ≡ true
+    → (rank m.from ≢ 0) × (rank m.from ≢ 7)
 unfolding no_pawn_on_end_ranks
-pawn_off_ends p m sound moves man = pawn_off_ends_at p.men p.side m.from man (each_square-at _ sound.pawns m.from moves.from_in)
+pawn_off_ends p m sound moves man = pawn_off_ends_at p.men p.side m.from man
+    (each_square-at _ sound.pawns m.from moves.from_in)
 
-straight_ahead : (c : Colour) (a b : ℕ) → rank a ≢ 0 → b < 64 → (b ≡ forward c a) ⊎ ((rank a ≡ pawn_rank c) × (b ≡ forward c (forward c a))) → ranks_to_go c b < ranks_to_go c a
+straight_ahead : (c : Colour) (a b : ℕ) → rank a ≢ 0 → b < 64 → (b ≡ forward c a)
+    ⊎ ((rank a ≡ pawn_rank c) × (b ≡ forward c (forward c a))) → ranks_to_go c b < ranks_to_go c a
 straight_ahead White a b off h (inl e) = omega arith
 straight_ahead White a b off h (inr e) = omega (arith, e.1)
 straight_ahead Black a b off h (inl e) = omega arith
@@ -191,17 +218,23 @@ aside_ahead : (c : Colour) (a b : ℕ) → b < 64 → is_rank_ahead c a b ≡ tr
 aside_ahead White a b h e = let r = rank_ahead_White a b e in omega (arith, r)
 aside_ahead Black a b h e = let r = rank_ahead_Black a b e in omega (arith, r)
 
-goes_ahead : (p : Setup) (m : Move) → IsSound p → Moves p m → is_man p.side Pawn (man_at p.men m.from) ≡ true → PawnKind p m → ranks_to_go p.side m.to < ranks_to_go p.side m.from
-goes_ahead p m sound moves man (Advances e) = straight_ahead p.side m.from m.to (pawn_off_ends p m sound moves man).0 moves.to_in (advance_goes p m e)
-goes_ahead p m sound moves man (Captures e taken) = aside_ahead p.side m.from m.to moves.to_in (pawn_attack p.men p.side m.from m.to man e).1
-goes_ahead p m sound moves man (TakesEnPassant e at) = aside_ahead p.side m.from m.to moves.to_in (pawn_attack p.men p.side m.from m.to man e).1
+goes_ahead : (p : Setup) (m : Move) → IsSound p → Moves p m → is_man p.side Pawn (man_at p.men m.from) ≡ true
+    → PawnKind p m → ranks_to_go p.side m.to < ranks_to_go p.side m.from
+goes_ahead p m sound moves man (Advances e) = straight_ahead p.side m.from m.to (pawn_off_ends p m sound moves man).0
+    moves.to_in (advance_goes p m e)
+goes_ahead p m sound moves man (Captures e taken) = aside_ahead p.side m.from m.to moves.to_in
+    (pawn_attack p.men p.side m.from m.to man e).1
+goes_ahead p m sound moves man (TakesEnPassant e at) = aside_ahead p.side m.from m.to moves.to_in
+    (pawn_attack p.men p.side m.from m.to man e).1
 
 -- what lands against what left
 
 Lands : Setup → Move → Type 0
-Lands p m = weight (lands_on p m) (man_that_lands (man_at p.men m.from) m.promotion) ≤ weight m.from (man_at p.men m.from)
+Lands p m = weight (lands_on p m) (man_that_lands (man_at p.men m.from) m.promotion) ≤ weight m.from
+    (man_at p.men m.from)
 
-man_lands : (p : Setup) (m : Move) → Moves p m → is_man p.side Pawn (man_at p.men m.from) ≡ false → is_none m.promotion ≡ true → Lands p m
+man_lands : (p : Setup) (m : Move) → Moves p m → is_man p.side Pawn (man_at p.men m.from) ≡ false
+    → is_none m.promotion ≡ true → Lands p m
 unfolding Lands
 man_lands p m moves n e =
     let own = is_of-mover p m moves in
@@ -209,10 +242,12 @@ man_lands p m moves n e =
     let n' : is_man p.side Pawn (Some moves.mover) ≡ false = rw (← moves.at_from) n in
     let before = weight-no_pawn p.side m.from (Some moves.mover) own' n' in
     let after' = weight-no_pawn p.side (lands_on p m) (Some moves.mover) own' n' in
-    let same : man_that_lands (man_at p.men m.from) m.promotion ≡ Some moves.mover = rw (moves.at_from, is_none-None m.promotion e) refl in
+    let same : man_that_lands (man_at p.men m.from) m.promotion ≡ Some moves.mover =
+    rw (moves.at_from, is_none-None m.promotion e) refl in
     rw (same, moves.at_from) (omega (arith, before, after'))
 
-pawn_lands : (p : Setup) (m : Move) → IsSound p → Moves p m → is_man p.side Pawn (man_at p.men m.from) ≡ true → PawnKind p m
+pawn_lands : (p : Setup) (m : Move) → IsSound p → Moves p m → is_man p.side Pawn (man_at p.men m.from) ≡ true
+    → PawnKind p m
     → weight (lands_on p m) (man_that_lands (man_at p.men m.from) m.promotion) < weight m.from (man_at p.men m.from)
 pawn_lands p m sound moves man kind =
     let before = weight-pawn p.side m.from (man_at p.men m.from) man in
@@ -229,7 +264,8 @@ unfolding man_moves Lands
 lands_by p m sound moves (ManMoves n c e) = man_lands p m moves n (and_parts _ _ (and_parts _ _ e).0).0
 lands_by p m sound moves (Castles w r c at e) =
     let king = (castling_says p m w (says_from_castling p m w c)).0 in
-    man_lands p m moves (is_man-kind p.side p.side King Pawn (man_at p.men m.from) refl king) (castles_plainly p m (castle_from p.side w m.from r) e)
+    man_lands p m moves (is_man-kind p.side p.side King Pawn (man_at p.men m.from) refl king)
+    (castles_plainly p m (castle_from p.side w m.from r) e)
 lands_by p m sound moves (PawnMoves man fits kind) = let less = pawn_lands p m sound moves man kind in omega arith
 
 -- the laws
@@ -242,17 +278,20 @@ never_grows p m sound legal =
     let lands = lands_by p m sound h.moves h.moves.kind in
     omega (arith, spent, lands)
 
-pawn_falls : (p : Setup) (m : Move) → IsSound p → Change p m → is_man p.side Pawn (man_at p.men m.from) ≡ true → MoveKind p m → reserve (men_after p m) < reserve p.men
+pawn_falls : (p : Setup) (m : Move) → IsSound p → Change p m → is_man p.side Pawn (man_at p.men m.from) ≡ true
+    → MoveKind p m → reserve (men_after p m) < reserve p.men
 unfolding Spends
 pawn_falls p m sound h man (ManMoves n c e) = absurd (both_ways _ n man)
 pawn_falls p m sound h man (Castles w r c at e) =
-    absurd (both_ways _ (is_man-kind p.side p.side King Pawn (man_at p.men m.from) refl (castling_says p m w (says_from_castling p m w c)).0) man)
+    absurd (both_ways _ (is_man-kind p.side p.side King Pawn (man_at p.men m.from) refl
+    (castling_says p m w (says_from_castling p m w c)).0) man)
 pawn_falls p m sound h man (PawnMoves man' fits kind) =
     let spent = spends p m sound h in
     let lands = pawn_lands p m sound h.moves man kind in
     omega (arith, spent, lands)
 
-capture_falls : (p : Setup) (m : Move) → IsSound p → Change p m → is_of (other p.side) (man_at p.men m.to) ≡ true → reserve (men_after p m) < reserve p.men
+capture_falls : (p : Setup) (m : Move) → IsSound p → Change p m → is_of (other p.side) (man_at p.men m.to) ≡ true
+    → reserve (men_after p m) < reserve p.men
 unfolding Spends Lands
 capture_falls p m sound h taken =
     let spent = spends p m sound h in
@@ -269,11 +308,13 @@ clock_was_reset p m e = reset_by (resets_clock p m) e
     reset_by true e' = refl
     reset_by false e' = absurd (omega arith)
 
-pub falls_for_good : (p : Setup) (m : Move) → IsSound p → is_legal p m ≡ true → (after p m).halfmove ≡ 0 → reserve (after p m).men < reserve p.men
+pub falls_for_good : (p : Setup) (m : Move) → IsSound p → is_legal p m ≡ true → (after p m).halfmove ≡ 0
+    → reserve (after p m).men < reserve p.men
 unfolding is_legal after resets_clock
 falls_for_good p m sound legal e =
     let h = change_of p m sound (and_parts (has_pattern p m) (not (is_in_check (men_after p m) p.side)) legal).0 in
-    elim (or_cases (is_man p.side Pawn (man_at p.men m.from)) (is_of (other p.side) (man_at p.men m.to)) (clock_was_reset p m e)) [
+    elim (or_cases (is_man p.side Pawn (man_at p.men m.from)) (is_of (other p.side) (man_at p.men m.to))
+    (clock_was_reset p m e)) [
       | inl man ↦ pawn_falls p m sound h man h.moves.kind
       | inr taken ↦ capture_falls p m sound h taken
     ]

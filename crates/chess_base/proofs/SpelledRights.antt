@@ -23,21 +23,24 @@ pub times-cons : (c x : ℕ) (xs : List ℕ) → times c (x ∷ xs) ≡ cond (eq
 times-cons c x xs = sum_by-cons (λ b. cond (eqb b c) 1 0) x xs
 
 times-here : (x : ℕ) (xs : List ℕ) → times x (x ∷ xs) ≡ 1 + times x xs
-times-here x xs = let same : eqb x x ≡ true = grind (arith, nat_tests) in times-cons x x xs ∙ ap (λ b. cond b 1 0 + times x xs) same
+times-here x xs = let same : eqb x x ≡ true = grind (arith, nat_tests) in times-cons x x xs
+    ∙ ap (λ b. cond b 1 0 + times x xs) same
 
 times-later : (c x : ℕ) (xs : List ℕ) → times c xs ≤ times c (x ∷ xs)
 times-later c x xs = omega (arith, times-cons c x xs)
 
 -- ---- the letters
 
-each_letter : (v : Variant) (whole text : List ℕ) → list_all (names_once v whole) text ≡ true → AllByRecursion (λ c. IsTrue (may_name_right v c)) text
+each_letter : (v : Variant) (whole text : List ℕ) → list_all (names_once v whole) text ≡ true
+    → AllByRecursion (λ c. IsTrue (may_name_right v c)) text
 each_letter v whole [] e = tt
 each_letter v whole (c ∷ cs) e =
     let parts = and_parts (names_once v whole c) (list_all (names_once v whole) cs) e in
     ((and_parts (may_name_right v c) (eqb (times c whole) 1) parts.0).0, each_letter v whole cs parts.1)
 
 -- a letter that is there is there once
-once : (v : Variant) (whole text : List ℕ) (c : ℕ) → list_all (names_once v whole) text ≡ true → 0 < times c text → times c whole ≡ 1
+once : (v : Variant) (whole text : List ℕ) (c : ℕ) → list_all (names_once v whole) text ≡ true → 0 < times c text
+    → times c whole ≡ 1
 once v whole [] c e h = absurd (omega (arith, h))
 once v whole (x ∷ xs) c e h = by_test (eqb x c) refl (λ later. once v whole xs c parts.1 later)
   where
@@ -59,12 +62,16 @@ at_most_once v text e c = by_times (times c text) refl
     by_times ℕ.zero t = omega (arith, t)
     by_times (ℕ.suc n) t = let one = once v text text c e (omega (arith, t)) in omega (arith, one)
 
-names_all : (v : Variant) (whole text : List ℕ) → ((c : ℕ) → times c text ≤ times c whole) → ((c : ℕ) → times c whole ≤ 1) → AllByRecursion (λ c. IsTrue (may_name_right v c)) text → list_all (names_once v whole) text ≡ true
+names_all : (v : Variant) (whole text : List ℕ) → ((c : ℕ) → times c text ≤ times c whole)
+    → ((c : ℕ) → times c whole ≤ 1) → AllByRecursion (λ c. IsTrue (may_name_right v c)) text
+    → list_all (names_once v whole) text ≡ true
 names_all v whole [] within one p = refl
 names_all v whole (x ∷ xs) within one p =
     let is : times x whole ≡ 1 = omega (arith, within x, one x, times-here x xs) in
     let t : eqb (times x whole) 1 ≡ true = grind (arith, nat_tests, is) in
-    and_from (names_once v whole x) (list_all (names_once v whole) xs) (and_from (may_name_right v x) (eqb (times x whole) 1) p.0 t) (names_all v whole xs (λ c. omega (arith, within c, times-later c x xs)) one p.1)
+    and_from (names_once v whole x) (list_all (names_once v whole) xs)
+    (and_from (may_name_right v x) (eqb (times x whole) 1) p.0 t)
+    (names_all v whole xs (λ c. omega (arith, within c, times-later c x xs)) one p.1)
 
 letters_spelled : (v : Variant) (text : List ℕ) → are_letters v text ≡ true → AreRightLetters v text
 letters_spelled v text e =
@@ -81,7 +88,9 @@ spelled_letters : (v : Variant) (text : List ℕ) → AreRightLetters v text →
 spelled_letters v text s =
     let t0 : ltb 0 (length text) ≡ true = grind (arith, nat_tests, s.some) in
     let t1 : leb (length text) 4 ≡ true = grind (arith, nat_tests, s.few) in
-    and_from (ltb 0 (length text) && leb (length text) 4) (list_all (names_once v text) text) (and_from (ltb 0 (length text)) (leb (length text) 4) t0 t1) (names_all v text text (λ c. omega arith) s.distinct s.each)
+    and_from (ltb 0 (length text) && leb (length text) 4) (list_all (names_once v text) text)
+    (and_from (ltb 0 (length text)) (leb (length text) 4) t0 t1)
+    (names_all v text text (λ c. omega arith) s.distinct s.each)
 
 pub spelled-castling : (v : Variant) (text : List ℕ) → is_castling v text ≡ true → IsCastling v text
 spelled-castling v [] e = absurd cc
@@ -98,32 +107,39 @@ spelled-castling v (c ∷ cs) e = by_case (or_cases (eqb c dash && eqb (length c
 pub castling-spelled : (v : Variant) (text : List ℕ) → IsCastling v text → is_castling v text ≡ true
 castling-spelled v text (inl e) = ap (is_castling v) e
 castling-spelled v [] (inr s) = absurd (omega (arith, s.some))
-castling-spelled v (c ∷ cs) (inr s) = or_right (eqb c dash && eqb (length cs) 0) (are_letters v (c ∷ cs)) (spelled_letters v (c ∷ cs) s)
+castling-spelled v (c ∷ cs) (inr s) = or_right (eqb c dash && eqb (length cs) 0) (are_letters v (c ∷ cs))
+    (spelled_letters v (c ∷ cs) s)
 
 -- ---- the rights that they name
 
-held : (b : Bool) (corner : ℕ) → (IsSome (cond b (Some corner) None) ↔ IsTrue b) × IfSome (cond b (Some corner) None) (λ square. square ≡ corner)
+held : (b : Bool) (corner : ℕ) → (IsSome (cond b (Some corner) None) ↔ IsTrue b)
+    × IfSome (cond b (Some corner) None) (λ square. square ≡ corner)
 held true corner = (((λ _. refl), (λ _. refl)), refl)
 held false corner = (((λ e. e), (λ e. e)), tt)
 
-pub spelled-right : (letter : ℕ) (text : List ℕ) (corner : ℕ) → IsHeldBy letter text (right_named text letter corner) corner
+pub spelled-right : (letter : ℕ) (text : List ℕ) (corner : ℕ)
+    → IsHeldBy letter text (right_named text letter corner) corner
 spelled-right letter text corner = held (occurs letter text) corner
 
-named : (b : Bool) (right : Option ℕ) (corner : ℕ) → (IsSome right ↔ IsTrue b) → IfSome right (λ square. square ≡ corner) → cond b (Some corner) None ≡ right
+named : (b : Bool) (right : Option ℕ) (corner : ℕ) → (IsSome right ↔ IsTrue b)
+    → IfSome right (λ square. square ≡ corner) → cond b (Some corner) None ≡ right
 named true (Some square) corner i h = ap Some (sym h)
 named true None corner i h = let e : false ≡ true = i.1 refl in absurd cc
 named false (Some square) corner i h = let e : false ≡ true = i.0 refl in absurd cc
 named false None corner i h = refl
 
-pub right-spelled : (letter : ℕ) (text : List ℕ) (right : Option ℕ) (corner : ℕ) → IsHeldBy letter text right corner → right_named text letter corner ≡ right
+pub right-spelled : (letter : ℕ) (text : List ℕ) (right : Option ℕ) (corner : ℕ) → IsHeldBy letter text right corner
+    → right_named text letter corner ≡ right
 right-spelled letter text right corner s = named (occurs letter text) right corner s.0 s.1
 
 -- ---- in both variants
 
-pub spelled-told : (v : Variant) (men : Men) (text : List ℕ) (c : Colour) (w : CastlingSide) → IsHeld v men text c w (right_told v men text c w)
+pub spelled-told : (v : Variant) (men : Men) (text : List ℕ) (c : Colour) (w : CastlingSide)
+    → IsHeld v men text c w (right_told v men text c w)
 spelled-told Normal men text c w = spelled-right (side_letter c w) text (home_square c (rook_file w))
 spelled-told Fischerandom men text c w = refl
 
-pub told-spelled : (v : Variant) (men : Men) (text : List ℕ) (c : Colour) (w : CastlingSide) (right : Option ℕ) → IsHeld v men text c w right → right_told v men text c w ≡ right
+pub told-spelled : (v : Variant) (men : Men) (text : List ℕ) (c : Colour) (w : CastlingSide) (right : Option ℕ)
+    → IsHeld v men text c w right → right_told v men text c w ≡ right
 told-spelled Normal men text c w right s = right-spelled (side_letter c w) text right (home_square c (rook_file w)) s
 told-spelled Fischerandom men text c w right s = sym s

@@ -9,7 +9,8 @@ use Rattle.chess_base.proofs.RoundTrip.{told, describing-fen, setup-back}
 use Rattle.chess_base.proofs.SpelledFen.{TextOutcome, text_outcome, described}
 
 pub fen-spelled : (p : Setup) → IsSound p → SpellsFenAs p.variant (fen p) p
-fen-spelled p h = subst (SpellsFenAs p.variant (fen p)) (setup-back p h) (subst (TextOutcome p.variant (fen p)) (describing-fen p h) (text_outcome p.variant (fen p)))
+fen-spelled p h = subst (SpellsFenAs p.variant (fen p)) (setup-back p h)
+    (subst (TextOutcome p.variant (fen p)) (describing-fen p h) (text_outcome p.variant (fen p)))
 
 pub no_other : (p q : Setup) → IsSound p → SpellsFenAs p.variant (fen p) q → q ≡ p
 no_other p q h s =

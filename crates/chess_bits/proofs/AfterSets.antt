@@ -21,7 +21,8 @@ use Rattle.chess_bits.specs.ties.Occupancy.{IsLater}
 
 -- the squares that a move changes, and those that it fills
 abbrev pub is_changed : Setup → Move → ℕ → Bool
-is_changed p m k = (lands_on p m == k) || is_square (castling_rook_to p m) k || (is_square (second_square_emptied p m) k || (m.from == k))
+is_changed p m k = (lands_on p m == k) || is_square (castling_rook_to p m) k
+    || (is_square (second_square_emptied p m) k || (m.from == k))
 
 abbrev pub is_filled : Setup → Move → ℕ → Bool
 is_filled p m k = (lands_on p m == k) || is_square (castling_rook_to p m) k
@@ -39,12 +40,15 @@ filled_by false false true a k c h = and_right (not (is_none k)) false refl
 filled_by false false false a k c h = sym (and_true (not (is_none k)))
 
 -- the occupied squares after a move
-pub occupied_after : (p : Setup) (m : Move) (k : ℕ) → is_none (man_that_lands (man_at p.men m.from) m.promotion) ≡ false → k < 64
-    → (is_filled p m k || (not (is_none (man_at p.men k)) && not (is_changed p m k))) ≡ not (is_none (man_at (men_after p m) k))
+pub occupied_after : (p : Setup) (m : Move) (k : ℕ) → is_none (man_that_lands (man_at p.men m.from) m.promotion) ≡ false
+    → k < 64
+    → (is_filled p m k || (not (is_none (man_at p.men k)) && not (is_changed p m k)))
+    ≡ not (is_none (man_at (men_after p m) k))
 unfolding man_after
 occupied_after p m k h l =
     rw (man_at-men_after p m k l)
-    (filled_by (lands_on p m == k) (is_square (castling_rook_to p m) k) (is_square (second_square_emptied p m) k || (m.from == k))
+    (filled_by (lands_on p m == k) (is_square (castling_rook_to p m) k)
+    (is_square (second_square_emptied p m) k || (m.from == k))
     (man_that_lands (man_at p.men m.from) m.promotion) (man_at p.men k) p.side h)
 
 kept_by : (t r l : Bool) (a k : Option Man) (c d : Colour) (kind : Kind)
@@ -57,7 +61,8 @@ kept_by false true l a k c d x h e = rw e (and_right (is_man d x k) false refl)
 kept_by false false true a k c d x h e = and_right (is_man d x k) false refl
 kept_by false false false a k c d x h e = sym (and_true (is_man d x k))
 
-other_not_own : (c : Colour) (k : Kind) (kind : Kind) → is_man (other c) kind (Some (record { colour = c; kind = k })) ≡ false
+other_not_own : (c : Colour) (k : Kind) (kind : Kind) → is_man (other c) kind (Some (record { colour = c; kind = k }))
+    ≡ false
 unfolding is_man
 other_not_own White k x = refl
 other_not_own Black k x = refl
@@ -65,16 +70,19 @@ other_not_own Black k x = refl
 -- the enemy's men after a move: those on squares that did not change
 pub enemy_after : (p : Setup) (m : Move) (kind : Kind) (k : ℕ)
     → is_of (other p.side) (man_that_lands (man_at p.men m.from) m.promotion) ≡ false → k < 64
-    → (is_man (other p.side) kind (man_at p.men k) && not (is_changed p m k)) ≡ is_man (other p.side) kind (man_at (men_after p m) k)
+    → (is_man (other p.side) kind (man_at p.men k) && not (is_changed p m k)) ≡ is_man (other p.side) kind
+    (man_at (men_after p m) k)
 unfolding man_after
 enemy_after p m x k h l =
     rw (man_at-men_after p m k l)
-    (kept_by (lands_on p m == k) (is_square (castling_rook_to p m) k) (is_square (second_square_emptied p m) k || (m.from == k))
+    (kept_by (lands_on p m == k) (is_square (castling_rook_to p m) k)
+    (is_square (second_square_emptied p m) k || (m.from == k))
     (man_that_lands (man_at p.men m.from) m.promotion) (man_at p.men k) p.side (other p.side) x
     (not_is_man (other p.side) x (man_that_lands (man_at p.men m.from) m.promotion) h) (other_not_own p.side Rook x))
 
 -- where the king's square is known, a check is an attack on it
-pub check_is : (men : Men) (c : Colour) (king : ℕ) → king < 64 → ((k : ℕ) → k < 64 → is_man c King (man_at men k) ≡ (k == king))
+pub check_is : (men : Men) (c : Colour) (king : ℕ) → king < 64
+    → ((k : ℕ) → k < 64 → is_man c King (man_at men k) ≡ (k == king))
     → is_in_check men c ≡ is_attacked men king (other c)
 unfolding is_in_check
 check_is men c king l one =

@@ -12,14 +12,16 @@ any_of q [] = false
 any_of q (x ∷ xs) = q x || any_of q xs
 
 -- the first doesn't pass
-pub passed_by : (q : ℕ → Bool) (ms : List ℕ) (s : ℕ) (ns : List ℕ) (t : Bool) → ms ≡ s ∷ ns → q s ≡ false → any_of q ms ≡ t → any_of q ns ≡ t
+pub passed_by : (q : ℕ → Bool) (ms : List ℕ) (s : ℕ) (ns : List ℕ) (t : Bool) → ms ≡ s ∷ ns → q s ≡ false
+    → any_of q ms ≡ t → any_of q ns ≡ t
 passed_by q ms s ns t e off h = sym (ap (λ v. v || any_of q ns) off) ∙ sym (ap (any_of q) e) ∙ h
 
 -- it does
 pub found_first : (q : ℕ → Bool) (ms : List ℕ) (s : ℕ) (ns : List ℕ) → ms ≡ s ∷ ns → q s ≡ true → any_of q ms ≡ true
 found_first q ms s ns e on = ap (any_of q) e ∙ ap (λ v. v || any_of q ns) on
 
-none_in : (p q : ℕ → Bool) (n a : ℕ) → any_of q (filter p (range_with_len a n)) ≡ false → (k : ℕ) → a ≤ k → k < a + n → p k ≡ true → q k ≡ false
+none_in : (p q : ℕ → Bool) (n a : ℕ) → any_of q (filter p (range_with_len a n)) ≡ false → (k : ℕ) → a ≤ k → k < a + n
+    → p k ≡ true → q k ≡ false
 none_in p q zero a h k low high on = absurd (omega (arith, low, high))
 none_in p q (suc n) a h k low high on =
     let further : any_of q (filter p (range_with_len (a + 1) n)) ≡ false → (a ≡ k → ⊥) → q k ≡ false =
@@ -34,7 +36,8 @@ none_in p q (suc n) a h k low high on =
       | inr away ↦ further (rw away at h) (λ same. both_ways (p a) away (ap p same ∙ on))
     ]
 
-each_passes : (p q : ℕ → Bool) (n a : ℕ) → ((k : ℕ) → a ≤ k → k < a + n → p k ≡ true → q k ≡ false) → any_of q (filter p (range_with_len a n)) ≡ false
+each_passes : (p q : ℕ → Bool) (n a : ℕ) → ((k : ℕ) → a ≤ k → k < a + n → p k ≡ true → q k ≡ false)
+    → any_of q (filter p (range_with_len a n)) ≡ false
 each_passes p q zero a h = refl
 each_passes p q (suc n) a h =
     let rest = each_passes p q n (a + 1) (λ k low high on. h k (omega (arith, low)) (omega (arith, high)) on) in
@@ -57,12 +60,15 @@ pub none_of : (w : ℕ) (q : ℕ → Bool) → each_square (λ x. not (has w x) 
 unfolding members squares
 none_of w q =
     elim (cases_Bool (any_of q (filter (λ k. has w k) squares))) [
-      | inr none ↦ each_square-all _ (λ x low. either (has w x) (q x) (none_in (λ k. has w k) q 64 0 none x (omega arith) (omega (arith, low)))) ∙ sym (ap not none)
+      | inr none ↦ each_square-all _
+          (λ x low. either (has w x) (q x) (none_in (λ k. has w k) q 64 0 none x (omega arith) (omega (arith, low))))
+          ∙ sym (ap not none)
       | inl some ↦
           false_from_ne_true _
           (λ all.
           both_ways (any_of q (filter (λ k. has w k) squares))
-          (each_passes (λ k. has w k) q 64 0 (λ k low high on. told (has w k) (q k) (each_square-at _ all k (omega (arith, high))) on))
+          (each_passes (λ k. has w k) q 64 0
+          (λ k low high on. told (has w k) (q k) (each_square-at _ all k (omega (arith, high))) on))
           some)
           ∙ sym (ap not some)
     ]

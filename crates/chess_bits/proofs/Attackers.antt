@@ -20,13 +20,15 @@ use Rattle.chess_bits.specs.ties.Occupancy.{IsOccupied}
 
 -- the four rays along lines, and the four along diagonals
 pub on_lines : (a b : ℕ) (o : Bool)
-    → (((is_on_ray Rank true b a && o) || (is_on_ray Rank false b a && o)) || ((is_on_ray File true b a && o) || (is_on_ray File false b a && o)))
+    → (((is_on_ray Rank true b a && o) || (is_on_ray Rank false b a && o))
+    || ((is_on_ray File true b a && o) || (is_on_ray File false b a && o)))
     ≡ (not (a == b) && share_rank_or_file a b && o)
 on_lines a b true = grind (arith, nat_tests)
 on_lines a b false = grind (arith, nat_tests)
 
 pub on_diagonals : (a b : ℕ) (o : Bool)
-    → (((is_on_ray Diagonal true b a && o) || (is_on_ray Diagonal false b a && o)) || ((is_on_ray Antidiagonal true b a && o) || (is_on_ray Antidiagonal false b a && o)))
+    → (((is_on_ray Diagonal true b a && o) || (is_on_ray Diagonal false b a && o))
+    || ((is_on_ray Antidiagonal true b a && o) || (is_on_ray Antidiagonal false b a && o)))
     ≡ (not (a == b) && share_diagonal a b && o)
 on_diagonals a b true = grind (arith, nat_tests)
 on_diagonals a b false = grind (arith, nat_tests)
@@ -56,11 +58,13 @@ swap_first false false r = refl
 
 back_on_file : (a b x : ℕ) → is_between_on_file a b x ≡ is_between_on_file b a x
 unfolding is_between_on_file
-back_on_file a b x = rw (inside_back (rank a) (rank b) (rank x)) (swap_first (file x == file a) (file x == file b) (lies_inside (rank b) (rank a) (rank x)))
+back_on_file a b x = rw (inside_back (rank a) (rank b) (rank x))
+    (swap_first (file x == file a) (file x == file b) (lies_inside (rank b) (rank a) (rank x)))
 
 back_on_rank : (a b x : ℕ) → is_between_on_rank a b x ≡ is_between_on_rank b a x
 unfolding is_between_on_rank
-back_on_rank a b x = rw (inside_back (file a) (file b) (file x)) (swap_first (rank x == rank a) (rank x == rank b) (lies_inside (file b) (file a) (file x)))
+back_on_rank a b x = rw (inside_back (file a) (file b) (file x))
+    (swap_first (rank x == rank a) (rank x == rank b) (lies_inside (file b) (file a) (file x)))
 
 pub diagonal_back : (a b : ℕ) → share_diagonal a b ≡ share_diagonal b a
 diagonal_back a b = rw (gap_back (file a) (file b), gap_back (rank a) (rank b)) refl
@@ -133,20 +137,24 @@ queen_parts e l d o = grind arith
 -- from the square that is attacked
 abbrev seen : Men → Colour → ℕ → ℕ → Bool → Kind → Bool
 seen men c a b s kind =
-    hit (not (a == b) && share_rank_or_file a b && is_clear men a b) (not (a == b) && share_diagonal a b && is_clear men a b)
+    hit (not (a == b) && share_rank_or_file a b && is_clear men a b)
+    (not (a == b) && share_diagonal a b && is_clear men a b)
     (in_shape shape.King b a) (in_shape shape.Knight b a) (in_shape (shape.Pawn (other c)) b a) s kind
 
-seen_kind : (men : Men) (c : Colour) (a b : ℕ) (s : Bool) (kind : Kind) → seen men c a b s kind ≡ (s && could_capture men c kind a b)
+seen_kind : (men : Men) (c : Colour) (a b : ℕ) (s : Bool) (kind : Kind)
+    → seen men c a b s kind ≡ (s && could_capture men c kind a b)
 unfolding could_capture
 seen_kind men c a b s King = hit_king _ _ _ _ _ s ∙ ap (λ x. s && x) (king_back men c a b)
-seen_kind men c a b s Queen = hit_queen _ _ _ _ _ s ∙ ap (λ x. s && x) (queen_parts (not (a == b)) (share_rank_or_file a b) (share_diagonal a b) (is_clear men a b))
+seen_kind men c a b s Queen = hit_queen _ _ _ _ _ s
+    ∙ ap (λ x. s && x) (queen_parts (not (a == b)) (share_rank_or_file a b) (share_diagonal a b) (is_clear men a b))
 seen_kind men c a b s Rook = hit_rook _ _ _ _ _ s
 seen_kind men c a b s Bishop = hit_bishop _ _ _ _ _ s
 seen_kind men c a b s Knight = hit_knight _ _ _ _ _ s ∙ ap (λ x. s && x) (knight_back men c a b)
 seen_kind men c a b s Pawn = hit_pawn _ _ _ _ _ s ∙ ap (λ x. s && x) (pawn_back men c a b)
 
 -- a man's colour is the one that was asked for
-own_reach : (men : Men) (c d : Colour) (kind : Kind) (a b : ℕ) → (same_colour c d && could_capture men c kind a b) ≡ (same_colour c d && could_capture men d kind a b)
+own_reach : (men : Men) (c d : Colour) (kind : Kind) (a b : ℕ) → (same_colour c d && could_capture men c kind a b)
+    ≡ (same_colour c d && could_capture men d kind a b)
 own_reach men White White kind a b = refl
 own_reach men White Black kind a b = refl
 own_reach men Black White kind a b = refl
@@ -160,7 +168,8 @@ pub attackers_are : (men : Men) (c : Colour) (a b : ℕ) (o : Option Man)
     ≡ (is_of c o && could_capture_as men o a b)
 unfolding is_of is_man
 attackers_are men c a b None = seen_kind men c a b false King
-attackers_are men c a b (Some x) = seen_kind men c a b (same_colour c x.colour) x.kind ∙ own_reach men c x.colour x.kind a b
+attackers_are men c a b (Some x) = seen_kind men c a b (same_colour c x.colour) x.kind
+    ∙ own_reach men c x.colour x.kind a b
 
 some_below_same : (n : ℕ) (p q : ℕ → Bool) → ((k : ℕ) → k < n → p k ≡ q k) → some_below n p ≡ some_below n q
 some_below_same zero p q h = refl
@@ -175,11 +184,13 @@ not_not true = refl
 not_not false = refl
 
 -- a square is attacked where its set of attackers is not empty
-pub attacked_is : (w : ℕ) (men : Men) (b : ℕ) (c : Colour) → ((k : ℕ) → k < 64 → has w k ≡ (is_of c (man_at men k) && attacks men k b))
+pub attacked_is : (w : ℕ) (men : Men) (b : ℕ) (c : Colour)
+    → ((k : ℕ) → k < 64 → has w k ≡ (is_of c (man_at men k) && attacks men k b))
     → not (not (some_square (λ k. has w k))) ≡ is_attacked men b c
 unfolding is_attacked
 attacked_is w men b c h =
-    not_not (some_square (λ k. has w k)) ∙ some_square_same (λ k. has w k) (λ k. is_of c (man_at men k) && attacks men k b) h
+    not_not (some_square (λ k. has w k))
+    ∙ some_square_same (λ k. has w k) (λ k. is_of c (man_at men k) && attacks men k b) h
 
 -- where a set is empty, no man is met
 pub none_there : (w k : ℕ) → (w == 0) ≡ true → has w k ≡ false

@@ -10,7 +10,8 @@ use Rattle.chess_bits.proofs.Geometry.{between_on_line}
 use Rattle.chess_base.proofs.OverSquares.{each_square-all, each_square-fails}
 
 -- what lies between a square and one on a ray from it lies on that ray, before that square
-between_on_ray : (l : Line) (up : Bool) (a b x : ℕ) → is_on_ray l up a b ≡ true → is_between a b x ≡ (is_on_ray l up a x && is_past up x b)
+between_on_ray : (l : Line) (up : Bool) (a b x : ℕ) → is_on_ray l up a b ≡ true
+    → is_between a b x ≡ (is_on_ray l up a x && is_past up x b)
 between_on_ray l true a b x e =
     let same = and_parts (same_line l a b) (nat_lt a b) e in
     rw (between_on_line l a b x same.0) (grind (arith, nat_tests))
@@ -19,7 +20,8 @@ between_on_ray l false a b x e =
     rw (between_on_line l a b x same.0) (grind (arith, nat_tests))
 
 -- a ray from a square of a ray is the rest of that ray
-ray_on : (l : Line) (up : Bool) (a f x : ℕ) → is_on_ray l up a f ≡ true → is_on_ray l up f x ≡ (is_on_ray l up a x && is_past up f x)
+ray_on : (l : Line) (up : Bool) (a f x : ℕ) → is_on_ray l up a f ≡ true
+    → is_on_ray l up f x ≡ (is_on_ray l up a x && is_past up f x)
 ray_on l true a f x e = grind (arith, nat_tests)
 ray_on l false a f x e = grind (arith, nat_tests)
 

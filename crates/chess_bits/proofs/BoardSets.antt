@@ -26,7 +26,8 @@ kinds_kept sets men c s o all ls same h = record { of_kind = at }
 abbrev pub IsAll : ℕ → Colour → Men → Type 0
 IsAll w c men = (k : ℕ) → k < 64 → has w k ≡ is_of c (man_at men k)
 
-pub all_kept : (w : ℕ) (men : Men) (c : Colour) (s : ℕ) (o : Option Man) → length men ≡ 64 → s < 64 → is_of c (man_at men s) ≡ is_of c o → IsAll w c men → IsAll w c (set men s o)
+pub all_kept : (w : ℕ) (men : Men) (c : Colour) (s : ℕ) (o : Option Man) → length men ≡ 64 → s < 64
+    → is_of c (man_at men s) ≡ is_of c o → IsAll w c men → IsAll w c (set men s o)
 all_kept w men c s o all ls same h = λ k l.
     let in_men : s < length men = omega arith in
     elim (cases_eq k s) [
@@ -98,17 +99,25 @@ pub as_own : (d : Colour) (m : Man) → m.colour ≡ d → Some m ≡ Some (reco
 as_own d m e = ap (λ (c : Colour). let man : Man = record { colour = c; kind = m.kind } in Some man) e
 
 -- the other colour's sets stay
-pub theirs_lifted : (sets : List ℕ) (men : Men) (d : Colour) (s : ℕ) (m : Man) → length men ≡ 64 → s < 64 → m.colour ≡ d → man_at men s ≡ Some m → IsKinds sets (other d) men → IsKinds sets (other d) (set men s None)
-theirs_lifted sets men d s m all ls e at h = kinds_kept sets men (other d) s None all ls (λ y. ap (is_man (other d) y) at ∙ theirs_man d m y e ∙ sym (no_man (other d) y)) h
+pub theirs_lifted : (sets : List ℕ) (men : Men) (d : Colour) (s : ℕ) (m : Man) → length men ≡ 64 → s < 64 → m.colour ≡ d
+    → man_at men s ≡ Some m → IsKinds sets (other d) men → IsKinds sets (other d) (set men s None)
+theirs_lifted sets men d s m all ls e at h = kinds_kept sets men (other d) s None all ls
+    (λ y. ap (is_man (other d) y) at ∙ theirs_man d m y e ∙ sym (no_man (other d) y)) h
 
-pub theirs_put : (sets : List ℕ) (men : Men) (d : Colour) (s : ℕ) (m : Man) → length men ≡ 64 → s < 64 → m.colour ≡ d → man_at men s ≡ None → IsKinds sets (other d) men → IsKinds sets (other d) (set men s (Some m))
-theirs_put sets men d s m all ls e at h = kinds_kept sets men (other d) s (Some m) all ls (λ y. ap (is_man (other d) y) at ∙ no_man (other d) y ∙ sym (theirs_man d m y e)) h
+pub theirs_put : (sets : List ℕ) (men : Men) (d : Colour) (s : ℕ) (m : Man) → length men ≡ 64 → s < 64 → m.colour ≡ d
+    → man_at men s ≡ None → IsKinds sets (other d) men → IsKinds sets (other d) (set men s (Some m))
+theirs_put sets men d s m all ls e at h = kinds_kept sets men (other d) s (Some m) all ls
+    (λ y. ap (is_man (other d) y) at ∙ no_man (other d) y ∙ sym (theirs_man d m y e)) h
 
-pub all_theirs_lifted : (w : ℕ) (men : Men) (d : Colour) (s : ℕ) (m : Man) → length men ≡ 64 → s < 64 → m.colour ≡ d → man_at men s ≡ Some m → IsAll w (other d) men → IsAll w (other d) (set men s None)
-all_theirs_lifted w men d s m all ls e at h = all_kept w men (other d) s None all ls (ap (is_of (other d)) at ∙ theirs_of d m e ∙ sym (none_of (other d))) h
+pub all_theirs_lifted : (w : ℕ) (men : Men) (d : Colour) (s : ℕ) (m : Man) → length men ≡ 64 → s < 64 → m.colour ≡ d
+    → man_at men s ≡ Some m → IsAll w (other d) men → IsAll w (other d) (set men s None)
+all_theirs_lifted w men d s m all ls e at h =
+    all_kept w men (other d) s None all ls (ap (is_of (other d)) at ∙ theirs_of d m e ∙ sym (none_of (other d))) h
 
-pub all_theirs_put : (w : ℕ) (men : Men) (d : Colour) (s : ℕ) (m : Man) → length men ≡ 64 → s < 64 → m.colour ≡ d → man_at men s ≡ None → IsAll w (other d) men → IsAll w (other d) (set men s (Some m))
-all_theirs_put w men d s m all ls e at h = all_kept w men (other d) s (Some m) all ls (ap (is_of (other d)) at ∙ none_of (other d) ∙ sym (theirs_of d m e)) h
+pub all_theirs_put : (w : ℕ) (men : Men) (d : Colour) (s : ℕ) (m : Man) → length men ≡ 64 → s < 64 → m.colour ≡ d
+    → man_at men s ≡ None → IsAll w (other d) men → IsAll w (other d) (set men s (Some m))
+all_theirs_put w men d s m all ls e at h = all_kept w men (other d) s (Some m) all ls
+    (ap (is_of (other d)) at ∙ none_of (other d) ∙ sym (theirs_of d m e)) h
 
 -- ---- one square
 

@@ -34,7 +34,8 @@ use Rattle.chess_bits.proofs.Quiet.{could_capture_as_clear}
 -- ---- squares at home
 
 -- who sees the king's end square past his start sees it past the rook's end
-past_king : (c : Colour) (w : CastlingSide) (b : ℕ) → is_between b (home_square c (castled_king_file w)) (home_square c king_home_file) ≡ true
+past_king : (c : Colour) (w : CastlingSide) (b : ℕ)
+    → is_between b (home_square c (castled_king_file w)) (home_square c king_home_file) ≡ true
     → is_between b (home_square c (castled_king_file w)) (home_square c (castled_rook_file w)) ≡ true
 unfolding is_between is_between_on_file is_between_on_rank is_between_on_diagonal
 past_king White KingSide b e = grind (arith, nat_tests, e)
@@ -43,14 +44,16 @@ past_king Black KingSide b e = grind (arith, nat_tests, e)
 past_king Black QueenSide b e = grind (arith, nat_tests, e)
 
 -- and nobody sees it past the corner
-past_rook : (c : Colour) (w : CastlingSide) (b : ℕ) → is_between b (home_square c (castled_king_file w)) (home_square c (rook_file w)) ≡ false
+past_rook : (c : Colour) (w : CastlingSide) (b : ℕ)
+    → is_between b (home_square c (castled_king_file w)) (home_square c (rook_file w)) ≡ false
 unfolding is_between is_between_on_file is_between_on_rank is_between_on_diagonal
 past_rook White KingSide b = grind (arith, nat_tests)
 past_rook White QueenSide b = grind (arith, nat_tests)
 past_rook Black KingSide b = grind (arith, nat_tests)
 past_rook Black QueenSide b = grind (arith, nat_tests)
 
-ends_apart : (c : Colour) (w : CastlingSide) → (home_square c (castled_king_file w) == home_square c (castled_rook_file w)) ≡ false
+ends_apart : (c : Colour) (w : CastlingSide)
+    → (home_square c (castled_king_file w) == home_square c (castled_rook_file w)) ≡ false
 ends_apart White KingSide = refl
 ends_apart White QueenSide = refl
 ends_apart Black KingSide = refl
@@ -73,7 +76,8 @@ rook_end Black QueenSide = omega arith
 after_castling : (p : Setup) (m : Move) (k : Castle) (s : ℕ) → castle_of p m ≡ Some k → s < 64
     → man_at (men_after p m) s
     ≡ cond (k.king_to == s) (man_that_lands (man_at p.men m.from) m.promotion)
-    (cond (k.rook_to == s) (Some (record { colour = p.side; kind = Rook })) (cond ((k.rook_from == s) || (m.from == s)) None (man_at p.men s)))
+    (cond (k.rook_to == s) (Some (record { colour = p.side; kind = Rook }))
+    (cond ((k.rook_from == s) || (m.from == s)) None (man_at p.men s)))
 unfolding man_after lands_on castling_rook_to second_square_emptied
 after_castling p m k s e l =
     let king = king_goes p m k e (castling p m) refl in
@@ -81,7 +85,8 @@ after_castling p m k s e l =
     man_at-men_after p m s l ∙ rw (still, e) refl
 
 -- an enemy that stands there then stood there
-enemy_stood : (t r l : Bool) (arr rook o : Option Man) (c : Colour) → is_of c arr ≡ false → is_of c rook ≡ false → is_of c (cond t arr (cond r rook (cond l None o))) ≡ true
+enemy_stood : (t r l : Bool) (arr rook o : Option Man) (c : Colour) → is_of c arr ≡ false → is_of c rook ≡ false
+    → is_of c (cond t arr (cond r rook (cond l None o))) ≡ true
     → cond t arr (cond r rook (cond l None o)) ≡ o
 unfolding is_of
 enemy_stood true r l arr rook o c n g e = absurd (both_ways _ n e)
@@ -96,13 +101,17 @@ own_rook Black = refl
 
 -- king to t, rook to r; f and a are left
 abbrev Castled : Men → Men → ℕ → ℕ → ℕ → ℕ → Option Man → Option Man → Type 0
-Castled men later t r f a king rook = (s : ℕ) → s < 64 → man_at later s ≡ cond (t == s) king (cond (r == s) rook (cond ((f == s) || (a == s)) None (man_at men s)))
+Castled men later t r f a king rook = (s : ℕ) → s < 64
+    → man_at later s ≡ cond (t == s) king (cond (r == s) rook (cond ((f == s) || (a == s)) None (man_at men s)))
 
-rook_stands : (men later : Men) (t r f a : ℕ) (king rook : Option Man) → Castled men later t r f a king rook → (t == r) ≡ false → r < 64 → man_at later r ≡ rook
+rook_stands : (men later : Men) (t r f a : ℕ) (king rook : Option Man) → Castled men later t r f a king rook
+    → (t == r) ≡ false → r < 64 → man_at later r ≡ rook
 rook_stands men later t r f a king rook after apart low = after r low ∙ rw (apart, eq-eqb r r refl) refl
 
-clear_stood : (men later : Men) (t r f a b : ℕ) (king rook : Option Man) → Castled men later t r f a king rook → is_none rook ≡ false → (t == r) ≡ false → r < 64
-    → (is_between b t a ≡ true → is_between b t r ≡ true) → is_between b t f ≡ false → is_clear later b t ≡ true → is_clear men b t ≡ true
+clear_stood : (men later : Men) (t r f a b : ℕ) (king rook : Option Man) → Castled men later t r f a king rook
+    → is_none rook ≡ false → (t == r) ≡ false → r < 64
+    → (is_between b t a ≡ true → is_between b t r ≡ true) → is_between b t f ≡ false → is_clear later b t ≡ true
+    → is_clear men b t ≡ true
 unfolding is_clear
 clear_stood men later t r f a b king rook after some apart low past beyond clear =
     each_square-all _
@@ -112,17 +121,28 @@ clear_stood men later t r f a b king rook after some apart low past beyond clear
       | inl inside ↦
           let now = rw inside at (each_square-at _ clear x l) in
           let met : is_between b t r ≡ true → ⊥ =
-          λ i. let there = rw i at (each_square-at _ clear r low) in both_ways (is_none rook) some (ap is_none (sym (rook_stands men later t r f a king rook after apart low)) ∙ there) in
-          let not_t : (t == x) ≡ false = false_from_ne_true (t == x) (λ s. both_ways (is_between b t t) (not_between_end b t) (ap (λ y. is_between b t y) (eqb-true t x s) ∙ inside)) in
-          let not_r : (r == x) ≡ false = false_from_ne_true (r == x) (λ s. met (ap (λ y. is_between b t y) (eqb-true r x s) ∙ inside)) in
-          let not_f : (f == x) ≡ false = false_from_ne_true (f == x) (λ s. both_ways (is_between b t f) beyond (ap (λ y. is_between b t y) (eqb-true f x s) ∙ inside)) in
-          let not_a : (a == x) ≡ false = false_from_ne_true (a == x) (λ s. met (past (ap (λ y. is_between b t y) (eqb-true a x s) ∙ inside))) in
+          λ i. let there = rw i at (each_square-at _ clear r low) in
+          both_ways (is_none rook) some (ap is_none (sym (rook_stands men later t r f a king rook after apart low))
+          ∙ there) in
+          let not_t : (t == x) ≡ false =
+          false_from_ne_true (t == x)
+          (λ s. both_ways (is_between b t t) (not_between_end b t)
+          (ap (λ y. is_between b t y) (eqb-true t x s) ∙ inside)) in
+          let not_r : (r == x) ≡ false =
+          false_from_ne_true (r == x) (λ s. met (ap (λ y. is_between b t y) (eqb-true r x s) ∙ inside)) in
+          let not_f : (f == x) ≡ false =
+          false_from_ne_true (f == x)
+          (λ s. both_ways (is_between b t f) beyond (ap (λ y. is_between b t y) (eqb-true f x s) ∙ inside)) in
+          let not_a : (a == x) ≡ false =
+          false_from_ne_true (a == x) (λ s. met (past (ap (λ y. is_between b t y) (eqb-true a x s) ∙ inside))) in
           let same : man_at later x ≡ man_at men x = after x l ∙ rw (not_t, not_r, not_f, not_a) refl in
           rw inside (ap is_none (sym same) ∙ now)
     ])
 
-still_safe : (men later : Men) (c : Colour) (t r f a : ℕ) (king rook : Option Man) → Castled men later t r f a king rook → is_none rook ≡ false → is_of c king ≡ false → is_of c rook ≡ false → (t == r) ≡ false → r < 64
-    → ((b : ℕ) → is_between b t a ≡ true → is_between b t r ≡ true) → ((b : ℕ) → is_between b t f ≡ false) → is_attacked men t c ≡ false → is_attacked later t c ≡ false
+still_safe : (men later : Men) (c : Colour) (t r f a : ℕ) (king rook : Option Man) → Castled men later t r f a king rook
+    → is_none rook ≡ false → is_of c king ≡ false → is_of c rook ≡ false → (t == r) ≡ false → r < 64
+    → ((b : ℕ) → is_between b t a ≡ true → is_between b t r ≡ true) → ((b : ℕ) → is_between b t f ≡ false)
+    → is_attacked men t c ≡ false → is_attacked later t c ≡ false
 unfolding is_attacked attacks
 still_safe men later c t r f a king rook after some own mine apart low past beyond before =
     some_square-none _
@@ -131,20 +151,25 @@ still_safe men later c t r f a king rook after some own mine apart low past beyo
     (λ e.
     let both = and_parts (is_of c (man_at later b)) (could_capture_as later (man_at later b) b t) e in
     let stood : man_at later b ≡ man_at men b =
-    after b l ∙ enemy_stood (t == b) (r == b) ((f == b) || (a == b)) king rook (man_at men b) c own mine (rw (after b l) at both.0) in
+    after b l ∙ enemy_stood (t == b) (r == b) ((f == b) || (a == b)) king rook (man_at men b) c own mine
+    (rw (after b l) at both.0) in
     let was : is_of c (man_at men b) ≡ true = rw (← stood) both.0 in
     let hit : could_capture_as men (man_at men b) b t ≡ true =
-    could_capture_as_clear men later (man_at men b) b t (clear_stood men later t r f a b king rook after some apart low (past b) (beyond b)) (rw (← stood) both.1) in
+    could_capture_as_clear men later (man_at men b) b t
+    (clear_stood men later t r f a b king rook after some apart low (past b) (beyond b)) (rw (← stood) both.1) in
     both_ways _ before (some_square-at _ b l (and_from _ _ was hit))))
 
 -- ---- so it is legal
 
-way_end : (men : Men) (c : Colour) (k : Castle) → castling_way_is_safe men c k ≡ true → k.king_to < 64 → is_attacked men k.king_to (other c) ≡ false
+way_end : (men : Men) (c : Colour) (k : Castle) → castling_way_is_safe men c k ≡ true → k.king_to < 64
+    → is_attacked men k.king_to (other c) ≡ false
 unfolding castling_way_is_safe
 way_end men c k safe low =
     let on : is_on_way k.king_from k.king_to k.king_to ≡ true =
-    or_left ((k.king_to == k.king_from) || (k.king_to == k.king_to)) (is_between k.king_from k.king_to k.king_to) (or_right (k.king_to == k.king_from) (k.king_to == k.king_to) (eq-eqb k.king_to k.king_to refl)) in
-    told (is_on_way k.king_from k.king_to k.king_to) (is_attacked men k.king_to (other c)) on (each_square-at _ safe k.king_to low)
+    or_left ((k.king_to == k.king_from) || (k.king_to == k.king_to)) (is_between k.king_from k.king_to k.king_to)
+    (or_right (k.king_to == k.king_from) (k.king_to == k.king_to) (eq-eqb k.king_to k.king_to refl)) in
+    told (is_on_way k.king_from k.king_to k.king_to) (is_attacked men k.king_to (other c)) on
+    (each_square-at _ safe k.king_to low)
   where
     told : (t u : Bool) → t ≡ true → (not t || not u) ≡ true → u ≡ false
     told true true e h = cc
@@ -152,47 +177,64 @@ way_end men c k safe low =
     told false u e h = cc
 
 -- in normal chess king and rook start from home
-home_starts : (p : Setup) (m : Move) (w : CastlingSide) (r : ℕ) → IsSound p → p.variant ≡ Normal → castling p m ≡ Some w → right_of p.rights p.side w ≡ Some r
+home_starts : (p : Setup) (m : Move) (w : CastlingSide) (r : ℕ) → IsSound p → p.variant ≡ Normal → castling p m ≡ Some w
+    → right_of p.rights p.side w ≡ Some r
     → (m.from ≡ home_square p.side king_home_file) × (r ≡ home_square p.side (rook_file w))
 unfolding right_stands
 home_starts p m w r sound normal says right =
     let names = (castling_says p m w (says_from_castling p m w says)).1 in
     let named : names_castling_with p.variant p.side m w r ≡ true = rw right at names in
-    let at : names_castling_with Normal p.side m w r ≡ true = sym (ap (λ (v : Variant). names_castling_with v p.side m w r) normal) ∙ named in
+    let at : names_castling_with Normal p.side m w r ≡ true =
+    sym (ap (λ (v : Variant). names_castling_with v p.side m w r) normal) ∙ named in
     let stands : stand_for_castling Normal p.men p.side w r ≡ true =
     sym (ap (λ (v : Variant). stand_for_castling v p.men p.side w r) normal)
-    ∙ right_that_stands p.variant p.men p.side w (right_of p.rights p.side w) r (right_stands_of p sound p.side w) right in
-    let two = and_parts ((r == home_square p.side (rook_file w)) && is_man p.side King (man_at p.men (home_square p.side king_home_file))) (is_man p.side Rook (man_at p.men r)) stands in (
-      eqb-true m.from (home_square p.side king_home_file) (and_parts (m.from == home_square p.side king_home_file) (m.to == home_square p.side (castled_king_file w)) at).0,
-      eqb-true r (home_square p.side (rook_file w)) (and_parts (r == home_square p.side (rook_file w)) (is_man p.side King (man_at p.men (home_square p.side king_home_file))) two.0).0,
+    ∙ right_that_stands p.variant p.men p.side w (right_of p.rights p.side w) r (right_stands_of p sound p.side w)
+    right in
+    let two = and_parts ((r == home_square p.side (rook_file w))
+    && is_man p.side King (man_at p.men (home_square p.side king_home_file))) (is_man p.side Rook (man_at p.men r))
+    stands in (
+      eqb-true m.from (home_square p.side king_home_file)
+          (and_parts (m.from == home_square p.side king_home_file)
+          (m.to == home_square p.side (castled_king_file w)) at).0,
+      eqb-true r (home_square p.side (rook_file w))
+          (and_parts (r == home_square p.side (rook_file w))
+          (is_man p.side King (man_at p.men (home_square p.side king_home_file))) two.0).0,
     )
 
-safe_by : (p : Setup) (m : Move) (w : CastlingSide) (r : ℕ) → IsSound p → p.variant ≡ Normal → castling p m ≡ Some w → right_of p.rights p.side w ≡ Some r
-    → castle_of p m ≡ Some (castle_from p.side w m.from r) → has_pattern p m ≡ true → castling_way_is_safe p.men p.side (castle_from p.side w m.from r) ≡ true
+safe_by : (p : Setup) (m : Move) (w : CastlingSide) (r : ℕ) → IsSound p → p.variant ≡ Normal → castling p m ≡ Some w
+    → right_of p.rights p.side w ≡ Some r
+    → castle_of p m ≡ Some (castle_from p.side w m.from r) → has_pattern p m ≡ true
+    → castling_way_is_safe p.men p.side (castle_from p.side w m.from r) ≡ true
     → is_attacked (men_after p m) (home_square p.side (castled_king_file w)) (other p.side) ≡ false
 safe_by p m w r sound normal says right e pattern safe =
     let home = home_starts p m w r sound normal says right in
     let t = home_square p.side (castled_king_file w) in
     let k = castle_from p.side w m.from r in
-    still_safe p.men (men_after p m) (other p.side) t (home_square p.side (castled_rook_file w)) r m.from (man_that_lands (man_at p.men m.from) m.promotion) (Some (record { colour = p.side; kind = Rook }))
-    (λ s l. after_castling p m k s e l) refl (mover_own p m pattern) (own_rook p.side) (ends_apart p.side w) (rook_end p.side w)
+    still_safe p.men (men_after p m) (other p.side) t (home_square p.side (castled_rook_file w)) r m.from
+    (man_that_lands (man_at p.men m.from) m.promotion) (Some (record { colour = p.side; kind = Rook }))
+    (λ s l. after_castling p m k s e l) refl (mover_own p m pattern) (own_rook p.side) (ends_apart p.side w)
+    (rook_end p.side w)
     (λ b i. past_king p.side w b (ap (λ y. is_between b t y) (sym home.0) ∙ i))
     (λ b. ap (λ y. is_between b t y) home.1 ∙ past_rook p.side w b)
     (way_end p.men p.side k safe (king_end p.side w))
 
-by_side : (p : Setup) (m : Move) (k : Castle) → IsSound p → p.variant ≡ Normal → castle_of p m ≡ Some k → has_pattern p m ≡ true → castling_way_is_safe p.men p.side k ≡ true
-    → (o : Option CastlingSide) → castling p m ≡ o → (is_attacked (men_after p m) k.king_to (other p.side) ≡ false) × (k.king_to < 64)
+by_side : (p : Setup) (m : Move) (k : Castle) → IsSound p → p.variant ≡ Normal → castle_of p m ≡ Some k
+    → has_pattern p m ≡ true → castling_way_is_safe p.men p.side k ≡ true
+    → (o : Option CastlingSide) → castling p m ≡ o → (is_attacked (men_after p m) k.king_to (other p.side) ≡ false)
+    × (k.king_to < 64)
 by_side p m k sound normal e pattern safe None none = let gone = no_castle p m none in absurd cc
 by_side p m k sound normal e pattern safe (Some w) says =
     let there = castle_there p m w says in
     let same : castle_from p.side w m.from there.0 ≡ k = cc in
     let to : k.king_to ≡ home_square p.side (castled_king_file w) = ap (λ (j : Castle). j.king_to) (sym same) in (
       ap (λ s. is_attacked (men_after p m) s (other p.side)) to
-          ∙ safe_by p m w there.0 sound normal says there.1 (e ∙ ap (λ (j : Castle). Some j) (sym same)) pattern (ap (λ (j : Castle). castling_way_is_safe p.men p.side j) same ∙ safe),
+          ∙ safe_by p m w there.0 sound normal says there.1 (e ∙ ap (λ (j : Castle). Some j) (sym same)) pattern
+          (ap (λ (j : Castle). castling_way_is_safe p.men p.side j) same ∙ safe),
       rw to (king_end p.side w),
     )
 
-pub castles_safely : (p : Setup) (m : Move) (k : Castle) → IsSound p → p.variant ≡ Normal → castle_of p m ≡ Some k → m.to < 64 → m.promotion ≡ None
+pub castles_safely : (p : Setup) (m : Move) (k : Castle) → IsSound p → p.variant ≡ Normal → castle_of p m ≡ Some k
+    → m.to < 64 → m.promotion ≡ None
     → (castling_way_is_empty p.men k && castling_way_is_safe p.men p.side k) ≡ true → true ≡ is_legal p m
 unfolding lands_on
 castles_safely p m k sound normal e high none free =
@@ -201,7 +243,8 @@ castles_safely p m k sound normal e high none free =
     let told = by_side p m k sound normal e pattern safe (castling p m) refl in
     let king = king_goes p m k e (castling p m) refl in
     let mover : is_man p.side King (man_that_lands (man_at p.men m.from) m.promotion) ≡ true =
-    ap (λ o. is_man p.side King (man_that_lands (man_at p.men m.from) o)) none ∙ ap (λ o. is_man p.side King o) (lands_same (man_at p.men m.from)) ∙ king in
+    ap (λ o. is_man p.side King (man_that_lands (man_at p.men m.from) o)) none
+    ∙ ap (λ o. is_man p.side King o) (lands_same (man_at p.men m.from)) ∙ king in
     let lands : lands_on p m ≡ k.king_to = ap (mover_to m) e in
     let here = king_lands p m k.king_to (sym lands) told.1 mover in
     ap not (sym told.0 ∙ sym (check_after p m k.king_to sound pattern told.1 here)) ∙ legal_is p m pattern

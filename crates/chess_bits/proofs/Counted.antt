@@ -13,10 +13,12 @@ use Rattle.chess_moves.specs.Sets.{has, members}
 use Rattle.chess_moves.proofs.Parts.{moves-by_start, all_promote, none_promotes}
 use Rattle.chess_moves.proofs.Room.{moves_fit}
 
-counted : {A : Type 0} (q : A → Bool) (x : A) (xs : List A) → length (filter q (x ∷ xs)) ≡ cond (q x) 1 0 + length (filter q xs)
+counted : {A : Type 0} (q : A → Bool) (x : A) (xs : List A)
+    → length (filter q (x ∷ xs)) ≡ cond (q x) 1 0 + length (filter q xs)
 counted q x xs = elim (cases_Bool (q x)) [ inl kept ↦ rw kept (omega arith) | inr left ↦ rw left (omega arith) ]
 
-four_counted : {A : Type 0} (q : A → Bool) (w x y z : A) → cond (q w) 1 0 + cond (q x) 1 0 + cond (q y) 1 0 + cond (q z) 1 0 ≡ length (filter q (w ∷ x ∷ y ∷ z ∷ []))
+four_counted : {A : Type 0} (q : A → Bool) (w x y z : A) → cond (q w) 1 0 + cond (q x) 1 0 + cond (q y) 1 0 + cond (q z)
+    1 0 ≡ length (filter q (w ∷ x ∷ y ∷ z ∷ []))
 four_counted q w x y z =
     let first = counted q w (x ∷ y ∷ z ∷ []) in
     let second = counted q x (y ∷ z ∷ []) in
@@ -26,20 +28,25 @@ four_counted q w x y z =
 
 -- the promotions to each kind are all moves of a pawn that promotes
 pub promotions_counted : (p : Setup) (a b : ℕ) → would_promote p a b ≡ true
-    → cond (is_legal p (triple a b (Some Queen))) 1 0 + cond (is_legal p (triple a b (Some Rook))) 1 0 + cond (is_legal p (triple a b (Some Bishop))) 1 0 + cond (is_legal p (triple a b (Some Knight))) 1 0
+    → cond (is_legal p (triple a b (Some Queen))) 1 0 + cond (is_legal p (triple a b (Some Rook))) 1 0 + cond
+    (is_legal p (triple a b (Some Bishop))) 1 0 + cond (is_legal p (triple a b (Some Knight))) 1 0
     ≡ length (moves_between p a b)
 promotions_counted p a b e =
-    four_counted (λ m. is_legal p m) (triple a b (Some Queen)) (triple a b (Some Rook)) (triple a b (Some Bishop)) (triple a b (Some Knight)) ∙ ap length (sym (all_promote p a b e))
+    four_counted (λ m. is_legal p m) (triple a b (Some Queen)) (triple a b (Some Rook)) (triple a b (Some Bishop))
+    (triple a b (Some Knight)) ∙ ap length (sym (all_promote p a b e))
 
 -- and elsewhere there is one move at most
-pub one_counted : (p : Setup) (a b : ℕ) → would_promote p a b ≡ false → cond (is_legal p (triple a b None)) 1 0 ≡ length (moves_between p a b)
+pub one_counted : (p : Setup) (a b : ℕ) → would_promote p a b ≡ false → cond (is_legal p (triple a b None)) 1 0
+    ≡ length (moves_between p a b)
 one_counted p a b e =
-    let one : length (filter (λ m. is_legal p m) (triple a b None ∷ [])) ≡ cond (is_legal p (triple a b None)) 1 0 + 0 = counted (λ m. is_legal p m) (triple a b None) [] in
+    let one : length (filter (λ m. is_legal p m) (triple a b None ∷ [])) ≡ cond (is_legal p (triple a b None)) 1 0 + 0 =
+    counted (λ m. is_legal p m) (triple a b None) [] in
     let all = ap length (none_promotes p a b e) in
     omega (arith, one, all)
 
 -- the moves of the next man are counted with those before
-pub count_fits : (p : Setup) (n : ℕ) (ms : List ℕ) (s : ℕ) (ns : List ℕ) → IsSound p → ms ≡ s ∷ ns → n + length (flat_map (λ a. moves_from p a) ms) ≡ length (moves p)
+pub count_fits : (p : Setup) (n : ℕ) (ms : List ℕ) (s : ℕ) (ns : List ℕ) → IsSound p → ms ≡ s ∷ ns
+    → n + length (flat_map (λ a. moves_from p a) ms) ≡ length (moves p)
     → n + length (moves_from p s) ≤ 896
 count_fits p n ms s ns sound e h =
     let fits = moves_fit p sound in
@@ -52,15 +59,18 @@ pub none_counted : {m n : ℕ} → m ≡ n → 0 + m ≡ n
 none_counted e = omega (arith, e)
 
 -- some men's moves are no more than all
-fewer : {A : Type 0} (g : ℕ → List A) (q : ℕ → Bool) (xs : List ℕ) → length (flat_map g (filter q xs)) ≤ length (flat_map g xs)
+fewer : {A : Type 0} (g : ℕ → List A) (q : ℕ → Bool) (xs : List ℕ)
+    → length (flat_map g (filter q xs)) ≤ length (flat_map g xs)
 fewer g q [] = omega arith
 fewer g q (x ∷ xs) =
     let rest = fewer g q xs in
     let all = length-append (g x) (flat_map g xs) in
     let some = length-append (g x) (flat_map g (filter q xs)) in
-    elim (cases_Bool (q x)) [ inl kept ↦ rw kept (omega (arith, rest, all, some)) | inr left ↦ rw left (omega (arith, rest, all)) ]
+    elim (cases_Bool (q x))
+    [ inl kept ↦ rw kept (omega (arith, rest, all, some)) | inr left ↦ rw left (omega (arith, rest, all)) ]
 
-pub some_of : (p : Setup) (w : ℕ) → nat_lt 0 (length (flat_map (λ a. moves_from p a) (members w))) ≡ true → true ≡ nat_lt 0 (length (moves p))
+pub some_of : (p : Setup) (w : ℕ) → nat_lt 0 (length (flat_map (λ a. moves_from p a) (members w))) ≡ true
+    → true ≡ nat_lt 0 (length (moves p))
 unfolding members
 some_of p w h =
     let less = fewer (λ a. moves_from p a) (λ k. has w k) squares in

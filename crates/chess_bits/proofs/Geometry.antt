@@ -10,10 +10,12 @@ use Rattle.chess_bits.specs.ties.Rays.{same_line}
 pub share_rank_or_file_is : (a b : ℕ) → share_rank_or_file a b ≡ (same_line File a b || same_line Rank a b)
 share_rank_or_file_is a b = refl
 
-pub share_diagonal_is : (a b : ℕ) → a < 64 → b < 64 → share_diagonal a b ≡ (same_line Diagonal a b || same_line Antidiagonal a b)
+pub share_diagonal_is : (a b : ℕ) → a < 64 → b < 64
+    → share_diagonal a b ≡ (same_line Diagonal a b || same_line Antidiagonal a b)
 share_diagonal_is a b h l = grind (arith, nat_tests)
 
-pub between_rank : (a b x : ℕ) → same_line Rank a b ≡ true → is_between a b x ≡ (same_line Rank a x && lies_inside a b x)
+pub between_rank : (a b x : ℕ) → same_line Rank a b ≡ true
+    → is_between a b x ≡ (same_line Rank a x && lies_inside a b x)
 unfolding is_between is_between_on_file is_between_on_rank is_between_on_diagonal
 between_rank a b x e = grind (arith, nat_tests)
 
@@ -24,7 +26,8 @@ only_first p q r t e f g = rw (e, f, g) (elim t as (λ v. (v || false || false) 
 only_last : (p q r t : Bool) → p ≡ false → q ≡ false → r ≡ t → (p || q || r) ≡ t
 only_last p q r t e f g = rw (e, f, g) refl
 
-file_part : (a b x : ℕ) → same_line File a b ≡ true → is_between_on_file a b x ≡ (same_line File a x && lies_inside a b x)
+file_part : (a b x : ℕ) → same_line File a b ≡ true
+    → is_between_on_file a b x ≡ (same_line File a x && lies_inside a b x)
 unfolding is_between_on_file
 file_part a b x e = grind (arith, nat_tests)
 
@@ -36,7 +39,8 @@ file_no_diagonal : (a b x : ℕ) → same_line File a b ≡ true → is_between_
 unfolding is_between_on_diagonal
 file_no_diagonal a b x e = grind (arith, nat_tests)
 
-pub between_file : (a b x : ℕ) → same_line File a b ≡ true → is_between a b x ≡ (same_line File a x && lies_inside a b x)
+pub between_file : (a b x : ℕ) → same_line File a b ≡ true
+    → is_between a b x ≡ (same_line File a x && lies_inside a b x)
 unfolding is_between
 between_file a b x e = only_first _ _ _ _ (file_part a b x e) (file_no_rank a b x e) (file_no_diagonal a b x e)
 
@@ -81,10 +85,12 @@ by_parts : (s : ℕ) → 8 * rank s + file s ≡ s
 by_parts s = omega arith
 
 none_inside : (a b x : ℕ) (s t u : Bool) → rank a ≡ rank b → a ≡ b
-    → (s && t && lies_inside (rank a) (rank b) (rank x) && lies_inside (file a) (file b) (file x)) ≡ (u && lies_inside a b x)
+    → (s && t && lies_inside (rank a) (rank b) (rank x) && lies_inside (file a) (file b) (file x))
+    ≡ (u && lies_inside a b x)
 none_inside a b x s t u e f = rw (inside_none (rank a) (rank b) (rank x) e, inside_none a b x f) (grind arith)
 
-diagonal_part : (a b x : ℕ) → same_line Diagonal a b ≡ true → is_between_on_diagonal a b x ≡ (same_line Diagonal a x && lies_inside a b x)
+diagonal_part : (a b x : ℕ) → same_line Diagonal a b ≡ true
+    → is_between_on_diagonal a b x ≡ (same_line Diagonal a x && lies_inside a b x)
 unfolding is_between_on_diagonal
 diagonal_part a b x e =
     let n : rank a + file b ≡ rank b + file a = grind (arith, nat_tests) in
@@ -95,15 +101,18 @@ diagonal_part a b x e =
             | inl less ↦
                 rw (inside_up a b x (omega arith))
                 (rw (by_parts a, by_parts b, by_parts x) at
-                (up_diagonal (file a) (rank a) (file b) (rank b) (file x) (rank x) (omega arith) (omega arith) (omega arith) n less))
+                (up_diagonal (file a) (rank a) (file b) (rank b) (file x) (rank x) (omega arith) (omega arith)
+                (omega arith) n less))
             | inr more ↦
                 rw (inside_down a b x (omega arith))
                 (rw (by_parts a, by_parts b, by_parts x) at
-                (down_diagonal (file a) (rank a) (file b) (rank b) (file x) (rank x) (omega arith) (omega arith) (omega arith) n more))
+                (down_diagonal (file a) (rank a) (file b) (rank b) (file x) (rank x) (omega arith) (omega arith)
+                (omega arith) n more))
           ]
     ]
 
-antidiagonal_part : (a b x : ℕ) → same_line Antidiagonal a b ≡ true → is_between_on_diagonal a b x ≡ (same_line Antidiagonal a x && lies_inside a b x)
+antidiagonal_part : (a b x : ℕ) → same_line Antidiagonal a b ≡ true
+    → is_between_on_diagonal a b x ≡ (same_line Antidiagonal a x && lies_inside a b x)
 unfolding is_between_on_diagonal
 antidiagonal_part a b x e =
     let n : rank a + file a ≡ rank b + file b = grind (arith, nat_tests) in
@@ -114,11 +123,13 @@ antidiagonal_part a b x e =
             | inl less ↦
                 rw (inside_up a b x (omega arith))
                 (rw (by_parts a, by_parts b, by_parts x) at
-                (up_antidiagonal (file a) (rank a) (file b) (rank b) (file x) (rank x) (omega arith) (omega arith) (omega arith) n less))
+                (up_antidiagonal (file a) (rank a) (file b) (rank b) (file x) (rank x) (omega arith) (omega arith)
+                (omega arith) n less))
             | inr more ↦
                 rw (inside_down a b x (omega arith))
                 (rw (by_parts a, by_parts b, by_parts x) at
-                (down_antidiagonal (file a) (rank a) (file b) (rank b) (file x) (rank x) (omega arith) (omega arith) (omega arith) n more))
+                (down_antidiagonal (file a) (rank a) (file b) (rank b) (file x) (rank x) (omega arith) (omega arith)
+                (omega arith) n more))
           ]
     ]
 
@@ -130,9 +141,11 @@ diagonal_no_rank : (a b x : ℕ) → same_line Diagonal a b ≡ true → is_betw
 unfolding is_between_on_rank
 diagonal_no_rank a b x e = grind (arith, nat_tests)
 
-pub between_diagonal : (a b x : ℕ) → same_line Diagonal a b ≡ true → is_between a b x ≡ (same_line Diagonal a x && lies_inside a b x)
+pub between_diagonal : (a b x : ℕ) → same_line Diagonal a b ≡ true
+    → is_between a b x ≡ (same_line Diagonal a x && lies_inside a b x)
 unfolding is_between
-between_diagonal a b x e = only_last _ _ _ _ (diagonal_no_file a b x e) (diagonal_no_rank a b x e) (diagonal_part a b x e)
+between_diagonal a b x e = only_last _ _ _ _ (diagonal_no_file a b x e) (diagonal_no_rank a b x e)
+    (diagonal_part a b x e)
 
 antidiagonal_no_file : (a b x : ℕ) → same_line Antidiagonal a b ≡ true → is_between_on_file a b x ≡ false
 unfolding is_between_on_file
@@ -142,12 +155,15 @@ antidiagonal_no_rank : (a b x : ℕ) → same_line Antidiagonal a b ≡ true →
 unfolding is_between_on_rank
 antidiagonal_no_rank a b x e = grind (arith, nat_tests)
 
-pub between_antidiagonal : (a b x : ℕ) → same_line Antidiagonal a b ≡ true → is_between a b x ≡ (same_line Antidiagonal a x && lies_inside a b x)
+pub between_antidiagonal : (a b x : ℕ) → same_line Antidiagonal a b ≡ true
+    → is_between a b x ≡ (same_line Antidiagonal a x && lies_inside a b x)
 unfolding is_between
-between_antidiagonal a b x e = only_last _ _ _ _ (antidiagonal_no_file a b x e) (antidiagonal_no_rank a b x e) (antidiagonal_part a b x e)
+between_antidiagonal a b x e = only_last _ _ _ _ (antidiagonal_no_file a b x e) (antidiagonal_no_rank a b x e)
+    (antidiagonal_part a b x e)
 
 -- what lies between two squares of one line lies on the line, between them in number
-pub between_on_line : (l : Line) (a b x : ℕ) → same_line l a b ≡ true → is_between a b x ≡ (same_line l a x && lies_inside a b x)
+pub between_on_line : (l : Line) (a b x : ℕ) → same_line l a b ≡ true
+    → is_between a b x ≡ (same_line l a x && lies_inside a b x)
 between_on_line Rank a b x e = between_rank a b x e
 between_on_line File a b x e = between_file a b x e
 between_on_line Diagonal a b x e = between_diagonal a b x e

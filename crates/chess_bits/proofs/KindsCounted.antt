@@ -22,7 +22,8 @@ use Rattle.chess_bits.proofs.TargetsOf.{man_told, officer_is, man_set_sound, man
 
 split_range : {A : Type 0} (g : ℕ → List A) (w c u v : ℕ → Bool) (n a : ℕ) → a + n ≤ 64
     → ((k : ℕ) → k < 64 → u k ≡ (w k && c k)) → ((k : ℕ) → k < 64 → v k ≡ (w k && not (c k)))
-    → length (flat_map g (filter u (range_with_len a n))) + length (flat_map g (filter v (range_with_len a n))) ≡ length (flat_map g (filter w (range_with_len a n)))
+    → length (flat_map g (filter u (range_with_len a n))) + length (flat_map g (filter v (range_with_len a n)))
+    ≡ length (flat_map g (filter w (range_with_len a n)))
 split_range g w c u v zero a fits hu hv = refl
 split_range g w c u v (suc n) a fits hu hv =
     let rest = split_range g w c u v n (a + 1) (omega arith) hu hv in
@@ -49,54 +50,71 @@ split_range g w c u v (suc n) a fits hu hv =
           ]
     ]
 
-pub split : {A : Type 0} (g : ℕ → List A) (w c u v : ℕ) → ((k : ℕ) → has u k ≡ (has w k && has c k)) → ((k : ℕ) → k < 64 → has v k ≡ (has w k && not (has c k)))
+pub split : {A : Type 0} (g : ℕ → List A) (w c u v : ℕ) → ((k : ℕ) → has u k ≡ (has w k && has c k))
+    → ((k : ℕ) → k < 64 → has v k ≡ (has w k && not (has c k)))
     → length (flat_map g (members u)) + length (flat_map g (members v)) ≡ length (flat_map g (members w))
 unfolding members squares
-split g w c u v hu hv = split_range g (λ k. has w k) (λ k. has c k) (λ k. has u k) (λ k. has v k) 64 0 (omega arith) (λ k l. hu k) hv
+split g w c u v hu hv = split_range g (λ k. has w k) (λ k. has c k) (λ k. has u k) (λ k. has v k) 64 0 (omega arith)
+    (λ k l. hu k) hv
 
 -- the men chosen are free, and of the kind
-pub chosen_free : (p : Setup) (kind : Kind) (sets : List ℕ) (free chosen w taken kinds : ℕ) → ((k : ℕ) → k < 64 → has free k ≡ true → IsFree p k)
-    → ((k : ℕ) → k < 64 → has kinds k ≡ is_man p.side kind (man_at p.men k)) → ((k : ℕ) → has chosen k ≡ (has kinds k && has free k)) → ((k : ℕ) → has taken k ≡ (has w k && has chosen k))
+pub chosen_free : (p : Setup) (kind : Kind) (sets : List ℕ) (free chosen w taken kinds : ℕ)
+    → ((k : ℕ) → k < 64 → has free k ≡ true → IsFree p k)
+    → ((k : ℕ) → k < 64 → has kinds k ≡ is_man p.side kind (man_at p.men k))
+    → ((k : ℕ) → has chosen k ≡ (has kinds k && has free k)) → ((k : ℕ) → has taken k ≡ (has w k && has chosen k))
     → AreFree p kind taken
 chosen_free p kind sets free chosen w taken kinds are of_kind both some = λ k low h.
-    let two = and_parts (has kinds k) (has free k) (sym (both k) ∙ (and_parts (has w k) (has chosen k) (sym (some k) ∙ h)).1) in
+    let two = and_parts (has kinds k) (has free k)
+    (sym (both k) ∙ (and_parts (has w k) (has chosen k) (sym (some k) ∙ h)).1) in
     (sym (of_kind k low) ∙ two.0, are k low two.1)
 
 -- what is left in the sum is no more than all
-pub count_next : {A : Type 0} (g : ℕ → List A) (n whole : ℕ) (ms : List ℕ) (s : ℕ) (ns : List ℕ) → ms ≡ s ∷ ns → n + length (flat_map g ms) ≡ whole
+pub count_next : {A : Type 0} (g : ℕ → List A) (n whole : ℕ) (ms : List ℕ) (s : ℕ) (ns : List ℕ) → ms ≡ s ∷ ns
+    → n + length (flat_map g ms) ≡ whole
     → (n + length (g s)) + length (flat_map g ns) ≡ whole
 count_next g n whole ms s ns e h =
     let parts = length-append (g s) (flat_map g ns) in
     let all : n + length (flat_map g (s ∷ ns)) ≡ whole = rw e at h in
     omega (arith, parts, all)
 
-pub count_bound : {A : Type 0} (g : ℕ → List A) (n whole : ℕ) (ms : List ℕ) (s : ℕ) (ns : List ℕ) → ms ≡ s ∷ ns → n + length (flat_map g ms) ≡ whole → n + length (g s) ≤ whole
+pub count_bound : {A : Type 0} (g : ℕ → List A) (n whole : ℕ) (ms : List ℕ) (s : ℕ) (ns : List ℕ) → ms ≡ s ∷ ns
+    → n + length (flat_map g ms) ≡ whole → n + length (g s) ≤ whole
 count_bound g n whole ms s ns e h =
     let next = count_next g n whole ms s ns e h in
     omega (arith, next)
 
 -- ---- the moves of one
 
-pub pawn_counted : (p : Setup) (a king w : ℕ) → IsSound p → IsFree p a → is_man p.side Pawn (man_at p.men a) ≡ true → a < 64 → king < 64
-    → ((k : ℕ) → k < 64 → is_man p.side King (man_at p.men k) ≡ (k == king)) → (aims_at p.target p.side a || (rank a == pawn_rank (other p.side))) ≡ false
-    → ((k : ℕ) → k < 64 → has w k ≡ (pawn_advances p (triple a k None) || pawn_captures p (triple a k None))) → length (members w) ≡ length (moves_from p a)
+pub pawn_counted : (p : Setup) (a king w : ℕ) → IsSound p → IsFree p a → is_man p.side Pawn (man_at p.men a) ≡ true
+    → a < 64 → king < 64
+    → ((k : ℕ) → k < 64 → is_man p.side King (man_at p.men k) ≡ (k == king))
+    → (aims_at p.target p.side a || (rank a == pawn_rank (other p.side))) ≡ false
+    → ((k : ℕ) → k < 64 → has w k ≡ (pawn_advances p (triple a k None) || pawn_captures p (triple a k None)))
+    → length (members w) ≡ length (moves_from p a)
 pawn_counted p a king w sound free pawn low there one usual set =
     let neither = or_parts (aims_at p.target p.side a) (rank a == pawn_rank (other p.side)) usual in
     free_counted p a king w sound free
-    (pawn_usual p a sound low pawn neither.0 (λ same. both_ways (rank a == pawn_rank (other p.side)) neither.1 (eq-eqb (rank a) (pawn_rank (other p.side)) same)))
+    (pawn_usual p a sound low pawn neither.0
+    (λ same. both_ways (rank a == pawn_rank (other p.side)) neither.1
+    (eq-eqb (rank a) (pawn_rank (other p.side)) same)))
     low there one (pawn_sound p a w pawn low set) (pawn_complete p a w pawn low set)
 
-other_kind : (p : Setup) (a : ℕ) (kind other : Kind) → man_at p.men a ≡ Some (record { colour = p.side; kind = kind }) → same_kind other kind ≡ false → is_man p.side other (man_at p.men a) ≡ false
+other_kind : (p : Setup) (a : ℕ) (kind other : Kind) → man_at p.men a ≡ Some (record { colour = p.side; kind = kind })
+    → same_kind other kind ≡ false → is_man p.side other (man_at p.men a) ≡ false
 unfolding is_man
 other_kind p a kind other at off = rw (at, off) (and_right _ false refl)
 
-pub officer_counted : (p : Setup) (a king w : ℕ) (kind : Kind) → IsSound p → IsFree p a → is_man p.side kind (man_at p.men a) ≡ true → (same_kind King kind || same_kind Pawn kind) ≡ false → a < 64 → king < 64
+pub officer_counted : (p : Setup) (a king w : ℕ) (kind : Kind) → IsSound p → IsFree p a
+    → is_man p.side kind (man_at p.men a) ≡ true → (same_kind King kind || same_kind Pawn kind) ≡ false → a < 64
+    → king < 64
     → ((k : ℕ) → k < 64 → is_man p.side King (man_at p.men k) ≡ (k == king))
-    → ((k : ℕ) → k < 64 → has w k ≡ (could_capture p.men p.side kind a k && not (is_of p.side (man_at p.men k)))) → length (members w) ≡ length (moves_from p a)
+    → ((k : ℕ) → k < 64 → has w k ≡ (could_capture p.men p.side kind a k && not (is_of p.side (man_at p.men k))))
+    → length (members w) ≡ length (moves_from p a)
 officer_counted p a king w kind sound free man kinds low there one set =
     let at = man_told p.side kind (man_at p.men a) man in
     let neither = or_parts (same_kind King kind) (same_kind Pawn kind) kinds in
     let own = is_of-from_is_man p.side kind (man_at p.men a) man in
     let no_pawn = other_kind p a kind Pawn at neither.1 in
     let goes_so : (k : ℕ) → k < 64 → has w k ≡ man_goes p a k = λ k l. set k l ∙ officer_is p a k _ at own neither.0 in
-    free_counted p a king w sound free (no_pawn_usual p a no_pawn) low there one (man_set_sound p a w own no_pawn low goes_so) (man_set_complete p a w own no_pawn low goes_so)
+    free_counted p a king w sound free (no_pawn_usual p a no_pawn) low there one
+    (man_set_sound p a w own no_pawn low goes_so) (man_set_complete p a w own no_pawn low goes_so)

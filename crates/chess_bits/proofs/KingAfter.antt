@@ -29,15 +29,19 @@ lands_some : (x : Man) (o : Option Kind) → is_none (man_that_lands (Some x) o)
 lands_some x None = refl
 lands_some x (Some k) = refl
 
-lands_own : (x : Man) (o : Option Kind) (c : Colour) → x.colour ≡ c → is_of (other c) (man_that_lands (Some x) o) ≡ false
+lands_own : (x : Man) (o : Option Kind) (c : Colour) → x.colour ≡ c → is_of (other c) (man_that_lands (Some x) o)
+    ≡ false
 lands_own x None c e = theirs_of c x e
 lands_own x (Some k) c e = theirs_of c (record { colour = x.colour; kind = k }) e
 
-pub mover_some : (p : Setup) (m : Move) → has_pattern p m ≡ true → is_none (man_that_lands (man_at p.men m.from) m.promotion) ≡ false
+pub mover_some : (p : Setup) (m : Move) → has_pattern p m ≡ true
+    → is_none (man_that_lands (man_at p.men m.from) m.promotion) ≡ false
 mover_some p m e = let moves = moves_from_pattern p m e in rw moves.at_from (lands_some moves.mover m.promotion)
 
-pub mover_own : (p : Setup) (m : Move) → has_pattern p m ≡ true → is_of (other p.side) (man_that_lands (man_at p.men m.from) m.promotion) ≡ false
-mover_own p m e = let moves = moves_from_pattern p m e in rw moves.at_from (lands_own moves.mover m.promotion p.side moves.own)
+pub mover_own : (p : Setup) (m : Move) → has_pattern p m ≡ true
+    → is_of (other p.side) (man_that_lands (man_at p.men m.from) m.promotion) ≡ false
+mover_own p m e = let moves = moves_from_pattern p m e in
+    rw moves.at_from (lands_own moves.mover m.promotion p.side moves.own)
 
 -- ---- the king
 
@@ -58,32 +62,40 @@ king_only false false true a o c h g = no_king_here c
 king_only false false false a o c h g = g
 
 -- no king comes to another square
-elsewhere : (p : Setup) (m : Move) (k : ℕ) → is_man p.side King (man_that_lands (man_at p.men m.from) m.promotion) ≡ false
+elsewhere : (p : Setup) (m : Move) (k : ℕ) → is_man p.side King (man_that_lands (man_at p.men m.from) m.promotion)
+    ≡ false
     → is_man p.side King (man_at p.men k) ≡ false → k < 64 → is_man p.side King (man_at (men_after p m) k) ≡ false
 unfolding man_after
 elsewhere p m k mover none low =
     rw (man_at-men_after p m k low)
-    (king_only (lands_on p m == k) (is_square (castling_rook_to p m) k) (is_square (second_square_emptied p m) k || (m.from == k))
+    (king_only (lands_on p m == k) (is_square (castling_rook_to p m) k)
+    (is_square (second_square_emptied p m) k || (m.from == k))
     (man_that_lands (man_at p.men m.from) m.promotion) (man_at p.men k) p.side mover none)
 
 one_after : (p : Setup) (m : Move) → IsSound p → has_pattern p m ≡ true → has_one_king (men_after p m) p.side ≡ true
-one_after p m sound pattern = one_king_after p m p.side sound.board (change_of p m sound pattern) (has_king p p.side sound)
+one_after p m sound pattern = one_king_after p m p.side sound.board (change_of p m sound pattern)
+    (has_king p p.side sound)
 
 -- a king that does not move stays
-pub king_stays : (p : Setup) (m : Move) (king : ℕ) → IsSound p → has_pattern p m ≡ true → ((k : ℕ) → k < 64 → is_man p.side King (man_at p.men k) ≡ (k == king))
-    → is_man p.side King (man_that_lands (man_at p.men m.from) m.promotion) ≡ false → is_man p.side King (man_at (men_after p m) king) ≡ true
+pub king_stays : (p : Setup) (m : Move) (king : ℕ) → IsSound p → has_pattern p m ≡ true
+    → ((k : ℕ) → k < 64 → is_man p.side King (man_at p.men k) ≡ (k == king))
+    → is_man p.side King (man_that_lands (man_at p.men m.from) m.promotion) ≡ false
+    → is_man p.side King (man_at (men_after p m) king) ≡ true
 unfolding has_one_king
 king_stays p m king sound pattern one mover =
     elim (cases_Bool (is_man p.side King (man_at (men_after p m) king))) [
       | inl here ↦ here
       | inr gone ↦
           let long = length-men_after p m in
-          let none : count_by (λ o. is_man p.side King o) (men_after p m) ≡ 0 = none_counted (λ o. is_man p.side King o) None (men_after p m) (λ k l. nowhere gone k (omega (arith, long, l))) in
-          let counted = eqb-true (count_by (λ o. is_man p.side King o) (men_after p m)) 1 (one_after p m sound pattern) in
+          let none : count_by (λ o. is_man p.side King o) (men_after p m) ≡ 0 = none_counted (λ o. is_man p.side King o)
+          None (men_after p m) (λ k l. nowhere gone k (omega (arith, long, l))) in
+          let counted = eqb-true (count_by (λ o. is_man p.side King o) (men_after p m)) 1
+          (one_after p m sound pattern) in
           absurd (omega (arith, none, counted))
     ]
   where
-    nowhere : is_man p.side King (man_at (men_after p m) king) ≡ false → (k : ℕ) → k < 64 → is_man p.side King (man_at (men_after p m) k) ≡ false
+    nowhere : is_man p.side King (man_at (men_after p m) king) ≡ false → (k : ℕ) → k < 64
+        → is_man p.side King (man_at (men_after p m) k) ≡ false
     nowhere gone k low =
         elim (cases_Bool (k == king)) [
           | inl same ↦ ap (λ s. is_man p.side King (man_at (men_after p m) s)) (eqb-true k king same) ∙ gone
@@ -92,17 +104,20 @@ king_stays p m king sound pattern one mover =
 
 -- and one that moves is where it lands
 pub king_lands : (p : Setup) (m : Move) (to : ℕ) → to ≡ lands_on p m → to < 64
-    → is_man p.side King (man_that_lands (man_at p.men m.from) m.promotion) ≡ true → is_man p.side King (man_at (men_after p m) to) ≡ true
+    → is_man p.side King (man_that_lands (man_at p.men m.from) m.promotion) ≡ true
+    → is_man p.side King (man_at (men_after p m) to) ≡ true
 king_lands p m to there low mover =
     ap (λ s. is_man p.side King (man_at (men_after p m) s)) there
     ∙ ap (is_man p.side King) (man_at-men_after p m (lands_on p m) (rw (← there) low) ∙ man_after-to p m)
     ∙ mover
 
 -- check is an attack on that square
-pub check_after : (p : Setup) (m : Move) (king : ℕ) → IsSound p → has_pattern p m ≡ true → king < 64 → is_man p.side King (man_at (men_after p m) king) ≡ true
+pub check_after : (p : Setup) (m : Move) (king : ℕ) → IsSound p → has_pattern p m ≡ true → king < 64
+    → is_man p.side King (man_at (men_after p m) king) ≡ true
     → is_in_check (men_after p m) p.side ≡ is_attacked (men_after p m) king (other p.side)
 check_after p m king sound pattern low here =
-    check_is (men_after p m) p.side king low (alone (men_after p m) p.side king (length-men_after p m) (one_after p m sound pattern) here)
+    check_is (men_after p m) p.side king low
+    (alone (men_after p m) p.side king (length-men_after p m) (one_after p m sound pattern) here)
 
 -- so a move with a pattern is legal
 pub legal_is : (p : Setup) (m : Move) → has_pattern p m ≡ true → not (is_in_check (men_after p m) p.side) ≡ is_legal p m

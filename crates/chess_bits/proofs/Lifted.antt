@@ -11,7 +11,8 @@ use Rattle.chess_bits.specs.ties.Goes.{lifted}
 use Rattle.chess_bits.specs.ties.KindSets.{IsKinds}
 use Rattle.chess_bits.specs.ties.Occupancy.{IsOccupied}
 
-pub lifted_at : (men : Men) (a k : ℕ) → length men ≡ 64 → a < 64 → man_at (lifted men a) k ≡ cond (k == a) None (man_at men k)
+pub lifted_at : (men : Men) (a k : ℕ) → length men ≡ 64 → a < 64
+    → man_at (lifted men a) k ≡ cond (k == a) None (man_at men k)
 lifted_at men a k all low =
     let inside : a < length men = omega (arith, all, low) in
     elim (cases_eq k a) [
@@ -24,23 +25,29 @@ unfolding is_man
 no_man c kind = refl
 
 -- the sets of the other colour stay
-pub lifted_kinds : (sets : List ℕ) (men : Men) (c : Colour) (a : ℕ) → length men ≡ 64 → a < 64 → is_of c (man_at men a) ≡ false → IsKinds sets c men → IsKinds sets c (lifted men a)
+pub lifted_kinds : (sets : List ℕ) (men : Men) (c : Colour) (a : ℕ) → length men ≡ 64 → a < 64
+    → is_of c (man_at men a) ≡ false → IsKinds sets c men → IsKinds sets c (lifted men a)
 lifted_kinds sets men c a all low theirs h = record {
   of_kind = λ kind k l.
       elim (cases_eq k a) [
         | inl here ↦
             h.of_kind kind k l
             ∙ ap (λ s. is_man c kind (man_at men s)) here ∙ not_is_man c kind (man_at men a) theirs
-            ∙ sym (ap (is_man c kind) (lifted_at men a k all low ∙ ap (λ t. cond t None (man_at men k)) (eq-eqb k a here)) ∙ no_man c kind)
-        | inr away ↦ h.of_kind kind k l ∙ sym (ap (is_man c kind) (lifted_at men a k all low ∙ ap (λ t. cond t None (man_at men k)) (ne_eqb k a away)))
+            ∙ sym (ap (is_man c kind)
+            (lifted_at men a k all low ∙ ap (λ t. cond t None (man_at men k)) (eq-eqb k a here)) ∙ no_man c kind)
+        | inr away ↦ h.of_kind kind k l
+            ∙ sym (ap (is_man c kind)
+            (lifted_at men a k all low ∙ ap (λ t. cond t None (man_at men k)) (ne_eqb k a away)))
       ];
 }
 
 -- its square is empty
-pub lifted_occupied : (w v : ℕ) (men : Men) (a : ℕ) → length men ≡ 64 → a < 64 → IsOccupied w men → ((k : ℕ) → k < 64 → has v k ≡ (has w k && not (k == a))) → IsOccupied v (lifted men a)
+pub lifted_occupied : (w v : ℕ) (men : Men) (a : ℕ) → length men ≡ 64 → a < 64 → IsOccupied w men
+    → ((k : ℕ) → k < 64 → has v k ≡ (has w k && not (k == a))) → IsOccupied v (lifted men a)
 lifted_occupied w v men a all low stood h = record {
   of_men = λ k l.
-      h k l ∙ ap (λ t. t && not (k == a)) (stood.of_men k l) ∙ by (k == a) (man_at men k) ∙ sym (ap (λ o. not (is_none o)) (lifted_at men a k all low));
+      h k l ∙ ap (λ t. t && not (k == a)) (stood.of_men k l) ∙ by (k == a) (man_at men k)
+      ∙ sym (ap (λ o. not (is_none o)) (lifted_at men a k all low));
 }
   where
     by : (t : Bool) (o : Option Man) → (not (is_none o) && not t) ≡ not (is_none (cond t None o))

@@ -28,7 +28,8 @@ abbrev pub Each : (ℕ → Type 0) → List ℕ → Type 0
 Each P [] = Unit {0}
 Each P (x ∷ xs) = P x × Each P xs
 
-each_filter : (q : ℕ → Bool) (P : ℕ → Type 0) (n a : ℕ) → a + n ≤ 64 → ((k : ℕ) → k < 64 → q k ≡ true → P k) → Each P (filter q (range_with_len a n))
+each_filter : (q : ℕ → Bool) (P : ℕ → Type 0) (n a : ℕ) → a + n ≤ 64 → ((k : ℕ) → k < 64 → q k ≡ true → P k)
+    → Each P (filter q (range_with_len a n))
 each_filter q P zero a fits h = tt
 each_filter q P (suc n) a fits h =
     elim (cases_Bool (q a)) [
@@ -49,42 +50,51 @@ each_rest P ms s ns e h = (subst (Each P) e h).1
 -- ---- what is gathered and what is left
 
 -- one member more
-pub gathered : {A : Type 0} (g : ℕ → List A) (now next whole : List A) (ms : List ℕ) (s : ℕ) (ns : List ℕ) → ms ≡ s ∷ ns → now ++ flat_map g ms ≡ whole → next ≡ now ++ g s → next ++ flat_map g ns ≡ whole
+pub gathered : {A : Type 0} (g : ℕ → List A) (now next whole : List A) (ms : List ℕ) (s : ℕ) (ns : List ℕ) → ms ≡ s ∷ ns
+    → now ++ flat_map g ms ≡ whole → next ≡ now ++ g s → next ++ flat_map g ns ≡ whole
 gathered g now next whole ms s ns e h n = rw n (append_assoc now (g s) (flat_map g ns) ∙ (rw e at h))
 
 -- no member is left
-pub all_gathered : {A : Type 0} (g : ℕ → List A) (now whole : List A) (ms : List ℕ) → ms ≡ [] → now ++ flat_map g ms ≡ whole → now ≡ whole
+pub all_gathered : {A : Type 0} (g : ℕ → List A) (now whole : List A) (ms : List ℕ) → ms ≡ []
+    → now ++ flat_map g ms ≡ whole → now ≡ whole
 all_gathered g now whole ms e h = sym (append-nil now) ∙ (rw e at h)
 
 -- there is room for the next
-pub room_for : {A : Type 0} (g : ℕ → List A) (now whole : List A) (ms : List ℕ) (s : ℕ) (ns : List ℕ) (n : ℕ) → ms ≡ s ∷ ns → now ++ flat_map g ms ≡ whole → length whole ≤ n → length now + length (g s) ≤ n
+pub room_for : {A : Type 0} (g : ℕ → List A) (now whole : List A) (ms : List ℕ) (s : ℕ) (ns : List ℕ) (n : ℕ)
+    → ms ≡ s ∷ ns → now ++ flat_map g ms ≡ whole → length whole ≤ n → length now + length (g s) ≤ n
 room_for g now whole ms s ns n e h fits =
     let all : now ++ (g s ++ flat_map g ns) ≡ whole = rw e at h in
     let long : length now + (length (g s) + length (flat_map g ns)) ≡ length whole =
-    sym (length-append now (g s ++ flat_map g ns) ∙ ap (λ k. length now + k) (length-append (g s) (flat_map g ns))) ∙ ap length all in
+    sym (length-append now (g s ++ flat_map g ns) ∙ ap (λ k. length now + k) (length-append (g s) (flat_map g ns)))
+    ∙ ap length all in
     omega (arith, long, fits)
 
 -- ---- legal moves
 
-pub pattern_of : (p : Setup) (a b : ℕ) (k : Option Kind) → goes p a b ≡ true → promotion_fits (would_promote p a b) k ≡ true → has_pattern p (triple a b k) ≡ true
-pattern_of p a b k g f = pattern_is p (triple a b k) ∙ and_from (goes p a b) (promotion_fits (would_promote p a b) k) g f
+pub pattern_of : (p : Setup) (a b : ℕ) (k : Option Kind) → goes p a b ≡ true → promotion_fits (would_promote p a b) k
+    ≡ true → has_pattern p (triple a b k) ≡ true
+pattern_of p a b k g f = pattern_is p (triple a b k) ∙ and_from (goes p a b) (promotion_fits (would_promote p a b) k) g
+    f
 
 four : List (Option Kind)
 four = Some Queen ∷ Some Rook ∷ Some Bishop ∷ Some Knight ∷ []
 
-pub four_fit : (w : Bool) → w ≡ true → (i : ℕ) → i < 4 → (d : Option Kind) → promotion_fits w (get_or (Some Queen ∷ Some Rook ∷ Some Bishop ∷ Some Knight ∷ []) i d) ≡ true
+pub four_fit : (w : Bool) → w ≡ true → (i : ℕ) → i < 4 → (d : Option Kind)
+    → promotion_fits w (get_or (Some Queen ∷ Some Rook ∷ Some Bishop ∷ Some Knight ∷ []) i d) ≡ true
 four_fit w e zero h d = e
 four_fit w e (suc zero) h d = e
 four_fit w e (suc (suc zero)) h d = e
 four_fit w e (suc (suc (suc zero))) h d = e
 four_fit w e (suc (suc (suc (suc i)))) h d = absurd (omega (arith, h))
 
-pub none_fit : (w : Bool) → w ≡ false → (i : ℕ) → i < 1 → (d : Option Kind) → promotion_fits w (get_or (None ∷ []) i d) ≡ true
+pub none_fit : (w : Bool) → w ≡ false → (i : ℕ) → i < 1 → (d : Option Kind) → promotion_fits w (get_or (None ∷ []) i d)
+    ≡ true
 none_fit w e zero h d = rw e refl
 none_fit w e (suc i) h d = absurd (omega (arith, h))
 
 -- where none is legal there are none
-pub none_there : (p : Setup) (a b : ℕ) → ((k : Option Kind) → is_legal p (triple a b k) ≡ false) → moves_between p a b ≡ []
+pub none_there : (p : Setup) (a b : ℕ) → ((k : Option Kind) → is_legal p (triple a b k) ≡ false)
+    → moves_between p a b ≡ []
 unfolding moves_between
 none_there p a b h = rw (h None, h (Some Queen), h (Some Rook), h (Some Bishop), h (Some Knight)) refl
 
@@ -94,20 +104,26 @@ pub from_targets : (p : Setup) (a w : ℕ) → ((m : Move) → is_legal p m ≡ 
 unfolding moves_from
 from_targets p a w all =
     flat_map_members (λ b. moves_between p a b) w
-    (λ b low out. none_there p a b (λ k. false_from_ne_true (is_legal p (triple a b k)) (λ e. both_ways (has w b) out (all (triple a b k) e refl))))
+    (λ b low out. none_there p a b
+    (λ k. false_from_ne_true (is_legal p (triple a b k))
+    (λ e. both_ways (has w b) out (all (triple a b k) e refl))))
 
 -- nor do the squares without an own man
-pub from_men : (p : Setup) (w : ℕ) → ((k : ℕ) → k < 64 → has w k ≡ is_of p.side (man_at p.men k)) → flat_map (λ a. moves_from p a) (members w) ≡ moves p
-from_men p w own = flat_map_members (λ a. moves_from p a) w (λ a low out. none_from p a (sym (own a low) ∙ out)) ∙ sym (moves-by_start p)
+pub from_men : (p : Setup) (w : ℕ) → ((k : ℕ) → k < 64 → has w k ≡ is_of p.side (man_at p.men k))
+    → flat_map (λ a. moves_from p a) (members w) ≡ moves p
+from_men p w own = flat_map_members (λ a. moves_from p a) w (λ a low out. none_from p a (sym (own a low) ∙ out))
+    ∙ sym (moves-by_start p)
 
 -- ---- whether there is one
 
 positive : (n : ℕ) → 0 < n → true ≡ nat_lt 0 n
 positive n h = grind (arith, common_steps)
 
-pub some_found : {A : Type 0} (g : ℕ → List A) (whole : List A) (ms : List ℕ) (s : ℕ) (ns : List ℕ) → ms ≡ s ∷ ns → flat_map g ms ≡ whole → nat_lt 0 (length (g s)) ≡ true → true ≡ nat_lt 0 (length whole)
+pub some_found : {A : Type 0} (g : ℕ → List A) (whole : List A) (ms : List ℕ) (s : ℕ) (ns : List ℕ) → ms ≡ s ∷ ns
+    → flat_map g ms ≡ whole → nat_lt 0 (length (g s)) ≡ true → true ≡ nat_lt 0 (length whole)
 some_found g whole ms s ns e h some =
-    let long : length (g s) + length (flat_map g ns) ≡ length whole = sym (length-append (g s) (flat_map g ns)) ∙ ap length (rw e at h) in
+    let long : length (g s) + length (flat_map g ns) ≡ length whole = sym (length-append (g s) (flat_map g ns))
+    ∙ ap length (rw e at h) in
     let more : 0 < length (g s) = grind (arith, nat_tests, some) in
     positive (length whole) (omega (arith, long, more))
 
@@ -115,13 +131,16 @@ empty_list : {A : Type 0} (xs : List A) → length xs ≡ 0 → xs ≡ []
 empty_list [] h = refl
 empty_list (x ∷ xs) h = absurd (omega (arith, h))
 
-pub none_yet : {A : Type 0} (g : ℕ → List A) (whole : List A) (ms : List ℕ) (s : ℕ) (ns : List ℕ) → ms ≡ s ∷ ns → flat_map g ms ≡ whole → nat_lt 0 (length (g s)) ≡ false → flat_map g ns ≡ whole
+pub none_yet : {A : Type 0} (g : ℕ → List A) (whole : List A) (ms : List ℕ) (s : ℕ) (ns : List ℕ) → ms ≡ s ∷ ns
+    → flat_map g ms ≡ whole → nat_lt 0 (length (g s)) ≡ false → flat_map g ns ≡ whole
 none_yet g whole ms s ns e h none =
     let empty : g s ≡ [] = empty_list (g s) (grind (arith, nat_tests, none)) in
     ap (λ xs. xs ++ flat_map g ns) (sym empty) ∙ (rw e at h)
 
-pub none_at_all : {A : Type 0} (g : ℕ → List A) (whole : List A) (ms : List ℕ) → ms ≡ [] → flat_map g ms ≡ whole → false ≡ nat_lt 0 (length whole)
+pub none_at_all : {A : Type 0} (g : ℕ → List A) (whole : List A) (ms : List ℕ) → ms ≡ [] → flat_map g ms ≡ whole
+    → false ≡ nat_lt 0 (length whole)
 none_at_all g whole ms e h = let none : [] ≡ whole = rw e at h in rw (← none) refl
 
-pub fits_from : (p : Setup) (now : List Move) (ms : List ℕ) (s : ℕ) (ns : List ℕ) → IsSound p → ms ≡ s ∷ ns → now ++ flat_map (λ a. moves_from p a) ms ≡ moves p → length now + length (moves_from p s) ≤ 896
+pub fits_from : (p : Setup) (now : List Move) (ms : List ℕ) (s : ℕ) (ns : List ℕ) → IsSound p → ms ≡ s ∷ ns
+    → now ++ flat_map (λ a. moves_from p a) ms ≡ moves p → length now + length (moves_from p s) ≤ 896
 fits_from p now ms s ns sound e h = room_for (λ a. moves_from p a) now (moves p) ms s ns 896 e h (moves_fit p sound)

@@ -12,28 +12,33 @@ use Rattle.chess_base.specs.declared.man.Colour.TheVariants.{White, Black}
 use Rattle.chess_moves.specs.Sets.{has}
 use Rattle.chess_moves.proofs.Words.{has_zero}
 
-pub none_counted : {X : Type 0} (q : X → Bool) (d : X) (xs : List X) → ((k : ℕ) → k < length xs → q (get_or xs k d) ≡ false) → count_by q xs ≡ 0
+pub none_counted : {X : Type 0} (q : X → Bool) (d : X) (xs : List X)
+    → ((k : ℕ) → k < length xs → q (get_or xs k d) ≡ false) → count_by q xs ≡ 0
 none_counted q d [] h = refl
 none_counted q d (x ∷ xs) h =
     let first : q x ≡ false = h 0 (omega arith) in
     sum_by-cons (λ y. cond (q y) 1 0) x xs ∙ rw (first, none_counted q d xs (λ k l. h (suc k) (omega arith))) refl
 
 -- the king is in its set
-pub some_king : (men : Men) (c : Colour) (w : ℕ) → length men ≡ 64 → has_one_king men c ≡ true → ((k : ℕ) → k < 64 → has w k ≡ is_man c King (man_at men k)) → 0 < w
+pub some_king : (men : Men) (c : Colour) (w : ℕ) → length men ≡ 64 → has_one_king men c ≡ true
+    → ((k : ℕ) → k < 64 → has w k ≡ is_man c King (man_at men k)) → 0 < w
 unfolding has_one_king
 some_king men c zero all one set =
-    let none : count_by (λ o. is_man c King o) men ≡ 0 = none_counted (λ o. is_man c King o) None men (λ k l. sym (set k (omega (arith, all, l))) ∙ has_zero k) in
+    let none : count_by (λ o. is_man c King o) men ≡ 0 = none_counted (λ o. is_man c King o) None men
+    (λ k l. sym (set k (omega (arith, all, l))) ∙ has_zero k) in
     let counted = eqb-true (count_by (λ o. is_man c King o) men) 1 one in
     absurd (omega (arith, none, counted))
 some_king men c (suc n) all one set = omega arith
 
-apart : (men : Men) (c : Colour) (f k : ℕ) → is_man c King (man_at men f) ≡ true → is_man c King (man_at men k) ≡ false → (k == f) ≡ true → ⊥
+apart : (men : Men) (c : Colour) (f k : ℕ) → is_man c King (man_at men f) ≡ true → is_man c King (man_at men k) ≡ false
+    → (k == f) ≡ true → ⊥
 apart men c f k here other e =
     let same : k ≡ f = eqb-true k f e in
     both_ways _ other (ap (λ s. is_man c King (man_at men s)) same ∙ here)
 
 -- and no other square is
-pub alone : (men : Men) (c : Colour) (f : ℕ) → length men ≡ 64 → has_one_king men c ≡ true → is_man c King (man_at men f) ≡ true
+pub alone : (men : Men) (c : Colour) (f : ℕ) → length men ≡ 64 → has_one_king men c ≡ true
+    → is_man c King (man_at men f) ≡ true
     → (k : ℕ) → k < 64 → is_man c King (man_at men k) ≡ (k == f)
 alone men c f all one here k low =
     elim (cases_Bool (is_man c King (man_at men k))) [

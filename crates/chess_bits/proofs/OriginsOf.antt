@@ -34,7 +34,8 @@ unfolding is_clear
 clear_back men a b = each_square_same _ _ (λ x l. rw (between_back a b x) refl)
 
 -- a man other than a pawn attacks as it is attacked
-back : (men : Men) (c : Colour) (kind : Kind) (a b : ℕ) → same_kind Pawn kind ≡ false → could_capture men c kind a b ≡ could_capture men c kind b a
+back : (men : Men) (c : Colour) (kind : Kind) (a b : ℕ) → same_kind Pawn kind ≡ false
+    → could_capture men c kind a b ≡ could_capture men c kind b a
 unfolding could_capture
 back men c King a b h = rw (eq_back a b, gap_back (file a) (file b), gap_back (rank a) (rank b)) refl
 back men c Queen a b h = rw (eq_back a b, ← line_back a b, diagonal_back a b, clear_back men a b) refl
@@ -43,16 +44,20 @@ back men c Bishop a b h = rw (eq_back a b, diagonal_back a b, clear_back men a b
 back men c Knight a b h = rw (gap_back (file a) (file b), gap_back (rank a) (rank b)) refl
 back men c Pawn a b h = cc
 
-officer_attacks : (p : Setup) (kind : Kind) (m : Move) → same_kind Pawn kind ≡ false → same_kind King kind ≡ false → is_legal p m ≡ true → is_man p.side kind (man_at p.men m.from) ≡ true
+officer_attacks : (p : Setup) (kind : Kind) (m : Move) → same_kind Pawn kind ≡ false → same_kind King kind ≡ false
+    → is_legal p m ≡ true → is_man p.side kind (man_at p.men m.from) ≡ true
     → could_capture p.men p.side kind m.to m.from ≡ true
 officer_attacks p kind m no_pawn no_king legal man =
     let at = man_told p.side kind (man_at p.men m.from) man in
     let own = is_of-from_is_man p.side kind (man_at p.men m.from) man in
-    let goes : man_goes p m.from m.to ≡ true = man_complete p m _ at refl no_pawn (begins_below p m legal) (ends_below p m legal) legal in
-    let both = and_parts (could_capture p.men p.side kind m.from m.to) (not (is_of p.side (man_at p.men m.to))) (officer_is p m.from m.to _ at own no_king ∙ goes) in
+    let goes : man_goes p m.from m.to ≡ true = man_complete p m _ at refl no_pawn (begins_below p m legal)
+    (ends_below p m legal) legal in
+    let both = and_parts (could_capture p.men p.side kind m.from m.to) (not (is_of p.side (man_at p.men m.to)))
+    (officer_is p m.from m.to _ at own no_king ∙ goes) in
     back p.men p.side kind m.to m.from no_pawn ∙ both.0
 
-pub officer_origins : (p : Setup) (kind : Kind) (to w u v : ℕ) → same_kind Pawn kind ≡ false → same_kind King kind ≡ false
+pub officer_origins : (p : Setup) (kind : Kind) (to w u v : ℕ) → same_kind Pawn kind ≡ false
+    → same_kind King kind ≡ false
     → ((k : ℕ) → has w k ≡ (has u k && has v k))
     → ((k : ℕ) → k < 64 → has u k ≡ is_man p.side kind (man_at p.men k))
     → ((k : ℕ) → k < 64 → has v k ≡ could_capture p.men p.side kind to k)
@@ -60,7 +65,8 @@ pub officer_origins : (p : Setup) (kind : Kind) (to w u v : ℕ) → same_kind P
 officer_origins p kind to w u v no_pawn no_king all men reached = λ m legal man there.
     let low = begins_below p m legal in
     all m.from ∙ and_from (has u m.from) (has v m.from) (men m.from low ∙ man)
-    (reached m.from low ∙ ap (λ t. could_capture p.men p.side kind t m.from) (sym there) ∙ officer_attacks p kind m no_pawn no_king legal man)
+    (reached m.from low ∙ ap (λ t. could_capture p.men p.side kind t m.from) (sym there)
+    ∙ officer_attacks p kind m no_pawn no_king legal man)
 
 -- ---- pawns
 
@@ -73,7 +79,8 @@ pawn_kind Knight e = cc
 pawn_kind Pawn e = refl
 
 -- no pawn stands on the lowest rank
-pub off_lowest : (men : Men) (c : Colour) (a : ℕ) → is_man c Pawn (man_at men a) ≡ true → pawn_may_stand men a ≡ true → 8 ≤ a
+pub off_lowest : (men : Men) (c : Colour) (a : ℕ) → is_man c Pawn (man_at men a) ≡ true → pawn_may_stand men a ≡ true
+    → 8 ≤ a
 unfolding pawn_may_stand
 off_lowest men White a man e = let f = not-true _ (rw man at e) in grind (arith, nat_tests, f)
 off_lowest men Black a man e = by (is_man White Pawn (man_at men a)) (rw man at e)
@@ -89,38 +96,53 @@ ray_below : (a b : ℕ) → file b ≡ file a → a < b → is_on_ray File false
 ray_below a b same less = and_from (file b == file a) (nat_lt a b) (eq-eqb (file b) (file a) same) (lt-ltb a b less)
 
 -- it advances on its file
-file_steps : (c : Colour) (a b : ℕ) → 8 ≤ a → (b ≡ forward c a) ⊎ ((rank a ≡ pawn_rank c) × (b ≡ forward c (forward c a)))
+file_steps : (c : Colour) (a b : ℕ) → 8 ≤ a → (b ≡ forward c a)
+    ⊎ ((rank a ≡ pawn_rank c) × (b ≡ forward c (forward c a)))
     → (is_on_ray File true b a || is_on_ray File false b a) ≡ true
-file_steps White a b high (inl e) = or_right (is_on_ray File true b a) (is_on_ray File false b a) (ray_below a b (omega (arith, e)) (omega (arith, e)))
-file_steps White a b high (inr e) = or_right (is_on_ray File true b a) (is_on_ray File false b a) (ray_below a b (omega (arith, e.1)) (omega (arith, e.1)))
-file_steps Black a b high (inl e) = or_left (is_on_ray File true b a) (is_on_ray File false b a) (ray_above a b (omega (arith, e, high)) (omega (arith, e, high)))
-file_steps Black a b high (inr e) = or_left (is_on_ray File true b a) (is_on_ray File false b a) (ray_above a b (omega (arith, e.0, e.1)) (omega (arith, e.0, e.1)))
+file_steps White a b high (inl e) = or_right (is_on_ray File true b a) (is_on_ray File false b a)
+    (ray_below a b (omega (arith, e)) (omega (arith, e)))
+file_steps White a b high (inr e) = or_right (is_on_ray File true b a) (is_on_ray File false b a)
+    (ray_below a b (omega (arith, e.1)) (omega (arith, e.1)))
+file_steps Black a b high (inl e) = or_left (is_on_ray File true b a) (is_on_ray File false b a)
+    (ray_above a b (omega (arith, e, high)) (omega (arith, e, high)))
+file_steps Black a b high (inr e) = or_left (is_on_ray File true b a) (is_on_ray File false b a)
+    (ray_above a b (omega (arith, e.0, e.1)) (omega (arith, e.0, e.1)))
 
 pawn_start : (p : Setup) (m : Move) → IsSound p → is_man p.side Pawn (man_at p.men m.from) ≡ true → is_legal p m ≡ true
-    → ((is_on_ray File true m.to m.from || is_on_ray File false m.to m.from) || in_shape (shape.Pawn (other p.side)) m.to m.from) ≡ true
+    → ((is_on_ray File true m.to m.from || is_on_ray File false m.to m.from)
+    || in_shape (shape.Pawn (other p.side)) m.to m.from) ≡ true
 unfolding no_pawn_on_end_ranks
 pawn_start p m sound pawn legal =
     let low = begins_below p m legal in
     let high = ends_below p m legal in
     let goes : (pawn_advances p (triple m.from m.to None) || pawn_captures p (triple m.from m.to None)) ≡ true =
-    sym (pawn_goes p m.from m.to _ (man_told p.side Pawn (man_at p.men m.from) pawn) refl refl low high) ∙ (legal_goes p m legal).0 in
+    sym (pawn_goes p m.from m.to _ (man_told p.side Pawn (man_at p.men m.from) pawn) refl refl low high)
+    ∙ (legal_goes p m legal).0 in
     elim (or_cases (pawn_advances p (triple m.from m.to None)) (pawn_captures p (triple m.from m.to None)) goes) [
       | inl ahead ↦
-          or_left (is_on_ray File true m.to m.from || is_on_ray File false m.to m.from) (in_shape (shape.Pawn (other p.side)) m.to m.from)
-          (file_steps p.side m.from m.to (off_lowest p.men p.side m.from pawn (each_square-at _ sound.pawns m.from low)) (advance_goes p (triple m.from m.to None) ahead))
+          or_left (is_on_ray File true m.to m.from || is_on_ray File false m.to m.from)
+          (in_shape (shape.Pawn (other p.side)) m.to m.from)
+          (file_steps p.side m.from m.to (off_lowest p.men p.side m.from pawn (each_square-at _ sound.pawns m.from low))
+          (advance_goes p (triple m.from m.to None) ahead))
       | inr takes ↦
-          or_right (is_on_ray File true m.to m.from || is_on_ray File false m.to m.from) (in_shape (shape.Pawn (other p.side)) m.to m.from)
+          or_right (is_on_ray File true m.to m.from || is_on_ray File false m.to m.from)
+          (in_shape (shape.Pawn (other p.side)) m.to m.from)
           (pawn_back p.men p.side m.from m.to
-          ∙ (and_parts (could_capture p.men p.side Pawn m.from m.to) (is_of (other p.side) (man_at p.men m.to) || is_square p.target m.to) (captures_is p m.from m.to pawn ∙ takes)).0)
+          ∙ (and_parts (could_capture p.men p.side Pawn m.from m.to)
+          (is_of (other p.side) (man_at p.men m.to) || is_square p.target m.to)
+          (captures_is p m.from m.to pawn ∙ takes)).0)
     ]
 
 pub pawn_origins : (p : Setup) (kind : Kind) (to w u v : ℕ) → IsSound p → same_kind Pawn kind ≡ true
     → ((k : ℕ) → has w k ≡ (has u k && has v k))
     → ((k : ℕ) → k < 64 → has u k ≡ is_man p.side kind (man_at p.men k))
-    → ((k : ℕ) → k < 64 → has v k ≡ ((is_on_ray File true to k || is_on_ray File false to k) || in_shape (shape.Pawn (other p.side)) to k))
+    → ((k : ℕ) → k < 64 → has v k
+    ≡ ((is_on_ray File true to k || is_on_ray File false to k) || in_shape (shape.Pawn (other p.side)) to k))
     → HasOrigins p kind to w
 pawn_origins p kind to w u v sound is all men starts = λ m legal man there.
     let low = begins_below p m legal in
-    let pawn : is_man p.side Pawn (man_at p.men m.from) ≡ true = ap (λ k. is_man p.side k (man_at p.men m.from)) (sym (pawn_kind kind is)) ∙ man in
+    let pawn : is_man p.side Pawn (man_at p.men m.from) ≡ true = ap (λ k. is_man p.side k (man_at p.men m.from))
+    (sym (pawn_kind kind is)) ∙ man in
     all m.from ∙ and_from (has u m.from) (has v m.from) (men m.from low ∙ man)
-    (starts m.from low ∙ ap (λ t. (is_on_ray File true t m.from || is_on_ray File false t m.from) || in_shape (shape.Pawn (other p.side)) t m.from) (sym there) ∙ pawn_start p m sound pawn legal)
+    (starts m.from low ∙ ap (λ t. (is_on_ray File true t m.from || is_on_ray File false t m.from)
+    || in_shape (shape.Pawn (other p.side)) t m.from) (sym there) ∙ pawn_start p m sound pawn legal)

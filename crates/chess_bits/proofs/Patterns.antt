@@ -41,7 +41,8 @@ fits_low Bishop = refl
 fits_low Knight = refl
 fits_low Pawn = refl
 
-none_promoted : (p : Setup) (a b : ℕ) (kind : Kind) (o : Option Castle) → castles_or_moves p (triple a b (Some kind)) o ≡ false
+none_promoted : (p : Setup) (a b : ℕ) (kind : Kind) (o : Option Castle) → castles_or_moves p (triple a b (Some kind)) o
+    ≡ false
 unfolding man_moves castles
 none_promoted p a b kind None = refl
 none_promoted p a b kind (Some castle) = refl
@@ -52,29 +53,39 @@ officers : (p : Setup) (a b : ℕ) (k : Option Kind) → castles_or_moves p (tri
 officers p a b None = sym (and_true (castles_or_moves p (triple a b None) (castle_of p (triple a b None))))
 officers p a b (Some kind) =
     none_promoted p a b kind (castle_of p (triple a b (Some kind)))
-    ∙ sym (ap (λ f. castles_or_moves p (triple a b None) (castle_of p (triple a b None)) && f) (fits_low kind) ∙ and_false (castles_or_moves p (triple a b None) (castle_of p (triple a b None))))
+    ∙ sym (ap (λ f. castles_or_moves p (triple a b None) (castle_of p (triple a b None)) && f) (fits_low kind)
+    ∙ and_false (castles_or_moves p (triple a b None) (castle_of p (triple a b None))))
 
 -- pawns
-turned : (last : Bool) (k : Option Kind) (x : Bool) → (promotion_fits last k && x) ≡ ((promotion_fits last (if last then Some Queen else None) && x) && promotion_fits last k)
+turned : (last : Bool) (k : Option Kind) (x : Bool)
+    → (promotion_fits last k && x)
+    ≡ ((promotion_fits last (if last then Some Queen else None) && x) && promotion_fits last k)
 turned true k x = and_turned (promotion_fits true k) x
 turned false k x = and_turned (promotion_fits false k) x
 
 pawns : (p : Setup) (a b : ℕ) (k : Option Kind) → pawn_moves p (triple a b k)
-    ≡ (pawn_moves p (triple a b (if rank b == first_rank (other p.side) then Some Queen else None)) && promotion_fits (rank b == first_rank (other p.side)) k)
+    ≡ (pawn_moves p (triple a b (if rank b == first_rank (other p.side) then Some Queen else None))
+    && promotion_fits (rank b == first_rank (other p.side)) k)
 unfolding pawn_moves pawn_advances pawn_captures is_double_advance
-pawns p a b k = turned (rank b == first_rank (other p.side)) k (pawn_advances p (triple a b None) || pawn_captures p (triple a b None))
+pawns p a b k = turned (rank b == first_rank (other p.side)) k
+    (pawn_advances p (triple a b None) || pawn_captures p (triple a b None))
 
 by_kind : (p : Setup) (a b : ℕ) (k : Option Kind) (own pawn : Bool)
     → (own && cond pawn (pawn_moves p (triple a b k)) (castles_or_moves p (triple a b k) (castle_of p (triple a b k))))
-    ≡ ((own && cond pawn (pawn_moves p (triple a b (if (own && pawn) && (rank b == first_rank (other p.side)) then Some Queen else None)))
-    (castles_or_moves p (triple a b (if (own && pawn) && (rank b == first_rank (other p.side)) then Some Queen else None)) (castle_of p (triple a b (if (own && pawn) && (rank b == first_rank (other p.side)) then Some Queen else None)))))
+    ≡ ((own && cond pawn (pawn_moves p
+    (triple a b (if (own && pawn) && (rank b == first_rank (other p.side)) then Some Queen else None)))
+    (castles_or_moves p (triple a b
+    (if (own && pawn) && (rank b == first_rank (other p.side)) then Some Queen else None))
+    (castle_of p (triple a b
+    (if (own && pawn) && (rank b == first_rank (other p.side)) then Some Queen else None)))))
     && promotion_fits ((own && pawn) && (rank b == first_rank (other p.side))) k)
 by_kind p a b k false pawn = refl
 by_kind p a b k true true = pawns p a b k
 by_kind p a b k true false = officers p a b k
 
 by_man : (p : Setup) (a b : ℕ) (k : Option Kind) (o : Option Man) → man_at p.men a ≡ o
-    → moves_as p (triple a b k) o ≡ (moves_as p (triple a b (usual_promotion p a b)) o && promotion_fits (would_promote p a b) k)
+    → moves_as p (triple a b k) o
+    ≡ (moves_as p (triple a b (usual_promotion p a b)) o && promotion_fits (would_promote p a b) k)
 unfolding would_promote is_man
 by_man p a b k None at = refl
 by_man p a b k (Some x) at = rw at (by_kind p a b k (same_colour p.side x.colour) (same_kind Pawn x.kind))
@@ -83,19 +94,23 @@ and_joined : (x y z : Bool) → (x && (y && z)) ≡ ((x && y) && z)
 and_joined true y z = refl
 and_joined false y z = refl
 
-pub pattern_by : (p : Setup) (a b : ℕ) (k : Option Kind) → has_pattern p (triple a b k) ≡ (goes p a b && promotion_fits (would_promote p a b) k)
+pub pattern_by : (p : Setup) (a b : ℕ) (k : Option Kind)
+    → has_pattern p (triple a b k) ≡ (goes p a b && promotion_fits (would_promote p a b) k)
 unfolding has_pattern goes
 pattern_by p a b k =
     ap (λ v. (nat_lt a 64 && nat_lt b 64) && v) (by_man p a b k (man_at p.men a) refl)
-    ∙ and_joined (nat_lt a 64 && nat_lt b 64) (moves_as p (triple a b (usual_promotion p a b)) (man_at p.men a)) (promotion_fits (would_promote p a b) k)
+    ∙ and_joined (nat_lt a 64 && nat_lt b 64) (moves_as p (triple a b (usual_promotion p a b)) (man_at p.men a))
+    (promotion_fits (would_promote p a b) k)
 
 -- a move has a pattern where its man goes so and its promotion fits
-pub pattern_is : (p : Setup) (m : Move) → has_pattern p m ≡ (goes p m.from m.to && promotion_fits (would_promote p m.from m.to) m.promotion)
+pub pattern_is : (p : Setup) (m : Move)
+    → has_pattern p m ≡ (goes p m.from m.to && promotion_fits (would_promote p m.from m.to) m.promotion)
 pattern_is p m = pattern_by p m.from m.to m.promotion
 
 -- ---- by the man
 
-goes_as : (p : Setup) (a b : ℕ) (o : Option Man) → man_at p.men a ≡ o → a < 64 → b < 64 → goes p a b ≡ moves_as p (triple a b (usual_promotion p a b)) o
+goes_as : (p : Setup) (a b : ℕ) (o : Option Man) → man_at p.men a ≡ o → a < 64 → b < 64
+    → goes p a b ≡ moves_as p (triple a b (usual_promotion p a b)) o
 unfolding goes has_pattern
 goes_as p a b o at low high = rw (lt-ltb a 64 low, lt-ltb b 64 high, at) refl
 
@@ -109,24 +124,31 @@ no_man_goes p a b h =
     by None e = refl
     by (Some x) e = rw e refl
 
-moves_pawn : (p : Setup) (m : Move) (x : Man) → x.colour ≡ p.side → same_kind Pawn x.kind ≡ true → moves_as p m (Some x) ≡ pawn_moves p m
-moves_pawn p m x own pawn = let own' : same_colour p.side x.colour ≡ true = rw own (same_colour-self p.side) in rw (own', pawn) refl
+moves_pawn : (p : Setup) (m : Move) (x : Man) → x.colour ≡ p.side → same_kind Pawn x.kind ≡ true
+    → moves_as p m (Some x) ≡ pawn_moves p m
+moves_pawn p m x own pawn = let own' : same_colour p.side x.colour ≡ true = rw own (same_colour-self p.side) in
+    rw (own', pawn) refl
 
 usual_fits : (last x : Bool) → (promotion_fits last (if last then Some Queen else None) && x) ≡ x
 usual_fits true x = refl
 usual_fits false x = refl
 
-usual_pawn : (p : Setup) (a b : ℕ) → pawn_moves p (triple a b (if rank b == first_rank (other p.side) then Some Queen else None))
+usual_pawn : (p : Setup) (a b : ℕ)
+    → pawn_moves p (triple a b (if rank b == first_rank (other p.side) then Some Queen else None))
     ≡ (pawn_advances p (triple a b None) || pawn_captures p (triple a b None))
 unfolding pawn_moves pawn_advances pawn_captures is_double_advance
-usual_pawn p a b = usual_fits (rank b == first_rank (other p.side)) (pawn_advances p (triple a b None) || pawn_captures p (triple a b None))
+usual_pawn p a b = usual_fits (rank b == first_rank (other p.side))
+    (pawn_advances p (triple a b None) || pawn_captures p (triple a b None))
 
-promotes_is : (p : Setup) (a b : ℕ) (x : Man) → man_at p.men a ≡ Some x → x.colour ≡ p.side → same_kind Pawn x.kind ≡ true → would_promote p a b ≡ (rank b == first_rank (other p.side))
+promotes_is : (p : Setup) (a b : ℕ) (x : Man) → man_at p.men a ≡ Some x → x.colour ≡ p.side
+    → same_kind Pawn x.kind ≡ true → would_promote p a b ≡ (rank b == first_rank (other p.side))
 unfolding would_promote is_man
-promotes_is p a b x at own pawn = let own' : same_colour p.side x.colour ≡ true = rw own (same_colour-self p.side) in rw (at, own', pawn) refl
+promotes_is p a b x at own pawn = let own' : same_colour p.side x.colour ≡ true = rw own (same_colour-self p.side) in
+    rw (at, own', pawn) refl
 
 -- a pawn advances or captures
-pub pawn_goes : (p : Setup) (a b : ℕ) (x : Man) → man_at p.men a ≡ Some x → x.colour ≡ p.side → same_kind Pawn x.kind ≡ true → a < 64 → b < 64
+pub pawn_goes : (p : Setup) (a b : ℕ) (x : Man) → man_at p.men a ≡ Some x → x.colour ≡ p.side
+    → same_kind Pawn x.kind ≡ true → a < 64 → b < 64
     → goes p a b ≡ (pawn_advances p (triple a b None) || pawn_captures p (triple a b None))
 pawn_goes p a b x at own pawn low high =
     goes_as p a b (Some x) at low high
@@ -134,42 +156,52 @@ pawn_goes p a b x at own pawn low high =
     ∙ ap (λ w. pawn_moves p (triple a b (if w then Some Queen else None))) (promotes_is p a b x at own pawn)
     ∙ usual_pawn p a b
 
-pub not_promoting : (p : Setup) (a b : ℕ) (x : Man) → man_at p.men a ≡ Some x → same_kind Pawn x.kind ≡ false → would_promote p a b ≡ false
+pub not_promoting : (p : Setup) (a b : ℕ) (x : Man) → man_at p.men a ≡ Some x → same_kind Pawn x.kind ≡ false
+    → would_promote p a b ≡ false
 unfolding would_promote is_man
-not_promoting p a b x at no_pawn = rw (at, no_pawn) (by (same_colour p.side x.colour) (rank b == first_rank (other p.side)))
+not_promoting p a b x at no_pawn =
+    rw (at, no_pawn) (by (same_colour p.side x.colour) (rank b == first_rank (other p.side)))
   where
     by : (s t : Bool) → ((s && false) && t) ≡ false
     by true t = refl
     by false t = refl
 
-moves_officer : (p : Setup) (m : Move) (x : Man) → x.colour ≡ p.side → same_kind Pawn x.kind ≡ false → moves_as p m (Some x) ≡ castles_or_moves p m (castle_of p m)
-moves_officer p m x own no_pawn = let own' : same_colour p.side x.colour ≡ true = rw own (same_colour-self p.side) in rw (own', no_pawn) refl
+moves_officer : (p : Setup) (m : Move) (x : Man) → x.colour ≡ p.side → same_kind Pawn x.kind ≡ false
+    → moves_as p m (Some x) ≡ castles_or_moves p m (castle_of p m)
+moves_officer p m x own no_pawn = let own' : same_colour p.side x.colour ≡ true = rw own (same_colour-self p.side) in
+    rw (own', no_pawn) refl
 
 -- another man goes as it attacks, or castles
-pub officer_goes : (p : Setup) (a b : ℕ) (x : Man) → man_at p.men a ≡ Some x → x.colour ≡ p.side → same_kind Pawn x.kind ≡ false → a < 64 → b < 64
+pub officer_goes : (p : Setup) (a b : ℕ) (x : Man) → man_at p.men a ≡ Some x → x.colour ≡ p.side
+    → same_kind Pawn x.kind ≡ false → a < 64 → b < 64
     → goes p a b ≡ castles_or_moves p (triple a b None) (castle_of p (triple a b None))
 officer_goes p a b x at own no_pawn low high =
     goes_as p a b (Some x) at low high
     ∙ moves_officer p (triple a b (usual_promotion p a b)) x own no_pawn
-    ∙ ap (λ w. castles_or_moves p (triple a b (if w then Some Queen else None)) (castle_of p (triple a b (if w then Some Queen else None)))) (not_promoting p a b x at no_pawn)
+    ∙ ap (λ w. castles_or_moves p (triple a b (if w then Some Queen else None))
+    (castle_of p (triple a b (if w then Some Queen else None)))) (not_promoting p a b x at no_pawn)
 
 -- ---- legal moves
 
-pub legal_goes : (p : Setup) (m : Move) → is_legal p m ≡ true → (goes p m.from m.to ≡ true) × (promotion_fits (would_promote p m.from m.to) m.promotion ≡ true)
+pub legal_goes : (p : Setup) (m : Move) → is_legal p m ≡ true → (goes p m.from m.to ≡ true)
+    × (promotion_fits (would_promote p m.from m.to) m.promotion ≡ true)
 unfolding is_legal
 legal_goes p m h =
     let pattern = (and_parts (has_pattern p m) (not (is_in_check (after p m).men p.side)) h).0 in
-    and_parts (goes p m.from m.to) (promotion_fits (would_promote p m.from m.to) m.promotion) (sym (pattern_is p m) ∙ pattern)
+    and_parts (goes p m.from m.to) (promotion_fits (would_promote p m.from m.to) m.promotion)
+    (sym (pattern_is p m) ∙ pattern)
 
 -- what castles legally goes so
 castling_goes : (p : Setup) (a b : ℕ) → is_legal p (triple a b None) ≡ true → goes p a b ≡ true
 castling_goes p a b h = (legal_goes p (triple a b None) h).0
 
-pub man_sound : (p : Setup) (a b : ℕ) (x : Man) → man_at p.men a ≡ Some x → x.colour ≡ p.side → same_kind Pawn x.kind ≡ false → a < 64 → b < 64
+pub man_sound : (p : Setup) (a b : ℕ) (x : Man) → man_at p.men a ≡ Some x → x.colour ≡ p.side
+    → same_kind Pawn x.kind ≡ false → a < 64 → b < 64
     → man_goes p a b ≡ true → goes p a b ≡ true
 man_sound p a b x at own no_pawn low high h = by (castle_of p (triple a b None)) refl h
   where
-    by : (o : Option Castle) → castle_of p (triple a b None) ≡ o → legal_or p (triple a b None) o (man_moves p (triple a b None)) ≡ true → goes p a b ≡ true
+    by : (o : Option Castle) → castle_of p (triple a b None) ≡ o
+        → legal_or p (triple a b None) o (man_moves p (triple a b None)) ≡ true → goes p a b ≡ true
     by None e g = officer_goes p a b x at own no_pawn low high ∙ ap (castles_or_moves p (triple a b None)) e ∙ g
     by (Some castle) e g = castling_goes p a b g
 
@@ -177,24 +209,34 @@ none_fits : (k : Option Kind) → promotion_fits false k ≡ true → k ≡ None
 none_fits None h = refl
 none_fits (Some kind) h = absurd (both_ways _ (fits_low kind) h)
 
-pub man_complete : (p : Setup) (m : Move) (x : Man) → man_at p.men m.from ≡ Some x → x.colour ≡ p.side → same_kind Pawn x.kind ≡ false → m.from < 64 → m.to < 64
+pub man_complete : (p : Setup) (m : Move) (x : Man) → man_at p.men m.from ≡ Some x → x.colour ≡ p.side
+    → same_kind Pawn x.kind ≡ false → m.from < 64 → m.to < 64
     → is_legal p m ≡ true → man_goes p m.from m.to ≡ true
 man_complete p m x at own no_pawn low high h = by (castle_of p (triple m.from m.to None)) refl
   where
     stays : m.promotion ≡ None
-    stays = none_fits m.promotion (ap (λ w. promotion_fits w m.promotion) (sym (not_promoting p m.from m.to x at no_pawn)) ∙ (legal_goes p m h).1)
+    stays = none_fits m.promotion
+        (ap (λ w. promotion_fits w m.promotion) (sym (not_promoting p m.from m.to x at no_pawn)) ∙ (legal_goes p m h).1)
 
-    by : (o : Option Castle) → castle_of p (triple m.from m.to None) ≡ o → legal_or p (triple m.from m.to None) o (man_moves p (triple m.from m.to None)) ≡ true
-    by None e = sym (officer_goes p m.from m.to x at own no_pawn low high ∙ ap (castles_or_moves p (triple m.from m.to None)) e) ∙ (legal_goes p m h).0
+    by : (o : Option Castle) → castle_of p (triple m.from m.to None) ≡ o
+        → legal_or p (triple m.from m.to None) o (man_moves p (triple m.from m.to None)) ≡ true
+    by None e = sym (officer_goes p m.from m.to x at own no_pawn low high
+        ∙ ap (castles_or_moves p (triple m.from m.to None)) e) ∙ (legal_goes p m h).0
     by (Some castle) e = ap (λ k. is_legal p (triple m.from m.to k)) (sym stays) ∙ h
 
 -- ---- whether a move is legal
 
-pub not_target : (p : Setup) (m : Move) (w : ℕ) → ((n : Move) → is_legal p n ≡ true → n.from ≡ m.from → has w n.to ≡ true) → has w m.to ≡ false → false ≡ is_legal p m
+pub not_target : (p : Setup) (m : Move) (w : ℕ)
+    → ((n : Move) → is_legal p n ≡ true → n.from ≡ m.from → has w n.to ≡ true) → has w m.to ≡ false
+    → false ≡ is_legal p m
 not_target p m w all out = sym (false_from_ne_true (is_legal p m) (λ e. both_ways (has w m.to) out (all m e refl)))
 
-pub not_fitting : (p : Setup) (m : Move) → promotion_fits (would_promote p m.from m.to) m.promotion ≡ false → false ≡ is_legal p m
-not_fitting p m h = sym (false_from_ne_true (is_legal p m) (λ e. both_ways (promotion_fits (would_promote p m.from m.to) m.promotion) h (legal_goes p m e).1))
+pub not_fitting : (p : Setup) (m : Move) → promotion_fits (would_promote p m.from m.to) m.promotion ≡ false
+    → false ≡ is_legal p m
+not_fitting p m h = sym (false_from_ne_true (is_legal p m)
+    (λ e. both_ways (promotion_fits (would_promote p m.from m.to) m.promotion) h (legal_goes p m e).1))
 
-pub pattern_from : (p : Setup) (m : Move) → goes p m.from m.to ≡ true → promotion_fits (would_promote p m.from m.to) m.promotion ≡ true → has_pattern p m ≡ true
-pattern_from p m g f = pattern_is p m ∙ and_from (goes p m.from m.to) (promotion_fits (would_promote p m.from m.to) m.promotion) g f
+pub pattern_from : (p : Setup) (m : Move) → goes p m.from m.to ≡ true
+    → promotion_fits (would_promote p m.from m.to) m.promotion ≡ true → has_pattern p m ≡ true
+pattern_from p m g f = pattern_is p m
+    ∙ and_from (goes p m.from m.to) (promotion_fits (would_promote p m.from m.to) m.promotion) g f

@@ -27,16 +27,19 @@ open_from w men a b h =
 pub line_back : (a b : ℕ) → share_rank_or_file b a ≡ share_rank_or_file a b
 line_back a b = rw (eq_back (file b) (file a), eq_back (rank b) (rank a)) refl
 
-pub rook_from : (w : ℕ) (men : Men) (c : Colour) (a b : ℕ) → IsOccupied w men → (not (b == a) && share_rank_or_file b a && is_open w a b) ≡ could_capture men c Rook a b
+pub rook_from : (w : ℕ) (men : Men) (c : Colour) (a b : ℕ) → IsOccupied w men
+    → (not (b == a) && share_rank_or_file b a && is_open w a b) ≡ could_capture men c Rook a b
 unfolding could_capture
 rook_from w men c a b h = rw (eq_back b a, line_back a b, open_from w men a b h) refl
 
-pub bishop_from : (w : ℕ) (men : Men) (c : Colour) (a b : ℕ) → IsOccupied w men → (not (b == a) && share_diagonal b a && is_open w a b) ≡ could_capture men c Bishop a b
+pub bishop_from : (w : ℕ) (men : Men) (c : Colour) (a b : ℕ) → IsOccupied w men
+    → (not (b == a) && share_diagonal b a && is_open w a b) ≡ could_capture men c Bishop a b
 unfolding could_capture
 bishop_from w men c a b h = rw (eq_back b a, diagonal_back b a, open_from w men a b h) refl
 
 pub queen_from : (w : ℕ) (men : Men) (c : Colour) (a b : ℕ) → IsOccupied w men
-    → ((not (b == a) && share_rank_or_file b a && is_open w a b) || (not (b == a) && share_diagonal b a && is_open w a b)) ≡ could_capture men c Queen a b
+    → ((not (b == a) && share_rank_or_file b a && is_open w a b)
+    || (not (b == a) && share_diagonal b a && is_open w a b)) ≡ could_capture men c Queen a b
 unfolding could_capture
 queen_from w men c a b h =
     rw (eq_back b a, line_back a b, diagonal_back b a, open_from w men a b h)

@@ -33,50 +33,65 @@ use Rattle.chess_bits.proofs.Patterns.{pawn_goes, legal_goes, man_sound, man_com
 
 own_colour : (c : Colour) (x : Man) (o : Option Man) → o ≡ Some x → is_of c o ≡ true → x.colour ≡ c
 unfolding is_of
-own_colour c x o at own = let own' : same_colour c x.colour ≡ true = rw at at own in sym (same_colour-true c x.colour own')
+own_colour c x o at own = let own' : same_colour c x.colour ≡ true = rw at at own in
+    sym (same_colour-true c x.colour own')
 
 pub steps_of_man : (p : Setup) (a b : ℕ) (x : Man) → man_at p.men a ≡ Some x → x.colour ≡ p.side
     → man_moves p (triple a b None) ≡ (could_capture p.men p.side x.kind a b && not (is_of p.side (man_at p.men b)))
 unfolding man_moves attacks
-steps_of_man p a b x at own = ap (λ o. could_capture_as p.men o a b && not (is_of p.side (man_at p.men b))) at ∙ ap (λ c. could_capture p.men c x.kind a b && not (is_of p.side (man_at p.men b))) own
+steps_of_man p a b x at own =
+    ap (λ o. could_capture_as p.men o a b && not (is_of p.side (man_at p.men b))) at ∙ ap (λ c.
+    could_capture p.men c x.kind a b && not (is_of p.side (man_at p.men b))) own
 
-pub no_king_says : (p : Setup) (m : Move) (w : CastlingSide) → is_man p.side King (man_at p.men m.from) ≡ false → says_castling p m w ≡ false
+pub no_king_says : (p : Setup) (m : Move) (w : CastlingSide) → is_man p.side King (man_at p.men m.from) ≡ false
+    → says_castling p m w ≡ false
 unfolding says_castling
 no_king_says p m w h = rw h refl
 
-neither : (p : Setup) (m : Move) → says_castling p m KingSide ≡ false → says_castling p m QueenSide ≡ false → castling p m ≡ None
+neither : (p : Setup) (m : Move) → says_castling p m KingSide ≡ false → says_castling p m QueenSide ≡ false
+    → castling p m ≡ None
 unfolding castling
 neither p m k q = rw (k, q) refl
 
-pub none_castles : (p : Setup) (m : Move) → says_castling p m KingSide ≡ false → says_castling p m QueenSide ≡ false → castle_of p m ≡ None
+pub none_castles : (p : Setup) (m : Move) → says_castling p m KingSide ≡ false → says_castling p m QueenSide ≡ false
+    → castle_of p m ≡ None
 none_castles p m k q = no_castle p m (neither p m k q)
 
-no_king_kind : (p : Setup) (a : ℕ) (x : Man) → man_at p.men a ≡ Some x → same_kind King x.kind ≡ false → is_man p.side King (man_at p.men a) ≡ false
+no_king_kind : (p : Setup) (a : ℕ) (x : Man) → man_at p.men a ≡ Some x → same_kind King x.kind ≡ false
+    → is_man p.side King (man_at p.men a) ≡ false
 unfolding is_man
 no_king_kind p a x at no_king = rw at (and_right (same_colour p.side x.colour) (same_kind King x.kind) no_king)
 
-pub officer_is : (p : Setup) (a b : ℕ) (x : Man) → man_at p.men a ≡ Some x → is_of p.side (man_at p.men a) ≡ true → same_kind King x.kind ≡ false
+pub officer_is : (p : Setup) (a b : ℕ) (x : Man) → man_at p.men a ≡ Some x → is_of p.side (man_at p.men a) ≡ true
+    → same_kind King x.kind ≡ false
     → (could_capture p.men p.side x.kind a b && not (is_of p.side (man_at p.men b))) ≡ man_goes p a b
 officer_is p a b x at own no_king =
     let off = no_king_kind p a x at no_king in
-    let none = none_castles p (triple a b None) (no_king_says p (triple a b None) KingSide off) (no_king_says p (triple a b None) QueenSide off) in
-    sym (ap (λ o. legal_or p (triple a b None) o (man_moves p (triple a b None))) none ∙ steps_of_man p a b x at (own_colour p.side x (man_at p.men a) at own))
+    let none = none_castles p (triple a b None) (no_king_says p (triple a b None) KingSide off)
+    (no_king_says p (triple a b None) QueenSide off) in
+    sym (ap (λ o. legal_or p (triple a b None) o (man_moves p (triple a b None))) none
+    ∙ steps_of_man p a b x at (own_colour p.side x (man_at p.men a) at own))
 
 -- ---- the king
 
-not_named : (v : Variant) (c : Colour) (a b : ℕ) (w : CastlingSide) (o : Option ℕ) → names_end v c w o b ≡ false → names_castling v c (triple a b None) w o ≡ false
+not_named : (v : Variant) (c : Colour) (a b : ℕ) (w : CastlingSide) (o : Option ℕ) → names_end v c w o b ≡ false
+    → names_castling v c (triple a b None) w o ≡ false
 not_named v c a b w None h = refl
-not_named Normal c a b w (Some r) h = and_right (a == home_square c king_home_file) (b == home_square c (castled_king_file w)) h
+not_named Normal c a b w (Some r) h = and_right (a == home_square c king_home_file)
+    (b == home_square c (castled_king_file w)) h
 not_named Fischerandom c a b w (Some r) h = and_right (rank a == rank r) (b == r) h
 
-not_said : (p : Setup) (a b : ℕ) (w : CastlingSide) → names_end p.variant p.side w (right_of p.rights p.side w) b ≡ false → says_castling p (triple a b None) w ≡ false
+not_said : (p : Setup) (a b : ℕ) (w : CastlingSide) → names_end p.variant p.side w (right_of p.rights p.side w) b
+    ≡ false → says_castling p (triple a b None) w ≡ false
 unfolding says_castling
 not_said p a b w h =
-    and_right (is_man p.side King (man_at p.men a)) (names_castling p.variant p.side (triple a b None) w (right_of p.rights p.side w))
+    and_right (is_man p.side King (man_at p.men a))
+    (names_castling p.variant p.side (triple a b None) w (right_of p.rights p.side w))
     (not_named p.variant p.side a b w (right_of p.rights p.side w) h)
 
 told : (p : Setup) (m : Move) (o : Option Castle) (k q s : Bool) → (k ≡ false → q ≡ false → o ≡ None)
-    → (if k then legal_or p m o (if q then legal_or p m o s else s) else (if q then legal_or p m o s else s)) ≡ legal_or p m o s
+    → (if k then legal_or p m o (if q then legal_or p m o s else s) else (if q then legal_or p m o s else s))
+    ≡ legal_or p m o s
 told p m None true true s h = refl
 told p m None true false s h = refl
 told p m None false true s h = refl
@@ -85,39 +100,49 @@ told p m (Some x) true q s h = refl
 told p m (Some x) false true s h = refl
 told p m (Some x) false false s h = let none = h refl refl in absurd cc
 
-pub king_is : (p : Setup) (a b : ℕ) (x : Man) (s f t : Bool) → man_at p.men a ≡ Some x → is_of p.side (man_at p.men a) ≡ true
+pub king_is : (p : Setup) (a b : ℕ) (x : Man) (s f t : Bool) → man_at p.men a ≡ Some x
+    → is_of p.side (man_at p.men a) ≡ true
     → s ≡ (could_capture p.men p.side x.kind a b && not (is_of p.side (man_at p.men b)))
     → f ≡ castling_or p QueenSide a b s → t ≡ castling_or p KingSide a b f → t ≡ man_goes p a b
 king_is p a b x s f t at own steps far near =
-    near ∙ ap (castling_or p KingSide a b) (far ∙ ap (castling_or p QueenSide a b) (steps ∙ sym (steps_of_man p a b x at (own_colour p.side x (man_at p.men a) at own))))
-    ∙ told p (triple a b None) (castle_of p (triple a b None)) (names_end p.variant p.side KingSide (right_of p.rights p.side KingSide) b)
+    near ∙ ap (castling_or p KingSide a b)
+    (far ∙ ap (castling_or p QueenSide a b)
+    (steps ∙ sym (steps_of_man p a b x at (own_colour p.side x (man_at p.men a) at own))))
+    ∙ told p (triple a b None) (castle_of p (triple a b None))
+    (names_end p.variant p.side KingSide (right_of p.rights p.side KingSide) b)
     (names_end p.variant p.side QueenSide (right_of p.rights p.side QueenSide) b) (man_moves p (triple a b None))
     (λ k q. none_castles p (triple a b None) (not_said p a b KingSide k) (not_said p a b QueenSide q))
 
 -- castling alone
-pub ends_are : (p : Setup) (a b : ℕ) (z f t : Bool) → z ≡ false → f ≡ castling_or p QueenSide a b z → t ≡ castling_or p KingSide a b f
+pub ends_are : (p : Setup) (a b : ℕ) (z f t : Bool) → z ≡ false → f ≡ castling_or p QueenSide a b z
+    → t ≡ castling_or p KingSide a b f
     → t ≡ legal_or p (triple a b None) (castle_of p (triple a b None)) false
 ends_are p a b z f t none far near =
     near ∙ ap (castling_or p KingSide a b) (far ∙ ap (castling_or p QueenSide a b) none)
-    ∙ told p (triple a b None) (castle_of p (triple a b None)) (names_end p.variant p.side KingSide (right_of p.rights p.side KingSide) b)
+    ∙ told p (triple a b None) (castle_of p (triple a b None))
+    (names_end p.variant p.side KingSide (right_of p.rights p.side KingSide) b)
     (names_end p.variant p.side QueenSide (right_of p.rights p.side QueenSide) b) false
     (λ k q. none_castles p (triple a b None) (not_said p a b KingSide k) (not_said p a b QueenSide q))
 
 -- what `with_castling` answers
-pub no_right : (p : Setup) (w : CastlingSide) (a b : ℕ) (s : Bool) → right_of p.rights p.side w ≡ None → s ≡ castling_or p w a b s
+pub no_right : (p : Setup) (w : CastlingSide) (a b : ℕ) (s : Bool) → right_of p.rights p.side w ≡ None
+    → s ≡ castling_or p w a b s
 no_right p w a b s e = rw e refl
 
-named : (v : Variant) (c : Colour) (w : CastlingSide) (rook b : ℕ) → names_end v c w (Some rook) b ≡ (b == castling_end v c w rook)
+named : (v : Variant) (c : Colour) (w : CastlingSide) (rook b : ℕ)
+    → names_end v c w (Some rook) b ≡ (b == castling_end v c w rook)
 named Normal c w rook b = refl
 named Fischerandom c w rook b = refl
 
-by_end : (p : Setup) (w : CastlingSide) (a b rook to : ℕ) (s : Bool) → right_of p.rights p.side w ≡ Some rook → to ≡ castling_end p.variant p.side w rook
+by_end : (p : Setup) (w : CastlingSide) (a b rook to : ℕ) (s : Bool) → right_of p.rights p.side w ≡ Some rook
+    → to ≡ castling_end p.variant p.side w rook
     → castling_or p w a b s ≡ (if b == to then legal_or p (triple a b None) (castle_of p (triple a b None)) s else s)
 by_end p w a b rook to s right end =
     ap (λ t. if t then legal_or p (triple a b None) (castle_of p (triple a b None)) s else s)
     (ap (λ o. names_end p.variant p.side w o b) right ∙ named p.variant p.side w rook b ∙ ap (λ e. b == e) (sym end))
 
-pub no_castle_named : (p : Setup) (w : CastlingSide) (a b rook to : ℕ) (s : Bool) → right_of p.rights p.side w ≡ Some rook → to ≡ castling_end p.variant p.side w rook
+pub no_castle_named : (p : Setup) (w : CastlingSide) (a b rook to : ℕ) (s : Bool)
+    → right_of p.rights p.side w ≡ Some rook → to ≡ castling_end p.variant p.side w rook
     → is_none (castle_of p (triple a to None)) ≡ true → s ≡ castling_or p w a b s
 no_castle_named p w a b rook to s right end none =
     sym (by_end p w a b rook to s right end ∙ by (b == to) refl)
@@ -126,12 +151,16 @@ no_castle_named p w a b rook to s right end none =
     empty None e = refl
     empty (Some x) e = cc
 
-    by : (t : Bool) → (b == to) ≡ t → (if t then legal_or p (triple a b None) (castle_of p (triple a b None)) s else s) ≡ s
+    by : (t : Bool) → (b == to) ≡ t → (if t then legal_or p (triple a b None) (castle_of p (triple a b None)) s else s)
+        ≡ s
     by false e = refl
-    by true e = ap (λ o. legal_or p (triple a b None) o s) (ap (λ n. castle_of p (triple a n None)) (eqb-true b to e) ∙ empty (castle_of p (triple a to None)) none)
+    by true e = ap (λ o. legal_or p (triple a b None) o s)
+        (ap (λ n. castle_of p (triple a n None)) (eqb-true b to e) ∙ empty (castle_of p (triple a to None)) none)
 
-pub castle_named : (p : Setup) (w : CastlingSide) (a b rook to : ℕ) (s l : Bool) → right_of p.rights p.side w ≡ Some rook → to ≡ castling_end p.variant p.side w rook
-    → is_none (castle_of p (triple a to None)) ≡ false → l ≡ is_legal p (triple a to None) → (if b == to then l else s) ≡ castling_or p w a b s
+pub castle_named : (p : Setup) (w : CastlingSide) (a b rook to : ℕ) (s l : Bool)
+    → right_of p.rights p.side w ≡ Some rook → to ≡ castling_end p.variant p.side w rook
+    → is_none (castle_of p (triple a to None)) ≡ false → l ≡ is_legal p (triple a to None)
+    → (if b == to then l else s) ≡ castling_or p w a b s
 castle_named p w a b rook to s l right end some legal =
     sym (by_end p w a b rook to s right end ∙ by (b == to) refl)
   where
@@ -139,7 +168,8 @@ castle_named p w a b rook to s l right end some legal =
     there None m e = cc
     there (Some x) m e = refl
 
-    by : (t : Bool) → (b == to) ≡ t → (if t then legal_or p (triple a b None) (castle_of p (triple a b None)) s else s) ≡ (if t then l else s)
+    by : (t : Bool) → (b == to) ≡ t → (if t then legal_or p (triple a b None) (castle_of p (triple a b None)) s else s)
+        ≡ (if t then l else s)
     by false e = refl
     by true e =
         ap (λ n. legal_or p (triple a n None) (castle_of p (triple a n None)) s) (eqb-true b to e)
@@ -165,7 +195,8 @@ kind_back Knight = refl
 kind_back Pawn = refl
 
 -- the man that a test tells
-pub man_told : (c : Colour) (k : Kind) (o : Option Man) → is_man c k o ≡ true → o ≡ Some (record { colour = c; kind = k })
+pub man_told : (c : Colour) (k : Kind) (o : Option Man) → is_man c k o ≡ true
+    → o ≡ Some (record { colour = c; kind = k })
 unfolding is_man
 man_told c k None h = cc
 man_told c k (Some x) h =
@@ -173,10 +204,12 @@ man_told c k (Some x) h =
     let colour : x.colour ≡ c = sym (same_colour-true c x.colour both.0) in
     let numbers : kind_number k ≡ kind_number x.kind = eqb-true (kind_number k) (kind_number x.kind) both.1 in
     let kind : x.kind ≡ k = sym (kind_back x.kind) ∙ ap kind_at (sym numbers) ∙ kind_back k in
-    ap (λ (d : Colour). let y : Man = record { colour = d; kind = x.kind } in Some y) colour ∙ ap (λ (l : Kind). let y : Man = record { colour = c; kind = l } in Some y) kind
+    ap (λ (d : Colour). let y : Man = record { colour = d; kind = x.kind } in Some y) colour
+    ∙ ap (λ (l : Kind). let y : Man = record { colour = c; kind = l } in Some y) kind
 
 pub captures_is : (p : Setup) (a b : ℕ) → is_man p.side Pawn (man_at p.men a) ≡ true
-    → (could_capture p.men p.side Pawn a b && (is_of (other p.side) (man_at p.men b) || is_square p.target b)) ≡ pawn_captures p (triple a b None)
+    → (could_capture p.men p.side Pawn a b && (is_of (other p.side) (man_at p.men b) || is_square p.target b))
+    ≡ pawn_captures p (triple a b None)
 unfolding pawn_captures attacks
 captures_is p a b pawn = let at = man_told p.side Pawn (man_at p.men a) pawn in rw at refl
 
@@ -210,20 +243,26 @@ advanced false false r i en et h g = turn i r en et
     turn false false false z = refl
 
 -- by what stands one and two squares ahead
-pub advances_is : (p : Setup) (a b n t : ℕ) → is_man p.side Pawn (man_at p.men a) ≡ true → n ≡ forward p.side a → t ≡ forward p.side n
+pub advances_is : (p : Setup) (a b n t : ℕ) → is_man p.side Pawn (man_at p.men a) ≡ true → n ≡ forward p.side a
+    → t ≡ forward p.side n
     → pawn_advances p (triple a b None)
-    ≡ ((is_none (man_at p.men n) && (b == n)) || ((is_none (man_at p.men n) && (rank a == pawn_rank p.side)) && (is_none (man_at p.men t) && (b == t))))
+    ≡ ((is_none (man_at p.men n) && (b == n))
+    || ((is_none (man_at p.men n) && (rank a == pawn_rank p.side)) && (is_none (man_at p.men t) && (b == t))))
 unfolding pawn_advances is_double_advance
 advances_is p a b n t pawn one two =
     rw (pawn, ← one, ← two)
-    (advanced (b == n) (b == t) (rank a == pawn_rank p.side) (is_none (man_at p.men b)) (is_none (man_at p.men n)) (is_none (man_at p.men t))
-    (λ e. ap (λ s. is_none (man_at p.men s)) (eqb-true b n e)) (λ e. ap (λ s. is_none (man_at p.men s)) (eqb-true b t e)))
+    (advanced (b == n) (b == t) (rank a == pawn_rank p.side) (is_none (man_at p.men b)) (is_none (man_at p.men n))
+    (is_none (man_at p.men t))
+    (λ e. ap (λ s. is_none (man_at p.men s)) (eqb-true b n e))
+    (λ e. ap (λ s. is_none (man_at p.men s)) (eqb-true b t e)))
 
 -- ---- sets of targets
 
-pub none_begin : (p : Setup) (a w : ℕ) → is_of p.side (man_at p.men a) ≡ false → (m : Move) → is_legal p m ≡ true → m.from ≡ a → has w m.to ≡ true
+pub none_begin : (p : Setup) (a w : ℕ) → is_of p.side (man_at p.men a) ≡ false → (m : Move) → is_legal p m ≡ true
+    → m.from ≡ a → has w m.to ≡ true
 none_begin p a w off m legal e =
-    absurd (both_ways (is_of p.side (man_at p.men a)) off (ap (λ s. is_of p.side (man_at p.men s)) (sym e) ∙ own_man_moves p m legal))
+    absurd (both_ways (is_of p.side (man_at p.men a)) off
+    (ap (λ s. is_of p.side (man_at p.men s)) (sym e) ∙ own_man_moves p m legal))
 
 pub ends_below : (p : Setup) (m : Move) → is_legal p m ≡ true → m.to < 64
 unfolding is_legal has_pattern
@@ -243,7 +282,8 @@ pawn_complete p a w pawn low set m legal e =
     let told : goes p a m.to ≡ true = ap (λ s. goes p s m.to) (sym e) ∙ (legal_goes p m legal).0 in
     set m.to high ∙ sym (pawn_goes p a m.to _ (man_told p.side Pawn (man_at p.men a) pawn) refl refl low high) ∙ told
 
-no_pawn_kind : (c : Colour) (x : Man) (o : Option Man) → o ≡ Some x → x.colour ≡ c → is_man c Pawn o ≡ false → same_kind Pawn x.kind ≡ false
+no_pawn_kind : (c : Colour) (x : Man) (o : Option Man) → o ≡ Some x → x.colour ≡ c → is_man c Pawn o ≡ false
+    → same_kind Pawn x.kind ≡ false
 unfolding is_man
 no_pawn_kind c x o at own h =
     let both : (same_colour c x.colour && same_kind Pawn x.kind) ≡ false = rw at at h in
@@ -255,14 +295,17 @@ unfolding is_of
 some_man c None h = cc
 some_man c (Some x) h = (x, refl)
 
-pub man_set_sound : (p : Setup) (a w : ℕ) → is_of p.side (man_at p.men a) ≡ true → is_man p.side Pawn (man_at p.men a) ≡ false → a < 64
+pub man_set_sound : (p : Setup) (a w : ℕ) → is_of p.side (man_at p.men a) ≡ true
+    → is_man p.side Pawn (man_at p.men a) ≡ false → a < 64
     → ((k : ℕ) → k < 64 → has w k ≡ man_goes p a k) → (k : ℕ) → k < 64 → has w k ≡ true → goes p a k ≡ true
 man_set_sound p a w own other low set k high h =
     let man = some_man p.side (man_at p.men a) own in
     let mine = own_colour p.side man.0 (man_at p.men a) man.1 own in
-    man_sound p a k man.0 man.1 mine (no_pawn_kind p.side man.0 (man_at p.men a) man.1 mine other) low high (sym (set k high) ∙ h)
+    man_sound p a k man.0 man.1 mine (no_pawn_kind p.side man.0 (man_at p.men a) man.1 mine other) low high
+    (sym (set k high) ∙ h)
 
-pub man_set_complete : (p : Setup) (a w : ℕ) → is_of p.side (man_at p.men a) ≡ true → is_man p.side Pawn (man_at p.men a) ≡ false → a < 64
+pub man_set_complete : (p : Setup) (a w : ℕ) → is_of p.side (man_at p.men a) ≡ true
+    → is_man p.side Pawn (man_at p.men a) ≡ false → a < 64
     → ((k : ℕ) → k < 64 → has w k ≡ man_goes p a k) → (m : Move) → is_legal p m ≡ true → m.from ≡ a → has w m.to ≡ true
 man_set_complete p a w own other low set m legal e =
     let high = ends_below p m legal in
@@ -270,7 +313,8 @@ man_set_complete p a w own other low set m legal e =
     let mine = own_colour p.side man.0 (man_at p.men a) man.1 own in
     let there : man_at p.men m.from ≡ Some man.0 = ap (λ s. man_at p.men s) e ∙ man.1 in
     set m.to high ∙ ap (λ s. man_goes p s m.to) (sym e)
-    ∙ man_complete p m man.0 there mine (no_pawn_kind p.side man.0 (man_at p.men a) man.1 mine other) (subst (λ s. s < 64) (sym e) low) high legal
+    ∙ man_complete p m man.0 there mine (no_pawn_kind p.side man.0 (man_at p.men a) man.1 mine other)
+    (subst (λ s. s < 64) (sym e) low) high legal
 
 -- ---- straight ahead, by what stands there
 
@@ -290,40 +334,60 @@ neither_square false true true = refl
 neither_square false true false = refl
 neither_square false false z = refl
 
-pub off_board : (p : Setup) (a k : ℕ) → is_man p.side Pawn (man_at p.men a) ≡ true → a < 64 → 64 ≤ forward p.side a → k < 64 → false ≡ pawn_advances p (triple a k None)
+pub off_board : (p : Setup) (a k : ℕ) → is_man p.side Pawn (man_at p.men a) ≡ true → a < 64 → 64 ≤ forward p.side a
+    → k < 64 → false ≡ pawn_advances p (triple a k None)
 off_board p a k pawn low past high =
     let further = past_too p.side a low past in
     sym (advances_is p a k (forward p.side a) (forward p.side (forward p.side a)) pawn refl refl
-    ∙ rw (ne_eqb k (forward p.side a) (λ e. omega (arith, e, past, high)), ne_eqb k (forward p.side (forward p.side a)) (λ e. omega (arith, e, further, high)))
-    (neither_square (is_none (man_at p.men (forward p.side a))) (is_none (man_at p.men (forward p.side a)) && (rank a == pawn_rank p.side)) (is_none (man_at p.men (forward p.side (forward p.side a))))))
+    ∙ rw (
+      ne_eqb k (forward p.side a) (λ e. omega (arith, e, past, high)),
+      ne_eqb k (forward p.side (forward p.side a))
+          (λ e. omega (arith, e, further, high)),
+    )
+    (neither_square (is_none (man_at p.men (forward p.side a)))
+    (is_none (man_at p.men (forward p.side a)) && (rank a == pawn_rank p.side))
+    (is_none (man_at p.men (forward p.side (forward p.side a))))))
 
-pub blocked : (p : Setup) (a n k : ℕ) → is_man p.side Pawn (man_at p.men a) ≡ true → n ≡ forward p.side a → is_some (man_at p.men n) ≡ true → false ≡ pawn_advances p (triple a k None)
-blocked p a n k pawn one some = sym (advances_is p a k n (forward p.side n) pawn one refl ∙ rw (some_is_not_none (man_at p.men n) true some) refl)
+pub blocked : (p : Setup) (a n k : ℕ) → is_man p.side Pawn (man_at p.men a) ≡ true → n ≡ forward p.side a
+    → is_some (man_at p.men n) ≡ true → false ≡ pawn_advances p (triple a k None)
+blocked p a n k pawn one some =
+    sym (advances_is p a k n (forward p.side n) pawn one refl ∙ rw (some_is_not_none (man_at p.men n) true some) refl)
 
 or_false : (b : Bool) → (b || false) ≡ b
 or_false true = refl
 or_false false = refl
 
-pub one_only : (p : Setup) (a n k : ℕ) → is_man p.side Pawn (man_at p.men a) ≡ true → n ≡ forward p.side a → is_some (man_at p.men n) ≡ false → (rank a ≡ pawn_rank p.side → ⊥)
+pub one_only : (p : Setup) (a n k : ℕ) → is_man p.side Pawn (man_at p.men a) ≡ true → n ≡ forward p.side a
+    → is_some (man_at p.men n) ≡ false → (rank a ≡ pawn_rank p.side → ⊥)
     → (k == n) ≡ pawn_advances p (triple a k None)
 one_only p a n k pawn one free away =
-    sym (advances_is p a k n (forward p.side n) pawn one refl ∙ rw (some_is_not_none (man_at p.men n) false free, ne_eqb (rank a) (pawn_rank p.side) away) (or_false (k == n)))
+    sym (advances_is p a k n (forward p.side n) pawn one refl
+    ∙ rw (some_is_not_none (man_at p.men n) false free, ne_eqb (rank a) (pawn_rank p.side) away)
+    (or_false (k == n)))
 
 second : (r x y : Bool) → (x || (r && (false && y))) ≡ x
 second true x y = or_false x
 second false x y = or_false x
 
-pub second_blocked : (p : Setup) (a n t k : ℕ) → is_man p.side Pawn (man_at p.men a) ≡ true → n ≡ forward p.side a → t ≡ forward p.side n → is_some (man_at p.men n) ≡ false → is_some (man_at p.men t) ≡ true
+pub second_blocked : (p : Setup) (a n t k : ℕ) → is_man p.side Pawn (man_at p.men a) ≡ true → n ≡ forward p.side a
+    → t ≡ forward p.side n → is_some (man_at p.men n) ≡ false → is_some (man_at p.men t) ≡ true
     → (k == n) ≡ pawn_advances p (triple a k None)
 second_blocked p a n t k pawn one two free taken =
     sym (advances_is p a k n t pawn one two
-    ∙ rw (some_is_not_none (man_at p.men n) false free, some_is_not_none (man_at p.men t) true taken) (second (rank a == pawn_rank p.side) (k == n) (k == t)))
+    ∙ rw (some_is_not_none (man_at p.men n) false free, some_is_not_none (man_at p.men t) true taken)
+    (second (rank a == pawn_rank p.side) (k == n) (k == t)))
 
-pub both_squares : (p : Setup) (a n t k : ℕ) → is_man p.side Pawn (man_at p.men a) ≡ true → n ≡ forward p.side a → t ≡ forward p.side n → is_some (man_at p.men n) ≡ false → is_some (man_at p.men t) ≡ false
+pub both_squares : (p : Setup) (a n t k : ℕ) → is_man p.side Pawn (man_at p.men a) ≡ true → n ≡ forward p.side a
+    → t ≡ forward p.side n → is_some (man_at p.men n) ≡ false → is_some (man_at p.men t) ≡ false
     → rank a ≡ pawn_rank p.side → ((k == n) || (k == t)) ≡ pawn_advances p (triple a k None)
 both_squares p a n t k pawn one two free free' home =
     sym (advances_is p a k n t pawn one two
-    ∙ rw (some_is_not_none (man_at p.men n) false free, some_is_not_none (man_at p.men t) false free', eq-eqb (rank a) (pawn_rank p.side) home) refl)
+    ∙ rw (
+      some_is_not_none (man_at p.men n) false free,
+      some_is_not_none (man_at p.men t) false free',
+      eq-eqb (rank a)
+          (pawn_rank p.side) home,
+    ) refl)
 
 pub no_own : (c : Colour) (o : Option Man) → o ≡ None → is_of c o ≡ true → ⊥
 unfolding is_of

@@ -32,18 +32,22 @@ shown_by_squares : (p : Setup) (m : Move) → p.variant ≡ Normal → shown_mov
 unfolding shown_move
 shown_by_squares p m e = ap (λ v. shown_as v (castling p m) m) e
 
-listed : (p : Setup) (ms : List Move) → p.variant ≡ Normal → flat_map (shown p) ms ≡ flat_map (λ m. 32 ∷ coordinate m) ms
+listed : (p : Setup) (ms : List Move) → p.variant ≡ Normal → flat_map (shown p) ms ≡ flat_map (λ m. 32 ∷ coordinate m)
+    ms
 listed p [] e = refl
-listed p (m ∷ ms) e = ap (λ text. (32 ∷ text) ++ flat_map (shown p) ms) (shown_by_squares p m e) ∙ ap (λ rest. (32 ∷ coordinate m) ++ rest) (listed p ms e)
+listed p (m ∷ ms) e = ap (λ text. (32 ∷ text) ++ flat_map (shown p) ms) (shown_by_squares p m e)
+    ∙ ap (λ rest. (32 ∷ coordinate m) ++ rest) (listed p ms e)
 
 line_listed : (p : Setup) (ms : List Move) → p.variant ≡ Normal → moves_line p ms ≡ normal_moves_line ms
 unfolding moves_line
 line_listed p ms e = ap (λ text. line_text (codes "# moves ") (decimal (length ms) ++ text)) (listed p ms e)
 
-pub normal_rows : (tags : Tags) (limit : ℕ) (s : State) (text argument : List ℕ) (command : Command) → s.start.variant ≡ Normal →
+pub normal_rows : (tags : Tags) (limit : ℕ) (s : State) (text argument : List ℕ) (command : Command)
+    → s.start.variant ≡ Normal →
     row tags limit s text argument command ≡ normal_row_of tags limit s text argument command
 normal_rows tags limit s text argument SetBoard e = ap (λ v. setboard_row s (fen_reading_as v argument)) e
-normal_rows tags limit s text argument ShowMoves e = ap (says s) (line_listed (current s) (moves (current s)) (last_stays s.start s.moves ∙ e))
+normal_rows tags limit s text argument ShowMoves e =
+    ap (says s) (line_listed (current s) (moves (current s)) (last_stays s.start s.moves ∙ e))
 normal_rows tags limit s text argument New e = refl
 normal_rows tags limit s text argument UserMove e = refl
 normal_rows tags limit s text argument BareMove e = refl

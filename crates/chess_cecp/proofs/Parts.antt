@@ -8,12 +8,14 @@ use Rattle.chess_cecp.specs.Next.{SameLines, HeldLine}
 lt_true : (m n : ℕ) → m < n → nat_lt m n ≡ true
 lt_true m n h = grind arith
 
-line_long : (n : ℕ) (e : Bool) (x y : List ℕ) → n < length x → n < length y → take 64 x ≡ take 64 y → line_of n e x ≡ line_of n e y
+line_long : (n : ℕ) (e : Bool) (x y : List ℕ) → n < length x → n < length y → take 64 x ≡ take 64 y
+    → line_of n e x ≡ line_of n e y
 unfolding line_of
 line_long n e x y h k t = rw (lt_true n (length x) h, lt_true n (length y) k, t) refl
 
 -- lines that are too long are alike where their first 64 bytes are
-pub long_same : (n : ℕ) (x y : List ℕ) → n < length x → n < length y → 64 ≤ length x → 64 ≤ length y → take 64 x ≡ take 64 y → SameLines n x y
+pub long_same : (n : ℕ) (x y : List ℕ) → n < length x → n < length y → 64 ≤ length x → 64 ≤ length y
+    → take 64 x ≡ take 64 y → SameLines n x y
 unfolding lines_from
 long_same n x y h k h' k' t told [] =
     rw (lt_true 0 (length x) (omega arith), lt_true 0 (length y) (omega arith), line_long n false x y h k t) refl
@@ -27,11 +29,13 @@ long_same n x y h k h' k' t told (c ∷ cs) =
     ) refl
 
 -- a byte past the last that is kept
-pub overflow_same : (n : ℕ) (items : List ℕ) (long : Bool) (byte : ℕ) → 64 ≤ n → length items ≡ n → SameLines n (kept_part items long ++ byte ∷ []) (items ++ 0 ∷ [])
+pub overflow_same : (n : ℕ) (items : List ℕ) (long : Bool) (byte : ℕ) → 64 ≤ n → length items ≡ n
+    → SameLines n (kept_part items long ++ byte ∷ []) (items ++ 0 ∷ [])
 overflow_same n items true byte h e =
     let l1 : length ((items ++ 0 ∷ []) ++ byte ∷ []) ≡ length items + 2 = grind (arith, common_steps) in
     let l2 : length (items ++ 0 ∷ []) ≡ length items + 1 = grind (arith, common_steps) in
-    long_same n ((items ++ 0 ∷ []) ++ byte ∷ []) (items ++ 0 ∷ []) (omega arith) (omega arith) (omega arith) (omega arith)
+    long_same n ((items ++ 0 ∷ []) ++ byte ∷ []) (items ++ 0 ∷ []) (omega arith) (omega arith) (omega arith)
+    (omega arith)
     (take-append-le 64 (items ++ 0 ∷ []) (byte ∷ []) (omega arith))
 overflow_same n items false byte h e =
     let l1 : length (items ++ byte ∷ []) ≡ length items + 1 = grind (arith, common_steps) in
@@ -42,11 +46,13 @@ overflow_same n items false byte h e =
 le-ltb_false : (n m : ℕ) → m ≤ n → nat_lt n m ≡ false
 le-ltb_false n m h = grind arith
 
-cond_short : (b : Bool) (c : ℕ) (xs ys : List ℕ) → length xs ≤ length ys → length (if b then [] else c ∷ xs) ≤ length (c ∷ ys)
+cond_short : (b : Bool) (c : ℕ) (xs ys : List ℕ) → length xs ≤ length ys
+    → length (if b then [] else c ∷ xs) ≤ length (c ∷ ys)
 cond_short true c xs ys h = grind arith
 cond_short false c xs ys h = grind arith
 
-front_cond : (b : Bool) (c : ℕ) (cs xs : List ℕ) → length xs ≤ length cs → length (if b then xs else c ∷ cs) ≤ length (c ∷ cs)
+front_cond : (b : Bool) (c : ℕ) (cs xs : List ℕ) → length xs ≤ length cs
+    → length (if b then xs else c ∷ cs) ≤ length (c ∷ cs)
 front_cond true c cs xs h = grind arith
 front_cond false c cs xs h = grind arith
 
@@ -54,29 +60,36 @@ one_cond : (b : Bool) (c : ℕ) → length (if b then [] else c ∷ []) ≤ leng
 one_cond true c = omega arith
 one_cond false c = omega arith
 
-ended_cond : (b : Bool) (x y : List ℕ) (e : Bool) → (let l : LineSeen = if b then record { text = x; too_long = true; ended = e } else record { text = y; too_long = false; ended = e } in l.ended) ≡ e
+ended_cond : (b : Bool) (x y : List ℕ) (e : Bool)
+    → (let l : LineSeen = if b then record { text = x; too_long = true; ended = e } else
+    record { text = y; too_long = false; ended = e } in l.ended) ≡ e
 ended_cond true x y e = refl
 ended_cond false x y e = refl
 
-line_short : (n : ℕ) (e : Bool) (x : List ℕ) → length x ≤ n → line_of n e x ≡ record { text = trimmed x; too_long = false; ended = e }
+line_short : (n : ℕ) (e : Bool) (x : List ℕ) → length x ≤ n
+    → line_of n e x ≡ record { text = trimmed x; too_long = false; ended = e }
 unfolding line_of
 line_short n e x h = rw (le-ltb_false n (length x) h) refl
 
-line_over : (n : ℕ) (e : Bool) (x : List ℕ) → n < length x → line_of n e x ≡ record { text = take 64 x; too_long = true; ended = e }
+line_over : (n : ℕ) (e : Bool) (x : List ℕ) → n < length x
+    → line_of n e x ≡ record { text = take 64 x; too_long = true; ended = e }
 unfolding line_of
 line_over n e x h = rw (lt_true n (length x) h) refl
 
 -- the line of a part that is kept
-pub line_kept : (n : ℕ) (e long : Bool) (items text whole : List ℕ) → 64 ≤ n → (long ≡ true → length items ≡ n) → length items ≤ n → kept_part items long ≡ whole
+pub line_kept : (n : ℕ) (e long : Bool) (items text whole : List ℕ) → 64 ≤ n → (long ≡ true → length items ≡ n)
+    → length items ≤ n → kept_part items long ≡ whole
     → (long ≡ true → text ≡ take 64 items) → (long ≡ false → text ≡ trimmed items)
     → record { text = text; too_long = long; ended = e } ≡ line_of n e whole
 line_kept n e true items text whole h full short is t f =
     let len : length (items ++ 0 ∷ []) ≡ length items + 1 = grind (arith, common_steps) in
     let at : length items ≡ n = full refl in
-    ap (λ v. record { text = v; too_long = true; ended = e }) (t refl ∙ sym (take-append-le 64 items (0 ∷ []) (omega arith)))
+    ap (λ v. record { text = v; too_long = true; ended = e })
+    (t refl ∙ sym (take-append-le 64 items (0 ∷ []) (omega arith)))
     ∙ sym (line_over n e (items ++ 0 ∷ []) (omega arith)) ∙ ap (line_of n e) is
 line_kept n e false items text whole h full short is t f =
-    ap (λ v. record { text = v; too_long = false; ended = e }) (f refl) ∙ sym (line_short n e items short) ∙ ap (line_of n e) is
+    ap (λ v. record { text = v; too_long = false; ended = e }) (f refl) ∙ sym (line_short n e items short)
+    ∙ ap (line_of n e) is
 
 pub web_short : (xs : List ℕ) → length (without_end_blanks xs) ≤ length xs
 web_short [] = omega arith
@@ -100,20 +113,25 @@ wr_short (c ∷ d ∷ cs) =
 pub trimmed_short : (xs : List ℕ) → length (trimmed xs) ≤ length xs
 unfolding trimmed
 trimmed_short xs =
-    let a : length (without_end_blanks (without_front_blanks (without_return xs))) ≤ length (without_front_blanks (without_return xs)) = web_short (without_front_blanks (without_return xs)) in
-    let b : length (without_front_blanks (without_return xs)) ≤ length (without_return xs) = wfb_short (without_return xs) in
+    let a : length (without_end_blanks (without_front_blanks (without_return xs))) ≤ length
+    (without_front_blanks (without_return xs)) = web_short (without_front_blanks (without_return xs)) in
+    let b : length (without_front_blanks (without_return xs)) ≤ length (without_return xs) =
+    wfb_short (without_return xs) in
     let d : length (without_return xs) ≤ length xs = wr_short xs in
     omega arith
 
 -- what is held, as a part and a window
 abbrev pub Spelled : ℕ → Held → List ℕ → List ℕ → Type 0
-Spelled n held part window = (told : Bool) (rest : List ℕ) → lines_held n told held rest ≡ lines_from n told part (window ++ rest)
+Spelled n held part window = (told : Bool) (rest : List ℕ)
+    → lines_held n told held rest ≡ lines_from n told part (window ++ rest)
 
-pub ten_step : (n : ℕ) (told : Bool) (part : List ℕ) (b : ℕ) (bs : List ℕ) → b ≡ 10 → lines_from n told part (b ∷ bs) ≡ line_of n true part ∷ lines_from n told [] bs
+pub ten_step : (n : ℕ) (told : Bool) (part : List ℕ) (b : ℕ) (bs : List ℕ) → b ≡ 10
+    → lines_from n told part (b ∷ bs) ≡ line_of n true part ∷ lines_from n told [] bs
 unfolding lines_from
 ten_step n told part b bs h = rw h refl
 
-pub byte_step : (n : ℕ) (told : Bool) (part : List ℕ) (b : ℕ) (bs : List ℕ) → b ≢ 10 → lines_from n told part (b ∷ bs) ≡ lines_from n told (part ++ b ∷ []) bs
+pub byte_step : (n : ℕ) (told : Bool) (part : List ℕ) (b : ℕ) (bs : List ℕ) → b ≢ 10
+    → lines_from n told part (b ∷ bs) ≡ lines_from n told (part ++ b ∷ []) bs
 unfolding lines_from
 byte_step n told part b bs h = let e : nat_eq b 10 ≡ false = grind arith in rw e refl
 
@@ -125,20 +143,27 @@ pub line_ended : (n : ℕ) (e : Bool) (piece : List ℕ) → (line_of n e piece)
 unfolding line_of
 line_ended n e piece = ended_cond (nat_lt n (length piece)) (take 64 piece) (trimmed piece) e
 
-pub found_line : (n : ℕ) (held : Held) (part part' window window' : List ℕ) (b : ℕ) (line : LineSeen) → Spelled n held part window → length window ≤ length held.coming
-    → window ≡ b ∷ window' → b ≡ 10 → line ≡ line_of n true part → part' ≡ [] → HeldLine n held (record { part = part'; coming = window' }) (Some line)
+pub found_line : (n : ℕ) (held : Held) (part part' window window' : List ℕ) (b : ℕ) (line : LineSeen)
+    → Spelled n held part window → length window ≤ length held.coming
+    → window ≡ b ∷ window' → b ≡ 10 → line ≡ line_of n true part → part' ≡ []
+    → HeldLine n held (record { part = part'; coming = window' }) (Some line)
 found_line n held part part' window window' b line same fewer w ten is empty = (
   ap (λ (l : LineSeen). l.ended) is ∙ line_ended n true part,
   omega (arith, ap length w),
-  λ told rest. same told rest ∙ ap (λ v. lines_from n told part (v ++ rest)) w ∙ ten_step n told part b (window' ++ rest) ten
-      ∙ ap (λ v. v ∷ lines_from n told [] (window' ++ rest)) (sym is) ∙ ap (λ v. line ∷ lines_from n told v (window' ++ rest)) (sym empty),
+  λ told rest. same told rest ∙ ap (λ v. lines_from n told part (v ++ rest)) w
+      ∙ ten_step n told part b (window' ++ rest) ten
+      ∙ ap (λ v. v ∷ lines_from n told [] (window' ++ rest)) (sym is)
+      ∙ ap (λ v. line ∷ lines_from n told v (window' ++ rest)) (sym empty),
 )
 
-pub one_byte : (n : ℕ) (held : Held) (part part' window window' : List ℕ) (b : ℕ) → Spelled n held part window → window ≡ b ∷ window' → b ≢ 10 → SameLines n (part ++ b ∷ []) part' → Spelled n held part' window'
+pub one_byte : (n : ℕ) (held : Held) (part part' window window' : List ℕ) (b : ℕ) → Spelled n held part window
+    → window ≡ b ∷ window' → b ≢ 10 → SameLines n (part ++ b ∷ []) part' → Spelled n held part' window'
 one_byte n held part part' window window' b same w ten add told rest =
-    same told rest ∙ ap (λ v. lines_from n told part (v ++ rest)) w ∙ byte_step n told part b (window' ++ rest) ten ∙ add told (window' ++ rest)
+    same told rest ∙ ap (λ v. lines_from n told part (v ++ rest)) w ∙ byte_step n told part b (window' ++ rest) ten
+    ∙ add told (window' ++ rest)
 
-pub no_line : (n : ℕ) (held : Held) (part window window' : List ℕ) → Spelled n held part window → window ≡ [] → window' ≡ [] → HeldLine n held (record { part = part; coming = window' }) None
+pub no_line : (n : ℕ) (held : Held) (part window window' : List ℕ) → Spelled n held part window → window ≡ []
+    → window' ≡ [] → HeldLine n held (record { part = part; coming = window' }) None
 no_line n held part window window' same w w' = (
   same false [] ∙ ap (λ v. lines_from n false part (v ++ [])) w ∙ none_from n part,
   w',

@@ -43,5 +43,6 @@ pgn_row seen line asks =
     let both = and_parts (not line.too_long) (shows_pgn (command_of line.text)) asks in
     let short : line.too_long ≡ false = not-true line.too_long both.0 in
     let command : command_of line.text ≡ ShowPgn = is_show_pgn (command_of line.text) both.1 in
-    let at : row_on seen line ≡ says seen.state (pgn (codes "# ") seen.tags seen.state) = rw short (ap (row seen.tags seen.limit seen.state line.text (argument_of line.text)) command) in
+    let at : row_on seen line ≡ says seen.state (pgn (codes "# ") seen.tags seen.state) =
+    rw short (ap (row seen.tags seen.limit seen.state line.text (argument_of line.text)) command) in
     record { next = ap (stands seen) at; text = ap (λ r. r.text) at; no_quit = rw short (ap is_quit_command command) }

@@ -64,29 +64,34 @@ verdict_begins None = refl
 verdict_begins (Some v) = result_begins (verdict_outcome v) (verdict_comment v)
 
 reading_keeps : (s : State) (text : List ℕ) (r : Reading) → KeepsRefused s (reading_row s text r)
-reading_keeps s text (reads.Move m) = accepted s (becomes_judged (played s m)) (verdict_begins (verdict_now (played s m)))
+reading_keeps s text (reads.Move m) = accepted s (becomes_judged (played s m))
+    (verdict_begins (verdict_now (played s m)))
 reading_keeps s text reads.Ambiguous = λ h. refl
 reading_keeps s text reads.NoSuch = λ h. refl
 reading_keeps s text reads.NotAMove = λ h. refl
 
 -- the row of a move where the game is not over
 abbrev room_row : ℕ → State → List ℕ → Row
-room_row limit s text = if nat_le limit (length s.moves) then refuses s (codes "Error (game too long): ") text else reading_row s text (reading (current s) text)
+room_row limit s text = if nat_le limit (length s.moves) then refuses s (codes "Error (game too long): ") text else
+    reading_row s text (reading (current s) text)
 
 move_keeps : (limit : ℕ) (s : State) (text : List ℕ) → KeepsRefused s (move_row limit s text)
 move_keeps limit s text =
     by_test (is_over s) s (refuses s (codes "Illegal move (game over): ") text) (room_row limit s text) (λ h. refl)
-    (by_test (nat_le limit (length s.moves)) s (refuses s (codes "Error (game too long): ") text) (reading_row s text (reading (current s) text)) (λ h. refl)
+    (by_test (nat_le limit (length s.moves)) s (refuses s (codes "Error (game too long): ") text)
+    (reading_row s text (reading (current s) text)) (λ h. refl)
     (reading_keeps s text (reading (current s) text)))
 
 setboard_keeps : (s : State) (r : Result Setup FenFault) → KeepsRefused s (setboard_row s r)
-setboard_keeps s (Ok start) = accepted s (becomes_judged (from_start start)) (verdict_begins (verdict_now (from_start start)))
+setboard_keeps s (Ok start) = accepted s (becomes_judged (from_start start))
+    (verdict_begins (verdict_now (from_start start)))
 setboard_keeps s (Err fault) = λ h. refl
 
 result_keeps : (s : State) (text : List ℕ) (d : Option Declared) → KeepsRefused s (result_row s text d)
 result_keeps s text None = λ h. refl
 result_keeps s text (Some d) =
-    by_test (is_other (verdict_now s) d.outcome) s (refuses s (codes "Error (the board says otherwise): ") text) (becomes (with_declared s (Some d)))
+    by_test (is_other (verdict_now s) d.outcome) s (refuses s (codes "Error (the board says otherwise): ") text)
+    (becomes (with_declared s (Some d)))
     (λ h. refl)
     (accepted s (becomes (with_declared s (Some d))) refl)
 
@@ -95,36 +100,47 @@ draws_keeps s comment = accepted s (draws s comment) (result_begins Draw comment
 
 claimed_keeps : (s : State) (c : Claims) → KeepsRefused s (claimed s c)
 claimed_keeps s c =
-    by_test c.threefold s (draws s (codes "Threefold repetition")) (if c.fifty_moves then draws s (codes "50-move rule") else refuses s (codes "Error (no claim): ") (codes "claim"))
+    by_test c.threefold s (draws s (codes "Threefold repetition"))
+    (if c.fifty_moves then draws s (codes "50-move rule") else
+    refuses s (codes "Error (no claim): ") (codes "claim"))
     (draws_keeps s (codes "Threefold repetition"))
-    (by_test c.fifty_moves s (draws s (codes "50-move rule")) (refuses s (codes "Error (no claim): ") (codes "claim")) (draws_keeps s (codes "50-move rule")) (λ h. refl))
+    (by_test c.fifty_moves s (draws s (codes "50-move rule")) (refuses s (codes "Error (no claim): ") (codes "claim"))
+    (draws_keeps s (codes "50-move rule")) (λ h. refl))
 
 normal_keeps : (s : State) (v : Rules) → KeepsRefused s (normal_row s v)
 normal_keeps s Normal = λ h. refl
 normal_keeps s Fischerandom = accepted s (becomes (from_start initial_setup)) refl
 
-row_keeps : (tags : Tags) (limit : ℕ) (s : State) (text argument : List ℕ) (command : Command) → KeepsRefused s (row tags limit s text argument command)
+row_keeps : (tags : Tags) (limit : ℕ) (s : State) (text argument : List ℕ) (command : Command)
+    → KeepsRefused s (row tags limit s text argument command)
 row_keeps tags limit s text argument New = accepted s (becomes (from_start initial_setup)) refl
 row_keeps tags limit s text argument SetBoard = setboard_keeps s (fen_reading_as s.start.variant argument)
 row_keeps tags limit s text argument UserMove = move_keeps limit s argument
 row_keeps tags limit s text argument BareMove = move_keeps limit s text
 row_keeps tags limit s text argument Undo =
-    by_test (nat_le 1 (length s.moves)) s (becomes (taken_back s 1)) (refuses s (codes "Error (command not legal now): ") (codes "undo"))
+    by_test (nat_le 1 (length s.moves)) s (becomes (taken_back s 1))
+    (refuses s (codes "Error (command not legal now): ") (codes "undo"))
     (accepted s (becomes (taken_back s 1)) refl)
     (λ h. refl)
 row_keeps tags limit s text argument Remove =
-    by_test (nat_le 2 (length s.moves)) s (becomes (taken_back s 2)) (refuses s (codes "Error (command not legal now): ") (codes "remove"))
+    by_test (nat_le 2 (length s.moves)) s (becomes (taken_back s 2))
+    (refuses s (codes "Error (command not legal now): ") (codes "remove"))
     (accepted s (becomes (taken_back s 2)) refl)
     (λ h. refl)
 row_keeps tags limit s text argument Declare = result_keeps s text (declared_by argument)
 row_keeps tags limit s text argument Claim =
-    by_test (is_over s) s (refuses s (codes "Error (command not legal now): ") (codes "claim")) (claimed s (claims s.start s.moves)) (λ h. refl) (claimed_keeps s (claims s.start s.moves))
+    by_test (is_over s) s (refuses s (codes "Error (command not legal now): ") (codes "claim"))
+    (claimed s (claims s.start s.moves)) (λ h. refl) (claimed_keeps s (claims s.start s.moves))
 row_keeps tags limit s text argument (Ping n) = λ h. refl
-row_keeps tags limit s text argument (Protover n) = by_test (nat_lt n 2) s (says s []) (says s (line_text feature_text [])) (λ h. refl) (λ h. refl)
+row_keeps tags limit s text argument (Protover n) =
+    by_test (nat_lt n 2) s (says s []) (says s (line_text feature_text [])) (λ h. refl) (λ h. refl)
 row_keeps tags limit s text argument Variant =
-    by_test (bytes_eq argument (codes "fischerandom")) s (becomes (from_start (initial_setup_of Fischerandom))) (if bytes_eq argument (codes "normal") then normal_row s s.start.variant else refuses s (codes "Error (unsupported variant): ") text)
+    by_test (bytes_eq argument (codes "fischerandom")) s (becomes (from_start (initial_setup_of Fischerandom)))
+    (if bytes_eq argument (codes "normal") then normal_row s s.start.variant else
+    refuses s (codes "Error (unsupported variant): ") text)
     (accepted s (becomes (from_start (initial_setup_of Fischerandom))) refl)
-    (by_test (bytes_eq argument (codes "normal")) s (normal_row s s.start.variant) (refuses s (codes "Error (unsupported variant): ") text) (normal_keeps s s.start.variant) (λ h. refl))
+    (by_test (bytes_eq argument (codes "normal")) s (normal_row s s.start.variant)
+    (refuses s (codes "Error (unsupported variant): ") text) (normal_keeps s s.start.variant) (λ h. refl))
 row_keeps tags limit s text argument Go = λ h. refl
 row_keeps tags limit s text argument ShowFen = λ h. refl
 row_keeps tags limit s text argument ShowMoves = λ h. refl
@@ -146,9 +162,11 @@ refused_keeps seen line h =
     h)
 
 -- the same of a session that is left; and tags and limit stay in any case
-pub refused : (seen left : Seen) (line : LineSeen) → left ≡ next_state seen line → IsRefusal (answer_to seen line) → left ≡ seen
+pub refused : (seen left : Seen) (line : LineSeen) → left ≡ next_state seen line → IsRefusal (answer_to seen line)
+    → left ≡ seen
 refused seen left line is h = is ∙ refused_keeps seen line h
 
-pub tags_and_limit_stay : (seen left : Seen) (line : LineSeen) → left ≡ next_state seen line → (left.tags ≡ seen.tags) × (left.limit ≡ seen.limit)
+pub tags_and_limit_stay : (seen left : Seen) (line : LineSeen) → left ≡ next_state seen line → (left.tags ≡ seen.tags)
+    × (left.limit ≡ seen.limit)
 unfolding next_state
 tags_and_limit_stay seen left line is = (ap (λ (s : Seen). s.tags) is, ap (λ (s : Seen). s.limit) is)

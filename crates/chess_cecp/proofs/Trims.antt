@@ -43,16 +43,21 @@ last_of xs i h k =
     let e : (i - 1) + 1 ≡ i = omega arith in
     ap (λ v. take v xs) (sym e) ∙ by_last xs (i - 1) (omega arith)
 
-pub end_step : (xs : List ℕ) (i : ℕ) → 0 < i → i ≤ length xs → is_blank (get_or xs (i - 1) 0) ≡ true → without_end_blanks (take i xs) ≡ without_end_blanks (take (i - 1) xs)
+pub end_step : (xs : List ℕ) (i : ℕ) → 0 < i → i ≤ length xs → is_blank (get_or xs (i - 1) 0) ≡ true
+    → without_end_blanks (take i xs) ≡ without_end_blanks (take (i - 1) xs)
 end_step xs i h k b = ap without_end_blanks (last_of xs i h k) ∙ end_blank (take (i - 1) xs) (get_or xs (i - 1) 0) b
 
-pub end_stop : (xs : List ℕ) (i : ℕ) → 0 < i → i ≤ length xs → is_blank (get_or xs (i - 1) 0) ≡ false → without_end_blanks (take i xs) ≡ take i xs
-end_stop xs i h k b = ap without_end_blanks (last_of xs i h k) ∙ end_solid (take (i - 1) xs) (get_or xs (i - 1) 0) b ∙ sym (last_of xs i h k)
+pub end_stop : (xs : List ℕ) (i : ℕ) → 0 < i → i ≤ length xs → is_blank (get_or xs (i - 1) 0) ≡ false
+    → without_end_blanks (take i xs) ≡ take i xs
+end_stop xs i h k b = ap without_end_blanks (last_of xs i h k) ∙ end_solid (take (i - 1) xs) (get_or xs (i - 1) 0) b
+    ∙ sym (last_of xs i h k)
 
-pub return_then : (xs : List ℕ) → 0 < length xs → get_or xs (length xs - 1) 0 ≡ 13 → take (length xs - 1) xs ≡ without_return xs
+pub return_then : (xs : List ℕ) → 0 < length xs → get_or xs (length xs - 1) 0 ≡ 13
+    → take (length xs - 1) xs ≡ without_return xs
 return_then xs h b =
     let n = length xs in
-    sym (ap without_return (sym (take-length xs) ∙ last_of xs n h (omega arith)) ∙ return_cut (take (n - 1) xs) (get_or xs (n - 1) 0) b)
+    sym (ap without_return (sym (take-length xs) ∙ last_of xs n h (omega arith))
+    ∙ return_cut (take (n - 1) xs) (get_or xs (n - 1) 0) b)
 
 pub return_else : (xs : List ℕ) → 0 < length xs → (get_or xs (length xs - 1) 0 ≢ 13) → xs ≡ without_return xs
 return_else xs h b =

@@ -15,11 +15,13 @@ one_if b = cond b 1 0
 abbrev pub seen : Setup → List Place → Setup → ℕ
 seen p xs q = one_if (same p q) + count_by (λ x. same x.reached.position q) xs
 
-pub seen-line : (p : Setup) (xs : List Place) (q : Setup) → Follows p xs → count_by (λ r. same r q) (line p (moves_of xs)) ≡ seen p xs q
+pub seen-line : (p : Setup) (xs : List Place) (q : Setup) → Follows p xs
+    → count_by (λ r. same r q) (line p (moves_of xs)) ≡ seen p xs q
 seen-line p [] q f = sum_by-cons (λ r. one_if (same r q)) p []
 seen-line p (x ∷ xs) q f =
     let behind : count_by (λ r. same r q) (line (after p x.made) (moves_of xs)) ≡ seen x.reached.position xs q =
-    subst (λ v. count_by (λ r. same r q) (line v (moves_of xs)) ≡ seen x.reached.position xs q) f.0.left (seen-line x.reached.position xs q f.2) in
+    subst (λ v. count_by (λ r. same r q) (line v (moves_of xs)) ≡ seen x.reached.position xs q) f.0.left
+    (seen-line x.reached.position xs q f.2) in
     sum_by-cons (λ r. one_if (same r q)) p (line (after p x.made) (moves_of xs))
     ∙ ap (λ n. one_if (same p q) + n) (behind ∙ sym (sum_by-cons (λ y. one_if (same y.reached.position q)) x xs))
 
@@ -36,6 +38,7 @@ seen-few p xs q = by_bit (same p q)
     by_bit Bool.true = let h = count_by-le-length (λ x. same x.reached.position q) xs in omega arith
     by_bit Bool.false = let h = count_by-le-length (λ x. same x.reached.position q) xs in omega arith
 
-pub counted : (p : Setup) (xs : List Place) (q : Setup) → Follows p xs → q ≡ last p (moves_of xs) → seen p xs q ≡ rep p (moves_of xs)
+pub counted : (p : Setup) (xs : List Place) (q : Setup) → Follows p xs → q ≡ last p (moves_of xs)
+    → seen p xs q ≡ rep p (moves_of xs)
 unfolding rep
 counted p xs q f at = ap (seen p xs) at ∙ sym (seen-line p xs (last p (moves_of xs)) f)

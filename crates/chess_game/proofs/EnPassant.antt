@@ -23,38 +23,45 @@ pub target_rank : (p : Setup) (t : ℕ) → IsSound p → p.target ≡ Some t �
 unfolding target_is_behind_double_advance
 target_rank p t sound at = by_target p.target sound.target at
   where
-    by_target : (o : Option ℕ) → target_is_behind_double_advance_at p.men p.side o ≡ true → o ≡ Some t → rank t ≡ crossed_rank (other p.side)
+    by_target : (o : Option ℕ) → target_is_behind_double_advance_at p.men p.side o ≡ true → o ≡ Some t
+        → rank t ≡ crossed_rank (other p.side)
     by_target None h e = cc
     by_target (Some s) h e = grind (arith, h, e)
 
-not_last : (c : Colour) (t : ℕ) → rank t ≡ crossed_rank (other c) → (rank t == first_rank (other c)) ≡ true → (A : Type 0) → A
+not_last : (c : Colour) (t : ℕ) → rank t ≡ crossed_rank (other c) → (rank t == first_rank (other c)) ≡ true
+    → (A : Type 0) → A
 not_last White t e h A = let last = eqb-true (rank t) 7 h in absurd (omega (arith, e, last))
 not_last Black t e h A = let last = eqb-true (rank t) 0 h in absurd (omega (arith, e, last))
 
 captures : (p : Setup) (m : Move) → is_en_passant p m ≡ true → is_man p.side Pawn (man_at p.men m.from) ≡ true
 unfolding is_en_passant
 captures p m h =
-    let parts = and_parts (is_man p.side Pawn (man_at p.men m.from) && attacks p.men m.from m.to) (is_square p.target m.to) h in
+    let parts = and_parts (is_man p.side Pawn (man_at p.men m.from) && attacks p.men m.from m.to)
+    (is_square p.target m.to) h in
     (and_parts (is_man p.side Pawn (man_at p.men m.from)) (attacks p.men m.from m.to) parts.0).0
 
 on_target : (p : Setup) (m : Move) (t : ℕ) → p.target ≡ Some t → is_en_passant p m ≡ true → m.to ≡ t
 unfolding is_en_passant
 on_target p m t at h =
-    let parts = and_parts (is_man p.side Pawn (man_at p.men m.from) && attacks p.men m.from m.to) (is_square p.target m.to) h in
+    let parts = and_parts (is_man p.side Pawn (man_at p.men m.from) && attacks p.men m.from m.to)
+    (is_square p.target m.to) h in
     sym (eqb-true t m.to (rw at at parts.1))
 
-none_promoted : (p : Setup) (m : Move) (t : ℕ) → IsSound p → p.target ≡ Some t → is_legal p m ≡ true → m.to ≡ t → m.promotion ≡ None
+none_promoted : (p : Setup) (m : Move) (t : ℕ) → IsSound p → p.target ≡ Some t → is_legal p m ≡ true → m.to ≡ t
+    → m.promotion ≡ None
 unfolding would_promote
 none_promoted p m t sound at legal there = by_promotion m.promotion refl
   where
     by_promotion : (o : Option Kind) → m.promotion ≡ o → o ≡ None
     by_promotion None e = refl
     by_promotion (Some k) e =
-        let last = (and_parts (is_man p.side Pawn (man_at p.men m.from)) (rank m.to == first_rank (other p.side)) (promotes_on_last_rank p m k e legal)).1 in
+        let last = (and_parts (is_man p.side Pawn (man_at p.men m.from)) (rank m.to == first_rank (other p.side))
+        (promotes_on_last_rank p m k e legal)).1 in
         not_last p.side m.to (ap rank there ∙ target_rank p t sound at) last (Some k ≡ None)
 
 -- so the squares from which pawns may go to the target are all to be looked at
-pub en_passant_found : (p : Setup) (t w : ℕ) → IsSound p → p.target ≡ Some t → HasOrigins p Pawn t w → AllFound p (λ m. is_en_passant p m) t w
+pub en_passant_found : (p : Setup) (t w : ℕ) → IsSound p → p.target ≡ Some t → HasOrigins p Pawn t w
+    → AllFound p (λ m. is_en_passant p m) t w
 en_passant_found p t w sound at origins = record {
   begins = λ m legal h. origins m legal (captures p m h) (on_target p m t at h);
   ends = λ m legal h. on_target p m t at h;

@@ -39,16 +39,21 @@ same_weight s (Some x) (Some y) e =
     let both = and_parts (same_colour x.colour y.colour) (same_kind x.kind y.kind) e in
     let colour = same_colour-is x.colour y.colour both.0 in
     let kind : same_kind Pawn x.kind ≡ same_kind Pawn y.kind = ap (λ n. 5 == n) (eqb-true _ _ both.1) in
-    ap (λ c. if same_kind Pawn x.kind then 1 + ranks_to_go c s else 1) colour ∙ ap (λ b. if b then 1 + ranks_to_go y.colour s else 1) kind
+    ap (λ c. if same_kind Pawn x.kind then 1 + ranks_to_go c s else 1) colour
+    ∙ ap (λ b. if b then 1 + ranks_to_go y.colour s else 1) kind
 
 below_alike : (n : ℕ) (f g : ℕ → ℕ) → ((k : ℕ) → k < n → f k ≡ g k) → from_below n f ≡ from_below n g
 below_alike zero f g h = refl
 below_alike (suc n) f g h =
-    ap (λ v. v ∷ from_below n (λ k. f (suc k))) (h 0 (omega arith)) ∙ ap (λ v. g 0 ∷ v) (below_alike n (λ k. f (suc k)) (λ k. g (suc k)) (λ k l. h (suc k) (omega arith)))
+    ap (λ v. v ∷ from_below n (λ k. f (suc k))) (h 0 (omega arith))
+    ∙ ap (λ v. g 0 ∷ v) (below_alike n (λ k. f (suc k)) (λ k. g (suc k)) (λ k l. h (suc k) (omega arith)))
 
 same_reserve : (men others : Men) → same_men men others ≡ true → reserve men ≡ reserve others
 unfolding reserve same_men each_square
-same_reserve men others e = ap sum (below_alike 64 (λ s. weight s (man_at men s)) (λ s. weight s (man_at others s)) (λ k h. same_weight k (man_at men k) (man_at others k) (each_below-at 64 (λ s. same_man (man_at men s) (man_at others s)) e k h)))
+same_reserve men others e =
+    ap sum (below_alike 64 (λ s. weight s (man_at men s)) (λ s. weight s (man_at others s))
+    (λ k h. same_weight k (man_at men k) (man_at others k)
+    (each_below-at 64 (λ s. same_man (man_at men s) (man_at others s)) e k h)))
 
 second : (a b c d : Bool) → (a && b && c && d) ≡ true → b ≡ true
 second true true true true e = refl
@@ -64,19 +69,23 @@ other_by_reserve p q h =
     elim (cases_Bool (same p q)) [
       | inr fails ↦ fails
       | inl passes ↦
-          let alike = same_reserve p.men q.men (second (same_colour p.side q.side) (same_men p.men q.men) (same_rights p.rights q.rights) (same_square (live_target p) (live_target q)) passes) in
+          let alike = same_reserve p.men q.men
+          (second (same_colour p.side q.side) (same_men p.men q.men) (same_rights p.rights q.rights)
+          (same_square (live_target p) (live_target q)) passes) in
           absurd (omega (arith, alike))
     ]
 
 -- ---- along the places
 
 -- the reserve at the end is no more than at the start
-pub never_grows : ReserveNeverGrows → (p : Setup) (xs : List Place) → Follows p xs → reserve (last p (moves_of xs)).men ≤ reserve p.men
+pub never_grows : ReserveNeverGrows → (p : Setup) (xs : List Place) → Follows p xs
+    → reserve (last p (moves_of xs)).men ≤ reserve p.men
 never_grows law p [] f = omega arith
 never_grows law p (x ∷ xs) f =
     let one : reserve (after p x.made).men ≤ reserve p.men = law p x.made f.0.sound f.0.legal in
     let behind : reserve (last (after p x.made) (moves_of xs)).men ≤ reserve (after p x.made).men =
-    subst (λ v. reserve (last v (moves_of xs)).men ≤ reserve v.men) f.0.left (never_grows law x.reached.position xs f.2) in
+    subst (λ v. reserve (last v (moves_of xs)).men ≤ reserve v.men) f.0.left
+    (never_grows law x.reached.position xs f.2) in
     omega arith
 
 -- where the place k was reached by a capture or a pawn move, no position before it is the same as the one at the end
@@ -84,44 +93,60 @@ pub record NoneBefore (p : Setup) (xs : List Place) (k : ℕ) : Type 0 where
   pub falls : reserve (last p (moves_of xs)).men < reserve p.men
   pub none : seen p (take k xs) (last p (moves_of xs)) ≡ 0
 
-pub none_before : ReserveNeverGrows → ReserveFallsForGood → (p : Setup) (xs : List Place) (k : ℕ) (d : Place) → Follows p xs → k < length xs → (get_or xs k d).reached.position.halfmove ≡ 0 → NoneBefore p xs k
+pub none_before : ReserveNeverGrows → ReserveFallsForGood → (p : Setup) (xs : List Place) (k : ℕ) (d : Place)
+    → Follows p xs → k < length xs → (get_or xs k d).reached.position.halfmove ≡ 0 → NoneBefore p xs k
 none_before grows falls p [] k d f h zeroed = absurd (omega arith)
 none_before grows falls p (y ∷ ys) zero d f h zeroed =
-    let lower : reserve (after p y.made).men < reserve p.men = falls p y.made f.0.sound f.0.legal (subst (λ v. v.halfmove ≡ 0) f.0.left zeroed) in
+    let lower : reserve (after p y.made).men < reserve p.men =
+    falls p y.made f.0.sound f.0.legal (subst (λ v. v.halfmove ≡ 0) f.0.left zeroed) in
     let behind : reserve (last (after p y.made) (moves_of ys)).men ≤ reserve (after p y.made).men =
-    subst (λ v. reserve (last v (moves_of ys)).men ≤ reserve v.men) f.0.left (never_grows grows y.reached.position ys f.2) in
+    subst (λ v. reserve (last v (moves_of ys)).men ≤ reserve v.men) f.0.left
+    (never_grows grows y.reached.position ys f.2) in
     let all : reserve (last p (moves_of (y ∷ ys))).men < reserve p.men = omega arith in
     record { falls = all; none = rw (other_by_reserve p (last p (moves_of (y ∷ ys))) all) refl }
 none_before grows falls p (y ∷ ys) (suc k) d f h zeroed =
     let behind = none_before grows falls y.reached.position ys k d f.2 (omega arith) zeroed in
-    let end : last y.reached.position (moves_of ys) ≡ last p (moves_of (y ∷ ys)) = ap (λ v. last v (moves_of ys)) f.0.left in
-    let one : reserve y.reached.position.men ≤ reserve p.men = subst (λ v. reserve v.men ≤ reserve p.men) (sym f.0.left) (grows p y.made f.0.sound f.0.legal) in
-    let lower : reserve (last p (moves_of (y ∷ ys))).men < reserve y.reached.position.men = subst (λ v. reserve v.men < reserve y.reached.position.men) end behind.falls in
+    let end : last y.reached.position (moves_of ys) ≡ last p (moves_of (y ∷ ys)) =
+    ap (λ v. last v (moves_of ys)) f.0.left in
+    let one : reserve y.reached.position.men ≤ reserve p.men = subst (λ v. reserve v.men ≤ reserve p.men) (sym f.0.left)
+    (grows p y.made f.0.sound f.0.legal) in
+    let lower : reserve (last p (moves_of (y ∷ ys))).men < reserve y.reached.position.men =
+    subst (λ v. reserve v.men < reserve y.reached.position.men) end behind.falls in
     let all : reserve (last p (moves_of (y ∷ ys))).men < reserve p.men = omega arith in
-    let others : seen y.reached.position (take k ys) (last p (moves_of (y ∷ ys))) ≡ 0 = subst (λ v. seen y.reached.position (take k ys) v ≡ 0) end behind.none in
-    let here : one_if (same p (last p (moves_of (y ∷ ys)))) ≡ 0 = rw (other_by_reserve p (last p (moves_of (y ∷ ys))) all) refl in
-    let cons : count_by (λ z. same z.reached.position (last p (moves_of (y ∷ ys)))) (take (suc k) (y ∷ ys)) ≡ seen y.reached.position (take k ys) (last p (moves_of (y ∷ ys))) = sum_by-cons (λ z. one_if (same z.reached.position (last p (moves_of (y ∷ ys))))) y (take k ys) in
+    let others : seen y.reached.position (take k ys) (last p (moves_of (y ∷ ys))) ≡ 0 =
+    subst (λ v. seen y.reached.position (take k ys) v ≡ 0) end behind.none in
+    let here : one_if (same p (last p (moves_of (y ∷ ys)))) ≡ 0 =
+    rw (other_by_reserve p (last p (moves_of (y ∷ ys))) all) refl in
+    let cons : count_by (λ z. same z.reached.position (last p (moves_of (y ∷ ys)))) (take (suc k) (y ∷ ys))
+    ≡ seen y.reached.position (take k ys) (last p (moves_of (y ∷ ys))) =
+    sum_by-cons (λ z. one_if (same z.reached.position (last p (moves_of (y ∷ ys))))) y (take k ys) in
     record { falls = all; none = omega (arith, here, cons, others) }
 
 -- ---- the count
 
 -- at the start the count is whole
-pub all_counted : (p : Setup) (xs : List Place) (q : Setup) (count left : ℕ) → Follows p xs → q ≡ last p (moves_of xs) → count + seen p (take left xs) q ≡ seen p xs q → left ≤ 0
+pub all_counted : (p : Setup) (xs : List Place) (q : Setup) (count left : ℕ) → Follows p xs → q ≡ last p (moves_of xs)
+    → count + seen p (take left xs) q ≡ seen p xs q → left ≤ 0
     → count + one_if (same p q) ≡ rep p (moves_of xs)
 all_counted p xs q count left f at e h =
     let none_left : left ≡ 0 = omega arith in
-    let e' : count + seen p (take 0 xs) q ≡ seen p xs q = subst (λ n. count + seen p (take n xs) q ≡ seen p xs q) none_left e in
+    let e' : count + seen p (take 0 xs) q ≡ seen p xs q = subst (λ n. count + seen p (take n xs) q ≡ seen p xs q)
+    none_left e in
     let whole = counted p xs q f at in
     omega (arith, e', whole)
 
 -- behind a capture or a pawn move it is whole too
-pub rest_counted : ReserveNeverGrows → ReserveFallsForGood → (p : Setup) (xs : List Place) (q : Setup) (count k left : ℕ) (d : Place) → Follows p xs → q ≡ last p (moves_of xs)
-    → k < length xs → left ≡ k + 1 → count + seen p (take left xs) q ≡ seen p xs q → (get_or xs k d).reached.position.halfmove ≡ 0
+pub rest_counted : ReserveNeverGrows → ReserveFallsForGood
+    → (p : Setup) (xs : List Place) (q : Setup) (count k left : ℕ) (d : Place) → Follows p xs → q ≡ last p (moves_of xs)
+    → k < length xs → left ≡ k + 1 → count + seen p (take left xs) q ≡ seen p xs q
+    → (get_or xs k d).reached.position.halfmove ≡ 0
     → count + one_if (same (get_or xs k d).reached.position q) ≡ rep p (moves_of xs)
 rest_counted grows falls p xs q count k left d f at h one_more e zeroed =
-    let before : seen p (take k xs) q ≡ 0 = subst (λ v. seen p (take k xs) v ≡ 0) (sym at) (none_before grows falls p xs k d f h zeroed).none in
+    let before : seen p (take k xs) q ≡ 0 = subst (λ v. seen p (take k xs) v ≡ 0) (sym at)
+    (none_before grows falls p xs k d f h zeroed).none in
     let more = seen-more p xs q k d h in
-    let e' : count + seen p (take (k + 1) xs) q ≡ seen p xs q = subst (λ n. count + seen p (take n xs) q ≡ seen p xs q) one_more e in
+    let e' : count + seen p (take (k + 1) xs) q ≡ seen p xs q = subst (λ n. count + seen p (take n xs) q ≡ seen p xs q)
+    one_more e in
     let whole = counted p xs q f at in
     omega (arith, e', more, before, whole)
 
@@ -152,9 +177,15 @@ not_both p q r turn =
           let few = at_most_one (same r q) in
           omega (arith, none, few)
       | inl on ↦
-          let alike : p.side ≡ q.side = same_colour-is p.side q.side (first_holds (same_colour p.side q.side) (same_men p.men q.men) (same_rights p.rights q.rights) (same_square (live_target p) (live_target q)) on) in
-          let turned : same_colour r.side q.side ≡ false = ap (λ c. same_colour c q.side) (turn ∙ ap other alike) ∙ opposite q.side in
-          let none : one_if (same r q) ≡ 0 = ap one_if (off_first (same_colour r.side q.side) (same_men r.men q.men) (same_rights r.rights q.rights) (same_square (live_target r) (live_target q)) turned) in
+          let alike : p.side ≡ q.side =
+          same_colour-is p.side q.side
+          (first_holds (same_colour p.side q.side) (same_men p.men q.men) (same_rights p.rights q.rights)
+          (same_square (live_target p) (live_target q)) on) in
+          let turned : same_colour r.side q.side ≡ false = ap (λ c. same_colour c q.side) (turn ∙ ap other alike)
+          ∙ opposite q.side in
+          let none : one_if (same r q) ≡ 0 =
+          ap one_if (off_first (same_colour r.side q.side) (same_men r.men q.men) (same_rights r.rights q.rights)
+          (same_square (live_target r) (live_target q)) turned) in
           let few = at_most_one (same p q) in
           omega (arith, none, few)
     ]
@@ -163,7 +194,8 @@ side_after : (p : Setup) (m : Move) → (after p m).side ≡ other p.side
 unfolding after
 side_after p m = refl
 
-pairs : (p : Setup) (xs : List Place) (q : Setup) → Follows p xs → count_by (λ x. same x.reached.position q) xs + count_by (λ x. same x.reached.position q) xs ≤ length xs + 1
+pairs : (p : Setup) (xs : List Place) (q : Setup) → Follows p xs
+    → count_by (λ x. same x.reached.position q) xs + count_by (λ x. same x.reached.position q) xs ≤ length xs + 1
 pairs p [] q f = omega arith
 pairs p (x ∷ []) q f =
     let all = sum_by-cons (λ z. one_if (same z.reached.position q)) x [] in
@@ -172,13 +204,16 @@ pairs p (x ∷ []) q f =
 pairs p (x ∷ y ∷ zs) q f =
     let all = sum_by-cons (λ z. one_if (same z.reached.position q)) x (y ∷ zs) in
     let others = sum_by-cons (λ z. one_if (same z.reached.position q)) y zs in
-    let turn : y.reached.position.side ≡ other x.reached.position.side = ap (λ v. v.side) f.2.0.left ∙ side_after x.reached.position y.made in
+    let turn : y.reached.position.side ≡ other x.reached.position.side = ap (λ v. v.side) f.2.0.left
+    ∙ side_after x.reached.position y.made in
     let both = not_both x.reached.position q y.reached.position turn in
     let rest = pairs y.reached.position zs q f.2.2 in
     omega (arith, all, others, both, rest)
 
 pairs_behind : (p : Setup) (xs : List Place) (q : Setup) (k : ℕ) → Follows p xs → k ≤ length xs
-    → count_by (λ x. same x.reached.position q) xs + count_by (λ x. same x.reached.position q) xs + k ≤ count_by (λ x. same x.reached.position q) (take k xs) + count_by (λ x. same x.reached.position q) (take k xs) + length xs + 1
+    → count_by (λ x. same x.reached.position q) xs + count_by (λ x. same x.reached.position q) xs + k ≤ count_by
+    (λ x. same x.reached.position q) (take k xs) + count_by (λ x. same x.reached.position q) (take k xs) + length xs
+    + 1
 pairs_behind p xs q zero f h = let all = pairs p xs q f in omega (arith, all)
 pairs_behind p [] q (suc k) f h = absurd (omega (arith, h))
 pairs_behind p (y ∷ ys) q (suc k) f h =
@@ -188,7 +223,8 @@ pairs_behind p (y ∷ ys) q (suc k) f h =
     omega (arith, rest, all, front)
 
 -- where one of the last eight places was reached by a capture or a pawn move, the position is there at most four times
-pub few_times : ReserveNeverGrows → ReserveFallsForGood → (p : Setup) (xs : List Place) (k : ℕ) (d : Place) → Follows p xs → k < length xs → length xs ≤ k + 8
+pub few_times : ReserveNeverGrows → ReserveFallsForGood → (p : Setup) (xs : List Place) (k : ℕ) (d : Place)
+    → Follows p xs → k < length xs → length xs ≤ k + 8
     → (get_or xs k d).reached.position.halfmove ≡ 0 → false ≡ nat_le 5 (rep p (moves_of xs))
 few_times grows falls p xs k d f h near zeroed =
     let before = (none_before grows falls p xs k d f h zeroed).none in

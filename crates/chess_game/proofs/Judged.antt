@@ -13,32 +13,42 @@ use Rattle.chess_game.specs.declared.game.Place.{Place}
 last_or_below : (n k : ℕ) → k < n + 1 → (k ≡ n) ⊎ (k < n)
 last_or_below n k h = grind arith
 
-more : (p : Setup) (ms : List Move) (m : Move) → ((k : ℕ) → k < length ms → verdict p (take k ms) ≡ None) → verdict p ms ≡ None
+more : (p : Setup) (ms : List Move) (m : Move) → ((k : ℕ) → k < length ms → verdict p (take k ms) ≡ None)
+    → verdict p ms ≡ None
     → (k : ℕ) → k < length (ms ++ m ∷ []) → verdict p (take k (ms ++ m ∷ [])) ≡ None
 more p ms m before now k h =
     let len : length (ms ++ m ∷ []) ≡ length ms + 1 = length-append ms (m ∷ []) in
     elim (last_or_below (length ms) k (omega (arith, len))) [
-      | inl all ↦ ap (verdict p) (ap (λ n. take n (ms ++ m ∷ [])) all ∙ take-append-le (length ms) ms (m ∷ []) (omega arith) ∙ take-length ms) ∙ now
+      | inl all ↦ ap (verdict p)
+          (ap (λ n. take n (ms ++ m ∷ [])) all ∙ take-append-le (length ms) ms (m ∷ []) (omega arith) ∙ take-length ms)
+          ∙ now
       | inr less ↦ ap (verdict p) (take-append-le k ms (m ∷ []) (omega arith)) ∙ before k less
     ]
 
-pub judged_more : (p : Setup) (xs : List Place) (x : Place) (v v' : Option Verdict) → IsJudged p (moves_of xs) v → v ≡ None → v' ≡ verdict p (moves_of (xs ++ x ∷ []))
+pub judged_more : (p : Setup) (xs : List Place) (x : Place) (v v' : Option Verdict) → IsJudged p (moves_of xs) v
+    → v ≡ None → v' ≡ verdict p (moves_of (xs ++ x ∷ []))
     → IsJudged p (moves_of (xs ++ x ∷ [])) v'
 judged_more p xs x v v' judged none is = record {
   now = is;
-  unended = subst (λ ms. (k : ℕ) → k < length ms → verdict p (take k ms) ≡ None) (sym (map-append (λ (y : Place). y.made) xs (x ∷ [])))
+  unended = subst (λ ms. (k : ℕ) → k < length ms → verdict p (take k ms) ≡ None)
+      (sym (map-append (λ (y : Place). y.made) xs (x ∷ [])))
       (more p (moves_of xs) x.made judged.unended (sym judged.now ∙ none));
 }
 
-fewer : (p : Setup) (ms : List Move) (m : Move) → ((k : ℕ) → k < length (ms ++ m ∷ []) → verdict p (take k (ms ++ m ∷ [])) ≡ None) → (k : ℕ) → k < length ms + 1 → verdict p (take k ms) ≡ None
+fewer : (p : Setup) (ms : List Move) (m : Move)
+    → ((k : ℕ) → k < length (ms ++ m ∷ []) → verdict p (take k (ms ++ m ∷ [])) ≡ None) → (k : ℕ) → k < length ms + 1
+    → verdict p (take k ms) ≡ None
 fewer p ms m before k h =
     let len : length (ms ++ m ∷ []) ≡ length ms + 1 = length-append ms (m ∷ []) in
     ap (verdict p) (sym (take-append-le k ms (m ∷ []) (omega arith))) ∙ before k (omega (arith, len))
 
-pub judged_fewer : (p : Setup) (xs ys : List Place) (x : Place) (v : Option Verdict) → IsJudged p (moves_of xs) v → xs ≡ ys ++ x ∷ [] → IsJudged p (moves_of ys) None
+pub judged_fewer : (p : Setup) (xs ys : List Place) (x : Place) (v : Option Verdict) → IsJudged p (moves_of xs) v
+    → xs ≡ ys ++ x ∷ [] → IsJudged p (moves_of ys) None
 judged_fewer p xs ys x v judged is =
-    let all : moves_of xs ≡ moves_of ys ++ x.made ∷ [] = ap moves_of is ∙ map-append (λ (y : Place). y.made) ys (x ∷ []) in
-    let behind = fewer p (moves_of ys) x.made (subst (λ ms. (k : ℕ) → k < length ms → verdict p (take k ms) ≡ None) all judged.unended) in
+    let all : moves_of xs ≡ moves_of ys ++ x.made ∷ [] = ap moves_of is
+    ∙ map-append (λ (y : Place). y.made) ys (x ∷ []) in
+    let behind = fewer p (moves_of ys) x.made
+    (subst (λ ms. (k : ℕ) → k < length ms → verdict p (take k ms) ≡ None) all judged.unended) in
     record {
       now = sym (ap (verdict p) (sym (take-length (moves_of ys))) ∙ behind (length (moves_of ys)) (omega arith));
       unended = λ k h. behind k (omega arith);
@@ -51,14 +61,19 @@ at_the_end (n ∷ ms) m = at_the_end ms m
 -- the last place holds the last move
 pub last_is : (xs ys : List Place) (x : Place) → xs ≡ ys ++ x ∷ [] → Ok x.made ≡ last_move (moves_of xs)
 last_is xs ys x is =
-    let all : moves_of xs ≡ moves_of ys ++ x.made ∷ [] = ap moves_of is ∙ map-append (λ (y : Place). y.made) ys (x ∷ []) in
-    let len : length (moves_of ys ++ x.made ∷ []) - 1 ≡ length (moves_of ys) = let e = length-append (moves_of ys) (x.made ∷ []) in omega (arith, e) in
-    let found : slice_get (moves_of ys ++ x.made ∷ []) (length (moves_of ys ++ x.made ∷ []) - 1) ≡ Some x.made = ap (slice_get (moves_of ys ++ x.made ∷ [])) len ∙ at_the_end (moves_of ys) x.made in
+    let all : moves_of xs ≡ moves_of ys ++ x.made ∷ [] = ap moves_of is
+    ∙ map-append (λ (y : Place). y.made) ys (x ∷ []) in
+    let len : length (moves_of ys ++ x.made ∷ []) - 1 ≡ length (moves_of ys) = let e =
+    length-append (moves_of ys) (x.made ∷ []) in omega (arith, e) in
+    let found : slice_get (moves_of ys ++ x.made ∷ []) (length (moves_of ys ++ x.made ∷ []) - 1) ≡ Some x.made =
+    ap (slice_get (moves_of ys ++ x.made ∷ [])) len ∙ at_the_end (moves_of ys) x.made in
     subst (λ ms. Ok x.made ≡ last_move ms) (sym all) (rw found refl)
 
 -- a game that is not over has no verdict
-pub no_verdict : (s : State) (v : Option Verdict) (over : Bool) → v ≡ verdict s.start s.moves → over ≡ is_over s → over ≡ false → v ≡ None
-no_verdict s v over is told not_over = by_verdict v (sym not_over ∙ told ∙ ap (λ w. is_some w || is_some s.declared) (sym is))
+pub no_verdict : (s : State) (v : Option Verdict) (over : Bool) → v ≡ verdict s.start s.moves → over ≡ is_over s
+    → over ≡ false → v ≡ None
+no_verdict s v over is told not_over =
+    by_verdict v (sym not_over ∙ told ∙ ap (λ w. is_some w || is_some s.declared) (sym is))
   where
     by_verdict : (w : Option Verdict) → false ≡ (is_some w || is_some s.declared) → w ≡ None
     by_verdict None h = refl

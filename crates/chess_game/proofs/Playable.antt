@@ -10,11 +10,13 @@ pub record MayPlay (o f l : Bool) : Type 0 where
   pub room : f ≡ false
   pub legal : l ≡ true
 
-by_tests : (o f l : Bool) → (if o then Some Over else if f then Some TooLong else if not l then Some Illegal else None) ≡ None → MayPlay o f l
+by_tests : (o f l : Bool) → (if o then Some Over else if f then Some TooLong else if not l then Some Illegal else None)
+    ≡ None → MayPlay o f l
 by_tests true f l h = absurd cc
 by_tests false true l h = absurd cc
 by_tests false false false h = absurd cc
 by_tests false false true h = record { on = refl; room = refl; legal = refl }
 
-pub may_play : (g : Seen) (m : Move) → play_refusal g m ≡ None → MayPlay (is_over g.state) (is_full g) (is_legal (current g.state) m)
+pub may_play : (g : Seen) (m : Move) → play_refusal g m ≡ None
+    → MayPlay (is_over g.state) (is_full g) (is_legal (current g.state) m)
 may_play g m h = by_tests (is_over g.state) (is_full g) (is_legal (current g.state) m) h

@@ -40,7 +40,8 @@ rights_self r = and_from _ _ (rights_of_self r.white) (rights_of_self r.black)
 
 pub same_self : (p : Setup) → same p p ≡ true
 unfolding same
-same_self p = and_from _ _ (and_from _ _ (and_from _ _ (colour_self p.side) (men_self p.men)) (rights_self p.rights)) (square_self (live_target p))
+same_self p = and_from _ _ (and_from _ _ (and_from _ _ (colour_self p.side) (men_self p.men)) (rights_self p.rights))
+    (square_self (live_target p))
 
 pub met : (p q : Setup) → p ≡ q → ◌≡◌ {A = ℕ} 1 (cond (same p q) 1 0)
 met p q e = rw (← e, same_self p) refl

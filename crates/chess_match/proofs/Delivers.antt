@@ -23,10 +23,13 @@ use Rattle.chess_match.specs.declared.state.Given.{Given}
 use Rattle.chess_match.proofs.Flushes.{flushed_none}
 
 -- who is still to be told the last move has one to be told
-pub last_told : (r : Rules) (core : Core) (played : List Move) (m : Match) → Stands r core played m → (is_some m.untold ≡ true → 0 < length m.played) → is_some core.untold ≡ true → 0 < length played
-last_told r core played m s some h = subst (λ (ms : List Move). 0 < length ms) (sym s.moves) (some (ap (λ (o : Option Colour). is_some o) (sym s.untold) ∙ h))
+pub last_told : (r : Rules) (core : Core) (played : List Move) (m : Match) → Stands r core played m
+    → (is_some m.untold ≡ true → 0 < length m.played) → is_some core.untold ≡ true → 0 < length played
+last_told r core played m s some h = subst (λ (ms : List Move). 0 < length ms) (sym s.moves)
+    (some (ap (λ (o : Option Colour). is_some o) (sym s.untold) ∙ h))
 
-pub on_too : (r : Rules) (core : Core) (played : List Move) (m : Match) → Stands r core played m → is_on core.phase ≡ true → is_on m.phase ≡ true
+pub on_too : (r : Rules) (core : Core) (played : List Move) (m : Match) → Stands r core played m
+    → is_on core.phase ≡ true → is_on m.phase ≡ true
 on_too r core played m s h = ap is_on (sym s.phase) ∙ h
 
 pub no_items : items_of [] ≡ []
@@ -35,29 +38,44 @@ no_items = refl
 
 -- ---- one call
 
-pub sends_if : (o o' : OutputState) (b b' : Bool) (text text' : List ℕ) → b' ≡ b → text ≡ text' → SendsIf b o o' text → SendsIf b' o o' text'
-sends_if o o' b b' text text' e t p = subst (λ (x : List ℕ). SendsIf b' o o' x) t (subst (λ (x : Bool). SendsIf x o o' text) (sym e) p)
+pub sends_if : (o o' : OutputState) (b b' : Bool) (text text' : List ℕ) → b' ≡ b → text ≡ text' → SendsIf b o o' text
+    → SendsIf b' o o' text'
+sends_if o o' b b' text text' e t p = subst (λ (x : List ℕ). SendsIf b' o o' x) t
+    (subst (λ (x : Bool). SendsIf x o o' text) (sym e) p)
 
 -- ---- two calls, in turn
 
-pub first_failed : (r : Rules) (core : Core) (played : List Move) (m : Match) (due : Colour → List SentLine) (S : Colour) (o o' x x' : OutputState) (f : Bool) → is_on m.phase ≡ true → 0 < length (due S) → Stands r core played (after r m (FailsToWrite S))
-    → SendsIf true o o' (bytes_of (due S)) → SendsIf f x x' (bytes_of (block r m (after r m (FailsToWrite S)) (other S))) → Delivered r core played m due S (by_turn S o x) (by_turn S o' x') (by_turn S true f)
+pub first_failed : (r : Rules) (core : Core) (played : List Move) (m : Match) (due : Colour → List SentLine)
+    (S : Colour) (o o' x x' : OutputState) (f : Bool) → is_on m.phase ≡ true → 0 < length (due S)
+    → Stands r core played (after r m (FailsToWrite S))
+    → SendsIf true o o' (bytes_of (due S))
+    → SendsIf f x x' (bytes_of (block r m (after r m (FailsToWrite S)) (other S)))
+    → Delivered r core played m due S (by_turn S o x) (by_turn S o' x') (by_turn S true f)
 unfolding bytes_of
-first_failed r core played m due White o o' x x' f on some s b p = inr (White, record { on = on; some = some; stands = s; fails = refl; broke = b; others = (x, flushed_none x, p) })
-first_failed r core played m due Black o o' x x' f on some s b p = inr (Black, record { on = on; some = some; stands = s; fails = refl; broke = b; others = (x, flushed_none x, p) })
+first_failed r core played m due White o o' x x' f on some s b p =
+    inr (White, record { on = on; some = some; stands = s; fails = refl; broke = b; others = (x, flushed_none x, p) })
+first_failed r core played m due Black o o' x x' f on some s b p =
+    inr (Black, record { on = on; some = some; stands = s; fails = refl; broke = b; others = (x, flushed_none x, p) })
 
-pub second_failed : (r : Rules) (core : Core) (played : List Move) (m : Match) (due : Colour → List SentLine) (S : Colour) (o v o' x x' : OutputState) (f : Bool) → is_on m.phase ≡ true → 0 < length (due (other S)) → Stands r core played (after r m (FailsToWrite (other S)))
-    → SendsIf false o v (bytes_of (due S)) → SendsIf true x x' (bytes_of (due (other S))) → SendsIf f v o' (bytes_of (block r m (after r m (FailsToWrite (other S))) (other (other S))))
+pub second_failed : (r : Rules) (core : Core) (played : List Move) (m : Match) (due : Colour → List SentLine)
+    (S : Colour) (o v o' x x' : OutputState) (f : Bool) → is_on m.phase ≡ true → 0 < length (due (other S))
+    → Stands r core played (after r m (FailsToWrite (other S)))
+    → SendsIf false o v (bytes_of (due S)) → SendsIf true x x' (bytes_of (due (other S)))
+    → SendsIf f v o' (bytes_of (block r m (after r m (FailsToWrite (other S))) (other (other S))))
     → Delivered r core played m due S (by_turn S o x) (by_turn S o' x') (by_turn S f true)
-second_failed r core played m due White o v o' x x' f on some s t b p = inr (Black, record { on = on; some = some; stands = s; fails = refl; broke = b; others = (v, t, p) })
-second_failed r core played m due Black o v o' x x' f on some s t b p = inr (White, record { on = on; some = some; stands = s; fails = refl; broke = b; others = (v, t, p) })
+second_failed r core played m due White o v o' x x' f on some s t b p =
+    inr (Black, record { on = on; some = some; stands = s; fails = refl; broke = b; others = (v, t, p) })
+second_failed r core played m due Black o v o' x x' f on some s t b p =
+    inr (White, record { on = on; some = some; stands = s; fails = refl; broke = b; others = (v, t, p) })
 
 pub both_sides : (P : Colour → Type 0) → P White → P Black → (S : Colour) → P S
 both_sides P w b White = w
 both_sides P w b Black = b
 
-pub none_failed : (r : Rules) (core : Core) (played : List Move) (m : Match) (due : Colour → List SentLine) (S : Colour) (o o' x x' : OutputState) → Stands r core played m
-    → SendsIf false o o' (bytes_of (due S)) → SendsIf false x x' (bytes_of (due (other S))) → Delivered r core played m due S (by_turn S o x) (by_turn S o' x') (by_turn S false false)
+pub none_failed : (r : Rules) (core : Core) (played : List Move) (m : Match) (due : Colour → List SentLine) (S : Colour)
+    (o o' x x' : OutputState) → Stands r core played m
+    → SendsIf false o o' (bytes_of (due S)) → SendsIf false x x' (bytes_of (due (other S)))
+    → Delivered r core played m due S (by_turn S o x) (by_turn S o' x') (by_turn S false false)
 none_failed r core played m due White o o' x x' s a b = inl (record {
   stands = s;
   puts = both_sides (λ X. SendsIf (by_side false false X) (by_side o x X) (by_side o' x' X) (bytes_of (due X))) a b;
@@ -74,8 +92,10 @@ never true e h = absurd cc
 never false e h = absurd cc
 
 -- at the end each engine is sent its block, whatever became of the other's
-pub both_sent : (r : Rules) (core : Core) (played : List Move) (m : Match) (due : Colour → List SentLine) (S : Colour) (w w' b b' : OutputState) (f g : Bool) → Stands r core played m → true ≡ not (is_on core.phase)
-    → SendsIf f w w' (bytes_of (due White)) → SendsIf g b b' (bytes_of (due Black)) → Delivered r core played m due S (by_side w b) (by_side w' b') (by_side f g)
+pub both_sent : (r : Rules) (core : Core) (played : List Move) (m : Match) (due : Colour → List SentLine) (S : Colour)
+    (w w' b b' : OutputState) (f g : Bool) → Stands r core played m → true ≡ not (is_on core.phase)
+    → SendsIf f w w' (bytes_of (due White)) → SendsIf g b b' (bytes_of (due Black))
+    → Delivered r core played m due S (by_side w b) (by_side w' b') (by_side f g)
 both_sent r core played m due S w w' b b' f g s o x y = inl (record {
   stands = s;
   puts = both_sides (λ X. SendsIf (by_side f g X) (by_side w b X) (by_side w' b' X) (bytes_of (due X))) x y;
@@ -84,53 +104,75 @@ both_sent r core played m due S w w' b b' f g s o x y = inl (record {
 
 -- ---- which writer is whose
 
-pub turn_white : (r : Rules) (core : Core) (played : List Move) (m : Match) (due : Colour → List SentLine) (S : Colour) (o o' x x' : OutputState) (f g : Bool) → S ≡ White
-    → Delivered r core played m due S (by_turn S o x) (by_turn S o' x') (by_turn S f g) → Delivered r core played m due S (by_side o x) (by_side o' x') (by_side f g)
+pub turn_white : (r : Rules) (core : Core) (played : List Move) (m : Match) (due : Colour → List SentLine) (S : Colour)
+    (o o' x x' : OutputState) (f g : Bool) → S ≡ White
+    → Delivered r core played m due S (by_turn S o x) (by_turn S o' x') (by_turn S f g)
+    → Delivered r core played m due S (by_side o x) (by_side o' x') (by_side f g)
 turn_white r core played m due White o o' x x' f g e d = d
 turn_white r core played m due Black o o' x x' f g e d = absurd cc
 
-pub turn_black : (r : Rules) (core : Core) (played : List Move) (m : Match) (due : Colour → List SentLine) (S : Colour) (o o' x x' : OutputState) (f g : Bool) → S ≡ Black
-    → Delivered r core played m due S (by_turn S o x) (by_turn S o' x') (by_turn S f g) → Delivered r core played m due S (by_side x o) (by_side x' o') (by_side g f)
+pub turn_black : (r : Rules) (core : Core) (played : List Move) (m : Match) (due : Colour → List SentLine) (S : Colour)
+    (o o' x x' : OutputState) (f g : Bool) → S ≡ Black
+    → Delivered r core played m due S (by_turn S o x) (by_turn S o' x') (by_turn S f g)
+    → Delivered r core played m due S (by_side x o) (by_side x' o') (by_side g f)
 turn_black r core played m due Black o o' x x' f g e d = d
 turn_black r core played m due White o o' x x' f g e d = absurd cc
 
 -- ---- what a line asks of the core
 
-pub counted : (r : Rules) (core : Core) (played : List Move) (m : Match) → Stands r core played m → IsSane r m → core.count < 10000
+pub counted : (r : Rules) (core : Core) (played : List Move) (m : Match) → Stands r core played m → IsSane r m
+    → core.count < 10000
 counted r core played m s sane = omega (arith, s.count, sane.count)
 
-few_moves : (r : Rules) (m : Match) → IsSane r m → (S : Colour) → (spent_by (clocks_of r.level m) S).moves ≤ length m.played
+few_moves : (r : Rules) (m : Match) → IsSane r m → (S : Colour)
+    → (spent_by (clocks_of r.level m) S).moves ≤ length m.played
 few_moves r m sane White = sane.white
 few_moves r m sane Black = sane.black
 
-pub few : (r : Rules) (core : Core) (played : List Move) (m : Match) → Stands r core played m → IsSane r m → (S : Colour) → (spent_by core.clocks S).moves ≤ length played
+pub few : (r : Rules) (core : Core) (played : List Move) (m : Match) → Stands r core played m → IsSane r m
+    → (S : Colour) → (spent_by core.clocks S).moves ≤ length played
 few r core played m s sane S =
-    subst (λ (c : ClocksSeen). (spent_by c S).moves ≤ length played) (sym s.clocks) (subst (λ (ms : List Move). (spent_by (clocks_of r.level m) S).moves ≤ length ms) (sym s.moves) (few_moves r m sane S))
+    subst (λ (c : ClocksSeen). (spent_by c S).moves ≤ length played) (sym s.clocks)
+    (subst (λ (ms : List Move). (spent_by (clocks_of r.level m) S).moves ≤ length ms) (sym s.moves)
+    (few_moves r m sane S))
 
-pub undecided : (r : Rules) (core : Core) (played : List Move) (m : Match) → Stands r core played m → IsSane r m → in_turn core.phase ≡ true → r.verdict played ≡ None
-undecided r core played m s sane h = ap (λ (ms : List Move). r.verdict ms) s.moves ∙ sane.undecided (ap in_turn (sym s.phase) ∙ h)
+pub undecided : (r : Rules) (core : Core) (played : List Move) (m : Match) → Stands r core played m → IsSane r m
+    → in_turn core.phase ≡ true → r.verdict played ≡ None
+undecided r core played m s sane h = ap (λ (ms : List Move). r.verdict ms) s.moves
+    ∙ sane.undecided (ap in_turn (sym s.phase) ∙ h)
 
 -- the same items, told otherwise
-pub goes_with : (r : Rules) (core : Core) (played : List Move) (given : Given) (items items' : List Item) (m m' : Match) → items ≡ items' → Goes r core played given items m m' → Goes r core played given items' m m'
+pub goes_with : (r : Rules) (core : Core) (played : List Move) (given : Given) (items items' : List Item) (m m' : Match)
+    → items ≡ items' → Goes r core played given items m m' → Goes r core played given items' m m'
 goes_with r core played given items items' m m' e g = subst (λ (is : List Item). Goes r core played given is m m') e g
 
 -- ---- what was heard, and what it is noted as
 
 -- an event is noted: its moment was asked for, and the core goes on by it
-abbrev pub IsNoted : (Rules → Type 0) → Core → List Move → Core → List Move → Given → List ℕ → Colour → (ℕ → Option ℕ) → (ℕ → Option ℕ) → Event → Type 0
+abbrev pub IsNoted : (Rules → Type 0) → Core → List Move → Core → List Move → Given → List ℕ → Colour → (ℕ → Option ℕ)
+    → (ℕ → Option ℕ) → Event → Type 0
 IsNoted plays core played core' played' given text S coming coming' e =
-    Asked coming coming' (moment_in e) × ((r : Rules) (m : Match) → plays r → reads m.phase S ≡ true → Stands r core played m → Goes r core' played' given (items_of text) m (after r m e))
+    Asked coming coming' (moment_in e)
+    × ((r : Rules) (m : Match) → plays r → reads m.phase S ≡ true → Stands r core played m
+    → Goes r core' played' given (items_of text) m (after r m e))
 
-pub heard_failed : {E : Type 0} (P : Event → Type 0) (S : Colour) (moment : ℕ) (result : Result (Option LineSeen) E) (x : E) → result ≡ Err x → P (FailsToRead S) → P (event_heard S moment result)
+pub heard_failed : {E : Type 0} (P : Event → Type 0) (S : Colour) (moment : ℕ) (result : Result (Option LineSeen) E)
+    (x : E) → result ≡ Err x → P (FailsToRead S) → P (event_heard S moment result)
 heard_failed P S moment result x e p = subst (λ v. P (event_heard S moment v)) (sym e) p
 
-pub heard_none : {E : Type 0} (P : Event → Type 0) (S : Colour) (moment : ℕ) (result : Result (Option LineSeen) E) → result ≡ Ok None → P (OutputEnds S) → P (event_heard S moment result)
+pub heard_none : {E : Type 0} (P : Event → Type 0) (S : Colour) (moment : ℕ) (result : Result (Option LineSeen) E)
+    → result ≡ Ok None → P (OutputEnds S) → P (event_heard S moment result)
 heard_none P S moment result e p = subst (λ v. P (event_heard S moment v)) (sym e) p
 
-pub heard_last : {E : Type 0} (P : Event → Type 0) (S : Colour) (moment : ℕ) (result : Result (Option LineSeen) E) (line : LineSeen) → result ≡ Ok (Some line) → line.ended ≡ false → P (OutputEnds S) → P (event_heard S moment result)
+pub heard_last : {E : Type 0} (P : Event → Type 0) (S : Colour) (moment : ℕ) (result : Result (Option LineSeen) E)
+    (line : LineSeen) → result ≡ Ok (Some line) → line.ended ≡ false → P (OutputEnds S)
+    → P (event_heard S moment result)
 heard_last P S moment result line e f p =
-    subst (λ v. P (event_heard S moment v)) (sym e) (subst (λ (b : Bool). P (if b then Line S (text_heard line) moment else OutputEnds S)) (sym f) p)
+    subst (λ v. P (event_heard S moment v)) (sym e)
+    (subst (λ (b : Bool). P (if b then Line S (text_heard line) moment else OutputEnds S)) (sym f) p)
 
 -- items that stand in a text that is empty
-pub goes_bare : (r : Rules) (core : Core) (played : List Move) (given : Given) (text : List ℕ) (m m' : Match) → text ≡ [] → Goes r core played given [] m m' → Goes r core played given (items_of text) m m'
-goes_bare r core played given text m m' e g = goes_with r core played given [] (items_of text) m m' (sym no_items ∙ ap items_of (sym e)) g
+pub goes_bare : (r : Rules) (core : Core) (played : List Move) (given : Given) (text : List ℕ) (m m' : Match)
+    → text ≡ [] → Goes r core played given [] m m' → Goes r core played given (items_of text) m m'
+goes_bare r core played given text m m' e g = goes_with r core played given [] (items_of text) m m'
+    (sym no_items ∙ ap items_of (sym e)) g

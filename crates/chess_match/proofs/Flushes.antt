@@ -24,7 +24,8 @@ flushed_more a b c x y h k = record {
   unflushed = λ e. k.unflushed (h.unflushed e);
 }
 
-pub failed_behind : (a b c : OutputState) (x start : List ℕ) → Flushed a b x → TookThenFailed b c start → FlushedThenFailed a c x start
+pub failed_behind : (a b c : OutputState) (x start : List ℕ) → Flushed a b x → TookThenFailed b c start
+    → FlushedThenFailed a c x start
 failed_behind a b c x start h k = record {
   bytes = appends_more a.known_bytes b.known_bytes c.known_bytes x start h.bytes k.bytes;
   failures = k.failures ∙ ap risen h.failures;
@@ -39,6 +40,7 @@ sent_more a b c x y h k = record {
   unflushed = λ e. k.flushed;
 }
 
-pub sends_more : {A E : Type 0} (a b c : OutputState) (result : Result A E) (x y : List ℕ) → Took a b x → Sends b c result y → SendsIf (is_err result) a c (x ++ y)
+pub sends_more : {A E : Type 0} (a b c : OutputState) (result : Result A E) (x y : List ℕ) → Took a b x
+    → Sends b c result y → SendsIf (is_err result) a c (x ++ y)
 sends_more a b c (Ok v) x y h k = sent_more a b c x y h k
 sends_more a b c (Err e) x y h k = breaks_more a b c x y h k

@@ -23,7 +23,8 @@ not_both : (b : Bool) {P : Type 0} → b ≡ false → b ≡ true → P
 not_both true e h = absurd cc
 not_both false e h = absurd cc
 
-first_lines : (r r' : InputState) (h : Held) (given : List ℕ) (texts : List (Option (List ℕ))) (s : Hearing r r' h given texts) → engine_lines given ≡ texts ++ map text_heard (lines_held 8192 false h [])
+first_lines : (r r' : InputState) (h : Held) (given : List ℕ) (texts : List (Option (List ℕ)))
+    (s : Hearing r r' h given texts) → engine_lines given ≡ texts ++ map text_heard (lines_held 8192 false h [])
 first_lines r r' h given texts s =
     ap (λ bytes. map text_heard (lines_heard 8192 false bytes)) (sym (append-nil given))
     ∙ ap (λ ls. map text_heard ls) (s.lines.2 false [])
@@ -31,7 +32,8 @@ first_lines r r' h given texts s =
     ∙ ap (λ ls. ls ++ map text_heard (lines_held 8192 false h [])) s.lines.1
 
 -- while an engine is heard, its lines so far are the first of all
-pub heard_still : (S : Colour) (T : List Event) (r r' : InputState) (h : Held) (given : List ℕ) → IsHearing S T r r' h given → Heard S T r r' given
+pub heard_still : (S : Colour) (T : List Event) (r r' : InputState) (h : Held) (given : List ℕ)
+    → IsHearing S T r r' h given → Heard S T r r' given
 heard_still S T r r' h given s = record {
   bytes = s.hearing.bytes;
   lines = (map text_heard (lines_held 8192 false h []), first_lines r r' h given (lines_of S T) s.hearing);
@@ -41,10 +43,13 @@ heard_still S T r r' h given s = record {
   at_failure = λ e. not_both (has_read_failure S T) s.unfailed e;
 }
 
-all_lines : (r r' : InputState) (given : List ℕ) (texts : List (Option (List ℕ))) → HeardAll r r' given texts → engine_lines given ≡ texts
+all_lines : (r r' : InputState) (given : List ℕ) (texts : List (Option (List ℕ))) → HeardAll r r' given texts
+    → engine_lines given ≡ texts
 all_lines r r' given texts s = ap (λ ls. map text_heard ls) s.lines.2 ∙ s.lines.1
 
-heard_to_end : (S : Colour) (T : List Event) (r r' : InputState) (given : List ℕ) (texts : List (Option (List ℕ))) → HeardAll r r' given texts × (r'.end_count ≡ risen r.end_count) × (r'.failure_count ≡ r.failure_count) × IsAtEnd r'.known_bytes
+heard_to_end : (S : Colour) (T : List Event) (r r' : InputState) (given : List ℕ) (texts : List (Option (List ℕ)))
+    → HeardAll r r' given texts × (r'.end_count ≡ risen r.end_count) × (r'.failure_count ≡ r.failure_count)
+    × IsAtEnd r'.known_bytes
     → lines_of S T ≡ texts → has_end S T ≡ true → has_read_failure S T ≡ false → Heard S T r r' given
 heard_to_end S T r r' given texts (s, ends, failures, at_end) l e f =
     let all : engine_lines given ≡ lines_of S T = all_lines r r' given texts s ∙ sym l in
@@ -57,7 +62,8 @@ heard_to_end S T r r' given texts (s, ends, failures, at_end) l e f =
       at_failure = λ h. not_both (has_read_failure S T) f h;
     }
 
-heard_to_fault : (S : Colour) (T : List Event) (r r' : InputState) (given : List ℕ) (texts : List (Option (List ℕ))) → HeardAll r r' given texts × (r'.end_count ≡ r.end_count) × (r'.failure_count ≡ risen r.failure_count)
+heard_to_fault : (S : Colour) (T : List Event) (r r' : InputState) (given : List ℕ) (texts : List (Option (List ℕ)))
+    → HeardAll r r' given texts × (r'.end_count ≡ r.end_count) × (r'.failure_count ≡ risen r.failure_count)
     → lines_of S T ≡ texts → has_end S T ≡ false → has_read_failure S T ≡ true → Heard S T r r' given
 heard_to_fault S T r r' given texts (s, ends, failures) l e f =
     let all : engine_lines given ≡ lines_of S T = all_lines r r' given texts s ∙ sym l in
@@ -93,13 +99,18 @@ no_failure S (OutputEnds c) h = refl
 no_failure S (FailsToRead c) h = h
 no_failure S (FailsToWrite c) h = refl
 
-hearing_texts : (r r' : InputState) (h : Held) (given : List ℕ) (texts texts' : List (Option (List ℕ))) → texts ≡ texts' → Hearing r r' h given texts → Hearing r r' h given texts'
+hearing_texts : (r r' : InputState) (h : Held) (given : List ℕ) (texts texts' : List (Option (List ℕ))) → texts ≡ texts'
+    → Hearing r r' h given texts → Hearing r r' h given texts'
 hearing_texts r r' h given texts texts' e s = subst (λ (ts : List (Option (List ℕ))). Hearing r r' h given ts) e s
 
-others_hear : (S : Colour) (T : List Event) (e : Event) (U : List Event) (r r' r'' : InputState) (h h' : Held) (given : List ℕ) → IsTail U → is_heard_of S e ≡ false → (r'' ≡ r') × (h' ≡ h)
+others_hear : (S : Colour) (T : List Event) (e : Event) (U : List Event) (r r' r'' : InputState) (h h' : Held)
+    (given : List ℕ) → IsTail U → is_heard_of S e ≡ false → (r'' ≡ r') × (h' ≡ h)
     → IsHearing S T r r' h given → IsHearing S (T ++ e ∷ U) r r'' h' given
 others_hear S T e U r r' r'' h h' given t f (same, kept) s = record {
-  hearing = rw (same, kept) (hearing_texts r r' h given (lines_of S T) (lines_of S (T ++ e ∷ U)) (sym (lines_more S T e U t ∙ ap (λ ls. lines_of S T ++ ls) (no_line S e f) ∙ append-nil (lines_of S T))) s.hearing);
+  hearing = rw (same, kept)
+      (hearing_texts r r' h given (lines_of S T) (lines_of S (T ++ e ∷ U))
+      (sym (lines_more S T e U t ∙ ap (λ ls. lines_of S T ++ ls) (no_line S e f) ∙ append-nil (lines_of S T)))
+      s.hearing);
   unended = end_more S T e U t s.unended ∙ no_end S e f;
   unfailed = failure_more S T e U t s.unfailed ∙ no_failure S e f;
 }
@@ -114,44 +125,59 @@ is_stop (Line c t n) = false
 is_stop (Opened c n) = false
 is_stop (FailsToWrite c) = false
 
-still : (S : Colour) (T : List Event) (on : Bool) (r r' : InputState) (h : Held) (given : List ℕ) → IsHearing S T r r' h given → HeardSoFar S T on r r' h
+still : (S : Colour) (T : List Event) (on : Bool) (r r' : InputState) (h : Held) (given : List ℕ)
+    → IsHearing S T r r' h given → HeardSoFar S T on r r' h
 still S T on r r' h given s = (given, heard_still S T r r' h given s, λ e. s)
 
-own_heard : (S : Colour) (T : List Event) (e : Event) (U : List Event) (on : Bool) (r r' r'' : InputState) (h h' : Held) (given more : List ℕ) → IsTail U → is_heard_of S e ≡ true → (is_stop e ≡ true → on ≡ false)
-    → Consumes r'.known_bytes r''.known_bytes more → Tells e r' r'' h h' more → IsHearing S T r r' h given → HeardSoFar S (T ++ e ∷ U) on r r'' h'
+own_heard : (S : Colour) (T : List Event) (e : Event) (U : List Event) (on : Bool) (r r' r'' : InputState) (h h' : Held)
+    (given more : List ℕ) → IsTail U → is_heard_of S e ≡ true → (is_stop e ≡ true → on ≡ false)
+    → Consumes r'.known_bytes r''.known_bytes more → Tells e r' r'' h h' more → IsHearing S T r r' h given
+    → HeardSoFar S (T ++ e ∷ U) on r r'' h'
 own_heard S T (Line c text n) U on r r' r'' h h' given more t is stop b (line, got, same) s =
-    let texts : lines_of S T ++ text_heard line ∷ [] ≡ lines_of S (T ++ Line c text n ∷ U) = sym (lines_more S T (Line c text n) U t ∙ ap (λ (ls : List (Option (List ℕ))). lines_of S T ++ ls) (ap (λ b. if_line_of b text) is ∙ ap (λ (x : Option (List ℕ)). x ∷ []) same)) in
+    let texts : lines_of S T ++ text_heard line ∷ [] ≡ lines_of S (T ++ Line c text n ∷ U) =
+    sym (lines_more S T (Line c text n) U t ∙ ap (λ (ls : List (Option (List ℕ))). lines_of S T ++ ls)
+    (ap (λ b. if_line_of b text) is ∙ ap (λ (x : Option (List ℕ)). x ∷ []) same)) in
     still S (T ++ Line c text n ∷ U) on r r'' h' (given ++ more) (record {
-      hearing = hearing_texts r r'' h' (given ++ more) _ _ texts (hearing_more r r' r'' h h' given more (lines_of S T) line s.hearing b got);
+      hearing = hearing_texts r r'' h' (given ++ more) _ _ texts
+          (hearing_more r r' r'' h h' given more (lines_of S T) line s.hearing b got);
       unended = end_more S T (Line c text n) U t s.unended;
       unfailed = failure_more S T (Line c text n) U t s.unfailed;
     })
 own_heard S T (OutputEnds c) U on r r' r'' h h' given more t is stop b (inl (line, got)) s = (
   given ++ more,
-  heard_to_end S (T ++ OutputEnds c ∷ U) r r'' (given ++ more) (lines_of S T) (heard_last r r' r'' h h' given more (lines_of S T) line s.hearing b got)
-      (lines_more S T (OutputEnds c) U t ∙ append-nil (lines_of S T)) (end_more S T (OutputEnds c) U t s.unended ∙ is) (failure_more S T (OutputEnds c) U t s.unfailed),
+  heard_to_end S (T ++ OutputEnds c ∷ U) r r'' (given ++ more) (lines_of S T)
+      (heard_last r r' r'' h h' given more (lines_of S T) line s.hearing b got)
+      (lines_more S T (OutputEnds c) U t ∙ append-nil (lines_of S T)) (end_more S T (OutputEnds c) U t s.unended ∙ is)
+      (failure_more S T (OutputEnds c) U t s.unfailed),
   λ e. not_both on (stop refl) e,
 )
 own_heard S T (OutputEnds c) U on r r' r'' h h' given more t is stop b (inr got) s = (
   given ++ more,
-  heard_to_end S (T ++ OutputEnds c ∷ U) r r'' (given ++ more) (lines_of S T) (heard_none r r' r'' h h' given more (lines_of S T) s.hearing b got)
-      (lines_more S T (OutputEnds c) U t ∙ append-nil (lines_of S T)) (end_more S T (OutputEnds c) U t s.unended ∙ is) (failure_more S T (OutputEnds c) U t s.unfailed),
+  heard_to_end S (T ++ OutputEnds c ∷ U) r r'' (given ++ more) (lines_of S T)
+      (heard_none r r' r'' h h' given more (lines_of S T) s.hearing b got)
+      (lines_more S T (OutputEnds c) U t ∙ append-nil (lines_of S T)) (end_more S T (OutputEnds c) U t s.unended ∙ is)
+      (failure_more S T (OutputEnds c) U t s.unfailed),
   λ e. not_both on (stop refl) e,
 )
 own_heard S T (FailsToRead c) U on r r' r'' h h' given more t is stop b got s = (
   given ++ more,
-  heard_to_fault S (T ++ FailsToRead c ∷ U) r r'' (given ++ more) (lines_of S T) (heard_fault r r' r'' h h' given more (lines_of S T) s.hearing b got)
-      (lines_more S T (FailsToRead c) U t ∙ append-nil (lines_of S T)) (end_more S T (FailsToRead c) U t s.unended) (failure_more S T (FailsToRead c) U t s.unfailed ∙ is),
+  heard_to_fault S (T ++ FailsToRead c ∷ U) r r'' (given ++ more) (lines_of S T)
+      (heard_fault r r' r'' h h' given more (lines_of S T) s.hearing b got)
+      (lines_more S T (FailsToRead c) U t ∙ append-nil (lines_of S T)) (end_more S T (FailsToRead c) U t s.unended)
+      (failure_more S T (FailsToRead c) U t s.unfailed ∙ is),
   λ e. not_both on (stop refl) e,
 )
 own_heard S T (Opened c n) U on r r' r'' h h' given more t is stop b got s = absurd cc
 own_heard S T (FailsToWrite c) U on r r' r'' h h' given more t is stop b got s = absurd cc
 
 -- one event more, whosever it is
-pub heard_more : (S : Colour) (T : List Event) (e : Event) (U : List Event) (on : Bool) (r r' r'' : InputState) (h h' : Held) (given : List ℕ) → IsTail U → (is_stop e ≡ true → on ≡ false) → HearsAt S e r' r'' h h'
+pub heard_more : (S : Colour) (T : List Event) (e : Event) (U : List Event) (on : Bool) (r r' r'' : InputState)
+    (h h' : Held) (given : List ℕ) → IsTail U → (is_stop e ≡ true → on ≡ false) → HearsAt S e r' r'' h h'
     → IsHearing S T r r' h given → HeardSoFar S (T ++ e ∷ U) on r r'' h'
 heard_more S T e U on r r' r'' h h' given t stop hears s = by_whom (is_heard_of S e) refl hears
   where
-    by_whom : (b : Bool) → is_heard_of S e ≡ b → MatchBool b ((more : List ℕ) × Consumes r'.known_bytes r''.known_bytes more × Tells e r' r'' h h' more) ((r'' ≡ r') × (h' ≡ h)) → HeardSoFar S (T ++ e ∷ U) on r r'' h'
+    by_whom : (b : Bool) → is_heard_of S e ≡ b
+        → MatchBool b ((more : List ℕ) × Consumes r'.known_bytes r''.known_bytes more × Tells e r' r'' h h' more)
+        ((r'' ≡ r') × (h' ≡ h)) → HeardSoFar S (T ++ e ∷ U) on r r'' h'
     by_whom true is (more, b, tells) = own_heard S T e U on r r' r'' h h' given more t is stop b tells s
     by_whom false is same = still S (T ++ e ∷ U) on r r'' h' given (others_hear S T e U r r' r'' h h' given t is same s)

@@ -26,11 +26,16 @@ use Rattle.chess_match.proofs.Sane.{sane_over, sane_line}
 
 -- ---- by whether byte 10 ended the line
 
-by_ended : (P : Event → Type 0) (S : Colour) (line : LineSeen) (moment : ℕ) (b : Bool) → line.ended ≡ b → P (if b then Line S (text_heard line) moment else OutputEnds S) → P (if line.ended then Line S (text_heard line) moment else OutputEnds S)
-by_ended P S line moment b e p = subst (λ (x : Bool). P (if x then Line S (text_heard line) moment else OutputEnds S)) (sym e) p
+by_ended : (P : Event → Type 0) (S : Colour) (line : LineSeen) (moment : ℕ) (b : Bool) → line.ended ≡ b
+    → P (if b then Line S (text_heard line) moment else OutputEnds S)
+    → P (if line.ended then Line S (text_heard line) moment else OutputEnds S)
+by_ended P S line moment b e p = subst (λ (x : Bool). P (if x then Line S (text_heard line) moment else OutputEnds S))
+    (sym e) p
 
 -- a property of lines, ends and failures is one of what is heard
-pub heard_is : {E : Type 0} (P : Event → Type 0) (S : Colour) (moment : ℕ) (result : Result (Option LineSeen) E) → ((text : Option (List ℕ)) → P (Line S text moment)) → P (OutputEnds S) → P (FailsToRead S) → P (event_heard S moment result)
+pub heard_is : {E : Type 0} (P : Event → Type 0) (S : Colour) (moment : ℕ) (result : Result (Option LineSeen) E)
+    → ((text : Option (List ℕ)) → P (Line S text moment)) → P (OutputEnds S) → P (FailsToRead S)
+    → P (event_heard S moment result)
 heard_is P S moment (Err x) l e f = f
 heard_is P S moment (Ok None) l e f = e
 heard_is P S moment (Ok (Some line)) l e f = by_either line.ended refl
@@ -43,40 +48,58 @@ self : (c : Colour) → same_colour c c ≡ true
 self White = refl
 self Black = refl
 
-pub heard_of : {E : Type 0} (S : Colour) (moment : ℕ) (result : Result (Option LineSeen) E) → is_heard_of S (event_heard S moment result) ≡ true
+pub heard_of : {E : Type 0} (S : Colour) (moment : ℕ) (result : Result (Option LineSeen) E)
+    → is_heard_of S (event_heard S moment result) ≡ true
 heard_of S moment result = heard_is (λ e. is_heard_of S e ≡ true) S moment result (λ text. self S) (self S) (self S)
 
 another : (c : Colour) → same_colour c (other c) ≡ false
 another White = refl
 another Black = refl
 
-pub heard_of_none : {E : Type 0} (S : Colour) (moment : ℕ) (result : Result (Option LineSeen) E) → is_heard_of (other S) (event_heard S moment result) ≡ false
-heard_of_none S moment result = heard_is (λ e. is_heard_of (other S) e ≡ false) S moment result (λ text. another S) (another S) (another S)
+pub heard_of_none : {E : Type 0} (S : Colour) (moment : ℕ) (result : Result (Option LineSeen) E)
+    → is_heard_of (other S) (event_heard S moment result) ≡ false
+heard_of_none S moment result = heard_is (λ e. is_heard_of (other S) e ≡ false) S moment result (λ text. another S)
+    (another S) (another S)
 
-pub heard_fits : {E : Type 0} (m : Match) (S : Colour) (moment : ℕ) (result : Result (Option LineSeen) E) → reads m.phase S ≡ true → fits_next nothing_due m (event_heard S moment result) ≡ true
+pub heard_fits : {E : Type 0} (m : Match) (S : Colour) (moment : ℕ) (result : Result (Option LineSeen) E)
+    → reads m.phase S ≡ true → fits_next nothing_due m (event_heard S moment result) ≡ true
 heard_fits m S moment result h = heard_is (λ e. fits_next nothing_due m e ≡ true) S moment result (λ text. h) h h
 
-pub heard_sane : {E : Type 0} (r : Rules) (m : Match) (S : Colour) (moment : ℕ) (result : Result (Option LineSeen) E) → IsSane r m → IsSane r (after r m (event_heard S moment result))
-heard_sane r m S moment result s = heard_is (λ e. IsSane r (after r m e)) S moment result (λ text. sane_line r m S text moment s) (sane_over r m _ s) (sane_over r m _ s)
+pub heard_sane : {E : Type 0} (r : Rules) (m : Match) (S : Colour) (moment : ℕ) (result : Result (Option LineSeen) E)
+    → IsSane r m → IsSane r (after r m (event_heard S moment result))
+heard_sane r m S moment result s = heard_is (λ e. IsSane r (after r m e)) S moment result
+    (λ text. sane_line r m S text moment s) (sane_over r m _ s) (sane_over r m _ s)
 
 -- ---- what it was told by
 
-hears_as : (S : Colour) (e : Event) (r r' : InputState) (h h' : Held) (more : List ℕ) → is_heard_of S e ≡ true → Consumes r.known_bytes r'.known_bytes more → Tells e r r' h h' more → HearsAt S e r r' h h'
+hears_as : (S : Colour) (e : Event) (r r' : InputState) (h h' : Held) (more : List ℕ) → is_heard_of S e ≡ true
+    → Consumes r.known_bytes r'.known_bytes more → Tells e r r' h h' more → HearsAt S e r r' h h'
 hears_as S e r r' h h' more is b t =
-    subst (λ (x : Bool). MatchBool x ((given : List ℕ) × Consumes r.known_bytes r'.known_bytes given × Tells e r r' h h' given) ((r' ≡ r) × (h' ≡ h))) (sym is) (more, b, t)
+    subst (λ (x : Bool). MatchBool x
+    ((given : List ℕ) × Consumes r.known_bytes r'.known_bytes given × Tells e r r' h h' given)
+    ((r' ≡ r) × (h' ≡ h))) (sym is) (more, b, t)
 
-pub own_hears : {E : Type 0} (S : Colour) (moment : ℕ) (r r' : InputState) (h h' : Held) (result : Result (Option LineSeen) E) → NextLine 8192 r r' h h' result → HearsAt S (event_heard S moment result) r r' h h'
+pub own_hears : {E : Type 0} (S : Colour) (moment : ℕ) (r r' : InputState) (h h' : Held)
+    (result : Result (Option LineSeen) E) → NextLine 8192 r r' h h' result
+    → HearsAt S (event_heard S moment result) r r' h h'
 own_hears S moment r r' h h' (Err x) (more, b, w, got) = hears_as S (FailsToRead S) r r' h h' more (self S) b got
 own_hears S moment r r' h h' (Ok None) (more, b, w, got) = hears_as S (OutputEnds S) r r' h h' more (self S) b (inr got)
 own_hears S moment r r' h h' (Ok (Some line)) (more, b, w, got) = by_whether line.ended refl got
   where
-    by_whether : (x : Bool) → line.ended ≡ x → MatchBool x (GotLine 8192 r r' h h' more line) (GotLast 8192 r r' h h' more line) → HearsAt S (if line.ended then Line S (text_heard line) moment else OutputEnds S) r r' h h'
-    by_whether true e g = by_ended (λ v. HearsAt S v r r' h h') S line moment true e (hears_as S (Line S (text_heard line) moment) r r' h h' more (self S) b (line, g, refl))
-    by_whether false e g = by_ended (λ v. HearsAt S v r r' h h') S line moment false e (hears_as S (OutputEnds S) r r' h h' more (self S) b (inl (line, g)))
+    by_whether : (x : Bool) → line.ended ≡ x
+        → MatchBool x (GotLine 8192 r r' h h' more line) (GotLast 8192 r r' h h' more line)
+        → HearsAt S (if line.ended then Line S (text_heard line) moment else OutputEnds S) r r' h h'
+    by_whether true e g = by_ended (λ v. HearsAt S v r r' h h') S line moment true e
+        (hears_as S (Line S (text_heard line) moment) r r' h h' more (self S) b (line, g, refl))
+    by_whether false e g = by_ended (λ v. HearsAt S v r r' h h') S line moment false e
+        (hears_as S (OutputEnds S) r r' h h' more (self S) b (inl (line, g)))
 
-pub others_hear_none : (S : Colour) (e : Event) (r r' : InputState) (h h' : Held) → is_heard_of S e ≡ false → r' ≡ r → h' ≡ h → HearsAt S e r r' h h'
+pub others_hear_none : (S : Colour) (e : Event) (r r' : InputState) (h h' : Held) → is_heard_of S e ≡ false → r' ≡ r
+    → h' ≡ h → HearsAt S e r r' h h'
 others_hear_none S e r r' h h' is same kept =
-    subst (λ (x : Bool). MatchBool x ((given : List ℕ) × Consumes r.known_bytes r'.known_bytes given × Tells e r r' h h' given) ((r' ≡ r) × (h' ≡ h))) (sym is) (same, kept)
+    subst (λ (x : Bool). MatchBool x
+    ((given : List ℕ) × Consumes r.known_bytes r'.known_bytes given × Tells e r r' h h' given)
+    ((r' ≡ r) × (h' ≡ h))) (sym is) (same, kept)
 
 -- ---- what is left to do
 
@@ -110,7 +133,8 @@ opened_less p S n h = omega (arith, two_steps p S n h)
 line_less : (p p' : Phase) (S : Colour) (n n' : ℕ) → reads p S ≡ true → n' < n → steps_left p' n' < steps_left p n
 line_less p p' S n n' h less = omega (arith, a_step p S n h, few_steps p' n', less)
 
-over_less : (p p' : Phase) (S : Colour) (n n' : ℕ) → reads p S ≡ true → is_on p' ≡ false → steps_left p' n' < steps_left p n
+over_less : (p p' : Phase) (S : Colour) (n n' : ℕ) → reads p S ≡ true → is_on p' ≡ false
+    → steps_left p' n' < steps_left p n
 over_less p (Over x) S n n' h o = omega (arith, a_step p S n h)
 over_less p (Hello c) S n n' h o = absurd cc
 over_less p (Setup c) S n n' h o = absurd cc
@@ -119,26 +143,43 @@ over_less p (Before c) S n n' h o = absurd cc
 over_less p (After c) S n n' h o = absurd cc
 
 -- of what one engine can still give, a line takes something
-one_less : (S : Colour) (f f' : Colour → ℕ) → f' S < f S → f' (other S) ≡ f (other S) → f' White + f' Black < f White + f Black
+one_less : (S : Colour) (f f' : Colour → ℕ) → f' S < f S → f' (other S) ≡ f (other S)
+    → f' White + f' Black < f White + f Black
 one_less White f f' l e = omega (arith, l, e)
 one_less Black f f' l e = omega (arith, l, e)
 
-over_after : (r : Rules) (core : Core) (played : List Move) (m : Match) (due : Colour → List SentLine) (first : Colour) (w w' : Colour → OutputState) (failed : Colour → Bool) → is_on m.phase ≡ false
+over_after : (r : Rules) (core : Core) (played : List Move) (m : Match) (due : Colour → List SentLine) (first : Colour)
+    (w w' : Colour → OutputState) (failed : Colour → Bool) → is_on m.phase ≡ false
     → Delivered r core played m due first w w' failed → is_on core.phase ≡ false
 over_after r core played m due first w w' failed o (inl s) = ap is_on s.stands.phase ∙ o
 over_after r core played m due first w w' failed o (inr (c, s)) = ap is_on s.stands.phase
 
-pub heard_less : {E : Type 0} (r : Rules) (p : Phase) (core : Core) (played : List Move) (m : Match) (S : Colour) (moment : ℕ) (result : Result (Option LineSeen) E) (due : Colour → List SentLine) (n n' : Colour → InputState) (h h' : Colour → Held) (w w' : Colour → OutputState) (failed : Colour → Bool)
-    → reads p S ≡ true → NextLine 8192 (n S) (n' S) (h S) (h' S) result → n' (other S) ≡ n (other S) → h' (other S) ≡ h (other S)
+pub heard_less : {E : Type 0} (r : Rules) (p : Phase) (core : Core) (played : List Move) (m : Match) (S : Colour)
+    (moment : ℕ) (result : Result (Option LineSeen) E) (due : Colour → List SentLine) (n n' : Colour → InputState)
+    (h h' : Colour → Held) (w w' : Colour → OutputState) (failed : Colour → Bool)
+    → reads p S ≡ true → NextLine 8192 (n S) (n' S) (h S) (h' S) result → n' (other S) ≡ n (other S)
+    → h' (other S) ≡ h (other S)
     → Delivered r core played (after r m (event_heard S moment result)) due S w w' failed
-    → steps_left core.phase (work (n' White) (h' White) + work (n' Black) (h' Black)) < steps_left p (work (n White) (h White) + work (n Black) (h Black))
-heard_less r p core played m S moment (Err x) due n n' h h' w w' failed reading (more, b, waits, got) same kept d = over_less p core.phase S _ _ reading (over_after r core played _ due S w w' failed refl d)
-heard_less r p core played m S moment (Ok None) due n n' h h' w w' failed reading (more, b, waits, got) same kept d = over_less p core.phase S _ _ reading (over_after r core played _ due S w w' failed refl d)
-heard_less r p core played m S moment (Ok (Some line)) due n n' h h' w w' failed reading (more, b, waits, got) same kept d = by_whether line.ended refl got
+    → steps_left core.phase (work (n' White) (h' White) + work (n' Black) (h' Black)) < steps_left p
+    (work (n White) (h White) + work (n Black) (h Black))
+heard_less r p core played m S moment (Err x) due n n' h h' w w' failed reading (more, b, waits, got) same kept d =
+    over_less p core.phase S _ _ reading (over_after r core played _ due S w w' failed refl d)
+heard_less r p core played m S moment (Ok None) due n n' h h' w w' failed reading (more, b, waits, got) same kept d =
+    over_less p core.phase S _ _ reading (over_after r core played _ due S w w' failed refl d)
+heard_less r p core played m S moment (Ok (Some line)) due n n' h h' w w' failed reading (more, b, waits, got) same kept
+    d = by_whether line.ended refl got
   where
-    by_whether : (x : Bool) → line.ended ≡ x → MatchBool x (GotLine 8192 (n S) (n' S) (h S) (h' S) more line) (GotLast 8192 (n S) (n' S) (h S) (h' S) more line)
-        → steps_left core.phase (work (n' White) (h' White) + work (n' Black) (h' Black)) < steps_left p (work (n White) (h White) + work (n Black) (h Black))
+    by_whether : (x : Bool) → line.ended ≡ x → MatchBool x (GotLine 8192 (n S) (n' S) (h S) (h' S) more line)
+        (GotLast 8192 (n S) (n' S) (h S) (h' S) more line)
+        → steps_left core.phase (work (n' White) (h' White) + work (n' Black) (h' Black)) < steps_left p
+        (work (n White) (h White) + work (n Black) (h Black))
     by_whether true e g =
-        line_less p core.phase S _ _ reading (one_less S (λ X. work (n X) (h X)) (λ X. work (n' X) (h' X)) g.falls (ap (λ (v : InputState). work v (h' (other S))) same ∙ ap (λ (v : Held). work (n (other S)) v) kept))
+        line_less p core.phase S _ _ reading
+        (one_less S (λ X. work (n X) (h X)) (λ X. work (n' X) (h' X)) g.falls
+        (ap (λ (v : InputState). work v (h' (other S))) same ∙ ap (λ (v : Held). work (n (other S)) v) kept))
     by_whether false e g =
-        over_less p core.phase S _ _ reading (over_after r core played _ due S w w' failed refl (subst (λ (v : Bool). Delivered r core played (after r m (if v then Line S (text_heard line) moment else OutputEnds S)) due S w w' failed) e d))
+        over_less p core.phase S _ _ reading
+        (over_after r core played _ due S w w' failed refl
+        (subst (λ (v : Bool).
+        Delivered r core played (after r m (if v then Line S (text_heard line) moment else OutputEnds S)) due S w w'
+        failed) e d))

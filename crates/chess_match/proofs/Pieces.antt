@@ -6,7 +6,8 @@ use Rattle.std.proofs.Math.Seq.{take-suc}
 use Rattle.std.proofs.lemmas.List.{drop_more}
 use Rattle.chess_match.specs.Items.{has_word_behind, is_comma_or_blank}
 
-piece_more : (text : List ℕ) (from at : ℕ) → from ≤ at → at < length text → take (at + 1 - from) (drop from text) ≡ take (at - from) (drop from text) ++ get_or text at 0 ∷ []
+piece_more : (text : List ℕ) (from at : ℕ) → from ≤ at → at < length text
+    → take (at + 1 - from) (drop from text) ≡ take (at - from) (drop from text) ++ get_or text at 0 ∷ []
 piece_more text zero at o h =
     let more : at + 1 - 0 ≡ suc at = omega arith in
     let less : at - 0 ≡ at = omega arith in
@@ -19,12 +20,15 @@ piece_more (c ∷ cs) (suc from) (suc at) o h =
     rw (more, less) (piece_more cs from at (omega (arith, o)) (omega (arith, h)))
 
 by_byte : (word piece : List ℕ) (c : ℕ) (cs : List ℕ) (b : Bool) → is_comma_or_blank c ≡ b
-    → has_word_behind word piece (c ∷ cs) ≡ (if b then bytes_eq piece word || has_word_behind word [] cs else has_word_behind word (piece ++ c ∷ []) cs)
+    → has_word_behind word piece (c ∷ cs)
+    ≡ (if b then bytes_eq piece word || has_word_behind word [] cs else has_word_behind word (piece ++ c ∷ []) cs)
 by_byte word piece c cs b e = rw e refl
 
 -- a byte of a piece
-pub over_byte : (word text : List ℕ) (from at : ℕ) → from ≤ at → at < length text → is_comma_or_blank (get_or text at 0) ≡ false
-    → has_word_behind word (take (at - from) (drop from text)) (drop at text) ≡ has_word_behind word (take (at + 1 - from) (drop from text)) (drop (at + 1) text)
+pub over_byte : (word text : List ℕ) (from at : ℕ) → from ≤ at → at < length text
+    → is_comma_or_blank (get_or text at 0) ≡ false
+    → has_word_behind word (take (at - from) (drop from text)) (drop at text) ≡ has_word_behind word
+    (take (at + 1 - from) (drop from text)) (drop (at + 1) text)
 over_byte word text from at o h e =
     ap (λ (rest : List ℕ). has_word_behind word (take (at - from) (drop from text)) rest) (drop_more text at 0 h)
     ∙ by_byte word (take (at - from) (drop from text)) (get_or text at 0) (drop (at + 1) text) false e
@@ -34,10 +38,13 @@ nothing_taken : (n : ℕ) (xs : List ℕ) → take (n - n) xs ≡ []
 nothing_taken n xs = let e : n - n ≡ 0 = omega arith in rw e refl
 
 -- a byte behind a piece that isn't the word
-pub over_mark : (word text : List ℕ) (from at : ℕ) → at < length text → is_comma_or_blank (get_or text at 0) ≡ true → bytes_eq (take (at - from) (drop from text)) word ≡ false
-    → has_word_behind word (take (at - from) (drop from text)) (drop at text) ≡ has_word_behind word (take (at + 1 - (at + 1)) (drop (at + 1) text)) (drop (at + 1) text)
+pub over_mark : (word text : List ℕ) (from at : ℕ) → at < length text → is_comma_or_blank (get_or text at 0) ≡ true
+    → bytes_eq (take (at - from) (drop from text)) word ≡ false
+    → has_word_behind word (take (at - from) (drop from text)) (drop at text) ≡ has_word_behind word
+    (take (at + 1 - (at + 1)) (drop (at + 1) text)) (drop (at + 1) text)
 over_mark word text from at h e other =
     ap (λ (rest : List ℕ). has_word_behind word (take (at - from) (drop from text)) rest) (drop_more text at 0 h)
     ∙ by_byte word (take (at - from) (drop from text)) (get_or text at 0) (drop (at + 1) text) true e
     ∙ ap (λ b. b || has_word_behind word [] (drop (at + 1) text)) other
-    ∙ ap (λ (piece : List ℕ). has_word_behind word piece (drop (at + 1) text)) (sym (nothing_taken (at + 1) (drop (at + 1) text)))
+    ∙ ap (λ (piece : List ℕ). has_word_behind word piece (drop (at + 1) text))
+    (sym (nothing_taken (at + 1) (drop (at + 1) text)))

@@ -34,41 +34,66 @@ pub rules_level : (begin : Setup) (level : LevelSeen) (limit : ℕ) → (rules_o
 unfolding rules_of
 rules_level begin level limit = refl
 
-pub plays_anew : (g h : game.Seen) (begin : Setup) (level : LevelSeen) → h ≡ game.at g (from_start begin) → Plays h (rules_of begin level g.limit)
-plays_anew g h begin level e = subst (λ (x : game.Seen). Plays x (rules_of begin level g.limit)) (sym e) (level, refl, refl)
+pub plays_anew : (g h : game.Seen) (begin : Setup) (level : LevelSeen) → h ≡ game.at g (from_start begin)
+    → Plays h (rules_of begin level g.limit)
+plays_anew g h begin level e = subst (λ (x : game.Seen). Plays x (rules_of begin level g.limit)) (sym e)
+    (level, refl, refl)
 
-pub plays_on : (g h : game.Seen) (begin : Setup) (level : LevelSeen) → h.state.start ≡ begin → h.limit ≡ g.limit → h.state.declared ≡ None → Plays h (rules_of begin level g.limit)
-plays_on g h begin level s l d =
-    (level, ap (λ (x : Setup). rules_of x level g.limit) (sym s) ∙ ap (λ (n : ℕ). rules_of h.state.start level n) (sym l), d)
+pub plays_on : (g h : game.Seen) (begin : Setup) (level : LevelSeen) → h.state.start ≡ begin → h.limit ≡ g.limit
+    → h.state.declared ≡ None → Plays h (rules_of begin level g.limit)
+plays_on g h begin level s l d = (
+  level,
+  ap (λ (x : Setup). rules_of x level g.limit) (sym s)
+      ∙ ap (λ (n : ℕ). rules_of h.state.start level n) (sym l),
+  d,
+)
 
-entry_given : (r : Rules) (items : List Item) (S : Colour) → given_block r (record { answers = None; draw = None; entered = true }) items start S ≡ entry r start S
+entry_given : (r : Rules) (items : List Item) (S : Colour)
+    → given_block r (record { answers = None; draw = None; entered = true }) items start S ≡ entry r start S
 unfolding given_block
 entry_given r items S = refl
 
-pub begun : (r : Rules) (core : Core) (played : List Move) (items : List Item) (failed : Colour → Bool) (n : Colour → InputState) (held : Colour → Held) (w w' : Colour → OutputState) (coming : ℕ → Option ℕ) → ((S : Colour) → held S ≡ nothing_held)
-    → Delivered r core played start (given_block r (record { answers = None; draw = None; entered = true }) items start) White w w' failed → (T : List Event) × IsUnderWay r T core played failed n n held w w' coming coming
+pub begun : (r : Rules) (core : Core) (played : List Move) (items : List Item) (failed : Colour → Bool)
+    (n : Colour → InputState) (held : Colour → Held) (w w' : Colour → OutputState) (coming : ℕ → Option ℕ)
+    → ((S : Colour) → held S ≡ nothing_held)
+    → Delivered r core played start (given_block r (record { answers = None; draw = None; entered = true }) items start)
+    White w w' failed → (T : List Event) × IsUnderWay r T core played failed n n held w w' coming coming
 begun r core played items failed n held w w' coming none d =
-    started r core played failed n held w w' coming none (delivered_by r core played start (given_block r (record { answers = None; draw = None; entered = true }) items start) (λ S. entry r start S) White w w' failed (entry_given r items) d)
+    started r core played failed n held w w' coming none
+    (delivered_by r core played start
+    (given_block r (record { answers = None; draw = None; entered = true }) items start) (λ S. entry r start S)
+    White w w' failed (entry_given r items) d)
 
 -- ---- a line, an end, or a read that failed
 
-pub heard_on : {E : Type 0} (r : Rules) (T : List Event) (S : Colour) (moment : ℕ) (result : Result (Option LineSeen) E) (core core' : Core) (played played' : List Move) (failed failed' : Colour → Bool) (n n' n'' : Colour → InputState) (held held' : Colour → Held)
-    (w w' w'' : Colour → OutputState) (coming coming' coming'' : ℕ → Option ℕ) → IsUnderWay r T core played failed n n' held w w' coming coming' → reads core.phase S ≡ true
-    → NextLine 8192 (n' S) (n'' S) (held S) (held' S) result → n'' (other S) ≡ n' (other S) → held' (other S) ≡ held (other S)
+pub heard_on : {E : Type 0} (r : Rules) (T : List Event) (S : Colour) (moment : ℕ) (result : Result (Option LineSeen) E)
+    (core core' : Core) (played played' : List Move) (failed failed' : Colour → Bool) (n n' n'' : Colour → InputState)
+    (held held' : Colour → Held)
+    (w w' w'' : Colour → OutputState) (coming coming' coming'' : ℕ → Option ℕ)
+    → IsUnderWay r T core played failed n n' held w w' coming coming' → reads core.phase S ≡ true
+    → NextLine 8192 (n' S) (n'' S) (held S) (held' S) result → n'' (other S) ≡ n' (other S)
+    → held' (other S) ≡ held (other S)
     → Asked coming' coming'' (moment_in (event_heard S moment result))
-    → Delivered r core' played' (after r (match_of r T) (event_heard S moment result)) (block r (match_of r T) (after r (match_of r T) (event_heard S moment result))) S w' w'' failed'
+    → Delivered r core' played' (after r (match_of r T) (event_heard S moment result))
+    (block r (match_of r T) (after r (match_of r T) (event_heard S moment result))) S w' w'' failed'
     → (T' : List Event) × IsUnderWay r T' core' played' failed' n n'' held' w w'' coming coming''
-heard_on r T S moment result core core' played played' failed failed' n n' n'' held held' w w' w'' coming coming' coming'' u reading next same kept asked d =
+heard_on r T S moment result core core' played played' failed failed' n n' n'' held held' w w' w'' coming coming'
+    coming'' u reading next same kept asked d =
     let e : Event = event_heard S moment result in
     let m : Match = match_of r T in
     let reading' : reads m.phase S ≡ true = ap (λ (p : Phase). reads p S) (sym u.stands.phase) ∙ reading in
-    event_step r T e S core core' played played' failed failed' n n' n'' held held' w w' w'' coming coming' coming'' u (heard_of S moment result) (reads_on m.phase S reading')
+    event_step r T e S core core' played played' failed failed' n n' n'' held held' w w' w'' coming coming' coming'' u
+    (heard_of S moment result) (reads_on m.phase S reading')
     (heard_fits m S moment result reading') (heard_sane r m S moment result u.sane)
-    (by_either (λ X. HearsAt X e (n' X) (n'' X) (held X) (held' X)) S (own_hears S moment (n' S) (n'' S) (held S) (held' S) result next)
-    (others_hear_none (other S) e (n' (other S)) (n'' (other S)) (held (other S)) (held' (other S)) (heard_of_none S moment result) same kept))
+    (by_either (λ X. HearsAt X e (n' X) (n'' X) (held X) (held' X)) S
+    (own_hears S moment (n' S) (n'' S) (held S) (held' S) result next)
+    (others_hear_none (other S) e (n' (other S)) (n'' (other S)) (held (other S)) (held' (other S))
+    (heard_of_none S moment result) same kept))
     asked d
 
 -- ---- what is left to do
 
-pub opened_left : (core core' : Core) (S : Colour) (n : ℕ) → opens core.phase S ≡ true → core'.phase ≡ Before S → steps_left core'.phase n < steps_left core.phase n
-opened_left core core' S n h e = subst (λ (p : Phase). steps_left p n < steps_left core.phase n) (sym e) (opened_less core.phase S n h)
+pub opened_left : (core core' : Core) (S : Colour) (n : ℕ) → opens core.phase S ≡ true → core'.phase ≡ Before S
+    → steps_left core'.phase n < steps_left core.phase n
+opened_left core core' S n h e = subst (λ (p : Phase). steps_left p n < steps_left core.phase n) (sym e)
+    (opened_less core.phase S n h)

@@ -21,7 +21,8 @@ is_sound (OutputEnds c) = true
 is_sound (FailsToRead c) = true
 is_sound (FailsToWrite c) = false
 
-pub match_from-append : (r : Rules) (m : Match) (T U : List Event) → match_from r m (T ++ U) ≡ match_from r (match_from r m T) U
+pub match_from-append : (r : Rules) (m : Match) (T U : List Event)
+    → match_from r m (T ++ U) ≡ match_from r (match_from r m T) U
 match_from-append r m [] U = refl
 match_from-append r m (x ∷ T) U = match_from-append r (after r m x) T U
 
@@ -32,11 +33,13 @@ match_of-append r T U = match_from-append r start T U
 
 lines_of-append : (S : Colour) (T U : List Event) → lines_of S (T ++ U) ≡ lines_of S T ++ lines_of S U
 lines_of-append S [] U = refl
-lines_of-append S (x ∷ T) U = ap (λ ls. line_in S x ++ ls) (lines_of-append S T U) ∙ sym (append_assoc (line_in S x) (lines_of S T) (lines_of S U))
+lines_of-append S (x ∷ T) U = ap (λ ls. line_in S x ++ ls) (lines_of-append S T U)
+    ∙ sym (append_assoc (line_in S x) (lines_of S T) (lines_of S U))
 
 moments_of-append : (T U : List Event) → moments_of (T ++ U) ≡ moments_of T ++ moments_of U
 moments_of-append [] U = refl
-moments_of-append (x ∷ T) U = ap (λ ls. moment_in x ++ ls) (moments_of-append T U) ∙ sym (append_assoc (moment_in x) (moments_of T) (moments_of U))
+moments_of-append (x ∷ T) U = ap (λ ls. moment_in x ++ ls) (moments_of-append T U)
+    ∙ sym (append_assoc (moment_in x) (moments_of T) (moments_of U))
 
 or_assoc : (a b c : Bool) → a || (b || c) ≡ (a || b) || c
 or_assoc true b c = refl
@@ -48,15 +51,20 @@ or_false false = refl
 
 has_end-append : (S : Colour) (T U : List Event) → has_end S (T ++ U) ≡ has_end S T || has_end S U
 has_end-append S [] U = refl
-has_end-append S (x ∷ T) U = ap (λ b. is_end_of S x || b) (has_end-append S T U) ∙ or_assoc (is_end_of S x) (has_end S T) (has_end S U)
+has_end-append S (x ∷ T) U = ap (λ b. is_end_of S x || b) (has_end-append S T U)
+    ∙ or_assoc (is_end_of S x) (has_end S T) (has_end S U)
 
-has_read_failure-append : (S : Colour) (T U : List Event) → has_read_failure S (T ++ U) ≡ has_read_failure S T || has_read_failure S U
+has_read_failure-append : (S : Colour) (T U : List Event) → has_read_failure S (T ++ U) ≡ has_read_failure S T
+    || has_read_failure S U
 has_read_failure-append S [] U = refl
-has_read_failure-append S (x ∷ T) U = ap (λ b. is_read_failure_of S x || b) (has_read_failure-append S T U) ∙ or_assoc (is_read_failure_of S x) (has_read_failure S T) (has_read_failure S U)
+has_read_failure-append S (x ∷ T) U = ap (λ b. is_read_failure_of S x || b) (has_read_failure-append S T U)
+    ∙ or_assoc (is_read_failure_of S x) (has_read_failure S T) (has_read_failure S U)
 
-pub has_write_failure-append : (S : Colour) (T U : List Event) → has_write_failure S (T ++ U) ≡ has_write_failure S T || has_write_failure S U
+pub has_write_failure-append : (S : Colour) (T U : List Event) → has_write_failure S (T ++ U) ≡ has_write_failure S T
+    || has_write_failure S U
 has_write_failure-append S [] U = refl
-has_write_failure-append S (x ∷ T) U = ap (λ b. fails_at x S || b) (has_write_failure-append S T U) ∙ or_assoc (fails_at x S) (has_write_failure S T) (has_write_failure S U)
+has_write_failure-append S (x ∷ T) U = ap (λ b. fails_at x S || b) (has_write_failure-append S T U)
+    ∙ or_assoc (fails_at x S) (has_write_failure S T) (has_write_failure S U)
 
 -- nothing was heard in what follows
 pub record IsTail (U : List Event) : Type 0 where
@@ -71,18 +79,26 @@ no_tail = record { lines = λ S. refl; moments = refl; ends = λ S. refl; failur
 pub failed_tail : (c : Colour) → IsTail (FailsToWrite c ∷ [])
 failed_tail c = record { lines = λ S. refl; moments = refl; ends = λ S. refl; failures = λ S. refl }
 
-pub lines_more : (S : Colour) (T : List Event) (e : Event) (U : List Event) → IsTail U → lines_of S (T ++ e ∷ U) ≡ lines_of S T ++ line_in S e
-lines_more S T e U t = lines_of-append S T (e ∷ U) ∙ ap (λ ls. lines_of S T ++ ls) (ap (λ ls. line_in S e ++ ls) (t.lines S) ∙ append-nil (line_in S e))
+pub lines_more : (S : Colour) (T : List Event) (e : Event) (U : List Event) → IsTail U
+    → lines_of S (T ++ e ∷ U) ≡ lines_of S T ++ line_in S e
+lines_more S T e U t = lines_of-append S T (e ∷ U)
+    ∙ ap (λ ls. lines_of S T ++ ls) (ap (λ ls. line_in S e ++ ls) (t.lines S) ∙ append-nil (line_in S e))
 
-pub moments_more : (T : List Event) (e : Event) (U : List Event) → IsTail U → moments_of (T ++ e ∷ U) ≡ moments_of T ++ moment_in e
-moments_more T e U t = moments_of-append T (e ∷ U) ∙ ap (λ ls. moments_of T ++ ls) (ap (λ ls. moment_in e ++ ls) t.moments ∙ append-nil (moment_in e))
+pub moments_more : (T : List Event) (e : Event) (U : List Event) → IsTail U → moments_of (T ++ e ∷ U) ≡ moments_of T
+    ++ moment_in e
+moments_more T e U t = moments_of-append T (e ∷ U)
+    ∙ ap (λ ls. moments_of T ++ ls) (ap (λ ls. moment_in e ++ ls) t.moments ∙ append-nil (moment_in e))
 
-pub end_more : (S : Colour) (T : List Event) (e : Event) (U : List Event) → IsTail U → has_end S T ≡ false → has_end S (T ++ e ∷ U) ≡ is_end_of S e
-end_more S T e U t f = has_end-append S T (e ∷ U) ∙ ap (λ b. b || (is_end_of S e || has_end S U)) f ∙ ap (λ b. is_end_of S e || b) (t.ends S) ∙ or_false (is_end_of S e)
+pub end_more : (S : Colour) (T : List Event) (e : Event) (U : List Event) → IsTail U → has_end S T ≡ false
+    → has_end S (T ++ e ∷ U) ≡ is_end_of S e
+end_more S T e U t f = has_end-append S T (e ∷ U) ∙ ap (λ b. b || (is_end_of S e || has_end S U)) f
+    ∙ ap (λ b. is_end_of S e || b) (t.ends S) ∙ or_false (is_end_of S e)
 
-pub failure_more : (S : Colour) (T : List Event) (e : Event) (U : List Event) → IsTail U → has_read_failure S T ≡ false → has_read_failure S (T ++ e ∷ U) ≡ is_read_failure_of S e
+pub failure_more : (S : Colour) (T : List Event) (e : Event) (U : List Event) → IsTail U → has_read_failure S T ≡ false
+    → has_read_failure S (T ++ e ∷ U) ≡ is_read_failure_of S e
 failure_more S T e U t f =
-    has_read_failure-append S T (e ∷ U) ∙ ap (λ b. b || (is_read_failure_of S e || has_read_failure S U)) f ∙ ap (λ b. is_read_failure_of S e || b) (t.failures S) ∙ or_false (is_read_failure_of S e)
+    has_read_failure-append S T (e ∷ U) ∙ ap (λ b. b || (is_read_failure_of S e || has_read_failure S U)) f
+    ∙ ap (λ b. is_read_failure_of S e || b) (t.failures S) ∙ or_false (is_read_failure_of S e)
 
 -- ---- what fits
 
@@ -93,21 +109,26 @@ both : (a b : Bool) → a && b ≡ true → (a ≡ true) × (b ≡ true)
 both true b h = (refl, h)
 both false b h = cc
 
-due_alike : (due other_due : Colour → List SentLine) (m : Match) (e : Event) → is_sound e ≡ true → fits_next due m e ≡ fits_next other_due m e
+due_alike : (due other_due : Colour → List SentLine) (m : Match) (e : Event) → is_sound e ≡ true
+    → fits_next due m e ≡ fits_next other_due m e
 due_alike due other_due m (Line c t n) h = refl
 due_alike due other_due m (Opened c n) h = refl
 due_alike due other_due m (OutputEnds c) h = refl
 due_alike due other_due m (FailsToRead c) h = refl
 due_alike due other_due m (FailsToWrite c) h = cc
 
-fits_from-append : (r : Rules) (due : Colour → List SentLine) (m : Match) (T : List Event) (e : Event) (U : List Event) → is_sound e ≡ true
-    → fits_from r due m T ≡ true → fits_from r nothing_due (match_from r m T) (e ∷ U) ≡ true → fits_from r due m (T ++ e ∷ U) ≡ true
+fits_from-append : (r : Rules) (due : Colour → List SentLine) (m : Match) (T : List Event) (e : Event) (U : List Event)
+    → is_sound e ≡ true
+    → fits_from r due m T ≡ true → fits_from r nothing_due (match_from r m T) (e ∷ U) ≡ true
+    → fits_from r due m (T ++ e ∷ U) ≡ true
 fits_from-append r due m [] e U h f n = rw (due_alike due nothing_due m e h) n
 fits_from-append r due m (x ∷ T) e U h f n =
-    let parts : (fits_next due m x ≡ true) × (fits_from r (block r m (after r m x)) (after r m x) T ≡ true) = both (fits_next due m x) _ f in
+    let parts : (fits_next due m x ≡ true) × (fits_from r (block r m (after r m x)) (after r m x) T ≡ true) =
+    both (fits_next due m x) _ f in
     rw (parts.0) (fits_from-append r (block r m (after r m x)) (after r m x) T e U h parts.1 n)
 
-pub fits-append : (r : Rules) (T : List Event) (e : Event) (U : List Event) → is_sound e ≡ true → fits r T ≡ true → fits_from r nothing_due (match_of r T) (e ∷ U) ≡ true → fits r (T ++ e ∷ U) ≡ true
+pub fits-append : (r : Rules) (T : List Event) (e : Event) (U : List Event) → is_sound e ≡ true → fits r T ≡ true
+    → fits_from r nothing_due (match_of r T) (e ∷ U) ≡ true → fits r (T ++ e ∷ U) ≡ true
 fits-append r T e U h f n = fits_from-append r (entry r start) start T e U h f n
 
 -- ---- blocks
@@ -141,26 +162,34 @@ kept_at (OutputEnds c) e U S h = refl
 kept_at (FailsToRead c) e U S h = refl
 kept_at (FailsToWrite c) e U S h = refl
 
-same_at : (r : Rules) (m : Match) (x e : Event) (U : List Event) (S : Colour) → is_sound e ≡ true → block_at r m x (e ∷ U) S ≡ block_at r m x [] S
+same_at : (r : Rules) (m : Match) (x e : Event) (U : List Event) (S : Colour) → is_sound e ≡ true
+    → block_at r m x (e ∷ U) S ≡ block_at r m x [] S
 same_at r m x e U S h = rw (kept_at x e U S h, dropped_alone x S) refl
 
 -- what is sent goes on where a sound event comes next, whatever follows it
-blocks_from-append : (r : Rules) (S : Colour) (m : Match) (T : List Event) (e : Event) (U : List Event) → is_sound e ≡ true
+blocks_from-append : (r : Rules) (S : Colour) (m : Match) (T : List Event) (e : Event) (U : List Event)
+    → is_sound e ≡ true
     → blocks_from r S m (T ++ e ∷ U) ≡ blocks_from r S m T ++ blocks_from r S (match_from r m T) (e ∷ U)
 blocks_from-append r S m [] e U h = refl
 blocks_from-append r S m (x ∷ []) e U h =
-    ap (λ (b : List (List SentLine)). b ++ blocks_from r S (after r m x) (e ∷ U)) (same_at r m x e U S h ∙ sym (append-nil (block_at r m x [] S)))
+    ap (λ (b : List (List SentLine)). b ++ blocks_from r S (after r m x) (e ∷ U))
+    (same_at r m x e U S h ∙ sym (append-nil (block_at r m x [] S)))
 blocks_from-append r S m (x ∷ y ∷ T) e U h =
-    ap (λ (b : Bool). (if b || fails_at x S then [] else block r m (after r m x) S ∷ []) ++ blocks_from r S (after r m x) (y ∷ T ++ e ∷ U)) (dropped-longer x y T (e ∷ U) S)
-    ∙ ap (λ (bs : List (List SentLine)). block_at r m x (y ∷ T) S ++ bs) (blocks_from-append r S (after r m x) (y ∷ T) e U h)
-    ∙ sym (append_assoc (block_at r m x (y ∷ T) S) (blocks_from r S (after r m x) (y ∷ T)) (blocks_from r S (match_from r (after r m x) (y ∷ T)) (e ∷ U)))
+    ap (λ (b : Bool). (if b || fails_at x S then [] else block r m (after r m x) S ∷ []) ++ blocks_from r S
+    (after r m x) (y ∷ T ++ e ∷ U)) (dropped-longer x y T (e ∷ U) S)
+    ∙ ap (λ (bs : List (List SentLine)). block_at r m x (y ∷ T) S ++ bs)
+    (blocks_from-append r S (after r m x) (y ∷ T) e U h)
+    ∙ sym (append_assoc (block_at r m x (y ∷ T) S) (blocks_from r S (after r m x) (y ∷ T))
+    (blocks_from r S (match_from r (after r m x) (y ∷ T)) (e ∷ U)))
 
 pub blocks-append : (r : Rules) (S : Colour) (T : List Event) (e : Event) (U : List Event) → is_sound e ≡ true
     → blocks r S (T ++ e ∷ U) ≡ blocks r S T ++ blocks_from r S (match_of r T) (e ∷ U)
-blocks-append r S T e U h = ap (λ (bs : List (List SentLine)). entry r start S ∷ bs) (blocks_from-append r S start T e U h)
+blocks-append r S T e U h = ap (λ (bs : List (List SentLine)). entry r start S ∷ bs)
+    (blocks_from-append r S start T e U h)
 
 -- the block of a last event at which no write fails
-pub block_alone : (r : Rules) (S : Colour) (m : Match) (e : Event) → is_sound e ≡ true → blocks_from r S m (e ∷ []) ≡ block r m (after r m e) S ∷ []
+pub block_alone : (r : Rules) (S : Colour) (m : Match) (e : Event) → is_sound e ≡ true
+    → blocks_from r S m (e ∷ []) ≡ block r m (after r m e) S ∷ []
 block_alone r S m (Line c t n) h = refl
 block_alone r S m (Opened c n) h = refl
 block_alone r S m (OutputEnds c) h = refl
@@ -171,7 +200,8 @@ block_alone r S m (FailsToWrite c) h = cc
 
 joined_snoc : (bs : List (List SentLine)) (b : List SentLine) → joined_blocks (bs ++ b ∷ []) ≡ joined_blocks bs ++ b
 joined_snoc [] b = append-nil b
-joined_snoc (x ∷ bs) b = ap (λ (ls : List SentLine). x ++ ls) (joined_snoc bs b) ∙ sym (append_assoc x (joined_blocks bs) b)
+joined_snoc (x ∷ bs) b = ap (λ (ls : List SentLine). x ++ ls) (joined_snoc bs b)
+    ∙ sym (append_assoc x (joined_blocks bs) b)
 
 last_snoc : (bs : List (List SentLine)) (b : List SentLine) → last_block (bs ++ b ∷ []) ≡ b
 last_snoc [] b = refl
@@ -184,15 +214,20 @@ before_last_snoc (x ∷ []) b = refl
 before_last_snoc (x ∷ y ∷ bs) b = ap (λ (ls : List SentLine). x ++ ls) (before_last_snoc (y ∷ bs) b)
 
 -- a block more was written and flushed
-pub sent_more : (w v v' : OutputState) (bs : List (List SentLine)) (b : List SentLine) → Flushed w v (bytes_of (joined_blocks bs)) → Flushed v v' (bytes_of b) → Flushed w v' (bytes_of (joined_blocks (bs ++ b ∷ [])))
+pub sent_more : (w v v' : OutputState) (bs : List (List SentLine)) (b : List SentLine)
+    → Flushed w v (bytes_of (joined_blocks bs)) → Flushed v v' (bytes_of b)
+    → Flushed w v' (bytes_of (joined_blocks (bs ++ b ∷ [])))
 sent_more w v v' bs b t p = rw (joined_snoc bs b, bytes_of-append (joined_blocks bs) b) (flushed_more w v v' _ _ t p)
 
 -- a last block, of which a beginning was written if a call failed
-pub written_more : (f : Bool) (w v v' : OutputState) (bs : List (List SentLine)) (b : List SentLine) → Flushed w v (bytes_of (joined_blocks bs)) → SendsIf f v v' (bytes_of b) → Written f w v' (bs ++ b ∷ [])
+pub written_more : (f : Bool) (w v v' : OutputState) (bs : List (List SentLine)) (b : List SentLine)
+    → Flushed w v (bytes_of (joined_blocks bs)) → SendsIf f v v' (bytes_of b) → Written f w v' (bs ++ b ∷ [])
 written_more false w v v' bs b t p = sent_more w v v' bs b t p
-written_more true w v v' bs b t (begun, begins, fails) = (begun, rw (last_snoc bs b) begins, rw (before_last_snoc bs b) (failed_behind w v v' _ begun t fails))
+written_more true w v v' bs b t (begun, begins, fails) =
+    (begun, rw (last_snoc bs b) begins, rw (before_last_snoc bs b) (failed_behind w v v' _ begun t fails))
 
-pub all_sent : (f : Bool) (w v : OutputState) (bs : List (List SentLine)) → f ≡ false → Written f w v bs → Flushed w v (bytes_of (joined_blocks bs))
+pub all_sent : (f : Bool) (w v : OutputState) (bs : List (List SentLine)) → f ≡ false → Written f w v bs
+    → Flushed w v (bytes_of (joined_blocks bs))
 all_sent false w v bs e t = t
 all_sent true w v bs e t = cc
 
@@ -205,25 +240,32 @@ some_of (Some t) f h = f t h
 pub asked_none : (coming : ℕ → Option ℕ) → Asked coming coming []
 asked_none coming = record { told = λ n h. absurd (omega (arith, h)); rest = λ n. ap coming (sym (zero-add n)) }
 
-first_told : (coming : ℕ → Option ℕ) (moment n : ℕ) → IfSome (coming 0) (λ t. moment ≡ t) → n < 1 → IfSome (coming n) (λ t. slice_get (moment ∷ []) n ≡ Some t)
+first_told : (coming : ℕ → Option ℕ) (moment n : ℕ) → IfSome (coming 0) (λ t. moment ≡ t) → n < 1
+    → IfSome (coming n) (λ t. slice_get (moment ∷ []) n ≡ Some t)
 first_told coming moment zero h few = some_of (coming 0) (λ t e. ap Some e) h
 first_told coming moment (suc n) h few = absurd (omega (arith, few))
 
-pub asked_one : (coming coming' : ℕ → Option ℕ) (moment : ℕ) → IfSome (coming 0) (λ t. moment ≡ t) → ((n : ℕ) → coming' n ≡ coming (n + 1)) → Asked coming coming' (moment ∷ [])
+pub asked_one : (coming coming' : ℕ → Option ℕ) (moment : ℕ) → IfSome (coming 0) (λ t. moment ≡ t)
+    → ((n : ℕ) → coming' n ≡ coming (n + 1)) → Asked coming coming' (moment ∷ [])
 asked_one coming coming' moment h rest = record {
   told = λ n few. first_told coming moment n h few;
   rest = λ n. let e : n + 1 ≡ 1 + n = omega arith in rest n ∙ ap coming e;
 }
 
-told_at : (xs ys : List ℕ) (c c' : ℕ → Option ℕ) (n : ℕ) → ((k : ℕ) → k < length xs → IfSome (c k) (λ t. slice_get xs k ≡ Some t)) → ((k : ℕ) → k < length ys → IfSome (c' k) (λ t. slice_get ys k ≡ Some t))
+told_at : (xs ys : List ℕ) (c c' : ℕ → Option ℕ) (n : ℕ)
+    → ((k : ℕ) → k < length xs → IfSome (c k) (λ t. slice_get xs k ≡ Some t))
+    → ((k : ℕ) → k < length ys → IfSome (c' k) (λ t. slice_get ys k ≡ Some t))
     → ((k : ℕ) → c' k ≡ c (length xs + k)) → n < length (xs ++ ys) → IfSome (c n) (λ t. slice_get (xs ++ ys) n ≡ Some t)
-told_at [] ys c c' n a b e h = let same : c' n ≡ c n = e n ∙ ap c (zero-add n) in subst (λ o. IfSome o (λ t. slice_get ys n ≡ Some t)) same (b n h)
+told_at [] ys c c' n a b e h = let same : c' n ≡ c n = e n ∙ ap c (zero-add n) in
+    subst (λ o. IfSome o (λ t. slice_get ys n ≡ Some t)) same (b n h)
 told_at (x ∷ xs) ys c c' zero a b e h = a zero (omega arith)
 told_at (x ∷ xs) ys c c' (suc n) a b e h =
-    told_at xs ys (λ k. c (suc k)) c' n (λ k f. a (suc k) (omega (arith, f))) b (λ k. let s : length (x ∷ xs) + k ≡ suc (length xs + k) = omega arith in e k ∙ ap c s) (omega (arith, h))
+    told_at xs ys (λ k. c (suc k)) c' n (λ k f. a (suc k) (omega (arith, f))) b
+    (λ k. let s : length (x ∷ xs) + k ≡ suc (length xs + k) = omega arith in e k ∙ ap c s) (omega (arith, h))
 
 pub asked_more : (c c' c'' : ℕ → Option ℕ) (xs ys : List ℕ) → Asked c c' xs → Asked c' c'' ys → Asked c c'' (xs ++ ys)
 asked_more c c' c'' xs ys a b = record {
   told = λ n h. told_at xs ys c c' n a.told b.told a.rest h;
-  rest = λ n. let s : length xs + (length ys + n) ≡ length (xs ++ ys) + n = omega (arith, length-append xs ys) in b.rest n ∙ a.rest (length ys + n) ∙ ap c s;
+  rest = λ n. let s : length xs + (length ys + n) ≡ length (xs ++ ys) + n = omega (arith, length-append xs ys) in
+      b.rest n ∙ a.rest (length ys + n) ∙ ap c s;
 }

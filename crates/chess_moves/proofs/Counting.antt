@@ -18,13 +18,16 @@ unfolding has
 bit_counted w k = elim (bit_cases w k) [ inl none ↦ rw none refl | inr one ↦ rw one refl ]
 
 -- the bits from a on, of which there are n
-counted_from : (w n a : ℕ) → w / 2 ^ a < 2 ^ n → count_ones (w / 2 ^ a) ≡ length (filter (λ k. has w k) (range_with_len a n))
+counted_from : (w n a : ℕ) → w / 2 ^ a < 2 ^ n
+    → count_ones (w / 2 ^ a) ≡ length (filter (λ k. has w k) (range_with_len a n))
 unfolding count_ones
 counted_from w zero a h = let none : w / 2 ^ a ≡ 0 = omega (arith, h) in rw none refl
 counted_from w (suc n) a h =
-    let half : w / 2 ^ a / 2 ≡ w / 2 ^ (a + 1) = div-div-eq-div-mul w (2 ^ a) 2 ∙ ap (λ x. w / x) (sym (pow-suc 2 a) ∙ ap (λ x. 2 ^ x) (omega arith)) in
+    let half : w / 2 ^ a / 2 ≡ w / 2 ^ (a + 1) = div-div-eq-div-mul w (2 ^ a) 2
+    ∙ ap (λ x. w / x) (sym (pow-suc 2 a) ∙ ap (λ x. 2 ^ x) (omega arith)) in
     let twice : w / 2 ^ a < 2 ^ n * 2 = rw (pow-suc 2 n) at h in
-    let small : w / 2 ^ (a + 1) < 2 ^ n = rw half at (let below : w / 2 ^ a / 2 < 2 ^ n = omega (arith, twice) in below) in
+    let small : w / 2 ^ (a + 1) < 2 ^ n =
+    rw half at (let below : w / 2 ^ a / 2 < 2 ^ n = omega (arith, twice) in below) in
     let rest = counted_from w n (a + 1) small in
     let step : count_ones (w / 2 ^ a) ≡ w / 2 ^ a % 2 + count_ones (w / 2 ^ a / 2) = ones_step (w / 2 ^ a) in
     let bit : cond (has w a) 1 0 ≡ w / 2 ^ a % 2 = bit_counted w a in

@@ -22,9 +22,11 @@ any-filter q t (x ∷ xs) =
       | inl passed ↦ rw passed (ap (λ b. t x || b) (any-filter q t xs))
     ]
 
-any-flat_map : {A B : Type 0} (t : B → Bool) (f : A → List B) (xs : List A) → list_any t (flat_map f xs) ≡ list_any (λ x. list_any t (f x)) xs
+any-flat_map : {A B : Type 0} (t : B → Bool) (f : A → List B) (xs : List A)
+    → list_any t (flat_map f xs) ≡ list_any (λ x. list_any t (f x)) xs
 any-flat_map t f [] = refl
-any-flat_map t f (x ∷ xs) = list_any-append t (f x) (flat_map f xs) ∙ ap (λ b. list_any t (f x) || b) (any-flat_map t f xs)
+any-flat_map t f (x ∷ xs) = list_any-append t (f x) (flat_map f xs)
+    ∙ ap (λ b. list_any t (f x) || b) (any-flat_map t f xs)
 
 any-same : {A : Type 0} (f g : A → Bool) (xs : List A) → ((x : A) → f x ≡ g x) → list_any f xs ≡ list_any g xs
 any-same f g [] h = refl
@@ -35,7 +37,8 @@ any-none f [] h = refl
 any-none f (x ∷ xs) h = rw (h x) (any-none f xs h)
 
 -- what a filter leaves out would not pass
-any-kept : {A : Type 0} (q t : A → Bool) (xs : List A) → ((x : A) → q x ≡ false → t x ≡ false) → list_any t (filter q xs) ≡ list_any t xs
+any-kept : {A : Type 0} (q t : A → Bool) (xs : List A) → ((x : A) → q x ≡ false → t x ≡ false)
+    → list_any t (filter q xs) ≡ list_any t xs
 any-kept q t [] h = refl
 any-kept q t (x ∷ xs) h =
     elim (cases_Bool (q x)) [
@@ -45,7 +48,8 @@ any-kept q t (x ∷ xs) h =
 
 -- ---- over squares
 
-any-from_below : (n : ℕ) (g : ℕ → ℕ) (t : ℕ → Bool) (k : ℕ) → k < n → t (g k) ≡ true → list_any t (from_below n g) ≡ true
+any-from_below : (n : ℕ) (g : ℕ → ℕ) (t : ℕ → Bool) (k : ℕ) → k < n → t (g k) ≡ true
+    → list_any t (from_below n g) ≡ true
 any-from_below zero g t k h e = absurd (omega arith)
 any-from_below (suc n) g t zero h e = or_left (t (g 0)) _ e
 any-from_below (suc n) g t (suc k) h e = or_right (t (g 0)) _ (any-from_below n (λ i. g (suc i)) t k (omega arith) e)
@@ -66,7 +70,8 @@ any-alone f b low away =
     ]
 
 -- the squares outside a set need not be looked at where none of them passes
-pub any_members : (t : ℕ → Bool) (w : ℕ) → ((k : ℕ) → has w k ≡ false → t k ≡ false) → list_any t (members w) ≡ list_any t squares
+pub any_members : (t : ℕ → Bool) (w : ℕ) → ((k : ℕ) → has w k ≡ false → t k ≡ false)
+    → list_any t (members w) ≡ list_any t squares
 unfolding members
 any_members t w h = any-kept (λ k. has w k) t squares h
 
@@ -88,17 +93,28 @@ abbrev found : Setup → (Move → Bool) → Move → Bool
 found p t m = is_legal p m && t m
 
 not_found : (p : Setup) (t : Move → Bool) (m : Move) → (is_legal p m ≡ true → t m ≡ true → ⊥) → found p t m ≡ false
-not_found p t m h = false_from_ne_true (found p t m) (λ e. let both = and_parts (is_legal p m) (t m) e in h both.0 both.1)
+not_found p t m h = false_from_ne_true (found p t m)
+    (λ e. let both = and_parts (is_legal p m) (t m) e in h both.0 both.1)
 
-elsewhere : (p : Setup) (t : Move → Bool) (to w a b : ℕ) → AllFound p t to w → b ≢ to → (k : Option Kind) → found p t (triple a b k) ≡ false
+elsewhere : (p : Setup) (t : Move → Bool) (to w a b : ℕ) → AllFound p t to w → b ≢ to → (k : Option Kind)
+    → found p t (triple a b k) ≡ false
 elsewhere p t to w a b all away k = not_found p t (triple a b k) (λ e f. away (all.ends (triple a b k) e f))
 
-promoted : (p : Setup) (t : Move → Bool) (to w a : ℕ) → AllFound p t to w → (k : Kind) → found p t (triple a to (Some k)) ≡ false
-promoted p t to w a all k = not_found p t (triple a to (Some k)) (λ e f. let none = all.stays (triple a to (Some k)) e f in cc)
+promoted : (p : Setup) (t : Move → Bool) (to w a : ℕ) → AllFound p t to w → (k : Kind)
+    → found p t (triple a to (Some k)) ≡ false
+promoted p t to w a all k =
+    not_found p t (triple a to (Some k)) (λ e f. let none = all.stays (triple a to (Some k)) e f in cc)
 
-between : (p : Setup) (t : Move → Bool) (to w a : ℕ) → AllFound p t to w → list_any (found p t) (map (triple a to) promotions) ≡ (t (triple a to None) && is_legal p (triple a to None))
+between : (p : Setup) (t : Move → Bool) (to w a : ℕ) → AllFound p t to w
+    → list_any (found p t) (map (triple a to) promotions) ≡ (t (triple a to None) && is_legal p (triple a to None))
 between p t to w a all =
-    rw (promoted p t to w a all Queen, promoted p t to w a all Rook, promoted p t to w a all Bishop, promoted p t to w a all Knight)
+    rw (
+      promoted p t to w a all Queen,
+      promoted p t to w a all Rook,
+      promoted p t to w a all Bishop,
+      promoted p t to w a
+          all Knight,
+    )
     (by_one (is_legal p (triple a to None)) (t (triple a to None)))
   where
     by_one : (x y : Bool) → ((x && y) || false) ≡ (y && x)
@@ -107,7 +123,8 @@ between p t to w a all =
     by_one false true = refl
     by_one false false = refl
 
-none_elsewhere : (p : Setup) (t : Move → Bool) (to w a b : ℕ) → AllFound p t to w → b ≢ to → list_any (found p t) (map (triple a b) promotions) ≡ false
+none_elsewhere : (p : Setup) (t : Move → Bool) (to w a b : ℕ) → AllFound p t to w → b ≢ to
+    → list_any (found p t) (map (triple a b) promotions) ≡ false
 none_elsewhere p t to w a b all away =
     rw (
       elsewhere p t to w a b all away None,
@@ -123,10 +140,12 @@ pub any_from_members : (p : Setup) (t : Move → Bool) (to w : ℕ) → to < 64 
 unfolding moves all_triples
 any_from_members p t to w low all =
     any_members (λ a. t (triple a to None) && is_legal p (triple a to None)) w (λ a out. outside a out)
-    ∙ sym (any-filter (λ m. is_legal p m) t (flat_map (λ a. flat_map (λ b. map (triple a b) promotions) squares) squares)
+    ∙ sym (any-filter (λ m. is_legal p m) t
+    (flat_map (λ a. flat_map (λ b. map (triple a b) promotions) squares) squares)
     ∙ any-flat_map (found p t) (λ a. flat_map (λ b. map (triple a b) promotions) squares) squares
     ∙ any-same _ _ squares (λ a. any-flat_map (found p t) (λ b. map (triple a b) promotions) squares
-    ∙ any-alone (λ b. list_any (found p t) (map (triple a b) promotions)) to low (λ b away. none_elsewhere p t to w a b all away)
+    ∙ any-alone (λ b. list_any (found p t) (map (triple a b) promotions)) to low
+    (λ b away. none_elsewhere p t to w a b all away)
     ∙ between p t to w a all))
   where
     outside : (a : ℕ) → has w a ≡ false → (t (triple a to None) && is_legal p (triple a to None)) ≡ false

@@ -35,14 +35,16 @@ abbrev StopIn : ℕ → ℕ → Step → Type 0
 StopIn first last (On g) = Unit {0}
 StopIn first last (Stop read) = FaultIn first last read.answer
 
-further : (first from last : ℕ) (r : Result (Option PgnEnd) PgnFault) → first ≤ from → FaultIn from last r → FaultIn first last r
+further : (first from last : ℕ) (r : Result (Option PgnEnd) PgnFault) → first ≤ from → FaultIn from last r
+    → FaultIn first last r
 further first from last (Ok o) h k = tt
 further first from last (Err f) h k = let low = k.0 in (omega (arith, h, low), k.1)
 
 -- ---- a step
 
 module _ (limit first last : ℕ) (g : SoFar) where
-  unless_in : (place : ℕ) (next : Step) → first ≤ place → place ≤ last → StopIn first last next → StopIn first last (unless_full limit g place next)
+  unless_in : (place : ℕ) (next : Step) → first ≤ place → place ≤ last → StopIn first last next
+      → StopIn first last (unless_full limit g place next)
   unless_in place next low high h =
       pick (StopIn first last) (is_some (verdict_now g.state)) _ _ (λ _. (low, high)) (λ _.
       pick (StopIn first last) (nat_lt (length g.state.moves) limit) _ _ (λ _. h) (λ _. (low, high)))
@@ -53,25 +55,32 @@ module _ (limit first last : ℕ) (g : SoFar) where
   move_in place reads.Ambiguous low high = unless_in place _ low high (low, high)
   move_in place reads.NoSuch low high = unless_in place _ low high (low, high)
 
-  word_in : (place : ℕ) (word : List ℕ) (kind : WordKind) → first ≤ place → place ≤ last → StopIn first last (word_step limit g place word kind)
+  word_in : (place : ℕ) (word : List ℕ) (kind : WordKind) → first ≤ place → place ≤ last
+      → StopIn first last (word_step limit g place word kind)
   word_in place word (End o) low high = tt
   word_in place word Number low high = tt
   word_in place word Marks low high = tt
   word_in place word Move low high = move_in place (reading (current g.state) word) low high
 
-  fen_in : (place : ℕ) (r : Result Setup FenFault) → first ≤ place → place ≤ last → StopIn first last (fen_step g place r)
+  fen_in : (place : ℕ) (r : Result Setup FenFault) → first ≤ place → place ≤ last
+      → StopIn first last (fen_step g place r)
   fen_in place (Ok start) low high = tt
   fen_in place (Err fault) low high = (low, high)
 
-  tag_in : (name text : List ℕ) (place : ℕ) → first ≤ place → place ≤ last → StopIn first last (tag_step g name text place)
+  tag_in : (name text : List ℕ) (place : ℕ) → first ≤ place → place ≤ last
+      → StopIn first last (tag_step g name text place)
   tag_in name text place low high =
-      pick (StopIn first last) (bytes_eq name (codes "FEN")) _ _ (λ _. fen_in place (fen_reading_as g.state.start.variant text) low high) (λ _. tt)
+      pick (StopIn first last) (bytes_eq name (codes "FEN")) _ _
+      (λ _. fen_in place (fen_reading_as g.state.start.variant text) low high) (λ _. tt)
 
-step_in : (limit total : ℕ) (g : SoFar) (left : ℕ) (t : Token) → IsWithin left t → StopIn (total - left) total (step limit total g left t)
+step_in : (limit total : ℕ) (g : SoFar) (left : ℕ) (t : Token) → IsWithin left t
+    → StopIn (total - left) total (step limit total g left t)
 step_in limit total g left Skip h = tt
 step_in limit total g left (Tag name text string) h =
-    pick (StopIn (total - left) total) g.is_begun _ _ (λ _. (omega arith, omega arith)) (λ _. tag_in limit (total - left) total g name text (total - string) (omega (arith, h)) (omega arith))
-step_in limit total g left (Word word) h = word_in limit (total - left) total g (total - left) word (kind_of word) (omega arith) (omega arith)
+    pick (StopIn (total - left) total) g.is_begun _ _ (λ _. (omega arith, omega arith))
+    (λ _. tag_in limit (total - left) total g name text (total - string) (omega (arith, h)) (omega arith))
+step_in limit total g left (Word word) h = word_in limit (total - left) total g (total - left) word (kind_of word)
+    (omega arith) (omega arith)
 step_in limit total g left Bad_tag h = (omega arith, omega arith)
 step_in limit total g left (Unclosed_comment brace) h = (omega (arith, h), omega arith)
 step_in limit total g left Unclosed_variation h = (omega arith, omega arith)
@@ -82,11 +91,13 @@ step_in limit total g left Bad h = (omega arith, omega arith)
 ended_in : (total first : ℕ) (g : SoFar) → first ≤ total → FaultIn first total (at_text_end total g).answer
 ended_in total first g h = pick (FaultIn first total) g.is_met _ _ (λ _. (h, omega arith)) (λ _. tt)
 
-gone_on : (first last : ℕ) (s : Step) (later : SoFar → GameRead) → StopIn first last s → ((h : SoFar) → FaultIn first last (later h).answer) → FaultIn first last (go_on s later).answer
+gone_on : (first last : ℕ) (s : Step) (later : SoFar → GameRead) → StopIn first last s
+    → ((h : SoFar) → FaultIn first last (later h).answer) → FaultIn first last (go_on s later).answer
 gone_on first last (On g) later h k = k g
 gone_on first last (Stop read) later h k = h
 
-game_in : (limit total n : ℕ) (begins : Bool) (g : SoFar) (xs : List ℕ) → FaultIn (total - length xs) total (game_of limit total g (tokens_of n begins xs)).answer
+game_in : (limit total n : ℕ) (begins : Bool) (g : SoFar) (xs : List ℕ)
+    → FaultIn (total - length xs) total (game_of limit total g (tokens_of n begins xs)).answer
 unfolding tokens_of
 game_in limit total zero begins g xs = ended_in total (total - length xs) g (omega arith)
 game_in limit total (suc n) begins g [] = ended_in total (total - 0) g (omega arith)
@@ -94,19 +105,25 @@ game_in limit total (suc n) begins g (c ∷ rest) =
     let t : Token × List ℕ = token_at begins c rest in
     let fewer = shorter begins c rest in
     let nearer : total - suc (length rest) ≤ total - length t.1 = omega (arith, fewer) in
-    gone_on (total - suc (length rest)) total (step limit total g (suc (length rest)) t.0) (λ h. game_of limit total h (tokens_of n (eqb c 10) t.1))
+    gone_on (total - suc (length rest)) total (step limit total g (suc (length rest)) t.0)
+    (λ h. game_of limit total h (tokens_of n (eqb c 10) t.1))
     (step_in limit total g (suc (length rest)) t.0 (within begins c rest))
-    (λ h. further (total - suc (length rest)) (total - length t.1) total _ nearer (game_in limit total n (eqb c 10) h t.1))
+    (λ h. further (total - suc (length rest)) (total - length t.1) total _ nearer
+    (game_in limit total n (eqb c 10) h t.1))
 
 -- ---- the place where reading begins
 
-pub behind : (text : List ℕ) (at : ℕ) → at ≤ length text → (at ≤ first_place text at) × (first_place text at ≤ length text)
-behind text at h = pick (λ (n : ℕ). (at ≤ n) × (n ≤ length text)) (eqb at 0 && bytes_eq (take 3 text) (239 ∷ 187 ∷ 191 ∷ [])) _ _ (λ e. mark (and_parts (eqb at 0) _ e)) (λ _. (omega arith, h))
+pub behind : (text : List ℕ) (at : ℕ) → at ≤ length text → (at ≤ first_place text at)
+    × (first_place text at ≤ length text)
+behind text at h = pick (λ (n : ℕ). (at ≤ n) × (n ≤ length text))
+    (eqb at 0 && bytes_eq (take 3 text) (239 ∷ 187 ∷ 191 ∷ [])) _ _ (λ e. mark (and_parts (eqb at 0) _ e))
+    (λ _. (omega arith, h))
   where
     mark : (eqb at 0 ≡ true) × (bytes_eq (take 3 text) (239 ∷ 187 ∷ 191 ∷ []) ≡ true) → (at ≤ 3) × (3 ≤ length text)
     mark (first, is) =
         let none : at ≡ 0 = grind (arith, nat_tests, first) in
-        let same : length (take 3 text) ≡ 3 = ap length ((bytes_eq-Decides (take 3 text) (239 ∷ 187 ∷ 191 ∷ [])).0 is) in
+        let same : length (take 3 text) ≡ 3 =
+        ap length ((bytes_eq-Decides (take 3 text) (239 ∷ 187 ∷ 191 ∷ [])).0 is) in
         let few = length-take 3 text in
         (omega (arith, none), omega (arith, same, few))
 
@@ -120,4 +137,5 @@ fault_in_place limit text at h =
     let high = later.1 in
     let left = length-drop place text in
     let near : at ≤ length text - length (drop place text) = omega (arith, low, high, left) in
-    further at (length text - length (drop place text)) (length text) _ near (game_in limit (length text) (length text) (begins_line text place) g (drop place text))
+    further at (length text - length (drop place text)) (length text) _ near
+    (game_in limit (length text) (length text) (begins_line text place) g (drop place text))

@@ -19,11 +19,13 @@ abbrev IsIn : Variant → Result Description FenFault → Type 0
 IsIn v (Ok d) = d.variant ≡ v
 IsIn v (Err f) = Unit {0}
 
-kept : {A : Type 0} (v : Variant) (o : Option A) (f : FenFault) (g : A → Result Description FenFault) → ((a : A) → IsIn v (g a)) → IsIn v (ok_or o f >>= g)
+kept : {A : Type 0} (v : Variant) (o : Option A) (f : FenFault) (g : A → Result Description FenFault)
+    → ((a : A) → IsIn v (g a)) → IsIn v (ok_or o f >>= g)
 kept v None f g h = tt
 kept v (Some a) f g h = h a
 
-by_fields : (v : Variant) (placement side castling target : List ℕ) (counters : List (List ℕ)) → IsIn v (described_by v placement side castling target counters)
+by_fields : (v : Variant) (placement side castling target : List ℕ) (counters : List (List ℕ))
+    → IsIn v (described_by v placement side castling target counters)
 by_fields v placement side castling target counters =
     kept v (placement_of placement) faults.Placement _ (λ men.
     kept v (side_of side) faults.Side _ (λ colour.
@@ -41,7 +43,8 @@ in_variant v (a ∷ b ∷ c ∷ d ∷ e ∷ []) = tt
 in_variant v (a ∷ b ∷ c ∷ d ∷ e ∷ f ∷ []) = by_fields v a b c d (e ∷ f ∷ [])
 in_variant v (a ∷ b ∷ c ∷ d ∷ e ∷ f ∷ g ∷ rest) = tt
 
-sound_variant : (v : Variant) (r : Result Description FenFault) (p : Setup) → IsIn v r → (r >>= sound_from) ≡ Ok p → p.variant ≡ v
+sound_variant : (v : Variant) (r : Result Description FenFault) (p : Setup) → IsIn v r → (r >>= sound_from) ≡ Ok p
+    → p.variant ≡ v
 sound_variant v (Err f) p h e = absurd (cc)
 sound_variant v (Ok d) p h e = by_fault (setup_fault (setup_from d)) e
   where

@@ -35,33 +35,41 @@ abbrev Undeclared : Step → Type 0
 Undeclared (On g) = g.state.declared ≡ None
 Undeclared (Stop read) = OnErr read.answer (read.state.declared ≡ None)
 
-unless_full_keeps : (limit : ℕ) (g : SoFar) (place : ℕ) (next : Step) → g.state.declared ≡ None → Undeclared next → Undeclared (unless_full limit g place next)
+unless_full_keeps : (limit : ℕ) (g : SoFar) (place : ℕ) (next : Step) → g.state.declared ≡ None → Undeclared next
+    → Undeclared (unless_full limit g place next)
 unless_full_keeps limit g place next h k =
     pick Undeclared (is_some (verdict_now g.state)) _ _ (λ _. h) (λ _.
     pick Undeclared (nat_lt (length g.state.moves) limit) _ _ (λ _. k) (λ _. h))
 
-move_keeps : (limit : ℕ) (g : SoFar) (place : ℕ) (r : Reading) → g.state.declared ≡ None → Undeclared (move_step limit g place r)
+move_keeps : (limit : ℕ) (g : SoFar) (place : ℕ) (r : Reading) → g.state.declared ≡ None
+    → Undeclared (move_step limit g place r)
 move_keeps limit g place reads.NotAMove h = h
 move_keeps limit g place (reads.Move m) h = unless_full_keeps limit g place _ h h
 move_keeps limit g place reads.Ambiguous h = unless_full_keeps limit g place _ h h
 move_keeps limit g place reads.NoSuch h = unless_full_keeps limit g place _ h h
 
-word_keeps : (limit : ℕ) (g : SoFar) (place : ℕ) (word : List ℕ) (kind : WordKind) → g.state.declared ≡ None → Undeclared (word_step limit g place word kind)
+word_keeps : (limit : ℕ) (g : SoFar) (place : ℕ) (word : List ℕ) (kind : WordKind) → g.state.declared ≡ None
+    → Undeclared (word_step limit g place word kind)
 word_keeps limit g place word (End o) h = tt
 word_keeps limit g place word Number h = h
 word_keeps limit g place word Marks h = h
 word_keeps limit g place word Move h = move_keeps limit g place (reading (current g.state) word) h
 
-fen_keeps : (g : SoFar) (place : ℕ) (r : Result Setup FenFault) → g.state.declared ≡ None → Undeclared (fen_step g place r)
+fen_keeps : (g : SoFar) (place : ℕ) (r : Result Setup FenFault) → g.state.declared ≡ None
+    → Undeclared (fen_step g place r)
 fen_keeps g place (Ok start) h = refl
 fen_keeps g place (Err fault) h = h
 
-tag_keeps : (g : SoFar) (name text : List ℕ) (place : ℕ) → g.state.declared ≡ None → Undeclared (tag_step g name text place)
-tag_keeps g name text place h = pick Undeclared (bytes_eq name (codes "FEN")) _ _ (λ _. fen_keeps g place (fen_reading_as g.state.start.variant text) h) (λ _. h)
+tag_keeps : (g : SoFar) (name text : List ℕ) (place : ℕ) → g.state.declared ≡ None
+    → Undeclared (tag_step g name text place)
+tag_keeps g name text place h = pick Undeclared (bytes_eq name (codes "FEN")) _ _
+    (λ _. fen_keeps g place (fen_reading_as g.state.start.variant text) h) (λ _. h)
 
-keeps : (limit total : ℕ) (g : SoFar) (left : ℕ) (t : Token) → g.state.declared ≡ None → Undeclared (step limit total g left t)
+keeps : (limit total : ℕ) (g : SoFar) (left : ℕ) (t : Token) → g.state.declared ≡ None
+    → Undeclared (step limit total g left t)
 keeps limit total g left Skip h = h
-keeps limit total g left (Tag name text string) h = pick Undeclared g.is_begun _ _ (λ _. h) (λ _. tag_keeps g name text (total - string) h)
+keeps limit total g left (Tag name text string) h =
+    pick Undeclared g.is_begun _ _ (λ _. h) (λ _. tag_keeps g name text (total - string) h)
 keeps limit total g left (Word word) h = word_keeps limit g (total - left) word (kind_of word) h
 keeps limit total g left Bad_tag h = h
 keeps limit total g left (Unclosed_comment brace) h = h
@@ -69,9 +77,12 @@ keeps limit total g left Unclosed_variation h = h
 keeps limit total g left Bad h = h
 
 -- a step that ended at a fault left nothing declared, whatever is answered then
-pub bare_at_fault : (limit total : ℕ) (g : SoFar) (left : ℕ) (t : Token) (s : State) (fault : PgnFault) (r : Result (Option PgnEnd) PgnFault) → g.state.declared ≡ None → step_seen s (Err fault) ≡ step limit total g left t
+pub bare_at_fault : (limit total : ℕ) (g : SoFar) (left : ℕ) (t : Token) (s : State) (fault : PgnFault)
+    (r : Result (Option PgnEnd) PgnFault) → g.state.declared ≡ None
+    → step_seen s (Err fault) ≡ step limit total g left t
     → OnErr r (IsNone s.declared)
-bare_at_fault limit total g left t s fault r h is = on_error r (ap is_some (subst Undeclared (sym is) (keeps limit total g left t h)))
+bare_at_fault limit total g left t s fault r h is =
+    on_error r (ap is_some (subst Undeclared (sym is) (keeps limit total g left t h)))
   where
     on_error : {P : Type 0} (r : Result (Option PgnEnd) PgnFault) → P → OnErr r P
     on_error (Ok end) p = tt
@@ -90,9 +101,12 @@ pub record Reads (limit : ℕ) (text : List ℕ) (from : ℕ) (game : Seen) (pro
   pub place : here ≤ length text
   pub undeclared : game.state.declared ≡ None
   pub same_limit : game.limit ≡ limit
-  pub whole : game_of limit (length text) (so_far game.state progress) (tokens_from text here) ≡ pgn_read limit text from
+  pub whole : game_of limit (length text) (so_far game.state progress) (tokens_from text here) ≡ pgn_read limit text
+      from
 
-pub first : (old game : Seen) (start : Setup) (v : Variant) (text : List ℕ) (from here : ℕ) → game ≡ left_at old (from_start start) → start ≡ initial_setup_of v → v ≡ variant_told Normal (tokens_from text here) → here ≡ first_place text from → from ≤ here → here ≤ length text
+pub first : (old game : Seen) (start : Setup) (v : Variant) (text : List ℕ) (from here : ℕ)
+    → game ≡ left_at old (from_start start) → start ≡ initial_setup_of v
+    → v ≡ variant_told Normal (tokens_from text here) → here ≡ first_place text from → from ≤ here → here ≤ length text
     → Reads old.limit text from game (record { is_met = false; is_begun = false; termination = None }) here
 unfolding pgn_read
 first old game start v text from here restarted initial variant is behind h =
@@ -103,7 +117,9 @@ first old game start v text from here restarted initial variant is behind h =
       undeclared = ap (λ s. s.declared) state;
       same_limit = ap (λ g. g.limit) restarted;
       whole =
-          ap (λ s. game_of old.limit (length text) (so_far s (record { is_met = false; is_begun = false; termination = None })) (tokens_from text here)) state
+          ap (λ s. game_of old.limit (length text)
+          (so_far s (record { is_met = false; is_begun = false; termination = None })) (tokens_from text here))
+          state
           ∙ ap (λ u. game_of old.limit (length text) (nothing_read u) (tokens_from text here)) variant
           ∙ ap (λ n. tokens_read old.limit (length text) (tokens_from text n)) is;
     }
@@ -114,55 +130,78 @@ pub record Tells (text : List ℕ) (from : ℕ) (v : Variant) (here : ℕ) : Typ
   pub place : here ≤ length text
   pub whole : variant_told v (tokens_from text here) ≡ variant_told Normal (tokens_from text from)
 
-pub told_more : (text : List ℕ) (from : ℕ) (v u : Variant) (here behind : ℕ) (t : Token) → Tells text from v here → tokens_from text here ≡ (length text - here, t) ∷ tokens_from text behind → behind ≤ length text → Some u ≡ told_by v t → Tells text from u behind
+pub told_more : (text : List ℕ) (from : ℕ) (v u : Variant) (here behind : ℕ) (t : Token) → Tells text from v here
+    → tokens_from text here ≡ (length text - here, t) ∷ tokens_from text behind → behind ≤ length text
+    → Some u ≡ told_by v t → Tells text from u behind
 told_more text from v u here behind t r is h told = record {
   place = h;
-  whole = ap (λ o. told_next v o (λ w. variant_told w (tokens_from text behind))) told ∙ ap (variant_told v) (sym is) ∙ r.whole;
+  whole = ap (λ o. told_next v o (λ w. variant_told w (tokens_from text behind))) told ∙ ap (variant_told v) (sym is)
+      ∙ r.whole;
 }
 
-pub told_last : (text : List ℕ) (from : ℕ) (v : Variant) (here : ℕ) (t : Token) (ts : List (ℕ × Token)) → Tells text from v here → tokens_from text here ≡ (length text - here, t) ∷ ts → None ≡ told_by v t → v ≡ variant_told Normal (tokens_from text from)
-told_last text from v here t ts r is told = ap (λ o. told_next v o (λ w. variant_told w ts)) told ∙ ap (variant_told v) (sym is) ∙ r.whole
+pub told_last : (text : List ℕ) (from : ℕ) (v : Variant) (here : ℕ) (t : Token) (ts : List (ℕ × Token))
+    → Tells text from v here → tokens_from text here ≡ (length text - here, t) ∷ ts → None ≡ told_by v t
+    → v ≡ variant_told Normal (tokens_from text from)
+told_last text from v here t ts r is told = ap (λ o. told_next v o (λ w. variant_told w ts)) told
+    ∙ ap (variant_told v) (sym is) ∙ r.whole
 
 -- a token: what its step gives is gone on with
-stepped : (limit : ℕ) (text : List ℕ) (from : ℕ) (game : Seen) (p : Progress) (here : ℕ) (t : Token) (ts : List (ℕ × Token)) (after : Step) → Reads limit text from game p here → tokens_from text here ≡ (length text - here, t) ∷ ts → after ≡ step game.limit (length text) (so_far game.state p) (length text - here) t → go_on after (λ g. game_of limit (length text) g ts) ≡ pgn_read limit text from
+stepped : (limit : ℕ) (text : List ℕ) (from : ℕ) (game : Seen) (p : Progress) (here : ℕ) (t : Token)
+    (ts : List (ℕ × Token)) (after : Step) → Reads limit text from game p here
+    → tokens_from text here ≡ (length text - here, t) ∷ ts → after ≡ step game.limit (length text) (so_far game.state p)
+    (length text - here) t → go_on after (λ g. game_of limit (length text) g ts) ≡ pgn_read limit text from
 stepped limit text from game p here t ts after r is step_is =
-    ap (λ s. go_on s (λ g. game_of limit (length text) g ts)) (step_is ∙ ap (λ n. step n (length text) (so_far game.state p) (length text - here) t) r.same_limit)
+    ap (λ s. go_on s (λ g. game_of limit (length text) g ts))
+    (step_is ∙ ap (λ n. step n (length text) (so_far game.state p) (length text - here) t) r.same_limit)
     ∙ ap (game_of limit (length text) (so_far game.state p)) (sym is)
     ∙ r.whole
 
-pub more : (limit : ℕ) (text : List ℕ) (from : ℕ) (game new : Seen) (p q : Progress) (here behind : ℕ) (t : Token) → Reads limit text from game p here → tokens_from text here ≡ (length text - here, t) ∷ tokens_from text behind → here < behind → behind ≤ length text → new.limit ≡ game.limit → On (so_far new.state q) ≡ step game.limit (length text) (so_far game.state p) (length text - here) t → Reads limit text from new q behind
+pub more : (limit : ℕ) (text : List ℕ) (from : ℕ) (game new : Seen) (p q : Progress) (here behind : ℕ) (t : Token)
+    → Reads limit text from game p here → tokens_from text here ≡ (length text - here, t) ∷ tokens_from text behind
+    → here < behind → behind ≤ length text → new.limit ≡ game.limit
+    → On (so_far new.state q) ≡ step game.limit (length text) (so_far game.state p) (length text - here) t
+    → Reads limit text from new q behind
 more limit text from game new p q here behind t r is later h same step_is = record {
   behind = (let before = r.behind in omega (arith, before, later));
   place = h;
-  undeclared = subst Undeclared (sym step_is) (keeps game.limit (length text) (so_far game.state p) (length text - here) t r.undeclared);
+  undeclared = subst Undeclared (sym step_is)
+      (keeps game.limit (length text) (so_far game.state p) (length text - here) t r.undeclared);
   same_limit = same ∙ r.same_limit;
   whole = stepped limit text from game p here t (tokens_from text behind) (On (so_far new.state q)) r is step_is;
 }
 
 -- ---- blanks and dots, at which nothing counts
 
-passed_token : (begins : Bool) (c : ℕ) (rest : List ℕ) → (is_blank c || (c == 46)) ≡ true → token_at begins c rest ≡ (Skip, rest)
+passed_token : (begins : Bool) (c : ℕ) (rest : List ℕ) → (is_blank c || (c == 46)) ≡ true
+    → token_at begins c rest ≡ (Skip, rest)
 unfolding token_at
 passed_token true c rest h =
     let line : eqb c 37 ≡ false = grind (arith, nat_tests, h) in
     rw (line, h) refl
 passed_token false c rest h = rw h refl
 
-passed_at : (text : List ℕ) (at c : ℕ) (rest : List ℕ) → drop at text ≡ c ∷ rest → at < length text → (is_blank c || (c == 46)) ≡ true → ReadsAlike text at (at + 1)
+passed_at : (text : List ℕ) (at c : ℕ) (rest : List ℕ) → drop at text ≡ c ∷ rest → at < length text
+    → (is_blank c || (c == 46)) ≡ true → ReadsAlike text at (at + 1)
 passed_at text at c rest is low h =
     let left : suc (length rest) ≡ length text - at = sym (ap length is) ∙ length-drop at text in
     let place : length text - length rest ≡ at + 1 = omega (arith, left, low) in
     λ limit g.
     ap (game_of limit (length text) g) (token_more text at c rest is (omega (arith, low)))
-    ∙ ap (λ (t : Token × List ℕ). game_of limit (length text) g ((length text - at, t.0) ∷ tokens_from text (length text - length t.1))) (passed_token (begins_line text at) c rest h)
+    ∙ ap (λ (t : Token × List ℕ).
+    game_of limit (length text) g ((length text - at, t.0) ∷ tokens_from text (length text - length t.1)))
+    (passed_token (begins_line text at) c rest h)
     ∙ ap (λ n. game_of limit (length text) g (tokens_from text n)) place
 
 -- one more
-pub passed : (text : List ℕ) (from at : ℕ) → ReadsAlike text from at → at < length text → (is_blank (get_or text at 0) || (get_or text at 0 == 46)) ≡ true → ReadsAlike text from (at + 1)
-passed text from at so low h = λ limit g. so limit g ∙ passed_at text at (get_or text at 0) (drop (suc at) text) (drop-cons text at 0 low) low h limit g
+pub passed : (text : List ℕ) (from at : ℕ) → ReadsAlike text from at → at < length text
+    → (is_blank (get_or text at 0) || (get_or text at 0 == 46)) ≡ true → ReadsAlike text from (at + 1)
+passed text from at so low h = λ limit g. so limit g ∙ passed_at text at (get_or text at 0) (drop (suc at) text)
+    (drop-cons text at 0 low) low h limit g
 
 -- reading goes on behind them
-pub alike : (limit : ℕ) (text : List ℕ) (from : ℕ) (game : Seen) (p : Progress) (here there : ℕ) → Reads limit text from game p here → ReadsAlike text here there → here ≤ there → there ≤ length text → Reads limit text from game p there
+pub alike : (limit : ℕ) (text : List ℕ) (from : ℕ) (game : Seen) (p : Progress) (here there : ℕ)
+    → Reads limit text from game p here → ReadsAlike text here there → here ≤ there → there ≤ length text
+    → Reads limit text from game p there
 alike limit text from game p here there r same behind within = record {
   behind = (let before = r.behind in omega (arith, before, behind));
   place = within;

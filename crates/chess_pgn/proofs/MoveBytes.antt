@@ -50,7 +50,8 @@ module _ (limit first : ℕ) (g : SoFar) where
   move_fits place reads.Ambiguous = unless_fits place _ tt
   move_fits place reads.NoSuch = unless_fits place _ tt
 
-  word_fits : (place : ℕ) (word : List ℕ) (kind : WordKind) → first ≤ place → FitsHere (word_step limit g place word kind)
+  word_fits : (place : ℕ) (word : List ℕ) (kind : WordKind) → first ≤ place
+      → FitsHere (word_step limit g place word kind)
   word_fits place word (End o) h = omega (arith, h)
   word_fits place word Number h = omega arith
   word_fits place word Marks h = omega arith
@@ -61,30 +62,41 @@ module _ (limit first : ℕ) (g : SoFar) where
   fen_fits place (Err fault) = tt
 
   tag_fits : (name text : List ℕ) (place : ℕ) → FitsHere (tag_step g name text place)
-  tag_fits name text place = pick FitsHere (bytes_eq name (codes "FEN")) _ _ (λ _. fen_fits place (fen_reading_as g.state.start.variant text)) (λ _. omega arith)
+  tag_fits name text place = pick FitsHere (bytes_eq name (codes "FEN")) _ _
+      (λ _. fen_fits place (fen_reading_as g.state.start.variant text)) (λ _. omega arith)
 
-step_fits : (limit total : ℕ) (g : SoFar) (left : ℕ) (t : Token) → StepFits (total - left) (length g.state.moves) (step limit total g left t)
+step_fits : (limit total : ℕ) (g : SoFar) (left : ℕ) (t : Token)
+    → StepFits (total - left) (length g.state.moves) (step limit total g left t)
 step_fits limit total g left Skip = omega arith
-step_fits limit total g left (Tag name text string) = pick (StepFits (total - left) (length g.state.moves)) g.is_begun _ _ (λ _. tt) (λ _. tag_fits limit (total - left) g name text (total - string))
-step_fits limit total g left (Word word) = word_fits limit (total - left) g (total - left) word (kind_of word) (omega arith)
+step_fits limit total g left (Tag name text string) = pick (StepFits (total - left) (length g.state.moves)) g.is_begun _
+    _ (λ _. tt) (λ _. tag_fits limit (total - left) g name text (total - string))
+step_fits limit total g left (Word word) = word_fits limit (total - left) g (total - left) word (kind_of word)
+    (omega arith)
 step_fits limit total g left Bad_tag = tt
 step_fits limit total g left (Unclosed_comment brace) = tt
 step_fits limit total g left Unclosed_variation = tt
 step_fits limit total g left Bad = tt
 
-further : (first from done most moves : ℕ) (r : Result (Option PgnEnd) PgnFault) → first + 1 ≤ from → most ≤ done + 1 → Fits from most moves r → Fits first done moves r
+further : (first from done most moves : ℕ) (r : Result (Option PgnEnd) PgnFault) → first + 1 ≤ from → most ≤ done + 1
+    → Fits from most moves r → Fits first done moves r
 further first from done most moves (Ok None) h k f = tt
 further first from done most moves (Ok (Some e)) h k f = omega (arith, h, k, f)
 further first from done most moves (Err x) h k f = tt
 
-gone_on : (first from done : ℕ) (s : Step) (later : SoFar → GameRead) → first + 1 ≤ from → StepFits first done s → ((h : SoFar) → Fits from (length h.state.moves) (length (later h).state.moves) (later h).answer) → Fits first done (length (go_on s later).state.moves) (go_on s later).answer
-gone_on first from done (On g) later h k f = further first from done (length g.state.moves) (length (later g).state.moves) (later g).answer h k (f g)
+gone_on : (first from done : ℕ) (s : Step) (later : SoFar → GameRead) → first + 1 ≤ from → StepFits first done s
+    → ((h : SoFar) → Fits from (length h.state.moves) (length (later h).state.moves) (later h).answer)
+    → Fits first done (length (go_on s later).state.moves) (go_on s later).answer
+gone_on first from done (On g) later h k f = further first from done (length g.state.moves)
+    (length (later g).state.moves) (later g).answer h k (f g)
 gone_on first from done (Stop r) later h k f = k
 
 ended_fits : (total first done : ℕ) (g : SoFar) → Fits first done (length g.state.moves) (at_text_end total g).answer
 ended_fits total first done g = pick (Fits first done (length g.state.moves)) g.is_met _ _ (λ _. tt) (λ _. tt)
 
-game_fits : (limit total n : ℕ) (begins : Bool) (g : SoFar) (xs : List ℕ) → length xs ≤ total → Fits (total - length xs) (length g.state.moves) (length (game_of limit total g (tokens_of n begins xs)).state.moves) (game_of limit total g (tokens_of n begins xs)).answer
+game_fits : (limit total n : ℕ) (begins : Bool) (g : SoFar) (xs : List ℕ) → length xs ≤ total
+    → Fits (total - length xs) (length g.state.moves)
+    (length (game_of limit total g (tokens_of n begins xs)).state.moves)
+    (game_of limit total g (tokens_of n begins xs)).answer
 unfolding tokens_of
 game_fits limit total zero begins g xs h = ended_fits total (total - length xs) (length g.state.moves) g
 game_fits limit total (suc n) begins g [] h = ended_fits total (total - 0) (length g.state.moves) g
@@ -93,10 +105,12 @@ game_fits limit total (suc n) begins g (c ∷ rest) h =
     let fewer = shorter begins c rest in
     let nearer : total - suc (length rest) + 1 ≤ total - length t.1 = omega (arith, fewer, h) in
     let few : length t.1 ≤ total = omega (arith, fewer, h) in
-    gone_on (total - suc (length rest)) (total - length t.1) (length g.state.moves) (step limit total g (suc (length rest)) t.0) (λ u. game_of limit total u (tokens_of n (eqb c 10) t.1)) nearer
+    gone_on (total - suc (length rest)) (total - length t.1) (length g.state.moves)
+    (step limit total g (suc (length rest)) t.0) (λ u. game_of limit total u (tokens_of n (eqb c 10) t.1)) nearer
     (step_fits limit total g (suc (length rest)) t.0) (λ u. game_fits limit total n (eqb c 10) u t.1 few)
 
-sooner : (at first moves : ℕ) (r : Result (Option PgnEnd) PgnFault) → at ≤ first → Fits first 0 moves r → IfOk r (λ o. IfSome o (λ e. moves + at ≤ e.place))
+sooner : (at first moves : ℕ) (r : Result (Option PgnEnd) PgnFault) → at ≤ first → Fits first 0 moves r
+    → IfOk r (λ o. IfSome o (λ e. moves + at ≤ e.place))
 sooner at first moves (Ok None) h f = tt
 sooner at first moves (Ok (Some e)) h f = omega (arith, h, f)
 sooner at first moves (Err x) h f = tt
@@ -112,4 +126,5 @@ half_moves_have_bytes limit text at h =
     let left = length-drop place text in
     let few : length (drop place text) ≤ length text = omega (arith, left) in
     let near : at ≤ length text - length (drop place text) = omega (arith, low, high, left) in
-    sooner at (length text - length (drop place text)) _ _ near (game_fits limit (length text) (length text) (begins_line text place) g (drop place text) few)
+    sooner at (length text - length (drop place text)) _ _ near
+    (game_fits limit (length text) (length text) (begins_line text place) g (drop place text) few)

@@ -35,12 +35,14 @@ bare-append (x ∷ xs) ys h k =
     let both = and_parts (is_bare x) (list_all is_bare xs) h in
     and_from (is_bare x) (list_all is_bare (xs ++ ys)) both.0 (bare-append xs ys both.1 k)
 
-bare-join : (c : ℕ) (texts : List (List ℕ)) → is_bare c ≡ true → list_all (list_all is_bare) texts ≡ true → IsBare (join_with_byte c texts)
+bare-join : (c : ℕ) (texts : List (List ℕ)) → is_bare c ≡ true → list_all (list_all is_bare) texts ≡ true
+    → IsBare (join_with_byte c texts)
 bare-join c [] h all = refl
 bare-join c (x ∷ []) h all = (and_parts (list_all is_bare x) true all).0
 bare-join c (x ∷ y ∷ xs) h all =
     let both = and_parts (list_all is_bare x) (list_all (list_all is_bare) (y ∷ xs)) all in
-    bare-append x (c ∷ join_with_byte c (y ∷ xs)) both.0 (and_from (is_bare c) (list_all is_bare (join_with_byte c (y ∷ xs))) h (bare-join c (y ∷ xs) h both.1))
+    bare-append x (c ∷ join_with_byte c (y ∷ xs)) both.0
+    (and_from (is_bare c) (list_all is_bare (join_with_byte c (y ∷ xs))) h (bare-join c (y ∷ xs) h both.1))
 
 -- bytes from 48 to 57, and from 97 to 104
 bare_low : (c : ℕ) → 48 ≤ c → c ≤ 57 → is_bare c ≡ true
@@ -93,7 +95,8 @@ row_bare empty [] h = run_bare empty (omega arith)
 row_bare empty (None ∷ row) h = row_bare (suc empty) row (omega arith)
 row_bare empty (Some man ∷ row) h =
     bare-append (run_text empty) (letter_by man.colour man.kind ∷ row_text 0 row) (run_bare empty (omega arith))
-    (and_from (is_bare (letter_by man.colour man.kind)) (list_all is_bare (row_text 0 row)) (letter_bare man.colour man.kind) (row_bare 0 row (omega arith)))
+    (and_from (is_bare (letter_by man.colour man.kind)) (list_all is_bare (row_text 0 row))
+    (letter_bare man.colour man.kind) (row_bare 0 row (omega arith)))
 
 ranks_bare : (n : ℕ) (men : Men) → list_all (list_all is_bare) (map rank_text (ranks_down n men)) ≡ true
 ranks_bare zero men = refl
@@ -137,20 +140,24 @@ rights_bare v r =
     let b : List ℕ = right_text v White QueenSide r.white.queen_side in
     let c : List ℕ = right_text v Black KingSide r.black.king_side in
     let d : List ℕ = right_text v Black QueenSide r.black.queen_side in
-    let whites = bare-append a b (right_bare v White KingSide r.white.king_side) (right_bare v White QueenSide r.white.queen_side) in
+    let whites = bare-append a b (right_bare v White KingSide r.white.king_side)
+    (right_bare v White QueenSide r.white.queen_side) in
     let more = bare-append (a ++ b) c whites (right_bare v Black KingSide r.black.king_side) in
-    dash_bare (((a ++ b) ++ c) ++ d) (bare-append ((a ++ b) ++ c) d more (right_bare v Black QueenSide r.black.queen_side))
+    dash_bare (((a ++ b) ++ c) ++ d)
+    (bare-append ((a ++ b) ++ c) d more (right_bare v Black QueenSide r.black.queen_side))
 
 crossed_low : (c : Colour) → crossed_rank c ≤ 8
 crossed_low White = omega arith
 crossed_low Black = omega arith
 
-target_bare_at : (men : Men) (c : Colour) (o : Option ℕ) → target_is_behind_double_advance_at men c o ≡ true → IsBare (target_text o)
+target_bare_at : (men : Men) (c : Colour) (o : Option ℕ) → target_is_behind_double_advance_at men c o ≡ true
+    → IsBare (target_text o)
 target_bare_at men c None h = refl
 target_bare_at men c (Some t) h =
     let on : rank t ≡ crossed_rank (other c) = eqb-true _ _ (and_parts _ _ (and_parts _ _ (and_parts _ _ h).0).0).0 in
     let low = crossed_low (other c) in
-    and_from (is_bare (97 + file t)) (list_all is_bare ((49 + rank t) ∷ [])) (bare_high (97 + file t) (omega arith)) (one_bare (49 + rank t) (bare_low (49 + rank t) (omega arith) (omega arith)))
+    and_from (is_bare (97 + file t)) (list_all is_bare ((49 + rank t) ∷ [])) (bare_high (97 + file t) (omega arith))
+    (one_bare (49 + rank t) (bare_low (49 + rank t) (omega arith) (omega arith)))
 
 target_bare : (p : Setup) → IsSound p → IsBare (target_text p.target)
 unfolding target_is_behind_double_advance
@@ -158,7 +165,8 @@ target_bare p h = target_bare_at p.men p.side p.target h.target
 
 pub fen_bare : (p : Setup) → IsSound p → list_all is_bare (fen p) ≡ true
 fen_bare p h =
-    bare-join 32 (placement_text p.men ∷ side_text p.side ∷ rights_text p.variant p.rights ∷ target_text p.target ∷ decimal p.halfmove ∷ decimal p.fullmove ∷ []) refl
+    bare-join 32 (placement_text p.men ∷ side_text p.side ∷ rights_text p.variant p.rights ∷ target_text p.target ∷
+    decimal p.halfmove ∷ decimal p.fullmove ∷ []) refl
     (and_from _ _ (placement_bare p.men)
     (and_from _ _ (side_bare p.side)
     (and_from _ _ (rights_bare p.variant p.rights)

@@ -33,14 +33,17 @@ escaped_in_line : (c : ℕ) → (eqb c 34 || eqb c 92) ≡ true → eqb c 10 ≡
 escaped_in_line c h = not_byte (λ k. eqb k 34 || eqb k 92) 10 c refl h
 
 -- a string that is written is read up to its quote
-pub string_written : (text rest : List ℕ) → list_all is_in_line text ≡ true → string_at (escaped text ++ 34 ∷ rest) ≡ Some (escaped text, rest)
+pub string_written : (text rest : List ℕ) → list_all is_in_line text ≡ true
+    → string_at (escaped text ++ 34 ∷ rest) ≡ Some (escaped text, rest)
 string_written [] rest all = string_quote 34 rest refl
 string_written (c ∷ cs) rest all = by_test (eqb c 34 || eqb c 92) refl (string_written cs rest both.1)
   where
     both : (is_in_line c ≡ true) × (list_all is_in_line cs ≡ true)
     both = and_parts (is_in_line c) (list_all is_in_line cs) all
 
-    by_test : (b : Bool) → (eqb c 34 || eqb c 92) ≡ b → string_at (escaped cs ++ 34 ∷ rest) ≡ Some (escaped cs, rest) → string_at ((cond b (92 ∷ c ∷ []) (c ∷ []) ++ escaped cs) ++ 34 ∷ rest) ≡ Some (cond b (92 ∷ c ∷ []) (c ∷ []) ++ escaped cs, rest)
+    by_test : (b : Bool) → (eqb c 34 || eqb c 92) ≡ b → string_at (escaped cs ++ 34 ∷ rest) ≡ Some (escaped cs, rest)
+        → string_at ((cond b (92 ∷ c ∷ []) (c ∷ []) ++ escaped cs) ++ 34 ∷ rest)
+        ≡ Some (cond b (92 ∷ c ∷ []) (c ∷ []) ++ escaped cs, rest)
     by_test true e behind = rw (escaped_in_line c e) (ap (onto (92 ∷ c ∷ [])) behind)
     by_test false e behind =
         let plain = neither (eqb c 34) (eqb c 92) e in
@@ -63,7 +66,8 @@ pub bare_in_line : (text : List ℕ) → list_all is_bare text ≡ true → list
 bare_in_line [] all = refl
 bare_in_line (c ∷ cs) all =
     let both = and_parts (is_bare c) (list_all is_bare cs) all in
-    and_from (is_in_line c) (list_all is_in_line cs) (and_parts (is_in_line c) (not (eqb c 34 || eqb c 92)) both.0).0 (bare_in_line cs both.1)
+    and_from (is_in_line c) (list_all is_in_line cs) (and_parts (is_in_line c) (not (eqb c 34 || eqb c 92)) both.0).0
+    (bare_in_line cs both.1)
 
 printable_in_line : (text : List ℕ) → AllByRecursion (λ c. (32 ≤ c) × (c ≤ 126)) text → list_all is_in_line text ≡ true
 printable_in_line [] all = refl
@@ -84,28 +88,44 @@ is_tag_name (n ∷ ns) = list_all is_name_byte (n ∷ ns)
 
 no_gap : (n : ℕ) (rest : List ℕ) → is_name_byte n ≡ true → behind_gap false false (n ∷ rest) ≡ n ∷ rest
 no_gap n rest h =
-    rw (not_byte is_name_byte 32 n refl h, not_byte is_name_byte 9 n refl h, not_byte is_name_byte 10 n refl h, not_byte is_name_byte 13 n refl h) refl
+    rw (
+      not_byte is_name_byte 32 n refl h,
+      not_byte is_name_byte 9 n refl h,
+      not_byte is_name_byte 10 n refl h,
+      not_byte
+          is_name_byte 13 n refl h,
+    ) refl
 
-with_name_written : (n : ℕ) (ns text rest : List ℕ) → list_all is_in_line text ≡ true → with_name (n ∷ ns) (32 ∷ 34 ∷ (escaped text ++ 34 ∷ 93 ∷ rest)) ≡ (Tag (n ∷ ns) (escaped text) (length (escaped text ++ 34 ∷ 93 ∷ rest)), rest)
-with_name_written n ns text rest h = ap (with_text (n ∷ ns) (length (escaped text ++ 34 ∷ 93 ∷ rest))) (string_written text (93 ∷ rest) h)
+with_name_written : (n : ℕ) (ns text rest : List ℕ) → list_all is_in_line text ≡ true
+    → with_name (n ∷ ns) (32 ∷ 34 ∷ (escaped text ++ 34 ∷ 93 ∷ rest))
+    ≡ (Tag (n ∷ ns) (escaped text) (length (escaped text ++ 34 ∷ 93 ∷ rest)), rest)
+with_name_written n ns text rest h = ap (with_text (n ∷ ns) (length (escaped text ++ 34 ∷ 93 ∷ rest)))
+    (string_written text (93 ∷ rest) h)
 
-tag_written : (n : ℕ) (ns text rest : List ℕ) → list_all is_name_byte (n ∷ ns) ≡ true → list_all is_in_line text ≡ true → tag_at (n ∷ (ns ++ 32 ∷ 34 ∷ (escaped text ++ 34 ∷ 93 ∷ rest))) ≡ (Tag (n ∷ ns) (escaped text) (length (escaped text ++ 34 ∷ 93 ∷ rest)), rest)
+tag_written : (n : ℕ) (ns text rest : List ℕ) → list_all is_name_byte (n ∷ ns) ≡ true → list_all is_in_line text ≡ true
+    → tag_at (n ∷ (ns ++ 32 ∷ 34 ∷ (escaped text ++ 34 ∷ 93 ∷ rest)))
+    ≡ (Tag (n ∷ ns) (escaped text) (length (escaped text ++ 34 ∷ 93 ∷ rest)), rest)
 tag_written n ns text rest name h =
     let behind : List ℕ = 34 ∷ (escaped text ++ 34 ∷ 93 ∷ rest) in
     let inner : List ℕ = n ∷ (ns ++ 32 ∷ behind) in
     let both = and_parts (is_name_byte n) (list_all is_name_byte ns) name in
     let run = whole_run is_name_byte (n ∷ ns) 32 behind name refl in
-    ap (λ xs. with_name (take_while is_name_byte xs) (drop (prefix_len is_name_byte xs) xs)) (no_gap n (ns ++ 32 ∷ behind) both.0)
+    ap (λ xs. with_name (take_while is_name_byte xs) (drop (prefix_len is_name_byte xs) xs))
+    (no_gap n (ns ++ 32 ∷ behind) both.0)
     ∙ ap (λ xs. with_name xs (drop (prefix_len is_name_byte inner) inner)) run.taken
     ∙ ap (with_name (n ∷ ns)) run.left
     ∙ with_name_written n ns text rest h
 
-pub tag_token : (begins : Bool) (name text rest : List ℕ) → is_tag_name name ≡ true → list_all is_in_line text ≡ true → token_at begins 91 (name ++ 32 ∷ 34 ∷ (escaped text ++ 34 ∷ 93 ∷ rest)) ≡ (Tag name (escaped text) (length (escaped text ++ 34 ∷ 93 ∷ rest)), rest)
+pub tag_token : (begins : Bool) (name text rest : List ℕ) → is_tag_name name ≡ true → list_all is_in_line text ≡ true
+    → token_at begins 91 (name ++ 32 ∷ 34 ∷ (escaped text ++ 34 ∷ 93 ∷ rest))
+    ≡ (Tag name (escaped text) (length (escaped text ++ 34 ∷ 93 ∷ rest)), rest)
 unfolding token_at
 tag_token begins [] text rest name h = absurd (cc)
 tag_token begins (n ∷ ns) text rest name h =
-    no_percent begins 91 (n ∷ (ns ++ 32 ∷ 34 ∷ (escaped text ++ 34 ∷ 93 ∷ rest))) refl ∙ tag_written n ns text rest name h
+    no_percent begins 91 (n ∷ (ns ++ 32 ∷ 34 ∷ (escaped text ++ 34 ∷ 93 ∷ rest))) refl
+    ∙ tag_written n ns text rest name h
 
 -- a tag's line as its bytes
-pub tag_line_bytes : (name text rest : List ℕ) → tag_line name text ++ rest ≡ 91 ∷ (name ++ 32 ∷ 34 ∷ (escaped text ++ 34 ∷ 93 ∷ rest))
+pub tag_line_bytes : (name text rest : List ℕ)
+    → tag_line name text ++ rest ≡ 91 ∷ (name ++ 32 ∷ 34 ∷ (escaped text ++ 34 ∷ 93 ∷ rest))
 tag_line_bytes name text rest = simp append_assoc

@@ -50,12 +50,15 @@ unfolding initial_setup
 initial_normal = refl
 
 -- in normal chess only the initial position has its FEN
-initial_is : WrittenIsReadBack → IsSound (initial_setup_of Normal) → (start : Setup) → start.variant ≡ Normal → IsSound start → is_initial start ≡ true → start ≡ initial_setup_of Normal
+initial_is : WrittenIsReadBack → IsSound (initial_setup_of Normal) → (start : Setup) → start.variant ≡ Normal
+    → IsSound start → is_initial start ≡ true → start ≡ initial_setup_of Normal
 initial_is law initial start normal sound e =
-    let same : fen start ≡ fen (initial_setup_of Normal) = (bytes_eq-Decides (fen start) (fen initial_setup)).0 e ∙ ap fen initial_normal in
+    let same : fen start ≡ fen (initial_setup_of Normal) = (bytes_eq-Decides (fen start) (fen initial_setup)).0 e
+    ∙ ap fen initial_normal in
     let here = law start sound in
     let there = law (initial_setup_of Normal) initial in
-    let both : Ok start ≡ Ok (initial_setup_of Normal) = sym here ∙ ap (fen_reading_as start.variant) same ∙ ap (λ v. fen_reading_as v (fen (initial_setup_of Normal))) (normal ∙ sym (initial_variant Normal)) ∙ there in
+    let both : Ok start ≡ Ok (initial_setup_of Normal) = sym here ∙ ap (fen_reading_as start.variant) same
+    ∙ ap (λ v. fen_reading_as v (fen (initial_setup_of Normal))) (normal ∙ sym (initial_variant Normal)) ∙ there in
     cc
 
 grouped : (tags moves rest : List ℕ) → tags ++ moves ++ 10 ∷ [] ++ rest ≡ tags ++ (moves ++ 10 ∷ rest)
@@ -63,53 +66,86 @@ grouped tags moves rest = simp append_assoc
 
 module _ (limit total : ℕ) where
   -- a line, and what follows it
-  line_read : (g h : SoFar) (begins : Bool) (line : List ℕ) (lines : List (List ℕ)) (rest : List ℕ) (r : GameRead) → TakesLine limit total g h line → read_on limit total h true (ended [] lines ++ rest) ≡ r
+  line_read : (g h : SoFar) (begins : Bool) (line : List ℕ) (lines : List (List ℕ)) (rest : List ℕ) (r : GameRead)
+      → TakesLine limit total g h line → read_on limit total h true (ended [] lines ++ rest) ≡ r
       → read_on limit total g begins (ended [] (line ∷ lines) ++ rest) ≡ r
   line_read g h begins line lines rest r takes reads =
       let text : ended [] (line ∷ lines) ++ rest ≡ line ++ 10 ∷ (ended [] lines ++ rest) = simp append_assoc in
       ap (read_on limit total g begins) text ∙ takes begins (ended [] lines ++ rest) ∙ reads
 
   -- the tags of a start
-  start_read : WrittenIsReadBack → IsSound (initial_setup_of Normal) → (t : Option Termination) (v : Variant) (start : Setup) → start.variant ≡ v → IsSound start → (last : List (List ℕ)) (rest : List ℕ)
-      → read_on limit total (tagged true t (from_start (initial_setup_of v))) true (ended [] (start_lines_in v start ++ last) ++ rest) ≡ read_on limit total (tagged true t (from_start start)) true (ended [] last ++ rest)
+  start_read : WrittenIsReadBack → IsSound (initial_setup_of Normal)
+      → (t : Option Termination) (v : Variant) (start : Setup) → start.variant ≡ v → IsSound start
+      → (last : List (List ℕ)) (rest : List ℕ)
+      → read_on limit total (tagged true t (from_start (initial_setup_of v))) true
+      (ended [] (start_lines_in v start ++ last) ++ rest) ≡ read_on limit total (tagged true t (from_start start))
+      true (ended [] last ++ rest)
   start_read law initial t v start is sound last rest = by_variant v is
     where
       s : State
       s = from_start start
 
-      shown : (v : Variant) → start.variant ≡ v → read_on limit total (tagged true t (from_start (initial_setup_of v))) true (ended [] (fen_lines start ++ last) ++ rest) ≡ read_on limit total (tagged true t s) true (ended [] last ++ rest)
+      shown : (v : Variant) → start.variant ≡ v → read_on limit total (tagged true t (from_start (initial_setup_of v)))
+          true (ended [] (fen_lines start ++ last) ++ rest) ≡ read_on limit total (tagged true t s) true
+          (ended [] last ++ rest)
       shown v is =
-          line_read (tagged true t (from_start (initial_setup_of v))) (tagged true t s) true (tag_line (codes "FEN") (fen start)) (tag_line (codes "SetUp") (codes "1") ∷ last) rest _ (fen_tag limit total law t (from_start (initial_setup_of v)) start sound (initial_variant v ∙ sym is))
-          (line_read (tagged true t s) (tagged true t s) true (tag_line (codes "SetUp") (codes "1")) last rest _ (plain_tag limit total true t s (codes "SetUp") (codes "1") refl refl refl refl) refl)
+          line_read (tagged true t (from_start (initial_setup_of v))) (tagged true t s) true
+          (tag_line (codes "FEN") (fen start)) (tag_line (codes "SetUp") (codes "1") ∷ last) rest _
+          (fen_tag limit total law t (from_start (initial_setup_of v)) start sound (initial_variant v ∙ sym is))
+          (line_read (tagged true t s) (tagged true t s) true (tag_line (codes "SetUp") (codes "1")) last rest _
+          (plain_tag limit total true t s (codes "SetUp") (codes "1") refl refl refl refl) refl)
 
-      by_test : start.variant ≡ Normal → (b : Bool) → is_initial start ≡ b → read_on limit total (tagged true t (from_start (initial_setup_of Normal))) true (ended [] (cond b [] (fen_lines start) ++ last) ++ rest) ≡ read_on limit total (tagged true t s) true (ended [] last ++ rest)
-      by_test is true e = ap (λ p. read_on limit total (tagged true t (from_start p)) true (ended [] last ++ rest)) (sym (initial_is law initial start is sound e))
+      by_test : start.variant ≡ Normal → (b : Bool) → is_initial start ≡ b
+          → read_on limit total (tagged true t (from_start (initial_setup_of Normal))) true
+          (ended [] (cond b [] (fen_lines start) ++ last) ++ rest) ≡ read_on limit total (tagged true t s) true
+          (ended [] last ++ rest)
+      by_test is true e = ap (λ p. read_on limit total (tagged true t (from_start p)) true (ended [] last ++ rest))
+          (sym (initial_is law initial start is sound e))
       by_test is false e = shown Normal is
 
-      by_variant : (v : Variant) → start.variant ≡ v → read_on limit total (tagged true t (from_start (initial_setup_of v))) true (ended [] (start_lines_in v start ++ last) ++ rest) ≡ read_on limit total (tagged true t s) true (ended [] last ++ rest)
+      by_variant : (v : Variant) → start.variant ≡ v
+          → read_on limit total (tagged true t (from_start (initial_setup_of v))) true
+          (ended [] (start_lines_in v start ++ last) ++ rest) ≡ read_on limit total (tagged true t s) true
+          (ended [] last ++ rest)
       by_variant Normal is = by_test is (is_initial start) refl
       by_variant Fischerandom is = shown Fischerandom is
 
   -- the last tags, and the empty line
-  last_read : (t : Option Termination) (u : Termination) (s : State) (v : Variant) (rest : List ℕ) → read_on limit total (tagged true t s) true (ended [] (last_lines v u ++ [] ∷ []) ++ rest) ≡ read_on limit total (tagged true (Some u) s) true rest
+  last_read : (t : Option Termination) (u : Termination) (s : State) (v : Variant) (rest : List ℕ)
+      → read_on limit total (tagged true t s) true (ended [] (last_lines v u ++ [] ∷ []) ++ rest) ≡ read_on limit total
+      (tagged true (Some u) s) true rest
   last_read t u s Normal rest =
-      line_read (tagged true t s) (tagged true (Some u) s) true (tag_line (codes "Termination") (termination_text u)) ([] ∷ []) rest _ (termination_tag limit total t s u)
-      (line_read (tagged true (Some u) s) (tagged true (Some u) s) true [] [] rest _ (empty_line limit total (tagged true (Some u) s)) refl)
+      line_read (tagged true t s) (tagged true (Some u) s) true (tag_line (codes "Termination") (termination_text u))
+      ([] ∷ []) rest _ (termination_tag limit total t s u)
+      (line_read (tagged true (Some u) s) (tagged true (Some u) s) true [] [] rest _
+      (empty_line limit total (tagged true (Some u) s)) refl)
   last_read t u s Fischerandom rest =
       let variant : List ℕ = tag_line (codes "Variant") (codes "fischerandom") in
-      line_read (tagged true t s) (tagged true (Some u) s) true (tag_line (codes "Termination") (termination_text u)) (variant ∷ [] ∷ []) rest _ (termination_tag limit total t s u)
-      (line_read (tagged true (Some u) s) (tagged true (Some u) s) true variant ([] ∷ []) rest _ (plain_tag limit total true (Some u) s (codes "Variant") (codes "fischerandom") refl refl refl refl)
-      (line_read (tagged true (Some u) s) (tagged true (Some u) s) true [] [] rest _ (empty_line limit total (tagged true (Some u) s)) refl))
+      line_read (tagged true t s) (tagged true (Some u) s) true (tag_line (codes "Termination") (termination_text u))
+      (variant ∷ [] ∷ []) rest _ (termination_tag limit total t s u)
+      (line_read (tagged true (Some u) s) (tagged true (Some u) s) true variant ([] ∷ []) rest _
+      (plain_tag limit total true (Some u) s (codes "Variant") (codes "fischerandom") refl refl refl refl)
+      (line_read (tagged true (Some u) s) (tagged true (Some u) s) true [] [] rest _
+      (empty_line limit total (tagged true (Some u) s)) refl))
 
   -- the tags behind the seven, and the empty line
-  further_read : WrittenIsReadBack → IsSound (initial_setup_of Normal) → (start : Setup) (u : Termination) → IsSound start → (rest : List ℕ) → read_on limit total (tagged true None (from_start (initial_setup_of start.variant))) true (ended [] (further_lines start u ++ [] ∷ []) ++ rest) ≡ read_on limit total (tagged true (Some u) (from_start start)) true rest
+  further_read : WrittenIsReadBack → IsSound (initial_setup_of Normal) → (start : Setup) (u : Termination)
+      → IsSound start → (rest : List ℕ)
+      → read_on limit total (tagged true None (from_start (initial_setup_of start.variant))) true
+      (ended [] (further_lines start u ++ [] ∷ []) ++ rest) ≡ read_on limit total
+      (tagged true (Some u) (from_start start)) true rest
   further_read law initial start u sound rest =
-      ap (λ lines. read_on limit total (tagged true None (from_start (initial_setup_of start.variant))) true (ended [] lines ++ rest)) (append_assoc (start_lines_in start.variant start) (last_lines start.variant u) ([] ∷ []))
+      ap (λ lines. read_on limit total (tagged true None (from_start (initial_setup_of start.variant))) true
+      (ended [] lines ++ rest))
+      (append_assoc (start_lines_in start.variant start) (last_lines start.variant u) ([] ∷ []))
       ∙ start_read law initial None start.variant start refl sound (last_lines start.variant u ++ [] ∷ []) rest
       ∙ last_read None u (from_start start) start.variant rest
 
   -- all tags
-  tags_read : WrittenIsReadBack → IsSound (initial_setup_of Normal) → (tags : Tags) → AreTagTexts tags → (s : State) → IsSound s.start → (begins : Bool) (rest : List ℕ) → read_on limit total (nothing_read s.start.variant) begins (ended [] (tag_lines tags s ++ [] ∷ []) ++ rest) ≡ read_on limit total (tagged true (Some (termination_of tags.ended (outcome_now s))) (from_start s.start)) true rest
+  tags_read : WrittenIsReadBack → IsSound (initial_setup_of Normal) → (tags : Tags) → AreTagTexts tags → (s : State)
+      → IsSound s.start → (begins : Bool) (rest : List ℕ) → read_on limit total (nothing_read s.start.variant) begins
+      (ended [] (tag_lines tags s ++ [] ∷ []) ++ rest) ≡ read_on limit total
+      (tagged true (Some (termination_of tags.ended (outcome_now s))) (from_start s.start)) true rest
   tags_read law initial t texts s sound begins rest =
       let g : SoFar = tagged true None (from_start (initial_setup_of s.start.variant)) in
       let termination : Termination = termination_of t.ended (outcome_now s) in
@@ -120,52 +156,83 @@ module _ (limit total : ℕ) where
       let round : List ℕ = tag_line (codes "Round") t.round in
       let date : List ℕ = tag_line (codes "Date") t.date in
       let site : List ℕ = tag_line (codes "Site") t.site in
-      line_read (nothing_read s.start.variant) g begins (tag_line (codes "Event") t.event) (site ∷ date ∷ round ∷ white ∷ black ∷ result ∷ last) rest _ (plain_tag limit total false None (from_start (initial_setup_of s.start.variant)) (codes "Event") t.event refl refl refl (tag_text_in_line t.event texts.event))
-      (line_read g g true site (date ∷ round ∷ white ∷ black ∷ result ∷ last) rest _ (plain_tag limit total true None (from_start (initial_setup_of s.start.variant)) (codes "Site") t.site refl refl refl (tag_text_in_line t.site texts.site))
-      (line_read g g true date (round ∷ white ∷ black ∷ result ∷ last) rest _ (plain_tag limit total true None (from_start (initial_setup_of s.start.variant)) (codes "Date") t.date refl refl refl (tag_text_in_line t.date texts.date))
-      (line_read g g true round (white ∷ black ∷ result ∷ last) rest _ (plain_tag limit total true None (from_start (initial_setup_of s.start.variant)) (codes "Round") t.round refl refl refl (tag_text_in_line t.round texts.round))
-      (line_read g g true white (black ∷ result ∷ last) rest _ (plain_tag limit total true None (from_start (initial_setup_of s.start.variant)) (codes "White") t.white refl refl refl (tag_text_in_line t.white texts.white))
-      (line_read g g true black (result ∷ last) rest _ (plain_tag limit total true None (from_start (initial_setup_of s.start.variant)) (codes "Black") t.black refl refl refl (tag_text_in_line t.black texts.black))
-      (line_read g g true result last rest _ (plain_tag limit total true None (from_start (initial_setup_of s.start.variant)) (codes "Result") (outcome_text (outcome_now s)) refl refl refl (outcome_in_line (outcome_now s)))
+      line_read (nothing_read s.start.variant) g begins (tag_line (codes "Event") t.event)
+      (site ∷ date ∷ round ∷ white ∷ black ∷ result ∷ last) rest _
+      (plain_tag limit total false None (from_start (initial_setup_of s.start.variant)) (codes "Event") t.event refl
+      refl refl (tag_text_in_line t.event texts.event))
+      (line_read g g true site (date ∷ round ∷ white ∷ black ∷ result ∷ last) rest _
+      (plain_tag limit total true None (from_start (initial_setup_of s.start.variant)) (codes "Site") t.site refl
+      refl refl (tag_text_in_line t.site texts.site))
+      (line_read g g true date (round ∷ white ∷ black ∷ result ∷ last) rest _
+      (plain_tag limit total true None (from_start (initial_setup_of s.start.variant)) (codes "Date") t.date refl
+      refl refl (tag_text_in_line t.date texts.date))
+      (line_read g g true round (white ∷ black ∷ result ∷ last) rest _
+      (plain_tag limit total true None (from_start (initial_setup_of s.start.variant)) (codes "Round") t.round refl
+      refl refl (tag_text_in_line t.round texts.round))
+      (line_read g g true white (black ∷ result ∷ last) rest _
+      (plain_tag limit total true None (from_start (initial_setup_of s.start.variant)) (codes "White") t.white refl
+      refl refl (tag_text_in_line t.white texts.white))
+      (line_read g g true black (result ∷ last) rest _
+      (plain_tag limit total true None (from_start (initial_setup_of s.start.variant)) (codes "Black") t.black refl
+      refl refl (tag_text_in_line t.black texts.black))
+      (line_read g g true result last rest _
+      (plain_tag limit total true None (from_start (initial_setup_of s.start.variant)) (codes "Result")
+      (outcome_text (outcome_now s)) refl refl refl (outcome_in_line (outcome_now s)))
       (further_read law initial s.start termination sound rest)))))))
 
   -- ---- the text
 
   -- what is read of a whole text
-  text_read : AfterIsSound → WrittenIsReadBack → IsSound (initial_setup_of Normal) → (tags : Tags) → AreTagTexts tags → (s : State) → IsPlayable (record { limit = limit; state = s }) → (begins : Bool) (rest : List ℕ)
+  text_read : AfterIsSound → WrittenIsReadBack → IsSound (initial_setup_of Normal) → (tags : Tags) → AreTagTexts tags
+      → (s : State) → IsPlayable (record { limit = limit; state = s }) → (begins : Bool) (rest : List ℕ)
       → read_on limit total (nothing_read s.start.variant) begins (pgn [] tags s ++ rest)
-      ≡ ended_game (Some (termination_of tags.ended (outcome_now s))) (record { start = s.start; moves = s.moves; declared = None }) (outcome_now s) (total - length (outcome_text (outcome_now s) ++ 10 ∷ 10 ∷ rest) + length (outcome_text (outcome_now s)))
+      ≡ ended_game (Some (termination_of tags.ended (outcome_now s)))
+      (record { start = s.start; moves = s.moves; declared = None }) (outcome_now s)
+      (total - length (outcome_text (outcome_now s) ++ 10 ∷ 10 ∷ rest) + length (outcome_text (outcome_now s)))
   unfolding pgn
   text_read after_law law initial t texts s h begins rest =
       let o : Outcome = outcome_now s in
       let told : Option Termination = Some (termination_of t.ended o) in
       let moves : List ℕ = filled_from [] 0 (game_tokens s) in
-      let r : GameRead = ended_game told (record { start = s.start; moves = s.moves; declared = None }) o (total - length (outcome_text o ++ 10 ∷ 10 ∷ rest) + length (outcome_text o)) in
-      ap (read_on limit total (nothing_read s.start.variant) begins) (grouped (ended [] (tag_lines t s ++ [] ∷ [])) moves rest)
+      let r : GameRead = ended_game told (record { start = s.start; moves = s.moves; declared = None }) o
+      (total - length (outcome_text o ++ 10 ∷ 10 ∷ rest) + length (outcome_text o)) in
+      ap (read_on limit total (nothing_read s.start.variant) begins)
+      (grouped (ended [] (tag_lines t s ++ [] ∷ [])) moves rest)
       ∙ tags_read law initial t texts s h.start begins (moves ++ 10 ∷ rest)
-      ∙ moves_read limit total after_law told s.start s.moves (record { few = h.limit; unended = h.unended }) (outcome_text o) (10 ∷ rest) r (λ x b k. outcome_read limit total (read_so_far told s.start s.moves x) b k o (10 ∷ rest)) true s.start [] s.moves refl refl h.start h.line false true 0
+      ∙ moves_read limit total after_law told s.start s.moves (record { few = h.limit; unended = h.unended })
+      (outcome_text o) (10 ∷ rest) r
+      (λ x b k. outcome_read limit total (read_so_far told s.start s.moves x) b k o (10 ∷ rest)) true s.start []
+      s.moves refl refl h.start h.line false true 0
 
 -- ---- its place
 
 -- a text that begins so has no byte order mark
-no_mark : (before : List ℕ) (c : ℕ) (rest : List ℕ) → eqb c 239 ≡ false → first_place (before ++ c ∷ rest) (length before) ≡ length before
+no_mark : (before : List ℕ) (c : ℕ) (rest : List ℕ) → eqb c 239 ≡ false
+    → first_place (before ++ c ∷ rest) (length before) ≡ length before
 no_mark [] c rest e = rw e refl
-no_mark (b ∷ before) c rest e = let some : eqb (suc (length before)) 0 ≡ false = grind (arith, nat_tests) in rw some refl
+no_mark (b ∷ before) c rest e = let some : eqb (suc (length before)) 0 ≡ false = grind (arith, nat_tests) in
+    rw some refl
 
 -- reading from the place behind `before` on
-read_behind : (limit : ℕ) (before text : List ℕ) (v : Variant) → first_place (before ++ text) (length before) ≡ length before → told_on Normal (begins_line (before ++ text) (length before)) text ≡ v
-    → pgn_read limit (before ++ text) (length before) ≡ read_on limit (length (before ++ text)) (nothing_read v) (begins_line (before ++ text) (length before)) text
+read_behind : (limit : ℕ) (before text : List ℕ) (v : Variant) → first_place (before ++ text) (length before)
+    ≡ length before → told_on Normal (begins_line (before ++ text) (length before)) text ≡ v
+    → pgn_read limit (before ++ text) (length before) ≡ read_on limit (length (before ++ text)) (nothing_read v)
+    (begins_line (before ++ text) (length before)) text
 unfolding pgn_read tokens_from
 read_behind limit before text v place told =
     let whole : List ℕ = before ++ text in
     let fewer : length text ≤ length whole = omega (arith, length-append before text) in
     ap (λ at. tokens_read limit (length whole) (tokens_from whole at)) place
-    ∙ ap (λ xs. tokens_read limit (length whole) (tokens_of (length whole) (begins_line whole (length before)) xs)) (drop_at before text (length before) refl)
-    ∙ ap (tokens_read limit (length whole)) (enough (length whole) (length text) (begins_line whole (length before)) text fewer (omega arith))
-    ∙ ap (λ u. game_of limit (length whole) (nothing_read u) (tokens_of (length text) (begins_line whole (length before)) text)) told
+    ∙ ap (λ xs. tokens_read limit (length whole) (tokens_of (length whole) (begins_line whole (length before)) xs))
+    (drop_at before text (length before) refl)
+    ∙ ap (tokens_read limit (length whole))
+    (enough (length whole) (length text) (begins_line whole (length before)) text fewer (omega arith))
+    ∙ ap (λ u. game_of limit (length whole) (nothing_read u)
+    (tokens_of (length text) (begins_line whole (length before)) text)) told
 
 -- the variant that a game's text tells
-variant_is : (tags : Tags) → AreTagTexts tags → (s : State) → IsSound s.start → (begins : Bool) (rest : List ℕ) → told_on Normal begins (pgn [] tags s ++ rest) ≡ s.start.variant
+variant_is : (tags : Tags) → AreTagTexts tags → (s : State) → IsSound s.start → (begins : Bool) (rest : List ℕ)
+    → told_on Normal begins (pgn [] tags s ++ rest) ≡ s.start.variant
 unfolding pgn
 variant_is t texts s sound begins rest =
     let moves : List ℕ = filled_from [] 0 (game_tokens s) in
@@ -184,7 +251,8 @@ pgn_long : (tags : Tags) (s : State) → length (outcome_text (outcome_now s)) +
 unfolding pgn
 pgn_long tags s =
     let t : List ℕ = outcome_text (outcome_now s) in
-    longer (ended [] (tag_lines tags s ++ [] ∷ [])) (filled_from [] 0 (game_tokens s)) (length t) (filled_long 0 (move_tokens true s.start s.moves) t (outcome_some (outcome_now s)))
+    longer (ended [] (tag_lines tags s ++ [] ∷ [])) (filled_from [] 0 (game_tokens s)) (length t)
+    (filled_long 0 (move_tokens true s.start s.moves) t (outcome_some (outcome_now s)))
 
 -- ---- the law
 
@@ -195,7 +263,8 @@ declared_again Draw = refl
 declared_again Unfinished = refl
 
 -- the verdict is there again; where there is none, what the termination tells is declared
-same_outcome : (v : Option Verdict) (d : Option Declared) → outcome_by v (declared_behind (is_some v) (outcome_by v d)) ≡ outcome_by v d
+same_outcome : (v : Option Verdict) (d : Option Declared) → outcome_by v (declared_behind (is_some v) (outcome_by v d))
+    ≡ outcome_by v d
 same_outcome (Some v) d = refl
 same_outcome None d = declared_again (outcome_by None d)
 
@@ -204,16 +273,30 @@ pgn_law after_law law initial limit tags s before rest texts h =
     let written : List ℕ = pgn [] tags s in
     let o : List ℕ = outcome_text (outcome_now s) in
     let total : ℕ = length (before ++ (written ++ rest)) in
-    let place : first_place (before ++ (written ++ rest)) (length before) ≡ length before = rw (first_bytes tags s) (no_mark before 91 (drop 1 written ++ rest) refl) in
-    let is : pgn_read limit (before ++ written ++ rest) (length before) ≡ ended_game (Some (termination_of tags.ended (outcome_now s))) (record { start = s.start; moves = s.moves; declared = None }) (outcome_now s) (total - length (o ++ 10 ∷ 10 ∷ rest) + length o) =
+    let place : first_place (before ++ (written ++ rest)) (length before) ≡ length before =
+    rw (first_bytes tags s) (no_mark before 91 (drop 1 written ++ rest) refl) in
+    let is : pgn_read limit (before ++ written ++ rest) (length before)
+    ≡ ended_game (Some (termination_of tags.ended (outcome_now s)))
+    (record { start = s.start; moves = s.moves; declared = None }) (outcome_now s)
+    (total - length (o ++ 10 ∷ 10 ∷ rest) + length o) =
     ap (λ text. pgn_read limit text (length before)) (append_assoc before written rest)
-    ∙ read_behind limit before (written ++ rest) s.start.variant place (variant_is tags texts s h.start (begins_line (before ++ (written ++ rest)) (length before)) rest)
-    ∙ text_read limit total after_law law initial tags texts s h (begins_line (before ++ (written ++ rest)) (length before)) rest in
+    ∙ read_behind limit before (written ++ rest) s.start.variant place
+    (variant_is tags texts s h.start (begins_line (before ++ (written ++ rest)) (length before)) rest)
+    ∙ text_read limit total after_law law initial tags texts s h
+    (begins_line (before ++ (written ++ rest)) (length before)) rest in
     subst (IsReadBack s (termination_of tags.ended (outcome_now s)) (length (before ++ written))) (sym is) (record {
       start = refl;
       moves = refl;
       outcome = same_outcome (verdict_now s) s.declared;
       place = total - length (o ++ 10 ∷ 10 ∷ rest) + length o;
       answer = refl;
-      behind = omega (arith, length-append before (written ++ rest), length-append written rest, length-append before written, length-append o (10 ∷ 10 ∷ rest), pgn_long tags s);
+      behind = omega (
+        arith,
+        length-append before (written ++ rest),
+        length-append written rest,
+        length-append before
+            written,
+        length-append o (10 ∷ 10 ∷ rest),
+        pgn_long tags s,
+      );
     })

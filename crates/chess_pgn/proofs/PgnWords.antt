@@ -27,13 +27,15 @@ pub record Run (p : ℕ → Bool) (text run rest : List ℕ) : Type 0 where
   pub taken : take_while p text ≡ run
   pub left : drop (prefix_len p text) text ≡ rest
 
-run_len : (p : ℕ → Bool) (run : List ℕ) (d : ℕ) (rest : List ℕ) → list_all p run ≡ true → p d ≡ false → prefix_len p (run ++ d ∷ rest) ≡ length run
+run_len : (p : ℕ → Bool) (run : List ℕ) (d : ℕ) (rest : List ℕ) → list_all p run ≡ true → p d ≡ false
+    → prefix_len p (run ++ d ∷ rest) ≡ length run
 run_len p [] d rest all ends = rw ends refl
 run_len p (c ∷ run) d rest all ends =
     let both = and_parts (p c) (list_all p run) all in
     rw both.0 (omega (arith, run_len p run d rest both.1 ends))
 
-pub whole_run : (p : ℕ → Bool) (run : List ℕ) (d : ℕ) (rest : List ℕ) → list_all p run ≡ true → p d ≡ false → Run p (run ++ d ∷ rest) run (d ∷ rest)
+pub whole_run : (p : ℕ → Bool) (run : List ℕ) (d : ℕ) (rest : List ℕ) → list_all p run ≡ true → p d ≡ false
+    → Run p (run ++ d ∷ rest) run (d ∷ rest)
 whole_run p run d rest all ends =
     let n = run_len p run d rest all ends in
     record {
@@ -52,18 +54,38 @@ not_byte p k c fails passes = by_test (eqb c k) refl
 -- ---- a word
 
 -- a byte that begins no `%` line begins the same token where a line begins and where none does
-pub no_percent : (begins : Bool) (c : ℕ) (rest : List ℕ) → eqb c 37 ≡ false → token_at begins c rest ≡ token_at false c rest
+pub no_percent : (begins : Bool) (c : ℕ) (rest : List ℕ) → eqb c 37 ≡ false
+    → token_at begins c rest ≡ token_at false c rest
 unfolding token_at
 no_percent true c rest e = rw e refl
 no_percent false c rest e = refl
 
-first_byte : (c : ℕ) (rest : List ℕ) → is_word_byte c ≡ true → token_at false c rest ≡ (Word (take_while is_word_byte (c ∷ rest)), drop (prefix_len is_word_byte (c ∷ rest)) (c ∷ rest))
+first_byte : (c : ℕ) (rest : List ℕ) → is_word_byte c ≡ true
+    → token_at false c rest
+    ≡ (Word (take_while is_word_byte (c ∷ rest)), drop (prefix_len is_word_byte (c ∷ rest)) (c ∷ rest))
 unfolding token_at
 first_byte c rest h =
-    rw (not_byte is_word_byte 32 c refl h, not_byte is_word_byte 9 c refl h, not_byte is_word_byte 10 c refl h, not_byte is_word_byte 13 c refl h, not_byte is_word_byte 46 c refl h, not_byte is_word_byte 123 c refl h, not_byte is_word_byte 59 c refl h, not_byte is_word_byte 36 c refl h, not_byte is_word_byte 40 c refl h, not_byte is_word_byte 91 c refl h, not_byte is_word_byte 42 c refl h, h)
+    rw (
+      not_byte is_word_byte 32 c refl h,
+      not_byte is_word_byte 9 c refl h,
+      not_byte is_word_byte 10 c refl h,
+      not_byte
+          is_word_byte 13 c refl h,
+      not_byte is_word_byte 46 c refl h,
+      not_byte is_word_byte 123 c refl h,
+      not_byte
+          is_word_byte 59 c refl h,
+      not_byte is_word_byte 36 c refl h,
+      not_byte is_word_byte 40 c refl h,
+      not_byte
+          is_word_byte 91 c refl h,
+      not_byte is_word_byte 42 c refl h,
+      h,
+    )
     refl
 
-pub word_token : (begins : Bool) (c : ℕ) (cs : List ℕ) (d : ℕ) (rest : List ℕ) → list_all is_word_byte (c ∷ cs) ≡ true → is_word_byte d ≡ false → token_at begins c (cs ++ d ∷ rest) ≡ (Word (c ∷ cs), d ∷ rest)
+pub word_token : (begins : Bool) (c : ℕ) (cs : List ℕ) (d : ℕ) (rest : List ℕ) → list_all is_word_byte (c ∷ cs) ≡ true
+    → is_word_byte d ≡ false → token_at begins c (cs ++ d ∷ rest) ≡ (Word (c ∷ cs), d ∷ rest)
 word_token begins c cs d rest all ends =
     let both = and_parts (is_word_byte c) (list_all is_word_byte cs) all in
     let run = whole_run is_word_byte (c ∷ cs) d rest all ends in
@@ -82,7 +104,8 @@ other_text p text word fails passes = by_test (bytes_eq text word) refl
     by_test true e = let same : p text ≡ p word = ap p ((bytes_eq-Decides text word).0 e) in absurd (cc)
     by_test false e = refl
 
-no_outcome : (p : List ℕ → Bool) (word : List ℕ) → ((o : Outcome) → p (outcome_text o) ≡ false) → p word ≡ true → outcome_of word ≡ None
+no_outcome : (p : List ℕ → Bool) (word : List ℕ) → ((o : Outcome) → p (outcome_text o) ≡ false) → p word ≡ true
+    → outcome_of word ≡ None
 no_outcome p word none h =
     let a = other_text p (outcome_text WhiteWins) word (none WhiteWins) h in
     let b = other_text p (outcome_text BlackWins) word (none BlackWins) h in
@@ -134,7 +157,8 @@ digit_no_letter k h =
 
 mark_no_letter : (k : ℕ) → (eqb k 33 || eqb k 63) ≡ true → is_letter k ≡ false
 mark_no_letter k h =
-    let low : k ≤ 64 = elim (or_cases (eqb k 33) (eqb k 63) h) [ inl e ↦ grind (arith, nat_tests) | inr e ↦ grind (arith, nat_tests) ] in
+    let low : k ≤ 64 = elim (or_cases (eqb k 33) (eqb k 63) h)
+    [ inl e ↦ grind (arith, nat_tests) | inr e ↦ grind (arith, nat_tests) ] in
     let a : nat_le 65 k ≡ false = grind (arith, nat_tests) in
     let b : nat_le 97 k ≡ false = grind (arith, nat_tests) in
     rw (a, b) refl
@@ -148,7 +172,8 @@ move_kind (c ∷ cs) h =
 
 -- ---- numbers and SAN are words
 
-pub all_of : (p q : ℕ → Bool) → ((c : ℕ) → p c ≡ true → q c ≡ true) → (text : List ℕ) → list_all p text ≡ true → list_all q text ≡ true
+pub all_of : (p q : ℕ → Bool) → ((c : ℕ) → p c ≡ true → q c ≡ true) → (text : List ℕ) → list_all p text ≡ true
+    → list_all q text ≡ true
 all_of p q h [] all = refl
 all_of p q h (c ∷ cs) all =
     let both = and_parts (p c) (list_all p cs) all in
@@ -172,7 +197,10 @@ decimal_some n h = (decimal_is_IsNumeral n (omega arith)).0.0
 digit_in_word : (c : ℕ) → is_digit c ≡ true → is_word_byte c ≡ true
 digit_in_word c h = by_letter (is_letter c) (is_digit c) h
   where
-    by_letter : (a b : Bool) → b ≡ true → ((a || (b || eqb c 95)) || (eqb c 43 || (eqb c 35 || (eqb c 61 || (eqb c 45 || (eqb c 47 || (eqb c 33 || (eqb c 63 || eqb c 58)))))))) ≡ true
+    by_letter : (a b : Bool) → b ≡ true
+        → ((a || (b || eqb c 95))
+        || (eqb c 43 || (eqb c 35 || (eqb c 61 || (eqb c 45 || (eqb c 47 || (eqb c 33 || (eqb c 63 || eqb c 58))))))))
+        ≡ true
     by_letter true b e = refl
     by_letter false true e = refl
     by_letter false false e = cc
@@ -181,7 +209,8 @@ pub number_bytes : (text : List ℕ) → list_all is_digit text ≡ true → lis
 number_bytes = all_of is_digit is_word_byte digit_in_word
 
 -- letter, digit, `+`, `#`, `=` and `-` among the bytes of words
-among : (letter digit plus sharp equals dash under others : Bool) → (letter || digit || plus || sharp || equals || dash) ≡ true → ((letter || (digit || under)) || (plus || (sharp || (equals || (dash || others))))) ≡ true
+among : (letter digit plus sharp equals dash under others : Bool) → (letter || digit || plus || sharp || equals || dash)
+    ≡ true → ((letter || (digit || under)) || (plus || (sharp || (equals || (dash || others))))) ≡ true
 among true digit plus sharp equals dash under others e = refl
 among false true plus sharp equals dash under others e = refl
 among false false plus sharp equals dash true others e = refl
@@ -192,7 +221,8 @@ among false false false false false true false others e = refl
 among false false false false false false false others e = cc
 
 san_in_word : (c : ℕ) → is_san_byte c ≡ true → is_word_byte c ≡ true
-san_in_word c h = among (is_letter c) (is_digit c) (eqb c 43) (eqb c 35) (eqb c 61) (eqb c 45) (eqb c 95) (eqb c 47 || (eqb c 33 || (eqb c 63 || eqb c 58))) h
+san_in_word c h = among (is_letter c) (is_digit c) (eqb c 43) (eqb c 35) (eqb c 61) (eqb c 45) (eqb c 95)
+    (eqb c 47 || (eqb c 33 || (eqb c 63 || eqb c 58))) h
 
 pub san_bytes_in_word : (text : List ℕ) → list_all (λ c. is_san_byte c) text ≡ true → list_all is_word_byte text ≡ true
 san_bytes_in_word = all_of (λ c. is_san_byte c) is_word_byte san_in_word

@@ -14,16 +14,23 @@ pub record Settles (text : List ℕ) (from : ℕ) (v : Variant) (here : ℕ) : T
 pub first : (text : List ℕ) (from : ℕ) → from ≤ length text → Settles text from Normal from
 first text from h = record { place = h; whole = refl }
 
-pub more : (text : List ℕ) (from : ℕ) (v u : Variant) (here behind : ℕ) (t : Token) → Settles text from v here → tokens_from text here ≡ (length text - here, t) ∷ tokens_from text behind → behind ≤ length text → Some u ≡ told_by v t → Settles text from u behind
+pub more : (text : List ℕ) (from : ℕ) (v u : Variant) (here behind : ℕ) (t : Token) → Settles text from v here
+    → tokens_from text here ≡ (length text - here, t) ∷ tokens_from text behind → behind ≤ length text
+    → Some u ≡ told_by v t → Settles text from u behind
 more text from v u here behind t r is h told = record {
   place = h;
-  whole = ap (λ o. settled_by (is_firm text (length text - here) t) o (λ w. settles_variant text w (tokens_from text behind))) told ∙ ap (settles_variant text v) (sym is) ∙ r.whole;
+  whole = ap (λ o. settled_by (is_firm text (length text - here) t) o
+      (λ w. settles_variant text w (tokens_from text behind))) told ∙ ap (settles_variant text v) (sym is) ∙ r.whole;
 }
 
-pub last : (text : List ℕ) (from : ℕ) (v : Variant) (here : ℕ) (t : Token) (ts : List (ℕ × Token)) → Settles text from v here → tokens_from text here ≡ (length text - here, t) ∷ ts → None ≡ told_by v t
+pub last : (text : List ℕ) (from : ℕ) (v : Variant) (here : ℕ) (t : Token) (ts : List (ℕ × Token))
+    → Settles text from v here → tokens_from text here ≡ (length text - here, t) ∷ ts → None ≡ told_by v t
     → is_firm text (length text - here) t ≡ settles_variant text Normal (tokens_from text from)
-last text from v here t ts r is told = ap (λ o. settled_by (is_firm text (length text - here) t) o (λ w. settles_variant text w ts)) told ∙ ap (settles_variant text v) (sym is) ∙ r.whole
+last text from v here t ts r is told =
+    ap (λ o. settled_by (is_firm text (length text - here) t) o (λ w. settles_variant text w ts)) told
+    ∙ ap (settles_variant text v) (sym is) ∙ r.whole
 
 -- behind the byte at a place
-pub behind_one : (text : List ℕ) (place : ℕ) (xs : List ℕ) → xs ≡ drop place text → take (length xs - 1) (drop 1 xs) ≡ drop (place + 1) text
+pub behind_one : (text : List ℕ) (place : ℕ) (xs : List ℕ) → xs ≡ drop place text
+    → take (length xs - 1) (drop 1 xs) ≡ drop (place + 1) text
 behind_one text place xs e = take_rest xs 1 ∙ ap (drop 1) e ∙ drop-drop 1 place text

@@ -28,23 +28,43 @@ short_outcome BlackWins = ((omega arith, omega arith), tt)
 short_outcome Draw = ((omega arith, omega arith), tt)
 short_outcome Unfinished = ((omega arith, omega arith), tt)
 
-short_number : (c : Colour) (is_first : Bool) (n : ℕ) (ts : List (List ℕ)) → n ≤ 999999 → AreShort ts → AreShort (number_token c is_first n ++ ts)
+short_number : (c : Colour) (is_first : Bool) (n : ℕ) (ts : List (List ℕ)) → n ≤ 999999 → AreShort ts
+    → AreShort (number_token c is_first n ++ ts)
 short_number White is_first n ts h rest =
-    let digits : length (decimal n) ≤ 10 = length-decimal-le 10 n (omega arith) (omega (arith, h)) (omega arith) in
-    ((omega (arith, length-append (decimal n) (codes ".")), omega (arith, digits, length-append (decimal n) (codes "."))), rest)
+    let digits : length (decimal n) ≤ 10 = length-decimal-le 10 n (omega arith) (omega (arith, h)) (omega arith) in (
+      (
+        omega (arith, length-append (decimal n) (codes ".")),
+        omega
+            (arith, digits, length-append (decimal n) (codes ".")),
+      ),
+      rest,
+    )
 short_number Black true n ts h rest =
-    let digits : length (decimal n) ≤ 10 = length-decimal-le 10 n (omega arith) (omega (arith, h)) (omega arith) in
-    ((omega (arith, length-append (decimal n) (codes "...")), omega (arith, digits, length-append (decimal n) (codes "..."))), rest)
+    let digits : length (decimal n) ≤ 10 = length-decimal-le 10 n (omega arith) (omega (arith, h)) (omega arith) in (
+      (
+        omega (arith, length-append (decimal n) (codes "...")),
+        omega
+            (arith, digits, length-append (decimal n) (codes "...")),
+      ),
+      rest,
+    )
 short_number Black false n ts h rest = rest
 
-short_moves : AfterIsSound → SanIsShort → (is_first : Bool) (p : Setup) (ms : List Move) (ts : List (List ℕ)) → IsSound p → IsLine p ms → AreShort ts → AreShort (move_tokens is_first p ms ++ ts)
+short_moves : AfterIsSound → SanIsShort → (is_first : Bool) (p : Setup) (ms : List Move) (ts : List (List ℕ))
+    → IsSound p → IsLine p ms → AreShort ts → AreShort (move_tokens is_first p ms ++ ts)
 short_moves law words is_first p [] ts sound line rest = rest
 short_moves law words is_first p (m ∷ ms) ts sound line rest =
     let behind = short_moves law words false (after p m) ms ts (law p m sound line.0) line.1 rest in
     let short = words p m sound line.0 in
-    let tokens : move_tokens is_first p (m ∷ ms) ++ ts ≡ number_token p.side is_first p.fullmove ++ san p m ∷ (move_tokens false (after p m) ms ++ ts) = simp append_assoc in
-    rw tokens (short_number p.side is_first p.fullmove _ (leb-true _ _ sound.fullmove_high) ((omega (arith, short.0), omega (arith, short.1)), behind))
+    let tokens : move_tokens is_first p (m ∷ ms) ++ ts ≡ number_token p.side is_first p.fullmove
+    ++ san p m ∷ (move_tokens false (after p m) ms ++ ts) = simp append_assoc in
+    rw tokens (short_number p.side is_first p.fullmove _ (leb-true _ _ sound.fullmove_high)
+    ((omega (arith, short.0), omega (arith, short.1)), behind))
 
-pub game_is_filled : AfterIsSound → SanIsShort → (prefix : List ℕ) (limit : ℕ) (s : State) → IsPlayable (record { limit = limit; state = s }) → IsMoveText prefix (game_tokens s) (move_text_of prefix (game_tokens s))
+pub game_is_filled : AfterIsSound → SanIsShort → (prefix : List ℕ) (limit : ℕ) (s : State)
+    → IsPlayable (record { limit = limit; state = s })
+    → IsMoveText prefix (game_tokens s) (move_text_of prefix (game_tokens s))
 game_is_filled law words prefix limit s playable =
-    filled-move_text prefix (game_tokens s) (short_moves law words true s.start s.moves (outcome_text (outcome_now s) ∷ []) playable.start playable.line (short_outcome (outcome_now s)))
+    filled-move_text prefix (game_tokens s)
+    (short_moves law words true s.start s.moves (outcome_text (outcome_now s) ∷ []) playable.start playable.line
+    (short_outcome (outcome_now s)))

@@ -16,27 +16,35 @@ pub gap_line : (b : Bool) (text : List ℕ) → behind_gap true b text ≡ behin
 gap_line b [] = refl
 gap_line b (c ∷ rest) = by_test (eqb c 10) refl (gap_line true rest)
   where
-    by_test : (t : Bool) → eqb c 10 ≡ t → behind_gap true true rest ≡ behind_gap false false (line_end rest) → behind_gap true b (c ∷ rest) ≡ behind_gap false false (line_end (c ∷ rest))
+    by_test : (t : Bool) → eqb c 10 ≡ t → behind_gap true true rest ≡ behind_gap false false (line_end rest)
+        → behind_gap true b (c ∷ rest) ≡ behind_gap false false (line_end (c ∷ rest))
     by_test true e more =
         let blank : is_blank c ≡ true = grind (arith, nat_tests) in
         rw (e, blank, e) refl
-    by_test false e more = ap (λ t. behind_gap (not t) true rest) e ∙ more ∙ ap (behind_gap false false) (sym (line_end-more c rest e))
+    by_test false e more = ap (λ t. behind_gap (not t) true rest) e ∙ more
+        ∙ ap (behind_gap false false) (sym (line_end-more c rest e))
 
 -- one step of a gap, with its text as code meets it: a `%` line
-pub gap_line_more : (xs next : List ℕ) → 1 ≤ length xs → get_or xs 0 0 ≡ 37 → next ≡ line_end (take (length xs - 1) (drop 1 xs)) → behind_gap false (eqb (get_or xs 0 0) 10) next ≡ behind_gap false true xs
+pub gap_line_more : (xs next : List ℕ) → 1 ≤ length xs → get_or xs 0 0 ≡ 37
+    → next ≡ line_end (take (length xs - 1) (drop 1 xs)) → behind_gap false (eqb (get_or xs 0 0) 10) next
+    ≡ behind_gap false true xs
 gap_line_more [] next h e is = absurd (omega (arith, h))
 gap_line_more (c ∷ rest) next h e is =
     let line : eqb c 37 ≡ true = grind (arith, nat_tests) in
     let more : eqb c 10 ≡ false = grind (arith, nat_tests) in
-    rw (line, more, is) (ap (λ t. behind_gap false false (line_end t)) (take_rest (c ∷ rest) 1) ∙ sym (gap_line false rest))
+    rw (line, more, is) (ap (λ t. behind_gap false false (line_end t)) (take_rest (c ∷ rest) 1)
+    ∙ sym (gap_line false rest))
 
 -- a blank
-pub gap_blank_more : (begins : Bool) (xs next : List ℕ) → 1 ≤ length xs → is_blank (get_or xs 0 0) ≡ true → next ≡ take (length xs - 1) (drop 1 xs) → behind_gap false (eqb (get_or xs 0 0) 10) next ≡ behind_gap false begins xs
+pub gap_blank_more : (begins : Bool) (xs next : List ℕ) → 1 ≤ length xs → is_blank (get_or xs 0 0) ≡ true
+    → next ≡ take (length xs - 1) (drop 1 xs) → behind_gap false (eqb (get_or xs 0 0) 10) next ≡ behind_gap false begins
+    xs
 gap_blank_more begins [] next h e is = absurd (omega (arith, h))
 gap_blank_more begins (c ∷ rest) next h e is =
     let line : eqb c 37 ≡ false = grind (arith, nat_tests) in
     ap (behind_gap false (eqb c 10)) (is ∙ take_rest (c ∷ rest) 1) ∙ sym (gap_blank begins c rest line e)
   where
-    gap_blank : (b : Bool) (c : ℕ) (rest : List ℕ) → eqb c 37 ≡ false → is_blank c ≡ true → behind_gap false b (c ∷ rest) ≡ behind_gap false (eqb c 10) rest
+    gap_blank : (b : Bool) (c : ℕ) (rest : List ℕ) → eqb c 37 ≡ false → is_blank c ≡ true
+        → behind_gap false b (c ∷ rest) ≡ behind_gap false (eqb c 10) rest
     gap_blank true c rest line blank = rw (line, blank) refl
     gap_blank false c rest line blank = rw blank refl

@@ -21,7 +21,8 @@ onto-append front more None = refl
 onto-append front more (Some found) = ap (λ xs. Some (xs, found.1)) (append_assoc front more found.0)
 
 -- a byte that ends the line
-string_line : (kept : Bool) (c : ℕ) (rest : List ℕ) → eqb c 10 ≡ true → eqb c 34 ≡ false → string_behind kept (c ∷ rest) ≡ None
+string_line : (kept : Bool) (c : ℕ) (rest : List ℕ) → eqb c 10 ≡ true → eqb c 34 ≡ false
+    → string_behind kept (c ∷ rest) ≡ None
 string_line true c rest line quote = rw line refl
 string_line false c [] line quote = rw quote refl
 string_line false c (d ∷ rest) line quote = rw (quote, line) refl
@@ -32,11 +33,13 @@ string_quote c [] quote = rw quote refl
 string_quote c (d ∷ rest) quote = rw quote refl
 
 -- a byte that a backslash keeps
-string_kept : (c : ℕ) (rest : List ℕ) → eqb c 10 ≡ false → string_behind true (c ∷ rest) ≡ onto (c ∷ []) (string_behind false rest)
+string_kept : (c : ℕ) (rest : List ℕ) → eqb c 10 ≡ false
+    → string_behind true (c ∷ rest) ≡ onto (c ∷ []) (string_behind false rest)
 string_kept c rest line = rw line refl
 
 -- any other byte
-pub string_other : (c : ℕ) (rest : List ℕ) → eqb c 10 ≡ false → eqb c 34 ≡ false → string_at (c ∷ rest) ≡ onto (c ∷ []) (string_behind (eqb c 92) rest)
+pub string_other : (c : ℕ) (rest : List ℕ) → eqb c 10 ≡ false → eqb c 34 ≡ false
+    → string_at (c ∷ rest) ≡ onto (c ∷ []) (string_behind (eqb c 92) rest)
 string_other c [] line quote = rw quote (by_test (eqb c 92))
   where
     by_test : (b : Bool) → None ≡ onto (c ∷ []) (string_behind b [])
@@ -44,11 +47,13 @@ string_other c [] line quote = rw quote (by_test (eqb c 92))
     by_test false = refl
 string_other c (d ∷ rest) line quote = rw (quote, line) (by_test (eqb c 92))
   where
-    by_kept : (b : Bool) → cond b None (onto (c ∷ d ∷ []) (string_at rest)) ≡ onto (c ∷ []) (cond b None (onto (d ∷ []) (string_at rest)))
+    by_kept : (b : Bool) → cond b None (onto (c ∷ d ∷ []) (string_at rest))
+        ≡ onto (c ∷ []) (cond b None (onto (d ∷ []) (string_at rest)))
     by_kept true = refl
     by_kept false = onto-append (c ∷ []) (d ∷ []) (string_at rest)
 
-    by_test : (b : Bool) → cond b (cond (eqb d 10) None (onto (c ∷ d ∷ []) (string_at rest))) (onto (c ∷ []) (string_at (d ∷ rest))) ≡ onto (c ∷ []) (string_behind b (d ∷ rest))
+    by_test : (b : Bool) → cond b (cond (eqb d 10) None (onto (c ∷ d ∷ []) (string_at rest)))
+        (onto (c ∷ []) (string_at (d ∷ rest))) ≡ onto (c ∷ []) (string_behind b (d ∷ rest))
     by_test true = by_kept (eqb d 10)
     by_test false = refl
 
@@ -61,33 +66,62 @@ not_it : {n m : ℕ} → n ≢ m → eqb n m ≡ false
 not_it {n} {m} h = grind (arith, nat_tests)
 
 -- one byte more
-at_place_more : (text : List ℕ) (place : ℕ) (b : Bool) → place < length text → onto (take (place + 1) text) (string_behind b (drop (place + 1) text)) ≡ onto (take place text) (onto (get_or text place 0 ∷ []) (string_behind b (drop (place + 1) text)))
-at_place_more text place b h = ap (λ front. onto front (string_behind b (drop (place + 1) text))) (ap (λ n. take n text) (add-one place) ∙ take-suc text place 0 h) ∙ onto-append (take place text) (get_or text place 0 ∷ []) (string_behind b (drop (place + 1) text))
+at_place_more : (text : List ℕ) (place : ℕ) (b : Bool) → place < length text
+    → onto (take (place + 1) text) (string_behind b (drop (place + 1) text)) ≡ onto (take place text)
+    (onto (get_or text place 0 ∷ []) (string_behind b (drop (place + 1) text)))
+at_place_more text place b h = ap (λ front. onto front (string_behind b (drop (place + 1) text)))
+    (ap (λ n. take n text) (add-one place) ∙ take-suc text place 0 h)
+    ∙ onto-append (take place text) (get_or text place 0 ∷ []) (string_behind b (drop (place + 1) text))
 
-pub place_kept : (text : List ℕ) (place : ℕ) (kept next : Bool) → place < length text → kept ≡ true → next ≡ false → get_or text place 0 ≢ 10 → onto (take (place + 1) text) (string_behind next (drop (place + 1) text)) ≡ onto (take place text) (string_behind kept (drop place text))
+pub place_kept : (text : List ℕ) (place : ℕ) (kept next : Bool) → place < length text → kept ≡ true → next ≡ false
+    → get_or text place 0 ≢ 10 → onto (take (place + 1) text) (string_behind next (drop (place + 1) text))
+    ≡ onto (take place text) (string_behind kept (drop place text))
 place_kept text place kept next h k n line =
-    rw (k, n) (at_place_more text place false h ∙ ap (onto (take place text)) (sym (at_drop_more (string_behind true) text place 0 h ∙ string_kept (get_or text place 0) (drop (place + 1) text) (not_it line))))
+    rw (k, n) (at_place_more text place false h
+    ∙ ap (onto (take place text))
+    (sym (at_drop_more (string_behind true) text place 0 h
+    ∙ string_kept (get_or text place 0) (drop (place + 1) text) (not_it line))))
 
-pub place_other : (text : List ℕ) (place : ℕ) (kept next : Bool) → place < length text → kept ≡ false → next ≡ eqb (get_or text place 0) 92 → get_or text place 0 ≢ 10 → get_or text place 0 ≢ 34 → onto (take (place + 1) text) (string_behind next (drop (place + 1) text)) ≡ onto (take place text) (string_behind kept (drop place text))
+pub place_other : (text : List ℕ) (place : ℕ) (kept next : Bool) → place < length text → kept ≡ false
+    → next ≡ eqb (get_or text place 0) 92 → get_or text place 0 ≢ 10 → get_or text place 0 ≢ 34
+    → onto (take (place + 1) text) (string_behind next (drop (place + 1) text)) ≡ onto (take place text)
+    (string_behind kept (drop place text))
 place_other text place kept next h k n line quote =
-    rw (k, n) (at_place_more text place (eqb (get_or text place 0) 92) h ∙ ap (onto (take place text)) (sym (at_drop_more string_at text place 0 h ∙ string_other (get_or text place 0) (drop (place + 1) text) (not_it line) (not_it quote))))
+    rw (k, n) (at_place_more text place (eqb (get_or text place 0) 92) h
+    ∙ ap (onto (take place text))
+    (sym (at_drop_more string_at text place 0 h ∙ string_other (get_or text place 0) (drop (place + 1) text)
+    (not_it line) (not_it quote))))
 
-pub place_line : (text : List ℕ) (place : ℕ) (kept : Bool) → place < length text → get_or text place 0 ≡ 10 → onto (take place text) (string_behind kept (drop place text)) ≡ None
-place_line text place kept h line = ap (onto (take place text)) (at_drop_more (string_behind kept) text place 0 h ∙ string_line kept (get_or text place 0) (drop (place + 1) text) (it line) (grind (arith, nat_tests)))
+pub place_line : (text : List ℕ) (place : ℕ) (kept : Bool) → place < length text → get_or text place 0 ≡ 10
+    → onto (take place text) (string_behind kept (drop place text)) ≡ None
+place_line text place kept h line =
+    ap (onto (take place text))
+    (at_drop_more (string_behind kept) text place 0 h ∙ string_line kept (get_or text place 0) (drop (place + 1) text)
+    (it line) (grind (arith, nat_tests)))
 
-pub place_quote : (text : List ℕ) (place : ℕ) (kept : Bool) → place < length text → kept ≡ false → get_or text place 0 ≡ 34 → onto (take place text) (string_behind kept (drop place text)) ≡ Some (take place text, take (length text - (place + 1)) (drop (place + 1) text))
+pub place_quote : (text : List ℕ) (place : ℕ) (kept : Bool) → place < length text → kept ≡ false
+    → get_or text place 0 ≡ 34 → onto (take place text) (string_behind kept (drop place text))
+    ≡ Some (take place text, take (length text - (place + 1)) (drop (place + 1) text))
 place_quote text place kept h k quote =
     let front : take place text ++ [] ≡ take place text = append-nil (take place text) in
-    let rest : take (length text - (place + 1)) (drop (place + 1) text) ≡ drop (place + 1) text = take_rest text (place + 1) in
-    rw k (ap (onto (take place text)) (at_drop_more string_at text place 0 h ∙ string_quote (get_or text place 0) (drop (place + 1) text) (it quote)) ∙ rw (front, rest) refl)
+    let rest : take (length text - (place + 1)) (drop (place + 1) text) ≡ drop (place + 1) text =
+    take_rest text (place + 1) in
+    rw k (ap (onto (take place text))
+    (at_drop_more string_at text place 0 h ∙ string_quote (get_or text place 0) (drop (place + 1) text) (it quote))
+    ∙ rw (front, rest) refl)
 
 -- a tag that isn't closed
-unclosed : (name rest string text behind : List ℕ) → Some string ≡ behind_next 34 rest → Some (text, behind) ≡ string_at string → None ≡ behind_next 93 behind → with_name name rest ≡ (Bad_tag, [])
+unclosed : (name rest string text behind : List ℕ) → Some string ≡ behind_next 34 rest
+    → Some (text, behind) ≡ string_at string → None ≡ behind_next 93 behind → with_name name rest ≡ (Bad_tag, [])
 unclosed [] rest string text behind a b e = refl
 unclosed (n ∷ ns) rest string text behind a b e =
-    ap (with_string (n ∷ ns)) (sym a) ∙ ap (with_text (n ∷ ns) (length string)) (sym b) ∙ ap (closed (n ∷ ns) (length string) text) (sym e)
+    ap (with_string (n ∷ ns)) (sym a) ∙ ap (with_text (n ∷ ns) (length string)) (sym b)
+    ∙ ap (closed (n ∷ ns) (length string) text) (sym e)
 
-pub tag_unclosed : (from inner name rest string text behind : List ℕ) → inner ≡ behind_gap false false from → name ≡ take_while is_name_byte inner → rest ≡ drop (prefix_len is_name_byte inner) inner → Some string ≡ behind_next 34 rest → Some (text, behind) ≡ string_at string → None ≡ behind_next 93 behind → tag_at from ≡ (Bad_tag, [])
+pub tag_unclosed : (from inner name rest string text behind : List ℕ) → inner ≡ behind_gap false false from
+    → name ≡ take_while is_name_byte inner → rest ≡ drop (prefix_len is_name_byte inner) inner
+    → Some string ≡ behind_next 34 rest → Some (text, behind) ≡ string_at string → None ≡ behind_next 93 behind
+    → tag_at from ≡ (Bad_tag, [])
 tag_unclosed from inner name rest string text behind i n r a b e =
     ap (λ xs. with_name (take_while is_name_byte xs) (drop (prefix_len is_name_byte xs) xs)) (sym i)
     ∙ ap (λ xs. with_name xs (drop (prefix_len is_name_byte inner) inner)) (sym n)

@@ -18,16 +18,19 @@ BeganWithin n Plain = Unit {0}
 BeganWithin n (Brace left) = left ≤ n
 BeganWithin n Line = Unit {0}
 
-variation_within : (n : ℕ) (inside : Inside) (begins : Bool) (depth : ℕ) (text : List ℕ) → length text ≤ n → BeganWithin n inside → Within n (variation_at inside begins (suc depth) text)
+variation_within : (n : ℕ) (inside : Inside) (begins : Bool) (depth : ℕ) (text : List ℕ) → length text ≤ n
+    → BeganWithin n inside → Within n (variation_at inside begins (suc depth) text)
 variation_within n Plain begins depth [] h k = tt
 variation_within n (Brace left) begins depth [] h k = k
 variation_within n Line begins depth [] h k = tt
 variation_within n Line begins depth (c ∷ rest) h k =
     let fewer : length rest ≤ n = omega (arith, h) in
-    pick (Within n) (eqb c 10) _ _ (λ _. variation_within n Plain true depth rest fewer tt) (λ _. variation_within n Line false depth rest fewer tt)
+    pick (Within n) (eqb c 10) _ _ (λ _. variation_within n Plain true depth rest fewer tt)
+    (λ _. variation_within n Line false depth rest fewer tt)
 variation_within n (Brace left) begins depth (c ∷ rest) h k =
     let fewer : length rest ≤ n = omega (arith, h) in
-    pick (Within n) (eqb c 125) _ _ (λ _. variation_within n Plain false depth rest fewer tt) (λ _. variation_within n (Brace left) false depth rest fewer k)
+    pick (Within n) (eqb c 125) _ _ (λ _. variation_within n Plain false depth rest fewer tt)
+    (λ _. variation_within n (Brace left) false depth rest fewer k)
 variation_within n Plain begins depth (c ∷ rest) h k =
     let fewer : length rest ≤ n = omega (arith, h) in
     pick (Within n) (begins && eqb c 37) _ _ (λ _. variation_within n Line false depth rest fewer tt) (λ _.
@@ -37,7 +40,8 @@ variation_within n Plain begins depth (c ∷ rest) h k =
     pick (Within n) (eqb c 41) _ _ (λ _. closing depth (λ d. variation_within n Plain false d rest fewer tt)) (λ _.
     variation_within n Plain (eqb c 10) depth rest fewer tt)))))
   where
-    closing : (m : ℕ) → ((d : ℕ) → Within n (variation_at Plain false (suc d) rest)) → Within n (variation_at Plain false m rest)
+    closing : (m : ℕ) → ((d : ℕ) → Within n (variation_at Plain false (suc d) rest))
+        → Within n (variation_at Plain false m rest)
     closing zero more = tt
     closing (suc d) more = more d
 
@@ -51,9 +55,11 @@ text_within : (n left : ℕ) (name : List ℕ) (o : Option (List ℕ × List ℕ
 text_within n left name None h = tt
 text_within n left name (Some found) h = closed_within n left name found.0 (behind_next 93 found.1) h
 
-string_within : (n : ℕ) (name from : List ℕ) (o : Option (List ℕ)) → length from ≤ n → IfSome o (Cut from) → Within n (with_string name o)
+string_within : (n : ℕ) (name from : List ℕ) (o : Option (List ℕ)) → length from ≤ n → IfSome o (Cut from)
+    → Within n (with_string name o)
 string_within n name from None h cut = tt
-string_within n name from (Some string) h cut = text_within n (length string) name (string_at string) (omega (arith, h, simp length-append at (ap length cut.is)))
+string_within n name from (Some string) h cut = text_within n (length string) name (string_at string)
+    (omega (arith, h, simp length-append at (ap length cut.is)))
 
 name_within : (n : ℕ) (name from : List ℕ) → length from ≤ n → Within n (with_name name from)
 name_within n [] from h = tt
@@ -62,7 +68,8 @@ name_within n (c ∷ cs) from h = string_within n (c ∷ cs) from (behind_next 3
 tag_within : (n : ℕ) (text : List ℕ) → length text ≤ n → Within n (tag_at text)
 tag_within n text h = by_name (behind_gap false false text) (gap_suffix false false text)
   where
-    by_name : (inner : List ℕ) → Suffix text inner → Within n (with_name (take_while is_name_byte inner) (drop (prefix_len is_name_byte inner) inner))
+    by_name : (inner : List ℕ) → Suffix text inner
+        → Within n (with_name (take_while is_name_byte inner) (drop (prefix_len is_name_byte inner) inner))
     by_name inner k =
         name_within n (take_while is_name_byte inner) (drop (prefix_len is_name_byte inner) inner)
         (omega (arith, h, length-drop (prefix_len is_name_byte inner) inner, simp length-append at (ap length k.is)))
@@ -89,13 +96,15 @@ within begins c rest =
     pick (Within n) (eqb c 40) _ _ (λ _. variation_within n Plain false 0 rest fewer tt) (λ _.
     pick (Within n) (eqb c 91) _ _ (λ _. tag_within n rest fewer) (λ _.
     pick (Within n) (eqb c 42) _ _ (λ _. omega arith) (λ _.
-    pick (Within n) (is_word_byte c) _ _ (λ _. front_fewer (prefix_len is_word_byte (c ∷ rest)) (c ∷ rest)) (λ _. tt)))))))))
+    pick (Within n) (is_word_byte c) _ _ (λ _. front_fewer (prefix_len is_word_byte (c ∷ rest)) (c ∷ rest))
+    (λ _. tt)))))))))
 
 same_first : (s t : ℕ × Token) (ss ts : List (ℕ × Token)) → s ∷ ss ≡ t ∷ ts → s ≡ t
 same_first s t ss ts e = cc
 
 -- of a token that stands in a text
-pub token_within : (text : List ℕ) (at : ℕ) (token : Token) (ts : List (ℕ × Token)) → at ≤ length text → tokens_from text at ≡ (length text - at, token) ∷ ts → IsWithin (length text - at) token
+pub token_within : (text : List ℕ) (at : ℕ) (token : Token) (ts : List (ℕ × Token)) → at ≤ length text
+    → tokens_from text at ≡ (length text - at, token) ∷ ts → IsWithin (length text - at) token
 token_within text at token ts h is = by_rest (drop at text) refl
   where
     by_rest : (rest : List ℕ) → drop at text ≡ rest → IsWithin (length text - at) token
@@ -105,5 +114,7 @@ token_within text at token ts h is = by_rest (drop at text) refl
     by_rest (c ∷ rest) e =
         let left : suc (length rest) ≡ length text - at = sym (ap length e) ∙ length-drop at text in
         let more = token_more text at c rest e h in
-        let same : (token_at (begins_line text at) c rest).0 ≡ token = ap (λ (t : ℕ × Token). t.1) (same_first _ _ _ _ (sym more ∙ is)) in
-        subst (λ n. IsWithin n token) left (subst (IsWithin (suc (length rest))) same (within (begins_line text at) c rest))
+        let same : (token_at (begins_line text at) c rest).0 ≡ token =
+        ap (λ (t : ℕ × Token). t.1) (same_first _ _ _ _ (sym more ∙ is)) in
+        subst (λ n. IsWithin n token) left
+        (subst (IsWithin (suc (length rest))) same (within (begins_line text at) c rest))

@@ -9,11 +9,14 @@ use Rattle.chess_pgn.specs.ties.VariationParts.{behind_part, one_fewer, depth_be
 use Rattle.chess_pgn.proofs.Skipped.{line_end-more}
 
 -- a line in a variation
-in_line : (begins : Bool) (depth : ℕ) (text : List ℕ) → variation_at Line begins (suc depth) text ≡ variation_at Plain false (suc depth) (line_end text)
+in_line : (begins : Bool) (depth : ℕ) (text : List ℕ) → variation_at Line begins (suc depth) text ≡ variation_at Plain
+    false (suc depth) (line_end text)
 in_line begins depth [] = refl
 in_line begins depth (c ∷ rest) = by_test (eqb c 10) refl (in_line false depth rest)
   where
-    by_test : (t : Bool) → eqb c 10 ≡ t → variation_at Line false (suc depth) rest ≡ variation_at Plain false (suc depth) (line_end rest) → variation_at Line begins (suc depth) (c ∷ rest) ≡ variation_at Plain false (suc depth) (line_end (c ∷ rest))
+    by_test : (t : Bool) → eqb c 10 ≡ t → variation_at Line false (suc depth) rest ≡ variation_at Plain false
+        (suc depth) (line_end rest) → variation_at Line begins (suc depth) (c ∷ rest) ≡ variation_at Plain false
+        (suc depth) (line_end (c ∷ rest))
     by_test true e more =
         let line : eqb c 37 ≡ false = grind (arith, nat_tests) in
         let brace : eqb c 123 ≡ false = grind (arith, nat_tests) in
@@ -21,17 +24,22 @@ in_line begins depth (c ∷ rest) = by_test (eqb c 10) refl (in_line false depth
         let opens : eqb c 40 ≡ false = grind (arith, nat_tests) in
         let closes : eqb c 41 ≡ false = grind (arith, nat_tests) in
         rw (e, brace, rest_line, opens, closes, e) refl
-    by_test false e more = ap (λ t. cond t (variation_at Plain true (suc depth) rest) (variation_at Line false (suc depth) rest)) e ∙ more ∙ ap (variation_at Plain false (suc depth)) (sym (line_end-more c rest e))
+    by_test false e more =
+        ap (λ t. cond t (variation_at Plain true (suc depth) rest) (variation_at Line false (suc depth) rest)) e ∙ more
+        ∙ ap (variation_at Plain false (suc depth)) (sym (line_end-more c rest e))
 
 abbrev unless_open : ℕ → ℕ → Option (List ℕ) → Token × List ℕ
 unless_open left depth None = (Unclosed_comment left, [])
 unless_open left depth (Some rest) = variation_at Plain false (suc depth) rest
 
-in_brace : (left : ℕ) (begins : Bool) (depth : ℕ) (text : List ℕ) → variation_at (Brace left) begins (suc depth) text ≡ unless_open left depth (behind_brace text)
+in_brace : (left : ℕ) (begins : Bool) (depth : ℕ) (text : List ℕ) → variation_at (Brace left) begins (suc depth) text
+    ≡ unless_open left depth (behind_brace text)
 in_brace left begins depth [] = refl
 in_brace left begins depth (c ∷ rest) = by_test (eqb c 125) (in_brace left false depth rest)
   where
-    by_test : (t : Bool) → variation_at (Brace left) false (suc depth) rest ≡ unless_open left depth (behind_brace rest) → cond t (variation_at Plain false (suc depth) rest) (variation_at (Brace left) false (suc depth) rest) ≡ unless_open left depth (cond t (Some rest) (behind_brace rest))
+    by_test : (t : Bool) → variation_at (Brace left) false (suc depth) rest ≡ unless_open left depth (behind_brace rest)
+        → cond t (variation_at Plain false (suc depth) rest) (variation_at (Brace left) false (suc depth) rest)
+        ≡ unless_open left depth (cond t (Some rest) (behind_brace rest))
     by_test true more = refl
     by_test false more = more
 
@@ -45,29 +53,35 @@ by_brace : (left depth : ℕ) (o : Option (List ℕ)) → unless_open left depth
 by_brace left depth None = refl
 by_brace left depth (Some rest) = refl
 
-by_close : (left depth : ℕ) (rest : List ℕ) → variation_at Plain false depth rest ≡ behind left false (Some rest) (one_fewer depth)
+by_close : (left depth : ℕ) (rest : List ℕ) → variation_at Plain false depth rest ≡ behind left false (Some rest)
+    (one_fewer depth)
 by_close left zero rest = refl
 by_close left (suc depth) rest = refl
 
 abbrev IsPart : Bool → ℕ → ℕ → List ℕ → Type 0
-IsPart begins depth c rest = variation_at Plain begins (suc depth) (c ∷ rest) ≡ behind (suc (length rest)) (eqb c 10) (behind_part begins c rest) (depth_behind depth c)
+IsPart begins depth c rest = variation_at Plain begins (suc depth) (c ∷ rest) ≡ behind (suc (length rest)) (eqb c 10)
+    (behind_part begins c rest) (depth_behind depth c)
 
-pub by_part : (begins : Bool) (depth c : ℕ) (rest : List ℕ) → variation_at Plain begins (suc depth) (c ∷ rest) ≡ behind (suc (length rest)) (eqb c 10) (behind_part begins c rest) (depth_behind depth c)
+pub by_part : (begins : Bool) (depth c : ℕ) (rest : List ℕ) → variation_at Plain begins (suc depth) (c ∷ rest)
+    ≡ behind (suc (length rest)) (eqb c 10) (behind_part begins c rest) (depth_behind depth c)
 by_part begins depth c rest = by_line (begins && eqb c 37) refl
   where
-    by_closing : (t : Bool) → eqb c 41 ≡ t → (begins && eqb c 37) ≡ false → eqb c 123 ≡ false → eqb c 59 ≡ false → eqb c 40 ≡ false → IsPart begins depth c rest
+    by_closing : (t : Bool) → eqb c 41 ≡ t → (begins && eqb c 37) ≡ false → eqb c 123 ≡ false → eqb c 59 ≡ false
+        → eqb c 40 ≡ false → IsPart begins depth c rest
     by_closing true e line brace rest_line opens =
         let ends : eqb c 10 ≡ false = grind (arith, nat_tests) in
         rw (line, brace, rest_line, opens, e, ends) (by_close (suc (length rest)) depth rest)
     by_closing false e line brace rest_line opens = rw (line, brace, rest_line, opens, e) refl
 
-    by_opening : (t : Bool) → eqb c 40 ≡ t → (begins && eqb c 37) ≡ false → eqb c 123 ≡ false → eqb c 59 ≡ false → IsPart begins depth c rest
+    by_opening : (t : Bool) → eqb c 40 ≡ t → (begins && eqb c 37) ≡ false → eqb c 123 ≡ false → eqb c 59 ≡ false
+        → IsPart begins depth c rest
     by_opening true e line brace rest_line =
         let ends : eqb c 10 ≡ false = grind (arith, nat_tests) in
         rw (line, brace, rest_line, e, ends, add-one) refl
     by_opening false e line brace rest_line = by_closing (eqb c 41) refl line brace rest_line e
 
-    by_rest_line : (t : Bool) → eqb c 59 ≡ t → (begins && eqb c 37) ≡ false → eqb c 123 ≡ false → IsPart begins depth c rest
+    by_rest_line : (t : Bool) → eqb c 59 ≡ t → (begins && eqb c 37) ≡ false → eqb c 123 ≡ false
+        → IsPart begins depth c rest
     by_rest_line true e line brace =
         let ends : eqb c 10 ≡ false = grind (arith, nat_tests) in
         let opens : eqb c 40 ≡ false = grind (arith, nat_tests) in
@@ -81,7 +95,8 @@ by_part begins depth c rest = by_line (begins && eqb c 37) refl
         let rest_line : eqb c 59 ≡ false = grind (arith, nat_tests) in
         let opens : eqb c 40 ≡ false = grind (arith, nat_tests) in
         let closes : eqb c 41 ≡ false = grind (arith, nat_tests) in
-        rw (line, e, rest_line, opens, closes, ends) (in_brace (suc (length rest)) false depth rest ∙ by_brace (suc (length rest)) depth (behind_brace rest))
+        rw (line, e, rest_line, opens, closes, ends)
+        (in_brace (suc (length rest)) false depth rest ∙ by_brace (suc (length rest)) depth (behind_brace rest))
     by_opening_brace false e line = by_rest_line (eqb c 59) refl line e
 
     by_line : (t : Bool) → (begins && eqb c 37) ≡ t → IsPart begins depth c rest
@@ -94,18 +109,28 @@ by_part begins depth c rest = by_line (begins && eqb c 37) refl
     by_line false e = by_opening_brace (eqb c 123) refl e
 
 -- with its text as code meets it
-part_first : (begins : Bool) (depth : ℕ) (xs : List ℕ) → 1 ≤ length xs → variation_at Plain begins (suc depth) xs ≡ behind (length xs) (eqb (get_or xs 0 0) 10) (behind_part begins (get_or xs 0 0) (take (length xs - 1) (drop 1 xs))) (depth_behind depth (get_or xs 0 0))
+part_first : (begins : Bool) (depth : ℕ) (xs : List ℕ) → 1 ≤ length xs → variation_at Plain begins (suc depth) xs
+    ≡ behind (length xs) (eqb (get_or xs 0 0) 10)
+    (behind_part begins (get_or xs 0 0) (take (length xs - 1) (drop 1 xs))) (depth_behind depth (get_or xs 0 0))
 part_first begins depth [] h = absurd (omega (arith, h))
 part_first begins depth (c ∷ rest) h =
-    by_part begins depth c rest ∙ ap (λ text. behind (suc (length rest)) (eqb c 10) (behind_part begins c text) (depth_behind depth c)) (sym (take_rest (c ∷ rest) 1))
+    by_part begins depth c rest
+    ∙ ap (λ text. behind (suc (length rest)) (eqb c 10) (behind_part begins c text) (depth_behind depth c))
+    (sym (take_rest (c ∷ rest) 1))
 
 -- a comment in it has no end
-pub part_unclosed : (begins : Bool) (depth : ℕ) (xs : List ℕ) → 1 ≤ length xs → None ≡ behind_part begins (get_or xs 0 0) (take (length xs - 1) (drop 1 xs)) → variation_at Plain begins (suc depth) xs ≡ (Unclosed_comment (length xs), [])
+pub part_unclosed : (begins : Bool) (depth : ℕ) (xs : List ℕ) → 1 ≤ length xs
+    → None ≡ behind_part begins (get_or xs 0 0) (take (length xs - 1) (drop 1 xs))
+    → variation_at Plain begins (suc depth) xs ≡ (Unclosed_comment (length xs), [])
 part_unclosed begins depth xs h part =
-    part_first begins depth xs h ∙ ap (λ o. behind (length xs) (eqb (get_or xs 0 0) 10) o (depth_behind depth (get_or xs 0 0))) (sym part)
+    part_first begins depth xs h
+    ∙ ap (λ o. behind (length xs) (eqb (get_or xs 0 0) 10) o (depth_behind depth (get_or xs 0 0))) (sym part)
 
 -- a part, behind which the outermost variation is closed, or still open
-pub part_behind : (begins : Bool) (depth : ℕ) (xs rest : List ℕ) (inner : Option ℕ) → 1 ≤ length xs → Some rest ≡ behind_part begins (get_or xs 0 0) (take (length xs - 1) (drop 1 xs)) → inner ≡ depth_behind depth (get_or xs 0 0) → variation_at Plain begins (suc depth) xs ≡ behind (length xs) (eqb (get_or xs 0 0) 10) (Some rest) inner
+pub part_behind : (begins : Bool) (depth : ℕ) (xs rest : List ℕ) (inner : Option ℕ) → 1 ≤ length xs
+    → Some rest ≡ behind_part begins (get_or xs 0 0) (take (length xs - 1) (drop 1 xs))
+    → inner ≡ depth_behind depth (get_or xs 0 0) → variation_at Plain begins (suc depth) xs ≡ behind (length xs)
+    (eqb (get_or xs 0 0) 10) (Some rest) inner
 part_behind begins depth xs rest inner h part is =
     part_first begins depth xs h
     ∙ ap (λ o. behind (length xs) (eqb (get_or xs 0 0) 10) o (depth_behind depth (get_or xs 0 0))) (sym part)
@@ -115,7 +140,8 @@ part_behind begins depth xs rest inner h part is =
 pub depth_few : (depth c inner : ℕ) → Some inner ≡ depth_behind depth c → inner ≤ depth + 1
 depth_few depth c inner is = by_tests (eqb c 40) (eqb c 41) depth is
   where
-    by_tests : (opens closes : Bool) (depth : ℕ) → Some inner ≡ cond opens (Some (depth + 1)) (cond closes (one_fewer depth) (Some depth)) → inner ≤ depth + 1
+    by_tests : (opens closes : Bool) (depth : ℕ)
+        → Some inner ≡ cond opens (Some (depth + 1)) (cond closes (one_fewer depth) (Some depth)) → inner ≤ depth + 1
     by_tests true closes depth is = let e : inner ≡ depth + 1 = cc in omega arith
     by_tests false true zero is = absurd (cc)
     by_tests false true (suc depth) is = let e : inner ≡ depth = cc in omega arith

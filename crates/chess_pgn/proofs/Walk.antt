@@ -25,7 +25,8 @@ token_rest begins c rest = by_test (eqb c 10) refl
     by_test : (t : Bool) → eqb c 10 ≡ t → Rest c rest (token_at begins c rest).1
     by_test true e =
         let is : c ≡ 10 = grind (arith, nat_tests) in
-        let same : (token_at begins c rest).1 ≡ rest = ap (λ b. (token_at begins b rest).1) is ∙ token_ten begins rest in
+        let same : (token_at begins c rest).1 ≡ rest = ap (λ b. (token_at begins b rest).1) is
+        ∙ token_ten begins rest in
         inr (record { front = []; last = c; is = ap (λ xs. c ∷ xs) (sym same); ends = refl })
     by_test false e = by_left e (token_left begins c rest e)
 
@@ -38,7 +39,8 @@ shorter begins c rest = by_rest (token_rest begins c rest)
     by_rest (inr k) = omega (arith, simp length-append at (ap length k.is))
 
 -- more leave for tokens than there are bytes changes nothing
-pub enough : (n m : ℕ) (begins : Bool) (text : List ℕ) → length text ≤ n → length text ≤ m → tokens_of n begins text ≡ tokens_of m begins text
+pub enough : (n m : ℕ) (begins : Bool) (text : List ℕ) → length text ≤ n → length text ≤ m
+    → tokens_of n begins text ≡ tokens_of m begins text
 unfolding tokens_of
 enough zero zero begins text h k = refl
 enough zero (suc m) begins [] h k = refl
@@ -47,7 +49,9 @@ enough (suc n) zero begins [] h k = refl
 enough (suc n) zero begins (c ∷ rest) h k = absurd (omega (arith, k))
 enough (suc n) (suc m) begins [] h k = refl
 enough (suc n) (suc m) begins (c ∷ rest) h k =
-    ap (λ tokens. (length (c ∷ rest), (token_at begins c rest).0) ∷ tokens) (enough n m (eqb c 10) (token_at begins c rest).1 (omega (arith, h, shorter begins c rest)) (omega (arith, k, shorter begins c rest)))
+    ap (λ tokens. (length (c ∷ rest), (token_at begins c rest).0) ∷ tokens)
+    (enough n m (eqb c 10) (token_at begins c rest).1 (omega (arith, h, shorter begins c rest))
+    (omega (arith, k, shorter begins c rest)))
 
 pub none_left : (n : ℕ) (begins : Bool) → tokens_of n begins [] ≡ []
 unfolding tokens_of
@@ -64,7 +68,9 @@ no_token text at h = by_rest (drop at text) h
     by_rest (c ∷ rest) k = absurd (omega (arith, k))
 
 -- the place behind a byte: how a line begins there, and what stands from there on
-at_cut : (before behind : List ℕ) (last : ℕ) → (drop (length (before ++ last ∷ behind) - length behind) (before ++ last ∷ behind) ≡ behind) × (begins_line (before ++ last ∷ behind) (length (before ++ last ∷ behind) - length behind) ≡ eqb last 10)
+at_cut : (before behind : List ℕ) (last : ℕ)
+    → (drop (length (before ++ last ∷ behind) - length behind) (before ++ last ∷ behind) ≡ behind)
+    × (begins_line (before ++ last ∷ behind) (length (before ++ last ∷ behind) - length behind) ≡ eqb last 10)
 at_cut before behind last = (ap (λ n. drop n text) place ∙ rest, ap (begins_line text) place ∙ line)
   where
     text : List ℕ
@@ -81,21 +87,26 @@ at_cut before behind last = (ap (λ n. drop n text) place ∙ rest, ap (begins_l
     line : begins_line (before ++ last ∷ behind) (suc (length before)) ≡ eqb last 10
     line =
         let first : eqb (suc (length before)) 0 ≡ false = grind (arith, nat_tests) in
-        let there : get_or (before ++ last ∷ behind) (suc (length before) - 1) 0 ≡ last = get_or_at before last behind 0 (suc (length before) - 1) (omega arith) in
+        let there : get_or (before ++ last ∷ behind) (suc (length before) - 1) 0 ≡ last =
+        get_or_at before last behind 0 (suc (length before) - 1) (omega arith) in
         rw (first, there) refl
 
 IsPlace : List ℕ → ℕ → List ℕ → Type 0
-IsPlace behind last text = (drop (length text - length behind) text ≡ behind) × (begins_line text (length text - length behind) ≡ eqb last 10)
+IsPlace behind last text = (drop (length text - length behind) text ≡ behind)
+    × (begins_line text (length text - length behind) ≡ eqb last 10)
 
 -- the tokens behind one that begins with c
-tokens_behind : (text : List ℕ) (at c : ℕ) (rest behind : List ℕ) → drop at text ≡ c ∷ rest → Rest c rest behind → tokens_of (length rest) (eqb c 10) behind ≡ tokens_from text (length text - length behind)
+tokens_behind : (text : List ℕ) (at c : ℕ) (rest behind : List ℕ) → drop at text ≡ c ∷ rest → Rest c rest behind
+    → tokens_of (length rest) (eqb c 10) behind ≡ tokens_from text (length text - length behind)
 unfolding tokens_from IsPlace
 tokens_behind text at c rest behind is (inl e) =
     ap (tokens_of (length rest) (eqb c 10)) e ∙ none_left (length rest) (eqb c 10)
-    ∙ sym (no_token text (length text - length behind) (omega (arith, ap length e, length-drop (length text - length behind) text)))
+    ∙ sym (no_token text (length text - length behind)
+    (omega (arith, ap length e, length-drop (length text - length behind) text)))
 tokens_behind text at c rest behind is (inr k) =
     let before : List ℕ = take at text ++ k.front in
-    let whole : text ≡ before ++ k.last ∷ behind = sym (take-append-drop at text) ∙ ap (λ xs. take at text ++ xs) (is ∙ k.is) ∙ sym (append_assoc (take at text) k.front (k.last ∷ behind)) in
+    let whole : text ≡ before ++ k.last ∷ behind = sym (take-append-drop at text)
+    ∙ ap (λ xs. take at text ++ xs) (is ∙ k.is) ∙ sym (append_assoc (take at text) k.front (k.last ∷ behind)) in
     let place : IsPlace behind k.last text = subst (IsPlace behind k.last) (sym whole) (at_cut before behind k.last) in
     let few : length behind ≤ length rest = omega (arith, simp length-append at (ap length k.is)) in
     let fewer : length behind ≤ length text = omega (arith, simp length-append at (ap length whole)) in
@@ -104,7 +115,9 @@ tokens_behind text at c rest behind is (inr k) =
     ∙ ap (tokens_of (length text) (begins_line text (length text - length behind))) (sym place.0)
 
 -- one token more, with its text as code meets it
-pub token_more : (text : List ℕ) (at c : ℕ) (rest : List ℕ) → drop at text ≡ c ∷ rest → at ≤ length text → tokens_from text at ≡ (length text - at, (token_at (begins_line text at) c rest).0) ∷ tokens_from text (length text - length (token_at (begins_line text at) c rest).1)
+pub token_more : (text : List ℕ) (at c : ℕ) (rest : List ℕ) → drop at text ≡ c ∷ rest → at ≤ length text
+    → tokens_from text at ≡ (length text - at, (token_at (begins_line text at) c rest).0) ∷ tokens_from text
+    (length text - length (token_at (begins_line text at) c rest).1)
 unfolding tokens_from tokens_of
 token_more text at c rest is h =
     let left : suc (length rest) ≡ length text - at = sym (ap length is) ∙ length-drop at text in
@@ -113,9 +126,11 @@ token_more text at c rest is h =
     ap (tokens_of (length text) (begins_line text at)) is
     ∙ enough (length text) (suc (length rest)) (begins_line text at) (c ∷ rest) all (omega arith)
     ∙ ap (λ n. (n, t.0) ∷ tokens_of (length rest) (eqb c 10) t.1) left
-    ∙ ap (λ tokens. (length text - at, t.0) ∷ tokens) (tokens_behind text at c rest t.1 is (token_rest (begins_line text at) c rest))
+    ∙ ap (λ tokens. (length text - at, t.0) ∷ tokens)
+    (tokens_behind text at c rest t.1 is (token_rest (begins_line text at) c rest))
 
-pub token_nearer : (text : List ℕ) (at c : ℕ) (rest : List ℕ) → drop at text ≡ c ∷ rest → at ≤ length text → at < length text - length (token_at (begins_line text at) c rest).1
+pub token_nearer : (text : List ℕ) (at c : ℕ) (rest : List ℕ) → drop at text ≡ c ∷ rest → at ≤ length text
+    → at < length text - length (token_at (begins_line text at) c rest).1
 token_nearer text at c rest is h =
     omega (arith, ap length is, length-drop at text, shorter (begins_line text at) c rest)
 
@@ -126,22 +141,34 @@ pub record NextToken (text : List ℕ) (at : ℕ) (token : Token) (behind : List
   pub nearer : at < length text - length behind
   pub fewer : length behind ≤ length text
 
-pub next_token : (text : List ℕ) (at : ℕ) (begins : Bool) (xs : List ℕ) → at ≤ length text → begins ≡ begins_line text at → xs ≡ take (length text - at) (drop at text) → 1 ≤ length xs → (token : Token) (behind : List ℕ) → (token, behind) ≡ token_at begins (get_or xs 0 0) (take (length xs - 1) (drop 1 xs)) → NextToken text at token behind
+pub next_token : (text : List ℕ) (at : ℕ) (begins : Bool) (xs : List ℕ) → at ≤ length text
+    → begins ≡ begins_line text at → xs ≡ take (length text - at) (drop at text) → 1 ≤ length xs
+    → (token : Token) (behind : List ℕ)
+    → (token, behind) ≡ token_at begins (get_or xs 0 0) (take (length xs - 1) (drop 1 xs))
+    → NextToken text at token behind
 next_token text at begins [] h line is some token behind e = absurd (omega (arith, some))
 next_token text at begins (c ∷ rest) h line is some token behind e =
     let left : drop at text ≡ c ∷ rest = sym (is ∙ take_rest text at) in
     let t : Token × List ℕ = token_at (begins_line text at) c rest in
-    let same : t ≡ (token, behind) = ap (token_at (begins_line text at) c) (sym (take_rest (c ∷ rest) 1)) ∙ ap (λ b. token_at b c (take (suc (length rest) - 1) (drop 1 (c ∷ rest)))) (sym line) ∙ sym e in
+    let same : t ≡ (token, behind) = ap (token_at (begins_line text at) c) (sym (take_rest (c ∷ rest) 1))
+    ∙ ap (λ b. token_at b c (take (suc (length rest) - 1) (drop 1 (c ∷ rest)))) (sym line) ∙ sym e in
     record {
-      tokens = subst (λ (p : Token × List ℕ). tokens_from text at ≡ (length text - at, p.0) ∷ tokens_from text (length text - length p.1)) same (token_more text at c rest left h);
+      tokens = subst (λ (p : Token × List ℕ). tokens_from text at ≡ (length text - at, p.0) ∷ tokens_from text
+          (length text - length p.1)) same (token_more text at c rest left h);
       nearer = subst (λ (p : Token × List ℕ). at < length text - length p.1) same (token_nearer text at c rest left h);
-      fewer = subst (λ (p : Token × List ℕ). length p.1 ≤ length text) same (omega (arith, ap length left, length-drop at text, shorter (begins_line text at) c rest));
+      fewer = subst (λ (p : Token × List ℕ). length p.1 ≤ length text) same
+          (omega (arith, ap length left, length-drop at text, shorter (begins_line text at) c rest));
     }
 
-pub last_token : (text : List ℕ) (at : ℕ) (begins : Bool) (xs : List ℕ) → at ≤ length text → begins ≡ begins_line text at → xs ≡ take (length text - at) (drop at text) → 1 ≤ length xs → (token : Token) → (token, []) ≡ token_at begins (get_or xs 0 0) (take (length xs - 1) (drop 1 xs)) → tokens_from text at ≡ (length text - at, token) ∷ []
+pub last_token : (text : List ℕ) (at : ℕ) (begins : Bool) (xs : List ℕ) → at ≤ length text
+    → begins ≡ begins_line text at → xs ≡ take (length text - at) (drop at text) → 1 ≤ length xs → (token : Token)
+    → (token, []) ≡ token_at begins (get_or xs 0 0) (take (length xs - 1) (drop 1 xs))
+    → tokens_from text at ≡ (length text - at, token) ∷ []
 last_token text at begins xs h line is some token e =
     (next_token text at begins xs h line is some token [] e).tokens
-    ∙ ap (λ tokens. (length text - at, token) ∷ tokens) (no_token text (length text - 0) (omega (arith, length-drop (length text - 0) text)))
+    ∙ ap (λ tokens. (length text - at, token) ∷ tokens)
+    (no_token text (length text - 0) (omega (arith, length-drop (length text - 0) text)))
 
-pub no_token_left : (text : List ℕ) (at : ℕ) (xs : List ℕ) → xs ≡ take (length text - at) (drop at text) → length xs < 1 → tokens_from text at ≡ []
+pub no_token_left : (text : List ℕ) (at : ℕ) (xs : List ℕ) → xs ≡ take (length text - at) (drop at text) → length xs < 1
+    → tokens_from text at ≡ []
 no_token_left text at xs is none = no_token text at (omega (arith, ap length (is ∙ take_rest text at)))

@@ -18,9 +18,11 @@ use Rattle.chess_text.proofs.Legal.{legal_move}
 
 -- ---- over lists
 
-pub filter-flat_map : {A B : Type 0} (q : B → Bool) (f : A → List B) (xs : List A) → filter q (flat_map f xs) ≡ flat_map (λ x. filter q (f x)) xs
+pub filter-flat_map : {A B : Type 0} (q : B → Bool) (f : A → List B) (xs : List A)
+    → filter q (flat_map f xs) ≡ flat_map (λ x. filter q (f x)) xs
 filter-flat_map q f [] = refl
-filter-flat_map q f (x ∷ xs) = filter-append q (f x) (flat_map f xs) ∙ ap (λ ys. filter q (f x) ++ ys) (filter-flat_map q f xs)
+filter-flat_map q f (x ∷ xs) = filter-append q (f x) (flat_map f xs)
+    ∙ ap (λ ys. filter q (f x) ++ ys) (filter-flat_map q f xs)
 
 pub filter-both : {A : Type 0} (q t : A → Bool) (xs : List A) → filter t (filter q xs) ≡ filter (λ x. q x && t x) xs
 filter-both q t [] = refl
@@ -42,13 +44,16 @@ any-filter q t (x ∷ xs) =
       | inl passed ↦ rw passed (ap (λ b. t x || b) (any-filter q t xs))
     ]
 
-any-flat_map : {A B : Type 0} (t : B → Bool) (f : A → List B) (xs : List A) → list_any t (flat_map f xs) ≡ list_any (λ x. list_any t (f x)) xs
+any-flat_map : {A B : Type 0} (t : B → Bool) (f : A → List B) (xs : List A)
+    → list_any t (flat_map f xs) ≡ list_any (λ x. list_any t (f x)) xs
 any-flat_map t f [] = refl
-any-flat_map t f (x ∷ xs) = list_any-append t (f x) (flat_map f xs) ∙ ap (λ b. list_any t (f x) || b) (any-flat_map t f xs)
+any-flat_map t f (x ∷ xs) = list_any-append t (f x) (flat_map f xs)
+    ∙ ap (λ b. list_any t (f x) || b) (any-flat_map t f xs)
 
 -- ---- over squares
 
-any-from_below : (n : ℕ) (g : ℕ → ℕ) (t : ℕ → Bool) (k : ℕ) → k < n → t (g k) ≡ true → list_any t (from_below n g) ≡ true
+any-from_below : (n : ℕ) (g : ℕ → ℕ) (t : ℕ → Bool) (k : ℕ) → k < n → t (g k) ≡ true
+    → list_any t (from_below n g) ≡ true
 any-from_below zero g t k h e = absurd (omega arith)
 any-from_below (suc n) g t zero h e = or_left (t (g 0)) _ e
 any-from_below (suc n) g t (suc k) h e = or_right (t (g 0)) _ (any-from_below n (λ i. g (suc i)) t k (omega arith) e)
@@ -57,22 +62,29 @@ any-square : (t : ℕ → Bool) (k : ℕ) → k < 64 → t k ≡ true → list_a
 unfolding squares
 any-square t k h e = any-from_below 64 (λ s. s) t k h e
 
-none-from_below : {A : Type 0} (n : ℕ) (g : ℕ → ℕ) (f : ℕ → List A) → ((k : ℕ) → k < n → f (g k) ≡ []) → flat_map f (from_below n g) ≡ []
+none-from_below : {A : Type 0} (n : ℕ) (g : ℕ → ℕ) (f : ℕ → List A) → ((k : ℕ) → k < n → f (g k) ≡ [])
+    → flat_map f (from_below n g) ≡ []
 none-from_below zero g f h = refl
-none-from_below (suc n) g f h = rw (h 0 (omega arith)) (none-from_below n (λ i. g (suc i)) f (λ k l. h (suc k) (omega arith)))
+none-from_below (suc n) g f h =
+    rw (h 0 (omega arith)) (none-from_below n (λ i. g (suc i)) f (λ k l. h (suc k) (omega arith)))
 
-only-from_below : {A : Type 0} (n : ℕ) (g : ℕ → ℕ) (f : ℕ → List A) (a : ℕ) → a < n → ((k : ℕ) → k ≢ a → f (g k) ≡ []) → flat_map f (from_below n g) ≡ f (g a)
+only-from_below : {A : Type 0} (n : ℕ) (g : ℕ → ℕ) (f : ℕ → List A) (a : ℕ) → a < n → ((k : ℕ) → k ≢ a → f (g k) ≡ [])
+    → flat_map f (from_below n g) ≡ f (g a)
 only-from_below zero g f a h e = absurd (omega arith)
-only-from_below (suc n) g f zero h e = rw (none-from_below n (λ i. g (suc i)) f (λ k l. e (suc k) (omega arith))) (append-nil (f (g 0)))
-only-from_below (suc n) g f (suc a) h e = rw (e 0 (omega arith)) (only-from_below n (λ i. g (suc i)) f a (omega arith) (λ k l. e (suc k) (omega arith)))
+only-from_below (suc n) g f zero h e = rw (none-from_below n (λ i. g (suc i)) f (λ k l. e (suc k) (omega arith)))
+    (append-nil (f (g 0)))
+only-from_below (suc n) g f (suc a) h e =
+    rw (e 0 (omega arith)) (only-from_below n (λ i. g (suc i)) f a (omega arith) (λ k l. e (suc k) (omega arith)))
 
 -- where no square but one gives anything, it gives all; it need be no square if it gives nothing
-pub alone-square : {A : Type 0} (f : ℕ → List A) (a : ℕ) → ((k : ℕ) → k ≢ a → f k ≡ []) → (64 ≤ a → f a ≡ []) → flat_map f squares ≡ f a
+pub alone-square : {A : Type 0} (f : ℕ → List A) (a : ℕ) → ((k : ℕ) → k ≢ a → f k ≡ []) → (64 ≤ a → f a ≡ [])
+    → flat_map f squares ≡ f a
 unfolding squares
 alone-square f a e none =
     elim (cases_lt a 64) [
       | inl below ↦ only-from_below 64 (λ s. s) f a below e
-      | inr above ↦ none-from_below 64 (λ s. s) f (λ k h. e k (λ same. omega (arith, same, h, above))) ∙ sym (none above)
+      | inr above ↦ none-from_below 64 (λ s. s) f (λ k h. e k (λ same. omega (arith, same, h, above)))
+          ∙ sym (none above)
     ]
 
 only-square : {A : Type 0} (f : ℕ → List A) (a : ℕ) → a < 64 → ((k : ℕ) → k ≢ a → f k ≡ []) → flat_map f squares ≡ f a
@@ -106,32 +118,45 @@ from_rook a b = triple a b (Some Rook) ∷ from_bishop a b
 abbrev from_queen : ℕ → ℕ → List Move
 from_queen a b = triple a b (Some Queen) ∷ from_rook a b
 
-any-promotion : (t : Move → Bool) (a b : ℕ) (o : Option Kind) → IfSome o CanPromote → t (triple a b o) ≡ true → among t a b ≡ true
+any-promotion : (t : Move → Bool) (a b : ℕ) (o : Option Kind) → IfSome o CanPromote → t (triple a b o) ≡ true
+    → among t a b ≡ true
 any-promotion t a b None h e = any-here t (triple a b None) (from_queen a b) e
 any-promotion t a b (Some King) h e = absurd h
 any-promotion t a b (Some Pawn) h e = absurd h
-any-promotion t a b (Some Queen) h e = any-later t (triple a b None) (from_queen a b) (any-here t (triple a b (Some Queen)) (from_rook a b) e)
+any-promotion t a b (Some Queen) h e = any-later t (triple a b None) (from_queen a b)
+    (any-here t (triple a b (Some Queen)) (from_rook a b) e)
 any-promotion t a b (Some Rook) h e =
-    any-later t (triple a b None) (from_queen a b) (any-later t (triple a b (Some Queen)) (from_rook a b) (any-here t (triple a b (Some Rook)) (from_bishop a b) e))
+    any-later t (triple a b None) (from_queen a b)
+    (any-later t (triple a b (Some Queen)) (from_rook a b)
+    (any-here t (triple a b (Some Rook)) (from_bishop a b) e))
 any-promotion t a b (Some Bishop) h e =
-    any-later t (triple a b None) (from_queen a b) (any-later t (triple a b (Some Queen)) (from_rook a b) (any-later t (triple a b (Some Rook)) (from_bishop a b) (any-here t (triple a b (Some Bishop)) (from_knight a b) e)))
+    any-later t (triple a b None) (from_queen a b)
+    (any-later t (triple a b (Some Queen)) (from_rook a b)
+    (any-later t (triple a b (Some Rook)) (from_bishop a b)
+    (any-here t (triple a b (Some Bishop)) (from_knight a b) e)))
 any-promotion t a b (Some Knight) h e =
-    any-later t (triple a b None) (from_queen a b) (any-later t (triple a b (Some Queen)) (from_rook a b) (any-later t (triple a b (Some Rook)) (from_bishop a b)
+    any-later t (triple a b None) (from_queen a b)
+    (any-later t (triple a b (Some Queen)) (from_rook a b) (any-later t (triple a b (Some Rook)) (from_bishop a b)
     (any-later t (triple a b (Some Bishop)) (from_knight a b) (any-here t (triple a b (Some Knight)) [] e))))
 
-any-triple : (t : Move → Bool) (m : Move) → m.from < 64 → m.to < 64 → IfSome m.promotion CanPromote → t m ≡ true → list_any t all_triples ≡ true
+any-triple : (t : Move → Bool) (m : Move) → m.from < 64 → m.to < 64 → IfSome m.promotion CanPromote → t m ≡ true
+    → list_any t all_triples ≡ true
 unfolding all_triples
 any-triple t m f b k e =
     let here : among t m.from m.to ≡ true = any-promotion t m.from m.to m.promotion k e in
-    let from : list_any t (flat_map (λ b. map (triple m.from b) promotions) squares) ≡ true = any-flat_map t (λ b. map (triple m.from b) promotions) squares ∙ any-square (λ b. among t m.from b) m.to b here in
-    any-flat_map t (λ a. flat_map (λ b. map (triple a b) promotions) squares) squares ∙ any-square (λ a. list_any t (flat_map (λ b. map (triple a b) promotions) squares)) m.from f from
+    let from : list_any t (flat_map (λ b. map (triple m.from b) promotions) squares) ≡ true =
+    any-flat_map t (λ b. map (triple m.from b) promotions) squares
+    ∙ any-square (λ b. among t m.from b) m.to b here in
+    any-flat_map t (λ a. flat_map (λ b. map (triple a b) promotions) squares) squares
+    ∙ any-square (λ a. list_any t (flat_map (λ b. map (triple a b) promotions) squares)) m.from f from
 
 -- a legal move that passes a test stands among all moves
 pub any-move : (p : Setup) (t : Move → Bool) (m : Move) → is_legal p m ≡ true → t m ≡ true → list_any t (moves p) ≡ true
 unfolding moves
 any-move p t m legal e =
     let h = legal_move p m legal in
-    any-filter (λ x. is_legal p x) t all_triples ∙ any-triple (λ x. is_legal p x && t x) m h.from_in h.to_in h.promotion_is (and_from (is_legal p m) (t m) legal e)
+    any-filter (λ x. is_legal p x) t all_triples ∙ any-triple (λ x. is_legal p x && t x) m h.from_in h.to_in
+    h.promotion_is (and_from (is_legal p m) (t m) legal e)
 
 -- ---- the only move of the list
 
@@ -141,32 +166,46 @@ kept t a b = filter t (map (triple a b) promotions)
 pub none-kept : (t : Move → Bool) (a b : ℕ) → ((k : Option Kind) → t (triple a b k) ≡ false) → kept t a b ≡ []
 none-kept t a b h = rw (h None, h (Some Queen), h (Some Rook), h (Some Bishop), h (Some Knight)) refl
 
-only-promotion : (t : Move → Bool) (a b : ℕ) (o : Option Kind) → IfSome o CanPromote → t (triple a b o) ≡ true → ((k : Option Kind) → k ≢ o → t (triple a b k) ≡ false) → kept t a b ≡ triple a b o ∷ []
-only-promotion t a b None h e n = rw (e, n (Some Queen) (λ q. cc), n (Some Rook) (λ q. cc), n (Some Bishop) (λ q. cc), n (Some Knight) (λ q. cc)) refl
+only-promotion : (t : Move → Bool) (a b : ℕ) (o : Option Kind) → IfSome o CanPromote → t (triple a b o) ≡ true
+    → ((k : Option Kind) → k ≢ o → t (triple a b k) ≡ false) → kept t a b ≡ triple a b o ∷ []
+only-promotion t a b None h e n =
+    rw (e, n (Some Queen) (λ q. cc), n (Some Rook) (λ q. cc), n (Some Bishop) (λ q. cc), n (Some Knight) (λ q. cc)) refl
 only-promotion t a b (Some King) h e n = absurd h
 only-promotion t a b (Some Pawn) h e n = absurd h
-only-promotion t a b (Some Queen) h e n = rw (e, n None (λ q. cc), n (Some Rook) (λ q. cc), n (Some Bishop) (λ q. cc), n (Some Knight) (λ q. cc)) refl
-only-promotion t a b (Some Rook) h e n = rw (e, n None (λ q. cc), n (Some Queen) (λ q. cc), n (Some Bishop) (λ q. cc), n (Some Knight) (λ q. cc)) refl
-only-promotion t a b (Some Bishop) h e n = rw (e, n None (λ q. cc), n (Some Queen) (λ q. cc), n (Some Rook) (λ q. cc), n (Some Knight) (λ q. cc)) refl
-only-promotion t a b (Some Knight) h e n = rw (e, n None (λ q. cc), n (Some Queen) (λ q. cc), n (Some Rook) (λ q. cc), n (Some Bishop) (λ q. cc)) refl
+only-promotion t a b (Some Queen) h e n =
+    rw (e, n None (λ q. cc), n (Some Rook) (λ q. cc), n (Some Bishop) (λ q. cc), n (Some Knight) (λ q. cc)) refl
+only-promotion t a b (Some Rook) h e n =
+    rw (e, n None (λ q. cc), n (Some Queen) (λ q. cc), n (Some Bishop) (λ q. cc), n (Some Knight) (λ q. cc)) refl
+only-promotion t a b (Some Bishop) h e n =
+    rw (e, n None (λ q. cc), n (Some Queen) (λ q. cc), n (Some Rook) (λ q. cc), n (Some Knight) (λ q. cc)) refl
+only-promotion t a b (Some Knight) h e n =
+    rw (e, n None (λ q. cc), n (Some Queen) (λ q. cc), n (Some Rook) (λ q. cc), n (Some Bishop) (λ q. cc)) refl
 
-only-triple : (t : Move → Bool) (m : Move) → m.from < 64 → m.to < 64 → IfSome m.promotion CanPromote → t m ≡ true → ((n : Move) → t n ≡ true → n ≡ m) → filter t all_triples ≡ m ∷ []
+only-triple : (t : Move → Bool) (m : Move) → m.from < 64 → m.to < 64 → IfSome m.promotion CanPromote → t m ≡ true
+    → ((n : Move) → t n ≡ true → n ≡ m) → filter t all_triples ≡ m ∷ []
 unfolding all_triples
 only-triple t m f b k e alone =
-    let other : (n : Move) → n ≢ m → t n ≡ false = λ n differs. false_from_ne_true (t n) (λ passed. differs (alone n passed)) in
+    let other : (n : Move) → n ≢ m → t n ≡ false = λ n differs.
+    false_from_ne_true (t n) (λ passed. differs (alone n passed)) in
     let away : (a : ℕ) → a ≢ m.from → filter t (flat_map (λ b. map (triple a b) promotions) squares) ≡ [] = λ a differs.
-    filter-flat_map t (λ b. map (triple a b) promotions) squares ∙ none-squares (λ b. kept t a b) (λ b. none-kept t a b (λ k. other (triple a b k) (λ same. differs (ap (λ (n : Move). n.from) same)))) in
-    let aside : (b : ℕ) → b ≢ m.to → kept t m.from b ≡ [] = λ b differs. none-kept t m.from b (λ k. other (triple m.from b k) (λ same. differs (ap (λ (n : Move). n.to) same))) in
+    filter-flat_map t (λ b. map (triple a b) promotions) squares
+    ∙ none-squares (λ b. kept t a b)
+    (λ b. none-kept t a b (λ k. other (triple a b k) (λ same. differs (ap (λ (n : Move). n.from) same)))) in
+    let aside : (b : ℕ) → b ≢ m.to → kept t m.from b ≡ [] = λ b differs.
+    none-kept t m.from b (λ k. other (triple m.from b k) (λ same. differs (ap (λ (n : Move). n.to) same))) in
     filter-flat_map t (λ a. flat_map (λ b. map (triple a b) promotions) squares) squares
     ∙ only-square (λ a. filter t (flat_map (λ b. map (triple a b) promotions) squares)) m.from f away
     ∙ filter-flat_map t (λ b. map (triple m.from b) promotions) squares
     ∙ only-square (λ b. kept t m.from b) m.to b aside
-    ∙ only-promotion t m.from m.to m.promotion k e (λ k differs. other (triple m.from m.to k) (λ same. differs (ap (λ (n : Move). n.promotion) same)))
+    ∙ only-promotion t m.from m.to m.promotion k e
+    (λ k differs. other (triple m.from m.to k) (λ same. differs (ap (λ (n : Move). n.promotion) same)))
 
 -- a legal move that alone of the legal ones passes a test is the only one that is kept of all moves
-pub only-move : (p : Setup) (t : Move → Bool) (m : Move) → is_legal p m ≡ true → t m ≡ true → ((n : Move) → is_legal p n ≡ true → t n ≡ true → n ≡ m) → filter t (moves p) ≡ m ∷ []
+pub only-move : (p : Setup) (t : Move → Bool) (m : Move) → is_legal p m ≡ true → t m ≡ true
+    → ((n : Move) → is_legal p n ≡ true → t n ≡ true → n ≡ m) → filter t (moves p) ≡ m ∷ []
 unfolding moves
 only-move p t m legal e alone =
     let h = legal_move p m legal in
     filter-both (λ x. is_legal p x) t all_triples
-    ∙ only-triple (λ x. is_legal p x && t x) m h.from_in h.to_in h.promotion_is (and_from (is_legal p m) (t m) legal e) (λ n both. let parts = and_parts (is_legal p n) (t n) both in alone n parts.0 parts.1)
+    ∙ only-triple (λ x. is_legal p x && t x) m h.from_in h.to_in h.promotion_is (and_from (is_legal p m) (t m) legal e)
+    (λ n both. let parts = and_parts (is_legal p n) (t n) both in alone n parts.0 parts.1)

@@ -26,29 +26,35 @@ use Rattle.chess_text.proofs.Legal.{IsMove, told_of, described_is}
 -- ---- what is read
 
 -- a text that spells a legal move alone is read as it
-pub read_alone : (p : Setup) (text : List ℕ) (m : Move) → is_legal p m ≡ true → shape text ≡ true → SpellsAlone p text m → reading p text ≡ reads.Move m
+pub read_alone : (p : Setup) (text : List ℕ) (m : Move) → is_legal p m ≡ true → shape text ≡ true → SpellsAlone p text m
+    → reading p text ≡ reads.Move m
 unfolding reading
 read_alone p text m legal is alone = rw is (ap one_of (only-move p (λ n. spells p text n) m legal alone.0 alone.1))
 
 -- ---- the text of parts
 
 no_name : (text : List ℕ) (q : Parts) → parts_at text ≡ Some q → (w : CastlingSide) → names_side text w ≡ false
-no_name text q e w = false_from_ne_true (names_side text w) (λ named. let none = (castling_from_name text w named).no_parts in cc)
+no_name text q e w = false_from_ne_true (names_side text w)
+    (λ named. let none = (castling_from_name text w named).no_parts in cc)
 
-no_side : (text : List ℕ) (q : Parts) → parts_at text ≡ Some q → (o : Option CastlingSide) → passes (names_side text) o ≡ false
+no_side : (text : List ℕ) (q : Parts) → parts_at text ≡ Some q → (o : Option CastlingSide)
+    → passes (names_side text) o ≡ false
 no_side text q e None = refl
 no_side text q e (Some w) = no_name text q e w
 
 read_parts : (text : List ℕ) (q : Parts) → unmarked text ≡ parts_text q → AreParts q → parts_at (unmarked text) ≡ Some q
 read_parts text q e h = ap parts_at e ∙ parts-spelled q h
 
-pub spelled_parts : (text : List ℕ) (q : Parts) (d : Described) → unmarked text ≡ parts_text q → AreParts q → spells_described text d ≡ fits q d
+pub spelled_parts : (text : List ℕ) (q : Parts) (d : Described) → unmarked text ≡ parts_text q → AreParts q
+    → spells_described text d ≡ fits q d
 unfolding spells_described is_castling_text parts_of
 spelled_parts text q d e h =
     let at = read_parts text q e h in
-    ap (λ t. t || passes (λ r. fits r d) (parts_at (unmarked text))) (no_side (unmarked text) q at d.castles) ∙ ap (passes (λ r. fits r d)) at
+    ap (λ t. t || passes (λ r. fits r d) (parts_at (unmarked text))) (no_side (unmarked text) q at d.castles)
+    ∙ ap (passes (λ r. fits r d)) at
 
-pub shape_parts : (text : List ℕ) (q : Parts) → unmarked text ≡ parts_text q → AreParts q → is_form q ≡ true → shape text ≡ true
+pub shape_parts : (text : List ℕ) (q : Parts) → unmarked text ≡ parts_text q → AreParts q → is_form q ≡ true
+    → shape text ≡ true
 unfolding shape is_castling_text parts_of
 shape_parts text q e h form =
     let at = read_parts text q e h in
@@ -58,7 +64,8 @@ shape_parts text q e h form =
 
 -- ---- the text of castling
 
-pub spelled_castling : (text : List ℕ) (w : CastlingSide) (d : Described) → IsCastling (unmarked text) w → spells_described text d ≡ passes (same_side w) d.castles
+pub spelled_castling : (text : List ℕ) (w : CastlingSide) (d : Described) → IsCastling (unmarked text) w
+    → spells_described text d ≡ passes (same_side w) d.castles
 unfolding spells_described is_castling_text parts_of
 spelled_castling text w d h = castling_spelled (unmarked text) w d h
 
@@ -69,7 +76,8 @@ shape_castling text QueenSide h = rw (h.names KingSide, h.names QueenSide) refl
 
 -- ---- of a legal move
 
-pub spells_move : (p : Setup) (text : List ℕ) (m : Move) (h : IsMove p m) → spells p text m ≡ spells_described text (told_of p m h.man)
+pub spells_move : (p : Setup) (text : List ℕ) (m : Move) (h : IsMove p m)
+    → spells p text m ≡ spells_described text (told_of p m h.man)
 unfolding spells
 spells_move p text m h = ap (passes (spells_described text)) (described_is p m h)
 
@@ -142,11 +150,13 @@ promotes-same equals small (Some k) (Some l) e = ap Some (sym (same_kind-true k 
 
 -- ---- what a text spells, with no reader
 
-pub castled : (test : CastlingSide → Bool) (o : Option CastlingSide) → passes test o ≡ true → (w : CastlingSide) × (o ≡ Some w) × (test w ≡ true)
+pub castled : (test : CastlingSide → Bool) (o : Option CastlingSide) → passes test o ≡ true → (w : CastlingSide)
+    × (o ≡ Some w) × (test w ≡ true)
 castled test None e = absurd cc
 castled test (Some w) e = (w, refl, e)
 
-of_parts : (test : Parts → Bool) (o : Option Parts) → passes test o ≡ true → (q : Parts) × (o ≡ Some q) × (test q ≡ true)
+of_parts : (test : Parts → Bool) (o : Option Parts) → passes test o ≡ true → (q : Parts) × (o ≡ Some q)
+    × (test q ≡ true)
 of_parts test None e = absurd cc
 of_parts test (Some q) e = (q, refl, e)
 
@@ -161,7 +171,8 @@ is_spelled_so text d e =
           inr (of.0, is.0, is.1, of.2)
     ]
 
-castling_spells : (text : List ℕ) (d : Described) (w : CastlingSide) → d.castles ≡ Some w → is_castling_text text w ≡ true → spells_described text d ≡ true
+castling_spells : (text : List ℕ) (d : Described) (w : CastlingSide) → d.castles ≡ Some w
+    → is_castling_text text w ≡ true → spells_described text d ≡ true
 unfolding spells_described
 castling_spells text d w e h = rw (e, h) refl
 
@@ -174,7 +185,8 @@ spelled_by_text text d = (is_spelled_so text d, spelled_so text d)
 
 -- ---- which texts have a move's shape, with no reader
 
-either_side : (text : List ℕ) → (is_castling_text text KingSide || is_castling_text text QueenSide) ≡ true → (w : CastlingSide) × (is_castling_text text w ≡ true)
+either_side : (text : List ℕ) → (is_castling_text text KingSide || is_castling_text text QueenSide) ≡ true
+    → (w : CastlingSide) × (is_castling_text text w ≡ true)
 either_side text e =
     elim (or_cases (is_castling_text text KingSide) (is_castling_text text QueenSide) e) [
       | inl h ↦ (KingSide, h)
@@ -184,7 +196,8 @@ either_side text e =
 is_shaped_so : (text : List ℕ) → shape text ≡ true → IsShaped text
 unfolding shape parts_of
 is_shaped_so text e =
-    elim (or_cases (is_castling_text text KingSide || is_castling_text text QueenSide) (passes is_form (parts_at (unmarked text))) e) [
+    elim (or_cases (is_castling_text text KingSide || is_castling_text text QueenSide)
+    (passes is_form (parts_at (unmarked text))) e) [
       | inl h ↦ inl (either_side text h)
       | inr h ↦
           let of = of_parts is_form (parts_at (unmarked text)) h in

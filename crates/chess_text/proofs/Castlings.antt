@@ -46,13 +46,17 @@ digits_queenside = record { no_parts = refl; names = by_side }
     by_side KingSide = refl
     by_side QueenSide = refl
 
-one_of_two : (text a b : List ℕ) (w : CastlingSide) → IsCastling a w → IsCastling b w → list_any (bytes_eq text) (a ∷ b ∷ []) ≡ true → IsCastling text w
+one_of_two : (text a b : List ℕ) (w : CastlingSide) → IsCastling a w → IsCastling b w
+    → list_any (bytes_eq text) (a ∷ b ∷ []) ≡ true → IsCastling text w
 one_of_two text a b w at_a at_b e =
     elim (or_cases (bytes_eq text a) (list_any (bytes_eq text) (b ∷ [])) e) [
       | inl h ↦ let is : text ≡ a = (bytes_eq-Decides text a).0 h in rw is at_a
-      | inr h ↦ elim (or_cases (bytes_eq text b) false h) [ inl k ↦ let is : text ≡ b = (bytes_eq-Decides text b).0 k in rw is at_b | inr k ↦ absurd cc ]
+      | inr h ↦ elim (or_cases (bytes_eq text b) false h)
+          [ inl k ↦ let is : text ≡ b = (bytes_eq-Decides text b).0 k in rw is at_b | inr k ↦ absurd cc ]
     ]
 
 pub castling_from_name : (text : List ℕ) (w : CastlingSide) → names_side text w ≡ true → IsCastling text w
-castling_from_name text KingSide e = one_of_two text (codes "O-O") (codes "0-0") KingSide letters_kingside digits_kingside e
-castling_from_name text QueenSide e = one_of_two text (codes "O-O-O") (codes "0-0-0") QueenSide letters_queenside digits_queenside e
+castling_from_name text KingSide e = one_of_two text (codes "O-O") (codes "0-0") KingSide letters_kingside
+    digits_kingside e
+castling_from_name text QueenSide e = one_of_two text (codes "O-O-O") (codes "0-0-0") QueenSide letters_queenside
+    digits_queenside e

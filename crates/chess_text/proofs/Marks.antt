@@ -23,7 +23,8 @@ unmarked-solid xs c e =
     let text = xs ++ c ∷ [] in
     let len : length text ≡ length xs + 1 = length-append xs (c ∷ []) in
     let none : suffix_len is_mark text ≡ 0 =
-    ap (suffix_len is_mark) (sym (take-length text)) ∙ suffix_len-take_no is_mark text (length text) 0 (omega arith) (omega arith) (ap is_mark (last_at xs c) ∙ e) in
+    ap (suffix_len is_mark) (sym (take-length text)) ∙ suffix_len-take_no is_mark text (length text) 0 (omega arith)
+    (omega arith) (ap is_mark (last_at xs c) ∙ e) in
     let all : length text - suffix_len is_mark text ≡ length text = omega arith in
     ap (λ n. take n text) all ∙ take-length text
 
@@ -33,9 +34,12 @@ unfolding unmarked
 unmarked-marked xs c e =
     let text = xs ++ c ∷ [] in
     let len : length text ≡ length xs + 1 = length-append xs (c ∷ []) in
-    let front : take (length text - 1) text ≡ xs = (let at : length text - 1 ≡ length xs = omega arith in ap (λ n. take n text) at ∙ take-append_seam xs (c ∷ [])) in
+    let front : take (length text - 1) text ≡ xs =
+    (let at : length text - 1 ≡ length xs = omega arith in ap (λ n. take n text) at ∙ take-append_seam xs
+    (c ∷ [])) in
     let more : suffix_len is_mark text ≡ 1 + suffix_len is_mark xs =
-    ap (suffix_len is_mark) (sym (take-length text)) ∙ suffix_len-take_yes is_mark text (length text) 0 (omega arith) (omega arith) (ap is_mark (last_at xs c) ∙ e) ∙ ap (λ v. 1 + suffix_len is_mark v) front in
+    ap (suffix_len is_mark) (sym (take-length text)) ∙ suffix_len-take_yes is_mark text (length text) 0 (omega arith)
+    (omega arith) (ap is_mark (last_at xs c) ∙ e) ∙ ap (λ v. 1 + suffix_len is_mark v) front in
     let few = suffix_len-le-length is_mark xs in
     let same : length text - suffix_len is_mark text ≡ length xs - suffix_len is_mark xs = omega arith in
     let within : length xs - suffix_len is_mark xs ≤ length xs = omega arith in

@@ -33,7 +33,8 @@ use Rattle.chess_text.proofs.Legal.{castling_says, legal_move, IsMove, told_of, 
 use Rattle.chess_text.proofs.SpelledMoves.{spelled_ends, all_spelled}
 
 -- the man of a legal move, as a test
-pub man_is : (p : Setup) (m : Move) (h : IsMove p m) (k : Kind) → same_kind k h.man ≡ true → is_man p.side k (man_at p.men m.from) ≡ true
+pub man_is : (p : Setup) (m : Move) (h : IsMove p m) (k : Kind) → same_kind k h.man ≡ true
+    → is_man p.side k (man_at p.men m.from) ≡ true
 unfolding is_man
 man_is p m h k e = rw h.at_from (by_colour p.side e)
   where
@@ -42,7 +43,8 @@ man_is p m h k e = rw h.at_from (by_colour p.side e)
     by_colour Black e = e
 
 -- what is described of a legal move that is spelled
-pub fits_told : (p : Setup) (q : Parts) (m : Move) (h : IsMove p m) → is_spelled (Walk q) p m ≡ true → fits q (told_of p m h.man) ≡ true
+pub fits_told : (p : Setup) (q : Parts) (m : Move) (h : IsMove p m) → is_spelled (Walk q) p m ≡ true
+    → fits q (told_of p m h.man) ≡ true
 unfolding is_spelled
 fits_told p q m h e = rw (described_is p m h) at e
 
@@ -60,7 +62,8 @@ no_men Pawn = refl
 square_by : (s : ℕ) → 8 * (s / 8) + s % 8 ≡ s
 square_by s = omega arith
 
-named_is : (f r : Option ℕ) (s : ℕ) → s < 64 → names f (file s) ≡ true → names r (rank s) ≡ true → named_square f r ≡ Some s
+named_is : (f r : Option ℕ) (s : ℕ) → s < 64 → names f (file s) ≡ true → names r (rank s) ≡ true
+    → named_square f r ≡ Some s
 named_is None r s h e g = cc
 named_is (Some f) None s h e g = cc
 named_is (Some f) (Some r) s h e g =
@@ -78,7 +81,8 @@ letter_fits q d k at h = grind (arith, nat_tests, at, h)
 -- without a letter: by its two coordinates, or as a pawn
 data NoLetter (q : Parts) (d : Described) : Type 0 where
   BySquares : names q.file (file d.from) ≡ true → names q.rank (rank d.from) ≡ true → NoLetter q d
-  ByFile : names q.file (file d.from) ≡ true → admits q.rank (rank d.from) ≡ true → same_kind Pawn d.man ≡ true → NoLetter q d
+  ByFile : names q.file (file d.from) ≡ true → admits q.rank (rank d.from) ≡ true → same_kind Pawn d.man ≡ true
+      → NoLetter q d
   Straight : q.file ≡ None → same_kind Pawn d.man ≡ true → NoLetter q d
 
 none_is : (f : Option ℕ) → is_none f ≡ true → f ≡ None
@@ -117,10 +121,12 @@ no_letter q d at h =
 
 -- ---- the sets
 
-pub by_letter : (p : Setup) (q : Parts) (k : Kind) (w : ℕ) → q.letter ≡ Some k → HasOrigins p k q.end.to w → IsStart p (Walk q) w
+pub by_letter : (p : Setup) (q : Parts) (k : Kind) (w : ℕ) → q.letter ≡ Some k → HasOrigins p k q.end.to w
+    → IsStart p (Walk q) w
 by_letter p q k w at origins = λ m spelled legal.
     let h = legal_move p m legal in
-    origins m legal (man_is p m h k (letter_fits q (told_of p m h.man) k at (fits_told p q m h spelled))) (spelled_ends (Walk q) p m spelled)
+    origins m legal (man_is p m h k (letter_fits q (told_of p m h.man) k at (fits_told p q m h spelled)))
+    (spelled_ends (Walk q) p m spelled)
 
 some_is : (f r : Option ℕ) (s t : ℕ) → named_square f r ≡ Some s → named_square f r ≡ Some t → s ≡ t
 some_is f r s t e g = cc
@@ -134,49 +140,64 @@ file_there : (f r : Option ℕ) (s : ℕ) → named_square f r ≡ Some s → f 
 file_there None r s e n A = absurd cc
 file_there (Some f) r s e n A = absurd cc
 
-pub by_squares : (p : Setup) (q : Parts) (s w : ℕ) → q.letter ≡ None → named_square q.file q.rank ≡ Some s → ((k : ℕ) → has w k ≡ (k == s)) → IsStart p (Walk q) w
+pub by_squares : (p : Setup) (q : Parts) (s w : ℕ) → q.letter ≡ None → named_square q.file q.rank ≡ Some s
+    → ((k : ℕ) → has w k ≡ (k == s)) → IsStart p (Walk q) w
 by_squares p q s w at square single = λ m spelled legal.
     let h = legal_move p m legal in
-    let here : m.from ≡ s = from_square m.from h.from_in (told_of p m h.man) refl (no_letter q (told_of p m h.man) at (fits_told p q m h spelled)) in
+    let here : m.from ≡ s = from_square m.from h.from_in (told_of p m h.man) refl
+    (no_letter q (told_of p m h.man) at (fits_told p q m h spelled)) in
     single m.from ∙ eq-eqb m.from s here
   where
     from_square : (a : ℕ) → a < 64 → (d : Described) → d.from ≡ a → NoLetter q d → a ≡ s
-    from_square a low d e (BySquares f r) = some_is q.file q.rank a s (named_is q.file q.rank a low (rw e at f) (rw e at r)) square
-    from_square a low d e (ByFile f r k) = some_is q.file q.rank a s (named_is q.file q.rank a low (rw e at f) (rank_named q.file q.rank s (rank a) square (rw e at r))) square
+    from_square a low d e (BySquares f r) =
+        some_is q.file q.rank a s (named_is q.file q.rank a low (rw e at f) (rw e at r)) square
+    from_square a low d e (ByFile f r k) =
+        some_is q.file q.rank a s
+        (named_is q.file q.rank a low (rw e at f) (rank_named q.file q.rank s (rank a) square (rw e at r))) square
     from_square a low d e (Straight n k) = file_there q.file q.rank s square n (a ≡ s)
 
-pub by_pawn : (p : Setup) (q : Parts) (w : ℕ) → q.letter ≡ None → named_square q.file q.rank ≡ None → HasOrigins p Pawn q.end.to w → IsStart p (Walk q) w
+pub by_pawn : (p : Setup) (q : Parts) (w : ℕ) → q.letter ≡ None → named_square q.file q.rank ≡ None
+    → HasOrigins p Pawn q.end.to w → IsStart p (Walk q) w
 by_pawn p q w at square origins = λ m spelled legal.
     let h = legal_move p m legal in
-    origins m legal (man_is p m h Pawn (is_pawn m.from h.from_in (told_of p m h.man) refl (no_letter q (told_of p m h.man) at (fits_told p q m h spelled)))) (spelled_ends (Walk q) p m spelled)
+    origins m legal (man_is p m h Pawn
+    (is_pawn m.from h.from_in (told_of p m h.man) refl
+    (no_letter q (told_of p m h.man) at (fits_told p q m h spelled)))) (spelled_ends (Walk q) p m spelled)
   where
     is_pawn : (a : ℕ) → a < 64 → (d : Described) → d.from ≡ a → NoLetter q d → same_kind Pawn d.man ≡ true
     is_pawn a low d e (BySquares f r) = let there = named_is q.file q.rank a low (rw e at f) (rw e at r) in absurd cc
     is_pawn a low d e (ByFile f r k) = k
     is_pawn a low d e (Straight n k) = k
 
-king_by : (v : CastlingSide) (p : Setup) (m : Move) (o : Option Man) → passes (form_fits (Castling v)) (described_as p m o) ≡ true → is_man p.side King (man_at p.men m.from) ≡ true
+king_by : (v : CastlingSide) (p : Setup) (m : Move) (o : Option Man)
+    → passes (form_fits (Castling v)) (described_as p m o) ≡ true → is_man p.side King (man_at p.men m.from) ≡ true
 king_by v p m None h = cc
 king_by v p m (Some x) h = let c = castled (same_side v) _ h in (castling_says p m c.0 c.1).0
 
-king_spelled : (v : CastlingSide) (p : Setup) (m : Move) → is_spelled (Castling v) p m ≡ true → is_man p.side King (man_at p.men m.from) ≡ true
+king_spelled : (v : CastlingSide) (p : Setup) (m : Move) → is_spelled (Castling v) p m ≡ true
+    → is_man p.side King (man_at p.men m.from) ≡ true
 unfolding is_spelled described
 king_spelled v p m h = king_by v p m (man_at p.men m.from) h
 
-pub by_castling : (p : Setup) (v : CastlingSide) (to w : ℕ) → to ≡ end_of (Castling v) p → HasOrigins p King to w → IsStart p (Castling v) w
-by_castling p v to w there origins = λ m spelled legal. origins m legal (king_spelled v p m spelled) (spelled_ends (Castling v) p m spelled ∙ sym there)
+pub by_castling : (p : Setup) (v : CastlingSide) (to w : ℕ) → to ≡ end_of (Castling v) p → HasOrigins p King to w
+    → IsStart p (Castling v) w
+by_castling p v to w there origins = λ m spelled legal. origins m legal (king_spelled v p m spelled)
+    (spelled_ends (Castling v) p m spelled ∙ sym there)
 
 -- ---- the list over a set
 
 pub spelled_from : (form : Form) (p : Setup) (w : ℕ) → IsStart p form w
-    → flat_map (λ a. spelled_with form p a (end_of form p) promotions) (members w) ≡ filter (λ m. is_spelled form p m) (moves p)
+    → flat_map (λ a. spelled_with form p a (end_of form p) promotions) (members w) ≡ filter (λ m. is_spelled form p m)
+    (moves p)
 spelled_from form p w start = flat_map_members _ w (λ k low out. none_there k out) ∙ all_spelled form p
   where
     none_there : (k : ℕ) → has w k ≡ false → spelled_with form p k (end_of form p) promotions ≡ []
     none_there k out =
         none-kept (λ m. is_spelled form p m && is_legal p m) k (end_of form p)
-        (λ x. false_from_ne_true (is_spelled form p (triple k (end_of form p) x) && is_legal p (triple k (end_of form p) x))
-        (λ e. let both = and_parts (is_spelled form p (triple k (end_of form p) x)) (is_legal p (triple k (end_of form p) x)) e in
+        (λ x. false_from_ne_true
+        (is_spelled form p (triple k (end_of form p) x) && is_legal p (triple k (end_of form p) x))
+        (λ e. let both = and_parts (is_spelled form p (triple k (end_of form p) x))
+        (is_legal p (triple k (end_of form p) x)) e in
         let there : has w k ≡ true = start (triple k (end_of form p) x) both.0 both.1 in
         cc))
 
@@ -196,9 +217,11 @@ one_found (m ∷ []) = refl
 one_found (m ∷ n ∷ ms) = stays_ambiguous ms
 
 -- one square more
-pub more_found : (f : ℕ → List Move) (found next whole : Reading) (s : ℕ) (ms ns : List ℕ) → ms ≡ s ∷ ns → with_moves found (flat_map f ms) ≡ whole → next ≡ with_moves found (f s) → with_moves next (flat_map f ns) ≡ whole
+pub more_found : (f : ℕ → List Move) (found next whole : Reading) (s : ℕ) (ms ns : List ℕ) → ms ≡ s ∷ ns
+    → with_moves found (flat_map f ms) ≡ whole → next ≡ with_moves found (f s) → with_moves next (flat_map f ns) ≡ whole
 more_found f found next whole s ms ns e h n = rw n (sym (with_both found (f s) (flat_map f ns)) ∙ (rw e at h))
 
 -- no square is left
-pub last_found : (f : ℕ → List Move) (found whole : Reading) (ms : List ℕ) → ms ≡ [] → with_moves found (flat_map f ms) ≡ whole → found ≡ whole
+pub last_found : (f : ℕ → List Move) (found whole : Reading) (ms : List ℕ) → ms ≡ []
+    → with_moves found (flat_map f ms) ≡ whole → found ≡ whole
 last_found f found whole ms e h = rw e at h

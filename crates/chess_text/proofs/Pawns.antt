@@ -34,7 +34,8 @@ same_colour-self : (c : Colour) → same_colour c c ≡ true
 same_colour-self White = refl
 same_colour-self Black = refl
 
-stands_off : (men : Men) (c : Colour) (s : ℕ) → man_at men s ≡ Some (pawn_of c) → pawn_may_stand men s ≡ true → rank s ≢ 0
+stands_off : (men : Men) (c : Colour) (s : ℕ) → man_at men s ≡ Some (pawn_of c) → pawn_may_stand men s ≡ true
+    → rank s ≢ 0
 unfolding pawn_may_stand is_man
 stands_off men White s at e zero_rank =
     let e' = rw (at, zero_rank) at e in
@@ -53,19 +54,26 @@ pawn_stands p sound c s h at =
 
 pub data Advance (p : Setup) (m : Move) : Type 0 where
   Single : m.to ≡ forward p.side m.from → Advance p m
-  Double : m.to ≡ forward p.side (forward p.side m.from) → rank m.from ≡ pawn_rank p.side → man_at p.men (forward p.side m.from) ≡ None → Advance p m
+  Double : m.to ≡ forward p.side (forward p.side m.from) → rank m.from ≡ pawn_rank p.side
+      → man_at p.men (forward p.side m.from) ≡ None → Advance p m
 
 advance_of : (p : Setup) (m : Move) → pawn_advances p m ≡ true → Advance p m
 unfolding pawn_advances is_double_advance
 advance_of p m e =
-    let both = and_parts (is_none (man_at p.men m.to)) ((m.to == forward p.side m.from) || (is_double_advance p m && is_none (man_at p.men (forward p.side m.from)))) e in
-    elim (or_cases (m.to == forward p.side m.from) (is_double_advance p m && is_none (man_at p.men (forward p.side m.from))) both.1) [
+    let both = and_parts (is_none (man_at p.men m.to))
+    ((m.to == forward p.side m.from) || (is_double_advance p m && is_none (man_at p.men (forward p.side m.from))))
+    e in
+    elim (or_cases (m.to == forward p.side m.from)
+    (is_double_advance p m && is_none (man_at p.men (forward p.side m.from))) both.1) [
       | inl one ↦ Single (eqb-true m.to (forward p.side m.from) one)
       | inr two ↦
           let parts = and_parts (is_double_advance p m) (is_none (man_at p.men (forward p.side m.from))) two in
-          let three = and_parts (is_man p.side Pawn (man_at p.men m.from) && (rank m.from == pawn_rank p.side)) (m.to == forward p.side (forward p.side m.from)) parts.0 in
+          let three = and_parts (is_man p.side Pawn (man_at p.men m.from) && (rank m.from == pawn_rank p.side))
+          (m.to == forward p.side (forward p.side m.from)) parts.0 in
           let home = and_parts (is_man p.side Pawn (man_at p.men m.from)) (rank m.from == pawn_rank p.side) three.0 in
-          Double (eqb-true m.to (forward p.side (forward p.side m.from)) three.1) (eqb-true (rank m.from) (pawn_rank p.side) home.1) (is_none-true (man_at p.men (forward p.side m.from)) parts.1)
+          Double (eqb-true m.to (forward p.side (forward p.side m.from)) three.1)
+          (eqb-true (rank m.from) (pawn_rank p.side) home.1)
+          (is_none-true (man_at p.men (forward p.side m.from)) parts.1)
     ]
 
 one_on_file : (c : Colour) (a b : ℕ) → 8 ≤ a → b ≡ forward c a → file a ≡ file b
@@ -80,11 +88,13 @@ same_by_ones : (c : Colour) (a b t : ℕ) → 8 ≤ a → 8 ≤ b → t ≡ forw
 same_by_ones White a b t h k e f = omega arith
 same_by_ones Black a b t h k e f = omega arith
 
-same_by_twos : (c : Colour) (a b t : ℕ) → rank a ≡ pawn_rank c → rank b ≡ pawn_rank c → t ≡ forward c (forward c a) → t ≡ forward c (forward c b) → b ≡ a
+same_by_twos : (c : Colour) (a b t : ℕ) → rank a ≡ pawn_rank c → rank b ≡ pawn_rank c → t ≡ forward c (forward c a)
+    → t ≡ forward c (forward c b) → b ≡ a
 same_by_twos White a b t h k e f = omega arith
 same_by_twos Black a b t h k e f = omega arith
 
-one_stands_between : (c : Colour) (a b t : ℕ) → 8 ≤ a → rank b ≡ pawn_rank c → t ≡ forward c a → t ≡ forward c (forward c b) → forward c b ≡ a
+one_stands_between : (c : Colour) (a b t : ℕ) → 8 ≤ a → rank b ≡ pawn_rank c → t ≡ forward c a
+    → t ≡ forward c (forward c b) → forward c b ≡ a
 one_stands_between White a b t h k e f = omega arith
 one_stands_between Black a b t h k e f = omega arith
 
@@ -98,18 +108,23 @@ stands_not p a b x at none same =
     cc
 
 -- two pawns don't go straight to one square
-pub same_advance : (p : Setup) (m n : Move) → man_at p.men m.from ≡ Some (pawn_of p.side) → man_at p.men n.from ≡ Some (pawn_of p.side) → 8 ≤ m.from → 8 ≤ n.from → n.to ≡ m.to
+pub same_advance : (p : Setup) (m n : Move) → man_at p.men m.from ≡ Some (pawn_of p.side)
+    → man_at p.men n.from ≡ Some (pawn_of p.side) → 8 ≤ m.from → 8 ≤ n.from → n.to ≡ m.to
     → Advance p m → Advance p n → n.from ≡ m.from
 same_advance p m n am an hm hn to (Single a) (Single b) = same_by_ones p.side m.from n.from m.to hm hn a (sym to ∙ b)
-same_advance p m n am an hm hn to (Double a home free) (Double b home' free') = same_by_twos p.side m.from n.from m.to home home' a (sym to ∙ b)
+same_advance p m n am an hm hn to (Double a home free) (Double b home' free') =
+    same_by_twos p.side m.from n.from m.to home home' a (sym to ∙ b)
 same_advance p m n am an hm hn to (Single a) (Double b home' free') =
-    absurd (stands_not p m.from (forward p.side n.from) (pawn_of p.side) am free' (one_stands_between p.side m.from n.from m.to hm home' a (sym to ∙ b)))
+    absurd (stands_not p m.from (forward p.side n.from) (pawn_of p.side) am free'
+    (one_stands_between p.side m.from n.from m.to hm home' a (sym to ∙ b)))
 same_advance p m n am an hm hn to (Double a home free) (Single b) =
-    absurd (stands_not p n.from (forward p.side m.from) (pawn_of p.side) an free (one_stands_between p.side n.from m.from m.to hn home (sym to ∙ b) a))
+    absurd (stands_not p n.from (forward p.side m.from) (pawn_of p.side) an free
+    (one_stands_between p.side n.from m.from m.to hn home (sym to ∙ b) a))
 
 -- ---- captures
 
-attack_of : (p : Setup) (m : Move) → man_at p.men m.from ≡ Some (pawn_of p.side) → attacks p.men m.from m.to ≡ true → (gap (file m.from) (file m.to) ≡ 1) × (is_rank_ahead p.side m.from m.to ≡ true)
+attack_of : (p : Setup) (m : Move) → man_at p.men m.from ≡ Some (pawn_of p.side) → attacks p.men m.from m.to ≡ true
+    → (gap (file m.from) (file m.to) ≡ 1) × (is_rank_ahead p.side m.from m.to ≡ true)
 unfolding attacks could_capture
 attack_of p m at e =
     let e' = rw at at e in
@@ -118,32 +133,42 @@ attack_of p m at e =
 
 pawn_goes : (p : Setup) (m : Move) → pawn_moves p m ≡ true → (pawn_advances p m || pawn_captures p m) ≡ true
 unfolding pawn_moves
-pawn_goes p m e = (and_parts (promotion_fits (rank m.to == first_rank (other p.side)) m.promotion) (pawn_advances p m || pawn_captures p m) e).1
+pawn_goes p m e = (and_parts (promotion_fits (rank m.to == first_rank (other p.side)) m.promotion)
+    (pawn_advances p m || pawn_captures p m) e).1
 
 captures_attack : (p : Setup) (m : Move) → pawn_captures p m ≡ true → attacks p.men m.from m.to ≡ true
 unfolding pawn_captures
-captures_attack p m e = (and_parts (attacks p.men m.from m.to) (is_of (other p.side) (man_at p.men m.to) || is_square p.target m.to) e).0
+captures_attack p m e =
+    (and_parts (attacks p.men m.from m.to) (is_of (other p.side) (man_at p.men m.to) || is_square p.target m.to) e).0
 
-pawn_captures_so : (p : Setup) (m : Move) → man_at p.men m.from ≡ Some (pawn_of p.side) → pawn_captures p m ≡ true → captures p m ≡ true
+pawn_captures_so : (p : Setup) (m : Move) → man_at p.men m.from ≡ Some (pawn_of p.side) → pawn_captures p m ≡ true
+    → captures p m ≡ true
 unfolding pawn_captures captures is_en_passant is_man
 pawn_captures_so p m at e =
-    let both = and_parts (attacks p.men m.from m.to) (is_of (other p.side) (man_at p.men m.to) || is_square p.target m.to) e in
+    let both = and_parts (attacks p.men m.from m.to)
+    (is_of (other p.side) (man_at p.men m.to) || is_square p.target m.to) e in
     elim (or_cases (is_of (other p.side) (man_at p.men m.to)) (is_square p.target m.to) both.1) [
       | inl taken ↦ or_left (is_of (other p.side) (man_at p.men m.to)) (is_en_passant p m) taken
       | inr passed ↦
-          let own : is_man p.side Pawn (man_at p.men m.from) ≡ true = rw at (and_from (same_colour p.side p.side) true (same_colour-self p.side) refl) in
-          or_right (is_of (other p.side) (man_at p.men m.to)) (is_en_passant p m) (and_from (is_man p.side Pawn (man_at p.men m.from) && attacks p.men m.from m.to) (is_square p.target m.to) (and_from (is_man p.side Pawn (man_at p.men m.from)) (attacks p.men m.from m.to) own both.0) passed)
+          let own : is_man p.side Pawn (man_at p.men m.from) ≡ true =
+          rw at (and_from (same_colour p.side p.side) true (same_colour-self p.side) refl) in
+          or_right (is_of (other p.side) (man_at p.men m.to)) (is_en_passant p m)
+          (and_from (is_man p.side Pawn (man_at p.men m.from) && attacks p.men m.from m.to)
+          (is_square p.target m.to)
+          (and_from (is_man p.side Pawn (man_at p.men m.from)) (attacks p.men m.from m.to) own both.0) passed)
     ]
 
 -- a pawn that doesn't capture advances; so does one that stays on its file
-pub advances_without : (p : Setup) (m : Move) → man_at p.men m.from ≡ Some (pawn_of p.side) → pawn_moves p m ≡ true → captures p m ≡ false → Advance p m
+pub advances_without : (p : Setup) (m : Move) → man_at p.men m.from ≡ Some (pawn_of p.side) → pawn_moves p m ≡ true
+    → captures p m ≡ false → Advance p m
 advances_without p m at e none =
     elim (or_cases (pawn_advances p m) (pawn_captures p m) (pawn_goes p m e)) [
       | inl goes ↦ advance_of p m goes
       | inr takes ↦ absurd (both_ways (captures p m) none (pawn_captures_so p m at takes))
     ]
 
-pub advances_straight : (p : Setup) (m : Move) → man_at p.men m.from ≡ Some (pawn_of p.side) → pawn_moves p m ≡ true → file m.from ≡ file m.to → Advance p m
+pub advances_straight : (p : Setup) (m : Move) → man_at p.men m.from ≡ Some (pawn_of p.side) → pawn_moves p m ≡ true
+    → file m.from ≡ file m.to → Advance p m
 advances_straight p m at e on =
     elim (or_cases (pawn_advances p m) (pawn_captures p m) (pawn_goes p m e)) [
       | inl goes ↦ advance_of p m goes
@@ -157,16 +182,20 @@ is_of-none c (Some x) e n = cc
 
 advance_to_empty : (p : Setup) (m : Move) → pawn_advances p m ≡ true → is_none (man_at p.men m.to) ≡ true
 unfolding pawn_advances
-advance_to_empty p m e = (and_parts (is_none (man_at p.men m.to)) ((m.to == forward p.side m.from) || (is_double_advance p m && is_none (man_at p.men (forward p.side m.from)))) e).0
+advance_to_empty p m e =
+    (and_parts (is_none (man_at p.men m.to))
+    ((m.to == forward p.side m.from) || (is_double_advance p m && is_none (man_at p.men (forward p.side m.from)))) e).0
 
 en_passant_attacks : (p : Setup) (m : Move) → is_en_passant p m ≡ true → attacks p.men m.from m.to ≡ true
 unfolding is_en_passant
 en_passant_attacks p m e =
-    let two = and_parts (is_man p.side Pawn (man_at p.men m.from) && attacks p.men m.from m.to) (is_square p.target m.to) e in
+    let two = and_parts (is_man p.side Pawn (man_at p.men m.from) && attacks p.men m.from m.to)
+    (is_square p.target m.to) e in
     (and_parts (is_man p.side Pawn (man_at p.men m.from)) (attacks p.men m.from m.to) two.0).1
 
 -- a pawn that captures goes one rank ahead
-pub captures_ahead : (p : Setup) (m : Move) → man_at p.men m.from ≡ Some (pawn_of p.side) → pawn_moves p m ≡ true → captures p m ≡ true → is_rank_ahead p.side m.from m.to ≡ true
+pub captures_ahead : (p : Setup) (m : Move) → man_at p.men m.from ≡ Some (pawn_of p.side) → pawn_moves p m ≡ true
+    → captures p m ≡ true → is_rank_ahead p.side m.from m.to ≡ true
 unfolding captures
 captures_ahead p m at e takes =
     elim (or_cases (is_of (other p.side) (man_at p.men m.to)) (is_en_passant p m) takes) [
@@ -177,7 +206,8 @@ captures_ahead p m at e takes =
       ]
     ]
 
-pub same_ahead : (c : Colour) (a b t : ℕ) → is_rank_ahead c a t ≡ true → is_rank_ahead c b t ≡ true → file a ≡ file b → b ≡ a
+pub same_ahead : (c : Colour) (a b t : ℕ) → is_rank_ahead c a t ≡ true → is_rank_ahead c b t ≡ true → file a ≡ file b
+    → b ≡ a
 same_ahead White a b t e f on =
     let ea = eqb-true (rank t) (rank a + 1) e in
     let eb = eqb-true (rank t) (rank b + 1) f in

@@ -28,17 +28,21 @@ both t q (x ∷ xs) =
     ]
 
 -- the legal ones, filtered
-of_legal : (form : Form) (p : Setup) (a b : ℕ) (ks : List (Option Kind)) → spelled_with form p a b ks ≡ filter (λ m. is_spelled form p m) (moves_with p a b ks)
+of_legal : (form : Form) (p : Setup) (a b : ℕ) (ks : List (Option Kind))
+    → spelled_with form p a b ks ≡ filter (λ m. is_spelled form p m) (moves_with p a b ks)
 of_legal form p a b ks = both (λ m. is_spelled form p m) (λ m. is_legal p m) (map (triple a b) ks)
 
 pub all_promote : (form : Form) (p : Setup) (a b : ℕ) → would_promote p a b ≡ true
-    → spelled_with form p a b (Some Queen ∷ Some Rook ∷ Some Bishop ∷ Some Knight ∷ []) ≡ spelled_with form p a b promotions
+    → spelled_with form p a b (Some Queen ∷ Some Rook ∷ Some Bishop ∷ Some Knight ∷ []) ≡ spelled_with form p a b
+    promotions
 unfolding moves_between
 all_promote form p a b e =
-    of_legal form p a b parts.promoting ∙ ap (filter (λ m. is_spelled form p m)) (sym (parts.all_promote p a b e)) ∙ sym (of_legal form p a b promotions)
+    of_legal form p a b parts.promoting ∙ ap (filter (λ m. is_spelled form p m)) (sym (parts.all_promote p a b e))
+    ∙ sym (of_legal form p a b promotions)
 
 pub none_promotes : (form : Form) (p : Setup) (a b : ℕ) → would_promote p a b ≡ false
     → spelled_with form p a b (None ∷ []) ≡ spelled_with form p a b promotions
 unfolding moves_between
 none_promotes form p a b n =
-    of_legal form p a b (None ∷ []) ∙ ap (filter (λ m. is_spelled form p m)) (sym (parts.none_promotes p a b n)) ∙ sym (of_legal form p a b promotions)
+    of_legal form p a b (None ∷ []) ∙ ap (filter (λ m. is_spelled form p m)) (sym (parts.none_promotes p a b n))
+    ∙ sym (of_legal form p a b promotions)

@@ -20,12 +20,15 @@ use Rattle.chess_text.proofs.SanLaw.{Law, castling_law}
 use Rattle.chess_text.proofs.Solid.{bare_castling}
 
 by_squares : (p : Setup) (m : Move) → IsSound p → IsTrue (is_legal p m) → Law p m (coordinate m)
-by_squares p m sound legal = record { has_shape = coordinate_shape p m sound legal; alone = coordinate_alone p m sound legal }
+by_squares p m sound legal =
+    record { has_shape = coordinate_shape p m sound legal; alone = coordinate_alone p m sound legal }
 
-law_by : (p : Setup) (m : Move) → IsSound p → IsTrue (is_legal p m) → (v : Variant) (o : Option CastlingSide) → castling p m ≡ o → Law p m (shown_as v o m)
+law_by : (p : Setup) (m : Move) → IsSound p → IsTrue (is_legal p m) → (v : Variant) (o : Option CastlingSide)
+    → castling p m ≡ o → Law p m (shown_as v o m)
 law_by p m sound legal Normal o e = by_squares p m sound legal
 law_by p m sound legal Fischerandom None e = by_squares p m sound legal
-law_by p m sound legal Fischerandom (Some w) e = castling_law p m (castling_text w) w sound (legal_move p m legal) e (bare_castling w)
+law_by p m sound legal Fischerandom (Some w) e = castling_law p m (castling_text w) w sound (legal_move p m legal) e
+    (bare_castling w)
 
 law : (p : Setup) (m : Move) → IsSound p → IsTrue (is_legal p m) → Law p m (shown_move p m)
 unfolding shown_move
@@ -38,4 +41,5 @@ pub shown_shape : (p : Setup) (m : Move) → IsSound p → IsTrue (is_legal p m)
 shown_shape p m sound legal = (law p m sound legal).has_shape
 
 pub shown_read : (p : Setup) (m : Move) → IsSound p → IsTrue (is_legal p m) → reading p (shown_move p m) ≡ reads.Move m
-shown_read p m sound legal = read_alone p (shown_move p m) m legal (shown_shape p m sound legal) (shown_alone p m sound legal)
+shown_read p m sound legal = read_alone p (shown_move p m) m legal (shown_shape p m sound legal)
+    (shown_alone p m sound legal)

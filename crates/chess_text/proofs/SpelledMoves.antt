@@ -60,12 +60,14 @@ same_side-true QueenSide QueenSide h = refl
 same_side-true KingSide QueenSide h = cc
 same_side-true QueenSide KingSide h = cc
 
-form_ends : (form : Form) (p : Setup) (m : Move) (o : Option Man) → passes (form_fits form) (described_as p m o) ≡ true → m.to ≡ end_of form p
+form_ends : (form : Form) (p : Setup) (m : Move) (o : Option Man) → passes (form_fits form) (described_as p m o) ≡ true
+    → m.to ≡ end_of form p
 form_ends form p m None h = cc
 form_ends (Walk q) p m (Some x) h = fitting_ends q _ h
 form_ends (Castling w) p m (Some x) h =
     let c = castled (same_side w) _ h in
-    names_end p.variant p.side m c.0 (right_of p.rights p.side c.0) (castling_says p m c.0 c.1).1 ∙ ap (λ v. castling_end p.variant p.side v (right_of p.rights p.side v)) (sym (same_side-true w c.0 c.2))
+    names_end p.variant p.side m c.0 (right_of p.rights p.side c.0) (castling_says p m c.0 c.1).1
+    ∙ ap (λ v. castling_end p.variant p.side v (right_of p.rights p.side v)) (sym (same_side-true w c.0 c.2))
 
 pub spelled_ends : (form : Form) (p : Setup) (m : Move) → is_spelled form p m ≡ true → m.to ≡ end_of form p
 unfolding is_spelled described
@@ -77,10 +79,15 @@ abbrev fit : Form → Setup → Move → Bool
 fit form p m = is_spelled form p m && is_legal p m
 
 not_fit : (form : Form) (p : Setup) (m : Move) → m.to ≢ end_of form p → fit form p m ≡ false
-not_fit form p m away = false_from_ne_true (fit form p m) (λ h. away (spelled_ends form p m (and_parts (is_spelled form p m) (is_legal p m) h).0))
+not_fit form p m away =
+    false_from_ne_true (fit form p m)
+    (λ h. away (spelled_ends form p m (and_parts (is_spelled form p m) (is_legal p m) h).0))
 
 not_legal : (form : Form) (p : Setup) (m : Move) → 64 ≤ m.to → fit form p m ≡ false
-not_legal form p m past = false_from_ne_true (fit form p m) (λ h. let legal = legal_move p m (and_parts (is_spelled form p m) (is_legal p m) h).1 in let below = legal.to_in in omega (arith, below, past))
+not_legal form p m past =
+    false_from_ne_true (fit form p m)
+    (λ h. let legal = legal_move p m (and_parts (is_spelled form p m) (is_legal p m) h).1 in let below = legal.to_in in
+    omega (arith, below, past))
 
 and_turned : (a b : Bool) → (a && b) ≡ (b && a)
 and_turned true true = refl
@@ -92,22 +99,27 @@ filter_same : {A : Type 0} (q t : A → Bool) → ((x : A) → q x ≡ t x) → 
 filter_same q t h [] = refl
 filter_same q t h (x ∷ xs) = rw (h x, filter_same q t h xs) refl
 
-flat_map_same : {A B : Type 0} (f g : A → List B) → ((x : A) → f x ≡ g x) → (xs : List A) → flat_map f xs ≡ flat_map g xs
+flat_map_same : {A B : Type 0} (f g : A → List B) → ((x : A) → f x ≡ g x) → (xs : List A)
+    → flat_map f xs ≡ flat_map g xs
 flat_map_same f g h [] = refl
 flat_map_same f g h (x ∷ xs) = rw (h x, flat_map_same f g h xs) refl
 
 -- from one square
-from_one : (form : Form) (p : Setup) (a : ℕ) → filter (fit form p) (flat_map (λ b. map (triple a b) promotions) squares) ≡ spelled_with form p a (end_of form p) promotions
+from_one : (form : Form) (p : Setup) (a : ℕ) → filter (fit form p) (flat_map (λ b. map (triple a b) promotions) squares)
+    ≡ spelled_with form p a (end_of form p) promotions
 from_one form p a =
     filter-flat_map (fit form p) (λ b. map (triple a b) promotions) squares
     ∙ alone-square (λ b. kept (fit form p) a b) (end_of form p)
     (λ b away. none-kept (fit form p) a b (λ k. not_fit form p (triple a b k) away))
     (λ past. none-kept (fit form p) a (end_of form p) (λ k. not_legal form p (triple a (end_of form p) k) past))
 
-pub all_spelled : (form : Form) (p : Setup) → flat_map (λ a. spelled_with form p a (end_of form p) promotions) squares ≡ filter (λ m. is_spelled form p m) (moves p)
+pub all_spelled : (form : Form) (p : Setup) → flat_map (λ a. spelled_with form p a (end_of form p) promotions) squares
+    ≡ filter (λ m. is_spelled form p m) (moves p)
 unfolding moves all_triples
 all_spelled form p =
     sym (filter-both (λ m. is_legal p m) (λ m. is_spelled form p m) all_triples
-    ∙ filter_same (λ m. is_legal p m && is_spelled form p m) (fit form p) (λ m. and_turned (is_legal p m) (is_spelled form p m)) all_triples
+    ∙ filter_same (λ m. is_legal p m && is_spelled form p m) (fit form p)
+    (λ m. and_turned (is_legal p m) (is_spelled form p m)) all_triples
     ∙ filter-flat_map (fit form p) (λ a. flat_map (λ b. map (triple a b) promotions) squares) squares
-    ∙ flat_map_same (λ a. filter (fit form p) (flat_map (λ b. map (triple a b) promotions) squares)) (λ a. spelled_with form p a (end_of form p) promotions) (from_one form p) squares)
+    ∙ flat_map_same (λ a. filter (fit form p) (flat_map (λ b. map (triple a b) promotions) squares))
+    (λ a. spelled_with form p a (end_of form p) promotions) (from_one form p) squares)

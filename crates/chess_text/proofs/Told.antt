@@ -17,18 +17,24 @@ pub same_square : (a b : ℕ) → file a ≡ file b → rank a ≡ rank b → b 
 same_square a b f r = omega arith
 
 -- no other start that stands among the others is
-pub told_apart : (from s : ℕ) (others : List ℕ) → some_on_file (file s) others ≡ true → some_on_rank (rank s) others ≡ true → s ≢ from
-    → admits (if_said (told_start from others).file (file from)) (file s) ≡ true → admits (if_said (told_start from others).rank (rank from)) (rank s) ≡ true → ⊥
+pub told_apart : (from s : ℕ) (others : List ℕ) → some_on_file (file s) others ≡ true
+    → some_on_rank (rank s) others ≡ true → s ≢ from
+    → admits (if_said (told_start from others).file (file from)) (file s) ≡ true
+    → admits (if_said (told_start from others).rank (rank from)) (rank s) ≡ true → ⊥
 told_apart from s [] f r differs a b = cc
-told_apart from s (o ∷ os) f r differs a b = by_tests (some_on_file (file from) (o ∷ os)) refl (some_on_rank (rank from) (o ∷ os)) refl a b
+told_apart from s (o ∷ os) f r differs a b = by_tests (some_on_file (file from) (o ∷ os)) refl
+    (some_on_rank (rank from) (o ∷ os)) refl a b
   where
     by_tests : (x : Bool) → some_on_file (file from) (o ∷ os) ≡ x → (y : Bool) → some_on_rank (rank from) (o ∷ os) ≡ y
-        → admits (if_said (cond (not x) (said true false) (cond (not y) (said false true) (said true true))).file (file from)) (file s) ≡ true
-        → admits (if_said (cond (not x) (said true false) (cond (not y) (said false true) (said true true))).rank (rank from)) (rank s) ≡ true → ⊥
+        → admits (if_said (cond (not x) (said true false) (cond (not y) (said false true) (said true true))).file
+        (file from)) (file s) ≡ true
+        → admits (if_said (cond (not x) (said true false) (cond (not y) (said false true) (said true true))).rank
+        (rank from)) (rank s) ≡ true → ⊥
     by_tests false none y q a b =
         let same = ap (λ n. some_on_file n (o ∷ os)) (admitted (file from) (file s) a) in
         cc
     by_tests true p false none a b =
         let same = ap (λ n. some_on_rank n (o ∷ os)) (admitted (rank from) (rank s) b) in
         cc
-    by_tests true p true q a b = differs (same_square from s (admitted (file from) (file s) a) (admitted (rank from) (rank s) b))
+    by_tests true p true q a b =
+        differs (same_square from s (admitted (file from) (file s) a) (admitted (rank from) (rank s) b))

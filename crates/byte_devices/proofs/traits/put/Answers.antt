@@ -7,7 +7,8 @@ use Rattle.byte_devices.proofs.traits.put.Goals as goal
 
 pub returns-in_err-at : goal.returns-in_err-at
 returns-in_err-at g c =
-    puts_exit _ _ c.from_residual.result _ (wrote_part _ _ _ c.loop-at.at _ c.loop-at.invariant.taken c.in_err-at.ensures) c.from_residual.ensures.0
+    puts_exit _ _ c.from_residual.result _
+    (wrote_part _ _ _ c.loop-at.at _ c.loop-at.invariant.taken c.in_err-at.ensures) c.from_residual.ensures.0
 
 pub loop-at-preserved : goal.loop-at-preserved
 loop-at-preserved g c = record {

@@ -7,9 +7,11 @@ use Rattle.byte_devices.proofs.traits.put_parts.Goals as goal
 pub returns-in_err-put : goal.returns-in_err-put
 returns-in_err-put g c =
     puts_exit _ _ c.from_residual.result _
-    (parts_break _ _ _ (λ (part : Bor (List ℕ)). part.now) c.args.parts.now c.loop-part.part-index _ c.loop-part-test.true c.loop-part.invariant c.in_err-put.ensures)
+    (parts_break _ _ _ (λ (part : Bor (List ℕ)). part.now) c.args.parts.now c.loop-part.part-index _
+    c.loop-part-test.true c.loop-part.invariant c.in_err-put.ensures)
     c.from_residual.ensures.0
 
 pub loop-part-preserved : goal.loop-part-preserved
 loop-part-preserved g c =
-    parts_more _ _ _ (λ (part : Bor (List ℕ)). part.now) c.args.parts.now c.loop-part.part-index _ c.loop-part-test.true c.loop-part.invariant c.in_ok-put.ensures
+    parts_more _ _ _ (λ (part : Bor (List ℕ)). part.now) c.args.parts.now c.loop-part.part-index _ c.loop-part-test.true
+    c.loop-part.invariant c.in_ok-put.ensures

@@ -3,4 +3,5 @@ use Rattle.byte_devices.specs.Devices.{Took, joined}
 use Rattle.byte_devices.proofs.traits.put_parts.Given as goal
 
 abbrev pub invariant-loop-part : goal.invariant-loop-part
-invariant-loop-part g l = let seen = g.W.Output.seen in Took (seen l.fn.writer) (seen l.writer) (joined (take l.part-index l.parts))
+invariant-loop-part g l = let seen = g.W.Output.seen in
+    Took (seen l.fn.writer) (seen l.writer) (joined (take l.part-index l.parts))

@@ -13,4 +13,5 @@ returns-then-is_empty c =
     λ k h.
     let none = none_there c.intersection-near.result k (sym c.is_empty.ensures.zero ∙ c.if-is_empty.true) in
     let near = rw (c.at.ensures k h) at (c.intersection-near.ensures k) in
-    none ∙ sym (none_met (not (k == c.args.square)) (share_rank_or_file k c.args.square) (is_open c.args.occupied c.args.square k) (has c.args.men k) (sym near ∙ none))
+    none ∙ sym (none_met (not (k == c.args.square)) (share_rank_or_file k c.args.square)
+    (is_open c.args.occupied c.args.square k) (has c.args.men k) (sym near ∙ none))

@@ -14,10 +14,13 @@ slice_bounds-kept-end g c =
 pub unreachable-requires : goal.unreachable-requires
 unreachable-requires g c =
     let fits : length c.if-is_too_long.kept.now ≤ g.row.N = elim c.if-is_too_long.branch [
-      | then-is_too_long w ↦ let h = w.as_slice.ensures.fits in rw w.kept-is (omega (arith, length-take 64 w.as_slice.result.now))
-      | else-is_too_long w ↦ let h = w.as_slice-else-is_too_long.ensures.fits in let f = w.trim-kept.ensures.short in rw w.kept-is (omega arith)
+      | then-is_too_long w ↦ let h = w.as_slice.ensures.fits in
+          rw w.kept-is (omega (arith, length-take 64 w.as_slice.result.now))
+      | else-is_too_long w ↦ let h = w.as_slice-else-is_too_long.ensures.fits in let f = w.trim-kept.ensures.short in
+          rw w.kept-is (omega arith)
     ] in
-    let room : length c.new-text.result.items + length c.if-is_too_long.kept.now ≤ g.row.N = omega (arith, ap length c.new-text.ensures) in
+    let room : length c.new-text.result.items + length c.if-is_too_long.kept.now ≤ g.row.N =
+    omega (arith, ap length c.new-text.ensures) in
     let ok : IsOk c.try_extend_from_slice.result = c.try_extend_from_slice.ensures.variant.1 room in
     let n = c.if-is_err.ensures.negation in
     cc (ok, n)

@@ -9,7 +9,8 @@ abbrev pub invariant-loop-line : goal.invariant-loop-line
 invariant-loop-line g l =
     let input = g.R.Input.seen in
     let output = g.W.Output.seen in
-    (given : List ℕ) × (done : List LineSeen) × SoFar (input l.fn.reader) (input l.reader) (output l.fn.writer) (output l.writer) l.fn.session l.session l.lines given done
+    (given : List ℕ) × (done : List LineSeen) × SoFar (input l.fn.reader) (input l.reader) (output l.fn.writer)
+    (output l.writer) l.fn.session l.session l.lines given done
 
 abbrev pub decreases-loop-line : goal.decreases-loop-line
 decreases-loop-line g l = work (g.R.Input.seen l.reader) l.lines

@@ -7,12 +7,15 @@ use Rattle.chess_cecp.proofs.trim.cut_end.Goals.{then-loop-to-test+else-is_blank
 
 pub loop-to-preserved : goal.loop-to-preserved
 loop-to-preserved c = record {
-  front = sym (end_step c.args.text.now c.loop-to.to c.loop-to-test.true c.loop-to.invariant.in_range (sym c.if-is_blank.ensures)) ∙ c.loop-to.invariant.front;
+  front = sym (end_step c.args.text.now c.loop-to.to c.loop-to-test.true c.loop-to.invariant.in_range
+      (sym c.if-is_blank.ensures)) ∙ c.loop-to.invariant.front;
   in_range = omega arith;
 }
 
 pub returns : goal.returns
 returns c = elim c.loop-to-test.branch [
-  | then-loop-to-test+else-is_blank w ↦ sym (end_stop c.args.text.now c.loop-to.to w.loop-to-test.true c.loop-to.invariant.in_range (sym w.if-is_blank.ensures)) ∙ c.loop-to.invariant.front
+  | then-loop-to-test+else-is_blank w ↦
+      sym (end_stop c.args.text.now c.loop-to.to w.loop-to-test.true c.loop-to.invariant.in_range
+      (sym w.if-is_blank.ensures)) ∙ c.loop-to.invariant.front
   | else-loop-to-test w ↦ zero_end c.args.text.now c.loop-to.to w.loop-to-test.false ∙ c.loop-to.invariant.front
 ]

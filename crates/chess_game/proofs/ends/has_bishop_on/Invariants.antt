@@ -6,4 +6,5 @@ use Rattle.chess_game.specs.Ends.{square_colour, is_kind}
 use Rattle.chess_game.proofs.ends.has_bishop_on.Given as goal
 
 abbrev pub invariant-loop-number : goal.invariant-loop-number
-invariant-loop-number l = l.is_found ≡ some_below l.number (λ s. same_colour l.colour (square_colour s) && is_kind Bishop (man_at l.men s))
+invariant-loop-number l =
+    l.is_found ≡ some_below l.number (λ s. same_colour l.colour (square_colour s) && is_kind Bishop (man_at l.men s))

@@ -8,6 +8,7 @@ decreases-loop-left l = l.left
 -- what is counted and what is left give the whole
 abbrev pub invariant-loop-left : goal.invariant-loop-left
 invariant-loop-left l = record {
-  counted : l.count + seen l.start.position (take l.left l.places) l.now.position ≡ seen l.start.position l.places l.now.position;
+  counted : l.count + seen l.start.position (take l.left l.places) l.now.position ≡ seen l.start.position l.places
+      l.now.position;
   in_range : l.left ≤ length l.places;
 }

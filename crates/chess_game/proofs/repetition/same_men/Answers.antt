@@ -17,7 +17,9 @@ loop-number-preserved c =
 
 pub returns-then-not-same_man : goal.returns-then-not-same_man
 unfolding same_men each_square
-returns-then-not-same_man c = sym (each_below-fails 64 (λ s. same_man (man_at c.args.this.now s) (man_at c.args.that.now s)) c.loop-number.number (omega arith) (sym c.same_man.ensures ∙ c.if-not-same_man.true))
+returns-then-not-same_man c =
+    sym (each_below-fails 64 (λ s. same_man (man_at c.args.this.now s) (man_at c.args.that.now s)) c.loop-number.number
+    (omega arith) (sym c.same_man.ensures ∙ c.if-not-same_man.true))
 
 pub returns : goal.returns
 unfolding same_men each_square

@@ -22,7 +22,8 @@ returns g c r m p s =
       goes.stands,
       sends_if _ _ _ c.is_err.result _ _ c.is_err.ensures.value
           (ap (λ (S : Colour). bytes_of (given_block r c.write_fails-given.result (items_of []) m' S)) c.other.ensures
-          ∙ ap (λ (is : List Item). bytes_of (given_block r c.write_fails-given.result is m' (other c.args.side))) no_items
+          ∙ ap (λ (is : List Item). bytes_of (given_block r c.write_fails-given.result is m' (other c.args.side)))
+          no_items
           ∙ ap bytes_of (goes.gives (other c.args.side)))
           (c.send.ensures.sends r m' p goes.stands),
     )

@@ -9,8 +9,12 @@ use Rattle.chess_match.proofs.run.hear.Goals as goal
 pub deliver-requires : goal.deliver-requires
 deliver-requires g c =
     let h = c.note.ensures.heard in
-    let q = c.requires in
-    (q.0, after q.0 q.1 (event_heard c.args.side h.0 c.args.heard.now), (h.2 q.0 q.1 q.2 q.5 q.3).stands, (heard_sane q.0 q.1 c.args.side h.0 c.args.heard.now q.4).untold)
+    let q = c.requires in (
+      q.0,
+      after q.0 q.1 (event_heard c.args.side h.0 c.args.heard.now),
+      (h.2 q.0 q.1 q.2 q.5 q.3).stands,
+      (heard_sane q.0 q.1 c.args.side h.0 c.args.heard.now q.4).untold,
+    )
 
 pub returns-clause-heard : goal.returns-clause-heard
 returns-clause-heard g c =
@@ -19,5 +23,6 @@ returns-clause-heard g c =
       h.1,
       λ r m p reading s.
           let goes = h.2 r m p reading s in
-          delivered_by r _ _ _ _ (block r m (after r m (event_heard c.args.side h.0 c.args.heard.now))) c.args.side _ _ _ goes.gives (c.deliver.ensures r _ (c.note.ensures.rules r p) goes.stands),
+          delivered_by r _ _ _ _ (block r m (after r m (event_heard c.args.side h.0 c.args.heard.now))) c.args.side _ _
+          _ goes.gives (c.deliver.ensures r _ (c.note.ensures.rules r p) goes.stands),
     )

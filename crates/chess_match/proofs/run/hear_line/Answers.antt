@@ -22,6 +22,7 @@ returns-clause-heard g c = (
   c.now-moment.result,
   asked_one _ _ c.now-moment.result c.now-moment.ensures.moment c.now-moment.ensures.rest,
   λ r m p reading s.
-      goes_with r _ _ _ _ _ m _ (ap (λ (x : Phase). items_in x (seen c.said-said.result)) (sym s.phase) ∙ sym c.items_text-text.ensures)
+      goes_with r _ _ _ _ _ m _ (ap (λ (x : Phase). items_in x (seen c.said-said.result)) (sym s.phase)
+      ∙ sym c.items_text-text.ensures)
       (c.line-given.ensures.goes r m c.args.side (text_heard c.args.line.now) p reading (sym c.said-said.ensures) s),
 )

@@ -7,21 +7,39 @@ use Rattle.chess_match.proofs.run.note.Goals as goal
 
 pub returns-in-Err-clause-heard : goal.returns-in-Err-clause-heard
 returns-in-Err-clause-heard g c =
-    let n = heard_failed (IsNoted (g.G.Played.plays c.args.game.now) c.args.core.now (g.G.Played.played c.args.game.now) c.read_fails.new.self (g.G.Played.played c.args.game.now) c.read_fails.result c.as_slice.result.now c.args.side (g.M.Moments.coming c.args.moments.now) (g.M.Moments.coming c.args.moments.now))
-    c.args.side 0 c.args.heard.now c.in-Err.field-0 c.in-Err.is
-    (asked_none _, λ r m p h s. goes_bare r _ _ _ _ m _ c.as_slice.ensures (c.read_fails.ensures r _ m (reads_on m.phase c.args.side h) s)) in
+    let n = heard_failed (IsNoted (g.G.Played.plays c.args.game.now) c.args.core.now (g.G.Played.played c.args.game.now)
+    c.read_fails.new.self (g.G.Played.played c.args.game.now) c.read_fails.result c.as_slice.result.now c.args.side
+    (g.M.Moments.coming c.args.moments.now) (g.M.Moments.coming c.args.moments.now))
+    c.args.side 0 c.args.heard.now c.in-Err.field-0 c.in-Err.is (
+      asked_none _,
+      λ r m p h s. goes_bare r _ _ _ _ m _ c.as_slice.ensures
+          (c.read_fails.ensures r _ m (reads_on m.phase c.args.side h) s),
+    ) in
     (0, n.0, n.1)
 
 pub returns-in-Ok-None-clause-heard : goal.returns-in-Ok-None-clause-heard
 returns-in-Ok-None-clause-heard g c =
-    let n = heard_none (IsNoted (g.G.Played.plays c.args.game.now) c.args.core.now (g.G.Played.played c.args.game.now) c.output_ends.new.self (g.G.Played.played c.args.game.now) c.output_ends.result c.as_slice-in-Ok-None.result.now c.args.side (g.M.Moments.coming c.args.moments.now) (g.M.Moments.coming c.args.moments.now))
-    c.args.side 0 c.args.heard.now (c.in-Ok-None.is ∙ ap (λ o. Ok o) (rw c.in-Ok-None.is at c.in-Ok-None.field-0-is))
-    (asked_none _, λ r m p h s. goes_bare r _ _ _ _ m _ c.as_slice-in-Ok-None.ensures (c.output_ends.ensures r _ m (reads_on m.phase c.args.side h) s)) in
+    let n = heard_none (IsNoted (g.G.Played.plays c.args.game.now) c.args.core.now (g.G.Played.played c.args.game.now)
+    c.output_ends.new.self (g.G.Played.played c.args.game.now) c.output_ends.result c.as_slice-in-Ok-None.result.now
+    c.args.side (g.M.Moments.coming c.args.moments.now) (g.M.Moments.coming c.args.moments.now))
+    c.args.side 0 c.args.heard.now (c.in-Ok-None.is ∙ ap (λ o. Ok o) (rw c.in-Ok-None.is at c.in-Ok-None.field-0-is)) (
+      asked_none _,
+      λ r m p h s. goes_bare r _ _ _ _ m _ c.as_slice-in-Ok-None.ensures
+          (c.output_ends.ensures r _ m (reads_on m.phase c.args.side h) s),
+    ) in
     (0, n.0, n.1)
 
 pub returns-else-is_ended-clause-heard : goal.returns-else-is_ended-clause-heard
 returns-else-is_ended-clause-heard g c =
-    let n = heard_last (IsNoted (g.G.Played.plays c.args.game.now) c.args.core.now (g.G.Played.played c.args.game.now) c.output_ends-else-is_ended.new.self (g.G.Played.played c.args.game.now) c.output_ends-else-is_ended.result c.as_slice-else-is_ended.result.now c.args.side (g.M.Moments.coming c.args.moments.now) (g.M.Moments.coming c.args.moments.now))
-    c.args.side 0 c.args.heard.now c.in-Ok-Some.line (c.in-Ok-Some.is ∙ ap (λ o. Ok o) (rw c.in-Ok-Some.is at c.in-Ok-Some.field-0-is)) (sym c.is_ended.ensures ∙ c.if-is_ended.false)
-    (asked_none _, λ r m p h s. goes_bare r _ _ _ _ m _ c.as_slice-else-is_ended.ensures (c.output_ends-else-is_ended.ensures r _ m (reads_on m.phase c.args.side h) s)) in
+    let n = heard_last (IsNoted (g.G.Played.plays c.args.game.now) c.args.core.now (g.G.Played.played c.args.game.now)
+    c.output_ends-else-is_ended.new.self (g.G.Played.played c.args.game.now) c.output_ends-else-is_ended.result
+    c.as_slice-else-is_ended.result.now c.args.side (g.M.Moments.coming c.args.moments.now)
+    (g.M.Moments.coming c.args.moments.now))
+    c.args.side 0 c.args.heard.now c.in-Ok-Some.line
+    (c.in-Ok-Some.is ∙ ap (λ o. Ok o) (rw c.in-Ok-Some.is at c.in-Ok-Some.field-0-is))
+    (sym c.is_ended.ensures ∙ c.if-is_ended.false) (
+      asked_none _,
+      λ r m p h s. goes_bare r _ _ _ _ m _ c.as_slice-else-is_ended.ensures
+          (c.output_ends-else-is_ended.ensures r _ m (reads_on m.phase c.args.side h) s),
+    ) in
     (0, n.0, n.1)

@@ -24,32 +24,54 @@ deliver-failed-requires g c =
     let r : Rules = rules_of c.args.setup.now.start c.args.setup.now.level c.args.game.now.limit in (
       r,
       start,
-      subst (λ (ms : List Move). Stands r c.new-core.result ms start) (sym (ap (λ (x : game.Seen). x.state.moves) c.restart.ensures)) (c.new-core.ensures r (rules_level c.args.setup.now.start c.args.setup.now.level c.args.game.now.limit)),
+      subst (λ (ms : List Move). Stands r c.new-core.result ms start)
+          (sym (ap (λ (x : game.Seen). x.state.moves) c.restart.ensures))
+          (c.new-core.ensures r (rules_level c.args.setup.now.start c.args.setup.now.level c.args.game.now.limit)),
       λ h. cc,
     )
 
 pub events-init : goal.events-init
 events-init g c =
     let r : Rules = rules_of c.args.setup.now.start c.args.setup.now.level c.args.game.now.limit in
-    let stands = subst (λ (ms : List Move). Stands r c.new-core.result ms start) (sym (ap (λ (x : game.Seen). x.state.moves) c.restart.ensures)) (c.new-core.ensures r (rules_level c.args.setup.now.start c.args.setup.now.level c.args.game.now.limit)) in
-    let d = c.deliver-failed.ensures r start (plays_anew c.args.game.now c.restart.new.self c.args.setup.now.start c.args.setup.now.level c.restart.ensures) stands in
-    let b = begun r _ _ _ (by_side c.deliver-failed.result.white c.deliver-failed.result.black) (by_side (g.R.Input.seen c.args.white.now.reader) (g.R.Input.seen c.args.black.now.reader)) (by_side c.new-white_lines.result c.new-black_lines.result)
-    _ _ (g.M.Moments.coming c.args.moments.now) (both_sides (λ S. by_side c.new-white_lines.result c.new-black_lines.result S ≡ nothing_held) c.new-white_lines.ensures c.new-black_lines.ensures) d in
-    (b.0, b.1, ap (λ (x : game.Seen). x.state.start) c.restart.ensures, ap (λ (x : game.Seen). x.limit) c.restart.ensures, ap (λ (x : game.Seen). x.state.declared) c.restart.ensures)
+    let stands = subst (λ (ms : List Move). Stands r c.new-core.result ms start)
+    (sym (ap (λ (x : game.Seen). x.state.moves) c.restart.ensures))
+    (c.new-core.ensures r (rules_level c.args.setup.now.start c.args.setup.now.level c.args.game.now.limit)) in
+    let d = c.deliver-failed.ensures r start
+    (plays_anew c.args.game.now c.restart.new.self c.args.setup.now.start c.args.setup.now.level c.restart.ensures)
+    stands in
+    let b = begun r _ _ _ (by_side c.deliver-failed.result.white c.deliver-failed.result.black)
+    (by_side (g.R.Input.seen c.args.white.now.reader) (g.R.Input.seen c.args.black.now.reader))
+    (by_side c.new-white_lines.result c.new-black_lines.result)
+    _ _ (g.M.Moments.coming c.args.moments.now)
+    (both_sides (λ S. by_side c.new-white_lines.result c.new-black_lines.result S ≡ nothing_held)
+    c.new-white_lines.ensures c.new-black_lines.ensures) d in (
+      b.0,
+      b.1,
+      ap (λ (x : game.Seen). x.state.start) c.restart.ensures,
+      ap (λ (x : game.Seen). x.limit)
+          c.restart.ensures,
+      ap (λ (x : game.Seen). x.state.declared) c.restart.ensures,
+    )
 
 pub returns-in-Nothing : goal.returns-in-Nothing
 returns-in-Nothing g c =
     let i = c.events.invariant in
-    ran c.args.game.now c.events.game c.end_of.new.game c.args.setup.now.start c.args.setup.now.level i.0 c.events.core c.in-Nothing.reason c.events.failed c.end_of.result
-    (g.R.Input.seen c.args.white.now.reader) (g.R.Input.seen c.args.black.now.reader) (g.R.Input.seen c.events.white.reader) (g.R.Input.seen c.events.black.reader) (by_side c.events.white_lines c.events.black_lines)
-    (g.W.Output.seen c.args.white.now.writer) (g.W.Output.seen c.args.black.now.writer) (g.W.Output.seen c.events.white.writer) (g.W.Output.seen c.events.black.writer) _ _
-    i.1 c.in-Nothing.ensures c.end_of.ensures.told c.end_of.ensures.white_name c.end_of.ensures.black_name i.2 i.3 c.end_of.ensures.game
+    ran c.args.game.now c.events.game c.end_of.new.game c.args.setup.now.start c.args.setup.now.level i.0 c.events.core
+    c.in-Nothing.reason c.events.failed c.end_of.result
+    (g.R.Input.seen c.args.white.now.reader) (g.R.Input.seen c.args.black.now.reader)
+    (g.R.Input.seen c.events.white.reader) (g.R.Input.seen c.events.black.reader)
+    (by_side c.events.white_lines c.events.black_lines)
+    (g.W.Output.seen c.args.white.now.writer) (g.W.Output.seen c.args.black.now.writer)
+    (g.W.Output.seen c.events.white.writer) (g.W.Output.seen c.events.black.writer) _ _
+    i.1 c.in-Nothing.ensures c.end_of.ensures.told c.end_of.ensures.white_name c.end_of.ensures.black_name i.2 i.3
+    c.end_of.ensures.game
 
 pub events-smaller-in-Moment : goal.events-smaller-in-Moment
 events-smaller-in-Moment g c =
     let i = c.events.invariant in
     let r : Rules = rules_of c.args.setup.now.start c.args.setup.now.level c.args.game.now.limit in
-    let opening : opens (match_of r i.0).phase c.in-Moment.side ≡ true = ap (λ (p : Phase). opens p c.in-Moment.side) (sym i.1.stands.phase) ∙ c.in-Moment.ensures in
+    let opening : opens (match_of r i.0).phase c.in-Moment.side ≡ true = ap (λ (p : Phase). opens p c.in-Moment.side)
+    (sym i.1.stands.phase) ∙ c.in-Moment.ensures in
     let goes = c.open.ensures r _ (match_of r i.0) opening i.1.stands in
     opened_left c.events.core c.open.new.self c.in-Moment.side _ c.in-Moment.ensures goes.stands.phase
 
@@ -57,10 +79,12 @@ pub events-preserved-in-Moment : goal.events-preserved-in-Moment
 events-preserved-in-Moment g c =
     let i = c.events.invariant in
     let r : Rules = rules_of c.args.setup.now.start c.args.setup.now.level c.args.game.now.limit in
-    let opening : opens (match_of r i.0).phase c.in-Moment.side ≡ true = ap (λ (p : Phase). opens p c.in-Moment.side) (sym i.1.stands.phase) ∙ c.in-Moment.ensures in
+    let opening : opens (match_of r i.0).phase c.in-Moment.side ≡ true = ap (λ (p : Phase). opens p c.in-Moment.side)
+    (sym i.1.stands.phase) ∙ c.in-Moment.ensures in
     let goes = c.open.ensures r _ (match_of r i.0) opening i.1.stands in (
       i.0 ++ Opened c.in-Moment.side c.now-moment.result ∷ [],
-      opened_step r i.0 c.in-Moment.side c.now-moment.result _ _ _ _ _ _ _ _ _ _ _ _ i.1 opening (asked_one _ _ c.now-moment.result c.now-moment.ensures.moment c.now-moment.ensures.rest) goes,
+      opened_step r i.0 c.in-Moment.side c.now-moment.result _ _ _ _ _ _ _ _ _ _ _ _ i.1 opening
+          (asked_one _ _ c.now-moment.result c.now-moment.ensures.moment c.now-moment.ensures.rest) goes,
       i.2,
       i.3,
       i.4,
@@ -74,10 +98,13 @@ events-smaller g c =
     let S : Colour = c.in-Line.side in
     let reading : reads m.phase S ≡ true = ap (λ (p : Phase). reads p S) (sym i.1.stands.phase) ∙ c.in-Line.ensures in
     let h = c.hear-failed.ensures.heard in
-    let d = h.2 r m (plays_on c.args.game.now c.events.game c.args.setup.now.start c.args.setup.now.level i.2 i.3 i.4) reading i.1.stands in
+    let d = h.2 r m (plays_on c.args.game.now c.events.game c.args.setup.now.start c.args.setup.now.level i.2 i.3 i.4)
+    reading i.1.stands in
     heard_less r c.events.core.phase c.hear-failed.new.core _ m S h.0 c.next_line-heard.result _
-    (by_side (g.R.Input.seen c.events.white.reader) (g.R.Input.seen c.events.black.reader)) (by_side (g.R.Input.seen c.next_line-heard.new.white) (g.R.Input.seen c.next_line-heard.new.black))
-    (by_side c.events.white_lines c.events.black_lines) (by_side c.next_line-heard.new.white_lines c.next_line-heard.new.black_lines) _ _ _
+    (by_side (g.R.Input.seen c.events.white.reader) (g.R.Input.seen c.events.black.reader))
+    (by_side (g.R.Input.seen c.next_line-heard.new.white) (g.R.Input.seen c.next_line-heard.new.black))
+    (by_side c.events.white_lines c.events.black_lines)
+    (by_side c.next_line-heard.new.white_lines c.next_line-heard.new.black_lines) _ _ _
     c.in-Line.ensures c.next_line-heard.ensures.next c.next_line-heard.ensures.others c.next_line-heard.ensures.held d
 
 pub events-preserved : goal.events-preserved
@@ -90,9 +117,21 @@ events-preserved g c =
     let plays = plays_on c.args.game.now c.events.game c.args.setup.now.start c.args.setup.now.level i.2 i.3 i.4 in
     let h = c.hear-failed.ensures.heard in
     let d = h.2 r m plays reading i.1.stands in
-    let u = heard_on r i.0 S h.0 c.next_line-heard.result c.events.core c.hear-failed.new.core _ _ (by_side c.events.failed.white c.events.failed.black) (by_side c.hear-failed.result.white c.hear-failed.result.black)
-    (by_side (g.R.Input.seen c.args.white.now.reader) (g.R.Input.seen c.args.black.now.reader)) (by_side (g.R.Input.seen c.events.white.reader) (g.R.Input.seen c.events.black.reader)) (by_side (g.R.Input.seen c.next_line-heard.new.white) (g.R.Input.seen c.next_line-heard.new.black))
-    (by_side c.events.white_lines c.events.black_lines) (by_side c.next_line-heard.new.white_lines c.next_line-heard.new.black_lines)
+    let u = heard_on r i.0 S h.0 c.next_line-heard.result c.events.core c.hear-failed.new.core _ _
+    (by_side c.events.failed.white c.events.failed.black)
+    (by_side c.hear-failed.result.white c.hear-failed.result.black)
+    (by_side (g.R.Input.seen c.args.white.now.reader) (g.R.Input.seen c.args.black.now.reader))
+    (by_side (g.R.Input.seen c.events.white.reader) (g.R.Input.seen c.events.black.reader))
+    (by_side (g.R.Input.seen c.next_line-heard.new.white) (g.R.Input.seen c.next_line-heard.new.black))
+    (by_side c.events.white_lines c.events.black_lines)
+    (by_side c.next_line-heard.new.white_lines c.next_line-heard.new.black_lines)
     (by_side (g.W.Output.seen c.args.white.now.writer) (g.W.Output.seen c.args.black.now.writer)) _ _ _ _ _
-    i.1 c.in-Line.ensures c.next_line-heard.ensures.next c.next_line-heard.ensures.others c.next_line-heard.ensures.held h.1 d in
-    (u.0, u.1, ap (λ (x : Setup × ℕ). x.0) c.hear-failed.ensures.origin ∙ i.2, ap (λ (x : Setup × ℕ). x.1) c.hear-failed.ensures.origin ∙ i.3, (c.hear-failed.ensures.rules r plays).2)
+    i.1 c.in-Line.ensures c.next_line-heard.ensures.next c.next_line-heard.ensures.others c.next_line-heard.ensures.held
+    h.1 d in (
+      u.0,
+      u.1,
+      ap (λ (x : Setup × ℕ). x.0) c.hear-failed.ensures.origin
+          ∙ i.2,
+      ap (λ (x : Setup × ℕ). x.1) c.hear-failed.ensures.origin ∙ i.3,
+      (c.hear-failed.ensures.rules r plays).2,
+    )

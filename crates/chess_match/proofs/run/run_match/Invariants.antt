@@ -9,11 +9,16 @@ use Rattle.chess_match.proofs.run.run_match.Given as goal
 abbrev pub invariant-events : goal.invariant-events
 invariant-events g l =
     (T : List Event)
-    × IsUnderWay (rules_of l.fn.setup.start l.fn.setup.level l.fn.game.limit) T l.core l.game.state.moves (by_side l.failed.white l.failed.black)
-    (by_side (g.R.Input.seen l.fn.white.reader) (g.R.Input.seen l.fn.black.reader)) (by_side (g.R.Input.seen l.white.reader) (g.R.Input.seen l.black.reader)) (by_side l.white_lines l.black_lines)
-    (by_side (g.W.Output.seen l.fn.white.writer) (g.W.Output.seen l.fn.black.writer)) (by_side (g.W.Output.seen l.white.writer) (g.W.Output.seen l.black.writer))
+    × IsUnderWay (rules_of l.fn.setup.start l.fn.setup.level l.fn.game.limit) T l.core l.game.state.moves
+    (by_side l.failed.white l.failed.black)
+    (by_side (g.R.Input.seen l.fn.white.reader) (g.R.Input.seen l.fn.black.reader))
+    (by_side (g.R.Input.seen l.white.reader) (g.R.Input.seen l.black.reader)) (by_side l.white_lines l.black_lines)
+    (by_side (g.W.Output.seen l.fn.white.writer) (g.W.Output.seen l.fn.black.writer))
+    (by_side (g.W.Output.seen l.white.writer) (g.W.Output.seen l.black.writer))
     (g.M.Moments.coming l.fn.moments) (g.M.Moments.coming l.moments)
     × (l.game.state.start ≡ l.fn.setup.start) × (l.game.limit ≡ l.fn.game.limit) × (l.game.state.declared ≡ None)
 
 abbrev pub decreases-events : goal.decreases-events
-decreases-events g l = steps_left l.core.phase (work (g.R.Input.seen l.white.reader) l.white_lines + work (g.R.Input.seen l.black.reader) l.black_lines)
+decreases-events g l =
+    steps_left l.core.phase
+    (work (g.R.Input.seen l.white.reader) l.white_lines + work (g.R.Input.seen l.black.reader) l.black_lines)

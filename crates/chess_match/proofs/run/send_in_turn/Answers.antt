@@ -14,17 +14,26 @@ pub returns-then-is_err : goal.returns-then-is_err
 returns-then-is_err g c r m p s =
     let err = sym c.is_err.ensures.value ∙ c.if-is_err.true in
     let end = c.end_for_other-others_failed.ensures r m p s in
-    first_failed r _ _ m (given_block r c.args.given (items_of c.args.text.now) m) c.args.side _ _ _ _ _ (on_too r _ _ m s c.requires.on) (c.send.ensures.due r m p s err) end.0
+    first_failed r _ _ m (given_block r c.args.given (items_of c.args.text.now) m) c.args.side _ _ _ _ _
+    (on_too r _ _ m s c.requires.on) (c.send.ensures.due r m p s err) end.0
     (sends_if _ _ _ true _ _ (sym err) refl (c.send.ensures.sends r m p s)) end.1
 
 pub returns-then-is_err-2 : goal.returns-then-is_err-2
 returns-then-is_err-2 g c r m p s =
     let fine = sym c.is_err.ensures.value ∙ c.if-is_err.false in
     let err = sym c.is_err-2.ensures.value ∙ c.if-is_err-2.true in
-    let end = subst (λ (X : Colour). Stands r c.end_for_other-own_failed.new.core (g.G.Played.played c.args.game.now) (after r m (FailsToWrite X))
-    × SendsIf c.end_for_other-own_failed.result (g.W.Output.seen c.send.new.writer) (g.W.Output.seen c.end_for_other-own_failed.new.others) (bytes_of (block r m (after r m (FailsToWrite X)) (other X)))) c.other-then-is_err-2.ensures (c.end_for_other-own_failed.ensures r m p s) in
-    second_failed r _ _ m (given_block r c.args.given (items_of c.args.text.now) m) c.args.side _ _ _ _ _ _ (on_too r _ _ m s c.requires.on)
-    (subst (λ (X : Colour). 0 < length (given_block r c.args.given (items_of c.args.text.now) m X)) c.other.ensures (c.send-2.ensures.due r m p s err)) end.0
+    let end = subst (λ (X : Colour). Stands r c.end_for_other-own_failed.new.core (g.G.Played.played c.args.game.now)
+    (after r m (FailsToWrite X))
+    × SendsIf c.end_for_other-own_failed.result (g.W.Output.seen c.send.new.writer)
+    (g.W.Output.seen c.end_for_other-own_failed.new.others)
+    (bytes_of (block r m (after r m (FailsToWrite X)) (other X)))) c.other-then-is_err-2.ensures
+    (c.end_for_other-own_failed.ensures r m p s) in
+    second_failed r _ _ m (given_block r c.args.given (items_of c.args.text.now) m) c.args.side _ _ _ _ _ _
+    (on_too r _ _ m s c.requires.on)
+    (subst (λ (X : Colour). 0 < length (given_block r c.args.given (items_of c.args.text.now) m X)) c.other.ensures
+    (c.send-2.ensures.due r m p s err)) end.0
     (sends_if _ _ _ false _ _ (sym fine) refl (c.send.ensures.sends r m p s))
-    (sends_if _ _ _ true _ _ (sym err) (ap (λ (X : Colour). bytes_of (given_block r c.args.given (items_of c.args.text.now) m X)) c.other.ensures) (c.send-2.ensures.sends r m p s))
+    (sends_if _ _ _ true _ _ (sym err)
+    (ap (λ (X : Colour). bytes_of (given_block r c.args.given (items_of c.args.text.now) m X)) c.other.ensures)
+    (c.send-2.ensures.sends r m p s))
     end.1

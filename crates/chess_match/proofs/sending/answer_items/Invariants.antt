@@ -9,7 +9,9 @@ use Rattle.chess_match.proofs.sending.answer_items.Given as goal
 
 abbrev pub invariant-loop-item : goal.invariant-loop-item
 invariant-loop-item g l =
-    (so_far : List Item) × SoFar l.text l.rest so_far × TookSome (g.W.Output.seen l.fn.writer) (g.W.Output.seen l.writer) l.fn.block.items l.block.items (bytes_of (answers_to so_far))
+    (so_far : List Item) × SoFar l.text l.rest so_far
+    × TookSome (g.W.Output.seen l.fn.writer) (g.W.Output.seen l.writer) l.fn.block.items l.block.items
+    (bytes_of (answers_to so_far))
     × (l.some ≡ nat_lt 0 (length so_far)) × (array_vec_len l.block ≤ 290)
 
 abbrev pub decreases-loop-item : goal.decreases-loop-item

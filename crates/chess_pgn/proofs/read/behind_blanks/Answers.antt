@@ -7,7 +7,8 @@ pub loop-place-preserved : goal.loop-place-preserved
 loop-place-preserved c =
     let behind = c.loop-place.invariant.behind in
     record {
-      alike = passed c.args.text.now c.args.at c.loop-place.place c.loop-place.invariant.alike c.loop-place-test.true (sym c.is_passed.ensures ∙ c.if-is_passed.true);
+      alike = passed c.args.text.now c.args.at c.loop-place.place c.loop-place.invariant.alike c.loop-place-test.true
+          (sym c.is_passed.ensures ∙ c.if-is_passed.true);
       behind = omega (arith, behind);
       within = omega arith;
     }

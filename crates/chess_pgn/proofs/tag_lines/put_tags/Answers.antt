@@ -9,14 +9,18 @@ pub returns-in_err-put_line-clause-added : goal.returns-in_err-put_line-clause-a
 returns-in_err-put_line-clause-added g c =
     let l = c.loop-tag in
     adds_exit _ _ c.from_residual.result _ _ _
-    (tags_break _ _ _ _ _ _ _ _ c.args.tags.now l.tag-index c.tag-item.result c.loop-tag-test.true l.invariant.prefix (c.as_slice.ensures.value ∙ c.tag_line-line.ensures) c.tag-item.is l.invariant.added c.in_err-put_line.ensures.added)
+    (tags_break _ _ _ _ _ _ _ _ c.args.tags.now l.tag-index c.tag-item.result c.loop-tag-test.true l.invariant.prefix
+    (c.as_slice.ensures.value ∙ c.tag_line-line.ensures) c.tag-item.is l.invariant.added
+    c.in_err-put_line.ensures.added)
     c.from_residual.ensures.0
 
 pub loop-tag-preserved : goal.loop-tag-preserved
 loop-tag-preserved g c =
     let l = c.loop-tag in
     record {
-      added = tags_more _ _ _ _ _ _ _ _ _ c.args.tags.now l.tag-index c.tag-item.result c.loop-tag-test.true l.invariant.prefix (c.as_slice.ensures.value ∙ c.tag_line-line.ensures) c.tag-item.is l.invariant.added c.in_ok-put_line.ensures.added;
+      added = tags_more _ _ _ _ _ _ _ _ _ c.args.tags.now l.tag-index c.tag-item.result c.loop-tag-test.true
+          l.invariant.prefix (c.as_slice.ensures.value ∙ c.tag_line-line.ensures) c.tag-item.is l.invariant.added
+          c.in_ok-put_line.ensures.added;
       prefix = c.in_ok-put_line.ensures.prefix ∙ l.invariant.prefix;
       column = c.in_ok-put_line.ensures.column ∙ l.invariant.column;
     }

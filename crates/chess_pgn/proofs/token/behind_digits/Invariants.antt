@@ -4,7 +4,8 @@ use Rattle.chess_pgn.specs.Tokens.{is_digit}
 use Rattle.chess_pgn.proofs.token.behind_digits.Given as goal
 
 abbrev pub invariant-loop-end : goal.invariant-loop-end
-invariant-loop-end l = (l.end ≤ length l.text) × (l.end + prefix_len is_digit (drop l.end l.text) ≡ prefix_len is_digit l.text)
+invariant-loop-end l = (l.end ≤ length l.text)
+    × (l.end + prefix_len is_digit (drop l.end l.text) ≡ prefix_len is_digit l.text)
 
 abbrev pub decreases-loop-end : goal.decreases-loop-end
 decreases-loop-end l = length l.text - l.end

@@ -9,12 +9,17 @@ pub returns-in_default : goal.returns-in_default
 returns-in_default c = no_token_left c.args.text.now c.args.at _ refl c.in_default.len_below
 
 pub overflow_sub-result : goal.overflow_sub-result
-overflow_sub-result c = (next_token c.args.text.now c.args.at c.begins_line.result _ c.requires c.begins_line.ensures refl c.in-len1-up.len_at_least (token_seen c.in-Ok.token) c.in-Ok.behind.now c.in-Ok.ensures).fewer
+overflow_sub-result c =
+    (next_token c.args.text.now c.args.at c.begins_line.result _ c.requires c.begins_line.ensures refl
+    c.in-len1-up.len_at_least (token_seen c.in-Ok.token) c.in-Ok.behind.now c.in-Ok.ensures).fewer
 
 pub returns-in-Ok : goal.returns-in-Ok
 returns-in-Ok c =
-    let t : NextToken c.args.text.now c.args.at (token_seen c.in-Ok.token) c.in-Ok.behind.now = next_token c.args.text.now c.args.at c.begins_line.result _ c.requires c.begins_line.ensures refl c.in-len1-up.len_at_least (token_seen c.in-Ok.token) c.in-Ok.behind.now c.in-Ok.ensures in
+    let t : NextToken c.args.text.now c.args.at (token_seen c.in-Ok.token) c.in-Ok.behind.now =
+    next_token c.args.text.now c.args.at c.begins_line.result _ c.requires c.begins_line.ensures refl
+    c.in-len1-up.len_at_least (token_seen c.in-Ok.token) c.in-Ok.behind.now c.in-Ok.ensures in
     (t.tokens, t.nearer, omega arith)
 
 pub returns-in-Err : goal.returns-in-Err
-returns-in-Err c = last_token c.args.text.now c.args.at c.begins_line.result _ c.requires c.begins_line.ensures refl c.in-len1-up.len_at_least (fault_seen c.in-Err.fault) c.in-Err.ensures
+returns-in-Err c = last_token c.args.text.now c.args.at c.begins_line.result _ c.requires c.begins_line.ensures refl
+    c.in-len1-up.len_at_least (fault_seen c.in-Err.fault) c.in-Err.ensures

@@ -9,7 +9,8 @@ invariant-loop-ply g l =
     let seen = g.W.Output.seen in
     let tokens = move_tokens true l.game.state.start (take l.ply l.game.state.moves) in
     record {
-      added : TookSome (seen l.fn.writer) (seen l.writer) l.fn.lines.waiting l.lines.waiting (placed_all l.fn.lines.prefix.now l.fn.lines.column tokens);
+      added : TookSome (seen l.fn.writer) (seen l.writer) l.fn.lines.waiting l.lines.waiting
+          (placed_all l.fn.lines.prefix.now l.fn.lines.column tokens);
       column : l.lines.column ≡ column_behind_all l.fn.lines.column tokens;
       prefix : l.lines.prefix.now ≡ l.fn.lines.prefix.now;
       position : g.B.Board.position l.scratch ≡ last l.game.state.start (take l.ply l.game.state.moves);

@@ -8,7 +8,9 @@ pub returns-in_default-clause-value : goal.returns-in_default-clause-value
 returns-in_default-clause-value g c = reading_nothing _ c.args.text.now (sym c.in_default.ensures)
 
 pub returns-clause-value : goal.returns-clause-value
-returns-clause-value g c = c.spelled.ensures ∙ reading_spelled (g.B.Board.position c.args.board.now) c.args.text.now c.in-Some.form (sym c.in-Some.ensures)
+returns-clause-value g c = c.spelled.ensures ∙ reading_spelled (g.B.Board.position c.args.board.now) c.args.text.now
+    c.in-Some.form (sym c.in-Some.ensures)
 
 pub returns-clause-legal : goal.returns-clause-legal
-returns-clause-legal g c = reads_legal (g.B.Board.position c.args.board.now) c.args.text.now c.spelled.result (returns-clause-value g c)
+returns-clause-legal g c = reads_legal (g.B.Board.position c.args.board.now) c.args.text.now c.spelled.result
+    (returns-clause-value g c)

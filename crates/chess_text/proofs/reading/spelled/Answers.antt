@@ -9,10 +9,15 @@ use Rattle.chess_text.proofs.reading.spelled.Goals as goal
 
 pub loop-from-init : goal.loop-from-init
 loop-from-init g c =
-    ap (with_moves reads.NoSuch) (spelled_from c.args.form.now (g.B.Board.position c.args.board.now) c.form_origins-rest.result c.form_origins-rest.ensures) ∙ one_found _
+    ap (with_moves reads.NoSuch)
+    (spelled_from c.args.form.now (g.B.Board.position c.args.board.now) c.form_origins-rest.result
+    c.form_origins-rest.ensures) ∙ one_found _
 
 pub loop-from-preserved : goal.loop-from-preserved
 loop-from-preserved g c =
     let p = g.B.Board.position c.args.board.now in
-    more_found (λ a. spelled_with c.args.form.now p a (end_of c.args.form.now p) promotions) c.loop-from.found _ _ c.in-Some.from _ _ c.in-Some.ensures c.loop-from.invariant
-    (c.with_spelled_between-found.ensures ∙ ap (λ b. with_moves c.loop-from.found (spelled_with c.args.form.now p c.in-Some.from b promotions)) (c.end_square-to.ensures ∙ ap (end_of c.args.form.now) c.setup.ensures.value))
+    more_found (λ a. spelled_with c.args.form.now p a (end_of c.args.form.now p) promotions) c.loop-from.found _ _
+    c.in-Some.from _ _ c.in-Some.ensures c.loop-from.invariant
+    (c.with_spelled_between-found.ensures
+    ∙ ap (λ b. with_moves c.loop-from.found (spelled_with c.args.form.now p c.in-Some.from b promotions))
+    (c.end_square-to.ensures ∙ ap (end_of c.args.form.now) c.setup.ensures.value))

@@ -8,7 +8,11 @@ use Rattle.chess_text.proofs.reading.spelled.Given as goal
 
 -- the squares that are left give the whole
 abbrev pub invariant-loop-from : goal.invariant-loop-from
-invariant-loop-from g l = with_moves l.found (flat_map (λ a. spelled_with l.form (g.B.Board.position l.board) a (end_of l.form (g.B.Board.position l.board)) promotions) (members l.rest)) ≡ one_of (filter (λ m. is_spelled l.form (g.B.Board.position l.board) m) (moves (g.B.Board.position l.board)))
+invariant-loop-from g l =
+    with_moves l.found (flat_map
+    (λ a. spelled_with l.form (g.B.Board.position l.board) a (end_of l.form (g.B.Board.position l.board)) promotions)
+    (members l.rest)) ≡ one_of
+    (filter (λ m. is_spelled l.form (g.B.Board.position l.board) m) (moves (g.B.Board.position l.board)))
 
 abbrev pub decreases-loop-from : goal.decreases-loop-from
 decreases-loop-from g l = length (members l.rest)

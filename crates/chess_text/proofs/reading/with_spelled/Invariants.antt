@@ -4,4 +4,7 @@ use Rattle.chess_text.proofs.reading.with_spelled.Given as goal
 
 -- what is left gives the whole
 abbrev pub invariant-loop-promotion : goal.invariant-loop-promotion
-invariant-loop-promotion g l = with_moves l.found (spelled_with l.form (g.B.Board.position l.board) l.from l.to (drop l.promotion-index l.promotions)) ≡ with_moves l.fn.before (spelled_with l.form (g.B.Board.position l.board) l.from l.to l.promotions)
+invariant-loop-promotion g l =
+    with_moves l.found (spelled_with l.form (g.B.Board.position l.board) l.from l.to
+    (drop l.promotion-index l.promotions)) ≡ with_moves l.fn.before
+    (spelled_with l.form (g.B.Board.position l.board) l.from l.to l.promotions)

@@ -5,4 +5,5 @@ use Rattle.chess_base.proofs.fen.castling.is_castling.Given as goal
 
 -- what is left gives the whole
 abbrev pub invariant-loop-byte : goal.invariant-loop-byte
-invariant-loop-byte l = list_all (names_once l.variant l.text) (drop l.byte-index l.text) ≡ list_all (names_once l.variant l.text) l.text
+invariant-loop-byte l = list_all (names_once l.variant l.text) (drop l.byte-index l.text)
+    ≡ list_all (names_once l.variant l.text) l.text

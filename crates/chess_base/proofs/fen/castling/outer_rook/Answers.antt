@@ -12,10 +12,13 @@ pub returns-then-is_man : goal.returns-then-is_man
 returns-then-is_man c =
     let man = sym c.is_man.ensures ∙ c.if-is_man.true in
     let rook = rw (c.index.ensures.value, c.home_square-square.ensures, c.edge_file.ensures.value) at man in
-    rw (c.home_square-square.ensures, c.edge_file.ensures.value) (rook_here c.args.men.now c.args.colour c.args.castling_side c.loop-left.left (c.loop-left.left - 1) (omega arith) rook ∙ c.loop-left.invariant)
+    rw (c.home_square-square.ensures, c.edge_file.ensures.value)
+    (rook_here c.args.men.now c.args.colour c.args.castling_side c.loop-left.left (c.loop-left.left - 1)
+    (omega arith) rook ∙ c.loop-left.invariant)
 
 pub loop-left-preserved : goal.loop-left-preserved
 loop-left-preserved c =
     let man = sym c.is_man.ensures ∙ c.if-is_man.false in
     let none = rw (c.index.ensures.value, c.home_square-square.ensures, c.edge_file.ensures.value) at man in
-    no_rook_here c.args.men.now c.args.colour c.args.castling_side c.loop-left.left (c.loop-left.left - 1) (omega arith) none ∙ c.loop-left.invariant
+    no_rook_here c.args.men.now c.args.colour c.args.castling_side c.loop-left.left (c.loop-left.left - 1) (omega arith)
+    none ∙ c.loop-left.invariant

@@ -12,16 +12,19 @@ use Rattle.chess_base.specs.FenFaults.{IsFaultAs}
 use Rattle.chess_base.proofs.SpelledFen.{found, faulty, fault-read, reading-spelled}
 use Rattle.chess_base.proofs.fen.reading.read_fen_as.Goals as goal
 
-read : (v : Variant) (text : List ℕ) (r : Result Setup FenFault) → r ≡ fen_reading_as v text → IfOk r IsSound → IfOk r (λ p. SpellsFenAs v text p × IsSound p)
+read : (v : Variant) (text : List ℕ) (r : Result Setup FenFault) → r ≡ fen_reading_as v text → IfOk r IsSound
+    → IfOk r (λ p. SpellsFenAs v text p × IsSound p)
 read v text (Ok p) e h = (found v text p (sym e), h)
 read v text (Err f) e h = tt
 
-told : (v : Variant) (text : List ℕ) (r : Result Setup FenFault) → r ≡ fen_reading_as v text → IfErr r (IsFaultAs v text)
+told : (v : Variant) (text : List ℕ) (r : Result Setup FenFault) → r ≡ fen_reading_as v text
+    → IfErr r (IsFaultAs v text)
 told v text (Ok p) e = tt
 told v text (Err f) e = faulty v text f (sym e)
 
 pub returns-clause-found : goal.returns-clause-found
-returns-clause-found c = read c.args.variant c.args.text.now c.spelled_position.result c.spelled_position.ensures.value c.spelled_position.ensures.sound
+returns-clause-found c = read c.args.variant c.args.text.now c.spelled_position.result c.spelled_position.ensures.value
+    c.spelled_position.ensures.sound
 
 pub returns-clause-only : goal.returns-clause-only
 returns-clause-only c = λ p s h. c.spelled_position.ensures.value ∙ reading-spelled c.args.variant c.args.text.now p s h

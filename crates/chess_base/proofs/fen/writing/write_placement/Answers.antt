@@ -15,7 +15,9 @@ loop-rank-preserved-then-rank-gt0 c =
     let from = 8 * (c.loop-rank.rank - 1) in
     let eight : (from + 8) - from ≡ 8 = omega arith in
     record {
-      text = more_ranks c.loop-rank.rank men (take ((from + 8) - from) (drop from men)) c.loop-rank.out.items c.write_rank.new.out.items c.push.new.self.items _ c.if-rank-gt0.true c.loop-rank.invariant.text (ap (λ n. take n (drop from men)) eight) c.write_rank.ensures.text c.push.ensures.items;
+      text = more_ranks c.loop-rank.rank men (take ((from + 8) - from) (drop from men)) c.loop-rank.out.items
+          c.write_rank.new.out.items c.push.new.self.items _ c.if-rank-gt0.true c.loop-rank.invariant.text
+          (ap (λ n. take n (drop from men)) eight) c.write_rank.ensures.text c.push.ensures.items;
       len = omega arith;
       last = λ e. omega arith;
     }

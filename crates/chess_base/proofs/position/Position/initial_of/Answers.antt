@@ -6,7 +6,8 @@ use Rattle.chess_base.proofs.position.Position.initial_of.Goals as goal
 
 pub invariant_of-result : goal.invariant_of-result
 unfolding initial_setup_of
-invariant_of-result c = rw (c.initial_men.ensures, c.new.ensures, c.new-2.ensures, c.new-3.ensures, c.new-4.ensures) (initial_is_sound_in c.args.variant)
+invariant_of-result c = rw (c.initial_men.ensures, c.new.ensures, c.new-2.ensures, c.new-3.ensures, c.new-4.ensures)
+    (initial_is_sound_in c.args.variant)
 
 pub returns : goal.returns
 unfolding initial_setup_of

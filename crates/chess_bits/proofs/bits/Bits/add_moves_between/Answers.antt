@@ -10,34 +10,40 @@ use Rattle.chess_bits.proofs.bits.Bits.add_moves_between.Goals as goal
 
 pub add_moves_with-requires-clause-fits : goal.add_moves_with-requires-clause-fits
 add_moves_with-requires-clause-fits c =
-    let promotes : would_promote c.args.self.now c.args.from c.args.to ≡ true = rw (← c.self.view_is) (sym c.would_promote.ensures ∙ c.if-would_promote.true) in
+    let promotes : would_promote c.args.self.now c.args.from c.args.to ≡ true =
+    rw (← c.self.view_is) (sym c.would_promote.ensures ∙ c.if-would_promote.true) in
     λ i low d. four_fit (would_promote c.args.self.now c.args.from c.args.to) promotes i low d
 
 pub add_moves_with-requires-clause-room : goal.add_moves_with-requires-clause-room
 add_moves_with-requires-clause-room c =
-    let promotes : would_promote c.args.self.now c.args.from c.args.to ≡ true = rw (← c.self.view_is) (sym c.would_promote.ensures ∙ c.if-would_promote.true) in
+    let promotes : would_promote c.args.self.now c.args.from c.args.to ≡ true =
+    rw (← c.self.view_is) (sym c.would_promote.ensures ∙ c.if-would_promote.true) in
     let e = all_promote c.args.self.now c.args.from c.args.to promotes in
     subst (λ (ms : List Move). array_vec_len c.args.list.now + length ms ≤ 896) e c.requires.room
 
 pub returns-then-would_promote : goal.returns-then-would_promote
 returns-then-would_promote c =
-    let promotes : would_promote c.args.self.now c.args.from c.args.to ≡ true = rw (← c.self.view_is) (sym c.would_promote.ensures ∙ c.if-would_promote.true) in
+    let promotes : would_promote c.args.self.now c.args.from c.args.to ≡ true =
+    rw (← c.self.view_is) (sym c.would_promote.ensures ∙ c.if-would_promote.true) in
     let e = all_promote c.args.self.now c.args.from c.args.to promotes in
     c.add_moves_with.ensures ∙ ap (λ (ms : List Move). c.args.list.now.items ++ ms) (sym e)
 
 pub add_moves_with-requires-else-would_promote-clause-fits : goal.add_moves_with-requires-else-would_promote-clause-fits
 add_moves_with-requires-else-would_promote-clause-fits c =
-    let stays : would_promote c.args.self.now c.args.from c.args.to ≡ false = rw (← c.self.view_is) (sym c.would_promote.ensures ∙ c.if-would_promote.false) in
+    let stays : would_promote c.args.self.now c.args.from c.args.to ≡ false =
+    rw (← c.self.view_is) (sym c.would_promote.ensures ∙ c.if-would_promote.false) in
     λ i low d. none_fit (would_promote c.args.self.now c.args.from c.args.to) stays i low d
 
 pub add_moves_with-requires-else-would_promote-clause-room : goal.add_moves_with-requires-else-would_promote-clause-room
 add_moves_with-requires-else-would_promote-clause-room c =
-    let stays : would_promote c.args.self.now c.args.from c.args.to ≡ false = rw (← c.self.view_is) (sym c.would_promote.ensures ∙ c.if-would_promote.false) in
+    let stays : would_promote c.args.self.now c.args.from c.args.to ≡ false =
+    rw (← c.self.view_is) (sym c.would_promote.ensures ∙ c.if-would_promote.false) in
     let e = none_promotes c.args.self.now c.args.from c.args.to stays in
     subst (λ (ms : List Move). array_vec_len c.args.list.now + length ms ≤ 896) e c.requires.room
 
 pub returns-else-would_promote : goal.returns-else-would_promote
 returns-else-would_promote c =
-    let stays : would_promote c.args.self.now c.args.from c.args.to ≡ false = rw (← c.self.view_is) (sym c.would_promote.ensures ∙ c.if-would_promote.false) in
+    let stays : would_promote c.args.self.now c.args.from c.args.to ≡ false =
+    rw (← c.self.view_is) (sym c.would_promote.ensures ∙ c.if-would_promote.false) in
     let e = none_promotes c.args.self.now c.args.from c.args.to stays in
     c.add_moves_with-else-would_promote.ensures ∙ ap (λ (ms : List Move). c.args.list.now.items ++ ms) (sym e)

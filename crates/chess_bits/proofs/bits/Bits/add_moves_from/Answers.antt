@@ -7,12 +7,15 @@ use Rattle.chess_bits.proofs.bits.Bits.add_moves_from.Goals as goal
 
 pub loop-to-init : goal.loop-to-init
 loop-to-init c = record {
-  moves = ap (λ ms. c.args.list.now.items ++ ms) (from_targets c.args.self.now c.args.from c.targets-targets.result c.targets-targets.ensures.complete);
-  goes = each_member c.targets-targets.result (λ b. goes c.args.self.now c.args.from b ≡ true) c.targets-targets.ensures.sound;
+  moves = ap (λ ms. c.args.list.now.items ++ ms)
+      (from_targets c.args.self.now c.args.from c.targets-targets.result c.targets-targets.ensures.complete);
+  goes = each_member c.targets-targets.result (λ b. goes c.args.self.now c.args.from b ≡ true)
+      c.targets-targets.ensures.sound;
 }
 
 pub add_moves_between-requires-clause-room : goal.add_moves_between-requires-clause-room
 add_moves_between-requires-clause-room c =
     let long : length (c.args.list.now.items ++ moves_from c.args.self.now c.args.from) ≤ 896 =
     (let e = length-append c.args.list.now.items (moves_from c.args.self.now c.args.from) in omega arith) in
-    room_for (λ b. moves_between c.args.self.now c.args.from b) c.loop-to.list.items _ _ c.in-Some.to _ 896 c.in-Some.ensures c.loop-to.invariant.moves long
+    room_for (λ b. moves_between c.args.self.now c.args.from b) c.loop-to.list.items _ _ c.in-Some.to _ 896
+    c.in-Some.ensures c.loop-to.invariant.moves long

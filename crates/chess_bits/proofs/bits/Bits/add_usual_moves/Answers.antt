@@ -16,9 +16,11 @@ loop-to-init c =
     let usual = usual_from p c.args.from sound low c.requires.usual in
     let alone = rw c.self.view_is at c.king-king.ensures.alone in
     record {
-      moves = ap (λ ms. c.args.list.now.items ++ ms) (from_targets p c.args.from c.targets-targets.result c.targets-targets.ensures.complete);
+      moves = ap (λ ms. c.args.list.now.items ++ ms)
+          (from_targets p c.args.from c.targets-targets.result c.targets-targets.ensures.complete);
       ones = each_member c.targets-targets.result (λ b. moves_between p c.args.from b ≡ triple c.args.from b None ∷ [])
-          (free_listed p c.args.from c.king-king.result c.targets-targets.result sound c.requires.free usual low c.king-king.ensures.in_range alone c.targets-targets.ensures.sound);
+          (free_listed p c.args.from c.king-king.result c.targets-targets.result sound c.requires.free usual low
+          c.king-king.ensures.in_range alone c.targets-targets.ensures.sound);
     }
 
 pub push-requires : goal.push-requires
@@ -26,6 +28,8 @@ push-requires c =
     let long : length (c.args.list.now.items ++ moves_from c.args.self.now c.args.from) ≤ 896 =
     (let e = length-append c.args.list.now.items (moves_from c.args.self.now c.args.from) in omega arith) in (
       lit< tt,
-      one_fits (λ b. moves_between c.args.self.now c.args.from b) (triple c.args.from c.in-Some.to None) c.loop-to.list.items _ _ c.in-Some.to _ 896 c.in-Some.ensures c.loop-to.invariant.moves long
-          (each_first (λ b. moves_between c.args.self.now c.args.from b ≡ triple c.args.from b None ∷ []) _ c.in-Some.to _ c.in-Some.ensures c.loop-to.invariant.ones),
+      one_fits (λ b. moves_between c.args.self.now c.args.from b) (triple c.args.from c.in-Some.to None)
+          c.loop-to.list.items _ _ c.in-Some.to _ 896 c.in-Some.ensures c.loop-to.invariant.moves long
+          (each_first (λ b. moves_between c.args.self.now c.args.from b ≡ triple c.args.from b None ∷ []) _ c.in-Some.to
+          _ c.in-Some.ensures c.loop-to.invariant.ones),
     )

@@ -9,7 +9,8 @@ use Rattle.chess_bits.proofs.bits.Bits.add_usual_moves.Given as goal
 -- the moves so far and those to the squares that are left are all, and to each of these there is one
 abbrev pub invariant-loop-to : goal.invariant-loop-to
 invariant-loop-to l = record {
-  moves : l.list.items ++ flat_map (λ b. moves_between l.self l.from b) (members l.targets) ≡ l.initial.list.items ++ moves_from l.self l.from;
+  moves : l.list.items ++ flat_map (λ b. moves_between l.self l.from b) (members l.targets) ≡ l.initial.list.items
+      ++ moves_from l.self l.from;
   ones : Each (λ b. moves_between l.self l.from b ≡ triple l.from b None ∷ []) (members l.targets);
 }
 

@@ -18,34 +18,47 @@ pub returns-then-is_some : goal.returns-then-is_some
 returns-then-is_some c = λ k low.
     let p = c.self.inside.setup in
     let pawn : is_man p.side Pawn (man_at p.men c.args.from) ≡ true = rw c.self.view_is c.requires in
-    let taken : is_some (man_at p.men c.in-Some.next) ≡ true = ap (λ i. is_some (man_at p.men i)) (sym c.index.ensures.value) ∙ sym c.is_some.ensures ∙ c.if-is_some.true in
-    rw (← c.self.view_is) (c.empty-then-is_some.ensures k ∙ blocked p c.args.from c.in-Some.next k pawn c.in-Some.ensures taken)
+    let taken : is_some (man_at p.men c.in-Some.next) ≡ true =
+    ap (λ i. is_some (man_at p.men i)) (sym c.index.ensures.value) ∙ sym c.is_some.ensures ∙ c.if-is_some.true in
+    rw (← c.self.view_is)
+    (c.empty-then-is_some.ensures k ∙ blocked p c.args.from c.in-Some.next k pawn c.in-Some.ensures taken)
 
 pub returns-then-rank-pawn_rank : goal.returns-then-rank-pawn_rank
 returns-then-rank-pawn_rank c = λ k low.
     let p = c.self.inside.setup in
     let pawn : is_man p.side Pawn (man_at p.men c.args.from) ≡ true = rw c.self.view_is c.requires in
-    let free : is_some (man_at p.men c.in-Some.next) ≡ false = ap (λ i. is_some (man_at p.men i)) (sym c.index.ensures.value) ∙ sym c.is_some.ensures ∙ c.if-is_some.false in
+    let free : is_some (man_at p.men c.in-Some.next) ≡ false =
+    ap (λ i. is_some (man_at p.men i)) (sym c.index.ensures.value) ∙ sym c.is_some.ensures ∙ c.if-is_some.false in
     rw (← c.self.view_is)
     (c.single-one.ensures.value k
-    ∙ one_only p c.args.from c.in-Some.next k pawn c.in-Some.ensures free (λ e. c.if-rank-pawn_rank.true (c.rank.ensures.value ∙ e ∙ sym c.pawn_rank.ensures)))
+    ∙ one_only p c.args.from c.in-Some.next k pawn c.in-Some.ensures free
+    (λ e. c.if-rank-pawn_rank.true (c.rank.ensures.value ∙ e ∙ sym c.pawn_rank.ensures)))
 
 pub returns-then-is_some-2 : goal.returns-then-is_some-2
 returns-then-is_some-2 c = λ k low.
     let p = c.self.inside.setup in
     let pawn : is_man p.side Pawn (man_at p.men c.args.from) ≡ true = rw c.self.view_is c.requires in
-    let free : is_some (man_at p.men c.in-Some.next) ≡ false = ap (λ i. is_some (man_at p.men i)) (sym c.index.ensures.value) ∙ sym c.is_some.ensures ∙ c.if-is_some.false in
-    let taken : is_some (man_at p.men c.in-Some-ahead.second) ≡ true = ap (λ i. is_some (man_at p.men i)) (sym c.index-2.ensures.value) ∙ sym c.is_some-2.ensures ∙ c.if-is_some-2.true in
+    let free : is_some (man_at p.men c.in-Some.next) ≡ false =
+    ap (λ i. is_some (man_at p.men i)) (sym c.index.ensures.value) ∙ sym c.is_some.ensures ∙ c.if-is_some.false in
+    let taken : is_some (man_at p.men c.in-Some-ahead.second) ≡ true =
+    ap (λ i. is_some (man_at p.men i)) (sym c.index-2.ensures.value) ∙ sym c.is_some-2.ensures
+    ∙ c.if-is_some-2.true in
     rw (← c.self.view_is)
-    (c.single-one.ensures.value k ∙ second_blocked p c.args.from c.in-Some.next c.in-Some-ahead.second k pawn c.in-Some.ensures c.in-Some-ahead.ensures free taken)
+    (c.single-one.ensures.value k ∙ second_blocked p c.args.from c.in-Some.next c.in-Some-ahead.second k pawn
+    c.in-Some.ensures c.in-Some-ahead.ensures free taken)
 
 pub returns-else-is_some-2 : goal.returns-else-is_some-2
 returns-else-is_some-2 c = λ k low.
     let p = c.self.inside.setup in
     let pawn : is_man p.side Pawn (man_at p.men c.args.from) ≡ true = rw c.self.view_is c.requires in
-    let free : is_some (man_at p.men c.in-Some.next) ≡ false = ap (λ i. is_some (man_at p.men i)) (sym c.index.ensures.value) ∙ sym c.is_some.ensures ∙ c.if-is_some.false in
-    let free' : is_some (man_at p.men c.in-Some-ahead.second) ≡ false = ap (λ i. is_some (man_at p.men i)) (sym c.index-2.ensures.value) ∙ sym c.is_some-2.ensures ∙ c.if-is_some-2.false in
-    let home : rank c.args.from ≡ pawn_rank p.side = sym c.rank.ensures.value ∙ c.if-rank-pawn_rank.false ∙ c.pawn_rank.ensures in
+    let free : is_some (man_at p.men c.in-Some.next) ≡ false =
+    ap (λ i. is_some (man_at p.men i)) (sym c.index.ensures.value) ∙ sym c.is_some.ensures ∙ c.if-is_some.false in
+    let free' : is_some (man_at p.men c.in-Some-ahead.second) ≡ false =
+    ap (λ i. is_some (man_at p.men i)) (sym c.index-2.ensures.value) ∙ sym c.is_some-2.ensures
+    ∙ c.if-is_some-2.false in
+    let home : rank c.args.from ≡ pawn_rank p.side = sym c.rank.ensures.value ∙ c.if-rank-pawn_rank.false
+    ∙ c.pawn_rank.ensures in
     rw (← c.self.view_is)
     (c.union.ensures k ∙ rw (c.single-one.ensures.value k, c.single.ensures.value k)
-    (both_squares p c.args.from c.in-Some.next c.in-Some-ahead.second k pawn c.in-Some.ensures c.in-Some-ahead.ensures free free' home))
+    (both_squares p c.args.from c.in-Some.next c.in-Some-ahead.second k pawn c.in-Some.ensures c.in-Some-ahead.ensures
+    free free' home))

@@ -13,4 +13,12 @@ returns c = λ k low.
     let pawn : is_man p.side Pawn (man_at men c.args.from) ≡ true = rw c.self.view_is c.requires in
     rw (← c.self.view_is)
     (c.intersection.ensures k
-    ∙ rw (c.at-reached.ensures k low, pawn_from men p.side c.args.from k, c.union-aims.ensures k, c.all-taken.ensures men c.self.invariant.1 k low, c.set_of.ensures k, c.other.ensures) (captures_is p c.args.from k pawn))
+    ∙ rw (
+      c.at-reached.ensures k low,
+      pawn_from men p.side c.args.from k,
+      c.union-aims.ensures k,
+      c.all-taken.ensures
+          men c.self.invariant.1 k low,
+      c.set_of.ensures k,
+      c.other.ensures,
+    ) (captures_is p c.args.from k pawn))

@@ -12,21 +12,53 @@ pub returns-then-not-is_empty : goal.returns-then-not-is_empty
 returns-then-not-is_empty c =
     let men = c.self.inside.setup.men in
     let stood = c.occupied.ensures men c.self.invariant.1 in
-    let met : (x : ℕ) → x < 64 → has c.intersection-met.result x ≡ ((((is_on_way c.args.castle.now.king_from c.args.castle.now.king_to x || is_on_way c.args.castle.now.rook_from c.args.castle.now.rook_to x) && not (x == c.args.castle.now.king_from)) && not (x == c.args.castle.now.rook_from)) && not (is_none (man_at men x))) =
+    let met : (x : ℕ) → x < 64
+    → has c.intersection-met.result x
+    ≡ ((((is_on_way c.args.castle.now.king_from c.args.castle.now.king_to x
+    || is_on_way c.args.castle.now.rook_from c.args.castle.now.rook_to x) && not (x == c.args.castle.now.king_from))
+    && not (x == c.args.castle.now.rook_from)) && not (is_none (man_at men x))) =
     λ x low. c.intersection-met.ensures x
-    ∙ rw (c.without-crossed.ensures x low, c.without.ensures x low, c.union.ensures x, c.way-walk.ensures x low, c.way-ride.ensures x low, c.single.ensures.value x, c.single-2.ensures.value x, stood.of_men x low) refl in
+    ∙ rw (
+      c.without-crossed.ensures x low,
+      c.without.ensures x low,
+      c.union.ensures x,
+      c.way-walk.ensures x low,
+      c.way-ride.ensures x low,
+      c.single.ensures.value x,
+      c.single-2.ensures.value x,
+      stood.of_men x low,
+    ) refl in
     let empty : castling_way_is_empty men c.args.castle.now ≡ false =
-    sym (way_is_empty men c.args.castle.now (λ x. has c.intersection-met.result x) met) ∙ sym c.is_empty.ensures.none ∙ c.if-not-is_empty.true in
-    rw (← c.self.view_is) (sym (and_left (castling_way_is_empty men c.args.castle.now) (castling_way_is_safe men c.self.inside.setup.side c.args.castle.now) empty))
+    sym (way_is_empty men c.args.castle.now (λ x. has c.intersection-met.result x) met) ∙ sym c.is_empty.ensures.none
+    ∙ c.if-not-is_empty.true in
+    rw (← c.self.view_is)
+    (sym (and_left (castling_way_is_empty men c.args.castle.now)
+    (castling_way_is_safe men c.self.inside.setup.side c.args.castle.now) empty))
 
 pub returns : goal.returns
 returns c =
     let men = c.self.inside.setup.men in
     let stood = c.occupied.ensures men c.self.invariant.1 in
-    let met : (x : ℕ) → x < 64 → has c.intersection-met.result x ≡ ((((is_on_way c.args.castle.now.king_from c.args.castle.now.king_to x || is_on_way c.args.castle.now.rook_from c.args.castle.now.rook_to x) && not (x == c.args.castle.now.king_from)) && not (x == c.args.castle.now.rook_from)) && not (is_none (man_at men x))) =
+    let met : (x : ℕ) → x < 64
+    → has c.intersection-met.result x
+    ≡ ((((is_on_way c.args.castle.now.king_from c.args.castle.now.king_to x
+    || is_on_way c.args.castle.now.rook_from c.args.castle.now.rook_to x) && not (x == c.args.castle.now.king_from))
+    && not (x == c.args.castle.now.rook_from)) && not (is_none (man_at men x))) =
     λ x low. c.intersection-met.ensures x
-    ∙ rw (c.without-crossed.ensures x low, c.without.ensures x low, c.union.ensures x, c.way-walk.ensures x low, c.way-ride.ensures x low, c.single.ensures.value x, c.single-2.ensures.value x, stood.of_men x low) refl in
+    ∙ rw (
+      c.without-crossed.ensures x low,
+      c.without.ensures x low,
+      c.union.ensures x,
+      c.way-walk.ensures x low,
+      c.way-ride.ensures x low,
+      c.single.ensures.value x,
+      c.single-2.ensures.value x,
+      stood.of_men x low,
+    ) refl in
     let empty : castling_way_is_empty men c.args.castle.now ≡ true =
-    sym (way_is_empty men c.args.castle.now (λ x. has c.intersection-met.result x) met) ∙ sym c.is_empty.ensures.none ∙ c.if-not-is_empty.false in
+    sym (way_is_empty men c.args.castle.now (λ x. has c.intersection-met.result x) met) ∙ sym c.is_empty.ensures.none
+    ∙ c.if-not-is_empty.false in
     let safe = rw (← c.self.view_is) at c.is_safe_way.ensures in
-    rw (← c.self.view_is, empty) (safe ∙ way_is_safe men c.self.inside.setup.side c.args.castle.now (λ x. has c.way-walk.result x) (λ x low. c.way-walk.ensures x low))
+    rw (← c.self.view_is, empty)
+    (safe ∙ way_is_safe men c.self.inside.setup.side c.args.castle.now (λ x. has c.way-walk.result x)
+    (λ x low. c.way-walk.ensures x low))

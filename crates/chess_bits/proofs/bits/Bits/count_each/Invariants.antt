@@ -6,7 +6,8 @@ use Rattle.chess_bits.proofs.bits.Bits.count_each.Given as goal
 
 -- the moves counted and those of the men that are left are all
 abbrev pub invariant-loop-from : goal.invariant-loop-from
-invariant-loop-from l = l.count + length (flat_map (λ a. moves_from l.self a) (members l.rest)) ≡ length (flat_map (λ a. moves_from l.self a) (members l.fn.men))
+invariant-loop-from l = l.count + length (flat_map (λ a. moves_from l.self a) (members l.rest))
+    ≡ length (flat_map (λ a. moves_from l.self a) (members l.fn.men))
 
 abbrev pub decreases-loop-from : goal.decreases-loop-from
 decreases-loop-from l = length (members l.rest)

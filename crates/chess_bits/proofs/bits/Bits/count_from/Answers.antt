@@ -7,6 +7,8 @@ use Rattle.chess_bits.proofs.bits.Bits.count_from.Goals as goal
 
 pub loop-to-init : goal.loop-to-init
 loop-to-init c = record {
-  all = none_counted (ap length (from_targets c.args.self.now c.args.from c.targets-targets.result c.targets-targets.ensures.complete));
-  goes = each_member c.targets-targets.result (λ b. goes c.args.self.now c.args.from b ≡ true) c.targets-targets.ensures.sound;
+  all = none_counted (ap length
+      (from_targets c.args.self.now c.args.from c.targets-targets.result c.targets-targets.ensures.complete));
+  goes = each_member c.targets-targets.result (λ b. goes c.args.self.now c.args.from b ≡ true)
+      c.targets-targets.ensures.sound;
 }

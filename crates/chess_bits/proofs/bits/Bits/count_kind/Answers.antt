@@ -9,21 +9,26 @@ use Rattle.chess_bits.proofs.bits.Bits.count_kind.Goals as goal
 pub count_pawns-requires-clause-few : goal.count_pawns-requires-clause-few
 count_pawns-requires-clause-few c =
     let few = c.requires.few in
-    let parts = split (λ a. moves_from c.args.self.now a) c.args.men.now c.intersection-chosen.result c.intersection-taken.result c.without.result c.intersection-taken.ensures c.without.ensures in
+    let parts = split (λ a. moves_from c.args.self.now a) c.args.men.now c.intersection-chosen.result
+    c.intersection-taken.result c.without.result c.intersection-taken.ensures c.without.ensures in
     omega (arith, few, parts)
 
 pub count_officers-requires-clause-few : goal.count_officers-requires-clause-few
 count_officers-requires-clause-few c =
     let few = c.requires.few in
-    let parts = split (λ a. moves_from c.args.self.now a) c.args.men.now c.intersection-chosen.result c.intersection-taken.result c.without.result c.intersection-taken.ensures c.without.ensures in
+    let parts = split (λ a. moves_from c.args.self.now a) c.args.men.now c.intersection-chosen.result
+    c.intersection-taken.result c.without.result c.intersection-taken.ensures c.without.ensures in
     omega (arith, few, parts)
 
 pub returns-then-is_pawn : goal.returns-then-is_pawn
 returns-then-is_pawn c =
     ap (λ n. n + length (flat_map (λ a. moves_from c.args.self.now a) (members c.without.result))) c.count_pawns.ensures
-    ∙ split (λ a. moves_from c.args.self.now a) c.args.men.now c.intersection-chosen.result c.intersection-taken.result c.without.result c.intersection-taken.ensures c.without.ensures
+    ∙ split (λ a. moves_from c.args.self.now a) c.args.men.now c.intersection-chosen.result c.intersection-taken.result
+    c.without.result c.intersection-taken.ensures c.without.ensures
 
 pub returns-else-is_pawn : goal.returns-else-is_pawn
 returns-else-is_pawn c =
-    ap (λ n. n + length (flat_map (λ a. moves_from c.args.self.now a) (members c.without.result))) c.count_officers.ensures
-    ∙ split (λ a. moves_from c.args.self.now a) c.args.men.now c.intersection-chosen.result c.intersection-taken.result c.without.result c.intersection-taken.ensures c.without.ensures
+    ap (λ n. n + length (flat_map (λ a. moves_from c.args.self.now a) (members c.without.result)))
+    c.count_officers.ensures
+    ∙ split (λ a. moves_from c.args.self.now a) c.args.men.now c.intersection-chosen.result c.intersection-taken.result
+    c.without.result c.intersection-taken.ensures c.without.ensures

@@ -16,10 +16,14 @@ loop-to-init c =
     let p = c.args.self.now in
     let low : c.args.king < 64 = subst (λ n. n < 64) c.number-start.ensures.value c.number-start.ensures.in_range in
     let sound : IsSound p = c.setup-sound.ensures.sound in
-    let steps : (k : ℕ) → k < 64 → has c.steps-steps.result k ≡ man_moves p (triple c.args.king k None) = λ k l. c.steps-steps.ensures k l ∙ steps_are p c.args.king k c.requires.king in
+    let steps : (k : ℕ) → k < 64 → has c.steps-steps.result k ≡ man_moves p (triple c.args.king k None) = λ k l.
+    c.steps-steps.ensures k l ∙ steps_are p c.args.king k c.requires.king in
     record {
       all =
-          ap (λ n. n + length (flat_map (λ b. moves_between p c.args.king b) (members c.steps-steps.result))) c.len-count.ensures
-          ∙ king_counted p c.args.king c.steps-steps.result c.castling_ends.result sound c.requires.king low steps c.castling_ends.ensures;
-      steps = each_member c.steps-steps.result (λ b. man_moves p (triple c.args.king b None) ≡ true) (λ b l h. sym (steps b l) ∙ h);
+          ap (λ n. n + length (flat_map (λ b. moves_between p c.args.king b) (members c.steps-steps.result)))
+          c.len-count.ensures
+          ∙ king_counted p c.args.king c.steps-steps.result c.castling_ends.result sound c.requires.king low steps
+          c.castling_ends.ensures;
+      steps = each_member c.steps-steps.result (λ b. man_moves p (triple c.args.king b None) ≡ true)
+          (λ b l h. sym (steps b l) ∙ h);
     }

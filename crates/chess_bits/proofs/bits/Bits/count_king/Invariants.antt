@@ -10,7 +10,8 @@ use Rattle.chess_bits.proofs.bits.Bits.count_king.Given as goal
 -- the moves counted and the steps that are left are all, and each of these is a step
 abbrev pub invariant-loop-to : goal.invariant-loop-to
 invariant-loop-to l = record {
-  all : l.count + length (flat_map (λ b. moves_between l.self l.king b) (members l.steps)) ≡ length (moves_from l.self l.king);
+  all : l.count + length (flat_map (λ b. moves_between l.self l.king b) (members l.steps))
+      ≡ length (moves_from l.self l.king);
   steps : Each (λ b. man_moves l.self (triple l.king b None) ≡ true) (members l.steps);
 }
 

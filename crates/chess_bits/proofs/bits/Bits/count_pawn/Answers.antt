@@ -12,5 +12,6 @@ returns c =
     let sound : IsSound p = rw (← c.self.view_is) c.self.invariant.0 in
     let alone = rw c.self.view_is at c.king-king.ensures.alone in
     c.len.ensures
-    ∙ pawn_counted p c.args.from c.king-king.result c.pawn_targets.result sound c.requires.free c.requires.pawn low c.king-king.ensures.in_range alone
+    ∙ pawn_counted p c.args.from c.king-king.result c.pawn_targets.result sound c.requires.free c.requires.pawn low
+    c.king-king.ensures.in_range alone
     (sym c.is_unusual_pawn.ensures ∙ c.if-is_unusual_pawn.false) c.pawn_targets.ensures

@@ -11,7 +11,8 @@ use Rattle.chess_bits.proofs.bits.Bits.count_pawns.Given as goal
 -- the moves counted and those of the men that are left are all, and each of these is free
 abbrev pub invariant-loop-from : goal.invariant-loop-from
 invariant-loop-from l = record {
-  all : l.count + length (flat_map (λ a. moves_from l.self a) (members l.rest)) ≡ length (flat_map (λ a. moves_from l.self a) (members l.fn.men));
+  all : l.count + length (flat_map (λ a. moves_from l.self a) (members l.rest))
+      ≡ length (flat_map (λ a. moves_from l.self a) (members l.fn.men));
   free : Each (λ a. (is_man l.self.side Pawn (man_at l.self.men a) ≡ true) × IsFree l.self a) (members l.rest);
 }
 

@@ -17,11 +17,16 @@ returns c = λ k low h.
     let king = c.king-king.result in
     let calm : is_in_check p.men p.side ≡ false = rw c.self.view_is (sym c.in_check.ensures ∙ c.if-in_check.false) in
     let alone = rw (← c.self.view_is) at c.king-king.ensures.alone in
-    let both = and_parts (has c.without-others.result k) (not (has c.union-shields.result k)) (sym (c.without.ensures k low) ∙ h) in
-    let mine = and_parts (has c.all.result k) (not (has c.single.result k)) (sym (c.without-others.ensures k low) ∙ both.0) in
+    let both = and_parts (has c.without-others.result k) (not (has c.union-shields.result k))
+    (sym (c.without.ensures k low) ∙ h) in
+    let mine = and_parts (has c.all.result k) (not (has c.single.result k))
+    (sym (c.without-others.ensures k low) ∙ both.0) in
     let own : is_of p.side (man_at p.men k) ≡ true = sym (c.all.ensures p.men c.self.invariant.1 k low) ∙ mine.0 in
-    let neither = or_parts (has c.line_shields.result k) (has c.diagonal_shields.result k) (sym (c.union-shields.ensures k) ∙ not-true _ both.1) in
+    let neither = or_parts (has c.line_shields.result k) (has c.diagonal_shields.result k)
+    (sym (c.union-shields.ensures k) ∙ not-true _ both.1) in
     let lines = rw (← c.self.view_is) at c.line_shields.ensures in
     let diagonals = rw (← c.self.view_is) at c.diagonal_shields.ensures in
     rw (← c.self.view_is)
-    (freed p k king c.self.invariant.0 low c.king-king.ensures.in_range calm alone (sym (c.single.ensures.value k) ∙ not-true _ mine.1) (lines k low own neither.0) (diagonals k low own neither.1))
+    (freed p k king c.self.invariant.0 low c.king-king.ensures.in_range calm alone
+    (sym (c.single.ensures.value k) ∙ not-true _ mine.1) (lines k low own neither.0)
+    (diagonals k low own neither.1))

@@ -14,9 +14,11 @@ pub has_king_move-requires-clause-few : goal.has_king_move-requires-clause-few
 has_king_move-requires-clause-few c = some_fit c.args.self.now c.of-kings.result c.setup-sound.ensures.sound
 
 pub returns-then-has_king_move : goal.returns-then-has_king_move
-returns-then-has_king_move c = some_of c.args.self.now c.of-kings.result (sym c.has_king_move.ensures ∙ c.if-has_king_move.true)
+returns-then-has_king_move c = some_of c.args.self.now c.of-kings.result
+    (sym c.has_king_move.ensures ∙ c.if-has_king_move.true)
 
 pub returns : goal.returns
 returns c =
-    let own : (k : ℕ) → k < 64 → has c.all.result k ≡ is_of c.args.self.now.side (man_at c.args.self.now.men k) = rw (← c.self.view_is) (c.all.ensures c.self.inside.setup.men c.self.invariant.1) in
+    let own : (k : ℕ) → k < 64 → has c.all.result k ≡ is_of c.args.self.now.side (man_at c.args.self.now.men k) =
+    rw (← c.self.view_is) (c.all.ensures c.self.inside.setup.men c.self.invariant.1) in
     c.has_move_of.ensures ∙ ap (λ ms. nat_lt 0 (length ms)) (from_men c.args.self.now c.all.result own)

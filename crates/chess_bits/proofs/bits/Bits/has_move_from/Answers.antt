@@ -6,5 +6,6 @@ use Rattle.chess_bits.proofs.bits.Bits.has_move_from.Goals as goal
 pub loop-to-init : goal.loop-to-init
 loop-to-init c = record {
   moves = from_targets c.args.self.now c.args.from c.targets-targets.result c.targets-targets.ensures.complete;
-  goes = each_member c.targets-targets.result (λ b. goes c.args.self.now c.args.from b ≡ true) c.targets-targets.ensures.sound;
+  goes = each_member c.targets-targets.result (λ b. goes c.args.self.now c.args.from b ≡ true)
+      c.targets-targets.ensures.sound;
 }

@@ -6,7 +6,8 @@ use Rattle.chess_bits.proofs.bits.Bits.has_move_of.Given as goal
 
 -- the men so far have no move
 abbrev pub invariant-loop-from : goal.invariant-loop-from
-invariant-loop-from l = flat_map (λ a. moves_from l.self a) (members l.rest) ≡ flat_map (λ a. moves_from l.self a) (members l.fn.men)
+invariant-loop-from l = flat_map (λ a. moves_from l.self a) (members l.rest) ≡ flat_map (λ a. moves_from l.self a)
+    (members l.fn.men)
 
 abbrev pub decreases-loop-from : goal.decreases-loop-from
 decreases-loop-from l = length (members l.rest)

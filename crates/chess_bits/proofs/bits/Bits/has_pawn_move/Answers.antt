@@ -9,5 +9,6 @@ use Rattle.chess_bits.proofs.bits.Bits.has_pawn_move.Goals as goal
 pub loop-from-init : goal.loop-from-init
 loop-from-init c = record {
   moves = refl;
-  free = each_member c.args.men (λ a. (is_man c.args.self.now.side Pawn (man_at c.args.self.now.men a) ≡ true) × IsFree c.args.self.now a) c.requires.free;
+  free = each_member c.args.men (λ a. (is_man c.args.self.now.side Pawn (man_at c.args.self.now.men a) ≡ true)
+      × IsFree c.args.self.now a) c.requires.free;
 }

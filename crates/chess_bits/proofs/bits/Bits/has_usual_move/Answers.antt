@@ -4,7 +4,8 @@ use Rattle.chess_bits.proofs.Counted.{some_fit, some_of}
 use Rattle.chess_bits.proofs.bits.Bits.has_usual_move.Goals as goal
 
 pub returns-then-has_knight_move : goal.returns-then-has_knight_move
-returns-then-has_knight_move c = λ _. sym (some_of c.args.self.now c.intersection.result (sym c.has_knight_move.ensures ∙ c.if-has_knight_move.true))
+returns-then-has_knight_move c = λ _.
+    sym (some_of c.args.self.now c.intersection.result (sym c.has_knight_move.ensures ∙ c.if-has_knight_move.true))
 
 pub has_pawn_move-requires-clause-few : goal.has_pawn_move-requires-clause-few
 has_pawn_move-requires-clause-few c = some_fit c.args.self.now c.intersection-2.result c.setup-sound.ensures.sound

@@ -19,10 +19,14 @@ returns c =
     let high : c.args.to < 64 = subst (λ n. n < 64) c.number-end.ensures.value c.number-end.ensures.in_range in
     let king : is_man p.side King (man_at p.men a) ≡ true = rw c.self.view_is c.requires.king in
     let step = rw (← c.self.view_is) at c.requires.step in
-    let theirs : is_of c.other-by.result (man_at p.men a) ≡ false = rw c.other-by.ensures (no_other p.side King (man_at p.men a) king) in
-    let kinds = lifted_kinds _ p.men c.other-by.result a c.self.invariant.0.board low theirs (c.of.ensures p.men c.self.invariant.1) in
-    let occupied = lifted_occupied c.occupied.result c.without-left.result p.men a c.self.invariant.0.board low (c.occupied.ensures p.men c.self.invariant.1)
+    let theirs : is_of c.other-by.result (man_at p.men a) ≡ false =
+    rw c.other-by.ensures (no_other p.side King (man_at p.men a) king) in
+    let kinds = lifted_kinds _ p.men c.other-by.result a c.self.invariant.0.board low theirs
+    (c.of.ensures p.men c.self.invariant.1) in
+    let occupied = lifted_occupied c.occupied.result c.without-left.result p.men a c.self.invariant.0.board low
+    (c.occupied.ensures p.men c.self.invariant.1)
     (λ k l. c.without-left.ensures k l ∙ ap (λ t. has c.occupied.result k && not t) (c.single.ensures.value k)) in
     let hit = c.attacks.ensures (lifted p.men a) kinds occupied in
     rw (← c.self.view_is)
-    (ap not (hit ∙ ap (is_attacked (lifted p.men a) c.args.to) c.other-by.ensures) ∙ step_is p a c.args.to c.self.invariant.0 king step low high)
+    (ap not (hit ∙ ap (is_attacked (lifted p.men a) c.args.to) c.other-by.ensures)
+    ∙ step_is p a c.args.to c.self.invariant.0 king step low high)

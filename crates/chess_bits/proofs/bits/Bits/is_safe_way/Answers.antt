@@ -10,8 +10,10 @@ returns-then-is_attacked c =
     let hits : ℕ → Bool = λ x. is_attacked c.args.self.now.men x (other c.args.self.now.side) in
     let by : c.other-by.result ≡ other c.args.self.now.side = rw (← c.self.view_is) c.other-by.ensures in
     let hit : is_attacked c.args.self.now.men c.in-Some.x (other c.args.self.now.side) ≡ true =
-    sym (ap (λ d. is_attacked c.args.self.now.men c.in-Some.x d) by) ∙ sym c.is_attacked.ensures ∙ c.if-is_attacked.true in
-    sym (none_of c.args.way hits ∙ ap not (sym c.loop-x.invariant ∙ found_first hits _ c.in-Some.x _ c.in-Some.ensures hit))
+    sym (ap (λ d. is_attacked c.args.self.now.men c.in-Some.x d) by) ∙ sym c.is_attacked.ensures
+    ∙ c.if-is_attacked.true in
+    sym (none_of c.args.way hits
+    ∙ ap not (sym c.loop-x.invariant ∙ found_first hits _ c.in-Some.x _ c.in-Some.ensures hit))
 
 pub returns : goal.returns
 returns c =

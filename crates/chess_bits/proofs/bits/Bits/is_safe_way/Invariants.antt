@@ -8,7 +8,8 @@ use Rattle.chess_bits.proofs.bits.Bits.is_safe_way.Given as goal
 -- one of the squares that are left is attacked, if any is
 abbrev pub invariant-loop-x : goal.invariant-loop-x
 invariant-loop-x l =
-    any_of (λ x. is_attacked l.self.men x (other l.self.side)) (members l.rest) ≡ any_of (λ x. is_attacked l.self.men x (other l.self.side)) (members l.fn.way)
+    any_of (λ x. is_attacked l.self.men x (other l.self.side)) (members l.rest)
+    ≡ any_of (λ x. is_attacked l.self.men x (other l.self.side)) (members l.fn.way)
 
 abbrev pub decreases-loop-x : goal.decreases-loop-x
 decreases-loop-x l = length (members l.rest)

@@ -8,12 +8,15 @@ use Rattle.chess_bits.proofs.bits.Bits.king.Goals as goal
 pub first-requires : goal.first-requires
 first-requires c =
     let kinds = c.of-men.ensures c.self.inside.setup.men c.self.invariant.1 in
-    some_king c.self.inside.setup.men c.args.colour c.of-kings.result c.self.invariant.0.board (has_king c.self.inside.setup c.args.colour c.self.invariant.0)
+    some_king c.self.inside.setup.men c.args.colour c.of-kings.result c.self.invariant.0.board
+    (has_king c.self.inside.setup c.args.colour c.self.invariant.0)
     (λ k low. ap (λ w. has w k) c.of-kings.ensures ∙ kinds.of_kind King k low)
 
 pub returns-clause-alone : goal.returns-clause-alone
 returns-clause-alone c =
     let kinds = c.of-men.ensures c.self.inside.setup.men c.self.invariant.1 in
     rw (← c.self.view_is)
-    (alone c.self.inside.setup.men c.args.colour c.first.result c.self.invariant.0.board (has_king c.self.inside.setup c.args.colour c.self.invariant.0)
-    (sym (ap (λ w. has w c.first.result) c.of-kings.ensures ∙ kinds.of_kind King c.first.result c.first.ensures.in_range) ∙ c.first.ensures.nearest.here))
+    (alone c.self.inside.setup.men c.args.colour c.first.result c.self.invariant.0.board
+    (has_king c.self.inside.setup c.args.colour c.self.invariant.0)
+    (sym (ap (λ w. has w c.first.result) c.of-kings.ensures
+    ∙ kinds.of_kind King c.first.result c.first.ensures.in_range) ∙ c.first.ensures.nearest.here))

@@ -14,7 +14,8 @@ returns-then-is_man-clause-there c =
     let king : is_man p.side King c.args.steps.now.mover ≡ true = sym c.is_man.ensures ∙ c.if-is_man.true in
     let low : c.args.steps.now.to < 64 = subst (λ n. n < 64) c.number-end.ensures.value c.number-end.ensures.in_range in
     rw (← c.self.view_is)
-    (king_lands p c.args.m.now c.args.steps.now.to (ap (λ (t : Steps). t.to) steps) low (sym (ap (λ (t : Steps). is_man p.side King t.mover) steps) ∙ king))
+    (king_lands p c.args.m.now c.args.steps.now.to (ap (λ (t : Steps). t.to) steps) low
+    (sym (ap (λ (t : Steps). is_man p.side King t.mover) steps) ∙ king))
 
 pub returns-else-is_man-clause-there : goal.returns-else-is_man-clause-there
 returns-else-is_man-clause-there c =
@@ -24,4 +25,5 @@ returns-else-is_man-clause-there c =
     let pattern : has_pattern p c.args.m.now ≡ true = rw c.self.view_is c.requires.pattern in
     let alone = rw (← c.self.view_is) at c.king.ensures.alone in
     rw (← c.self.view_is)
-    (king_stays p c.args.m.now c.king.result c.self.invariant.0 pattern alone (sym (ap (λ (t : Steps). is_man p.side King t.mover) steps) ∙ still))
+    (king_stays p c.args.m.now c.king.result c.self.invariant.0 pattern alone
+    (sym (ap (λ (t : Steps). is_man p.side King t.mover) steps) ∙ still))

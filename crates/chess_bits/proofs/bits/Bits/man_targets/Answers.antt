@@ -8,12 +8,14 @@ use Rattle.chess_bits.proofs.bits.Bits.man_targets.Goals as goal
 pub returns-then-not-is_king : goal.returns-then-not-is_king
 returns-then-not-is_king c = λ k low.
     let at : man_at c.args.self.now.men c.args.from ≡ Some c.in-Some.man = search rules in
-    c.steps-steps.ensures k low ∙ officer_is c.args.self.now c.args.from k c.in-Some.man at c.requires (sym c.is_king.ensures ∙ c.if-not-is_king.true)
+    c.steps-steps.ensures k low ∙ officer_is c.args.self.now c.args.from k c.in-Some.man at c.requires
+    (sym c.is_king.ensures ∙ c.if-not-is_king.true)
 
 pub returns : goal.returns
 returns c = λ k low.
     let at : man_at c.args.self.now.men c.args.from ≡ Some c.in-Some.man = search rules in
-    king_is c.args.self.now c.args.from k c.in-Some.man _ _ _ at c.requires (c.steps-steps.ensures k low) (c.with_castling-far.ensures k low) (c.with_castling.ensures k low)
+    king_is c.args.self.now c.args.from k c.in-Some.man _ _ _ at c.requires (c.steps-steps.ensures k low)
+    (c.with_castling-far.ensures k low) (c.with_castling.ensures k low)
 
 pub returns-in_default : goal.returns-in_default
 returns-in_default c =

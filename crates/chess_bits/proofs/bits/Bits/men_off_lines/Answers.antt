@@ -20,14 +20,21 @@ returns c = λ k low h.
     let king = c.king-king.result in
     let calm : is_in_check p.men p.side ≡ false = rw c.self.view_is (sym c.in_check.ensures ∙ c.if-in_check.false) in
     let alone = rw (← c.self.view_is) at c.king-king.ensures.alone in
-    let both = and_parts (has c.without-men.result k) (not (has c.union-lines.result k)) (sym (c.without.ensures k low) ∙ h) in
-    let mine = and_parts (has c.all.result k) (not (has c.single.result k)) (sym (c.without-men.ensures k low) ∙ both.0) in
+    let both = and_parts (has c.without-men.result k) (not (has c.union-lines.result k))
+    (sym (c.without.ensures k low) ∙ h) in
+    let mine = and_parts (has c.all.result k) (not (has c.single.result k))
+    (sym (c.without-men.ensures k low) ∙ both.0) in
     let apart : (k == king) ≡ false = sym (c.single.ensures.value k) ∙ not-true _ mine.1 in
-    let neither = or_parts (has c.at-straight.result k) (has c.at-aslant.result k) (sym (c.union-lines.ensures k) ∙ not-true _ both.1) in
-    let line : share_rank_or_file k king ≡ false = off_shape (k == king) (share_rank_or_file k king) apart (sym (c.at-straight.ensures k low) ∙ neither.0) in
-    let diagonal : share_diagonal k king ≡ false = off_shape (k == king) (share_diagonal k king) apart (sym (c.at-aslant.ensures k low) ∙ neither.1) in
+    let neither = or_parts (has c.at-straight.result k) (has c.at-aslant.result k)
+    (sym (c.union-lines.ensures k) ∙ not-true _ both.1) in
+    let line : share_rank_or_file k king ≡ false = off_shape (k == king) (share_rank_or_file k king) apart
+    (sym (c.at-straight.ensures k low) ∙ neither.0) in
+    let diagonal : share_diagonal k king ≡ false = off_shape (k == king) (share_diagonal k king) apart
+    (sym (c.at-aslant.ensures k low) ∙ neither.1) in
     let there = c.king-king.ensures.in_range in
     rw (← c.self.view_is)
     (freed p k king c.self.invariant.0 low there calm alone apart
-    (λ b high theirs on clear. off_line p.men k b king c.self.invariant.0.board low line (and_parts (not (b == king)) (share_rank_or_file b king) on).1 clear)
-    (λ b high theirs on clear. off_diagonal p.men k b king c.self.invariant.0.board low high there diagonal (and_parts (not (b == king)) (share_diagonal b king) on).1 clear))
+    (λ b high theirs on clear. off_line p.men k b king c.self.invariant.0.board low line
+    (and_parts (not (b == king)) (share_rank_or_file b king) on).1 clear)
+    (λ b high theirs on clear. off_diagonal p.men k b king c.self.invariant.0.board low high there diagonal
+    (and_parts (not (b == king)) (share_diagonal b king) on).1 clear))

@@ -8,7 +8,8 @@ use Rattle.chess_bits.proofs.bits.Bits.moves.Goals as goal
 
 pub loop-from-init : goal.loop-from-init
 loop-from-init c =
-    let own : (k : ℕ) → k < 64 → has c.all-men.result k ≡ is_of c.args.self.now.side (man_at c.args.self.now.men k) = rw (← c.self.view_is) (c.all-men.ensures c.self.inside.setup.men c.self.invariant.1) in
+    let own : (k : ℕ) → k < 64 → has c.all-men.result k ≡ is_of c.args.self.now.side (man_at c.args.self.now.men k) =
+    rw (← c.self.view_is) (c.all-men.ensures c.self.inside.setup.men c.self.invariant.1) in
     rw c.new-list.ensures (from_men c.args.self.now c.all-men.result own)
 
 pub add_moves_of-requires-clause-room : goal.add_moves_of-requires-clause-room

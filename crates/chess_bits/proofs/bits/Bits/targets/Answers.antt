@@ -14,21 +14,25 @@ returns-then-not-is_of-clause-complete c =
 pub returns-then-is_man-clause-sound : goal.returns-then-is_man-clause-sound
 returns-then-is_man-clause-sound c =
     let pawn : is_man c.args.self.now.side Pawn (man_at c.args.self.now.men c.args.from) ≡ true = search rules in
-    pawn_sound c.args.self.now c.args.from c.pawn_targets.result pawn (subst (λ n. n < 64) c.number-start.ensures.value c.number-start.ensures.in_range) c.pawn_targets.ensures
+    pawn_sound c.args.self.now c.args.from c.pawn_targets.result pawn
+    (subst (λ n. n < 64) c.number-start.ensures.value c.number-start.ensures.in_range) c.pawn_targets.ensures
 
 pub returns-then-is_man-clause-complete : goal.returns-then-is_man-clause-complete
 returns-then-is_man-clause-complete c =
     let pawn : is_man c.args.self.now.side Pawn (man_at c.args.self.now.men c.args.from) ≡ true = search rules in
-    pawn_complete c.args.self.now c.args.from c.pawn_targets.result pawn (subst (λ n. n < 64) c.number-start.ensures.value c.number-start.ensures.in_range) c.pawn_targets.ensures
+    pawn_complete c.args.self.now c.args.from c.pawn_targets.result pawn
+    (subst (λ n. n < 64) c.number-start.ensures.value c.number-start.ensures.in_range) c.pawn_targets.ensures
 
 pub returns-clause-sound : goal.returns-clause-sound
 returns-clause-sound c =
     let own : is_of c.args.self.now.side (man_at c.args.self.now.men c.args.from) ≡ true = search rules in
     let other : is_man c.args.self.now.side Pawn (man_at c.args.self.now.men c.args.from) ≡ false = search rules in
-    man_set_sound c.args.self.now c.args.from c.man_targets.result own other (subst (λ n. n < 64) c.number-start.ensures.value c.number-start.ensures.in_range) c.man_targets.ensures
+    man_set_sound c.args.self.now c.args.from c.man_targets.result own other
+    (subst (λ n. n < 64) c.number-start.ensures.value c.number-start.ensures.in_range) c.man_targets.ensures
 
 pub returns-clause-complete : goal.returns-clause-complete
 returns-clause-complete c =
     let own : is_of c.args.self.now.side (man_at c.args.self.now.men c.args.from) ≡ true = search rules in
     let other : is_man c.args.self.now.side Pawn (man_at c.args.self.now.men c.args.from) ≡ false = search rules in
-    man_set_complete c.args.self.now c.args.from c.man_targets.result own other (subst (λ n. n < 64) c.number-start.ensures.value c.number-start.ensures.in_range) c.man_targets.ensures
+    man_set_complete c.args.self.now c.args.from c.man_targets.result own other
+    (subst (λ n. n < 64) c.number-start.ensures.value c.number-start.ensures.in_range) c.man_targets.ensures

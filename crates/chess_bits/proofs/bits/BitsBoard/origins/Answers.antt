@@ -10,7 +10,8 @@ pub returns-then-is_king : goal.returns-then-is_king
 returns-then-is_king c =
     let kinds = c.of-men.ensures c.self.inside.setup.men c.self.invariant.1 in
     rw (← c.self.view_is)
-    (all_men c.self.inside.setup c.args.kind c.args.to c.of-own.result (λ k low. ap (λ w. has w k) c.of-own.ensures ∙ kinds.of_kind c.args.kind k low))
+    (all_men c.self.inside.setup c.args.kind c.args.to c.of-own.result
+    (λ k low. ap (λ w. has w k) c.of-own.ensures ∙ kinds.of_kind c.args.kind k low))
 
 pub returns-then-is_pawn : goal.returns-then-is_pawn
 returns-then-is_pawn c =

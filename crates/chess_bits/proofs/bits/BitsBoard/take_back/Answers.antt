@@ -3,11 +3,14 @@ use Rattle.chess_moves.proofs.Steps.{IsMade-sound, WasMade-back}
 use Rattle.chess_bits.proofs.bits.BitsBoard.take_back.Goals as goal
 
 pub invariant_of-self : goal.invariant_of-self
-invariant_of-self c =
-    (rw (c.move_back.ensures.setup, c.self.view_is) (IsMade-sound c.args.self.now c.args.m c.args.saved c.requires), c.move_back.ensures.sets c.self.invariant.1)
+invariant_of-self c = (
+  rw (c.move_back.ensures.setup, c.self.view_is) (IsMade-sound c.args.self.now c.args.m c.args.saved c.requires),
+  c.move_back.ensures.sets c.self.invariant.1,
+)
 
 pub returns-clause-back : goal.returns-clause-back
-returns-clause-back c = λ p made. rw (c.move_back.ensures.setup, c.self.view_is) (WasMade-back p c.args.m c.args.saved c.args.self.now made)
+returns-clause-back c = λ p made. rw (c.move_back.ensures.setup, c.self.view_is)
+    (WasMade-back p c.args.m c.args.saved c.args.self.now made)
 
 pub returns-clause-sound : goal.returns-clause-sound
 returns-clause-sound c =

@@ -14,9 +14,13 @@ returns-then-is_empty g c =
     let P : Held → Type 0 = λ v. HeldLine g.row.N c.loop-line.self v None in
     let none = subst P (sym c.self.view_is) c.in_default.ensures in
     let h = c.if-is_empty.ensures in
-    end_none ReadFault g.row.N (seen c.args.reader.now) (seen c.loop-line.reader) (seen c.fill.new.reader) c.args.self.now c.loop-line.self _ _ c.loop-line.invariant.0 c.fill.new.self c.loop-line.invariant.1 none c.in_ok-fill.ensures.2
-    (empty_by_length c.fill.new.self (sym c.in_ok-fill.ensures.0 ∙ c.if-branch-eq0.true)) (empty_by_length c.self.inside.part (grind arith))
-    (both_empty _ _ (empty_by_length c.self.inside.part (grind arith)) (empty_by_length c.fill.new.self (sym c.in_ok-fill.ensures.0 ∙ c.if-branch-eq0.true)))
+    end_none ReadFault g.row.N (seen c.args.reader.now) (seen c.loop-line.reader) (seen c.fill.new.reader)
+    c.args.self.now c.loop-line.self _ _ c.loop-line.invariant.0 c.fill.new.self c.loop-line.invariant.1 none
+    c.in_ok-fill.ensures.2
+    (empty_by_length c.fill.new.self (sym c.in_ok-fill.ensures.0 ∙ c.if-branch-eq0.true))
+    (empty_by_length c.self.inside.part (grind arith))
+    (both_empty _ _ (empty_by_length c.self.inside.part (grind arith))
+    (empty_by_length c.fill.new.self (sym c.in_ok-fill.ensures.0 ∙ c.if-branch-eq0.true)))
 
 pub returns-then-branch-eq0 : goal.returns-then-branch-eq0
 returns-then-branch-eq0 g c =
@@ -24,9 +28,13 @@ returns-then-branch-eq0 g c =
     let P : Held → Type 0 = λ v. HeldLine g.row.N c.loop-line.self v None in
     let none = subst P (sym c.self.view_is) c.in_default.ensures in
     let h = c.if-is_empty.ensures in
-    end_last ReadFault g.row.N (seen c.args.reader.now) (seen c.loop-line.reader) (seen c.fill.new.reader) c.args.self.now c.loop-line.self _ _ c.loop-line.invariant.0 c.fill.new.self c.finish.result c.loop-line.invariant.1 none c.in_ok-fill.ensures.2
-    (empty_by_length c.fill.new.self (sym c.in_ok-fill.ensures.0 ∙ c.if-branch-eq0.true)) (grind arith) c.finish.ensures.line
-    (both_empty _ _ c.finish.ensures.empty (empty_by_length c.fill.new.self (sym c.in_ok-fill.ensures.0 ∙ c.if-branch-eq0.true)))
+    end_last ReadFault g.row.N (seen c.args.reader.now) (seen c.loop-line.reader) (seen c.fill.new.reader)
+    c.args.self.now c.loop-line.self _ _ c.loop-line.invariant.0 c.fill.new.self c.finish.result
+    c.loop-line.invariant.1 none c.in_ok-fill.ensures.2
+    (empty_by_length c.fill.new.self (sym c.in_ok-fill.ensures.0 ∙ c.if-branch-eq0.true)) (grind arith)
+    c.finish.ensures.line
+    (both_empty _ _ c.finish.ensures.empty
+    (empty_by_length c.fill.new.self (sym c.in_ok-fill.ensures.0 ∙ c.if-branch-eq0.true)))
 
 pub loop-line-preserved : goal.loop-line-preserved
 loop-line-preserved g c =
@@ -35,6 +43,7 @@ loop-line-preserved g c =
     let none = subst P (sym c.self.view_is) c.in_default.ensures in
     let some = c.if-branch-eq0.false in (
       _,
-      piece_on g.row.N (seen c.args.reader.now) (seen c.loop-line.reader) (seen c.fill.new.reader) c.args.self.now c.loop-line.self _ c.loop-line.invariant.0 c.fill.new.self c.loop-line.invariant.1 none c.in_ok-fill.ensures.2
+      piece_on g.row.N (seen c.args.reader.now) (seen c.loop-line.reader) (seen c.fill.new.reader) c.args.self.now
+          c.loop-line.self _ c.loop-line.invariant.0 c.fill.new.self c.loop-line.invariant.1 none c.in_ok-fill.ensures.2
           (omega (arith, c.in_ok-fill.ensures.0)) (omega (arith, c.in_ok-fill.ensures.0, c.in_ok-fill.ensures.1)),
     )

@@ -10,20 +10,26 @@ use Rattle.chess_game.proofs.game.Game.take_back.Goals as goal
 pub take_back-requires : goal.take_back-requires
 take_back-requires g c = (
   last c.self.inside.start.position (moves_of c.pop.new.self.items),
-  taken c.self.inside.start.position c.self.inside.places.items c.pop.new.self.items c.in-Some.place _ c.self.invariant.0.follows c.in-Some.ensures.items c.self.invariant.0.at_end,
+  taken c.self.inside.start.position c.self.inside.places.items c.pop.new.self.items c.in-Some.place _
+      c.self.invariant.0.follows c.in-Some.ensures.items c.self.invariant.0.at_end,
 )
 
 pub invariant_of-self-in-Some : goal.invariant_of-self-in-Some
 invariant_of-self-in-Some g c = (
   record {
     known = c.self.invariant.0.known;
-    follows = fewer c.self.inside.start.position c.self.inside.places.items c.pop.new.self.items c.in-Some.place c.self.invariant.0.follows c.in-Some.ensures.items;
+    follows = fewer c.self.inside.start.position c.self.inside.places.items c.pop.new.self.items c.in-Some.place
+        c.self.invariant.0.follows c.in-Some.ensures.items;
     at_end = c.take_back.ensures.back (last c.self.inside.start.position (moves_of c.pop.new.self.items))
-        (taken c.self.inside.start.position c.self.inside.places.items c.pop.new.self.items c.in-Some.place _ c.self.invariant.0.follows c.in-Some.ensures.items c.self.invariant.0.at_end);
+        (taken c.self.inside.start.position c.self.inside.places.items c.pop.new.self.items c.in-Some.place _
+        c.self.invariant.0.follows c.in-Some.ensures.items c.self.invariant.0.at_end);
   },
-  judged_fewer c.self.inside.start.position c.self.inside.places.items c.pop.new.self.items c.in-Some.place c.self.inside.verdict c.self.invariant.1 c.in-Some.ensures.items,
+  judged_fewer c.self.inside.start.position c.self.inside.places.items c.pop.new.self.items c.in-Some.place
+      c.self.inside.verdict c.self.invariant.1 c.in-Some.ensures.items,
   record { few = omega arith; made = omega arith; bound = omega arith },
 )
 
 pub returns-in-Some-clause-answer : goal.returns-in-Some-clause-answer
-returns-in-Some-clause-answer g c = rw (← c.self.view_is) (last_is c.self.inside.places.items c.pop.new.self.items c.in-Some.place c.in-Some.ensures.items)
+returns-in-Some-clause-answer g c =
+    rw (← c.self.view_is)
+    (last_is c.self.inside.places.items c.pop.new.self.items c.in-Some.place c.in-Some.ensures.items)

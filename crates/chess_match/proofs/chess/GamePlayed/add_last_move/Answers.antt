@@ -10,7 +10,8 @@ use Rattle.chess_match.proofs.chess.GamePlayed.add_last_move.Goals as goal
 pub san-requires : goal.san-requires
 san-requires g c =
     rw (c.set.ensures.position, c.position_at-before.ensures)
-    (legal_next c.args.self.now.state.start c.args.self.now.state.moves _ _ c.position-playable.ensures.playable.line c.move_at-made.ensures)
+    (legal_next c.args.self.now.state.start c.args.self.now.state.moves _ _ c.position-playable.ensures.playable.line
+    c.move_at-made.ensures)
 
 pub returns-then-as_san-clause-text : goal.returns-then-as_san-clause-text
 unfolding rules_of
@@ -19,11 +20,13 @@ returns-then-as_san-clause-text g c r p =
     let i : ℕ = c.ply-ply.result - 1 in
     let n : i + 1 ≡ length c.args.self.now.state.moves = omega (arith, c.ply-ply.ensures, c.requires.some) in
     let told : c.as_slice.result.now ≡ r.move_text c.args.as_san c.args.self.now.state.moves =
-    c.as_slice.ensures.value ∙ c.san.ensures.text ∙ ap (λ (q : Setup). san q c.move_at-made.result) (c.set.ensures.position ∙ c.position_at-before.ensures)
+    c.as_slice.ensures.value ∙ c.san.ensures.text
+    ∙ ap (λ (q : Setup). san q c.move_at-made.result) (c.set.ensures.position ∙ c.position_at-before.ensures)
     ∙ as_san_last start c.args.self.now.state.moves i c.move_at-made.result n c.move_at-made.ensures
     ∙ ap (λ b. text_of_last b start c.args.self.now.state.moves) (sym c.if-as_san.true)
     ∙ ap (λ (x : Rules). x.move_text c.args.as_san c.args.self.now.state.moves) (sym p.1) in
-    c.add_move.ensures.text ∙ ap (λ (t : List ℕ). c.args.block.now.items ++ bytes_of (MoveTold c.args.prefixed t ∷ [])) told
+    c.add_move.ensures.text ∙ ap (λ (t : List ℕ). c.args.block.now.items ++ bytes_of (MoveTold c.args.prefixed t ∷ []))
+    told
 
 pub returns-else-as_san-clause-text : goal.returns-else-as_san-clause-text
 unfolding rules_of
@@ -32,8 +35,10 @@ returns-else-as_san-clause-text g c r p =
     let i : ℕ = c.ply-ply.result - 1 in
     let n : i + 1 ≡ length c.args.self.now.state.moves = omega (arith, c.ply-ply.ensures, c.requires.some) in
     let told : c.as_slice-else-as_san.result.now ≡ r.move_text c.args.as_san c.args.self.now.state.moves =
-    c.as_slice-else-as_san.ensures.value ∙ c.move_text.ensures.text ∙ ap (λ (q : Setup). shown_move q c.move_at-made.result) c.position_at-before.ensures
+    c.as_slice-else-as_san.ensures.value ∙ c.move_text.ensures.text
+    ∙ ap (λ (q : Setup). shown_move q c.move_at-made.result) c.position_at-before.ensures
     ∙ shown_last start c.args.self.now.state.moves i c.move_at-made.result n c.move_at-made.ensures
     ∙ ap (λ b. text_of_last b start c.args.self.now.state.moves) (sym c.if-as_san.false)
     ∙ ap (λ (x : Rules). x.move_text c.args.as_san c.args.self.now.state.moves) (sym p.1) in
-    c.add_move-else-as_san.ensures.text ∙ ap (λ (t : List ℕ). c.args.block.now.items ++ bytes_of (MoveTold c.args.prefixed t ∷ [])) told
+    c.add_move-else-as_san.ensures.text
+    ∙ ap (λ (t : List ℕ). c.args.block.now.items ++ bytes_of (MoveTold c.args.prefixed t ∷ [])) told

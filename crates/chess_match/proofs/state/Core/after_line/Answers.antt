@@ -18,16 +18,20 @@ returns-in-Move g c r m p at s =
 pub returns-then-number-moves : goal.returns-then-number-moves
 unfolding after_line
 returns-then-number-moves g c r m p at s =
-    let moved : c.moves.result ≡ length (seat m c.args.side).used = c.moves.ensures.value ∙ clocks_moves r _ _ m s c.args.side in
-    let answered : (c.in-Pong.number == ping_number m c.args.side) ≡ true = eq-eqb c.in-Pong.number _ (omega (arith, moved)) in
+    let moved : c.moves.result ≡ length (seat m c.args.side).used = c.moves.ensures.value
+    ∙ clocks_moves r _ _ m s c.args.side in
+    let answered : (c.in-Pong.number == ping_number m c.args.side) ≡ true =
+    eq-eqb c.in-Pong.number _ (omega (arith, moved)) in
     let differs : is_same_phase m.phase (Opening c.other.result) ≡ false = rw at refl in
     rw (c.in-Pong.is, answered, ← c.other.ensures) (c.open_turn.ensures r _ m differs s)
 
 pub returns-else-number-moves : goal.returns-else-number-moves
 unfolding after_line
 returns-else-number-moves g c r m p at s =
-    let moved : c.moves.result ≡ length (seat m c.args.side).used = c.moves.ensures.value ∙ clocks_moves r _ _ m s c.args.side in
-    let unanswered : (c.in-Pong.number == ping_number m c.args.side) ≡ false = ne_eqb c.in-Pong.number _ (omega (arith, moved)) in
+    let moved : c.moves.result ≡ length (seat m c.args.side).used = c.moves.ensures.value
+    ∙ clocks_moves r _ _ m s c.args.side in
+    let unanswered : (c.in-Pong.number == ping_number m c.args.side) ≡ false =
+    ne_eqb c.in-Pong.number _ (omega (arith, moved)) in
     let h : reads m.phase c.args.side ≡ true = rw at (same_colour-self c.args.side) in
     rw (c.in-Pong.is, unanswered) (c.ignore.ensures r _ m h s)
 

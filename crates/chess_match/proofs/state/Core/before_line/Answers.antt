@@ -18,36 +18,46 @@ pub returns-then-is_bare-clause-goes : goal.returns-then-is_bare-clause-goes
 unfolding before_line
 returns-then-is_bare-clause-goes g c r m p at s =
     let left : c.remaining.result ≡ clock r m c.args.side = c.remaining.ensures ∙ clocks_left r _ _ m s c.args.side in
-    let used : c.saturating_sub-used.result ≡ c.args.moment - m.opened = rw (← s.opened) c.saturating_sub-used.ensures in
+    let used : c.saturating_sub-used.result ≡ c.args.moment - m.opened =
+    rw (← s.opened) c.saturating_sub-used.ensures in
     let on : is_on m.phase ≡ true = rw at refl in
-    let flag : nat_lt (clock r m c.args.side) (c.args.moment - m.opened) ≡ true = late _ _ _ _ left used c.if-used-remaining.true in
-    let bare : r.is_bare m.played (other c.args.side) ≡ true = rw (← s.moves, ← c.other.ensures) (sym (c.if-is_bare.ensures r p)) in
+    let flag : nat_lt (clock r m c.args.side) (c.args.moment - m.opened) ≡ true =
+    late _ _ _ _ left used c.if-used-remaining.true in
+    let bare : r.is_bare m.played (other c.args.side) ≡ true =
+    rw (← s.moves, ← c.other.ensures) (sym (c.if-is_bare.ensures r p)) in
     rw (flag, bare) (c.finish.ensures r _ m on s)
 
 pub returns-else-is_bare-clause-goes : goal.returns-else-is_bare-clause-goes
 unfolding before_line
 returns-else-is_bare-clause-goes g c r m p at s =
     let left : c.remaining.result ≡ clock r m c.args.side = c.remaining.ensures ∙ clocks_left r _ _ m s c.args.side in
-    let used : c.saturating_sub-used.result ≡ c.args.moment - m.opened = rw (← s.opened) c.saturating_sub-used.ensures in
+    let used : c.saturating_sub-used.result ≡ c.args.moment - m.opened =
+    rw (← s.opened) c.saturating_sub-used.ensures in
     let on : is_on m.phase ≡ true = rw at refl in
-    let flag : nat_lt (clock r m c.args.side) (c.args.moment - m.opened) ≡ true = late _ _ _ _ left used c.if-used-remaining.true in
-    let bare : r.is_bare m.played (other c.args.side) ≡ false = rw (← s.moves, ← c.other.ensures) (sym (c.if-is_bare.ensures r p)) in
+    let flag : nat_lt (clock r m c.args.side) (c.args.moment - m.opened) ≡ true =
+    late _ _ _ _ left used c.if-used-remaining.true in
+    let bare : r.is_bare m.played (other c.args.side) ≡ false =
+    rw (← s.moves, ← c.other.ensures) (sym (c.if-is_bare.ensures r p)) in
     rw (flag, bare) (c.finish-else-is_bare.ensures r _ m on s)
 
 pub returns-in-Move-clause-goes : goal.returns-in-Move-clause-goes
 unfolding before_line
 returns-in-Move-clause-goes g c r m p at s =
     let left : c.remaining.result ≡ clock r m c.args.side = c.remaining.ensures ∙ clocks_left r _ _ m s c.args.side in
-    let used : c.saturating_sub-used.result ≡ c.args.moment - m.opened = rw (← s.opened) c.saturating_sub-used.ensures in
-    let flag : nat_lt (clock r m c.args.side) (c.args.moment - m.opened) ≡ false = in_time _ _ _ _ left used c.if-used-remaining.false in
+    let used : c.saturating_sub-used.result ≡ c.args.moment - m.opened =
+    rw (← s.opened) c.saturating_sub-used.ensures in
+    let flag : nat_lt (clock r m c.args.side) (c.args.moment - m.opened) ≡ false =
+    in_time _ _ _ _ left used c.if-used-remaining.false in
     rw (c.in-Move.is, flag) (c.move_line.ensures.goes r m c.args.moment p at used s)
 
 pub returns-in-Features-clause-goes : goal.returns-in-Features-clause-goes
 unfolding before_line
 returns-in-Features-clause-goes g c r m p at s =
     let left : c.remaining.result ≡ clock r m c.args.side = c.remaining.ensures ∙ clocks_left r _ _ m s c.args.side in
-    let used : c.saturating_sub-used.result ≡ c.args.moment - m.opened = rw (← s.opened) c.saturating_sub-used.ensures in
-    let flag : nat_lt (clock r m c.args.side) (c.args.moment - m.opened) ≡ false = in_time _ _ _ _ left used c.if-used-remaining.false in
+    let used : c.saturating_sub-used.result ≡ c.args.moment - m.opened =
+    rw (← s.opened) c.saturating_sub-used.ensures in
+    let flag : nat_lt (clock r m c.args.side) (c.args.moment - m.opened) ≡ false =
+    in_time _ _ _ _ left used c.if-used-remaining.false in
     let h : reads m.phase c.args.side ≡ true = rw at (same_colour-self c.args.side) in
     rw (c.in-Features.is, flag) (c.either_way.ensures r m p h s)
 
@@ -55,8 +65,10 @@ pub returns-in-Resign-clause-goes : goal.returns-in-Resign-clause-goes
 unfolding before_line
 returns-in-Resign-clause-goes g c r m p at s =
     let left : c.remaining.result ≡ clock r m c.args.side = c.remaining.ensures ∙ clocks_left r _ _ m s c.args.side in
-    let used : c.saturating_sub-used.result ≡ c.args.moment - m.opened = rw (← s.opened) c.saturating_sub-used.ensures in
-    let flag : nat_lt (clock r m c.args.side) (c.args.moment - m.opened) ≡ false = in_time _ _ _ _ left used c.if-used-remaining.false in
+    let used : c.saturating_sub-used.result ≡ c.args.moment - m.opened =
+    rw (← s.opened) c.saturating_sub-used.ensures in
+    let flag : nat_lt (clock r m c.args.side) (c.args.moment - m.opened) ≡ false =
+    in_time _ _ _ _ left used c.if-used-remaining.false in
     let h : reads m.phase c.args.side ≡ true = rw at (same_colour-self c.args.side) in
     rw (c.in-Resign.is, flag) (c.either_way-in-Resign.ensures r m p h s)
 
@@ -64,8 +76,10 @@ pub returns-in-Offer-clause-goes : goal.returns-in-Offer-clause-goes
 unfolding before_line
 returns-in-Offer-clause-goes g c r m p at s =
     let left : c.remaining.result ≡ clock r m c.args.side = c.remaining.ensures ∙ clocks_left r _ _ m s c.args.side in
-    let used : c.saturating_sub-used.result ≡ c.args.moment - m.opened = rw (← s.opened) c.saturating_sub-used.ensures in
-    let flag : nat_lt (clock r m c.args.side) (c.args.moment - m.opened) ≡ false = in_time _ _ _ _ left used c.if-used-remaining.false in
+    let used : c.saturating_sub-used.result ≡ c.args.moment - m.opened =
+    rw (← s.opened) c.saturating_sub-used.ensures in
+    let flag : nat_lt (clock r m c.args.side) (c.args.moment - m.opened) ≡ false =
+    in_time _ _ _ _ left used c.if-used-remaining.false in
     let h : reads m.phase c.args.side ≡ true = rw at (same_colour-self c.args.side) in
     rw (c.in-Offer.is, flag) (c.either_way-in-Offer.ensures r m p h s)
 
@@ -73,8 +87,10 @@ pub returns-in-Draw-clause-goes : goal.returns-in-Draw-clause-goes
 unfolding before_line
 returns-in-Draw-clause-goes g c r m p at s =
     let left : c.remaining.result ≡ clock r m c.args.side = c.remaining.ensures ∙ clocks_left r _ _ m s c.args.side in
-    let used : c.saturating_sub-used.result ≡ c.args.moment - m.opened = rw (← s.opened) c.saturating_sub-used.ensures in
-    let flag : nat_lt (clock r m c.args.side) (c.args.moment - m.opened) ≡ false = in_time _ _ _ _ left used c.if-used-remaining.false in
+    let used : c.saturating_sub-used.result ≡ c.args.moment - m.opened =
+    rw (← s.opened) c.saturating_sub-used.ensures in
+    let flag : nat_lt (clock r m c.args.side) (c.args.moment - m.opened) ≡ false =
+    in_time _ _ _ _ left used c.if-used-remaining.false in
     let h : reads m.phase c.args.side ≡ true = rw at (same_colour-self c.args.side) in
     rw (c.in-Draw.is, flag) (c.either_way-in-Draw.ensures r m p h s)
 
@@ -82,8 +98,10 @@ pub returns-in-Win-clause-goes : goal.returns-in-Win-clause-goes
 unfolding before_line
 returns-in-Win-clause-goes g c r m p at s =
     let left : c.remaining.result ≡ clock r m c.args.side = c.remaining.ensures ∙ clocks_left r _ _ m s c.args.side in
-    let used : c.saturating_sub-used.result ≡ c.args.moment - m.opened = rw (← s.opened) c.saturating_sub-used.ensures in
-    let flag : nat_lt (clock r m c.args.side) (c.args.moment - m.opened) ≡ false = in_time _ _ _ _ left used c.if-used-remaining.false in
+    let used : c.saturating_sub-used.result ≡ c.args.moment - m.opened =
+    rw (← s.opened) c.saturating_sub-used.ensures in
+    let flag : nat_lt (clock r m c.args.side) (c.args.moment - m.opened) ≡ false =
+    in_time _ _ _ _ left used c.if-used-remaining.false in
     let h : reads m.phase c.args.side ≡ true = rw at (same_colour-self c.args.side) in
     rw (c.in-Win.is, flag) (c.either_way-in-Win.ensures r m p h s)
 
@@ -91,8 +109,10 @@ pub returns-in-Rejection-clause-goes : goal.returns-in-Rejection-clause-goes
 unfolding before_line
 returns-in-Rejection-clause-goes g c r m p at s =
     let left : c.remaining.result ≡ clock r m c.args.side = c.remaining.ensures ∙ clocks_left r _ _ m s c.args.side in
-    let used : c.saturating_sub-used.result ≡ c.args.moment - m.opened = rw (← s.opened) c.saturating_sub-used.ensures in
-    let flag : nat_lt (clock r m c.args.side) (c.args.moment - m.opened) ≡ false = in_time _ _ _ _ left used c.if-used-remaining.false in
+    let used : c.saturating_sub-used.result ≡ c.args.moment - m.opened =
+    rw (← s.opened) c.saturating_sub-used.ensures in
+    let flag : nat_lt (clock r m c.args.side) (c.args.moment - m.opened) ≡ false =
+    in_time _ _ _ _ left used c.if-used-remaining.false in
     let h : reads m.phase c.args.side ≡ true = rw at (same_colour-self c.args.side) in
     rw (c.in-Rejection.is, flag) (c.either_way-in-Rejection.ensures r m p h s)
 
@@ -100,8 +120,10 @@ pub returns-in-Pong-clause-goes : goal.returns-in-Pong-clause-goes
 unfolding before_line
 returns-in-Pong-clause-goes g c r m p at s =
     let left : c.remaining.result ≡ clock r m c.args.side = c.remaining.ensures ∙ clocks_left r _ _ m s c.args.side in
-    let used : c.saturating_sub-used.result ≡ c.args.moment - m.opened = rw (← s.opened) c.saturating_sub-used.ensures in
-    let flag : nat_lt (clock r m c.args.side) (c.args.moment - m.opened) ≡ false = in_time _ _ _ _ left used c.if-used-remaining.false in
+    let used : c.saturating_sub-used.result ≡ c.args.moment - m.opened =
+    rw (← s.opened) c.saturating_sub-used.ensures in
+    let flag : nat_lt (clock r m c.args.side) (c.args.moment - m.opened) ≡ false =
+    in_time _ _ _ _ left used c.if-used-remaining.false in
     let h : reads m.phase c.args.side ≡ true = rw at (same_colour-self c.args.side) in
     rw (c.in-Pong.is, flag) (c.either_way-in-Pong.ensures r m p h s)
 
@@ -109,7 +131,9 @@ pub returns-in-Other-clause-goes : goal.returns-in-Other-clause-goes
 unfolding before_line
 returns-in-Other-clause-goes g c r m p at s =
     let left : c.remaining.result ≡ clock r m c.args.side = c.remaining.ensures ∙ clocks_left r _ _ m s c.args.side in
-    let used : c.saturating_sub-used.result ≡ c.args.moment - m.opened = rw (← s.opened) c.saturating_sub-used.ensures in
-    let flag : nat_lt (clock r m c.args.side) (c.args.moment - m.opened) ≡ false = in_time _ _ _ _ left used c.if-used-remaining.false in
+    let used : c.saturating_sub-used.result ≡ c.args.moment - m.opened =
+    rw (← s.opened) c.saturating_sub-used.ensures in
+    let flag : nat_lt (clock r m c.args.side) (c.args.moment - m.opened) ≡ false =
+    in_time _ _ _ _ left used c.if-used-remaining.false in
     let h : reads m.phase c.args.side ≡ true = rw at (same_colour-self c.args.side) in
     rw (c.in-Other.is, flag) (c.either_way-in-Other.ensures r m p h s)

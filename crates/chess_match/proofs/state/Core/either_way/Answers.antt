@@ -36,13 +36,15 @@ returns-else-is_same g c r m p h s =
 
 pub returns-then-moves-gt0 : goal.returns-then-moves-gt0
 returns-then-moves-gt0 g c r m p h s =
-    let moved : c.moves.result ≡ length (seat m (other c.args.side)).used = c.moves.ensures.value ∙ rw c.other.ensures (clocks_moves r _ _ m s (other c.args.side)) in
+    let moved : c.moves.result ≡ length (seat m (other c.args.side)).used = c.moves.ensures.value
+    ∙ rw c.other.ensures (clocks_moves r _ _ m s (other c.args.side)) in
     let told : was_told m c.args.side ≡ true = lt-ltb 0 _ (omega (arith, moved)) in
     rw (c.in-Rejection.is, told) (c.finish-then-moves-gt0.ensures r _ m (reads_on m.phase c.args.side h) s)
 
 pub returns-else-moves-gt0 : goal.returns-else-moves-gt0
 returns-else-moves-gt0 g c r m p h s =
-    let moved : c.moves.result ≡ length (seat m (other c.args.side)).used = c.moves.ensures.value ∙ rw c.other.ensures (clocks_moves r _ _ m s (other c.args.side)) in
+    let moved : c.moves.result ≡ length (seat m (other c.args.side)).used = c.moves.ensures.value
+    ∙ rw c.other.ensures (clocks_moves r _ _ m s (other c.args.side)) in
     let told : was_told m c.args.side ≡ false = le-ltb 0 _ (omega (arith, moved)) in
     rw (c.in-Rejection.is, told) (c.ignore.ensures r _ m h s)
 

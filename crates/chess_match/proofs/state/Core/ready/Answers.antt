@@ -16,7 +16,8 @@ use Rattle.chess_match.proofs.state.Core.ready.Goals as goal
 
 first_goes : (r : Rules) (core : Core) (played : List Move) (given : Given) (m : Match) (x y : Colour) → x ≡ y
     → Goes r core played given [] m (open_turn x m) → Goes r core played given [] m (open_turn y m)
-first_goes r core played given m x y e h = let P : Colour → Type 0 = λ q. Goes r core played given [] m (open_turn q m) in subst P e h
+first_goes r core played given m x y e h = let P : Colour
+    → Type 0 = λ q. Goes r core played given [] m (open_turn q m) in subst P e h
 
 pub returns-in-White : goal.returns-in-White
 returns-in-White g c r m p at s =

@@ -7,9 +7,11 @@ use Rattle.chess_pgn.proofs.buffer.TextBuffer.add_parts.Goals as goal
 pub returns-in_err-add : goal.returns-in_err-add
 returns-in_err-add g c =
     adds_exit _ _ c.from_residual.result _ _ _
-    (parts_break _ _ _ _ _ (λ (part : Bor (List ℕ)). part.now) c.args.parts.now c.loop-part.part-index _ c.loop-part-test.true c.loop-part.invariant c.in_err-add.ensures)
+    (parts_break _ _ _ _ _ (λ (part : Bor (List ℕ)). part.now) c.args.parts.now c.loop-part.part-index _
+    c.loop-part-test.true c.loop-part.invariant c.in_err-add.ensures)
     c.from_residual.ensures.0
 
 pub loop-part-preserved : goal.loop-part-preserved
 loop-part-preserved g c =
-    parts_more _ _ _ _ _ _ (λ (part : Bor (List ℕ)). part.now) c.args.parts.now c.loop-part.part-index _ c.loop-part-test.true c.loop-part.invariant c.in_ok-add.ensures
+    parts_more _ _ _ _ _ _ (λ (part : Bor (List ℕ)). part.now) c.args.parts.now c.loop-part.part-index _
+    c.loop-part-test.true c.loop-part.invariant c.in_ok-add.ensures

@@ -5,7 +5,8 @@ use Rattle.chess_pgn.proofs.TagTexts.{tag_text_is}
 use Rattle.chess_pgn.proofs.tags.TagText.cut.Goals as goal
 
 pub invariant_of-result : goal.invariant_of-result
-invariant_of-result c = tag_text_is c.args.text.now c.tag_bytes.result.items c.min.result (omega arith) c.tag_bytes.ensures
+invariant_of-result c = tag_text_is c.args.text.now c.tag_bytes.result.items c.min.result (omega arith)
+    c.tag_bytes.ensures
 
 pub returns : goal.returns
 returns c = rw (c.tag_bytes.ensures, c.min.ensures) (ap (map tag_byte) (take_min 60 c.args.text.now))
