@@ -19,6 +19,7 @@ SHORT = {
     "game": "chess_game",
     "text": "chess_text",
     "pgn": "chess_pgn",
+    "stream": "pgn_stream",
     "cecp": "chess_cecp",
     "match": "chess_match",
     "words": "arbiter_words",
