@@ -9,7 +9,8 @@ use Rattle.arbiter_words.specs.declared.plan.VerifyPlan.{VerifyPlan}
 use Rattle.arbiter_words.specs.declared.spelled.Spelled.{Spelled}
 use Rattle.arbiter_words.specs.declared.spelled.Spelled.TheVariants as spelled
 
-planned_name : (p : Text × List Row) (s : Spelled) (plan : Plan) → IsSpelledOf p s → IsPlanned s plan → p.0 ≡ command_name plan
+planned_name : (p : Text × List Row) (s : Spelled) (plan : Plan) → IsSpelledOf p s → IsPlanned s plan
+    → p.0 ≡ command_name plan
 planned_name p spelled.Session plan is e = is ∙ ap command_name (sym e)
 planned_name p (spelled.Verify v) plan is e = is.0 ∙ ap command_name (sym e)
 planned_name p (spelled.Stub words) plan is e = is.0 ∙ ap command_name (sym e)
@@ -26,7 +27,8 @@ same_plan v u e = cc
 other_plan : (m : MatchPlan) (v : VerifyPlan) → Verify v ≡ Match m → ⊥
 other_plan m v e = absurd (cc)
 
-spelled_plan : (p : Text × List Row) (s : Spelled) (v : VerifyPlan) → IsSpelledOf p s → IsPlanned s (Verify v) → v ≡ verify_plan_of p.1
+spelled_plan : (p : Text × List Row) (s : Spelled) (v : VerifyPlan) → IsSpelledOf p s → IsPlanned s (Verify v)
+    → v ≡ verify_plan_of p.1
 spelled_plan p spelled.Session v is e = absurd (cc)
 spelled_plan p (spelled.Verify u) v is e = same_plan v u e ∙ is.1
 spelled_plan p (spelled.Stub words) v is e = absurd (cc)

@@ -54,7 +54,8 @@ abbrev pub asks : Rule → Bool
 asks a = (nat_lt 0 (unwrap_or_range a.range).start_inclusive || is_request (action_of a)) || nat_lt 0 (length a.missing)
 
 abbrev Asks : Rule → Type 0
-Asks a = (asks a ≡ true) × (is_its a.id ≡ true → (t : Text) → value_passes a t ≡ is_games t) × AreGames a.id a.defaults × AreGames a.id a.missing
+Asks a = (asks a ≡ true) × (is_its a.id ≡ true → (t : Text) → value_passes a t ≡ is_games t) × AreGames a.id a.defaults
+    × AreGames a.id a.missing
 
 abbrev AllAsk : List Rule → Type 0
 AllAsk [] = Unit {0}
@@ -92,7 +93,8 @@ choice : (b : Bool) (xs ys : List Row) → HasValues xs → HasValues ys → Has
 choice true xs ys h k = h
 choice false xs ys h k = k
 
-all-append : (p : Text → Bool) (xs ys : List Text) → list_all p xs ≡ true → list_all p ys ≡ true → list_all p (xs ++ ys) ≡ true
+all-append : (p : Text → Bool) (xs ys : List Text) → list_all p xs ≡ true → list_all p ys ≡ true
+    → list_all p (xs ++ ys) ≡ true
 all-append p [] ys h k = k
 all-append p (x ∷ xs) ys h k = and (p x) _ (both (p x) _ h).0 (all-append p xs ys (both (p x) _ h).1 k)
 
@@ -115,25 +117,38 @@ longer : (xs ys : List Text) → 0 < length xs → 0 < length (xs ++ ys)
 longer [] ys lt = absurd (omega arith)
 longer (x ∷ xs) ys lt = omega arith
 
-with_values_kept : (id : Text) (how : Reading) (s : ValueSource) (v : Text) (vs : List Text) (rows : List Row) → AreGames id (v ∷ vs) → HasValues rows
+with_values_kept : (id : Text) (how : Reading) (s : ValueSource) (v : Text) (vs : List Text) (rows : List Row)
+    → AreGames id (v ∷ vs) → HasValues rows
     → HasValues (with_values id how s (v ∷ vs) rows)
 with_values_kept id how s v vs rows games h =
     let made : Row = record { id = id; values = v ∷ vs; count = None; source = Some s; reading = how } in
     let some : 0 < suc (length vs) = omega arith in
     at_row_values id (more_values s (v ∷ vs)) (made ∷ [])
-    (λ r e k. ((longer r.values (v ∷ vs) k.0, λ f. all-append is_games r.values (v ∷ vs) (k.1 f) (games (same_id r.id id (codes "games") e f))), tt))
+    (λ r e k. (
+      (
+        longer r.values (v ∷ vs) k.0,
+        λ f. all-append is_games r.values (v ∷ vs) (k.1 f)
+            (games (same_id r.id id (codes "games") e f)),
+      ),
+      tt,
+    ))
     ((some, games), tt) rows h
 
 without_kept : (id : Text) (rows : List Row) → HasValues rows → HasValues (without id rows)
 without_kept id rows h = at_row_values id (λ _. []) [] (λ r e k. tt) tt rows h
 
-used_as_kept : (x : ArgAction) (id : Text) (how : Reading) (v : Text) (vs : List Text) (rows : List Row) → AreGames id (v ∷ vs) → HasValues rows
+used_as_kept : (x : ArgAction) (id : Text) (how : Reading) (v : Text) (vs : List Text) (rows : List Row)
+    → AreGames id (v ∷ vs) → HasValues rows
     → HasValues (used_as x id how (v ∷ vs) rows)
-used_as_kept Set id how v vs rows g h = with_values_kept id how CommandLine v vs (without id rows) g (without_kept id rows h)
-used_as_kept SetTrue id how v vs rows g h = with_values_kept id how CommandLine v vs (without id rows) g (without_kept id rows h)
-used_as_kept SetFalse id how v vs rows g h = with_values_kept id how CommandLine v vs (without id rows) g (without_kept id rows h)
+used_as_kept Set id how v vs rows g h = with_values_kept id how CommandLine v vs (without id rows) g
+    (without_kept id rows h)
+used_as_kept SetTrue id how v vs rows g h = with_values_kept id how CommandLine v vs (without id rows) g
+    (without_kept id rows h)
+used_as_kept SetFalse id how v vs rows g h = with_values_kept id how CommandLine v vs (without id rows) g
+    (without_kept id rows h)
 used_as_kept Append id how v vs rows g h = with_values_kept id how CommandLine v vs rows g h
-used_as_kept Count id how v vs rows g h = with_values_kept id how CommandLine v vs (without id rows) g (without_kept id rows h)
+used_as_kept Count id how v vs rows g h = with_values_kept id how CommandLine v vs (without id rows) g
+    (without_kept id rows h)
 used_as_kept _ id how v vs rows g h = h
 
 -- ---- one use
@@ -146,10 +161,12 @@ requests_fail HelpLong again a values rows e none = some_kind kind.DisplayHelp [
 requests_fail Version again a values rows e none = some_kind kind.DisplayVersion [] none
 requests_fail _ again a values rows e none = true≢false (sym e)
 
-no_value : (b : Bool) (again : Bool) (a : Rule) (rows : List Row) → nat_lt 0 (unwrap_or_range a.range).start_inclusive ≡ b → (b || is_request (action_of a)) ≡ true
+no_value : (b : Bool) (again : Bool) (a : Rule) (rows : List Row) → nat_lt 0 (unwrap_or_range a.range).start_inclusive
+    ≡ b → (b || is_request (action_of a)) ≡ true
     → use_fault again a [] rows ≡ [] → ⊥
 no_value true again a rows is e none =
-    first_not (nat_lt 0 (unwrap_or_range a.range).start_inclusive && 0 == 0) _ _ (ap (λ c. c && (0 == 0)) is) (no_kinds _ _ none).0
+    first_not (nat_lt 0 (unwrap_or_range a.range).start_inclusive && 0 == 0) _ _ (ap (λ c. c && (0 == 0)) is)
+    (no_kinds _ _ none).0
 no_value false again a rows is e none =
     requests_fail (action_of a) again a (values_or_missing a []) rows e (no_kinds _ _ none).1
 
@@ -159,7 +176,8 @@ accepted false k e = absurd (some_kind k [] e)
 
 all_pass : (a : Rule) (vs : List Text) → values_fault a vs ≡ [] → list_all (value_passes a) vs ≡ true
 all_pass a [] e = refl
-all_pass a (v ∷ vs) e = and (value_passes a v) _ (accepted (value_passes a v) _ (no_kinds _ _ e).0) (all_pass a vs (no_kinds _ _ e).1)
+all_pass a (v ∷ vs) e = and (value_passes a v) _ (accepted (value_passes a v) _ (no_kinds _ _ e).0)
+    (all_pass a vs (no_kinds _ _ e).1)
 
 all_same : (p q : Text → Bool) (vs : List Text) → ((t : Text) → p t ≡ q t) → list_all p vs ≡ true → list_all q vs ≡ true
 all_same p q [] same e = refl
@@ -187,19 +205,23 @@ the_first true b e f = refl
 the_first false b e f = absurd (true≢false (sym e ∙ f))
 
 -- a use with no value, for which these stand
-used_missing : (again : Bool) (a : Rule) (rows : List Row) → Asks a → (ms : List Text) → a.missing ≡ ms → use_fault again a [] rows ≡ [] → HasValues rows
+used_missing : (again : Bool) (a : Rule) (rows : List Row) → Asks a → (ms : List Text) → a.missing ≡ ms
+    → use_fault again a [] rows ≡ [] → HasValues rows
     → HasValues (used_as (action_of a) a.id (reading_by a) ms rows)
 used_missing again a rows asks [] is none h =
-    let first = the_first (nat_lt 0 (unwrap_or_range a.range).start_inclusive || is_request (action_of a)) (nat_lt 0 (length a.missing)) asks.0 (ap (λ (ms : List Text). nat_lt 0 (length ms)) is) in
+    let first = the_first (nat_lt 0 (unwrap_or_range a.range).start_inclusive || is_request (action_of a))
+    (nat_lt 0 (length a.missing)) asks.0 (ap (λ (ms : List Text). nat_lt 0 (length ms)) is) in
     absurd (no_value (nat_lt 0 (unwrap_or_range a.range).start_inclusive) again a rows refl first none)
 used_missing again a rows asks (m ∷ ms) is none h =
     used_as_kept (action_of a) a.id (reading_by a) m ms rows (λ f. sym (ap (list_all is_games) is) ∙ asks.3 f) h
 
-used_kept : (again : Bool) (a : Rule) (values : List Text) (rows : List Row) → Asks a → use_fault again a values rows ≡ [] → HasValues rows
+used_kept : (again : Bool) (a : Rule) (values : List Text) (rows : List Row) → Asks a
+    → use_fault again a values rows ≡ [] → HasValues rows
     → HasValues (used a values rows)
 used_kept again a [] rows asks none h = used_missing again a rows asks a.missing refl none h
 used_kept again a (v ∷ vs) rows asks none h =
-    used_as_kept (action_of a) a.id (reading_by a) v vs rows (games_of_use again a v vs rows asks (no_kinds _ _ none).1) h
+    used_as_kept (action_of a) a.id (reading_by a) v vs rows (games_of_use again a v vs rows asks (no_kinds _ _ none).1)
+    h
 
 found : (b : Bool) (a : Rule) (o : Option Rule) → Asks a → IfSome o Asks → IfSome (cond b (Some a) o) Asks
 found true a o h k = h
@@ -210,7 +232,8 @@ find_asks p [] e = tt
 find_asks p (a ∷ c) e = found (p a) a (find p c) e.0 (find_asks p c e.1)
 
 settle_arg : (again : Bool) (values : List Text) (rows : List Row) (o : Option Rule) → IfSome o Asks
-    → option_map_or (λ a. use_fault again a values rows) o [] ≡ [] → HasValues rows → HasValues (used_by_id o values rows)
+    → option_map_or (λ a. use_fault again a values rows) o [] ≡ [] → HasValues rows
+    → HasValues (used_by_id o values rows)
 settle_arg again values rows None s none h = h
 settle_arg again values rows (Some a) s none h = used_kept again a values rows s none h
 
@@ -224,7 +247,8 @@ module _ (c : List Rule) (again : Bool) (all : AllAsk c) where
   settle_kept : (h : Held) → settle_fault c again h ≡ [] → HasValues h.rows → HasValues (settled c h).rows
   settle_kept h none v = settle_pending h.rows h.pending none v
 
-  react_kept : (a : Rule) (values : List Text) (h : Held) → Asks a → react_fault c again a values h ≡ [] → HasValues h.rows
+  react_kept : (a : Rule) (values : List Text) (h : Held) → Asks a → react_fault c again a values h ≡ []
+      → HasValues h.rows
       → HasValues (reacted c a values h).rows
   react_kept a values h asks none v =
       used_kept again a values (settled c h).rows asks (no_kinds _ _ none).1 (settle_kept h (no_kinds _ _ none).0 v)
@@ -234,26 +258,31 @@ module _ (c : List Rule) (again : Bool) (all : AllAsk c) where
   option_kept a (Some v) h asks none k = react_kept a (v ∷ []) h asks none k
   option_kept a None h asks none k = settle_kept h none k
 
-  flag_kept : (a : Rule) (v : Option Text) (h : Held) → Asks a → (if is_some v then kind.TooManyValues ∷ [] else react_fault c again a [] h) ≡ []
+  flag_kept : (a : Rule) (v : Option Text) (h : Held) → Asks a
+      → (if is_some v then kind.TooManyValues ∷ [] else react_fault c again a [] h) ≡ []
       → HasValues h.rows → HasValues (flag_met c a v h).0.rows
   flag_kept a (Some v) h asks none k = k
   flag_kept a None h asks none k = react_kept a [] h asks none k
 
   long_arg : (b : Bool) (a : Rule) (v : Option Text) (h : Held) → Asks a
-      → (if b then option_fault c again a v h else (if is_some v then kind.TooManyValues ∷ [] else react_fault c again a [] h)) ≡ []
+      → (if b then option_fault c again a v h else
+      (if is_some v then kind.TooManyValues ∷ [] else react_fault c again a [] h)) ≡ []
       → HasValues h.rows → HasValues (if b then option_met c a v h else flag_met c a v h).0.rows
   long_arg true a v h asks none k = option_kept a v h asks none k
   long_arg false a v h asks none k = flag_kept a v h asks none k
 
-  long_kept : (o : Option Rule) (v : Option Text) (h : Held) → IfSome o Asks → long_fault c again o v h ≡ [] → HasValues h.rows
+  long_kept : (o : Option Rule) (v : Option Text) (h : Held) → IfSome o Asks → long_fault c again o v h ≡ []
+      → HasValues h.rows
       → HasValues (long_met c o v h).0.rows
   long_kept None v h s none k = k
   long_kept (Some a) v h s none k = long_arg (takes_values a) a v h s none k
 
   short_arg : (b : Bool) (a : Rule) (rest : Text) (h : Held) (nf : Held → Kinds) (nm : Held → Held × Outcome)
       → ((g : Held) → nf g ≡ [] → HasValues g.rows → HasValues (nm g).0.rows) → Asks a
-      → (if b then option_fault c again a (attached_value rest) h else or_else (react_fault c again a [] h) (nf (reacted c a [] h))) ≡ []
-      → HasValues h.rows → HasValues (if b then option_met c a (attached_value rest) h else nm (reacted c a [] h)).0.rows
+      → (if b then option_fault c again a (attached_value rest) h else
+      or_else (react_fault c again a [] h) (nf (reacted c a [] h))) ≡ []
+      → HasValues h.rows → HasValues
+      (if b then option_met c a (attached_value rest) h else nm (reacted c a [] h)).0.rows
   short_arg true a rest h nf nm go asks none k = option_kept a (attached_value rest) h asks none k
   short_arg false a rest h nf nm go asks none k =
       go (reacted c a [] h) (no_kinds _ _ none).1 (react_kept a [] h asks (no_kinds _ _ none).0 k)
@@ -264,7 +293,8 @@ module _ (c : List Rule) (again : Bool) (all : AllAsk c) where
   short_kept None rest h nf nm go s none k = k
   short_kept (Some a) rest h nf nm go s none k = short_arg (takes_values a) a rest h nf nm go s none k
 
-  bundle_step_kept : (x : Option ℕ) (flags : Text) (skip : ℕ) (so_far : Outcome) (h : Held) (nf : Text → ℕ → Held → Kinds)
+  bundle_step_kept : (x : Option ℕ) (flags : Text) (skip : ℕ) (so_far : Outcome) (h : Held)
+      (nf : Text → ℕ → Held → Kinds)
       (nm : Text → ℕ → Outcome → Held → Held × Outcome)
       → ((f : Text) (s : ℕ) (o : Outcome) (g : Held) → nf f s g ≡ [] → HasValues g.rows → HasValues (nm f s o g).0.rows)
       → bundle_step_fault c again x flags skip h nf ≡ [] → HasValues h.rows
@@ -276,7 +306,8 @@ module _ (c : List Rule) (again : Bool) (all : AllAsk c) where
   bundle_step_kept (Some x) flags (suc skip) so_far h nf nm go none k =
       go (drop (length (encode_utf8 x)) flags) skip so_far h none k
 
-  bundle_kept : (k : ℕ) (flags : Text) (skip : ℕ) (so_far : Outcome) (h : Held) → flags_fault c again k flags skip h ≡ []
+  bundle_kept : (k : ℕ) (flags : Text) (skip : ℕ) (so_far : Outcome) (h : Held)
+      → flags_fault c again k flags skip h ≡ []
       → HasValues h.rows → HasValues (bundle_met c k flags skip so_far h).0.rows
   unfolding flags_fault bundle_met
   bundle_kept zero flags skip so_far h none v = v
@@ -286,16 +317,19 @@ module _ (c : List Rule) (again : Bool) (all : AllAsk c) where
 
   -- ---- one word
 
-  option_word_kept : (o : Option Rule) (id word : Text) (h : Held) → HasValues h.rows → HasValues (option_word o id word h).0.rows
+  option_word_kept : (o : Option Rule) (id word : Text) (h : Held) → HasValues h.rows
+      → HasValues (option_word o id word h).0.rows
   option_word_kept None id word h v = v
   option_word_kept (Some a) id word h v = v
 
-  plain_word_kept : (waiting : Waiting) (word : Text) (h : Held) → HasValues h.rows → HasValues (plain_word c waiting word h).0.rows
+  plain_word_kept : (waiting : Waiting) (word : Text) (h : Held) → HasValues h.rows
+      → HasValues (plain_word c waiting word h).0.rows
   plain_word_kept (option id) word h v = option_word_kept (arg_by_id c id) id word h v
   plain_word_kept idle word h v = v
   plain_word_kept positional word h v = v
 
-  after_flag_kept : (waiting : Waiting) (word : Text) (h : Held) (o : Outcome) → HasValues h.rows → HasValues (after_flag c waiting word h o).0.rows
+  after_flag_kept : (waiting : Waiting) (word : Text) (h : Held) (o : Outcome) → HasValues h.rows
+      → HasValues (after_flag c waiting word h o).0.rows
   after_flag_kept waiting word h done v = v
   after_flag_kept waiting word h (waits id) v = v
   after_flag_kept waiting word h plain v = plain_word_kept waiting word h v
@@ -328,16 +362,19 @@ module _ (c : List Rule) (again : Bool) (all : AllAsk c) where
   positional_word false h none v = settle_kept h none v
 
 module _ (s : Shape) (names : Names) (all : AllAsk s.rules) where
-  other_kept : (o : Option Text) (waiting : Waiting) (position : ℕ) (word : Text) (h : Held) → other_fault s o word h ≡ []
+  other_kept : (o : Option Text) (waiting : Waiting) (position : ℕ) (word : Text) (h : Held)
+      → other_fault s o word h ≡ []
       → HasValues h.rows → HasValues (subcommand_or_other s.rules o waiting position word h).0.rows
   other_kept (Some name) waiting position word h none v = v
   other_kept None waiting position word h none v =
       other_word s.rules s.args_override_self all (bytes_eq word (45 ∷ 45 ∷ [])) waiting position word h none v
 
-  word_kept : (b : Bool) (waiting : Waiting) (position : ℕ) (word : Text) (h : Held) → word_fault s names b waiting word h ≡ []
+  word_kept : (b : Bool) (waiting : Waiting) (position : ℕ) (word : Text) (h : Held)
+      → word_fault s names b waiting word h ≡ []
       → HasValues h.rows → HasValues (word_met s.rules names b waiting position word h).0.rows
   word_kept true waiting position word h none v = v
-  word_kept false waiting position word h none v = other_kept (subcommand_met names waiting word) waiting position word h none v
+  word_kept false waiting position word h none v = other_kept (subcommand_met names waiting word) waiting position word
+      h none v
 
   to_positional_kept : (o : Option Rule) (word : Text) (w : Walk) (h : Held)
       → option_map_or (λ a. positional_fault s.rules s.args_override_self a h) o [] ≡ [] → HasValues h.rows
@@ -358,11 +395,13 @@ module _ (s : Shape) (names : Names) (all : AllAsk s.rules) where
   step_kept w word h (trailing position) none v = v
   step_kept w word h (subcommand name) none v = v
   step_kept w word h value none v =
-      to_positional_kept (arg_by_index s.rules w.position) word w h (value_fault (arg_by_index s.rules w.position) h _ none) v
+      to_positional_kept (arg_by_index s.rules w.position) word w h
+      (value_fault (arg_by_index s.rules w.position) h _ none) v
 
   walked_on : (o : Option (Text × List Text)) (w : Walk) (word : Text)
       → (let met = word_met s.rules names w.is_trailing w.waiting w.position word w.held in
-      (if is_some o then [] else or_else (word_fault s names w.is_trailing w.waiting word w.held) (step_fault s w.position met.0 met.1)) ≡ [])
+      (if is_some o then [] else or_else (word_fault s names w.is_trailing w.waiting word w.held)
+      (step_fault s w.position met.0 met.1)) ≡ [])
       → HasValues w.held.rows → HasValues (walked_from s.rules names o w word).held.rows
   walked_on (Some p) w word none v = v
   walked_on None w word none v =
@@ -382,7 +421,8 @@ module _ (s : Shape) (names : Names) (all : AllAsk s.rules) where
   walk_kept (word ∷ rest) w none v =
       walk_kept rest (walked s.rules names w word) (no_kinds _ _ none).1 (walked_kept w word (no_kinds _ _ none).0 v)
 
-default_rows_kept : (id : Text) (how : Reading) (values : List Text) (rows : List Row) → AreGames id values → HasValues rows
+default_rows_kept : (id : Text) (how : Reading) (values : List Text) (rows : List Row) → AreGames id values
+    → HasValues rows
     → HasValues (default_rows id how values rows)
 default_rows_kept id how [] rows g h = h
 default_rows_kept id how (v ∷ vs) rows g h = with_values_kept id how DefaultValue v vs rows g h
@@ -390,7 +430,8 @@ default_rows_kept id how (v ∷ vs) rows g h = with_values_kept id how DefaultVa
 defaults_kept : (c : List Rule) (rows : List Row) → AllAsk c → HasValues rows → HasValues (fold with_default rows c)
 defaults_kept [] rows all h = h
 defaults_kept (a ∷ c) rows all h =
-    defaults_kept c (with_default rows a) all.1 (choice (has_row a.id rows) rows (default_rows a.id (reading_by a) a.defaults rows) h
+    defaults_kept c (with_default rows a) all.1
+    (choice (has_row a.id rows) rows (default_rows a.id (reading_by a) a.defaults rows) h
     (default_rows_kept a.id (reading_by a) a.defaults rows all.0.2 h))
 
 -- ---- one level
@@ -402,8 +443,11 @@ level_rows s words all none =
     let walked_fault = no_kinds _ _ none in
     let settle = no_kinds _ _ walked_fault.1 in
     let last = no_kinds _ _ settle.1 in
-    let at_end = walk_kept s [] all words (walk_from nothing_held) walked_fault.0 tt in
-    (defaults_kept s.rules (settled s.rules end).rows all (settle_kept s.rules s.args_override_self all end settle.0 at_end), last.1)
+    let at_end = walk_kept s [] all words (walk_from nothing_held) walked_fault.0 tt in (
+      defaults_kept s.rules (settled s.rules end).rows all
+          (settle_kept s.rules s.args_override_self all end settle.0 at_end),
+      last.1,
+    )
 
 -- ---- the level that was entered
 
@@ -424,11 +468,13 @@ find_values : (p : Row → Bool) (rows : List Row) → HasValues rows → IfSome
 find_values p [] h = tt
 find_values p (r ∷ rs) h = row_found (p r) r (find p rs) h.0 (find_values p rs h.1)
 
-given_first : (id : Text) (rows : List Row) → HasValues rows → is_given id rows ≡ true → is_some (first_of id rows) ≡ true
+given_first : (id : Text) (rows : List Row) → HasValues rows → is_given id rows ≡ true
+    → is_some (first_of id rows) ≡ true
 given_first id rows h e = given_row (find (λ r. bytes_eq r.id id) rows) (find_values _ rows h) e
 
 -- the row that is found of an id
-of_id : (p : Row → Bool) (b : Bool) (r : Row) (o : Option Row) → p r ≡ b → HasValue r → IfSome o (λ q. HasValue q × (p q ≡ true))
+of_id : (p : Row → Bool) (b : Bool) (r : Row) (o : Option Row) → p r ≡ b → HasValue r
+    → IfSome o (λ q. HasValue q × (p q ≡ true))
     → IfSome (cond b (Some r) o) (λ q. HasValue q × (p q ≡ true))
 of_id p true r o e h k = (h, e)
 of_id p false r o e h k = k
@@ -437,15 +483,18 @@ find_of_id : (p : Row → Bool) (rows : List Row) → HasValues rows → IfSome 
 find_of_id p [] h = tt
 find_of_id p (r ∷ rs) h = of_id p (p r) r (find p rs) refl h.0 (find_of_id p rs h.1)
 
-first_passes : (p : Text → Bool) (ts : List Text) (t : Text) → list_all p ts ≡ true → slice_get ts 0 ≡ Some t → p t ≡ true
+first_passes : (p : Text → Bool) (ts : List Text) (t : Text) → list_all p ts ≡ true → slice_get ts 0 ≡ Some t
+    → p t ≡ true
 first_passes p [] t e is = absurd (true≢false (sym (ap is_some is)))
 first_passes p (x ∷ xs) t e is = ap p (sym (some_is x t is)) ∙ (both (p x) _ e).0
 
-games_row : (o : Option Row) (t : Text) → IfSome o (λ q. HasValue q × (is_its q.id ≡ true)) → option_and_then (λ r. slice_get r.values 0) o ≡ Some t → is_games t ≡ true
+games_row : (o : Option Row) (t : Text) → IfSome o (λ q. HasValue q × (is_its q.id ≡ true))
+    → option_and_then (λ r. slice_get r.values 0) o ≡ Some t → is_games t ≡ true
 games_row None t h is = absurd (true≢false (sym (ap is_some is)))
 games_row (Some r) t h is = first_passes is_games r.values t (h.0.1 h.1) is
 
-games_in_range : (rows : List Row) → HasValues rows → (t : Text) → first_of (codes "games") rows ≡ Some t → is_games t ≡ true
+games_in_range : (rows : List Row) → HasValues rows → (t : Text) → first_of (codes "games") rows ≡ Some t
+    → is_games t ≡ true
 games_in_range rows h t is = games_row (find (λ r. is_its r.id) rows) t (find_of_id (λ r. is_its r.id) rows h) is
 
 abbrev Needs : Shape → Type 0
@@ -481,25 +530,142 @@ is_so false e = absurd (true≢false e)
 
 subs_need : (names : Lent) → AllNeed (built (arbiter_app names)).subs
 subs_need names =
-    let not_session : codes "session" ≡ codes "match" → ⊥ = λ e. shorter (codes "match") (codes "session") (lit< tt) (sym e) in
-    let not_verify : codes "verify" ≡ codes "match" → ⊥ = λ e. shorter (codes "match") (codes "verify") (lit< tt) (sym e) in
+    let not_session : codes "session" ≡ codes "match" → ⊥ = λ e. shorter (codes "match") (codes "session") (lit< tt)
+    (sym e) in
+    let not_verify : codes "verify" ≡ codes "match" → ⊥ = λ e. shorter (codes "match") (codes "verify") (lit< tt)
+    (sym e) in
     let not_stub : codes "stub" ≡ codes "match" → ⊥ = λ e. shorter (codes "stub") (codes "match") (lit< tt) e in (
-      ((((refl, (λ f. absurd (true≢false (sym f))), (λ f. absurd (true≢false (sym f))), (λ f. absurd (true≢false (sym f))))), tt), λ rows none e. absurd (not_session e), inl refl),
       (
-        (((refl, (λ f. absurd (true≢false (sym f))), (λ f. absurd (true≢false (sym f))), (λ f. absurd (true≢false (sym f)))), ((refl, (λ f. absurd (true≢false (sym f))), (λ f. absurd (true≢false (sym f))), (λ f. absurd (true≢false (sym f)))), ((refl, (λ f. absurd (true≢false (sym f))), (λ f. absurd (true≢false (sym f))), (λ f. absurd (true≢false (sym f)))), ((refl, (λ f. absurd (true≢false (sym f))), (λ f. absurd (true≢false (sym f))), (λ f. absurd (true≢false (sym f)))), tt)))), λ rows none e. absurd (not_verify e), inr (inl refl)),
         (
-          (((refl, (λ f. absurd (true≢false (sym f))), (λ f. absurd (true≢false (sym f))), (λ f. absurd (true≢false (sym f)))), ((refl, (λ f. absurd (true≢false (sym f))), (λ f. absurd (true≢false (sym f))), (λ f. absurd (true≢false (sym f)))), tt)), λ rows none e. absurd (not_stub e), inr (inr (inl refl))),
+          ((
+            refl,
+            (λ f. absurd (true≢false (sym f))),
+            (λ f. absurd (true≢false (sym f))),
+            (λ f. absurd (true≢false (sym f))),
+          )),
+          tt,
+        ),
+        λ rows none e. absurd (not_session e),
+        inl refl,
+      ),
+      (
+        (
+          (
+            (
+              refl,
+              (λ f. absurd (true≢false (sym f))),
+              (λ f. absurd (true≢false (sym f))),
+              (λ f. absurd (true≢false (sym f))),
+            ),
+            (
+              (
+                refl,
+                (λ f. absurd (true≢false (sym f))),
+                (λ f. absurd (true≢false (sym f))),
+                (λ f. absurd (true≢false (sym f))),
+              ),
+              (
+                (
+                  refl,
+                  (λ f. absurd (true≢false (sym f))),
+                  (λ f. absurd (true≢false (sym f))),
+                  (λ f. absurd (true≢false (sym f))),
+                ),
+                (
+                  (
+                    refl,
+                    (λ f. absurd (true≢false (sym f))),
+                    (λ f. absurd (true≢false (sym f))),
+                    (λ f. absurd (true≢false (sym f))),
+                  ),
+                  tt,
+                ),
+              ),
+            ),
+          ),
+          λ rows none e. absurd (not_verify e),
+          inr (inl refl),
+        ),
+        (
           (
             (
               (
-                (refl, (λ f. absurd (true≢false (sym f))), (λ f. absurd (true≢false (sym f))), (λ f. absurd (true≢false (sym f)))),
+                refl,
+                (λ f. absurd (true≢false (sym f))),
+                (λ f. absurd (true≢false (sym f))),
+                (λ f. absurd (true≢false (sym f))),
+              ),
+              (
                 (
-                  (refl, (λ f. absurd (true≢false (sym f))), (λ f. absurd (true≢false (sym f))), (λ f. absurd (true≢false (sym f)))),
+                  refl,
+                  (λ f. absurd (true≢false (sym f))),
+                  (λ f. absurd (true≢false (sym f))),
+                  (λ f. absurd (true≢false (sym f))),
+                ),
+                tt,
+              ),
+            ),
+            λ rows none e. absurd (not_stub e),
+            inr (inr (inl refl)),
+          ),
+          (
+            (
+              (
+                (
+                  refl,
+                  (λ f. absurd (true≢false (sym f))),
+                  (λ f. absurd (true≢false (sym f))),
+                  (λ f. absurd (true≢false (sym f))),
+                ),
+                (
                   (
-                    (refl, (λ f. absurd (true≢false (sym f))), (λ f. absurd (true≢false (sym f))), (λ f. absurd (true≢false (sym f)))),
+                    refl,
+                    (λ f. absurd (true≢false (sym f))),
+                    (λ f. absurd (true≢false (sym f))),
+                    (λ f. absurd (true≢false (sym f))),
+                  ),
+                  (
                     (
-                      (refl, (λ f. absurd (true≢false (sym f))), (λ f. absurd (true≢false (sym f))), (λ f. absurd (true≢false (sym f)))),
-                      ((refl, (λ f t. refl), (λ f. refl), (λ f. refl)), ((refl, (λ f. absurd (true≢false (sym f))), (λ f. absurd (true≢false (sym f))), (λ f. absurd (true≢false (sym f)))), ((refl, (λ f. absurd (true≢false (sym f))), (λ f. absurd (true≢false (sym f))), (λ f. absurd (true≢false (sym f)))), ((refl, (λ f. absurd (true≢false (sym f))), (λ f. absurd (true≢false (sym f))), (λ f. absurd (true≢false (sym f)))), tt)))),
+                      refl,
+                      (λ f. absurd (true≢false (sym f))),
+                      (λ f. absurd (true≢false (sym f))),
+                      (λ f. absurd (true≢false (sym f))),
+                    ),
+                    (
+                      (
+                        refl,
+                        (λ f. absurd (true≢false (sym f))),
+                        (λ f. absurd (true≢false (sym f))),
+                        (λ f. absurd (true≢false (sym f))),
+                      ),
+                      (
+                        (refl, (λ f t. refl), (λ f. refl), (λ f. refl)),
+                        (
+                          (
+                            refl,
+                            (λ f. absurd (true≢false (sym f))),
+                            (λ f. absurd (true≢false (sym f))),
+                            (λ f. absurd (true≢false (sym f))),
+                          ),
+                          (
+                            (
+                              refl,
+                              (λ f. absurd (true≢false (sym f))),
+                              (λ f. absurd (true≢false (sym f))),
+                              (λ f. absurd (true≢false (sym f))),
+                            ),
+                            (
+                              (
+                                refl,
+                                (λ f. absurd (true≢false (sym f))),
+                                (λ f. absurd (true≢false (sym f))),
+                                (λ f. absurd (true≢false (sym f))),
+                              ),
+                              tt,
+                            ),
+                          ),
+                        ),
+                      ),
                     ),
                   ),
                 ),
@@ -532,11 +698,14 @@ level_of (Some s) words n none = (
   games_in_range (rows_after s.rules [] words) (level_rows s words n.0 none).0,
 )
 
-stop_level : (a : App) (stop : Option (Text × List Text)) → AllNeed a.subs → entered_fault a stop ≡ [] → IfSome (entered a stop) IsEntered
+stop_level : (a : App) (stop : Option (Text × List Text)) → AllNeed a.subs → entered_fault a stop ≡ []
+    → IfSome (entered a stop) IsEntered
 stop_level a None n none = tt
-stop_level a (Some p) n none = level_of (find (λ s. answers_to p.0 (label_of s)) a.subs) p.1 (find_level _ a.subs n) none
+stop_level a (Some p) n none = level_of (find (λ s. answers_to p.0 (label_of s)) a.subs) p.1 (find_level _ a.subs n)
+    none
 
-pub required_there : (names : Lent) (words : List Text) → fault_of (arbiter_app names) words ≡ [] → IfSome (subcommand_of (arbiter_app names) words) IsEntered
+pub required_there : (names : Lent) (words : List Text) → fault_of (arbiter_app names) words ≡ []
+    → IfSome (subcommand_of (arbiter_app names) words) IsEntered
 required_there names words none =
     let whole = built (arbiter_app names) in
     stop_level whole (stop_after whole.top.rules (names_of whole) (argument_words (arbiter_app names) words))

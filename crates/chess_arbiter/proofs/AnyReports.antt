@@ -29,14 +29,18 @@ use Rattle.chess_arbiter.proofs.Reports.{counted}
 abbrev Next : List ℕ → ℕ → Type 0
 Next text at = (next : Option ℕ) × IsNextEvent text at next
 
-next_or : (text : List ℕ) (at next : ℕ) → at ≤ next → NoneUpTo text at next → (is_event_line text (next + 1) ≡ false → Next text at) → (b : Bool) → is_event_line text (next + 1) ≡ b → Next text at
+next_or : (text : List ℕ) (at next : ℕ) → at ≤ next → NoneUpTo text at next
+    → (is_event_line text (next + 1) ≡ false → Next text at) → (b : Bool) → is_event_line text (next + 1) ≡ b
+    → Next text at
 next_or text at next low before later true e = (Some (next + 1), found text at next low before e)
 next_or text at next low before later false e = later e
 
 next_from : (text : List ℕ) (at next n : ℕ) → at ≤ next → NoneUpTo text at next → length text ≤ next + n → Next text at
 next_from text at next zero low before whole = (None, nowhere text at next before (omega (arith, whole)))
 next_from text at next (suc n) low before whole =
-    next_or text at next low before (λ e. next_from text at (next + 1) n (omega (arith, low)) (one_further text at next before e) (omega (arith, whole))) (is_event_line text (next + 1)) refl
+    next_or text at next low before
+    (λ e. next_from text at (next + 1) n (omega (arith, low)) (one_further text at next before e)
+    (omega (arith, whole))) (is_event_line text (next + 1)) refl
 
 some_next : (keep : Bool) (text : List ℕ) (at : ℕ) → (next : Option ℕ) × IsNext keep text at next
 some_next false text at = (None, refl)
@@ -44,12 +48,14 @@ some_next true text at = next_from text at at (length text) (omega arith) (none_
 
 -- ---- the games up to a place were told
 
-pub record SoFar (plan : VerifyPlan) (ended : Bool) (text : List ℕ) (w w' : OutputState) (at : ℕ) (tally : Tally) (reports : List Report) : Type 0 where
+pub record SoFar (plan : VerifyPlan) (ended : Bool) (text : List ℕ) (w w' : OutputState) (at : ℕ) (tally : Tally)
+    (reports : List Report) : Type 0 where
   pub few : tally.games + tally.faults ≤ at
   pub few_moves : tally.half_moves ≤ at
   pub counted : IsTallyOf tally reports
   pub took : Took w w' (lines_by plan.quiet 1 reports)
-  pub joins : (whole : List ℕ) → IsWholeOf ended text whole → (extent : Extent) (rest : List Report) → AreReportsOfAny plan extent whole (Some at) rest → AreReportsOfAny plan extent whole (Some 0) (reports ++ rest)
+  pub joins : (whole : List ℕ) → IsWholeOf ended text whole → (extent : Extent) (rest : List Report)
+      → AreReportsOfAny plan extent whole (Some at) rest → AreReportsOfAny plan extent whole (Some 0) (reports ++ rest)
 
 pub start : (plan : VerifyPlan) (w : OutputState) → SoFar plan false [] w w 0 no_tally []
 start plan w = record {
@@ -61,36 +67,50 @@ start plan w = record {
 }
 
 -- nothing was read yet
-pub opened : (plan : VerifyPlan) (s : StreamState) (tally : Tally) (r : InputState) (w : OutputState) → s ≡ unread → tally ≡ no_tally
-    → (text : List ℕ) × (reports : List Report) × StandsAt s r r text × SoFar plan s.ended text w w (place s) tally reports
+pub opened : (plan : VerifyPlan) (s : StreamState) (tally : Tally) (r : InputState) (w : OutputState) → s ≡ unread
+    → tally ≡ no_tally
+    → (text : List ℕ) × (reports : List Report) × StandsAt s r r text
+    × SoFar plan s.ended text w w (place s) tally reports
 opened plan s tally r w is none = (
   [],
   [],
-  subst (λ (v : StreamState). StandsAt v r r []) (sym is) (record { read = nothing_read r; before = omega arith; window = refl }),
-  subst (λ (v : StreamState). SoFar plan v.ended [] w w (place v) tally []) (sym is) (subst (λ (t : Tally). SoFar plan false [] w w 0 t []) (sym none) (start plan w)),
+  subst (λ (v : StreamState). StandsAt v r r []) (sym is)
+      (record { read = nothing_read r; before = omega arith; window = refl }),
+  subst (λ (v : StreamState). SoFar plan v.ended [] w w (place v) tally []) (sym is)
+      (subst (λ (t : Tally). SoFar plan false [] w w 0 t []) (sym none) (start plan w)),
 )
 
 -- what was told so far are reports on the first games
-pub first_told : (plan : VerifyPlan) (ended : Bool) (text : List ℕ) (w w' : OutputState) (at : ℕ) (tally : Tally) (reports : List Report) → SoFar plan ended text w w' at tally reports → AreReportsOnRead plan First ended text reports
+pub first_told : (plan : VerifyPlan) (ended : Bool) (text : List ℕ) (w w' : OutputState) (at : ℕ) (tally : Tally)
+    (reports : List Report) → SoFar plan ended text w w' at tally reports
+    → AreReportsOnRead plan First ended text reports
 first_told plan ended text w w' at tally reports so whole is =
     subst (AreReportsOfAny plan First whole (Some 0)) (append-nil reports) (so.joins whole is First [] tt)
 
 -- the input gave no more
-module _ (plan : VerifyPlan) (s : StreamState) (r r' : InputState) (w w' : OutputState) (text : List ℕ) (reports : List Report) (are : AreReportsOnRead plan First s.ended text reports) (took : Took w w' (lines_by plan.quiet 1 reports)) where
+module _ (plan : VerifyPlan) (s : StreamState) (r r' : InputState) (w w' : OutputState) (text : List ℕ)
+    (reports : List Report) (are : AreReportsOnRead plan First s.ended text reports)
+    (took : Took w w' (lines_by plan.quiet 1 reports)) where
   however : (more : List ℕ) → s.ended ≡ false → AreReportsOnRead plan First false (text ++ more) reports
-  however more going whole (rest, is) = are whole (subst (λ (b : Bool). IsWholeOf b text whole) (sym going) (more ++ rest, is ∙ append_assoc text more rest))
+  however more going whole (rest, is) =
+      are whole (subst (λ (b : Bool). IsWholeOf b text whole) (sym going)
+      (more ++ rest, is ∙ append_assoc text more rest))
 
-  pub stopped : (fault : StreamFault) → s.ended ≡ false → Stops r r' text fault → CountsAny plan r r' w w' (Err (stream_fault fault))
+  pub stopped : (fault : StreamFault) → s.ended ≡ false → Stops r r' text fault
+      → CountsAny plan r r' w w' (Err (stream_fault fault))
   stopped stream.ReadFailed going (more, broke) = (text ++ more, broke, (reports, however more going, took))
-  stopped stream.InputTooLong going (more, front, past) = (text ++ more, front, past, (reports, however more going, took))
+  stopped stream.InputTooLong going (more, front, past) =
+      (text ++ more, front, past, (reports, however more going, took))
 
 -- ---- a game was read
 
-same_answer : (limit at : ℕ) (whole : List ℕ) (answer : Result (Option PgnEnd) PgnFault) → limit ≡ 20000 → game_at limit whole at ≡ answer → told_at whole at ≡ answer
+same_answer : (limit at : ℕ) (whole : List ℕ) (answer : Result (Option PgnEnd) PgnFault) → limit ≡ 20000
+    → game_at limit whole at ≡ answer → told_at whole at ≡ answer
 same_answer limit at whole answer few is = subst (λ n. game_at n whole at ≡ answer) few is
 
 -- the stream goes back nowhere
-pub no_less : (s s' : StreamState) (plies : ℕ) (read : Result (Option PgnEnd) PgnFault) → StandsBehind s s' plies read → place s ≤ place s'
+pub no_less : (s s' : StreamState) (plies : ℕ) (read : Result (Option PgnEnd) PgnFault) → StandsBehind s s' plies read
+    → place s ≤ place s'
 no_less s s' plies (Ok None) h = let at = h.0 in omega (arith, at)
 no_less s s' plies (Ok (Some end)) h = let at = h.0 in let further = h.1 in omega (arith, at, further)
 no_less s s' plies (Err fault) h = let at = h.0 in let behind = h.1 in omega (arith, at, behind)
@@ -104,17 +124,21 @@ is_so true e = refl
 is_so false e = cc
 
 -- a line was told, or broke off
-pub line_took : {A E : Type 0} (b : Bool) (w w' : OutputState) (r : Result A E) (line : List ℕ) → b ≡ is_err r → b ≡ false → Puts w w' r line → Took w w' line
+pub line_took : {A E : Type 0} (b : Bool) (w w' : OutputState) (r : Result A E) (line : List ℕ) → b ≡ is_err r
+    → b ≡ false → Puts w w' r line → Took w w' line
 line_took b w w' (Ok v) line is e h = h
 line_took b w w' (Err v) line is e h = cc
 
-pub line_failed : {A E : Type 0} (b : Bool) (w w' : OutputState) (r : Result A E) (line : List ℕ) → b ≡ is_err r → b ≡ true → Puts w w' r line → BreaksOff w w' line
+pub line_failed : {A E : Type 0} (b : Bool) (w w' : OutputState) (r : Result A E) (line : List ℕ) → b ≡ is_err r
+    → b ≡ true → Puts w w' r line → BreaksOff w w' line
 line_failed b w w' (Ok v) line is e h = cc
 line_failed b w w' (Err v) line is e h = h
 
 -- of each whole text this is told of the game, and what was read before is a beginning of it
-module _ (plan : VerifyPlan) (s s' : StreamState) (r r' : InputState) (w w' : OutputState) (text : List ℕ) (tally : Tally) (reports : List Report) (so : SoFar plan s.ended text w w' (place s) tally reports)
-    (g g' : Seen) (few : g.limit ≡ 20000) (read : Result (Option PgnEnd) PgnFault) (on : GoesOn s s' r r' text (λ whole. IsTold g g' whole (place s) read)) where
+module _ (plan : VerifyPlan) (s s' : StreamState) (r r' : InputState) (w w' : OutputState) (text : List ℕ)
+    (tally : Tally) (reports : List Report) (so : SoFar plan s.ended text w w' (place s) tally reports)
+    (g g' : Seen) (few : g.limit ≡ 20000) (read : Result (Option PgnEnd) PgnFault)
+    (on : GoesOn s s' r r' text (λ whole. IsTold g g' whole (place s) read)) where
   abbrev pub text_now : List ℕ
   text_now = text ++ on.0
 
@@ -131,15 +155,19 @@ module _ (plan : VerifyPlan) (s s' : StreamState) (r r' : InputState) (w w' : Ou
     text_now,
     on.1.read,
     reports,
-    (λ whole is. subst (AreReportsOfAny plan All whole (Some 0)) (append-nil reports) (so.joins whole (before whole is) All [] (answered whole is ∙ none))),
+    (λ whole is. subst (AreReportsOfAny plan All whole (Some 0)) (append-nil reports)
+        (so.joins whole (before whole is) All [] (answered whole is ∙ none))),
     so.counted,
     so.took,
   )
 
   module _ (w'' : OutputState) where
     -- a line of it broke off
-    line_broken : (report : Report) → ((whole : List ℕ) → IsWholeOf s'.ended text_now whole → AreReportsOfAny plan First whole (Some (place s)) (report ∷ []))
-        → BreaksOff w' w'' (told_line plan.quiet (tally.games + tally.faults + 1) report) → CountsAny plan r r' w w'' (Err WriteFailed)
+    line_broken : (report : Report)
+        → ((whole : List ℕ) → IsWholeOf s'.ended text_now whole
+        → AreReportsOfAny plan First whole (Some (place s)) (report ∷ []))
+        → BreaksOff w' w'' (told_line plan.quiet (tally.games + tally.faults + 1) report)
+        → CountsAny plan r r' w w'' (Err WriteFailed)
     line_broken report are breaks = (
       s'.ended,
       text_now,
@@ -150,13 +178,18 @@ module _ (plan : VerifyPlan) (s s' : StreamState) (r r' : InputState) (w w' : Ou
     )
 
     module _ (end : PgnEnd) (plies : ℕ) (ended : read ≡ Ok (Some end)) (count : plies ≡ length g'.state.moves) where
-      plies_of : (whole : List ℕ) → IsWholeOf s'.ended text_now whole → plies ≡ length (read_at whole (place s)).state.moves
-      plies_of whole is = counted whole (place s) g g' plies few (subst (λ (a : Result (Option PgnEnd) PgnFault). IsTold g g' whole (place s) a) ended (on.2 whole is).1).played count
+      plies_of : (whole : List ℕ) → IsWholeOf s'.ended text_now whole
+          → plies ≡ length (read_at whole (place s)).state.moves
+      plies_of whole is = counted whole (place s) g g' plies few
+          (subst (λ (a : Result (Option PgnEnd) PgnFault). IsTold g g' whole (place s) a) ended
+          (on.2 whole is).1).played count
 
-      pub game_broken : BreaksOff w' w'' (told_line plan.quiet (tally.games + tally.faults + 1) (Game plies end)) → CountsAny plan r r' w w'' (Err WriteFailed)
+      pub game_broken : BreaksOff w' w'' (told_line plan.quiet (tally.games + tally.faults + 1) (Game plies end))
+          → CountsAny plan r r' w w'' (Err WriteFailed)
       game_broken = line_broken (Game plies end) (λ whole is. (answered whole is ∙ ended, plies_of whole is, tt))
 
-      pub game_told : StandsBehind s s' (length g'.state.moves) (Ok (Some end)) → Took w' w'' (told_line plan.quiet (tally.games + tally.faults + 1) (Game plies end))
+      pub game_told : StandsBehind s s' (length g'.state.moves) (Ok (Some end))
+          → Took w' w'' (told_line plan.quiet (tally.games + tally.faults + 1) (Game plies end))
           → SoFar plan s'.ended text_now w w'' (place s') (game_more tally plies) (reports ++ Game plies end ∷ [])
       game_told (at, further, enough) took =
           let few_games = so.few in
@@ -167,19 +200,28 @@ module _ (plan : VerifyPlan) (s s' : StreamState) (r r' : InputState) (w w' : Ou
             counted = tally_game tally reports plies end so.counted;
             took = line_behind plan.quiet w w' w'' tally reports so.counted so.took (Game plies end) took;
             joins = λ whole is extent rest h.
-                subst (AreReportsOfAny plan extent whole (Some 0)) (sym (append_assoc reports (Game plies end ∷ []) rest))
-                (so.joins whole (before whole is) extent (Game plies end ∷ rest) (answered whole is ∙ ended, plies_of whole is, subst (λ n. AreReportsOfAny plan extent whole (Some n) rest) at h));
+                subst (AreReportsOfAny plan extent whole (Some 0))
+                (sym (append_assoc reports (Game plies end ∷ []) rest))
+                (so.joins whole (before whole is) extent (Game plies end ∷ rest) (
+                  answered whole is ∙ ended,
+                  plies_of whole is,
+                  subst
+                      (λ n. AreReportsOfAny plan extent whole (Some n) rest) at h,
+                ));
           }
 
     module _ (fault : PgnFault) (faulty : read ≡ Err fault) where
-      first_of : (whole : List ℕ) → IsWholeOf s'.ended text_now whole → AreReportsOfAny plan First whole (Some (place s)) (Faulty fault ∷ [])
-      first_of whole is = let next = some_next plan.keep_going whole fault.place in (answered whole is ∙ faulty, (next.0, next.1, first_end whole next.0))
+      first_of : (whole : List ℕ) → IsWholeOf s'.ended text_now whole
+          → AreReportsOfAny plan First whole (Some (place s)) (Faulty fault ∷ [])
+      first_of whole is = let next = some_next plan.keep_going whole fault.place in
+          (answered whole is ∙ faulty, (next.0, next.1, first_end whole next.0))
         where
           first_end : (whole : List ℕ) (next : Option ℕ) → AreReportsOfAny plan First whole next []
           first_end whole None = refl
           first_end whole (Some at) = tt
 
-      pub fault_broken : BreaksOff w' w'' (told_line plan.quiet (tally.games + tally.faults + 1) (Faulty fault)) → CountsAny plan r r' w w'' (Err WriteFailed)
+      pub fault_broken : BreaksOff w' w'' (told_line plan.quiet (tally.games + tally.faults + 1) (Faulty fault))
+          → CountsAny plan r r' w w'' (Err WriteFailed)
       fault_broken = line_broken (Faulty fault) first_of
 
       module _ (took : Took w' w'' (told_line plan.quiet (tally.games + tally.faults + 1) (Faulty fault))) where
@@ -196,31 +238,41 @@ module _ (plan : VerifyPlan) (s s' : StreamState) (r r' : InputState) (w w' : Ou
           text_now,
           on.1.read,
           reports ++ Faulty fault ∷ [],
-          (λ whole is. so.joins whole (before whole is) All (Faulty fault ∷ []) (answered whole is ∙ faulty, (None, subst (λ (b : Bool). IsNext b whole fault.place None) (sym alone) refl, refl))),
+          (λ whole is. so.joins whole (before whole is) All (Faulty fault ∷ []) (
+            answered whole is ∙ faulty,
+            (None, subst (λ (b : Bool). IsNext b whole fault.place None) (sym alone) refl, refl),
+          )),
           tally_fault tally reports fault so.counted,
           lines_took,
         )
 
         -- the next game was looked for behind it
-        module _ (s'' : StreamState) (r'' : InputState) (keep : plan.keep_going ≡ true) (stands : StandsBehind s s' (length g'.state.moves) (Err fault)) where
-          is_next : (whole : List ℕ) (next : Option ℕ) → IsNextEvent whole (place s') next → IsNext plan.keep_going whole fault.place next
-          is_next whole next is = subst (λ (b : Bool). IsNext b whole fault.place next) (sym keep) (subst (λ n. IsNextEvent whole n next) stands.0 is)
+        module _ (s'' : StreamState) (r'' : InputState) (keep : plan.keep_going ≡ true)
+            (stands : StandsBehind s s' (length g'.state.moves) (Err fault)) where
+          is_next : (whole : List ℕ) (next : Option ℕ) → IsNextEvent whole (place s') next
+              → IsNext plan.keep_going whole fault.place next
+          is_next whole next is = subst (λ (b : Bool). IsNext b whole fault.place next) (sym keep)
+              (subst (λ n. IsNextEvent whole n next) stands.0 is)
 
           -- there is none
-          pub none_behind : GoesOn s' s'' r r'' text_now (λ whole. IsNextEvent whole (place s') None) → CountsAny plan r r'' w w'' (Ok (fault_more tally))
+          pub none_behind : GoesOn s' s'' r r'' text_now (λ whole. IsNextEvent whole (place s') None)
+              → CountsAny plan r r'' w w'' (Ok (fault_more tally))
           none_behind (more, at_end, tells) = (
             s''.ended,
             text_now ++ more,
             at_end.read,
             reports ++ Faulty fault ∷ [],
-            (λ whole is. let h = tells whole is in so.joins whole (before whole h.0) All (Faulty fault ∷ []) (answered whole h.0 ∙ faulty, (None, is_next whole None h.1, refl))),
+            (λ whole is. let h = tells whole is in so.joins whole (before whole h.0) All (Faulty fault ∷ [])
+                (answered whole h.0 ∙ faulty, (None, is_next whole None h.1, refl))),
             tally_fault tally reports fault so.counted,
             lines_took,
           )
 
           -- there is one
-          pub one_behind : (next : GoesOn s' s'' r r'' text_now (λ whole. IsNextEvent whole (place s') (Some (place s'')))) → place s' < place s''
-              → SoFar plan s''.ended (text_now ++ next.0) w w'' (place s'') (fault_more tally) (reports ++ Faulty fault ∷ [])
+          pub one_behind : (next : GoesOn s' s'' r r'' text_now
+              (λ whole. IsNextEvent whole (place s') (Some (place s'')))) → place s' < place s''
+              → SoFar plan s''.ended (text_now ++ next.0) w w'' (place s'') (fault_more tally)
+              (reports ++ Faulty fault ∷ [])
           one_behind (more, there, tells) further =
               let few_games = so.few in
               let few_moves = so.few_moves in
@@ -232,14 +284,17 @@ module _ (plan : VerifyPlan) (s s' : StreamState) (r r' : InputState) (w w' : Ou
                 counted = tally_fault tally reports fault so.counted;
                 took = lines_took;
                 joins = λ whole is extent rest h. let t = tells whole is in
-                    subst (AreReportsOfAny plan extent whole (Some 0)) (sym (append_assoc reports (Faulty fault ∷ []) rest))
-                    (so.joins whole (before whole t.0) extent (Faulty fault ∷ rest) (answered whole t.0 ∙ faulty, (Some (place s''), is_next whole (Some (place s'')) t.1, h)));
+                    subst (AreReportsOfAny plan extent whole (Some 0))
+                    (sym (append_assoc reports (Faulty fault ∷ []) rest))
+                    (so.joins whole (before whole t.0) extent (Faulty fault ∷ rest)
+                    (answered whole t.0 ∙ faulty, (Some (place s''), is_next whole (Some (place s'')) t.1, h)));
               }
 
 -- ---- the counts, and then the lines were flushed
 
 module _ (plan : VerifyPlan) (r r' : InputState) (w w' : OutputState) where
-  pub not_counted : (fault : ProgramFault) → CountsAny plan r r' w w' (Err fault) → VerifiesAny plan r r' w w' (Err fault)
+  pub not_counted : (fault : ProgramFault) → CountsAny plan r r' w w' (Err fault)
+      → VerifiesAny plan r r' w w' (Err fault)
   not_counted ReadFailed h = h
   not_counted WriteFailed (ended, text, read, reports, are, breaks) = (First, ended, text, read, reports, are, breaks)
   not_counted NoMemory h = absurd h
@@ -247,9 +302,19 @@ module _ (plan : VerifyPlan) (r r' : InputState) (w w' : OutputState) where
   not_counted WrongWords h = absurd h
 
   module _ (w'' : OutputState) (tally : Tally) where
-    pub not_handed_on : CountsAny plan r r' w w' (Ok tally) → BreaksOff w' w'' (counts_if plan.keep_going tally.games tally.half_moves tally.faults) → VerifiesAny plan r r' w w'' (Err WriteFailed)
-    not_handed_on (ended, text, read, reports, are, counts, took) breaks =
-        (All, ended, text, read, reports, are, breaks_more w w' w'' (lines_by plan.quiet 1 reports) _ took (subst (BreaksOff w' w'') (same_counts plan.keep_going tally reports counts) breaks))
+    pub not_handed_on : CountsAny plan r r' w w' (Ok tally)
+        → BreaksOff w' w'' (counts_if plan.keep_going tally.games tally.half_moves tally.faults)
+        → VerifiesAny plan r r' w w'' (Err WriteFailed)
+    not_handed_on (ended, text, read, reports, are, counts, took) breaks = (
+      All,
+      ended,
+      text,
+      read,
+      reports,
+      are,
+      breaks_more w w' w'' (lines_by plan.quiet 1 reports) _ took
+          (subst (BreaksOff w' w'') (same_counts plan.keep_going tally reports counts) breaks),
+    )
 
     sent_behind : (x y : List ℕ) → Took w w' x → Sent w' w'' y → Sent w w'' (x ++ y)
     sent_behind x y h k = record {
@@ -258,7 +323,8 @@ module _ (plan : VerifyPlan) (r r' : InputState) (w w' : OutputState) where
       flushed = k.flushed;
     }
 
-    pub handed_on : CountsAny plan r r' w w' (Ok tally) → Sent w' w'' (counts_if plan.keep_going tally.games tally.half_moves tally.faults)
+    pub handed_on : CountsAny plan r r' w w' (Ok tally)
+        → Sent w' w'' (counts_if plan.keep_going tally.games tally.half_moves tally.faults)
         → VerifiesAny plan r r' w w'' (Ok (if tally.faults == 0 then EachGame else FaultTold))
     handed_on (ended, text, read, reports, are, counts, took) sent = (
       ended,
@@ -267,5 +333,6 @@ module _ (plan : VerifyPlan) (r r' : InputState) (w w' : OutputState) where
       reports,
       are,
       ap (λ n. if n == 0 then EachGame else FaultTold) counts.faults ∙ sym (verified_is reports),
-      sent_behind (lines_by plan.quiet 1 reports) _ took (subst (Sent w' w'') (same_counts plan.keep_going tally reports counts) sent),
+      sent_behind (lines_by plan.quiet 1 reports) _ took
+          (subst (Sent w' w'') (same_counts plan.keep_going tally reports counts) sent),
     )

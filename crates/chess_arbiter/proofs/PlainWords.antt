@@ -20,7 +20,8 @@ shorter : (xs ys : Text) → length xs < length ys → xs ≡ ys → ⊥
 shorter xs ys lt e = let same : length xs ≡ length ys = ap length e in absurd (omega arith)
 
 -- a plan that was read of words that ask for that command
-read_word : PlansAreNamed → (words : List Text) (name : Text) (plan : Plan) → AskFor words name → IsReading words (Ok plan) → name ≡ command_name plan
+read_word : PlansAreNamed → (words : List Text) (name : Text) (plan : Plan) → AskFor words name
+    → IsReading words (Ok plan) → name ≡ command_name plan
 read_word named words name plan a (names, are, is) = sym (a.named names) ∙ named (asked names words) plan is
 
 -- words that are taken and ask for no match are refused for want of memory alone
@@ -28,12 +29,16 @@ abbrev IsWant : WordsFault → Type 0
 IsWant words.NoMemory = Unit {0}
 IsWant _ = ⊥
 
-refused_word : (words : List Text) (name : Text) (fault : WordsFault) → AskFor words name → (name ≡ codes "match" → ⊥) → IsReading words (Err fault) → IsWant fault
+refused_word : (words : List Text) (name : Text) (fault : WordsFault) → AskFor words name → (name ≡ codes "match" → ⊥)
+    → IsReading words (Err fault) → IsWant fault
 refused_word ws name (words.Words e) a other (names, are, (taken, is)) = absurd (taken (a.taken names))
 refused_word ws name words.NoMemory a other (names, are, (taken, is)) = tt
-refused_word ws name words.BadLevel a other (names, are, (taken, (m, named, rest, h))) = absurd (other (sym (a.named names) ∙ named))
-refused_word ws name (words.BadFen f) a other (names, are, (taken, (m, named, rest, h))) = absurd (other (sym (a.named names) ∙ named))
-refused_word ws name words.BadDate a other (names, are, (taken, (m, named, rest, h))) = absurd (other (sym (a.named names) ∙ named))
+refused_word ws name words.BadLevel a other (names, are, (taken, (m, named, rest, h))) =
+    absurd (other (sym (a.named names) ∙ named))
+refused_word ws name (words.BadFen f) a other (names, are, (taken, (m, named, rest, h))) =
+    absurd (other (sym (a.named names) ∙ named))
+refused_word ws name words.BadDate a other (names, are, (taken, (m, named, rest, h))) =
+    absurd (other (sym (a.named names) ∙ named))
 
 no_match_by_session : codes "session" ≡ codes "match" → ⊥
 no_match_by_session e = shorter (codes "match") (codes "session") (lit< tt) (sym e)
@@ -41,49 +46,74 @@ no_match_by_session e = shorter (codes "match") (codes "session") (lit< tt) (sym
 no_match_by_verify : codes "verify" ≡ codes "match" → ⊥
 no_match_by_verify e = shorter (codes "match") (codes "verify") (lit< tt) (sym e)
 
-session_or_want : (fault : WordsFault) (r r' : InputState) (w w' : OutputState) (status : ℕ) → IsWant fault → RanPlan (Err fault) r r' w w' status → RanSession r r' w w' status
-session_or_want words.NoMemory r r' w w' status want (same, (kept, is)) = (Err NoMemory, record { input = same; output = kept }, is)
+session_or_want : (fault : WordsFault) (r r' : InputState) (w w' : OutputState) (status : ℕ) → IsWant fault
+    → RanPlan (Err fault) r r' w w' status → RanSession r r' w w' status
+session_or_want words.NoMemory r r' w w' status want (same, (kept, is)) =
+    (Err NoMemory, record { input = same; output = kept }, is)
 session_or_want (words.Words e) r r' w w' status want ran = absurd want
 session_or_want words.BadLevel r r' w w' status want ran = absurd want
 session_or_want (words.BadFen f) r r' w w' status want ran = absurd want
 session_or_want words.BadDate r r' w w' status want ran = absurd want
 
 nothing_read : (r r' : InputState) → r' ≡ r → LacksMemory r r'
-nothing_read r r' same = subst (λ v. LacksMemory r v) (sym same) (inl ([], record { bytes = consumes_none r.known_bytes; failures = refl; ends = refl }))
+nothing_read r r' same =
+    subst (λ v. LacksMemory r v) (sym same)
+    (inl ([], record { bytes = consumes_none r.known_bytes; failures = refl; ends = refl }))
 
-verify_or_want : (fault : WordsFault) (r r' : InputState) (w w' : OutputState) (status : ℕ) → IsWant fault → RanPlan (Err fault) r r' w w' status → RanVerify r r' w w' status
-verify_or_want words.NoMemory r r' w w' status want (same, (kept, is)) = (Err NoMemory, (nothing_read r r' same, kept), is)
+verify_or_want : (fault : WordsFault) (r r' : InputState) (w w' : OutputState) (status : ℕ) → IsWant fault
+    → RanPlan (Err fault) r r' w w' status → RanVerify r r' w w' status
+verify_or_want words.NoMemory r r' w w' status want (same, (kept, is)) =
+    (Err NoMemory, (nothing_read r r' same, kept), is)
 verify_or_want (words.Words e) r r' w w' status want ran = absurd want
 verify_or_want words.BadLevel r r' w w' status want ran = absurd want
 verify_or_want (words.BadFen f) r r' w w' status want ran = absurd want
 verify_or_want words.BadDate r r' w w' status want ran = absurd want
 
-serves : PlansAreNamed → (words : List Text) → AskFor words (codes "session") → (read : Result Plan WordsFault) → IsReading words read
-    → (r r' : InputState) (w w' : OutputState) (status : ℕ) → RanPlan read r r' w w' status → RanSession r r' w w' status
+serves : PlansAreNamed → (words : List Text) → AskFor words (codes "session") → (read : Result Plan WordsFault)
+    → IsReading words read
+    → (r r' : InputState) (w w' : OutputState) (status : ℕ) → RanPlan read r r' w w' status
+    → RanSession r r' w w' status
 serves named ws a (Ok Session) is r r' w w' status ran = ran
-serves named ws a (Ok (Verify v)) is r r' w w' status ran = absurd (shorter (codes "verify") (codes "session") (lit< tt) (sym (read_word named ws (codes "session") (Verify v) a is)))
-serves named ws a (Ok (Stub s)) is r r' w w' status ran = absurd (shorter (codes "stub") (codes "session") (lit< tt) (sym (read_word named ws (codes "session") (Stub s) a is)))
-serves named ws a (Ok (Match m)) is r r' w w' status ran = absurd (no_match_by_session (read_word named ws (codes "session") (Match m) a is))
-serves named ws a (Err fault) is r r' w w' status ran = session_or_want fault r r' w w' status (refused_word ws (codes "session") fault a no_match_by_session is) ran
+serves named ws a (Ok (Verify v)) is r r' w w' status ran =
+    absurd (shorter (codes "verify") (codes "session") (lit< tt)
+    (sym (read_word named ws (codes "session") (Verify v) a is)))
+serves named ws a (Ok (Stub s)) is r r' w w' status ran =
+    absurd (shorter (codes "stub") (codes "session") (lit< tt)
+    (sym (read_word named ws (codes "session") (Stub s) a is)))
+serves named ws a (Ok (Match m)) is r r' w w' status ran =
+    absurd (no_match_by_session (read_word named ws (codes "session") (Match m) a is))
+serves named ws a (Err fault) is r r' w w' status ran =
+    session_or_want fault r r' w w' status (refused_word ws (codes "session") fault a no_match_by_session is) ran
 
 -- `verify` alone has none of its words
-without_words : VerifyIsAsSpelled → (words : List Text) (v : VerifyPlan) → VerifyAsBare words → IsReading words (Ok (Verify v)) → has_words v ≡ false
+without_words : VerifyIsAsSpelled → (words : List Text) (v : VerifyPlan) → VerifyAsBare words
+    → IsReading words (Ok (Verify v)) → has_words v ≡ false
 without_words spelled ws v bare (names, are, is) = ap has_words (spelled (asked names ws) v is ∙ bare names)
 
-kept_whole : VerifyIsAsSpelled → (words : List Text) (v : VerifyPlan) → VerifyAsBare words → IsReading words (Ok (Verify v)) → v.any_size ≡ false
-kept_whole spelled ws v bare (names, are, is) = ap (λ (u : VerifyPlan). u.any_size) (spelled (asked names ws) v is ∙ bare names)
+kept_whole : VerifyIsAsSpelled → (words : List Text) (v : VerifyPlan) → VerifyAsBare words
+    → IsReading words (Ok (Verify v)) → v.any_size ≡ false
+kept_whole spelled ws v bare (names, are, is) =
+    ap (λ (u : VerifyPlan). u.any_size) (spelled (asked names ws) v is ∙ bare names)
 
-verifies : PlansAreNamed → VerifyIsAsSpelled → (words : List Text) → AskFor words (codes "verify") → VerifyAsBare words → (read : Result Plan WordsFault) → IsReading words read
+verifies : PlansAreNamed → VerifyIsAsSpelled → (words : List Text) → AskFor words (codes "verify") → VerifyAsBare words
+    → (read : Result Plan WordsFault) → IsReading words read
     → (r r' : InputState) (w w' : OutputState) (status : ℕ) → RanPlan read r r' w w' status → RanVerify r r' w w' status
-verifies named spelled ws a bare (Ok Session) is r r' w w' status ran = absurd (shorter (codes "verify") (codes "session") (lit< tt) (read_word named ws (codes "verify") Session a is))
+verifies named spelled ws a bare (Ok Session) is r r' w w' status ran =
+    absurd (shorter (codes "verify") (codes "session") (lit< tt) (read_word named ws (codes "verify") Session a is))
 verifies named spelled ws a bare (Ok (Verify v)) is r r' w w' status ran =
-    subst (λ b. RanVerifyIf b v r r' w w' status) (without_words spelled ws v bare is) (subst (λ b. RanVerifyAt b v r r' w w' status) (kept_whole spelled ws v bare is) ran)
-verifies named spelled ws a bare (Ok (Stub s)) is r r' w w' status ran = absurd (shorter (codes "stub") (codes "verify") (lit< tt) (sym (read_word named ws (codes "verify") (Stub s) a is)))
-verifies named spelled ws a bare (Ok (Match m)) is r r' w w' status ran = absurd (no_match_by_verify (read_word named ws (codes "verify") (Match m) a is))
-verifies named spelled ws a bare (Err fault) is r r' w w' status ran = verify_or_want fault r r' w w' status (refused_word ws (codes "verify") fault a no_match_by_verify is) ran
+    subst (λ b. RanVerifyIf b v r r' w w' status) (without_words spelled ws v bare is)
+    (subst (λ b. RanVerifyAt b v r r' w w' status) (kept_whole spelled ws v bare is) ran)
+verifies named spelled ws a bare (Ok (Stub s)) is r r' w w' status ran =
+    absurd (shorter (codes "stub") (codes "verify") (lit< tt) (sym (read_word named ws (codes "verify") (Stub s) a is)))
+verifies named spelled ws a bare (Ok (Match m)) is r r' w w' status ran =
+    absurd (no_match_by_verify (read_word named ws (codes "verify") (Match m) a is))
+verifies named spelled ws a bare (Err fault) is r r' w w' status ran =
+    verify_or_want fault r r' w w' status (refused_word ws (codes "verify") fault a no_match_by_verify is) ran
 
 pub serves_session : PlansAreNamed → (words : List Text) → AskFor words (codes "session") → ServesSession words
 serves_session named ws a r r' w w' status (read, is, ran) = serves named ws a read is r r' w w' status ran
 
-pub verifies_games : PlansAreNamed → VerifyIsAsSpelled → (words : List Text) → AskFor words (codes "verify") → VerifyAsBare words → VerifiesGames words
-verifies_games named spelled ws a bare r r' w w' status (read, is, ran) = verifies named spelled ws a bare read is r r' w w' status ran
+pub verifies_games : PlansAreNamed → VerifyIsAsSpelled → (words : List Text) → AskFor words (codes "verify")
+    → VerifyAsBare words → VerifiesGames words
+verifies_games named spelled ws a bare r r' w w' status (read, is, ran) = verifies named spelled ws a bare read is r r'
+    w w' status ran

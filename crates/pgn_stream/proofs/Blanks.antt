@@ -12,7 +12,8 @@ not_not false = refl
 
 no_others : (xs : List ℕ) → position_or_len (λ b. not (is_blank b)) xs ≡ prefix_len is_blank xs
 no_others [] = refl
-no_others (x ∷ xs) = ap (λ b. cond b (1 + position_or_len (λ b. not (is_blank b)) xs) 0) (not_not (is_blank x)) ∙ ap (λ n. cond (is_blank x) (1 + n) 0) (no_others xs)
+no_others (x ∷ xs) = ap (λ b. cond b (1 + position_or_len (λ b. not (is_blank b)) xs) 0) (not_not (is_blank x))
+    ∙ ap (λ n. cond (is_blank x) (1 + n) 0) (no_others xs)
 
 pub blanks_are : (xs : List ℕ) → unwrap_or (position (λ b. not (is_blank b)) xs) (length xs) ≡ prefix_len is_blank xs
 blanks_are xs = by_place ∙ no_others xs

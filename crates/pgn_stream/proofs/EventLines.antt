@@ -14,14 +14,17 @@ NoneUpTo text place next = (q : ℕ) → place < q → q ≤ next → is_event_l
 pub none_yet : (text : List ℕ) (place : ℕ) → NoneUpTo text place place
 none_yet text place q low high = absurd (omega (arith, low, high))
 
-pub one_further : (text : List ℕ) (place next : ℕ) → NoneUpTo text place next → is_event_line text (next + 1) ≡ false → NoneUpTo text place (next + 1)
+pub one_further : (text : List ℕ) (place next : ℕ) → NoneUpTo text place next → is_event_line text (next + 1) ≡ false
+    → NoneUpTo text place (next + 1)
 one_further text place next before here q low high = by_test (eqb q (next + 1)) refl
   where
     by_test : (b : Bool) → eqb q (next + 1) ≡ b → is_event_line text q ≡ false
-    by_test true e = let is : q ≡ next + 1 = grind (arith, nat_tests, e) in subst (λ n. is_event_line text n ≡ false) (sym is) here
+    by_test true e = let is : q ≡ next + 1 = grind (arith, nat_tests, e) in subst (λ n. is_event_line text n ≡ false)
+        (sym is) here
     by_test false e = before q low (grind (arith, nat_tests, e, high))
 
-pub found : (text : List ℕ) (place next : ℕ) → place ≤ next → NoneUpTo text place next → is_event_line text (next + 1) ≡ true → IsNextEvent text place (Some (next + 1))
+pub found : (text : List ℕ) (place next : ℕ) → place ≤ next → NoneUpTo text place next
+    → is_event_line text (next + 1) ≡ true → IsNextEvent text place (Some (next + 1))
 found text place next low before is = (omega (arith, low), is, λ q after ahead. before q after (omega (arith, ahead)))
 
 and_false : (b : Bool) → (b && false) ≡ false
@@ -34,7 +37,8 @@ past text q h =
     ap (λ (xs : List ℕ). eqb (get_or text (q - 1) 0) 10 && bytes_eq (take 7 xs) (codes "[Event ")) (drop_all q text h)
     ∙ and_false (eqb (get_or text (q - 1) 0) 10)
 
-pub nowhere : (text : List ℕ) (place next : ℕ) → NoneUpTo text place next → length text ≤ next → IsNextEvent text place None
+pub nowhere : (text : List ℕ) (place next : ℕ) → NoneUpTo text place next → length text ≤ next
+    → IsNextEvent text place None
 nowhere text place next before whole q low = by_test (ltb next q) refl
   where
     by_test : (b : Bool) → ltb next q ≡ b → is_event_line text q ≡ false

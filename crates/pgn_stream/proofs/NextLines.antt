@@ -17,19 +17,25 @@ use Rattle.pgn_stream.specs.ties.Held.{IsSound, FindsHeld, is_full}
 -- ---- lines of lists
 
 -- behind a front the same
-line_moved : (front window : List ℕ) (q : ℕ) → 0 < q → is_event_line (front ++ window) (length front + q) ≡ is_event_line window q
+line_moved : (front window : List ℕ) (q : ℕ) → 0 < q → is_event_line (front ++ window) (length front + q)
+    ≡ is_event_line window q
 line_moved front window q some =
     let there : length front + q - 1 ≡ length front + (q - 1) = omega (arith, some) in
-    let byte : get_or (front ++ window) (length front + q - 1) 0 ≡ get_or window (q - 1) 0 = ap (λ n. get_or (front ++ window) n 0) there ∙ get_or-append-add front window (q - 1) 0 in
-    ap (λ xs. eqb (get_or (front ++ window) (length front + q - 1) 0) 10 && bytes_eq (take 7 xs) (codes "[Event ")) (drop-append-add front window q)
+    let byte : get_or (front ++ window) (length front + q - 1) 0 ≡ get_or window (q - 1) 0 =
+    ap (λ n. get_or (front ++ window) n 0) there ∙ get_or-append-add front window (q - 1) 0 in
+    ap (λ xs. eqb (get_or (front ++ window) (length front + q - 1) 0) 10 && bytes_eq (take 7 xs) (codes "[Event "))
+    (drop-append-add front window q)
     ∙ ap (λ b. eqb b 10 && bytes_eq (take 7 (drop q window)) (codes "[Event ")) byte
 
 -- where its bytes stand in a text, whatever follows is the same
 line_stays : (text rest : List ℕ) (q : ℕ) → q + 7 ≤ length text → is_event_line (text ++ rest) q ≡ is_event_line text q
 line_stays text rest q h =
     let left = length-drop q text in
-    let name : take 7 (drop q (text ++ rest)) ≡ take 7 (drop q text) = ap (take 7) (drop-append-le q text rest (omega (arith, h))) ∙ take-append-le 7 (drop q text) rest (omega (arith, left, h)) in
-    let byte : get_or (text ++ rest) (q - 1) 0 ≡ get_or text (q - 1) 0 = get_or_append_left text rest 0 (q - 1) (omega (arith, h)) in
+    let name : take 7 (drop q (text ++ rest)) ≡ take 7 (drop q text) =
+    ap (take 7) (drop-append-le q text rest (omega (arith, h)))
+    ∙ take-append-le 7 (drop q text) rest (omega (arith, left, h)) in
+    let byte : get_or (text ++ rest) (q - 1) 0 ≡ get_or text (q - 1) 0 =
+    get_or_append_left text rest 0 (q - 1) (omega (arith, h)) in
     ap (λ xs. eqb (get_or (text ++ rest) (q - 1) 0) 10 && bytes_eq xs (codes "[Event ")) name
     ∙ ap (λ b. eqb b 10 && bytes_eq (take 7 (drop q text)) (codes "[Event ")) byte
 
@@ -37,7 +43,8 @@ line_stays text rest q h =
 has_bytes : (text : List ℕ) (q : ℕ) → is_event_line text q ≡ true → q + 7 ≤ length text
 has_bytes text q h =
     let name = (and_parts (eqb (get_or text (q - 1) 0) 10) (bytes_eq (take 7 (drop q text)) (codes "[Event ")) h).1 in
-    let seven : length (take 7 (drop q text)) ≡ 7 = ap length ((bytes_eq-Decides (take 7 (drop q text)) (codes "[Event ")).0 name) in
+    let seven : length (take 7 (drop q text)) ≡ 7 =
+    ap length ((bytes_eq-Decides (take 7 (drop q text)) (codes "[Event ")).0 name) in
     let least = length-take 7 (drop q text) in
     let left = length-drop q text in
     omega (arith, seven, least, left)
@@ -61,14 +68,18 @@ module _ (s : StreamState) (r i : InputState) (text : List ℕ) (stands : Stands
       ∙ line_moved front s.window q some
 
   text_len : length text ≡ s.before + length s.window
-  text_len = let all = length-append front s.window in let is : length (front ++ s.window) ≡ length text = ap length text_is in let len = front_len in omega (arith, all, is, len)
+  text_len = let all = length-append front s.window in let is : length (front ++ s.window) ≡ length text =
+      ap length text_is in let len = front_len in omega (arith, all, is, len)
 
-  held_line : (whole : List ℕ) (q : ℕ) → (ended : Bool) → IsWholeOf ended text whole → 0 < q → q + 7 ≤ length s.window → is_event_line whole (s.before + q) ≡ is_event_line s.window q
+  held_line : (whole : List ℕ) (q : ℕ) → (ended : Bool) → IsWholeOf ended text whole → 0 < q → q + 7 ≤ length s.window
+      → is_event_line whole (s.before + q) ≡ is_event_line s.window q
   held_line whole q true w some h = ap (λ xs. is_event_line xs (s.before + q)) w ∙ in_text q some
   held_line whole q false w some h =
-      let len = text_len in ap (λ xs. is_event_line xs (s.before + q)) w.1 ∙ line_stays text w.0 (s.before + q) (omega (arith, len, h)) ∙ in_text q some
+      let len = text_len in ap (λ xs. is_event_line xs (s.before + q)) w.1
+      ∙ line_stays text w.0 (s.before + q) (omega (arith, len, h)) ∙ in_text q some
 
-  last_line : (whole : List ℕ) (q : ℕ) → IsWholeOf true text whole → 0 < q → is_event_line whole (s.before + q) ≡ is_event_line s.window q
+  last_line : (whole : List ℕ) (q : ℕ) → IsWholeOf true text whole → 0 < q
+      → is_event_line whole (s.before + q) ≡ is_event_line s.window q
   last_line whole q w some = ap (λ xs. is_event_line xs (s.before + q)) w ∙ in_text q some
 
 -- ---- what was looked through
@@ -80,14 +91,16 @@ NoneIn from to whole = (q : ℕ) → from < q → q ≤ to → is_event_line who
 abbrev at_place : StreamState → ℕ → StreamState
 at_place s n = record { window = s.window; before = s.before; at = n; ended = s.ended }
 
-stands_there : (s : StreamState) (n : ℕ) (r i : InputState) (text : List ℕ) → StandsAt s r i text → StandsAt (at_place s n) r i text
+stands_there : (s : StreamState) (n : ℕ) (r i : InputState) (text : List ℕ) → StandsAt s r i text
+    → StandsAt (at_place s n) r i text
 stands_there s n r i text stands = record { read = stands.read; before = stands.before; window = stands.window }
 
 split : (a q : ℕ) → a < q → q ≡ a + (q - a)
 split a q h = omega (arith, h)
 
 -- one more stretch
-further : (from : ℕ) (s : StreamState) (r i : InputState) (text whole : List ℕ) (n : ℕ) → StandsAt s r i text → IsWholeOf s.ended text whole → NoneIn from (place s) whole
+further : (from : ℕ) (s : StreamState) (r i : InputState) (text whole : List ℕ) (n : ℕ) → StandsAt s r i text
+    → IsWholeOf s.ended text whole → NoneIn from (place s) whole
     → ((k : ℕ) → s.at < k → k ≤ n → is_event_line whole (s.before + k) ≡ false) → NoneIn from (s.before + n) whole
 further from s r i text whole n stands w before here q low high = by_test (leb q (place s)) refl
   where
@@ -96,7 +109,8 @@ further from s r i text whole n stands w before here q low high = by_test (leb q
     by_test false e =
         let past : s.before + s.at < q = grind (arith, nat_tests, e) in
         let is : q ≡ s.before + (q - s.before) = omega (arith, past) in
-        subst (λ p. is_event_line whole p ≡ false) (sym is) (here (q - s.before) (omega (arith, past)) (omega (arith, past, high)))
+        subst (λ p. is_event_line whole p ≡ false) (sym is)
+        (here (q - s.before) (omega (arith, past)) (omega (arith, past, high)))
 
 abbrev pub Looked : StreamState → StreamState → InputState → InputState → List ℕ → Type 0
 Looked s s' r i text = GoesOn s s' r i text (NoneIn (place s) (place s'))
@@ -106,11 +120,16 @@ pub not_looked : (s : StreamState) (r i : InputState) (text : List ℕ) → Stan
 not_looked s r i text stands = (
   [],
   subst (StandsAt s r i) (sym (append-nil text)) stands,
-  λ whole w. (subst (λ xs. IsWholeOf s.ended xs whole) (append-nil text) w, λ q low high. absurd (omega (arith, low, high))),
+  λ whole w. (
+    subst (λ xs. IsWholeOf s.ended xs whole) (append-nil text) w,
+    λ q low high.
+        absurd (omega (arith, low, high)),
+  ),
 )
 
 -- none is in the window
-no_more_held : (s₀ s : StreamState) (r i : InputState) (text : List ℕ) → Looked s₀ s r i text → IsNextEvent s.window s.at None
+no_more_held : (s₀ s : StreamState) (r i : InputState) (text : List ℕ) → Looked s₀ s r i text
+    → IsNextEvent s.window s.at None
     → Looked s₀ (at_place s (max s.at (length s.window - 7))) r i text
 no_more_held s₀ s r i text looked none = (
   looked.0,
@@ -118,15 +137,19 @@ no_more_held s₀ s r i text looked none = (
   λ whole w. (
     (looked.2 whole w).0,
     further (place s₀) s r i (text ++ looked.0) whole (max s.at (length s.window - 7)) looked.1 w (looked.2 whole w).1
-        (λ k low high. held_line s r i (text ++ looked.0) looked.1 whole k s.ended w (omega (arith, low)) (omega (arith, low, high)) ∙ none k low),
+        (λ k low high. held_line s r i (text ++ looked.0) looked.1 whole k s.ended w (omega (arith, low))
+        (omega (arith, low, high)) ∙ none k low),
   ),
 )
 
-pub looked_through : (s₀ s s' : StreamState) (r i : InputState) (text : List ℕ) → Looked s₀ s r i text → FindsHeld s s' false → Looked s₀ s' r i text
-looked_through s₀ s s' r i text looked finds = subst (λ (t : StreamState). Looked s₀ t r i text) (sym finds.0) (no_more_held s₀ s r i text looked finds.1)
+pub looked_through : (s₀ s s' : StreamState) (r i : InputState) (text : List ℕ) → Looked s₀ s r i text
+    → FindsHeld s s' false → Looked s₀ s' r i text
+looked_through s₀ s s' r i text looked finds = subst (λ (t : StreamState). Looked s₀ t r i text) (sym finds.0)
+    (no_more_held s₀ s r i text looked finds.1)
 
 -- and then more was read
-pub looked_on : (s₀ s s' : StreamState) (r i i' : InputState) (text : List ℕ) → place s' ≡ place s → (looked : Looked s₀ s r i text) → GoesOn s s' r i' (text ++ looked.0) (λ whole. Unit {0}) → Looked s₀ s' r i' text
+pub looked_on : (s₀ s s' : StreamState) (r i i' : InputState) (text : List ℕ) → place s' ≡ place s
+    → (looked : Looked s₀ s r i text) → GoesOn s s' r i' (text ++ looked.0) (λ whole. Unit {0}) → Looked s₀ s' r i' text
 looked_on s₀ s s' r i i' text same looked goes =
     let is = append_assoc text looked.0 goes.0 in (
       looked.0 ++ goes.0,
@@ -138,15 +161,24 @@ looked_on s₀ s s' r i i' text same looked goes =
 
 stops_on : (r i : InputState) (text more : List ℕ) (e : StreamFault) → Stops r i (text ++ more) e → Stops r i text e
 stops_on r i text more ReadFailed h = (more ++ h.0, subst (BrokeOff r i) (append_assoc text more h.0) h.1)
-stops_on r i text more InputTooLong h = (more ++ h.0, subst (IsFront r i) (append_assoc text more h.0) h.1, subst IsPastPlaces (append_assoc text more h.0) h.2)
+stops_on r i text more InputTooLong h = (
+  more ++ h.0,
+  subst (IsFront r i) (append_assoc text more h.0) h.1,
+  subst IsPastPlaces (append_assoc text more h.0)
+      h.2,
+)
 
-pub stops_so : (s s' : StreamState) (r i : InputState) (text more : List ℕ) (result : Result Bool StreamFault) (e : StreamFault) → IsErr result → IsErrAnd result (λ f. f ≡ e) → Stops r i (text ++ more) e → FindsEvent s s' r i text result
+pub stops_so : (s s' : StreamState) (r i : InputState) (text more : List ℕ) (result : Result Bool StreamFault)
+    (e : StreamFault) → IsErr result → IsErrAnd result (λ f. f ≡ e) → Stops r i (text ++ more) e
+    → FindsEvent s s' r i text result
 stops_so s s' r i text more (Ok b) e is same h = cc
-stops_so s s' r i text more (Err f) e is same h = stops_on r i text more f (subst (Stops r i (text ++ more)) (sym same) h)
+stops_so s s' r i text more (Err f) e is same h =
+    stops_on r i text more f (subst (Stops r i (text ++ more)) (sym same) h)
 
 -- ---- the ends
 
-found_there : (s₀ s : StreamState) (n : ℕ) (r i : InputState) (text : List ℕ) → place s₀ ≤ place s → Looked s₀ s r i text → IsNextEvent s.window s.at (Some n)
+found_there : (s₀ s : StreamState) (n : ℕ) (r i : InputState) (text : List ℕ) → place s₀ ≤ place s
+    → Looked s₀ s r i text → IsNextEvent s.window s.at (Some n)
     → GoesOn s₀ (at_place s n) r i text (λ whole. IsNextEvent whole (place s₀) (Some (s.before + n)))
 found_there s₀ s n r i text low looked next =
     let behind = next.0 in
@@ -160,16 +192,19 @@ found_there s₀ s n r i text low looked next =
           held_line s r i (text ++ looked.0) looked.1 whole n s.ended w (omega (arith, behind)) bytes ∙ next.1,
           λ q after ahead.
               further (place s₀) s r i (text ++ looked.0) whole (n - 1) looked.1 w (looked.2 whole w).1
-              (λ k some few. held_line s r i (text ++ looked.0) looked.1 whole k s.ended w (omega (arith, some)) (omega (arith, bytes, few)) ∙ next.2 k some (omega (arith, few, behind)))
+              (λ k some few. held_line s r i (text ++ looked.0) looked.1 whole k s.ended w (omega (arith, some))
+              (omega (arith, bytes, few)) ∙ next.2 k some (omega (arith, few, behind)))
               q after (omega (arith, ahead, behind)),
         ),
       ),
     )
 
-pub found_next : (s₀ s s' : StreamState) (r i : InputState) (text : List ℕ) → place s₀ ≤ place s → Looked s₀ s r i text → FindsHeld s s' true
+pub found_next : (s₀ s s' : StreamState) (r i : InputState) (text : List ℕ) → place s₀ ≤ place s → Looked s₀ s r i text
+    → FindsHeld s s' true
     → GoesOn s₀ s' r i text (λ whole. IsNextEvent whole (place s₀) (Some (place s')))
 found_next s₀ s s' r i text low looked finds =
-    subst (λ (t : StreamState). GoesOn s₀ t r i text (λ whole. IsNextEvent whole (place s₀) (Some (place t)))) (sym finds.0) (found_there s₀ s s'.at r i text low looked finds.1)
+    subst (λ (t : StreamState). GoesOn s₀ t r i text (λ whole. IsNextEvent whole (place s₀) (Some (place t))))
+    (sym finds.0) (found_there s₀ s s'.at r i text low looked finds.1)
 
 pub found_further : (s₀ s s' : StreamState) → place s₀ ≤ place s → FindsHeld s s' true → place s₀ < place s'
 found_further s₀ s s' low finds =
@@ -177,7 +212,8 @@ found_further s₀ s s' low finds =
     let behind = finds.1.0 in
     omega (arith, low, before, behind)
 
-none_there : (s₀ s : StreamState) (n : ℕ) (r i : InputState) (text : List ℕ) → s.ended ≡ true → Looked s₀ s r i text → IsNextEvent s.window s.at None
+none_there : (s₀ s : StreamState) (n : ℕ) (r i : InputState) (text : List ℕ) → s.ended ≡ true → Looked s₀ s r i text
+    → IsNextEvent s.window s.at None
     → GoesOn s₀ (at_place s n) r i text (λ whole. IsNextEvent whole (place s₀) None)
 none_there s₀ s n r i text ended looked none = (
   looked.0,
@@ -186,15 +222,18 @@ none_there s₀ s n r i text ended looked none = (
     (looked.2 whole w).0,
     λ q after.
         further (place s₀) s r i (text ++ looked.0) whole q looked.1 w (looked.2 whole w).1
-        (λ k some few. last_line s r i (text ++ looked.0) looked.1 whole k (subst (λ b. IsWholeOf b (text ++ looked.0) whole) ended w) (omega (arith, some)) ∙ none k some)
+        (λ k some few. last_line s r i (text ++ looked.0) looked.1 whole k
+        (subst (λ b. IsWholeOf b (text ++ looked.0) whole) ended w) (omega (arith, some)) ∙ none k some)
         q after (omega arith),
   ),
 )
 
-pub none_left : (s₀ s s' : StreamState) (r i : InputState) (text : List ℕ) → s'.ended ≡ true → Looked s₀ s r i text → FindsHeld s s' false → GoesOn s₀ s' r i text (λ whole. IsNextEvent whole (place s₀) None)
+pub none_left : (s₀ s s' : StreamState) (r i : InputState) (text : List ℕ) → s'.ended ≡ true → Looked s₀ s r i text
+    → FindsHeld s s' false → GoesOn s₀ s' r i text (λ whole. IsNextEvent whole (place s₀) None)
 none_left s₀ s s' r i text ended looked finds =
     let was : s.ended ≡ true = sym (ap (λ (t : StreamState). t.ended) finds.0) ∙ ended in
-    subst (λ (t : StreamState). GoesOn s₀ t r i text (λ whole. IsNextEvent whole (place s₀) None)) (sym finds.0) (none_there s₀ s (max s.at (length s.window - 7)) r i text was looked finds.1)
+    subst (λ (t : StreamState). GoesOn s₀ t r i text (λ whole. IsNextEvent whole (place s₀) None)) (sym finds.0)
+    (none_there s₀ s (max s.at (length s.window - 7)) r i text was looked finds.1)
 
 -- ---- that it ends
 
@@ -202,22 +241,26 @@ none_left s₀ s s' r i text ended looked finds =
 abbrev pub left : StreamState → ℕ
 left s = cond s.ended 0 (1 + (2 ^ 64 - (s.before + length s.window)))
 
-pub never_back : (s₀ s s' s'' : StreamState) → place s₀ ≤ place s → FindsHeld s s' false → place s'' ≡ place s' → place s₀ ≤ place s''
+pub never_back : (s₀ s s' s'' : StreamState) → place s₀ ≤ place s → FindsHeld s s' false → place s'' ≡ place s'
+    → place s₀ ≤ place s''
 never_back s₀ s s' s'' low finds same =
     let at : s'.at ≡ max s.at (length s.window - 7) = ap (λ (t : StreamState). t.at) finds.0 in
     let before : s'.before ≡ s.before = ap (λ (t : StreamState). t.before) finds.0 in
     omega (arith, low, at, before, same)
 
-pub falls : (s s' s'' : StreamState) → FindsHeld s s' false → s'.ended ≡ false → s'.before + length s'.window < 2 ^ 64 → place s'' ≡ place s' → is_full s'' ≡ true → left s'' < left s
+pub falls : (s s' s'' : StreamState) → FindsHeld s s' false → s'.ended ≡ false → s'.before + length s'.window < 2 ^ 64
+    → place s'' ≡ place s' → is_full s'' ≡ true → left s'' < left s
 unfolding is_full
 falls s s' s'' finds going small same full =
     let at : s'.at ≡ max s.at (length s.window - 7) = ap (λ (t : StreamState). t.at) finds.0 in
     let before : s'.before ≡ s.before = ap (λ (t : StreamState). t.before) finds.0 in
     let window : length s'.window ≡ length s.window = ap (λ (t : StreamState). length t.window) finds.0 in
     let was : s.ended ≡ false = sym (ap (λ (t : StreamState). t.ended) finds.0) ∙ going in
-    subst (λ b. left s'' < cond b 0 (1 + (2 ^ 64 - (s.before + length s.window)))) (sym was) (by_end s''.ended refl full at before window)
+    subst (λ b. left s'' < cond b 0 (1 + (2 ^ 64 - (s.before + length s.window)))) (sym was)
+    (by_end s''.ended refl full at before window)
   where
-    by_end : (b : Bool) → s''.ended ≡ b → (b || nat_le (s''.at + 16777217) (length s''.window)) ≡ true → s'.at ≡ max s.at (length s.window - 7) → s'.before ≡ s.before → length s'.window ≡ length s.window
+    by_end : (b : Bool) → s''.ended ≡ b → (b || nat_le (s''.at + 16777217) (length s''.window)) ≡ true
+        → s'.at ≡ max s.at (length s.window - 7) → s'.before ≡ s.before → length s'.window ≡ length s.window
         → cond b 0 (1 + (2 ^ 64 - (s''.before + length s''.window))) < 1 + (2 ^ 64 - (s.before + length s.window))
     by_end true e h at before window = omega arith
     by_end false e h at before window =

@@ -30,22 +30,27 @@ pub not_full : (s : StreamState) → is_full s ≡ false → length s.window < s
 unfolding is_full
 not_full s h = let k = room_left s.ended (nat_le (s.at + 16777217) (length s.window)) h in grind (arith, nat_tests, k)
 
-pub some_room : (len to : ℕ) (bytes : List ℕ) → len < to → to ≤ length bytes → 0 < length (take (to - len) (drop len bytes))
+pub some_room : (len to : ℕ) (bytes : List ℕ) → len < to → to ≤ length bytes
+    → 0 < length (take (to - len) (drop len bytes))
 some_room len to bytes h k =
     let rest = length-drop len bytes in
     let all = length-take-le (to - len) (drop len bytes) (omega (arith, rest, h, k)) in
     omega (arith, all, h)
 
-pub piece_held : (len count all : ℕ) (bytes buf post tail : List ℕ) → len ≤ length bytes → count ≤ length buf → len + count ≤ all
+pub piece_held : (len count all : ℕ) (bytes buf post tail : List ℕ) → len ≤ length bytes → count ≤ length buf
+    → len + count ≤ all
     → take (len + count) (take all ((take len bytes ++ (buf ++ post)) ++ tail)) ≡ take len bytes ++ take count buf
 piece_held len count all bytes buf post tail h k l =
     take-take (len + count) all ((take len bytes ++ (buf ++ post)) ++ tail) l
-    ∙ ap (take (len + count)) (append_assoc (take len bytes) (buf ++ post) tail ∙ ap (λ xs. take len bytes ++ xs) (append_assoc buf post tail))
+    ∙ ap (take (len + count))
+    (append_assoc (take len bytes) (buf ++ post) tail
+    ∙ ap (λ xs. take len bytes ++ xs) (append_assoc buf post tail))
     ∙ ap (λ n. take (n + count) (take len bytes ++ (buf ++ (post ++ tail)))) (sym (length-take-le len bytes h))
     ∙ take-append-add (take len bytes) (buf ++ (post ++ tail)) count
     ∙ ap (λ xs. take len bytes ++ xs) (take-append-le count buf (post ++ tail) k)
 
-pub within_buffer : (len to count all : ℕ) (bytes buf : List ℕ) → length buf ≡ length (take (to - len) (drop len bytes)) → count ≤ length buf → len ≤ length bytes → length bytes ≡ all → len + count ≤ all
+pub within_buffer : (len to count all : ℕ) (bytes buf : List ℕ) → length buf ≡ length (take (to - len) (drop len bytes))
+    → count ≤ length buf → len ≤ length bytes → length bytes ≡ all → len + count ≤ all
 within_buffer len to count all bytes buf kept some low size =
     let rest = length-drop len bytes in
     let least = length-take (to - len) (drop len bytes) in
@@ -53,7 +58,8 @@ within_buffer len to count all bytes buf kept some low size =
 
 -- ---- sliding
 
-pub slid : (gone len : ℕ) (bytes : List ℕ) → gone ≤ len → len ≤ length bytes → take (len - gone) (paste bytes 0 (drop gone bytes) (len - gone)) ≡ drop gone (take len bytes)
+pub slid : (gone len : ℕ) (bytes : List ℕ) → gone ≤ len → len ≤ length bytes
+    → take (len - gone) (paste bytes 0 (drop gone bytes) (len - gone)) ≡ drop gone (take len bytes)
 slid gone len bytes h k =
     let rest = length-drop gone bytes in
     let same : 0 + (len - gone) ≡ len - gone = omega arith in
@@ -69,10 +75,16 @@ held_is : (limit : ℕ) (s : StreamState) → is_held limit s ≡ is_told_by s (
 unfolding is_held is_settled
 held_is limit s = refl
 
-pub told_so : (limit : ℕ) (s : StreamState) (answer : Result (Option PgnEnd) PgnFault) (b : Bool) → answer ≡ held_answer limit s → b ≡ is_told_by s answer → b ≡ true
+pub told_so : (limit : ℕ) (s : StreamState) (answer : Result (Option PgnEnd) PgnFault) (b : Bool)
+    → answer ≡ held_answer limit s → b ≡ is_told_by s answer → b ≡ true
     → Some answer ≡ (if is_held limit s then Some (held_answer limit s) else None)
-told_so limit s answer b e h is = ap Some e ∙ sym (ap (λ c. if c then Some (held_answer limit s) else None) (held_is limit s ∙ ap (is_told_by s) (sym e) ∙ sym h ∙ is))
+told_so limit s answer b e h is = ap Some e
+    ∙ sym (ap (λ c. if c then Some (held_answer limit s) else None)
+    (held_is limit s ∙ ap (is_told_by s) (sym e) ∙ sym h ∙ is))
 
-pub left_open : (limit : ℕ) (s : StreamState) (answer : Result (Option PgnEnd) PgnFault) (b : Bool) → answer ≡ held_answer limit s → b ≡ is_told_by s answer → b ≡ false
+pub left_open : (limit : ℕ) (s : StreamState) (answer : Result (Option PgnEnd) PgnFault) (b : Bool)
+    → answer ≡ held_answer limit s → b ≡ is_told_by s answer → b ≡ false
     → None ≡ (if is_held limit s then Some (held_answer limit s) else None)
-left_open limit s answer b e h is = sym (ap (λ c. if c then Some (held_answer limit s) else None) (held_is limit s ∙ ap (is_told_by s) (sym e) ∙ sym h ∙ is))
+left_open limit s answer b e h is =
+    sym (ap (λ c. if c then Some (held_answer limit s) else None)
+    (held_is limit s ∙ ap (is_told_by s) (sym e) ∙ sym h ∙ is))

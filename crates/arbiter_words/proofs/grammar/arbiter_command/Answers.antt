@@ -11,7 +11,12 @@ returns c =
     let top = λ (a : App). a.top in
     let bare : app_of c.disable_help_subcommand.result ≡ bare_app = search rules in
     let found = c.in_ok-matches.ensures.app in
-    let e1 = c.in_ok-subcommand.ensures.shape c.command-session.ensures.local ∙ ap₂ with_subcommand bare (ap top c.command-session.ensures.app) in
-    let e2 = c.in_ok-subcommand-2.ensures.shape c.in_ok-verify.ensures.local ∙ ap₂ with_subcommand e1 (ap top c.in_ok-verify.ensures.app) in
-    let e3 = c.in_ok-subcommand-3.ensures.shape c.in_ok-stub.ensures.local ∙ ap₂ with_subcommand e2 (ap top c.in_ok-stub.ensures.app) in
-    IfOk-weaker c.subcommand-4.result _ _ (λ r h. (found.0, found.1, h.shape c.in_ok-matches.ensures.local ∙ ap₂ with_subcommand e3 (ap top found.2))) c.subcommand-4.ensures
+    let e1 = c.in_ok-subcommand.ensures.shape c.command-session.ensures.local
+    ∙ ap₂ with_subcommand bare (ap top c.command-session.ensures.app) in
+    let e2 = c.in_ok-subcommand-2.ensures.shape c.in_ok-verify.ensures.local
+    ∙ ap₂ with_subcommand e1 (ap top c.in_ok-verify.ensures.app) in
+    let e3 = c.in_ok-subcommand-3.ensures.shape c.in_ok-stub.ensures.local
+    ∙ ap₂ with_subcommand e2 (ap top c.in_ok-stub.ensures.app) in
+    IfOk-weaker c.subcommand-4.result _ _
+    (λ r h. (found.0, found.1, h.shape c.in_ok-matches.ensures.local ∙ ap₂ with_subcommand e3 (ap top found.2)))
+    c.subcommand-4.ensures

@@ -21,7 +21,9 @@ returns-clause-app c =
     let e4 = c.in_ok-arg-4.ensures.shape c.option-2.ensures.local ∙ ap₂ with_rule e3 fen in
     let e5 = c.in_ok-arg-5.ensures.shape c.games_option.ensures.local ∙ ap₂ with_rule e4 c.games_option.ensures.rule in
     let e6 = c.in_ok-arg-6.ensures.shape c.option-3.ensures.local ∙ ap₂ with_rule e5 date in
-    IfOk-weaker c.arg-7.result _ _ (λ r h. (variant.0, variant.1, h.shape c.variant_option.ensures.local ∙ ap₂ with_rule e6 variant.2)) c.arg-7.ensures
+    IfOk-weaker c.arg-7.result _ _
+    (λ r h. (variant.0, variant.1, h.shape c.variant_option.ensures.local ∙ ap₂ with_rule e6 variant.2))
+    c.arg-7.ensures
 
 pub returns-clause-local : goal.returns-clause-local
 returns-clause-local c =

@@ -32,7 +32,8 @@ parsed_by names a words e (Ok m) h p k = (
 parsed_by names a words e (Err x) h p k = λ t. p (ap (λ (b : App). takes b words) e ∙ t)
 
 -- there was no memory for a grammar
-without_grammar : (words : List Text) (r : Result ArgMatches Error) → IsErr r → IfErr r (λ e. kind_of e ≡ OutOfMemory) → IsParsed words r
+without_grammar : (words : List Text) (r : Result ArgMatches Error) → IsErr r → IfErr r (λ e. kind_of e ≡ OutOfMemory)
+    → IsParsed words r
 without_grammar words (Ok m) is none = cc
 without_grammar words (Err e) is none = (some_names, refl, λ t. none)
 
@@ -45,5 +46,9 @@ returns-in_err-arbiter_command c =
 pub returns : goal.returns
 returns c =
     let given = c.in_ok-arbiter_command.ensures in
-    let m = c.try_get_matches_from.ensures in
-    (given.0, given.1, parsed_by given.0 _ (map (λ w. w.now) c.args.words.now) given.2 c.try_get_matches_from.result m.matches m.passes m.kinds)
+    let m = c.try_get_matches_from.ensures in (
+      given.0,
+      given.1,
+      parsed_by given.0 _ (map (λ w. w.now) c.args.words.now) given.2 c.try_get_matches_from.result
+          m.matches m.passes m.kinds,
+    )

@@ -12,24 +12,28 @@ spelled_in-requires-clause-known c =
     let texts = map (λ w. w.now) c.args.words.now in
     let is : c.entered.result ≡ Some (c.in-Some.name, c.in-Some.found) = search rules in
     let parsed : IsParsed texts (Ok c.in-Ok.matches) = c.in-Ok.ensures in
-    (entered_well texts c.in-Ok.matches parsed c.entered.result c.entered.ensures (c.in-Some.name, c.in-Some.found) is).1
+    (entered_well texts c.in-Ok.matches parsed c.entered.result c.entered.ensures (c.in-Some.name, c.in-Some.found)
+    is).1
 
 pub spelled_in-requires-clause-both : goal.spelled_in-requires-clause-both
 spelled_in-requires-clause-both c =
     let texts = map (λ w. w.now) c.args.words.now in
     let is : c.entered.result ≡ Some (c.in-Some.name, c.in-Some.found) = search rules in
     let parsed : IsParsed texts (Ok c.in-Ok.matches) = c.in-Ok.ensures in
-    (entered_well texts c.in-Ok.matches parsed c.entered.result c.entered.ensures (c.in-Some.name, c.in-Some.found) is).0
+    (entered_well texts c.in-Ok.matches parsed c.entered.result c.entered.ensures (c.in-Some.name, c.in-Some.found)
+    is).0
 
 pub spelled_in-requires-clause-games : goal.spelled_in-requires-clause-games
 spelled_in-requires-clause-games c =
     let texts = map (λ w. w.now) c.args.words.now in
     let is : c.entered.result ≡ Some (c.in-Some.name, c.in-Some.found) = search rules in
     let parsed : IsParsed texts (Ok c.in-Ok.matches) = c.in-Ok.ensures in
-    (entered_well texts c.in-Ok.matches parsed c.entered.result c.entered.ensures (c.in-Some.name, c.in-Some.found) is).2
+    (entered_well texts c.in-Ok.matches parsed c.entered.result c.entered.ensures (c.in-Some.name, c.in-Some.found)
+    is).2
 
 pub returns-in-Err : goal.returns-in-Err
-returns-in-Err c = refused_reading (map (λ w. w.now) c.args.words.now) c.in-Err.error c.refusal.result c.in-Err.ensures c.refusal.ensures
+returns-in-Err c = refused_reading (map (λ w. w.now) c.args.words.now) c.in-Err.error c.refusal.result c.in-Err.ensures
+    c.refusal.ensures
 
 pub returns : goal.returns
 returns c =
@@ -39,10 +43,13 @@ returns c =
     let spelled : IsSpelledOf (asked parsed.0 texts) c.match-entered.spelled = elim c.match-entered.branch [
       | in-None w ↦
           let is : c.entered.result ≡ None = search rules in
-          subst (IsSpelledOf (asked parsed.0 texts)) (sym w.spelled-is) (ap (λ p. p.0) (none_asked texts m parsed c.entered.result c.entered.ensures is))
+          subst (IsSpelledOf (asked parsed.0 texts)) (sym w.spelled-is)
+          (ap (λ p. p.0) (none_asked texts m parsed c.entered.result c.entered.ensures is))
       | in-Some+in-Ok-spelled_in w ↦
           let is : c.entered.result ≡ Some (w.in-Some.name, w.in-Some.found) = search rules in
           let e = some_asked texts m parsed c.entered.result c.entered.ensures (w.in-Some.name, w.in-Some.found) is in
-          subst (IsSpelledOf (asked parsed.0 texts)) (sym w.spelled-is) (subst (λ p. IsSpelledOf p w.in-Ok-spelled_in.spelled) (sym e) w.in-Ok-spelled_in.ensures)
+          subst (IsSpelledOf (asked parsed.0 texts)) (sym w.spelled-is)
+          (subst (λ p. IsSpelledOf p w.in-Ok-spelled_in.spelled) (sym e) w.in-Ok-spelled_in.ensures)
     ] in
-    planned_reading parsed.0 texts parsed.1 c.match-entered.spelled spelled c.planned.result c.planned.ensures.plan c.planned.ensures.fault
+    planned_reading parsed.0 texts parsed.1 c.match-entered.spelled spelled c.planned.result c.planned.ensures.plan
+    c.planned.ensures.fault

@@ -26,7 +26,8 @@ unreachable-requires c =
     let f = found_of c.args.found.now in
     let is : c.get_str.result ≡ Some c.in-Some.text = search rules in
     let said : text_of c.get_str.result ≡ first_value f (codes "games") = search rules in
-    let first : first_of (codes "games") (rows_of f) ≡ Some c.in-Some.text.now = sym (first_value-rows f (codes "games")) ∙ sym said ∙ ap text_of is in
+    let first : first_of (codes "games") (rows_of f) ≡ Some c.in-Some.text.now =
+    sym (first_value-rows f (codes "games")) ∙ sym said ∙ ap text_of is in
     let ok = accepts-Accepts false (vp.Unsigned 1 1000) c.in-Some.text.now (c.requires c.in-Some.text.now first) in
     c.in-Err.ensures.value.0 (ok.0, within (number c.in-Some.text.now) ok.3)
 
@@ -50,7 +51,8 @@ returns-in-Ok-clause-range c =
     let f = found_of c.args.found.now in
     let is : c.get_str.result ≡ Some c.in-Some.text = search rules in
     let said : text_of c.get_str.result ≡ first_value f (codes "games") = search rules in
-    let first : first_of (codes "games") (rows_of f) ≡ Some c.in-Some.text.now = sym (first_value-rows f (codes "games")) ∙ sym said ∙ ap text_of is in
+    let first : first_of (codes "games") (rows_of f) ≡ Some c.in-Some.text.now =
+    sym (first_value-rows f (codes "games")) ∙ sym said ∙ ap text_of is in
     let ok = accepts-Accepts false (vp.Unsigned 1 1000) c.in-Some.text.now (c.requires c.in-Some.text.now first) in
     let read : c.in-Ok.games ≡ number c.in-Some.text.now = search rules in
     (subst (λ n. 1 ≤ n) (sym read) ok.2, subst (λ n. n ≤ 1000) (sym read) ok.3)

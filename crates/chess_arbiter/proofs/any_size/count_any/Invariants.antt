@@ -8,8 +8,10 @@ use Rattle.chess_arbiter.proofs.any_size.count_any.Given as goal
 abbrev pub invariant-loop-read : goal.invariant-loop-read
 invariant-loop-read g l =
     (l.game.limit ≡ 20000)
-    × ((text : List ℕ) × (reports : List Report) × StandsAt l.stream (g.R.Input.seen l.fn.input) (g.R.Input.seen l.input) text
-    × SoFar l.plan l.stream.ended text (g.W.Output.seen l.fn.output) (g.W.Output.seen l.output) (place l.stream) l.tally reports)
+    × ((text : List ℕ) × (reports : List Report)
+    × StandsAt l.stream (g.R.Input.seen l.fn.input) (g.R.Input.seen l.input) text
+    × SoFar l.plan l.stream.ended text (g.W.Output.seen l.fn.output) (g.W.Output.seen l.output) (place l.stream) l.tally
+    reports)
 
 abbrev pub decreases-loop-read : goal.decreases-loop-read
 decreases-loop-read g l = 2 ^ 64 - place l.stream

@@ -5,7 +5,9 @@ use Rattle.chess_arbiter.proofs.collection.count_each.Given as goal
 
 -- the games up to here were told and counted
 abbrev pub invariant-loop-end : goal.invariant-loop-end
-invariant-loop-end g l = (l.game.limit ≡ 20000) × ((reports : List Report) × SoFar l.plan l.text (g.W.Output.seen l.fn.output) (g.W.Output.seen l.output) l.at l.tally reports)
+invariant-loop-end g l = (l.game.limit ≡ 20000)
+    × ((reports : List Report) × SoFar l.plan l.text (g.W.Output.seen l.fn.output) (g.W.Output.seen l.output) l.at
+    l.tally reports)
 
 abbrev pub decreases-loop-end : goal.decreases-loop-end
 decreases-loop-end g l = length l.text - l.at

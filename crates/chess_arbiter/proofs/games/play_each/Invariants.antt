@@ -6,7 +6,8 @@ use Rattle.chess_arbiter.proofs.games.play_each.Given as goal
 -- so many games were played and told, none with a fault; the next has one number more
 abbrev pub invariant-loop-number : goal.invariant-loop-number
 invariant-loop-number g l =
-    (l.game.limit ≡ 20000) × (games : List GameTold) × SoFar l.plan (g.W.Output.seen l.fn.output) (g.W.Output.seen l.output) (l.number + 1) l.score games
+    (l.game.limit ≡ 20000) × (games : List GameTold)
+    × SoFar l.plan (g.W.Output.seen l.fn.output) (g.W.Output.seen l.output) (l.number + 1) l.score games
 
 abbrev pub decreases-loop-number : goal.decreases-loop-number
 decreases-loop-number g l = l.plan.games - l.number

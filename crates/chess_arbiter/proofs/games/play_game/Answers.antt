@@ -6,4 +6,5 @@ returns-clause-played g c = (_, _, _, _, c.run_match-end.ensures)
 
 pub returns-clause-limit : goal.returns-clause-limit
 returns-clause-limit g c =
-    limit_kept c.args.setup.now.start c.args.setup.now.level c.args.game.now c.run_match-end.new.game c.run_match-end.result (_, _, _, _, c.run_match-end.ensures)
+    limit_kept c.args.setup.now.start c.args.setup.now.level c.args.game.now c.run_match-end.new.game
+    c.run_match-end.result (_, _, _, _, c.run_match-end.ensures)

@@ -12,7 +12,8 @@ returns-then-is_err g c =
     let w'' = g.W.Output.seen c.write_score.new.output in
     let played = c.in-Ok-play_each.played in
     score_broken c.args.plan.now w w' w'' played c.in-Ok-play_each.ensures
-    (is_broken w' w'' c.write_score.result (score_line played.score) c.write_score.ensures (sym c.is_err.ensures.value ∙ c.if-is_err.true))
+    (is_broken w' w'' c.write_score.result (score_line played.score) c.write_score.ensures
+    (sym c.is_err.ensures.value ∙ c.if-is_err.true))
 
 pub returns-in-None : goal.returns-in-None
 returns-in-None g c =
@@ -22,7 +23,8 @@ returns-in-None g c =
     let played = c.in-Ok-play_each.played in
     let none : played.fault ≡ None = search rules in
     all_told c.args.plan.now w w' w'' played c.in-Ok-play_each.ensures
-    (is_sent w' w'' c.write_score.result (score_line played.score) c.write_score.ensures (sym c.is_err.ensures.value ∙ c.if-is_err.false)) none
+    (is_sent w' w'' c.write_score.result (score_line played.score) c.write_score.ensures
+    (sym c.is_err.ensures.value ∙ c.if-is_err.false)) none
 
 pub returns : goal.returns
 returns g c =
@@ -31,5 +33,7 @@ returns g c =
     let w'' = g.W.Output.seen c.write_score.new.output in
     let played = c.in-Ok-play_each.played in
     let is : played.fault ≡ Some (c.in-Some.number, c.in-Some.side, c.in-Some.fault) = search rules in
-    fault_told c.args.plan.now w w' w'' played c.in-Ok-play_each.ensures c.in-Some.number c.in-Some.side c.in-Some.fault c.fault_text.result
-    (is_sent w' w'' c.write_score.result (score_line played.score) c.write_score.ensures (sym c.is_err.ensures.value ∙ c.if-is_err.false)) is
+    fault_told c.args.plan.now w w' w'' played c.in-Ok-play_each.ensures c.in-Some.number c.in-Some.side c.in-Some.fault
+    c.fault_text.result
+    (is_sent w' w'' c.write_score.result (score_line played.score) c.write_score.ensures
+    (sym c.is_err.ensures.value ∙ c.if-is_err.false)) is

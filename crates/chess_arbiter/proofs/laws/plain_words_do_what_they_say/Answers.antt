@@ -6,7 +6,9 @@ pub returns-clause-none : goal.returns-clause-none
 returns-clause-none c = serves_session c.plans_are_named.ensures [] c.plain_words_are_taken.ensures.none
 
 pub returns-clause-session : goal.returns-clause-session
-returns-clause-session c = serves_session c.plans_are_named.ensures (codes "session" ∷ []) c.plain_words_are_taken.ensures.session
+returns-clause-session c = serves_session c.plans_are_named.ensures (codes "session" ∷ [])
+    c.plain_words_are_taken.ensures.session
 
 pub returns-clause-verify : goal.returns-clause-verify
-returns-clause-verify c = verifies_games c.plans_are_named.ensures c.verify_is_as_spelled.ensures (codes "verify" ∷ []) c.plain_words_are_taken.ensures.verify c.plain_words_are_taken.ensures.bare
+returns-clause-verify c = verifies_games c.plans_are_named.ensures c.verify_is_as_spelled.ensures (codes "verify" ∷ [])
+    c.plain_words_are_taken.ensures.verify c.plain_words_are_taken.ensures.bare

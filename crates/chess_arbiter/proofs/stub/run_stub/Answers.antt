@@ -30,15 +30,18 @@ returns-in-Ok-default-Over g c =
     let line = c.in-Ok-Some.line in
     let s = state_at c.args.words.now c.loop-line.stub in
     let given = c.in-Ok-default-Over.ensures in
-    by_line _ _ _ _ _ _ _ _ _ _ _ line c.loop-line.invariant.3 (reached ReadFault _ _ _ _ _ _ _ _ _ _ _ line c.loop-line.invariant.3 n)
-    (subst (Sent _ _) (said_is s line) given.0) (sym (ends_is s line) ∙ over_told _ c.in-Ok-default-Over.field-0-1 given.1.2 c.in-Ok-default-Over.field-0-1-is)
+    by_line _ _ _ _ _ _ _ _ _ _ _ line c.loop-line.invariant.3
+    (reached ReadFault _ _ _ _ _ _ _ _ _ _ _ line c.loop-line.invariant.3 n)
+    (subst (Sent _ _) (said_is s line) given.0)
+    (sym (ends_is s line) ∙ over_told _ c.in-Ok-default-Over.field-0-1 given.1.2 c.in-Ok-default-Over.field-0-1-is)
 
 pub returns-in-Err-answer : goal.returns-in-Err-answer
 returns-in-Err-answer g c =
     let n = rw c.in-Ok-Some.field-0-is at c.in-Ok-Some.ensures in
     let line = c.in-Ok-Some.line in
     let s = state_at c.args.words.now c.loop-line.stub in
-    by_write _ _ _ _ _ _ _ _ _ _ _ line c.loop-line.invariant.3 (reached ReadFault _ _ _ _ _ _ _ _ _ _ _ line c.loop-line.invariant.3 n)
+    by_write _ _ _ _ _ _ _ _ _ _ _ line c.loop-line.invariant.3
+    (reached ReadFault _ _ _ _ _ _ _ _ _ _ _ line c.loop-line.invariant.3 n)
     (subst (BreaksOff _ _) (said_is s line) c.in-Err-answer.ensures)
 
 pub returns-then-not-is_ended : goal.returns-then-not-is_ended
@@ -49,7 +52,8 @@ returns-then-not-is_ended g c =
     let given = c.in-Ok-default-On.ensures in
     let h = c.if-not-is_ended.ensures in
     by_last ReadFault _ _ _ _ _ _ _ _ _ _ _ _ line c.loop-line.invariant.3 n (sym h)
-    (subst (Sent _ _) (said_is s line) given.0) (sym (ends_is s line) ∙ on_told _ c.in-Ok-default-On.field-0-1 given.1.2 c.in-Ok-default-On.field-0-1-is)
+    (subst (Sent _ _) (said_is s line) given.0)
+    (sym (ends_is s line) ∙ on_told _ c.in-Ok-default-On.field-0-1 given.1.2 c.in-Ok-default-On.field-0-1-is)
 
 pub loop-line-preserved : goal.loop-line-preserved
 loop-line-preserved g c =
@@ -59,5 +63,6 @@ loop-line-preserved g c =
     let given = c.in-Ok-default-On.ensures in
     let h = c.if-not-is_ended.ensures in
     let on = go_on ReadFault _ _ _ _ _ _ _ _ _ _ c.next.new.self _ _ line c.loop-line.invariant.3 n (sym h)
-    (subst (Sent _ _) (said_is s line) given.0) (given.1.1 ∙ after_is s line) (sym (ends_is s line) ∙ on_told _ c.in-Ok-default-On.field-0-1 given.1.2 c.in-Ok-default-On.field-0-1-is) in
+    (subst (Sent _ _) (said_is s line) given.0) (given.1.1 ∙ after_is s line)
+    (sym (ends_is s line) ∙ on_told _ c.in-Ok-default-On.field-0-1 given.1.2 c.in-Ok-default-On.field-0-1-is) in
     (given.1.0, on.0, _, on.1)

@@ -12,7 +12,8 @@ invariant-loop-line g l =
     let output = g.W.Output.seen in
     (l.stub.at ≤ length l.fn.words)
     × (given : List ℕ) × (done : List LineSeen)
-    × SoFar (input l.fn.reader) (input l.reader) (output l.fn.writer) (output l.writer) (beginning l.fn.words) (state_at l.fn.words l.stub) l.lines given done
+    × SoFar (input l.fn.reader) (input l.reader) (output l.fn.writer) (output l.writer) (beginning l.fn.words)
+    (state_at l.fn.words l.stub) l.lines given done
 
 abbrev pub decreases-loop-line : goal.decreases-loop-line
 decreases-loop-line g l = work (g.R.Input.seen l.reader) l.lines

@@ -10,12 +10,16 @@ loop-self-preserved g c =
     let more = c.loop-self.invariant.0 in
     let piece = c.in_ok-read_piece.ensures.0 in (
       more ++ piece,
-      filled_more c.args.self.now c.loop-self.self c.read_piece.new.self (g.R.Input.seen c.args.input.now) (g.R.Input.seen c.loop-self.input) (g.R.Input.seen c.read_piece.new.input) more piece
-          c.loop-self.invariant.1 (not_ended c.loop-self.self room) c.in_ok-read_piece.ensures.1 c.in_ok-read_piece.ensures.2 c.in_ok-read_piece.ensures.3,
+      filled_more c.args.self.now c.loop-self.self c.read_piece.new.self (g.R.Input.seen c.args.input.now)
+          (g.R.Input.seen c.loop-self.input) (g.R.Input.seen c.read_piece.new.input) more piece
+          c.loop-self.invariant.1 (not_ended c.loop-self.self room) c.in_ok-read_piece.ensures.1
+          c.in_ok-read_piece.ensures.2 c.in_ok-read_piece.ensures.3,
     )
 
 pub returns-in_err-read_piece : goal.returns-in_err-read_piece
 returns-in_err-read_piece g c =
     let room : is_full c.loop-self.self ≡ false = search rules in
-    filling_broke c.args.self.now c.loop-self.self c.read_piece.new.self (g.R.Input.seen c.args.input.now) (g.R.Input.seen c.loop-self.input) (g.R.Input.seen c.read_piece.new.input) c.loop-self.invariant.0
-    c.loop-self.invariant.1 (not_ended c.loop-self.self room) c.in_err-read_piece.ensures c.from_residual.result c.from_residual.ensures.0
+    filling_broke c.args.self.now c.loop-self.self c.read_piece.new.self (g.R.Input.seen c.args.input.now)
+    (g.R.Input.seen c.loop-self.input) (g.R.Input.seen c.read_piece.new.input) c.loop-self.invariant.0
+    c.loop-self.invariant.1 (not_ended c.loop-self.self room) c.in_err-read_piece.ensures c.from_residual.result
+    c.from_residual.ensures.0

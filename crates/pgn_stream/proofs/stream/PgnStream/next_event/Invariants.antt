@@ -7,7 +7,8 @@ use Rattle.pgn_stream.proofs.stream.PgnStream.next_event.Given as goal
 -- no such line begins behind the place and up to where the stream stands now
 abbrev pub invariant-loop-self : goal.invariant-loop-self
 invariant-loop-self g l =
-    ((r : InputState) (text : List ℕ) → StandsAt l.fn.self r (g.R.Input.seen l.fn.input) text → Looked l.fn.self l.self r (g.R.Input.seen l.input) text)
+    ((r : InputState) (text : List ℕ) → StandsAt l.fn.self r (g.R.Input.seen l.fn.input) text
+    → Looked l.fn.self l.self r (g.R.Input.seen l.input) text)
     × (place l.fn.self ≤ place l.self)
     × (l.self.ended ≡ false → l.fn.self.ended ≡ false)
 

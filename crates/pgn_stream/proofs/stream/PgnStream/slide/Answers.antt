@@ -19,8 +19,11 @@ returns c =
       ended = c.self.inside.ended;
     })) c.self.view_is (record {
       within = omega arith;
-      inside = (let all = length-take-le c.self.inside.len c.self.inside.bytes.items (omega (arith, size, low)) in omega (arith, all, inside));
-      window = ap (take (c.self.inside.len - gone)) c.copy_within.ensures.items ∙ slid gone c.self.inside.len c.self.inside.bytes.items (omega (arith, is, inside)) (omega (arith, size, low)) ∙ ap (λ n. drop n (take c.self.inside.len c.self.inside.bytes.items)) is;
+      inside = (let all = length-take-le c.self.inside.len c.self.inside.bytes.items (omega (arith, size, low)) in
+          omega (arith, all, inside));
+      window = ap (take (c.self.inside.len - gone)) c.copy_within.ensures.items
+          ∙ slid gone c.self.inside.len c.self.inside.bytes.items (omega (arith, is, inside)) (omega (arith, size, low))
+          ∙ ap (λ n. drop n (take c.self.inside.len c.self.inside.bytes.items)) is;
       before = ap (λ n. c.self.inside.before + n) is;
       at = omega (arith, is);
       ended = refl;
