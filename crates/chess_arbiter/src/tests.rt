@@ -1,3 +1,5 @@
+ghost use Rattle.std.specs.Prelude.{◌≤◌, length};
+
 use crate::fault::{ProgramFault, tell};
 use crate::program::run_program;
 use crate::standard::{status_of, words_fault};
@@ -520,7 +522,9 @@ struct LongComment {
 }
 
 // Puts the beginning of a text into the front of `buf`, as much as has room there, and takes it off the text.
-fn give(text: &mut &'static [u8], buf: &mut [u8]) -> usize {
+fn give(text: &mut &'static [u8], buf: &mut [u8]) -> usize
+    ensures { result ≤ length buf.old }
+{
     let count = text.len().min(buf.len());
     let (piece, rest) = text.split_at(count);
     buf[..count].copy_from_slice(piece);
