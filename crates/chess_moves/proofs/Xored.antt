@@ -63,6 +63,26 @@ same_lists f g (suc n) a same =
     ap (λ xs. xs ++ flat_map g (range_with_len (a + 1) n)) (same a (omega arith) (omega arith))
     ∙ ap (λ xs. f a ++ xs) (same_lists f g n (a + 1) (λ k l h. same k (omega arith) (omega arith)))
 
+pub no_lists : (g : ℕ → List ℕ) (n a : ℕ) → ((k : ℕ) → a ≤ k → k < a + n → g k ≡ [])
+    → flat_map g (range_with_len a n) ≡ []
+no_lists g zero a none = refl
+no_lists g (suc n) a none =
+    ap (λ xs. xs ++ flat_map g (range_with_len (a + 1) n)) (none a (omega arith) (omega arith))
+    ∙ no_lists g n (a + 1) (λ k l h. none k (omega arith) (omega arith))
+
+-- the keys of an empty board, and of men that stand alike
+pub no_men_keys : (men : Men) → ((k : ℕ) → k < 64 → man_at men k ≡ None) → men_keys men ≡ []
+unfolding men_keys
+no_men_keys men none =
+    rw by_range (no_lists (keys_on men) 64 0 (λ k l h. ap (λ v. square_keys k v) (none k (omega arith))))
+
+pub same_men_keys : (men others : Men)
+    → ((k : ℕ) → k < 64 → square_keys k (man_at others k) ≡ square_keys k (man_at men k))
+    → men_keys others ≡ men_keys men
+unfolding men_keys
+same_men_keys men others same =
+    rw by_range (same_lists (keys_on men) (keys_on others) 64 0 (λ k l h. same k (omega arith)))
+
 -- x, y and z joined, the last two the other way round
 turned : (x y z : ℕ) → bit_xor (bit_xor x y) z ≡ bit_xor (bit_xor x z) y
 turned x y z = xor_assoc x y z ∙ ap (λ v. bit_xor x v) (xor_comm y z) ∙ sym (xor_assoc x z y)
@@ -78,7 +98,7 @@ changed_at f g s d (suc n) a same e low high =
     let gs = flat_map g (range_with_len (a + 1) n) in
     elim (cases_eq a s) [
       | inl here ↦
-          let rest : gs ≡ fs = same_lists f g n (a + 1) (λ k l h. same k (λ i. absurd (omega arith))) in
+          let rest : gs ≡ fs = same_lists f g n (a + 1) (λ k l h. same k (omega arith)) in
           let first : xor_of (g a) ≡ bit_xor (xor_of (f a)) d = rw here e in
           xor_append (g a) gs ∙ ap (λ x. bit_xor x (xor_of gs)) first ∙ ap (λ xs. bit_xor (bit_xor (xor_of (f a)) d) (xor_of xs)) rest
           ∙ turned (xor_of (f a)) d (xor_of fs) ∙ ap (λ x. bit_xor x d) (sym (xor_append (f a) fs))
