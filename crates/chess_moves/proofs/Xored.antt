@@ -1,7 +1,7 @@
 -- Exclusive or over lists of keys.
 use Rattle.std.proofs.Common.{◌≡◌, ◌≢◌, ℕ, zero, suc, ◌+◌, ◌<◌, ◌≤◌, inl, inr, List, [], ◌∷◌, ◌++◌, length, refl, sym, ◌∙◌, ap, arith, add-one, bit_xor, fold, Option, Some, None, set, get_or-set_same, get_or-set_other}
 use lib.Bits.{xor_assoc, xor_comm, xor_self, xor_zero_r}
-use Rattle.std.proofs.lemmas.Bool.{cases_eq}
+use Rattle.std.proofs.lemmas.Bool.{cases_lt}
 use Rattle.std.proofs.lemmas.List.Sums.{fold-append}
 use Rattle.std.specs.List.{flat_map, range_with_len}
 use Rattle.chess_base.specs.declared.man.Colour.TheVariants.{White, Black}
@@ -96,16 +96,20 @@ changed_at f g s d zero a same e low high = absurd (omega arith)
 changed_at f g s d (suc n) a same e low high =
     let fs = flat_map f (range_with_len (a + 1) n) in
     let gs = flat_map g (range_with_len (a + 1) n) in
-    elim (cases_eq a s) [
-      | inl here ↦
+    elim (cases_lt a s) [
+      | inl before ↦
+          let rest : xor_of gs ≡ bit_xor (xor_of fs) d =
+          changed_at f g s d n (a + 1) same e (omega arith) (omega arith) in
+          xor_append (g a) gs ∙ ap (λ xs. bit_xor (xor_of xs) (xor_of gs)) (same a (omega arith))
+          ∙ ap (λ x. bit_xor (xor_of (f a)) x) rest ∙ sym (xor_assoc (xor_of (f a)) (xor_of fs) d)
+          ∙ ap (λ x. bit_xor x d) (sym (xor_append (f a) fs))
+      | inr on ↦
+          let here : a ≡ s = omega arith in
           let rest : gs ≡ fs = same_lists f g n (a + 1) (λ k l h. same k (omega arith)) in
           let first : xor_of (g a) ≡ bit_xor (xor_of (f a)) d = rw here e in
-          xor_append (g a) gs ∙ ap (λ x. bit_xor x (xor_of gs)) first ∙ ap (λ xs. bit_xor (bit_xor (xor_of (f a)) d) (xor_of xs)) rest
-          ∙ turned (xor_of (f a)) d (xor_of fs) ∙ ap (λ x. bit_xor x d) (sym (xor_append (f a) fs))
-      | inr away ↦
-          let rest : xor_of gs ≡ bit_xor (xor_of fs) d = changed_at f g s d n (a + 1) same e (omega arith) (omega arith) in
-          xor_append (g a) gs ∙ ap (λ xs. bit_xor (xor_of xs) (xor_of gs)) (same a away) ∙ ap (λ x. bit_xor (xor_of (f a)) x) rest
-          ∙ sym (xor_assoc (xor_of (f a)) (xor_of fs) d) ∙ ap (λ x. bit_xor x d) (sym (xor_append (f a) fs))
+          xor_append (g a) gs ∙ ap (λ x. bit_xor x (xor_of gs)) first
+          ∙ ap (λ xs. bit_xor (bit_xor (xor_of (f a)) d) (xor_of xs)) rest ∙ turned (xor_of (f a)) d (xor_of fs)
+          ∙ ap (λ x. bit_xor x d) (sym (xor_append (f a) fs))
     ]
 
 -- ---- a write of one square
