@@ -1,5 +1,5 @@
 -- The same positions have the same keys, so words that differ tell positions apart.
-use Rattle.std.proofs.Common.{◌≡◌, ◌≢◌, ℕ, ◌<◌, ◌+◌, ◌-◌, ◌*◌, ◌++◌, List, [], ◌∷◌, Bool, true, false, ◌&&◌, Option, None, Some, refl, sym, ap}
+use Rattle.std.proofs.Common.{◌≡◌, ◌≢◌, ℕ, ◌<◌, ◌+◌, ◌-◌, ◌*◌, ◌++◌, List, [], ◌∷◌, Bool, true, false, ◌&&◌, Option, None, Some, refl, sym, ◌∙◌, ap}
 use Rattle.std.proofs.lemmas.Bool.{and_parts, eqb-true, false_from_ne_true}
 use Rattle.chess_base.specs.declared.man.Colour.{Colour}
 use Rattle.chess_base.specs.declared.man.Colour.TheVariants.{White, Black}
@@ -33,14 +33,14 @@ place_is Pawn = refl
 same_place : (k l : Kind) → same_kind k l ≡ true → kind_place k ≡ kind_place l
 same_place k l e =
     let numbers : kind_number k ≡ kind_number l = eqb-true (kind_number k) (kind_number l) e in
-    rw (place_is k, place_is l, numbers) refl
+    place_is k ∙ ap (λ n. 5 - n) numbers ∙ sym (place_is l)
 
 same_man_key : (x y : Man) (s : ℕ) → same_man (Some x) (Some y) ≡ true → man_key x s ≡ man_key y s
 same_man_key x y s e =
     let both = and_parts (same_colour x.colour y.colour) (same_kind x.kind y.kind) e in
     let colours : colour_place x.colour ≡ colour_place y.colour = ap colour_place (same_colour_is x.colour y.colour both.0) in
     let places : kind_place x.kind ≡ kind_place y.kind = same_place x.kind y.kind both.1 in
-    rw (colours, places) refl
+    (λ i. key (64 * (6 * colours i + places i) + s))
 
 same_square_keys : (o r : Option Man) (s : ℕ) → same_man o r ≡ true → square_keys s r ≡ square_keys s o
 same_square_keys None None s e = refl
