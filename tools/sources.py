@@ -30,6 +30,7 @@ SHORT = {
     "text_tests": "chess_text_tests",
     "pgn_tests": "chess_pgn_tests",
     "cecp_tests": "chess_cecp_tests",
+    "words_tests": "arbiter_words_tests",
     "arbiter_tests": "chess_arbiter_tests",
     "match_tests": "chess_match_tests",
 }

@@ -12,6 +12,3 @@ pub use fault::WordsFault;
 pub use laws::{plain_words_are_taken, plans_are_named, verify_is_as_spelled};
 pub use plan::{MatchPlan, Plan, VerifyPlan};
 pub use reading::read_words;
-
-#[cfg(test)]
-mod tests;

@@ -16,10 +16,6 @@ mod verify;
 
 pub use fault::ProgramFault;
 pub use laws::plain_words_do_what_they_say;
+pub use moments::SinceStart;
 pub use program::run_program;
 pub use standard::run;
-
-#[cfg(test)]
-mod engine_tests;
-#[cfg(test)]
-mod tests;

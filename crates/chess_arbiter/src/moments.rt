@@ -6,7 +6,7 @@ use std::time::Instant;
 
 /// The milliseconds since this was made, by a runtime's monotonic clock; 0 where that can't be read.
 #[derive(Drop)]
-pub(crate) struct SinceStart<'a, R> {
+pub struct SinceStart<'a, R> {
     rt: &'a R,
     start: Option<Instant>,
 }

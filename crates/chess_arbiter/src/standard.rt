@@ -1,5 +1,9 @@
 //! The program on the standard streams.
 
+ghost use Rattle.std.specs.Prelude.{◌≡◌};
+ghost use Rattle.std.specs.IoError.{error_kind};
+ghost use Rattle.chess_arbiter.specs.Program.{words_fault};
+
 use crate::fault::{ProgramFault, tell};
 use crate::program::run_program;
 use byte_devices::Counted;
@@ -17,7 +21,7 @@ fn words_of(rt: &HostRuntime) -> io::Result<Vec<String>> {
 }
 
 // Runs the program on the standard streams, and gives its status.
-pub(crate) fn status_of(rt: &HostRuntime) -> io::Result<u8> {
+fn status_of(rt: &HostRuntime) -> io::Result<u8> {
     let owned = words_of(rt)?;
     let mut words = Vec::new(rt.alloc());
     for word in &owned {
@@ -34,11 +38,12 @@ pub(crate) fn status_of(rt: &HostRuntime) -> io::Result<u8> {
 }
 
 // Why the words could not be had: no memory for them, or one of them is no UTF-8.
-pub(crate) fn words_fault(error: &io::Error) -> ProgramFault {
-    if error.kind() == io::ErrorKind::OutOfMemory {
-        ProgramFault::NoMemory
-    } else {
-        ProgramFault::WrongWords
+fn words_fault(error: &io::Error) -> ProgramFault
+    ensures { result ≡ words_fault (error_kind error.now) }
+{
+    match error.kind() {
+        io::ErrorKind::OutOfMemory => ProgramFault::NoMemory,
+        _ => ProgramFault::WrongWords,
     }
 }
 

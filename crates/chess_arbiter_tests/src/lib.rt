@@ -1,5 +1,11 @@
-//! Hostile use of the program: its input cut and in pieces, its devices failing at each place.
+//! The program as its callers use it: over memory, over devices that fail at each place, and with engines as processes.
 #![tactic(auto)]
 
 #[cfg(test)]
-mod tests;
+mod devices;
+#[cfg(test)]
+mod engines;
+#[cfg(test)]
+mod program;
+#[cfg(test)]
+mod verify;

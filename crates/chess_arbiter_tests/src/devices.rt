@@ -1,3 +1,5 @@
+//! The program over devices that are cut and that fail.
+
 use byte_devices::{Counted, PieceReader, PieceWriter};
 use chess_arbiter::run_program;
 use std::alloc::Global;

@@ -1,4 +1,6 @@
-use crate::{Plan, VerifyPlan, WordsFault, read_words};
+//! What the words of the command line ask for, and which are refused.
+
+use arbiter_words::{Plan, VerifyPlan, WordsFault, read_words};
 use chess_base::{Variant, write_fen};
 use std::test::Fail;
 

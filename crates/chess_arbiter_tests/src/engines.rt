@@ -1,8 +1,7 @@
 //! Matches between engines that run as processes: the program itself, as a stub.
 
-use crate::moments::SinceStart;
-use crate::program::run_program;
 use byte_devices::{Counted, PieceReader, PieceWriter};
+use chess_arbiter::{SinceStart, run_program};
 use chess_match::Moments;
 use std::alloc::Global;
 use std::test::Fail;
@@ -30,7 +29,7 @@ fn acts_as_the_program(rt: HostRuntime) -> Result<(), Fail> {
 // The command of a stub that plays these words.
 fn stub(rt: &HostRuntime, words: &str) -> Result<String, Fail> {
     let program = env::args(rt)?.next().ok_or("the program's name")?;
-    Ok(format!(in rt.alloc(); "{program} engine_tests::acts_as_the_program stub {words}")?)
+    Ok(format!(in rt.alloc(); "{program} engines::acts_as_the_program stub {words}")?)
 }
 
 /// A match over processes: the words of both stubs, the other words, what is written, told and answered.

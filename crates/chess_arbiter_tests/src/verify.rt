@@ -1,225 +1,12 @@
+//! Games as `verify` reads them, by its words.
+
 ghost use Rattle.std.specs.Prelude.{◌≤◌, length};
 
-use crate::fault::{ProgramFault, tell};
-use crate::program::run_program;
-use crate::standard::{status_of, words_fault};
 use byte_devices::{Counted, GatedWriter, PieceReader, PieceWriter};
+use chess_arbiter::run_program;
 use std::cell::Cell;
 use std::io::{self, Read};
 use std::test::Fail;
-
-/// A run of the program over memory, where a call of the input or of the output fails (0: none does).
-struct Case {
-    words: &'static [&'static str],
-    input: &'static [u8],
-    fails: (u64, u64),
-    output: &'static [u8],
-    errors: &'static [u8],
-    status: u8,
-}
-
-const CASES: [Case; 22] = [
-    Case {
-        words: &[],
-        input: b"new\ne2e4\nping 7\nundo\nshowfen\nquit\nshowfen\n",
-        fails: (0, 0),
-        output: b"pong 7\n# fen rnbqkbnr/pppppppp/8/8/8/8/PPPPPPPP/RNBQKBNR w KQkq - 0 1\n",
-        errors: b"",
-        status: 0,
-    },
-    Case {
-        words: &[],
-        input: b"",
-        fails: (0, 0),
-        output: b"",
-        errors: b"",
-        status: 0,
-    },
-    Case {
-        words: &["session"],
-        input: b"ping 7",
-        fails: (0, 0),
-        output: b"pong 7\n",
-        errors: b"",
-        status: 0,
-    },
-    Case {
-        words: &["session", "session"],
-        input: b"ping 7\n",
-        fails: (0, 0),
-        output: b"",
-        errors: b"error: unexpected argument 'session' found\n\nUsage: arbiter session\n\nFor more information, try '--help'.\n",
-        status: 2,
-    },
-    Case {
-        words: &["help"],
-        input: b"ping 7\n",
-        fails: (0, 0),
-        output: b"",
-        errors: b"error: unrecognized subcommand 'help'\n\nUsage: arbiter [COMMAND]\n\nFor more information, try '--help'.\n",
-        status: 2,
-    },
-    Case {
-        words: &["--version"],
-        input: b"ping 7\n",
-        fails: (0, 0),
-        output: b"arbiter 0.1.0\n",
-        errors: b"",
-        status: 0,
-    },
-    Case {
-        words: &[""],
-        input: b"ping 7\n",
-        fails: (0, 0),
-        output: b"",
-        errors: b"error: unrecognized subcommand ''\n\nUsage: arbiter [COMMAND]\n\nFor more information, try '--help'.\n",
-        status: 2,
-    },
-    Case {
-        words: &[],
-        input: b"ping 1\nping 2",
-        fails: (2, 0),
-        output: b"pong 1\n",
-        errors: b"arbiter: read failed\n",
-        status: 1,
-    },
-    Case {
-        words: &[],
-        input: b"ping 1\nping 2\n",
-        fails: (0, 3),
-        output: b"pong 1\n",
-        errors: b"arbiter: write failed\n",
-        status: 1,
-    },
-    Case {
-        words: &["verify"],
-        input: b"1. e4 *",
-        fails: (2, 0),
-        output: b"",
-        errors: b"arbiter: read failed\n",
-        status: 1,
-    },
-    Case {
-        words: &["verify"],
-        input: b"1. e4 *",
-        fails: (0, 1),
-        output: b"",
-        errors: b"arbiter: write failed\n",
-        status: 1,
-    },
-    // The second line's write, and the flush at the end.
-    Case {
-        words: &["verify"],
-        input: b"* *",
-        fails: (0, 2),
-        output: b"game 1: 0 half-moves, *\n",
-        errors: b"arbiter: write failed\n",
-        status: 1,
-    },
-    Case {
-        words: &["verify"],
-        input: b"1. e4 *",
-        fails: (0, 2),
-        output: b"game 1: 1 half-moves, *\n",
-        errors: b"arbiter: write failed\n",
-        status: 1,
-    },
-    Case {
-        words: &["verify", "x"],
-        input: b"*",
-        fails: (0, 0),
-        output: b"",
-        errors: b"error: unexpected argument 'x' found\n\nUsage: arbiter verify [OPTIONS]\n\nFor more information, try '--help'.\n",
-        status: 2,
-    },
-    // The line of the counts, and the flush behind it.
-    Case {
-        words: &["verify", "--keep-going", "--quiet"],
-        input: b"1. e4 *",
-        fails: (0, 1),
-        output: b"",
-        errors: b"arbiter: write failed\n",
-        status: 1,
-    },
-    Case {
-        words: &["verify", "--keep-going", "--quiet"],
-        input: b"1. e4 *",
-        fails: (0, 2),
-        output: b"games 1 half-moves 1 faults 0\n",
-        errors: b"arbiter: write failed\n",
-        status: 1,
-    },
-    Case {
-        words: &["verify", "--keep-going"],
-        input: b"1. e4 *",
-        fails: (2, 0),
-        output: b"",
-        errors: b"arbiter: read failed\n",
-        status: 1,
-    },
-    Case {
-        words: &["verify", "--any-size"],
-        input: b"1. e4 *",
-        fails: (2, 0),
-        output: b"",
-        errors: b"arbiter: read failed\n",
-        status: 1,
-    },
-    Case {
-        words: &["verify", "--any-size"],
-        input: b"* *",
-        fails: (0, 2),
-        output: b"game 1: 0 half-moves, *\n",
-        errors: b"arbiter: write failed\n",
-        status: 1,
-    },
-    // The line of a fault, and the flush behind the counts.
-    Case {
-        words: &["verify", "--any-size", "--quiet"],
-        input: b"1. e5 *",
-        fails: (0, 1),
-        output: b"",
-        errors: b"arbiter: write failed\n",
-        status: 1,
-    },
-    Case {
-        words: &["verify", "--any-size", "--keep-going"],
-        input: b"1. e4 *",
-        fails: (0, 3),
-        output: b"game 1: 1 half-moves, *\ngames 1 half-moves 1 faults 0\n",
-        errors: b"arbiter: write failed\n",
-        status: 1,
-    },
-    // The flush of the first answer.
-    Case {
-        words: &["session"],
-        input: b"ping 1\nping 2\n",
-        fails: (0, 2),
-        output: b"pong 1\n",
-        errors: b"arbiter: write failed\n",
-        status: 1,
-    },
-];
-
-#[test]
-fn runs_of_the_program(rt: HostRuntime) {
-    for case in &CASES {
-        let mut input = Counted::reading(PieceReader::new(case.input, 100, case.fails.0));
-        let mut output = Counted::writing(PieceWriter::new(rt.alloc(), 100, case.fails.1));
-        let mut errors = Counted::writing(PieceWriter::new(rt.alloc(), 100, 0));
-        let status = run_program(
-            &rt,
-            rt.alloc(),
-            case.words,
-            &mut input,
-            &mut output,
-            &mut errors,
-        );
-        assert_eq!(rt; output.writer().bytes.as_slice(), case.output);
-        assert_eq!(rt; errors.writer().bytes.as_slice(), case.errors);
-        assert_eq!(rt; status, case.status);
-    }
-}
 
 // Games as they are verified: the text, what is told, and the status.
 const GAMES: [(&[u8], &[u8], u8); 16] = [
@@ -357,23 +144,6 @@ fn more_than_16_mebibytes_are_too_long(rt: HostRuntime) {
     assert_eq!(rt; status, 1);
 }
 
-#[test]
-fn a_failed_error_output_changes_no_status(rt: HostRuntime) {
-    let mut input = Counted::reading(b"".as_slice());
-    let mut output = Counted::writing(Vec::<u8>::new(rt.alloc()));
-    let mut errors = Counted::writing(PieceWriter::new(rt.alloc(), 3, 2));
-    let status = run_program(
-        &rt,
-        rt.alloc(),
-        &["x"],
-        &mut input,
-        &mut output,
-        &mut errors,
-    );
-    assert_eq!(rt; errors.writer().bytes.as_slice(), b"err".as_slice());
-    assert_eq!(rt; status, 2);
-}
-
 // The second of three games has a fault, and no line's end stands behind the last.
 const COLLECTION: &[u8] =
     b"[Event \"a\"]\n\n1. e4 e5 *\n\n[Event \"b\"]\n\n1. e4 e4 *\n\n[Event \"c\"]\n\n1. d4 1-0";
@@ -471,7 +241,7 @@ fn games_of_any_size_by_words(rt: HostRuntime) -> Result<(), Fail> {
             more.extend_from_slice(front)?;
             more.push("--any-size")?;
             more.extend_from_slice(back)?;
-            for cut in [1, 7, 100] {
+            for cut in [1, 100] {
                 let mut input = Counted::reading(PieceReader::new(text, cut, 0));
                 let mut output = Counted::writing(Vec::<u8>::new(rt.alloc()));
                 let mut errors = Counted::writing(Vec::<u8>::new(rt.alloc()));
@@ -552,7 +322,7 @@ impl Read for LongComment {
 }
 
 // Games with a long comment: words, the text before it, its bytes, the text behind it, what is told, and the status.
-const LONG: [(&[&str], &[u8], usize, &[u8], &[u8], u8); 5] = [
+const LONG: [(&[&str], &[u8], usize, &[u8], &[u8], u8); 7] = [
     // The first game has 16,777,216 bytes.
     (
         &["verify", "--any-size"],
@@ -568,6 +338,23 @@ const LONG: [(&[&str], &[u8], usize, &[u8], &[u8], u8); 5] = [
         b"{",
         16_777_213,
         b"} *\n1. e4 *",
+        b"game 1: too long at byte 0\n",
+        1,
+    ),
+    // Nothing stands behind its last byte.
+    (
+        &["verify", "--any-size"],
+        b"{",
+        16_777_212,
+        b"} *",
+        b"game 1: 0 half-moves, *\n",
+        0,
+    ),
+    (
+        &["verify", "--any-size"],
+        b"{",
+        16_777_213,
+        b"} *",
         b"game 1: too long at byte 0\n",
         1,
     ),
@@ -606,103 +393,4 @@ fn games_with_long_comments(rt: HostRuntime) {
         assert_eq!(rt; output.writer().as_slice(), *told);
         assert_eq!(rt; ended, *status);
     }
-}
-
-// Words that ask for help, and what their help must name.
-const HELP: [(&[&str], &[&str]); 3] = [
-    (&["--help"], &["session", "verify", "--help", "--version"]),
-    (
-        &["session", "-h"],
-        &[
-            "new",
-            "setboard",
-            "undo",
-            "remove",
-            "claim",
-            "result",
-            "showfen",
-            "showmoves",
-            "showstate",
-            "showpgn",
-            "ping",
-            "protover",
-            "variant",
-            "quit",
-        ],
-    ),
-    (
-        &["verify", "--help"],
-        &[
-            "games.pgn",
-            "at byte",
-            "--keep-going --quiet",
-            "faults 1",
-            "--any-size",
-            "16,777,216 bytes",
-        ],
-    ),
-];
-
-#[test]
-fn help_names_the_words(rt: HostRuntime) -> Result<(), Fail> {
-    for (words, named) in &HELP {
-        let mut input = Counted::reading(b"ping 1\n".as_slice());
-        let mut output = Counted::writing(Vec::<u8>::new(rt.alloc()));
-        let mut errors = Counted::writing(Vec::<u8>::new(rt.alloc()));
-        let status = run_program(&rt, rt.alloc(), words, &mut input, &mut output, &mut errors);
-        let help = std::str::from_utf8(output.writer().as_slice())?;
-        for name in *named {
-            assert!(rt; help.contains(*name));
-        }
-        assert_eq!(rt; errors.writer().as_slice(), b"".as_slice());
-        assert_eq!(rt; status, 0);
-    }
-    Ok(())
-}
-
-#[test]
-fn help_on_a_failed_output(rt: HostRuntime) {
-    let mut input = Counted::reading(b"".as_slice());
-    let mut output = Counted::writing(PieceWriter::new(rt.alloc(), 3, 2));
-    let mut errors = Counted::writing(Vec::<u8>::new(rt.alloc()));
-    let status = run_program(
-        &rt,
-        rt.alloc(),
-        &["--version"],
-        &mut input,
-        &mut output,
-        &mut errors,
-    );
-    assert_eq!(rt; output.writer().bytes.as_slice(), b"arb".as_slice());
-    assert_eq!(rt;
-        errors.writer().as_slice(),
-        b"arbiter: write failed\n".as_slice()
-    );
-    assert_eq!(rt; status, 1);
-}
-
-#[test]
-fn faults_are_told_on_a_line(rt: HostRuntime) {
-    let mut errors = Counted::writing(Vec::<u8>::new(rt.alloc()));
-    tell(&mut errors, &ProgramFault::NoMemory);
-    assert_eq!(rt;
-        errors.writer().as_slice(),
-        b"arbiter: no memory\n".as_slice()
-    );
-    assert_eq!(rt; ProgramFault::NoMemory.status(), 1);
-    assert_eq!(rt;
-        words_fault(&io::Error::from(io::ErrorKind::OutOfMemory)),
-        ProgramFault::NoMemory
-    );
-    assert_eq!(rt;
-        words_fault(&io::Error::from(io::ErrorKind::InvalidData)),
-        ProgramFault::WrongWords
-    );
-}
-
-// The tests' program has words of its own: a test's name.
-#[test]
-fn the_words_of_the_process_are_read(rt: HostRuntime) -> Result<(), Fail> {
-    assert_eq!(rt; status_of(&rt)?, 2);
-    Ok(())
 }

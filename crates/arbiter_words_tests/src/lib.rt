@@ -1,0 +1,5 @@
+//! The words of the command line as their callers read them.
+#![tactic(auto)]
+
+#[cfg(test)]
+mod tests;

@@ -1,0 +1,334 @@
+//! The program over memory: its words, its faults and its help.
+
+use byte_devices::{Counted, PieceReader, PieceWriter};
+use chess_arbiter::{ProgramFault, run, run_program};
+use std::process::ExitCode;
+use std::test::Fail;
+
+/// A run of the program over memory, where a call of the input or of the output fails (0: none does).
+struct Case {
+    words: &'static [&'static str],
+    input: &'static [u8],
+    fails: (u64, u64),
+    output: &'static [u8],
+    errors: &'static [u8],
+    status: u8,
+}
+
+const CASES: [Case; 22] = [
+    Case {
+        words: &[],
+        input: b"new\ne2e4\nping 7\nundo\nshowfen\nquit\nshowfen\n",
+        fails: (0, 0),
+        output: b"pong 7\n# fen rnbqkbnr/pppppppp/8/8/8/8/PPPPPPPP/RNBQKBNR w KQkq - 0 1\n",
+        errors: b"",
+        status: 0,
+    },
+    Case {
+        words: &[],
+        input: b"",
+        fails: (0, 0),
+        output: b"",
+        errors: b"",
+        status: 0,
+    },
+    Case {
+        words: &["session"],
+        input: b"ping 7",
+        fails: (0, 0),
+        output: b"pong 7\n",
+        errors: b"",
+        status: 0,
+    },
+    Case {
+        words: &["session", "session"],
+        input: b"ping 7\n",
+        fails: (0, 0),
+        output: b"",
+        errors: b"error: unexpected argument 'session' found\n\nUsage: arbiter session\n\nFor more information, try '--help'.\n",
+        status: 2,
+    },
+    Case {
+        words: &["help"],
+        input: b"ping 7\n",
+        fails: (0, 0),
+        output: b"",
+        errors: b"error: unrecognized subcommand 'help'\n\nUsage: arbiter [COMMAND]\n\nFor more information, try '--help'.\n",
+        status: 2,
+    },
+    Case {
+        words: &["--version"],
+        input: b"ping 7\n",
+        fails: (0, 0),
+        output: b"arbiter 0.1.0\n",
+        errors: b"",
+        status: 0,
+    },
+    Case {
+        words: &[""],
+        input: b"ping 7\n",
+        fails: (0, 0),
+        output: b"",
+        errors: b"error: unrecognized subcommand ''\n\nUsage: arbiter [COMMAND]\n\nFor more information, try '--help'.\n",
+        status: 2,
+    },
+    Case {
+        words: &[],
+        input: b"ping 1\nping 2",
+        fails: (2, 0),
+        output: b"pong 1\n",
+        errors: b"arbiter: read failed\n",
+        status: 1,
+    },
+    Case {
+        words: &[],
+        input: b"ping 1\nping 2\n",
+        fails: (0, 3),
+        output: b"pong 1\n",
+        errors: b"arbiter: write failed\n",
+        status: 1,
+    },
+    Case {
+        words: &["verify"],
+        input: b"1. e4 *",
+        fails: (2, 0),
+        output: b"",
+        errors: b"arbiter: read failed\n",
+        status: 1,
+    },
+    Case {
+        words: &["verify"],
+        input: b"1. e4 *",
+        fails: (0, 1),
+        output: b"",
+        errors: b"arbiter: write failed\n",
+        status: 1,
+    },
+    // The second line's write, and the flush at the end.
+    Case {
+        words: &["verify"],
+        input: b"* *",
+        fails: (0, 2),
+        output: b"game 1: 0 half-moves, *\n",
+        errors: b"arbiter: write failed\n",
+        status: 1,
+    },
+    Case {
+        words: &["verify"],
+        input: b"1. e4 *",
+        fails: (0, 2),
+        output: b"game 1: 1 half-moves, *\n",
+        errors: b"arbiter: write failed\n",
+        status: 1,
+    },
+    Case {
+        words: &["verify", "x"],
+        input: b"*",
+        fails: (0, 0),
+        output: b"",
+        errors: b"error: unexpected argument 'x' found\n\nUsage: arbiter verify [OPTIONS]\n\nFor more information, try '--help'.\n",
+        status: 2,
+    },
+    // The line of the counts, and the flush behind it.
+    Case {
+        words: &["verify", "--keep-going", "--quiet"],
+        input: b"1. e4 *",
+        fails: (0, 1),
+        output: b"",
+        errors: b"arbiter: write failed\n",
+        status: 1,
+    },
+    Case {
+        words: &["verify", "--keep-going", "--quiet"],
+        input: b"1. e4 *",
+        fails: (0, 2),
+        output: b"games 1 half-moves 1 faults 0\n",
+        errors: b"arbiter: write failed\n",
+        status: 1,
+    },
+    Case {
+        words: &["verify", "--keep-going"],
+        input: b"1. e4 *",
+        fails: (2, 0),
+        output: b"",
+        errors: b"arbiter: read failed\n",
+        status: 1,
+    },
+    Case {
+        words: &["verify", "--any-size"],
+        input: b"1. e4 *",
+        fails: (2, 0),
+        output: b"",
+        errors: b"arbiter: read failed\n",
+        status: 1,
+    },
+    Case {
+        words: &["verify", "--any-size"],
+        input: b"* *",
+        fails: (0, 2),
+        output: b"game 1: 0 half-moves, *\n",
+        errors: b"arbiter: write failed\n",
+        status: 1,
+    },
+    // The line of a fault, and the flush behind the counts.
+    Case {
+        words: &["verify", "--any-size", "--quiet"],
+        input: b"1. e5 *",
+        fails: (0, 1),
+        output: b"",
+        errors: b"arbiter: write failed\n",
+        status: 1,
+    },
+    Case {
+        words: &["verify", "--any-size", "--keep-going"],
+        input: b"1. e4 *",
+        fails: (0, 3),
+        output: b"game 1: 1 half-moves, *\ngames 1 half-moves 1 faults 0\n",
+        errors: b"arbiter: write failed\n",
+        status: 1,
+    },
+    // The flush of the first answer.
+    Case {
+        words: &["session"],
+        input: b"ping 1\nping 2\n",
+        fails: (0, 2),
+        output: b"pong 1\n",
+        errors: b"arbiter: write failed\n",
+        status: 1,
+    },
+];
+
+#[test]
+fn runs_of_the_program(rt: HostRuntime) {
+    for case in &CASES {
+        let mut input = Counted::reading(PieceReader::new(case.input, 100, case.fails.0));
+        let mut output = Counted::writing(PieceWriter::new(rt.alloc(), 100, case.fails.1));
+        let mut errors = Counted::writing(PieceWriter::new(rt.alloc(), 100, 0));
+        let status = run_program(
+            &rt,
+            rt.alloc(),
+            case.words,
+            &mut input,
+            &mut output,
+            &mut errors,
+        );
+        assert_eq!(rt; output.writer().bytes.as_slice(), case.output);
+        assert_eq!(rt; errors.writer().bytes.as_slice(), case.errors);
+        assert_eq!(rt; status, case.status);
+    }
+}
+
+#[test]
+fn a_failed_error_output_changes_no_status(rt: HostRuntime) {
+    let mut input = Counted::reading(b"".as_slice());
+    let mut output = Counted::writing(Vec::<u8>::new(rt.alloc()));
+    let mut errors = Counted::writing(PieceWriter::new(rt.alloc(), 3, 2));
+    let status = run_program(
+        &rt,
+        rt.alloc(),
+        &["x"],
+        &mut input,
+        &mut output,
+        &mut errors,
+    );
+    assert_eq!(rt; errors.writer().bytes.as_slice(), b"err".as_slice());
+    assert_eq!(rt; status, 2);
+}
+
+// Words that ask for help, and what their help must name.
+const HELP: [(&[&str], &[&str]); 3] = [
+    (&["--help"], &["session", "verify", "--help", "--version"]),
+    (
+        &["session", "-h"],
+        &[
+            "new",
+            "setboard",
+            "undo",
+            "remove",
+            "claim",
+            "result",
+            "showfen",
+            "showmoves",
+            "showstate",
+            "showpgn",
+            "ping",
+            "protover",
+            "variant",
+            "quit",
+        ],
+    ),
+    (
+        &["verify", "--help"],
+        &[
+            "games.pgn",
+            "at byte",
+            "--keep-going --quiet",
+            "faults 1",
+            "--any-size",
+            "16,777,216 bytes",
+        ],
+    ),
+];
+
+#[test]
+fn help_names_the_words(rt: HostRuntime) -> Result<(), Fail> {
+    for (words, named) in &HELP {
+        let mut input = Counted::reading(b"ping 1\n".as_slice());
+        let mut output = Counted::writing(Vec::<u8>::new(rt.alloc()));
+        let mut errors = Counted::writing(Vec::<u8>::new(rt.alloc()));
+        let status = run_program(&rt, rt.alloc(), words, &mut input, &mut output, &mut errors);
+        let help = std::str::from_utf8(output.writer().as_slice())?;
+        for name in *named {
+            assert!(rt; help.contains(*name));
+        }
+        assert_eq!(rt; errors.writer().as_slice(), b"".as_slice());
+        assert_eq!(rt; status, 0);
+    }
+    Ok(())
+}
+
+#[test]
+fn help_on_a_failed_output(rt: HostRuntime) {
+    let mut input = Counted::reading(b"".as_slice());
+    let mut output = Counted::writing(PieceWriter::new(rt.alloc(), 3, 2));
+    let mut errors = Counted::writing(Vec::<u8>::new(rt.alloc()));
+    let status = run_program(
+        &rt,
+        rt.alloc(),
+        &["--version"],
+        &mut input,
+        &mut output,
+        &mut errors,
+    );
+    assert_eq!(rt; output.writer().bytes.as_slice(), b"arb".as_slice());
+    assert_eq!(rt;
+        errors.writer().as_slice(),
+        b"arbiter: write failed\n".as_slice()
+    );
+    assert_eq!(rt; status, 1);
+}
+
+// Each fault, how it is told and the status.
+const FAULTS: [(ProgramFault, &str, u8); 5] = [
+    (ProgramFault::ReadFailed, "read failed", 1),
+    (ProgramFault::WriteFailed, "write failed", 1),
+    (ProgramFault::NoMemory, "no memory", 1),
+    (ProgramFault::InputTooLong, "input too long", 1),
+    (ProgramFault::WrongWords, "wrong words", 2),
+];
+
+#[test]
+fn faults_have_texts(rt: HostRuntime) -> Result<(), Fail> {
+    for (fault, text, status) in &FAULTS {
+        let told = format!(in rt.alloc(); "{fault}")?;
+        assert_eq!(rt; told.as_str(), *text);
+        assert_eq!(rt; fault.status(), *status);
+    }
+    Ok(())
+}
+
+// The tests' program has words of its own: a test's name.
+#[test]
+fn the_words_of_the_process_are_read(rt: HostRuntime) {
+    assert!(rt; run(&rt) == ExitCode::from(2));
+}
