@@ -1,3 +1,4 @@
+mod FoundTexts
 mod Literals
 mod Names
 mod Readings

@@ -1,10 +1,10 @@
 -- What was parsed, spelled and planned is a reading of the words.
-use Rattle.std.proofs.Common.{◌≡◌, ◌∙◌, ap, sym, subst, refl, map, option_map, unwrap_or, [], codes, IfOk, IfErr, IfSome, List, Option, Some, None, Result, Ok, Err, Bor}
-use Rattle.clap.specs.Words.{Row, Text, fault_of, found_of, kind_of, rows_of, subcommand_of, subcommand_rows_of}
+use Rattle.std.proofs.Common.{◌≡◌, ◌∙◌, ap, sym, subst, option_map, unwrap_or, [], codes, IfOk, IfErr, IfSome, List, Option, Some, None, Result, Ok, Err, Bor}
+use Rattle.clap.specs.Words.{Row, Text, found_of, kind_of, rows_of, subcommand_of, subcommand_rows_of}
 use Rattle.clap.specs.declared.error.Error.{Error}
 use Rattle.clap.specs.declared.parser.matches.ArgMatches.{ArgMatches}
-use Rattle.arbiter_words.specs.Grammar.{AreVariants, Lent, arbiter_app, asked, takes_words}
-use Rattle.arbiter_words.specs.Plans.{FitsKind, IsFaultOf, IsMatchFault, IsMatchOf, IsNoWordsFault, IsParsed, IsPlanFault, IsPlanned, IsReadBy, IsReading, IsSpelledOf}
+use Rattle.arbiter_words.specs.Grammar.{AreVariants, Lent, arbiter_app, asked}
+use Rattle.arbiter_words.specs.Plans.{FitsKind, IsFaultOf, IsMatchFault, IsMatchOf, IsNoWordsFault, IsParsed, IsPlanFault, IsPlanned, IsReading, IsSpelledOf}
 use Rattle.arbiter_words.specs.declared.fault.WordsFault.{WordsFault}
 use Rattle.arbiter_words.specs.declared.fault.WordsFault.TheVariants.{Words, NoMemory, BadLevel, BadFen, BadDate}
 use Rattle.arbiter_words.specs.declared.plan.Plan.{Plan}

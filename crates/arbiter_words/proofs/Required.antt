@@ -1,5 +1,5 @@
 -- A parse that passes leaves a value in each row, so a required option has its value.
-use Rattle.std.proofs.Common.{◌≡◌, ◌<◌, ◌++◌, ◌&&◌, ◌||◌, not, ℕ, zero, suc, Bool, true, false, List, [], ◌∷◌, length, Option, Some, None, is_some, refl, sym, ap, arith, true≢false, nat_lt, IfSome, codes, lit<, option_map, inl, inr}
+use Rattle.std.proofs.Common.{◌≡◌, ◌<◌, ◌++◌, ◌&&◌, ◌||◌, ℕ, zero, suc, Bool, true, false, List, [], ◌∷◌, length, Option, Some, None, is_some, refl, sym, ap, arith, true≢false, nat_lt, IfSome, codes, lit<, option_map, inl, inr}
 use Rattle.std.specs.Prelude.{find, fold, slice_get, option_and_then, if◌then◌else◌, cond, ◌==◌, drop, encode_utf8}
 use Rattle.std.specs.List.{list_all}
 use Rattle.std.specs.Option.{option_map_or}
@@ -28,6 +28,7 @@ use Rattle.clap.specs.Takes.{value_passes}
 use Rattle.clap.specs.Faults.{values_fault}
 use Rattle.std.proofs.lemmas.Slice.Eq.{bytes_eq-Decides}
 use Rattle.std.proofs.Common.{◌∙◌, ◌⊎◌, unwrap_or}
+use Rattle.std.proofs.lemmas.Bool.{and_from, or_parts, not-false}
 
 -- a number of games in its range
 abbrev pub is_games : Text → Bool
@@ -72,14 +73,6 @@ first_not : (b : Bool) (x : ErrorKind) (rest : Kinds) → b ≡ true → (if b t
 first_not true x rest e none = some_kind x [] none
 first_not false x rest e none = true≢false (sym e)
 
-either : (a b : Bool) → (a || b) ≡ true → (a ≡ false) → b ≡ true
-either true b e f = absurd (true≢false f)
-either false b e f = e
-
-and : (a b : Bool) → a ≡ true → b ≡ true → (a && b) ≡ true
-and true b e f = f
-and false b e f = e
-
 some_is : (x y : Text) → Some x ≡ Some y → x ≡ y
 some_is x y e = ap (λ (o : Option Text). unwrap_or o x) e
 
@@ -96,7 +89,7 @@ choice false xs ys h k = k
 all-append : (p : Text → Bool) (xs ys : List Text) → list_all p xs ≡ true → list_all p ys ≡ true
     → list_all p (xs ++ ys) ≡ true
 all-append p [] ys h k = k
-all-append p (x ∷ xs) ys h k = and (p x) _ (both (p x) _ h).0 (all-append p xs ys (both (p x) _ h).1 k)
+all-append p (x ∷ xs) ys h k = and_from (p x) _ (both (p x) _ h).0 (all-append p xs ys (both (p x) _ h).1 k)
 
 same_id : (a b g : Text) → bytes_eq a b ≡ true → bytes_eq a g ≡ true → bytes_eq b g ≡ true
 same_id a b g e f = (bytes_eq-Decides b g).1 (sym ((bytes_eq-Decides a b).0 e) ∙ (bytes_eq-Decides a g).0 f)
@@ -176,12 +169,13 @@ accepted false k e = absurd (some_kind k [] e)
 
 all_pass : (a : Rule) (vs : List Text) → values_fault a vs ≡ [] → list_all (value_passes a) vs ≡ true
 all_pass a [] e = refl
-all_pass a (v ∷ vs) e = and (value_passes a v) _ (accepted (value_passes a v) _ (no_kinds _ _ e).0)
+all_pass a (v ∷ vs) e = and_from (value_passes a v) _ (accepted (value_passes a v) _ (no_kinds _ _ e).0)
     (all_pass a vs (no_kinds _ _ e).1)
 
 all_same : (p q : Text → Bool) (vs : List Text) → ((t : Text) → p t ≡ q t) → list_all p vs ≡ true → list_all q vs ≡ true
 all_same p q [] same e = refl
-all_same p q (v ∷ vs) same e = and (q v) _ (sym (same v) ∙ (both (p v) _ e).0) (all_same p q vs same (both (p v) _ e).1)
+all_same p q (v ∷ vs) same e =
+    and_from (q v) _ (sym (same v) ∙ (both (p v) _ e).0) (all_same p q vs same (both (p v) _ e).1)
 
 -- the values of a use that passes are checked
 checked : (x : ArgAction) (again : Bool) (a : Rule) (v : Text) (vs : List Text) (rows : List Row)
@@ -520,14 +514,6 @@ third : (b : Bool) → check_kinds false false b ≡ [] → b ≡ false
 third false e = refl
 third true e = absurd (some_kind kind.MissingRequiredArgument [] e)
 
-neither : (a b : Bool) → (a || b) ≡ false → (a ≡ false) × (b ≡ false)
-neither true b e = absurd (true≢false e)
-neither false b e = (refl, e)
-
-is_so : (a : Bool) → not a ≡ false → a ≡ true
-is_so true e = refl
-is_so false e = absurd (true≢false e)
-
 subs_need : (names : Lent) → AllNeed (built (arbiter_app names)).subs
 subs_need names =
     let not_session : codes "session" ≡ codes "match" → ⊥ = λ e. shorter (codes "match") (codes "session") (lit< tt)
@@ -671,9 +657,9 @@ subs_need names =
                 ),
               ),
               λ rows none e.
-                  let white = neither _ _ (third _ none) in
-                  let black = neither _ _ white.1 in
-                  (is_so _ white.0, is_so _ black.0),
+                  let white = or_parts _ _ (third _ none) in
+                  let black = or_parts _ _ white.1 in
+                  (not-false _ white.0, not-false _ black.0),
               inr (inr (inr refl)),
             ),
             tt,

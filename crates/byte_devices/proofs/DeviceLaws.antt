@@ -122,7 +122,7 @@ sends_exit a b (Err e) x h k = h
 flat_one : {X : Type 0} (f : X → List ℕ) (x : X) → flat_map f (x ∷ []) ≡ f x
 flat_one f x = append-nil (f x)
 
-flat_more : {X : Type 0} (f : X → List ℕ) (xs : List X) (i : ℕ) (d : X) → i < length xs
+pub flat_more : {X : Type 0} (f : X → List ℕ) (xs : List X) (i : ℕ) (d : X) → i < length xs
     → flat_map f (take (i + 1) xs) ≡ flat_map f (take i xs) ++ f (get_or xs i d)
 flat_more f xs i d h =
     ap (flat_map f) (rw add-one (take-suc xs i d h)) ∙ flat_map-append f (take i xs) (get_or xs i d ∷ [])

@@ -1,12 +1,12 @@
 -- Bytes that were written, counted.
-use Rattle.std.proofs.Common.{◌≡◌, ℕ, ◌+◌, ◌-◌, ◌^◌, ◌<◌, ◌≤◌, ◌==◌, ◌&&◌, nat_lt, nat_eq, Bool, true, false, if◌then◌else◌, min, List, [], ◌∷◌, ◌++◌, length, take, Option, None, Some, Result, Ok, Err, refl, sym, ap, subst, ◌∙◌, arith, append-nil}
+use Rattle.std.proofs.Common.{◌≡◌, ℕ, ◌+◌, ◌-◌, ◌^◌, ◌<◌, ◌≤◌, ◌==◌, ◌&&◌, nat_lt, nat_eq, Bool, true, false, if◌then◌else◌, min, List, [], ◌∷◌, length, take, Option, None, Some, Result, Ok, Err, refl, sym, ap, subst, ◌∙◌, arith, append-nil}
 use Rattle.std.proofs.lemmas.Bool.{and_parts}
 use Rattle.std.proofs.lemmas.Bool.Decides.{nat_tests}
 use Rattle.std.proofs.lemmas.List.{length-take-le}
 use Rattle.std.specs.Io.{WritesAtMost}
 use Rattle.std.specs.Io.KnownBytes.{Keeps, Appends, WriteAppends}
 use Rattle.byte_devices.specs.declared.counted.Counts.{Counts}
-use Rattle.byte_devices.specs.Devices.{OutputState, TookThenFailed, WriteStep, risen, raised}
+use Rattle.byte_devices.specs.Devices.{OutputState, WriteStep, risen, raised}
 use Rattle.byte_devices.specs.ties.Counting.{raised_by, one_failure_more, write_passed_on, counts_after_write}
 
 raised_past : (c : ℕ) (bs : List ℕ) → raised (risen c) bs ≡ min (c + 1 + length bs) (2 ^ 64 - 1)

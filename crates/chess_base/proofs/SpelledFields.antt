@@ -33,7 +33,7 @@ read_on_top (text ∷ texts) above whole e = by_rank (λ row h. read_on_top text
         let r = later row e in
         record { rows = row ∷ r.rows; each = (spelled-rank text row is, r.each); parts = r.parts ∙ sym (append_assoc (from_top r.rows) row above); count = ap suc r.count }
 
-chosen : {A : Type 0} (b : Bool) (o : Option A) (x : A) → cond b o None ≡ Some x → (b ≡ true) × (o ≡ Some x)
+pub chosen : {A : Type 0} (b : Bool) (o : Option A) (x : A) → cond b o None ≡ Some x → (b ≡ true) × (o ≡ Some x)
 chosen true o x e = (refl, e)
 chosen false o x e = absurd cc
 

@@ -82,9 +82,6 @@ first_field text h = by_cut (cut (λ b. eqb b 32) text)
     keeps : ltb 0 (length (before_first (λ b. eqb b 32) text)) ≡ true
     keeps = grind (arith, nat_tests)
 
-    is_field : List ℕ → Bool
-    is_field field = ltb 0 (length field)
-
     by_cut : IsWhole (λ b. eqb b 32) text ⊎ IsCut (λ b. eqb b 32) text → fields_of text ≡ before_first (λ b. eqb b 32) text ∷ fields_of (drop (position_or_len (λ b. eqb b 32) text) text)
     by_cut (inl w) =
         let long : ltb 0 (length text) ≡ true = ap (λ ys. ltb 0 (length ys)) (sym w.front) ∙ keeps in

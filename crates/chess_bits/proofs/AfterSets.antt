@@ -1,5 +1,6 @@
 -- The sets of squares after a move.
-use Rattle.std.proofs.Common.{◌≡◌, ℕ, ◌<◌, inl, inr, Bool, true, false, not, ◌&&◌, ◌||◌, ◌==◌, cond, refl, sym, Option, Some, None, is_none}
+use mathlib.Core.Bool.{and-true}
+use Rattle.std.proofs.Common.{◌≡◌, ℕ, ◌<◌, inl, inr, Bool, true, false, not, ◌&&◌, ◌||◌, ◌==◌, cond, refl, Option, Some, None, is_none}
 use Rattle.std.proofs.lemmas.Bool.{and_right, cases_Bool, eqb-true, eq-eqb}
 use Rattle.chess_base.specs.declared.man.Colour.{Colour}
 use Rattle.chess_base.specs.declared.man.Colour.TheVariants.{White, Black}
@@ -27,17 +28,13 @@ is_changed p m k = (lands_on p m == k) || is_square (castling_rook_to p m) k
 abbrev pub is_filled : Setup → Move → ℕ → Bool
 is_filled p m k = (lands_on p m == k) || is_square (castling_rook_to p m) k
 
-and_true : (b : Bool) → b ≡ (b && true)
-and_true true = refl
-and_true false = refl
-
 filled_by : (t r l : Bool) (a k : Option Man) (c : Colour) → is_none a ≡ false
     → ((t || r) || (not (is_none k) && not (t || r || l)))
     ≡ not (is_none (cond t a (cond r (Some (record { colour = c; kind = Rook })) (cond l None k))))
 filled_by true r l a k c h = rw h refl
 filled_by false true l a k c h = refl
 filled_by false false true a k c h = and_right (not (is_none k)) false refl
-filled_by false false false a k c h = sym (and_true (not (is_none k)))
+filled_by false false false a k c h = and-true (not (is_none k))
 
 -- the occupied squares after a move
 pub occupied_after : (p : Setup) (m : Move) (k : ℕ) → is_none (man_that_lands (man_at p.men m.from) m.promotion) ≡ false
@@ -59,7 +56,7 @@ unfolding is_man
 kept_by true r l a k c d x h e = rw h (and_right (is_man d x k) false refl)
 kept_by false true l a k c d x h e = rw e (and_right (is_man d x k) false refl)
 kept_by false false true a k c d x h e = and_right (is_man d x k) false refl
-kept_by false false false a k c d x h e = sym (and_true (is_man d x k))
+kept_by false false false a k c d x h e = and-true (is_man d x k)
 
 other_not_own : (c : Colour) (k : Kind) (kind : Kind) → is_man (other c) kind (Some (record { colour = c; kind = k }))
     ≡ false

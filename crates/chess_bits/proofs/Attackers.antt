@@ -12,6 +12,7 @@ use Rattle.chess_base.specs.Men.{Men, man_at, other, same_colour, same_kind, is_
 use Rattle.chess_base.specs.Attacks.{is_clear, could_capture, could_capture_as, attacks, is_attacked}
 use Rattle.chess_bits.specs.declared.line.Line.TheVariants.{Rank, File, Diagonal, Antidiagonal}
 use Rattle.chess_bits.specs.declared.table.Shape.TheVariants as shape
+use mathlib.Core.Bool.{not-not}
 use Rattle.chess_moves.specs.Sets.{has}
 use Rattle.chess_moves.proofs.Words.{has_zero}
 use Rattle.chess_bits.specs.ties.Rays.{is_on_ray, is_open}
@@ -33,7 +34,7 @@ pub on_diagonals : (a b : ℕ) (o : Bool)
 on_diagonals a b true = grind (arith, nat_tests)
 on_diagonals a b false = grind (arith, nat_tests)
 
-each_below_same : (n : ℕ) (p q : ℕ → Bool) → ((k : ℕ) → k < n → p k ≡ q k) → each_below n p ≡ each_below n q
+pub each_below_same : (n : ℕ) (p q : ℕ → Bool) → ((k : ℕ) → k < n → p k ≡ q k) → each_below n p ≡ each_below n q
 each_below_same zero p q h = refl
 each_below_same (suc n) p q h = rw (each_below_same n p q (λ k l. h k (omega arith)), h n (omega arith)) refl
 
@@ -179,17 +180,13 @@ pub some_square_same : (p q : ℕ → Bool) → ((k : ℕ) → k < 64 → p k �
 unfolding some_square
 some_square_same p q h = some_below_same 64 p q h
 
-not_not : (b : Bool) → not (not b) ≡ b
-not_not true = refl
-not_not false = refl
-
 -- a square is attacked where its set of attackers is not empty
 pub attacked_is : (w : ℕ) (men : Men) (b : ℕ) (c : Colour)
     → ((k : ℕ) → k < 64 → has w k ≡ (is_of c (man_at men k) && attacks men k b))
     → not (not (some_square (λ k. has w k))) ≡ is_attacked men b c
 unfolding is_attacked
 attacked_is w men b c h =
-    not_not (some_square (λ k. has w k))
+    not-not (some_square (λ k. has w k))
     ∙ some_square_same (λ k. has w k) (λ k. is_of c (man_at men k) && attacks men k b) h
 
 -- where a set is empty, no man is met

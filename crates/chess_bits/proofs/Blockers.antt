@@ -30,7 +30,7 @@ before_first : (up : Bool) (x b f : ℕ) → is_past up x b ≡ true → is_past
 before_first true x b f e n = grind (arith, nat_tests)
 before_first false x b f e n = grind (arith, nat_tests)
 
-not_both : (p q : Bool) → (p ≡ true → q ≡ false) → not (p && q) ≡ true
+pub not_both : (p q : Bool) → (p ≡ true → q ≡ false) → not (p && q) ≡ true
 not_both true q h = rw (h refl) refl
 not_both false q h = refl
 

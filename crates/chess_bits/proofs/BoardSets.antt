@@ -1,5 +1,6 @@
 -- What stands on one square changes: the sets of both colours.
-use Rattle.std.proofs.Common.{◌≡◌, ℕ, ◌<◌, inl, inr, Bool, true, false, not, ◌&&◌, ◌||◌, ◌==◌, refl, sym, ◌∙◌, ap, arith, Option, Some, None, List, [], ◌∷◌, zero, suc, length, get_or, set, get_or-set_same, get_or-set_other}
+use mathlib.Core.Bool.{and-true, and-false, or-true, or-false}
+use Rattle.std.proofs.Common.{◌≡◌, ℕ, ◌<◌, inl, inr, true, false, not, ◌&&◌, ◌||◌, ◌==◌, refl, sym, ◌∙◌, ap, arith, Option, Some, None, List, [], ◌∷◌, zero, suc, length, get_or, set, get_or-set_same, get_or-set_other}
 use Rattle.std.proofs.lemmas.Bool.{cases_eq, eq-eqb, ne_eqb}
 use Rattle.chess_base.specs.declared.man.Colour.{Colour}
 use Rattle.chess_base.specs.declared.man.Colour.TheVariants.{White, Black}
@@ -8,6 +9,7 @@ use Rattle.chess_base.specs.declared.man.Man.{Man}
 use Rattle.chess_base.specs.Men.{Men, man_at, is_of, is_man, other, kind_number}
 use Rattle.chess_moves.specs.Sets.{has}
 use Rattle.std.proofs.lemmas.List.{set-get_or}
+use Rattle.chess_base.proofs.MenFacts.{is_man-none}
 use Rattle.chess_bits.specs.ties.KindSets.{IsKinds}
 
 -- the sets of a colour none of whose men came or went
@@ -35,29 +37,13 @@ all_kept w men c s o all ls same h = λ k l.
       | inr away ↦ rw (get_or-set_other men s k o None away) (h k l)
     ]
 
-or_false : (b : Bool) → (b || false) ≡ b
-or_false true = refl
-or_false false = refl
-
-or_true : (b : Bool) → (b || true) ≡ true
-or_true true = refl
-or_true false = refl
-
-and_false : (b : Bool) → (b && false) ≡ false
-and_false true = refl
-and_false false = refl
-
-and_true : (b : Bool) → (b && true) ≡ b
-and_true true = refl
-and_true false = refl
-
 pub all_put : (w v : ℕ) (men : Men) (c : Colour) (s : ℕ) (o : Option Man) → length men ≡ 64 → s < 64 → is_of c o ≡ true
     → ((j : ℕ) → has v j ≡ (has w j || (j == s))) → IsAll w c men → IsAll v c (set men s o)
 all_put w v men c s o all ls own made h = λ k l.
     let in_men : s < length men = omega arith in
     elim (cases_eq k s) [
-      | inl here ↦ rw (here, get_or-set_same, own, made s, eq-eqb s s refl) (or_true (has w s))
-      | inr away ↦ rw (get_or-set_other men s k o None away, made k, ne_eqb k s away, or_false (has w k)) (h k l)
+      | inl here ↦ rw (here, get_or-set_same, own, made s, eq-eqb s s refl) (or-true (has w s))
+      | inr away ↦ rw (get_or-set_other men s k o None away, made k, ne_eqb k s away, or-false (has w k)) (h k l)
     ]
 
 pub all_lift : (w v : ℕ) (men : Men) (c : Colour) (s : ℕ) → length men ≡ 64 → s < 64
@@ -66,8 +52,8 @@ unfolding is_of
 all_lift w v men c s all ls made h = λ k l.
     let in_men : s < length men = omega arith in
     elim (cases_eq k s) [
-      | inl here ↦ rw (here, get_or-set_same, made s ls, eq-eqb s s refl) (and_false (has w s))
-      | inr away ↦ rw (get_or-set_other men s k None None away, made k l, ne_eqb k s away, and_true (has w k)) (h k l)
+      | inl here ↦ rw (here, get_or-set_same, made s ls, eq-eqb s s refl) (and-false (has w s))
+      | inr away ↦ rw (get_or-set_other men s k None None away, made k l, ne_eqb k s away, and-true (has w k)) (h k l)
     ]
 
 -- ---- colours
@@ -87,10 +73,6 @@ unfolding is_of
 own_of White m e = rw e refl
 own_of Black m e = rw e refl
 
-no_man : (c : Colour) (y : Kind) → is_man c y None ≡ false
-unfolding is_man
-no_man c y = refl
-
 none_of : (c : Colour) → is_of c None ≡ false
 unfolding is_of
 none_of c = refl
@@ -102,12 +84,12 @@ as_own d m e = ap (λ (c : Colour). let man : Man = record { colour = c; kind = 
 pub theirs_lifted : (sets : List ℕ) (men : Men) (d : Colour) (s : ℕ) (m : Man) → length men ≡ 64 → s < 64 → m.colour ≡ d
     → man_at men s ≡ Some m → IsKinds sets (other d) men → IsKinds sets (other d) (set men s None)
 theirs_lifted sets men d s m all ls e at h = kinds_kept sets men (other d) s None all ls
-    (λ y. ap (is_man (other d) y) at ∙ theirs_man d m y e ∙ sym (no_man (other d) y)) h
+    (λ y. ap (is_man (other d) y) at ∙ theirs_man d m y e ∙ sym (is_man-none (other d) y None refl)) h
 
 pub theirs_put : (sets : List ℕ) (men : Men) (d : Colour) (s : ℕ) (m : Man) → length men ≡ 64 → s < 64 → m.colour ≡ d
     → man_at men s ≡ None → IsKinds sets (other d) men → IsKinds sets (other d) (set men s (Some m))
 theirs_put sets men d s m all ls e at h = kinds_kept sets men (other d) s (Some m) all ls
-    (λ y. ap (is_man (other d) y) at ∙ no_man (other d) y ∙ sym (theirs_man d m y e)) h
+    (λ y. ap (is_man (other d) y) at ∙ is_man-none (other d) y None refl ∙ sym (theirs_man d m y e)) h
 
 pub all_theirs_lifted : (w : ℕ) (men : Men) (d : Colour) (s : ℕ) (m : Man) → length men ≡ 64 → s < 64 → m.colour ≡ d
     → man_at men s ≡ Some m → IsAll w (other d) men → IsAll w (other d) (set men s None)

@@ -1,4 +1,5 @@
 -- Castling, told by sets: its squares are on one rank, and its ways are sets.
+use mathlib.Core.Bool.{and-true}
 use Rattle.std.proofs.Common.{◌≡◌, ℕ, zero, suc, ◌<◌, ◌≤◌, Bool, true, false, not, ◌&&◌, ◌||◌, ◌==◌, nat_lt, Option, Some, None, is_none, refl, sym, ap, subst, ◌∙◌, arith}
 use Rattle.std.proofs.lemmas.Bool.Decides.{nat_tests}
 use Rattle.std.proofs.lemmas.Bool.{and_parts, eqb-true, eq-eqb}
@@ -30,6 +31,7 @@ use Rattle.chess_bits.specs.ties.Rays.{is_on_ray}
 use Rattle.chess_bits.proofs.Geometry.{between_on_line}
 use Rattle.chess_bits.proofs.Patterns.{pattern_by, officer_goes, not_promoting}
 use Rattle.chess_bits.proofs.TargetsOf.{man_told}
+use Rattle.chess_bits.proofs.Attackers.{each_below_same}
 
 -- ---- the squares of a castling are on one rank
 
@@ -129,10 +131,6 @@ pub each_not : (p q : ℕ → Bool) → ((k : ℕ) → k < 64 → p k ≡ not (q
 unfolding each_square some_square
 each_not p q h = each_not_below 64 p q h
 
-each_same_below : (n : ℕ) (p q : ℕ → Bool) → ((k : ℕ) → k < n → p k ≡ q k) → each_below n p ≡ each_below n q
-each_same_below zero p q h = refl
-each_same_below (suc n) p q h = rw (each_same_below n p q (λ k l. h k (omega arith)), h n (omega arith)) refl
-
 crossed : (x y z u v : Bool) → (not ((x || y) && not z && not u) || v) ≡ not ((((x || y) && not z) && not u) && not v)
 crossed x y z u true = by (((x || y) && not z) && not u)
   where
@@ -157,7 +155,7 @@ way_is_empty men k met h =
 pub way_is_safe : (men : Men) (c : Colour) (k : Castle) (way : ℕ → Bool) → ((x : ℕ) → x < 64 → way x ≡ is_on_way k.king_from k.king_to x)
     → each_square (λ x. not (way x) || not (is_attacked men x (other c))) ≡ castling_way_is_safe men c k
 unfolding each_square castling_way_is_safe
-way_is_safe men c k way h = each_same_below 64 _ _ (λ x low. ap (λ t. not t || not (is_attacked men x (other c))) (h x low))
+way_is_safe men c k way h = each_below_same 64 _ _ (λ x low. ap (λ t. not t || not (is_attacked men x (other c))) (h x low))
 
 -- ---- the pattern of castling
 
@@ -168,10 +166,6 @@ king_goes p m k e (Some w) says = (castling_says p m w (says_from_castling p m w
 fits_none : (t : Bool) → t ≡ false → promotion_fits t None ≡ true
 fits_none t e = rw e refl
 
-and_true : (b : Bool) → (b && true) ≡ b
-and_true true = refl
-and_true false = refl
-
 castle_pattern_by : (p : Setup) (a b : ℕ) (k : Castle) → IsSound p → b < 64 → castle_of p (triple a b None) ≡ Some k
     → has_pattern p (triple a b None) ≡ (castling_way_is_empty p.men k && castling_way_is_safe p.men p.side k)
 unfolding castles
@@ -181,7 +175,7 @@ castle_pattern_by p a b k sound high e =
     let low = in_board p.men p.side King a sound.board king in
     pattern_by p a b None
     ∙ ap (λ f. goes p a b && f) (fits_none (would_promote p a b) (not_promoting p a b _ at refl))
-    ∙ and_true (goes p a b)
+    ∙ and-true (goes p a b)
     ∙ officer_goes p a b _ at refl refl low high
     ∙ ap (castles_or_moves p (triple a b None)) e
 

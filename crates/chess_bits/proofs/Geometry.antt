@@ -1,5 +1,5 @@
 -- Lines and what lies between two squares of one.
-use Rattle.std.proofs.Common.{◌≡◌, ℕ, ◌<◌, ◌≤◌, ◌*◌, ◌+◌, nat_lt, ◌-◌, inl, inr, Bool, true, false, ◌&&◌, ◌||◌, ◌==◌, refl, arith}
+use Rattle.std.proofs.Common.{◌≡◌, ℕ, ◌<◌, ◌*◌, ◌+◌, nat_lt, ◌-◌, inl, inr, Bool, true, false, ◌&&◌, ◌||◌, ◌==◌, refl, arith}
 use Rattle.std.proofs.lemmas.Bool.Decides.{nat_tests}
 use Rattle.std.proofs.lemmas.Bool.{cases_order}
 use Rattle.chess_base.specs.Squares.{file, rank, gap, lies_inside, share_rank_or_file, share_diagonal, is_between, is_between_on_file, is_between_on_rank, is_between_on_diagonal}
@@ -52,9 +52,6 @@ inside_down m n x h = grind (arith, nat_tests)
 
 inside_none : (m n x : ℕ) → m ≡ n → lies_inside m n x ≡ false
 inside_none m n x h = grind (arith, nat_tests)
-
-gap_up : (m n : ℕ) → m ≤ n → gap m n ≡ n - m
-gap_up m n h = omega arith
 
 -- over files and ranks: up and down a diagonal, and an antidiagonal
 up_diagonal : (f r g q h t : ℕ) → f < 8 → g < 8 → h < 8 → r + g ≡ q + f → f < g

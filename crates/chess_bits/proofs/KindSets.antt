@@ -1,12 +1,13 @@
 -- A man put on an empty square, or taken from its square.
-use Rattle.std.proofs.Common.{◌≡◌, ℕ, ◌<◌, inl, inr, Bool, true, false, not, ◌&&◌, ◌||◌, ◌==◌, refl, ◌∙◌, arith, Some, None, List, [], ◌∷◌, length, get_or, set, get_or-set_same, get_or-set_other}
+use mathlib.Core.Bool.{and-true, and-false, or-true, or-false}
+use Rattle.std.proofs.Common.{◌≡◌, ℕ, ◌<◌, inl, inr, not, ◌&&◌, ◌||◌, ◌==◌, refl, ◌∙◌, arith, Some, None, List, [], ◌∷◌, length, get_or, set, get_or-set_same, get_or-set_other}
 use Rattle.std.proofs.lemmas.Bool.{eq-eqb, ne_eqb, cases_eq}
 use Rattle.std.proofs.lemmas.List.{get_or_default}
 use Rattle.chess_base.specs.declared.man.Colour.{Colour}
 use Rattle.chess_base.specs.declared.man.Kind.{Kind}
 use Rattle.chess_base.specs.declared.man.Kind.TheVariants.{King, Queen, Rook, Bishop, Knight, Pawn}
 use Rattle.chess_base.specs.Men.{Men, man_at, is_man, kind_number}
-use Rattle.chess_base.proofs.MenFacts.{same_colour-self}
+use Rattle.chess_base.proofs.MenFacts.{same_colour-self, is_man-none}
 use Rattle.chess_moves.specs.Sets.{has}
 use Rattle.std.specs.Prelude.{slice_index}
 use Rattle.chess_bits.specs.ties.Occupancy.{IsLater}
@@ -25,26 +26,6 @@ own_man : (c : Colour) (x y : Kind) → is_man c y (Some (record { colour = c; k
 unfolding is_man
 own_man c x y = rw (same_colour-self c) refl
 
-or_false : (b : Bool) → (b || false) ≡ b
-or_false true = refl
-or_false false = refl
-
-or_true : (b : Bool) → (b || true) ≡ true
-or_true true = refl
-or_true false = refl
-
-no_man : (c : Colour) (y : Kind) → is_man c y None ≡ false
-unfolding is_man
-no_man c y = refl
-
-and_false : (b : Bool) → (b && false) ≡ false
-and_false true = refl
-and_false false = refl
-
-and_true : (b : Bool) → (b && true) ≡ b
-and_true true = refl
-and_true false = refl
-
 put_at : (sets : List ℕ) (men : Men) (c : Colour) (x y : Kind) (s k w : ℕ)
     → length sets ≡ 6 → length men ≡ 64 → s < 64 → k < 64 → man_at men s ≡ None
     → IsKinds sets c men
@@ -59,14 +40,14 @@ put_at sets men c x y s k w six all ls lk bare h made =
           rw (here, get_or-set_same, own_man c x y)
           (elim (cases_eq (kind_number y) (kind_number x)) [
             | inl e ↦ rw (e, get_or-set_same, made s, eq-eqb s s refl, eq-eqb (kind_number x) (kind_number x) refl)
-                (or_true _)
+                (or-true _)
             | inr n ↦
                 rw (
                   get_or-set_other sets (kind_number x) (kind_number y) w 0 n,
                   ne_eqb (kind_number y) (kind_number x)
                       n,
                 )
-                (h.of_kind y s ls ∙ rw bare (no_man c y))
+                (h.of_kind y s ls ∙ rw bare (is_man-none c y None refl))
           ])
       | inr there ↦
           rw (get_or-set_other men s k (Some (record { colour = c; kind = x })) None there)
@@ -76,7 +57,7 @@ put_at sets men c x y s k w six all ls lk bare h made =
               get_or-set_same,
               made k,
               ne_eqb k s there,
-              or_false
+              or-false
                   (has (get_or sets (kind_number x) 0) k),
               ← e,
             ) (h.of_kind y k lk)
@@ -105,9 +86,9 @@ lift_at sets men c x y s k w six all ls lk there h made =
     let in_men : s < length men = omega arith in
     elim (cases_eq k s) [
       | inl here ↦
-          rw (here, get_or-set_same, no_man c y)
+          rw (here, get_or-set_same, is_man-none c y None refl)
           (elim (cases_eq (kind_number y) (kind_number x)) [
-            | inl e ↦ rw (e, get_or-set_same, made s ls, eq-eqb s s refl) (and_false _)
+            | inl e ↦ rw (e, get_or-set_same, made s ls, eq-eqb s s refl) (and-false _)
             | inr n ↦
                 rw (get_or-set_other sets (kind_number x) (kind_number y) w 0 n)
                 (h.of_kind y s ls ∙ rw there (own_man c x y ∙ ne_eqb (kind_number y) (kind_number x) n))
@@ -120,7 +101,7 @@ lift_at sets men c x y s k w six all ls lk there h made =
               get_or-set_same,
               made k lk,
               ne_eqb k s away,
-              and_true
+              and-true
                   (has (get_or sets (kind_number x) 0) k),
               ← e,
             ) (h.of_kind y k lk)

@@ -2,10 +2,9 @@
 use Rattle.std.proofs.Common.{◌≡◌, ℕ, ◌<◌, inl, inr, Bool, true, false, not, ◌&&◌, ◌==◌, cond, List, Option, Some, None, is_none, length, get_or-set_same, get_or-set_other, refl, sym, ap, ◌∙◌, arith}
 use Rattle.std.proofs.lemmas.Bool.{cases_eq, eq-eqb, ne_eqb}
 use Rattle.chess_base.specs.declared.man.Colour.{Colour}
-use Rattle.chess_base.specs.declared.man.Kind.{Kind}
 use Rattle.chess_base.specs.declared.man.Man.{Man}
 use Rattle.chess_base.specs.Men.{Men, man_at, is_of, is_man}
-use Rattle.chess_base.proofs.MenFacts.{not_is_man}
+use Rattle.chess_base.proofs.MenFacts.{not_is_man, is_man-none}
 use Rattle.chess_moves.specs.Sets.{has}
 use Rattle.chess_bits.specs.ties.Goes.{lifted}
 use Rattle.chess_bits.specs.ties.KindSets.{IsKinds}
@@ -20,10 +19,6 @@ lifted_at men a k all low =
       | inr away ↦ rw (get_or-set_other men a k None None away, ne_eqb k a away) refl
     ]
 
-no_man : (c : Colour) (kind : Kind) → is_man c kind None ≡ false
-unfolding is_man
-no_man c kind = refl
-
 -- the sets of the other colour stay
 pub lifted_kinds : (sets : List ℕ) (men : Men) (c : Colour) (a : ℕ) → length men ≡ 64 → a < 64
     → is_of c (man_at men a) ≡ false → IsKinds sets c men → IsKinds sets c (lifted men a)
@@ -34,7 +29,8 @@ lifted_kinds sets men c a all low theirs h = record {
             h.of_kind kind k l
             ∙ ap (λ s. is_man c kind (man_at men s)) here ∙ not_is_man c kind (man_at men a) theirs
             ∙ sym (ap (is_man c kind)
-            (lifted_at men a k all low ∙ ap (λ t. cond t None (man_at men k)) (eq-eqb k a here)) ∙ no_man c kind)
+            (lifted_at men a k all low ∙ ap (λ t. cond t None (man_at men k)) (eq-eqb k a here))
+            ∙ is_man-none c kind None refl)
         | inr away ↦ h.of_kind kind k l
             ∙ sym (ap (is_man c kind)
             (lifted_at men a k all low ∙ ap (λ t. cond t None (man_at men k)) (ne_eqb k a away)))

@@ -76,9 +76,6 @@ pub pattern_of : (p : Setup) (a b : ℕ) (k : Option Kind) → goes p a b ≡ tr
 pattern_of p a b k g f = pattern_is p (triple a b k) ∙ and_from (goes p a b) (promotion_fits (would_promote p a b) k) g
     f
 
-four : List (Option Kind)
-four = Some Queen ∷ Some Rook ∷ Some Bishop ∷ Some Knight ∷ []
-
 pub four_fit : (w : Bool) → w ≡ true → (i : ℕ) → i < 4 → (d : Option Kind)
     → promotion_fits w (get_or (Some Queen ∷ Some Rook ∷ Some Bishop ∷ Some Knight ∷ []) i d) ≡ true
 four_fit w e zero h d = e

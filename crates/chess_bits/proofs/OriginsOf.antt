@@ -14,7 +14,7 @@ use Rattle.chess_base.specs.MoveList.{triple}
 use Rattle.chess_base.specs.Moves.{is_legal, pawn_advances, pawn_captures}
 use Rattle.chess_base.specs.Sound.{IsSound, no_pawn_on_end_ranks, pawn_may_stand}
 use Rattle.chess_base.specs.Squares.{file, rank, is_square}
-use Rattle.chess_base.proofs.Changes.{advance_goes}
+use Rattle.chess_base.proofs.Changes.{advance_goes, pawn_from_same}
 use Rattle.chess_base.proofs.MenFacts.{is_of-from_is_man}
 use Rattle.chess_base.proofs.OverSquares.{each_square-at}
 use Rattle.chess_moves.specs.Sets.{has, HasOrigins}
@@ -69,14 +69,6 @@ officer_origins p kind to w u v no_pawn no_king all men reached = λ m legal man
     ∙ officer_attacks p kind m no_pawn no_king legal man)
 
 -- ---- pawns
-
-pawn_kind : (kind : Kind) → same_kind Pawn kind ≡ true → kind ≡ Pawn
-pawn_kind King e = cc
-pawn_kind Queen e = cc
-pawn_kind Rook e = cc
-pawn_kind Bishop e = cc
-pawn_kind Knight e = cc
-pawn_kind Pawn e = refl
 
 -- no pawn stands on the lowest rank
 pub off_lowest : (men : Men) (c : Colour) (a : ℕ) → is_man c Pawn (man_at men a) ≡ true → pawn_may_stand men a ≡ true
@@ -142,7 +134,7 @@ pub pawn_origins : (p : Setup) (kind : Kind) (to w u v : ℕ) → IsSound p → 
 pawn_origins p kind to w u v sound is all men starts = λ m legal man there.
     let low = begins_below p m legal in
     let pawn : is_man p.side Pawn (man_at p.men m.from) ≡ true = ap (λ k. is_man p.side k (man_at p.men m.from))
-    (sym (pawn_kind kind is)) ∙ man in
+    (sym (pawn_from_same kind is)) ∙ man in
     all m.from ∙ and_from (has u m.from) (has v m.from) (men m.from low ∙ man)
     (starts m.from low ∙ ap (λ t. (is_on_ray File true t m.from || is_on_ray File false t m.from)
     || in_shape (shape.Pawn (other p.side)) t m.from) (sym there) ∙ pawn_start p m sound pawn legal)

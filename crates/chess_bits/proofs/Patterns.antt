@@ -1,4 +1,5 @@
 -- The patterns of moves, by start and end square.
+use mathlib.Core.Bool.{and-true, and-false, and_comm}
 use Rattle.std.proofs.Common.{◌≡◌, ℕ, ◌<◌, Bool, true, false, not, ◌&&◌, ◌||◌, ◌==◌, cond, Option, Some, None, refl, sym, ap, ◌∙◌, nat_lt}
 use Rattle.std.specs.Prelude.{if◌then◌else◌}
 use Rattle.std.proofs.lemmas.Bool.{and_parts, and_from, lt-ltb, both_ways, false_from_ne_true}
@@ -19,20 +20,6 @@ use Rattle.chess_moves.specs.Promoting.{would_promote}
 use Rattle.chess_moves.specs.Sets.{has}
 use Rattle.chess_bits.specs.ties.Goes.{usual_promotion, goes, legal_or, man_goes}
 
-and_true : (b : Bool) → (b && true) ≡ b
-and_true true = refl
-and_true false = refl
-
-and_false : (b : Bool) → (b && false) ≡ false
-and_false true = refl
-and_false false = refl
-
-and_turned : (a b : Bool) → (a && b) ≡ (b && a)
-and_turned true true = refl
-and_turned true false = refl
-and_turned false true = refl
-and_turned false false = refl
-
 fits_low : (kind : Kind) → promotion_fits false (Some kind) ≡ false
 fits_low King = refl
 fits_low Queen = refl
@@ -50,18 +37,18 @@ none_promoted p a b kind (Some castle) = refl
 -- officers, and castling
 officers : (p : Setup) (a b : ℕ) (k : Option Kind) → castles_or_moves p (triple a b k) (castle_of p (triple a b k))
     ≡ (castles_or_moves p (triple a b None) (castle_of p (triple a b None)) && promotion_fits false k)
-officers p a b None = sym (and_true (castles_or_moves p (triple a b None) (castle_of p (triple a b None))))
+officers p a b None = sym (and-true (castles_or_moves p (triple a b None) (castle_of p (triple a b None))))
 officers p a b (Some kind) =
     none_promoted p a b kind (castle_of p (triple a b (Some kind)))
     ∙ sym (ap (λ f. castles_or_moves p (triple a b None) (castle_of p (triple a b None)) && f) (fits_low kind)
-    ∙ and_false (castles_or_moves p (triple a b None) (castle_of p (triple a b None))))
+    ∙ and-false (castles_or_moves p (triple a b None) (castle_of p (triple a b None))))
 
 -- pawns
 turned : (last : Bool) (k : Option Kind) (x : Bool)
     → (promotion_fits last k && x)
     ≡ ((promotion_fits last (if last then Some Queen else None) && x) && promotion_fits last k)
-turned true k x = and_turned (promotion_fits true k) x
-turned false k x = and_turned (promotion_fits false k) x
+turned true k x = and_comm (promotion_fits true k) x
+turned false k x = and_comm (promotion_fits false k) x
 
 pawns : (p : Setup) (a b : ℕ) (k : Option Kind) → pawn_moves p (triple a b k)
     ≡ (pawn_moves p (triple a b (if rank b == first_rank (other p.side) then Some Queen else None))
@@ -118,7 +105,7 @@ goes_as p a b o at low high = rw (lt-ltb a 64 low, lt-ltb b 64 high, at) refl
 pub no_man_goes : (p : Setup) (a b : ℕ) → is_of p.side (man_at p.men a) ≡ false → goes p a b ≡ false
 unfolding goes has_pattern is_of
 no_man_goes p a b h =
-    ap (λ v. (nat_lt a 64 && nat_lt b 64) && v) (by (man_at p.men a) h) ∙ and_false (nat_lt a 64 && nat_lt b 64)
+    ap (λ v. (nat_lt a 64 && nat_lt b 64) && v) (by (man_at p.men a) h) ∙ and-false (nat_lt a 64 && nat_lt b 64)
   where
     by : (o : Option Man) → is_of p.side o ≡ false → moves_as p (triple a b (usual_promotion p a b)) o ≡ false
     by None e = refl

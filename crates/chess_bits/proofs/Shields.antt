@@ -17,6 +17,7 @@ use Rattle.chess_bits.proofs.Attackers.{between_back}
 use Rattle.chess_bits.proofs.Geometry.{share_diagonal_is, between_on_line}
 use Rattle.chess_bits.proofs.KingSteps.{not_between_end}
 use Rattle.chess_bits.proofs.Lifted.{lifted_at}
+use Rattle.chess_bits.proofs.Blockers.{not_both}
 
 -- ---- three squares on a line
 
@@ -49,10 +50,6 @@ inner l b k a y same h g =
     ∙ and_from (same_line l b y) (lies_inside b k y) on (inside_inner b k a y (parts_on l b k a same h).1 near.1)
 
 -- ---- with one man taken off
-
-not_both : (p q : Bool) → (p ≡ true → q ≡ false) → not (p && q) ≡ true
-not_both true q h = rw (h refl) refl
-not_both false q h = refl
 
 -- what is clear with it taken off is empty, but for its square
 empty_there : (men : Men) (w a b k y : ℕ) → IsOccupied w men → length men ≡ 64 → a < 64 → y < 64

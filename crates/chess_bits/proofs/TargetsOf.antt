@@ -1,4 +1,5 @@
 -- Where each kind of man goes, as its sets tell it.
+use mathlib.Core.Bool.{or-false}
 use Rattle.std.proofs.Common.{◌≡◌, ℕ, zero, suc, ◌<◌, ◌≤◌, Bool, true, false, not, ◌&&◌, ◌||◌, ◌==◌, Option, Some, None, is_none, refl, sym, ap, subst, ◌∙◌, arith}
 use Rattle.std.specs.Prelude.{if◌then◌else◌}
 use Rattle.std.specs.Option.{is_some}
@@ -353,21 +354,17 @@ pub blocked : (p : Setup) (a n k : ℕ) → is_man p.side Pawn (man_at p.men a) 
 blocked p a n k pawn one some =
     sym (advances_is p a k n (forward p.side n) pawn one refl ∙ rw (some_is_not_none (man_at p.men n) true some) refl)
 
-or_false : (b : Bool) → (b || false) ≡ b
-or_false true = refl
-or_false false = refl
-
 pub one_only : (p : Setup) (a n k : ℕ) → is_man p.side Pawn (man_at p.men a) ≡ true → n ≡ forward p.side a
     → is_some (man_at p.men n) ≡ false → (rank a ≡ pawn_rank p.side → ⊥)
     → (k == n) ≡ pawn_advances p (triple a k None)
 one_only p a n k pawn one free away =
     sym (advances_is p a k n (forward p.side n) pawn one refl
     ∙ rw (some_is_not_none (man_at p.men n) false free, ne_eqb (rank a) (pawn_rank p.side) away)
-    (or_false (k == n)))
+    (or-false (k == n)))
 
 second : (r x y : Bool) → (x || (r && (false && y))) ≡ x
-second true x y = or_false x
-second false x y = or_false x
+second true x y = or-false x
+second false x y = or-false x
 
 pub second_blocked : (p : Setup) (a n t k : ℕ) → is_man p.side Pawn (man_at p.men a) ≡ true → n ≡ forward p.side a
     → t ≡ forward p.side n → is_some (man_at p.men n) ≡ false → is_some (man_at p.men t) ≡ true

@@ -135,7 +135,7 @@ pub byte_step : (n : ℕ) (told : Bool) (part : List ℕ) (b : ℕ) (bs : List �
 unfolding lines_from
 byte_step n told part b bs h = let e : nat_eq b 10 ≡ false = grind arith in rw e refl
 
-none_from : (n : ℕ) (part : List ℕ) → lines_from n false part [] ≡ []
+pub none_from : (n : ℕ) (part : List ℕ) → lines_from n false part [] ≡ []
 unfolding lines_from
 none_from n part = refl
 

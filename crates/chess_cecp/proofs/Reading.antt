@@ -1,7 +1,7 @@
 -- The reads of one call for the next line.
 use Rattle.std.proofs.Common.{◌≡◌, ℕ, ◌+◌, ◌-◌, ◌<◌, ◌≤◌, inl, inr, Bool, true, false, List, [], ◌∷◌, ◌++◌, length, take, Some, None, Ok, refl, sym, ap, ◌∙◌, arith, append_assoc, append-nil, length-append, nat_eq, nat_lt}
 use Rattle.std.proofs.Math.Seq.{take-append_seam}
-use Rattle.chess_cecp.proofs.Parts.{line_ended, ten_step, byte_step}
+use Rattle.chess_cecp.proofs.Parts.{line_ended, ten_step, byte_step, none_from}
 use Rattle.std.specs.Io.KnownBytes.{Consumes}
 use Rattle.std.specs.Bool.{MatchBool}
 use Rattle.byte_devices.specs.Devices.{InputState, GavePiece, risen}
@@ -67,10 +67,6 @@ unfolding lines_from
 nothing_left n true = refl
 nothing_left n false = refl
 
-false_left : (n : ℕ) (part : List ℕ) → lines_from n false part [] ≡ []
-unfolding lines_from
-false_left n part = refl
-
 last_left : (n : ℕ) (part : List ℕ) → 0 < length part → lines_from n true part [] ≡ line_of n false part ∷ []
 unfolding lines_from
 last_left n part h = let e : nat_lt 0 (length part) ≡ true = grind arith in rw e refl
@@ -106,7 +102,7 @@ end_last E n r r' r'' h h' h'' h3 given piece line s f p e some is left =
       consumes_more r.known_bytes r'.known_bytes r''.known_bytes given piece s.bytes p.bytes,
       waits_on n r r' r'' h h' h'' given piece s f p,
       at_false line.ended _ _ ended (record {
-        whole = lines_end n r r' h h' h'' given piece s f e false ∙ false_left n h''.part;
+        whole = lines_end n r r' h h' h'' given piece s f e false ∙ none_from n h''.part;
         lines = lines_end n r r' h h' h'' given piece s f e true ∙ last_left n h''.part some ∙ ap (λ v. v ∷ []) (sym is);
         rest = left;
         at_end = p.at_end (ap length e);
@@ -127,4 +123,4 @@ pub law_last : (n : ℕ) (piece : List ℕ) → HasNoEnd piece → 0 < length pi
 law_last n piece h some = ap (lines_from n true []) (sym (append-nil piece)) ∙ piece_on_part n true [] piece [] h ∙ last_left n piece some
 
 pub law_not_told : (n : ℕ) (piece : List ℕ) → HasNoEnd piece → lines_from n false [] piece ≡ []
-law_not_told n piece h = ap (lines_from n false []) (sym (append-nil piece)) ∙ piece_on_part n false [] piece [] h ∙ false_left n piece
+law_not_told n piece h = ap (lines_from n false []) (sym (append-nil piece)) ∙ piece_on_part n false [] piece [] h ∙ none_from n piece

@@ -44,10 +44,6 @@ KeepsRefused s r = IsRefusal r.text → r.next ≡ s
 accepted : (s : State) (r : Row) → begins_refusal r.text ≡ false → KeepsRefused s r
 accepted s r e h = let t : begins_refusal r.text ≡ true = refusal_begins r.text h in cc
 
--- a row that changes nothing
-kept : (s : State) (text : List ℕ) → KeepsRefused s (says s text)
-kept s text h = refl
-
 by_test : (b : Bool) (s : State) (x y : Row) → KeepsRefused s x → KeepsRefused s y → KeepsRefused s (if b then x else y)
 by_test true s x y h k = h
 by_test false s x y h k = k

@@ -21,11 +21,11 @@ use Rattle.chess_cecp.specs.declared.session.Go.TheVariants as goes
 use Rattle.chess_cecp.specs.declared.run.End.TheVariants.{Quit, InputEnded}
 use Rattle.chess_cecp.specs.declared.run.Fault.TheVariants.{Read, Write}
 
-or_left : (a b : Bool) → (a || b) ≡ false → a ≡ false
+pub or_left : (a b : Bool) → (a || b) ≡ false → a ≡ false
 or_left true b h = h
 or_left false b h = refl
 
-or_right : (a b : Bool) → (a || b) ≡ false → b ≡ false
+pub or_right : (a b : Bool) → (a || b) ≡ false → b ≡ false
 or_right true b h = cc
 or_right false b h = h
 
@@ -33,7 +33,7 @@ or_right_true : (a b : Bool) → b ≡ true → (a || b) ≡ true
 or_right_true true b h = refl
 or_right_true false b h = h
 
-one_cond : (b : Bool) (x : List ℕ) → (if b then x else x ++ []) ≡ x
+pub one_cond : (b : Bool) (x : List ℕ) → (if b then x else x ++ []) ≡ x
 one_cond true x = refl
 one_cond false x = append-nil x
 
@@ -88,17 +88,17 @@ pub record SentSome (w w' : OutputState) (text start : List ℕ) : Type 0 where
   pub failures : w'.failure_count ≡ risen w.failure_count
   pub unflushed : LeavesUnflushed w w' start
 
-sent_none : (w : OutputState) → SentAll w w []
+pub sent_none : (w : OutputState) → SentAll w w []
 sent_none w = record { bytes = appends_none w.known_bytes; failures = refl; flushed = λ h. h }
 
-sent_more : (w w' w'' : OutputState) (x y : List ℕ) → SentAll w w' x → Sent w' w'' y → SentAll w w'' (x ++ y)
+pub sent_more : (w w' w'' : OutputState) (x y : List ℕ) → SentAll w w' x → Sent w' w'' y → SentAll w w'' (x ++ y)
 sent_more w w' w'' x y h k = record {
   bytes = appends_more w.known_bytes w'.known_bytes w''.known_bytes x y h.bytes k.bytes;
   failures = k.failures ∙ h.failures;
   flushed = λ none. k.flushed;
 }
 
-sent_some : (w w' w'' : OutputState) (x y : List ℕ) → SentAll w w' x → TookThenFailed w' w'' y → SentSome w w'' x y
+pub sent_some : (w w' w'' : OutputState) (x y : List ℕ) → SentAll w w' x → TookThenFailed w' w'' y → SentSome w w'' x y
 sent_some w w' w'' x y h k = record {
   bytes = appends_more w.known_bytes w'.known_bytes w''.known_bytes x y h.bytes k.bytes;
   failures = k.failures ∙ ap risen h.failures;
@@ -116,10 +116,10 @@ pub record SoFar (r r' : InputState) (w w' : OutputState) (s s' : Seen) (held : 
   pub failures : r'.failure_count ≡ r.failure_count
   pub ends : r'.end_count ≡ r.end_count
 
-no_bytes : (n : ℕ) → before_piece n [] ≡ []
+pub no_bytes : (n : ℕ) → before_piece n [] ≡ []
 no_bytes n = grind (arith, common_steps)
 
-nothing_whole : whole 1024 [] ≡ []
+pub nothing_whole : whole 1024 [] ≡ []
 nothing_whole = nothing_left 1024 false
 
 pub start : (r : InputState) (w : OutputState) (s : Seen) → SoFar r r w w s s nothing_held [] []
@@ -169,11 +169,11 @@ pub record Reached (r r' : InputState) (given : List ℕ) (told : Bool) (done : 
   pub failures : r'.failure_count ≡ r.failure_count
   pub ends : r'.end_count ≡ risen_if told r.end_count
 
-of_true : (b : Bool) (P Q : Type 0) → b ≡ true → MatchBool b P Q → P
+pub of_true : (b : Bool) (P Q : Type 0) → b ≡ true → MatchBool b P Q → P
 of_true true P Q e p = p
 of_true false P Q e p = cc
 
-of_false : (b : Bool) (P Q : Type 0) → b ≡ false → MatchBool b P Q → Q
+pub of_false : (b : Bool) (P Q : Type 0) → b ≡ false → MatchBool b P Q → Q
 of_false true P Q e p = cc
 of_false false P Q e p = p
 

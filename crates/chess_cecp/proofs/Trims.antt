@@ -1,12 +1,9 @@
 -- Blanks and a byte 13 at the ends of a list.
-use Rattle.std.proofs.Common.{◌≡◌, ℕ, ◌+◌, ◌-◌, ◌<◌, ◌≤◌, ◌&&◌, Bool, true, false, List, [], ◌∷◌, ◌++◌, length, get_or, take, refl, sym, ap, ◌∙◌, ◌==◌, ◌≢◌, arith}
+use mathlib.Core.Bool.{and-false}
+use Rattle.std.proofs.Common.{◌≡◌, ℕ, ◌+◌, ◌-◌, ◌<◌, ◌≤◌, true, false, List, [], ◌∷◌, ◌++◌, length, get_or, take, refl, sym, ap, ◌∙◌, ◌==◌, ◌≢◌, arith}
 use Rattle.std.proofs.Math.Seq.{take-length}
 use Rattle.std.proofs.lemmas.Grind.{common_steps}
 use Rattle.chess_cecp.specs.Lines.{is_blank, all_blank, without_end_blanks, without_return}
-
-and_false : (b : Bool) → (b && false) ≡ false
-and_false true = refl
-and_false false = refl
 
 all_with : (xs : List ℕ) (b : ℕ) → is_blank b ≡ true → all_blank (xs ++ b ∷ []) ≡ all_blank xs
 all_with [] b h = rw h refl
@@ -14,7 +11,7 @@ all_with (c ∷ cs) b h = rw (all_with cs b h) refl
 
 all_without : (xs : List ℕ) (b : ℕ) → is_blank b ≡ false → all_blank (xs ++ b ∷ []) ≡ false
 all_without [] b h = rw h refl
-all_without (c ∷ cs) b h = rw (all_without cs b h) (and_false (is_blank c))
+all_without (c ∷ cs) b h = rw (all_without cs b h) (and-false (is_blank c))
 
 pub end_blank : (xs : List ℕ) (b : ℕ) → is_blank b ≡ true → without_end_blanks (xs ++ b ∷ []) ≡ without_end_blanks xs
 end_blank [] b h = rw h refl
@@ -22,7 +19,7 @@ end_blank (c ∷ cs) b h = rw (all_with cs b h, end_blank cs b h) refl
 
 pub end_solid : (xs : List ℕ) (b : ℕ) → is_blank b ≡ false → without_end_blanks (xs ++ b ∷ []) ≡ xs ++ b ∷ []
 end_solid [] b h = rw h refl
-end_solid (c ∷ cs) b h = rw (all_without cs b h, and_false (is_blank c), end_solid cs b h) refl
+end_solid (c ∷ cs) b h = rw (all_without cs b h, and-false (is_blank c), end_solid cs b h) refl
 
 pub return_cut : (xs : List ℕ) (b : ℕ) → b ≡ 13 → without_return (xs ++ b ∷ []) ≡ xs
 return_cut [] b h = rw h refl

@@ -5,8 +5,6 @@ use Rattle.std.proofs.lemmas.Bool.Decides.{nat_tests}
 use Rattle.chess_base.specs.declared.man.Move.{Move}
 use Rattle.std.proofs.lemmas.Bool.{cases_Bool, and_parts, eqb-true}
 use Rattle.std.proofs.lemmas.List.Sums.{sum_by-cons}
-use Rattle.chess_base.specs.declared.man.Colour.{Colour}
-use Rattle.chess_base.specs.declared.man.Colour.TheVariants.{White, Black}
 use Rattle.chess_base.specs.declared.man.Kind.TheVariants.{Pawn}
 use Rattle.chess_base.specs.declared.man.Man.{Man}
 use Rattle.chess_base.specs.declared.setup.Setup.{Setup}
@@ -16,20 +14,16 @@ use Rattle.chess_base.specs.Squares.{from_below}
 use Rattle.chess_base.specs.Squares.{each_square}
 use Rattle.chess_base.specs.laws.Reserve.{reserve, weight, ranks_to_go}
 use Rattle.chess_base.specs.laws.Laws.{ReserveNeverGrows, ReserveFallsForGood}
+use Rattle.chess_base.proofs.OverSquares.{each_below-at}
+use Rattle.chess_base.proofs.MenFacts.{same_colour-true}
+use Rattle.chess_base.proofs.Changes.{not_same_other}
 use Rattle.chess_game.specs.Line.{last}
 use Rattle.chess_game.specs.Same.{same, rep, same_man, same_men, same_rights, same_square, live_target}
 use Rattle.chess_game.specs.ties.Places.{moves_of, Follows}
 use Rattle.chess_game.specs.declared.game.Place.{Place}
-use Rattle.chess_game.proofs.Below.{each_below-at}
 use Rattle.chess_game.proofs.Counting.{seen, seen-more, counted, one_if}
 
 -- ---- the same men have the same reserve
-
-same_colour-is : (c d : Colour) → same_colour c d ≡ true → c ≡ d
-same_colour-is White White e = refl
-same_colour-is Black Black e = refl
-same_colour-is White Black e = cc
-same_colour-is Black White e = cc
 
 same_weight : (s : ℕ) (o r : Option Man) → same_man o r ≡ true → weight s o ≡ weight s r
 same_weight s None None e = refl
@@ -37,7 +31,7 @@ same_weight s None (Some y) e = cc
 same_weight s (Some x) None e = cc
 same_weight s (Some x) (Some y) e =
     let both = and_parts (same_colour x.colour y.colour) (same_kind x.kind y.kind) e in
-    let colour = same_colour-is x.colour y.colour both.0 in
+    let colour = same_colour-true x.colour y.colour both.0 in
     let kind : same_kind Pawn x.kind ≡ same_kind Pawn y.kind = ap (λ n. 5 == n) (eqb-true _ _ both.1) in
     ap (λ c. if same_kind Pawn x.kind then 1 + ranks_to_go c s else 1) colour
     ∙ ap (λ b. if b then 1 + ranks_to_go y.colour s else 1) kind
@@ -156,10 +150,6 @@ at_most_one : (b : Bool) → one_if b ≤ 1
 at_most_one true = omega arith
 at_most_one false = omega arith
 
-opposite : (c : Colour) → same_colour (other c) c ≡ false
-opposite White = refl
-opposite Black = refl
-
 first_holds : (a b c d : Bool) → (a && b && c && d) ≡ true → a ≡ true
 first_holds true b c d e = refl
 first_holds false b c d e = e
@@ -178,11 +168,11 @@ not_both p q r turn =
           omega (arith, none, few)
       | inl on ↦
           let alike : p.side ≡ q.side =
-          same_colour-is p.side q.side
+          same_colour-true p.side q.side
           (first_holds (same_colour p.side q.side) (same_men p.men q.men) (same_rights p.rights q.rights)
           (same_square (live_target p) (live_target q)) on) in
           let turned : same_colour r.side q.side ≡ false = ap (λ c. same_colour c q.side) (turn ∙ ap other alike)
-          ∙ opposite q.side in
+          ∙ not_same_other q.side in
           let none : one_if (same r q) ≡ 0 =
           ap one_if (off_first (same_colour r.side q.side) (same_men r.men q.men) (same_rights r.rights q.rights)
           (same_square (live_target r) (live_target q)) turned) in

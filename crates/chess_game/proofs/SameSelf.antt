@@ -1,23 +1,18 @@
 -- A position is the same as itself.
 use Rattle.std.proofs.Common.{◌≡◌, ℕ, zero, suc, Bool, true, Option, None, Some, cond, refl}
 use Rattle.std.proofs.lemmas.Bool.{and_from, eq-eqb}
-use Rattle.chess_base.specs.declared.man.Colour.{Colour}
-use Rattle.chess_base.specs.declared.man.Colour.TheVariants.{White, Black}
 use Rattle.chess_base.specs.declared.man.Man.{Man}
 use Rattle.chess_base.specs.declared.man.Rights.{Rights}
 use Rattle.chess_base.specs.declared.man.ColourRights.{ColourRights}
 use Rattle.chess_base.specs.declared.setup.Setup.{Setup}
-use Rattle.chess_base.specs.Men.{Men, man_at, same_colour, kind_number}
+use Rattle.chess_base.specs.Men.{Men, man_at, kind_number}
 use Rattle.chess_base.specs.Squares.{each_below, each_square}
+use Rattle.chess_base.proofs.MenFacts.{same_colour-self}
 use Rattle.chess_game.specs.Same.{same, same_man, same_men, same_square, same_colour_rights, same_rights, live_target}
-
-colour_self : (c : Colour) → same_colour c c ≡ true
-colour_self White = refl
-colour_self Black = refl
 
 man_self : (o : Option Man) → same_man o o ≡ true
 man_self None = refl
-man_self (Some x) = and_from _ _ (colour_self x.colour) (eq-eqb (kind_number x.kind) (kind_number x.kind) refl)
+man_self (Some x) = and_from _ _ (same_colour-self x.colour) (eq-eqb (kind_number x.kind) (kind_number x.kind) refl)
 
 each_below-all : (n : ℕ) (f : ℕ → Bool) → ((k : ℕ) → f k ≡ true) → each_below n f ≡ true
 each_below-all zero f h = refl
@@ -40,7 +35,8 @@ rights_self r = and_from _ _ (rights_of_self r.white) (rights_of_self r.black)
 
 pub same_self : (p : Setup) → same p p ≡ true
 unfolding same
-same_self p = and_from _ _ (and_from _ _ (and_from _ _ (colour_self p.side) (men_self p.men)) (rights_self p.rights))
+same_self p =
+    and_from _ _ (and_from _ _ (and_from _ _ (same_colour-self p.side) (men_self p.men)) (rights_self p.rights))
     (square_self (live_target p))
 
 pub met : (p q : Setup) → p ≡ q → ◌≡◌ {A = ℕ} 1 (cond (same p q) 1 0)

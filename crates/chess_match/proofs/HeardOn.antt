@@ -19,7 +19,7 @@ map_both : (xs ys : List LineSeen) → map text_heard (xs ++ ys) ≡ map text_he
 map_both [] ys = refl
 map_both (x ∷ xs) ys = ap (λ ls. text_heard x ∷ ls) (map_both xs ys)
 
-not_both : (b : Bool) {P : Type 0} → b ≡ false → b ≡ true → P
+pub not_both : (b : Bool) {P : Type 0} → b ≡ false → b ≡ true → P
 not_both true e h = absurd cc
 not_both false e h = absurd cc
 

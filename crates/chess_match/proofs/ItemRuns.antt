@@ -3,8 +3,9 @@ use Rattle.std.proofs.Common.{◌≡◌, ℕ, zero, suc, ◌+◌, ◌-◌, ◌�
 use Rattle.std.specs.Prelude.{if◌then◌else◌, ◌==◌, codes, option_and_then}
 use Rattle.std.specs.Str.{bytes_eq}
 use Rattle.chess_base.specs.Texts.{is_digit}
-use Rattle.chess_cecp.specs.Lines.{is_blank, without_front_blanks}
+use Rattle.chess_cecp.specs.Lines.{without_front_blanks}
 use Rattle.chess_pgn.specs.Written.{cut_tag}
+use Rattle.chess_cecp.proofs.Parts.{wfb_short}
 use Rattle.chess_match.specs.Words.{is_name_byte, run_of}
 use Rattle.chess_match.specs.Items.{Item, Value, Digits, Quoted, quoted, quote_at, value_of, is_apart, with_value, with_name, item_of, ends_hello, first_items, items_of, has_done, last_value, said_or, takes, said_again, is_one, fischerandom_again, has_fischerandom, plays_fischerandom, told, value_text}
 use Rattle.chess_match.specs.ties.Stands.{features_of, name_by}
@@ -48,15 +49,6 @@ fischerandom-snoc items i = rw (last_value-snoc (codes "variants") items i)
 
 -- ---- an item takes a byte
 
-blanks_shorter : (xs : List ℕ) → length (without_front_blanks xs) ≤ length xs
-blanks_shorter [] = omega arith
-blanks_shorter (c ∷ cs) = by_test (is_blank c) (blanks_shorter cs)
-  where
-    by_test : (b : Bool) → length (without_front_blanks cs) ≤ length cs
-        → length (if b then without_front_blanks cs else c ∷ cs) ≤ length (c ∷ cs)
-    by_test true h = omega arith
-    by_test false h = omega arith
-
 quoted_shorter : (cs : List ℕ) (b : Bool) (p : Value × List ℕ)
     → (if b then None else Some (Quoted (take (quote_at cs) cs), drop (quote_at cs + 1) cs)) ≡ Some p
     → length p.1 ≤ length cs
@@ -94,7 +86,7 @@ with_value_shorter name rest (Some q) p is e = by_test (is_apart q.1) e
         ≡ Some p → length p.1 ≤ length rest
     by_test true e =
         let s : length p.1 ≡ length (without_front_blanks q.1) = cc in
-        let b = blanks_shorter q.1 in
+        let b = wfb_short q.1 in
         let v = value_shorter rest q is in
         omega arith
     by_test false e = cc

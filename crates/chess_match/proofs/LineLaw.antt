@@ -22,9 +22,6 @@ abbrev one_if : Bool → ℕ
 one_if true = 1
 one_if false = 0
 
-abbrev all_lines : Rules → ℕ
-all_lines r = 22000 + 10002 * (r.limit + 1)
-
 -- before a match in this phase, with so many lines ignored, so many moves played, and an offer of that side or none,
 -- there were at most so many lines
 abbrev AreFew : ℕ → ℕ → Phase → ℕ → ℕ → (Colour → Bool) → Type 0

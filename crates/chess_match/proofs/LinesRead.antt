@@ -7,7 +7,8 @@ use Rattle.chess_base.specs.declared.man.Colour.{Colour}
 use Rattle.chess_base.specs.declared.man.Colour.TheVariants.{White, Black}
 use Rattle.chess_base.specs.declared.man.Move.{Move}
 use Rattle.byte_devices.specs.Devices.{InputState, OutputState}
-use Rattle.chess_base.specs.Men.{other, same_colour}
+use Rattle.chess_base.specs.Men.{other}
+use Rattle.chess_base.proofs.MenFacts.{same_colour-self}
 use Rattle.chess_cecp.specs.Lines.{LineSeen, Held}
 use Rattle.chess_cecp.specs.Next.{NextLine, GotLine, GotLast, work}
 use Rattle.chess_match.specs.ties.Delivering.{event_heard, is_heard_of, Tells, HearsAt, Delivered}
@@ -23,6 +24,7 @@ use Rattle.chess_match.specs.declared.phase.Phase.TheVariants.{Hello, Setup, Ope
 use Rattle.chess_match.specs.declared.state.Core.{Core}
 use Rattle.chess_match.proofs.Runs.{nothing_due}
 use Rattle.chess_match.proofs.Sane.{sane_over, sane_line}
+use Rattle.chess_match.proofs.Outcomes.{not_other}
 
 -- ---- by whether byte 10 ended the line
 
@@ -44,22 +46,16 @@ heard_is P S moment (Ok (Some line)) l e f = by_either line.ended refl
     by_either true h = by_ended P S line moment true h (l (text_heard line))
     by_either false h = by_ended P S line moment false h e
 
-self : (c : Colour) → same_colour c c ≡ true
-self White = refl
-self Black = refl
-
 pub heard_of : {E : Type 0} (S : Colour) (moment : ℕ) (result : Result (Option LineSeen) E)
     → is_heard_of S (event_heard S moment result) ≡ true
-heard_of S moment result = heard_is (λ e. is_heard_of S e ≡ true) S moment result (λ text. self S) (self S) (self S)
-
-another : (c : Colour) → same_colour c (other c) ≡ false
-another White = refl
-another Black = refl
+heard_of S moment result =
+    heard_is (λ e. is_heard_of S e ≡ true) S moment result (λ text. same_colour-self S) (same_colour-self S)
+    (same_colour-self S)
 
 pub heard_of_none : {E : Type 0} (S : Colour) (moment : ℕ) (result : Result (Option LineSeen) E)
     → is_heard_of (other S) (event_heard S moment result) ≡ false
-heard_of_none S moment result = heard_is (λ e. is_heard_of (other S) e ≡ false) S moment result (λ text. another S)
-    (another S) (another S)
+heard_of_none S moment result = heard_is (λ e. is_heard_of (other S) e ≡ false) S moment result (λ text. not_other S)
+    (not_other S) (not_other S)
 
 pub heard_fits : {E : Type 0} (m : Match) (S : Colour) (moment : ℕ) (result : Result (Option LineSeen) E)
     → reads m.phase S ≡ true → fits_next nothing_due m (event_heard S moment result) ≡ true
@@ -82,17 +78,19 @@ hears_as S e r r' h h' more is b t =
 pub own_hears : {E : Type 0} (S : Colour) (moment : ℕ) (r r' : InputState) (h h' : Held)
     (result : Result (Option LineSeen) E) → NextLine 8192 r r' h h' result
     → HearsAt S (event_heard S moment result) r r' h h'
-own_hears S moment r r' h h' (Err x) (more, b, w, got) = hears_as S (FailsToRead S) r r' h h' more (self S) b got
-own_hears S moment r r' h h' (Ok None) (more, b, w, got) = hears_as S (OutputEnds S) r r' h h' more (self S) b (inr got)
+own_hears S moment r r' h h' (Err x) (more, b, w, got) =
+    hears_as S (FailsToRead S) r r' h h' more (same_colour-self S) b got
+own_hears S moment r r' h h' (Ok None) (more, b, w, got) =
+    hears_as S (OutputEnds S) r r' h h' more (same_colour-self S) b (inr got)
 own_hears S moment r r' h h' (Ok (Some line)) (more, b, w, got) = by_whether line.ended refl got
   where
     by_whether : (x : Bool) → line.ended ≡ x
         → MatchBool x (GotLine 8192 r r' h h' more line) (GotLast 8192 r r' h h' more line)
         → HearsAt S (if line.ended then Line S (text_heard line) moment else OutputEnds S) r r' h h'
     by_whether true e g = by_ended (λ v. HearsAt S v r r' h h') S line moment true e
-        (hears_as S (Line S (text_heard line) moment) r r' h h' more (self S) b (line, g, refl))
+        (hears_as S (Line S (text_heard line) moment) r r' h h' more (same_colour-self S) b (line, g, refl))
     by_whether false e g = by_ended (λ v. HearsAt S v r r' h h') S line moment false e
-        (hears_as S (OutputEnds S) r r' h h' more (self S) b (inl (line, g)))
+        (hears_as S (OutputEnds S) r r' h h' more (same_colour-self S) b (inl (line, g)))
 
 pub others_hear_none : (S : Colour) (e : Event) (r r' : InputState) (h h' : Held) → is_heard_of S e ≡ false → r' ≡ r
     → h' ≡ h → HearsAt S e r r' h h'

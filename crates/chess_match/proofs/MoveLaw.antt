@@ -1,4 +1,5 @@
 -- An engine is told the other's moves, each once and in order.
+use mathlib.Core.Bool.{or-false}
 use Rattle.std.proofs.Common.{◌≡◌, ℕ, ◌+◌, ◌-◌, ◌/◌, ◌<◌, Bool, true, false, not, ◌&&◌, ◌||◌, List, [], ◌∷◌, ◌++◌, length, length-append, refl, ap, sym, subst, ◌∙◌, append-nil, append_assoc, Option, None, Some, arith}
 use Rattle.std.specs.Prelude.{if◌then◌else◌, nat_lt, codes, is_some}
 use Rattle.std.specs.List.{flat_map}
@@ -19,6 +20,7 @@ use Rattle.chess_match.specs.Sent.{SentLine, Xboard, Protover, LevelSet, Nopost,
 use Rattle.chess_match.specs.Transcript.{is_on, reads, ending_in, match_of, match_from, fits, fits_next, fits_from, is_dropped, fails_at, blocks_from, joined_blocks, sent, has_write_failure}
 use Rattle.chess_base.specs.declared.man.Variant.{Variant}
 use Rattle.chess_base.specs.declared.man.Variant.TheVariants.{Normal, Fischerandom}
+use Rattle.chess_base.proofs.MenFacts.{same_colour-true}
 use Rattle.chess_match.specs.declared.phase.Phase.{Phase}
 use Rattle.chess_match.specs.declared.phase.Phase.TheVariants.{Hello, Setup, Opening, Before, After, Over}
 use Rattle.chess_match.specs.declared.reason.Reason.{Reason}
@@ -618,12 +620,6 @@ lines_none r S O kind moment m here o = record {
         (entry_moves r (open_turn r.first m) O (Opening r.first))
         (none_told r.first O (last_text r (open_turn r.first m) O) m.played e)
 
-pub same_is : (c d : Colour) → same_colour c d ≡ true → c ≡ d
-same_is White White h = refl
-same_is Black Black h = refl
-same_is White Black h = cc
-same_is Black White h = cc
-
 dropped_line : (r : Rules) (O S d : Colour) (t : Option (List ℕ)) (n : ℕ) (due : Colour → List SentLine) (m : Match)
     (T : List Event) → fits_next due m (Line S t n) ≡ true
     → fits_next (block r m (after r m (Line S t n))) (after r m (Line S t n)) (FailsToWrite d) ≡ true → Orderly r m
@@ -631,16 +627,12 @@ dropped_line : (r : Rules) (O S d : Colour) (t : Option (List ℕ)) (n : ℕ) (d
 dropped_line r O S d t n due m T f g o e =
     line_outcome r S (kind_heard t) n m (λ m'. TellsNone r S O m m') f (lines_none r S O (kind_heard t) n m f o)
     (and_first (is_on (after r m (Line S t n)).phase) _ g)
-    (rw (same_is S d e) (ltb-true 0 (length (block r m (after r m (Line S t n)) d))
+    (rw (same_colour-true S d e) (ltb-true 0 (length (block r m (after r m (Line S t n)) d))
     (and_second (is_on (after r m (Line S t n)).phase) _ g)))
 
 failed_none : (r : Rules) (O S : Colour) (m : Match) → same_colour S O ≡ true
     → told_now r m (over (Faulted S Write) m) O ≡ []
 failed_none r O S m e = rw e (if_nil (is_same_phase m.phase (Over (Faulted S Write))) [] refl)
-
-pub or_false : (b : Bool) → b || false ≡ b
-or_false true = refl
-or_false false = refl
 
 pub or_assoc : (a b c : Bool) → (a || b) || c ≡ a || (b || c)
 or_assoc true b c = refl
@@ -654,7 +646,7 @@ unsent_none r O due m (FailsToWrite S) T f o h = failed_none r O S m h
 unsent_none r O due m (Line S t n) (FailsToWrite d ∷ T) f o h =
     dropped_line r O S d t n due m T (and_first (reads m.phase S) _ f)
     (and_first _ _ (and_second (reads m.phase S) _ f)) o
-    (and_first (same_colour S d) _ (sym (or_false (same_colour S d && not (same_colour d O))) ∙ h))
+    (and_first (same_colour S d) _ (sym (or-false (same_colour S d && not (same_colour d O))) ∙ h))
 unsent_none r O due m (Line S t n) [] f o h = cc
 unsent_none r O due m (Line S t n) (Line d u k ∷ T) f o h = cc
 unsent_none r O due m (Line S t n) (Opened d k ∷ T) f o h = cc
@@ -708,7 +700,7 @@ told_from : (r : Rules) (O : Colour) (due : Colour → List SentLine) (m : Match
     ++ owed_to r (match_from r m T) O (match_from r m T).untold (failed || has_write_failure O T))
     ≡ all_texts r (match_from r m T) O)
     × Orderly r (match_from r m T)
-told_from r O due m [] X failed f o quiet h = (rw (or_false failed) h, o)
+told_from r O due m [] X failed f o quiet h = (rw (or-false failed) h, o)
 told_from r O due m (e ∷ T) X failed f o quiet h =
     let here : fits_next due m e ≡ true = and_first (fits_next due m e) _ f in
     let on : is_on m.phase ≡ true = fits_on due m e here in

@@ -2,9 +2,11 @@
 use Rattle.std.proofs.Common.{◌≡◌, ℕ, ◌<◌, Bool, true, false, ◌||◌, List, [], ◌∷◌, ◌++◌, length, drop, suc, subst, refl, ap, sym, ◌∙◌, append_assoc, Option, Some, arith}
 use Rattle.std.specs.Prelude.{slice_get, is_some}
 use Rattle.std.proofs.Math.Seq.{drop-append_seam}
+use Rattle.std.proofs.lemmas.Bool.{or_left, or_right}
 use Rattle.chess_base.specs.declared.man.Colour.{Colour}
 use Rattle.chess_base.specs.declared.man.Colour.TheVariants.{White, Black}
 use Rattle.chess_base.specs.Men.{same_colour}
+use Rattle.chess_base.proofs.MenFacts.{same_colour-true, same_colour-self}
 use Rattle.chess_match.specs.laws.Laws.{Streams, IsOf, OnlyOne}
 use Rattle.chess_match.specs.Match.{Match, Event, Line, Opened, OutputEnds, FailsToRead, FailsToWrite, start, after}
 use Rattle.chess_match.specs.Rules.{Rules}
@@ -12,17 +14,8 @@ use Rattle.chess_match.specs.Sent.{SentLine, block, entry}
 use Rattle.chess_match.specs.Transcript.{reads, opens, is_on, ending_in, match_from, fits_next, fits_from, lines_of, line_in, moments_of, has_end, has_read_failure, has_write_failure, is_end_of, is_read_failure_of, fails_at}
 use Rattle.chess_match.specs.declared.phase.Phase.{Phase}
 use Rattle.chess_match.specs.declared.phase.Phase.TheVariants.{Hello, Setup, Opening, Before, After, Over}
-use Rattle.chess_match.proofs.MoveLaw.{fits_on, same_is, not_on}
+use Rattle.chess_match.proofs.MoveLaw.{fits_on, not_on}
 use Rattle.chess_match.proofs.Outcomes.{and_first, and_second}
-use Rattle.chess_match.proofs.Going.{same_colour-self}
-
-or_right : (a b : Bool) → b ≡ true → a || b ≡ true
-or_right true b h = refl
-or_right false b h = h
-
-or_left : (a b : Bool) → a ≡ true → a || b ≡ true
-or_left true b h = refl
-or_left false b h = cc
 
 or_none : (a b : Bool) → a || b ≡ false → b ≡ false
 or_none true b h = cc
@@ -34,15 +27,15 @@ or_first false b h = refl
 
 -- one phase reads one side
 one_reads : (p : Phase) (c d : Colour) → reads p c ≡ true → reads p d ≡ true → c ≡ d
-one_reads (Hello x) c d h k = sym (same_is x c h) ∙ same_is x d k
-one_reads (Setup x) c d h k = sym (same_is x c h) ∙ same_is x d k
-one_reads (Before x) c d h k = sym (same_is x c h) ∙ same_is x d k
-one_reads (After x) c d h k = sym (same_is x c h) ∙ same_is x d k
+one_reads (Hello x) c d h k = sym (same_colour-true x c h) ∙ same_colour-true x d k
+one_reads (Setup x) c d h k = sym (same_colour-true x c h) ∙ same_colour-true x d k
+one_reads (Before x) c d h k = sym (same_colour-true x c h) ∙ same_colour-true x d k
+one_reads (After x) c d h k = sym (same_colour-true x c h) ∙ same_colour-true x d k
 one_reads (Opening x) c d h k = cc
 one_reads (Over x) c d h k = cc
 
 one_opens : (p : Phase) (c d : Colour) → opens p c ≡ true → opens p d ≡ true → c ≡ d
-one_opens (Opening x) c d h k = sym (same_is x c h) ∙ same_is x d k
+one_opens (Opening x) c d h k = sym (same_colour-true x c h) ∙ same_colour-true x d k
 one_opens (Hello x) c d h k = cc
 one_opens (Setup x) c d h k = cc
 one_opens (Before x) c d h k = cc

@@ -1,4 +1,5 @@
 -- A transcript that goes on.
+use mathlib.Core.Bool.{or-false}
 use Rattle.std.proofs.Common.{◌≡◌, ℕ, zero, suc, ◌+◌, ◌<◌, Bool, true, false, ◌&&◌, ◌||◌, List, [], ◌∷◌, ◌++◌, length, refl, ap, sym, ◌∙◌, append_assoc, append-nil, arith, length-append, subst, Option, Some, None, zero-add}
 use Rattle.std.specs.Prelude.{if◌then◌else◌, slice_get}
 use Rattle.std.specs.Option.{IfSome}
@@ -45,10 +46,6 @@ or_assoc : (a b c : Bool) → a || (b || c) ≡ (a || b) || c
 or_assoc true b c = refl
 or_assoc false b c = refl
 
-or_false : (a : Bool) → a || false ≡ a
-or_false true = refl
-or_false false = refl
-
 has_end-append : (S : Colour) (T U : List Event) → has_end S (T ++ U) ≡ has_end S T || has_end S U
 has_end-append S [] U = refl
 has_end-append S (x ∷ T) U = ap (λ b. is_end_of S x || b) (has_end-append S T U)
@@ -92,13 +89,13 @@ moments_more T e U t = moments_of-append T (e ∷ U)
 pub end_more : (S : Colour) (T : List Event) (e : Event) (U : List Event) → IsTail U → has_end S T ≡ false
     → has_end S (T ++ e ∷ U) ≡ is_end_of S e
 end_more S T e U t f = has_end-append S T (e ∷ U) ∙ ap (λ b. b || (is_end_of S e || has_end S U)) f
-    ∙ ap (λ b. is_end_of S e || b) (t.ends S) ∙ or_false (is_end_of S e)
+    ∙ ap (λ b. is_end_of S e || b) (t.ends S) ∙ or-false (is_end_of S e)
 
 pub failure_more : (S : Colour) (T : List Event) (e : Event) (U : List Event) → IsTail U → has_read_failure S T ≡ false
     → has_read_failure S (T ++ e ∷ U) ≡ is_read_failure_of S e
 failure_more S T e U t f =
     has_read_failure-append S T (e ∷ U) ∙ ap (λ b. b || (is_read_failure_of S e || has_read_failure S U)) f
-    ∙ ap (λ b. is_read_failure_of S e || b) (t.failures S) ∙ or_false (is_read_failure_of S e)
+    ∙ ap (λ b. is_read_failure_of S e || b) (t.failures S) ∙ or-false (is_read_failure_of S e)
 
 -- ---- what fits
 

@@ -1,13 +1,15 @@
 -- What lines of one kind an engine was told, along a transcript.
+use mathlib.Core.Bool.{or-false}
 use Rattle.std.proofs.Common.{◌≡◌, ℕ, ◌+◌, ◌-◌, ◌<◌, Bool, true, false, not, ◌&&◌, ◌||◌, List, [], ◌∷◌, ◌++◌, length, refl, ap, sym, ◌∙◌, append-nil, append_assoc, arith}
 use Rattle.std.specs.Prelude.{if◌then◌else◌}
 use Rattle.std.specs.List.{flat_map}
-use Rattle.std.proofs.lemmas.Bool.{ltb-true}
+use Rattle.std.proofs.lemmas.Bool.{ltb-true, not-true}
 use Rattle.std.proofs.lemmas.Grind.{flat_map-append}
 use Rattle.chess_base.specs.declared.man.Colour.{Colour}
 use Rattle.chess_base.specs.declared.man.Colour.TheVariants.{White, Black}
 use Rattle.chess_base.specs.declared.man.Move.{Move}
 use Rattle.chess_base.specs.Men.{other, same_colour}
+use Rattle.chess_base.proofs.MenFacts.{same_colour-true}
 use Rattle.chess_match.specs.EngineLines.{LineKind, kind_heard}
 use Rattle.chess_match.specs.Items.{Item}
 use Rattle.chess_match.specs.Match.{Match, Event, Line, Opened, OutputEnds, FailsToRead, FailsToWrite, items_heard, hear, over, open_turn, played_by, after}
@@ -19,7 +21,7 @@ use Rattle.chess_match.specs.declared.phase.Phase.TheVariants.{Opening, Over}
 use Rattle.chess_match.specs.declared.reason.MatchFault.TheVariants.{Write}
 use Rattle.chess_match.specs.declared.reason.Reason.TheVariants.{Faulted}
 use Rattle.chess_match.proofs.Blocks.{if_nil, of_block, joined_at}
-use Rattle.chess_match.proofs.MoveLaw.{same_is, not_on, or_false}
+use Rattle.chess_match.proofs.MoveLaw.{not_on}
 use Rattle.chess_match.proofs.Outcomes.{Lines, InTurn, line_outcome, and_first, and_second}
 use Rattle.chess_match.proofs.Going.{hear_phase, is_opening, offered, plain_block, reads_stays}
 
@@ -147,10 +149,6 @@ other_is Black White h = refl
 other_is White White h = cc
 other_is Black Black h = cc
 
-not_false : (b : Bool) → not b ≡ true → b ≡ false
-not_false true h = cc
-not_false false h = refl
-
 -- a block that isn't sent holds none of these
 pub unsent : {A : Type 0} (f : SentLine → List A) (r : Rules) (S : Colour) → InOpenings f
     → (due : Colour → List SentLine) (m : Match) (e : Event) (T : List Event) → fits_from r due m (e ∷ T) ≡ true
@@ -160,14 +158,14 @@ unsent f r S i due m (FailsToWrite c) T fits h =
     (i r (over (Faulted c Write) m) S (Over (Faulted c Write)) refl)
 unsent f r S i due m (Line c t n) (FailsToWrite d ∷ T) fits h =
     dropped (and_first (reads m.phase c) _ fits) (and_first _ _ (and_second (reads m.phase c) _ fits))
-    (sym (or_false (same_colour c d && not (same_colour d S))) ∙ h)
+    (sym (or-false (same_colour c d && not (same_colour d S))) ∙ h)
   where
     dropped : reads m.phase c ≡ true → fits_next (block r m (after r m (Line c t n))) (after r m (Line c t n))
         (FailsToWrite d) ≡ true → same_colour c d && not (same_colour d S) ≡ true
         → now f r S m (after r m (Line c t n)) ≡ []
     dropped here g h =
-        let same : c ≡ d = same_is c d (and_first (same_colour c d) _ h) in
-        let apart : S ≡ other d = other_is d S (not_false (same_colour d S) (and_second (same_colour c d) _ h)) in
+        let same : c ≡ d = same_colour-true c d (and_first (same_colour c d) _ h) in
+        let apart : S ≡ other d = other_is d S (not-true (same_colour d S) (and_second (same_colour c d) _ h)) in
         let is : S ≡ other c = apart ∙ ap other (sym same) in
         rw is (line_outcome r c (kind_heard t) n m (λ m''. TellsNone f r c m m'') here
         (lines_none f r c (kind_heard t) n m i here)

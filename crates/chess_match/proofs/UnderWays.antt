@@ -6,6 +6,7 @@ use Rattle.chess_base.specs.declared.man.Colour.TheVariants.{White, Black}
 use Rattle.chess_base.specs.declared.man.Move.{Move}
 use Rattle.byte_devices.specs.Devices.{InputState, OutputState, BreaksOff}
 use Rattle.chess_base.specs.Men.{other, same_colour}
+use Rattle.chess_base.proofs.MenFacts.{same_colour-true}
 use Rattle.chess_cecp.specs.Lines.{Held, nothing_held}
 use Rattle.chess_match.specs.ties.Delivering.{HearsAt, is_heard_of, AllSent, OneFailed, Delivered}
 use Rattle.chess_match.specs.ties.Hearing.{Hearing}
@@ -22,14 +23,10 @@ use Rattle.chess_match.specs.declared.phase.Phase.{Phase}
 use Rattle.chess_match.specs.declared.phase.Phase.TheVariants.{Hello, Setup, Opening, Before, After, Over}
 use Rattle.chess_match.specs.declared.state.Core.{Core}
 use Rattle.chess_match.proofs.Flushes.{flushed_none, flushed_more}
-use Rattle.chess_match.proofs.HeardOn.{is_stop, heard_still, heard_more}
+use Rattle.chess_match.proofs.HeardOn.{is_stop, heard_still, heard_more, not_both}
 use Rattle.chess_match.proofs.Hears.{hearing_start}
 use Rattle.chess_match.proofs.Runs.{is_sound, match_of-append, IsTail, no_tail, failed_tail, moments_more, has_write_failure-append, fits-append, nothing_due, blocks-append, block_alone, sent_more, written_more, all_sent, asked_none, asked_more}
 use Rattle.chess_match.proofs.Sane.{sane_start, sane_over, sane_opened}
-
-not_so : (b : Bool) {P : Type 0} → b ≡ false → b ≡ true → P
-not_so true e h = absurd cc
-not_so false e h = absurd cc
 
 -- the match is over behind what stops it
 stopped : (r : Rules) (m : Match) (e : Event) → is_stop e ≡ true → is_on (after r m e).phase ≡ false
@@ -56,7 +53,7 @@ no_failure_yet : (S : Colour) (T U : List Event) (failed failed' : Bool) → fai
 no_failure_yet S T U failed failed' none old new h = by_first (has_write_failure S T) refl (sym (has_write_failure-append S T U) ∙ h)
   where
     by_first : (b : Bool) → has_write_failure S T ≡ b → b || has_write_failure S U ≡ true → failed' ≡ true
-    by_first true e k = not_so failed none (old e)
+    by_first true e k = not_both failed none (old e)
     by_first false e k = new k
 
 -- an event at which no write fails before the end
@@ -78,7 +75,7 @@ all_step r T e core core' played played' failed failed' n n' n'' held held' w w'
           (sym (blocks-append r S T e [] sound ∙ ap (λ (bs : List (List SentLine)). blocks r S T ++ bs) (block_alone r S (match_of r T) e sound)))
           (written_more (failed' S) (w S) (w' S) (w'' S) (blocks r S T) (block r (match_of r T) (after r (match_of r T) e) S) (all_sent (failed S) (w S) (w' S) (blocks r S T) (u.fine on S) (u.written S)) (sent.puts S));
       fine = λ h. sent.fine (subst (λ (x : Match). is_on x.phase ≡ true) now h);
-      failing = λ S. no_failure_yet S T (e ∷ []) (failed S) (failed' S) (u.fine on S) (u.failing S) (λ h. let no : fails_at e S || false ≡ false = ap (λ b. b || false) (sound_write S e sound) in not_so _ no h);
+      failing = λ S. no_failure_yet S T (e ∷ []) (failed S) (failed' S) (u.fine on S) (u.failing S) (λ h. let no : fails_at e S || false ≡ false = ap (λ b. b || false) (sound_write S e sound) in not_both _ no h);
       moments = subst (λ (ms : List ℕ). Asked coming coming'' ms) (sym (moments_more T e [] no_tail)) (asked_more coming coming' coming'' (moments_of T) (moment_in e) u.moments asked);
     }
 
@@ -242,12 +239,6 @@ started r core played failed n held w w' coming none (inr (c, s)) = (FailsToWrit
 
 -- ---- one event of d's output
 
-same_is : (c d : Colour) → same_colour c d ≡ true → c ≡ d
-same_is White White h = refl
-same_is Black Black h = refl
-same_is White Black h = absurd cc
-same_is Black White h = absurd cc
-
 pub event_step : (r : Rules) (T : List Event) (e : Event) (d : Colour) (core core' : Core) (played played' : List Move) (failed failed' : Colour → Bool) (n n' n'' : Colour → InputState) (held held' : Colour → Held)
     (w w' w'' : Colour → OutputState) (coming coming' coming'' : ℕ → Option ℕ) → IsUnderWay r T core played failed n n' held w w' coming coming'
     → is_heard_of d e ≡ true → is_on (match_of r T).phase ≡ true → fits_next nothing_due (match_of r T) e ≡ true → IsSane r (after r (match_of r T) e)
@@ -263,7 +254,7 @@ event_step r T (FailsToRead c) d core core' played played' failed failed' n n' n
 event_step r T (Line c text k) d core core' played played' failed failed' n n' n'' held held' w w' w'' coming coming' coming'' u is on fit sane hears asked (inr (x, s)) = (
   T ++ Line c text k ∷ FailsToWrite x ∷ [],
   failed_step r T c text k core core' played played' failed failed' n n' n'' held held' w w' w'' coming coming' coming'' x u on fit sane hears asked
-      (subst (λ (y : Colour). OneFailed r core' played' (after r (match_of r T) (Line c text k)) (λ S. block r (match_of r T) (after r (match_of r T) (Line c text k)) S) y w' w'' failed' x) (sym (same_is c d is)) s),
+      (subst (λ (y : Colour). OneFailed r core' played' (after r (match_of r T) (Line c text k)) (λ S. block r (match_of r T) (after r (match_of r T) (Line c text k)) S) y w' w'' failed' x) (sym (same_colour-true c d is)) s),
 )
 event_step r T (OutputEnds c) d core core' played played' failed failed' n n' n'' held held' w w' w'' coming coming' coming'' u is on fit sane hears asked (inr (x, s)) = let no : false ≡ true = s.on in absurd cc
 event_step r T (FailsToRead c) d core core' played played' failed failed' n n' n'' held held' w w' w'' coming coming' coming'' u is on fit sane hears asked (inr (x, s)) = let no : false ≡ true = s.on in absurd cc

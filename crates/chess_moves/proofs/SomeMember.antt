@@ -14,7 +14,7 @@ use Rattle.chess_moves.specs.Sets.{has, members}
 
 -- ---- over lists
 
-any-filter : {A : Type 0} (q t : A → Bool) (xs : List A) → list_any t (filter q xs) ≡ list_any (λ x. q x && t x) xs
+pub any-filter : {A : Type 0} (q t : A → Bool) (xs : List A) → list_any t (filter q xs) ≡ list_any (λ x. q x && t x) xs
 any-filter q t [] = refl
 any-filter q t (x ∷ xs) =
     elim (cases_Bool (q x)) [
@@ -22,7 +22,7 @@ any-filter q t (x ∷ xs) =
       | inl passed ↦ rw passed (ap (λ b. t x || b) (any-filter q t xs))
     ]
 
-any-flat_map : {A B : Type 0} (t : B → Bool) (f : A → List B) (xs : List A)
+pub any-flat_map : {A B : Type 0} (t : B → Bool) (f : A → List B) (xs : List A)
     → list_any t (flat_map f xs) ≡ list_any (λ x. list_any t (f x)) xs
 any-flat_map t f [] = refl
 any-flat_map t f (x ∷ xs) = list_any-append t (f x) (flat_map f xs)
@@ -54,7 +54,7 @@ any-from_below zero g t k h e = absurd (omega arith)
 any-from_below (suc n) g t zero h e = or_left (t (g 0)) _ e
 any-from_below (suc n) g t (suc k) h e = or_right (t (g 0)) _ (any-from_below n (λ i. g (suc i)) t k (omega arith) e)
 
-any-square : (t : ℕ → Bool) (k : ℕ) → k < 64 → t k ≡ true → list_any t squares ≡ true
+pub any-square : (t : ℕ → Bool) (k : ℕ) → k < 64 → t k ≡ true → list_any t squares ≡ true
 unfolding squares
 any-square t k h e = any-from_below 64 (λ s. s) t k h e
 
@@ -82,12 +82,6 @@ pub record AllFound (p : Setup) (t : Move → Bool) (to w : ℕ) : Type 0 where
   pub begins : (m : Move) → is_legal p m ≡ true → t m ≡ true → has w m.from ≡ true
   pub ends : (m : Move) → is_legal p m ≡ true → t m ≡ true → m.to ≡ to
   pub stays : (m : Move) → is_legal p m ≡ true → t m ≡ true → m.promotion ≡ None
-
-and_turned : (a b : Bool) → (a && b) ≡ (b && a)
-and_turned true true = refl
-and_turned true false = refl
-and_turned false true = refl
-and_turned false false = refl
 
 abbrev found : Setup → (Move → Bool) → Move → Bool
 found p t m = is_legal p m && t m

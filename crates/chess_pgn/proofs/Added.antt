@@ -1,11 +1,10 @@
 -- One text behind another, where some of it waits.
-use Rattle.std.proofs.Common.{◌≡◌, ℕ, ◌+◌, ◌<◌, List, [], ◌∷◌, ◌++◌, length, get_or, take, drop, Result, Ok, Err, IsErr, refl, sym, ap, ◌∙◌, append_assoc, append-nil, add-one}
+use Rattle.std.proofs.Common.{◌≡◌, ℕ, ◌+◌, ◌<◌, List, [], ◌++◌, length, get_or, take, drop, Result, Ok, Err, IsErr, sym, ap, ◌∙◌, append_assoc, append-nil}
 use Rattle.std.specs.List.{flat_map}
-use Rattle.std.proofs.Math.Seq.{take-suc}
 use Rattle.std.proofs.lemmas.List.{take-append-drop}
 use Rattle.std.proofs.lemmas.List.Concat.{flat_map-append}
 use Rattle.byte_devices.specs.Devices.{OutputState, BreaksOff, Puts}
-use Rattle.byte_devices.proofs.DeviceLaws.{took_none, took_more, breaks_more, breaks_longer}
+use Rattle.byte_devices.proofs.DeviceLaws.{took_none, took_more, breaks_more, breaks_longer, flat_more}
 use Rattle.chess_pgn.specs.ties.Waiting.{TookSome, Adds}
 
 -- ---- texts that are added
@@ -57,10 +56,6 @@ finished a b c (Ok v) w x t h k = rw h.is (took_more a b c h.out x h.took k)
 finished a b c (Err e) w x t h k = rw h.is (breaks_more a b c h.out x h.took k)
 
 -- ---- texts of the elements of a list
-
-flat_more : {X : Type 0} (f : X → List ℕ) (xs : List X) (i : ℕ) (d : X) → i < length xs → flat_map f (take (i + 1) xs) ≡ flat_map f (take i xs) ++ f (get_or xs i d)
-flat_more f xs i d h =
-    ap (flat_map f) (rw add-one (take-suc xs i d h)) ∙ flat_map-append f (take i xs) (get_or xs i d ∷ []) ∙ ap (λ v. flat_map f (take i xs) ++ v) (append-nil (f (get_or xs i d)))
 
 -- one of them more
 pub parts_more : {X : Type 0} (a b c : OutputState) (w x y : List ℕ) (f : X → List ℕ) (xs : List X) (i : ℕ) (d : X) → i < length xs → TookSome a b w x (flat_map f (take i xs)) → TookSome b c x y (f (get_or xs i d)) → TookSome a c w y (flat_map f (take (i + 1) xs))

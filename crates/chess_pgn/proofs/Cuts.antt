@@ -177,9 +177,6 @@ tag_left text = by_name (behind_gap false false text) (gap_suffix false false te
 
 -- ---- tokens
 
-left_more_of : (c : ℕ) (rest : List ℕ) (t : Token × List ℕ) → LeavesOf rest t → LeavesOf (c ∷ rest) t
-left_more_of c rest t h = left_more c rest t.1 h
-
 comment_left : (c left : ℕ) (rest : List ℕ) (o : Option (List ℕ)) → IfSome o (Cut rest) → LeavesOf (c ∷ rest) (comment_at left o)
 comment_left c left rest None h = inl refl
 comment_left c left rest (Some r) h = inr (cut_more c rest r h)

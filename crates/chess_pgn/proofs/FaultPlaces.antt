@@ -24,8 +24,8 @@ use Rattle.chess_pgn.specs.Local.{FaultsHavePlaces}
 use Rattle.chess_pgn.specs.Tokens.{Token, Skip, Tag, Word, Bad_tag, Unclosed_comment, Unclosed_variation, Bad, token_at, tokens_of, first_place, begins_line, tokens_from}
 use Rattle.chess_pgn.specs.Words.{kind_of}
 use Rattle.chess_pgn.proofs.Cuts.{pick}
-use Rattle.chess_pgn.proofs.PgnPieces.{shorter}
 use Rattle.chess_pgn.proofs.TokenPlaces.{within}
+use Rattle.chess_pgn.proofs.Walk.{shorter}
 
 -- a fault has its place from the first on and up to the last
 abbrev FaultIn : ℕ → ℕ → Result (Option PgnEnd) PgnFault → Type 0

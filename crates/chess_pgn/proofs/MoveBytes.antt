@@ -22,7 +22,7 @@ use Rattle.chess_pgn.specs.Tokens.{Token, Skip, Tag, Word, Bad_tag, Unclosed_com
 use Rattle.chess_pgn.specs.Words.{kind_of}
 use Rattle.chess_pgn.proofs.Cuts.{pick}
 use Rattle.chess_pgn.proofs.FaultPlaces.{behind}
-use Rattle.chess_pgn.proofs.PgnPieces.{shorter}
+use Rattle.chess_pgn.proofs.Walk.{shorter}
 
 -- from a place on, behind so many half-moves
 abbrev Fits : ℕ → ℕ → ℕ → Result (Option PgnEnd) PgnFault → Type 0

@@ -22,9 +22,8 @@ use Rattle.chess_pgn.specs.ties.GameSteps.{IsWithin}
 use Rattle.chess_pgn.specs.Local.{moved, ReadingIsMoved}
 use Rattle.chess_pgn.specs.Tokens.{Token, Skip, Tag, Word, Bad_tag, Unclosed_comment, Unclosed_variation, Bad, token_at, tokens_of, begins_line, first_place, tokens_from}
 use Rattle.chess_pgn.specs.Words.{kind_of}
-use Rattle.chess_pgn.proofs.PgnPieces.{shorter}
 use Rattle.chess_pgn.proofs.TokenPlaces.{within}
-use Rattle.chess_pgn.proofs.Walk.{enough}
+use Rattle.chess_pgn.proofs.Walk.{enough, shorter}
 
 -- ---- a step, with its place so many bytes later
 

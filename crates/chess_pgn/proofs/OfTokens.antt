@@ -1,9 +1,10 @@
 -- A game that is read is that of its tokens.
-use Rattle.std.proofs.Common.{◌≡◌, ℕ, ◌+◌, ◌-◌, ◌<◌, Bool, true, false, not, cond, ◌&&◌, ◌||◌, List, [], ◌∷◌, ◌++◌, length, Option, Some, None, Result, Ok, Err, refl, sym, ap, subst, ◌∙◌, append_assoc, append-nil, arith}
+use mathlib.Core.Bool.{or-true, or-false, or_assoc}
+use Rattle.std.proofs.Common.{◌≡◌, ℕ, ◌+◌, ◌-◌, ◌<◌, Bool, true, false, not, cond, ◌||◌, List, [], ◌∷◌, ◌++◌, length, Option, Some, None, Result, Ok, Err, refl, sym, ap, subst, ◌∙◌, append_assoc, append-nil}
 use Rattle.std.specs.Prelude.{codes, is_some, nat_lt}
 use Rattle.std.specs.List.{list_any}
 use Rattle.std.specs.Str.{bytes_eq}
-use Rattle.std.proofs.lemmas.Bool.{ltb-true}
+use Rattle.std.proofs.lemmas.Bool.{ltb-true, and_parts}
 use Rattle.std.proofs.lemmas.List.Concat.{flat_map-append}
 use Rattle.std.proofs.lemmas.List.Folds.{list_any-append}
 use Rattle.std.proofs.lemmas.Slice.Eq.{bytes_eq-Decides}
@@ -16,39 +17,30 @@ use Rattle.chess_base.specs.Initial.{initial_setup_of}
 use Rattle.chess_base.specs.Reading.{fen_reading_as}
 use Rattle.chess_game.specs.declared.ends.Verdict.{Verdict}
 use Rattle.chess_game.specs.Ends.{verdict}
-use Rattle.chess_game.specs.Game.{State, current, verdict_now}
+use Rattle.chess_game.specs.Game.{current, verdict_now}
 use Rattle.chess_game.specs.Line.{last}
 use Rattle.chess_text.specs.declared.reading.Reading.{Reading}
 use Rattle.chess_text.specs.declared.reading.Reading.TheVariants as reads
 use Rattle.chess_text.specs.Moves.{reading}
-use Rattle.chess_pgn.specs.declared.read.PgnFault.{PgnFault}
 use Rattle.chess_pgn.specs.declared.read.PgnFaultKind.{PgnFaultKind}
-use Rattle.chess_pgn.specs.declared.read.PgnFaultKind.TheVariants.{BadTag, BadFen, BadToken, IllegalMove, AmbiguousMove, AfterEnd, TooLong, UnclosedComment, UnclosedVariation, NoResult}
+use Rattle.chess_pgn.specs.declared.read.PgnFaultKind.TheVariants.{BadFen, BadToken, IllegalMove, AmbiguousMove, AfterEnd, TooLong, UnclosedComment, UnclosedVariation, NoResult}
 use Rattle.chess_pgn.specs.declared.termination.Termination.{Termination}
 use Rattle.chess_pgn.specs.declared.word.WordKind.{WordKind}
 use Rattle.chess_pgn.specs.declared.word.WordKind.TheVariants.{End, Number, Marks, Move}
 use Rattle.chess_pgn.specs.GameRead.{SoFar, GameRead, Step, On, Stop, game_of, go_on, step, nothing_read, variant_told, pgn_read, move_step, word_step, tag_step, fen_step, fails, unless_full, told_behind}
-use Rattle.chess_pgn.specs.laws.Retold.{begins, counts, is_fen, can_be_taken, can_all_be_taken, if_move, move_words_of, move_words, if_read, start_by, start_told, termination_by_token, termination_told, AreReadAs, unless_closed, move_fault, word_fault, fault_at, token_fault, StopsAt, IsOfTokens, is_number_or_move, is_outcome}
+use Rattle.chess_pgn.specs.laws.Retold.{begins, counts, is_fen, can_be_taken, can_all_be_taken, if_move, move_words_of, move_words, start_by, start_told, termination_by_token, termination_told, AreReadAs, unless_closed, move_fault, word_fault, fault_at, token_fault, StopsAt, IsOfTokens, is_number_or_move, is_outcome}
 use Rattle.chess_pgn.specs.Tokens.{Token, Skip, Tag, Word, Bad_tag, Unclosed_comment, Unclosed_variation, Bad, first_place, tokens_from}
 use Rattle.chess_pgn.specs.Words.{kind_of}
 use Rattle.chess_pgn.proofs.FenVariants.{read_variant, initial_variant}
 
 -- ---- tests
 
-or_false : (b : Bool) → (b || false) ≡ b
-or_false true = refl
-or_false false = refl
-
-or_true : (b : Bool) → (b || true) ≡ true
-or_true true = refl
-or_true false = refl
-
 or_left : (a b : Bool) → (a || b) ≡ false → a ≡ false
 or_left true b e = absurd (cc)
 or_left false b e = refl
 
 any_more : (p : ℕ × Token → Bool) (ts : List (ℕ × Token)) (t : ℕ × Token) → list_any p (ts ++ t ∷ []) ≡ (list_any p ts || p t)
-any_more p ts t = list_any-append p ts (t ∷ []) ∙ ap (λ b. list_any p ts || b) (or_false (p t))
+any_more p ts t = list_any-append p ts (t ∷ []) ∙ ap (λ b. list_any p ts || b) (or-false (p t))
 
 -- ---- one token more
 
@@ -74,19 +66,11 @@ termination_more o (u ∷ ts) t = termination_more (termination_by_token o u.1) 
 words_more : (ts : List (ℕ × Token)) (t : ℕ × Token) → move_words (ts ++ t ∷ []) ≡ move_words ts ++ move_words_of t.1
 words_more ts t = flat_map-append (λ (u : ℕ × Token). move_words_of u.1) ts (t ∷ []) ∙ ap (λ v. move_words ts ++ v) (append-nil (move_words_of t.1))
 
-both_true : (a b : Bool) → (a && b) ≡ true → (a ≡ true) × (b ≡ true)
-both_true true b e = (refl, e)
-both_true false b e = absurd (cc)
-
-assoc_or : (a b c : Bool) → ((a || b) || c) ≡ (a || (b || c))
-assoc_or true b c = refl
-assoc_or false b c = refl
-
 taken_more : (v : Variant) (begun : Bool) (ts : List (ℕ × Token)) (t : ℕ × Token) → can_all_be_taken v begun ts ≡ true → can_be_taken v (begun || list_any (λ u. begins u.1) ts) t.1 ≡ true → can_all_be_taken v begun (ts ++ t ∷ []) ≡ true
-taken_more v begun [] t h k = rw (ap (λ b. can_be_taken v b t.1) (sym (or_false begun)) ∙ k) refl
+taken_more v begun [] t h k = rw (ap (λ b. can_be_taken v b t.1) (sym (or-false begun)) ∙ k) refl
 taken_more v begun (u ∷ ts) t h k =
-    let both = both_true (can_be_taken v begun u.1) (can_all_be_taken v (begun || begins u.1) ts) h in
-    let here : can_be_taken v ((begun || begins u.1) || list_any (λ w. begins w.1) ts) t.1 ≡ true = ap (λ b. can_be_taken v b t.1) (assoc_or begun (begins u.1) (list_any (λ w. begins w.1) ts)) ∙ k in
+    let both = and_parts (can_be_taken v begun u.1) (can_all_be_taken v (begun || begins u.1) ts) h in
+    let here : can_be_taken v ((begun || begins u.1) || list_any (λ w. begins w.1) ts) t.1 ≡ true = ap (λ b. can_be_taken v b t.1) (or_assoc begun (begins u.1) (list_any (λ w. begins w.1) ts)) ∙ k in
     rw both.0 (taken_more v (begun || begins u.1) ts t both.1 here)
 
 -- the tag FEN is not the tag Termination
@@ -209,8 +193,8 @@ module _ (limit total : ℕ) (v : Variant) where
       variant = s.variant;
       moves = subst (λ ws. AreReadAs limit g.state.start [] (move_words done ++ ws) (g.state.moves ++ m ∷ [])) (sym one_word) (read_more limit g.state.start [] (move_words done) g.state.moves word m s.moves (none_by (verdict_now g.state) none) (ltb-true (length g.state.moves) limit few) is);
       undeclared = s.undeclared;
-      met = ap (λ k. g.is_met || is_number_or_move k) kind ∙ or_true g.is_met;
-      begun = ap (λ k. g.is_begun || is_number_or_move k) kind ∙ or_true g.is_begun;
+      met = ap (λ k. g.is_met || is_number_or_move k) kind ∙ or-true g.is_met;
+      begun = ap (λ k. g.is_begun || is_number_or_move k) kind ∙ or-true g.is_begun;
       told = refl;
       fresh = λ e. absurd (cc);
     }
@@ -231,10 +215,10 @@ module _ (limit total : ℕ) (v : Variant) where
   }
   word_leaves done left word g Number kind s =
       more done left (Word word) g _ s
-      (quiet done (Word word) g true true g.termination s (ap (if_move word) kind) refl (ap (λ k. not (is_outcome k)) kind) (ap (λ k. g.is_met || is_number_or_move k) kind ∙ or_true g.is_met) (ap (λ k. g.is_begun || is_number_or_move k) kind ∙ or_true g.is_begun) refl)
+      (quiet done (Word word) g true true g.termination s (ap (if_move word) kind) refl (ap (λ k. not (is_outcome k)) kind) (ap (λ k. g.is_met || is_number_or_move k) kind ∙ or-true g.is_met) (ap (λ k. g.is_begun || is_number_or_move k) kind ∙ or-true g.is_begun) refl)
   word_leaves done left word g Marks kind s =
       more done left (Word word) g _ s
-      (quiet done (Word word) g g.is_met g.is_begun g.termination s (ap (if_move word) kind) refl (ap (λ k. not (is_outcome k)) kind) (ap (λ k. g.is_met || is_number_or_move k) kind ∙ or_false g.is_met) (ap (λ k. g.is_begun || is_number_or_move k) kind ∙ or_false g.is_begun) refl)
+      (quiet done (Word word) g g.is_met g.is_begun g.termination s (ap (if_move word) kind) refl (ap (λ k. not (is_outcome k)) kind) (ap (λ k. g.is_met || is_number_or_move k) kind ∙ or-false g.is_met) (ap (λ k. g.is_begun || is_number_or_move k) kind ∙ or-false g.is_begun) refl)
   word_leaves done left word g Move kind s = move_leaves done left word g kind s (reading (current g.state) word) refl
 
   -- ---- tags
@@ -253,8 +237,8 @@ module _ (limit total : ℕ) (v : Variant) where
           variant = read_variant v text start f;
           moves = subst (λ ws. AreReadAs limit start [] ws []) (sym none) tt;
           undeclared = refl;
-          met = or_true g.is_met;
-          begun = or_false g.is_begun;
+          met = or-true g.is_met;
+          begun = or-false g.is_begun;
           told = rw (fen_tells_no_end name e) refl;
           fresh = λ x. (refl, none);
         })
@@ -263,12 +247,12 @@ module _ (limit total : ℕ) (v : Variant) where
     tag_leaves true e = fen_leaves e (fen_reading_as g.state.start.variant text) (same _ refl)
     tag_leaves false e =
         more done left (Tag name text string) g _ s
-        (quiet done (Tag name text string) g true g.is_begun (told_behind g.termination name text) s refl (rw e refl) (rw (open_yet, e) refl) (or_true g.is_met) (or_false g.is_begun) refl)
+        (quiet done (Tag name text string) g true g.is_begun (told_behind g.termination name text) s refl (rw e refl) (rw (open_yet, e) refl) (or-true g.is_met) (or-false g.is_begun) refl)
 
   -- ---- all tokens
 
   step_leaves : (done : List (ℕ × Token)) (left : ℕ) (t : Token) (g : SoFar) → IsSoFar done g → Leaves done (left, t) (step limit total g left t)
-  step_leaves done left Skip g s = more done left Skip g g s (quiet done Skip g g.is_met g.is_begun g.termination s refl refl refl (or_false g.is_met) (or_false g.is_begun) refl)
+  step_leaves done left Skip g s = more done left Skip g g s (quiet done Skip g g.is_met g.is_begun g.termination s refl refl refl (or-false g.is_met) (or-false g.is_begun) refl)
   step_leaves done left (Tag name text string) g s = by_begun g.is_begun refl
     where
       by_begun : (b : Bool) → g.is_begun ≡ b → Leaves done (left, Tag name text string) (cond b (fails g NoResult (total - left)) (tag_step g name text (total - string)))

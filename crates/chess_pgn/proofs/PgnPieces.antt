@@ -29,7 +29,7 @@ use Rattle.chess_pgn.proofs.PgnFen.{fen_bare}
 use Rattle.chess_pgn.proofs.PgnTags.{is_in_line, is_bare, bare_escaped, bare_in_line, is_tag_name, tag_token, tag_line_bytes}
 use Rattle.chess_pgn.proofs.PgnWords.{not_byte, word_token, number_kind, move_kind, decimal_digits, decimal_some, number_bytes, san_bytes_in_word}
 use Rattle.chess_text.proofs.SanLaw.{san_read, san_short, san_bytes, san_letter}
-use Rattle.chess_pgn.proofs.Walk.{enough, token_nearer}
+use Rattle.chess_pgn.proofs.Walk.{enough, shorter}
 
 -- reading goes on with a text, where a line begins or not
 abbrev pub read_on : ℕ → ℕ → SoFar → Bool → List ℕ → GameRead
@@ -77,10 +77,6 @@ termination_back ending.TimeForfeit = refl
 termination_back ending.Unterminated = refl
 
 -- ---- one token
-
-pub shorter : (begins : Bool) (c : ℕ) (rest : List ℕ) → length (token_at begins c rest).1 ≤ length rest
-shorter true c rest = omega (arith, token_nearer (c ∷ rest) 0 c rest refl (omega arith))
-shorter false c rest = omega (arith, token_nearer (0 ∷ c ∷ rest) 1 c rest refl (omega arith))
 
 module _ (limit total : ℕ) where
   -- what follows the first token's step

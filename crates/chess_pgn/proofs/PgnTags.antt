@@ -1,7 +1,7 @@
 -- Tags as they are written: each line is one token with the text that stands there.
 use Rattle.std.proofs.Common.{◌≡◌, ℕ, ◌≤◌, Bool, true, false, not, cond, ◌&&◌, ◌||◌, eqb, List, [], ◌∷◌, ◌++◌, length, drop, Some, refl, ap, ◌∙◌, append_assoc, arith}
 use Rattle.std.specs.List.{list_all, prefix_len, take_while, AllByRecursion}
-use Rattle.std.proofs.lemmas.Bool.{and_parts, and_from}
+use Rattle.std.proofs.lemmas.Bool.{and_parts, and_from, or_parts}
 use Rattle.std.proofs.lemmas.Bool.Decides.{nat_tests}
 use Rattle.chess_pgn.specs.Tokens.{Tag, is_name_byte, behind_gap, string_at, onto, with_text, with_name, tag_at, token_at}
 use Rattle.chess_pgn.specs.Written.{IsTagText, escaped, tag_line}
@@ -24,10 +24,6 @@ not_ten c h = by_test (eqb c 10) h
     by_test true e = cc
     by_test false e = refl
 
-neither : (a b : Bool) → (a || b) ≡ false → (a ≡ false) × (b ≡ false)
-neither true b e = absurd (cc)
-neither false b e = (refl, e)
-
 -- a quote or a backslash is no line's end
 escaped_in_line : (c : ℕ) → (eqb c 34 || eqb c 92) ≡ true → eqb c 10 ≡ false
 escaped_in_line c h = not_byte (λ k. eqb k 34 || eqb k 92) 10 c refl h
@@ -46,7 +42,7 @@ string_written (c ∷ cs) rest all = by_test (eqb c 34 || eqb c 92) refl (string
         ≡ Some (cond b (92 ∷ c ∷ []) (c ∷ []) ++ escaped cs, rest)
     by_test true e behind = rw (escaped_in_line c e) (ap (onto (92 ∷ c ∷ [])) behind)
     by_test false e behind =
-        let plain = neither (eqb c 34) (eqb c 92) e in
+        let plain = or_parts (eqb c 34) (eqb c 92) e in
         string_other c (escaped cs ++ 34 ∷ rest) (not_ten c both.0) plain.0
         ∙ rw plain.1 (ap (onto (c ∷ [])) behind)
 

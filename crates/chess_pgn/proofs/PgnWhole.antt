@@ -1,7 +1,6 @@
 -- The whole text of a game: what is written is read back.
 use Rattle.std.proofs.Common.{◌≡◌, ℕ, suc, ◌+◌, ◌-◌, ◌<◌, ◌≤◌, Bool, true, false, cond, eqb, List, [], ◌∷◌, ◌++◌, length, drop, Option, Some, None, refl, sym, ap, subst, ◌∙◌, append_assoc, arith}
 use Rattle.std.specs.Prelude.{codes, Ok, is_some}
-use Rattle.std.specs.List.{list_all}
 use Rattle.std.proofs.lemmas.Bool.Decides.{nat_tests}
 use Rattle.std.proofs.lemmas.List.{length-append, drop_at}
 use Rattle.std.proofs.lemmas.Slice.Eq.{bytes_eq-Decides}
@@ -29,21 +28,12 @@ use Rattle.chess_pgn.specs.Tokens.{first_place, begins_line, tokens_of, tokens_f
 use Rattle.chess_pgn.specs.Written.{tag_line, ended, filled_from}
 use Rattle.chess_pgn.proofs.PgnMoves.{outcome_some, filled_long, outcome_read, read_so_far, moves_read}
 use Rattle.chess_pgn.proofs.PgnPieces.{read_on, TakesLine, empty_line, tagged, ended_game, plain_tag, termination_tag, fen_tag}
-use Rattle.chess_pgn.proofs.PgnTags.{is_in_line, tag_text_in_line}
-use Rattle.chess_pgn.proofs.VariantTold.{told_on, tags_tell, moves_tell}
+use Rattle.chess_pgn.proofs.PgnTags.{tag_text_in_line}
+use Rattle.chess_pgn.proofs.VariantTold.{told_on, tags_tell, moves_tell, outcome_in_line}
 use Rattle.chess_pgn.proofs.Walk.{enough}
+use Rattle.chess_pgn.proofs.FenVariants.{initial_variant}
 
 -- ---- the tags
-
-outcome_in_line : (o : Outcome) → list_all is_in_line (outcome_text o) ≡ true
-outcome_in_line WhiteWins = refl
-outcome_in_line BlackWins = refl
-outcome_in_line Draw = refl
-outcome_in_line Unfinished = refl
-
-initial_variant : (v : Variant) → (initial_setup_of v).variant ≡ v
-unfolding initial_setup_of
-initial_variant v = refl
 
 initial_normal : initial_setup ≡ initial_setup_of Normal
 unfolding initial_setup

@@ -3,7 +3,7 @@ use Rattle.std.proofs.Common.{◌≡◌, ◌⊎◌, inl, inr, ℕ, zero, suc, �
 use Rattle.std.specs.Prelude.{◌&&◌, ◌||◌, nat_lt, nat_le, is_some, codes}
 use Rattle.std.specs.List.{list_any, prefix_len, take_while}
 use Rattle.std.specs.Str.{bytes_eq}
-use Rattle.std.proofs.lemmas.Bool.{ltb-true, leb-true}
+use Rattle.std.proofs.lemmas.Bool.{ltb-true, leb-true, and_parts, not-true}
 use Rattle.std.proofs.lemmas.Bool.Decides.{nat_tests}
 use Rattle.std.proofs.lemmas.List.{length-append, length-drop, drop-append-le, take-append-le, take_all, drop_at, get_or_append_left, take-append-drop}
 use Rattle.std.proofs.Math.Seq.{drop-length}
@@ -28,8 +28,8 @@ use Rattle.chess_pgn.specs.Tokens.{Token, Skip, Tag, Word, Bad_tag, Unclosed_com
 use Rattle.chess_pgn.specs.Words.{kind_of}
 use Rattle.chess_pgn.proofs.Cuts.{pick, Suffix, suffix_then, cut_suffix, Left, token_left, token_ten}
 use Rattle.chess_pgn.proofs.FaultPlaces.{behind}
-use Rattle.chess_pgn.proofs.PgnPieces.{shorter}
-use Rattle.chess_pgn.proofs.Walk.{none_left}
+use Rattle.chess_pgn.proofs.Walk.{none_left, shorter}
+use Rattle.chess_pgn.proofs.Strings.{string_quote}
 
 -- a property of two choices by one test
 pub both : {A B : Type 0} (P : A → B → Type 0) (t : Bool) (x y : A) (u v : B) → (t ≡ true → P x u) → (t ≡ false → P y v) → P (cond t x y) (cond t u v)
@@ -160,13 +160,10 @@ module _ (more : List ℕ) where
   onto_kept front None u h = tt
   onto_kept front (Some f) u h = ap (onto front) h
 
-  closing : (c : ℕ) (ys : List ℕ) → eqb c 34 ≡ true → string_at (c ∷ ys) ≡ Some ([], ys)
-  closing c [] e = rw e refl
-  closing c (d ∷ ys) e = rw e refl
-
   pub string_kept : (text : List ℕ) → StringKept (string_at text) (string_at (text ++ more))
   string_kept [] = tt
-  string_kept (c ∷ []) = pick (λ o. StringKept o (string_at (c ∷ more))) (eqb c 34) _ _ (λ e. closing c more e) (λ _. tt)
+  string_kept (c ∷ []) =
+      pick (λ o. StringKept o (string_at (c ∷ more))) (eqb c 34) _ _ (λ e. string_quote c more e) (λ _. tt)
   string_kept (c ∷ d ∷ rest) =
       both StringKept (eqb c 34) _ _ _ _ (λ _. refl) (λ _.
       both StringKept (eqb c 10) _ _ _ _ (λ _. tt) (λ _.
@@ -454,10 +451,6 @@ module _ (limit : ℕ) (g : SoFar) (fresh : g.is_begun ≡ false) where
   stays_open total left v u Unclosed_variation e = absurd (cc)
   stays_open total left v u Bad e = absurd (cc)
 
-pub not_is : (b : Bool) → not b ≡ true → b ≡ false
-not_is true e = absurd (true≢false (sym e))
-not_is false e = refl
-
 fen_or_not : (k : PgnFaultKind) → (k ≡ BadFen) ⊎ NoFenKind k
 fen_or_not BadTag = inr tt
 fen_or_not BadFen = inl refl
@@ -469,10 +462,6 @@ fen_or_not TooLong = inr tt
 fen_or_not UnclosedComment = inr tt
 fen_or_not UnclosedVariation = inr tt
 fen_or_not NoResult = inr tt
-
-pub test_parts : (a b : Bool) → (a && b) ≡ true → (a ≡ true) × (b ≡ true)
-test_parts true b e = (refl, e)
-test_parts false b e = absurd (true≢false (sym e))
 
 module _ (limit : ℕ) (front more : List ℕ) where
   abbrev total : ℕ
@@ -494,10 +483,6 @@ module _ (limit : ℕ) (front more : List ℕ) where
   Settled (Ok None) = ⊥
   Settled (Ok (Some e)) = e.place < length front
   Settled (Err f) = SettledKind f.kind f.place
-
-  abbrev SettledStop : Step → Type 0
-  SettledStop (On h) = ⊥
-  SettledStop (Stop r) = Settled r.answer
 
   -- at the text's end nothing is
   end_open : (g : SoFar) → Settled (at_text_end (length front) g).answer → ⊥
@@ -756,7 +741,7 @@ module _ (limit : ℕ) (front more : List ℕ) where
   -- ---- a game
 
   settled_fault : (at here : ℕ) (kind : PgnFaultKind) → settles_fault front at here kind ≡ true → SettledKind kind here
-  settled_fault at here BadTag h = not_is _ h
+  settled_fault at here BadTag h = not-true _ h
   settled_fault at here BadFen h = tt
   settled_fault at here BadToken h = h
   settled_fault at here IllegalMove h = h
@@ -830,7 +815,7 @@ module _ (limit : ℕ) (front more : List ℕ) where
   pub read_same : (at : ℕ) → at ≤ length front → is_settled limit front at ≡ true → pgn_read limit (front ++ more) at ≡ pgn_read limit front at
   unfolding pgn_read tokens_from is_settled
   read_same at inside settled =
-      let parts = test_parts (nat_lt 0 at || nat_le 3 (length front)) (settles_answer front at (pgn_read limit front at).answer) settled in
+      let parts = and_parts (nat_lt 0 at || nat_le 3 (length front)) (settles_answer front at (pgn_read limit front at).answer) settled in
       let place : ℕ = first_place front at in
       let within : place ≤ length front = (behind front at inside).1 in
       let all : List ℕ = front ++ more in

@@ -15,7 +15,7 @@ use Rattle.chess_pgn.specs.GameRead.{told_by, pgn_read}
 use Rattle.chess_pgn.specs.Local.{is_open_tag, has_word_end, is_firm, settled_by, settles_variant, settles_fault, settles_answer, is_settled, moved_answer, SettledIsMoved}
 use Rattle.chess_pgn.specs.Tokens.{Token, Skip, Tag, Word, Bad_tag, Unclosed_comment, Unclosed_variation, Bad, is_word_byte, token_at, tokens_of, first_place, begins_line, tokens_from}
 use Rattle.chess_pgn.proofs.MovedReads.{place_is, tokens_are, read_moved}
-use Rattle.chess_pgn.proofs.PgnPieces.{shorter}
+use Rattle.chess_pgn.proofs.Walk.{shorter}
 
 module _ (before text : List ℕ) where
   abbrev all : List ℕ

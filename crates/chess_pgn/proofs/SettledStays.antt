@@ -1,8 +1,8 @@
 -- What the beginning of a text settles is settled by every longer one.
 use Rattle.std.proofs.Common.{◌≡◌, ◌⊎◌, inl, inr, ℕ, zero, suc, ◌+◌, ◌-◌, ◌≤◌, ◌<◌, Bool, true, false, not, eqb, List, [], ◌∷◌, ◌++◌, length, drop, Option, Some, None, IfErr, Result, Ok, Err, refl, sym, ap, subst, ◌∙◌, arith, true≢false}
-use Rattle.std.specs.Prelude.{◌&&◌, ◌||◌, nat_lt, nat_le, ltb}
+use Rattle.std.specs.Prelude.{◌||◌, nat_lt, nat_le, ltb}
 use Rattle.std.specs.List.{list_any, prefix_len, take_while}
-use Rattle.std.proofs.lemmas.Bool.{ltb-true, leb-true}
+use Rattle.std.proofs.lemmas.Bool.{ltb-true, leb-true, and_parts, and_from, not-false, not-true}
 use Rattle.std.proofs.lemmas.Bool.Decides.{nat_tests}
 use Rattle.std.proofs.lemmas.List.{length-append, drop-append-le, drop_all}
 use Rattle.std.proofs.lemmas.List.Folds.{list_any-append}
@@ -18,17 +18,9 @@ use Rattle.chess_pgn.specs.Tokens.{Token, Skip, Tag, Word, Bad_tag, Unclosed_com
 use Rattle.chess_pgn.specs.Words.{kind_of}
 use Rattle.chess_pgn.proofs.Cuts.{Suffix}
 use Rattle.chess_pgn.proofs.FaultPlaces.{behind, fault_in_place}
-use Rattle.chess_pgn.proofs.Settled.{both, Kept, same, skipped, whole, no_tag, maybe_tag, open_comment, open_variation, bad, gap_kept, has_ten, string_kept, string_never, StringKept, Stops, run_stops, take_stops, drop_stops, take_whole, drop_whole, kept, shift, shift_told, not_is, test_parts, none_told, word_told, is_closed, next_there, fewer_left, fewer_more, line_same, rest_same, rest_there, few_here, few_longer, place_same, read_same}
+use Rattle.chess_pgn.proofs.Settled.{both, Kept, same, skipped, whole, no_tag, maybe_tag, open_comment, open_variation, bad, gap_kept, has_ten, string_kept, string_never, StringKept, Stops, run_stops, take_stops, drop_stops, take_whole, drop_whole, kept, shift, shift_told, none_told, word_told, is_closed, next_there, fewer_left, fewer_more, line_same, rest_same, rest_there, few_here, few_longer, place_same, read_same}
 
 -- ---- bytes behind a bracket that are no tag's
-
-neither : (a b : Bool) → (a || b) ≡ false → (a ≡ false) × (b ≡ false)
-neither true b e = absurd (true≢false e)
-neither false b e = (refl, e)
-
-not_not : (b : Bool) → not b ≡ false → b ≡ true
-not_not true e = refl
-not_not false e = absurd (true≢false e)
 
 module _ (more : List ℕ) where
   gap_closed : (text : List ℕ) → is_gap text ≡ false → is_gap (text ++ more) ≡ false
@@ -46,7 +38,7 @@ module _ (more : List ℕ) where
       by_string : (o : Option (List ℕ × List ℕ)) → string_at s ≡ o → StringKept more o (string_at (s ++ more))
           → is_open_behind s o ≡ false → is_open_string (s ++ more) ≡ false
       by_string None is h e =
-          let ten : has_ten more s ≡ true = not_not (list_any (λ c. eqb c 10) s) e in
+          let ten : has_ten more s ≡ true = not-false (list_any (λ c. eqb c 10) s) e in
           let longer : list_any (λ c. eqb c 10) (s ++ more) ≡ true = list_any-append (λ c. eqb c 10) s more
           ∙ ap (λ b. b || list_any (λ c. eqb c 10) more) ten in
           ap (is_open_behind (s ++ more)) (string_never more s is ten) ∙ ap not longer
@@ -119,7 +111,7 @@ module _ (more : List ℕ) where
         let same_place : length (front ++ more) - (left + length more) + 1 ≡ length front - left + 1 =
         omega (arith, sum) in
         ap (λ n. not (is_open_tag (drop n (front ++ more)))) same_place
-        ∙ ap not (closed_from (length front - left + 1) (not_is _ h))
+        ∙ ap not (closed_from (length front - left + 1) (not-true _ h))
     firm_stays left (Unclosed_comment brace) h = h
     firm_stays left Unclosed_variation h = h
     firm_stays left Bad h = refl
@@ -234,7 +226,7 @@ module _ (more : List ℕ) where
 
       fault_stays : (place : ℕ) (kind : PgnFaultKind) → place ≤ length front → settles_fault front at place kind ≡ true
           → settles_fault (front ++ more) at place kind ≡ true
-      fault_stays place BadTag within h = ap not (closed_from (place + 1) (not_is _ h))
+      fault_stays place BadTag within h = ap not (closed_from (place + 1) (not-true _ h))
       fault_stays place BadFen within h = variant_stays h
       fault_stays place BadToken within h = word_stays place within h
       fault_stays place IllegalMove within h = word_stays place within h
@@ -262,20 +254,16 @@ module _ (more : List ℕ) where
               let still : 3 ≤ length (front ++ more) = omega (arith, three, sum) in
               grind (arith, nat_tests, still)
 
-and_is : (a b : Bool) → a ≡ true → b ≡ true → (a && b) ≡ true
-and_is true b e f = f
-and_is false b e f = e
-
 test_is : (limit : ℕ) (text : List ℕ) (at : ℕ) → is_settled limit text at ≡ true
     → ((nat_lt 0 at || nat_le 3 (length text)) ≡ true) × (settles_answer text at (pgn_read limit text at).answer ≡ true)
 unfolding is_settled
-test_is limit text at h = test_parts (nat_lt 0 at || nat_le 3 (length text))
+test_is limit text at h = and_parts (nat_lt 0 at || nat_le 3 (length text))
     (settles_answer text at (pgn_read limit text at).answer) h
 
 is_from : (limit : ℕ) (text : List ℕ) (at : ℕ) → (nat_lt 0 at || nat_le 3 (length text)) ≡ true
     → settles_answer text at (pgn_read limit text at).answer ≡ true → is_settled limit text at ≡ true
 unfolding is_settled
-is_from limit text at e f = and_is (nat_lt 0 at || nat_le 3 (length text))
+is_from limit text at e f = and_from (nat_lt 0 at || nat_le 3 (length text))
     (settles_answer text at (pgn_read limit text at).answer) e f
 
 pub settled_stays : SettledStays

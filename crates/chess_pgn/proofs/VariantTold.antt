@@ -29,10 +29,10 @@ use Rattle.chess_pgn.specs.Tokens.{Token, Skip, Tag, Word, is_word_byte, token_a
 use Rattle.chess_pgn.specs.Words.{kind_of}
 use Rattle.chess_pgn.specs.Written.{escaped, tag_line, ended, column_behind, filled_from}
 use Rattle.chess_pgn.proofs.PgnFen.{fen_bare}
-use Rattle.chess_pgn.proofs.PgnPieces.{shorter, termination_bare}
+use Rattle.chess_pgn.proofs.PgnPieces.{termination_bare}
 use Rattle.chess_pgn.proofs.PgnTags.{is_in_line, bare_in_line, is_tag_name, tag_token, tag_line_bytes, tag_text_in_line}
 use Rattle.chess_pgn.proofs.PgnWords.{word_token, number_kind, decimal_digits, decimal_some, number_bytes}
-use Rattle.chess_pgn.proofs.Walk.{enough}
+use Rattle.chess_pgn.proofs.Walk.{enough, shorter}
 
 -- the variant told from a text on
 abbrev pub told_on : Variant → Bool → List ℕ → Variant
@@ -95,7 +95,7 @@ line_tells v u w begins line lines rest tells next =
 empty_line : (v : Variant) → TellsLine v v []
 empty_line v begins rest = line_end_tells v begins rest
 
-outcome_in_line : (o : Outcome) → list_all is_in_line (outcome_text o) ≡ true
+pub outcome_in_line : (o : Outcome) → list_all is_in_line (outcome_text o) ≡ true
 outcome_in_line WhiteWins = refl
 outcome_in_line BlackWins = refl
 outcome_in_line Draw = refl

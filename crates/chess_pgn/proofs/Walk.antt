@@ -31,7 +31,7 @@ token_rest begins c rest = by_test (eqb c 10) refl
     by_test false e = by_left e (token_left begins c rest e)
 
 -- a token takes at least a byte
-shorter : (begins : Bool) (c : ℕ) (rest : List ℕ) → length (token_at begins c rest).1 ≤ length rest
+pub shorter : (begins : Bool) (c : ℕ) (rest : List ℕ) → length (token_at begins c rest).1 ≤ length rest
 shorter begins c rest = by_rest (token_rest begins c rest)
   where
     by_rest : Rest c rest (token_at begins c rest).1 → length (token_at begins c rest).1 ≤ length rest

@@ -1,10 +1,8 @@
 -- A legal move stands in the list of all moves, once.
-use Rattle.std.proofs.Common.{◌≡◌, ◌≢◌, ℕ, zero, suc, ◌<◌, ◌≤◌, inl, inr, Bool, true, false, ◌&&◌, ◌||◌, cond, Option, Some, None, List, [], ◌∷◌, ◌++◌, map, refl, sym, ap, ◌∙◌, arith}
+use Rattle.std.proofs.Common.{◌≡◌, ◌≢◌, ℕ, zero, suc, ◌<◌, ◌≤◌, inl, inr, Bool, true, false, ◌&&◌, cond, Option, Some, None, List, [], ◌∷◌, map, refl, sym, ap, ◌∙◌, arith}
 use Rattle.std.specs.Prelude.{IfSome}
 use Rattle.std.proofs.lemmas.Bool.{cases_Bool, cases_lt, and_parts, and_from, false_from_ne_true, or_left, or_right}
 use Rattle.std.proofs.lemmas.List.{append-nil}
-use Rattle.std.proofs.lemmas.List.Elements.{filter-append}
-use Rattle.std.proofs.lemmas.List.Folds.{list_any-append}
 use Rattle.std.specs.List.{filter, flat_map, list_any}
 use Rattle.chess_base.specs.declared.man.Kind.{Kind}
 use Rattle.chess_base.specs.declared.man.Kind.TheVariants.{King, Queen, Rook, Bishop, Knight, Pawn}
@@ -13,16 +11,12 @@ use Rattle.chess_base.specs.declared.setup.Setup.{Setup}
 use Rattle.chess_base.specs.Moves.{is_legal}
 use Rattle.chess_base.specs.Squares.{from_below}
 use Rattle.chess_base.specs.MoveList.{promotions, triple, squares, all_triples, moves}
+use Rattle.chess_moves.proofs.Parts.{filter-flat_map}
+use Rattle.chess_moves.proofs.SomeMember.{any-filter, any-flat_map, any-square}
 use Rattle.chess_text.specs.Parts.{CanPromote}
 use Rattle.chess_text.proofs.Legal.{legal_move}
 
 -- ---- over lists
-
-pub filter-flat_map : {A B : Type 0} (q : B → Bool) (f : A → List B) (xs : List A)
-    → filter q (flat_map f xs) ≡ flat_map (λ x. filter q (f x)) xs
-filter-flat_map q f [] = refl
-filter-flat_map q f (x ∷ xs) = filter-append q (f x) (flat_map f xs)
-    ∙ ap (λ ys. filter q (f x) ++ ys) (filter-flat_map q f xs)
 
 pub filter-both : {A : Type 0} (q t : A → Bool) (xs : List A) → filter t (filter q xs) ≡ filter (λ x. q x && t x) xs
 filter-both q t [] = refl
@@ -32,35 +26,7 @@ filter-both q t (x ∷ xs) =
       | inl passed ↦ rw passed (ap (λ ys. cond (t x) (x ∷ ys) ys) (filter-both q t xs))
     ]
 
-filter-none : {A : Type 0} (q : A → Bool) (xs : List A) → ((x : A) → q x ≡ false) → filter q xs ≡ []
-filter-none q [] h = refl
-filter-none q (x ∷ xs) h = rw (h x) (filter-none q xs h)
-
-pub any-filter : {A : Type 0} (q t : A → Bool) (xs : List A) → list_any t (filter q xs) ≡ list_any (λ x. q x && t x) xs
-any-filter q t [] = refl
-any-filter q t (x ∷ xs) =
-    elim (cases_Bool (q x)) [
-      | inr failed ↦ rw failed (any-filter q t xs)
-      | inl passed ↦ rw passed (ap (λ b. t x || b) (any-filter q t xs))
-    ]
-
-any-flat_map : {A B : Type 0} (t : B → Bool) (f : A → List B) (xs : List A)
-    → list_any t (flat_map f xs) ≡ list_any (λ x. list_any t (f x)) xs
-any-flat_map t f [] = refl
-any-flat_map t f (x ∷ xs) = list_any-append t (f x) (flat_map f xs)
-    ∙ ap (λ b. list_any t (f x) || b) (any-flat_map t f xs)
-
 -- ---- over squares
-
-any-from_below : (n : ℕ) (g : ℕ → ℕ) (t : ℕ → Bool) (k : ℕ) → k < n → t (g k) ≡ true
-    → list_any t (from_below n g) ≡ true
-any-from_below zero g t k h e = absurd (omega arith)
-any-from_below (suc n) g t zero h e = or_left (t (g 0)) _ e
-any-from_below (suc n) g t (suc k) h e = or_right (t (g 0)) _ (any-from_below n (λ i. g (suc i)) t k (omega arith) e)
-
-any-square : (t : ℕ → Bool) (k : ℕ) → k < 64 → t k ≡ true → list_any t squares ≡ true
-unfolding squares
-any-square t k h e = any-from_below 64 (λ s. s) t k h e
 
 none-from_below : {A : Type 0} (n : ℕ) (g : ℕ → ℕ) (f : ℕ → List A) → ((k : ℕ) → k < n → f (g k) ≡ [])
     → flat_map f (from_below n g) ≡ []

@@ -18,6 +18,7 @@ use Rattle.chess_text.specs.declared.parts.Parts.{Parts}
 use Rattle.chess_text.specs.declared.parts.Promotion.{Promotion}
 use Rattle.chess_text.specs.declared.reading.Reading.{Reading}
 use Rattle.chess_text.specs.declared.reading.Reading.TheVariants as reads
+use mathlib.Core.Bool.{or-false}
 use Rattle.chess_text.specs.Parts.{unmarked, parts_at, parts_of}
 use Rattle.chess_text.specs.Moves.{castling_texts, is_castling_text, passes, is_form, fits, is_by_squares, is_by_letter, is_straight, is_from_file, shape, spells_described, spells, described, one_of, reading, IsLegalReading}
 use Rattle.chess_text.specs.ties.Forms.{form_of_parts, form_at, form_of, same_side, form_fits, is_spelled}
@@ -65,10 +66,6 @@ fits_by_form d (Some q) = by_test (is_form q) refl
     by_test true e = refl
     by_test false e = no_form q.letter q.file q.rank q.takes q.end.to q.end.promotion d e
 
-or_false : (b : Bool) → (b || false) ≡ b
-or_false true = refl
-or_false false = refl
-
 same_for : (test other : CastlingSide → Bool) → ((v : CastlingSide) → test v ≡ other v) → (o : Option CastlingSide) → passes test o ≡ passes other o
 same_for test other h None = refl
 same_for test other h (Some v) = h v
@@ -77,7 +74,7 @@ same_for test other h (Some v) = h v
 pub spelled_castling : (text : List ℕ) (w : CastlingSide) (d : Described) → IsCastling text w
     → (passes (λ v. list_any (bytes_eq text) (castling_texts v)) d.castles || passes (λ q. fits q d) (parts_at text)) ≡ passes (same_side w) d.castles
 spelled_castling text w d h =
-    rw h.no_parts (or_false _ ∙ same_for (λ v. list_any (bytes_eq text) (castling_texts v)) (same_side w) h.names d.castles)
+    rw h.no_parts (or-false _ ∙ same_for (λ v. list_any (bytes_eq text) (castling_texts v)) (same_side w) h.names d.castles)
 
 not_named : (text : List ℕ) → list_any (bytes_eq text) (castling_texts KingSide) ≡ false → list_any (bytes_eq text) (castling_texts QueenSide) ≡ false
     → (o : Option CastlingSide) → passes (λ v. list_any (bytes_eq text) (castling_texts v)) o ≡ false

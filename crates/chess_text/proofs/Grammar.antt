@@ -7,6 +7,7 @@ use Rattle.chess_base.specs.declared.man.Kind.{Kind}
 use Rattle.chess_base.specs.declared.man.Kind.TheVariants.{Pawn, Knight, Bishop, Rook, Queen, King}
 use Rattle.chess_base.specs.Letters.{white_letter}
 use Rattle.chess_base.specs.Writing.{square_text}
+use Rattle.chess_base.proofs.SpelledFields.{chosen}
 use Rattle.chess_text.specs.declared.parts.Parts.{Parts}
 use Rattle.chess_text.specs.declared.parts.End.{End}
 use Rattle.chess_text.specs.declared.parts.Promotion.{Promotion}
@@ -15,10 +16,6 @@ use Rattle.chess_text.specs.Parts.{optional, when, kind_text, promotion_letter, 
 mapped : {A B : Type 0} (f : A → B) (o : Option A) (y : B) → option_map f o ≡ Some y → (x : A) × (o ≡ Some x) × (f x ≡ y)
 mapped f None y e = absurd cc
 mapped f (Some x) y e = (x, refl, cc)
-
-chosen : {A : Type 0} (b : Bool) (o : Option A) (x : A) → cond b o None ≡ Some x → (b ≡ true) × (o ≡ Some x)
-chosen true o x e = (refl, e)
-chosen false o x e = absurd cc
 
 either : {A : Type 0} (o p : Option A) (x : A) → or_else o p ≡ Some x → (o ≡ Some x) ⊎ (p ≡ Some x)
 either (Some y) p x e = inl e

@@ -1,11 +1,9 @@
 -- What each legal move has.
-use Rattle.std.proofs.Common.{◌≡◌, ℕ, ◌<◌, ◌⊎◌, inl, inr, Bool, true, false, ◌&&◌, ◌||◌, not, cond, Option, Some, None, is_none, refl, sym, ap, ◌∙◌, ◌==◌, nat_lt}
+use Rattle.std.proofs.Common.{◌≡◌, ℕ, ◌<◌, Bool, true, false, ◌&&◌, ◌||◌, not, cond, Option, Some, None, is_none, refl, sym, ap, ◌∙◌, ◌==◌, nat_lt}
 use Rattle.std.specs.Prelude.{IfSome}
 use Rattle.std.proofs.lemmas.Bool.{and_parts, ltb-true, eqb-true}
 use Rattle.chess_base.specs.declared.man.CastlingSide.{CastlingSide}
-use Rattle.chess_base.specs.declared.man.CastlingSide.TheVariants.{KingSide, QueenSide}
 use Rattle.chess_base.specs.declared.man.Colour.{Colour}
-use Rattle.chess_base.specs.declared.man.Colour.TheVariants.{White, Black}
 use Rattle.chess_base.specs.declared.man.Kind.{Kind}
 use Rattle.chess_base.specs.declared.man.Kind.TheVariants.{King, Queen, Rook, Bishop, Knight, Pawn}
 use Rattle.chess_base.specs.declared.man.Variant.{Variant}
@@ -17,8 +15,11 @@ use Rattle.chess_base.specs.Attacks.{attacks, is_in_check}
 use Rattle.chess_base.specs.Men.{is_of, man_at, other, same_colour, same_kind, is_man, first_rank}
 use Rattle.chess_base.specs.Moves.{is_legal, has_pattern, after, moves_as, castles_or_moves, man_moves, pawn_moves, pawn_advances, pawn_captures, promotion_fits}
 use Rattle.chess_base.specs.declared.castling.Castle.{Castle}
-use Rattle.chess_base.specs.Castling.{castling, names_castling, says_castling, castled_king_file, castles, castle_of, castling_way_is_empty, castling_way_is_safe, home_square, king_home_file, right_of}
+use Rattle.chess_base.specs.Castling.{castling, names_castling, says_castling, castled_king_file, castles, castle_of, home_square, king_home_file, right_of}
 use Rattle.chess_base.specs.Squares.{rank}
+use Rattle.chess_base.proofs.MenFacts.{same_colour-true, is_none-None}
+use Rattle.chess_base.proofs.Landing.{says_from_castling}
+use Rattle.chess_base.proofs.TakesBack.{castles_unpromoted}
 use Rattle.chess_text.specs.declared.described.Described.{Described}
 use Rattle.chess_text.specs.Parts.{CanPromote}
 use Rattle.chess_text.specs.ties.Forms.{castling_end}
@@ -41,16 +42,6 @@ pub record IsMove (p : Setup) (m : Move) : Type 0 where
   pub moves_as : MovesAs p m man
   pub promotion_is : IfSome m.promotion CanPromote
 
-same_colour-true : (a b : Colour) → same_colour a b ≡ true → a ≡ b
-same_colour-true White White e = refl
-same_colour-true Black Black e = refl
-same_colour-true White Black e = absurd cc
-same_colour-true Black White e = absurd cc
-
-pub is_none-true : {A : Type 0} (o : Option A) → is_none o ≡ true → o ≡ None
-is_none-true None e = refl
-is_none-true (Some x) e = absurd cc
-
 fits_last : (last : Bool) (o : Option Kind) → promotion_fits last o ≡ true → IfSome o CanPromote
 fits_last last None e = tt
 fits_last last (Some King) e = absurd cc
@@ -64,16 +55,6 @@ none_promotes : (o : Option Kind) → o ≡ None → IfSome o CanPromote
 none_promotes o e = rw e tt
 
 -- ---- castling
-
-castling_by : (a b : Bool) (w : CastlingSide) → cond a (Some KingSide) (cond b (Some QueenSide) None) ≡ Some w → ((w ≡ KingSide) × (a ≡ true)) ⊎ ((w ≡ QueenSide) × (b ≡ true))
-castling_by true b w e = inl (cc, refl)
-castling_by false true w e = inr (cc, refl)
-castling_by false false w e = absurd cc
-
-says_from_castling : (p : Setup) (m : Move) (w : CastlingSide) → castling p m ≡ Some w → says_castling p m w ≡ true
-unfolding castling
-says_from_castling p m w e =
-    elim (castling_by (says_castling p m KingSide) (says_castling p m QueenSide) w e) [ inl k ↦ rw k.0 k.1 | inr q ↦ rw q.0 q.1 ]
 
 -- castling is the king's move between squares that name it
 pub castling_says : (p : Setup) (m : Move) (w : CastlingSide) → castling p m ≡ Some w
@@ -98,18 +79,12 @@ pawn_castles_not p m at (Some w) e =
 
 -- ---- the kinds of move
 
-castles_no_promotion : (p : Setup) (m : Move) (k : Castle) → castles p m k ≡ true → m.promotion ≡ None
-unfolding castles
-castles_no_promotion p m k e =
-    let two = and_parts (is_none m.promotion && castling_way_is_empty p.men k) (castling_way_is_safe p.men p.side k) e in
-    is_none-true m.promotion (and_parts (is_none m.promotion) (castling_way_is_empty p.men k) two.0).0
-
 no_promotion : (p : Setup) (m : Move) (o : Option Castle) → castles_or_moves p m o ≡ true → m.promotion ≡ None
 unfolding man_moves
 no_promotion p m None e =
     let two = and_parts (is_none m.promotion && attacks p.men m.from m.to) (not (is_of p.side (man_at p.men m.to))) e in
-    is_none-true m.promotion (and_parts (is_none m.promotion) (attacks p.men m.from m.to) two.0).0
-no_promotion p m (Some k) e = castles_no_promotion p m k e
+    is_none-None m.promotion (and_parts (is_none m.promotion) (attacks p.men m.from m.to) two.0).0
+no_promotion p m (Some k) e = castles_unpromoted p m k e
 
 abbrev officer_moves : Setup → Move → Bool
 officer_moves p m = castles_or_moves p m (castle_of p m)

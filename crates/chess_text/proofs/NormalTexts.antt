@@ -1,5 +1,5 @@
 -- On positions of normal chess the texts are those of normal chess.
-use Rattle.std.proofs.Common.{◌≡◌, ℕ, refl, ap}
+use Rattle.std.proofs.Common.{◌≡◌, refl, ap}
 use Rattle.chess_base.specs.declared.man.Variant.TheVariants.{Normal}
 use Rattle.chess_base.specs.declared.setup.Setup.{Setup}
 use Rattle.chess_base.specs.Castling.{castling, right_of}

@@ -1,13 +1,12 @@
 -- Where the moves begin that a form spells.
-use Rattle.std.proofs.Common.{◌≡◌, ℕ, ◌+◌, ◌*◌, ◌/◌, ◌%◌, ◌<◌, ◌≤◌, inl, inr, true, false, ◌&&◌, ◌||◌, ◌==◌, nat_lt, Option, Some, None, List, [], ◌∷◌, ◌++◌, length, refl, sym, ap, ◌∙◌, append-nil, append_assoc, arith}
+use Rattle.std.proofs.Common.{◌≡◌, ℕ, ◌+◌, ◌*◌, ◌/◌, ◌%◌, ◌<◌, inl, inr, true, false, ◌&&◌, ◌||◌, ◌==◌, nat_lt, Option, Some, None, List, [], ◌∷◌, ◌++◌, refl, sym, ap, ◌∙◌, arith}
 use Rattle.std.specs.Prelude.{is_none}
 use Rattle.std.specs.List.{filter, flat_map}
-use Rattle.std.proofs.lemmas.List.Sums.{length-filter, count_by-le-length}
 use Rattle.std.proofs.lemmas.Bool.Decides.{nat_tests}
 use Rattle.std.proofs.lemmas.Bool.{and_parts, false_from_ne_true, or_cases, eq-eqb, eqb-true}
 use Rattle.chess_base.specs.declared.man.CastlingSide.{CastlingSide}
 use Rattle.chess_base.specs.declared.man.Kind.{Kind}
-use Rattle.chess_base.specs.declared.man.Kind.TheVariants.{King, Queen, Rook, Bishop, Knight, Pawn}
+use Rattle.chess_base.specs.declared.man.Kind.TheVariants.{King, Pawn}
 use Rattle.chess_base.specs.declared.man.Colour.{Colour}
 use Rattle.chess_base.specs.declared.man.Colour.TheVariants.{White, Black}
 use Rattle.chess_base.specs.declared.man.Man.{Man}
@@ -16,7 +15,7 @@ use Rattle.chess_base.specs.declared.setup.Setup.{Setup}
 use Rattle.chess_base.specs.Squares.{file, rank}
 use Rattle.chess_base.specs.Men.{man_at, is_man, same_kind, same_colour}
 use Rattle.chess_base.specs.Moves.{is_legal}
-use Rattle.chess_base.specs.MoveList.{promotions, triple, squares, moves}
+use Rattle.chess_base.specs.MoveList.{promotions, triple, moves}
 use Rattle.chess_moves.specs.Sets.{has, members, HasOrigins}
 use Rattle.chess_moves.proofs.Members.{flat_map_members}
 use Rattle.chess_text.specs.declared.described.Described.{Described}
@@ -49,14 +48,6 @@ unfolding is_spelled
 fits_told p q m h e = rw (described_is p m h) at e
 
 -- ---- by the form
-
-no_men : (k : Kind) → same_kind k k ≡ true
-no_men King = refl
-no_men Queen = refl
-no_men Rook = refl
-no_men Bishop = refl
-no_men Knight = refl
-no_men Pawn = refl
 
 -- a square by its file and rank
 square_by : (s : ℕ) → 8 * (s / 8) + s % 8 ≡ s

@@ -1,5 +1,5 @@
 -- A pawn's move is fixed by where it ends and by its file.
-use Rattle.std.proofs.Common.{◌≡◌, ◌≢◌, ℕ, zero, suc, ◌+◌, ◌<◌, ◌≤◌, ◌⊎◌, inl, inr, Bool, true, false, ◌&&◌, ◌||◌, Option, Some, None, is_none, refl, sym, ap, ◌∙◌, arith, ◌==◌}
+use Rattle.std.proofs.Common.{◌≡◌, ◌≢◌, ℕ, ◌+◌, ◌<◌, ◌≤◌, inl, inr, true, false, ◌&&◌, ◌||◌, Option, Some, None, is_none, refl, sym, ap, ◌∙◌, arith, ◌==◌}
 use Rattle.std.proofs.lemmas.Bool.{and_parts, and_from, or_cases, or_left, or_right, both_ways, eqb-true}
 use Rattle.chess_base.specs.declared.man.Colour.{Colour}
 use Rattle.chess_base.specs.declared.man.Colour.TheVariants.{White, Black}
@@ -12,27 +12,16 @@ use Rattle.chess_base.specs.Men.{Men, man_at, other, is_of, is_man, same_colour,
 use Rattle.chess_base.specs.Moves.{is_double_advance, is_en_passant, pawn_advances, pawn_captures, pawn_moves, promotion_fits}
 use Rattle.chess_base.specs.Squares.{is_square}
 use Rattle.chess_base.specs.Sound.{IsSound, pawn_may_stand, no_pawn_on_end_ranks}
-use Rattle.chess_base.specs.Squares.{file, rank, gap, each_below, each_square}
+use Rattle.chess_base.specs.Squares.{file, rank, gap, each_square}
+use Rattle.chess_base.proofs.OverSquares.{each_below-at}
+use Rattle.chess_base.proofs.MenFacts.{same_colour-self, is_none-None}
+use Rattle.chess_base.proofs.Changes.{advance_to_empty}
 use Rattle.chess_text.specs.Moves.{captures}
-use Rattle.chess_text.proofs.Legal.{is_none-true}
 
 abbrev pub pawn_of : Colour → Man
 pawn_of c = record { colour = c; kind = Pawn }
 
 -- ---- no pawn stands on its first rank
-
-last_or_below : (n k : ℕ) → k < suc n → (k ≡ n) ⊎ (k < n)
-last_or_below n k h = grind arith
-
-each_below-at : (n : ℕ) (p : ℕ → Bool) → each_below n p ≡ true → (k : ℕ) → k < n → p k ≡ true
-each_below-at zero p e k h = absurd (omega arith)
-each_below-at (suc n) p e k h =
-    let both = and_parts (each_below n p) (p n) e in
-    elim (last_or_below n k h) [ inl same ↦ rw same both.1 | inr less ↦ each_below-at n p both.0 k less ]
-
-same_colour-self : (c : Colour) → same_colour c c ≡ true
-same_colour-self White = refl
-same_colour-self Black = refl
 
 stands_off : (men : Men) (c : Colour) (s : ℕ) → man_at men s ≡ Some (pawn_of c) → pawn_may_stand men s ≡ true
     → rank s ≢ 0
@@ -73,7 +62,7 @@ advance_of p m e =
           let home = and_parts (is_man p.side Pawn (man_at p.men m.from)) (rank m.from == pawn_rank p.side) three.0 in
           Double (eqb-true m.to (forward p.side (forward p.side m.from)) three.1)
           (eqb-true (rank m.from) (pawn_rank p.side) home.1)
-          (is_none-true (man_at p.men (forward p.side m.from)) parts.1)
+          (is_none-None (man_at p.men (forward p.side m.from)) parts.1)
     ]
 
 one_on_file : (c : Colour) (a b : ℕ) → 8 ≤ a → b ≡ forward c a → file a ≡ file b
@@ -179,12 +168,6 @@ is_of-none : (c : Colour) (o : Option Man) → is_of c o ≡ true → is_none o 
 unfolding is_of
 is_of-none c None e n = cc
 is_of-none c (Some x) e n = cc
-
-advance_to_empty : (p : Setup) (m : Move) → pawn_advances p m ≡ true → is_none (man_at p.men m.to) ≡ true
-unfolding pawn_advances
-advance_to_empty p m e =
-    (and_parts (is_none (man_at p.men m.to))
-    ((m.to == forward p.side m.from) || (is_double_advance p m && is_none (man_at p.men (forward p.side m.from)))) e).0
 
 en_passant_attacks : (p : Setup) (m : Move) → is_en_passant p m ≡ true → attacks p.men m.from m.to ≡ true
 unfolding is_en_passant

@@ -16,14 +16,16 @@ use Rattle.chess_base.specs.Men.{man_at, same_kind}
 use Rattle.chess_base.specs.Moves.{is_legal, after, pawn_moves}
 use Rattle.chess_base.specs.Castling.{castling, right_of}
 use Rattle.chess_base.specs.MoveList.{moves}
-use Rattle.chess_base.specs.Sound.{IsSound, has_one_king}
+use Rattle.chess_base.specs.Sound.{IsSound}
 use Rattle.chess_base.proofs.Kings.{one_king}
-use Rattle.chess_base.specs.declared.man.Colour.{Colour}
-use Rattle.chess_base.specs.declared.man.Colour.TheVariants.{White, Black}
 use Rattle.chess_base.specs.Squares.{file, rank}
 use Rattle.chess_text.specs.declared.parts.Parts.{Parts}
 use Rattle.chess_text.specs.declared.parts.Promotion.{Promotion}
 use Rattle.chess_text.specs.declared.reading.Reading.TheVariants as reads
+use mathlib.Core.Bool.{not-or_self}
+use Rattle.chess_base.proofs.MenFacts.{is_none-None}
+use Rattle.chess_base.proofs.StaysSound.{one_king_of}
+use Rattle.chess_moves.proofs.SomeMember.{any-filter}
 use Rattle.chess_text.specs.declared.writing.ToldStart.{ToldStart}
 use Rattle.chess_text.specs.laws.Laws.{SpellsAlone, is_san_byte, begins_with_letter}
 use Rattle.chess_text.specs.Parts.{AreParts, IsOfficer, CanPromote, unmarked, parts_text}
@@ -31,9 +33,9 @@ use Rattle.chess_text.specs.Moves.{captures, passes, admits, has_equals, promote
 use Rattle.chess_text.specs.ties.Forms.{same_side}
 use Rattle.chess_text.specs.San.{castling_text, told_start, if_said, pawn_parts, officer_parts, walk_parts, is_rival, rival_starts, text_by_castling, check_mark, san_as, san}
 use Rattle.chess_text.proofs.Alone.{read_alone, spelled_parts, shape_parts, spelled_castling, shape_castling, spells_move, same_kind-self, same_kind-true, move_is, written, promotes-self, promotes-same}
-use Rattle.chess_text.proofs.AllMoves.{any-filter, any-move}
+use Rattle.chess_text.proofs.AllMoves.{any-move}
 use Rattle.chess_text.proofs.Castlings.{IsCastling, letters_kingside, letters_queenside}
-use Rattle.chess_text.proofs.Legal.{is_none-true, MovesAs, IsMove, legal_move, told_of, described_is, castling_says, names_end}
+use Rattle.chess_text.proofs.Legal.{MovesAs, IsMove, legal_move, told_of, described_is, castling_says, names_end}
 use Rattle.chess_text.proofs.Pawns.{pawn_of, pawn_stands, advances_on_file, same_advance, advances_without, advances_straight, captures_ahead, same_ahead}
 use Rattle.chess_text.proofs.Solid.{bare_parts, bare_castling, bare_marked}
 use Rattle.chess_text.proofs.Words.{IsWord, Word, file_letter, man_letter, parts_bytes, castling_word, castling_bytes, marked_word}
@@ -67,17 +69,13 @@ castles_so : (w : CastlingSide) (o : Option CastlingSide) → passes (same_side 
 castles_so w None e = absurd cc
 castles_so w (Some v) e = ap Some (same_side-true w v e)
 
-king_of : (p : Setup) → IsSound p → (c : Colour) → has_one_king p.men c ≡ true
-king_of p sound White = sound.white_king
-king_of p sound Black = sound.black_king
-
 -- two castlings to one side are one move
 same_castling : (p : Setup) (m n : Move) (w : CastlingSide) → IsSound p → IsMove p m → IsMove p n → castling p m ≡ Some w → castling p n ≡ Some w → n ≡ m
 same_castling p m n w sound h g e f =
     let a = castling_says p m w e in
     let b = castling_says p n w f in
     let right = right_of p.rights p.side w in
-    move_is n m (one_king p.men p.side n.from m.from sound.board (king_of p sound p.side) b.0 a.0)
+    move_is n m (one_king p.men p.side n.from m.from sound.board (one_king_of p sound p.side) b.0 a.0)
     (names_end p.variant p.side n w right b.1 ∙ sym (names_end p.variant p.side m w right a.1)) (castles_plain p n w g.man g.moves_as f ∙ sym (castles_plain p m w h.man h.moves_as e))
 
 -- ---- pawns
@@ -233,17 +231,13 @@ officer_form : (k : Kind) (start : ToldStart) (c : Bool) (from to : ℕ) → is_
 unfolding is_form
 officer_form k start c from to = refl
 
-not_or-self : (c : Bool) → (not c || c) ≡ true
-not_or-self true = refl
-not_or-self false = refl
-
 officer_fits : (p : Setup) (m : Move) (k : Kind) (start : ToldStart) → castling p m ≡ None → fits (officer_named k start (captures p m) m.from m.to) (told_of p m k) ≡ true
 unfolding fits is_by_squares is_by_letter is_straight is_from_file
 officer_fits p m k start none =
     let a = same_kind-self k in
     let b = told_admits start.file (file m.from) in
     let c = told_admits start.rank (rank m.from) in
-    let d = not_or-self (captures p m) in
+    let d = not-or_self (captures p m) in
     let e = eq-eqb m.to m.to refl in
     rw (none, a, b, c, d, e) refl
 
@@ -271,7 +265,7 @@ officer_goes p m n k l start c e =
     let e2 = and_parts (same_kind k l && is_none (castling p n) && admits (if_said start.file (file m.from)) (file n.from)) (admits (if_said start.rank (rank m.from)) (rank n.from)) e3.0 in
     let e1 = and_parts (same_kind k l && is_none (castling p n)) (admits (if_said start.file (file m.from)) (file n.from)) e2.0 in
     let e0 = and_parts (same_kind k l) (is_none (castling p n)) e1.0 in
-    record { man = sym (same_kind-true k l e0.0); walks = is_none-true (castling p n) e0.1; file_fits = e1.1; rank_fits = e2.1; to = sym (eqb-true m.to n.to e4.1) }
+    record { man = sym (same_kind-true k l e0.0); walks = is_none-None (castling p n) e0.1; file_fits = e1.1; rank_fits = e2.1; to = sym (eqb-true m.to n.to e4.1) }
 
 any-map : {A B : Type 0} (t : B → Bool) (g : A → B) (xs : List A) → list_any t (map g xs) ≡ list_any (λ x. t (g x)) xs
 any-map t g [] = refl

@@ -1,5 +1,5 @@
 -- The text of a legal move as lists and lines of moves show it spells it alone.
-use Rattle.std.proofs.Common.{◌≡◌, true, Option, Some, None, refl}
+use Rattle.std.proofs.Common.{◌≡◌, Option, Some, None, refl}
 use Rattle.std.specs.Prelude.{IsTrue}
 use Rattle.chess_base.specs.declared.man.CastlingSide.{CastlingSide}
 use Rattle.chess_base.specs.declared.man.Move.{Move}

@@ -1,4 +1,5 @@
 -- All moves that a form spells end on one square, so that none needs be looked at that ends elsewhere.
+use mathlib.Core.Bool.{and_comm}
 use Rattle.std.proofs.Common.{◌≡◌, ◌≢◌, ℕ, ◌≤◌, inl, inr, Bool, true, false, ◌&&◌, ◌||◌, Option, Some, None, List, [], ◌∷◌, map, refl, sym, ap, ◌∙◌, arith}
 use Rattle.std.proofs.lemmas.Bool.Decides.{nat_tests}
 use Rattle.std.proofs.lemmas.Bool.{and_parts, or_cases, false_from_ne_true}
@@ -12,6 +13,7 @@ use Rattle.chess_base.specs.Men.{man_at}
 use Rattle.chess_base.specs.Moves.{is_legal}
 use Rattle.chess_base.specs.Castling.{right_of}
 use Rattle.chess_base.specs.MoveList.{promotions, triple, squares, all_triples, moves}
+use Rattle.chess_moves.proofs.Parts.{filter-flat_map}
 use Rattle.chess_text.specs.declared.described.Described.{Described}
 use Rattle.chess_text.specs.declared.form.Form.{Form}
 use Rattle.chess_text.specs.declared.form.Form.TheVariants.{Castling, Walk}
@@ -19,7 +21,7 @@ use Rattle.chess_text.specs.declared.parts.Parts.{Parts}
 use Rattle.chess_text.specs.Moves.{described, described_as, is_by_squares, is_by_letter, is_straight, is_from_file, fits, passes}
 use Rattle.chess_text.specs.ties.Forms.{same_side, form_fits, is_spelled, castling_end, end_of, spelled_with}
 use Rattle.chess_text.proofs.Alone.{castled}
-use Rattle.chess_text.proofs.AllMoves.{filter-flat_map, filter-both, none-kept, kept, alone-square}
+use Rattle.chess_text.proofs.AllMoves.{filter-both, none-kept, kept, alone-square}
 use Rattle.chess_text.proofs.Legal.{castling_says, names_end, legal_move}
 
 -- ---- where a spelled move ends
@@ -89,12 +91,6 @@ not_legal form p m past =
     (λ h. let legal = legal_move p m (and_parts (is_spelled form p m) (is_legal p m) h).1 in let below = legal.to_in in
     omega (arith, below, past))
 
-and_turned : (a b : Bool) → (a && b) ≡ (b && a)
-and_turned true true = refl
-and_turned true false = refl
-and_turned false true = refl
-and_turned false false = refl
-
 filter_same : {A : Type 0} (q t : A → Bool) → ((x : A) → q x ≡ t x) → (xs : List A) → filter q xs ≡ filter t xs
 filter_same q t h [] = refl
 filter_same q t h (x ∷ xs) = rw (h x, filter_same q t h xs) refl
@@ -119,7 +115,7 @@ unfolding moves all_triples
 all_spelled form p =
     sym (filter-both (λ m. is_legal p m) (λ m. is_spelled form p m) all_triples
     ∙ filter_same (λ m. is_legal p m && is_spelled form p m) (fit form p)
-    (λ m. and_turned (is_legal p m) (is_spelled form p m)) all_triples
+    (λ m. and_comm (is_legal p m) (is_spelled form p m)) all_triples
     ∙ filter-flat_map (fit form p) (λ a. flat_map (λ b. map (triple a b) promotions) squares) squares
     ∙ flat_map_same (λ a. filter (fit form p) (flat_map (λ b. map (triple a b) promotions) squares))
     (λ a. spelled_with form p a (end_of form p) promotions) (from_one form p) squares)

@@ -1,11 +1,10 @@
 -- What was read of an input, and more of it behind that.
-use Rattle.std.proofs.Common.{◌≡◌, ◌≤◌, ◌<◌, ◌⊎◌, ℕ, ◌+◌, ◌-◌, ◌==◌, Bool, true, false, if◌then◌else◌, nat_eq, List, [], ◌∷◌, ◌++◌, length, take, drop, Result, Ok, Err, IsErr, refl, sym, ap, subst, ◌∙◌, append_assoc, append-nil, arith}
-use Rattle.std.specs.Io.KnownBytes.{Consumes}
+use Rattle.std.proofs.Common.{◌≡◌, ◌≤◌, ℕ, ◌+◌, ◌-◌, ◌==◌, Bool, true, false, if◌then◌else◌, List, [], ◌++◌, length, drop, Result, Ok, Err, IsErr, refl, sym, ap, subst, ◌∙◌, append_assoc, append-nil, arith}
 use Rattle.std.proofs.lemmas.Bool.Decides.{nat_tests}
 use Rattle.std.proofs.lemmas.List.{length-append, length-drop, drop-append-le, drop-drop}
 use Rattle.byte_devices.specs.Devices.{InputState, GavePiece, FailedToRead, risen}
 use Rattle.byte_devices.proofs.DeviceLaws.{consumes_more, consumes_none, consumes_kept}
-use Rattle.pgn_stream.specs.Stream.{StreamState, IsFront, IsWhole, BrokeOff, HasRead, IsWholeOf, StandsAt, GoesOn}
+use Rattle.pgn_stream.specs.Stream.{StreamState, IsFront, BrokeOff, HasRead, IsWholeOf, StandsAt, GoesOn}
 use Rattle.pgn_stream.specs.ties.Held.{Adds, Fills, IsSlid, is_full}
 
 -- ---- the input

@@ -1,5 +1,5 @@
 -- A game that is read where a stream stands, and where it stands then.
-use Rattle.std.proofs.Common.{◌≡◌, ◌≤◌, ◌<◌, ℕ, ◌+◌, Bool, true, false, List, [], ◌++◌, length, drop, Option, Some, None, Result, Ok, Err, IfOk, refl, sym, ap, subst, ◌∙◌, append-nil, arith}
+use Rattle.std.proofs.Common.{◌≡◌, ℕ, ◌+◌, Bool, true, false, List, [], ◌++◌, Option, Some, None, Result, Ok, Err, IfOk, refl, sym, ap, subst, ◌∙◌, append-nil}
 use Rattle.std.specs.Prelude.{if◌then◌else◌, IfSome}
 use Rattle.byte_devices.specs.Devices.{InputState}
 use Rattle.chess_game.specs.Game.{Seen, at as left_at}
@@ -7,7 +7,7 @@ use Rattle.chess_pgn.specs.declared.read.PgnEnd.{PgnEnd}
 use Rattle.chess_pgn.specs.declared.read.PgnFault.{PgnFault}
 use Rattle.chess_pgn.specs.GameRead.{pgn_read}
 use Rattle.chess_pgn.specs.Local.{moved_answer}
-use Rattle.pgn_stream.specs.Stream.{StreamState, place, HasRead, IsWholeOf, StandsAt, GoesOn, IsTold}
+use Rattle.pgn_stream.specs.Stream.{StreamState, place, IsWholeOf, StandsAt, GoesOn, IsTold}
 use Rattle.pgn_stream.specs.ties.Held.{IsSound, is_full, is_held, held_answer, too_long, place_behind, WindowsTell}
 
 -- ---- what is told

@@ -1,5 +1,5 @@
 -- The first line of a tag Event behind a stream's place, in each whole text.
-use Rattle.std.proofs.Common.{◌≡◌, ◌≤◌, ◌<◌, ℕ, suc, ◌+◌, ◌-◌, ◌^◌, Bool, true, false, cond, eqb, List, [], ◌∷◌, ◌++◌, length, get_or, take, drop, Option, Some, None, Result, Ok, Err, IfErr, IsErr, refl, sym, ap, subst, ◌∙◌, append_assoc, append-nil, arith}
+use Rattle.std.proofs.Common.{◌≡◌, ◌≤◌, ◌<◌, ℕ, ◌+◌, ◌-◌, ◌^◌, Bool, true, false, cond, eqb, List, [], ◌++◌, length, get_or, take, drop, Some, None, Result, Ok, Err, IfErr, IsErr, refl, sym, ap, subst, ◌∙◌, append_assoc, append-nil, arith}
 use Rattle.std.specs.Prelude.{◌&&◌, ◌||◌, codes, max, leb, nat_le}
 use Rattle.std.specs.Result.{IsErrAnd}
 use Rattle.std.specs.Str.{bytes_eq}
@@ -12,7 +12,7 @@ use Rattle.byte_devices.specs.Devices.{InputState}
 use Rattle.pgn_stream.specs.declared.stream.StreamFault.{StreamFault}
 use Rattle.pgn_stream.specs.declared.stream.StreamFault.TheVariants.{ReadFailed, InputTooLong}
 use Rattle.pgn_stream.specs.Stream.{StreamState, place, IsWholeOf, StandsAt, GoesOn, Stops, IsFront, BrokeOff, IsPastPlaces, FindsEvent, is_event_line, IsNextEvent}
-use Rattle.pgn_stream.specs.ties.Held.{IsSound, FindsHeld, is_full}
+use Rattle.pgn_stream.specs.ties.Held.{FindsHeld, is_full}
 
 -- ---- lines of lists
 

@@ -1,10 +1,11 @@
 -- What a window on a text tells of a game is told of it in each whole text that goes on behind.
-use Rattle.std.proofs.Common.{◌≡◌, ◌≤◌, ◌<◌, ℕ, suc, ◌+◌, ◌-◌, Bool, true, false, cond, List, [], ◌∷◌, ◌++◌, length, take, drop, Option, Some, None, Result, Ok, Err, refl, sym, ap, subst, ◌∙◌, append_assoc, append-nil, arith}
+use Rattle.std.proofs.Common.{◌≡◌, ◌≤◌, ◌<◌, ℕ, ◌+◌, ◌-◌, Bool, true, false, cond, List, [], ◌∷◌, ◌++◌, length, take, drop, Option, Some, None, Result, Ok, Err, refl, sym, ap, subst, ◌∙◌, append-nil, arith}
 use Rattle.std.specs.Prelude.{◌&&◌, ◌||◌, nat_le}
 use Rattle.std.specs.List.{prefix_len}
 use Rattle.std.proofs.lemmas.Bool.Decides.{nat_tests}
-use Rattle.std.proofs.lemmas.List.{length-append, length-take-le, take-append-drop, take-append-le}
-use Rattle.std.proofs.Math.Seq.{drop-append-add, drop-append_seam, take-append-add, take-append_seam}
+use Rattle.std.proofs.lemmas.List.{length-append, length-take-le, take-append-drop}
+use Rattle.std.proofs.Math.Seq.{drop-append-add, take-append-add, take-append_seam}
+use Rattle.std.proofs.lemmas.Bool.{or_right, or_from, or_left}
 use Rattle.chess_pgn.specs.declared.read.PgnEnd.{PgnEnd}
 use Rattle.chess_pgn.specs.declared.read.PgnFault.{PgnFault}
 use Rattle.chess_pgn.specs.declared.read.PgnFaultKind.TheVariants.{TooLong}
@@ -52,18 +53,6 @@ first_are : (text rest : List ℕ) (at : ℕ) → length text ≡ at + 16777217 
 unfolding first_bytes
 first_are text rest at h = ap (λ n. take n (text ++ rest)) (sym h) ∙ take-append_seam text rest
 
-or_left : (a b : Bool) → a ≡ true → (a || b) ≡ true
-or_left true b h = refl
-or_left false b h = cc
-
-or_right : (a b : Bool) → b ≡ true → (a || b) ≡ true
-or_right true b h = refl
-or_right false b h = h
-
-neither : (a b : Bool) → a ≡ false → b ≡ false → (a || b) ≡ false
-neither true b h k = cc
-neither false b h k = k
-
 in_reach_by : (limit : ℕ) (text : List ℕ) (at : ℕ) → is_settled limit (first_bytes text at) at ≡ true
     → is_in_reach limit text at ≡ true
 unfolding is_in_reach
@@ -81,7 +70,7 @@ out_of_reach : (limit : ℕ) (text : List ℕ) (at : ℕ) → at + 16777216 < le
 unfolding is_in_reach
 out_of_reach limit text at h e =
     let many : nat_le (length text) (at + 16777216) ≡ false = grind (arith, nat_tests, h) in
-    neither (nat_le (length text) (at + 16777216)) (is_settled limit (first_bytes text at) at) many e
+    or_from (nat_le (length text) (at + 16777216)) (is_settled limit (first_bytes text at) at) many e
 
 told_in_reach : (limit : ℕ) (text : List ℕ) (at : ℕ) → is_in_reach limit text at ≡ true
     → game_at limit text at ≡ (pgn_read limit text at).answer

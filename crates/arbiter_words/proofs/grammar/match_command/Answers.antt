@@ -1,9 +1,8 @@
 -- The command is built in the order of `match_app`: an argument that isn't global is added as `with_rule` adds it, and
 -- adds no global one to those before it.
-use Rattle.std.proofs.Common.{rules, ◌≡◌, ◌∙◌, ap, ap₂, codes, Bool, false, ◌||◌}
+use Rattle.std.proofs.Common.{rules, ◌≡◌, ◌∙◌, ap₂, codes, Bool, ◌||◌}
 use Rattle.std.proofs.lemmas.Result.{IfOk-weaker}
-use Rattle.clap.specs.Words.{app_of, rule_of, with_rule}
-use Rattle.clap.specs.declared.builder.command.Command.TheViews.{out-Command as fields_of}
+use Rattle.clap.specs.Words.{rule_of, with_rule}
 use Rattle.arbiter_words.specs.Grammar.{option_rule, needed}
 use Rattle.arbiter_words.proofs.grammar.match_command.Goals as goal
 

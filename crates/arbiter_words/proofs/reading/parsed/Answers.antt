@@ -1,7 +1,7 @@
 -- Of a grammar as simple as this one `clap` promises what it finds, and that it refuses no words that it takes but for
 -- want of memory (parsed_by). Where there was no memory for the grammar, any names will do (without_grammar).
 use Rattle.std.proofs.Common.{rules, IsErr, ◌≡◌, ◌∙◌, ap, map, [], ◌∷◌, codes, IfOk, IfErr, List, Result, Ok, Err, Bor, refl, true, sym}
-use Rattle.clap.specs.Words.{App, FailsBy, HasMatchesOf, Kinds, Text, app_of, fault_of, is_simple, is_simple_and_free, kind_of, subcommand_of, takes}
+use Rattle.clap.specs.Words.{App, FailsBy, HasMatchesOf, Text, fault_of, is_simple, is_simple_and_free, kind_of, subcommand_of, takes}
 use Rattle.clap.specs.declared.error.Error.{Error}
 use Rattle.clap.specs.declared.error.kind.ErrorKind.TheVariants.{OutOfMemory}
 use Rattle.clap.specs.declared.parser.matches.ArgMatches.{ArgMatches}

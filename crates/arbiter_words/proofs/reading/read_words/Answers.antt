@@ -1,6 +1,6 @@
 -- What was entered is what the words ask for (Readings.some_asked), with all that its command needs, since `clap` took
 -- the words (Readings.entered_well). What is planned by it is a reading of the words (Readings.planned_reading).
-use Rattle.std.proofs.Common.{rules, ◌≡◌, ap, sym, subst, map, Some, None, Ok, Err}
+use Rattle.std.proofs.Common.{rules, ◌≡◌, ap, sym, subst, map, Some, None, Ok}
 use Rattle.arbiter_words.specs.Grammar.{asked}
 use Rattle.arbiter_words.specs.Plans.{IsParsed, IsSpelledOf}
 use Rattle.arbiter_words.proofs.Readings.{refused_reading, planned_reading, none_asked, some_asked, entered_well}

@@ -1,16 +1,14 @@
 -- A value that was given is a number from 1 to 1,000, so it parses (accepts-Accepts); it is the first in the row of the
 -- option (first_value-rows), and without one there is one game.
-use Rattle.std.proofs.Common.{rules, ◌≡◌, ◌∙◌, ◌≤◌, ◌<◌, ◌^◌, ℕ, ap, codes, Option, Some, None, option_map, sym, Bor, arith, false, subst}
+use Rattle.std.proofs.Common.{rules, ◌≡◌, ◌∙◌, ◌≤◌, ◌<◌, ◌^◌, ℕ, ap, codes, Option, Some, None, sym, arith, false, subst}
 use Rattle.std.specs.Option.{option_map_or}
 use Rattle.std.specs.Str.Parse.{digits_value, without_leading_plus}
 use Rattle.clap.specs.Words.{Text, first_of, first_value, found_of, rows_of}
 use Rattle.clap.specs.declared.builder.value_parser.ValueParser.TheVariants as vp
 use Rattle.clap.proofs.WalkLemmas.{first_value-rows}
 use Rattle.clap.proofs.ValueTestLemmas.{accepts-Accepts}
+use Rattle.arbiter_words.proofs.FoundTexts.{text_of}
 use Rattle.arbiter_words.proofs.spelled.games_of.Goals as goal
-
-abbrev text_of : Option (Bor Text) → Option Text
-text_of = option_map (λ s. s.now)
 
 abbrev number : Text → ℕ
 number t = digits_value 10 (without_leading_plus t)

@@ -1,12 +1,10 @@
 -- What `clap` finds of an option is the first value in its row (first_value-rows), so each field is as it is spelled;
 -- where both engines are named, both are found.
-use Rattle.std.proofs.Common.{rules, ◌≡◌, ◌∙◌, ap, codes, Option, Some, None, is_some, option_map, sym, Bor, true, true≢false}
+use Rattle.std.proofs.Common.{rules, ◌≡◌, ◌∙◌, ap, codes, Option, Some, None, is_some, sym, true, true≢false}
 use Rattle.clap.specs.Words.{Text, first_value, found_of}
 use Rattle.clap.proofs.WalkLemmas.{first_value-rows}
+use Rattle.arbiter_words.proofs.FoundTexts.{text_of}
 use Rattle.arbiter_words.proofs.spelled.match_words.Goals as goal
-
-abbrev text_of : Option (Bor Text) → Option Text
-text_of = option_map (λ s. s.now)
 
 gone : (o : Option Text) → o ≡ None → is_some o ≡ true → ⊥
 gone o e s = true≢false (sym s ∙ ap is_some e)

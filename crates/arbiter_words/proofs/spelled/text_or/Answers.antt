@@ -1,12 +1,10 @@
 -- What `clap` finds of an option is the first value in its row (first_value-rows), or nothing, and then both take the
 -- default.
-use Rattle.std.proofs.Common.{rules, ◌≡◌, ◌∙◌, ap, Option, Some, None, option_map, unwrap_or, sym, Bor}
+use Rattle.std.proofs.Common.{rules, ◌≡◌, ◌∙◌, ap, Option, Some, None, unwrap_or, sym}
 use Rattle.clap.specs.Words.{Text, first_value, found_of}
 use Rattle.clap.proofs.WalkLemmas.{first_value-rows}
+use Rattle.arbiter_words.proofs.FoundTexts.{text_of}
 use Rattle.arbiter_words.proofs.spelled.text_or.Goals as goal
-
-abbrev text_of : Option (Bor Text) → Option Text
-text_of = option_map (λ s. s.now)
 
 pub returns-in-Some : goal.returns-in-Some
 returns-in-Some c =

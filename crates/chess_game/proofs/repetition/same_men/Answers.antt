@@ -1,11 +1,12 @@
--- One square on which they differ tells the men apart (each_below-fails of Below); where none does, they are the same.
+-- One square on which they differ tells the men apart (each_below-fails of chess_base's OverSquares); where none does,
+-- they are the same.
 use Rattle.std.proofs.Common.{◌≡◌, ◌∙◌, ◌+◌, suc, sym, refl, arith}
 use Rattle.std.proofs.lemmas.Bool.{and_from}
 use Rattle.chess_base.specs.Men.{man_at}
 use Rattle.chess_base.specs.Squares.{each_square}
 use Rattle.chess_game.specs.Same.{same_man, same_men}
-use Rattle.chess_game.proofs.Below.{each_below-fails}
 use Rattle.chess_game.proofs.repetition.same_men.Goals as goal
+use Rattle.chess_base.proofs.OverSquares.{each_below-fails}
 
 pub loop-number-init : goal.loop-number-init
 loop-number-init c = refl

@@ -1,4 +1,4 @@
-use Rattle.std.proofs.Common.{rules, ◌≡◌, ◌∙◌, not, None, ap, sym}
+use Rattle.std.proofs.Common.{rules, ◌≡◌, ◌∙◌, not, None, ap}
 use Rattle.chess_pgn.specs.Local.{is_open_behind}
 use Rattle.chess_pgn.specs.Tokens.{string_at}
 use Rattle.chess_pgn.proofs.settling.is_open_string.Goals as goal

@@ -1,6 +1,6 @@
 -- A man on none of the king's lines stands between him and nothing (off_line, off_diagonal of Shields), so without it
 -- nothing opens to him, and it is free (freed of Freely).
-use Rattle.std.proofs.Common.{◌≡◌, ◌==◌, ◌&&◌, not, true, false, sym, ◌∙◌}
+use Rattle.std.proofs.Common.{◌≡◌, ◌==◌, not, false, sym, ◌∙◌}
 use Rattle.std.proofs.lemmas.Bool.{and_parts, or_parts, both_ways, not-true}
 use Rattle.chess_base.specs.Attacks.{is_in_check}
 use Rattle.chess_base.specs.Squares.{share_rank_or_file, share_diagonal}

@@ -4,8 +4,9 @@ use Rattle.chess_base.specs.declared.setup.Setup.{Setup}
 use Rattle.chess_text.specs.San.{san, shown_move}
 use Rattle.chess_match.specs.Rules.{Rules, rules_of, text_of_last}
 use Rattle.chess_match.specs.Sent.{bytes_of, MoveTold}
-use Rattle.chess_match.proofs.LastMoves.{legal_next, as_san_last, shown_last}
+use Rattle.chess_match.proofs.LastMoves.{as_san_last, shown_last}
 use Rattle.chess_match.proofs.chess.GamePlayed.add_last_move.Goals as goal
+use Rattle.chess_pgn.proofs.GameTexts.{legal_next}
 
 pub san-requires : goal.san-requires
 san-requires g c =

@@ -6,8 +6,9 @@ use Rattle.chess_match.specs.Match.{seat, ping_number, after_line}
 use Rattle.chess_match.specs.Sent.{is_same_phase}
 use Rattle.chess_match.specs.Transcript.{reads, is_on}
 use Rattle.chess_match.specs.declared.phase.Phase.TheVariants.{Opening}
-use Rattle.chess_match.proofs.Going.{same_colour-self, clocks_moves}
+use Rattle.chess_match.proofs.Going.{clocks_moves}
 use Rattle.chess_match.proofs.state.Core.after_line.Goals as goal
+use Rattle.chess_base.proofs.MenFacts.{same_colour-self}
 
 pub returns-in-Move : goal.returns-in-Move
 unfolding after_line

@@ -5,8 +5,9 @@ use Rattle.std.specs.Prelude.{nat_lt}
 use Rattle.chess_base.specs.Men.{other}
 use Rattle.chess_match.specs.Match.{clock, before_line}
 use Rattle.chess_match.specs.Transcript.{reads, is_on}
-use Rattle.chess_match.proofs.Going.{same_colour-self, clocks_left}
+use Rattle.chess_match.proofs.Going.{clocks_left}
 use Rattle.chess_match.proofs.state.Core.before_line.Goals as goal
+use Rattle.chess_base.proofs.MenFacts.{same_colour-self}
 
 late : (left used clock elapsed : ℕ) → left ≡ clock → used ≡ elapsed → left < used → nat_lt clock elapsed ≡ true
 late left used clock elapsed e f h = lt-ltb clock elapsed (omega arith)

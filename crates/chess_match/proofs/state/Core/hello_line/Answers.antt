@@ -11,8 +11,9 @@ use Rattle.chess_match.specs.ties.Stands.{Stands}
 use Rattle.chess_match.specs.declared.reason.MatchFault.TheVariants.{NoDone}
 use Rattle.chess_match.specs.declared.reason.Reason.TheVariants.{Faulted}
 use Rattle.chess_match.specs.declared.phase.Phase.TheVariants.{Over}
-use Rattle.chess_match.proofs.Going.{same_colour-self, hello_goes, hear_phase, one_core}
+use Rattle.chess_match.proofs.Going.{hello_goes, hear_phase, one_core}
 use Rattle.chess_match.proofs.state.Core.hello_line.Goals as goal
+use Rattle.chess_base.proofs.MenFacts.{same_colour-self}
 
 pub returns-then-done : goal.returns-then-done
 unfolding hello_line

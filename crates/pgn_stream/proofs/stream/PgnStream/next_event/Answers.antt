@@ -1,4 +1,4 @@
-use Rattle.std.proofs.Common.{◌≡◌, ◌≤◌, ◌<◌, ◌+◌, ◌^◌, ◌++◌, length, take, false, ap, sym, subst, ◌∙◌, arith}
+use Rattle.std.proofs.Common.{◌<◌, ◌+◌, ◌^◌, ◌++◌, length, false, ap, sym, subst, ◌∙◌, arith}
 use Rattle.std.proofs.lemmas.List.{length-take-le}
 use Rattle.pgn_stream.specs.Stream.{StreamState, place}
 use Rattle.pgn_stream.proofs.NextLines.{looked_through, looked_on, stops_so, found_next, found_further, none_left, never_back, falls, not_ended, on_err}

@@ -1,6 +1,6 @@
-use Rattle.std.proofs.Common.{◌≡◌, true, refl}
+use Rattle.std.proofs.Common.{refl}
 use Rattle.std.specs.Prelude.{Err}
-use Rattle.pgn_stream.specs.ties.Held.{is_held, is_full, held_answer, too_long}
+use Rattle.pgn_stream.specs.ties.Held.{is_held, held_answer, too_long}
 use Rattle.pgn_stream.proofs.Games.{stays, game_told, held_told, held_is, left_again, read_again, never_open}
 use Rattle.pgn_stream.proofs.stream.PgnStream.read_game.Goals as goal
 

@@ -1,4 +1,4 @@
-use Rattle.std.proofs.Common.{◌≡◌, false, ap, sym, ◌∙◌, ◌-◌}
+use Rattle.std.proofs.Common.{false, ap, sym, ◌∙◌, ◌-◌}
 use Rattle.pgn_stream.specs.Stream.{StreamState}
 use Rattle.pgn_stream.proofs.Fills.{ended_is_full, refilled}
 use Rattle.pgn_stream.proofs.stream.PgnStream.refill.Goals as goal
