@@ -1,5 +1,6 @@
 -- What verifying by the words of `verify` tells: of the games behind a fault too, or of games with a fault alone.
 use Rattle.std.specs.Prelude.{◌≡◌, ℕ, ◌+◌, Bool, true, false, not, if◌then◌else◌, List, [], ◌∷◌, ◌++◌, length, codes, decimal, Option, Some, None, Result, Ok, Err}
+use Rattle.chess_base.specs.Letters.{new_line}
 use Rattle.arbiter_words.specs.declared.plan.VerifyPlan.{VerifyPlan}
 use Rattle.byte_devices.specs.Devices.{InputState, OutputState, Took, Sent, BreaksOff}
 use Rattle.pgn_stream.specs.Stream.{IsNextEvent}
@@ -67,7 +68,7 @@ faults_in (Faulty fault ∷ rest) = faults_in rest + 1
 
 unfoldable pub counts_line : ℕ → ℕ → ℕ → List ℕ
 counts_line games half_moves faults =
-    codes "games " ++ (decimal games ++ (codes " half-moves " ++ (decimal half_moves ++ (codes " faults " ++ (decimal faults ++ 10 ∷ [])))))
+    codes "games " ++ (decimal games ++ (codes " half-moves " ++ (decimal half_moves ++ (codes " faults " ++ (decimal faults ++ new_line ∷ [])))))
 
 -- the counts stand behind the lines where faults are gone on behind
 abbrev pub counts_if : Bool → ℕ → ℕ → ℕ → List ℕ

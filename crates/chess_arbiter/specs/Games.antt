@@ -1,5 +1,6 @@
 -- The games of a match: who plays which colour, how each is told, and the score.
 use Rattle.std.specs.Prelude.{◌≡◌, ◌⊎◌, ℕ, ◌+◌, ◌<◌, ◌%◌, ◌==◌, Bool, true, false, not, if◌then◌else◌, min, List, [], ◌∷◌, ◌++◌, length, codes, decimal, Option, None, Some, is_some, Result, Ok, Err}
+use Rattle.chess_base.specs.Letters.{new_line}
 use Rattle.std.specs.List.{list_all}
 use Rattle.arbiter_words.specs.declared.plan.MatchPlan.{MatchPlan}
 use Rattle.chess_game.specs.declared.results.Outcome.{Outcome}
@@ -71,7 +72,7 @@ scored first_has_white Unfinished s = record { first = s.first; second = s.secon
 
 unfoldable pub score_line : Score → List ℕ
 score_line s =
-    codes "score first " ++ (decimal s.first ++ (codes " second " ++ (decimal s.second ++ (codes " drawn " ++ (decimal s.drawn ++ (codes " unfinished " ++ (decimal s.unfinished ++ 10 ∷ [])))))))
+    codes "score first " ++ (decimal s.first ++ (codes " second " ++ (decimal s.second ++ (codes " drawn " ++ (decimal s.drawn ++ (codes " unfinished " ++ (decimal s.unfinished ++ new_line ∷ [])))))))
 
 -- ---- one game
 

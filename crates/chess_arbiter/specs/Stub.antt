@@ -1,5 +1,6 @@
 -- An engine that plays the words that it is given.
 use Rattle.std.specs.Prelude.{◌≡◌, ◌⊎◌, ◌≤◌, ◌||◌, ℕ, Bool, true, false, if◌then◌else◌, List, [], ◌∷◌, ◌++◌, length, codes, decimal, Option, Some, None, is_some, drop, Result, Ok, Err}
+use Rattle.chess_base.specs.Letters.{new_line}
 use Rattle.std.specs.Borrow.{Bor}
 use Rattle.std.specs.Str.{bytes_eq}
 use Rattle.std.specs.Io.KnownBytes.{IsAtEnd}
@@ -35,8 +36,8 @@ pub record Reply : Type 0 where
 -- what a word is that is said behind a move
 abbrev pub remark : List ℕ → Option (List ℕ)
 remark word =
-    if bytes_eq word (codes "offer") then Some (codes "offer draw" ++ 10 ∷ [])
-    else if bytes_eq word (codes "claim") then Some (codes "1/2-1/2 {Draw by repetition}" ++ 10 ∷ [])
+    if bytes_eq word (codes "offer") then Some (codes "offer draw" ++ new_line ∷ [])
+    else if bytes_eq word (codes "claim") then Some (codes "1/2-1/2 {Draw by repetition}" ++ new_line ∷ [])
     else None
 
 abbrev pub before_others : Option (List ℕ) → List ℕ → List ℕ
@@ -56,12 +57,12 @@ behind_remarks (word ∷ words) = if is_some (remark word.now) then behind_remar
 -- what a word is that is played
 abbrev pub move_text : List ℕ → List ℕ
 move_text word =
-    if bytes_eq word (codes "resign") then codes "resign" ++ 10 ∷ []
-    else codes "move " ++ (word ++ 10 ∷ [])
+    if bytes_eq word (codes "resign") then codes "resign" ++ new_line ∷ []
+    else codes "move " ++ (word ++ new_line ∷ [])
 
 -- a turn: the next word is played, and with none left it resigns
 abbrev pub turn : Words → Reply
-turn [] = record { text = codes "resign" ++ 10 ∷ []; state = record { words = []; plays = true }; ends = false }
+turn [] = record { text = codes "resign" ++ new_line ∷ []; state = record { words = []; plays = true }; ends = false }
 turn (word ∷ words) =
     if bytes_eq word.now (codes "end") then record { text = codes "mov"; state = record { words = words; plays = true }; ends = true }
     else record { text = move_text word.now ++ remarks words; state = record { words = behind_remarks words; plays = true }; ends = false }
@@ -75,12 +76,12 @@ abbrev pub stopped : StubState → StubState
 stopped s = record { words = s.words; plays = false }
 
 abbrev pub features : List ℕ
-features = codes "feature ping=1 setboard=1 usermove=1 myname=\"stub\" done=1" ++ 10 ∷ []
+features = codes "feature ping=1 setboard=1 usermove=1 myname=\"stub\" done=1" ++ new_line ∷ []
 
 -- one row for each command; of all others it says nothing
 abbrev pub row : StubState → List ℕ → Command → Reply
 row s text (Protover n) = says s features
-row s text (Ping n) = says s (codes "pong " ++ (decimal n ++ 10 ∷ []))
+row s text (Ping n) = says s (codes "pong " ++ (decimal n ++ new_line ∷ []))
 row s text New = says (stopped s) []
 row s text Go = turn s.words
 row s text UserMove = if s.plays then turn s.words else says s []

@@ -1,5 +1,6 @@
 -- What verifying games reads, and what it tells of them.
 use Rattle.std.specs.Prelude.{◌≡◌, ◌≤◌, ◌<◌, ◌⊎◌, ℕ, ◌+◌, List, [], ◌∷◌, ◌++◌, length, codes, decimal, Option, Some, None, Result, Ok, Err}
+use Rattle.chess_base.specs.Letters.{new_line}
 use Rattle.std.specs.Io.KnownBytes.{Consumes, IsAtEnd}
 use Rattle.byte_devices.specs.Devices.{InputState, OutputState, Took, Sent, BreaksOff, risen}
 use Rattle.chess_game.specs.Results.{outcome_text}
@@ -88,7 +89,7 @@ report_text (Faulty fault) = fault_name fault.kind ++ (codes " at byte " ++ deci
 
 -- the line of the game with that number
 unfoldable pub report_line : ℕ → Report → List ℕ
-report_line number report = codes "game " ++ (decimal number ++ (codes ": " ++ (report_text report ++ 10 ∷ [])))
+report_line number report = codes "game " ++ (decimal number ++ (codes ": " ++ (report_text report ++ new_line ∷ [])))
 
 -- the lines of games with numbers from there on
 abbrev pub report_lines : ℕ → List Report → List ℕ

@@ -1,5 +1,6 @@
 -- What a session answers: the table of commands, a row for each kind. From one line to the next only the game changes.
 use Rattle.std.specs.Prelude.{◌⊎◌, ℕ, ◌||◌, ◌&&◌, not, nat_le, nat_lt, if◌then◌else◌, Bool, true, false, List, [], ◌∷◌, ◌++◌, length, codes, decimal, Option, None, Some, Result, Ok, Err}
+use Rattle.chess_base.specs.Letters.{new_line, space}
 use Rattle.std.specs.Str.{bytes_eq}
 use Rattle.byte_devices.specs.Devices.{Begins}
 use Rattle.chess_base.specs.declared.fault.FenFault.{FenFault}
@@ -35,7 +36,7 @@ use Rattle.chess_cecp.specs.declared.command.Command.TheVariants.{New, SetBoard,
 
 -- a text behind another, and byte 10
 abbrev pub line_text : List ℕ → List ℕ → List ℕ
-line_text front text = front ++ (text ++ 10 ∷ [])
+line_text front text = front ++ (text ++ new_line ∷ [])
 
 -- one row of the table: the text of the answer, and the game after it
 pub record Row : Type 0 where
@@ -69,7 +70,7 @@ becomes_judged s = record { text = verdict_line (verdict_now s); next = s }
 
 -- a move behind a space; the line that lists moves
 abbrev pub shown : Setup → Move → List ℕ
-shown p m = 32 ∷ shown_move p m
+shown p m = space ∷ shown_move p m
 
 unfoldable pub moves_line : Setup → List Move → List ℕ
 moves_line p ms = line_text (codes "# moves ") (decimal (length ms) ++ flat_map (shown p) ms)

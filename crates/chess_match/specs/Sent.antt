@@ -1,5 +1,6 @@
 -- What is sent: what entering a phase gives to send, and the answers and offers between.
 use Rattle.std.specs.Prelude.{ℕ, ◌/◌, ◌&&◌, nat_lt, Bool, true, false, not, if◌then◌else◌, List, [], ◌∷◌, ◌++◌, length, drop, map, codes, decimal, Option, None, Some}
+use Rattle.chess_base.specs.Letters.{new_line}
 use Rattle.chess_base.specs.declared.man.Colour.{Colour}
 use Rattle.chess_base.specs.Men.{other, same_colour}
 use Rattle.chess_cecp.specs.Declaring.{result_text}
@@ -45,7 +46,7 @@ abbrev pub answer_words : List ℕ → List ℕ
 answer_words name = (if is_known name then codes "accepted " else codes "rejected ") ++ name
 
 abbrev pub answer_line : List ℕ → List ℕ
-answer_line name = answer_words name ++ 10 ∷ []
+answer_line name = answer_words name ++ new_line ∷ []
 
 abbrev pub words_of : SentLine → List ℕ
 words_of Xboard = codes "xboard"
@@ -71,7 +72,7 @@ words_of Quit = codes "quit"
 -- the bytes of lines, each with byte 10 at its end
 unfoldable pub bytes_of : List SentLine → List ℕ
 bytes_of [] = []
-bytes_of (l ∷ ls) = words_of l ++ 10 ∷ bytes_of ls
+bytes_of (l ∷ ls) = words_of l ++ new_line ∷ bytes_of ls
 
 -- ---- what a phase gives
 

@@ -1,5 +1,6 @@
 -- Where a game is read: what the beginning of a text settles, whatever follows it, and which places are told.
 use Rattle.std.specs.Prelude.{◌≡◌, ◌≤◌, ◌<◌, ℕ, ◌+◌, ◌-◌, Bool, true, false, not, ◌&&◌, ◌||◌, ◌==◌, nat_lt, nat_le, List, [], ◌∷◌, ◌++◌, length, drop, Option, Some, None, Result, Ok, Err, IfOk, IfErr, IfSome}
+use Rattle.chess_base.specs.Letters.{byte, new_line}
 use Rattle.std.specs.List.{list_any, prefix_len, take_while}
 use Rattle.chess_base.specs.declared.man.Variant.{Variant}
 use Rattle.chess_base.specs.declared.man.Variant.TheVariants.{Normal}
@@ -31,7 +32,7 @@ could_go_on b later text = is_gap text || if_behind later (behind_next b text)
 
 -- behind the opening quote, with the string there, if it is closed
 abbrev pub is_open_behind : List ℕ → Option (List ℕ × List ℕ) → Bool
-is_open_behind text None = not (list_any (λ c. c == 10) text)
+is_open_behind text None = not (list_any (λ c. c == new_line) text)
 is_open_behind text (Some found) = is_gap found.1
 
 abbrev pub is_open_string : List ℕ → Bool
@@ -39,7 +40,7 @@ is_open_string text = is_open_behind text (string_at text)
 
 abbrev pub is_open_name : List ℕ → List ℕ → Bool
 is_open_name [] rest = false
-is_open_name (n ∷ ns) rest = could_go_on 34 is_open_string rest
+is_open_name (n ∷ ns) rest = could_go_on (byte "\"") is_open_string rest
 
 abbrev pub is_open_tag : List ℕ → Bool
 is_open_tag text =

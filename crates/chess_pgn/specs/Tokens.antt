@@ -2,6 +2,7 @@
 -- `%` lines, `$` glyphs and variations are skipped; tags and words are told; the first token that can't be read is the last.
 -- This project's own: the bytes of a word, and that a `%` line is skipped also in a tag and in a variation.
 use Rattle.std.specs.Prelude.{ℕ, zero, suc, ◌-◌, Bool, true, false, not, ◌&&◌, ◌||◌, List, [], ◌∷◌, ◌++◌, length, take, drop, slice_index, Option, Some, None, ◌==◌, nat_le, if◌then◌else◌}
+use Rattle.chess_base.specs.Letters.{byte, carriage_return, new_line, space, tab}
 use Rattle.std.specs.List.{prefix_len, position_or_len, take_while}
 use Rattle.std.specs.Str.{bytes_eq}
 
@@ -20,7 +21,7 @@ pub data Token : Type 0 where
 -- ---- bytes
 
 abbrev pub is_blank : ℕ → Bool
-is_blank c = c == 32 || (c == 9 || (c == 10 || c == 13))
+is_blank c = c == space || (c == tab || (c == new_line || c == carriage_return))
 
 abbrev pub is_digit : ℕ → Bool
 is_digit c = nat_le 48 c && nat_le c 57
@@ -30,28 +31,28 @@ is_letter c = (nat_le 65 c && nat_le c 90) || (nat_le 97 c && nat_le c 122)
 
 -- letters, digits and `_`
 abbrev pub is_name_byte : ℕ → Bool
-is_name_byte c = is_letter c || (is_digit c || c == 95)
+is_name_byte c = is_letter c || (is_digit c || c == byte "_")
 
 -- these, `+`, `#`, `=`, `-`, `/`, `!`, `?` and `:`
 abbrev pub is_word_byte : ℕ → Bool
-is_word_byte c = is_name_byte c || (c == 43 || (c == 35 || (c == 61 || (c == 45 || (c == 47 || (c == 33 || (c == 63 || c == 58)))))))
+is_word_byte c = is_name_byte c || (c == byte "+" || (c == byte "#" || (c == byte "=" || (c == byte "-" || (c == byte "/" || (c == byte "!" || (c == byte "?" || c == byte ":")))))))
 
 -- ---- what is skipped
 
 -- from the end of the line on
 abbrev pub line_end : List ℕ → List ℕ
-line_end text = drop (position_or_len (λ c. c == 10) text) text
+line_end text = drop (position_or_len (λ c. c == new_line) text) text
 
 -- behind the first closing brace
 abbrev pub behind_brace : List ℕ → Option (List ℕ)
 behind_brace [] = None
-behind_brace (c ∷ rest) = if c == 125 then Some rest else behind_brace rest
+behind_brace (c ∷ rest) = if c == byte "}" then Some rest else behind_brace rest
 
 -- behind blanks and `%` lines: in such a line or not, where a line begins or not
 abbrev pub behind_gap : Bool → Bool → List ℕ → List ℕ
 behind_gap skips begins [] = []
-behind_gap true begins (c ∷ rest) = behind_gap (not (c == 10)) true rest
-behind_gap false begins (c ∷ rest) = if begins && c == 37 then behind_gap true false rest else (if is_blank c then behind_gap false (c == 10) rest else c ∷ rest)
+behind_gap true begins (c ∷ rest) = behind_gap (not (c == new_line)) true rest
+behind_gap false begins (c ∷ rest) = if begins && c == byte "%" then behind_gap true false rest else (if is_blank c then behind_gap false (c == new_line) rest else c ∷ rest)
 
 -- ---- variations
 
@@ -69,14 +70,14 @@ variation_at Plain line_begins (suc depth) [] = (Unclosed_variation, [])
 variation_at (Brace left) line_begins (suc depth) [] = (Unclosed_comment left, [])
 variation_at Line line_begins (suc depth) [] = (Unclosed_variation, [])
 variation_at Plain line_begins (suc depth) (c ∷ rest) =
-    if line_begins && c == 37 then variation_at Line false (suc depth) rest
-    else (if c == 123 then variation_at (Brace (length (c ∷ rest))) false (suc depth) rest
-    else (if c == 59 then variation_at Line false (suc depth) rest
-    else (if c == 40 then variation_at Plain false (suc (suc depth)) rest
-    else (if c == 41 then variation_at Plain false depth rest
-    else variation_at Plain (c == 10) (suc depth) rest))))
-variation_at (Brace left) line_begins (suc depth) (c ∷ rest) = if c == 125 then variation_at Plain false (suc depth) rest else variation_at (Brace left) false (suc depth) rest
-variation_at Line line_begins (suc depth) (c ∷ rest) = if c == 10 then variation_at Plain true (suc depth) rest else variation_at Line false (suc depth) rest
+    if line_begins && c == byte "%" then variation_at Line false (suc depth) rest
+    else (if c == byte "{" then variation_at (Brace (length (c ∷ rest))) false (suc depth) rest
+    else (if c == byte ";" then variation_at Line false (suc depth) rest
+    else (if c == byte "(" then variation_at Plain false (suc (suc depth)) rest
+    else (if c == byte ")" then variation_at Plain false depth rest
+    else variation_at Plain (c == new_line) (suc depth) rest))))
+variation_at (Brace left) line_begins (suc depth) (c ∷ rest) = if c == byte "}" then variation_at Plain false (suc depth) rest else variation_at (Brace left) false (suc depth) rest
+variation_at Line line_begins (suc depth) (c ∷ rest) = if c == new_line then variation_at Plain true (suc depth) rest else variation_at Line false (suc depth) rest
 
 -- ---- tags
 
@@ -87,11 +88,11 @@ onto front (Some found) = Some (front ++ found.0, found.1)
 -- a string's bytes up to its closing quote, and what stands behind it. A backslash keeps the next byte from ending it
 abbrev pub string_at : List ℕ → Option (List ℕ × List ℕ)
 string_at [] = None
-string_at (c ∷ []) = if c == 34 then Some ([], []) else None
+string_at (c ∷ []) = if c == byte "\"" then Some ([], []) else None
 string_at (c ∷ d ∷ rest) =
-    if c == 34 then Some ([], d ∷ rest)
-    else (if c == 10 then None
-    else (if c == 92 then (if d == 10 then None else onto (c ∷ d ∷ []) (string_at rest))
+    if c == byte "\"" then Some ([], d ∷ rest)
+    else (if c == new_line then None
+    else (if c == byte "\\" then (if d == new_line then None else onto (c ∷ d ∷ []) (string_at rest))
     else onto (c ∷ []) (string_at (d ∷ rest))))
 
 -- behind this byte
@@ -118,7 +119,7 @@ with_string name (Some string) = with_text name (length string) (string_at strin
 
 abbrev pub with_name : List ℕ → List ℕ → Token × List ℕ
 with_name [] rest = (Bad_tag, [])
-with_name (n ∷ ns) rest = with_string (n ∷ ns) (behind_next 34 rest)
+with_name (n ∷ ns) rest = with_string (n ∷ ns) (behind_next (byte "\"") rest)
 
 -- a tag behind its opening bracket: a name, a string and the closing bracket, with gaps before each
 abbrev pub tag_at : List ℕ → Token × List ℕ
@@ -134,14 +135,14 @@ comment_at left (Some rest) = (Skip, rest)
 -- behind one that can't be read
 unfoldable pub token_at : Bool → ℕ → List ℕ → Token × List ℕ
 token_at line_begins c rest =
-    if line_begins && c == 37 then (Skip, line_end rest)
-    else (if is_blank c || c == 46 then (Skip, rest)
-    else (if c == 123 then comment_at (length (c ∷ rest)) (behind_brace rest)
-    else (if c == 59 then (Skip, line_end rest)
-    else (if c == 36 then (Skip, drop (prefix_len is_digit rest) rest)
-    else (if c == 40 then variation_at Plain false 1 rest
-    else (if c == 91 then tag_at rest
-    else (if c == 42 then (Word (c ∷ []), rest)
+    if line_begins && c == byte "%" then (Skip, line_end rest)
+    else (if is_blank c || c == byte "." then (Skip, rest)
+    else (if c == byte "{" then comment_at (length (c ∷ rest)) (behind_brace rest)
+    else (if c == byte ";" then (Skip, line_end rest)
+    else (if c == byte "$" then (Skip, drop (prefix_len is_digit rest) rest)
+    else (if c == byte "(" then variation_at Plain false 1 rest
+    else (if c == byte "[" then tag_at rest
+    else (if c == byte "*" then (Word (c ∷ []), rest)
     else (if is_word_byte c then (Word (take_while is_word_byte (c ∷ rest)), drop (prefix_len is_word_byte (c ∷ rest)) (c ∷ rest))
     else (Bad, [])))))))))
 
@@ -149,7 +150,7 @@ token_at line_begins c rest =
 unfoldable pub tokens_of : ℕ → Bool → List ℕ → List (ℕ × Token)
 tokens_of zero line_begins text = []
 tokens_of (suc most) line_begins [] = []
-tokens_of (suc most) line_begins (c ∷ rest) = let t = token_at line_begins c rest in (length (c ∷ rest), t.0) ∷ tokens_of most (c == 10) t.1
+tokens_of (suc most) line_begins (c ∷ rest) = let t = token_at line_begins c rest in (length (c ∷ rest), t.0) ∷ tokens_of most (c == new_line) t.1
 
 -- ---- a text from a place on
 
@@ -159,7 +160,7 @@ first_place text at = if (at == 0) && bytes_eq (take 3 text) (239 ∷ 187 ∷ 19
 
 -- the text's first byte stands there, or byte 10 before it
 abbrev pub begins_line : List ℕ → ℕ → Bool
-begins_line text place = (place == 0) || (slice_index text (place - 1) == 10)
+begins_line text place = (place == 0) || (slice_index text (place - 1) == new_line)
 
 -- the tokens of a text from a place on. A token takes at least a byte, so no text has more tokens than bytes
 unfoldable pub tokens_from : List ℕ → ℕ → List (ℕ × Token)

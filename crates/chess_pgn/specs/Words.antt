@@ -1,5 +1,6 @@
 -- What a word of a game's text is (PGN standard of 1994, sections 8.2.2, 8.2.3.8 and 8.2.6).
 use Rattle.std.specs.Prelude.{ℕ, ◌||◌, List, [], ◌∷◌, Option, Some, None, find, ◌==◌, if◌then◌else◌}
+use Rattle.chess_base.specs.Letters.{byte}
 use Rattle.std.specs.List.{list_all}
 use Rattle.std.specs.Str.{bytes_eq}
 use Rattle.chess_game.specs.Results.{outcome_text}
@@ -18,7 +19,7 @@ abbrev pub kind_by : List ℕ → Option Outcome → WordKind
 kind_by word (Some o) = End o
 kind_by word None =
     if list_all is_digit word then Number
-    else (if list_all (λ c. c == 33 || c == 63) word then Marks
+    else (if list_all (λ c. c == byte "!" || c == byte "?") word then Marks
     else Move)
 
 abbrev pub kind_of : List ℕ → WordKind

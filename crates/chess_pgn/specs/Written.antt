@@ -1,12 +1,13 @@
 -- A game's text as it is written (PGN standard of 1994, sections 4.3, 8.1 and 8.2): the tags' lines and the lines of moves.
 use Rattle.std.specs.Prelude.{◌≡◌, ℕ, ◌+◌, ◌<◌, ◌≤◌, ◌||◌, List, [], ◌∷◌, ◌++◌, length, map, take, codes, ◌==◌, nat_le, nat_lt, if◌then◌else◌}
+use Rattle.chess_base.specs.Letters.{byte, new_line, space}
 use Rattle.std.specs.List.{join_with_byte, flat_map, AllByRecursion}
 
 -- ---- lines of moves
 
 -- a line's tokens as text, with one space between
 abbrev pub line_text : List (List ℕ) → List ℕ
-line_text tokens = join_with_byte 32 tokens
+line_text tokens = join_with_byte space tokens
 
 -- no line has more than 79 bytes, and none could also have taken the first token of the next
 abbrev pub AreFilled : List (List (List ℕ)) → Type 0
@@ -25,7 +26,7 @@ pub record IsMoveText (prefix : List ℕ) (tokens : List (List ℕ)) (text : Lis
   pub lines : List (List (List ℕ))
   pub filled : AreFilled lines
   pub all : tokens_in lines ≡ tokens
-  pub is : text ≡ flat_map (λ line. prefix ++ line_text line ++ 10 ∷ []) lines
+  pub is : text ≡ flat_map (λ line. prefix ++ line_text line ++ new_line ∷ []) lines
 
 -- tokens that a line can take
 abbrev pub AreShort : List (List ℕ) → Type 0
@@ -37,8 +38,8 @@ AreShort tokens = AllByRecursion (λ t. (0 < length t) × (length t ≤ 79)) tok
 abbrev pub placed : List ℕ → ℕ → List ℕ → List ℕ
 placed prefix column token =
     if column == 0 then prefix ++ token
-    else (if nat_le (column + 1 + length token) 79 then 32 ∷ token
-    else 10 ∷ prefix ++ token)
+    else (if nat_le (column + 1 + length token) 79 then space ∷ token
+    else new_line ∷ prefix ++ token)
 
 -- how many bytes the line has behind it
 abbrev pub column_behind : ℕ → List ℕ → ℕ
@@ -49,7 +50,7 @@ column_behind column token =
 
 -- what ends the last line, if there is one
 abbrev pub line_close : ℕ → List ℕ
-line_close column = if column == 0 then [] else 10 ∷ []
+line_close column = if column == 0 then [] else new_line ∷ []
 
 abbrev pub filled_from : List ℕ → ℕ → List (List ℕ) → List ℕ
 filled_from prefix column [] = line_close column
@@ -63,7 +64,7 @@ move_text_of prefix tokens = filled_from prefix 0 tokens
 
 -- a byte that a tag's text may hold, else a question mark in its place
 abbrev pub tag_byte : ℕ → ℕ
-tag_byte c = if nat_lt c 32 || nat_lt 126 c then 63 else c
+tag_byte c = if nat_lt c 32 || nat_lt 126 c then byte "?" else c
 
 -- what a tag's text is: at most 60 printable bytes of ASCII
 pub record IsTagText (text : List ℕ) : Type 0 where
@@ -76,11 +77,11 @@ cut_tag text = map tag_byte (take 60 text)
 
 -- a backslash before each quote and backslash
 abbrev pub escaped : List ℕ → List ℕ
-escaped text = flat_map (λ c. if c == 34 || c == 92 then 92 ∷ c ∷ [] else c ∷ []) text
+escaped text = flat_map (λ c. if c == byte "\"" || c == byte "\\" then byte "\\" ∷ c ∷ [] else c ∷ []) text
 
 abbrev pub tag_line : List ℕ → List ℕ → List ℕ
 tag_line name text = codes "[" ++ name ++ codes " \"" ++ escaped text ++ codes "\"]"
 
 -- lines, each behind a prefix and ended by byte 10
 abbrev pub ended : List ℕ → List (List ℕ) → List ℕ
-ended prefix lines = flat_map (λ line. prefix ++ line ++ 10 ∷ []) lines
+ended prefix lines = flat_map (λ line. prefix ++ line ++ new_line ∷ []) lines

@@ -1,10 +1,11 @@
 -- A variation by the parts that are skipped at once, where a line begins or not.
 use Rattle.std.specs.Prelude.{ℕ, zero, suc, ◌+◌, Bool, ◌&&◌, ◌||◌, List, Option, Some, None, ◌==◌, if◌then◌else◌}
+use Rattle.chess_base.specs.Letters.{byte}
 use Rattle.chess_pgn.specs.Tokens.{line_end, behind_brace}
 
 -- behind a byte, or the `%` line or comment that it begins
 abbrev pub behind_part : Bool → ℕ → List ℕ → Option (List ℕ)
-behind_part line_begins c rest = if line_begins && c == 37 || c == 59 then Some (line_end rest) else (if c == 123 then behind_brace rest else Some rest)
+behind_part line_begins c rest = if line_begins && c == byte "%" || c == byte ";" then Some (line_end rest) else (if c == byte "{" then behind_brace rest else Some rest)
 
 abbrev pub one_fewer : ℕ → Option ℕ
 one_fewer zero = None
@@ -12,4 +13,4 @@ one_fewer (suc n) = Some n
 
 -- how many variations are open in the outermost one behind a byte, if that is still open
 abbrev pub depth_behind : ℕ → ℕ → Option ℕ
-depth_behind depth c = if c == 40 then Some (depth + 1) else (if c == 41 then one_fewer depth else Some depth)
+depth_behind depth c = if c == byte "(" then Some (depth + 1) else (if c == byte ")" then one_fewer depth else Some depth)
