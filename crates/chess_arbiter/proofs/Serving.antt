@@ -1,21 +1,21 @@
--- A session that was opened serves the standard devices.
+-- A session that was opened_session serves the standard devices.
 use Rattle.std.proofs.Common.{◌≡◌, Ok, Err, subst}
 use Rattle.byte_devices.specs.Devices.{InputState, OutputState}
 use Rattle.chess_cecp.specs.declared.run.End.{End}
 use Rattle.chess_cecp.specs.declared.run.Fault.{Fault}
 use Rattle.chess_cecp.specs.declared.run.Fault.TheVariants.{Write}
-use Rattle.chess_cecp.specs.Held.{Seen, opened}
+use Rattle.chess_cecp.specs.Held.{SessionSeen, opened_session}
 use Rattle.chess_pgn.specs.Tags.{default_tags}
 use Rattle.chess_cecp.specs.Run.{Transcript, Ran}
 use Rattle.chess_arbiter.specs.Program.{Served}
 use Rattle.chess_arbiter.specs.declared.fault.ProgramFault.TheVariants.{WriteFailed}
 
-pub served : (r r' : InputState) (w w' : OutputState) (s s' : Seen) (end : End) → s ≡ opened default_tags 20000
+pub served : (r r' : InputState) (w w' : OutputState) (s s' : SessionSeen) (end : End) → s ≡ opened_session default_tags 20000
     → (t : Transcript) × Ran r r' w w' s s' t (Ok end) → Served r r' w w' (Ok end)
 served r r' w w' s s' end is (t, ran) = (s', t, subst (λ v. Ran r r' w w' v s' t (Ok end)) is ran)
 
-pub served_to_write : (r r' : InputState) (w w' : OutputState) (s s' : Seen) (fault : Fault)
-    → s ≡ opened default_tags 20000 → fault ≡ Write → (t : Transcript) × Ran r r' w w' s s' t (Err fault)
+pub served_to_write : (r r' : InputState) (w w' : OutputState) (s s' : SessionSeen) (fault : Fault)
+    → s ≡ opened_session default_tags 20000 → fault ≡ Write → (t : Transcript) × Ran r r' w w' s s' t (Err fault)
     → Served r r' w w' (Err WriteFailed)
 served_to_write r r' w w' s s' fault is write (t, ran) =
     (s', t, subst (λ v. Ran r r' w w' v s' t (Err Write)) is (subst (λ v. Ran r r' w w' s s' t (Err v)) write ran))

@@ -10,7 +10,7 @@ use Rattle.chess_arbiter.specs.declared.fault.ProgramFault.TheVariants.{ReadFail
 use Rattle.chess_arbiter.specs.declared.verify.Report.{Report}
 use Rattle.chess_arbiter.specs.declared.verify.Report.TheVariants.{Game, Faulty}
 use Rattle.chess_arbiter.specs.declared.verify.Verified.{Verified}
-use Rattle.chess_arbiter.specs.Verify.{IsAll, IsNotHad, LacksMemory, Extent, All, First, EndsAt, read_at, report_line, verified}
+use Rattle.chess_arbiter.specs.Verify.{IsAll, IsNotHad, LacksMemory, Extent, All, First, EndsTextAt, read_at, report_line, verified}
 
 -- ---- where the next game begins behind a fault (PGN standard of 1994, section 8.1.1: the tag Event comes first)
 
@@ -25,7 +25,7 @@ IsNext true text place next = IsNextEvent text place next
 -- A game begins where the one before ended, or behind its fault at the next place
 abbrev pub AreReportsBy : VerifyPlan → Extent → List ℕ → Option ℕ → List Report → Type 0
 AreReportsBy plan extent text None reports = reports ≡ []
-AreReportsBy plan extent text (Some at) [] = EndsAt extent text at
+AreReportsBy plan extent text (Some at) [] = EndsTextAt extent text at
 AreReportsBy plan extent text (Some at) (Game plies end ∷ rest) =
     ((read_at text at).answer ≡ Ok (Some end)) × (plies ≡ length (read_at text at).state.moves) × AreReportsBy plan extent text (Some end.place) rest
 AreReportsBy plan extent text (Some at) (Faulty fault ∷ rest) =

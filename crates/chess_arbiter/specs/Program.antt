@@ -12,7 +12,7 @@ use Rattle.arbiter_words.specs.declared.fault.WordsFault.TheVariants as words
 use Rattle.byte_devices.specs.Devices.{InputState, OutputState, BreaksOff, Sent}
 use Rattle.chess_cecp.specs.declared.run.End.{End}
 use Rattle.chess_cecp.specs.declared.run.Fault.TheVariants.{Read, Write}
-use Rattle.chess_cecp.specs.Held.{Seen, opened}
+use Rattle.chess_cecp.specs.Held.{SessionSeen, opened_session}
 use Rattle.chess_pgn.specs.Tags.{default_tags}
 use Rattle.chess_cecp.specs.Run.{Transcript, Ran}
 use Rattle.chess_arbiter.specs.declared.fault.ProgramFault.{ProgramFault}
@@ -36,9 +36,9 @@ pub record IsUntouched (r r' : InputState) (w w' : OutputState) : Type 0 where
 
 -- a session of 20,000 half-moves, from what `new` leaves, ran to this end; or there was no memory for one
 abbrev pub Served : InputState → InputState → OutputState → OutputState → Result End ProgramFault → Type 0
-Served r r' w w' (Ok end) = (s : Seen) × (t : Transcript) × Ran r r' w w' (opened default_tags 20000) s t (Ok end)
-Served r r' w w' (Err ReadFailed) = (s : Seen) × (t : Transcript) × Ran r r' w w' (opened default_tags 20000) s t (Err Read)
-Served r r' w w' (Err WriteFailed) = (s : Seen) × (t : Transcript) × Ran r r' w w' (opened default_tags 20000) s t (Err Write)
+Served r r' w w' (Ok end) = (s : SessionSeen) × (t : Transcript) × Ran r r' w w' (opened_session default_tags 20000) s t (Ok end)
+Served r r' w w' (Err ReadFailed) = (s : SessionSeen) × (t : Transcript) × Ran r r' w w' (opened_session default_tags 20000) s t (Err Read)
+Served r r' w w' (Err WriteFailed) = (s : SessionSeen) × (t : Transcript) × Ran r r' w w' (opened_session default_tags 20000) s t (Err Write)
 Served r r' w w' (Err NoMemory) = IsUntouched r r' w w'
 Served r r' w w' (Err InputTooLong) = ⊥
 Served r r' w w' (Err WrongWords) = ⊥

@@ -155,7 +155,7 @@ ends_in s (line ∷ lines) = ends_at s line || ends_in (after s line) lines
 
 -- the line behind those before, at none of which the stub ends, is the one at which the call ended: nothing was read while a
 -- whole line was unanswered, so before the last piece fewer lines were whole
-pub record EndsAt (s : StubState) (t : Transcript) (last_len : ℕ) (before : List LineSeen) (line : LineSeen) (after : List LineSeen) : Type 0 where
+pub record StubEndsAt (s : StubState) (t : Transcript) (last_len : ℕ) (before : List LineSeen) (line : LineSeen) (after : List LineSeen) : Type 0 where
   pub lines : lines_given t ≡ before ++ line ∷ after
   pub goes_on : ends_in s before ≡ false
   pub on_demand : length (whole 1024 (before_piece last_len t.given)) ≤ length before
@@ -164,7 +164,7 @@ pub record EndsAt (s : StubState) (t : Transcript) (last_len : ℕ) (before : Li
 abbrev pub ByLine : StubState → Transcript → ℕ → Type 0
 ByLine s t last_len =
     (before : List LineSeen) × (line : LineSeen) × (after : List LineSeen)
-    × EndsAt s t last_len before line after × (ends_at (standing s before) line ≡ true)
+    × StubEndsAt s t last_len before line after × (ends_at (standing s before) line ≡ true)
 
 -- an end by the input's end
 pub record ByInput (s : StubState) (t : Transcript) (r' : InputState) : Type 0 where
@@ -176,7 +176,7 @@ pub record ByInput (s : StubState) (t : Transcript) (r' : InputState) : Type 0 w
 abbrev pub ByWrite : OutputState → OutputState → StubState → Transcript → ℕ → Type 0
 ByWrite w w' s t last_len =
     (before : List LineSeen) × (line : LineSeen) × (after : List LineSeen) × (start : List ℕ)
-    × EndsAt s t last_len before line after
+    × StubEndsAt s t last_len before line after
     × Begins start (said (standing s before) line)
     × (t.taken ≡ replies s before ++ start)
     × LeavesUnflushed w w' start

@@ -47,14 +47,14 @@ pub data Extent : Type 0 where
   First : Extent
 
 -- no game is left; of first reports this isn't asked
-abbrev pub EndsAt : Extent → List ℕ → ℕ → Type 0
-EndsAt All text at = (read_at text at).answer ≡ Ok None
-EndsAt First text at = Unit {0}
+abbrev pub EndsTextAt : Extent → List ℕ → ℕ → Type 0
+EndsTextAt All text at = (read_at text at).answer ≡ Ok None
+EndsTextAt First text at = Unit {0}
 
 -- these are reports on the games of a text from a place on: each game begins where the one before ended, and one with a
 -- fault is the last. A report is how many half-moves a game has and how its text ended, or its fault
 abbrev pub AreReports : Extent → List ℕ → ℕ → List Report → Type 0
-AreReports extent text at [] = EndsAt extent text at
+AreReports extent text at [] = EndsTextAt extent text at
 AreReports extent text at (Game plies end ∷ rest) = ((read_at text at).answer ≡ Ok (Some end)) × (plies ≡ length (read_at text at).state.moves) × AreReports extent text end.place rest
 AreReports extent text at (Faulty fault ∷ rest) = ((read_at text at).answer ≡ Err fault) × (rest ≡ [])
 
@@ -66,17 +66,17 @@ verified (Faulty fault ∷ rest) = FaultTold
 
 -- ---- their lines
 
-abbrev pub fault_name : PgnFaultKind → List ℕ
-fault_name BadTag = codes "bad tag"
-fault_name BadFen = codes "bad FEN"
-fault_name BadToken = codes "bad token"
-fault_name IllegalMove = codes "illegal move"
-fault_name AmbiguousMove = codes "ambiguous move"
-fault_name AfterEnd = codes "move after the end"
-fault_name TooLong = codes "too long"
-fault_name UnclosedComment = codes "unclosed comment"
-fault_name UnclosedVariation = codes "unclosed variation"
-fault_name NoResult = codes "no result"
+abbrev pub pgn_fault_name : PgnFaultKind → List ℕ
+pgn_fault_name BadTag = codes "bad tag"
+pgn_fault_name BadFen = codes "bad FEN"
+pgn_fault_name BadToken = codes "bad token"
+pgn_fault_name IllegalMove = codes "illegal move"
+pgn_fault_name AmbiguousMove = codes "ambiguous move"
+pgn_fault_name AfterEnd = codes "move after the end"
+pgn_fault_name TooLong = codes "too long"
+pgn_fault_name UnclosedComment = codes "unclosed comment"
+pgn_fault_name UnclosedVariation = codes "unclosed variation"
+pgn_fault_name NoResult = codes "no result"
 
 -- how the game ended, where its text tells it
 abbrev pub told_termination : Option Termination → List ℕ
@@ -85,7 +85,7 @@ told_termination (Some t) = codes ", " ++ termination_text t
 
 abbrev pub report_text : Report → List ℕ
 report_text (Game plies end) = decimal plies ++ (codes " half-moves, " ++ (outcome_text end.outcome ++ told_termination end.termination))
-report_text (Faulty fault) = fault_name fault.kind ++ (codes " at byte " ++ decimal fault.place)
+report_text (Faulty fault) = pgn_fault_name fault.kind ++ (codes " at byte " ++ decimal fault.place)
 
 -- the line of the game with that number
 unfoldable pub report_line : ℕ → Report → List ℕ

@@ -2,7 +2,7 @@
 
 ghost use Rattle.std.specs.Prelude.{◌≡◌, IfOk, Ok, map};
 ghost use Rattle.byte_devices.specs.Devices.{Sends};
-ghost use Rattle.chess_cecp.specs.Held.{opened};
+ghost use Rattle.chess_cecp.specs.Held.{opened_session};
 ghost use Rattle.chess_pgn.specs.Tags.{default_tags};
 ghost use Rattle.chess_arbiter.specs.Program.{Served, Shown, RanHelp, RanMatch, RanProgram, RanSession, RanStub, RanVerify, RanVerifyAny, RanVerifyAt, RanVerifyBy, RanVerifyIf, ToldWords, has_words, verify_status};
 
@@ -27,7 +27,7 @@ const SESSION_LIMIT: u32 = 20_000;
 
 // A session as `new` leaves it, with its boards.
 fn open_session(alloc: Global) -> Result<Session<Bits>, AllocError>
-    ensures { IfOk result (λ s. s ≡ opened default_tags 20000) }
+    ensures { IfOk result (λ s. s ≡ opened_session default_tags 20000) }
 {
     let board = Bits::open(alloc)?;
     let scratch = Bits::open(alloc)?;

@@ -3,7 +3,7 @@
 ghost use Rattle.std.specs.Prelude.{◌≡◌, ◌≤◌, ◌+◌, ◌++◌, IfOk, IfErr, length, decimal};
 ghost use Rattle.arrayvec.specs.ArrayVec.{array_vec_len};
 ghost use Rattle.byte_devices.specs.Devices.{Puts};
-ghost use Rattle.chess_arbiter.specs.Verify.{IsAll, IsNotHad, fault_name, told_termination, report_text, report_line, Told, HandedOn, Verifies};
+ghost use Rattle.chess_arbiter.specs.Verify.{IsAll, IsNotHad, pgn_fault_name, told_termination, report_text, report_line, Told, HandedOn, Verifies};
 
 use crate::fault::ProgramFault;
 use arrayvec::ArrayVec;
@@ -71,8 +71,8 @@ pub(crate) fn read_all<R: Input>(alloc: Global, input: &mut R) -> Result<Vec<u8>
 }
 
 // The name of a fault.
-fn fault_name(kind: PgnFaultKind) -> &'static [u8]
-    ensures value { result.now ≡ fault_name kind }
+fn pgn_fault_name(kind: PgnFaultKind) -> &'static [u8]
+    ensures value { result.now ≡ pgn_fault_name kind }
     ensures short { length result.now ≤ 18 }
 {
     match kind {
@@ -134,7 +134,7 @@ fn write_report(line: &mut ReportLine, report: &Report)
             write_termination(line, end.termination);
         }
         Report::Faulty(fault) => {
-            write_text(line, fault_name(fault.kind));
+            write_text(line, pgn_fault_name(fault.kind));
             write_text(line, b" at byte ");
             write_number(line, fault.place);
         }

@@ -21,7 +21,7 @@ use Rattle.chess_base.proofs.SpelledRights.{castling-spelled}
 use Rattle.chess_base.specs.declared.setup.Setup.{Setup}
 use Rattle.chess_base.specs.Letters.{letter, letter_by, white_letter, byte}
 use Rattle.chess_base.specs.Texts.{is_digit, value_after, number_of, rank_after, rank_of, stacked, placement_of, occurs, may_name_right, is_castling, target_of, fields_of}
-use Rattle.chess_base.specs.Writing.{run_text, row_text, rank_text, ranks_down, ranks_text, placement_text, side_text, right_text, or_dash, rights_text, target_text, fen}
+use Rattle.chess_base.specs.Writing.{run_text, row_text, fen_rank, ranks_down, ranks_text, placement_text, side_text, right_text, or_dash, rights_text, target_text, fen}
 use Rattle.chess_base.specs.declared.man.CastlingSide.{CastlingSide}
 use Rattle.chess_base.specs.declared.man.CastlingSide.TheVariants.{KingSide, QueenSide}
 use Rattle.chess_base.specs.Men.{Men, man_at, is_man, other, forward, crossed_rank}
@@ -204,7 +204,7 @@ row_read (Some man ∷ squares) n before h =
     ∙ row_read squares 0 ((before ++ replicate n None) ++ Some man ∷ []) (omega arith)
     ∙ ap (λ r. rank_after r []) (ap (λ r. r ++ squares) (append-nil ((before ++ replicate n None) ++ Some man ∷ [])) ∙ append_assoc (before ++ replicate n None) (Some man ∷ []) squares)
 
-pub rank-text : (squares : List (Option Man)) → length squares ≡ 8 → rank_of (rank_text squares) ≡ Some squares
+pub rank-text : (squares : List (Option Man)) → length squares ≡ 8 → rank_of (fen_rank squares) ≡ Some squares
 rank-text squares eight = row_read squares 0 [] (omega arith) ∙ ap (λ n. cond (eqb n 8) (Some squares) None) eight
 
 -- ---- placement
@@ -230,29 +230,29 @@ row_from [] n = subst (From 48) (append-nil (run_text n)) (run_from n [] tt)
 row_from (None ∷ squares) n = row_from squares (suc n)
 row_from (Some man ∷ squares) n = run_from n (letter man ∷ row_text 0 squares) (letter_from man.colour man.kind, row_from squares 0)
 
-rows_from : (n : ℕ) (men : List (Option Man)) → AllByRecursion (From 48) (map rank_text (ranks_down n men))
+rows_from : (n : ℕ) (men : List (Option Man)) → AllByRecursion (From 48) (map fen_rank (ranks_down n men))
 rows_from zero men = tt
 rows_from (suc n) men = (row_from (take 8 (drop (8 * n) men)) 0, rows_from n men)
 
-ranks_read : (n : ℕ) (men above : List (Option Man)) → 8 * n ≤ length men → stacked above (map rank_text (ranks_down n men)) ≡ Some (take (8 * n) men ++ above)
+ranks_read : (n : ℕ) (men above : List (Option Man)) → 8 * n ≤ length men → stacked above (map fen_rank (ranks_down n men)) ≡ Some (take (8 * n) men ++ above)
 ranks_read zero men above h = refl
 ranks_read (suc n) men above h =
     let squares : List (Option Man) = take 8 (drop (8 * n) men) in
     let eight : length squares ≡ 8 = omega (arith, length-take 8 (drop (8 * n) men), length-drop (8 * n) men) in
     let at : 8 * suc n ≡ 8 * n + 8 = omega arith in
-    ap (option_and_then (λ r. stacked (r ++ above) (map rank_text (ranks_down n men)))) (rank-text squares eight)
+    ap (option_and_then (λ r. stacked (r ++ above) (map fen_rank (ranks_down n men)))) (rank-text squares eight)
     ∙ ranks_read n men (squares ++ above) (omega arith)
     ∙ ap Some (sym (append_assoc (take (8 * n) men) squares above) ∙ ap (λ r. r ++ above) (sym (ap (λ k. take k men) at ∙ take-add (8 * n) 8 men)))
 
 pub placement-text : (men : List (Option Man)) → length men ≡ 64 → placement_of (placement_text men) ≡ Some men
 unfolding placement_text
 placement-text men all =
-    let parts : slice_split (λ c. eqb c 47) (ranks_text 8 men) ≡ map rank_text (ranks_down 8 men) = slice_split-join 47 (rank_text (take 8 (drop 56 men))) (map rank_text (ranks_down 7 men)) (rows_from 8 men) in
+    let parts : slice_split (λ c. eqb c 47) (ranks_text 8 men) ≡ map fen_rank (ranks_down 8 men) = slice_split-join 47 (fen_rank (take 8 (drop 56 men))) (map fen_rank (ranks_down 7 men)) (rows_from 8 men) in
     ap (λ ranks. cond (eqb (length ranks) 8) (stacked [] ranks) None) parts ∙ ranks_read 8 men [] (omega arith) ∙ ap Some (append-nil (take 64 men) ∙ take_all 64 men (omega arith))
 
 placement_from : (men : List (Option Man)) → From 33 (placement_text men)
 unfolding placement_text
-placement_from men = From-weaker 33 47 (ranks_text 8 men) (omega arith) (From-join 47 47 (map rank_text (ranks_down 8 men)) (omega arith) (weaker (map rank_text (ranks_down 8 men)) (rows_from 8 men)))
+placement_from men = From-weaker 33 47 (ranks_text 8 men) (omega arith) (From-join 47 47 (map fen_rank (ranks_down 8 men)) (omega arith) (weaker (map fen_rank (ranks_down 8 men)) (rows_from 8 men)))
   where
     weaker : (texts : List (List ℕ)) → AllByRecursion (From 48) texts → AllByRecursion (From 47) texts
     weaker [] p = tt
@@ -260,7 +260,7 @@ placement_from men = From-weaker 33 47 (ranks_text 8 men) (omega arith) (From-jo
 
 placement_some : (men : List (Option Man)) → 0 < length (placement_text men)
 unfolding placement_text
-placement_some men = omega (arith, length-append (rank_text (take 8 (drop 56 men))) (47 ∷ ranks_text 7 men))
+placement_some men = omega (arith, length-append (fen_rank (take 8 (drop 56 men))) (47 ∷ ranks_text 7 men))
 
 -- ---- the fields
 

@@ -15,6 +15,9 @@ use Rattle.chess_base.specs.Letters.{byte, space, stroke, dash, man_with_letter}
 
 -- ---- numbers
 
+abbrev pub is_letter : ℕ → Bool
+is_letter c = (nat_le (byte "A") c && nat_le c (byte "Z")) || (nat_le (byte "a") c && nat_le c (byte "z"))
+
 abbrev pub is_digit : ℕ → Bool
 is_digit c = nat_le (byte "0") c && nat_le c (byte "9")
 

@@ -25,8 +25,8 @@ row_text empty [] = run_text empty
 row_text empty (None ∷ row) = row_text (suc empty) row
 row_text empty (Some man ∷ row) = run_text empty ++ letter man ∷ row_text 0 row
 
-abbrev pub rank_text : List (Option Man) → List ℕ
-rank_text row = row_text 0 row
+abbrev pub fen_rank : List (Option Man) → List ℕ
+fen_rank row = row_text 0 row
 
 -- the lowest ranks, so many, the highest of them first
 abbrev pub ranks_down : ℕ → List (Option Man) → List (List (Option Man))
@@ -34,7 +34,7 @@ ranks_down zero men = []
 ranks_down (suc rank) men = take 8 (drop (8 * rank) men) ∷ ranks_down rank men
 
 abbrev pub ranks_text : ℕ → List (Option Man) → List ℕ
-ranks_text n men = join_with_byte stroke (map rank_text (ranks_down n men))
+ranks_text n men = join_with_byte stroke (map fen_rank (ranks_down n men))
 
 -- all eight, with a stroke between
 unfoldable pub placement_text : List (Option Man) → List ℕ

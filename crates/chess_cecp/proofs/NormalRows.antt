@@ -16,7 +16,7 @@ use Rattle.chess_pgn.specs.declared.tags.Tags.{Tags}
 use Rattle.chess_cecp.specs.declared.command.Command.{Command}
 use Rattle.chess_cecp.specs.declared.command.Command.TheVariants.{New, SetBoard, UserMove, BareMove, Undo, Remove, Declare, Claim, Ping, Protover, Variant, Go, ShowFen, ShowMoves, ShowState, ShowPgn, Quit, Silent, BadNumber, Unknown}
 use Rattle.chess_cecp.specs.laws.Normal.{normal_row_of, normal_moves_line}
-use Rattle.chess_cecp.specs.Session.{row, says, setboard_row, moves_line, shown, line_text}
+use Rattle.chess_cecp.specs.Session.{row, says, setboard_row, moves_line, shown, joined_line}
 
 -- what a move leaves is of the variant of the position before it
 stays : (p : Setup) (m : Move) → (after p m).variant ≡ p.variant
@@ -39,7 +39,7 @@ listed p (m ∷ ms) e = ap (λ text. (32 ∷ text) ++ flat_map (shown p) ms) (sh
 
 line_listed : (p : Setup) (ms : List Move) → p.variant ≡ Normal → moves_line p ms ≡ normal_moves_line ms
 unfolding moves_line
-line_listed p ms e = ap (λ text. line_text (codes "# moves ") (decimal (length ms) ++ text)) (listed p ms e)
+line_listed p ms e = ap (λ text. joined_line (codes "# moves ") (decimal (length ms) ++ text)) (listed p ms e)
 
 pub normal_rows : (tags : Tags) (limit : ℕ) (s : State) (text argument : List ℕ) (command : Command)
     → s.start.variant ≡ Normal →

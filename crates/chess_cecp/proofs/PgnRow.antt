@@ -3,7 +3,7 @@ use Rattle.std.proofs.Common.{◌≡◌, true, false, not, codes, refl, ap}
 use Rattle.std.proofs.lemmas.Bool.{and_parts, not-true}
 use Rattle.chess_pgn.specs.GameText.{pgn}
 use Rattle.chess_cecp.specs.Commands.{command_of, argument_of}
-use Rattle.chess_cecp.specs.Held.{Seen}
+use Rattle.chess_cecp.specs.Held.{SessionSeen}
 use Rattle.chess_cecp.specs.Lines.{LineSeen}
 use Rattle.chess_cecp.specs.Session.{row, row_on, says, stands, shows_pgn, asks_for_pgn, next_state, answer_to, is_quit, is_quit_command}
 use Rattle.chess_cecp.specs.declared.command.Command.{Command}
@@ -32,12 +32,12 @@ is_show_pgn (Ping n) e = cc
 is_show_pgn (Protover n) e = cc
 
 -- the game's text is answered, and nothing changes
-pub record IsPgnRow (seen : Seen) (line : LineSeen) : Type 0 where
+pub record IsPgnRow (seen : SessionSeen) (line : LineSeen) : Type 0 where
   pub next : next_state seen line ≡ seen
   pub text : answer_to seen line ≡ pgn (codes "# ") seen.tags seen.state
   pub no_quit : is_quit line ≡ false
 
-pub pgn_row : (seen : Seen) (line : LineSeen) → asks_for_pgn line ≡ true → IsPgnRow seen line
+pub pgn_row : (seen : SessionSeen) (line : LineSeen) → asks_for_pgn line ≡ true → IsPgnRow seen line
 unfolding asks_for_pgn next_state answer_to is_quit
 pgn_row seen line asks =
     let both = and_parts (not line.too_long) (shows_pgn (command_of line.text)) asks in

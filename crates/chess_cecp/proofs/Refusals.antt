@@ -9,7 +9,7 @@ use Rattle.chess_base.specs.declared.setup.Setup.{Setup}
 use Rattle.chess_base.specs.Reading.{fen_reading_as}
 use Rattle.chess_base.specs.Initial.{initial_setup, initial_setup_of}
 use Rattle.chess_cecp.specs.Lines.{LineSeen}
-use Rattle.chess_cecp.specs.Held.{Seen}
+use Rattle.chess_cecp.specs.Held.{SessionSeen}
 use Rattle.chess_pgn.specs.declared.tags.Tags.{Tags}
 use Rattle.chess_text.specs.Moves.{reading}
 use Rattle.chess_text.specs.declared.reading.Reading.{Reading}
@@ -25,7 +25,7 @@ use Rattle.chess_game.specs.declared.ends.Claims.{Claims}
 use Rattle.chess_cecp.specs.Declaring.{declared_by, result_text}
 use Rattle.chess_cecp.specs.declared.command.Command.{Command}
 use Rattle.chess_cecp.specs.declared.command.Command.TheVariants.{New, SetBoard, UserMove, BareMove, Undo, Remove, Declare, Claim, Ping, Protover, Variant, Go, ShowFen, ShowMoves, ShowState, ShowPgn, Quit, Silent, BadNumber, Unknown}
-use Rattle.chess_cecp.specs.Session.{Row, row, says, refuses, becomes, becomes_judged, result_line, verdict_line, result_row, draws, claimed, setboard_row, normal_row, feature_text, line_text, reading_row, move_row, IsRefusal, answer_to, next_state}
+use Rattle.chess_cecp.specs.Session.{Row, row, says, refuses, becomes, becomes_judged, result_line, verdict_line, result_row, draws, claimed, setboard_row, normal_row, feature_text, joined_line, reading_row, move_row, IsRefusal, answer_to, next_state}
 
 -- the first bytes of refusals: E, I and t
 abbrev pub begins_refusal : List ℕ → Bool
@@ -129,7 +129,7 @@ row_keeps tags limit s text argument Claim =
     (claimed s (claims s.start s.moves)) (λ h. refl) (claimed_keeps s (claims s.start s.moves))
 row_keeps tags limit s text argument (Ping n) = λ h. refl
 row_keeps tags limit s text argument (Protover n) =
-    by_test (nat_lt n 2) s (says s []) (says s (line_text feature_text [])) (λ h. refl) (λ h. refl)
+    by_test (nat_lt n 2) s (says s []) (says s (joined_line feature_text [])) (λ h. refl) (λ h. refl)
 row_keeps tags limit s text argument Variant =
     by_test (bytes_eq argument (codes "fischerandom")) s (becomes (from_start (initial_setup_of Fischerandom)))
     (if bytes_eq argument (codes "normal") then normal_row s s.start.variant else
@@ -147,7 +147,7 @@ row_keeps tags limit s text argument Silent = λ h. refl
 row_keeps tags limit s text argument BadNumber = λ h. refl
 row_keeps tags limit s text argument Unknown = λ h. refl
 
-pub refused_keeps : (seen : Seen) (line : LineSeen) → IsRefusal (answer_to seen line) → next_state seen line ≡ seen
+pub refused_keeps : (seen : SessionSeen) (line : LineSeen) → IsRefusal (answer_to seen line) → next_state seen line ≡ seen
 unfolding answer_to next_state
 refused_keeps seen line h =
     ap (λ v. record { tags = seen.tags; limit = seen.limit; state = v })
@@ -158,11 +158,11 @@ refused_keeps seen line h =
     h)
 
 -- the same of a session that is left; and tags and limit stay in any case
-pub refused : (seen left : Seen) (line : LineSeen) → left ≡ next_state seen line → IsRefusal (answer_to seen line)
+pub refused : (seen left : SessionSeen) (line : LineSeen) → left ≡ next_state seen line → IsRefusal (answer_to seen line)
     → left ≡ seen
 refused seen left line is h = is ∙ refused_keeps seen line h
 
-pub tags_and_limit_stay : (seen left : Seen) (line : LineSeen) → left ≡ next_state seen line → (left.tags ≡ seen.tags)
+pub tags_and_limit_stay : (seen left : SessionSeen) (line : LineSeen) → left ≡ next_state seen line → (left.tags ≡ seen.tags)
     × (left.limit ≡ seen.limit)
 unfolding next_state
-tags_and_limit_stay seen left line is = (ap (λ (s : Seen). s.tags) is, ap (λ (s : Seen). s.limit) is)
+tags_and_limit_stay seen left line is = (ap (λ (s : SessionSeen). s.tags) is, ap (λ (s : SessionSeen). s.limit) is)

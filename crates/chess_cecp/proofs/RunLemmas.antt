@@ -13,7 +13,7 @@ use Rattle.byte_devices.specs.Devices.{InputState, OutputState, Sent, TookThenFa
 use Rattle.byte_devices.proofs.DeviceLaws.{consumes_more, consumes_none, appends_more, appends_none}
 use Rattle.chess_cecp.specs.Lines.{LineSeen, Held, nothing_held, lines_heard, lines_held, lines, whole}
 use Rattle.chess_cecp.specs.Next.{before_piece, Waits, GotLine, GotLast, NextLine}
-use Rattle.chess_cecp.specs.Held.{Seen}
+use Rattle.chess_cecp.specs.Held.{SessionSeen}
 use Rattle.chess_cecp.specs.Session.{next_state, answer_to, is_quit, standing, answers, has_quit}
 use Rattle.chess_cecp.specs.Run.{Transcript, LeavesUnflushed, Ran, Answered, AnsweredKnown, risen_if}
 use Rattle.chess_cecp.specs.declared.session.Go.{Go}
@@ -37,19 +37,19 @@ pub one_cond : (b : Bool) (x : List ℕ) → (if b then x else x ++ []) ≡ x
 one_cond true x = refl
 one_cond false x = append-nil x
 
-one_state : (b : Bool) (x : Seen) → (if b then x else x) ≡ x
+one_state : (b : Bool) (x : SessionSeen) → (if b then x else x) ≡ x
 one_state true x = refl
 one_state false x = refl
 
 -- lines without a quit: those behind them go on from where they left
-pub answers_on : (s : Seen) (xs ys : List LineSeen) → has_quit xs ≡ false → answers s (xs ++ ys) ≡ answers s xs ++ answers (standing s xs) ys
+pub answers_on : (s : SessionSeen) (xs ys : List LineSeen) → has_quit xs ≡ false → answers s (xs ++ ys) ≡ answers s xs ++ answers (standing s xs) ys
 answers_on s [] ys h = refl
 answers_on s (x ∷ xs) ys h =
     let n : is_quit x ≡ false = or_left (is_quit x) (has_quit xs) h in
     let m : has_quit xs ≡ false = or_right (is_quit x) (has_quit xs) h in
     rw n (ap (λ v. answer_to s x ++ v) (answers_on (next_state s x) xs ys m) ∙ sym (append_assoc (answer_to s x) (answers (next_state s x) xs) (answers (standing (next_state s x) xs) ys)))
 
-pub standing_on : (s : Seen) (xs ys : List LineSeen) → has_quit xs ≡ false → standing s (xs ++ ys) ≡ standing (standing s xs) ys
+pub standing_on : (s : SessionSeen) (xs ys : List LineSeen) → has_quit xs ≡ false → standing s (xs ++ ys) ≡ standing (standing s xs) ys
 standing_on s [] ys h = refl
 standing_on s (x ∷ xs) ys h =
     let n : is_quit x ≡ false = or_left (is_quit x) (has_quit xs) h in
@@ -62,16 +62,16 @@ no_quit_on (y ∷ xs) x h k =
     rw (or_left (is_quit y) (has_quit xs) h) (no_quit_on xs x (or_right (is_quit y) (has_quit xs) h) k)
 
 -- one line alone
-pub answers_one : (s : Seen) (x : LineSeen) (ys : List LineSeen) → is_quit x ≡ true → answers s (x ∷ ys) ≡ answer_to s x
+pub answers_one : (s : SessionSeen) (x : LineSeen) (ys : List LineSeen) → is_quit x ≡ true → answers s (x ∷ ys) ≡ answer_to s x
 answers_one s x ys h = rw h refl
 
-pub answers_last : (s : Seen) (x : LineSeen) → answers s (x ∷ []) ≡ answer_to s x
+pub answers_last : (s : SessionSeen) (x : LineSeen) → answers s (x ∷ []) ≡ answer_to s x
 answers_last s x = one_cond (is_quit x) (answer_to s x)
 
-pub standing_one : (s : Seen) (x : LineSeen) (ys : List LineSeen) → is_quit x ≡ true → standing s (x ∷ ys) ≡ next_state s x
+pub standing_one : (s : SessionSeen) (x : LineSeen) (ys : List LineSeen) → is_quit x ≡ true → standing s (x ∷ ys) ≡ next_state s x
 standing_one s x ys h = rw h refl
 
-pub standing_last : (s : Seen) (x : LineSeen) → standing s (x ∷ []) ≡ next_state s x
+pub standing_last : (s : SessionSeen) (x : LineSeen) → standing s (x ∷ []) ≡ next_state s x
 standing_last s x = one_state (is_quit x) (next_state s x)
 
 -- ---- what the writer took and handed on
@@ -106,7 +106,7 @@ sent_some w w' w'' x y h k = record {
 }
 
 -- after some lines were answered, none of them a quit
-pub record SoFar (r r' : InputState) (w w' : OutputState) (s s' : Seen) (held : Held) (given : List ℕ) (done : List LineSeen) : Type 0 where
+pub record SoFar (r r' : InputState) (w w' : OutputState) (s s' : SessionSeen) (held : Held) (given : List ℕ) (done : List LineSeen) : Type 0 where
   pub bytes : Consumes r.known_bytes r'.known_bytes given
   pub took : SentAll w w' (answers s done)
   pub state : s' ≡ standing s done
@@ -122,7 +122,7 @@ no_bytes n = grind (arith, common_steps)
 pub nothing_whole : whole 1024 [] ≡ []
 nothing_whole = nothing_left 1024 false
 
-pub start : (r : InputState) (w : OutputState) (s : Seen) → SoFar r r w w s s nothing_held [] []
+pub start : (r : InputState) (w : OutputState) (s : SessionSeen) → SoFar r r w w s s nothing_held [] []
 start r w s = record {
   bytes = consumes_none r.known_bytes;
   took = sent_none w;
@@ -135,7 +135,7 @@ start r w s = record {
 }
 
 -- before the last piece of what was given, no line is whole but those that are done
-waited : (r r' r'' : InputState) (w w' : OutputState) (s s' : Seen) (held : Held) (given more : List ℕ) (done : List LineSeen)
+waited : (r r' r'' : InputState) (w w' : OutputState) (s s' : SessionSeen) (held : Held) (given more : List ℕ) (done : List LineSeen)
     → SoFar r r' w w' s s' held given done → Waits 1024 r' r'' held more → length (whole 1024 (before_piece r''.last_len (given ++ more))) ≤ length done
 waited r r' r'' w w' s s' held given more done f (inl (none, same)) =
     let e : before_piece r''.last_len (given ++ more) ≡ before_piece r'.last_len given =
@@ -177,7 +177,7 @@ pub of_false : (b : Bool) (P Q : Type 0) → b ≡ false → MatchBool b P Q →
 of_false true P Q e p = cc
 of_false false P Q e p = p
 
-pub reached_ended : (r r' r'' : InputState) (w w' : OutputState) (s s' : Seen) (held held' : Held) (given more : List ℕ) (done : List LineSeen) (line : LineSeen)
+pub reached_ended : (r r' r'' : InputState) (w w' : OutputState) (s s' : SessionSeen) (held held' : Held) (given more : List ℕ) (done : List LineSeen) (line : LineSeen)
     → SoFar r r' w w' s s' held given done → Consumes r'.known_bytes r''.known_bytes more → Waits 1024 r' r'' held more → GotLine 1024 r' r'' held held' more line
     → Reached r r'' (given ++ more) false done line (lines_held 1024 false held' [])
 reached_ended r r' r'' w w' s s' held held' given more done line f bytes waits got = record {
@@ -190,7 +190,7 @@ reached_ended r r' r'' w w' s s' held held' given more done line f bytes waits g
   ends = got.ends ∙ f.ends;
 }
 
-pub reached_last : (r r' r'' : InputState) (w w' : OutputState) (s s' : Seen) (held held' : Held) (given more : List ℕ) (done : List LineSeen) (line : LineSeen)
+pub reached_last : (r r' r'' : InputState) (w w' : OutputState) (s s' : SessionSeen) (held held' : Held) (given more : List ℕ) (done : List LineSeen) (line : LineSeen)
     → SoFar r r' w w' s s' held given done → Consumes r'.known_bytes r''.known_bytes more → Waits 1024 r' r'' held more → GotLast 1024 r' r'' held held' more line
     → Reached r r'' (given ++ more) true done line []
 reached_last r r' r'' w w' s s' held held' given more done line f bytes waits got = record {
@@ -207,23 +207,23 @@ reached_last r r' r'' w w' s s' held held' given more done line f bytes waits go
 abbrev pub IsReached : InputState → InputState → List LineSeen → LineSeen → Type 0
 IsReached r r' done line = (given : List ℕ) × (told : Bool) × (after : List LineSeen) × Reached r r' given told done line after
 
-reached_by : (b : Bool) (E : Type 0) (r r' r'' : InputState) (w w' : OutputState) (s s' : Seen) (held held' : Held) (given : List ℕ) (done : List LineSeen) (line : LineSeen)
+reached_by : (b : Bool) (E : Type 0) (r r' r'' : InputState) (w w' : OutputState) (s s' : SessionSeen) (held held' : Held) (given : List ℕ) (done : List LineSeen) (line : LineSeen)
     → SoFar r r' w w' s s' held given done → NextLine {E = E} 1024 r' r'' held held' (Ok (Some line)) → line.ended ≡ b → IsReached r r'' done line
 reached_by true E r r' r'' w w' s s' held held' given done line f (more, bytes, waits, got) e =
     (given ++ more, false, lines_held 1024 false held' [], reached_ended r r' r'' w w' s s' held held' given more done line f bytes waits (of_true line.ended _ _ e got))
 reached_by false E r r' r'' w w' s s' held held' given done line f (more, bytes, waits, got) e =
     (given ++ more, true, [], reached_last r r' r'' w w' s s' held held' given more done line f bytes waits (of_false line.ended _ _ e got))
 
-pub reached : (E : Type 0) (r r' r'' : InputState) (w w' : OutputState) (s s' : Seen) (held held' : Held) (given : List ℕ) (done : List LineSeen) (line : LineSeen)
+pub reached : (E : Type 0) (r r' r'' : InputState) (w w' : OutputState) (s s' : SessionSeen) (held held' : Held) (given : List ℕ) (done : List LineSeen) (line : LineSeen)
     → SoFar r r' w w' s s' held given done → NextLine {E = E} 1024 r' r'' held held' (Ok (Some line)) → IsReached r r'' done line
 reached E r r' r'' w w' s s' held held' given done line f n = reached_by line.ended E r r' r'' w w' s s' held held' given done line f n refl
 
 -- the state after a line
-state_on : (s s' s'' : Seen) (done : List LineSeen) (line : LineSeen) → s' ≡ standing s done → s'' ≡ next_state s' line → s'' ≡ next_state (standing s done) line
+state_on : (s s' s'' : SessionSeen) (done : List LineSeen) (line : LineSeen) → s' ≡ standing s done → s'' ≡ next_state s' line → s'' ≡ next_state (standing s done) line
 state_on s s' s'' done line e n = n ∙ ap (λ v. next_state v line) e
 
 -- the next line, once it was answered
-pub go_on : (E : Type 0) (r r' r'' : InputState) (w w' w'' : OutputState) (s s' s'' : Seen) (held held' : Held) (given : List ℕ) (done : List LineSeen) (line : LineSeen)
+pub go_on : (E : Type 0) (r r' r'' : InputState) (w w' w'' : OutputState) (s s' s'' : SessionSeen) (held held' : Held) (given : List ℕ) (done : List LineSeen) (line : LineSeen)
     → SoFar r r' w w' s s' held given done → NextLine {E = E} 1024 r' r'' held held' (Ok (Some line)) → line.ended ≡ true
     → Sent w' w'' (answer_to s' line) → s'' ≡ next_state s' line → is_quit line ≡ false
     → (given' : List ℕ) × SoFar r r'' w w'' s s'' held' given' (done ++ line ∷ [])
@@ -246,7 +246,7 @@ go_on E r r' r'' w w' w'' s s' s'' held held' given done line f (more, bytes, wa
     )
 
 -- lines up to a quit, answered
-quit_answered : (r r' : InputState) (w w' : OutputState) (s s' s'' : Seen) (held : Held) (given : List ℕ) (done : List LineSeen) (line : LineSeen) (behind ls : List LineSeen)
+quit_answered : (r r' : InputState) (w w' : OutputState) (s s' s'' : SessionSeen) (held : Held) (given : List ℕ) (done : List LineSeen) (line : LineSeen) (behind ls : List LineSeen)
     → SoFar r r' w w' s s' held given done → ls ≡ done ++ line ∷ behind → s'' ≡ next_state s' line → is_quit line ≡ true
     → Answered s s'' (answers s done ++ answer_to s' line) ls
 quit_answered r r' w w' s s' s'' held given done line behind ls f e next on = record {
@@ -260,13 +260,13 @@ quit_stands [] line behind on = rw on refl
 quit_stands (x ∷ done) line behind on = or_right_true (is_quit x) (has_quit (done ++ line ∷ behind)) (quit_stands done line behind on)
 
 -- what was known to come has lines that are all answered, where those that were given are
-known_answered : (r r' : InputState) (s s' : Seen) (t : Transcript) (quit : Bool) → Consumes r.known_bytes r'.known_bytes t.given → IsAtEnd r'.known_bytes
+known_answered : (r r' : InputState) (s s' : SessionSeen) (t : Transcript) (quit : Bool) → Consumes r.known_bytes r'.known_bytes t.given → IsAtEnd r'.known_bytes
     → Answered s s' t.taken (lines 1024 t.given) → has_quit (lines 1024 t.given) ≡ quit → AnsweredKnown r s s' t quit
 known_answered r r' s s' t quit bytes end all is =
     Consumes-whole r.known_bytes r'.known_bytes t.given (λ xs. Answered s s' t.taken (lines 1024 xs) × (has_quit (lines 1024 xs) ≡ quit)) bytes end (all, is)
 
 -- a run that ends by the line that was reached
-pub by_quit : (r r' r'' : InputState) (w w' w'' : OutputState) (s s' s'' : Seen) (held : Held) (given : List ℕ) (done : List LineSeen) (line : LineSeen)
+pub by_quit : (r r' r'' : InputState) (w w' w'' : OutputState) (s s' s'' : SessionSeen) (held : Held) (given : List ℕ) (done : List LineSeen) (line : LineSeen)
     → SoFar r r' w w' s s' held given done → IsReached r r'' done line
     → Sent w' w'' (answer_to s' line) → s'' ≡ next_state s' line → is_quit line ≡ true
     → (t : Transcript) × Ran r r'' w w'' s s'' t (Ok Quit)
@@ -290,7 +290,7 @@ by_quit r r' r'' w w' w'' s s' s'' held given done line f (all, told, after, at)
     )
 
 -- a run that ends at a write that failed
-pub by_write : (r r' r'' : InputState) (w w' w'' : OutputState) (s s' s'' : Seen) (held : Held) (given : List ℕ) (done : List LineSeen) (line : LineSeen)
+pub by_write : (r r' r'' : InputState) (w w' w'' : OutputState) (s s' s'' : SessionSeen) (held : Held) (given : List ℕ) (done : List LineSeen) (line : LineSeen)
     → SoFar r r' w w' s s' held given done → IsReached r r'' done line
     → BreaksOff w' w'' (answer_to s' line) → s'' ≡ next_state s' line
     → (t : Transcript) × Ran r r'' w w'' s s'' t (Err Write)
@@ -315,7 +315,7 @@ by_write r r' r'' w w' w'' s s' s'' held given done line f (all, told, after, at
     )
 
 -- a run that ends by an unended last line
-pub by_last : (E : Type 0) (r r' r'' : InputState) (w w' w'' : OutputState) (s s' s'' : Seen) (held held' : Held) (given : List ℕ) (done : List LineSeen) (line : LineSeen)
+pub by_last : (E : Type 0) (r r' r'' : InputState) (w w' w'' : OutputState) (s s' s'' : SessionSeen) (held held' : Held) (given : List ℕ) (done : List LineSeen) (line : LineSeen)
     → SoFar r r' w w' s s' held given done → NextLine {E = E} 1024 r' r'' held held' (Ok (Some line)) → line.ended ≡ false
     → Sent w' w'' (answer_to s' line) → s'' ≡ next_state s' line → is_quit line ≡ false
     → (t : Transcript) × Ran r r'' w w'' s s'' t (Ok InputEnded)
@@ -340,7 +340,7 @@ by_last E r r' r'' w w' w'' s s' s'' held held' given done line f (more, bytes, 
     )
 
 -- a run that ends where nothing is left
-pub by_end : (E : Type 0) (r r' r'' : InputState) (w w' : OutputState) (s s' : Seen) (held held' : Held) (given : List ℕ) (done : List LineSeen)
+pub by_end : (E : Type 0) (r r' r'' : InputState) (w w' : OutputState) (s s' : SessionSeen) (held held' : Held) (given : List ℕ) (done : List LineSeen)
     → SoFar r r' w w' s s' held given done → NextLine {E = E} 1024 r' r'' held held' (Ok None)
     → (t : Transcript) × Ran r r'' w w' s s' t (Ok InputEnded)
 by_end E r r' r'' w w' s s' held held' given done f (more, bytes, waits, got) =
@@ -359,7 +359,7 @@ by_end E r r' r'' w w' s s' held held' given done f (more, bytes, waits, got) =
     )
 
 -- a run that ends at a read that failed
-pub by_read : {E : Type 0} (e : E) (r r' r'' : InputState) (w w' : OutputState) (s s' : Seen) (held held' : Held) (given : List ℕ) (done : List LineSeen)
+pub by_read : {E : Type 0} (e : E) (r r' r'' : InputState) (w w' : OutputState) (s s' : SessionSeen) (held held' : Held) (given : List ℕ) (done : List LineSeen)
     → SoFar r r' w w' s s' held given done → NextLine {E = E} 1024 r' r'' held held' (Err e)
     → (t : Transcript) × Ran r r'' w w' s s' t (Err Read)
 by_read e r r' r'' w w' s s' held held' given done f (more, bytes, waits, got) =

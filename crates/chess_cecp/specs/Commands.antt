@@ -18,8 +18,8 @@ unfoldable pub argument_of : List ℕ → List ℕ
 argument_of text = without_front_blanks (drop (length (word_of text)) text)
 
 -- the number that one to nine digits write
-unfoldable pub number_of : List ℕ → Option ℕ
-number_of text = if nat_lt 0 (length text) && nat_le (length text) 9 && list_all is_digit text then Some (value_after 0 text) else None
+unfoldable pub command_number : List ℕ → Option ℕ
+command_number text = if nat_lt 0 (length text) && nat_le (length text) 9 && list_all is_digit text then Some (value_after 0 text) else None
 
 abbrev pub ping_of : Option ℕ → Command
 ping_of (Some n) = Ping n
@@ -61,8 +61,8 @@ command_by word argument text =
     else if bytes_eq word (codes "remove") then Remove
     else if bytes_eq word (codes "result") then Declare
     else if bytes_eq word (codes "claim") then Claim
-    else if bytes_eq word (codes "ping") then ping_of (number_of argument)
-    else if bytes_eq word (codes "protover") then protover_of (number_of argument)
+    else if bytes_eq word (codes "ping") then ping_of (command_number argument)
+    else if bytes_eq word (codes "protover") then protover_of (command_number argument)
     else if bytes_eq word (codes "variant") then Variant
     else if bytes_eq word (codes "go") then Go
     else if bytes_eq word (codes "showfen") then ShowFen

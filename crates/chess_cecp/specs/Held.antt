@@ -6,15 +6,15 @@ use Rattle.chess_game.specs.Game as game
 use Rattle.chess_game.specs.Game.{State, from_start}
 use Rattle.chess_pgn.specs.declared.tags.Tags.{Tags}
 
-pub record Seen : Type 0 where
+pub record SessionSeen : Type 0 where
   pub tags : Tags
   pub limit : ℕ
   pub state : State
 
 -- its game
-abbrev pub game_of : Seen → game.Seen
-game_of s = record { limit = s.limit; state = s.state }
+abbrev pub game_held : SessionSeen → game.Seen
+game_held s = record { limit = s.limit; state = s.state }
 
 -- a session as it opens, and after `new`
-abbrev pub opened : Tags → ℕ → Seen
-opened tags limit = record { tags = tags; limit = limit; state = from_start initial_setup }
+abbrev pub opened_session : Tags → ℕ → SessionSeen
+opened_session tags limit = record { tags = tags; limit = limit; state = from_start initial_setup }

@@ -6,7 +6,7 @@ use Rattle.std.specs.Io.KnownBytes.{Consumes, Appends, IsAtEnd}
 use Rattle.byte_devices.specs.Devices.{InputState, OutputState, risen, raised, Begins}
 use Rattle.chess_cecp.specs.Lines.{LineSeen, lines_heard, lines, whole}
 use Rattle.chess_cecp.specs.Next.{before_piece}
-use Rattle.chess_cecp.specs.Held.{Seen}
+use Rattle.chess_cecp.specs.Held.{SessionSeen}
 use Rattle.chess_cecp.specs.Session.{answer_to, is_quit, standing, answers, has_quit}
 use Rattle.chess_cecp.specs.declared.run.End.{End}
 use Rattle.chess_cecp.specs.declared.run.End.TheVariants.{Quit, InputEnded}
@@ -41,17 +41,17 @@ abbrev pub lines_given : Transcript → List LineSeen
 lines_given t = lines_heard 1024 t.told t.given
 
 -- these lines were answered by this text, up to a `quit`, and the state is the one after them
-pub record Answered (s s' : Seen) (text : List ℕ) (ls : List LineSeen) : Type 0 where
+pub record Answered (s s' : SessionSeen) (text : List ℕ) (ls : List LineSeen) : Type 0 where
   pub taken : text ≡ answers s ls
   pub state : s' ≡ standing s ls
 
 -- all lines that were given were answered, up to a `quit`
-abbrev pub AnsweredAll : Seen → Seen → Transcript → Type 0
+abbrev pub AnsweredAll : SessionSeen → SessionSeen → Transcript → Type 0
 AnsweredAll s s' t = Answered s s' t.taken (lines_given t)
 
 -- where the bytes that were still to come were known, all their lines were answered, up to a `quit`, however they
 -- were cut; and whether one of them is a `quit`
-abbrev pub AnsweredKnown : InputState → Seen → Seen → Transcript → Bool → Type 0
+abbrev pub AnsweredKnown : InputState → SessionSeen → SessionSeen → Transcript → Bool → Type 0
 AnsweredKnown r s s' t quit = IfSome r.known_bytes (λ xs. Answered s s' t.taken (lines 1024 xs) × (has_quit (lines 1024 xs) ≡ quit))
 
 -- where the bytes that were still to come were known, these lines are the first of theirs
@@ -66,20 +66,20 @@ pub record EndsAt (t : Transcript) (last_len : ℕ) (before : List LineSeen) (li
   pub on_demand : length (whole 1024 (before_piece last_len t.given)) < length before + 1
 
 -- an end by the first `quit`
-abbrev pub ByQuit : Seen → Seen → Transcript → ℕ → Type 0
+abbrev pub ByQuit : SessionSeen → SessionSeen → Transcript → ℕ → Type 0
 ByQuit s s' t last_len =
     (before : List LineSeen) × (line : LineSeen) × (after : List LineSeen)
     × EndsAt t last_len before line after × (is_quit line ≡ true) × AnsweredAll s s' t
 
 -- an end by the input's end
-pub record ByEnd (s s' : Seen) (t : Transcript) (r' : InputState) : Type 0 where
+pub record ByEnd (s s' : SessionSeen) (t : Transcript) (r' : InputState) : Type 0 where
   pub told : t.told ≡ true
   pub at_end : IsAtEnd r'.known_bytes
   pub no_quit : has_quit (lines_given t) ≡ false
   pub all : AnsweredAll s s' t
 
 -- an end by a read that failed: the lines that byte 10 ended were answered
-pub record ByRead (r : InputState) (s s' : Seen) (t : Transcript) : Type 0 where
+pub record ByRead (r : InputState) (s s' : SessionSeen) (t : Transcript) : Type 0 where
   pub told : t.told ≡ false
   pub no_quit : has_quit (whole 1024 t.given) ≡ false
   pub taken : t.taken ≡ answers s (whole 1024 t.given)
@@ -88,7 +88,7 @@ pub record ByRead (r : InputState) (s s' : Seen) (t : Transcript) : Type 0 where
 
 -- an end by a write or a flush that failed: a beginning of the answer to the line was written, and its change stands. That
 -- beginning is all that is not flushed
-abbrev pub ByWrite : InputState → OutputState → OutputState → Seen → Seen → Transcript → ℕ → Type 0
+abbrev pub ByWrite : InputState → OutputState → OutputState → SessionSeen → SessionSeen → Transcript → ℕ → Type 0
 ByWrite r w w' s s' t last_len =
     (before : List LineSeen) × (line : LineSeen) × (after : List LineSeen) × (start : List ℕ)
     × EndsAt t last_len before line after
@@ -100,7 +100,7 @@ ByWrite r w w' s s' t last_len =
 
 -- the whole promise: what was answered, of the session, the devices and the transcript. Each answer was flushed before
 -- anything else: at all ends but that by a failed write nothing is unflushed
-abbrev pub Ran : InputState → InputState → OutputState → OutputState → Seen → Seen → Transcript → Result End Fault → Type 0
+abbrev pub Ran : InputState → InputState → OutputState → OutputState → SessionSeen → SessionSeen → Transcript → Result End Fault → Type 0
 Ran r r' w w' s s' t (Ok Quit) = FitsDevices r r' w w' t false false × ByQuit s s' t r'.last_len × AnsweredKnown r s s' t true × LeavesUnflushed w w' []
 Ran r r' w w' s s' t (Ok InputEnded) = FitsDevices r r' w w' t false false × ByEnd s s' t r' × AnsweredKnown r s s' t false × LeavesUnflushed w w' []
 Ran r r' w w' s s' t (Err Read) = FitsDevices r r' w w' t true false × ByRead r s s' t × LeavesUnflushed w w' []

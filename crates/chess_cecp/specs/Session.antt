@@ -16,7 +16,7 @@ use Rattle.chess_base.specs.MoveList.{moves}
 use Rattle.chess_base.specs.Reading.{fen_reading_as}
 use Rattle.chess_base.specs.Writing.{fen}
 use Rattle.chess_cecp.specs.Lines.{LineSeen}
-use Rattle.chess_cecp.specs.Held.{Seen}
+use Rattle.chess_cecp.specs.Held.{SessionSeen}
 use Rattle.chess_pgn.specs.GameText.{pgn}
 use Rattle.chess_pgn.specs.declared.tags.Tags.{Tags}
 use Rattle.chess_text.specs.Moves.{reading}
@@ -35,8 +35,8 @@ use Rattle.chess_cecp.specs.declared.command.Command.{Command}
 use Rattle.chess_cecp.specs.declared.command.Command.TheVariants.{New, SetBoard, UserMove, BareMove, Undo, Remove, Declare, Claim, Ping, Protover, Variant, Go, ShowFen, ShowMoves, ShowState, ShowPgn, Quit, Silent, BadNumber, Unknown}
 
 -- a text behind another, and byte 10
-abbrev pub line_text : List ℕ → List ℕ → List ℕ
-line_text front text = front ++ (text ++ new_line ∷ [])
+abbrev pub joined_line : List ℕ → List ℕ → List ℕ
+joined_line front text = front ++ (text ++ new_line ∷ [])
 
 -- one row of the table: the text of the answer, and the game after it
 pub record Row : Type 0 where
@@ -49,7 +49,7 @@ says s text = record { text = text; next = s }
 
 -- the command is refused with this line, and nothing changes
 abbrev pub refuses : State → List ℕ → List ℕ → Row
-refuses s front text = says s (line_text front text)
+refuses s front text = says s (joined_line front text)
 
 -- the game changes, in silence
 abbrev pub becomes : State → Row
@@ -57,7 +57,7 @@ becomes s = record { text = []; next = s }
 
 -- the line of a result
 unfoldable pub result_line : Outcome → List ℕ → List ℕ
-result_line o comment = line_text (result_text o comment) []
+result_line o comment = joined_line (result_text o comment) []
 
 -- the line of a verdict, if there is one
 abbrev pub verdict_line : Option Verdict → List ℕ
@@ -73,25 +73,25 @@ abbrev pub shown : Setup → Move → List ℕ
 shown p m = space ∷ shown_move p m
 
 unfoldable pub moves_line : Setup → List Move → List ℕ
-moves_line p ms = line_text (codes "# moves ") (decimal (length ms) ++ flat_map (shown p) ms)
+moves_line p ms = joined_line (codes "# moves ") (decimal (length ms) ++ flat_map (shown p) ms)
 
 -- the name of a fault of a FEN
-abbrev pub fault_name : FenFault → List ℕ
-fault_name Fields = codes "fields"
-fault_name Placement = codes "placement"
-fault_name Side = codes "side"
-fault_name Castling = codes "castling"
-fault_name EnPassant = codes "en passant"
-fault_name Counters = codes "counters"
-fault_name Kings = codes "kings"
-fault_name Pawns = codes "pawns"
-fault_name Men = codes "men"
-fault_name Check = codes "check"
+abbrev pub fen_fault_name : FenFault → List ℕ
+fen_fault_name Fields = codes "fields"
+fen_fault_name Placement = codes "placement"
+fen_fault_name Side = codes "side"
+fen_fault_name Castling = codes "castling"
+fen_fault_name EnPassant = codes "en passant"
+fen_fault_name Counters = codes "counters"
+fen_fault_name Kings = codes "kings"
+fen_fault_name Pawns = codes "pawns"
+fen_fault_name Men = codes "men"
+fen_fault_name Check = codes "check"
 
 -- the game starts anew from the position that a FEN spells; a FEN that spells none is refused by its first fault
 abbrev pub setboard_row : State → Result Setup FenFault → Row
 setboard_row s (Ok start) = becomes_judged (from_start start)
-setboard_row s (Err fault) = refuses s (codes "tellusererror Illegal position (") (fault_name fault ++ codes ")")
+setboard_row s (Err fault) = refuses s (codes "tellusererror Illegal position (") (fen_fault_name fault ++ codes ")")
 
 -- what the arbiter tells of itself to an interface that speaks version 2
 unfoldable pub feature_text : List ℕ
@@ -159,13 +159,13 @@ row tags limit s text argument Undo = undo_row s
 row tags limit s text argument Remove = remove_row s
 row tags limit s text argument Declare = result_row s text (declared_by argument)
 row tags limit s text argument Claim = claim_row s
-row tags limit s text argument (Ping n) = says s (line_text (codes "pong ") (decimal n))
-row tags limit s text argument (Protover n) = if nat_lt n 2 then says s [] else says s (line_text feature_text [])
+row tags limit s text argument (Ping n) = says s (joined_line (codes "pong ") (decimal n))
+row tags limit s text argument (Protover n) = if nat_lt n 2 then says s [] else says s (joined_line feature_text [])
 row tags limit s text argument Variant = variant_row s text argument
 row tags limit s text argument Go = refuses s (codes "Error (the arbiter plays no side): ") (codes "go")
-row tags limit s text argument ShowFen = says s (line_text (codes "# fen ") (fen (current s)))
+row tags limit s text argument ShowFen = says s (joined_line (codes "# fen ") (fen (current s)))
 row tags limit s text argument ShowMoves = says s (moves_line (current s) (moves (current s)))
-row tags limit s text argument ShowState = says s (line_text (codes "# state ply ") (state_text s))
+row tags limit s text argument ShowState = says s (joined_line (codes "# state ply ") (state_text s))
 row tags limit s text argument ShowPgn = says s (pgn (codes "# ") tags s)
 row tags limit s text argument Quit = says s []
 row tags limit s text argument Silent = says s []
@@ -173,21 +173,21 @@ row tags limit s text argument BadNumber = refuses s (codes "Error (bad number):
 row tags limit s text argument Unknown = refuses s (codes "Error (unknown command): ") text
 
 -- the row of a line; one that is too long is refused by its first bytes
-abbrev pub row_on : Seen → LineSeen → Row
+abbrev pub row_on : SessionSeen → LineSeen → Row
 row_on seen line =
     if line.too_long then refuses seen.state (codes "Error (line too long): ") line.text
     else row seen.tags seen.limit seen.state line.text (argument_of line.text) (command_of line.text)
 
 -- the session after a row: its tags and its limit stay
-abbrev pub stands : Seen → Row → Seen
+abbrev pub stands : SessionSeen → Row → SessionSeen
 stands seen r = record { tags = seen.tags; limit = seen.limit; state = r.next }
 
 -- the session after a line
-unfoldable pub next_state : Seen → LineSeen → Seen
+unfoldable pub next_state : SessionSeen → LineSeen → SessionSeen
 next_state seen line = stands seen (row_on seen line)
 
 -- the answer to a line
-unfoldable pub answer_to : Seen → LineSeen → List ℕ
+unfoldable pub answer_to : SessionSeen → LineSeen → List ℕ
 answer_to seen line = (row_on seen line).text
 
 -- the texts of refusals
@@ -210,12 +210,12 @@ unfoldable pub is_quit : LineSeen → Bool
 is_quit line = not line.too_long && is_quit_command (command_of line.text)
 
 -- the session after lines, up to the first `quit`
-abbrev pub standing : Seen → List LineSeen → Seen
+abbrev pub standing : SessionSeen → List LineSeen → SessionSeen
 standing seen [] = seen
 standing seen (line ∷ rest) = if is_quit line then next_state seen line else standing (next_state seen line) rest
 
 -- the answers to lines, up to the first `quit`
-abbrev pub answers : Seen → List LineSeen → List ℕ
+abbrev pub answers : SessionSeen → List LineSeen → List ℕ
 answers seen [] = []
 answers seen (line ∷ rest) = if is_quit line then answer_to seen line else answer_to seen line ++ answers (next_state seen line) rest
 

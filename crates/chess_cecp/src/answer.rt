@@ -5,7 +5,7 @@ ghost use Rattle.std.specs.Prelude.{◌≡◌, ◌+◌, ◌*◌, ◌≤◌, ◌+
 ghost use Rattle.arrayvec.specs.ArrayVec.{array_vec_len};
 ghost use Rattle.std.specs.Option.{option_map};
 ghost use Rattle.chess_cecp.specs.Declaring.{result_text, verdict_text, declared_text, state_text};
-ghost use Rattle.chess_cecp.specs.Session.{moves_line, shown, result_line, verdict_line, fault_name, feature_text, line_text};
+ghost use Rattle.chess_cecp.specs.Session.{moves_line, shown, result_line, verdict_line, fen_fault_name, feature_text, joined_line};
 
 use crate::declaring::claims_text;
 use arrayvec::ArrayVec;
@@ -25,7 +25,7 @@ pub(crate) type Answer = ArrayVec<u8, ANSWER_LEN>;
 // A text behind another, and byte 10.
 pub(crate) fn write_line(answer: &mut Answer, front: &[u8], text: &[u8])
     requires { array_vec_len answer.old + length front.now + length text.now + 1 ≤ 5500 }
-    ensures { answer.new.items ≡ answer.old.items ++ line_text front.now text.now }
+    ensures { answer.new.items ≡ answer.old.items ++ joined_line front.now text.now }
 {
     answer.try_extend_from_slice(front).unwrap();
     answer.try_extend_from_slice(text).unwrap();
@@ -34,7 +34,7 @@ pub(crate) fn write_line(answer: &mut Answer, front: &[u8], text: &[u8])
 
 pub(crate) fn write_pong(answer: &mut Answer, number: u32)
     requires { array_vec_len answer.old ≤ 1000 }
-    ensures { answer.new.items ≡ answer.old.items ++ line_text (codes "pong ") (decimal number) }
+    ensures { answer.new.items ≡ answer.old.items ++ joined_line (codes "pong ") (decimal number) }
 {
     let mut buffer = Buffer::new();
     write_line(answer, b"pong ", buffer.format(number).as_bytes());
@@ -48,13 +48,13 @@ const FEATURES: &[u8] =
 #[tactic(auto, unfolding(crate::specs::Session::feature_text))]
 pub(crate) fn write_features(answer: &mut Answer)
     requires { answer.old.items ≡ [] }
-    ensures { answer.new.items ≡ line_text feature_text [] }
+    ensures { answer.new.items ≡ joined_line feature_text [] }
 {
     write_line(answer, FEATURES, b"");
 }
 
-fn fault_name(fault: FenFault) -> &'static [u8]
-    ensures value { result.now ≡ fault_name fault }
+fn fen_fault_name(fault: FenFault) -> &'static [u8]
+    ensures value { result.now ≡ fen_fault_name fault }
     ensures short { length result.now ≤ 10 }
 {
     match fault {
@@ -74,12 +74,12 @@ fn fault_name(fault: FenFault) -> &'static [u8]
 // The refusal of a FEN, by the name of its fault.
 pub(crate) fn write_illegal_position(answer: &mut Answer, fault: FenFault)
     requires { answer.old.items ≡ [] }
-    ensures { answer.new.items ≡ line_text (codes "tellusererror Illegal position (") (fault_name fault ++ codes ")") }
+    ensures { answer.new.items ≡ joined_line (codes "tellusererror Illegal position (") (fen_fault_name fault ++ codes ")") }
 {
     answer
         .try_extend_from_slice(b"tellusererror Illegal position (")
         .unwrap();
-    write_line(answer, fault_name(fault), b")");
+    write_line(answer, fen_fault_name(fault), b")");
 }
 
 // The line of a verdict, if there is one.
@@ -163,7 +163,7 @@ fn write_declared_text(answer: &mut Answer, declared: Option<&Declared>)
 #[tactic(auto, unfolding(crate::specs::Declaring::state_text))]
 pub(crate) fn write_state<B: Board>(answer: &mut Answer, game: &Game<B>)
     requires { answer.old.items ≡ [] }
-    ensures { answer.new.items ≡ line_text (codes "# state ply ") (state_text game.now.state) }
+    ensures { answer.new.items ≡ joined_line (codes "# state ply ") (state_text game.now.state) }
 {
     write_number(answer, b"# state ply ", game.ply() as u64);
     write_number(answer, b" rep ", u64::from(game.repetitions()));

@@ -2,7 +2,7 @@
 
 ghost use Rattle.std.specs.Prelude.{◌≡◌, ◌+◌, ◌≤◌, ◌++◌, length};
 ghost use Rattle.chess_cecp.specs.Lines.{is_blank};
-ghost use Rattle.chess_cecp.specs.Commands.{command_of, command_by, word_of, argument_of, number_of, ping_of, protover_of, is_told_of_playing, is_told_of_clocks};
+ghost use Rattle.chess_cecp.specs.Commands.{command_of, command_by, word_of, argument_of, command_number, ping_of, protover_of, is_told_of_playing, is_told_of_clocks};
 
 use crate::trim::is_blank;
 use chess_text::has_move_shape;
@@ -86,9 +86,9 @@ pub fn argument(text: &[u8]) -> &[u8]
 }
 
 /// The number that a text of one to nine digits writes.
-#[tactic(auto, unfolding(crate::specs::Commands::number_of))]
+#[tactic(auto, unfolding(crate::specs::Commands::command_number))]
 pub fn read_number(text: &[u8]) -> Option<u32>
-    ensures { result ≡ number_of text.now }
+    ensures { result ≡ command_number text.now }
 {
     if text.is_empty() || text.len() > 9 {
         return None;
@@ -104,7 +104,7 @@ pub fn read_number(text: &[u8]) -> Option<u32>
 }
 
 fn ping(argument: &[u8]) -> Command
-    ensures { result ≡ ping_of (number_of argument.now) }
+    ensures { result ≡ ping_of (command_number argument.now) }
 {
     match read_number(argument) {
         Some(number) => Command::Ping(number),
@@ -113,7 +113,7 @@ fn ping(argument: &[u8]) -> Command
 }
 
 fn protover(argument: &[u8]) -> Command
-    ensures { result ≡ protover_of (number_of argument.now) }
+    ensures { result ≡ protover_of (command_number argument.now) }
 {
     match read_number(argument) {
         Some(number) => Command::Protover(number),

@@ -5,7 +5,7 @@ ghost use Rattle.chess_base.specs.declared.man.Variant.TheVariants.{Normal};
 ghost use Rattle.chess_game.specs.Game.{State};
 ghost use Rattle.chess_pgn.specs.declared.tags.Tags.{Tags};
 ghost use Rattle.chess_cecp.specs.declared.command.Command.{Command};
-ghost use Rattle.chess_cecp.specs.Held.{Seen};
+ghost use Rattle.chess_cecp.specs.Held.{SessionSeen};
 ghost use Rattle.chess_cecp.specs.Lines.{LineSeen, lines_heard, line_of, HasNoEnd};
 ghost use Rattle.chess_cecp.specs.laws.Normal.{normal_row_of};
 ghost use Rattle.chess_cecp.specs.Session.{row, next_state, answer_to, IsRefusal};
@@ -22,7 +22,7 @@ pub fn lines_are_pieces()
 
 /// A line whose answer is a refusal leaves start, moves and declared result as they were.
 pub fn refusals_change_nothing()
-    ensures { (session : Seen) (line : LineSeen) → IsRefusal (answer_to session line) → next_state session line ≡ session }
+    ensures { (session : SessionSeen) (line : LineSeen) → IsRefusal (answer_to session line) → next_state session line ≡ session }
 {}
 
 /// In a game of normal chess each command has the row that the table of normal chess alone gives it.

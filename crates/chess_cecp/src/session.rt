@@ -6,11 +6,11 @@ ghost use Rattle.chess_base.specs.MoveList.{moves};
 ghost use Rattle.chess_base.specs.Reading.{fen_reading_as};
 ghost use Rattle.chess_base.specs.Writing.{fen};
 ghost use Rattle.chess_game.specs.Game.{current, is_over, IsPlayable};
-ghost use Rattle.chess_cecp.specs.Held.{opened, game_of};
+ghost use Rattle.chess_cecp.specs.Held.{opened_session, game_held};
 ghost use Rattle.chess_pgn.specs.GameText.{pgn};
 ghost use Rattle.chess_game.specs.Results.{cut_comment};
 ghost use Rattle.chess_cecp.specs.Declaring.{declared_by};
-ghost use Rattle.chess_cecp.specs.Session.{row, move_row, undo_row, remove_row, result_row, draws, claim_row, setboard_row, normal_row, variant_row, stands, next_state, answer_to, is_quit, is_quit_command, shows_pgn, asks_for_pgn, line_text, moves_line, IsRefusal};
+ghost use Rattle.chess_cecp.specs.Session.{row, move_row, undo_row, remove_row, result_row, draws, claim_row, setboard_row, normal_row, variant_row, stands, next_state, answer_to, is_quit, is_quit_command, shows_pgn, asks_for_pgn, joined_line, moves_line, IsRefusal};
 
 use crate::answer::{
     Answer, write_features, write_illegal_position, write_line, write_moves, write_pong,
@@ -45,9 +45,9 @@ pub struct Session<B: Board> {
 }
 
 impl<B: Board> Model for Session<B> {
-    ghost use Rattle.chess_cecp.specs.Held.{Seen};
+    ghost use Rattle.chess_cecp.specs.Held.{SessionSeen};
 
-    ghost Value = { Seen };
+    ghost Value = { SessionSeen };
 
     ghost view = { λ s. record { tags = s.tags; limit = s.game.limit; state = s.game.state } };
 }
@@ -67,7 +67,7 @@ impl<B: Board + Drop> Session<B> {
     ) -> Result<Self, AllocError>
         requires some { 1 ≤ limit }
         requires few { limit ≤ 20000 }
-        ensures { IfOk result (λ s. s ≡ opened tags limit) }
+        ensures { IfOk result (λ s. s ≡ opened_session tags limit) }
     {
         Ok(Session {
             game: Game::open(alloc, board, limit)?,
@@ -81,7 +81,7 @@ impl<B: Board> Session<B> {
     /// The position on the board: the one that the start and the moves that stand give.
     pub fn position(&self) -> Position
         ensures value { result ≡ current self.now.state }
-        ensures playable { IsPlayable (game_of self.now) }
+        ensures playable { IsPlayable (game_held self.now) }
     {
         self.game.position()
     }
@@ -234,7 +234,7 @@ impl<B: Board> Session<B> {
 
     fn show_fen(&self, answer: &mut Answer)
         requires { answer.old.items ≡ [] }
-        ensures { answer.new.items ≡ line_text (codes "# fen ") (fen (current self.now.state)) }
+        ensures { answer.new.items ≡ joined_line (codes "# fen ") (fen (current self.now.state)) }
     {
         let fen = write_fen(&self.game.position());
         write_line(answer, b"# fen ", fen.as_slice());

@@ -1,7 +1,7 @@
 //! What a line of an engine says.
 
 ghost use Rattle.std.specs.Prelude.{◌≡◌, ◌≤◌, length, take, codes};
-ghost use Rattle.chess_cecp.specs.Commands.{word_of, argument_of, number_of};
+ghost use Rattle.chess_cecp.specs.Commands.{word_of, argument_of, command_number};
 ghost use Rattle.chess_match.specs.EngineLines.{kind_of, pong_of};
 ghost use Rattle.chess_match.specs.Seen.{seen};
 
@@ -32,7 +32,7 @@ pub enum EngineLine<'a> {
 }
 
 fn pong(text: &[u8]) -> EngineLine<'_>
-    ensures { seen result ≡ pong_of (number_of text.now) }
+    ensures { seen result ≡ pong_of (command_number text.now) }
 {
     match read_number(text) {
         Some(number) => EngineLine::Pong(number),

@@ -21,8 +21,8 @@ use Rattle.chess_base.specs.Letters.{letter_by}
 use Rattle.chess_base.specs.Men.{Men, other, crossed_rank}
 use Rattle.chess_base.specs.Sound.{IsSound, target_is_behind_double_advance, target_is_behind_double_advance_at}
 use Rattle.chess_base.specs.Squares.{file, rank}
-use Rattle.chess_base.specs.Writing.{run_text, row_text, rank_text, ranks_down, placement_text, side_text, right_text, or_dash, rights_text, target_text, fen}
-use Rattle.chess_pgn.specs.Tokens.{is_digit}
+use Rattle.chess_base.specs.Writing.{run_text, row_text, fen_rank, ranks_down, placement_text, side_text, right_text, or_dash, rights_text, target_text, fen}
+use Rattle.chess_base.specs.Texts.{is_digit}
 use Rattle.chess_pgn.proofs.PgnTags.{is_bare}
 use Rattle.chess_pgn.proofs.PgnWords.{all_of, decimal_digits}
 
@@ -98,16 +98,16 @@ row_bare empty (Some man ∷ row) h =
     (and_from (is_bare (letter_by man.colour man.kind)) (list_all is_bare (row_text 0 row))
     (letter_bare man.colour man.kind) (row_bare 0 row (omega arith)))
 
-ranks_bare : (n : ℕ) (men : Men) → list_all (list_all is_bare) (map rank_text (ranks_down n men)) ≡ true
+ranks_bare : (n : ℕ) (men : Men) → list_all (list_all is_bare) (map fen_rank (ranks_down n men)) ≡ true
 ranks_bare zero men = refl
 ranks_bare (suc n) men =
     let row : List (Option Man) = take 8 (drop (8 * n) men) in
     let short : length row ≤ 8 = simp length-take (omega arith) in
-    and_from (list_all is_bare (rank_text row)) _ (row_bare 0 row (omega arith)) (ranks_bare n men)
+    and_from (list_all is_bare (fen_rank row)) _ (row_bare 0 row (omega arith)) (ranks_bare n men)
 
 placement_bare : (men : Men) → IsBare (placement_text men)
 unfolding placement_text
-placement_bare men = bare-join 47 (map rank_text (ranks_down 8 men)) refl (ranks_bare 8 men)
+placement_bare men = bare-join 47 (map fen_rank (ranks_down 8 men)) refl (ranks_bare 8 men)
 
 -- ---- the other fields
 

@@ -17,7 +17,8 @@ use Rattle.chess_game.specs.declared.results.Outcome.{Outcome}
 use Rattle.chess_game.specs.declared.results.Outcome.TheVariants.{WhiteWins, BlackWins, Draw, Unfinished}
 use Rattle.chess_pgn.specs.declared.word.WordKind.TheVariants.{End, Number, Move}
 use Rattle.chess_text.specs.laws.Laws.{is_san_byte, begins_with_letter}
-use Rattle.chess_pgn.specs.Tokens.{Word, is_letter, is_digit, is_word_byte, token_at}
+use Rattle.chess_pgn.specs.Tokens.{Word, is_word_byte, token_at}
+use Rattle.chess_base.specs.Texts.{is_digit, is_letter}
 use Rattle.chess_pgn.specs.Words.{outcome_of, kind_by, kind_of}
 
 -- ---- a run of bytes that pass

@@ -2,6 +2,7 @@
 -- `%` lines, `$` glyphs and variations are skipped; tags and words are told; the first token that can't be read is the last.
 -- This project's own: the bytes of a word, and that a `%` line is skipped also in a tag and in a variation.
 use Rattle.std.specs.Prelude.{ℕ, zero, suc, ◌-◌, Bool, true, false, not, ◌&&◌, ◌||◌, List, [], ◌∷◌, ◌++◌, length, take, drop, slice_index, Option, Some, None, ◌==◌, nat_le, if◌then◌else◌}
+use Rattle.chess_base.specs.Texts.{is_digit, is_letter}
 use Rattle.chess_base.specs.Letters.{byte, carriage_return, new_line, space, tab}
 use Rattle.std.specs.List.{prefix_len, position_or_len, take_while}
 use Rattle.std.specs.Str.{bytes_eq}
@@ -22,12 +23,6 @@ pub data Token : Type 0 where
 
 abbrev pub is_blank : ℕ → Bool
 is_blank c = c == space || (c == tab || (c == new_line || c == carriage_return))
-
-abbrev pub is_digit : ℕ → Bool
-is_digit c = nat_le 48 c && nat_le c 57
-
-abbrev pub is_letter : ℕ → Bool
-is_letter c = (nat_le 65 c && nat_le c 90) || (nat_le 97 c && nat_le c 122)
 
 -- letters, digits and `_`
 abbrev pub is_name_byte : ℕ → Bool

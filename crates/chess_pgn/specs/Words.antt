@@ -8,7 +8,7 @@ use Rattle.chess_game.specs.declared.results.Outcome.{Outcome}
 use Rattle.chess_game.specs.declared.results.Outcome.TheVariants.{WhiteWins, BlackWins, Draw, Unfinished}
 use Rattle.chess_pgn.specs.declared.word.WordKind.{WordKind}
 use Rattle.chess_pgn.specs.declared.word.WordKind.TheVariants.{End, Number, Marks, Move}
-use Rattle.chess_pgn.specs.Tokens.{is_digit}
+use Rattle.chess_base.specs.Texts.{is_digit}
 
 -- the outcome that is written so
 abbrev pub outcome_of : List ℕ → Option Outcome

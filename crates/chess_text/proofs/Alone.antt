@@ -14,7 +14,7 @@ use Rattle.chess_text.specs.declared.parts.Parts.{Parts}
 use Rattle.chess_text.specs.declared.parts.Promotion.{Promotion}
 use Rattle.chess_text.specs.declared.reading.Reading.TheVariants as reads
 use Rattle.chess_text.specs.laws.Laws.{SpellsAlone, IsSpelled, IsShaped}
-use Rattle.chess_text.specs.Parts.{AreParts, unmarked, parts_at, parts_text, parts_of}
+use Rattle.chess_text.specs.Parts.{AreParts, unmarked, parts_at, parts_text, move_parts}
 use Rattle.chess_text.specs.Moves.{is_castling_text, passes, is_form, fits, shape, spells_described, spells, one_of, reading, promotes_so}
 use Rattle.chess_text.specs.ties.Forms.{same_side}
 use Rattle.chess_text.proofs.AllMoves.{only-move}
@@ -47,7 +47,7 @@ read_parts text q e h = ap parts_at e ∙ parts-spelled q h
 
 pub spelled_parts : (text : List ℕ) (q : Parts) (d : Described) → unmarked text ≡ parts_text q → AreParts q
     → spells_described text d ≡ fits q d
-unfolding spells_described is_castling_text parts_of
+unfolding spells_described is_castling_text move_parts
 spelled_parts text q d e h =
     let at = read_parts text q e h in
     ap (λ t. t || passes (λ r. fits r d) (parts_at (unmarked text))) (no_side (unmarked text) q at d.castles)
@@ -55,7 +55,7 @@ spelled_parts text q d e h =
 
 pub shape_parts : (text : List ℕ) (q : Parts) → unmarked text ≡ parts_text q → AreParts q → is_form q ≡ true
     → shape text ≡ true
-unfolding shape is_castling_text parts_of
+unfolding shape is_castling_text move_parts
 shape_parts text q e h form =
     let at = read_parts text q e h in
     let king = no_name (unmarked text) q at KingSide in
@@ -66,7 +66,7 @@ shape_parts text q e h form =
 
 pub spelled_castling : (text : List ℕ) (w : CastlingSide) (d : Described) → IsCastling (unmarked text) w
     → spells_described text d ≡ passes (same_side w) d.castles
-unfolding spells_described is_castling_text parts_of
+unfolding spells_described is_castling_text move_parts
 spelled_castling text w d h = castling_spelled (unmarked text) w d h
 
 pub shape_castling : (text : List ℕ) (w : CastlingSide) → IsCastling (unmarked text) w → shape text ≡ true
@@ -161,7 +161,7 @@ of_parts test None e = absurd cc
 of_parts test (Some q) e = (q, refl, e)
 
 is_spelled_so : (text : List ℕ) (d : Described) → spells_described text d ≡ true → IsSpelled text d
-unfolding spells_described parts_of
+unfolding spells_described move_parts
 is_spelled_so text d e =
     elim (or_cases (passes (is_castling_text text) d.castles) (passes (λ q. fits q d) (parts_at (unmarked text))) e) [
       | inl h ↦ inl (castled (is_castling_text text) d.castles h)
@@ -194,7 +194,7 @@ either_side text e =
     ]
 
 is_shaped_so : (text : List ℕ) → shape text ≡ true → IsShaped text
-unfolding shape parts_of
+unfolding shape move_parts
 is_shaped_so text e =
     elim (or_cases (is_castling_text text KingSide || is_castling_text text QueenSide)
     (passes is_form (parts_at (unmarked text))) e) [
@@ -210,7 +210,7 @@ unfolding shape
 castling_shapes text KingSide h = rw h refl
 castling_shapes text QueenSide h = rw h (by_king (is_castling_text text KingSide))
   where
-    by_king : (b : Bool) → ((b || true) || passes is_form (parts_of text)) ≡ true
+    by_king : (b : Bool) → ((b || true) || passes is_form (move_parts text)) ≡ true
     by_king true = refl
     by_king false = refl
 

@@ -25,7 +25,7 @@ use Rattle.chess_text.specs.declared.parts.Parts.{Parts}
 use Rattle.chess_text.specs.declared.reading.Reading.{Reading}
 use Rattle.chess_text.specs.declared.reading.Reading.TheVariants as reads
 use Rattle.chess_text.specs.Moves.{one_of, described, described_as, names, admits, is_by_squares, is_by_letter, is_straight, is_from_file, fits, passes}
-use Rattle.chess_text.specs.ties.Forms.{same_side, form_fits, is_spelled, end_of, spelled_with, with_move, with_moves, named_square, IsStart}
+use Rattle.chess_text.specs.ties.Forms.{same_side, form_fits, is_spelled, end_square, spelled_with, with_move, with_moves, named_square, IsStart}
 use Rattle.chess_text.proofs.Alone.{castled}
 use Rattle.chess_text.proofs.AllMoves.{none-kept}
 use Rattle.chess_text.proofs.Legal.{castling_says, legal_move, IsMove, told_of, described_is}
@@ -170,7 +170,7 @@ king_spelled : (v : CastlingSide) (p : Setup) (m : Move) → is_spelled (Castlin
 unfolding is_spelled described
 king_spelled v p m h = king_by v p m (man_at p.men m.from) h
 
-pub by_castling : (p : Setup) (v : CastlingSide) (to w : ℕ) → to ≡ end_of (Castling v) p → HasOrigins p King to w
+pub by_castling : (p : Setup) (v : CastlingSide) (to w : ℕ) → to ≡ end_square (Castling v) p → HasOrigins p King to w
     → IsStart p (Castling v) w
 by_castling p v to w there origins = λ m spelled legal. origins m legal (king_spelled v p m spelled)
     (spelled_ends (Castling v) p m spelled ∙ sym there)
@@ -178,18 +178,18 @@ by_castling p v to w there origins = λ m spelled legal. origins m legal (king_s
 -- ---- the list over a set
 
 pub spelled_from : (form : Form) (p : Setup) (w : ℕ) → IsStart p form w
-    → flat_map (λ a. spelled_with form p a (end_of form p) promotions) (members w) ≡ filter (λ m. is_spelled form p m)
+    → flat_map (λ a. spelled_with form p a (end_square form p) promotions) (members w) ≡ filter (λ m. is_spelled form p m)
     (moves p)
 spelled_from form p w start = flat_map_members _ w (λ k low out. none_there k out) ∙ all_spelled form p
   where
-    none_there : (k : ℕ) → has w k ≡ false → spelled_with form p k (end_of form p) promotions ≡ []
+    none_there : (k : ℕ) → has w k ≡ false → spelled_with form p k (end_square form p) promotions ≡ []
     none_there k out =
-        none-kept (λ m. is_spelled form p m && is_legal p m) k (end_of form p)
+        none-kept (λ m. is_spelled form p m && is_legal p m) k (end_square form p)
         (λ x. false_from_ne_true
-        (is_spelled form p (triple k (end_of form p) x) && is_legal p (triple k (end_of form p) x))
-        (λ e. let both = and_parts (is_spelled form p (triple k (end_of form p) x))
-        (is_legal p (triple k (end_of form p) x)) e in
-        let there : has w k ≡ true = start (triple k (end_of form p) x) both.0 both.1 in
+        (is_spelled form p (triple k (end_square form p) x) && is_legal p (triple k (end_square form p) x))
+        (λ e. let both = and_parts (is_spelled form p (triple k (end_square form p) x))
+        (is_legal p (triple k (end_square form p) x)) e in
+        let there : has w k ≡ true = start (triple k (end_square form p) x) both.0 both.1 in
         cc))
 
 -- ---- what a text is that spells some moves

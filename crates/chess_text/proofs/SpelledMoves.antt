@@ -19,7 +19,7 @@ use Rattle.chess_text.specs.declared.form.Form.{Form}
 use Rattle.chess_text.specs.declared.form.Form.TheVariants.{Castling, Walk}
 use Rattle.chess_text.specs.declared.parts.Parts.{Parts}
 use Rattle.chess_text.specs.Moves.{described, described_as, is_by_squares, is_by_letter, is_straight, is_from_file, fits, passes}
-use Rattle.chess_text.specs.ties.Forms.{same_side, form_fits, is_spelled, castling_end, end_of, spelled_with}
+use Rattle.chess_text.specs.ties.Forms.{same_side, form_fits, is_spelled, castling_end, end_square, spelled_with}
 use Rattle.chess_text.proofs.Alone.{castled}
 use Rattle.chess_text.proofs.AllMoves.{filter-both, none-kept, kept, alone-square}
 use Rattle.chess_text.proofs.Legal.{castling_says, names_end, legal_move}
@@ -63,7 +63,7 @@ same_side-true KingSide QueenSide h = cc
 same_side-true QueenSide KingSide h = cc
 
 form_ends : (form : Form) (p : Setup) (m : Move) (o : Option Man) → passes (form_fits form) (described_as p m o) ≡ true
-    → m.to ≡ end_of form p
+    → m.to ≡ end_square form p
 form_ends form p m None h = cc
 form_ends (Walk q) p m (Some x) h = fitting_ends q _ h
 form_ends (Castling w) p m (Some x) h =
@@ -71,7 +71,7 @@ form_ends (Castling w) p m (Some x) h =
     names_end p.variant p.side m c.0 (right_of p.rights p.side c.0) (castling_says p m c.0 c.1).1
     ∙ ap (λ v. castling_end p.variant p.side v (right_of p.rights p.side v)) (sym (same_side-true w c.0 c.2))
 
-pub spelled_ends : (form : Form) (p : Setup) (m : Move) → is_spelled form p m ≡ true → m.to ≡ end_of form p
+pub spelled_ends : (form : Form) (p : Setup) (m : Move) → is_spelled form p m ≡ true → m.to ≡ end_square form p
 unfolding is_spelled described
 spelled_ends form p m h = form_ends form p m (man_at p.men m.from) h
 
@@ -80,7 +80,7 @@ spelled_ends form p m h = form_ends form p m (man_at p.men m.from) h
 abbrev fit : Form → Setup → Move → Bool
 fit form p m = is_spelled form p m && is_legal p m
 
-not_fit : (form : Form) (p : Setup) (m : Move) → m.to ≢ end_of form p → fit form p m ≡ false
+not_fit : (form : Form) (p : Setup) (m : Move) → m.to ≢ end_square form p → fit form p m ≡ false
 not_fit form p m away =
     false_from_ne_true (fit form p m)
     (λ h. away (spelled_ends form p m (and_parts (is_spelled form p m) (is_legal p m) h).0))
@@ -102,14 +102,14 @@ flat_map_same f g h (x ∷ xs) = rw (h x, flat_map_same f g h xs) refl
 
 -- from one square
 from_one : (form : Form) (p : Setup) (a : ℕ) → filter (fit form p) (flat_map (λ b. map (triple a b) promotions) squares)
-    ≡ spelled_with form p a (end_of form p) promotions
+    ≡ spelled_with form p a (end_square form p) promotions
 from_one form p a =
     filter-flat_map (fit form p) (λ b. map (triple a b) promotions) squares
-    ∙ alone-square (λ b. kept (fit form p) a b) (end_of form p)
+    ∙ alone-square (λ b. kept (fit form p) a b) (end_square form p)
     (λ b away. none-kept (fit form p) a b (λ k. not_fit form p (triple a b k) away))
-    (λ past. none-kept (fit form p) a (end_of form p) (λ k. not_legal form p (triple a (end_of form p) k) past))
+    (λ past. none-kept (fit form p) a (end_square form p) (λ k. not_legal form p (triple a (end_square form p) k) past))
 
-pub all_spelled : (form : Form) (p : Setup) → flat_map (λ a. spelled_with form p a (end_of form p) promotions) squares
+pub all_spelled : (form : Form) (p : Setup) → flat_map (λ a. spelled_with form p a (end_square form p) promotions) squares
     ≡ filter (λ m. is_spelled form p m) (moves p)
 unfolding moves all_triples
 all_spelled form p =
@@ -118,4 +118,4 @@ all_spelled form p =
     (λ m. and_comm (is_legal p m) (is_spelled form p m)) all_triples
     ∙ filter-flat_map (fit form p) (λ a. flat_map (λ b. map (triple a b) promotions) squares) squares
     ∙ flat_map_same (λ a. filter (fit form p) (flat_map (λ b. map (triple a b) promotions) squares))
-    (λ a. spelled_with form p a (end_of form p) promotions) (from_one form p) squares)
+    (λ a. spelled_with form p a (end_square form p) promotions) (from_one form p) squares)

@@ -16,7 +16,8 @@ use Rattle.chess_base.specs.Squares.{file, rank}
 use Rattle.chess_base.specs.Writing.{square_text}
 use Rattle.chess_text.specs.declared.parts.Parts.{Parts}
 use Rattle.chess_text.specs.declared.parts.Promotion.{Promotion}
-use Rattle.chess_text.specs.laws.Laws.{is_letter, is_digit, is_san_byte, begins_with_letter}
+use Rattle.chess_text.specs.laws.Laws.{is_san_byte, begins_with_letter}
+use Rattle.chess_base.specs.Texts.{is_digit, is_letter}
 use Rattle.chess_text.specs.Parts.{AreParts, optional, when, kind_text, file_text, rank_text, promotion_letter, promotion_text, parts_text}
 use Rattle.chess_text.specs.San.{castling_text, check_mark}
 

@@ -21,7 +21,7 @@ use Rattle.chess_text.specs.declared.parts.Parts.{Parts}
 use Rattle.chess_text.specs.declared.parts.Promotion.{Promotion}
 use Rattle.chess_text.specs.declared.reading.Reading.{Reading}
 use Rattle.chess_text.specs.declared.reading.Reading.TheVariants as reads
-use Rattle.chess_text.specs.Parts.{unmarked, optional, parts_of}
+use Rattle.chess_text.specs.Parts.{unmarked, optional, move_parts}
 
 -- ---- what a text can tell of a move
 
@@ -50,9 +50,9 @@ abbrev pub names : Option ℕ → ℕ → Bool
 names None n = false
 names (Some told) n = told == n
 
-abbrev pub is_kind : Option Kind → Kind → Bool
-is_kind None k = false
-is_kind (Some told) k = same_kind told k
+abbrev pub tells_kind : Option Kind → Kind → Bool
+tells_kind None k = false
+tells_kind (Some told) k = same_kind told k
 
 -- with a promotion only moves with that promotion are spelled, without one only moves without
 abbrev pub promotes_so : Option Promotion → Option Kind → Bool
@@ -74,7 +74,7 @@ is_by_squares q d =
 -- a man that is no pawn, not castling; with `x` only a capture
 unfoldable pub is_by_letter : Parts → Described → Bool
 is_by_letter q d =
-    is_kind q.letter d.man && is_none d.castles && admits q.file (file d.from) && admits q.rank (rank d.from)
+    tells_kind q.letter d.man && is_none d.castles && admits q.file (file d.from) && admits q.rank (rank d.from)
     && (not q.takes || d.captures) && (q.end.to == d.to) && is_none q.end.promotion
 
 -- a pawn that goes straight to the square
@@ -111,11 +111,11 @@ passes test (Some x) = test x
 
 -- the text has a move's shape
 unfoldable pub shape : List ℕ → Bool
-shape text = is_castling_text text KingSide || is_castling_text text QueenSide || passes is_form (parts_of text)
+shape text = is_castling_text text KingSide || is_castling_text text QueenSide || passes is_form (move_parts text)
 
 -- the text spells the move that is described
 unfoldable pub spells_described : List ℕ → Described → Bool
-spells_described text d = passes (is_castling_text text) d.castles || passes (λ q. fits q d) (parts_of text)
+spells_described text d = passes (is_castling_text text) d.castles || passes (λ q. fits q d) (move_parts text)
 
 -- the text spells this move of the position
 unfoldable pub spells : Setup → List ℕ → Move → Bool

@@ -139,5 +139,5 @@ parts_at [] = None
 parts_at (c ∷ rest) = at_letter (kind_from officers c) c rest
 
 -- those of a text without its marks
-unfoldable pub parts_of : List ℕ → Option Parts
-parts_of text = parts_at (unmarked text)
+unfoldable pub move_parts : List ℕ → Option Parts
+move_parts text = parts_at (unmarked text)

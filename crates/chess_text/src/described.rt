@@ -1,7 +1,7 @@
 //! What a text can tell of a move.
 
 ghost use Rattle.std.specs.Prelude.{◌≡◌, ◌==◌};
-ghost use Rattle.chess_text.specs.Moves.{captures, described, admits, names, is_kind, promotes_so, has_equals, is_by_squares, is_by_letter, is_straight, is_from_file, fits, is_form};
+ghost use Rattle.chess_text.specs.Moves.{captures, described, admits, names, tells_kind, promotes_so, has_equals, is_by_squares, is_by_letter, is_straight, is_from_file, fits, is_form};
 
 use crate::parts::{Parts, Promotion};
 use chess_base::attack::is_of;
@@ -62,8 +62,8 @@ fn names(told: Option<u8>, number: u8) -> bool
     }
 }
 
-fn is_kind(letter: Option<Kind>, kind: Kind) -> bool
-    ensures { result ≡ is_kind letter kind }
+fn tells_kind(letter: Option<Kind>, kind: Kind) -> bool
+    ensures { result ≡ tells_kind letter kind }
 {
     match letter {
         None => false,
@@ -107,7 +107,7 @@ fn is_by_squares(parts: &Parts, d: &Described) -> bool
 fn is_by_letter(parts: &Parts, d: &Described) -> bool
     ensures { result ≡ is_by_letter parts.now d.now }
 {
-    is_kind(parts.letter, d.man)
+    tells_kind(parts.letter, d.man)
         && d.castles.is_none()
         && admits(parts.file, d.from.file())
         && admits(parts.rank, d.from.rank())

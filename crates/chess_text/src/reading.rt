@@ -5,7 +5,7 @@ ghost use Rattle.std.specs.List.{filter};
 ghost use Rattle.chess_base.specs.MoveList.{promotions, moves};
 ghost use Rattle.chess_text.specs.Moves.{shape, one_of, reading, IsLegalReading};
 ghost use Rattle.chess_text.specs.declared.form.Form.TheVariants.{Walk};
-ghost use Rattle.chess_text.specs.ties.Forms.{is_spelled, castling_end, end_of, spelled_with, with_move, with_moves, named_square, IsStart};
+ghost use Rattle.chess_text.specs.ties.Forms.{is_spelled, castling_end, end_square, spelled_with, with_move, with_moves, named_square, IsStart};
 
 use crate::form::{Form, is_spelled, read_form};
 use crate::parts::Parts;
@@ -52,7 +52,7 @@ fn castling_end(
 
 // The square on which every move ends that the form spells.
 fn end_square(form: &Form, setup: &Setup) -> Square
-    ensures { result ≡ end_of form.now setup.now }
+    ensures { result ≡ end_square form.now setup.now }
 {
     match form {
         Form::Castling(castling_side) => castling_end(
@@ -94,7 +94,7 @@ fn walk_origins<B: Board>(board: &B, parts: &Parts) -> SquareSet
 // Squares among which each legal move begins that the form spells.
 #[tactic(auto, using(crate::proofs::Origins::by_castling))]
 fn form_origins<B: Board>(board: &B, form: &Form, to: Square) -> SquareSet
-    requires { to ≡ end_of form.now (B.position board.now) }
+    requires { to ≡ end_square form.now (B.position board.now) }
     ensures { IsStart (B.position board.now) form.now result }
 {
     match form {

@@ -2,7 +2,7 @@
 
 ghost use Rattle.std.specs.Prelude.{◌≡◌, ℕ, ◌+◌, ◌*◌, ◌<◌, ◌≤◌, ◌^◌, ◌∷◌, [], ◌++◌, length, decimal};
 ghost use Rattle.arrayvec.specs.ArrayVec.{array_vec_len};
-ghost use Rattle.chess_base.specs.Writing.{run_text, rank_text, placement_text, side_text, right_text, rights_text, target_text, fen};
+ghost use Rattle.chess_base.specs.Writing.{run_text, fen_rank, placement_text, side_text, right_text, rights_text, target_text, fen};
 
 use crate::fen::castling::right_letter;
 use crate::fen::letters::letter_of;
@@ -31,7 +31,7 @@ fn write_run(out: &mut FenText, empty: u8)
 fn write_rank(out: &mut FenText, row: &[Option<Man>])
     requires few { length row.now ≤ 8 }
     requires room { array_vec_len out.old + length row.now ≤ 100 }
-    ensures text { out.new.items ≡ out.old.items ++ rank_text row.now }
+    ensures text { out.new.items ≡ out.old.items ++ fen_rank row.now }
     ensures len { array_vec_len out.new ≤ array_vec_len out.old + length row.now }
 {
     let mut empty = 0;

@@ -11,11 +11,11 @@ use Rattle.chess_game.specs.Game.{State, current}
 use Rattle.chess_pgn.specs.declared.tags.Tags.{Tags}
 use Rattle.chess_cecp.specs.declared.command.Command.{Command}
 use Rattle.chess_cecp.specs.declared.command.Command.TheVariants.{SetBoard, ShowMoves}
-use Rattle.chess_cecp.specs.Session.{Row, row, says, setboard_row, line_text}
+use Rattle.chess_cecp.specs.Session.{Row, row, says, setboard_row, joined_line}
 
 -- all moves by their squares
 abbrev pub normal_moves_line : List Move → List ℕ
-normal_moves_line ms = line_text (codes "# moves ") (decimal (length ms) ++ flat_map (λ m. 32 ∷ coordinate m) ms)
+normal_moves_line ms = joined_line (codes "# moves ") (decimal (length ms) ++ flat_map (λ m. 32 ∷ coordinate m) ms)
 
 -- the table: a FEN is one of normal chess, and moves are listed by their squares
 abbrev pub normal_row_of : Tags → ℕ → State → List ℕ → List ℕ → Command → Row

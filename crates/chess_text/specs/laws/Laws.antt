@@ -1,5 +1,6 @@
 -- The laws of the texts, each as one statement.
 use Rattle.std.specs.Prelude.{◌≡◌, ℕ, ◌≤◌, ◌==◌, nat_le, Bool, false, ◌&&◌, ◌||◌, ◌⊎◌, ◌↔◌, List, [], ◌∷◌, length, Some, IsTrue}
+use Rattle.chess_base.specs.Texts.{is_digit, is_letter}
 use Rattle.std.specs.List.{list_all}
 use Rattle.chess_base.specs.declared.man.CastlingSide.{CastlingSide}
 use Rattle.chess_base.specs.declared.man.Move.{Move}
@@ -27,13 +28,6 @@ SanHasShape = (p : Setup) → (m : Move) → IsSound p → IsTrue (is_legal p m)
 
 abbrev pub SanIsReadBack : Type 0
 SanIsReadBack = (p : Setup) → (m : Move) → IsSound p → IsTrue (is_legal p m) → reading p (san p m) ≡ reads.Move m
-
--- letters, digits, and what else stands in SAN
-abbrev pub is_letter : ℕ → Bool
-is_letter c = (nat_le (byte "A") c && nat_le c (byte "Z")) || (nat_le (byte "a") c && nat_le c (byte "z"))
-
-abbrev pub is_digit : ℕ → Bool
-is_digit c = nat_le (byte "0") c && nat_le c (byte "9")
 
 abbrev pub is_san_byte : ℕ → Bool
 is_san_byte c = is_letter c || is_digit c || (c == byte "+") || (c == byte "#") || (c == byte "=") || (c == byte "-")

@@ -6,7 +6,7 @@ use Rattle.chess_base.specs.declared.setup.Setup.{Setup}
 use Rattle.chess_base.specs.Castling.{castled_king_file, home_square}
 use Rattle.chess_text.specs.declared.form.Form.{Form}
 use Rattle.chess_text.specs.declared.form.Form.TheVariants.{Castling, Walk}
-use Rattle.chess_text.specs.ties.Forms.{end_of}
+use Rattle.chess_text.specs.ties.Forms.{end_square}
 use Rattle.chess_text.specs.Moves.{coordinate}
 use Rattle.chess_text.specs.San.{shown_move}
 
@@ -18,5 +18,5 @@ normal_end_of (Walk q) c = q.end.to
 -- on positions of normal chess the texts of both variants are these; what else stands in them says castling by the rules,
 -- which are kept too
 pub record NormalIsKept (p : Setup) : Type 0 where
-  pub ends : (form : Form) → end_of form p ≡ normal_end_of form p.side
+  pub ends : (form : Form) → end_square form p ≡ normal_end_of form p.side
   pub shown : (m : Move) → shown_move p m ≡ coordinate m

@@ -62,9 +62,9 @@ castling_end Fischerandom c w None = home_square c (castled_king_file w)
 castling_end Fischerandom c w (Some rook) = rook
 
 -- every move ends here that the form spells
-abbrev pub end_of : Form → Setup → ℕ
-end_of (Castling w) p = castling_end p.variant p.side w (right_of p.rights p.side w)
-end_of (Walk q) p = q.end.to
+abbrev pub end_square : Form → Setup → ℕ
+end_square (Castling w) p = castling_end p.variant p.side w (right_of p.rights p.side w)
+end_square (Walk q) p = q.end.to
 
 -- the legal moves from a to b, with one of these promotions, that the form spells
 abbrev pub spelled_with : Form → Setup → ℕ → ℕ → List (Option Kind) → List Move
