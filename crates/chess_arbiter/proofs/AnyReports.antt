@@ -1,5 +1,5 @@
 -- Reports on the games of an input of any size, one after another, and their counts.
-use Rattle.std.proofs.Common.{◌≡◌, ℕ, zero, suc, ◌+◌, ◌≤◌, ◌<◌, Bool, true, false, not, List, [], ◌∷◌, ◌++◌, length, Option, Some, None, Result, Ok, Err, is_err, refl, sym, ap, subst, ◌∙◌, append_assoc, append-nil, arith}
+use Rattle.std.proofs.Common.{◌≡◌, ℕ, zero, suc, ◌+◌, ◌≤◌, ◌<◌, Bool, true, false, List, [], ◌∷◌, ◌++◌, length, Option, Some, None, Result, Ok, Err, is_err, refl, sym, ap, subst, ◌∙◌, append_assoc, append-nil, arith}
 use Rattle.std.specs.Prelude.{if◌then◌else◌, ◌==◌}
 use Rattle.arbiter_words.specs.declared.plan.VerifyPlan.{VerifyPlan}
 use Rattle.byte_devices.specs.Devices.{InputState, OutputState, Took, Sent, BreaksOff, Puts}
@@ -16,12 +16,12 @@ use Rattle.chess_arbiter.specs.declared.fault.ProgramFault.TheVariants.{ReadFail
 use Rattle.chess_arbiter.specs.declared.verify.Report.{Report}
 use Rattle.chess_arbiter.specs.declared.verify.Report.TheVariants.{Game, Faulty}
 use Rattle.chess_arbiter.specs.declared.verify.Verified.TheVariants.{EachGame, FaultTold}
-use Rattle.chess_arbiter.specs.Verify.{Extent, All, First, read_at, verified}
-use Rattle.chess_arbiter.specs.Collection.{IsNext, IsTallyOf, told_line, lines_by, counts_if, text_by}
+use Rattle.chess_arbiter.specs.Verify.{Extent, All, First, read_at}
+use Rattle.chess_arbiter.specs.Collection.{IsNext, IsTallyOf, told_line, lines_by, counts_if}
 use Rattle.chess_arbiter.specs.AnySize.{told_at, AreReportsOfAny, AreReportsOnRead, CountsAny, VerifiesAny, stream_fault}
 use Rattle.chess_arbiter.proofs.Collections.{no_tally, game_more, fault_more, tally_game, tally_fault, line_behind, broken_behind, same_counts, verified_is}
 use Rattle.pgn_stream.proofs.EventLines.{NoneUpTo, none_yet, one_further, found, nowhere}
-use Rattle.chess_arbiter.proofs.InputRead.{nothing_read}
+use Rattle.pgn_stream.proofs.Fills.{nothing_read}
 use Rattle.chess_arbiter.proofs.Reports.{counted}
 
 -- ---- behind each fault there is a next game or none
@@ -114,14 +114,6 @@ pub no_less : (s s' : StreamState) (plies : ℕ) (read : Result (Option PgnEnd) 
 no_less s s' plies (Ok None) h = let at = h.0 in omega (arith, at)
 no_less s s' plies (Ok (Some end)) h = let at = h.0 in let further = h.1 in omega (arith, at, further)
 no_less s s' plies (Err fault) h = let at = h.0 in let behind = h.1 in omega (arith, at, behind)
-
-pub not_so : (b : Bool) → not b ≡ true → b ≡ false
-not_so true e = cc
-not_so false e = refl
-
-pub is_so : (b : Bool) → not b ≡ false → b ≡ true
-is_so true e = refl
-is_so false e = cc
 
 -- a line was told, or broke off
 pub line_took : {A E : Type 0} (b : Bool) (w w' : OutputState) (r : Result A E) (line : List ℕ) → b ≡ is_err r

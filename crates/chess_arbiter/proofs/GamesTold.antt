@@ -1,18 +1,19 @@
 -- The games of a match, one after another.
-use Rattle.std.proofs.Common.{◌≡◌, ◌∙◌, ◌<◌, ◌≤◌, ◌+◌, ◌&&◌, not, ℕ, Bool, true, false, List, [], ◌∷◌, ◌++◌, length, is_err, is_some, Bor, Option, Some, None, Result, Ok, Err, refl, sym, ap, subst, append_assoc, append-nil, length-append, arith, inl, inr}
-use Rattle.std.specs.List.{list_all}
-use Rattle.std.specs.Io.KnownBytes.{Appends}
+use Rattle.std.proofs.Common.{◌≡◌, ◌∙◌, ◌<◌, ◌≤◌, ◌+◌, ◌&&◌, not, ℕ, true, false, List, [], ◌∷◌, ◌++◌, length, is_err, is_some, Bor, Option, Some, None, Result, Ok, Err, refl, sym, ap, subst, append_assoc, append-nil, length-append, arith, inl, inr}
+use Rattle.std.proofs.lemmas.Bool.{and_from}
 use Rattle.arbiter_words.specs.declared.plan.MatchPlan.{MatchPlan}
 use Rattle.chess_base.specs.declared.man.Colour.{Colour}
-use Rattle.byte_devices.specs.Devices.{OutputState, Begins, BreaksOff, Sends, Sent, TookThenFailed, raised, risen}
-use Rattle.byte_devices.proofs.DeviceLaws.{appends_more, appends_none}
+use Rattle.byte_devices.specs.Devices.{OutputState, Begins, BreaksOff, Sends, Sent}
+use Rattle.byte_devices.proofs.DeviceLaws.{appends_more}
 use Rattle.chess_game.specs.Game.{Seen}
 use Rattle.chess_base.specs.declared.setup.Setup.{Setup}
 use Rattle.chess_match.specs.Levels.{LevelSeen}
-use Rattle.chess_match.specs.Run.{Flushed, FlushedThenFailed, Ran}
+use Rattle.chess_match.specs.Run.{Flushed, Ran}
 use Rattle.chess_match.specs.declared.reason.MatchFault.{MatchFault}
 use Rattle.chess_match.specs.declared.run.MatchEnd.{MatchEnd}
-use Rattle.chess_arbiter.specs.Games.{AreOfPlan, BrokeOff, EndsGames, GameTold, HasPlayed, IsMatchEnd, IsOfPlan, IsStartFault, PlayedOne, RanGames, SoundGames, are_sound, game_text, game_texts, is_odd, match_text, no_score, score_line, score_of, score_on, scored}
+use Rattle.chess_match.proofs.Flushes.{flushed_none, failed_behind}
+use Rattle.chess_match.proofs.Outcomes.{and_first, and_second}
+use Rattle.chess_arbiter.specs.Games.{AreOfPlan, EndsGames, GameTold, HasPlayed, IsMatchEnd, IsOfPlan, IsStartFault, PlayedOne, RanGames, SoundGames, are_sound, game_text, game_texts, is_odd, match_text, no_score, score_line, score_of, score_on, scored}
 use Rattle.chess_arbiter.specs.declared.games.GamesFault.{GamesFault}
 use Rattle.chess_arbiter.specs.declared.games.GamesFault.TheVariants.{WriteFailed, NoMemory, CanNotStart, Game}
 use Rattle.chess_arbiter.specs.declared.games.Played.{Played}
@@ -20,21 +21,11 @@ use Rattle.chess_arbiter.specs.declared.score.Score.{Score}
 
 -- ---- the output
 
-flushed_none : (w : OutputState) → Flushed w w []
-flushed_none w = record { bytes = appends_none w.known_bytes; failures = refl; unflushed = λ h. h }
-
 pub flushed_more : (w w' w'' : OutputState) (x y : List ℕ) → Flushed w w' x → Sent w' w'' y → Flushed w w'' (x ++ y)
 flushed_more w w' w'' x y h k = record {
   bytes = appends_more w.known_bytes w'.known_bytes w''.known_bytes x y h.bytes k.bytes;
   failures = k.failures ∙ h.failures;
   unflushed = λ none. k.flushed;
-}
-
-pub flushed_broken : (w w' w'' : OutputState) (x start : List ℕ) → Flushed w w' x → TookThenFailed w' w'' start → FlushedThenFailed w w'' x start
-flushed_broken w w' w'' x start h k = record {
-  bytes = appends_more w.known_bytes w'.known_bytes w''.known_bytes x start h.bytes k.bytes;
-  failures = k.failures ∙ ap risen h.failures;
-  unflushed = λ none. k.unflushed ∙ ap (λ n. raised n start) (h.unflushed none);
 }
 
 -- ---- one game
@@ -65,23 +56,11 @@ of_plan_more : (plan : MatchPlan) (games : List GameTold) (g : GameTold) → Are
 of_plan_more plan [] g h k = (k, tt)
 of_plan_more plan (x ∷ games) g h k = (h.0, of_plan_more plan games g h.1 k)
 
-both : (a b : Bool) → a ≡ true → b ≡ true → (a && b) ≡ true
-both true b h k = k
-both false b h k = h
-
-first_of : (a b : Bool) → (a && b) ≡ true → a ≡ true
-first_of true b h = refl
-first_of false b h = h
-
-second_of : (a b : Bool) → (a && b) ≡ true → b ≡ true
-second_of true b h = h
-second_of false b h = cc
-
 sound_more : (games : List GameTold) (g : GameTold) → are_sound games ≡ true → g.end.fault ≡ None → are_sound (games ++ g ∷ []) ≡ true
 sound_more [] g h k = ap (λ (o : Option (Colour × MatchFault)). not (is_some o) && true) k
 sound_more (x ∷ games) g h k =
     let here = not (is_some x.end.fault) in
-    both here (are_sound (games ++ g ∷ [])) (first_of here (are_sound games) h) (sound_more games g (second_of here (are_sound games) h) k)
+    and_from here (are_sound (games ++ g ∷ [])) (and_first here (are_sound games) h) (sound_more games g (and_second here (are_sound games) h) k)
 
 -- ---- so far
 
@@ -147,7 +126,7 @@ module _ (plan : MatchPlan) (w w' w'' : OutputState) (number : ℕ) (score : Sco
         omega (arith, n, le),
         of,
         subst (λ k. Begins begun (game_text plan k next)) m begins,
-        flushed_broken w w' w'' (game_texts plan 1 games) begun s.told failed,
+        failed_behind w w' w'' (game_texts plan 1 games) begun s.told failed,
       )
   broke NoMemory le (is, same) =
       let n = s.numbered in
@@ -199,5 +178,5 @@ module _ (plan : MatchPlan) (w w' w'' : OutputState) (played : Played) (h : HasP
     begun,
     h.1,
     subst (λ v. Begins begun (score_line v)) h.2 begins,
-    flushed_broken w w' w'' (game_texts plan 1 h.0) begun h.3 failed,
+    failed_behind w w' w'' (game_texts plan 1 h.0) begun h.3 failed,
   )

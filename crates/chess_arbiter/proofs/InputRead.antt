@@ -3,14 +3,10 @@ use Rattle.std.proofs.Common.{◌≡◌, ◌≤◌, ◌<◌, ◌-◌, ◌==◌, 
 use Rattle.std.proofs.lemmas.List.{length-take-le}
 use Rattle.std.specs.Io.KnownBytes.{Consumes}
 use Rattle.byte_devices.specs.Devices.{InputState, GavePiece, FailedToRead, risen}
-use Rattle.byte_devices.proofs.DeviceLaws.{consumes_more, consumes_none, consumes_kept}
+use Rattle.byte_devices.proofs.DeviceLaws.{consumes_more, consumes_kept}
 use Rattle.chess_arbiter.specs.declared.fault.ProgramFault.TheVariants.{ReadFailed, NoMemory, InputTooLong}
 use Rattle.pgn_stream.specs.Stream.{IsFront}
 use Rattle.chess_arbiter.specs.Verify.{IsAll, IsNotHad}
-
--- nothing was read
-pub nothing_read : (r : InputState) → IsFront r r []
-nothing_read r = record { bytes = consumes_none r.known_bytes; failures = refl; ends = refl }
 
 -- the end was told
 pub all_read : (r r' r'' : InputState) (text buf : List ℕ) (n : ℕ) → IsFront r r' text → length text ≤ 16777216

@@ -1,7 +1,7 @@
 -- What no words, `session` and `verify` do.
 use Rattle.std.proofs.Common.{◌≡◌, ◌∙◌, ◌<◌, ℕ, false, List, [], length, lit<, codes, Result, Ok, Err, refl, sym, ap, subst, inl, arith}
-use Rattle.clap.specs.Words.{Row, Text}
-use Rattle.arbiter_words.specs.Grammar.{AreVariants, Lent, asked}
+use Rattle.clap.specs.Words.{Text}
+use Rattle.arbiter_words.specs.Grammar.{asked}
 use Rattle.arbiter_words.specs.Plans.{AskFor, IsReading, PlansAreNamed, VerifyAsBare, VerifyIsAsSpelled, command_name}
 use Rattle.arbiter_words.specs.declared.fault.WordsFault.{WordsFault}
 use Rattle.arbiter_words.specs.declared.fault.WordsFault.TheVariants as words
@@ -11,8 +11,7 @@ use Rattle.arbiter_words.specs.declared.plan.Plan.TheVariants.{Session, Verify, 
 use Rattle.byte_devices.specs.Devices.{InputState, OutputState}
 use Rattle.byte_devices.proofs.DeviceLaws.{consumes_none}
 use Rattle.chess_arbiter.specs.laws.Laws.{ServesSession, VerifiesGames}
-use Rattle.chess_arbiter.specs.Program.{IsUntouched, RanPlan, RanProgram, RanSession, RanVerify, RanVerifyAt, RanVerifyIf, has_words}
-use Rattle.pgn_stream.specs.Stream.{IsFront}
+use Rattle.chess_arbiter.specs.Program.{RanPlan, RanSession, RanVerify, RanVerifyAt, RanVerifyIf, has_words}
 use Rattle.chess_arbiter.specs.Verify.{LacksMemory}
 use Rattle.chess_arbiter.specs.declared.fault.ProgramFault.TheVariants.{NoMemory}
 

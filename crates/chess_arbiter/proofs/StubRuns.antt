@@ -1,14 +1,13 @@
 -- A run of a stub, line by line.
-use Rattle.std.proofs.Common.{◌≡◌, ℕ, ◌+◌, ◌-◌, ◌≤◌, inl, inr, ◌||◌, Bool, true, false, List, [], ◌∷◌, ◌++◌, length, take, Some, None, Ok, Err, refl, sym, ap, ◌∙◌, arith, append_assoc, append-nil, length-append, if◌then◌else◌, Option, subst}
+use Rattle.std.proofs.Common.{◌≡◌, ℕ, ◌+◌, ◌-◌, ◌≤◌, inl, inr, Bool, true, false, List, [], ◌∷◌, ◌++◌, length, take, Some, None, Ok, Err, refl, sym, ap, ◌∙◌, arith, append_assoc, append-nil, length-append, if◌then◌else◌}
 use Rattle.std.proofs.Math.Seq.{take-append-add}
-use Rattle.std.proofs.lemmas.Grind.{common_steps}
-use Rattle.std.specs.Io.KnownBytes.{Consumes, Appends, IsAtEnd}
-use Rattle.std.specs.Bool.{MatchBool}
-use Rattle.byte_devices.specs.Devices.{InputState, OutputState, Sent, TookThenFailed, BreaksOff, risen, raised}
-use Rattle.byte_devices.proofs.DeviceLaws.{consumes_more, consumes_none, appends_more, appends_none}
-use Rattle.chess_cecp.specs.Lines.{LineSeen, Held, nothing_held, lines_from, lines_heard, lines_held, whole}
+use Rattle.std.specs.Io.KnownBytes.{Consumes}
+use Rattle.byte_devices.specs.Devices.{InputState, OutputState, Sent, BreaksOff, risen}
+use Rattle.byte_devices.proofs.DeviceLaws.{consumes_more, consumes_none}
+use Rattle.chess_cecp.specs.Lines.{LineSeen, Held, nothing_held, lines_heard, lines_held, whole}
 use Rattle.chess_cecp.specs.Next.{before_piece, Waits, GotLine, GotLast, NextLine}
-use Rattle.chess_cecp.specs.Run.{LeavesUnflushed, Transcript, risen_if}
+use Rattle.chess_cecp.specs.Run.{risen_if}
+use Rattle.chess_cecp.proofs.RunLemmas.{or_left, or_right, one_cond, SentAll, SentSome, sent_none, sent_more, sent_some, no_bytes, nothing_whole, of_true, of_false}
 use Rattle.chess_arbiter.specs.Stub.{StubState, StubRan, after, ends_at, ends_in, replies, reply, said, standing, onward_of}
 use Rattle.chess_arbiter.specs.declared.stub.Onward.{Onward}
 use Rattle.chess_arbiter.specs.declared.stub.Onward.TheVariants.{On, Over}
@@ -29,18 +28,6 @@ unfolding ends_at
 ends_is s line = refl
 
 -- ---- lists of lines
-
-or_left : (a b : Bool) → (a || b) ≡ false → a ≡ false
-or_left true b h = h
-or_left false b h = refl
-
-or_right : (a b : Bool) → (a || b) ≡ false → b ≡ false
-or_right true b h = cc
-or_right false b h = h
-
-one_cond : (b : Bool) (x : List ℕ) → (if b then x else x ++ []) ≡ x
-one_cond true x = refl
-one_cond false x = append-nil x
 
 one_state : (b : Bool) (x : StubState) → (if b then x else x) ≡ x
 one_state true x = refl
@@ -81,37 +68,6 @@ replies_last s x = one_cond (ends_at s x) (said s x)
 standing_last : (s : StubState) (x : LineSeen) → standing s (x ∷ []) ≡ after s x
 standing_last s x = one_state (ends_at s x) (after s x)
 
--- ---- what the writer took and handed on
-
--- texts were sent, one behind another
-pub record SentAll (w w' : OutputState) (text : List ℕ) : Type 0 where
-  pub bytes : Appends w.known_bytes w'.known_bytes text
-  pub failures : w'.failure_count ≡ w.failure_count
-  pub flushed : LeavesUnflushed w w' []
-
--- and then one broke off
-pub record SentSome (w w' : OutputState) (text start : List ℕ) : Type 0 where
-  pub bytes : Appends w.known_bytes w'.known_bytes (text ++ start)
-  pub failures : w'.failure_count ≡ risen w.failure_count
-  pub unflushed : LeavesUnflushed w w' start
-
-sent_none : (w : OutputState) → SentAll w w []
-sent_none w = record { bytes = appends_none w.known_bytes; failures = refl; flushed = λ h. h }
-
-sent_more : (w w' w'' : OutputState) (x y : List ℕ) → SentAll w w' x → Sent w' w'' y → SentAll w w'' (x ++ y)
-sent_more w w' w'' x y h k = record {
-  bytes = appends_more w.known_bytes w'.known_bytes w''.known_bytes x y h.bytes k.bytes;
-  failures = k.failures ∙ h.failures;
-  flushed = λ none. k.flushed;
-}
-
-sent_some : (w w' w'' : OutputState) (x y : List ℕ) → SentAll w w' x → TookThenFailed w' w'' y → SentSome w w'' x y
-sent_some w w' w'' x y h k = record {
-  bytes = appends_more w.known_bytes w'.known_bytes w''.known_bytes x y h.bytes k.bytes;
-  failures = k.failures ∙ ap risen h.failures;
-  unflushed = λ none. k.unflushed ∙ ap (λ n. raised n y) (h.flushed none);
-}
-
 -- ---- so far
 
 -- after some lines were answered, at none of which it ends
@@ -124,13 +80,6 @@ pub record SoFar (r r' : InputState) (w w' : OutputState) (s s' : StubState) (he
   pub on_demand : length (whole 1024 (before_piece r'.last_len given)) ≤ length done
   pub failures : r'.failure_count ≡ r.failure_count
   pub ends : r'.end_count ≡ r.end_count
-
-no_bytes : (n : ℕ) → before_piece n [] ≡ []
-no_bytes n = grind (arith, common_steps)
-
-nothing_whole : whole 1024 [] ≡ []
-unfolding lines_from
-nothing_whole = refl
 
 pub start : (r : InputState) (w : OutputState) (s : StubState) → SoFar r r w w s s nothing_held [] []
 start r w s = record {
@@ -167,14 +116,6 @@ pub record Reached (r r' : InputState) (given : List ℕ) (told : Bool) (done : 
   pub on_demand : length (whole 1024 (before_piece r'.last_len given)) ≤ length done
   pub failures : r'.failure_count ≡ r.failure_count
   pub ends : r'.end_count ≡ risen_if told r.end_count
-
-of_true : (b : Bool) (P Q : Type 0) → b ≡ true → MatchBool b P Q → P
-of_true true P Q e p = p
-of_true false P Q e p = cc
-
-of_false : (b : Bool) (P Q : Type 0) → b ≡ false → MatchBool b P Q → Q
-of_false true P Q e p = cc
-of_false false P Q e p = p
 
 reached_ended : (r r' r'' : InputState) (w w' : OutputState) (s s' : StubState) (held held' : Held) (given more : List ℕ) (done : List LineSeen) (line : LineSeen)
     → SoFar r r' w w' s s' held given done → Consumes r'.known_bytes r''.known_bytes more → Waits 1024 r' r'' held more → GotLine 1024 r' r'' held held' more line

@@ -7,8 +7,9 @@ use Rattle.chess_arbiter.specs.Collection.{told_line}
 use Rattle.chess_arbiter.specs.declared.collection.Tally.{Tally}
 use Rattle.chess_arbiter.specs.declared.fault.ProgramFault.{ProgramFault}
 use Rattle.chess_arbiter.specs.declared.verify.Report.TheVariants.{Game, Faulty}
-use Rattle.chess_arbiter.proofs.AnyReports.{SoFar, opened, first_told, stopped, no_less, not_so, is_so, line_took, line_failed, all_told, game_broken, game_told, fault_broken, lines_took, fault_first, last_told, none_behind, one_behind}
+use Rattle.chess_arbiter.proofs.AnyReports.{SoFar, opened, first_told, stopped, no_less, line_took, line_failed, all_told, game_broken, game_told, fault_broken, lines_took, fault_first, last_told, none_behind, one_behind}
 use Rattle.chess_arbiter.proofs.any_size.count_any.Goals as goal
+use Rattle.std.proofs.lemmas.Bool.{not-false, not-true}
 
 pub loop-read-init : goal.loop-read-init
 loop-read-init g c = (
@@ -170,7 +171,7 @@ returns-then-not-plan g c =
     (told_line c.args.plan.quiet (c.loop-read.tally.games + c.loop-read.tally.faults + 1)
     (Faulty c.in-Err-read.fault)) c.is_err-in-Err-read.ensures.value c.if-is_err-2.false
     c.tell_line-in-Err-read.ensures in
-    let alone = not_so c.args.plan.keep_going c.if-not-plan.true in
+    let alone = not-true c.args.plan.keep_going c.if-not-plan.true in
     subst (λ (t : Tally). CountsAny c.args.plan (g.R.Input.seen c.args.input.now) (g.R.Input.seen c.read_game.new.input)
     (g.W.Output.seen c.args.output.now) (g.W.Output.seen c.tell_line-in-Err-read.new.output) (Ok t))
     (sym c.with_fault-tally.ensures)
@@ -190,7 +191,7 @@ returns-in-Ok-false g c =
     c.tell_line-in-Err-read.ensures in
     let stands = subst (λ (a : Result (Option PgnEnd) PgnFault). StandsBehind c.loop-read.stream c.read_game.new.self
     (length c.read_game.new.game.state.moves) a) c.in-Err-read.is c.in-Ok.ensures.behind in
-    let keep = is_so c.args.plan.keep_going c.if-not-plan.false in
+    let keep = not-false c.args.plan.keep_going c.if-not-plan.false in
     let none = subst (λ (b : Bool). FindsEvent c.read_game.new.self c.next_event.new.self
     (g.R.Input.seen c.args.input.now) (g.R.Input.seen c.next_event.new.input) (i.1.0 ++ on.0) (Ok b))
     c.in-Ok-false.field-0-test
@@ -228,7 +229,7 @@ loop-read-preserved g c =
     c.tell_line-in-Err-read.ensures in
     let stands = subst (λ (a : Result (Option PgnEnd) PgnFault). StandsBehind c.loop-read.stream c.read_game.new.self
     (length c.read_game.new.game.state.moves) a) c.in-Err-read.is c.in-Ok.ensures.behind in
-    let keep = is_so c.args.plan.keep_going c.if-not-plan.false in
+    let keep = not-false c.args.plan.keep_going c.if-not-plan.false in
     let next = subst (λ (b : Bool). FindsEvent c.read_game.new.self c.next_event.new.self
     (g.R.Input.seen c.args.input.now) (g.R.Input.seen c.next_event.new.input) (i.1.0 ++ on.0) (Ok b))
     c.in-Ok-true.field-0-test (c.in-Ok-true.ensures.event (g.R.Input.seen c.args.input.now) (i.1.0 ++ on.0) on.1) in

@@ -1,6 +1,6 @@
 -- The games up to here were told and counted, and reports on the rest join theirs (Collections.SoFar). A game or a
 -- fault more keeps that (Collections.game_told, fault_told), and each takes a byte at least, so the counts have room.
-use Rattle.std.proofs.Common.{refl, sym, subst, ◌++◌, ◌∷◌, [], Ok, Err, Some, None}
+use Rattle.std.proofs.Common.{sym, subst, ◌++◌, ◌∷◌, [], Ok, Err, Some, None}
 use Rattle.byte_devices.specs.declared.traits.WriteFault.{WriteFault}
 use Rattle.chess_arbiter.specs.Collection.{CountsEach}
 use Rattle.chess_arbiter.specs.declared.collection.Tally.{Tally}

@@ -1,4 +1,4 @@
-use Rattle.std.proofs.Common.{◌≡◌, ◌+◌, ◌-◌, List, ℕ}
+use Rattle.std.proofs.Common.{◌≡◌, ◌+◌, ◌-◌, List}
 use Rattle.chess_arbiter.specs.Games.{GameTold}
 use Rattle.chess_arbiter.proofs.GamesTold.{SoFar}
 use Rattle.chess_arbiter.proofs.games.play_each.Given as goal
