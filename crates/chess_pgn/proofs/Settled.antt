@@ -23,7 +23,7 @@ use Rattle.chess_pgn.specs.declared.read.PgnFaultKind.TheVariants.{BadTag, BadFe
 use Rattle.chess_pgn.specs.declared.word.WordKind.{WordKind}
 use Rattle.chess_pgn.specs.declared.word.WordKind.TheVariants.{End, Number, Marks, Move}
 use Rattle.chess_pgn.specs.GameRead.{SoFar, GameRead, Step, On, Stop, fails, unless_full, move_step, word_step, fen_step, tag_step, step, go_on, game_of, at_text_end, nothing_read, behind_word, told_by, told_next, variant_told, tokens_read, pgn_read}
-use Rattle.chess_pgn.specs.Local.{is_over, is_blank, if_behind, could_go_on, is_open_behind, is_open_string, is_open_name, is_open_tag, has_word_end, is_firm, settled_by, settles_variant, settles_fault, settles_answer, is_settled, ReadingIsLocal}
+use Rattle.chess_pgn.specs.Local.{is_over, is_gap, if_behind, could_go_on, is_open_behind, is_open_string, is_open_name, is_open_tag, has_word_end, is_firm, settled_by, settles_variant, settles_fault, settles_answer, is_settled, ReadingIsLocal}
 use Rattle.chess_pgn.specs.Tokens.{Token, Skip, Tag, Word, Bad_tag, Unclosed_comment, Unclosed_variation, Bad, Inside, Plain, Brace, Line, is_blank, is_name_byte, is_word_byte, behind_brace, behind_gap, behind_byte, behind_next, string_at, onto, closed, with_text, with_string, with_name, tag_at, variation_at, comment_at, token_at, tokens_of, first_place, begins_line, tokens_from}
 use Rattle.chess_base.specs.Texts.{is_digit}
 use Rattle.chess_pgn.specs.Words.{kind_of}
@@ -225,7 +225,7 @@ module _ (more : List ℕ) where
     abbrev K : Bool → Token × List ℕ → Token × List ℕ → Type 0
     K unclosed p q = Kept more c0 rest0 unclosed p q
 
-    closed_kept : (name text : List ℕ) (left : ℕ) (g : List ℕ) → K (is_blank g) (closed name left text (behind_next 93 g)) (closed name (left + length more) text (behind_next 93 (g ++ more)))
+    closed_kept : (name text : List ℕ) (left : ℕ) (g : List ℕ) → K (is_gap g) (closed name left text (behind_next 93 g)) (closed name (left + length more) text (behind_next 93 (g ++ more)))
     closed_kept name text left g = by_gap (behind_gap false false g) (behind_gap false false (g ++ more)) (gap_kept false false g)
       where
         by_gap : (p q : List ℕ) → GapKept p q → K (is_over p) (closed name left text (behind_byte 93 p)) (closed name (left + length more) text (behind_byte 93 q))
@@ -245,7 +245,7 @@ module _ (more : List ℕ) where
         by_string : (o : Option (List ℕ × List ℕ)) → string_at s ≡ o → (u : Option (List ℕ × List ℕ)) → string_at (s ++ more) ≡ u → StringKept o u → K (is_open_behind s o) (with_text name left o) (with_text name (left + length more) u)
         by_string None is u will h = never None u refl is will (has_ten s) refl
         by_string (Some f) is u will h =
-            subst (λ (o : Option (List ℕ × List ℕ)). K (is_blank f.1) (with_text name left (Some f)) (with_text name (left + length more) o)) (sym h)
+            subst (λ (o : Option (List ℕ × List ℕ)). K (is_gap f.1) (with_text name left (Some f)) (with_text name (left + length more) o)) (sym h)
             (closed_kept name f.0 left f.1)
 
     string_tag_kept : (name rest : List ℕ) → K (could_go_on 34 is_open_string rest) (with_string name (behind_next 34 rest)) (with_string name (behind_next 34 (rest ++ more)))

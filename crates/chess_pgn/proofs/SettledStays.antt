@@ -13,7 +13,7 @@ use Rattle.chess_pgn.specs.declared.read.PgnFault.{PgnFault}
 use Rattle.chess_pgn.specs.declared.read.PgnFaultKind.{PgnFaultKind}
 use Rattle.chess_pgn.specs.declared.read.PgnFaultKind.TheVariants.{BadTag, BadFen, BadToken, IllegalMove, AmbiguousMove, AfterEnd, TooLong, UnclosedComment, UnclosedVariation, NoResult}
 use Rattle.chess_pgn.specs.GameRead.{told_by, pgn_read}
-use Rattle.chess_pgn.specs.Local.{is_over, is_blank, if_behind, is_open_behind, is_open_string, is_open_name, is_open_tag, has_word_end, is_firm, settled_by, settles_variant, settles_fault, settles_answer, is_settled, SettledStays}
+use Rattle.chess_pgn.specs.Local.{is_over, is_gap, if_behind, is_open_behind, is_open_string, is_open_name, is_open_tag, has_word_end, is_firm, settled_by, settles_variant, settles_fault, settles_answer, is_settled, SettledStays}
 use Rattle.chess_pgn.specs.Tokens.{Token, Skip, Tag, Word, Bad_tag, Unclosed_comment, Unclosed_variation, Bad, is_name_byte, is_word_byte, behind_gap, behind_byte, string_at, token_at, tokens_of, first_place, begins_line, tokens_from}
 use Rattle.chess_pgn.specs.Words.{kind_of}
 use Rattle.chess_pgn.proofs.Cuts.{Suffix}
@@ -23,7 +23,7 @@ use Rattle.chess_pgn.proofs.Settled.{both, Kept, same, skipped, whole, no_tag, m
 -- ---- bytes behind a bracket that are no tag's
 
 module _ (more : List ℕ) where
-  gap_closed : (text : List ℕ) → is_blank text ≡ false → is_blank (text ++ more) ≡ false
+  gap_closed : (text : List ℕ) → is_gap text ≡ false → is_gap (text ++ more) ≡ false
   gap_closed text = by_gap (behind_gap false false text) (behind_gap false false (text ++ more))
       (gap_kept more false false text)
     where

@@ -19,8 +19,8 @@ is_over [] = true
 is_over (c ∷ cs) = false
 
 -- nothing stands there but a gap
-abbrev pub is_blank : List ℕ → Bool
-is_blank text = is_over (behind_gap false false text)
+abbrev pub is_gap : List ℕ → Bool
+is_gap text = is_over (behind_gap false false text)
 
 abbrev pub if_behind : (List ℕ → Bool) → Option (List ℕ) → Bool
 if_behind later None = false
@@ -28,12 +28,12 @@ if_behind later (Some rest) = later rest
 
 -- a gap alone, or behind it this byte, and then what `later` tells
 abbrev pub could_go_on : ℕ → (List ℕ → Bool) → List ℕ → Bool
-could_go_on b later text = is_blank text || if_behind later (behind_next b text)
+could_go_on b later text = is_gap text || if_behind later (behind_next b text)
 
 -- behind the opening quote, with the string there, if it is closed
 abbrev pub is_open_behind : List ℕ → Option (List ℕ × List ℕ) → Bool
 is_open_behind text None = not (list_any (λ c. c == new_line) text)
-is_open_behind text (Some found) = is_blank found.1
+is_open_behind text (Some found) = is_gap found.1
 
 abbrev pub is_open_string : List ℕ → Bool
 is_open_string text = is_open_behind text (string_at text)

@@ -3,7 +3,7 @@
 ghost use Rattle.std.specs.Prelude.{◌≡◌, ◌≤◌, ◌+◌, ◌-◌, ◌||◌, ◌&&◌, ◌==◌, not, nat_lt, nat_le, length, drop};
 ghost use Rattle.std.specs.List.{list_any};
 ghost use Rattle.chess_base.specs.declared.man.Variant.TheVariants.{Normal};
-ghost use Rattle.chess_pgn.specs.Local.{is_blank, is_open_string, is_open_name, is_open_tag, has_word_end, is_firm, settles_variant, settles_fault, settles_answer};
+ghost use Rattle.chess_pgn.specs.Local.{is_gap, is_open_string, is_open_name, is_open_tag, has_word_end, is_firm, settles_variant, settles_fault, settles_answer};
 ghost use Rattle.chess_pgn.specs.ties.Seen.{token_seen, fault_seen};
 ghost use Rattle.chess_pgn.specs.Tokens.{tokens_from};
 
@@ -15,8 +15,8 @@ use crate::token::{Token, TokenFault, first_place, next_token};
 use chess_base::Variant;
 
 // Whether nothing stands there but a gap.
-fn is_blank(text: &[u8]) -> bool
-    ensures { result ≡ is_blank text.now }
+fn is_gap(text: &[u8]) -> bool
+    ensures { result ≡ is_gap text.now }
 {
     behind_gap(text).is_empty()
 }
@@ -33,7 +33,7 @@ fn is_open_string(text: &[u8]) -> bool
     ensures { result ≡ is_open_string text.now }
 {
     match split_string(text) {
-        Some((_, rest)) => is_blank(rest),
+        Some((_, rest)) => is_gap(rest),
         None => !has_line_end(text),
     }
 }
@@ -45,7 +45,7 @@ fn is_open_name(name: &[u8], rest: &[u8]) -> bool
     if name.is_empty() {
         return false;
     }
-    if is_blank(rest) {
+    if is_gap(rest) {
         return true;
     }
     match behind_next(b'"', rest) {
