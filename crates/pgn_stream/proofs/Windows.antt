@@ -1,18 +1,18 @@
 -- What a window on a text tells of a game is told of it in each whole text that goes on behind.
-use Rattle.std.proofs.Common.{◌≡◌, ◌≤◌, ◌<◌, ℕ, suc, ◌+◌, ◌-◌, Bool, true, false, cond, List, [], ◌∷◌, ◌++◌, length, take, drop, Option, Some, None, Result, Ok, Err, refl, sym, ap, subst, ◌∙◌, append_assoc, append-nil, arith}
+use Rattle.std.proofs.Common.{◌≡◌, ◌≤◌, ◌<◌, ℕ, ◌+◌, ◌-◌, Bool, true, false, cond, List, [], ◌∷◌, ◌++◌, length, take, drop, Option, Some, None, Result, Ok, Err, refl, sym, ap, subst, ◌∙◌, append-nil, arith}
 use Rattle.std.specs.Prelude.{◌&&◌, ◌||◌, nat_le}
 use Rattle.std.specs.List.{prefix_len}
 use Rattle.std.proofs.lemmas.Bool.Decides.{nat_tests}
-use Rattle.std.proofs.lemmas.List.{length-append, length-take-le, take-append-drop, take-append-le}
-use Rattle.std.proofs.Math.Seq.{drop-append-add, drop-append_seam, take-append-add, take-append_seam}
+use Rattle.std.proofs.lemmas.List.{length-append, length-take-le, take-append-drop}
+use Rattle.std.proofs.Math.Seq.{drop-append-add, take-append-add, take-append_seam}
 use Rattle.chess_pgn.specs.declared.read.PgnEnd.{PgnEnd}
 use Rattle.chess_pgn.specs.declared.read.PgnFault.{PgnFault}
 use Rattle.chess_pgn.specs.declared.read.PgnFaultKind.TheVariants.{TooLong}
 use Rattle.chess_pgn.specs.GameRead.{GameRead, pgn_read}
 use Rattle.chess_pgn.specs.Local.{is_settled, moved, moved_answer, ReadingIsLocal, SettledStays, ReadingIsMoved, SettledIsMoved}
 use Rattle.chess_pgn.specs.Tokens.{is_blank}
-use Rattle.pgn_stream.specs.Stream.{StreamState, IsWholeOf, place, first_bytes, is_in_reach, game_begin, game_at}
-use Rattle.pgn_stream.specs.ties.Held.{IsSound, is_full, is_held, held_answer, too_long, WindowsTell}
+use Rattle.pgn_stream.specs.Stream.{StreamState, IsWholeOf, place, first_bytes, is_in_reach, game_begin, game_at, is_held}
+use Rattle.pgn_stream.specs.ties.Held.{IsSound, is_full, held_answer, too_long, WindowsTell}
 
 answer_stays : (r : Result (Option PgnEnd) PgnFault) → moved_answer 0 r ≡ r
 answer_stays (Ok None) = refl

@@ -1,4 +1,4 @@
-use Rattle.std.proofs.Common.{rules, ◌≡◌, ◌++◌, [], false}
+use Rattle.std.proofs.Common.{rules, ◌≡◌, ◌++◌, false}
 use Rattle.pgn_stream.specs.ties.Held.{is_full}
 use Rattle.pgn_stream.proofs.Steps.{not_ended}
 use Rattle.pgn_stream.proofs.Fills.{filled_more, filling_broke}

@@ -1,5 +1,4 @@
-use Rattle.std.proofs.Common.{rules, ◌≡◌, ap, sym, ◌∙◌}
-use Rattle.chess_pgn.specs.GameRead.{pgn_read}
+use Rattle.std.proofs.Common.{rules}
 use Rattle.pgn_stream.proofs.Steps.{told_so, left_open}
 use Rattle.pgn_stream.proofs.stream.PgnStream.read_held.Goals as goal
 
