@@ -64,13 +64,13 @@ neither : (a b : Bool) → a ≡ false → b ≡ false → (a || b) ≡ false
 neither true b h k = cc
 neither false b h k = k
 
-in_reach_by : (limit : ℕ) (text : List ℕ) (at : ℕ) → is_settled limit (first_bytes text at) at ≡ true
+pub in_reach_by : (limit : ℕ) (text : List ℕ) (at : ℕ) → is_settled limit (first_bytes text at) at ≡ true
     → is_in_reach limit text at ≡ true
 unfolding is_in_reach
 in_reach_by limit text at h = or_right (nat_le (length text) (at + 16777216))
     (is_settled limit (first_bytes text at) at) h
 
-in_reach_whole : (limit : ℕ) (text : List ℕ) (at : ℕ) → length text ≤ at + 16777216 → is_in_reach limit text at ≡ true
+pub in_reach_whole : (limit : ℕ) (text : List ℕ) (at : ℕ) → length text ≤ at + 16777216 → is_in_reach limit text at ≡ true
 unfolding is_in_reach
 in_reach_whole limit text at h =
     let few : nat_le (length text) (at + 16777216) ≡ true = grind (arith, nat_tests, h) in
@@ -83,7 +83,7 @@ out_of_reach limit text at h e =
     let many : nat_le (length text) (at + 16777216) ≡ false = grind (arith, nat_tests, h) in
     neither (nat_le (length text) (at + 16777216)) (is_settled limit (first_bytes text at) at) many e
 
-told_in_reach : (limit : ℕ) (text : List ℕ) (at : ℕ) → is_in_reach limit text at ≡ true
+pub told_in_reach : (limit : ℕ) (text : List ℕ) (at : ℕ) → is_in_reach limit text at ≡ true
     → game_at limit text at ≡ (pgn_read limit text at).answer
 unfolding game_at
 told_in_reach limit text at h =

@@ -6,4 +6,5 @@ mod laws;
 mod stream;
 
 pub use events::next_event;
+pub use laws::{short_texts_are_read, written_games_are_told};
 pub use stream::{PgnStream, StreamFault};
