@@ -5,4 +5,4 @@ pub mod Steps
 pub mod Fills
 pub mod Games
 pub mod NextLines
-pub mod WrittenTold
+pub mod InReachTold
