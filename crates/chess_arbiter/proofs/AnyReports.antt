@@ -75,7 +75,7 @@ opened plan s tally r w is none = (
   [],
   [],
   subst (λ (v : StreamState). StandsAt v r r []) (sym is)
-      (record { read = nothing_read r; before = omega arith; window = refl }),
+      (record { read = nothing_read r; holds = record { before = omega arith; window = refl } }),
   subst (λ (v : StreamState). SoFar plan v.ended [] w w (place v) tally []) (sym is)
       (subst (λ (t : Tally). SoFar plan false [] w w 0 t []) (sym none) (start plan w)),
 )
@@ -96,11 +96,11 @@ module _ (plan : VerifyPlan) (s : StreamState) (r r' : InputState) (w w' : Outpu
       are whole (subst (λ (b : Bool). IsWholeOf b text whole) (sym going)
       (more ++ rest, is ∙ append_assoc text more rest))
 
-  pub stopped : (fault : StreamFault) → s.ended ≡ false → Stops r r' text fault
-      → CountsAny plan r r' w w' (Err (stream_fault fault))
-  stopped stream.ReadFailed going (more, broke) = (text ++ more, broke, (reports, however more going, took))
-  stopped stream.InputTooLong going (more, front, past) =
-      (text ++ more, front, past, (reports, however more going, took))
+  pub stopped : (s' : StreamState) (fault : StreamFault) → s.ended ≡ false → (more : List ℕ)
+      → Stops s' r r' (text ++ more) fault → CountsAny plan r r' w w' (Err (stream_fault fault))
+  stopped s' stream.ReadFailed going more stops = (text ++ more, stops.cause, (reports, however more going, took))
+  stopped s' stream.InputTooLong going more stops =
+      (text ++ more, stops.cause.0, stops.cause.1, (reports, however more going, took))
 
 -- ---- a game was read
 

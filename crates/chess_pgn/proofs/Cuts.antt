@@ -56,7 +56,7 @@ run_cut p ten c (d ∷ rest) e = by_test (p d) refl (λ k. run_cut p ten d rest 
         rw next (cut_more c (d ∷ rest) (drop (prefix_len p rest) rest) (more (passes_no_ten p ten d k)))
     by_test false k more = cut_here c (d ∷ rest) e
 
-brace_cut : (text : List ℕ) → IfSome (behind_brace text) (Cut text)
+pub brace_cut : (text : List ℕ) → IfSome (behind_brace text) (Cut text)
 brace_cut [] = tt
 brace_cut (c ∷ rest) = pick (λ o. IfSome o (Cut (c ∷ rest))) (eqb c 125) (Some rest) (behind_brace rest) (λ e. cut_here c rest (grind (arith, nat_tests, e))) (λ e. more (behind_brace rest) (brace_cut rest))
   where
@@ -66,7 +66,7 @@ brace_cut (c ∷ rest) = pick (λ o. IfSome o (Cut (c ∷ rest))) (eqb c 125) (S
 
 -- ---- variations
 
-variation_cut : (inside : Inside) (begins : Bool) (depth : ℕ) (text : List ℕ) → Left text (variation_at inside begins (suc depth) text).1
+pub variation_cut : (inside : Inside) (begins : Bool) (depth : ℕ) (text : List ℕ) → Left text (variation_at inside begins (suc depth) text).1
 variation_cut Plain begins depth [] = inl refl
 variation_cut (Brace left) begins depth [] = inl refl
 variation_cut Line begins depth [] = inl refl
@@ -131,7 +131,7 @@ kept_suffix : (front text : List ℕ) (c d : ℕ) (o : Option (List ℕ × List 
 kept_suffix front text c d None h = tt
 kept_suffix front text c d (Some f) h = suffix_more c (d ∷ text) f.1 (suffix_more d text f.1 h)
 
-string_suffix : (text : List ℕ) → LeavesSuffix text (string_at text)
+pub string_suffix : (text : List ℕ) → LeavesSuffix text (string_at text)
 string_suffix [] = tt
 string_suffix (c ∷ []) = pick (LeavesSuffix (c ∷ [])) (eqb c 34) _ _ (λ _. suffix_more c [] [] (suffix_all [])) (λ _. tt)
 string_suffix (c ∷ d ∷ rest) =
@@ -164,7 +164,7 @@ string_left : (name from : List ℕ) (o : Option (List ℕ)) → IfSome o (Cut f
 string_left name from None h = inl refl
 string_left name from (Some string) h = suffix_left from string _ (cut_suffix from string h) (text_left name string (length string) (string_at string) (string_suffix string))
 
-name_left : (name from : List ℕ) → LeavesOf from (with_name name from)
+pub name_left : (name from : List ℕ) → LeavesOf from (with_name name from)
 name_left [] from = inl refl
 name_left (n ∷ ns) from = string_left (n ∷ ns) from (behind_next 34 from) (next_cut 34 from refl)
 

@@ -28,3 +28,5 @@ pub mod SettledTold
 pub mod SettledStays
 pub mod MoveBytes
 pub mod SettledMoved
+pub mod ShortCuts
+pub mod EndedSettled

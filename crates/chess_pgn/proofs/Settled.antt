@@ -394,7 +394,7 @@ shift_told m v Bad = refl
 same_place : (total left m : ℕ) → (total + m) - (left + m) ≡ total - left
 same_place total left m = omega arith
 
-shift_step : (limit total m : ℕ) (g : SoFar) (left : ℕ) (t : Token) → step limit (total + m) g (left + m) (shift m t) ≡ step limit total g left t
+pub shift_step : (limit total m : ℕ) (g : SoFar) (left : ℕ) (t : Token) → step limit (total + m) g (left + m) (shift m t) ≡ step limit total g left t
 shift_step limit total m g left Skip = refl
 shift_step limit total m g left (Tag name text string) =
     ap (λ n. cond g.is_begun (fails g NoResult n) (tag_step g name text ((total + m) - (string + m)))) (same_place total left m)
@@ -407,7 +407,7 @@ shift_step limit total m g left Bad = ap (fails g BadToken) (same_place total le
 
 -- ---- what is settled
 
-abbrev NoFenKind : PgnFaultKind → Type 0
+abbrev pub NoFenKind : PgnFaultKind → Type 0
 NoFenKind BadTag = Unit {0}
 NoFenKind BadFen = ⊥
 NoFenKind BadToken = Unit {0}
@@ -420,7 +420,7 @@ NoFenKind UnclosedVariation = Unit {0}
 NoFenKind NoResult = Unit {0}
 
 -- the answer is not a FEN's fault
-abbrev NoFen : Result (Option PgnEnd) PgnFault → Type 0
+abbrev pub NoFen : Result (Option PgnEnd) PgnFault → Type 0
 NoFen (Ok o) = Unit {0}
 NoFen (Err f) = NoFenKind f.kind
 
@@ -468,7 +468,7 @@ module _ (limit : ℕ) (front more : List ℕ) where
   abbrev total : ℕ
   total = length front
 
-  abbrev SettledKind : PgnFaultKind → ℕ → Type 0
+  abbrev pub SettledKind : PgnFaultKind → ℕ → Type 0
   SettledKind BadTag place = is_open_tag (drop (place + 1) front) ≡ false
   SettledKind BadFen place = Unit {0}
   SettledKind BadToken place = has_word_end front place ≡ true
@@ -480,7 +480,7 @@ module _ (limit : ℕ) (front more : List ℕ) where
   SettledKind UnclosedVariation place = ⊥
   SettledKind NoResult place = place < length front
 
-  abbrev Settled : Result (Option PgnEnd) PgnFault → Type 0
+  abbrev pub Settled : Result (Option PgnEnd) PgnFault → Type 0
   Settled (Ok None) = ⊥
   Settled (Ok (Some e)) = e.place < length front
   Settled (Err f) = SettledKind f.kind f.place
@@ -786,7 +786,7 @@ module _ (limit : ℕ) (front more : List ℕ) where
         let other = length-append front more in
         omega (arith, rest, one, other)
 
-    read_local_at : (g : SoFar) → Settled (game_of limit (length front) g tokens).answer
+    pub read_local_at : (g : SoFar) → Settled (game_of limit (length front) g tokens).answer
         → (game_of limit (length front + length more) g longer ≡ game_of limit (length front) g tokens)
         × (g.is_begun ≡ false → NoFen (game_of limit (length front) g tokens).answer → (v : Variant) → variant_told v longer ≡ variant_told v tokens)
     read_local_at = local (length front) (length (front ++ more)) (begins_line front place) (drop place front) (rest_there place within) few_here few_longer

@@ -2,3 +2,4 @@
 pub mod PgnLaw
 pub mod Retold
 pub mod Normal
+pub mod Ended

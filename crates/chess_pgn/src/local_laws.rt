@@ -1,6 +1,7 @@
 //! Laws of where a game is read, each the contract of a function that does nothing.
 
 ghost use Rattle.chess_pgn.specs.Local.{FaultsHavePlaces, HalfMovesHaveBytes, ReadingIsLocal, ReadingIsMoved, SettledIsMoved, SettledStays};
+ghost use Rattle.chess_pgn.specs.laws.Ended.{EndedIsSettled};
 
 /// Reading a game is local: what the beginning of a text settles is read so in the whole text, whatever follows, and each
 /// longer beginning settles it too. Settled is a game that ended, where a byte stands behind its end, and a fault where the
@@ -28,4 +29,10 @@ pub fn settled_is_moved()
 /// A half-move takes at least a byte of its game's text, so that a game has no more half-moves than bytes.
 pub fn half_moves_have_bytes()
     ensures { HalfMovesHaveBytes }
+{}
+
+/// A game that ended before the last byte of a beginning of its text is settled by that beginning, so that no byte behind the
+/// one that follows its end is needed. From the first place on the beginning has three bytes at least.
+pub fn ended_is_settled()
+    ensures { EndedIsSettled }
 {}

@@ -1,15 +1,18 @@
 -- How many blanks a text begins with.
-use mathlib.Core.Bool.{not-not}
-use Rattle.std.proofs.Common.{◌≡◌, ◌≤◌, inl, inr, ℕ, ◌+◌, not, cond, List, [], ◌∷◌, length, position, unwrap_or, refl, ap, ◌∙◌, arith}
+use Rattle.std.proofs.Common.{◌≡◌, ◌≤◌, inl, inr, ℕ, ◌+◌, Bool, true, false, not, cond, List, [], ◌∷◌, length, position, unwrap_or, refl, ap, ◌∙◌, arith}
 use Rattle.std.specs.List.{prefix_len, position_or_len}
 use Rattle.std.proofs.lemmas.Bool.Decides.{nat_tests}
 use Rattle.std.proofs.lemmas.Bool.{cases_lt}
 use Rattle.std.proofs.lemmas.List.Sums.{prefix_len-le-length}
 use Rattle.chess_pgn.specs.Tokens.{is_blank}
 
+not_not : (b : Bool) → not (not b) ≡ b
+not_not true = refl
+not_not false = refl
+
 no_others : (xs : List ℕ) → position_or_len (λ b. not (is_blank b)) xs ≡ prefix_len is_blank xs
 no_others [] = refl
-no_others (x ∷ xs) = ap (λ b. cond b (1 + position_or_len (λ b. not (is_blank b)) xs) 0) (not-not (is_blank x))
+no_others (x ∷ xs) = ap (λ b. cond b (1 + position_or_len (λ b. not (is_blank b)) xs) 0) (not_not (is_blank x))
     ∙ ap (λ n. cond (is_blank x) (1 + n) 0) (no_others xs)
 
 pub blanks_are : (xs : List ℕ) → unwrap_or (position (λ b. not (is_blank b)) xs) (length xs) ≡ prefix_len is_blank xs

@@ -1,5 +1,4 @@
 -- The first line of a tag Event behind a place.
-use mathlib.Core.Bool.{and-false}
 use Rattle.std.proofs.Common.{◌≡◌, ℕ, ◌+◌, ◌-◌, ◌≤◌, ◌<◌, Bool, true, false, eqb, List, length, get_or, take, Some, None, refl, sym, ap, subst, ◌∙◌, arith}
 use Rattle.std.specs.Prelude.{◌&&◌, codes, ltb}
 use Rattle.std.specs.Str.{bytes_eq}
@@ -28,11 +27,15 @@ pub found : (text : List ℕ) (place next : ℕ) → place ≤ next → NoneUpTo
     → is_event_line text (next + 1) ≡ true → IsNextEvent text place (Some (next + 1))
 found text place next low before is = (omega (arith, low), is, λ q after ahead. before q after (omega (arith, ahead)))
 
+and_false : (b : Bool) → (b && false) ≡ false
+and_false true = refl
+and_false false = refl
+
 -- none begins at the text's end or behind it
 past : (text : List ℕ) (q : ℕ) → length text ≤ q → is_event_line text q ≡ false
 past text q h =
     ap (λ (xs : List ℕ). eqb (get_or text (q - 1) 0) 10 && bytes_eq (take 7 xs) (codes "[Event ")) (drop_all q text h)
-    ∙ and-false (eqb (get_or text (q - 1) 0) 10)
+    ∙ and_false (eqb (get_or text (q - 1) 0) 10)
 
 pub nowhere : (text : List ℕ) (place next : ℕ) → NoneUpTo text place next → length text ≤ next
     → IsNextEvent text place None

@@ -1,11 +1,14 @@
 -- What was read of an input, and more of it behind that.
-use Rattle.std.proofs.Common.{◌≡◌, ◌≤◌, ℕ, ◌+◌, ◌-◌, ◌==◌, Bool, true, false, if◌then◌else◌, List, [], ◌++◌, length, drop, Result, Ok, Err, IsErr, refl, sym, ap, subst, ◌∙◌, append_assoc, append-nil, arith}
+use Rattle.std.proofs.Common.{◌≡◌, ◌≤◌, ℕ, ◌+◌, ◌^◌, ◌==◌, Bool, true, false, if◌then◌else◌, List, [], ◌++◌, length, drop, Result, Ok, Err, IsErr, refl, sym, ap, subst, ◌∙◌, append_assoc, append-nil, arith}
+use Rattle.std.specs.Result.{IsErrAnd}
 use Rattle.std.proofs.lemmas.Bool.Decides.{nat_tests}
 use Rattle.std.proofs.lemmas.List.{length-append, length-drop, drop-append-le, drop-drop}
 use Rattle.byte_devices.specs.Devices.{InputState, GavePiece, FailedToRead, risen}
 use Rattle.byte_devices.proofs.DeviceLaws.{consumes_more, consumes_none, consumes_kept}
-use Rattle.pgn_stream.specs.Stream.{StreamState, IsFront, BrokeOff, HasRead, IsWholeOf, StandsAt, GoesOn}
-use Rattle.pgn_stream.specs.ties.Held.{Adds, Fills, IsSlid, is_full}
+use Rattle.pgn_stream.specs.declared.stream.StreamFault.{StreamFault}
+use Rattle.pgn_stream.specs.declared.stream.StreamFault.TheVariants.{ReadFailed, InputTooLong}
+use Rattle.pgn_stream.specs.Stream.{StreamState, IsFront, BrokeOff, HasRead, IsWholeOf, Holds, StandsAt, GoesOn, Stops}
+use Rattle.pgn_stream.specs.ties.Held.{Adds, Fills, IsSlid, Refills, is_full}
 
 -- ---- the input
 
@@ -76,12 +79,13 @@ filled_more s s' s'' r r' r'' more piece h going adds gave ended = record {
 }
 
 pub filling_broke : {E : Type 0} (s s' s'' : StreamState) (r r' r'' : InputState) (more : List ℕ) → IsFilling s s' r r' more → s'.ended ≡ false
-    → Adds s' s'' [] × FailedToRead r' r'' → (result : Result (Unit {0}) E) → IsErr result → Fills s s'' r r'' result
+    → Adds s' s'' [] × FailedToRead r' r'' × (s''.ended ≡ s'.ended) → (result : Result (Unit {0}) E) → IsErr result → Fills s s'' r r'' result
 filling_broke s s' s'' r r' r'' more h going failed (Ok _) is = cc
 filling_broke s s' s'' r r' r'' more h going failed (Err e) is = (
   more ++ [],
   adds_more s s' s'' more [] h.adds failed.0,
   broke_more r r' r'' more [] (subst (λ b. HasRead b r r' more) going h.read) (failed_read r' r'' failed.1),
+  failed.2 ∙ going,
 )
 
 -- ---- filling anew
@@ -97,29 +101,73 @@ earlier false text more whole w = (more ++ w.0, w.1 ∙ append_assoc text more w
 front_read : (ended : Bool) (r r' : InputState) (text : List ℕ) → ended ≡ false → HasRead ended r r' text → IsFront r r' text
 front_read ended r r' text h read = subst (λ b. HasRead b r r' text) h read
 
+-- what slid, and then holds more bytes
+held_more : (gone : ℕ) (s s' s'' : StreamState) (text more : List ℕ) → IsSlid gone s s' → Adds s' s'' more → Holds s text
+    → Holds s'' (text ++ more)
+held_more gone s s' s'' text more slid adds holds =
+    let all = length-append text more in
+    let rest = length-drop s.before text in
+    let held : length s.window ≡ length (drop s.before text) = ap length holds.window in
+    let low = holds.before in
+    let inside = slid.inside in
+    let least : s.before + gone ≤ length text = omega (arith, rest, held, low, inside) in
+    let before : s''.before ≡ s.before + gone = adds.before ∙ slid.before in record {
+      before = omega (arith, before, least, all);
+      window = adds.window ∙ ap (λ xs. xs ++ more) (slid.window ∙ ap (drop gone) holds.window ∙ dropped s.before gone text)
+          ∙ sym (drop-append-le (s.before + gone) text more least)
+          ∙ ap (λ n. drop n (text ++ more)) (sym before);
+    }
+  where
+    dropped : (n m : ℕ) (xs : List ℕ) → drop m (drop n xs) ≡ drop (n + m) xs
+    dropped n m xs = drop-drop m n xs
+
 pub refilled : (gone : ℕ) (s s' s'' : StreamState) (i i' : InputState) → s.ended ≡ false → IsSlid gone s s'
     → (more : List ℕ) × Adds s' s'' more × HasRead s''.ended i i' more × (is_full s'' ≡ true)
     → (r : InputState) (text : List ℕ) → StandsAt s r i text → GoesOn s s'' r i' text (λ whole. Unit {0})
 refilled gone s s' s'' i i' going slid filled r text stands =
-    let more = filled.0 in
-    let adds = filled.1 in
-    let all = length-append text more in
-    let rest = length-drop s.before text in
-    let held : length s.window ≡ length (drop s.before text) = ap length stands.window in
-    let low = stands.before in
-    let inside = slid.inside in
-    let least : s.before + gone ≤ length text = omega (arith, rest, held, low, inside) in
-    let before : s''.before ≡ s.before + gone = adds.before ∙ slid.before in (
+    let more = filled.0 in (
       more,
       record {
         read = read_more s''.ended r i i' text more (front_read s.ended r i text going stands.read) filled.2;
-        before = omega (arith, before, least, all);
-        window = adds.window ∙ ap (λ xs. xs ++ more) (slid.window ∙ ap (drop gone) stands.window ∙ dropped s.before gone text)
-            ∙ sym (drop-append-le (s.before + gone) text more least)
-            ∙ ap (λ n. drop n (text ++ more)) (sym before);
+        holds = held_more gone s s' s'' text more slid filled.1 stands.holds;
       },
       λ whole w. (subst (λ b. IsWholeOf b text whole) (sym going) (earlier s''.ended text more whole w), tt),
     )
-  where
-    dropped : (n m : ℕ) (xs : List ℕ) → drop m (drop n xs) ≡ drop (n + m) xs
-    dropped n m xs = drop-drop m n xs
+
+-- a read failed behind more bytes
+pub refill_broke : (gone : ℕ) (s s' s'' : StreamState) (i i' : InputState) → s.ended ≡ false → IsSlid gone s s'
+    → (more : List ℕ) × Adds s' s'' more × BrokeOff i i' more × (s''.ended ≡ false)
+    → (r : InputState) (text : List ℕ) → StandsAt s r i text
+    → (more : List ℕ) × Stops s'' r i' (text ++ more) ReadFailed
+refill_broke gone s s' s'' i i' going slid (more, adds, broke, still) r text stands = (
+  more,
+  record {
+    cause = broke_more r i i' text more (front_read s.ended r i text going stands.read) broke;
+    holds = held_more gone s s' s'' text more slid adds stands.holds;
+    going = still;
+  },
+)
+
+-- places could pass 64 bits
+past_places : (s : StreamState) (i : InputState) → s.ended ≡ false → 2 ^ 64 ≤ s.before + length s.window + 2 ^ 25
+    → (r : InputState) (text : List ℕ) → StandsAt s r i text → Stops s r i text InputTooLong
+past_places s i going high r text stands =
+    let rest = length-drop s.before text in
+    let held : length s.window ≡ length (drop s.before text) = ap length stands.holds.window in
+    let low = stands.holds.before in record {
+      cause = (front_read s.ended r i text going stands.read, omega (arith, rest, held, low, high));
+      holds = stands.holds;
+      going = going;
+    }
+
+pub refill_past : {A : Type 0} (s s' : StreamState) (i : InputState) (e : StreamFault) → s.ended ≡ false
+    → (e ≡ InputTooLong) × (2 ^ 64 ≤ s.before + length s.window + 2 ^ 25) × (s' ≡ s) → (result : Result A StreamFault)
+    → IsErr result → IsErrAnd result (λ f. f ≡ e) → (r : InputState) (text : List ℕ) → StandsAt s r i text
+    → Refills s s' r i text result
+refill_past s s' i e going past (Ok v) is same r text stands = cc
+refill_past s s' i e going (past, high, still) (Err f) is same r text stands = (
+  [],
+  subst (λ (t : StreamState). Stops t r i (text ++ []) f) (sym still)
+      (subst (λ xs. Stops s r i xs f) (sym (append-nil text))
+      (subst (Stops s r i text) (sym (same ∙ past)) (past_places s i going high r text stands))),
+)

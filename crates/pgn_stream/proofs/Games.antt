@@ -1,5 +1,5 @@
 -- A game that is read where a stream stands, and where it stands then.
-use Rattle.std.proofs.Common.{◌≡◌, ℕ, ◌+◌, Bool, true, false, List, [], ◌++◌, Option, Some, None, Result, Ok, Err, IfOk, refl, sym, ap, subst, ◌∙◌, append-nil}
+use Rattle.std.proofs.Common.{◌≡◌, ℕ, Bool, true, false, List, [], ◌++◌, Option, Some, None, Result, Ok, Err, IfOk, refl, sym, ap, subst, ◌∙◌, append-nil}
 use Rattle.std.specs.Prelude.{if◌then◌else◌, IfSome}
 use Rattle.byte_devices.specs.Devices.{InputState}
 use Rattle.chess_game.specs.Game.{Seen, at as left_at}
@@ -7,8 +7,8 @@ use Rattle.chess_pgn.specs.declared.read.PgnEnd.{PgnEnd}
 use Rattle.chess_pgn.specs.declared.read.PgnFault.{PgnFault}
 use Rattle.chess_pgn.specs.GameRead.{pgn_read}
 use Rattle.chess_pgn.specs.Local.{moved_answer}
-use Rattle.pgn_stream.specs.Stream.{StreamState, place, IsWholeOf, StandsAt, GoesOn, IsTold}
-use Rattle.pgn_stream.specs.ties.Held.{IsSound, is_full, is_held, held_answer, too_long, place_behind, WindowsTell}
+use Rattle.pgn_stream.specs.Stream.{StreamState, place, IsWholeOf, StandsAt, GoesOn, IsTold, is_held}
+use Rattle.pgn_stream.specs.ties.Held.{IsSound, is_full, held_answer, too_long, place_behind, WindowsTell}
 
 -- ---- what is told
 
@@ -24,14 +24,14 @@ told_by : WindowsTell → (s : StreamState) (r i : InputState) (text whole : Lis
     → answer ≡ (if b then held_answer g.limit s else Err (too_long s)) → (b ≡ false → is_full s ≡ true)
     → IsTold g g' whole (place s) (moved_answer s.before answer)
 told_by law s r i text whole g g' answer sound stands w left true held is full =
-    let tells = (law g.limit s text whole sound stands.before stands.window w).0 held in
+    let tells = (law g.limit s text whole sound stands.holds.before stands.holds.window w).0 held in
     record {
       told = tells.0 ∙ ap (moved_answer s.before) (sym is);
       played = if_played (g' ≡ left_at g (pgn_read g.limit whole (place s)).state) s.before answer
           (left ∙ ap (left_at g) (sym tells.1));
     }
 told_by law s r i text whole g g' answer sound stands w left false held is full =
-    let tells = (law g.limit s text whole sound stands.before stands.window w).1 held (full refl) in
+    let tells = (law g.limit s text whole sound stands.holds.before stands.holds.window w).1 held (full refl) in
     record {
       told = tells ∙ ap (moved_answer s.before) (sym is);
       played = subst (λ (a : Result (Option PgnEnd) PgnFault).
@@ -59,7 +59,7 @@ pub game_told : WindowsTell → (s s' s'' : StreamState) (r i i' : InputState) (
 game_told law s s' s'' r i i' text g g' answer told same sound goes left is full e are =
     subst (λ (t : StreamState). GoesOn s t r i' text (λ whole. IsTold g g' whole (place s) told)) (sym e) (
       goes.0,
-      record { read = goes.1.read; before = goes.1.before; window = goes.1.window },
+      record { read = goes.1.read; holds = record { before = goes.1.holds.before; window = goes.1.holds.window } },
       λ whole w. (
         (goes.2 whole w).0,
         subst (IsTold g g' whole (place s)) (sym are)
@@ -95,3 +95,8 @@ read_again g g' s e t answer h =
 pub never_open : (b : Bool) {P : Type 0} → b ≡ true → b ≡ false → P
 never_open true e h = cc
 never_open false e h = cc
+
+pub not_held : {P : Type 0} (b : Bool) (held : Result (Option PgnEnd) PgnFault) → None ≡ (if b then Some held else None)
+    → b ≡ true → P
+not_held true held e h = cc
+not_held false held e h = cc

@@ -5,3 +5,4 @@ pub mod Steps
 pub mod Fills
 pub mod Games
 pub mod NextLines
+pub mod InReachTold

@@ -10,8 +10,7 @@ use Rattle.std.proofs.lemmas.List.{length-append, length-drop, length-take, leng
 use Rattle.std.proofs.Math.Seq.{drop-append-add}
 use Rattle.byte_devices.specs.Devices.{InputState}
 use Rattle.pgn_stream.specs.declared.stream.StreamFault.{StreamFault}
-use Rattle.pgn_stream.specs.declared.stream.StreamFault.TheVariants.{ReadFailed, InputTooLong}
-use Rattle.pgn_stream.specs.Stream.{StreamState, place, IsWholeOf, StandsAt, GoesOn, Stops, IsFront, BrokeOff, IsPastPlaces, FindsEvent, is_event_line, IsNextEvent}
+use Rattle.pgn_stream.specs.Stream.{StreamState, place, IsWholeOf, StandsAt, GoesOn, Stops, FindsEvent, StandsFurther, NoEventUpTo, is_event_line, IsNextEvent}
 use Rattle.pgn_stream.specs.ties.Held.{FindsHeld, is_full}
 
 -- ---- lines of lists
@@ -56,10 +55,10 @@ module _ (s : StreamState) (r i : InputState) (text : List ℕ) (stands : Stands
   front = take s.before text
 
   text_is : front ++ s.window ≡ text
-  text_is = ap (λ xs. front ++ xs) stands.window ∙ take-append-drop s.before text
+  text_is = ap (λ xs. front ++ xs) stands.holds.window ∙ take-append-drop s.before text
 
   front_len : length front ≡ s.before
-  front_len = length-take-le s.before text stands.before
+  front_len = length-take-le s.before text stands.holds.before
 
   in_text : (q : ℕ) → 0 < q → is_event_line text (s.before + q) ≡ is_event_line s.window q
   in_text q some =
@@ -86,14 +85,17 @@ module _ (s : StreamState) (r i : InputState) (text : List ℕ) (stands : Stands
 
 -- none begins behind a place and up to another
 abbrev pub NoneIn : ℕ → ℕ → List ℕ → Type 0
-NoneIn from to whole = (q : ℕ) → from < q → q ≤ to → is_event_line whole q ≡ false
+NoneIn from to whole = NoEventUpTo whole from to
 
 abbrev at_place : StreamState → ℕ → StreamState
 at_place s n = record { window = s.window; before = s.before; at = n; ended = s.ended }
 
 stands_there : (s : StreamState) (n : ℕ) (r i : InputState) (text : List ℕ) → StandsAt s r i text
     → StandsAt (at_place s n) r i text
-stands_there s n r i text stands = record { read = stands.read; before = stands.before; window = stands.window }
+stands_there s n r i text stands = record {
+  read = stands.read;
+  holds = record { before = stands.holds.before; window = stands.holds.window };
+}
 
 split : (a q : ℕ) → a < q → q ≡ a + (q - a)
 split a q h = omega (arith, h)
@@ -159,21 +161,28 @@ looked_on s₀ s s' r i i' text same looked goes =
           ((looked.2 whole later.0).0, subst (λ n. NoneIn (place s₀) n whole) (sym same) (looked.2 whole later.0).1)),
     )
 
-stops_on : (r i : InputState) (text more : List ℕ) (e : StreamFault) → Stops r i (text ++ more) e → Stops r i text e
-stops_on r i text more ReadFailed h = (more ++ h.0, subst (BrokeOff r i) (append_assoc text more h.0) h.1)
-stops_on r i text more InputTooLong h = (
-  more ++ h.0,
-  subst (IsFront r i) (append_assoc text more h.0) h.1,
-  subst IsPastPlaces (append_assoc text more h.0)
-      h.2,
-)
+-- or a read failed, or places could pass 64 bits
+stops_on : (s₀ s s' : StreamState) (r i i' : InputState) (text : List ℕ) (e : StreamFault) → place s₀ ≤ place s
+    → place s' ≡ place s → s.ended ≡ false → (looked : Looked s₀ s r i text)
+    → (more : List ℕ) × Stops s' r i' ((text ++ looked.0) ++ more) e → FindsEvent s₀ s' r i' text (Err e)
+stops_on s₀ s s' r i i' text e low same going looked (more, stops) =
+    let is = append_assoc text looked.0 more in (
+      looked.0 ++ more,
+      subst (λ xs. Stops s' r i' xs e) is stops,
+      omega (arith, low, same),
+      λ whole w. subst (NoEventUpTo whole (place s₀)) (sym same)
+          (looked.2 whole (subst (λ b. IsWholeOf b (text ++ looked.0) whole) (sym going)
+          (more ++ w.0, w.1 ∙ (ap (λ xs. xs ++ w.0) (sym is) ∙ append_assoc (text ++ looked.0) more w.0)))).1,
+    )
 
-pub stops_so : (s s' : StreamState) (r i : InputState) (text more : List ℕ) (result : Result Bool StreamFault)
-    (e : StreamFault) → IsErr result → IsErrAnd result (λ f. f ≡ e) → Stops r i (text ++ more) e
-    → FindsEvent s s' r i text result
-stops_so s s' r i text more (Ok b) e is same h = cc
-stops_so s s' r i text more (Err f) e is same h =
-    stops_on r i text more f (subst (Stops r i (text ++ more)) (sym same) h)
+pub stops_so : (s₀ s s' : StreamState) (r i i' : InputState) (text : List ℕ) (result : Result Bool StreamFault)
+    (e : StreamFault) → IsErr result → IsErrAnd result (λ f. f ≡ e) → place s₀ ≤ place s → place s' ≡ place s
+    → s.ended ≡ false → (looked : Looked s₀ s r i text)
+    → (more : List ℕ) × Stops s' r i' ((text ++ looked.0) ++ more) e → FindsEvent s₀ s' r i' text result
+stops_so s₀ s s' r i i' text (Ok b) e is same low there going looked stops = cc
+stops_so s₀ s s' r i i' text (Err f) e is same low there going looked stops =
+    stops_on s₀ s s' r i i' text f low there going looked
+    (stops.0, subst (Stops s' r i' ((text ++ looked.0) ++ stops.0)) (sym same) stops.1)
 
 -- ---- the ends
 
@@ -206,6 +215,13 @@ found_next s₀ s s' r i text low looked finds =
     subst (λ (t : StreamState). GoesOn s₀ t r i text (λ whole. IsNextEvent whole (place s₀) (Some (place t))))
     (sym finds.0) (found_there s₀ s s'.at r i text low looked finds.1)
 
+pub none_further : (s₀ s s' : StreamState) → place s₀ ≤ place s → s'.ended ≡ true → FindsHeld s s' false
+    → StandsFurther s₀ s' false
+none_further s₀ s s' low ended finds =
+    let at : s'.at ≡ max s.at (length s.window - 7) = ap (λ (t : StreamState). t.at) finds.0 in
+    let before : s'.before ≡ s.before = ap (λ (t : StreamState). t.before) finds.0 in
+    (ended, omega (arith, low, at, before))
+
 pub found_further : (s₀ s s' : StreamState) → place s₀ ≤ place s → FindsHeld s s' true → place s₀ < place s'
 found_further s₀ s s' low finds =
     let before : s'.before ≡ s.before = ap (λ (t : StreamState). t.before) finds.0 in
@@ -234,6 +250,18 @@ none_left s₀ s s' r i text ended looked finds =
     let was : s.ended ≡ true = sym (ap (λ (t : StreamState). t.ended) finds.0) ∙ ended in
     subst (λ (t : StreamState). GoesOn s₀ t r i text (λ whole. IsNextEvent whole (place s₀) None)) (sym finds.0)
     (none_there s₀ s (max s.at (length s.window - 7)) r i text was looked finds.1)
+
+-- ---- what is held already
+
+some_or_none : {P : Type 0} (text : List ℕ) (place next : ℕ) → IsNextEvent text place (Some next)
+    → IsNextEvent text place None → P
+some_or_none text place next some none = let is = some.1 in let not_so = none next some.0 in cc
+
+-- a line that is held from the first on is found
+pub held_before : {P : Type 0} (s₀ s s' : StreamState) (next : ℕ) → IsNextEvent s₀.window s₀.at (Some next) → s ≡ s₀
+    → FindsHeld s s' false → P
+held_before s₀ s s' next is same finds =
+    some_or_none s₀.window s₀.at next is (subst (λ (t : StreamState). IsNextEvent t.window t.at None) same finds.1)
 
 -- ---- that it ends
 

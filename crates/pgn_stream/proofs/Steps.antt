@@ -8,8 +8,8 @@ use Rattle.std.proofs.Math.Seq.{take-append-add, paste}
 use Rattle.chess_pgn.specs.declared.read.PgnEnd.{PgnEnd}
 use Rattle.chess_pgn.specs.declared.read.PgnFault.{PgnFault}
 use Rattle.chess_pgn.specs.Local.{is_settled}
-use Rattle.pgn_stream.specs.Stream.{StreamState}
-use Rattle.pgn_stream.specs.ties.Held.{is_full, is_held, is_told_by, held_answer}
+use Rattle.pgn_stream.specs.Stream.{StreamState, is_held}
+use Rattle.pgn_stream.specs.ties.Held.{is_full, is_told_by, held_answer}
 
 -- ---- a piece
 

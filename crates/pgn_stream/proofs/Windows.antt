@@ -5,15 +5,14 @@ use Rattle.std.specs.List.{prefix_len}
 use Rattle.std.proofs.lemmas.Bool.Decides.{nat_tests}
 use Rattle.std.proofs.lemmas.List.{length-append, length-take-le, take-append-drop}
 use Rattle.std.proofs.Math.Seq.{drop-append-add, take-append-add, take-append_seam}
-use Rattle.std.proofs.lemmas.Bool.{or_right, or_from, or_left}
 use Rattle.chess_pgn.specs.declared.read.PgnEnd.{PgnEnd}
 use Rattle.chess_pgn.specs.declared.read.PgnFault.{PgnFault}
 use Rattle.chess_pgn.specs.declared.read.PgnFaultKind.TheVariants.{TooLong}
 use Rattle.chess_pgn.specs.GameRead.{GameRead, pgn_read}
 use Rattle.chess_pgn.specs.Local.{is_settled, moved, moved_answer, ReadingIsLocal, SettledStays, ReadingIsMoved, SettledIsMoved}
 use Rattle.chess_pgn.specs.Tokens.{is_blank}
-use Rattle.pgn_stream.specs.Stream.{StreamState, IsWholeOf, place, first_bytes, is_in_reach, game_begin, game_at}
-use Rattle.pgn_stream.specs.ties.Held.{IsSound, is_full, is_held, held_answer, too_long, WindowsTell}
+use Rattle.pgn_stream.specs.Stream.{StreamState, IsWholeOf, place, first_bytes, is_in_reach, game_begin, game_at, is_held}
+use Rattle.pgn_stream.specs.ties.Held.{IsSound, is_full, held_answer, too_long, WindowsTell}
 
 answer_stays : (r : Result (Option PgnEnd) PgnFault) → moved_answer 0 r ≡ r
 answer_stays (Ok None) = refl
@@ -53,13 +52,25 @@ first_are : (text rest : List ℕ) (at : ℕ) → length text ≡ at + 16777217 
 unfolding first_bytes
 first_are text rest at h = ap (λ n. take n (text ++ rest)) (sym h) ∙ take-append_seam text rest
 
-in_reach_by : (limit : ℕ) (text : List ℕ) (at : ℕ) → is_settled limit (first_bytes text at) at ≡ true
+or_left : (a b : Bool) → a ≡ true → (a || b) ≡ true
+or_left true b h = refl
+or_left false b h = cc
+
+or_right : (a b : Bool) → b ≡ true → (a || b) ≡ true
+or_right true b h = refl
+or_right false b h = h
+
+neither : (a b : Bool) → a ≡ false → b ≡ false → (a || b) ≡ false
+neither true b h k = cc
+neither false b h k = k
+
+pub in_reach_by : (limit : ℕ) (text : List ℕ) (at : ℕ) → is_settled limit (first_bytes text at) at ≡ true
     → is_in_reach limit text at ≡ true
 unfolding is_in_reach
 in_reach_by limit text at h = or_right (nat_le (length text) (at + 16777216))
     (is_settled limit (first_bytes text at) at) h
 
-in_reach_whole : (limit : ℕ) (text : List ℕ) (at : ℕ) → length text ≤ at + 16777216 → is_in_reach limit text at ≡ true
+pub in_reach_whole : (limit : ℕ) (text : List ℕ) (at : ℕ) → length text ≤ at + 16777216 → is_in_reach limit text at ≡ true
 unfolding is_in_reach
 in_reach_whole limit text at h =
     let few : nat_le (length text) (at + 16777216) ≡ true = grind (arith, nat_tests, h) in
@@ -70,9 +81,9 @@ out_of_reach : (limit : ℕ) (text : List ℕ) (at : ℕ) → at + 16777216 < le
 unfolding is_in_reach
 out_of_reach limit text at h e =
     let many : nat_le (length text) (at + 16777216) ≡ false = grind (arith, nat_tests, h) in
-    or_from (nat_le (length text) (at + 16777216)) (is_settled limit (first_bytes text at) at) many e
+    neither (nat_le (length text) (at + 16777216)) (is_settled limit (first_bytes text at) at) many e
 
-told_in_reach : (limit : ℕ) (text : List ℕ) (at : ℕ) → is_in_reach limit text at ≡ true
+pub told_in_reach : (limit : ℕ) (text : List ℕ) (at : ℕ) → is_in_reach limit text at ≡ true
     → game_at limit text at ≡ (pgn_read limit text at).answer
 unfolding game_at
 told_in_reach limit text at h =

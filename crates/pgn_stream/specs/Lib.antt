@@ -1,2 +1,3 @@
 pub mod Stream
+pub mod laws
 pub mod ties

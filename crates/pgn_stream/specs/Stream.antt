@@ -96,21 +96,31 @@ unread = record { window = []; before = 0; at = 0; ended = false }
 abbrev pub place : StreamState → ℕ
 place s = s.before + s.at
 
+-- it holds the end of a text
+pub record Holds (s : StreamState) (text : List ℕ) : Type 0 where
+  pub before : s.before ≤ length text
+  pub window : s.window ≡ drop s.before text
+
 -- the stream stands over an input of which this text was read, and it holds the text's end
 pub record StandsAt (s : StreamState) (r r' : InputState) (text : List ℕ) : Type 0 where
   pub read : HasRead s.ended r r' text
-  pub before : s.before ≤ length text
-  pub window : s.window ≡ drop s.before text
+  pub holds : Holds s text
 
 -- the stream holds the end of a longer text, or of the same, and of each whole text of it something is told
 abbrev pub GoesOn : StreamState → StreamState → InputState → InputState → List ℕ → (List ℕ → Type 0) → Type 0
 GoesOn s s' r r' text told =
     (more : List ℕ) × StandsAt s' r r' (text ++ more) × ((whole : List ℕ) → IsWholeOf s'.ended (text ++ more) whole → IsWholeOf s.ended text whole × told whole)
 
--- why the stream goes on no more: a read failed, or places could pass 64 bits
-abbrev pub Stops : InputState → InputState → List ℕ → StreamFault → Type 0
-Stops r r' text ReadFailed = (more : List ℕ) × BrokeOff r r' (text ++ more)
-Stops r r' text InputTooLong = (more : List ℕ) × IsFront r r' (text ++ more) × IsPastPlaces (text ++ more)
+-- why no more was read behind this text: a read failed, or places could pass 64 bits
+abbrev pub IsCause : InputState → InputState → List ℕ → StreamFault → Type 0
+IsCause r r' text ReadFailed = BrokeOff r r' text
+IsCause r r' text InputTooLong = IsFront r r' text × IsPastPlaces text
+
+-- the stream goes on no more behind this text; it still holds the text's end, and takes it for no end of the input
+pub record Stops (s : StreamState) (r r' : InputState) (text : List ℕ) (e : StreamFault) : Type 0 where
+  pub cause : IsCause r r' text e
+  pub holds : Holds s text
+  pub going : s.ended ≡ false
 
 -- ---- reading a game
 
@@ -119,10 +129,10 @@ pub record IsTold (g g' : Seen) (whole : List ℕ) (from : ℕ) (answer : Result
   pub told : game_at g.limit whole from ≡ answer
   pub played : IfOk answer (λ o. IfSome o (λ e. g' ≡ left_at g (pgn_read g.limit whole from).state))
 
--- a game is read where the stream stands
+-- a game is read where the stream stands; where it goes on no more, it stands there still
 abbrev pub ReadsGame : StreamState → StreamState → InputState → InputState → List ℕ → Seen → Seen → Result (Result (Option PgnEnd) PgnFault) StreamFault → Type 0
 ReadsGame s s' r r' text g g' (Ok answer) = GoesOn s s' r r' text (λ whole. IsTold g g' whole (place s) answer)
-ReadsGame s s' r r' text g g' (Err e) = Stops r r' text e
+ReadsGame s s' r r' text g g' (Err e) = (more : List ℕ) × Stops s' r r' (text ++ more) e × (place s' ≡ place s)
 
 -- the stream then stands behind the game, which has a byte at least for each half-move and one more at least for its
 -- termination, or at its fault, or at the end where no game is left
@@ -131,14 +141,25 @@ StandsBehind s s' plies (Ok None) = (place s' ≡ place s) × (s'.ended ≡ true
 StandsBehind s s' plies (Ok (Some e)) = (place s' ≡ e.place) × (place s < e.place) × (plies + place s ≤ e.place)
 StandsBehind s s' plies (Err f) = (place s' ≡ f.place) × (place s ≤ f.place)
 
+-- the bytes that are held tell how the game is read: no others are left, and no more than a game may have, or they settle it.
+-- Nothing is read then
+unfoldable pub is_held : ℕ → StreamState → Bool
+is_held limit s = (s.ended && nat_le (length s.window) (s.at + 16777216)) || is_settled limit s.window s.at
+
 -- ---- finding the next line of a tag Event
 
--- the stream goes on to the first such line behind its place; there is none in a text that has ended
+-- no such line begins behind a place and up to another
+abbrev pub NoEventUpTo : List ℕ → ℕ → ℕ → Type 0
+NoEventUpTo text place last = (q : ℕ) → place < q → q ≤ last → is_event_line text q ≡ false
+
+-- the stream goes on to the first such line behind its place; there is none in a text that has ended. Where it goes on no
+-- more, it has passed none, however the text goes on
 abbrev pub FindsEvent : StreamState → StreamState → InputState → InputState → List ℕ → Result Bool StreamFault → Type 0
 FindsEvent s s' r r' text (Ok found) = GoesOn s s' r r' text (λ whole. IsNextEvent whole (place s) (if found then Some (place s') else None))
-FindsEvent s s' r r' text (Err e) = Stops r r' text e
+FindsEvent s s' r r' text (Err e) =
+    (more : List ℕ) × Stops s' r r' (text ++ more) e × (place s ≤ place s') × ((whole : List ℕ) → IsWholeOf false (text ++ more) whole → NoEventUpTo whole (place s) (place s'))
 
--- it stands further on then, or the input has ended
+-- it stands further on then, or the input has ended, and it has not gone back
 abbrev pub StandsFurther : StreamState → StreamState → Bool → Type 0
 StandsFurther s s' true = place s < place s'
-StandsFurther s s' false = s'.ended ≡ true
+StandsFurther s s' false = (s'.ended ≡ true) × (place s ≤ place s')

@@ -6,4 +6,5 @@ mod laws;
 mod stream;
 
 pub use events::next_event;
+pub use laws::{ended_games_are_told, short_texts_are_read};
 pub use stream::{PgnStream, StreamFault};

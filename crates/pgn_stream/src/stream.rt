@@ -7,8 +7,8 @@ ghost use Rattle.chess_game.specs.Game.{at as left_at};
 ghost use Rattle.chess_pgn.specs.GameRead.{pgn_read};
 ghost use Rattle.chess_pgn.specs.Local.{moved_answer};
 ghost use Rattle.chess_pgn.specs.Tokens.{is_blank};
-ghost use Rattle.pgn_stream.specs.Stream.{unread, place, StandsAt, ReadsGame, StandsBehind, FindsEvent, StandsFurther};
-ghost use Rattle.pgn_stream.specs.ties.Held.{Slides, AddsPiece, is_full, Fills, Refills, is_told_by, is_held, held_answer, too_long, place_behind, IsPlaced, IsSound, FindsHeld};
+ghost use Rattle.pgn_stream.specs.Stream.{unread, place, StandsAt, ReadsGame, StandsBehind, is_held, FindsEvent, StandsFurther, IsNextEvent};
+ghost use Rattle.pgn_stream.specs.ties.Held.{Slides, AddsPiece, is_full, Fills, Refills, is_told_by, held_answer, too_long, place_behind, IsPlaced, IsSound, FindsHeld};
 
 use crate::events::next_event;
 use crate::laws::windows_tell;
@@ -177,7 +177,7 @@ impl PgnStream {
     // Has as many bytes in the window as a game from the place on may have, and one more, or all that are left.
     fn refill<R: Input>(&mut self, input: &mut R) -> Result<(), StreamFault>
         ensures held { (r : InputState) (text : List ℕ) → StandsAt self.old r (R.seen input.old) text → Refills self.old self.new r (R.seen input.new) text result }
-        ensures place { IfOk result (λ _. place self.new ≡ place self.old) }
+        ensures place { place self.new ≡ place self.old }
         ensures full { IfOk result (λ _. is_full self.new ≡ true) }
         ensures going { IfErr result (λ _. self.old.ended ≡ false) }
     {
@@ -281,6 +281,7 @@ impl PgnStream {
         ensures game { (r : InputState) (text : List ℕ) → StandsAt self.old r (R.seen input.old) text → ReadsGame self.old self.new r (R.seen input.new) text game.old game.new result }
         ensures behind { IfOk result (λ answer. StandsBehind self.old self.new (length game.new.state.moves) answer) }
         ensures going { IfErr result (λ _. self.old.ended ≡ false) }
+        ensures held { is_held game.old.limit self.old ≡ true → R.seen input.new ≡ R.seen input.old }
         ensures limit { game.new.limit ≡ game.old.limit }
     {
         windows_tell();
@@ -318,6 +319,7 @@ impl PgnStream {
         ensures event { (r : InputState) (text : List ℕ) → StandsAt self.old r (R.seen input.old) text → FindsEvent self.old self.new r (R.seen input.new) text result }
         ensures further { IfOk result (λ found. StandsFurther self.old self.new found) }
         ensures going { IfErr result (λ _. self.old.ended ≡ false) }
+        ensures held { (next : ℕ) → IsNextEvent self.old.window self.old.at (Some next) → R.seen input.new ≡ R.seen input.old }
     {
         loop {
             if self.find_held() {

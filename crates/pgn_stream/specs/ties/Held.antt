@@ -1,16 +1,16 @@
 -- What the steps of a stream do to the bytes that it holds.
-use Rattle.std.specs.Prelude.{◌≡◌, ◌≤◌, ◌<◌, ◌^◌, ℕ, ◌+◌, ◌-◌, Bool, true, ◌&&◌, ◌||◌, ◌==◌, nat_lt, nat_le, if◌then◌else◌, max, false, List, [], ◌++◌, length, drop, Option, Some, None, Result, Ok, Err}
+use Rattle.std.specs.Prelude.{◌≡◌, ◌≤◌, ◌<◌, ◌^◌, ℕ, ◌+◌, ◌-◌, Bool, true, ◌&&◌, ◌||◌, ◌==◌, nat_lt, nat_le, max, false, List, [], ◌++◌, length, drop, Option, Some, None, Result, Ok, Err}
 use Rattle.std.specs.List.{prefix_len}
 use Rattle.byte_devices.specs.Devices.{InputState, GavePiece, FailedToRead}
 use Rattle.chess_pgn.specs.declared.read.PgnEnd.{PgnEnd}
 use Rattle.chess_pgn.specs.declared.read.PgnFault.{PgnFault}
 use Rattle.chess_pgn.specs.declared.read.PgnFaultKind.TheVariants.{TooLong}
 use Rattle.chess_pgn.specs.GameRead.{pgn_read}
-use Rattle.chess_pgn.specs.Local.{is_settled, settles_answer, moved_answer}
+use Rattle.chess_pgn.specs.Local.{settles_answer, moved_answer}
 use Rattle.chess_pgn.specs.Tokens.{is_blank}
 use Rattle.pgn_stream.specs.declared.stream.StreamFault.{StreamFault}
 use Rattle.pgn_stream.specs.declared.stream.StreamFault.TheVariants.{InputTooLong}
-use Rattle.pgn_stream.specs.Stream.{StreamState, HasRead, BrokeOff, GoesOn, Stops, IsNextEvent, IsWholeOf, place, game_at}
+use Rattle.pgn_stream.specs.Stream.{StreamState, HasRead, BrokeOff, GoesOn, Stops, IsNextEvent, IsWholeOf, place, is_held, game_at}
 
 -- the bytes before the one before the place were let go
 pub record IsSlid (gone : ℕ) (s s' : StreamState) : Type 0 where
@@ -24,7 +24,7 @@ pub record IsSlid (gone : ℕ) (s s' : StreamState) : Type 0 where
 
 abbrev pub Slides : {A : Type 0} → StreamState → StreamState → Result A StreamFault → Type 0
 Slides s s' (Ok _) = IsSlid (s.at - 1) s s'
-Slides s s' (Err e) = (e ≡ InputTooLong) × (2 ^ 64 ≤ s.before + length s.window + 2 ^ 25)
+Slides s s' (Err e) = (e ≡ InputTooLong) × (2 ^ 64 ≤ s.before + length s.window + 2 ^ 25) × (s' ≡ s)
 
 -- these bytes are held behind the others
 pub record Adds (s s' : StreamState) (piece : List ℕ) : Type 0 where
@@ -34,7 +34,7 @@ pub record Adds (s s' : StreamState) (piece : List ℕ) : Type 0 where
 
 abbrev pub AddsPiece : {E : Type 0} → StreamState → StreamState → InputState → InputState → Result (Unit {0}) E → Type 0
 AddsPiece s s' r r' (Ok _) = (piece : List ℕ) × Adds s s' piece × GavePiece r r' piece × (s'.ended ≡ (length piece == 0))
-AddsPiece s s' r r' (Err _) = Adds s s' [] × FailedToRead r r'
+AddsPiece s s' r r' (Err _) = Adds s s' [] × FailedToRead r r' × (s'.ended ≡ s.ended)
 
 -- no more bytes are needed for what is told of the game at the place, or none are left
 unfoldable pub is_full : StreamState → Bool
@@ -42,17 +42,13 @@ is_full s = s.ended || nat_le (s.at + 16777217) (length s.window)
 
 abbrev pub Fills : {E : Type 0} → StreamState → StreamState → InputState → InputState → Result (Unit {0}) E → Type 0
 Fills s s' r r' (Ok _) = (more : List ℕ) × Adds s s' more × HasRead s'.ended r r' more × (is_full s' ≡ true)
-Fills s s' r r' (Err _) = (more : List ℕ) × Adds s s' more × BrokeOff r r' more
+Fills s s' r r' (Err _) = (more : List ℕ) × Adds s s' more × BrokeOff r r' more × (s'.ended ≡ false)
 
 abbrev pub Refills : {A : Type 0} → StreamState → StreamState → InputState → InputState → List ℕ → Result A StreamFault → Type 0
 Refills s s' r r' text (Ok _) = GoesOn s s' r r' text (λ whole. Unit {0})
-Refills s s' r r' text (Err e) = Stops r r' text e
+Refills s s' r r' text (Err e) = (more : List ℕ) × Stops s' r r' (text ++ more) e
 
--- the bytes that are held tell how the game is read
-unfoldable pub is_held : ℕ → StreamState → Bool
-is_held limit s = (s.ended && nat_le (length s.window) (s.at + 16777216)) || is_settled limit s.window s.at
-
--- the same of what was answered there
+-- as `is_held`, of what was answered there
 abbrev pub is_told_by : StreamState → Result (Option PgnEnd) PgnFault → Bool
 is_told_by s answer = (s.ended && nat_le (length s.window) (s.at + 16777216)) || ((nat_lt 0 s.at || nat_le 3 (length s.window)) && settles_answer s.window s.at answer)
 

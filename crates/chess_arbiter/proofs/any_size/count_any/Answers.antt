@@ -78,6 +78,7 @@ with_game-tally-requires-clause-half_moves g c =
 pub returns-in-Err : goal.returns-in-Err
 returns-in-Err g c =
     let i = c.loop-read.invariant in
+    let stops = c.in-Err.ensures.game (g.R.Input.seen c.args.input.now) i.1.0 i.1.2 in
     subst (λ (f : ProgramFault). CountsAny c.args.plan (g.R.Input.seen c.args.input.now)
     (g.R.Input.seen c.read_game.new.input) (g.W.Output.seen c.args.output.now) (g.W.Output.seen c.loop-read.output)
     (Err f)) (sym c.stream_fault.ensures)
@@ -85,7 +86,7 @@ returns-in-Err g c =
     (g.W.Output.seen c.args.output.now) (g.W.Output.seen c.loop-read.output) i.1.0 i.1.1
     (first_told c.args.plan c.loop-read.stream.ended i.1.0 (g.W.Output.seen c.args.output.now)
     (g.W.Output.seen c.loop-read.output) (place c.loop-read.stream) c.loop-read.tally i.1.1 i.1.3) i.1.3.took
-    c.in-Err.fault c.in-Err.ensures.going (c.in-Err.ensures.game (g.R.Input.seen c.args.input.now) i.1.0 i.1.2))
+    c.read_game.new.self c.in-Err.fault c.in-Err.ensures.going stops.0 stops.1)
 
 pub returns-in-Ok-None : goal.returns-in-Ok-None
 returns-in-Ok-None g c =
@@ -261,6 +262,7 @@ returns-in-Err-next_event g c =
     (told_line c.args.plan.quiet (c.loop-read.tally.games + c.loop-read.tally.faults + 1)
     (Faulty c.in-Err-read.fault)) c.is_err-in-Err-read.ensures.value c.if-is_err-2.false
     c.tell_line-in-Err-read.ensures in
+    let stops = c.in-Err-next_event.ensures.event (g.R.Input.seen c.args.input.now) (i.1.0 ++ on.0) on.1 in
     subst (λ (f : ProgramFault). CountsAny c.args.plan (g.R.Input.seen c.args.input.now)
     (g.R.Input.seen c.next_event.new.input) (g.W.Output.seen c.args.output.now)
     (g.W.Output.seen c.tell_line-in-Err-read.new.output) (Err f)) (sym c.stream_fault-in-Err-next_event.ensures)
@@ -275,5 +277,4 @@ returns-in-Err-next_event g c =
     (g.R.Input.seen c.read_game.new.input) (g.W.Output.seen c.args.output.now) (g.W.Output.seen c.loop-read.output)
     i.1.0 c.loop-read.tally i.1.1 i.1.3 c.loop-read.game c.read_game.new.game i.0 c.in-Ok.read on
     (g.W.Output.seen c.tell_line-in-Err-read.new.output) c.in-Err-read.fault c.in-Err-read.is took)
-    c.in-Err-next_event.fault c.in-Err-next_event.ensures.going
-    (c.in-Err-next_event.ensures.event (g.R.Input.seen c.args.input.now) (i.1.0 ++ on.0) on.1))
+    c.next_event.new.self c.in-Err-next_event.fault c.in-Err-next_event.ensures.going stops.0 stops.1)

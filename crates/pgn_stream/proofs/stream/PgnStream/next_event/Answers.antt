@@ -1,7 +1,7 @@
-use Rattle.std.proofs.Common.{◌<◌, ◌+◌, ◌^◌, ◌++◌, length, false, ap, sym, subst, ◌∙◌, arith}
+use Rattle.std.proofs.Common.{◌<◌, ◌+◌, ◌^◌, ◌++◌, length, ap, sym, refl, subst, ◌∙◌, arith}
 use Rattle.std.proofs.lemmas.List.{length-take-le}
-use Rattle.pgn_stream.specs.Stream.{StreamState, place}
-use Rattle.pgn_stream.proofs.NextLines.{looked_through, looked_on, stops_so, found_next, found_further, none_left, never_back, falls, not_ended, on_err}
+use Rattle.pgn_stream.specs.Stream.{StreamState}
+use Rattle.pgn_stream.proofs.NextLines.{looked_through, looked_on, stops_so, found_next, found_further, none_further, none_left, never_back, falls, not_ended, held_before, on_err}
 use Rattle.pgn_stream.proofs.stream.PgnStream.next_event.Goals as goal
 
 pub returns-then-find_held-clause-event : goal.returns-then-find_held-clause-event
@@ -18,6 +18,10 @@ returns-then-self-clause-event g c r text stands =
     none_left c.args.self.now c.loop-self.self c.find_held.new.self r (g.R.Input.seen c.loop-self.input) text
     (ap (λ (s : StreamState). s.ended) (sym c.self.view_is) ∙ c.if-self.true)
     (c.loop-self.invariant.0 r text stands) c.if-find_held.ensures
+
+pub returns-then-self-clause-further : goal.returns-then-self-clause-further
+returns-then-self-clause-further g c = none_further c.args.self.now c.loop-self.self c.find_held.new.self
+    c.loop-self.invariant.1 (ap (λ (s : StreamState). s.ended) (sym c.self.view_is) ∙ c.if-self.true) c.if-find_held.ensures
 
 pub loop-self-smaller : goal.loop-self-smaller
 loop-self-smaller g c =
@@ -44,14 +48,20 @@ loop-self-preserved g c = (
       c.if-find_held.ensures c.in_ok-refill.ensures.place,
   λ h. not_ended c.loop-self.self c.find_held.new.self (c.if-find_held.ensures) (c.loop-self.invariant.2)
       (ap (λ (s : StreamState). s.ended) (sym c.self.view_is) ∙ c.if-self.false),
+  λ next is. held_before c.args.self.now c.loop-self.self c.find_held.new.self next is
+      (c.loop-self.invariant.3 next is).0 c.if-find_held.ensures,
 )
 
 pub returns-in_err-refill-clause-event : goal.returns-in_err-refill-clause-event
 returns-in_err-refill-clause-event g c r text stands =
-    let looked = looked_through c.args.self.now c.loop-self.self c.find_held.new.self r
-    (g.R.Input.seen c.loop-self.input) text (c.loop-self.invariant.0 r text stands) c.if-find_held.ensures in
-    stops_so c.args.self.now c.refill.new.self r (g.R.Input.seen c.refill.new.input) text looked.0
-    c.from_residual.result c.in_err-refill.field-0.0 c.from_residual.ensures.0 c.from_residual.ensures.1
+    let s = c.find_held.new.self in
+    let looked = looked_through c.args.self.now c.loop-self.self s r (g.R.Input.seen c.loop-self.input) text
+    (c.loop-self.invariant.0 r text stands) c.if-find_held.ensures in
+    stops_so c.args.self.now s c.refill.new.self r (g.R.Input.seen c.loop-self.input)
+    (g.R.Input.seen c.refill.new.input) text c.from_residual.result c.in_err-refill.field-0.0 c.from_residual.ensures.0
+    c.from_residual.ensures.1
+    (never_back c.args.self.now c.loop-self.self s s c.loop-self.invariant.1 c.if-find_held.ensures refl)
+    c.in_err-refill.ensures.place (ap (λ (t : StreamState). t.ended) (sym c.self.view_is) ∙ c.if-self.false) looked
     (c.in_err-refill.ensures.held r (text ++ looked.0) looked.1)
 
 pub returns-in_err-refill-clause-going : goal.returns-in_err-refill-clause-going
@@ -59,3 +69,14 @@ returns-in_err-refill-clause-going g c =
     on_err c.from_residual.result
     (not_ended c.loop-self.self c.find_held.new.self c.if-find_held.ensures c.loop-self.invariant.2
     (ap (λ (s : StreamState). s.ended) (sym c.self.view_is) ∙ c.if-self.false))
+
+pub returns-then-find_held-clause-held : goal.returns-then-find_held-clause-held
+returns-then-find_held-clause-held g c next is = (c.loop-self.invariant.3 next is).1
+
+pub returns-then-self-clause-held : goal.returns-then-self-clause-held
+returns-then-self-clause-held g c next is = (c.loop-self.invariant.3 next is).1
+
+pub returns-in_err-refill-clause-held : goal.returns-in_err-refill-clause-held
+returns-in_err-refill-clause-held g c next is =
+    held_before c.args.self.now c.loop-self.self c.find_held.new.self next is (c.loop-self.invariant.3 next is).0
+    c.if-find_held.ensures

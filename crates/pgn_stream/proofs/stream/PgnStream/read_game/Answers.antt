@@ -1,7 +1,8 @@
 use Rattle.std.proofs.Common.{refl}
 use Rattle.std.specs.Prelude.{Err}
-use Rattle.pgn_stream.specs.ties.Held.{is_held, held_answer, too_long}
-use Rattle.pgn_stream.proofs.Games.{stays, game_told, held_told, held_is, left_again, read_again, never_open}
+use Rattle.pgn_stream.specs.Stream.{is_held}
+use Rattle.pgn_stream.specs.ties.Held.{held_answer, too_long}
+use Rattle.pgn_stream.proofs.Games.{stays, game_told, held_told, held_is, left_again, read_again, never_open, not_held}
 use Rattle.pgn_stream.proofs.stream.PgnStream.read_game.Goals as goal
 
 pub returns-in-Some-clause-game : goal.returns-in-Some-clause-game
@@ -30,3 +31,11 @@ returns-clause-game g c r text stands =
     (read_again c.args.game.now c.read_held.new.game s first t c.read_full-answer.result
     c.read_full-answer.ensures.answer)
     (λ h. c.in_ok-refill.ensures.full) c.go_on-2.ensures.stream c.go_on-2.ensures.told
+
+pub returns-clause-held : goal.returns-clause-held
+returns-clause-held g c = not_held (is_held c.args.game.now.limit c.args.self.now)
+    (held_answer c.args.game.now.limit c.args.self.now) c.in_default.ensures.answer
+
+pub returns-in_err-refill-clause-held : goal.returns-in_err-refill-clause-held
+returns-in_err-refill-clause-held g c = not_held (is_held c.args.game.now.limit c.args.self.now)
+    (held_answer c.args.game.now.limit c.args.self.now) c.in_default.ensures.answer
