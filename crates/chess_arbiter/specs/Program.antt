@@ -1,7 +1,5 @@
 -- What the program does with its words and its devices.
 use Rattle.std.specs.Prelude.{◌≡◌, ◌≢◌, ◌⊎◌, ◌||◌, ℕ, Bool, true, false, List, Result, Ok, Err}
-use Rattle.std_io.specs.declared.io.kind.ErrorKind.{ErrorKind}
-use Rattle.std_io.specs.declared.io.kind.ErrorKind.TheVariants.{OutOfMemory}
 use Rattle.clap.specs.Words.{Text, kind_of}
 use Rattle.clap.specs.declared.error.kind.ErrorKind.TheVariants.{DisplayHelp, DisplayVersion}
 use Rattle.arbiter_words.specs.Plans.{IsReading}
@@ -50,11 +48,6 @@ fault_status WriteFailed = 1
 fault_status NoMemory = 1
 fault_status InputTooLong = 1
 fault_status WrongWords = 2
-
--- why the words of the process could not be had: there was no memory for them, or one of them is no UTF-8
-abbrev pub words_fault : ErrorKind → ProgramFault
-words_fault OutOfMemory = NoMemory
-words_fault _ = WrongWords
 
 abbrev pub status_of : Result End ProgramFault → ℕ
 status_of (Ok end) = 0

@@ -1,15 +1,15 @@
 //! The program on the standard streams.
 
-ghost use Rattle.std.specs.Prelude.{◌≡◌};
+ghost use Rattle.std.specs.Prelude.{◌≡◌, ◌≢◌};
 ghost use Rattle.std.specs.IoError.{error_kind};
-ghost use Rattle.chess_arbiter.specs.Program.{words_fault};
 
 use crate::fault::{ProgramFault, tell};
 use crate::program::run_program;
 use byte_devices::Counted;
 use std::alloc::AllocError;
+use std::env;
+use std::io::{self, ErrorKind};
 use std::process::ExitCode;
-use std::{env, io};
 
 // The words after the program's name.
 fn words_of(rt: &HostRuntime) -> io::Result<Vec<String>> {
@@ -39,10 +39,11 @@ fn status_of(rt: &HostRuntime) -> io::Result<u8> {
 
 // Why the words could not be had: no memory for them, or one of them is no UTF-8.
 fn words_fault(error: &io::Error) -> ProgramFault
-    ensures { result ≡ words_fault (error_kind error.now) }
+    ensures memory { error_kind error.now ≡ ErrorKind.OutOfMemory → result ≡ ProgramFault.NoMemory }
+    ensures others { error_kind error.now ≢ ErrorKind.OutOfMemory → result ≡ ProgramFault.WrongWords }
 {
     match error.kind() {
-        io::ErrorKind::OutOfMemory => ProgramFault::NoMemory,
+        ErrorKind::OutOfMemory => ProgramFault::NoMemory,
         _ => ProgramFault::WrongWords,
     }
 }
