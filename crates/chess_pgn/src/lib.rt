@@ -23,8 +23,8 @@ pub use laws::{
     pgn_is_read_back,
 };
 pub use local_laws::{
-    ended_is_settled, faults_have_places, half_moves_have_bytes, reading_is_local, reading_is_moved,
-    settled_is_moved,
+    ended_is_settled, faults_have_places, half_moves_have_bytes, reading_is_local,
+    reading_is_moved, settled_is_moved,
 };
 pub use read::{PgnEnd, PgnFault, PgnFaultKind, read_pgn};
 pub use settling::settles;

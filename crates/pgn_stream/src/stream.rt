@@ -269,10 +269,11 @@ impl PgnStream {
     /// Reads the game at the place, and goes on behind it, or to its fault. What is told holds of the whole input, however
     /// it goes on: it is what `read_pgn` answers there, or the fault `TooLong`, at the game's first byte, where the 16,777,216
     /// bytes from the place on, with the one behind them, don't settle how the game is read and more are left. `None` where
-    /// no game is left.
+    /// no game is left. Nothing is read where the bytes that are held tell how the game is read.
     ///
     /// # Errors
-    /// Where a read failed, or places in the input could pass 64 bits.
+    /// Where a read failed, or places in the input could pass 64 bits. The stream then stands where it stood, and holds the end
+    /// of what was read.
     pub fn read_game<R: Input, B: Board>(
         &mut self,
         input: &mut R,
@@ -311,10 +312,11 @@ impl PgnStream {
     }
 
     /// Goes to the next line behind the place that begins as that of a tag Event, `[Event `, and answers whether there is
-    /// one. Where there is none the input has ended.
+    /// one. Where there is none the input has ended. It never goes back, and reads nothing where such a line is held.
     ///
     /// # Errors
-    /// Where a read failed, or places in the input could pass 64 bits.
+    /// Where a read failed, or places in the input could pass 64 bits. The stream then holds the end of what was read, and stands
+    /// where it stood or further on; no such line was passed, however the input goes on.
     pub fn next_event<R: Input>(&mut self, input: &mut R) -> Result<bool, StreamFault>
         ensures event { (r : InputState) (text : List ℕ) → StandsAt self.old r (R.seen input.old) text → FindsEvent self.old self.new r (R.seen input.new) text result }
         ensures further { IfOk result (λ found. StandsFurther self.old self.new found) }
