@@ -22,7 +22,7 @@ The exit status is 0 where all was done, 1 where a device, an engine, memory or 
 wrong words.";
 
 const SESSION_EXAMPLES: &str = "Commands of a session, one a line:
-  new                                the initial position; after variant fischerandom that of Chess960
+  new                                the initial position of normal chess
   setboard 7k/8/6K1/7P/8/8/8/8 w - - 0 1
   e2e4, Nf3, O-O, usermove e7e8q     a move
   undo, remove                       takes one half-move back, or two
