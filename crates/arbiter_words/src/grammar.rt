@@ -1,7 +1,8 @@
 //! The grammar of the words, and its texts of help.
 
-ghost use Rattle.std.specs.Prelude.{◌≡◌, IfOk, false};
+ghost use Rattle.std.specs.Prelude.{◌≡◌, IfOk, Some, false};
 ghost use Rattle.clap.specs.Words.{app_of, new_app, rule_of};
+ghost use Rattle.clap.specs.declared.builder.texts.Texts.TheVariants.{One};
 ghost use Rattle.clap.specs.declared.builder.command.Command.TheViews.{out-Command as fields_of};
 ghost use Rattle.arbiter_words.specs.Grammar.{AreVariants, GivesMatchApp, GivesArbiterApp, flag_rule, games_rule, needed, option_rule, stub_app, variant_rule, verify_app};
 
@@ -69,6 +70,8 @@ static VARIANTS: [&str; 2] = ["normal", "fischerandom"];
 // A command with no arguments yet.
 fn command<'a>(alloc: Global, name: &'a str, about: &'a str, examples: &'a str) -> Command<'a>
     ensures app { app_of result ≡ new_app name.entry.now }
+    ensures about { (fields_of result).about ≡ Some about.entry }
+    ensures examples { (fields_of result).after_help ≡ Some examples.entry }
     ensures local { (fields_of result).has_globals ≡ false }
 {
     Command::new(alloc, name).about(about).after_help(examples)
@@ -77,6 +80,8 @@ fn command<'a>(alloc: Global, name: &'a str, about: &'a str, examples: &'a str) 
 // An option that takes a text.
 fn option<'a>(alloc: Global, name: &'a str, value: &'a str, help: &'a str) -> Arg<'a>
     ensures rule { rule_of result ≡ option_rule name.entry.now }
+    ensures value { result.val_names ≡ One value.entry }
+    ensures help { result.help ≡ Some help.entry }
     ensures local { result.global ≡ false }
 {
     Arg::new(alloc, name)
@@ -88,6 +93,7 @@ fn option<'a>(alloc: Global, name: &'a str, value: &'a str, help: &'a str) -> Ar
 // An option that takes no text.
 fn flag<'a>(alloc: Global, name: &'a str, help: &'a str) -> Arg<'a>
     ensures rule { rule_of result ≡ flag_rule name.entry.now }
+    ensures help { result.help ≡ Some help.entry }
     ensures local { result.global ≡ false }
 {
     Arg::new(alloc, name)
@@ -99,6 +105,8 @@ fn flag<'a>(alloc: Global, name: &'a str, help: &'a str) -> Arg<'a>
 // An option that must be given.
 fn needed_option<'a>(alloc: Global, name: &'a str, value: &'a str, help: &'a str) -> Arg<'a>
     ensures rule { rule_of result ≡ needed (option_rule name.entry.now) }
+    ensures value { result.val_names ≡ One value.entry }
+    ensures help { result.help ≡ Some help.entry }
     ensures local { result.global ≡ false }
 {
     option(alloc, name, value, help).required(true)
