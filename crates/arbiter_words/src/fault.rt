@@ -2,7 +2,7 @@
 
 ghost use Rattle.std.specs.Prelude.{◌≡◌};
 ghost use Rattle.clap.specs.Words.{kind_of};
-ghost use Rattle.chess_cecp.specs.Session.{fault_name};
+ghost use Rattle.chess_cecp.specs.Session.{fen_fault_name};
 ghost use Rattle.arbiter_words.specs.Plans.{FitsKind};
 
 use chess_base::FenFault;
@@ -31,7 +31,7 @@ pub enum WordsFault {
 
 // The name of a fault of a FEN, as a session tells it.
 fn fen_fault_name(fault: FenFault) -> &'static str
-    ensures { result.now ≡ fault_name fault }
+    ensures { result.now ≡ fen_fault_name fault }
 {
     match fault {
         FenFault::Placement => "placement",
