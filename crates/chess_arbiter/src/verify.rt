@@ -1,5 +1,6 @@
 //! Verifying games: each game of a text is read and its line written; the first fault ends it.
 
+ghost use Rattle.chess_arbiter.specs.declared.verify.TheConstants.{LINE_LEN};
 ghost use Rattle.std.specs.Prelude.{◌≡◌, ◌≤◌, ◌+◌, ◌++◌, IfOk, IfErr, length, decimal};
 ghost use Rattle.arrayvec.specs.ArrayVec.{array_vec_len};
 ghost use Rattle.byte_devices.specs.Devices.{Puts};
@@ -91,7 +92,7 @@ fn pgn_fault_name(kind: PgnFaultKind) -> &'static [u8]
 
 // A text at the end of a line.
 pub(crate) fn write_text(line: &mut ReportLine, text: &[u8])
-    requires { array_vec_len line.old + length text.now ≤ 120 }
+    requires { array_vec_len line.old + length text.now ≤ LINE_LEN }
     ensures text { line.new.items ≡ line.old.items ++ text.now }
     ensures len { array_vec_len line.new ≡ array_vec_len line.old + length text.now }
 {
@@ -100,7 +101,7 @@ pub(crate) fn write_text(line: &mut ReportLine, text: &[u8])
 
 // A number at the end of a line.
 pub(crate) fn write_number(line: &mut ReportLine, number: usize)
-    requires { array_vec_len line.old + 20 ≤ 120 }
+    requires { array_vec_len line.old + 20 ≤ LINE_LEN }
     ensures text { line.new.items ≡ line.old.items ++ decimal number }
     ensures len { array_vec_len line.new ≤ array_vec_len line.old + 20 }
 {
@@ -110,7 +111,7 @@ pub(crate) fn write_number(line: &mut ReportLine, number: usize)
 
 // How a game ended, where its text tells it, at the end of a line.
 fn write_termination(line: &mut ReportLine, termination: Option<Termination>)
-    requires { array_vec_len line.old + 18 ≤ 120 }
+    requires { array_vec_len line.old + 18 ≤ LINE_LEN }
     ensures text { line.new.items ≡ line.old.items ++ told_termination termination }
     ensures len { array_vec_len line.new ≤ array_vec_len line.old + 18 }
 {
@@ -122,7 +123,7 @@ fn write_termination(line: &mut ReportLine, termination: Option<Termination>)
 
 // What is told of a game, at the end of a line.
 fn write_report(line: &mut ReportLine, report: &Report)
-    requires { array_vec_len line.old + 60 ≤ 120 }
+    requires { array_vec_len line.old + 60 ≤ LINE_LEN }
     ensures text { line.new.items ≡ line.old.items ++ report_text report.now }
     ensures len { array_vec_len line.new ≤ array_vec_len line.old + 60 }
 {

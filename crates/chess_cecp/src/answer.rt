@@ -1,5 +1,6 @@
 //! The texts of answers, put together before they are written.
 
+ghost use Rattle.chess_cecp.specs.declared.answer.TheConstants.{ANSWER_LEN};
 ghost use Rattle.std.specs.List.{flat_map};
 ghost use Rattle.std.specs.Prelude.{◌≡◌, ◌+◌, ◌*◌, ◌≤◌, ◌++◌, [], if◌then◌else◌, length, codes, decimal};
 ghost use Rattle.arrayvec.specs.ArrayVec.{array_vec_len};
@@ -24,7 +25,7 @@ pub(crate) type Answer = ArrayVec<u8, ANSWER_LEN>;
 
 // A text behind another, and byte 10.
 pub(crate) fn write_line(answer: &mut Answer, front: &[u8], text: &[u8])
-    requires { array_vec_len answer.old + length front.now + length text.now + 1 ≤ 5500 }
+    requires { array_vec_len answer.old + length front.now + length text.now + 1 ≤ ANSWER_LEN }
     ensures { answer.new.items ≡ answer.old.items ++ joined_line front.now text.now }
 {
     answer.try_extend_from_slice(front).unwrap();
@@ -40,7 +41,7 @@ pub(crate) fn write_pong(answer: &mut Answer, number: u32)
     write_line(answer, b"pong ", buffer.format(number).as_bytes());
 }
 
-// What the arbiter tells of itself: it takes `setboard`, answers `ping`, and knows normal chess alone.
+// What the arbiter tells of itself: it takes `setboard`, answers `ping`, and knows normal chess and Chess960.
 const FEATURES: &[u8] =
     b"feature ping=1 setboard=1 playother=0 san=0 usermove=1 time=1 draw=1 sigint=0 sigterm=0 reuse=1 analyze=0 colors=0 debug=1 myname=\"CECP arbiter\" variants=\"normal,fischerandom\" done=1";
 
@@ -94,7 +95,7 @@ pub(crate) fn write_verdict(answer: &mut Answer, verdict: Option<Verdict>)
 
 // A text.
 fn write_text(answer: &mut Answer, text: &[u8])
-    requires { array_vec_len answer.old + length text.now ≤ 5500 }
+    requires { array_vec_len answer.old + length text.now ≤ ANSWER_LEN }
     ensures text { answer.new.items ≡ answer.old.items ++ text.now }
     ensures len { array_vec_len answer.new ≡ array_vec_len answer.old + length text.now }
 {
@@ -104,7 +105,7 @@ fn write_text(answer: &mut Answer, text: &[u8])
 // An outcome and its comment in braces.
 #[tactic(auto, unfolding(crate::specs::Declaring::result_text))]
 fn write_result_text(answer: &mut Answer, outcome: Outcome, comment: &[u8])
-    requires { array_vec_len answer.old + length comment.now + 10 ≤ 5500 }
+    requires { array_vec_len answer.old + length comment.now + 10 ≤ ANSWER_LEN }
     ensures text { answer.new.items ≡ answer.old.items ++ result_text outcome comment.now }
     ensures len { array_vec_len answer.new ≤ array_vec_len answer.old + length comment.now + 10 }
 {
@@ -117,7 +118,7 @@ fn write_result_text(answer: &mut Answer, outcome: Outcome, comment: &[u8])
 // The line of a result.
 #[tactic(auto, unfolding(crate::specs::Session::result_line))]
 pub(crate) fn write_result(answer: &mut Answer, outcome: Outcome, comment: &[u8])
-    requires { array_vec_len answer.old + length comment.now + 11 ≤ 5500 }
+    requires { array_vec_len answer.old + length comment.now + 11 ≤ ANSWER_LEN }
     ensures { answer.new.items ≡ answer.old.items ++ result_line outcome comment.now }
 {
     write_result_text(answer, outcome, comment);
@@ -126,7 +127,7 @@ pub(crate) fn write_result(answer: &mut Answer, outcome: Outcome, comment: &[u8]
 
 // A number behind a text.
 fn write_number(answer: &mut Answer, front: &[u8], number: u64)
-    requires { array_vec_len answer.old + length front.now + 20 ≤ 5500 }
+    requires { array_vec_len answer.old + length front.now + 20 ≤ ANSWER_LEN }
     ensures text { answer.new.items ≡ answer.old.items ++ (front.now ++ decimal number) }
     ensures len { array_vec_len answer.new ≤ array_vec_len answer.old + length front.now + 20 }
 {
@@ -137,7 +138,7 @@ fn write_number(answer: &mut Answer, front: &[u8], number: u64)
 
 // A verdict, or that there is none.
 fn write_verdict_text(answer: &mut Answer, verdict: Option<Verdict>)
-    requires { array_vec_len answer.old + 70 ≤ 5500 }
+    requires { array_vec_len answer.old + 70 ≤ ANSWER_LEN }
     ensures text { answer.new.items ≡ answer.old.items ++ verdict_text verdict }
     ensures len { array_vec_len answer.new ≤ array_vec_len answer.old + 70 }
 {
@@ -149,7 +150,7 @@ fn write_verdict_text(answer: &mut Answer, verdict: Option<Verdict>)
 
 // What was declared, or that nothing was.
 fn write_declared_text(answer: &mut Answer, declared: Option<&Declared>)
-    requires { array_vec_len answer.old + 70 ≤ 5500 }
+    requires { array_vec_len answer.old + 70 ≤ ANSWER_LEN }
     ensures text { answer.new.items ≡ answer.old.items ++ declared_text (option_map (λ d. d.now) declared.entry) }
     ensures len { array_vec_len answer.new ≤ array_vec_len answer.old + 70 }
 {
@@ -199,7 +200,7 @@ pub(crate) fn write_moves(answer: &mut Answer, position: &Position, moves: &[Mov
 
 // Each move behind a space.
 fn write_each(answer: &mut Answer, position: &Position, moves: &[Move])
-    requires { array_vec_len answer.old + 6 * length moves.now ≤ 5500 }
+    requires { array_vec_len answer.old + 6 * length moves.now ≤ ANSWER_LEN }
     ensures text { answer.new.items ≡ answer.old.items ++ flat_map (shown position.now) moves.now }
     ensures len { array_vec_len answer.new ≤ array_vec_len answer.old + 6 * length moves.now }
 {

@@ -1,5 +1,6 @@
 //! What a match asks of its game.
 
+ghost use Rattle.chess_match.specs.declared.block.TheConstants.{BLOCK_LEN};
 ghost use Rattle.std.specs.Prelude.{◌≡◌, ◌<◌, ◌≤◌, ◌+◌, ◌==◌, ◌++◌, ◌∷◌, [], List, ℕ, length, nat_le, is_some, Some, None, false};
 ghost use Rattle.arrayvec.specs.ArrayVec.{array_vec_len};
 ghost use Rattle.chess_match.specs.Rules.{Rules};
@@ -67,7 +68,7 @@ pub(crate) trait Played {
 
     /// The line that tells the start, where it is told.
     fn add_start(&self, block: &mut Block)
-        requires { array_vec_len block.old + 110 ≤ 600 }
+        requires { array_vec_len block.old + 110 ≤ BLOCK_LEN }
         ensures text { (r : Rules) → plays self.now r → block.new.items ≡ block.old.items ++ bytes_of (start_lines r.start_fen) }
         ensures len { array_vec_len block.new ≤ array_vec_len block.old + 110 };
 
@@ -80,7 +81,7 @@ pub(crate) trait Played {
         block: &mut Block,
     )
         requires some { 0 < length (played self.now) }
-        requires room { array_vec_len block.old + 20 ≤ 600 }
+        requires room { array_vec_len block.old + 20 ≤ BLOCK_LEN }
         ensures text { (r : Rules) → plays self.now r → block.new.items ≡ block.old.items ++ bytes_of (MoveTold prefixed (r.move_text as_san (played self.now)) ∷ []) }
         ensures len { array_vec_len block.new ≤ array_vec_len block.old + 20 };
 

@@ -1,5 +1,6 @@
 //! Sending blocks.
 
+ghost use Rattle.chess_match.specs.declared.block.TheConstants.{BLOCK_LEN};
 ghost use Rattle.std.specs.Prelude.{◌≡◌, ◌≢◌, ◌+◌, false, Ok, IfOk, ◌≤◌, ◌<◌, ◌++◌, ◌∷◌, [], length, IsErr, List, is_some, true, nat_lt, if◌then◌else◌};
 ghost use Rattle.arrayvec.specs.ArrayVec.{array_vec_len};
 ghost use Rattle.byte_devices.specs.Devices.{Puts, Sends};
@@ -59,7 +60,7 @@ fn add_last<G: Played, S: Board>(
     side: Colour,
 )
     requires some { 0 < length (G.played game.now) }
-    requires room { array_vec_len block.old + 20 ≤ 600 }
+    requires room { array_vec_len block.old + 20 ≤ BLOCK_LEN }
     ensures text { (r : Rules) (m : Match) → G.plays game.now r → Stands r core.now (G.played game.now) m → block.new.items ≡ block.old.items ++ bytes_of (last_move r m side ∷ []) }
     ensures len { array_vec_len block.new ≤ array_vec_len block.old + 20 }
 {
@@ -75,7 +76,7 @@ fn add_last_if<G: Played, S: Board>(
     scratch: &mut S,
     side: Colour,
 )
-    requires { array_vec_len block.old + 20 ≤ 600 }
+    requires { array_vec_len block.old + 20 ≤ BLOCK_LEN }
     ensures text { (r : Rules) (m : Match) → G.plays game.now r → Stands r core.now (G.played game.now) m → block.new.items ≡ block.old.items ++ bytes_of (last_move_lines r m side) }
     ensures len { array_vec_len block.new ≤ array_vec_len block.old + 20 }
 {
@@ -87,7 +88,7 @@ fn add_last_if<G: Played, S: Board>(
 
 // Both clocks, for an engine that takes them.
 fn add_clocks(block: &mut Block, core: &Core, side: Colour)
-    requires { array_vec_len block.old + 60 ≤ 600 }
+    requires { array_vec_len block.old + 60 ≤ BLOCK_LEN }
     ensures text { (r : Rules) (played : List Move) (m : Match) → Stands r core.now played m → block.new.items ≡ block.old.items ++ bytes_of (clock_lines r m side) }
     ensures len { array_vec_len block.new ≤ array_vec_len block.old + 60 }
 {
@@ -106,7 +107,7 @@ fn add_opening<G: Played, S: Board>(
     scratch: &mut S,
     side: Colour,
 )
-    requires { array_vec_len block.old + 100 ≤ 600 }
+    requires { array_vec_len block.old + 100 ≤ BLOCK_LEN }
     ensures text { (r : Rules) (m : Match) → G.plays game.now r → Stands r core.now (G.played game.now) m → block.new.items ≡ block.old.items ++ bytes_of (opening_lines r m side) }
     ensures len { array_vec_len block.new ≤ array_vec_len block.old + 100 }
 {
@@ -123,7 +124,7 @@ fn add_opening<G: Played, S: Board>(
 // The variant, where it isn't normal chess.
 #[tactic(auto, unfolding(crate::specs::Sent::bytes_of))]
 fn add_variant(block: &mut Block, variant: Variant)
-    requires { array_vec_len block.old + 30 ≤ 600 }
+    requires { array_vec_len block.old + 30 ≤ BLOCK_LEN }
     ensures text { block.new.items ≡ block.old.items ++ bytes_of (variant_lines variant) }
     ensures len { array_vec_len block.new ≤ array_vec_len block.old + 30 }
 {
@@ -135,7 +136,7 @@ fn add_variant(block: &mut Block, variant: Variant)
 
 // The setup of an engine.
 fn add_setup<G: Played>(block: &mut Block, core: &Core, game: &G)
-    requires { array_vec_len block.old + 300 ≤ 600 }
+    requires { array_vec_len block.old + 300 ≤ BLOCK_LEN }
     ensures text { (r : Rules) (m : Match) → G.plays game.now r → Stands r core.now (G.played game.now) m → block.new.items ≡ block.old.items ++ bytes_of (setup_lines r) }
     ensures len { array_vec_len block.new ≤ array_vec_len block.old + 300 }
 {
@@ -156,7 +157,7 @@ fn add_untold<G: Played, S: Board>(
     side: Colour,
 )
     requires untold { is_some core.now.untold ≡ true → 0 < length (G.played game.now) }
-    requires room { array_vec_len block.old + 20 ≤ 600 }
+    requires room { array_vec_len block.old + 20 ≤ BLOCK_LEN }
     ensures text { (r : Rules) (m : Match) → G.plays game.now r → Stands r core.now (G.played game.now) m → block.new.items ≡ block.old.items ++ bytes_of (untold_lines r m side m.untold) }
     ensures len { array_vec_len block.new ≤ array_vec_len block.old + 20 }
 {
@@ -180,7 +181,7 @@ fn add_end_lines<G: Played, S: Board>(
     reason: Reason,
 )
     requires untold { is_some core.now.untold ≡ true → 0 < length (G.played game.now) }
-    requires room { array_vec_len block.old + 120 ≤ 600 }
+    requires room { array_vec_len block.old + 120 ≤ BLOCK_LEN }
     ensures text { (r : Rules) (m : Match) → G.plays game.now r → Stands r core.now (G.played game.now) m → block.new.items ≡ block.old.items ++ bytes_of (end_lines r m side reason) }
     ensures len { array_vec_len block.new ≤ array_vec_len block.old + 120 }
 {
@@ -226,7 +227,7 @@ fn add_entry<G: Played, S: Board>(
     side: Colour,
 )
     requires untold { is_some core.now.untold ≡ true → 0 < length (G.played game.now) }
-    requires room { array_vec_len block.old + 300 ≤ 600 }
+    requires room { array_vec_len block.old + 300 ≤ BLOCK_LEN }
     ensures { (r : Rules) (m : Match) → G.plays game.now r → Stands r core.now (G.played game.now) m → block.new.items ≡ block.old.items ++ bytes_of (entry r m side) }
 {
     match core.phase {
@@ -262,7 +263,7 @@ fn add_entry<G: Played, S: Board>(
 
 // Adds the answer to an item of that name.
 fn add_answer(block: &mut Block, name: &[u8])
-    requires { array_vec_len block.old + length name.now + 10 ≤ 600 }
+    requires { array_vec_len block.old + length name.now + 10 ≤ BLOCK_LEN }
     ensures text { block.new.items ≡ block.old.items ++ answer_line name.now }
     ensures len { array_vec_len block.new ≡ array_vec_len block.old + length name.now + 10 }
 {
@@ -383,7 +384,7 @@ fn answer_own_items<W: Output>(
 // The offer of a draw, if that side is told one.
 #[tactic(auto, unfolding(crate::specs::Sent::bytes_of))]
 fn add_offer(block: &mut Block, given: Given, side: Colour)
-    requires { array_vec_len block.old + 10 ≤ 600 }
+    requires { array_vec_len block.old + 10 ≤ BLOCK_LEN }
     ensures text { block.new.items ≡ block.old.items ++ bytes_of (to given.draw side (DrawOffered ∷ [])) }
     ensures len { array_vec_len block.new ≤ array_vec_len block.old + 10 }
 {
@@ -408,7 +409,7 @@ fn add_entered<G: Played, S: Board>(
     side: Colour,
 )
     requires untold { is_some core.now.untold ≡ true → 0 < length (G.played game.now) }
-    requires room { array_vec_len block.old + 300 ≤ 600 }
+    requires room { array_vec_len block.old + 300 ≤ BLOCK_LEN }
     ensures { (r : Rules) (m : Match) → G.plays game.now r → Stands r core.now (G.played game.now) m → block.new.items ≡ block.old.items ++ bytes_of (if given.entered then entry r m side else []) }
 {
     if given.entered {

@@ -1,5 +1,6 @@
 //! Text that waits before it is written, so that a writer is called once for many lines.
 
+ghost use Rattle.chess_pgn.specs.declared.buffer.TheConstants.{BUFFER_LEN};
 ghost use Rattle.std.specs.Prelude.{◌≡◌, ◌+◌, ◌≤◌, ◌<◌, [], length, OnOk};
 ghost use Rattle.byte_devices.specs.Devices.{Puts, joined};
 ghost use Rattle.chess_pgn.specs.ties.Waiting.{Adds};
@@ -38,8 +39,8 @@ impl TextBuffer {
     // Writes what waits, unless there is room behind it for so many bytes.
     fn make_room<W: Output>(&mut self, writer: &mut W, len: usize) -> Result<(), WriteFault>
         ensures added { Adds (W.seen writer.old) (W.seen writer.new) self.old self.new result [] }
-        ensures room { OnOk result (len ≤ 4096 → length self.new + len ≤ 4096) }
-        ensures none { OnOk result (4096 < len → self.new ≡ []) }
+        ensures room { OnOk result (len ≤ BUFFER_LEN → length self.new + len ≤ BUFFER_LEN) }
+        ensures none { OnOk result (BUFFER_LEN < len → self.new ≡ []) }
     {
         if len > BUFFER_LEN - self.text.len() {
             put(writer, self.text.as_slice())?;

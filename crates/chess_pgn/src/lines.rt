@@ -1,5 +1,6 @@
 //! Lines of a game's text, each behind the same prefix.
 
+ghost use Rattle.chess_pgn.specs.declared.lines.TheConstants.{LINE_LEN};
 ghost use Rattle.std.specs.Prelude.{◌≡◌, ◌+◌, ◌≤◌, ◌<◌, [], ◌∷◌, ◌++◌, length};
 ghost use Rattle.byte_devices.specs.Devices.{Puts};
 ghost use Rattle.chess_pgn.specs.ties.Waiting.{Adds};
@@ -60,7 +61,7 @@ impl<'a> LineWriter<'a> {
         token: &[u8],
     ) -> Result<(), WriteFault>
         requires some { 0 < length token.now }
-        requires short { length token.now ≤ 79 }
+        requires short { length token.now ≤ LINE_LEN }
         ensures added { Adds (W.seen writer.old) (W.seen writer.new) self.old.waiting self.new.waiting result (placed self.old.prefix.now self.old.column token.now) }
         ensures column { self.new.column ≡ column_behind self.old.column token.now }
         ensures prefix { self.new.prefix.now ≡ self.old.prefix.now }

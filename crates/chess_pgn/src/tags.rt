@@ -1,5 +1,6 @@
 //! The tags of a game.
 
+ghost use Rattle.chess_pgn.specs.declared.tags.TheConstants.{TAG_LEN};
 ghost use Rattle.std.specs.Prelude.{◌≡◌, ◌≤◌, length, map};
 ghost use Rattle.chess_pgn.specs.Written.{tag_byte, cut_tag, IsTagText};
 
@@ -54,7 +55,7 @@ fn tag_byte(byte: u8) -> u8
 
 // The bytes as a tag's text holds them.
 fn tag_bytes(bytes: &[u8]) -> ArrayVec<u8, 60>
-    requires { length bytes.now ≤ 60 }
+    requires { length bytes.now ≤ TAG_LEN }
     ensures { result.items ≡ map tag_byte bytes.now }
 {
     let mut kept = ArrayVec::new();
