@@ -8,8 +8,10 @@ use Rattle.byte_devices.proofs.DeviceLaws.{appends_more}
 use Rattle.chess_game.specs.Game.{Seen}
 use Rattle.chess_base.specs.declared.setup.Setup.{Setup}
 use Rattle.chess_match.specs.Levels.{LevelSeen}
+use Rattle.chess_match.specs.Reasons.{comment_of}
 use Rattle.chess_match.specs.Run.{Flushed, Ran}
 use Rattle.chess_match.specs.declared.reason.MatchFault.{MatchFault}
+use Rattle.chess_match.specs.declared.reason.Reason.TheVariants.{Faulted}
 use Rattle.chess_match.specs.declared.run.MatchEnd.{MatchEnd}
 use Rattle.chess_match.proofs.Flushes.{flushed_none, failed_behind}
 use Rattle.chess_match.proofs.Outcomes.{and_first, and_second}
@@ -167,9 +169,10 @@ module _ (plan : MatchPlan) (w w' w'' : OutputState) (played : Played) (h : HasP
   pub all_told : Sent w' w'' (score_line played.score) → played.fault ≡ None → RanGames {A = Unit {0}} plan w w'' (Ok (tt {0}))
   all_told sent none = (h.0, subst (EndsGames plan h.0) none h.1, score_sent sent)
 
-  pub fault_told : (number : ℕ) (side : Colour) (fault : MatchFault) (text : Bor (List ℕ)) → Sent w' w'' (score_line played.score) → played.fault ≡ Some (number, side, fault)
+  pub fault_told : (number : ℕ) (side : Colour) (fault : MatchFault) (text : Bor (List ℕ)) → text.now ≡ comment_of (Faulted side fault)
+      → Sent w' w'' (score_line played.score) → played.fault ≡ Some (number, side, fault)
       → RanGames {A = Unit {0}} plan w w'' (Err (Game number text))
-  fault_told number side fault text sent is = (h.0, side, fault, subst (EndsGames plan h.0) is h.1, score_sent sent)
+  fault_told number side fault text told sent is = (h.0, side, fault, subst (EndsGames plan h.0) is h.1, told, score_sent sent)
 
   pub score_broken : BreaksOff w' w'' (score_line played.score) → RanGames {A = Unit {0}} plan w w'' (Err WriteFailed)
   score_broken (begun, begins, failed) = inr (

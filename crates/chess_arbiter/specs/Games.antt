@@ -1,5 +1,6 @@
 -- The games of a match: who plays which colour, how each is told, and the score.
 use Rattle.std.specs.Prelude.{◌≡◌, ◌⊎◌, ℕ, ◌+◌, ◌<◌, ◌%◌, ◌==◌, Bool, true, false, not, if◌then◌else◌, min, List, [], ◌∷◌, ◌++◌, length, codes, decimal, Option, None, Some, is_some, Result, Ok, Err}
+use Rattle.std.specs.Borrow.{Bor}
 use Rattle.chess_base.specs.Letters.{new_line}
 use Rattle.std.specs.List.{list_all}
 use Rattle.arbiter_words.specs.declared.plan.MatchPlan.{MatchPlan}
@@ -10,10 +11,14 @@ use Rattle.chess_base.specs.declared.setup.Setup.{Setup}
 use Rattle.byte_devices.specs.Devices.{OutputState, Begins, BreaksOff, Sent}
 use Rattle.chess_game.specs.Game.{Seen}
 use Rattle.chess_match.specs.Levels.{LevelSeen}
+use Rattle.chess_match.specs.Reasons.{comment_of}
 use Rattle.chess_match.specs.Run.{Ports, Ran, Flushed, FlushedThenFailed}
 use Rattle.chess_match.specs.declared.reason.MatchFault.{MatchFault}
+use Rattle.chess_match.specs.declared.reason.Reason.TheVariants.{Faulted}
 use Rattle.chess_match.specs.declared.run.MatchEnd.{MatchEnd}
 use Rattle.chess_pgn.specs.GameText.{pgn}
+use Rattle.chess_arbiter.specs.declared.engine.StartFault.{StartFault}
+use Rattle.chess_arbiter.specs.declared.engine.StartFault.TheVariants as start
 use Rattle.chess_arbiter.specs.declared.games.GamesFault.{GamesFault}
 use Rattle.chess_arbiter.specs.declared.games.GamesFault.TheVariants.{WriteFailed, NoMemory, CanNotStart, Game}
 use Rattle.chess_arbiter.specs.declared.games.Played.{Played}
@@ -81,6 +86,10 @@ abbrev pub IsMatchEnd : Setup → LevelSeen → Seen → Seen → MatchEnd → T
 IsMatchEnd start level g g' end =
     (w : Ports) × (w' : Ports) × (coming : ℕ → Option ℕ) × (coming' : ℕ → Option ℕ) × Ran start level g g' end w w' coming coming'
 
+-- these were White's and Black's engines, as their ports stood before
+abbrev pub IsMatchEndOf : Setup → LevelSeen → Seen → Seen → MatchEnd → Ports → Type 0
+IsMatchEndOf start level g g' end w = (w' : Ports) × (coming : ℕ → Option ℕ) × (coming' : ℕ → Option ℕ) × Ran start level g g' end w w' coming coming'
+
 -- a game as it is told: how it stands, and how it ended
 pub record GameTold : Type 0 where
   pub game : Seen
@@ -100,6 +109,11 @@ FailsToStart command WriteFailed = ⊥
 FailsToStart command NoMemory = Unit {0}
 FailsToStart command (CanNotStart c) = c.now ≡ command
 FailsToStart command (Game number text) = ⊥
+
+-- want of memory is told as such, and all else by the engine's command
+abbrev pub TellsStart : StartFault → List ℕ → GamesFault → Type 0
+TellsStart start.NoMemory command fault = fault ≡ NoMemory
+TellsStart start.CanNotStart command fault = (c : Bor (List ℕ)) × (fault ≡ CanNotStart c) × (c.now ≡ command)
 
 -- that is so of one of the engines of the game with that number
 abbrev pub IsStartFault : MatchPlan → ℕ → GamesFault → Type 0
@@ -173,12 +187,13 @@ BrokeOffAtScore plan w w' =
     (games : List GameTold) × (last : Option (ℕ × Colour × MatchFault)) × (start : List ℕ)
     × EndsGames plan games last × Begins start (score_line (score_of games)) × FlushedThenFailed w w' (game_texts plan 1 games) start
 
--- all games were played, or one with a fault was the last: they were told, and then the score. Where something broke off,
--- the games before were told
+-- all games were played, or one with a fault was the last: they were told, and then the score; the fault is told as in the
+-- game's comment. Where something broke off, the games before were told
 abbrev pub RanGames : {A : Type 0} → MatchPlan → OutputState → OutputState → Result A GamesFault → Type 0
 RanGames plan w w' (Ok _) = (games : List GameTold) × EndsGames plan games None × Flushed w w' (match_text plan games)
 RanGames plan w w' (Err (Game number text)) =
     (games : List GameTold) × (side : Colour) × (fault : MatchFault)
-    × EndsGames plan games (Some (number, side, fault)) × Flushed w w' (match_text plan games)
+    × EndsGames plan games (Some (number, side, fault)) × (text.now ≡ comment_of (Faulted side fault)) × Flushed w w' (match_text plan games)
 RanGames plan w w' (Err WriteFailed) = BrokeOff plan w w' WriteFailed ⊎ BrokeOffAtScore plan w w'
-RanGames plan w w' (Err fault) = (w' ≡ w) ⊎ BrokeOff plan w w' fault
+RanGames plan w w' (Err NoMemory) = (w' ≡ w) ⊎ BrokeOff plan w w' NoMemory
+RanGames plan w w' (Err (CanNotStart command)) = BrokeOff plan w w' (CanNotStart command)

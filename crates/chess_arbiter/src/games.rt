@@ -2,15 +2,17 @@
 
 ghost use Rattle.std.specs.Prelude.{◌≡◌, ◌⊎◌, [], IfErr, IfOk};
 ghost use Rattle.byte_devices.specs.Devices.{Sends};
+ghost use Rattle.chess_match.specs.Reasons.{comment_of};
+ghost use Rattle.chess_match.specs.declared.reason.Reason.TheVariants.{Faulted};
 ghost use Rattle.chess_pgn.specs.GameText.{pgn};
-ghost use Rattle.chess_arbiter.specs.Games.{FailsToStart, HasPlayed, IsMatchEnd, PlayedOne, RanGames, black_command, is_odd, name_of, score_line, tags_of, white_command};
+ghost use Rattle.chess_arbiter.specs.Games.{FailsToStart, HasPlayed, IsMatchEnd, IsMatchEndOf, PlayedOne, RanGames, TellsStart, black_command, is_odd, name_of, score_line, tags_of, white_command};
 
 use crate::engine::{Engine, StartFault, finish, start};
 use crate::fault::ProgramFault;
 use crate::moments::SinceStart;
 use crate::score::Score;
 use arbiter_words::MatchPlan;
-use byte_devices::{Output, WriteFault, put};
+use byte_devices::{Counted, Input, Output, WriteFault, put};
 use chess_base::Colour;
 use chess_bits::Bits;
 use chess_game::Game;
@@ -43,8 +45,13 @@ pub(crate) enum GamesFault<'a> {
 }
 
 // What a fault of a side's engine is told as.
-fn fault_text(side: Colour, fault: MatchFault) -> &'static str {
-    str::from_utf8(Reason::Faulted(side, fault).comment()).unwrap_or("?")
+fn fault_text(side: Colour, fault: MatchFault) -> &'static str
+    ensures { result.now ≡ comment_of (Faulted side fault) }
+{
+    match str::from_utf8(Reason::Faulted(side, fault).comment()) {
+        Ok(text) => text,
+        Err(_) => unreachable!(),
+    }
 }
 
 // Whether the first engine has White.
@@ -115,6 +122,13 @@ fn play_game<C: Clock, P: OpenProcess + Drop, M: Moments>(
     scratch: &mut Bits,
 ) -> MatchEnd
     ensures played { IsMatchEnd setup.now.start setup.now.level game.old game.new result }
+    ensures sides { IsMatchEndOf setup.now.start setup.now.level game.old game.new result
+        (record {
+            white_reader = ⟦<Counted<P::Stdout> as Input>⟧.seen white.ends.reader;
+            white_writer = ⟦<Counted<P::Stdin> as Output>⟧.seen white.ends.writer;
+            black_reader = ⟦<Counted<P::Stdout> as Input>⟧.seen black.ends.reader;
+            black_writer = ⟦<Counted<P::Stdin> as Output>⟧.seen black.ends.writer
+        }) }
     ensures limit { game.new.limit ≡ game.old.limit }
 {
     let Engine {
@@ -173,7 +187,8 @@ fn write_score<W: Output>(score: Score, output: &mut W) -> Result<(), WriteFault
 
 // What a fault at the start of an engine is told as.
 fn start_fault<'a>(fault: StartFault, command: &'a str) -> GamesFault<'a>
-    ensures { FailsToStart command.entry.now result }
+    ensures fails { FailsToStart command.entry.now result }
+    ensures told { TellsStart fault command.entry.now result }
 {
     match fault {
         StartFault::NoMemory => GamesFault::NoMemory,

@@ -34,6 +34,6 @@ returns g c =
     let played = c.in-Ok-play_each.played in
     let is : played.fault ≡ Some (c.in-Some.number, c.in-Some.side, c.in-Some.fault) = search rules in
     fault_told c.args.plan.now w w' w'' played c.in-Ok-play_each.ensures c.in-Some.number c.in-Some.side c.in-Some.fault
-    c.fault_text.result
+    c.fault_text.result c.fault_text.ensures
     (is_sent w' w'' c.write_score.result (score_line played.score) c.write_score.ensures
     (sym c.is_err.ensures.value ∙ c.if-is_err.false)) is

@@ -1,0 +1,41 @@
+-- What a fault of an engine is told as is ASCII, so it is a text.
+use Rattle.std.proofs.Common.{◌≡◌, ◌<◌, ℕ, Bool, true, List, refl, subst, sym}
+use Rattle.std.specs.Char.{is_ascii}
+use Rattle.std.specs.List.{list_all}
+use Rattle.std.specs.Str.{IsUtf8}
+use Rattle.std.proofs.lemmas.Bool.{ltb-true}
+use Rattle.std.proofs.lemmas.List.Elements.{All-weaker}
+use Rattle.std.proofs.lemmas.List.Sums.{AllPass-from_list_all}
+use Rattle.std.proofs.lemmas.Str.{IsUtf8-from_ascii}
+use Rattle.std.proofs.lemmas.Str.Ascii.{IsAscii-from_all}
+use Rattle.chess_base.specs.declared.man.Colour.{Colour}
+use Rattle.chess_base.specs.declared.man.Colour.TheVariants.{White, Black}
+use Rattle.chess_match.specs.Reasons.{comment_of}
+use Rattle.chess_match.specs.declared.reason.MatchFault.{MatchFault}
+use Rattle.chess_match.specs.declared.reason.MatchFault.TheVariants.{Ended, Read, Write, NoDone, NoPing, NoSetboard, Flood, NoVariant}
+use Rattle.chess_match.specs.declared.reason.Reason.TheVariants.{Faulted}
+
+is_text : (bytes : List ℕ) → list_all is_ascii bytes ≡ true → IsUtf8 bytes
+is_text bytes h = IsUtf8-from_ascii bytes (IsAscii-from_all bytes
+    (All-weaker (λ b. is_ascii b ≡ true) (λ b. b < 128) (λ b e. ltb-true b 128 e) bytes (AllPass-from_list_all is_ascii bytes h)))
+
+is_ascii_comment : (side : Colour) (fault : MatchFault) → list_all is_ascii (comment_of (Faulted side fault)) ≡ true
+is_ascii_comment White Ended = refl
+is_ascii_comment White Read = refl
+is_ascii_comment White Write = refl
+is_ascii_comment White NoDone = refl
+is_ascii_comment White NoPing = refl
+is_ascii_comment White NoSetboard = refl
+is_ascii_comment White Flood = refl
+is_ascii_comment White NoVariant = refl
+is_ascii_comment Black Ended = refl
+is_ascii_comment Black Read = refl
+is_ascii_comment Black Write = refl
+is_ascii_comment Black NoDone = refl
+is_ascii_comment Black NoPing = refl
+is_ascii_comment Black NoSetboard = refl
+is_ascii_comment Black Flood = refl
+is_ascii_comment Black NoVariant = refl
+
+pub comment_is_text : (side : Colour) (fault : MatchFault) (bytes : List ℕ) → bytes ≡ comment_of (Faulted side fault) → IsUtf8 bytes
+comment_is_text side fault bytes e = subst IsUtf8 (sym e) (is_text _ (is_ascii_comment side fault))
