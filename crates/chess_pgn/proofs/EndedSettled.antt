@@ -24,7 +24,7 @@ use Rattle.chess_pgn.specs.Tokens.{Token, Skip, Tag, Word, Bad_tag, Unclosed_com
 use Rattle.chess_pgn.specs.Words.{kind_of}
 use Rattle.chess_pgn.proofs.Cuts.{pick}
 use Rattle.chess_pgn.proofs.FaultPlaces.{behind}
-use Rattle.chess_pgn.proofs.PgnPieces.{shorter}
+use Rattle.chess_pgn.proofs.Walk.{shorter}
 use Rattle.chess_pgn.proofs.Settled.{shift, shift_step, Settled, NoFen, few_here, few_longer, fewer_left, fewer_more, line_same, rest_same, place_same, read_local_at}
 use Rattle.chess_pgn.proofs.ShortCuts.{Told, told, Fills, fills}
 
