@@ -124,10 +124,10 @@ fn play_game<C: Clock, P: OpenProcess + Drop, M: Moments>(
     ensures played { IsMatchEnd setup.now.start setup.now.level game.old game.new result }
     ensures sides { IsMatchEndOf setup.now.start setup.now.level game.old game.new result
         (record {
-            white_reader = ⟦<Counted<P::Stdout> as Input>⟧.seen white.ends.reader;
-            white_writer = ⟦<Counted<P::Stdin> as Output>⟧.seen white.ends.writer;
-            black_reader = ⟦<Counted<P::Stdout> as Input>⟧.seen black.ends.reader;
-            black_writer = ⟦<Counted<P::Stdin> as Output>⟧.seen black.ends.writer
+          white_reader = ⟦<Counted<P::Stdout> as Input>⟧.seen white.ends.reader;
+          white_writer = ⟦<Counted<P::Stdin> as Output>⟧.seen white.ends.writer;
+          black_reader = ⟦<Counted<P::Stdout> as Input>⟧.seen black.ends.reader;
+          black_writer = ⟦<Counted<P::Stdin> as Output>⟧.seen black.ends.writer;
         }) }
     ensures limit { game.new.limit ≡ game.old.limit }
 {
