@@ -1,7 +1,6 @@
 //! The program over devices that are cut and that fail.
 
-use byte_devices::{Counted, PieceReader, PieceWriter};
-use chess_arbiter::run_program;
+use crate::runs::{Devices, SOUND, run};
 use std::alloc::Global;
 use std::test::Fail;
 
@@ -60,50 +59,6 @@ const TALKS: [Talk; 3] = [
         ],
     },
 ];
-
-/// How the devices of a run are cut, and at which call they fail (0: at none).
-#[derive(Clone, Copy)]
-struct Devices {
-    piece: usize,
-    read_fails: u64,
-    taken: usize,
-    write_fails: u64,
-}
-
-const SOUND: Devices = Devices {
-    piece: 1024,
-    read_fails: 0,
-    taken: 1024,
-    write_fails: 0,
-};
-
-/// What a run wrote, and its status.
-#[derive(Drop)]
-struct Outcome {
-    output: Vec<u8>,
-    errors: Vec<u8>,
-    status: u8,
-}
-
-fn run(rt: &HostRuntime, words: &[&str], input: &[u8], devices: Devices) -> Outcome {
-    let mut reader = Counted::reading(PieceReader::new(
-        input,
-        devices.piece.max(1),
-        devices.read_fails,
-    ));
-    let mut output = Counted::writing(PieceWriter::new(
-        rt.alloc(),
-        devices.taken,
-        devices.write_fails,
-    ));
-    let mut errors = Counted::writing(PieceWriter::new(rt.alloc(), 1024, 0));
-    let status = run_program(rt, rt.alloc(), words, &mut reader, &mut output, &mut errors);
-    Outcome {
-        output: output.into_writer().bytes,
-        errors: errors.into_writer().bytes,
-        status,
-    }
-}
 
 // The lines up to that number of bytes, as far as they are whole: their answers, and how many bytes they have.
 fn answered(alloc: Global, lines: &[Line], given: usize) -> Result<(Vec<u8>, usize), Fail> {

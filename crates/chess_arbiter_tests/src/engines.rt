@@ -1,6 +1,7 @@
 //! Matches between engines that run as processes: the program itself, as a stub.
 
-use byte_devices::{Counted, PieceReader, PieceWriter};
+use crate::runs::{Devices, SOUND, run};
+use byte_devices::Counted;
 use chess_arbiter::{SinceStart, run_program};
 use chess_match::Moments;
 use std::alloc::Global;
@@ -132,26 +133,20 @@ fn stubs_play(rt: HostRuntime) -> Result<(), Fail> {
             words.push(word.as_str())?;
         }
         // The input is not read, so its failure is not met.
-        let mut input = Counted::reading(PieceReader::new(b"x", 1, 1));
-        let mut output = Counted::writing(Vec::<u8>::new(rt.alloc()));
-        let mut errors = Counted::writing(Vec::<u8>::new(rt.alloc()));
-        let status = run_program(
-            &rt,
-            rt.alloc(),
-            words.as_slice(),
-            &mut input,
-            &mut output,
-            &mut errors,
-        );
+        let devices = Devices {
+            read_fails: 1,
+            ..SOUND
+        };
+        let outcome = run(&rt, words.as_slice(), b"x", devices);
         assert_eq!(rt;
-            std::str::from_utf8(output.writer().as_slice())?,
+            std::str::from_utf8(outcome.output.as_slice())?,
             played.output
         );
         assert_eq!(rt;
-            std::str::from_utf8(errors.writer().as_slice())?,
+            std::str::from_utf8(outcome.errors.as_slice())?,
             played.errors
         );
-        assert_eq!(rt; status, played.status);
+        assert_eq!(rt; outcome.status, played.status);
     }
     Ok(())
 }
@@ -171,16 +166,7 @@ fn engines_leave_nothing_behind(rt: HostRuntime) -> Result<(), Fail> {
         for word in &owned {
             words.push(word.as_str())?;
         }
-        let mut output = Counted::writing(Vec::<u8>::new(rt.alloc()));
-        let mut errors = Counted::writing(Vec::<u8>::new(rt.alloc()));
-        let _status = run_program(
-            &rt,
-            rt.alloc(),
-            words.as_slice(),
-            &mut Counted::reading(b"".as_slice()),
-            &mut output,
-            &mut errors,
-        );
+        let _outcome = run(&rt, words.as_slice(), b"", SOUND);
         let (open, children) = held(&rt)?;
         assert_eq!(rt; open, open_before);
         assert_eq!(rt; children.as_slice(), children_before.as_slice());
@@ -190,11 +176,8 @@ fn engines_leave_nothing_behind(rt: HostRuntime) -> Result<(), Fail> {
 
 // Whether a match ends before a game, with that told.
 fn ends_early(rt: &HostRuntime, words: &[&str], told: &[u8], wanted: u8) -> bool {
-    let mut input = Counted::reading(b"".as_slice());
-    let mut output = Counted::writing(Vec::<u8>::new(rt.alloc()));
-    let mut errors = Counted::writing(Vec::<u8>::new(rt.alloc()));
-    let status = run_program(rt, rt.alloc(), words, &mut input, &mut output, &mut errors);
-    output.writer().is_empty() && errors.writer().as_slice() == told && status == wanted
+    let outcome = run(rt, words, b"", SOUND);
+    outcome.output.is_empty() && outcome.errors.as_slice() == told && outcome.status == wanted
 }
 
 #[test]
@@ -298,35 +281,21 @@ fn a_match_on_a_failed_output(rt: HostRuntime) -> Result<(), Fail> {
         "--games",
         "2",
     ];
-    let mut whole = Counted::writing(Vec::<u8>::new(rt.alloc()));
-    let mut nothing = Counted::reading(b"".as_slice());
-    let mut errors = Counted::writing(Vec::<u8>::new(rt.alloc()));
-    let status = run_program(
-        &rt,
-        rt.alloc(),
-        words.as_slice(),
-        &mut nothing,
-        &mut whole,
-        &mut errors,
-    );
-    assert_eq!(rt; status, 0);
-    for fails in 1..=6 {
-        let mut output = Counted::writing(PieceWriter::new(rt.alloc(), 4096, fails));
-        let mut errors = Counted::writing(Vec::<u8>::new(rt.alloc()));
-        let status = run_program(
-            &rt,
-            rt.alloc(),
-            words.as_slice(),
-            &mut nothing,
-            &mut output,
-            &mut errors,
-        );
-        assert!(rt; whole.writer().starts_with(output.writer().bytes.as_slice()));
+    let whole = run(&rt, words.as_slice(), b"", SOUND);
+    assert_eq!(rt; whole.status, 0);
+    for write_fails in 1..=6 {
+        let devices = Devices {
+            taken: 4096,
+            write_fails,
+            ..SOUND
+        };
+        let broken = run(&rt, words.as_slice(), b"", devices);
+        assert!(rt; whole.output.starts_with(broken.output.as_slice()));
         assert_eq!(rt;
-            errors.writer().as_slice(),
+            broken.errors.as_slice(),
             b"arbiter: write failed\n".as_slice()
         );
-        assert_eq!(rt; status, 1);
+        assert_eq!(rt; broken.status, 1);
     }
     Ok(())
 }
@@ -458,19 +427,14 @@ const SAID: [Said; 12] = [
 #[test]
 fn stubs_say(rt: HostRuntime) {
     for said in &SAID {
-        let mut input = Counted::reading(PieceReader::new(said.input, 1024, said.fails.0));
-        let mut output = Counted::writing(PieceWriter::new(rt.alloc(), 1024, said.fails.1));
-        let mut errors = Counted::writing(Vec::<u8>::new(rt.alloc()));
-        let status = run_program(
-            &rt,
-            rt.alloc(),
-            said.words,
-            &mut input,
-            &mut output,
-            &mut errors,
-        );
-        assert_eq!(rt; output.writer().bytes.as_slice(), said.output);
-        assert_eq!(rt; errors.writer().as_slice(), said.errors);
-        assert_eq!(rt; status, said.status);
+        let devices = Devices {
+            read_fails: said.fails.0,
+            write_fails: said.fails.1,
+            ..SOUND
+        };
+        let outcome = run(&rt, said.words, said.input, devices);
+        assert_eq!(rt; outcome.output.as_slice(), said.output);
+        assert_eq!(rt; outcome.errors.as_slice(), said.errors);
+        assert_eq!(rt; outcome.status, said.status);
     }
 }

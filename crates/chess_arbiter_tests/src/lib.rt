@@ -8,4 +8,6 @@ mod engines;
 #[cfg(test)]
 mod program;
 #[cfg(test)]
+mod runs;
+#[cfg(test)]
 mod verify;

@@ -1,7 +1,8 @@
 //! The program over memory: its words, its faults and its help.
 
-use byte_devices::{Counted, PieceReader, PieceWriter};
-use chess_arbiter::{ProgramFault, run, run_program};
+use crate::runs::{Devices, SOUND, run};
+use byte_devices::{Counted, PieceWriter};
+use chess_arbiter::{ProgramFault, run_program};
 use std::process::ExitCode;
 use std::test::Fail;
 
@@ -201,20 +202,16 @@ const CASES: [Case; 22] = [
 #[test]
 fn runs_of_the_program(rt: HostRuntime) {
     for case in &CASES {
-        let mut input = Counted::reading(PieceReader::new(case.input, 100, case.fails.0));
-        let mut output = Counted::writing(PieceWriter::new(rt.alloc(), 100, case.fails.1));
-        let mut errors = Counted::writing(PieceWriter::new(rt.alloc(), 100, 0));
-        let status = run_program(
-            &rt,
-            rt.alloc(),
-            case.words,
-            &mut input,
-            &mut output,
-            &mut errors,
-        );
-        assert_eq!(rt; output.writer().bytes.as_slice(), case.output);
-        assert_eq!(rt; errors.writer().bytes.as_slice(), case.errors);
-        assert_eq!(rt; status, case.status);
+        let devices = Devices {
+            piece: 100,
+            read_fails: case.fails.0,
+            taken: 100,
+            write_fails: case.fails.1,
+        };
+        let outcome = run(&rt, case.words, case.input, devices);
+        assert_eq!(rt; outcome.output.as_slice(), case.output);
+        assert_eq!(rt; outcome.errors.as_slice(), case.errors);
+        assert_eq!(rt; outcome.status, case.status);
     }
 }
 
@@ -273,39 +270,31 @@ const HELP: [(&[&str], &[&str]); 3] = [
 #[test]
 fn help_names_the_words(rt: HostRuntime) -> Result<(), Fail> {
     for (words, named) in &HELP {
-        let mut input = Counted::reading(b"ping 1\n".as_slice());
-        let mut output = Counted::writing(Vec::<u8>::new(rt.alloc()));
-        let mut errors = Counted::writing(Vec::<u8>::new(rt.alloc()));
-        let status = run_program(&rt, rt.alloc(), words, &mut input, &mut output, &mut errors);
-        let help = std::str::from_utf8(output.writer().as_slice())?;
+        let outcome = run(&rt, words, b"ping 1\n", SOUND);
+        let help = std::str::from_utf8(outcome.output.as_slice())?;
         for name in *named {
             assert!(rt; help.contains(*name));
         }
-        assert_eq!(rt; errors.writer().as_slice(), b"".as_slice());
-        assert_eq!(rt; status, 0);
+        assert_eq!(rt; outcome.errors.as_slice(), b"".as_slice());
+        assert_eq!(rt; outcome.status, 0);
     }
     Ok(())
 }
 
 #[test]
 fn help_on_a_failed_output(rt: HostRuntime) {
-    let mut input = Counted::reading(b"".as_slice());
-    let mut output = Counted::writing(PieceWriter::new(rt.alloc(), 3, 2));
-    let mut errors = Counted::writing(Vec::<u8>::new(rt.alloc()));
-    let status = run_program(
-        &rt,
-        rt.alloc(),
-        &["--version"],
-        &mut input,
-        &mut output,
-        &mut errors,
-    );
-    assert_eq!(rt; output.writer().bytes.as_slice(), b"arb".as_slice());
+    let devices = Devices {
+        taken: 3,
+        write_fails: 2,
+        ..SOUND
+    };
+    let outcome = run(&rt, &["--version"], b"", devices);
+    assert_eq!(rt; outcome.output.as_slice(), b"arb".as_slice());
     assert_eq!(rt;
-        errors.writer().as_slice(),
+        outcome.errors.as_slice(),
         b"arbiter: write failed\n".as_slice()
     );
-    assert_eq!(rt; status, 1);
+    assert_eq!(rt; outcome.status, 1);
 }
 
 // Each fault, how it is told and the status.
@@ -330,5 +319,5 @@ fn faults_have_texts(rt: HostRuntime) -> Result<(), Fail> {
 // The tests' program has words of its own: a test's name.
 #[test]
 fn the_words_of_the_process_are_read(rt: HostRuntime) {
-    assert!(rt; run(&rt) == ExitCode::from(2));
+    assert!(rt; chess_arbiter::run(&rt) == ExitCode::from(2));
 }

@@ -2,7 +2,8 @@
 
 ghost use Rattle.std.specs.Prelude.{◌≤◌, length};
 
-use byte_devices::{Counted, GatedWriter, PieceReader, PieceWriter};
+use crate::runs::{Devices, SOUND, run};
+use byte_devices::{Counted, GatedWriter};
 use chess_arbiter::run_program;
 use std::cell::Cell;
 use std::io::{self, Read};
@@ -67,21 +68,16 @@ const GAMES: [(&[u8], &[u8], u8); 16] = [
 
 #[test]
 fn games_are_verified(rt: HostRuntime) {
+    let devices = Devices {
+        piece: 7,
+        taken: 5,
+        ..SOUND
+    };
     for (text, told, wanted) in &GAMES {
-        let mut input = Counted::reading(PieceReader::new(text, 7, 0));
-        let mut output = Counted::writing(PieceWriter::new(rt.alloc(), 5, 0));
-        let mut errors = Counted::writing(PieceWriter::new(rt.alloc(), 100, 0));
-        let status = run_program(
-            &rt,
-            rt.alloc(),
-            &["verify"],
-            &mut input,
-            &mut output,
-            &mut errors,
-        );
-        assert_eq!(rt; output.writer().bytes.as_slice(), *told);
-        assert_eq!(rt; errors.writer().bytes.as_slice(), b"".as_slice());
-        assert_eq!(rt; status, *wanted);
+        let outcome = run(&rt, &["verify"], text, devices);
+        assert_eq!(rt; outcome.output.as_slice(), *told);
+        assert_eq!(rt; outcome.errors.as_slice(), b"".as_slice());
+        assert_eq!(rt; outcome.status, *wanted);
     }
 }
 
@@ -219,14 +215,11 @@ const BY_WORDS: [(&[&str], &[u8], &[u8], u8); 11] = [
 #[test]
 fn games_verified_by_words(rt: HostRuntime) {
     for (words, text, told, status) in &BY_WORDS {
-        for cut in [1, 7, 100] {
-            let mut input = Counted::reading(PieceReader::new(text, cut, 0));
-            let mut output = Counted::writing(Vec::<u8>::new(rt.alloc()));
-            let mut errors = Counted::writing(Vec::<u8>::new(rt.alloc()));
-            let ended = run_program(&rt, rt.alloc(), words, &mut input, &mut output, &mut errors);
-            assert_eq!(rt; output.writer().as_slice(), *told);
-            assert_eq!(rt; errors.writer().as_slice(), b"".as_slice());
-            assert_eq!(rt; ended, *status);
+        for piece in [1, 7, 100] {
+            let outcome = run(&rt, words, text, Devices { piece, ..SOUND });
+            assert_eq!(rt; outcome.output.as_slice(), *told);
+            assert_eq!(rt; outcome.errors.as_slice(), b"".as_slice());
+            assert_eq!(rt; outcome.status, *status);
         }
     }
 }
@@ -241,21 +234,11 @@ fn games_of_any_size_by_words(rt: HostRuntime) -> Result<(), Fail> {
             more.extend_from_slice(front)?;
             more.push("--any-size")?;
             more.extend_from_slice(back)?;
-            for cut in [1, 100] {
-                let mut input = Counted::reading(PieceReader::new(text, cut, 0));
-                let mut output = Counted::writing(Vec::<u8>::new(rt.alloc()));
-                let mut errors = Counted::writing(Vec::<u8>::new(rt.alloc()));
-                let ended = run_program(
-                    &rt,
-                    rt.alloc(),
-                    more.as_slice(),
-                    &mut input,
-                    &mut output,
-                    &mut errors,
-                );
-                assert_eq!(rt; output.writer().as_slice(), *told);
-                assert_eq!(rt; errors.writer().as_slice(), b"".as_slice());
-                assert_eq!(rt; ended, *status);
+            for piece in [1, 100] {
+                let outcome = run(&rt, more.as_slice(), text, Devices { piece, ..SOUND });
+                assert_eq!(rt; outcome.output.as_slice(), *told);
+                assert_eq!(rt; outcome.errors.as_slice(), b"".as_slice());
+                assert_eq!(rt; outcome.status, *status);
             }
         }
     }
@@ -265,21 +248,16 @@ fn games_of_any_size_by_words(rt: HostRuntime) -> Result<(), Fail> {
 // And so they are where no other word stands beside it.
 #[test]
 fn games_of_any_size(rt: HostRuntime) {
+    let devices = Devices {
+        piece: 1,
+        taken: 5,
+        ..SOUND
+    };
     for (text, told, wanted) in &GAMES {
-        let mut input = Counted::reading(PieceReader::new(text, 1, 0));
-        let mut output = Counted::writing(PieceWriter::new(rt.alloc(), 5, 0));
-        let mut errors = Counted::writing(PieceWriter::new(rt.alloc(), 100, 0));
-        let status = run_program(
-            &rt,
-            rt.alloc(),
-            &["verify", "--any-size"],
-            &mut input,
-            &mut output,
-            &mut errors,
-        );
-        assert_eq!(rt; output.writer().bytes.as_slice(), *told);
-        assert_eq!(rt; errors.writer().bytes.as_slice(), b"".as_slice());
-        assert_eq!(rt; status, *wanted);
+        let outcome = run(&rt, &["verify", "--any-size"], text, devices);
+        assert_eq!(rt; outcome.output.as_slice(), *told);
+        assert_eq!(rt; outcome.errors.as_slice(), b"".as_slice());
+        assert_eq!(rt; outcome.status, *wanted);
     }
 }
 

@@ -1,0 +1,54 @@
+//! The program over memory, for tests.
+
+use byte_devices::{Counted, PieceReader, PieceWriter};
+use chess_arbiter::run_program;
+
+/// How the devices of a run are cut, and at which call they fail (0: at none).
+#[derive(Clone, Copy)]
+pub struct Devices {
+    /// The most bytes of a piece that is read.
+    pub piece: usize,
+    /// The call of the input that fails.
+    pub read_fails: u64,
+    /// The most bytes that one write takes.
+    pub taken: usize,
+    /// The call of the output that fails.
+    pub write_fails: u64,
+}
+
+/// Nothing fails.
+pub const SOUND: Devices = Devices {
+    piece: 1024,
+    read_fails: 0,
+    taken: 1024,
+    write_fails: 0,
+};
+
+/// What a run wrote, and its status.
+#[derive(Drop)]
+pub struct Outcome {
+    pub output: Vec<u8>,
+    pub errors: Vec<u8>,
+    pub status: u8,
+}
+
+/// Runs the program over memory. Its contract stays in here: tests compare values, and are proved the sooner without it.
+pub fn run(rt: &HostRuntime, words: &[&str], input: &[u8], devices: Devices) -> Outcome {
+    let mut reader = Counted::reading(PieceReader::new(
+        input,
+        devices.piece.max(1),
+        devices.read_fails,
+    ));
+    let mut output = Counted::writing(PieceWriter::new(
+        rt.alloc(),
+        devices.taken,
+        devices.write_fails,
+    ));
+    let mut errors = Counted::writing(PieceWriter::new(rt.alloc(), 1024, 0));
+    let status = run_program(rt, rt.alloc(), words, &mut reader, &mut output, &mut errors);
+    Outcome {
+        output: output.into_writer().bytes,
+        errors: errors.into_writer().bytes,
+        status,
+    }
+}
