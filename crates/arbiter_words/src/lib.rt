@@ -1,4 +1,11 @@
 //! The words of the command line: what they ask for.
+//!
+//! ```
+//! let words = ["verify", "--quiet"];
+//! if let Plan::Verify(plan) = read_words(alloc, &words)? {
+//!     assert!(plan.quiet && !plan.keep_going);
+//! }
+//! ```
 #![tactic(auto)]
 
 mod fault;

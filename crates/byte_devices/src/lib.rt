@@ -1,4 +1,14 @@
 //! What gives bytes and what takes them: readers and writers whose contracts tell their bytes and count their failures.
+//!
+//! A reader that gives pieces of three bytes, and a writer into memory:
+//!
+//! ```
+//! let mut input = Counted::reading(PieceReader::new(b"new\n", 3, 0));
+//! let mut output = Counted::writing(Vec::<u8>::new(alloc));
+//! let mut piece = [0; 16];
+//! let count = input.read(&mut piece)?;
+//! put(&mut output, &piece[..count])?;
+//! ```
 #![tactic(auto)]
 
 mod counted;

@@ -1,4 +1,11 @@
 //! The arbiter as a program: what its words ask for, on an input, an output and an error output.
+//!
+//! ```
+//! let mut input = Counted::reading(b"1. e4 *".as_slice());
+//! let mut output = Counted::writing(Vec::<u8>::new(alloc));
+//! let mut errors = Counted::writing(Vec::<u8>::new(alloc));
+//! let status = run_program(&rt, alloc, &["verify"], &mut input, &mut output, &mut errors);
+//! ```
 #![tactic(auto)]
 
 mod any_size;

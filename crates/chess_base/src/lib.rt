@@ -1,4 +1,12 @@
 //! Squares, men, moves and sound positions, the rules of chess said plainly, and FEN.
+//!
+//! ```
+//! let position = read_fen(b"4k3/8/8/8/8/8/4P3/4K3 w - - 0 1")?;
+//! let from = Square::named(b"e2").ok_or("a square")?;
+//! let to = Square::named(b"e4").ok_or("a square")?;
+//! assert!(position.is_legal(Move { from, to, promotion: None }));
+//! let text = write_fen(&position);
+//! ```
 #![tactic(auto)]
 
 mod after;

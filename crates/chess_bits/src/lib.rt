@@ -1,4 +1,10 @@
 //! A board of sets of squares: who attacks what is told by few words of 64 bits and by tables.
+//!
+//! Wherever a board is wanted, it stands for `Plain`:
+//!
+//! ```
+//! let mut game = Game::open(alloc, Bits::open(alloc)?, 300)?;
+//! ```
 #![tactic(auto)]
 
 mod bits;

@@ -1,5 +1,10 @@
 //! The Chess Engine Communication Protocol, version 2, from the side of an arbiter: lines, commands, and a session that
 //! answers them.
+//!
+//! ```
+//! let mut session = Session::open(alloc, Plain::new(), Plain::new(), Tags::default(), 1000)?;
+//! let end = run_session(&mut input, &mut output, &mut session)?;
+//! ```
 #![tactic(auto)]
 
 mod answer;

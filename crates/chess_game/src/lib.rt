@@ -1,5 +1,14 @@
 //! A game of chess: its start, the moves that stand and what was declared; how often a position occurred, what may be
 //! claimed, and when the game is over.
+//!
+//! ```
+//! let mut game = Game::open(alloc, Plain::new(), 300)?;
+//! game.play(m)?;
+//! if let Some(verdict) = game.verdict() {
+//!     println!(rt; "{verdict}")?;
+//! }
+//! let m = game.take_back()?;
+//! ```
 #![tactic(auto)]
 
 mod ends;

@@ -1,4 +1,15 @@
 //! Boards: all legal moves of a position in order, and a position that goes forward and back without loss.
+//!
+//! ```
+//! let mut board = Plain::new();
+//! board.set(&position);
+//! let moves = board.legal_moves();
+//! for m in moves.as_slice() {
+//!     let saved = board.make(*m);
+//!     // The position after the move.
+//!     board.take_back(*m, saved);
+//! }
+//! ```
 #![tactic(auto)]
 
 mod board;

@@ -1,4 +1,14 @@
 //! Games' texts, read and written (PGN standard of 1994).
+//!
+//! All games of a text, and the last one written anew:
+//!
+//! ```
+//! let mut place = 0;
+//! while let Some(end) = read_pgn(text, place, &mut game)? {
+//!     place = end.place;
+//! }
+//! write_pgn(&game, &mut scratch, &Tags::default(), b"", &mut output)?;
+//! ```
 #![tactic(auto)]
 
 mod buffer;

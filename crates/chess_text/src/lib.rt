@@ -1,5 +1,14 @@
 //! Texts of moves, read and written: SAN (standard algebraic notation, PGN standard of 1994, section 8.2.3) and
 //! coordinates.
+//!
+//! ```
+//! match read_move(game.board(), b"Nf3") {
+//!     Reading::Move(m) => game.play(m)?,
+//!     Reading::Ambiguous => println!(rt; "of several moves")?,
+//!     Reading::NoSuch => println!(rt; "of no legal move")?,
+//!     Reading::NotAMove => println!(rt; "of no move at all")?,
+//! }
+//! ```
 #![tactic(auto)]
 
 mod coordinates;
