@@ -8,6 +8,7 @@ ghost use Rattle.chess_base.specs.MoveList.{moves};
 ghost use Rattle.chess_base.specs.Moves.{after, is_legal};
 ghost use Rattle.chess_base.specs.Sound.{IsSound};
 ghost use Rattle.chess_moves.specs.Made.{WasMade, IsMade};
+ghost use Rattle.chess_moves.specs.PositionWord.{word_of};
 ghost use Rattle.chess_moves.specs.Sets.{HasOrigins};
 
 use crate::set::SquareSet;
@@ -64,6 +65,10 @@ pub trait Board {
     /// Whether the side on move is in check (Laws of Chess 2023, article 3.9.1).
     fn in_check(&self) -> bool
         ensures { result ≡ is_in_check (position self.now).men (position self.now).side };
+
+    /// The position word: the same positions (Laws of Chess 2023, article 9.2.3) have equal words, others hardly ever.
+    fn word(&self) -> u64
+        ensures { result ≡ word_of (position self.now) };
 
     /// Makes a legal move, and gives what it does not keep.
     fn make(&mut self, m: Move) -> Saved

@@ -9,6 +9,7 @@ use crate::board::{Board, MoveList};
 use crate::listing::{has_legal_move, legal_moves};
 use crate::moving::{move_back, move_on};
 use crate::set::SquareSet;
+use crate::word::word_of;
 use chess_base::attack::{is_in_check, is_man};
 use chess_base::before::saved_of;
 use chess_base::rules::is_legal;
@@ -100,6 +101,10 @@ impl Board for Plain {
 
     fn in_check(&self) -> bool {
         is_in_check(&self.setup.men, self.setup.side)
+    }
+
+    fn word(&self) -> u64 {
+        word_of(&self.setup)
     }
 
     fn make(&mut self, m: Move) -> Saved {
