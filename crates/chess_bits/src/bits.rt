@@ -15,7 +15,7 @@ use crate::tables::AttackTables;
 use crate::targets::{is_king, is_pawn};
 use chess_base::before::saved_of;
 use chess_base::{Colour, Kind, Move, Position, Saved, Setup, Square};
-use chess_moves::{Board, MoveList, SquareSet, word_of, would_promote};
+use chess_moves::{Board, MoveList, SquareSet, word_with, would_promote};
 use std::alloc::{AllocError, Global};
 use std::marker::Model;
 
@@ -149,7 +149,7 @@ impl Board for Bits {
     }
 
     fn word(&self) -> u64 {
-        word_of(&self.setup)
+        word_with(self.sets.men_word, &self.setup)
     }
 
     fn make(&mut self, m: Move) -> Saved {
