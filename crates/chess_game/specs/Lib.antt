@@ -3,4 +3,5 @@ pub mod Same
 pub mod Results
 pub mod Ends
 pub mod Game
+pub mod laws
 pub mod ties

@@ -11,11 +11,12 @@ use chess_base::rules::is_en_passant;
 use chess_base::{ColourRights, Kind, Man, Move, Position, Rights, Square};
 use chess_moves::Board;
 
-// A position with its live target, which is told once.
+// A position with its live target and its word, which are told once.
 #[derive(Clone, Copy, PartialEq, Eq)]
 pub(crate) struct Known {
     pub(crate) position: Position,
     pub(crate) live_target: Option<Square>,
+    pub(crate) word: u64,
 }
 
 impl Known {
@@ -27,6 +28,7 @@ impl Known {
         Known {
             position: board.position(),
             live_target: live_target(board),
+            word: board.word(),
         }
     }
 
@@ -37,6 +39,10 @@ impl Known {
         requires other { IsKnown other.now }
         ensures { result ≡ same self.now.position other.now.position }
     {
+        // Most positions differ in their words, which are compared at once.
+        if self.word != other.word {
+            return false;
+        }
         let (this, that) = (self.position.setup(), other.position.setup());
         this.side == that.side
             && same_men(&this.men, &that.men)

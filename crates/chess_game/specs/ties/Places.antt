@@ -3,6 +3,7 @@ use Rattle.std.specs.Prelude.{◌≡◌, ◌≤◌, ◌<◌, ℕ, List, [], ◌�
 use Rattle.chess_base.specs.declared.man.Move.{Move}
 use Rattle.chess_base.specs.declared.setup.Setup.{Setup}
 use Rattle.chess_moves.specs.Made.{WasMade}
+use Rattle.chess_moves.specs.PositionWord.{word_of}
 use Rattle.chess_game.specs.Line.{last}
 use Rattle.chess_game.specs.Same.{live_target}
 use Rattle.chess_game.specs.Ends.{verdict}
@@ -13,9 +14,10 @@ use Rattle.chess_game.specs.declared.game.Place.{Place}
 abbrev pub moves_of : List Place → List Move
 moves_of places = map (λ x. x.made) places
 
--- beside a position stands its live target
-abbrev pub IsKnown : Known → Type 0
-IsKnown k = k.live_target ≡ live_target k.position
+-- beside a position stand its live target and its word
+pub record IsKnown (k : Known) : Type 0 where
+  pub target : k.live_target ≡ live_target k.position
+  pub word : k.word ≡ word_of k.position
 
 -- each move was made in the position before it: beside it stand what that saved and the position that it gave
 abbrev pub Follows : Setup → List Place → Type 0
