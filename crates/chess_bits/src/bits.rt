@@ -86,7 +86,11 @@ impl Bits {
 }
 
 impl Board for Bits {
+    ghost use Rattle.chess_moves.specs.PositionWord.{position_word};
+
     ghost position = { λ b. b };
+
+    ghost word_of = { position_word };
 
     fn set(&mut self, to: &Position) {
         let setup = to.setup();

@@ -3,5 +3,4 @@ pub mod Same
 pub mod Results
 pub mod Ends
 pub mod Game
-pub mod laws
 pub mod ties

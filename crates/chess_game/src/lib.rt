@@ -4,11 +4,9 @@
 
 mod ends;
 mod game;
-mod laws;
 mod repetition;
 mod results;
 
 pub use ends::{Claims, Verdict};
 pub use game::{BoardSaysOtherwise, Game, NoMove, PlayRefusal};
-pub use laws::same_positions_have_equal_words;
 pub use results::{Comment, Declared, Outcome};

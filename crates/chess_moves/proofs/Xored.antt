@@ -4,13 +4,13 @@ use lib.Bits.{xor_assoc, xor_comm, xor_self, xor_zero_r}
 use Rattle.std.proofs.lemmas.Bool.{cases_lt}
 use Rattle.std.proofs.lemmas.List.Sums.{fold-append}
 use Rattle.std.specs.List.{flat_map, range_with_len}
+use Rattle.chess_base.specs.declared.man.Colour.{Colour}
 use Rattle.chess_base.specs.declared.man.Colour.TheVariants.{White, Black}
 use Rattle.chess_base.specs.declared.man.Man.{Man}
 use Rattle.chess_base.specs.declared.man.Rights.{Rights}
-use Rattle.chess_base.specs.declared.setup.Setup.{Setup}
 use Rattle.chess_base.specs.Men.{Men, man_at}
 use Rattle.chess_base.specs.MoveList.{squares}
-use Rattle.chess_moves.specs.PositionWord.{man_key, square_keys, keys_on, men_keys, side_keys, right_keys, rights_keys, keys, xor_of, word_of}
+use Rattle.chess_moves.specs.PositionWord.{man_key, square_keys, keys_on, men_keys, side_keys, right_keys, rights_keys, xor_of, position_word}
 use Rattle.chess_moves.proofs.Gathered.{numbers, gathered-more}
 use Rattle.chess_moves.proofs.Members.{by_range}
 
@@ -38,23 +38,29 @@ rights_apart r =
     xor_append (a ++ b ++ c) d
     ∙ ap (λ x. bit_xor x (xor_of d)) (xor_append (a ++ b) c ∙ ap (λ x. bit_xor x (xor_of c)) (xor_append a b))
 
-pub word_apart : (p : Setup)
-    → word_of p ≡ bit_xor (bit_xor (xor_of (men_keys p.men)) (xor_of (side_keys p.side))) (xor_of (rights_keys p.rights))
-unfolding word_of keys
-word_apart p =
-    let a = men_keys p.men in
-    let b = side_keys p.side in
-    let c = rights_keys p.rights in
+pub word_apart : (men : Men) (side : Colour) (rights : Rights)
+    → position_word men side rights
+    ≡ bit_xor (bit_xor (xor_of (men_keys men)) (xor_of (side_keys side))) (xor_of (rights_keys rights))
+unfolding position_word
+word_apart men side rights =
+    let a = men_keys men in
+    let b = side_keys side in
+    let c = rights_keys rights in
     xor_append (a ++ b) c ∙ ap (λ x. bit_xor x (xor_of c)) (xor_append a b)
 
 -- ---- square by square
 
--- one turn of a loop over the squares
+-- one turn of a loop over the squares, and its end
 pub xor_turn : (g : ℕ → List ℕ) (word k : ℕ) → word ≡ xor_of (flat_map g (numbers k))
     → bit_xor word (xor_of (g k)) ≡ xor_of (flat_map g (numbers (k + 1)))
 xor_turn g word k e =
     ap (λ x. bit_xor x (xor_of (g k))) e ∙ sym (xor_append (flat_map g (numbers k)) (g k))
     ∙ ap (λ ns. xor_of ns) (sym (gathered-more g k)) ∙ ap (λ v. xor_of (flat_map g (numbers v))) (sym (add-one k))
+
+pub xor_end : (men : Men) (word k : ℕ) → word ≡ xor_of (flat_map (keys_on men) (numbers k)) → k ≡ 64
+    → word ≡ xor_of (men_keys men)
+unfolding men_keys squares
+xor_end men word k e all = e ∙ ap (λ v. xor_of (flat_map (keys_on men) (numbers v))) all
 
 same_lists : (f g : ℕ → List ℕ) (n a : ℕ) → ((k : ℕ) → a ≤ k → k < a + n → g k ≡ f k)
     → flat_map g (range_with_len a n) ≡ flat_map f (range_with_len a n)
@@ -128,14 +134,18 @@ men_changed men s d o all low e =
     (omega arith))
 
 -- a man comes to an empty square, and a man leaves his: the word changes by his key
-pub word_put : (men : Men) (s : ℕ) (x : Man) → length men ≡ 64 → s < 64 → man_at men s ≡ None
-    → xor_of (men_keys (set men s (Some x))) ≡ bit_xor (xor_of (men_keys men)) (man_key x s)
-word_put men s x all low bare =
-    men_changed men s (man_key x s) (Some x) all low
-    (ap (λ v. bit_xor (xor_of (square_keys s v)) (man_key x s)) (sym bare))
+pub word_put : (men : Men) (s : ℕ) (x : Man) (word change : ℕ) → length men ≡ 64 → s < 64 → man_at men s ≡ None
+    → word ≡ xor_of (men_keys men) → change ≡ man_key x s
+    → bit_xor word change ≡ xor_of (men_keys (set men s (Some x)))
+word_put men s x word change all low bare e f =
+    ap (λ w. bit_xor w change) e ∙ ap (λ w. bit_xor (xor_of (men_keys men)) w) f
+    ∙ sym (men_changed men s (man_key x s) (Some x) all low
+    (ap (λ v. bit_xor (xor_of (square_keys s v)) (man_key x s)) (sym bare)))
 
-pub word_lifted : (men : Men) (s : ℕ) (x : Man) → length men ≡ 64 → s < 64 → man_at men s ≡ Some x
-    → xor_of (men_keys (set men s None)) ≡ bit_xor (xor_of (men_keys men)) (man_key x s)
-word_lifted men s x all low there =
-    men_changed men s (man_key x s) None all low
-    (sym (xor_self (man_key x s)) ∙ ap (λ v. bit_xor (xor_of (square_keys s v)) (man_key x s)) (sym there))
+pub word_lifted : (men : Men) (s : ℕ) (x : Man) (word change : ℕ) → length men ≡ 64 → s < 64 → man_at men s ≡ Some x
+    → word ≡ xor_of (men_keys men) → change ≡ man_key x s
+    → bit_xor word change ≡ xor_of (men_keys (set men s None))
+word_lifted men s x word change all low there e f =
+    ap (λ w. bit_xor w change) e ∙ ap (λ w. bit_xor (xor_of (men_keys men)) w) f
+    ∙ sym (men_changed men s (man_key x s) None all low
+    (sym (xor_self (man_key x s)) ∙ ap (λ v. bit_xor (xor_of (square_keys s v)) (man_key x s)) (sym there)))

@@ -1,6 +1,5 @@
--- The position word: a number below 2 to the 64th that tells most positions apart at a glance. It is the exclusive or of keys,
--- one for each man on its square, one for Black on move and one for each castling right. Target and counters have none, so
--- positions that are the same (Laws of Chess 2023, article 9.2.3) have equal words; others may too.
+-- The position word of this project's boards: a number below 2 to the 64th that tells most positions apart at a glance. It is the
+-- exclusive or of keys, one for each man on its square, one for Black on move and one for each castling right.
 use Rattle.std.specs.Prelude.{ℕ, ◌+◌, ◌*◌, ◌/◌, ◌%◌, ◌^◌, Option, Some, None, List, [], ◌∷◌, ◌++◌, bit_xor, fold, flat_map}
 use Rattle.chess_base.specs.declared.man.Colour.{Colour}
 use Rattle.chess_base.specs.declared.man.Colour.TheVariants.{White, Black}
@@ -8,7 +7,6 @@ use Rattle.chess_base.specs.declared.man.Kind.{Kind}
 use Rattle.chess_base.specs.declared.man.Kind.TheVariants.{King, Queen, Rook, Bishop, Knight, Pawn}
 use Rattle.chess_base.specs.declared.man.Man.{Man}
 use Rattle.chess_base.specs.declared.man.Rights.{Rights}
-use Rattle.chess_base.specs.declared.setup.Setup.{Setup}
 use Rattle.chess_base.specs.Squares.{file}
 use Rattle.chess_base.specs.Men.{Men, man_at}
 use Rattle.chess_base.specs.MoveList.{squares}
@@ -16,13 +14,13 @@ use Rattle.chess_base.specs.MoveList.{squares}
 -- ---- keys: the numbers, from index 0, that the generator SplitMix64 (Steele, Lea, Flood 2014) gives when it starts at 0
 
 abbrev pub increment : ℕ
-increment = 0x9E3779B97F4A7C15
+increment = 0x9e3779b97f4a7c15
 
 abbrev pub first_factor : ℕ
-first_factor = 0xBF58476D1CE4E5B9
+first_factor = 0xbf58476d1ce4e5b9
 
 abbrev pub second_factor : ℕ
-second_factor = 0x94D049BB133111EB
+second_factor = 0x94d049bb133111eb
 
 -- z with its bits from place k on laid over its lowest ones
 abbrev pub laid_over : ℕ → ℕ → ℕ
@@ -49,9 +47,11 @@ kind_place Rook = 3
 kind_place Queen = 4
 kind_place King = 5
 
+-- the man x on square s
 abbrev pub man_key : Man → ℕ → ℕ
 man_key x s = key (64 * (6 * colour_place x.colour + kind_place x.kind) + s)
 
+-- Black on move
 abbrev pub side_key : ℕ
 side_key = key 768
 
@@ -59,9 +59,9 @@ side_key = key 768
 abbrev pub right_key : Colour → ℕ → ℕ
 right_key c r = key (769 + 8 * colour_place c + file r)
 
--- ---- a position's keys
+-- ---- the keys of a position's parts
 
--- the keys of what stands on s
+-- of what stands on s
 abbrev pub square_keys : ℕ → Option Man → List ℕ
 square_keys s None = []
 square_keys s (Some x) = man_key x s ∷ []
@@ -82,11 +82,8 @@ right_keys c (Some r) = right_key c r ∷ []
 
 unfoldable pub rights_keys : Rights → List ℕ
 rights_keys r =
-    right_keys White r.white.king_side ++ right_keys White r.white.queen_side
-    ++ right_keys Black r.black.king_side ++ right_keys Black r.black.queen_side
-
-unfoldable pub keys : Setup → List ℕ
-keys p = men_keys p.men ++ side_keys p.side ++ rights_keys p.rights
+    right_keys White r.white.king_side ++ right_keys White r.white.queen_side ++ right_keys Black r.black.king_side
+    ++ right_keys Black r.black.queen_side
 
 -- ---- the word
 
@@ -94,5 +91,5 @@ keys p = men_keys p.men ++ side_keys p.side ++ rights_keys p.rights
 abbrev pub xor_of : List ℕ → ℕ
 xor_of ns = fold bit_xor 0 ns
 
-unfoldable pub word_of : Setup → ℕ
-word_of p = xor_of (keys p)
+unfoldable pub position_word : Men → Colour → Rights → ℕ
+position_word men side rights = xor_of (men_keys men ++ side_keys side ++ rights_keys rights)

@@ -12,4 +12,4 @@ pub use board::{Board, MoveList, make_then_take_back};
 pub use listing::would_promote;
 pub use plain::Plain;
 pub use set::SquareSet;
-pub use word::{man_key, word_of, word_with};
+pub use word::{man_key, position_word, word_with};

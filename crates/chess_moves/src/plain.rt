@@ -9,7 +9,7 @@ use crate::board::{Board, MoveList};
 use crate::listing::{has_legal_move, legal_moves};
 use crate::moving::{move_back, move_on};
 use crate::set::SquareSet;
-use crate::word::word_of;
+use crate::word::position_word;
 use chess_base::attack::{is_in_check, is_man};
 use chess_base::before::saved_of;
 use chess_base::rules::is_legal;
@@ -63,7 +63,11 @@ impl Plain {
 }
 
 impl Board for Plain {
+    ghost use Rattle.chess_moves.specs.PositionWord.{position_word};
+
     ghost position = { λ b. b };
+
+    ghost word_of = { position_word };
 
     fn set(&mut self, to: &Position) {
         self.setup = *to.setup();
@@ -104,7 +108,7 @@ impl Board for Plain {
     }
 
     fn word(&self) -> u64 {
-        word_of(&self.setup)
+        position_word(&self.setup)
     }
 
     fn make(&mut self, m: Move) -> Saved {

@@ -1,7 +1,7 @@
 //! The position word: the keys of men, side on move and castling rights, joined by exclusive or.
 
 ghost use Rattle.std.specs.Prelude.{◌≡◌, ◌<◌};
-ghost use Rattle.chess_moves.specs.PositionWord.{key, colour_place, kind_place, man_key, square_keys, men_keys, side_keys, right_keys, rights_keys, xor_of, word_of};
+ghost use Rattle.chess_moves.specs.PositionWord.{key, colour_place, kind_place, man_key, square_keys, men_keys, side_keys, right_keys, rights_keys, xor_of, position_word};
 
 use chess_base::{Colour, Kind, Man, Rights, Setup, Square};
 
@@ -61,12 +61,12 @@ fn square_word(square: Square, man: Option<Man>) -> u64
 {
     match man {
         None => 0,
-        Some(man) => man_key(man, square),
+        Some(x) => man_key(x, square),
     }
 }
 
-/// The word of the men alone.
-pub fn men_word(men: &[Option<Man>; 64]) -> u64
+// The word of the men alone.
+fn men_word(men: &[Option<Man>; 64]) -> u64
     ensures { result ≡ xor_of (men_keys men.now) }
 {
     let mut word = 0;
@@ -93,33 +93,32 @@ fn right_word(colour: Colour, rook: Option<Square>) -> u64
 {
     match rook {
         None => 0,
-        Some(rook) => key(769 + 8 * colour_place(colour) + rook.file() as u16),
+        Some(square) => key(769 + 8 * colour_place(colour) + square.file() as u16),
     }
 }
 
 // The word of the castling rights alone.
-#[tactic(auto, using(crate::proofs::Xored::rights_apart))]
 fn rights_word(rights: &Rights) -> u64
     ensures { result ≡ xor_of (rights_keys rights.now) }
 {
-    right_word(Colour::White, rights.white.king_side)
-        ^ right_word(Colour::White, rights.white.queen_side)
-        ^ right_word(Colour::Black, rights.black.king_side)
-        ^ right_word(Colour::Black, rights.black.queen_side)
+    let white_king_side = right_word(Colour::White, rights.white.king_side);
+    let white_queen_side = right_word(Colour::White, rights.white.queen_side);
+    let black_king_side = right_word(Colour::Black, rights.black.king_side);
+    let black_queen_side = right_word(Colour::Black, rights.black.queen_side);
+    white_king_side ^ white_queen_side ^ black_king_side ^ black_queen_side
 }
 
-/// The position word, told from the word of the men: they are most of it.
-#[tactic(auto, using(crate::proofs::Xored::word_apart))]
-pub fn word_with(men_word: u64, setup: &Setup) -> u64
-    requires { men_word ≡ xor_of (men_keys setup.now.men) }
-    ensures { result ≡ word_of setup.now }
+/// The position word of a setup, where that of its men is known.
+pub fn word_with(of_men: u64, setup: &Setup) -> u64
+    requires { of_men ≡ xor_of (men_keys setup.now.men) }
+    ensures { result ≡ position_word setup.now.men setup.now.side setup.now.rights }
 {
-    men_word ^ side_word(setup.side) ^ rights_word(&setup.rights)
+    of_men ^ side_word(setup.side) ^ rights_word(&setup.rights)
 }
 
 /// The position word of a setup.
-pub fn word_of(setup: &Setup) -> u64
-    ensures { result ≡ word_of setup.now }
+pub fn position_word(setup: &Setup) -> u64
+    ensures { result ≡ position_word setup.now.men setup.now.side setup.now.rights }
 {
     word_with(men_word(&setup.men), setup)
 }
