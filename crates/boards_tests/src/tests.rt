@@ -146,6 +146,54 @@ fn what_is_made_is_the_position_after(rt: HostRuntime) -> Result<(), Fail> {
     Ok(())
 }
 
+const BEFORE_E4: &[u8] = b"rnbqkbnr/pppppppp/8/8/8/8/PPPPPPPP/RNBQKBNR w KQkq - 0 1";
+
+const AFTER_E4: &[u8] = b"rnbqkbnr/pppppppp/8/8/4P3/8/PPPP1PPP/RNBQKBNR b KQkq e3 0 1";
+
+// Positions and their words, as a program apart from this one tells them: all kinds of men, either side on move, all rights,
+// one and none. Target and counters make no difference.
+const WORDS: [(&[u8], u64); 6] = [
+    (BEFORE_E4, 0xC530_A1B3_397D_F9C7),
+    (AFTER_E4, 0xFD99_E6A1_5C39_8DE6),
+    (
+        b"rnbqkbnr/pppppppp/8/8/4P3/8/PPPP1PPP/RNBQKBNR b KQkq - 7 9",
+        0xFD99_E6A1_5C39_8DE6,
+    ),
+    (KIWIPETE, 0xA182_29D1_6000_F21F),
+    (
+        b"4k3/8/8/8/8/8/8/R3K3 b Q - 99 80",
+        0x4E61_D8CB_523A_68A0,
+    ),
+    (b"4k3/8/8/8/8/8/8/4K3 w - - 0 1", 0xD933_5A52_334C_2F4E),
+];
+
+/// Asks a board for the words of these positions, and on the way from one to the other by a move.
+fn tells_words<B: Board>(rt: &impl Abort, board: &mut B) -> Result<(), Fail> {
+    for (fen, word) in WORDS {
+        board.set(&read_fen(fen).ok().ok_or("sound")?);
+        assert_eq!(rt; board.word(), word, "at {fen:?}");
+    }
+    board.set(&read_fen(BEFORE_E4).ok().ok_or("sound")?);
+    let after = read_fen(AFTER_E4).ok().ok_or("sound")?;
+    let moves = board.legal_moves();
+    for m in moves.as_slice() {
+        let saved = board.make(*m);
+        if board.position() == after {
+            assert_eq!(rt; board.word(), 0xFD99_E6A1_5C39_8DE6);
+        }
+        board.take_back(*m, saved);
+        assert_eq!(rt; board.word(), 0xC530_A1B3_397D_F9C7);
+    }
+    Ok(())
+}
+
+#[test]
+fn words_are_those_counted_apart(rt: HostRuntime) -> Result<(), Fail> {
+    tells_words(&rt, &mut Plain::new())?;
+    let mut bits = Bits::open(rt.alloc()).ok().ok_or("memory")?;
+    tells_words(&rt, &mut bits)
+}
+
 // Fool's mate, and a stalemate.
 #[test]
 fn mate_is_check_without_a_move(rt: HostRuntime) -> Result<(), Fail> {
