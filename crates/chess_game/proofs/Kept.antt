@@ -95,7 +95,7 @@ fewer p xs ys x f is = follows_fewer p ys x (subst (Follows p) is f)
 -- ---- words
 
 -- each place has its word
-abbrev AllHave : Wording → List Place → Type 0
+abbrev pub AllHave : Wording → List Place → Type 0
 AllHave f xs = AllByRecursion (λ (x : Place). HasWord f x.reached) xs
 
 pub word_at : (f : Wording) (xs : List Place) (k : ℕ) (d : Place) → AllHave f xs → k < length xs
