@@ -182,7 +182,8 @@ fn tells_words<B: Board>(rt: &impl Abort, board: &mut B) -> Result<(), Fail> {
         promotion: None,
     };
     // The prover wants a variable for each: the move is lent, given to be made, and given to be taken back.
-    let (judged, again) = (m, m);
+    let judged = m;
+    let again = m;
     if !board.is_legal(&judged) {
         return Err("e4 is legal".into());
     }
