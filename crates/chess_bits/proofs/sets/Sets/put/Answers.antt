@@ -20,8 +20,8 @@ returns-in-White c =
           (λ j. c.union-self.ensures j ∙ rw (c.single-here.ensures.value j) refl) h.all_white;
       all_black = all_theirs_put c.args.self.now.all_black men White c.args.square c.args.man all low
           c.in-White.is at h.all_black;
-      men_word = word_put men c.args.square c.args.man c.args.self.now.men_word c.man_key-self.result all low at h.men_word
-          c.man_key-self.ensures;
+      men_word = word_put men c.args.square c.args.man c.args.self.now.men_word c.man_key.result all low at h.men_word
+          c.man_key.ensures;
     }
 
 pub returns-in-Black : goal.returns-in-Black
@@ -38,6 +38,6 @@ returns-in-Black c =
       all_black = all_put c.args.self.now.all_black c.union-self-in-Black.result men Black c.args.square
           (Some c.args.man) all low (own_of Black c.args.man c.in-Black.is)
           (λ j. c.union-self-in-Black.ensures j ∙ rw (c.single-here.ensures.value j) refl) h.all_black;
-      men_word = word_put men c.args.square c.args.man c.args.self.now.men_word c.man_key-self.result all low at h.men_word
-          c.man_key-self.ensures;
+      men_word = word_put men c.args.square c.args.man c.args.self.now.men_word c.man_key.result all low at h.men_word
+          c.man_key.ensures;
     }
