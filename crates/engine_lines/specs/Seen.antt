@@ -8,7 +8,7 @@ use Rattle.engine_lines.specs.Items.{takes, plays_fischerandom}
 use Rattle.engine_lines.specs.declared.item.Item.{Item}
 use Rattle.engine_lines.specs.declared.item.Value.{Value}
 use Rattle.engine_lines.specs.declared.item.Value.TheVariants.{Digits, Quoted}
-use Rattle.engine_lines.specs.declared.features.Features.{Features}
+use Rattle.engine_lines.specs.declared.features.Features.{Features as Taken}
 use Rattle.engine_lines.specs.declared.engine_line.EngineLine.{EngineLine}
 use Rattle.engine_lines.specs.declared.engine_line.EngineLine.TheVariants.{Features, Move, Resign, Offer, Draw, Win, Rejection, Pong, Other}
 
@@ -41,7 +41,7 @@ item_read None = None
 item_read (Some p) = Some (item_seen p.0, p.1.now)
 
 -- what an engine takes, by the items that it said
-unfoldable pub features_of : List items.Item → Features
+unfoldable pub features_of : List items.Item → Taken
 features_of said = record {
   ping = takes (codes "ping") said;
   setboard = takes (codes "setboard") said;
