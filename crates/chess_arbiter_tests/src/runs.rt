@@ -32,7 +32,7 @@ pub struct Outcome {
     pub status: u8,
 }
 
-/// Runs the program over memory. Its contract stays in here: tests compare values, and are proved the sooner without it.
+/// Runs the program over memory. Its contract stays in here: tests compare values.
 pub fn run(rt: &HostRuntime, words: &[&str], input: &[u8], devices: Devices) -> Outcome {
     let mut reader = Counted::reading(PieceReader::new(
         input,
