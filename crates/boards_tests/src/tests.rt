@@ -1,6 +1,6 @@
 ghost use Rattle.std.specs.Prelude.{◌≡◌, OnOk};
 
-use chess_base::{Position, Variant, read_fen, read_fen_as};
+use chess_base::{Move, Position, Square, Variant, read_fen, read_fen_as};
 use chess_bits::Bits;
 use chess_moves::{Board, Plain, make_then_take_back};
 use std::process::Abort;
@@ -144,6 +144,61 @@ fn what_is_made_is_the_position_after(rt: HostRuntime) -> Result<(), Fail> {
     }
     assert!(rt; board.position() == kiwipete);
     Ok(())
+}
+
+// Positions and their words, as a program apart from this one tells them: all kinds of men, either side on move, all rights,
+// one and none. Target and counters make no difference.
+const WORDS: [(&[u8], u64); 6] = [
+    (
+        b"rnbqkbnr/pppppppp/8/8/8/8/PPPPPPPP/RNBQKBNR w KQkq - 0 1",
+        0xC530_A1B3_397D_F9C7,
+    ),
+    (
+        b"rnbqkbnr/pppppppp/8/8/4P3/8/PPPP1PPP/RNBQKBNR b KQkq e3 0 1",
+        0xFD99_E6A1_5C39_8DE6,
+    ),
+    (
+        b"rnbqkbnr/pppppppp/8/8/4P3/8/PPPP1PPP/RNBQKBNR b KQkq - 7 9",
+        0xFD99_E6A1_5C39_8DE6,
+    ),
+    (KIWIPETE, 0xA182_29D1_6000_F21F),
+    (
+        b"4k3/8/8/8/8/8/8/R3K3 b Q - 99 80",
+        0x4E61_D8CB_523A_68A0,
+    ),
+    (b"4k3/8/8/8/8/8/8/4K3 w - - 0 1", 0xD933_5A52_334C_2F4E),
+];
+
+/// Asks a board for the words of these positions, and on the way from one to another by 1. e4, and back.
+fn tells_words<B: Board>(rt: &impl Abort, board: &mut B) -> Result<(), Fail> {
+    for (fen, word) in WORDS {
+        board.set(&read_fen(fen).ok().ok_or("sound")?);
+        assert_eq!(rt; board.word(), word, "at {fen:?}");
+    }
+    board.set(&Position::initial());
+    let m = Move {
+        from: Square::new(12),
+        to: Square::new(28),
+        promotion: None,
+    };
+    // The prover wants a variable for each: the move is lent, given to be made, and given to be taken back.
+    let judged = m;
+    let again = m;
+    if !board.is_legal(&judged) {
+        return Err("e4 is legal".into());
+    }
+    let saved = board.make(m);
+    assert_eq!(rt; board.word(), WORDS[1].1);
+    board.take_back(again, saved);
+    assert_eq!(rt; board.word(), WORDS[0].1);
+    Ok(())
+}
+
+#[test]
+fn words_are_those_counted_apart(rt: HostRuntime) -> Result<(), Fail> {
+    tells_words(&rt, &mut Plain::new())?;
+    let mut bits = Bits::open(rt.alloc()).ok().ok_or("memory")?;
+    tells_words(&rt, &mut bits)
 }
 
 // Fool's mate, and a stalemate.

@@ -7,7 +7,9 @@ use Rattle.chess_base.specs.declared.man.Kind.TheVariants.{King, Queen, Rook, Bi
 use Rattle.chess_base.specs.declared.man.Man.{Man}
 use Rattle.std.specs.Prelude.{slice_index}
 use Rattle.chess_base.specs.Men.{Men, man_at, is_of, is_man, kind_number}
+use Rattle.chess_moves.specs.PositionWord.{square_keys, xor_of}
 use Rattle.chess_moves.specs.Sets.{has}
+use Rattle.chess_moves.proofs.Xored.{no_men_keys, same_men_keys}
 use Rattle.chess_bits.specs.ties.Occupancy.{IsOccupied}
 use Rattle.chess_bits.specs.declared.sets.Sets.{Sets}
 use Rattle.chess_bits.specs.ties.KindSets.{IsKinds}
@@ -23,6 +25,7 @@ sets_same s a b same h = record {
   of_black = kinds_same s.black.sets _ a b same h.of_black;
   all_white = λ k low. h.all_white k low ∙ ap (is_of _) (same k low);
   all_black = λ k low. h.all_black k low ∙ ap (is_of _) (same k low);
+  men_word = h.men_word ∙ ap (λ ns. xor_of ns) (same_men_keys b a (λ k low. ap (λ v. square_keys k v) (same k low)));
 }
 
 -- ---- none
@@ -48,12 +51,13 @@ pub no_kinds : (e : ℕ) (c : Colour) (men : Men) → ((k : ℕ) → has e k ≡
 no_kinds e c men empty none = record { of_kind = λ kind k low. ap (λ w. has w k) (six e kind) ∙ empty k ∙ sym (no_man c kind (man_at men k) (none k low)) }
 
 pub no_sets : (s : Sets) (men : Men) → ((k : ℕ) → k < 64 → man_at men k ≡ None) → IsKinds s.white.sets White men → IsKinds s.black.sets Black men
-    → ((k : ℕ) → has s.all_white k ≡ false) → ((k : ℕ) → has s.all_black k ≡ false) → IsSets s men
-no_sets s men none white black all_white all_black = record {
+    → ((k : ℕ) → has s.all_white k ≡ false) → ((k : ℕ) → has s.all_black k ≡ false) → s.men_word ≡ 0 → IsSets s men
+no_sets s men none white black all_white all_black word = record {
   of_white = white;
   of_black = black;
   all_white = λ k low. all_white k ∙ sym (none_of White (man_at men k) (none k low));
   all_black = λ k low. all_black k ∙ sym (none_of Black (man_at men k) (none k low));
+  men_word = word ∙ ap (λ ns. xor_of ns) (sym (no_men_keys men none));
 }
 
 -- ---- all

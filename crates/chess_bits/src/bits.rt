@@ -15,7 +15,7 @@ use crate::tables::AttackTables;
 use crate::targets::{is_king, is_pawn};
 use chess_base::before::saved_of;
 use chess_base::{Colour, Kind, Move, Position, Saved, Setup, Square};
-use chess_moves::{Board, MoveList, SquareSet, would_promote};
+use chess_moves::{Board, MoveList, SquareSet, word_with, would_promote};
 use std::alloc::{AllocError, Global};
 use std::marker::Model;
 
@@ -86,7 +86,11 @@ impl Bits {
 }
 
 impl Board for Bits {
+    ghost use Rattle.chess_moves.specs.PositionWord.{position_word};
+
     ghost position = { λ b. b };
+
+    ghost word_of = { position_word };
 
     fn set(&mut self, to: &Position) {
         let setup = to.setup();
@@ -146,6 +150,10 @@ impl Board for Bits {
         let side = self.setup.side;
         let king = self.king(side);
         self.is_attacked(king, side.other())
+    }
+
+    fn word(&self) -> u64 {
+        word_with(self.sets.men_word, &self.setup)
     }
 
     fn make(&mut self, m: Move) -> Saved {

@@ -10,15 +10,16 @@ ghost use Rattle.chess_moves.specs.Sets.{has};
 
 use crate::kinds::Kinds;
 use chess_base::{Colour, Man, Square};
-use chess_moves::SquareSet;
+use chess_moves::{SquareSet, man_key};
 
-/// The men as sets: of each colour by kind and together.
+/// The men as sets, of each colour by kind and together, and the exclusive or of their keys.
 #[derive(Clone, Copy)]
 pub struct Sets {
     pub white: Kinds,
     pub black: Kinds,
     pub all_white: SquareSet,
     pub all_black: SquareSet,
+    pub men_word: u64,
 }
 
 impl Sets {
@@ -32,6 +33,7 @@ impl Sets {
             black: Kinds::empty(),
             all_white: SquareSet::empty(),
             all_black: SquareSet::empty(),
+            men_word: 0,
         }
     }
 
@@ -68,6 +70,7 @@ impl Sets {
         ensures { (men : Men) → length men ≡ 64 → man_at men square ≡ Some man → IsSets self.old men → IsSets self.new (slice_set men square None) }
     {
         let here = SquareSet::single(square);
+        self.men_word ^= man_key(man, square);
         match man.colour {
             Colour::White => {
                 self.white.lift(man.kind, square);
@@ -85,6 +88,7 @@ impl Sets {
         ensures { (men : Men) → length men ≡ 64 → man_at men square ≡ None → IsSets self.old men → IsSets self.new (slice_set men square (Some man)) }
     {
         let here = SquareSet::single(square);
+        self.men_word ^= man_key(man, square);
         match man.colour {
             Colour::White => {
                 self.white.put(man.kind, square);

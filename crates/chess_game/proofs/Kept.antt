@@ -3,13 +3,15 @@ use Rattle.std.proofs.Common.{◌≡◌, ◌∙◌, ℕ, zero, suc, ◌+◌, ◌
 use Rattle.std.proofs.Math.Seq.{take-length}
 use Rattle.std.proofs.lemmas.Bool.Decides.{nat_tests}
 use Rattle.std.proofs.lemmas.List.{length-map}
+use Rattle.std.specs.List.{AllByRecursion}
 use Rattle.chess_base.specs.declared.setup.Setup.{Setup}
 use Rattle.chess_base.specs.Moves.{after}
 use Rattle.chess_moves.specs.Made.{WasMade}
 use Rattle.chess_game.specs.Line.{last, IsLine}
-use Rattle.chess_game.specs.ties.Places.{moves_of, IsKnown, Follows}
+use Rattle.chess_game.specs.ties.Places.{moves_of, IsKnown, Wording, HasWord, HaveWords, Follows}
 use Rattle.chess_game.specs.Game.{Seen, is_full}
 use Rattle.chess_game.specs.declared.game.Place.{Place}
+use Rattle.chess_game.specs.declared.repetition.Known.{Known}
 use Rattle.chess_game.specs.declared.results.Declared.{Declared}
 
 -- a place reached the position after the moves up to it
@@ -89,6 +91,36 @@ taken p xs ys x q f is at =
 
 pub fewer : (p : Setup) (xs ys : List Place) (x : Place) → Follows p xs → xs ≡ ys ++ x ∷ [] → Follows p ys
 fewer p xs ys x f is = follows_fewer p ys x (subst (Follows p) is f)
+
+-- ---- words
+
+-- each place has its word
+abbrev pub AllHave : Wording → List Place → Type 0
+AllHave f xs = AllByRecursion (λ (x : Place). HasWord f x.reached) xs
+
+pub word_at : (f : Wording) (xs : List Place) (k : ℕ) (d : Place) → AllHave f xs → k < length xs
+    → HasWord f (get_or xs k d).reached
+word_at f [] k d all h = absurd (omega arith)
+word_at f (x ∷ xs) zero d all h = all.0
+word_at f (x ∷ xs) (suc k) d all h = word_at f xs k d all.1 (omega arith)
+
+all_more : (f : Wording) (xs : List Place) (x : Place) → AllHave f xs → HasWord f x.reached → AllHave f (xs ++ x ∷ [])
+all_more f [] x all here = (here, tt)
+all_more f (y ∷ ys) x all here = (all.0, all_more f ys x all.1 here)
+
+pub words_more : (f : Wording) (start : Known) (xs : List Place) (x : Place) → HaveWords f start xs → HasWord f x.reached
+    → HaveWords f start (xs ++ x ∷ [])
+words_more f start xs x h here = record { start = h.start; behind = all_more f xs x h.behind here }
+
+all_fewer : (f : Wording) (xs : List Place) (x : Place) → AllHave f (xs ++ x ∷ []) → AllHave f xs
+all_fewer f [] x all = tt
+all_fewer f (y ∷ ys) x all = (all.0, all_fewer f ys x all.1)
+
+pub words_fewer : (f : Wording) (start : Known) (xs ys : List Place) (x : Place) → HaveWords f start xs → xs ≡ ys ++ x ∷ []
+    → HaveWords f start ys
+words_fewer f start xs ys x h is = record { start = h.start; behind = all_fewer f ys x (subst (AllHave f) is h.behind) }
+
+-- ---- room
 
 -- a push that did not fail added its place
 pub pushed : {A E : Type 0} (r : Result A E) (xs ys zs : List Place) → is_err r ≡ false → zs ≡ (if is_ok r then ys else xs) → zs ≡ ys

@@ -7,7 +7,7 @@ ghost use Rattle.chess_game.specs.Line.{last};
 ghost use Rattle.chess_game.specs.Same.{rep};
 ghost use Rattle.chess_game.specs.Ends.{verdict, claims};
 ghost use Rattle.chess_game.specs.Game.{at, from_start, with_declared, current, verdict_now, outcome_now, opened, is_over, is_full, play_refusal, unless_refused, after_play, last_move, after_take_back, declare_refusal, after_declare, IsPlayable};
-ghost use Rattle.chess_game.specs.ties.Places.{moves_of, IsKnown, Follows, IsKept};
+ghost use Rattle.chess_game.specs.ties.Places.{moves_of, IsKnown, Wording, HasWord, HaveWords, Follows, IsKept};
 
 use crate::ends::{Claims, Verdict, is_bare, mates};
 use crate::repetition::Known;
@@ -74,7 +74,7 @@ impl<B: Board> Model for Game<B> {
       state = record { start = g.start.position; moves = moves_of g.places.items; declared = g.declared };
     } };
 
-    ghost invariant = { λ g. IsKept g.start g.places.items (B.position g.board) × IsJudged g.start.position (moves_of g.places.items) g.verdict × HasRoom (vec_len g.places) g.limit (vec_capacity g.places) };
+    ghost invariant = { λ g. IsKept B.word_of g.start g.places.items (B.position g.board) × IsJudged g.start.position (moves_of g.places.items) g.verdict × HasRoom (vec_len g.places) g.limit (vec_capacity g.places) };
 }
 
 // The present position.
@@ -82,6 +82,7 @@ fn present<'a>(start: &'a Known, places: &'a [Place]) -> &'a Known
     requires start { IsKnown start.now }
     requires follows { Follows start.now.position places.now }
     ensures known { IsKnown result.now }
+    ensures word { (f : Wording) → HaveWords f start.now places.now → HasWord f result.now }
     ensures position { result.now.position ≡ last start.now.position (moves_of places.now) }
 {
     if places.is_empty() {
@@ -97,6 +98,7 @@ fn present<'a>(start: &'a Known, places: &'a [Place]) -> &'a Known
 fn repetitions(start: &Known, places: &[Place]) -> usize
     requires start { IsKnown start.now }
     requires follows { Follows start.now.position places.now }
+    requires words { (f : Wording) × HaveWords f start.now places.now }
     ensures value { result ≡ rep start.now.position (moves_of places.now) }
     ensures few { result ≤ length places.now + 1 }
 {
@@ -121,6 +123,7 @@ fn repetitions(start: &Known, places: &[Place]) -> usize
 fn is_fivefold(start: &Known, places: &[Place], halfmove: u32) -> bool
     requires start { IsKnown start.now }
     requires follows { Follows start.now.position places.now }
+    requires words { (f : Wording) × HaveWords f start.now places.now }
     ensures { result ≡ nat_le 5 (rep start.now.position (moves_of places.now)) }
 {
     reserve_never_grows();
@@ -137,7 +140,7 @@ fn is_fivefold(start: &Known, places: &[Place], halfmove: u32) -> bool
 // The verdict on a game that is kept so.
 #[tactic(auto, unfolding(crate::specs::Ends::verdict))]
 fn verdict_on<B: Board>(board: &B, start: &Known, places: &[Place]) -> Option<Verdict>
-    requires { IsKept start.now places.now (B.position board.now) }
+    requires { IsKept B.word_of start.now places.now (B.position board.now) }
     ensures { result ≡ verdict start.now.position (moves_of places.now) }
 {
     let setup = board.setup();

@@ -1,21 +1,22 @@
 //! When positions are the same.
 
-ghost use Rattle.std.specs.Prelude.{◌≡◌, cond, true, Some};
+ghost use Rattle.std.specs.Prelude.{◌≡◌, cond, true, false, Some};
 ghost use Rattle.std.specs.List.{list_any};
 ghost use Rattle.chess_base.specs.MoveList.{moves};
 ghost use Rattle.chess_base.specs.Moves.{is_en_passant};
 ghost use Rattle.chess_game.specs.Same.{captures_legally, same_man, same_men, same_square, same_colour_rights, same_rights, live_target, same};
-ghost use Rattle.chess_game.specs.ties.Places.{IsKnown};
+ghost use Rattle.chess_game.specs.ties.Places.{IsKnown, HasWord, ShareWording};
 
 use chess_base::rules::is_en_passant;
 use chess_base::{ColourRights, Kind, Man, Move, Position, Rights, Square};
 use chess_moves::Board;
 
-// A position with its live target, which is told once.
+// A position with its live target and its word, which are told once.
 #[derive(Clone, Copy, PartialEq, Eq)]
 pub(crate) struct Known {
     pub(crate) position: Position,
     pub(crate) live_target: Option<Square>,
+    pub(crate) word: u64,
 }
 
 impl Known {
@@ -23,11 +24,24 @@ impl Known {
     pub(crate) fn on<B: Board>(board: &B) -> Self
         ensures position { result.position ≡ B.position board.now }
         ensures known { IsKnown result }
+        ensures word { HasWord B.word_of result }
     {
         Known {
             position: board.position(),
             live_target: live_target(board),
+            word: board.word(),
         }
+    }
+
+    // Whether the words of the two positions differ; then these are not the same.
+    fn is_told_apart(&self, other: &Known) -> bool
+        requires { ShareWording self.now other.now }
+        ensures { result ≡ true → same self.now.position other.now.position ≡ false }
+    {
+        // The prover wants this fact of both: a position is sound, so it has a place for each of the 64 squares.
+        let _this = self.position.setup();
+        let _that = other.position.setup();
+        self.word != other.word
     }
 
     // Whether the two positions are the same (Laws of Chess 2023, article 9.2.3).
@@ -35,8 +49,13 @@ impl Known {
     pub(crate) fn is_same(&self, other: &Known) -> bool
         requires this { IsKnown self.now }
         requires other { IsKnown other.now }
+        requires words { ShareWording self.now other.now }
         ensures { result ≡ same self.now.position other.now.position }
     {
+        // Most positions differ in their words, so men and rights are seldom looked at.
+        if self.is_told_apart(other) {
+            return false;
+        }
         let (this, that) = (self.position.setup(), other.position.setup());
         this.side == that.side
             && same_men(&this.men, &that.men)
@@ -48,6 +67,7 @@ impl Known {
     pub(crate) fn times_same(&self, other: &Known) -> usize
         requires this { IsKnown self.now }
         requires other { IsKnown other.now }
+        requires words { ShareWording self.now other.now }
         ensures { result ≡ cond (same self.now.position other.now.position) 1 0 }
     {
         if self.is_same(other) { 1 } else { 0 }
@@ -57,6 +77,7 @@ impl Known {
     pub(crate) fn times_met(&self, is_one: bool, other: &Known) -> usize
         requires this { IsKnown self.now }
         requires other { IsKnown other.now }
+        requires words { ShareWording self.now other.now }
         requires one { is_one ≡ true → self.now.position ≡ other.now.position }
         ensures { result ≡ cond (same self.now.position other.now.position) 1 0 }
     {

@@ -1,3 +1,5 @@
+ghost use Rattle.chess_moves.specs.PositionWord.{position_word};
+
 use chess_base::{Kind, Move, Position, Saved, Setup, Square, read_fen, write_fen};
 use chess_game::{
     BoardSaysOtherwise, Claims, Comment, Game, NoMove, Outcome, PlayRefusal, Verdict,
@@ -7,12 +9,13 @@ use std::cell::Cell;
 use std::process::Abort;
 use std::test::Fail;
 
-/// How often each call that changes a board was made.
+/// How often each call that changes a board was made, and how often its word was asked for.
 #[derive(Drop)]
 struct Calls {
     set: Cell<u32>,
     make: Cell<u32>,
     take_back: Cell<u32>,
+    word: Cell<u32>,
 }
 
 impl Calls {
@@ -21,6 +24,7 @@ impl Calls {
             set: Cell::new(0),
             make: Cell::new(0),
             take_back: Cell::new(0),
+            word: Cell::new(0),
         }
     }
 
@@ -32,13 +36,18 @@ impl Calls {
             self.take_back.replace(0),
         )
     }
+
+    // How often the word was asked for since this was last asked.
+    fn words_since(&self) -> u32 {
+        self.word.replace(0)
+    }
 }
 
 fn count_up(count: &Cell<u32>) {
     count.set(count.get().wrapping_add(1));
 }
 
-/// A board that counts the calls that change it.
+/// A board that counts the calls that change it, and those that ask for its word.
 #[derive(Drop)]
 struct Counting<'a> {
     plain: Plain,
@@ -47,6 +56,8 @@ struct Counting<'a> {
 
 impl Board for Counting<'_> {
     ghost position = { λ b. b.plain };
+
+    ghost word_of = { position_word };
 
     fn set(&mut self, to: &Position) {
         count_up(&self.calls.set);
@@ -85,6 +96,11 @@ impl Board for Counting<'_> {
         self.plain.in_check()
     }
 
+    fn word(&self) -> u64 {
+        count_up(&self.calls.word);
+        self.plain.word()
+    }
+
     fn make(&mut self, m: Move) -> Saved {
         count_up(&self.calls.make);
         self.plain.make(m)
@@ -92,6 +108,66 @@ impl Board for Counting<'_> {
 
     fn take_back(&mut self, m: Move, saved: Saved) {
         count_up(&self.calls.take_back);
+        self.plain.take_back(m, saved);
+    }
+}
+
+/// A board whose words are all 0, so that they tell no positions apart.
+#[derive(Drop)]
+struct Wordless {
+    plain: Plain,
+}
+
+impl Board for Wordless {
+    ghost position = { λ b. b.plain };
+
+    ghost word_of = { λ _ _ _. 0 };
+
+    fn set(&mut self, to: &Position) {
+        self.plain.set(to);
+    }
+
+    fn position(&self) -> Position {
+        self.plain.position()
+    }
+
+    fn setup(&self) -> &Setup {
+        self.plain.setup()
+    }
+
+    fn legal_moves(&self) -> MoveList {
+        self.plain.legal_moves()
+    }
+
+    fn legal_move_count(&self) -> usize {
+        self.plain.legal_move_count()
+    }
+
+    fn has_legal_move(&self) -> bool {
+        self.plain.has_legal_move()
+    }
+
+    fn is_legal(&self, m: &Move) -> bool {
+        self.plain.is_legal(m)
+    }
+
+    fn origins(&self, kind: Kind, to: Square) -> SquareSet {
+        self.plain.origins(kind, to)
+    }
+
+    fn in_check(&self) -> bool {
+        self.plain.in_check()
+    }
+
+    fn word(&self) -> u64 {
+        0
+    }
+
+    fn make(&mut self, m: Move) -> Saved {
+        self.plain.make(m)
+    }
+
+    fn take_back(&mut self, m: Move, saved: Saved) {
         self.plain.take_back(m, saved);
     }
 }
@@ -508,6 +584,11 @@ fn ends_and_claims(rt: HostRuntime) -> Result<(), Fail> {
     };
     let mut game = Game::open(rt.alloc(), board, 100)?;
     ends_as_told(&rt, &mut game)?;
+    let board = Wordless {
+        plain: Plain::new(),
+    };
+    let mut game = Game::open(rt.alloc(), board, 100)?;
+    ends_as_told(&rt, &mut game)?;
     Ok(())
 }
 
@@ -723,6 +804,37 @@ fn each_move_is_made_once(rt: HostRuntime) -> Result<(), Fail> {
     }
     assert_eq!(rt; game.take_back(), Err(NoMove));
     assert_eq!(rt; calls.since(), (0, 0, 0));
+    Ok(())
+}
+
+// A game keeps the words of its positions: each is asked for once, when the position is reached.
+#[test]
+fn each_position_is_asked_for_its_word_once(rt: HostRuntime) -> Result<(), Fail> {
+    let calls = Calls::none();
+    let board = Counting {
+        plain: Plain::new(),
+        calls: &calls,
+    };
+    let mut game = Game::open(rt.alloc(), board, 9)?;
+    assert_eq!(rt; calls.words_since(), 1);
+    game.restart(&read_fen(INITIAL)?);
+    assert_eq!(rt; calls.words_since(), 1);
+    let moves = [
+        b"g1f3", b"g8f6", b"f3g1", b"f6g8", b"g1f3", b"g8f6", b"f3g1", b"f6g8",
+    ];
+    for squares in moves {
+        assert_eq!(rt; game.play(by_squares(squares)), Ok(()));
+        assert_eq!(rt; calls.words_since(), 1);
+        assert!(rt; game.play(by_squares(squares)).is_err());
+        assert_eq!(rt; calls.words_since(), 0);
+    }
+    assert_eq!(rt; game.repetitions(), 3);
+    assert_eq!(rt; game.claims(), THREEFOLD);
+    for squares in moves.iter().rev() {
+        assert_eq!(rt; game.take_back(), Ok(by_squares(squares)));
+    }
+    assert_eq!(rt; game.repetitions(), 1);
+    assert_eq!(rt; calls.words_since(), 0);
     Ok(())
 }
 

@@ -9,3 +9,4 @@ pub mod Members
 pub mod Origins
 pub mod SomeMember
 pub mod Counting
+pub mod Xored

@@ -1,4 +1,5 @@
 pub mod Made
-pub mod Sets
+pub mod PositionWord
 pub mod Promoting
+pub mod Sets
 pub mod ties

@@ -19,10 +19,18 @@ pub type MoveList = ArrayVec<Move, 896>;
 
 /// A board: one position at a time, always sound, that goes forward and back by moves.
 pub trait Board {
+    ghost use Rattle.std.specs.Prelude.{ℕ};
+    ghost use Rattle.chess_base.specs.declared.man.Colour.{Colour};
+    ghost use Rattle.chess_base.specs.declared.man.Rights.{Rights};
     ghost use Rattle.chess_base.specs.declared.setup.Setup.{Setup};
+    ghost use Rattle.chess_base.specs.Men.{Men};
 
     /// The position that the board is at.
     ghost position: { Self → Setup };
+
+    /// What the board's position words are: its own choice, but told by the men, the side on move and the castling rights
+    /// alone. So the same positions (Laws of Chess 2023, article 9.2.3) have equal words; others may have, too.
+    ghost word_of: { Men → Colour → Rights → ℕ };
 
     /// Leaves the board at that position.
     fn set(&mut self, to: &Position)
@@ -64,6 +72,10 @@ pub trait Board {
     /// Whether the side on move is in check (Laws of Chess 2023, article 3.9.1).
     fn in_check(&self) -> bool
         ensures { result ≡ is_in_check (position self.now).men (position self.now).side };
+
+    /// The position's word: two positions whose words differ are not the same.
+    fn word(&self) -> u64
+        ensures { result ≡ word_of (position self.now).men (position self.now).side (position self.now).rights };
 
     /// Makes a legal move, and gives what it does not keep.
     fn make(&mut self, m: Move) -> Saved

@@ -17,8 +17,10 @@ mod listing;
 mod moving;
 mod plain;
 mod set;
+mod word;
 
 pub use board::{Board, MoveList, make_then_take_back};
 pub use listing::would_promote;
 pub use plain::Plain;
 pub use set::SquareSet;
+pub use word::{man_key, position_word, word_with};

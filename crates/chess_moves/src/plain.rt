@@ -9,6 +9,7 @@ use crate::board::{Board, MoveList};
 use crate::listing::{has_legal_move, legal_moves};
 use crate::moving::{move_back, move_on};
 use crate::set::SquareSet;
+use crate::word::position_word;
 use chess_base::attack::{is_in_check, is_man};
 use chess_base::before::saved_of;
 use chess_base::rules::is_legal;
@@ -62,7 +63,11 @@ impl Plain {
 }
 
 impl Board for Plain {
+    ghost use Rattle.chess_moves.specs.PositionWord.{position_word};
+
     ghost position = { λ b. b };
+
+    ghost word_of = { position_word };
 
     fn set(&mut self, to: &Position) {
         self.setup = *to.setup();
@@ -100,6 +105,10 @@ impl Board for Plain {
 
     fn in_check(&self) -> bool {
         is_in_check(&self.setup.men, self.setup.side)
+    }
+
+    fn word(&self) -> u64 {
+        position_word(&self.setup)
     }
 
     fn make(&mut self, m: Move) -> Saved {

@@ -1,9 +1,10 @@
--- The men of both colours as sets of squares.
+-- The men of both colours as sets of squares, and the word of their keys.
 use Rattle.std.specs.Prelude.{ℕ, ◌<◌, ◌≡◌}
 use Rattle.chess_base.specs.declared.man.Colour.TheVariants.{White, Black}
 use Rattle.chess_base.specs.Men.{Men, man_at, is_of}
 use Rattle.chess_bits.specs.declared.sets.Sets.{Sets}
 use Rattle.chess_bits.specs.ties.KindSets.{IsKinds}
+use Rattle.chess_moves.specs.PositionWord.{men_keys, xor_of}
 use Rattle.chess_moves.specs.Sets.{has}
 
 pub record IsSets (s : Sets) (men : Men) : Type 0 where
@@ -11,3 +12,4 @@ pub record IsSets (s : Sets) (men : Men) : Type 0 where
   pub of_black : IsKinds s.black.sets Black men
   pub all_white : (k : ℕ) → k < 64 → has s.all_white k ≡ is_of White (man_at men k)
   pub all_black : (k : ℕ) → k < 64 → has s.all_black k ≡ is_of Black (man_at men k)
+  pub men_word : s.men_word ≡ xor_of (men_keys men)

@@ -1,7 +1,11 @@
 -- What a game keeps of its start and of each move that stands.
 use Rattle.std.specs.Prelude.{◌≡◌, ◌≤◌, ◌<◌, ℕ, List, [], ◌∷◌, length, take, map, Option, None}
+use Rattle.std.specs.List.{AllByRecursion}
+use Rattle.chess_base.specs.declared.man.Colour.{Colour}
 use Rattle.chess_base.specs.declared.man.Move.{Move}
+use Rattle.chess_base.specs.declared.man.Rights.{Rights}
 use Rattle.chess_base.specs.declared.setup.Setup.{Setup}
+use Rattle.chess_base.specs.Men.{Men}
 use Rattle.chess_moves.specs.Made.{WasMade}
 use Rattle.chess_game.specs.Line.{last}
 use Rattle.chess_game.specs.Same.{live_target}
@@ -17,15 +21,34 @@ moves_of places = map (λ x. x.made) places
 abbrev pub IsKnown : Known → Type 0
 IsKnown k = k.live_target ≡ live_target k.position
 
+-- a definition of position words, as a board has one
+abbrev pub Wording : Type 0
+Wording = Men → Colour → Rights → ℕ
+
+-- beside a position stands its word by that definition
+abbrev pub HasWord : Wording → Known → Type 0
+HasWord f k = k.word ≡ f k.position.men k.position.side k.position.rights
+
+-- beside two positions stand their words by one definition
+abbrev pub ShareWording : Known → Known → Type 0
+ShareWording x y = (f : Wording) × HasWord f x × HasWord f y
+
+-- beside the start and each position that a place reached stands its word by that definition
+pub record HaveWords (f : Wording) (first : Known) (places : List Place) : Type 0 where
+  pub start : HasWord f first
+  pub behind : AllByRecursion (λ (x : Place). HasWord f x.reached) places
+
 -- each move was made in the position before it: beside it stand what that saved and the position that it gave
 abbrev pub Follows : Setup → List Place → Type 0
 Follows p [] = Unit {0}
 Follows p (x ∷ xs) = WasMade p x.made x.saved x.reached.position × IsKnown x.reached × Follows x.reached.position xs
 
--- from this start the places follow, and the board is at the position at the end of the line
-pub record IsKept (start : Known) (places : List Place) (board : Setup) : Type 0 where
+-- from this start the places follow, all with words by the board's definition, and the board is at the position at the end
+-- of the line
+pub record IsKept (f : Wording) (start : Known) (places : List Place) (board : Setup) : Type 0 where
   pub known : IsKnown start
   pub follows : Follows start.position places
+  pub words : HaveWords f start places
   pub at_end : board ≡ last start.position (moves_of places)
 
 -- this is the verdict, and none came before the last move

@@ -6,7 +6,7 @@ use Rattle.chess_base.specs.declared.setup.Setup.{Setup}
 use Rattle.chess_game.specs.declared.game.Place.{Place}
 use Rattle.chess_game.specs.Line.{last}
 use Rattle.chess_game.specs.ties.Places.{moves_of, Follows}
-use Rattle.chess_game.proofs.Kept.{at_place, at_end}
+use Rattle.chess_game.proofs.Kept.{at_place, at_end, word_at}
 use Rattle.std.specs.Prelude.{◌==◌, List}
 use Rattle.chess_game.proofs.ForGood.{all_counted, rest_counted}
 use Rattle.chess_game.proofs.game.repetitions.Goals as goal
@@ -15,6 +15,18 @@ pub times_met-count-requires-clause-this : goal.times_met-count-requires-clause-
 times_met-count-requires-clause-this c =
     (at_place c.args.start.now.position c.args.places.now (c.loop-left.left - 1) c.index-places-left.result
     c.requires.follows (omega arith)).known
+
+pub times_met-count-requires-clause-words : goal.times_met-count-requires-clause-words
+times_met-count-requires-clause-words c = (
+  c.requires.words.0,
+  word_at c.requires.words.0 c.args.places.now (c.loop-left.left - 1) c.index-places-left.result
+      c.requires.words.1.behind (omega arith),
+  c.present-now.ensures.word c.requires.words.0 c.requires.words.1,
+)
+
+pub times_same-requires-clause-words : goal.times_same-requires-clause-words
+times_same-requires-clause-words c =
+    (c.requires.words.0, c.requires.words.1.start, c.present-now.ensures.word c.requires.words.0 c.requires.words.1)
 
 pub returns-then-setup-eq0-clause-value : goal.returns-then-setup-eq0-clause-value
 returns-then-setup-eq0-clause-value c =

@@ -1,7 +1,8 @@
+use Rattle.std.proofs.Common.{refl}
 use Rattle.chess_base.specs.declared.man.Colour.TheVariants.{White, Black}
 use Rattle.chess_bits.proofs.Standing.{no_sets}
 use Rattle.chess_bits.proofs.sets.Sets.empty.Goals as goal
 
 pub returns : goal.returns
 returns c = λ men none. no_sets _ men none (c.empty.ensures White men none) (c.empty-2.ensures Black men none)
-    c.empty-3.ensures c.empty-4.ensures
+    c.empty-3.ensures c.empty-4.ensures refl

@@ -2,6 +2,7 @@
 use Rattle.std.proofs.Common.{refl, ◌∙◌}
 use Rattle.chess_base.specs.declared.man.Colour.TheVariants.{White, Black}
 use Rattle.chess_bits.proofs.BoardSets.{theirs_lifted, all_theirs_lifted, all_lift, as_own}
+use Rattle.chess_moves.proofs.Xored.{word_lifted}
 use Rattle.chess_bits.proofs.sets.Sets.lift.Goals as goal
 
 pub returns-in-White : goal.returns-in-White
@@ -16,6 +17,8 @@ returns-in-White c =
           (λ j l. c.without-self.ensures j l ∙ rw (c.single-here.ensures.value j) refl) h.all_white;
       all_black = all_theirs_lifted c.args.self.now.all_black men White c.args.square c.args.man all low
           c.in-White.is at h.all_black;
+      men_word = word_lifted men c.args.square c.args.man c.args.self.now.men_word c.man_key.result all low at h.men_word
+          c.man_key.ensures;
     }
 
 pub returns-in-Black : goal.returns-in-Black
@@ -30,4 +33,6 @@ returns-in-Black c =
           c.in-Black.is at h.all_white;
       all_black = all_lift c.args.self.now.all_black c.without-self-in-Black.result men Black c.args.square all low
           (λ j l. c.without-self-in-Black.ensures j l ∙ rw (c.single-here.ensures.value j) refl) h.all_black;
+      men_word = word_lifted men c.args.square c.args.man c.args.self.now.men_word c.man_key.result all low at h.men_word
+          c.man_key.ensures;
     }

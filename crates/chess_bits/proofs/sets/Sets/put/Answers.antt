@@ -3,6 +3,7 @@ use Rattle.std.proofs.Common.{slice_set, Some, refl, sym, ◌∙◌, subst}
 use Rattle.chess_base.specs.declared.man.Colour.TheVariants.{White, Black}
 use Rattle.chess_bits.specs.ties.KindSets.{IsKinds}
 use Rattle.chess_bits.proofs.BoardSets.{theirs_put, all_theirs_put, all_put, own_of, as_own}
+use Rattle.chess_moves.proofs.Xored.{word_put}
 use Rattle.chess_bits.proofs.sets.Sets.put.Goals as goal
 
 pub returns-in-White : goal.returns-in-White
@@ -19,6 +20,8 @@ returns-in-White c =
           (λ j. c.union-self.ensures j ∙ rw (c.single-here.ensures.value j) refl) h.all_white;
       all_black = all_theirs_put c.args.self.now.all_black men White c.args.square c.args.man all low
           c.in-White.is at h.all_black;
+      men_word = word_put men c.args.square c.args.man c.args.self.now.men_word c.man_key.result all low at h.men_word
+          c.man_key.ensures;
     }
 
 pub returns-in-Black : goal.returns-in-Black
@@ -35,4 +38,6 @@ returns-in-Black c =
       all_black = all_put c.args.self.now.all_black c.union-self-in-Black.result men Black c.args.square
           (Some c.args.man) all low (own_of Black c.args.man c.in-Black.is)
           (λ j. c.union-self-in-Black.ensures j ∙ rw (c.single-here.ensures.value j) refl) h.all_black;
+      men_word = word_put men c.args.square c.args.man c.args.self.now.men_word c.man_key.result all low at h.men_word
+          c.man_key.ensures;
     }

@@ -4,7 +4,7 @@ use Rattle.std.proofs.Common.{◌≡◌, ◌<◌, ◌++◌, ◌∷◌, [], None,
 use Rattle.chess_game.specs.Game.{is_over, is_full}
 use Rattle.chess_game.specs.ties.Places.{moves_of}
 use Rattle.chess_game.specs.declared.game.Place.{Place}
-use Rattle.chess_game.proofs.Kept.{added, pushed, room}
+use Rattle.chess_game.proofs.Kept.{added, words_more, pushed, room}
 use Rattle.chess_game.proofs.Judged.{judged_more, no_verdict}
 use Rattle.chess_game.proofs.Playable.{may_play}
 use Rattle.chess_game.proofs.game.Game.play_legal.Goals as goal
@@ -21,7 +21,8 @@ verdict_on-self-inside-requires g c =
     let in_place : is_err c.push.result ≡ false = sym c.is_err.ensures.value ∙ c.if-is_err.false in
     let all : c.push.new.self.items ≡ places ++ x ∷ [] = pushed c.push.result places (places ++ x ∷ []) c.push.new.self.items in_place c.push.ensures.items in
     let more = added c.self.inside.start.position places x _ _ c.self.invariant.0.follows c.self.invariant.0.at_end c.make-saved.ensures.made c.on.ensures.position c.on.ensures.known in
-    rw (c.as_slice.ensures.value, all) (record { known = c.self.invariant.0.known; follows = more.follows; at_end = more.at_end })
+    let words = words_more g.B.Board.word_of c.self.inside.start places x c.self.invariant.0.words c.on.ensures.word in
+    rw (c.as_slice.ensures.value, all) (record { known = c.self.invariant.0.known; follows = more.follows; words = words; at_end = more.at_end })
 
 pub invariant_of-self : goal.invariant_of-self
 invariant_of-self g c =
@@ -32,8 +33,9 @@ invariant_of-self g c =
     let in_place : is_err c.push.result ≡ false = sym c.is_err.ensures.value ∙ c.if-is_err.false in
     let all : c.push.new.self.items ≡ places ++ x ∷ [] = pushed c.push.result places (places ++ x ∷ []) c.push.new.self.items in_place c.push.ensures.items in
     let more = added c.self.inside.start.position places x _ _ c.self.invariant.0.follows c.self.invariant.0.at_end c.make-saved.ensures.made c.on.ensures.position c.on.ensures.known in
+    let words = words_more g.B.Board.word_of c.self.inside.start places x c.self.invariant.0.words c.on.ensures.word in
     let none : c.self.inside.verdict ≡ None = no_verdict (record { start = c.self.inside.start.position; moves = moves_of places; declared = c.self.inside.declared }) c.self.inside.verdict (is_over c.args.self.now.state) c.self.invariant.1.now (rw (← c.self.view_is) refl) may.on in (
-      rw all (record { known = c.self.invariant.0.known; follows = more.follows; at_end = more.at_end }),
+      rw all (record { known = c.self.invariant.0.known; follows = more.follows; words = words; at_end = more.at_end }),
       rw all (judged_more c.self.inside.start.position places x c.self.inside.verdict c.verdict_on-self-inside.result c.self.invariant.1 none (rw (c.as_slice.ensures.value, all) at c.verdict_on-self-inside.ensures)),
       record { few = omega arith; made = omega arith; bound = omega arith },
     )

@@ -3,7 +3,7 @@
 use Rattle.std.proofs.Common.{arith}
 use Rattle.chess_game.specs.Line.{last}
 use Rattle.chess_game.specs.ties.Places.{moves_of}
-use Rattle.chess_game.proofs.Kept.{taken, fewer}
+use Rattle.chess_game.proofs.Kept.{taken, fewer, words_fewer}
 use Rattle.chess_game.proofs.Judged.{judged_fewer, last_is}
 use Rattle.chess_game.proofs.game.Game.take_back.Goals as goal
 
@@ -20,6 +20,8 @@ invariant_of-self-in-Some g c = (
     known = c.self.invariant.0.known;
     follows = fewer c.self.inside.start.position c.self.inside.places.items c.pop.new.self.items c.in-Some.place
         c.self.invariant.0.follows c.in-Some.ensures.items;
+    words = words_fewer g.B.Board.word_of c.self.inside.start c.self.inside.places.items c.pop.new.self.items
+        c.in-Some.place c.self.invariant.0.words c.in-Some.ensures.items;
     at_end = c.take_back.ensures.back (last c.self.inside.start.position (moves_of c.pop.new.self.items))
         (taken c.self.inside.start.position c.self.inside.places.items c.pop.new.self.items c.in-Some.place _
         c.self.invariant.0.follows c.in-Some.ensures.items c.self.invariant.0.at_end);

@@ -1,0 +1,17 @@
+-- The word so far is the word of the squares so far (xor_turn of Xored).
+use Rattle.std.proofs.Common.{◌≡◌, ℕ, ◌∙◌, ap, arith}
+use Rattle.chess_base.specs.Men.{man_at}
+use Rattle.chess_moves.specs.PositionWord.{square_keys, keys_on, xor_of}
+use Rattle.chess_moves.proofs.Xored.{xor_turn, xor_end}
+use Rattle.chess_moves.proofs.word.men_word.Goals as goal
+
+pub loop-number-preserved : goal.loop-number-preserved
+loop-number-preserved c =
+    let men = c.args.men.now in
+    let here : c.square_word-word.result ≡ xor_of (keys_on men c.loop-number.number) = c.square_word-word.ensures
+    ∙ ap (λ (i : ℕ). xor_of (square_keys c.new-square.result (man_at men i))) c.index.ensures.value
+    ∙ ap (λ (s : ℕ). xor_of (keys_on men s)) c.new-square.ensures in
+    rw here (xor_turn (keys_on men) c.loop-number.word c.loop-number.number c.loop-number.invariant)
+
+pub returns : goal.returns
+returns c = xor_end c.args.men.now c.loop-number.word c.loop-number.number c.loop-number.invariant (omega arith)

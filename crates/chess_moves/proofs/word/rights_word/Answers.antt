@@ -1,0 +1,13 @@
+-- The word of all rights is that of each, joined (rights_apart of Xored).
+use Rattle.std.proofs.Common.{sym}
+use Rattle.chess_moves.proofs.Xored.{rights_apart}
+use Rattle.chess_moves.proofs.word.rights_word.Goals as goal
+
+pub returns : goal.returns
+returns c =
+    rw (
+      c.right_word-white_king_side.ensures,
+      c.right_word-white_queen_side.ensures,
+      c.right_word-black_king_side.ensures,
+      c.right_word-black_queen_side.ensures,
+    ) (sym (rights_apart c.args.rights.now))

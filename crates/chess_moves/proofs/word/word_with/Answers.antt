@@ -1,0 +1,9 @@
+-- The word of all keys is that of the men's, the side's and the rights', joined (word_apart of Xored).
+use Rattle.std.proofs.Common.{sym}
+use Rattle.chess_moves.proofs.Xored.{word_apart}
+use Rattle.chess_moves.proofs.word.word_with.Goals as goal
+
+pub returns : goal.returns
+returns c =
+    let p = c.args.setup.now in
+    rw (c.requires, c.side_word.ensures, c.rights_word.ensures) (sym (word_apart p.men p.side p.rights))

@@ -1,0 +1,95 @@
+-- The position word of this project's boards: a number below 2 to the 64th that tells most positions apart at a glance. It is the
+-- exclusive or of keys, one for each man on its square, one for Black on move and one for each castling right.
+use Rattle.std.specs.Prelude.{ℕ, ◌+◌, ◌*◌, ◌/◌, ◌%◌, ◌^◌, Option, Some, None, List, [], ◌∷◌, ◌++◌, bit_xor, fold, flat_map}
+use Rattle.chess_base.specs.declared.man.Colour.{Colour}
+use Rattle.chess_base.specs.declared.man.Colour.TheVariants.{White, Black}
+use Rattle.chess_base.specs.declared.man.Kind.{Kind}
+use Rattle.chess_base.specs.declared.man.Kind.TheVariants.{King, Queen, Rook, Bishop, Knight, Pawn}
+use Rattle.chess_base.specs.declared.man.Man.{Man}
+use Rattle.chess_base.specs.declared.man.Rights.{Rights}
+use Rattle.chess_base.specs.Squares.{file}
+use Rattle.chess_base.specs.Men.{Men, man_at}
+use Rattle.chess_base.specs.MoveList.{squares}
+
+-- ---- keys: the numbers, from index 0, that the generator SplitMix64 (Steele, Lea, Flood 2014) gives when it starts at 0
+
+abbrev pub increment : ℕ
+increment = 0x9e3779b97f4a7c15
+
+abbrev pub first_factor : ℕ
+first_factor = 0xbf58476d1ce4e5b9
+
+abbrev pub second_factor : ℕ
+second_factor = 0x94d049bb133111eb
+
+-- z with its bits from place k on laid over its lowest ones
+abbrev pub laid_over : ℕ → ℕ → ℕ
+laid_over z k = bit_xor z (z / 2 ^ k)
+
+unfoldable pub key : ℕ → ℕ
+key n =
+    let x = (n + 1) * increment % 2 ^ 64 in
+    let y = laid_over x 30 * first_factor % 2 ^ 64 in
+    let z = laid_over y 27 * second_factor % 2 ^ 64 in
+    laid_over z 31
+
+-- ---- which keys: twelve times 64 for the men on squares, one for Black on move, twice 8 for the rights
+
+abbrev pub colour_place : Colour → ℕ
+colour_place White = 0
+colour_place Black = 1
+
+abbrev pub kind_place : Kind → ℕ
+kind_place Pawn = 0
+kind_place Knight = 1
+kind_place Bishop = 2
+kind_place Rook = 3
+kind_place Queen = 4
+kind_place King = 5
+
+-- the man x on square s
+abbrev pub man_key : Man → ℕ → ℕ
+man_key x s = key (64 * (6 * colour_place x.colour + kind_place x.kind) + s)
+
+-- Black on move
+abbrev pub side_key : ℕ
+side_key = key 768
+
+-- the right of colour c to castle with its rook on r
+abbrev pub right_key : Colour → ℕ → ℕ
+right_key c r = key (769 + 8 * colour_place c + file r)
+
+-- ---- the keys of a position's parts
+
+-- of what stands on s
+abbrev pub square_keys : ℕ → Option Man → List ℕ
+square_keys s None = []
+square_keys s (Some x) = man_key x s ∷ []
+
+abbrev pub keys_on : Men → ℕ → List ℕ
+keys_on men s = square_keys s (man_at men s)
+
+unfoldable pub men_keys : Men → List ℕ
+men_keys men = flat_map (keys_on men) squares
+
+abbrev pub side_keys : Colour → List ℕ
+side_keys White = []
+side_keys Black = side_key ∷ []
+
+abbrev pub right_keys : Colour → Option ℕ → List ℕ
+right_keys c None = []
+right_keys c (Some r) = right_key c r ∷ []
+
+unfoldable pub rights_keys : Rights → List ℕ
+rights_keys r =
+    right_keys White r.white.king_side ++ right_keys White r.white.queen_side ++ right_keys Black r.black.king_side
+    ++ right_keys Black r.black.queen_side
+
+-- ---- the word
+
+-- the exclusive or of all numbers of a list
+abbrev pub xor_of : List ℕ → ℕ
+xor_of ns = fold bit_xor 0 ns
+
+unfoldable pub position_word : Men → Colour → Rights → ℕ
+position_word men side rights = xor_of (men_keys men ++ side_keys side ++ rights_keys rights)

@@ -1,0 +1,124 @@
+//! The position word: the keys of men, side on move and castling rights, joined by exclusive or.
+
+ghost use Rattle.std.specs.Prelude.{◌≡◌, ◌<◌};
+ghost use Rattle.chess_moves.specs.PositionWord.{key, colour_place, kind_place, man_key, square_keys, men_keys, side_keys, right_keys, rights_keys, xor_of, position_word};
+
+use chess_base::{Colour, Kind, Man, Rights, Setup, Square};
+
+// SplitMix64's increment and its two factors.
+const INCREMENT: u64 = 0x9E37_79B9_7F4A_7C15;
+
+const FIRST_FACTOR: u64 = 0xBF58_476D_1CE4_E5B9;
+
+const SECOND_FACTOR: u64 = 0x94D0_49BB_1331_11EB;
+
+// The key of that number.
+#[tactic(auto, unfolding(crate::specs::PositionWord::key))]
+fn key(number: u16) -> u64
+    ensures { result ≡ key number }
+{
+    let mut z = (number as u64 + 1).wrapping_mul(INCREMENT);
+    z = (z ^ (z >> 30)).wrapping_mul(FIRST_FACTOR);
+    z = (z ^ (z >> 27)).wrapping_mul(SECOND_FACTOR);
+    z ^ (z >> 31)
+}
+
+fn colour_place(colour: Colour) -> u16
+    ensures value { result ≡ colour_place colour }
+    ensures in_range { result < 2 }
+{
+    match colour {
+        Colour::White => 0,
+        Colour::Black => 1,
+    }
+}
+
+fn kind_place(kind: Kind) -> u16
+    ensures value { result ≡ kind_place kind }
+    ensures in_range { result < 6 }
+{
+    match kind {
+        Kind::Pawn => 0,
+        Kind::Knight => 1,
+        Kind::Bishop => 2,
+        Kind::Rook => 3,
+        Kind::Queen => 4,
+        Kind::King => 5,
+    }
+}
+
+/// The key of a man on a square.
+pub fn man_key(man: Man, square: Square) -> u64
+    ensures { result ≡ man_key man square }
+{
+    let place = 6 * colour_place(man.colour) + kind_place(man.kind);
+    key(64 * place + square.number() as u16)
+}
+
+// The word of what stands on a square.
+fn square_word(square: Square, man: Option<Man>) -> u64
+    ensures { result ≡ xor_of (square_keys square man) }
+{
+    match man {
+        None => 0,
+        Some(x) => man_key(x, square),
+    }
+}
+
+// The word of the men alone.
+fn men_word(men: &[Option<Man>; 64]) -> u64
+    ensures { result ≡ xor_of (men_keys men.now) }
+{
+    let mut word = 0;
+    for number in 0..64 {
+        let square = Square::new(number);
+        word ^= square_word(square, men[square.index()]);
+    }
+    word
+}
+
+// The word of the side on move alone.
+fn side_word(side: Colour) -> u64
+    ensures { result ≡ xor_of (side_keys side) }
+{
+    match side {
+        Colour::White => 0,
+        Colour::Black => key(768),
+    }
+}
+
+// The word of a right, by the square of its rook, if it is there.
+fn right_word(colour: Colour, rook: Option<Square>) -> u64
+    ensures { result ≡ xor_of (right_keys colour rook) }
+{
+    match rook {
+        None => 0,
+        Some(square) => key(769 + 8 * colour_place(colour) + square.file() as u16),
+    }
+}
+
+// The word of the castling rights alone.
+fn rights_word(rights: &Rights) -> u64
+    ensures { result ≡ xor_of (rights_keys rights.now) }
+{
+    let white_king_side = right_word(Colour::White, rights.white.king_side);
+    let white_queen_side = right_word(Colour::White, rights.white.queen_side);
+    let black_king_side = right_word(Colour::Black, rights.black.king_side);
+    let black_queen_side = right_word(Colour::Black, rights.black.queen_side);
+    white_king_side ^ white_queen_side ^ black_king_side ^ black_queen_side
+}
+
+/// The position word of a setup, where that of its men is known.
+pub fn word_with(of_men: u64, setup: &Setup) -> u64
+    requires { of_men ≡ xor_of (men_keys setup.now.men) }
+    ensures { result ≡ position_word setup.now.men setup.now.side setup.now.rights }
+{
+    of_men ^ side_word(setup.side) ^ rights_word(&setup.rights)
+}
+
+/// The position word of a setup.
+pub fn position_word(setup: &Setup) -> u64
+    ensures { result ≡ position_word setup.now.men setup.now.side setup.now.rights }
+{
+    word_with(men_word(&setup.men), setup)
+}
