@@ -21,6 +21,7 @@ SHORT = {
     "pgn": "chess_pgn",
     "stream": "pgn_stream",
     "cecp": "chess_cecp",
+    "lines": "engine_lines",
     "match": "chess_match",
     "words": "arbiter_words",
     "arbiter": "chess_arbiter",

@@ -27,7 +27,7 @@ use Rattle.chess_base.specs.declared.fault.FenFault.{FenFault}
 use Rattle.chess_base.specs.declared.man.Variant.{Variant}
 use Rattle.chess_base.specs.declared.man.Variant.TheVariants.{Normal, Fischerandom}
 use Rattle.chess_base.specs.declared.setup.Setup.{Setup}
-use Rattle.chess_match.specs.Levels.{LevelSeen, level_of}
+use Rattle.engine_lines.specs.Levels.{LevelSeen, level_of}
 
 -- ---- what is spelled
 

@@ -7,7 +7,7 @@ ghost use Rattle.arbiter_words.specs.Plans.{IsMatchFault, IsMatchPlan, IsPlanFau
 use crate::fault::WordsFault;
 use crate::spelled::{MatchWords, Spelled};
 use chess_base::{FenFault, Position, Variant, read_fen_as};
-use chess_match::Level;
+use engine_lines::Level;
 
 /// What a match is played by.
 #[derive(Clone, Copy)]

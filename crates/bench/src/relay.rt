@@ -3,9 +3,10 @@
 use byte_devices::{Counted, PieceReader, PieceWriter};
 use chess_base::{Kind, Move, Position, Setup};
 use chess_game::Game;
-use chess_match::{Ends, Level, Moments, run_match};
+use chess_match::{Ends, Moments, run_match};
 use chess_moves::Board;
 use chess_text::coordinate;
+use engine_lines::Level;
 use std::alloc::{AllocError, Global};
 
 /// What two engines say in a match.

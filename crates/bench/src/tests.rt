@@ -1,9 +1,9 @@
 use crate::games::{Tally, read_games};
 use crate::relay::{relay, write_script};
 use chess_game::Game;
-use chess_match::Level;
 use chess_moves::Plain;
 use chess_pgn::{PgnFault, PgnFaultKind};
+use engine_lines::Level;
 use std::test::Fail;
 
 #[test]

@@ -7,7 +7,7 @@ use Rattle.byte_devices.specs.Devices.{OutputState, Begins, BreaksOff, Sends, Se
 use Rattle.byte_devices.proofs.DeviceLaws.{appends_more}
 use Rattle.chess_game.specs.Game.{Seen}
 use Rattle.chess_base.specs.declared.setup.Setup.{Setup}
-use Rattle.chess_match.specs.Levels.{LevelSeen}
+use Rattle.engine_lines.specs.Levels.{LevelSeen}
 use Rattle.chess_match.specs.Reasons.{comment_of}
 use Rattle.chess_match.specs.Run.{Flushed, Ran}
 use Rattle.chess_match.specs.declared.reason.MatchFault.{MatchFault}

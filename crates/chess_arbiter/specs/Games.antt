@@ -10,7 +10,7 @@ use Rattle.chess_base.specs.declared.man.Colour.{Colour}
 use Rattle.chess_base.specs.declared.setup.Setup.{Setup}
 use Rattle.byte_devices.specs.Devices.{OutputState, Begins, BreaksOff, Sent}
 use Rattle.chess_game.specs.Game.{Seen}
-use Rattle.chess_match.specs.Levels.{LevelSeen}
+use Rattle.engine_lines.specs.Levels.{LevelSeen}
 use Rattle.chess_match.specs.Reasons.{comment_of}
 use Rattle.chess_match.specs.Run.{Ports, Ran, Flushed, FlushedThenFailed}
 use Rattle.chess_match.specs.declared.reason.MatchFault.{MatchFault}

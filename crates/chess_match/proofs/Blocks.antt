@@ -5,7 +5,7 @@ use Rattle.std.specs.List.{flat_map}
 use Rattle.std.proofs.lemmas.Grind.{flat_map-append}
 use Rattle.chess_base.specs.declared.man.Colour.{Colour}
 use Rattle.chess_base.specs.Men.{other}
-use Rattle.chess_match.specs.Items.{Item, takes}
+use Rattle.engine_lines.specs.Items.{Item, takes}
 use Rattle.chess_match.specs.Match.{Match, seat}
 use Rattle.chess_match.specs.Rules.{Rules}
 use Rattle.chess_match.specs.Sent.{SentLine, Answered, DrawOffered, answers_to, block, entry, is_same_phase, new_items, draw_line}

@@ -4,15 +4,15 @@ use Rattle.std.specs.Prelude.{sum}
 use Rattle.chess_base.specs.declared.man.Colour.{Colour}
 use Rattle.chess_base.specs.declared.man.Colour.TheVariants.{White, Black}
 use Rattle.chess_base.specs.declared.man.Move.{Move}
-use Rattle.chess_match.specs.EngineLines.{LineKind, kind_heard}
-use Rattle.chess_match.specs.Items.{Item}
+use Rattle.engine_lines.specs.EngineLines.{LineKind, kind_heard}
+use Rattle.engine_lines.specs.Items.{Item}
 use Rattle.chess_match.specs.laws.Laws.{ClocksDoNotUnderflow}
-use Rattle.chess_match.specs.Levels.{LevelSeen, allotted, left}
+use Rattle.engine_lines.specs.Levels.{LevelSeen, allotted, left}
 use Rattle.chess_match.specs.Match.{Match, Event, hear, start, clock, played_by, after}
 use Rattle.chess_match.specs.Rules.{Rules}
 use Rattle.chess_match.specs.Sent.{SentLine, entry}
 use Rattle.chess_match.specs.Transcript.{fits_next, fits, match_of}
-use Rattle.chess_match.proofs.Allotment.{allotted_grows}
+use Rattle.engine_lines.proofs.Allotment.{allotted_grows}
 use Rattle.chess_match.proofs.Outcomes.{InTurn, event_outcome, kept_by}
 use Rattle.chess_match.proofs.Going.{offered, sum-snoc}
 

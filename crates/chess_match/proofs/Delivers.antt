@@ -6,10 +6,10 @@ use Rattle.chess_base.specs.declared.man.Colour.TheVariants.{White, Black}
 use Rattle.chess_base.specs.declared.man.Move.{Move}
 use Rattle.byte_devices.specs.Devices.{OutputState}
 use Rattle.chess_base.specs.Men.{other}
-use Rattle.chess_match.specs.Clocks.{ClocksSeen, spent_by}
+use Rattle.engine_lines.specs.Clocks.{ClocksSeen, spent_by}
 use Rattle.chess_cecp.specs.Lines.{LineSeen}
 use Rattle.chess_match.specs.ties.Delivering.{Delivered, by_side, by_turn, event_heard}
-use Rattle.chess_match.specs.Items.{Item, items_of}
+use Rattle.engine_lines.specs.Items.{Item, items_of}
 use Rattle.chess_match.specs.Match.{Match, Event, Line, OutputEnds, FailsToRead, FailsToWrite, after}
 use Rattle.chess_match.specs.Rules.{Rules}
 use Rattle.chess_match.specs.Sent.{SentLine, block, bytes_of}

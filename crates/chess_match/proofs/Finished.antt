@@ -10,7 +10,7 @@ use Rattle.chess_game.specs.Ends.{verdict}
 use Rattle.chess_game.specs.Game as game
 use Rattle.chess_game.specs.Game.{with_declared, verdict_now}
 use Rattle.chess_match.specs.ties.Delivering.{by_side}
-use Rattle.chess_match.specs.Levels.{LevelSeen}
+use Rattle.engine_lines.specs.Levels.{LevelSeen}
 use Rattle.chess_match.specs.Match.{Event, seat}
 use Rattle.chess_match.specs.Reasons.{declared_at}
 use Rattle.chess_match.specs.Rules.{Rules, rules_of}

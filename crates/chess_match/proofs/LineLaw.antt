@@ -4,8 +4,8 @@ use Rattle.chess_base.specs.declared.man.Colour.{Colour}
 use Rattle.chess_base.specs.declared.man.Colour.TheVariants.{White, Black}
 use Rattle.chess_base.specs.declared.man.Move.{Move}
 use Rattle.chess_base.specs.Men.{other}
-use Rattle.chess_match.specs.EngineLines.{LineKind, kind_heard}
-use Rattle.chess_match.specs.Items.{Item}
+use Rattle.engine_lines.specs.EngineLines.{LineKind, kind_heard}
+use Rattle.engine_lines.specs.Items.{Item}
 use Rattle.chess_match.specs.laws.Laws.{LinesAreFew, line_count}
 use Rattle.chess_match.specs.Match.{Match, Event, items_heard, Line, Opened, OutputEnds, FailsToRead, FailsToWrite, seat, hear, start, over, enter, open_turn, played_by, after}
 use Rattle.chess_match.specs.Rules.{Rules}

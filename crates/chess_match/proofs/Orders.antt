@@ -5,8 +5,8 @@ use Rattle.chess_base.specs.declared.man.Colour.{Colour}
 use Rattle.chess_base.specs.declared.man.Colour.TheVariants.{White, Black}
 use Rattle.chess_base.specs.declared.man.Move.{Move}
 use Rattle.chess_base.specs.Men.{other, same_colour}
-use Rattle.chess_match.specs.EngineLines.{LineKind, kind_heard}
-use Rattle.chess_match.specs.Items.{Item, takes}
+use Rattle.engine_lines.specs.EngineLines.{LineKind, kind_heard}
+use Rattle.engine_lines.specs.Items.{Item, takes}
 use Rattle.chess_match.specs.laws.Laws.{moves_told, move_texts, texts_from, owed_to, MovesSentAreKnown}
 use Rattle.chess_match.specs.Match.{Match, Event, Line, Opened, OutputEnds, FailsToRead, FailsToWrite, items_heard, seat, hear, start, over, enter, open_turn, played_by, after}
 use Rattle.chess_match.specs.Rules.{Rules}

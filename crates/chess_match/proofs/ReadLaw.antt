@@ -6,8 +6,8 @@ use Rattle.chess_base.specs.declared.man.Colour.TheVariants.{White, Black}
 use Rattle.chess_base.specs.declared.man.Move.{Move}
 use Rattle.chess_base.specs.Men.{other}
 use Rattle.chess_game.specs.declared.ends.Verdict.{Verdict}
-use Rattle.chess_match.specs.EngineLines.{LineKind, kind_heard, Features, Moves, Resigns, OffersDraw, ClaimsDraw, ClaimsWin, Rejects, Answers, SaysElse}
-use Rattle.chess_match.specs.Items.{Item, has_done}
+use Rattle.engine_lines.specs.EngineLines.{LineKind, kind_heard, Features, Moves, Resigns, OffersDraw, ClaimsDraw, ClaimsWin, Rejects, Answers, SaysElse}
+use Rattle.engine_lines.specs.Items.{Item, has_done}
 use Rattle.chess_match.specs.laws.Laws.{move_said, moves_said, behind_hello, behind_pong, moves_of, AreRead, MovesAreRead}
 use Rattle.chess_match.specs.Match.{Match, Event, Line, Opened, OutputEnds, FailsToRead, FailsToWrite, items_heard, is_pong, hear, start, over, enter, open_turn, played_by, after}
 use Rattle.chess_match.specs.Rules.{Rules}

@@ -12,12 +12,12 @@ use Rattle.chess_game.specs.Game as game
 use Rattle.chess_game.specs.Game.{from_start}
 use Rattle.chess_match.specs.ties.Chess.{Plays}
 use Rattle.chess_match.specs.ties.Delivering.{HearsAt, Delivered, event_heard}
-use Rattle.chess_match.specs.Levels.{LevelSeen}
+use Rattle.engine_lines.specs.Levels.{LevelSeen}
 use Rattle.chess_match.specs.Match.{Match, Event, start, after}
 use Rattle.chess_match.specs.Rules.{Rules, rules_of}
 use Rattle.chess_match.specs.Run.{Asked}
 use Rattle.chess_match.specs.Sent.{block, entry}
-use Rattle.chess_match.specs.Items.{Item}
+use Rattle.engine_lines.specs.Items.{Item}
 use Rattle.chess_match.specs.ties.Stands.{given_block}
 use Rattle.chess_match.specs.Transcript.{match_of, reads, opens, moment_in}
 use Rattle.chess_match.specs.ties.UnderWay.{IsUnderWay, steps_left}

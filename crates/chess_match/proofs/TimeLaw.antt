@@ -11,10 +11,10 @@ use Rattle.chess_base.specs.declared.man.Variant.{Variant}
 use Rattle.chess_base.specs.declared.man.Variant.TheVariants.{Normal, Fischerandom}
 use Rattle.chess_base.specs.Men.{other, same_colour}
 use Rattle.chess_game.specs.declared.ends.Verdict.{Verdict}
-use Rattle.chess_match.specs.EngineLines.{LineKind, kind_heard}
-use Rattle.chess_match.specs.Items.{Item, takes}
+use Rattle.engine_lines.specs.EngineLines.{LineKind, kind_heard}
+use Rattle.engine_lines.specs.Items.{Item, takes}
 use Rattle.chess_match.specs.laws.Laws.{centiseconds, time_told, otim_told, TimesAreClocks, OtherTimesAreClocks}
-use Rattle.chess_match.specs.Levels.{LevelSeen, left}
+use Rattle.engine_lines.specs.Levels.{LevelSeen, left}
 use Rattle.chess_match.specs.Match.{Match, Event, Line, Opened, OutputEnds, FailsToRead, FailsToWrite, items_heard, seat, hear, start, over, enter, open_turn, played_by, after, clock, ping_number}
 use Rattle.chess_match.specs.Reasons.{fault_of}
 use Rattle.chess_match.specs.Rules.{Rules}

@@ -6,8 +6,8 @@ use Rattle.chess_base.specs.declared.man.Colour.TheVariants.{White, Black}
 use Rattle.chess_base.specs.declared.man.Move.{Move}
 use Rattle.chess_base.specs.Men.{other, same_colour}
 use Rattle.chess_game.specs.declared.ends.Verdict.{Verdict}
-use Rattle.chess_match.specs.EngineLines.{kind_heard}
-use Rattle.chess_match.specs.Items.{Item, has_done, takes}
+use Rattle.engine_lines.specs.EngineLines.{kind_heard}
+use Rattle.engine_lines.specs.Items.{Item, has_done, takes}
 use Rattle.chess_match.specs.laws.Laws.{moves_told, owed_to, texts_from, items_said, ItemsAreSaid, EachIsToldTheOthers}
 use Rattle.chess_match.specs.Match.{Match, Event, Line, Opened, OutputEnds, FailsToRead, FailsToWrite, items_heard, seat, hear, start, over, enter, open_turn, played_by, after}
 use Rattle.chess_match.specs.Rules.{Rules}

@@ -5,9 +5,9 @@ use Rattle.chess_base.specs.declared.man.Colour.TheVariants.{White, Black}
 use Rattle.chess_base.specs.declared.man.Move.{Move}
 use Rattle.chess_base.specs.Men.{other, same_colour}
 use Rattle.chess_game.specs.declared.ends.Verdict.{Verdict}
-use Rattle.chess_match.specs.EngineLines.{LineKind, Features, Moves, Resigns, OffersDraw, ClaimsDraw, ClaimsWin, Rejects, Answers, kind_heard}
-use Rattle.chess_match.specs.Items.{Item, items_of, has_done, takes, plays_fischerandom}
-use Rattle.chess_match.specs.Levels.{left}
+use Rattle.engine_lines.specs.EngineLines.{LineKind, Features, Moves, Resigns, OffersDraw, ClaimsDraw, ClaimsWin, Rejects, Answers, kind_heard}
+use Rattle.engine_lines.specs.Items.{Item, items_of, has_done, takes, plays_fischerandom}
+use Rattle.engine_lines.specs.Levels.{left}
 use Rattle.chess_match.specs.Rules.{Rules}
 use Rattle.chess_match.specs.declared.phase.Phase.{Phase}
 use Rattle.chess_match.specs.declared.phase.Phase.TheVariants.{Hello, Setup, Opening, Before, After, Over}

@@ -5,8 +5,8 @@ use Rattle.chess_base.specs.declared.man.Colour.{Colour}
 use Rattle.chess_base.specs.Men.{other, same_colour}
 use Rattle.chess_cecp.specs.Declaring.{result_text}
 use Rattle.chess_game.specs.declared.results.Outcome.{Outcome}
-use Rattle.chess_match.specs.Items.{Item, takes, is_known}
-use Rattle.chess_match.specs.Levels.{LevelSeen, level_text}
+use Rattle.engine_lines.specs.Items.{Item, takes, is_known}
+use Rattle.engine_lines.specs.Levels.{LevelSeen, level_text}
 use Rattle.chess_match.specs.Match.{Match, Seat, seat, clock, ping_number}
 use Rattle.chess_match.specs.Reasons.{outcome_of, comment_of, fault_of}
 use Rattle.chess_match.specs.Rules.{Rules}

@@ -14,13 +14,8 @@
 
 mod block;
 mod chess;
-mod clocks;
-mod engine_line;
-mod features;
 mod hello;
-mod item;
 mod laws;
-mod level;
 mod moments;
 mod phase;
 mod played;
@@ -32,14 +27,11 @@ mod step;
 mod table;
 mod turn;
 
-pub use clocks::Clocks;
-pub use engine_line::{EngineLine, read_engine_line};
 pub use laws::{
     clocks_do_not_underflow, each_is_told_the_others, lines_are_few, moves_are_read,
     moves_are_told_once, moves_sent_are_known, times_are_clocks, transcript_is_the_only_one,
     used_times_are_differences,
 };
-pub use level::Level;
 pub use moments::Moments;
 pub use phase::Phase;
 pub use reason::{DrawClaim, MatchFault, Reason};

@@ -7,21 +7,19 @@ ghost use Rattle.chess_cecp.specs.Next.{NextLine};
 ghost use Rattle.chess_game.specs.Game.{at, with_declared, verdict_now};
 ghost use Rattle.chess_match.specs.ties.Awaits.{IsAwaited};
 ghost use Rattle.chess_match.specs.ties.Delivering.{by_side, by_turn, event_heard, line_event, Delivered, HasLast};
-ghost use Rattle.chess_match.specs.EngineLines.{kind_heard};
-ghost use Rattle.chess_match.specs.Items.{items_of};
+ghost use Rattle.engine_lines.specs.EngineLines.{kind_heard};
+ghost use Rattle.engine_lines.specs.Items.{items_of};
 ghost use Rattle.chess_match.specs.Match.{Match, FailsToWrite, after};
 ghost use Rattle.chess_match.specs.Reasons.{declared_at};
 ghost use Rattle.chess_match.specs.Rules.{Rules};
 ghost use Rattle.chess_match.specs.Run.{Ports, Ran, Asked, text_heard};
-ghost use Rattle.chess_match.specs.Seen.{seen};
+ghost use Rattle.engine_lines.specs.Seen.{seen};
 ghost use Rattle.chess_match.specs.Sent.{block, bytes_of};
 ghost use Rattle.chess_match.specs.ties.Stands.{Stands, Goes, given_block, items_in};
 ghost use Rattle.chess_match.specs.ties.Steps.{IsSane};
 ghost use Rattle.chess_match.specs.ties.Told.{SendsIf, IsTold};
 ghost use Rattle.chess_match.specs.Transcript.{is_on, reads, moment_in};
 
-use crate::engine_line::{EngineLine, read_engine_line};
-use crate::level::Level;
 use crate::moments::Moments;
 use crate::phase::Phase;
 use crate::played::Played;
@@ -34,6 +32,7 @@ use chess_cecp::{Line, Lines};
 use chess_game::{Comment, Game, Outcome};
 use chess_moves::Board;
 use chess_pgn::{HowEnded, TagText};
+use engine_lines::{EngineLine, Level, read_engine_line};
 
 /// The two ends of an engine: what reads its output, and what writes its input.
 #[derive(Drop)]
@@ -292,7 +291,7 @@ fn deliver<W: Output, G: Played, S: Board>(
 }
 
 // What a line tells of items: those of a hello alone.
-#[tactic(auto, unfolding(crate::specs::Items::items_of))]
+#[tactic(auto, unfolding(engine_lines::specs::Items::items_of))]
 fn items_text(phase: Phase, said: EngineLine<'_>) -> &[u8]
     ensures { items_of result.now ≡ items_in phase (seen said.entry) }
 {

@@ -6,7 +6,7 @@ ghost use Rattle.arrayvec.specs.ArrayVec.{array_vec_len};
 ghost use Rattle.byte_devices.specs.Devices.{Puts, Sends};
 ghost use Rattle.std.specs.Result.{is_err};
 ghost use Rattle.chess_match.specs.ties.Told.{SendsIf};
-ghost use Rattle.chess_match.specs.Items.{items_of};
+ghost use Rattle.engine_lines.specs.Items.{items_of};
 ghost use Rattle.chess_pgn.specs.ties.Waiting.{Adds};
 ghost use Rattle.chess_match.specs.Match.{Match};
 ghost use Rattle.chess_match.specs.Rules.{Rules};
@@ -17,8 +17,6 @@ ghost use Rattle.chess_match.specs.Reasons.{fault_of};
 ghost use Rattle.chess_match.specs.ties.Stands.{Stands, given_block, player, to};
 
 use crate::block::{Block, add, add_end, add_level, add_ping, add_times};
-use crate::features::Features;
-use crate::item::{is_known, next_item};
 use crate::phase::Phase;
 use crate::played::Played;
 use crate::reason::{MatchFault, Reason};
@@ -26,6 +24,7 @@ use crate::state::{Core, Given};
 use byte_devices::{Output, WriteFault, put, put_parts};
 use chess_base::{Colour, Variant};
 use chess_moves::Board;
+use engine_lines::{Features, is_known, next_item};
 
 // Whether two sides are the same.
 fn is_side(side: Colour, other: Colour) -> bool

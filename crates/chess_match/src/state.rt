@@ -1,20 +1,17 @@
 //! The core of a match, without devices.
 
 ghost use Rattle.std.specs.Prelude.{◌≡◌, ◌++◌, ◌∷◌, [], List, false};
-ghost use Rattle.chess_match.specs.Seen.{item_seen};
-ghost use Rattle.chess_match.specs.Items as told;
-ghost use Rattle.chess_match.specs.Items.{items_of, has_done};
-ghost use Rattle.chess_match.specs.ties.Stands.{features_of, name_by, Stands};
+ghost use Rattle.engine_lines.specs.Seen.{item_seen, features_of};
+ghost use Rattle.engine_lines.specs.Items as told;
+ghost use Rattle.engine_lines.specs.Items.{items_of, has_done};
+ghost use Rattle.chess_match.specs.ties.Stands.{name_by, Stands};
 ghost use Rattle.chess_match.specs.Match.{start};
 ghost use Rattle.chess_match.specs.Rules.{Rules};
 
-use crate::clocks::Clocks;
-use crate::features::Features;
-use crate::item::{Item, has_word, next_item};
-use crate::level::Level;
 use crate::phase::Phase;
 use chess_base::Colour;
 use chess_pgn::TagText;
+use engine_lines::{Clocks, Features, Item, Level, next_item};
 
 /// What is kept of one engine.
 #[derive(Drop)]
@@ -62,22 +59,14 @@ pub(crate) const ENTRY: Given = Given {
 
 impl Player {
     // Nothing was said yet.
-    #[tactic(auto, unfolding(crate::specs::ties::Stands::features_of, crate::specs::ties::Stands::name_by, crate::specs::Items::takes, crate::specs::Items::plays_fischerandom, crate::specs::Items::told))]
+    #[tactic(auto, unfolding(crate::specs::ties::Stands::name_by, engine_lines::specs::Items::told))]
     fn new() -> Self
         ensures features { result.features ≡ features_of [] }
         ensures name { result.name ≡ name_by [] }
         ensures offers { result.offers ≡ false }
     {
         Player {
-            features: Features {
-                ping: false,
-                setboard: false,
-                san: false,
-                usermove: false,
-                time: true,
-                draw: true,
-                fischerandom: true,
-            },
+            features: Features::new(),
             name: TagText::cut(b""),
             offers: false,
         }
@@ -121,7 +110,7 @@ impl Core {
 }
 
 // Takes over the name that an item says.
-#[tactic(auto, unfolding(crate::specs::ties::Stands::name_by, crate::specs::Items::told))]
+#[tactic(auto, unfolding(crate::specs::ties::Stands::name_by, engine_lines::specs::Items::told))]
 fn note_name(name: &mut TagText, item: &Item<'_>)
     ensures { (items : List told.Item) → name.old ≡ name_by items → name.new ≡ name_by (items ++ item_seen item.now ∷ []) }
 {

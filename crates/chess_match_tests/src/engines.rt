@@ -1,8 +1,9 @@
 use byte_devices::{Counted, PieceReader, PieceWriter};
 use chess_base::{Colour, Position, read_fen};
 use chess_game::Game;
-use chess_match::{Ends, Level, MatchFault, Moments, Setup, run_match};
+use chess_match::{Ends, MatchFault, Moments, Setup, run_match};
 use chess_moves::Plain;
+use engine_lines::Level;
 use std::alloc::Global;
 use std::cell::Cell;
 use std::io::{Error, ErrorKind, Read, Write};

@@ -3,9 +3,10 @@
 use byte_devices::{Counted, PieceReader, PieceWriter};
 use chess_base::{Colour, Position, Variant, read_fen_as};
 use chess_game::{Game, Outcome};
-use chess_match::{Ends, Level, MatchEnd, MatchFault, Moments, Setup, run_match};
+use chess_match::{Ends, MatchEnd, MatchFault, Moments, Setup, run_match};
 use chess_moves::Plain;
 use chess_pgn::HowEnded;
+use engine_lines::Level;
 use std::alloc::Global;
 use std::cell::Cell;
 use std::io::Write;

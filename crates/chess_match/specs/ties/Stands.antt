@@ -5,32 +5,21 @@ use Rattle.chess_base.specs.declared.man.Colour.TheVariants.{White, Black}
 use Rattle.chess_base.specs.declared.man.Move.{Move}
 use Rattle.chess_base.specs.Men.{same_colour}
 use Rattle.chess_pgn.specs.Written.{cut_tag}
-use Rattle.chess_match.specs.Clocks.{ClocksSeen, Spent, charged}
-use Rattle.chess_match.specs.EngineLines.{LineKind}
-use Rattle.chess_match.specs.Items.{Item, takes, told, plays_fischerandom}
-use Rattle.chess_match.specs.Levels.{LevelSeen}
+use Rattle.engine_lines.specs.Clocks.{ClocksSeen, Spent, charged}
+use Rattle.engine_lines.specs.EngineLines.{LineKind}
+use Rattle.engine_lines.specs.Items.{Item, told}
+use Rattle.engine_lines.specs.Seen.{features_of}
+use Rattle.engine_lines.specs.Levels.{LevelSeen}
 use Rattle.chess_match.specs.Match.{Match, Seat, items_heard}
 use Rattle.chess_match.specs.Rules.{Rules}
 use Rattle.chess_match.specs.Sent.{SentLine, DrawOffered, answers_to, entry, block}
 use Rattle.chess_match.specs.declared.phase.Phase.{Phase}
 use Rattle.chess_match.specs.declared.phase.Phase.TheVariants.{Hello, After}
-use Rattle.chess_match.specs.declared.features.Features.{Features}
 use Rattle.chess_match.specs.declared.state.Player.{Player}
 use Rattle.chess_match.specs.declared.state.Given.{Given}
 use Rattle.chess_match.specs.declared.state.Core.{Core}
 
--- what an engine takes, by the items that it said
-unfoldable pub features_of : List Item → Features
-features_of items = record {
-  ping = takes (codes "ping") items;
-  setboard = takes (codes "setboard") items;
-  san = takes (codes "san") items;
-  usermove = takes (codes "usermove") items;
-  time = takes (codes "time") items;
-  draw = takes (codes "draw") items;
-  fischerandom = plays_fischerandom items;
-}
-
+-- the name of an engine, by the items that it said
 unfoldable pub name_by : List Item → List ℕ
 name_by items = cut_tag (told (codes "myname") items)
 

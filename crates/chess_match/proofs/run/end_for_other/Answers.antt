@@ -2,7 +2,7 @@
 use Rattle.std.proofs.Common.{List, [], ap, ◌∙◌}
 use Rattle.chess_base.specs.declared.man.Colour.{Colour}
 use Rattle.chess_base.specs.Men.{other}
-use Rattle.chess_match.specs.Items.{Item, items_of}
+use Rattle.engine_lines.specs.Items.{Item, items_of}
 use Rattle.chess_match.specs.Match.{Match, FailsToWrite, after}
 use Rattle.chess_match.specs.Sent.{bytes_of}
 use Rattle.chess_match.specs.ties.Stands.{given_block}

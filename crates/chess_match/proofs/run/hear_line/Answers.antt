@@ -1,6 +1,6 @@
 -- The moment is asked for, and the core hears what the line says.
 use Rattle.std.proofs.Common.{ap, sym, ◌∙◌}
-use Rattle.chess_match.specs.Seen.{seen}
+use Rattle.engine_lines.specs.Seen.{seen}
 use Rattle.chess_match.specs.ties.Stands.{items_in}
 use Rattle.chess_match.specs.declared.phase.Phase.{Phase}
 use Rattle.chess_match.specs.Run.{text_heard}

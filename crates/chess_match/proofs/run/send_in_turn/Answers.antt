@@ -2,7 +2,7 @@
 use Rattle.std.proofs.Common.{◌<◌, length, true, false, refl, ap, sym, ◌∙◌, subst}
 use Rattle.chess_base.specs.declared.man.Colour.{Colour}
 use Rattle.chess_base.specs.Men.{other}
-use Rattle.chess_match.specs.Items.{items_of}
+use Rattle.engine_lines.specs.Items.{items_of}
 use Rattle.chess_match.specs.Match.{FailsToWrite, after}
 use Rattle.chess_match.specs.Sent.{block, bytes_of}
 use Rattle.chess_match.specs.ties.Stands.{Stands, given_block}

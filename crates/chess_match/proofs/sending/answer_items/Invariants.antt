@@ -1,10 +1,10 @@
 use Rattle.arrayvec.specs.ArrayVec.{array_vec_len}
 use Rattle.std.proofs.Common.{length, ◌≡◌, ◌≤◌, List}
 use Rattle.std.specs.Prelude.{nat_lt}
-use Rattle.chess_match.specs.Items.{Item}
+use Rattle.engine_lines.specs.Items.{Item}
 use Rattle.chess_match.specs.Sent.{bytes_of, answers_to}
 use Rattle.chess_pgn.specs.ties.Waiting.{TookSome}
-use Rattle.chess_match.proofs.ItemRuns.{SoFar}
+use Rattle.engine_lines.proofs.ItemRuns.{SoFar}
 use Rattle.chess_match.proofs.sending.answer_items.Given as goal
 
 abbrev pub invariant-loop-item : goal.invariant-loop-item

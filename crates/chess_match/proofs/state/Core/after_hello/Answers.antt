@@ -2,11 +2,11 @@
 -- Black.
 use Rattle.std.proofs.Common.{◌≡◌, List, Bool, refl, sym, ◌∙◌, ap, Option, Some, None}
 use Rattle.std.specs.Prelude.{is_some}
-use Rattle.chess_match.specs.Items.{Item}
+use Rattle.engine_lines.specs.Items.{Item}
 use Rattle.chess_match.specs.Match.{lacking, lack}
 use Rattle.chess_match.specs.Rules.{Rules}
-use Rattle.chess_match.specs.ties.Stands.{features_of}
-use Rattle.chess_match.specs.declared.features.Features.{Features}
+use Rattle.engine_lines.specs.Seen.{features_of}
+use Rattle.engine_lines.specs.declared.features.Features.{Features}
 use Rattle.chess_match.specs.declared.reason.MatchFault.{MatchFault}
 use Rattle.chess_base.specs.declared.man.Variant.{Variant}
 use Rattle.chess_match.proofs.state.Core.after_hello.Goals as goal

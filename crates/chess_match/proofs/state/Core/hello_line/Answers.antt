@@ -3,9 +3,9 @@
 use Rattle.std.proofs.Common.{◌≡◌, ◌+◌, true, false, refl, sym, ◌∙◌, arith, le-leb}
 use Rattle.std.proofs.lemmas.Bool.{lt-leb}
 use Rattle.std.specs.Prelude.{nat_le}
-use Rattle.chess_match.specs.Items.{has_done}
+use Rattle.engine_lines.specs.Items.{has_done}
 use Rattle.chess_match.specs.Match.{hear, items_heard, greeted, enter, hello_line}
-use Rattle.chess_match.specs.Seen.{seen}
+use Rattle.engine_lines.specs.Seen.{seen}
 use Rattle.chess_match.specs.Sent.{is_same_phase}
 use Rattle.chess_match.specs.ties.Stands.{Stands}
 use Rattle.chess_match.specs.declared.reason.MatchFault.TheVariants.{NoDone}

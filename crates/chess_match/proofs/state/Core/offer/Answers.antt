@@ -3,10 +3,10 @@
 use Rattle.std.proofs.Common.{◌≡◌, true, false, ◌∙◌, ap}
 use Rattle.std.specs.Prelude.{codes}
 use Rattle.chess_base.specs.Men.{other}
-use Rattle.chess_match.specs.Items.{takes}
+use Rattle.engine_lines.specs.Items.{takes}
 use Rattle.chess_match.specs.Match.{seat}
 use Rattle.chess_match.specs.ties.Stands.{Keeps, player}
-use Rattle.chess_match.specs.declared.features.Features.{Features}
+use Rattle.engine_lines.specs.declared.features.Features.{Features}
 use Rattle.chess_match.proofs.Going.{kept, reads_on, offered_goes, features-draw}
 use Rattle.chess_match.proofs.state.Core.offer.Goals as goal
 

@@ -2,7 +2,7 @@
 -- for.
 use Rattle.std.proofs.Common.{◌≡◌, true, false, sym}
 use Rattle.chess_match.specs.Match.{is_pong, setup_line}
-use Rattle.chess_match.specs.Seen.{seen}
+use Rattle.engine_lines.specs.Seen.{seen}
 use Rattle.chess_match.specs.Transcript.{reads}
 use Rattle.chess_match.proofs.state.Core.setup_line.Goals as goal
 use Rattle.chess_base.proofs.MenFacts.{same_colour-self}

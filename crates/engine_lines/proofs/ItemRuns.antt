@@ -1,0 +1,225 @@
+-- Items, one after the other.
+use Rattle.std.proofs.Common.{◌≡◌, ℕ, zero, suc, ◌+◌, ◌-◌, ◌≤◌, ◌<◌, Bool, true, false, List, [], ◌∷◌, ◌++◌, length, take, drop, refl, ap, sym, ◌∙◌, Option, None, Some, arith, length-drop, append_assoc, append-nil}
+use Rattle.std.specs.Prelude.{if◌then◌else◌, ◌==◌, codes, option_and_then}
+use Rattle.std.specs.Str.{bytes_eq}
+use Rattle.chess_base.specs.Texts.{is_digit}
+use Rattle.chess_cecp.specs.Lines.{without_front_blanks}
+use Rattle.chess_cecp.proofs.Parts.{wfb_short}
+use Rattle.engine_lines.specs.Words.{is_name_byte, run_of}
+use Rattle.engine_lines.specs.Items.{Item, Value, Digits, Quoted, quoted, quote_at, value_of, is_apart, with_value, with_name, item_of, ends_hello, first_items, items_of, has_done, last_value, said_or, takes, said_again, is_one, fischerandom_again, has_fischerandom, plays_fischerandom}
+use Rattle.engine_lines.specs.Seen.{features_of}
+use Rattle.engine_lines.specs.declared.features.Features.{Features}
+
+-- ---- the last value
+
+pub last_value-snoc : (name : List ℕ) (items : List Item) (i : Item)
+    → last_value name (items ++ i ∷ []) ≡ (if bytes_eq i.name name then Some i.value else last_value name items)
+last_value-snoc name [] i = refl
+last_value-snoc name (j ∷ items) i =
+    rw (last_value-snoc name items i) (by_test (bytes_eq i.name name) i.value (last_value name items) _)
+  where
+    by_test : (b : Bool) (v : Value) (rest last : Option Value)
+        → (elim (if b then Some v else rest) [ Some w ↦ Some w | None ↦ last ])
+        ≡ (if b then Some v else (elim rest [ Some w ↦ Some w | None ↦ last ]))
+    by_test true v rest last = refl
+    by_test false v rest last = refl
+
+said_by : (b d : Bool) (v : Value) (rest : Option Value) → said_or d (if b then Some v else rest)
+    ≡ (if b then is_one v else said_or d rest)
+said_by true d v rest = refl
+said_by false d v rest = refl
+
+pub takes-snoc : (name : List ℕ) (items : List Item) (i : Item)
+    → takes name (items ++ i ∷ []) ≡ said_again name i (takes name items)
+unfolding takes
+takes-snoc name items i =
+    rw (last_value-snoc name items i) (said_by (bytes_eq i.name name) _ i.value (last_value name items))
+
+fischerandom_by : (b : Bool) (v : Value) (rest : Option Value) → has_fischerandom (if b then Some v else rest)
+    ≡ (if b then has_fischerandom (Some v) else has_fischerandom rest)
+fischerandom_by true v rest = refl
+fischerandom_by false v rest = refl
+
+pub fischerandom-snoc : (items : List Item) (i : Item) → plays_fischerandom (items ++ i ∷ []) ≡ fischerandom_again i
+    (plays_fischerandom items)
+unfolding plays_fischerandom
+fischerandom-snoc items i = rw (last_value-snoc (codes "variants") items i)
+    (fischerandom_by (bytes_eq i.name (codes "variants")) i.value (last_value (codes "variants") items))
+
+-- ---- an item takes a byte
+
+quoted_shorter : (cs : List ℕ) (b : Bool) (p : Value × List ℕ)
+    → (if b then None else Some (Quoted (take (quote_at cs) cs), drop (quote_at cs + 1) cs)) ≡ Some p
+    → length p.1 ≤ length cs
+quoted_shorter cs true p e = cc
+quoted_shorter cs false p e =
+    let d : length (drop (quote_at cs + 1) cs) ≡ length cs - (quote_at cs + 1) = length-drop (quote_at cs + 1) cs in
+    let s : length p.1 ≡ length (drop (quote_at cs + 1) cs) =
+    (let q : Some p ≡ Some (Quoted (take (quote_at cs) cs), drop (quote_at cs + 1) cs) = sym e in cc) in
+    omega arith
+
+value_shorter : (text : List ℕ) (p : Value × List ℕ) → value_of text ≡ Some p → length p.1 ≤ length text
+value_shorter [] p e = cc
+value_shorter (c ∷ cs) p e = by_tests (c == 34) (is_digit c) e
+  where
+    by_tests : (a b : Bool)
+        → (if a then quoted cs else if b then
+        Some (Digits (take (run_of is_digit (c ∷ cs)) (c ∷ cs)), drop (run_of is_digit (c ∷ cs)) (c ∷ cs)) else None)
+        ≡ Some p → length p.1 ≤ length (c ∷ cs)
+    by_tests true b e = let q = quoted_shorter cs (quote_at cs == length cs) p e in omega arith
+    by_tests false true e =
+        let d : length (drop (run_of is_digit (c ∷ cs)) (c ∷ cs)) ≡ length (c ∷ cs) - run_of is_digit (c ∷ cs) =
+        length-drop (run_of is_digit (c ∷ cs)) (c ∷ cs) in
+        let s : length p.1 ≡ length (drop (run_of is_digit (c ∷ cs)) (c ∷ cs)) = cc in
+        omega arith
+    by_tests false false e = cc
+
+with_value_shorter : (name rest : List ℕ) (v : Option (Value × List ℕ)) (p : Item × List ℕ) → value_of rest ≡ v
+    → option_and_then (λ (p : Value × List ℕ). if is_apart p.1 then
+    Some (record { name = name; value = p.0 }, without_front_blanks p.1) else None) v ≡ Some p
+    → length p.1 ≤ length rest
+with_value_shorter name rest None p is e = cc
+with_value_shorter name rest (Some q) p is e = by_test (is_apart q.1) e
+  where
+    by_test : (b : Bool) → (if b then Some (record { name = name; value = q.0 }, without_front_blanks q.1) else None)
+        ≡ Some p → length p.1 ≤ length rest
+    by_test true e =
+        let s : length p.1 ≡ length (without_front_blanks q.1) = cc in
+        let b = wfb_short q.1 in
+        let v = value_shorter rest q is in
+        omega arith
+    by_test false e = cc
+
+with_name_shorter : (name rest : List ℕ) (p : Item × List ℕ) → with_name name rest ≡ Some p → length p.1 < length rest
+with_name_shorter [] rest p e = cc
+with_name_shorter (n ∷ ns) [] p e = cc
+with_name_shorter (n ∷ ns) (c ∷ cs) p e = by_test (c == 61) e
+  where
+    by_test : (b : Bool) → (if b then with_value (n ∷ ns) cs else None) ≡ Some p → length p.1 < length (c ∷ cs)
+    by_test true e = let h = with_value_shorter (n ∷ ns) cs (value_of cs) p refl e in omega arith
+    by_test false e = cc
+
+pub item_shorter : (text : List ℕ) (p : Item × List ℕ) → item_of text ≡ Some p → length p.1 < length text
+unfolding item_of
+item_shorter text p e =
+    let h = with_name_shorter (take (run_of is_name_byte text) text) (drop (run_of is_name_byte text) text) p e in
+    let d : length (drop (run_of is_name_byte text) text) ≡ length text - run_of is_name_byte text =
+    length-drop (run_of is_name_byte text) text in
+    omega arith
+
+-- ---- the items of a text, step by step
+
+abbrev pub items_by : (List ℕ → List Item) → Option (Item × List ℕ) → List Item
+items_by more None = []
+items_by more (Some p) = if ends_hello p.0 then p.0 ∷ [] else p.0 ∷ more p.1
+
+first_items-by : (n : ℕ) (text : List ℕ) → first_items (suc n) text ≡ items_by (first_items n) (item_of text)
+first_items-by n text = at (item_of text)
+  where
+    at : (o : Option (Item × List ℕ))
+        → (elim o [ None ↦ [] | Some p ↦ if ends_hello p.0 then p.0 ∷ [] else p.0 ∷ first_items n p.1 ])
+        ≡ items_by (first_items n) o
+    at None = refl
+    at (Some p) = refl
+
+none_left : (text : List ℕ) → length text ≤ 0 → item_of text ≡ None
+unfolding item_of
+none_left [] h = refl
+none_left (c ∷ cs) h = absurd (omega arith)
+
+same_by : (f g : List ℕ → List Item) (o : Option (Item × List ℕ)) → ((p : Item × List ℕ) → o ≡ Some p → f p.1 ≡ g p.1)
+    → items_by f o ≡ items_by g o
+same_by f g None h = refl
+same_by f g (Some p) h = ap (λ (is : List Item). if ends_hello p.0 then p.0 ∷ [] else p.0 ∷ is) (h p refl)
+
+-- as many leaves as a text has bytes are enough
+enough : (n k : ℕ) (text : List ℕ) → length text ≤ n → length text ≤ k → first_items n text ≡ first_items k text
+enough zero zero text a b = refl
+enough zero (suc k) text a b = sym (first_items-by k text ∙ ap (items_by (first_items k)) (none_left text a))
+enough (suc n) zero text a b = first_items-by n text ∙ ap (items_by (first_items n)) (none_left text b)
+enough (suc n) (suc k) text a b =
+    first_items-by n text
+    ∙ same_by (first_items n) (first_items k) (item_of text)
+    (λ p e. let h = item_shorter text p e in enough n k p.1 (omega arith) (omega arith))
+    ∙ sym (first_items-by k text)
+
+-- the items of a text: those of what follows the first one
+pub items_of-step : (text : List ℕ) → items_of text ≡ items_by items_of (item_of text)
+unfolding items_of
+items_of-step text = at (length text) refl
+  where
+    at : (n : ℕ) → length text ≡ n → first_items n text ≡ items_by (λ t. first_items (length t) t) (item_of text)
+    at zero e = sym (ap (items_by (λ t. first_items (length t) t)) (none_left text (omega arith)))
+    at (suc n) e =
+        first_items-by n text
+        ∙ same_by (first_items n) (λ t. first_items (length t) t) (item_of text)
+        (λ p h. let s = item_shorter text p h in enough n (length p.1) p.1 (omega arith) (omega arith))
+
+-- ---- what an engine takes
+
+pub features-snoc : (f : Features) (items : List Item) (i : Item) → f ≡ features_of items
+    → record {
+      ping = said_again (codes "ping") i f.ping;
+      setboard = said_again (codes "setboard") i f.setboard;
+      san = said_again (codes "san") i f.san;
+      usermove = said_again (codes "usermove") i f.usermove;
+      time = said_again (codes "time") i f.time;
+      draw = said_again (codes "draw") i f.draw;
+      fischerandom = fischerandom_again i f.fischerandom;
+    } ≡ features_of (items ++ i ∷ [])
+unfolding features_of
+features-snoc f items i e =
+    rw (
+      e,
+      takes-snoc (codes "ping") items i,
+      takes-snoc (codes "setboard") items i,
+      takes-snoc (codes "san") items i,
+      takes-snoc (codes "usermove") items i,
+      takes-snoc (codes "time") items i,
+      takes-snoc (codes "draw") items i,
+      fischerandom-snoc items i,
+    ) refl
+
+-- ---- a loop over items
+
+-- so far these were read of a text, and this is left
+pub record SoFar (text rest : List ℕ) (read : List Item) : Type 0 where
+  pub items : items_of text ≡ read ++ items_of rest
+  pub going : has_done (items_of text) ≡ has_done (items_of rest)
+
+some_at : (rest : List ℕ) (p : Item × List ℕ) → item_of rest ≡ Some p → ends_hello p.0 ≡ false
+    → items_of rest ≡ p.0 ∷ items_of p.1
+some_at rest p e f = items_of-step rest ∙ ap (items_by items_of) e ∙ rw f refl
+
+last_at : (rest : List ℕ) (p : Item × List ℕ) → item_of rest ≡ Some p → ends_hello p.0 ≡ true → items_of rest ≡ p.0 ∷ []
+last_at rest p e f = items_of-step rest ∙ ap (items_by items_of) e ∙ rw f refl
+
+pub none_at : (rest : List ℕ) → item_of rest ≡ None → items_of rest ≡ []
+none_at rest e = items_of-step rest ∙ ap (items_by items_of) e
+
+pub so_far_more : (text rest : List ℕ) (items : List Item) (p : Item × List ℕ) → SoFar text rest items
+    → item_of rest ≡ Some p → ends_hello p.0 ≡ false → SoFar text p.1 (items ++ p.0 ∷ [])
+unfolding has_done
+so_far_more text rest items p s e f = record {
+  items = s.items ∙ ap (λ (is : List Item). items ++ is) (some_at rest p e f)
+      ∙ sym (append_assoc items (p.0 ∷ []) (items_of p.1));
+  going = s.going ∙ ap has_done (some_at rest p e f) ∙ rw f refl;
+}
+
+pub so_far_done : (text rest : List ℕ) (items : List Item) (p : Item × List ℕ) → SoFar text rest items
+    → item_of rest ≡ Some p → ends_hello p.0 ≡ true
+    → (items_of text ≡ items ++ p.0 ∷ []) × (has_done (items_of text) ≡ true)
+unfolding has_done
+so_far_done text rest items p s e f = (
+  s.items ∙ ap (λ (is : List Item). items ++ is) (last_at rest p e f),
+  s.going ∙ ap has_done (last_at rest p e f) ∙ rw f refl,
+)
+
+pub so_far_none : (text rest : List ℕ) (items : List Item) → SoFar text rest items → item_of rest ≡ None
+    → (items_of text ≡ items) × (has_done (items_of text) ≡ false)
+unfolding has_done
+so_far_none text rest items s e = (
+  s.items ∙ ap (λ (is : List Item). items ++ is) (none_at rest e) ∙ append-nil items,
+  s.going
+      ∙ ap has_done (none_at rest e),
+)

@@ -1,0 +1,3 @@
+pub mod Allotment
+pub mod ItemRuns
+pub mod Pieces

@@ -1,0 +1,14 @@
+use Rattle.std.proofs.Common.{length, drop, take, ◌-◌, ◌≡◌, ◌≤◌, []}
+use Rattle.engine_lines.specs.Items.{has_word_behind}
+use Rattle.engine_lines.proofs.item.has_word.Given as goal
+
+abbrev pub invariant-loop-at : goal.invariant-loop-at
+invariant-loop-at l = record {
+  pieces : has_word_behind l.word [] l.text ≡ has_word_behind l.word (take (l.at - l.from) (drop l.from l.text))
+      (drop l.at l.text);
+  in_order : l.from ≤ l.at;
+  in_range : l.at ≤ length l.text;
+}
+
+abbrev pub decreases-loop-at : goal.decreases-loop-at
+decreases-loop-at l = length l.text - l.at

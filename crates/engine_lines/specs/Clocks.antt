@@ -1,0 +1,43 @@
+-- The clocks of a game: of each side the number of its moves, and the sum of the times that they used.
+use Rattle.std.specs.Prelude.{ℕ, ◌+◌, ◌≤◌}
+use Rattle.chess_base.specs.declared.man.Colour.{Colour}
+use Rattle.chess_base.specs.declared.man.Colour.TheVariants.{White, Black}
+use Rattle.engine_lines.specs.Levels.{LevelSeen, allotted, left}
+
+pub record Spent : Type 0 where
+  pub moves : ℕ
+  -- in milliseconds
+  pub used : ℕ
+
+pub record ClocksSeen : Type 0 where
+  pub level : LevelSeen
+  pub white : Spent
+  pub black : Spent
+
+abbrev pub nothing_spent : Spent
+nothing_spent = record { moves = 0; used = 0 }
+
+-- before the first move
+abbrev pub new_clocks : LevelSeen → ClocksSeen
+new_clocks level = record { level = level; white = nothing_spent; black = nothing_spent }
+
+abbrev pub spent_by : ClocksSeen → Colour → Spent
+spent_by clocks White = clocks.white
+spent_by clocks Black = clocks.black
+
+-- the milliseconds that a side has left
+abbrev pub remaining : ClocksSeen → Colour → ℕ
+remaining clocks c = left clocks.level (spent_by clocks c).moves (spent_by clocks c).used
+
+-- a move more, which used so many milliseconds
+abbrev pub spent_more : Spent → ℕ → Spent
+spent_more s used = record { moves = s.moves + 1; used = s.used + used }
+
+abbrev pub charged : ClocksSeen → Colour → ℕ → ClocksSeen
+charged clocks White used = record clocks { white = spent_more clocks.white used }
+charged clocks Black used = record clocks { black = spent_more clocks.black used }
+
+-- no side used more than it was given
+pub record IsWithin (level : LevelSeen) (s : Spent) : Type 0 where
+  pub moves : s.moves ≤ 20000
+  pub used : s.used ≤ allotted level s.moves

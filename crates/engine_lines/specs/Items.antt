@@ -1,0 +1,150 @@
+-- The items of a `feature` line (CECP, version 2: section 9), and what an engine says by them.
+use Rattle.std.specs.Prelude.{ℕ, zero, suc, ◌+◌, ◌==◌, ◌&&◌, ◌||◌, not, Bool, true, false, if◌then◌else◌, List, [], ◌∷◌, ◌++◌, length, take, drop, codes, Option, None, Some, option_and_then}
+use Rattle.std.specs.List.{list_any}
+use Rattle.std.specs.Str.{bytes_eq}
+use Rattle.chess_base.specs.Letters.{byte}
+use Rattle.chess_base.specs.Texts.{is_digit}
+use Rattle.chess_cecp.specs.Lines.{is_blank, without_front_blanks}
+use Rattle.engine_lines.specs.Words.{is_name_byte, run_of}
+
+-- ---- one item, `NAME=VALUE`
+
+pub data Value : Type 0 where
+  Digits : List ℕ → Value
+  Quoted : List ℕ → Value
+
+pub record Item : Type 0 where
+  pub name : List ℕ
+  pub value : Value
+
+-- how many bytes stand before the next double quote
+abbrev pub quote_at : List ℕ → ℕ
+quote_at text = run_of (λ c. not (c == byte "\"")) text
+
+-- the text before the next double quote, and what follows that
+abbrev pub quoted : List ℕ → Option (Value × List ℕ)
+quoted text = if quote_at text == length text then None else Some (Quoted (take (quote_at text) text), drop (quote_at text + 1) text)
+
+-- the value at the front of a text, and what follows it: digits, or a text in double quotes
+abbrev pub value_of : List ℕ → Option (Value × List ℕ)
+value_of [] = None
+value_of (c ∷ cs) =
+    if c == byte "\"" then quoted cs
+    else if is_digit c then Some (Digits (take (run_of is_digit (c ∷ cs)) (c ∷ cs)), drop (run_of is_digit (c ∷ cs)) (c ∷ cs))
+    else None
+
+-- blanks or the line's end stand here
+abbrev pub is_apart : List ℕ → Bool
+is_apart [] = true
+is_apart (c ∷ cs) = is_blank c
+
+abbrev pub with_value : List ℕ → List ℕ → Option (Item × List ℕ)
+with_value name rest =
+    option_and_then (λ (p : Value × List ℕ). if is_apart p.1 then Some (record { name = name; value = p.0 }, without_front_blanks p.1) else None) (value_of rest)
+
+abbrev pub with_name : List ℕ → List ℕ → Option (Item × List ℕ)
+with_name [] rest = None
+with_name (n ∷ ns) [] = None
+with_name (n ∷ ns) (c ∷ cs) = if c == byte "=" then with_value (n ∷ ns) cs else None
+
+-- the item at the front of a text, and what follows it and its blanks; none where it is malformed
+unfoldable pub item_of : List ℕ → Option (Item × List ℕ)
+item_of text = with_name (take (run_of is_name_byte text) text) (drop (run_of is_name_byte text) text)
+
+-- ---- the items of a line
+
+-- the digit 1 alone, without quotes
+abbrev pub is_one : Value → Bool
+is_one (Digits ds) = bytes_eq ds (codes "1")
+is_one (Quoted cs) = false
+
+-- `done=1`
+abbrev pub ends_hello : Item → Bool
+ends_hello i = bytes_eq i.name (codes "done") && is_one i.value
+
+-- the items of a text, at most n, up to a malformed one or one that ends the hello
+abbrev pub first_items : ℕ → List ℕ → List Item
+first_items zero text = []
+first_items (suc n) text =
+    elim (item_of text) [
+      | None ↦ []
+      | Some p ↦ if ends_hello p.0 then p.0 ∷ [] else p.0 ∷ first_items n p.1
+    ]
+
+-- an item has at least three bytes, so a text has no more items than bytes
+unfoldable pub items_of : List ℕ → List Item
+items_of text = first_items (length text) text
+
+unfoldable pub has_done : List Item → Bool
+has_done items = list_any ends_hello items
+
+-- ---- what an engine says by its items
+
+-- the last value of a name
+abbrev pub last_value : List ℕ → List Item → Option Value
+last_value name [] = None
+last_value name (i ∷ is) =
+    elim (last_value name is) [
+      | Some v ↦ Some v
+      | None ↦ if bytes_eq i.name name then Some i.value else None
+    ]
+
+-- whether an engine takes what a name asks for, which it does by default or doesn't
+abbrev pub said_or : Bool → Option Value → Bool
+said_or default None = default
+said_or default (Some v) = is_one v
+
+-- what isn't said is 1 for `time` and `draw`, else 0
+unfoldable pub takes : List ℕ → List Item → Bool
+takes name items = said_or (bytes_eq name (codes "time") || bytes_eq name (codes "draw")) (last_value name items)
+
+abbrev pub value_text : Value → List ℕ
+value_text (Digits ds) = ds
+value_text (Quoted cs) = cs
+
+abbrev pub text_or : List ℕ → Option Value → List ℕ
+text_or default None = default
+text_or default (Some v) = value_text v
+
+-- the text of the last value of a name, else none
+unfoldable pub told : List ℕ → List Item → List ℕ
+told name items = text_or [] (last_value name items)
+
+abbrev pub is_comma_or_blank : ℕ → Bool
+is_comma_or_blank c = is_blank c || (c == byte ",")
+
+-- the rest of a text behind a piece is cut at commas and blanks, and one of the pieces is this word
+abbrev pub has_word_behind : List ℕ → List ℕ → List ℕ → Bool
+has_word_behind word piece [] = bytes_eq piece word
+has_word_behind word piece (c ∷ cs) =
+    if is_comma_or_blank c then bytes_eq piece word || has_word_behind word [] cs else has_word_behind word (piece ++ c ∷ []) cs
+
+-- a text, cut at commas and blanks, has this word
+unfoldable pub has_word : List ℕ → List ℕ → Bool
+has_word word text = has_word_behind word [] text
+
+abbrev pub has_fischerandom : Option Value → Bool
+has_fischerandom None = true
+has_fischerandom (Some v) = has_word (codes "fischerandom") (value_text v)
+
+-- an engine that names its variants names this one
+unfoldable pub plays_fischerandom : List Item → Bool
+plays_fischerandom items = has_fischerandom (last_value (codes "variants") items)
+
+-- what an engine takes once it says an item more, and before whether it did
+abbrev pub said_again : List ℕ → Item → Bool → Bool
+said_again name i before = if bytes_eq i.name name then is_one i.value else before
+
+abbrev pub fischerandom_again : Item → Bool → Bool
+fischerandom_again i before = if bytes_eq i.name (codes "variants") then has_word (codes "fischerandom") (value_text i.value) else before
+
+-- ---- the answer to an item
+
+abbrev pub known_names : List (List ℕ)
+known_names =
+    codes "ping" ∷ codes "setboard" ∷ codes "playother" ∷ codes "san" ∷ codes "usermove" ∷ codes "time" ∷ codes "draw"
+    ∷ codes "sigint" ∷ codes "sigterm" ∷ codes "reuse" ∷ codes "analyze" ∷ codes "myname" ∷ codes "variants"
+    ∷ codes "colors" ∷ codes "debug" ∷ codes "done" ∷ []
+
+unfoldable pub is_known : List ℕ → Bool
+is_known name = list_any (bytes_eq name) known_names

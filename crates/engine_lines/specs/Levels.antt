@@ -1,0 +1,88 @@
+-- Levels of time, their spelling, and the time that a level gives (CECP, version 2: command `level`).
+use Rattle.std.specs.Prelude.{ℕ, ◌+◌, ◌-◌, ◌*◌, ◌/◌, ◌%◌, ◌==◌, ◌≤◌, ◌&&◌, nat_lt, nat_le, not, if◌then◌else◌, List, [], ◌∷◌, ◌++◌, length, take, drop, codes, decimal, Option, None, Some}
+use Rattle.std.specs.List.{list_all}
+use Rattle.std.specs.Option.{option_map}
+use Rattle.chess_base.specs.Letters.{byte}
+use Rattle.chess_base.specs.Texts.{is_digit, value_after}
+use Rattle.chess_cecp.specs.Commands.{word_of, argument_of}
+use Rattle.chess_cecp.specs.Lines.{without_front_blanks}
+use Rattle.engine_lines.specs.Words.{run_of}
+
+-- moves of a session, 0 for one session without end; base and increment in seconds
+pub record LevelSeen : Type 0 where
+  pub moves : ℕ
+  pub base : ℕ
+  pub increment : ℕ
+
+pub record IsLevel (level : LevelSeen) : Type 0 where
+  pub moves : level.moves ≤ 999
+  pub base : level.base ≤ 59999
+  pub increment : level.increment ≤ 999
+
+-- ---- spelling
+
+-- the number that at most n digits write, at least one
+abbrev pub short_number : ℕ → List ℕ → Option ℕ
+short_number n text = if nat_lt 0 (length text) && nat_le (length text) n && list_all is_digit text then Some (value_after 0 text) else None
+
+-- how many bytes stand before the first colon
+abbrev pub colon_at : List ℕ → ℕ
+colon_at text = run_of (λ c. not (c == byte ":")) text
+
+abbrev pub in_seconds : Option ℕ → Option ℕ → Option ℕ
+in_seconds None seconds = None
+in_seconds (Some m) None = None
+in_seconds (Some m) (Some s) = if nat_lt s 60 then Some (60 * m + s) else None
+
+-- minutes, or minutes and seconds with a colon between
+unfoldable pub base_of : List ℕ → Option ℕ
+base_of text =
+    if colon_at text == length text then option_map (λ m. 60 * m) (short_number 3 text)
+    else in_seconds (short_number 3 (take (colon_at text) text)) (short_number 2 (drop (colon_at text + 1) text))
+
+abbrev pub level_by : Option ℕ → Option ℕ → Option ℕ → Option LevelSeen
+level_by None base increment = None
+level_by (Some m) None increment = None
+level_by (Some m) (Some b) None = None
+level_by (Some m) (Some b) (Some i) = Some (record { moves = m; base = b; increment = i })
+
+-- three words, of moves, base and increment, and nothing behind them
+abbrev pub level_in : List ℕ → List ℕ → List ℕ → List ℕ → Option LevelSeen
+level_in moves base increment [] = level_by (short_number 3 moves) (base_of base) (short_number 3 increment)
+level_in moves base increment (c ∷ cs) = None
+
+abbrev pub level_behind : List ℕ → List ℕ → List ℕ → Option LevelSeen
+level_behind moves base rest = level_in moves base (word_of rest) (argument_of rest)
+
+-- the level that a text spells
+unfoldable pub level_of : List ℕ → Option LevelSeen
+level_of text =
+    let t = without_front_blanks text in
+    level_behind (word_of t) (word_of (argument_of t)) (argument_of (argument_of t))
+
+-- ---- writing
+
+abbrev pub two_digits : ℕ → List ℕ
+two_digits n = (byte "0" + n / 10) ∷ (byte "0" + n % 10) ∷ []
+
+-- minutes, and where they aren't 0 seconds
+abbrev pub base_text : ℕ → List ℕ
+base_text base = if base % 60 == 0 then decimal (base / 60) else decimal (base / 60) ++ (codes ":" ++ two_digits (base % 60))
+
+unfoldable pub level_text : LevelSeen → List ℕ
+level_text level = decimal level.moves ++ (codes " " ++ (base_text level.base ++ (codes " " ++ decimal level.increment)))
+
+-- ---- time
+
+-- how many sessions a side has begun after k moves
+unfoldable pub sessions : LevelSeen → ℕ → ℕ
+sessions level k = if level.moves == 0 then 1 else 1 + k / level.moves
+
+-- the milliseconds that a side was given for k moves and the next one
+unfoldable pub allotted : LevelSeen → ℕ → ℕ
+allotted level k = 1000 * (level.base * sessions level k + level.increment * k)
+
+-- the milliseconds that a side has left after k moves that used so many in all: base for each session that it has
+-- begun, and increment for each move, less what was used, and at least 0
+unfoldable pub left : LevelSeen → ℕ → ℕ → ℕ
+left level k used = allotted level k - used

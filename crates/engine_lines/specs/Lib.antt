@@ -1,0 +1,6 @@
+pub mod Words
+pub mod Items
+pub mod EngineLines
+pub mod Levels
+pub mod Clocks
+pub mod Seen

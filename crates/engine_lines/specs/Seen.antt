@@ -1,0 +1,53 @@
+-- What engine lines, items and features are read as.
+use Rattle.std.specs.Prelude.{ℕ, List, codes, Option, None, Some}
+use Rattle.std.specs.Borrow.{Bor}
+use Rattle.engine_lines.specs.EngineLines as kinds
+use Rattle.engine_lines.specs.EngineLines.{LineKind}
+use Rattle.engine_lines.specs.Items as items
+use Rattle.engine_lines.specs.Items.{takes, plays_fischerandom}
+use Rattle.engine_lines.specs.declared.item.Item.{Item}
+use Rattle.engine_lines.specs.declared.item.Value.{Value}
+use Rattle.engine_lines.specs.declared.item.Value.TheVariants.{Digits, Quoted}
+use Rattle.engine_lines.specs.declared.features.Features.{Features as Taken}
+use Rattle.engine_lines.specs.declared.engine_line.EngineLine.{EngineLine}
+use Rattle.engine_lines.specs.declared.engine_line.EngineLine.TheVariants.{Features, Move, Resign, Offer, Draw, Win, Rejection, Pong, Other}
+
+abbrev pub seen : EngineLine → LineKind
+seen (Features text) = kinds.Features text.now
+seen (Move text) = kinds.Moves text.now
+seen Resign = kinds.Resigns
+seen Offer = kinds.OffersDraw
+seen Draw = kinds.ClaimsDraw
+seen (Win c) = kinds.ClaimsWin c
+seen Rejection = kinds.Rejects
+seen (Pong n) = kinds.Answers n
+seen Other = kinds.SaysElse
+
+abbrev pub value_seen : Value → items.Value
+value_seen (Digits text) = items.Digits text.now
+value_seen (Quoted text) = items.Quoted text.now
+
+abbrev pub item_seen : Item → items.Item
+item_seen i = record { name = i.name.now; value = value_seen i.value }
+
+-- a value, and what follows it
+abbrev pub value_read : Option (Value × Bor (List ℕ)) → Option (items.Value × List ℕ)
+value_read None = None
+value_read (Some p) = Some (value_seen p.0, p.1.now)
+
+-- an item, and what follows it
+abbrev pub item_read : Option (Item × Bor (List ℕ)) → Option (items.Item × List ℕ)
+item_read None = None
+item_read (Some p) = Some (item_seen p.0, p.1.now)
+
+-- what an engine takes, by the items that it said
+unfoldable pub features_of : List items.Item → Taken
+features_of said = record {
+  ping = takes (codes "ping") said;
+  setboard = takes (codes "setboard") said;
+  san = takes (codes "san") said;
+  usermove = takes (codes "usermove") said;
+  time = takes (codes "time") said;
+  draw = takes (codes "draw") said;
+  fischerandom = plays_fischerandom said;
+}

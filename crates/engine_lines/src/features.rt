@@ -1,0 +1,52 @@
+//! What an engine takes.
+
+ghost use Rattle.std.specs.Prelude.{◌≡◌, ◌++◌, ◌∷◌, [], List};
+ghost use Rattle.engine_lines.specs.Items as told;
+ghost use Rattle.engine_lines.specs.Seen.{features_of, item_seen};
+
+use crate::item::Item;
+
+/// What an engine takes, as it said in its hello.
+#[derive(Clone, Copy, Debug, PartialEq, Eq)]
+pub struct Features {
+    pub ping: bool,
+    pub setboard: bool,
+    pub san: bool,
+    pub usermove: bool,
+    pub time: bool,
+    pub draw: bool,
+    pub fischerandom: bool,
+}
+
+impl Features {
+    /// What an engine takes that said nothing yet.
+    #[tactic(auto, unfolding(crate::specs::Seen::features_of, crate::specs::Items::takes, crate::specs::Items::plays_fischerandom))]
+    pub fn new() -> Self
+        ensures { result ≡ features_of [] }
+    {
+        Features {
+            ping: false,
+            setboard: false,
+            san: false,
+            usermove: false,
+            time: true,
+            draw: true,
+            fischerandom: true,
+        }
+    }
+
+    /// What the engine takes once it said one item more.
+    pub fn heard(self, item: &Item<'_>) -> Self
+        ensures { (items : List told.Item) → self ≡ features_of items → result ≡ features_of (items ++ item_seen item.now ∷ []) }
+    {
+        Features {
+            ping: item.says_or(b"ping", self.ping),
+            setboard: item.says_or(b"setboard", self.setboard),
+            san: item.says_or(b"san", self.san),
+            usermove: item.says_or(b"usermove", self.usermove),
+            time: item.says_or(b"time", self.time),
+            draw: item.says_or(b"draw", self.draw),
+            fischerandom: item.names_fischerandom_or(self.fischerandom),
+        }
+    }
+}

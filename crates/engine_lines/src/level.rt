@@ -1,0 +1,184 @@
+//! Levels of time.
+
+ghost use Rattle.std.specs.Prelude.{◌≡◌, ◌≤◌, ◌<◌, ◌==◌, ◌^◌, IfSome, length};
+ghost use Rattle.engine_lines.specs.Levels.{level_of, level_in, level_behind, base_of, in_seconds, short_number, colon_at, allotted, sessions};
+
+use chess_cecp::{argument, first_word, trim_start};
+use std::marker::Model;
+
+/// A level of time (CECP, version 2, command `level`): so many moves a session, 0 for one session without end, and a base
+/// and an increment in seconds.
+#[derive(Clone, Copy, PartialEq, Eq)]
+pub struct Level {
+    moves: u32,
+    base: u32,
+    increment: u32,
+}
+
+impl Model for Level {
+    ghost use Rattle.engine_lines.specs.Levels.{LevelSeen, IsLevel};
+
+    ghost Value = { LevelSeen };
+
+    ghost view = { λ l. record {
+      moves = l.moves;
+      base = l.base;
+      increment = l.increment;
+    } };
+
+    ghost invariant = { λ l. IsLevel (record { moves = l.moves; base = l.base; increment = l.increment }) };
+
+    ghost inverse = { λ v. record { moves = v.moves; base = v.base; increment = v.increment } };
+}
+
+// The number that at most so many digits write.
+fn short_number(text: &[u8], most: usize) -> Option<u32>
+    requires { most ≤ 3 }
+    ensures value { result ≡ short_number most text.now }
+    ensures small { IfSome result (λ n. n ≤ 999) }
+{
+    if text.is_empty() || text.len() > most {
+        return None;
+    }
+    let mut number = 0;
+    for byte in text {
+        if !byte.is_ascii_digit() {
+            return None;
+        }
+        number = 10 * number + u32::from(*byte - b'0');
+    }
+    Some(number)
+}
+
+// How many bytes stand before the first colon.
+fn colon_at(text: &[u8]) -> usize
+    ensures value { result ≡ colon_at text.now }
+    ensures in_range { result ≤ length text.now }
+{
+    let mut at = 0;
+    while at < text.len() && text[at] != b':' {
+        at += 1;
+    }
+    at
+}
+
+// Minutes and seconds in seconds.
+fn in_seconds(minutes: Option<u32>, seconds: Option<u32>) -> Option<u32>
+    requires { IfSome minutes (λ n. n ≤ 999) }
+    ensures value { result ≡ in_seconds minutes seconds }
+    ensures small { IfSome result (λ n. n ≤ 59999) }
+{
+    match (minutes, seconds) {
+        (Some(minutes), Some(seconds)) => {
+            if seconds < 60 {
+                Some(60 * minutes + seconds)
+            } else {
+                None
+            }
+        }
+        (None, _) => None,
+        (Some(_), None) => None,
+    }
+}
+
+// The base that a text spells, in seconds.
+#[tactic(auto, unfolding(crate::specs::Levels::base_of))]
+fn base(text: &[u8]) -> Option<u32>
+    ensures value { result ≡ base_of text.now }
+    ensures small { IfSome result (λ n. n ≤ 59999) }
+{
+    let at = colon_at(text);
+    if at == text.len() {
+        match short_number(text, 3) {
+            None => None,
+            Some(minutes) => Some(60 * minutes),
+        }
+    } else {
+        in_seconds(
+            short_number(&text[..at], 3),
+            short_number(&text[at + 1..], 2),
+        )
+    }
+}
+
+// The level that three words spell, behind which a text follows.
+fn level_in(moves: &[u8], base_text: &[u8], increment: &[u8], rest: &[u8]) -> Option<Level>
+    ensures { result ≡ level_in moves.now base_text.now increment.now rest.now }
+{
+    if !rest.is_empty() {
+        return None;
+    }
+    match (
+        short_number(moves, 3),
+        base(base_text),
+        short_number(increment, 3),
+    ) {
+        (Some(moves), Some(base), Some(increment)) => Some(Level {
+            moves,
+            base,
+            increment,
+        }),
+        (None, _, _) => None,
+        (Some(_), None, _) => None,
+        (Some(_), Some(_), None) => None,
+    }
+}
+
+impl Level {
+    /// The level that a text spells: `MOVES BASE INCREMENT`, each a number of one to three digits, the base in minutes or as
+    /// `minutes:seconds`, with blanks between.
+    #[tactic(auto, unfolding(crate::specs::Levels::level_of))]
+    pub fn read(text: &[u8]) -> Option<Self>
+        ensures { result ≡ level_of text.now }
+    {
+        let text = trim_start(text);
+        let behind = argument(text);
+        let last = argument(behind);
+        level_in(
+            first_word(text),
+            first_word(behind),
+            first_word(last),
+            argument(last),
+        )
+    }
+
+    /// How many moves a session has; 0 for one session without end.
+    pub fn moves(self) -> u32
+        ensures value { result ≡ self.moves }
+        ensures few { result ≤ 999 }
+    {
+        self.moves
+    }
+
+    /// The base in seconds.
+    pub fn base(self) -> u32
+        ensures value { result ≡ self.base }
+        ensures few { result ≤ 59999 }
+    {
+        self.base
+    }
+
+    /// The increment in seconds.
+    pub fn increment(self) -> u32
+        ensures value { result ≡ self.increment }
+        ensures few { result ≤ 999 }
+    {
+        self.increment
+    }
+
+    /// The milliseconds that a side is given for so many moves and the next one.
+    #[tactic(auto, unfolding(crate::specs::Levels::allotted, crate::specs::Levels::sessions))]
+    pub(crate) fn allotted(self, moves: u32) -> u64
+        requires { moves ≤ 20000 }
+        ensures value { result ≡ allotted self moves }
+        ensures bound { result ≤ 2 ^ 62 }
+    {
+        let sessions = if self.moves == 0 {
+            1
+        } else {
+            1 + moves / self.moves
+        };
+        1000 * (u64::from(self.base) * u64::from(sessions)
+            + u64::from(self.increment) * u64::from(moves))
+    }
+}
