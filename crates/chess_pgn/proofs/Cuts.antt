@@ -4,7 +4,7 @@ use Rattle.std.specs.Prelude.{◌&&◌, ◌||◌}
 use Rattle.std.specs.List.{prefix_len, take_while}
 use Rattle.std.proofs.lemmas.Bool.Decides.{nat_tests}
 use Rattle.std.proofs.lemmas.List.{take-append-drop}
-use Rattle.chess_pgn.specs.Tokens.{Token, Plain, Brace, Line, Inside, is_blank, is_word_byte, is_name_byte, behind_brace, behind_gap, string_at, onto, behind_byte, behind_next, closed, with_text, with_string, with_name, tag_at, variation_at, comment_at, token_at}
+use Rattle.chess_pgn.specs.Tokens.{Token, Plain, Brace, Line, Inside, is_white_space, is_word_byte, is_name_byte, behind_brace, behind_gap, string_at, onto, behind_byte, behind_next, closed, with_text, with_string, with_name, tag_at, variation_at, comment_at, token_at}
 use Rattle.chess_base.specs.Texts.{is_digit}
 
 -- the rest of a text behind a byte other than 10
@@ -118,7 +118,7 @@ gap_suffix skips begins [] = suffix_all []
 gap_suffix true begins (c ∷ rest) = suffix_more c rest _ (gap_suffix (not (eqb c 10)) true rest)
 gap_suffix false begins (c ∷ rest) =
     pick (Suffix (c ∷ rest)) (begins && eqb c 37) _ _ (λ _. suffix_more c rest _ (gap_suffix true false rest)) (λ _.
-    pick (Suffix (c ∷ rest)) (is_blank c) _ _ (λ _. suffix_more c rest _ (gap_suffix false (eqb c 10) rest)) (λ _. suffix_all (c ∷ rest)))
+    pick (Suffix (c ∷ rest)) (is_white_space c) _ _ (λ _. suffix_more c rest _ (gap_suffix false (eqb c 10) rest)) (λ _. suffix_all (c ∷ rest)))
 
 abbrev LeavesSuffix : List ℕ → Option (List ℕ × List ℕ) → Type 0
 LeavesSuffix text o = IfSome o (λ (f : List ℕ × List ℕ). Suffix text f.1)
@@ -192,7 +192,7 @@ pub token_left : (begins : Bool) (c : ℕ) (rest : List ℕ) → eqb c 10 ≡ fa
 unfolding token_at
 token_left begins c rest e =
     pick (LeavesOf (c ∷ rest)) (begins && eqb c 37) _ _ (λ _. inr (run_cut (λ b. not (eqb b 10)) refl c rest e)) (λ _.
-    pick (LeavesOf (c ∷ rest)) (is_blank c || eqb c 46) _ _ (λ _. inr (cut_here c rest e)) (λ _.
+    pick (LeavesOf (c ∷ rest)) (is_white_space c || eqb c 46) _ _ (λ _. inr (cut_here c rest e)) (λ _.
     pick (LeavesOf (c ∷ rest)) (eqb c 123) _ _ (λ _. comment_left c (suc (length rest)) rest (behind_brace rest) (brace_cut rest)) (λ _.
     pick (LeavesOf (c ∷ rest)) (eqb c 59) _ _ (λ _. inr (run_cut (λ b. not (eqb b 10)) refl c rest e)) (λ _.
     pick (LeavesOf (c ∷ rest)) (eqb c 36) _ _ (λ _. inr (run_cut is_digit refl c rest e)) (λ _.

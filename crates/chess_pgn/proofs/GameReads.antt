@@ -23,7 +23,7 @@ use Rattle.chess_text.specs.declared.reading.Reading.{Reading}
 use Rattle.chess_text.specs.declared.reading.Reading.TheVariants as reads
 use Rattle.chess_text.specs.Moves.{reading}
 use Rattle.chess_pgn.specs.Words.{kind_of}
-use Rattle.chess_pgn.specs.Tokens.{Token, Skip, Tag, Word, Bad_tag, Unclosed_comment, Unclosed_variation, Bad, first_place, is_blank, token_at, begins_line, tokens_from}
+use Rattle.chess_pgn.specs.Tokens.{Token, Skip, Tag, Word, Bad_tag, Unclosed_comment, Unclosed_variation, Bad, first_place, is_white_space, token_at, begins_line, tokens_from}
 use Rattle.chess_pgn.specs.GameRead.{SoFar, Step, On, Stop, unless_full, move_step, word_step, fen_step, tag_step, step, go_on, game_of, nothing_read, told_by, told_next, variant_told, tokens_read, pgn_read}
 use Rattle.chess_pgn.specs.ties.GameSteps.{so_far, ReadsAlike, step_seen}
 use Rattle.chess_pgn.proofs.Cuts.{pick}
@@ -172,7 +172,7 @@ more limit text from game new p q here behind t r is later h same step_is = reco
 
 -- ---- blanks and dots, at which nothing counts
 
-passed_token : (begins : Bool) (c : ℕ) (rest : List ℕ) → (is_blank c || (c == 46)) ≡ true
+passed_token : (begins : Bool) (c : ℕ) (rest : List ℕ) → (is_white_space c || (c == 46)) ≡ true
     → token_at begins c rest ≡ (Skip, rest)
 unfolding token_at
 passed_token true c rest h =
@@ -181,7 +181,7 @@ passed_token true c rest h =
 passed_token false c rest h = rw h refl
 
 passed_at : (text : List ℕ) (at c : ℕ) (rest : List ℕ) → drop at text ≡ c ∷ rest → at < length text
-    → (is_blank c || (c == 46)) ≡ true → ReadsAlike text at (at + 1)
+    → (is_white_space c || (c == 46)) ≡ true → ReadsAlike text at (at + 1)
 passed_at text at c rest is low h =
     let left : suc (length rest) ≡ length text - at = sym (ap length is) ∙ length-drop at text in
     let place : length text - length rest ≡ at + 1 = omega (arith, left, low) in
@@ -194,7 +194,7 @@ passed_at text at c rest is low h =
 
 -- one more
 pub passed : (text : List ℕ) (from at : ℕ) → ReadsAlike text from at → at < length text
-    → (is_blank (get_or text at 0) || (get_or text at 0 == 46)) ≡ true → ReadsAlike text from (at + 1)
+    → (is_white_space (get_or text at 0) || (get_or text at 0 == 46)) ≡ true → ReadsAlike text from (at + 1)
 passed text from at so low h = λ limit g. so limit g ∙ passed_at text at (get_or text at 0) (drop (suc at) text)
     (drop-cons text at 0 low) low h limit g
 

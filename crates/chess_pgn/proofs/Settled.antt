@@ -24,7 +24,7 @@ use Rattle.chess_pgn.specs.declared.word.WordKind.{WordKind}
 use Rattle.chess_pgn.specs.declared.word.WordKind.TheVariants.{End, Number, Marks, Move}
 use Rattle.chess_pgn.specs.GameRead.{SoFar, GameRead, Step, On, Stop, fails, unless_full, move_step, word_step, fen_step, tag_step, step, go_on, game_of, at_text_end, nothing_read, behind_word, told_by, told_next, variant_told, tokens_read, pgn_read}
 use Rattle.chess_pgn.specs.Local.{is_over, is_gap, if_behind, could_go_on, is_open_behind, is_open_string, is_open_name, is_open_tag, has_word_end, is_firm, settled_by, settles_variant, settles_fault, settles_answer, is_settled, ReadingIsLocal}
-use Rattle.chess_pgn.specs.Tokens.{Token, Skip, Tag, Word, Bad_tag, Unclosed_comment, Unclosed_variation, Bad, Inside, Plain, Brace, Line, is_blank, is_name_byte, is_word_byte, behind_brace, behind_gap, behind_byte, behind_next, string_at, onto, closed, with_text, with_string, with_name, tag_at, variation_at, comment_at, token_at, tokens_of, first_place, begins_line, tokens_from}
+use Rattle.chess_pgn.specs.Tokens.{Token, Skip, Tag, Word, Bad_tag, Unclosed_comment, Unclosed_variation, Bad, Inside, Plain, Brace, Line, is_white_space, is_name_byte, is_word_byte, behind_brace, behind_gap, behind_byte, behind_next, string_at, onto, closed, with_text, with_string, with_name, tag_at, variation_at, comment_at, token_at, tokens_of, first_place, begins_line, tokens_from}
 use Rattle.chess_base.specs.Texts.{is_digit}
 use Rattle.chess_pgn.specs.Words.{kind_of}
 use Rattle.chess_pgn.proofs.Cuts.{pick, Suffix, suffix_then, cut_suffix, Left, token_left, token_ten}
@@ -143,7 +143,7 @@ module _ (more : List ℕ) where
   gap_kept true begins (c ∷ rest) = gap_kept (not (eqb c 10)) true rest
   gap_kept false begins (c ∷ rest) =
       both GapKept (begins && eqb c 37) _ _ _ _ (λ _. gap_kept true false rest) (λ _.
-      both GapKept (is_blank c) _ _ _ _ (λ _. gap_kept false (eqb c 10) rest) (λ _. inr refl))
+      both GapKept (is_white_space c) _ _ _ _ (λ _. gap_kept false (eqb c 10) rest) (λ _. inr refl))
 
   abbrev pub SomeKept : Option (List ℕ) → Option (List ℕ) → Type 0
   SomeKept o u = IfSome o (λ r. u ≡ Some (r ++ more))
@@ -356,7 +356,7 @@ module _ (more : List ℕ) where
   kept begins c rest =
       let unclosed : Bool = is_open_tag rest in
       both (Kept more c rest (is_open_tag rest)) (begins && eqb c 37) _ _ _ _ (λ _. run_kept c rest unclosed (λ b. not (eqb b 10)) rest) (λ _.
-      both (Kept more c rest (is_open_tag rest)) (is_blank c || eqb c 46) _ _ _ _ (λ _. same refl) (λ _.
+      both (Kept more c rest (is_open_tag rest)) (is_white_space c || eqb c 46) _ _ _ _ (λ _. same refl) (λ _.
       both (Kept more c rest (is_open_tag rest)) (eqb c 123) _ _ _ _ (λ _. comment_kept c rest unclosed (suc (length rest)) (suc (length (rest ++ more))) (behind_brace rest) (behind_brace (rest ++ more)) (brace_kept rest)) (λ _.
       both (Kept more c rest (is_open_tag rest)) (eqb c 59) _ _ _ _ (λ _. run_kept c rest unclosed (λ b. not (eqb b 10)) rest) (λ _.
       both (Kept more c rest (is_open_tag rest)) (eqb c 36) _ _ _ _ (λ _. run_kept c rest unclosed is_digit rest) (λ _.

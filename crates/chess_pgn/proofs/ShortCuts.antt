@@ -4,7 +4,7 @@ use Rattle.std.specs.Prelude.{◌&&◌, ◌||◌}
 use Rattle.std.specs.List.{prefix_len, take_while}
 use Rattle.std.proofs.lemmas.List.{length-append, length-drop, take-append-drop}
 use Rattle.chess_base.specs.Texts.{is_digit}
-use Rattle.chess_pgn.specs.Tokens.{Token, Skip, Tag, Word, Bad_tag, Unclosed_comment, Unclosed_variation, Bad, Inside, Plain, Brace, Line, is_blank, is_name_byte, is_word_byte, behind_brace, behind_gap, behind_byte, behind_next, string_at, onto, closed, with_text, with_string, with_name, tag_at, variation_at, comment_at, token_at}
+use Rattle.chess_pgn.specs.Tokens.{Token, Skip, Tag, Word, Bad_tag, Unclosed_comment, Unclosed_variation, Bad, Inside, Plain, Brace, Line, is_white_space, is_name_byte, is_word_byte, behind_brace, behind_gap, behind_byte, behind_next, string_at, onto, closed, with_text, with_string, with_name, tag_at, variation_at, comment_at, token_at}
 use Rattle.chess_pgn.proofs.Cuts.{pick, Suffix, Cut, Left, gap_suffix, string_suffix, next_cut, brace_cut, name_left, variation_cut}
 use Rattle.chess_pgn.proofs.Settled.{both, shift, Stops, run_stops, drop_stops, take_stops}
 
@@ -106,7 +106,7 @@ module _ (more : List ℕ) where
   gap_told true begins (c ∷ rest) = gap_told (not (eqb c 10)) true rest
   gap_told false begins (c ∷ rest) =
       both GapTold (begins && eqb c 37) _ _ _ _ (λ _. gap_told true false rest) (λ _.
-      both GapTold (is_blank c) _ _ _ _ (λ _. gap_told false (eqb c 10) rest) (λ _. inr refl))
+      both GapTold (is_white_space c) _ _ _ _ (λ _. gap_told false (eqb c 10) rest) (λ _. inr refl))
 
   abbrev RestTold : Option (List ℕ) → Option (List ℕ) → Type 0
   RestTold o None = Unit {0}
@@ -325,7 +325,7 @@ module _ (more : List ℕ) where
   unfolding token_at
   told begins c rest =
       both Told (begins && eqb c 37) _ _ _ _ (λ _. run_told (λ b. not (eqb b 10)) rest) (λ _.
-      both Told (is_blank c || eqb c 46) _ _ _ _ (λ _. inr refl) (λ _.
+      both Told (is_white_space c || eqb c 46) _ _ _ _ (λ _. inr refl) (λ _.
       both Told (eqb c 123) _ _ _ _
       (λ _. comment_told (suc (length rest)) (suc (length (rest ++ more))) (behind_brace rest)
       (behind_brace (rest ++ more)) (brace_told rest)) (λ _.
@@ -433,7 +433,7 @@ unfolding token_at
 fills begins c rest =
     let n : ℕ = suc (length rest) in
     pick (FillsBy n) (begins && eqb c 37) _ _ (λ _. tt) (λ _.
-    pick (FillsBy n) (is_blank c || eqb c 46) _ _ (λ _. tt) (λ _.
+    pick (FillsBy n) (is_white_space c || eqb c 46) _ _ (λ _. tt) (λ _.
     pick (FillsBy n) (eqb c 123) _ _ (λ _. comment_fills n n (behind_brace rest)) (λ _.
     pick (FillsBy n) (eqb c 59) _ _ (λ _. tt) (λ _.
     pick (FillsBy n) (eqb c 36) _ _ (λ _. tt) (λ _.

@@ -3,7 +3,7 @@ use Rattle.std.proofs.Common.{◌≡◌, ℕ, suc, ◌+◌, ◌-◌, ◌≤◌, 
 use Rattle.std.specs.List.{position_or_len}
 use Rattle.std.proofs.lemmas.Bool.Decides.{nat_tests}
 use Rattle.std.proofs.lemmas.List.{take_rest}
-use Rattle.chess_pgn.specs.Tokens.{line_end, is_blank, behind_gap}
+use Rattle.chess_pgn.specs.Tokens.{line_end, is_white_space, behind_gap}
 
 -- the end of a line whose first byte is not 10
 pub line_end-more : (c : ℕ) (rest : List ℕ) → eqb c 10 ≡ false → line_end (c ∷ rest) ≡ line_end rest
@@ -19,7 +19,7 @@ gap_line b (c ∷ rest) = by_test (eqb c 10) refl (gap_line true rest)
     by_test : (t : Bool) → eqb c 10 ≡ t → behind_gap true true rest ≡ behind_gap false false (line_end rest)
         → behind_gap true b (c ∷ rest) ≡ behind_gap false false (line_end (c ∷ rest))
     by_test true e more =
-        let blank : is_blank c ≡ true = grind (arith, nat_tests) in
+        let blank : is_white_space c ≡ true = grind (arith, nat_tests) in
         rw (e, blank, e) refl
     by_test false e more = ap (λ t. behind_gap (not t) true rest) e ∙ more
         ∙ ap (behind_gap false false) (sym (line_end-more c rest e))
@@ -36,7 +36,7 @@ gap_line_more (c ∷ rest) next h e is =
     ∙ sym (gap_line false rest))
 
 -- a blank
-pub gap_blank_more : (begins : Bool) (xs next : List ℕ) → 1 ≤ length xs → is_blank (get_or xs 0 0) ≡ true
+pub gap_blank_more : (begins : Bool) (xs next : List ℕ) → 1 ≤ length xs → is_white_space (get_or xs 0 0) ≡ true
     → next ≡ take (length xs - 1) (drop 1 xs) → behind_gap false (eqb (get_or xs 0 0) 10) next ≡ behind_gap false begins
     xs
 gap_blank_more begins [] next h e is = absurd (omega (arith, h))
@@ -44,7 +44,7 @@ gap_blank_more begins (c ∷ rest) next h e is =
     let line : eqb c 37 ≡ false = grind (arith, nat_tests) in
     ap (behind_gap false (eqb c 10)) (is ∙ take_rest (c ∷ rest) 1) ∙ sym (gap_blank begins c rest line e)
   where
-    gap_blank : (b : Bool) (c : ℕ) (rest : List ℕ) → eqb c 37 ≡ false → is_blank c ≡ true
+    gap_blank : (b : Bool) (c : ℕ) (rest : List ℕ) → eqb c 37 ≡ false → is_white_space c ≡ true
         → behind_gap false b (c ∷ rest) ≡ behind_gap false (eqb c 10) rest
     gap_blank true c rest line blank = rw (line, blank) refl
     gap_blank false c rest line blank = rw blank refl

@@ -3,7 +3,7 @@ use Rattle.std.proofs.Common.{◌≡◌, ℕ, zero, suc, ◌-◌, ◌≤◌, Boo
 use Rattle.std.specs.Prelude.{◌&&◌, ◌||◌}
 use Rattle.std.specs.List.{prefix_len, take_while}
 use Rattle.std.proofs.lemmas.List.{length-append, length-drop, take-append-drop}
-use Rattle.chess_pgn.specs.Tokens.{Token, Plain, Brace, Line, Inside, is_blank, is_word_byte, is_name_byte, behind_brace, behind_gap, string_at, behind_next, closed, with_text, with_string, with_name, tag_at, variation_at, comment_at, token_at, begins_line, tokens_from}
+use Rattle.chess_pgn.specs.Tokens.{Token, Plain, Brace, Line, Inside, is_white_space, is_word_byte, is_name_byte, behind_brace, behind_gap, string_at, behind_next, closed, with_text, with_string, with_name, tag_at, variation_at, comment_at, token_at, begins_line, tokens_from}
 use Rattle.chess_pgn.specs.ties.GameSteps.{IsWithin}
 use Rattle.chess_pgn.proofs.Cuts.{Cut, Suffix, pick, gap_suffix, next_cut}
 use Rattle.chess_pgn.proofs.Walk.{no_token, token_more}
@@ -89,7 +89,7 @@ within begins c rest =
     let n : ℕ = suc (length rest) in
     let fewer : length rest ≤ n = omega arith in
     pick (Within n) (begins && eqb c 37) _ _ (λ _. tt) (λ _.
-    pick (Within n) (is_blank c || eqb c 46) _ _ (λ _. tt) (λ _.
+    pick (Within n) (is_white_space c || eqb c 46) _ _ (λ _. tt) (λ _.
     pick (Within n) (eqb c 123) _ _ (λ _. comment_within n (behind_brace rest)) (λ _.
     pick (Within n) (eqb c 59) _ _ (λ _. tt) (λ _.
     pick (Within n) (eqb c 36) _ _ (λ _. tt) (λ _.

@@ -21,8 +21,8 @@ pub data Token : Type 0 where
 
 -- ---- bytes
 
-abbrev pub is_blank : ℕ → Bool
-is_blank c = c == space || (c == tab || (c == new_line || c == carriage_return))
+abbrev pub is_white_space : ℕ → Bool
+is_white_space c = c == space || (c == tab || (c == new_line || c == carriage_return))
 
 -- letters, digits and `_`
 abbrev pub is_name_byte : ℕ → Bool
@@ -47,7 +47,7 @@ behind_brace (c ∷ rest) = if c == byte "}" then Some rest else behind_brace re
 abbrev pub behind_gap : Bool → Bool → List ℕ → List ℕ
 behind_gap skips begins [] = []
 behind_gap true begins (c ∷ rest) = behind_gap (not (c == new_line)) true rest
-behind_gap false begins (c ∷ rest) = if begins && c == byte "%" then behind_gap true false rest else (if is_blank c then behind_gap false (c == new_line) rest else c ∷ rest)
+behind_gap false begins (c ∷ rest) = if begins && c == byte "%" then behind_gap true false rest else (if is_white_space c then behind_gap false (c == new_line) rest else c ∷ rest)
 
 -- ---- variations
 
@@ -131,7 +131,7 @@ comment_at left (Some rest) = (Skip, rest)
 unfoldable pub token_at : Bool → ℕ → List ℕ → Token × List ℕ
 token_at line_begins c rest =
     if line_begins && c == byte "%" then (Skip, line_end rest)
-    else (if is_blank c || c == byte "." then (Skip, rest)
+    else (if is_white_space c || c == byte "." then (Skip, rest)
     else (if c == byte "{" then comment_at (length (c ∷ rest)) (behind_brace rest)
     else (if c == byte ";" then (Skip, line_end rest)
     else (if c == byte "$" then (Skip, drop (prefix_len is_digit rest) rest)

@@ -1,11 +1,11 @@
 //! Kinds of bytes.
 
 ghost use Rattle.std.specs.Prelude.{◌≡◌};
-ghost use Rattle.chess_pgn.specs.Tokens.{is_blank, is_name_byte, is_word_byte};
+ghost use Rattle.chess_pgn.specs.Tokens.{is_white_space, is_name_byte, is_word_byte};
 ghost use Rattle.chess_base.specs.Texts.{is_digit};
 
-pub(crate) fn is_blank(byte: u8) -> bool
-    ensures { result ≡ is_blank byte }
+pub(crate) fn is_white_space(byte: u8) -> bool
+    ensures { result ≡ is_white_space byte }
 {
     matches!(byte, b' ' | b'\t' | b'\n' | b'\r')
 }

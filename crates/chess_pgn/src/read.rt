@@ -8,10 +8,10 @@ ghost use Rattle.chess_text.specs.Moves.{reading};
 ghost use Rattle.chess_pgn.specs.Words.{kind_of};
 ghost use Rattle.chess_pgn.specs.ties.Seen.{token_seen, fault_seen};
 ghost use Rattle.chess_pgn.specs.GameRead.{declared_behind, told_behind, move_step, word_step, tag_step, step, variant_named, told_by, variant_told, pgn_read};
-ghost use Rattle.chess_pgn.specs.Tokens.{is_blank, tokens_from};
+ghost use Rattle.chess_pgn.specs.Tokens.{is_white_space, tokens_from};
 ghost use Rattle.chess_pgn.specs.ties.GameSteps.{EndsIn, so_far, step_seen, IsWithin, ReadsAlike};
 
-use crate::bytes::is_blank;
+use crate::bytes::is_white_space;
 use crate::tag::Tag;
 use crate::termination::Termination;
 use crate::token::{Token, TokenFault, first_place, next_token};
@@ -338,9 +338,9 @@ fn told_variant(text: &[u8], at: usize) -> Variant
 
 // Whether the byte counts nothing where a token begins: a blank or a dot.
 fn is_passed(byte: u8) -> bool
-    ensures { result ≡ (is_blank byte || byte == 46) }
+    ensures { result ≡ (is_white_space byte || byte == 46) }
 {
-    is_blank(byte) || byte == b'.'
+    is_white_space(byte) || byte == b'.'
 }
 
 // Behind the blanks and dots from a place on. They are tokens too, but a game is read alike without them.

@@ -4,7 +4,7 @@ ghost use Rattle.std.specs.Prelude.{◌≡◌, ◌≤◌, ◌<◌, length, false
 ghost use Rattle.std.specs.Option.{option_map};
 ghost use Rattle.chess_pgn.specs.Tokens.{line_end, behind_brace, behind_gap};
 
-use crate::bytes::is_blank;
+use crate::bytes::is_white_space;
 
 // From the end of the line on.
 pub(crate) fn line_end(text: &[u8]) -> &[u8]
@@ -45,7 +45,7 @@ pub(crate) fn behind_gap(text: &[u8]) -> &[u8]
     while let [byte, others @ ..] = rest {
         if line_begins && *byte == b'%' {
             rest = line_end(others);
-        } else if is_blank(*byte) {
+        } else if is_white_space(*byte) {
             rest = others;
         } else {
             break;

@@ -6,7 +6,7 @@ ghost use Rattle.chess_pgn.specs.Tokens.{is_word_byte, token_at, comment_at, beh
 ghost use Rattle.chess_base.specs.Texts.{is_digit};
 ghost use Rattle.chess_pgn.specs.ties.Seen.{first_seen, IsNextToken};
 
-use crate::bytes::{is_blank, is_digit, is_word_byte};
+use crate::bytes::{is_digit, is_white_space, is_word_byte};
 use crate::skips::{behind_brace, line_end};
 use crate::tag::{Tag, read_tag};
 use crate::variation::behind_variation;
@@ -100,7 +100,7 @@ fn read_token<'a>(
 {
     match first {
         b'%' if line_begins => Ok((Token::Skip, line_end(rest))),
-        _ if is_blank(first) || first == b'.' => Ok((Token::Skip, rest)),
+        _ if is_white_space(first) || first == b'.' => Ok((Token::Skip, rest)),
         b'{' => read_comment(text.len(), rest),
         b';' => Ok((Token::Skip, line_end(rest))),
         b'$' => Ok((Token::Skip, behind_digits(rest))),

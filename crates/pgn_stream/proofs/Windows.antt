@@ -10,7 +10,7 @@ use Rattle.chess_pgn.specs.declared.read.PgnFault.{PgnFault}
 use Rattle.chess_pgn.specs.declared.read.PgnFaultKind.TheVariants.{TooLong}
 use Rattle.chess_pgn.specs.GameRead.{GameRead, pgn_read}
 use Rattle.chess_pgn.specs.Local.{is_settled, moved, moved_answer, ReadingIsLocal, SettledStays, ReadingIsMoved, SettledIsMoved}
-use Rattle.chess_pgn.specs.Tokens.{is_blank}
+use Rattle.chess_pgn.specs.Tokens.{is_white_space}
 use Rattle.pgn_stream.specs.Stream.{StreamState, IsWholeOf, place, first_bytes, is_in_reach, game_begin, game_at, is_held}
 use Rattle.pgn_stream.specs.ties.Held.{IsSound, is_full, held_answer, too_long, WindowsTell}
 
@@ -98,11 +98,11 @@ told_too_long limit text at h =
 begin_is : (front window rest : List ℕ) (at : ℕ) → first_bytes ((front ++ window) ++ rest) (length front + at) ≡ front
     ++ window
     → game_begin ((front ++ window) ++ rest) (length front + at)
-    ≡ length front + (at + prefix_len is_blank (drop at window))
+    ≡ length front + (at + prefix_len is_white_space (drop at window))
 unfolding game_begin
 begin_is front window rest at h =
-    ap (λ xs. length front + at + prefix_len is_blank (drop (length front + at) xs)) h
-    ∙ ap (λ xs. length front + at + prefix_len is_blank xs) (drop-append-add front window at)
+    ap (λ xs. length front + at + prefix_len is_white_space (drop (length front + at) xs)) h
+    ∙ ap (λ xs. length front + at + prefix_len is_white_space xs) (drop-append-add front window at)
     ∙ omega arith
 
 module _ (local : ReadingIsLocal) (stays : SettledStays) (moves : ReadingIsMoved) (settled : SettledIsMoved) (limit : ℕ)
@@ -145,7 +145,7 @@ module _ (local : ReadingIsLocal) (stays : SettledStays) (moves : ReadingIsMoved
   -- the window is full and leaves it open
   open_is_too_long : (rest : List ℕ) → length window ≡ at + 16777217 → is_settled limit window at ≡ false
       → game_at limit (text ++ rest) from ≡ moved_answer (length front)
-      (Err (record { kind = TooLong; place = at + prefix_len is_blank (drop at window) }))
+      (Err (record { kind = TooLong; place = at + prefix_len is_white_space (drop at window) }))
   open_is_too_long rest all is =
       let sum = length-append front window in
       let more = length-append text rest in

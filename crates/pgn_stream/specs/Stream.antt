@@ -10,7 +10,7 @@ use Rattle.chess_pgn.specs.declared.read.PgnFault.{PgnFault}
 use Rattle.chess_pgn.specs.declared.read.PgnFaultKind.TheVariants.{TooLong}
 use Rattle.chess_pgn.specs.GameRead.{pgn_read}
 use Rattle.chess_pgn.specs.Local.{is_settled}
-use Rattle.chess_pgn.specs.Tokens.{is_blank}
+use Rattle.chess_pgn.specs.Tokens.{is_white_space}
 use Rattle.pgn_stream.specs.declared.stream.StreamFault.{StreamFault}
 use Rattle.pgn_stream.specs.declared.stream.StreamFault.TheVariants.{ReadFailed, InputTooLong}
 
@@ -26,7 +26,7 @@ is_in_reach limit text at = nat_le (length text) (at + 16777216) || is_settled l
 
 -- where the game begins: at the first byte that is no blank
 unfoldable pub game_begin : List ℕ → ℕ → ℕ
-game_begin text at = at + prefix_len is_blank (drop at (first_bytes text at))
+game_begin text at = at + prefix_len is_white_space (drop at (first_bytes text at))
 
 -- what is told of the game from a place on: what reading there answers, or that it is too long
 unfoldable pub game_at : ℕ → List ℕ → ℕ → Result (Option PgnEnd) PgnFault

@@ -6,7 +6,7 @@ ghost use Rattle.byte_devices.specs.Devices.{InputState};
 ghost use Rattle.chess_game.specs.Game.{at as left_at};
 ghost use Rattle.chess_pgn.specs.GameRead.{pgn_read};
 ghost use Rattle.chess_pgn.specs.Local.{moved_answer};
-ghost use Rattle.chess_pgn.specs.Tokens.{is_blank};
+ghost use Rattle.chess_pgn.specs.Tokens.{is_white_space};
 ghost use Rattle.pgn_stream.specs.Stream.{unread, place, StandsAt, ReadsGame, StandsBehind, is_held, FindsEvent, StandsFurther, IsNextEvent};
 ghost use Rattle.pgn_stream.specs.ties.Held.{Slides, AddsPiece, is_full, Fills, Refills, is_told_by, held_answer, too_long, place_behind, IsPlaced, IsSound, FindsHeld};
 
@@ -75,23 +75,23 @@ impl Model for PgnStream {
 }
 
 // Whether a byte is a blank.
-fn is_blank(byte: u8) -> bool
-    ensures { result ≡ is_blank byte }
+fn is_white_space(byte: u8) -> bool
+    ensures { result ≡ is_white_space byte }
 {
     matches!(byte, b' ' | b'\t' | b'\n' | b'\r')
 }
 
 // The place of the first byte that is no blank.
 fn first_other(text: &[u8]) -> Option<usize>
-    ensures { result ≡ position (λ b. not (is_blank b)) text.now }
+    ensures { result ≡ position (λ b. not (is_white_space b)) text.now }
 {
-    text.iter().position(|byte| !is_blank(*byte))
+    text.iter().position(|byte| !is_white_space(*byte))
 }
 
 // How many blanks a text begins with.
 #[tactic(auto, using(crate::proofs::Blanks::blanks_are, crate::proofs::Blanks::few_blanks))]
 fn blanks(text: &[u8]) -> usize
-    ensures value { result ≡ prefix_len is_blank text.now }
+    ensures value { result ≡ prefix_len is_white_space text.now }
     ensures within { result ≤ length text.now }
 {
     first_other(text).unwrap_or(text.len())

@@ -7,7 +7,7 @@ use Rattle.chess_pgn.specs.declared.read.PgnFault.{PgnFault}
 use Rattle.chess_pgn.specs.declared.read.PgnFaultKind.TheVariants.{TooLong}
 use Rattle.chess_pgn.specs.GameRead.{pgn_read}
 use Rattle.chess_pgn.specs.Local.{settles_answer, moved_answer}
-use Rattle.chess_pgn.specs.Tokens.{is_blank}
+use Rattle.chess_pgn.specs.Tokens.{is_white_space}
 use Rattle.pgn_stream.specs.declared.stream.StreamFault.{StreamFault}
 use Rattle.pgn_stream.specs.declared.stream.StreamFault.TheVariants.{InputTooLong}
 use Rattle.pgn_stream.specs.Stream.{StreamState, HasRead, BrokeOff, GoesOn, Stops, IsNextEvent, IsWholeOf, place, is_held, game_at}
@@ -57,7 +57,7 @@ abbrev pub held_answer : ℕ → StreamState → Result (Option PgnEnd) PgnFault
 held_answer limit s = (pgn_read limit s.window s.at).answer
 
 abbrev pub too_long : StreamState → PgnFault
-too_long s = record { kind = TooLong; place = s.at + prefix_len is_blank (drop s.at s.window) }
+too_long s = record { kind = TooLong; place = s.at + prefix_len is_white_space (drop s.at s.window) }
 
 -- the place among them behind a game, or of its fault
 abbrev pub place_behind : ℕ → Result (Option PgnEnd) PgnFault → ℕ
