@@ -14,9 +14,7 @@ use byte_devices::{Input, Output, WriteFault, put};
 use chess_bits::Bits;
 use chess_cecp::{End, Fault, Session, run_session};
 use chess_pgn::Tags;
-use pgn_verifier::{
-    Verified, VerifyFault, VerifyOptions, verify, verify_any_size, verify_by,
-};
+use pgn_verifier::{Verified, VerifyFault, VerifyOptions, verify, verify_any_size, verify_by};
 use std::alloc::{AllocError, Global};
 use std::fmt::Display;
 use std::process::Processes;
