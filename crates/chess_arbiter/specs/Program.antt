@@ -19,8 +19,8 @@ use Rattle.arbiter_words.specs.declared.plan.VerifyPlan.{VerifyPlan}
 use Rattle.pgn_verifier.specs.declared.fault.VerifyFault.{VerifyFault}
 use Rattle.pgn_verifier.specs.declared.fault.VerifyFault.TheVariants as verifying
 use Rattle.pgn_verifier.specs.declared.options.VerifyOptions.{VerifyOptions}
-use Rattle.pgn_verifier.specs.declared.verify.Verified.{Verified}
-use Rattle.pgn_verifier.specs.declared.verify.Verified.TheVariants.{EachGame, FaultTold}
+use Rattle.pgn_verifier.specs.declared.whole.Verified.{Verified}
+use Rattle.pgn_verifier.specs.declared.whole.Verified.TheVariants.{EachGame, FaultTold}
 use Rattle.pgn_verifier.specs.AnySize.{VerifiesAny}
 use Rattle.pgn_verifier.specs.Collection.{VerifiesBy}
 use Rattle.pgn_verifier.specs.Verify.{Verifies}

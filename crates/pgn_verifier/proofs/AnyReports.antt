@@ -13,9 +13,9 @@ use Rattle.pgn_stream.specs.declared.stream.StreamFault.TheVariants as stream
 use Rattle.pgn_verifier.specs.declared.collection.Tally.{Tally}
 use Rattle.pgn_verifier.specs.declared.fault.VerifyFault.{VerifyFault}
 use Rattle.pgn_verifier.specs.declared.fault.VerifyFault.TheVariants.{ReadFailed, WriteFailed, NoMemory, InputTooLong}
-use Rattle.pgn_verifier.specs.declared.verify.Report.{Report}
-use Rattle.pgn_verifier.specs.declared.verify.Report.TheVariants.{Game, Faulty}
-use Rattle.pgn_verifier.specs.declared.verify.Verified.TheVariants.{EachGame, FaultTold}
+use Rattle.pgn_verifier.specs.declared.whole.Report.{Report}
+use Rattle.pgn_verifier.specs.declared.whole.Report.TheVariants.{Game, Faulty}
+use Rattle.pgn_verifier.specs.declared.whole.Verified.TheVariants.{EachGame, FaultTold}
 use Rattle.pgn_verifier.specs.Verify.{Extent, All, First, read_at}
 use Rattle.pgn_verifier.specs.Collection.{IsNext, IsTallyOf, told_line, lines_by, counts_if}
 use Rattle.pgn_verifier.specs.AnySize.{told_at, AreReportsOfAny, AreReportsOnRead, CountsAny, VerifiesAny, stream_fault}

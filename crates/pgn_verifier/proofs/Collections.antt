@@ -11,10 +11,10 @@ use Rattle.chess_pgn.specs.Local.{FaultsHavePlaces}
 use Rattle.chess_pgn.specs.declared.read.PgnEnd.{PgnEnd}
 use Rattle.chess_pgn.specs.declared.read.PgnFault.{PgnFault}
 use Rattle.pgn_verifier.specs.declared.collection.Tally.{Tally}
-use Rattle.pgn_verifier.specs.declared.verify.Report.{Report}
-use Rattle.pgn_verifier.specs.declared.verify.Report.TheVariants.{Game, Faulty}
-use Rattle.pgn_verifier.specs.declared.verify.Verified.{Verified}
-use Rattle.pgn_verifier.specs.declared.verify.Verified.TheVariants.{EachGame, FaultTold}
+use Rattle.pgn_verifier.specs.declared.whole.Report.{Report}
+use Rattle.pgn_verifier.specs.declared.whole.Report.TheVariants.{Game, Faulty}
+use Rattle.pgn_verifier.specs.declared.whole.Verified.{Verified}
+use Rattle.pgn_verifier.specs.declared.whole.Verified.TheVariants.{EachGame, FaultTold}
 use Rattle.pgn_verifier.specs.Verify.{Extent, All, First, read_at, verified}
 use Rattle.pgn_verifier.specs.Collection.{AreReportsBy, IsNext, told_line, lines_by, games_in, half_moves_in, faults_in, counts_if, text_by, IsTallyOf, CountsEach, HandedOnBy}
 

@@ -7,10 +7,10 @@ use Rattle.chess_game.specs.Game.{at as left_at}
 use Rattle.chess_pgn.specs.GameRead.{pgn_read}
 use Rattle.chess_pgn.specs.declared.read.PgnEnd.{PgnEnd}
 use Rattle.chess_pgn.specs.declared.read.PgnFault.{PgnFault}
-use Rattle.pgn_verifier.specs.declared.verify.Report.{Report}
-use Rattle.pgn_verifier.specs.declared.verify.Report.TheVariants.{Game, Faulty}
-use Rattle.pgn_verifier.specs.declared.verify.Verified.{Verified}
-use Rattle.pgn_verifier.specs.declared.verify.Verified.TheVariants.{EachGame, FaultTold}
+use Rattle.pgn_verifier.specs.declared.whole.Report.{Report}
+use Rattle.pgn_verifier.specs.declared.whole.Report.TheVariants.{Game, Faulty}
+use Rattle.pgn_verifier.specs.declared.whole.Verified.{Verified}
+use Rattle.pgn_verifier.specs.declared.whole.Verified.TheVariants.{EachGame, FaultTold}
 use Rattle.pgn_verifier.specs.Verify.{Extent, All, First, AreReports, read_at, verified, report_line, report_lines, Told, HandedOn}
 
 -- the lines of some reports and one more

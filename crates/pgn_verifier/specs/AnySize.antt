@@ -11,9 +11,9 @@ use Rattle.pgn_verifier.specs.Collection.{IsNext, IsTallyOf, lines_by, text_by}
 use Rattle.pgn_verifier.specs.declared.collection.Tally.{Tally}
 use Rattle.pgn_verifier.specs.declared.fault.VerifyFault.{VerifyFault}
 use Rattle.pgn_verifier.specs.declared.fault.VerifyFault.TheVariants.{ReadFailed, WriteFailed, NoMemory, InputTooLong}
-use Rattle.pgn_verifier.specs.declared.verify.Report.{Report}
-use Rattle.pgn_verifier.specs.declared.verify.Report.TheVariants.{Game, Faulty}
-use Rattle.pgn_verifier.specs.declared.verify.Verified.{Verified}
+use Rattle.pgn_verifier.specs.declared.whole.Report.{Report}
+use Rattle.pgn_verifier.specs.declared.whole.Report.TheVariants.{Game, Faulty}
+use Rattle.pgn_verifier.specs.declared.whole.Verified.{Verified}
 use Rattle.pgn_verifier.specs.Verify.{Extent, All, First, read_at, verified}
 
 -- ---- the reports

@@ -7,9 +7,9 @@ use Rattle.pgn_stream.specs.Stream.{IsNextEvent}
 use Rattle.pgn_verifier.specs.declared.collection.Tally.{Tally}
 use Rattle.pgn_verifier.specs.declared.fault.VerifyFault.{VerifyFault}
 use Rattle.pgn_verifier.specs.declared.fault.VerifyFault.TheVariants.{ReadFailed, WriteFailed, NoMemory, InputTooLong}
-use Rattle.pgn_verifier.specs.declared.verify.Report.{Report}
-use Rattle.pgn_verifier.specs.declared.verify.Report.TheVariants.{Game, Faulty}
-use Rattle.pgn_verifier.specs.declared.verify.Verified.{Verified}
+use Rattle.pgn_verifier.specs.declared.whole.Report.{Report}
+use Rattle.pgn_verifier.specs.declared.whole.Report.TheVariants.{Game, Faulty}
+use Rattle.pgn_verifier.specs.declared.whole.Verified.{Verified}
 use Rattle.pgn_verifier.specs.Verify.{IsAll, IsNotHad, LacksMemory, Extent, All, First, EndsTextAt, read_at, report_line, verified}
 
 -- ---- where the next game begins behind a fault (PGN standard of 1994, section 8.1.1: the tag Event comes first)

@@ -12,10 +12,10 @@ use Rattle.chess_pgn.specs.GameRead.{GameRead, pgn_read}
 use Rattle.pgn_stream.specs.Stream.{IsFront, BrokeOff}
 use Rattle.pgn_verifier.specs.declared.fault.VerifyFault.{VerifyFault}
 use Rattle.pgn_verifier.specs.declared.fault.VerifyFault.TheVariants.{ReadFailed, WriteFailed, NoMemory, InputTooLong}
-use Rattle.pgn_verifier.specs.declared.verify.Report.{Report}
-use Rattle.pgn_verifier.specs.declared.verify.Report.TheVariants.{Game, Faulty}
-use Rattle.pgn_verifier.specs.declared.verify.Verified.{Verified}
-use Rattle.pgn_verifier.specs.declared.verify.Verified.TheVariants.{EachGame, FaultTold}
+use Rattle.pgn_verifier.specs.declared.whole.Report.{Report}
+use Rattle.pgn_verifier.specs.declared.whole.Report.TheVariants.{Game, Faulty}
+use Rattle.pgn_verifier.specs.declared.whole.Verified.{Verified}
+use Rattle.pgn_verifier.specs.declared.whole.Verified.TheVariants.{EachGame, FaultTold}
 
 -- ---- the text
 

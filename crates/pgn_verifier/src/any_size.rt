@@ -9,7 +9,7 @@ ghost use Rattle.pgn_verifier.specs.AnySize.{CountsAny, VerifiesAny, stream_faul
 use crate::collection::{Tally, tell_counts, tell_line, verified_by};
 use crate::fault::VerifyFault;
 use crate::options::VerifyOptions;
-use crate::verify::{Report, Verified, open_game};
+use crate::whole::{Report, Verified, open_game};
 use byte_devices::{Input, Output, WriteFault};
 use chess_bits::Bits;
 use chess_game::Game;

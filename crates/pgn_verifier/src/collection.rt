@@ -2,12 +2,12 @@
 
 ghost use Rattle.std.specs.Prelude.{◌≡◌, ◌≤◌, ◌<◌, ◌+◌, ◌^◌, ◌==◌, if◌then◌else◌, IfSome, length};
 ghost use Rattle.byte_devices.specs.Devices.{Puts};
-ghost use Rattle.pgn_verifier.specs.declared.verify.Verified.TheVariants.{EachGame, FaultTold};
+ghost use Rattle.pgn_verifier.specs.declared.whole.Verified.TheVariants.{EachGame, FaultTold};
 ghost use Rattle.pgn_verifier.specs.Collection.{IsNext, is_told, told_line, counts_line, counts_if, CountsEach, HandedOnBy, VerifiesBy};
 
 use crate::fault::VerifyFault;
 use crate::options::VerifyOptions;
-use crate::verify::{
+use crate::whole::{
     Report, ReportLine, Verified, open_game, read_all, tell, write_number, write_text,
 };
 use byte_devices::{Input, Output, WriteFault, put};

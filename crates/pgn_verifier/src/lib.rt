@@ -17,10 +17,10 @@ mod any_size;
 mod collection;
 mod fault;
 mod options;
-mod verify;
+mod whole;
 
 pub use any_size::verify_any_size;
 pub use collection::verify_by;
 pub use fault::VerifyFault;
 pub use options::VerifyOptions;
-pub use verify::{Verified, verify};
+pub use whole::{Verified, verify};

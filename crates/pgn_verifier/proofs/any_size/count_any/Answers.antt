@@ -6,7 +6,7 @@ use Rattle.pgn_verifier.specs.AnySize.{CountsAny}
 use Rattle.pgn_verifier.specs.Collection.{told_line}
 use Rattle.pgn_verifier.specs.declared.collection.Tally.{Tally}
 use Rattle.pgn_verifier.specs.declared.fault.VerifyFault.{VerifyFault}
-use Rattle.pgn_verifier.specs.declared.verify.Report.TheVariants.{Game, Faulty}
+use Rattle.pgn_verifier.specs.declared.whole.Report.TheVariants.{Game, Faulty}
 use Rattle.pgn_verifier.proofs.AnyReports.{SoFar, opened, first_told, stopped, no_less, line_took, line_failed, all_told, game_broken, game_told, fault_broken, lines_took, fault_first, last_told, none_behind, one_behind}
 use Rattle.pgn_verifier.proofs.any_size.count_any.Goals as goal
 use Rattle.std.proofs.lemmas.Bool.{not-false, not-true}

@@ -1,6 +1,6 @@
 use Rattle.std.proofs.Common.{◌≡◌, ◌-◌, ◌^◌, List, ℕ}
 use Rattle.pgn_stream.specs.Stream.{place, StandsAt}
-use Rattle.pgn_verifier.specs.declared.verify.Report.{Report}
+use Rattle.pgn_verifier.specs.declared.whole.Report.{Report}
 use Rattle.pgn_verifier.proofs.AnyReports.{SoFar}
 use Rattle.pgn_verifier.proofs.any_size.count_any.Given as goal
 

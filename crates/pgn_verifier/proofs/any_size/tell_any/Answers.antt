@@ -1,6 +1,6 @@
 use Rattle.std.proofs.Common.{Ok, sym, subst}
 use Rattle.pgn_verifier.specs.AnySize.{VerifiesAny}
-use Rattle.pgn_verifier.specs.declared.verify.Verified.{Verified}
+use Rattle.pgn_verifier.specs.declared.whole.Verified.{Verified}
 use Rattle.pgn_verifier.proofs.AnyReports.{not_counted, not_handed_on, handed_on}
 use Rattle.pgn_verifier.proofs.any_size.tell_any.Goals as goal
 

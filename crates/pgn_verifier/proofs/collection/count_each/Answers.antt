@@ -4,7 +4,7 @@ use Rattle.std.proofs.Common.{sym, subst, ◌++◌, ◌∷◌, [], Ok, Err, Some
 use Rattle.byte_devices.specs.declared.traits.WriteFault.{WriteFault}
 use Rattle.pgn_verifier.specs.Collection.{CountsEach}
 use Rattle.pgn_verifier.specs.declared.collection.Tally.{Tally}
-use Rattle.pgn_verifier.specs.declared.verify.Report.TheVariants.{Game, Faulty}
+use Rattle.pgn_verifier.specs.declared.whole.Report.TheVariants.{Game, Faulty}
 use Rattle.pgn_verifier.proofs.Collections.{SoFar, game_told, fault_told, last_told, all_told, broken_off, first_end, few_plies, fault_behind}
 use Rattle.pgn_verifier.proofs.Reports.{answered, counted, same_limit}
 use Rattle.pgn_verifier.proofs.collection.count_each.Goals as goal

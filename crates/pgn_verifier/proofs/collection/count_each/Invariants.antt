@@ -1,5 +1,5 @@
 use Rattle.std.proofs.Common.{◌≡◌, List, length, ◌-◌}
-use Rattle.pgn_verifier.specs.declared.verify.Report.{Report}
+use Rattle.pgn_verifier.specs.declared.whole.Report.{Report}
 use Rattle.pgn_verifier.proofs.Collections.{SoFar}
 use Rattle.pgn_verifier.proofs.collection.count_each.Given as goal
 

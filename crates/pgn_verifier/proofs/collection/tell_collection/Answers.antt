@@ -3,7 +3,7 @@
 use Rattle.std.proofs.Common.{sym, subst, Ok}
 use Rattle.byte_devices.specs.declared.traits.WriteFault.{WriteFault}
 use Rattle.pgn_verifier.specs.Collection.{HandedOnBy}
-use Rattle.pgn_verifier.specs.declared.verify.Verified.{Verified}
+use Rattle.pgn_verifier.specs.declared.whole.Verified.{Verified}
 use Rattle.pgn_verifier.proofs.Collections.{not_told, not_flushed, handed_on}
 use Rattle.pgn_verifier.proofs.collection.tell_collection.Goals as goal
 

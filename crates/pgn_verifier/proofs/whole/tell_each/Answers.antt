@@ -2,9 +2,9 @@
 -- keeps that (Reports.game_told), and a fault is the last report (Reports.fault_told).
 use Rattle.std.proofs.Common.{refl, ◌++◌, ◌∷◌, [], Ok, Err, Some, None}
 use Rattle.byte_devices.specs.declared.traits.WriteFault.{WriteFault}
-use Rattle.pgn_verifier.specs.declared.verify.Report.TheVariants.{Game, Faulty}
+use Rattle.pgn_verifier.specs.declared.whole.Report.TheVariants.{Game, Faulty}
 use Rattle.pgn_verifier.proofs.Reports.{game_told, all_told, fault_told, broken_off, answered, counted, same_limit}
-use Rattle.pgn_verifier.proofs.verify.tell_each.Goals as goal
+use Rattle.pgn_verifier.proofs.whole.tell_each.Goals as goal
 
 pub returns-in-Ok-None : goal.returns-in-Ok-None
 returns-in-Ok-None g c =

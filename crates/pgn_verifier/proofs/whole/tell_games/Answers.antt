@@ -1,6 +1,6 @@
 use Rattle.byte_devices.specs.declared.traits.WriteFault.{WriteFault}
 use Rattle.pgn_verifier.proofs.Reports.{not_handed_on}
-use Rattle.pgn_verifier.proofs.verify.tell_games.Goals as goal
+use Rattle.pgn_verifier.proofs.whole.tell_games.Goals as goal
 
 pub returns-in_err-flush : goal.returns-in_err-flush
 returns-in_err-flush g c =

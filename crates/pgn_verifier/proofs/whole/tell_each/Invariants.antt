@@ -1,7 +1,7 @@
 use Rattle.std.proofs.Common.{◌≡◌, List, length, ◌-◌}
-use Rattle.pgn_verifier.specs.declared.verify.Report.{Report}
+use Rattle.pgn_verifier.specs.declared.whole.Report.{Report}
 use Rattle.pgn_verifier.proofs.Reports.{SoFar}
-use Rattle.pgn_verifier.proofs.verify.tell_each.Given as goal
+use Rattle.pgn_verifier.proofs.whole.tell_each.Given as goal
 
 -- the games up to here were told
 abbrev pub invariant-loop-end : goal.invariant-loop-end

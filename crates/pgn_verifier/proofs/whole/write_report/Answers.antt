@@ -1,5 +1,5 @@
 use Rattle.std.proofs.Common.{append_assoc}
-use Rattle.pgn_verifier.proofs.verify.write_report.Goals as goal
+use Rattle.pgn_verifier.proofs.whole.write_report.Goals as goal
 
 pub returns-in-Game-clause-text : goal.returns-in-Game-clause-text
 returns-in-Game-clause-text c =

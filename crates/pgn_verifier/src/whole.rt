@@ -1,6 +1,6 @@
-//! Verifying games: each game of a text is read and its line written; the first fault ends it.
+//! A text verified as a whole: each game of it is read and its line written; the first fault ends it.
 
-ghost use Rattle.pgn_verifier.specs.declared.verify.TheConstants.{LINE_LEN};
+ghost use Rattle.pgn_verifier.specs.declared.whole.TheConstants.{LINE_LEN};
 ghost use Rattle.std.specs.Prelude.{◌≡◌, ◌≤◌, ◌+◌, ◌++◌, IfOk, IfErr, length, decimal};
 ghost use Rattle.arrayvec.specs.ArrayVec.{array_vec_len};
 ghost use Rattle.byte_devices.specs.Devices.{Puts};

@@ -1,6 +1,6 @@
 use Rattle.std.proofs.Common.{◌≤◌, length}
 use Rattle.pgn_stream.specs.Stream.{IsFront}
-use Rattle.pgn_verifier.proofs.verify.read_all.Given as goal
+use Rattle.pgn_verifier.proofs.whole.read_all.Given as goal
 
 -- the text is what was read so far
 abbrev pub invariant-loop-count : goal.invariant-loop-count
