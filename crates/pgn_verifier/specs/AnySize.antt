@@ -1,5 +1,5 @@
 -- What verifying a text of any size tells: the lines are those of the whole text, however long it is and however it is cut.
-use Rattle.std.specs.Prelude.{◌≡◌, ℕ, ◌+◌, Bool, false, List, [], ◌∷◌, ◌++◌, length, Option, Some, None, Result, Ok, Err}
+use Rattle.std.specs.Prelude.{◌≡◌, ℕ, Bool, false, List, [], ◌∷◌, length, Option, Some, None, Result, Ok, Err}
 use Rattle.pgn_verifier.specs.declared.options.VerifyOptions.{VerifyOptions}
 use Rattle.byte_devices.specs.Devices.{InputState, OutputState, Took, Sent, BreaksOff}
 use Rattle.chess_pgn.specs.declared.read.PgnEnd.{PgnEnd}
