@@ -20,6 +20,7 @@ SHORT = {
     "text": "chess_text",
     "pgn": "chess_pgn",
     "stream": "pgn_stream",
+    "verifier": "pgn_verifier",
     "cecp": "chess_cecp",
     "lines": "engine_lines",
     "match": "chess_match",

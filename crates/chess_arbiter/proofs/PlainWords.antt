@@ -12,7 +12,8 @@ use Rattle.byte_devices.specs.Devices.{InputState, OutputState}
 use Rattle.byte_devices.proofs.DeviceLaws.{consumes_none}
 use Rattle.chess_arbiter.specs.laws.Laws.{ServesSession, VerifiesGames}
 use Rattle.chess_arbiter.specs.Program.{RanPlan, RanSession, RanVerify, RanVerifyAt, RanVerifyIf, has_words}
-use Rattle.chess_arbiter.specs.Verify.{LacksMemory}
+use Rattle.pgn_verifier.specs.Verify.{LacksMemory}
+use Rattle.pgn_verifier.specs.declared.fault.VerifyFault.TheVariants as verifying
 use Rattle.chess_arbiter.specs.declared.fault.ProgramFault.TheVariants.{NoMemory}
 
 shorter : (xs ys : Text) → length xs < length ys → xs ≡ ys → ⊥
@@ -62,7 +63,7 @@ nothing_read r r' same =
 verify_or_want : (fault : WordsFault) (r r' : InputState) (w w' : OutputState) (status : ℕ) → IsWant fault
     → RanPlan (Err fault) r r' w w' status → RanVerify r r' w w' status
 verify_or_want words.NoMemory r r' w w' status want (same, (kept, is)) =
-    (Err NoMemory, (nothing_read r r' same, kept), is)
+    (Err verifying.NoMemory, (nothing_read r r' same, kept), is)
 verify_or_want (words.Words e) r r' w w' status want ran = absurd want
 verify_or_want words.BadLevel r r' w w' status want ran = absurd want
 verify_or_want (words.BadFen f) r r' w w' status want ran = absurd want

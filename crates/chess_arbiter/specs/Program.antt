@@ -14,17 +14,20 @@ use Rattle.chess_cecp.specs.Held.{SessionSeen, opened_session}
 use Rattle.chess_pgn.specs.Tags.{default_tags}
 use Rattle.chess_cecp.specs.Run.{Transcript, Ran}
 use Rattle.chess_arbiter.specs.declared.fault.ProgramFault.{ProgramFault}
-use Rattle.chess_arbiter.specs.declared.verify.Verified.{Verified}
-use Rattle.chess_arbiter.specs.declared.verify.Verified.TheVariants.{EachGame, FaultTold}
 use Rattle.arbiter_words.specs.declared.plan.MatchPlan.{MatchPlan}
 use Rattle.arbiter_words.specs.declared.plan.VerifyPlan.{VerifyPlan}
-use Rattle.chess_arbiter.specs.AnySize.{VerifiesAny}
-use Rattle.chess_arbiter.specs.Collection.{VerifiesBy}
+use Rattle.pgn_verifier.specs.declared.fault.VerifyFault.{VerifyFault}
+use Rattle.pgn_verifier.specs.declared.fault.VerifyFault.TheVariants as verifying
+use Rattle.pgn_verifier.specs.declared.options.VerifyOptions.{VerifyOptions}
+use Rattle.pgn_verifier.specs.declared.whole.Verified.{Verified}
+use Rattle.pgn_verifier.specs.declared.whole.Verified.TheVariants.{EachGame, FaultTold}
+use Rattle.pgn_verifier.specs.AnySize.{VerifiesAny}
+use Rattle.pgn_verifier.specs.Collection.{VerifiesBy}
+use Rattle.pgn_verifier.specs.Verify.{Verifies}
 use Rattle.chess_arbiter.specs.Games.{RanGames}
 use Rattle.chess_arbiter.specs.declared.games.GamesFault.{GamesFault}
 use Rattle.chess_arbiter.specs.Stub.{StubRan, Words, beginning}
 use Rattle.chess_arbiter.specs.declared.stub.StubFault.{StubFault}
-use Rattle.chess_arbiter.specs.Verify.{Verifies}
 use Rattle.chess_arbiter.specs.declared.fault.ProgramFault.TheVariants.{ReadFailed, WriteFailed, NoMemory, InputTooLong, WrongWords}
 
 -- nothing was read or written
@@ -53,10 +56,17 @@ abbrev pub status_of : Result End ProgramFault → ℕ
 status_of (Ok end) = 0
 status_of (Err fault) = fault_status fault
 
-abbrev pub verify_status : Result Verified ProgramFault → ℕ
+-- the program's fault where games were not verified
+abbrev pub program_fault : VerifyFault → ProgramFault
+program_fault verifying.ReadFailed = ReadFailed
+program_fault verifying.WriteFailed = WriteFailed
+program_fault verifying.NoMemory = NoMemory
+program_fault verifying.InputTooLong = InputTooLong
+
+abbrev pub verify_status : Result Verified VerifyFault → ℕ
 verify_status (Ok EachGame) = 0
 verify_status (Ok FaultTold) = 1
-verify_status (Err fault) = fault_status fault
+verify_status (Err fault) = fault_status (program_fault fault)
 
 -- a session ran, and the status tells how it ended
 abbrev pub RanSession : InputState → InputState → OutputState → OutputState → ℕ → Type 0
@@ -64,11 +74,15 @@ RanSession r r' w w' status = (outcome : Result End ProgramFault) × Served r r'
 
 -- the games of the input were verified, and the status tells whether there was a fault
 abbrev pub RanVerify : InputState → InputState → OutputState → OutputState → ℕ → Type 0
-RanVerify r r' w w' status = (outcome : Result Verified ProgramFault) × Verifies r r' w w' outcome × (status ≡ verify_status outcome)
+RanVerify r r' w w' status = (outcome : Result Verified VerifyFault) × Verifies r r' w w' outcome × (status ≡ verify_status outcome)
+
+-- the options that the words of `verify` ask for
+abbrev pub options_of : VerifyPlan → VerifyOptions
+options_of plan = record { keep_going = plan.keep_going; quiet = plan.quiet }
 
 -- they were verified by words of `verify`
 abbrev pub RanVerifyBy : VerifyPlan → InputState → InputState → OutputState → OutputState → ℕ → Type 0
-RanVerifyBy plan r r' w w' status = (outcome : Result Verified ProgramFault) × VerifiesBy plan r r' w w' outcome × (status ≡ verify_status outcome)
+RanVerifyBy plan r r' w w' status = (outcome : Result Verified VerifyFault) × VerifiesBy (options_of plan) r r' w w' outcome × (status ≡ verify_status outcome)
 
 -- `verify` has any of its words on what is told
 abbrev pub has_words : VerifyPlan → Bool
@@ -81,7 +95,7 @@ RanVerifyIf false plan r r' w w' status = RanVerify r r' w w' status
 
 -- they were verified at any size
 abbrev pub RanVerifyAny : VerifyPlan → InputState → InputState → OutputState → OutputState → ℕ → Type 0
-RanVerifyAny plan r r' w w' status = (outcome : Result Verified ProgramFault) × VerifiesAny plan r r' w w' outcome × (status ≡ verify_status outcome)
+RanVerifyAny plan r r' w w' status = (outcome : Result Verified VerifyFault) × VerifiesAny (options_of plan) r r' w w' outcome × (status ≡ verify_status outcome)
 
 -- at any size, or with as many bytes as are kept as a whole
 abbrev pub RanVerifyAt : Bool → VerifyPlan → InputState → InputState → OutputState → OutputState → ℕ → Type 0

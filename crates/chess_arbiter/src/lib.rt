@@ -8,8 +8,6 @@
 //! ```
 #![tactic(auto)]
 
-mod any_size;
-mod collection;
 mod engine;
 mod fault;
 mod games;
@@ -19,7 +17,6 @@ mod program;
 mod score;
 mod standard;
 mod stub;
-mod verify;
 
 pub use fault::ProgramFault;
 pub use laws::plain_words_do_what_they_say;

@@ -1,22 +1,20 @@
 //! The program on an input, an output and an error output.
 
-ghost use Rattle.std.specs.Prelude.{◌≡◌, IfOk, Ok, map};
+ghost use Rattle.std.specs.Prelude.{◌≡◌, IfOk, Ok, Err, map};
 ghost use Rattle.byte_devices.specs.Devices.{Sends};
 ghost use Rattle.chess_cecp.specs.Held.{opened_session};
 ghost use Rattle.chess_pgn.specs.Tags.{default_tags};
-ghost use Rattle.chess_arbiter.specs.Program.{Served, Shown, RanHelp, RanMatch, RanProgram, RanSession, RanStub, RanVerify, RanVerifyAny, RanVerifyAt, RanVerifyBy, RanVerifyIf, ToldWords, has_words, verify_status};
+ghost use Rattle.chess_arbiter.specs.Program.{Served, Shown, RanHelp, RanMatch, RanProgram, RanSession, RanStub, RanVerify, RanVerifyAny, RanVerifyAt, RanVerifyBy, RanVerifyIf, ToldWords, has_words, options_of, program_fault, verify_status};
 
-use crate::any_size::verify_any_size;
-use crate::collection::verify_by;
 use crate::fault::{ProgramFault, tell_text, told};
 use crate::games::play_games;
 use crate::stub::{StubFault, run_stub};
-use crate::verify::{Verified, verify};
 use arbiter_words::{MatchPlan, Plan, VerifyPlan, WordsFault, read_words};
 use byte_devices::{Input, Output, WriteFault, put};
 use chess_bits::Bits;
 use chess_cecp::{End, Fault, Session, run_session};
 use chess_pgn::Tags;
+use pgn_verifier::{Verified, VerifyFault, VerifyOptions, verify, verify_any_size, verify_by};
 use std::alloc::{AllocError, Global};
 use std::fmt::Display;
 use std::process::Processes;
@@ -67,6 +65,26 @@ fn session<R: Input, W: Output, E: Output>(
     }
 }
 
+// The program's fault where games were not verified.
+fn program_fault(fault: VerifyFault) -> ProgramFault
+    ensures { result ≡ program_fault fault }
+{
+    match fault {
+        VerifyFault::ReadFailed => ProgramFault::ReadFailed,
+        VerifyFault::WriteFailed => ProgramFault::WriteFailed,
+        VerifyFault::NoMemory => ProgramFault::NoMemory,
+        VerifyFault::InputTooLong => ProgramFault::InputTooLong,
+    }
+}
+
+// Tells why games were not verified, with the status.
+fn not_verified<E: Output>(errors: &mut E, fault: VerifyFault) -> u8
+    ensures { result ≡ verify_status (Err fault) }
+{
+    let fault = program_fault(fault);
+    told(errors, &fault, fault.status())
+}
+
 // The games of the input verified, with the status.
 fn verified<R: Input, W: Output, E: Output>(
     alloc: Global,
@@ -79,7 +97,7 @@ fn verified<R: Input, W: Output, E: Output>(
     match verify(alloc, input, output) {
         Ok(Verified::EachGame) => 0,
         Ok(Verified::FaultTold) => 1,
-        Err(fault) => told(errors, &fault, fault.status()),
+        Err(fault) => not_verified(errors, fault),
     }
 }
 
@@ -93,6 +111,16 @@ fn verified_status(verified: Verified) -> u8
     }
 }
 
+// The options that the words of `verify` ask for.
+fn options_of(plan: VerifyPlan) -> VerifyOptions
+    ensures { result ≡ options_of plan }
+{
+    VerifyOptions {
+        keep_going: plan.keep_going,
+        quiet: plan.quiet,
+    }
+}
+
 // The games of the input verified by words of `verify`, with the status.
 fn verified_by<R: Input, W: Output, E: Output>(
     alloc: Global,
@@ -103,9 +131,9 @@ fn verified_by<R: Input, W: Output, E: Output>(
 ) -> u8
     ensures { RanVerifyBy plan (R.seen input.old) (R.seen input.new) (W.seen output.old) (W.seen output.new) result }
 {
-    match verify_by(alloc, plan, input, output) {
+    match verify_by(alloc, options_of(plan), input, output) {
         Ok(verified) => verified_status(verified),
-        Err(fault) => told(errors, &fault, fault.status()),
+        Err(fault) => not_verified(errors, fault),
     }
 }
 
@@ -143,9 +171,9 @@ fn verified_any<R: Input, W: Output, E: Output>(
 ) -> u8
     ensures { RanVerifyAny plan (R.seen input.old) (R.seen input.new) (W.seen output.old) (W.seen output.new) result }
 {
-    match verify_any_size(alloc, plan, input, output) {
+    match verify_any_size(alloc, options_of(plan), input, output) {
         Ok(verified) => verified_status(verified),
-        Err(fault) => told(errors, &fault, fault.status()),
+        Err(fault) => not_verified(errors, fault),
     }
 }
 

@@ -1,0 +1,87 @@
+-- What was read of an input, piece by piece.
+use Rattle.std.proofs.Common.{◌≡◌, ◌≤◌, ◌<◌, ◌-◌, ◌==◌, nat_eq, length-append, ◌∙◌, ℕ, List, [], ◌++◌, length, take, Result, Ok, Err, is_ok, is_err, false, if◌then◌else◌, refl, ap, subst, append-nil, arith}
+use Rattle.std.proofs.lemmas.List.{length-take-le}
+use Rattle.std.specs.Io.KnownBytes.{Consumes}
+use Rattle.byte_devices.specs.Devices.{InputState, GavePiece, FailedToRead, risen}
+use Rattle.byte_devices.proofs.DeviceLaws.{consumes_more, consumes_kept}
+use Rattle.pgn_verifier.specs.declared.fault.VerifyFault.TheVariants.{ReadFailed, NoMemory, InputTooLong}
+use Rattle.pgn_stream.specs.Stream.{IsFront}
+use Rattle.pgn_verifier.specs.Verify.{IsAll, IsNotHad}
+
+-- the end was told
+pub all_read : (r r' r'' : InputState) (text buf : List ℕ) (n : ℕ) → IsFront r r' text → length text ≤ 16777216
+    → GavePiece r' r'' (take n buf) → n ≡ 0 → IsAll r r'' text
+all_read r r' r'' text buf n front few gave is =
+    let gave' : GavePiece r' r'' [] = subst (λ k. GavePiece r' r'' (take k buf)) is gave in
+    record {
+      bytes = subst (Consumes r.known_bytes r''.known_bytes) (append-nil text)
+          (consumes_more r.known_bytes r'.known_bytes r''.known_bytes text [] front.bytes gave'.bytes);
+      at_end = gave'.at_end refl;
+      few = few;
+      failures = gave'.failures ∙ front.failures;
+      ends = gave'.ends ∙ ap risen front.ends;
+    }
+
+-- a read failed
+pub read_failed : (r r' r'' : InputState) (text : List ℕ) → IsFront r r' text → FailedToRead r' r''
+    → IsNotHad r r'' ReadFailed
+read_failed r r' r'' text front failed = (
+  text,
+  record {
+    bytes = subst (Consumes r.known_bytes r''.known_bytes) (append-nil text)
+        (consumes_more r.known_bytes r'.known_bytes r''.known_bytes text [] front.bytes
+        (consumes_kept r'.known_bytes r''.known_bytes failed.bytes));
+    failures = failed.failures ∙ ap risen front.failures;
+    ends = failed.ends ∙ front.ends;
+  },
+)
+
+not_ended : (a b n : ℕ) (buf : List ℕ) → 0 < n → n ≤ length buf → a ≡ (if length (take n buf) == 0 then risen b else b)
+    → a ≡ b
+not_ended a b n buf some within is =
+    let len = length-take-le n buf within in
+    let e : nat_eq (length (take n buf)) 0 ≡ false = grind (arith, len, some) in
+    is ∙ rw e refl
+
+-- a piece more
+pub more_read : (r r' r'' : InputState) (text buf : List ℕ) (n : ℕ) → IsFront r r' text → GavePiece r' r'' (take n buf)
+    → 0 < n → n ≤ length buf
+    → IsFront r r'' (text ++ take n buf)
+more_read r r' r'' text buf n front gave some within = record {
+  bytes = consumes_more r.known_bytes r'.known_bytes r''.known_bytes text (take n buf) front.bytes gave.bytes;
+  failures = gave.failures ∙ front.failures;
+  ends = not_ended r''.end_count r'.end_count n buf some within gave.ends ∙ front.ends;
+}
+
+-- there was no memory for a piece more
+pub no_room : (r r' r'' : InputState) (text buf : List ℕ) (n : ℕ) → IsFront r r' text → GavePiece r' r'' (take n buf)
+    → 0 < n → n ≤ length buf → IsNotHad r r'' NoMemory
+no_room r r' r'' text buf n front gave some within =
+    (text ++ take n buf, more_read r r' r'' text buf n front gave some within)
+
+-- there are too many bytes
+pub too_long : (r r' r'' : InputState) (text buf : List ℕ) (n len : ℕ) → IsFront r r' text
+    → GavePiece r' r'' (take n buf) → len ≡ length text
+    → length text ≤ 16777216 → 16777216 - len < n → n ≤ length buf → IsNotHad r r'' InputTooLong
+too_long r r' r'' text buf n len front gave is few past within =
+    let all = length-append text (take n buf) in
+    let some = length-take-le n buf within in (
+      text ++ take n buf,
+      more_read r r' r'' text buf n front gave (omega (arith, past)) within,
+      omega
+          (arith, all, some, is, few, past),
+    )
+
+-- an extension that did not fail
+pub pushed : {A E : Type 0} (r : Result A E) (xs ys zs : List ℕ) → is_err r ≡ false → zs ≡ (if is_ok r then ys else xs)
+    → zs ≡ ys
+pushed (Ok v) xs ys zs h e = e
+pushed (Err v) xs ys zs h e = cc
+
+-- a piece that fits leaves no more bytes than may be read
+pub still_few : (text buf : List ℕ) (n len : ℕ) → len ≡ length text → length text ≤ 16777216 → n ≤ 16777216 - len
+    → n ≤ length buf → length (text ++ take n buf) ≤ 16777216
+still_few text buf n len is few room within =
+    let all = length-append text (take n buf) in
+    let some = length-take-le n buf within in
+    omega (arith, all, some)

@@ -1,0 +1,4 @@
+pub mod InputRead
+pub mod Reports
+pub mod Collections
+pub mod AnyReports

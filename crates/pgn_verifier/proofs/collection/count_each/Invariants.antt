@@ -1,0 +1,13 @@
+use Rattle.std.proofs.Common.{◌≡◌, List, length, ◌-◌}
+use Rattle.pgn_verifier.specs.declared.whole.Report.{Report}
+use Rattle.pgn_verifier.proofs.Collections.{SoFar}
+use Rattle.pgn_verifier.proofs.collection.count_each.Given as goal
+
+-- the games up to here were told and counted
+abbrev pub invariant-loop-end : goal.invariant-loop-end
+invariant-loop-end g l = (l.game.limit ≡ 20000)
+    × ((reports : List Report) × SoFar l.options l.text (g.W.Output.seen l.fn.output) (g.W.Output.seen l.output) l.at
+    l.tally reports)
+
+abbrev pub decreases-loop-end : goal.decreases-loop-end
+decreases-loop-end g l = length l.text - l.at
