@@ -6,3 +6,4 @@ pub mod RunLemmas
 pub mod Refusals
 pub mod PgnRow
 pub mod NormalRows
+pub mod Shapes

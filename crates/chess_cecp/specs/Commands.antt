@@ -1,5 +1,5 @@
 -- What a line commands, by its first word (Chess Engine Communication Protocol, version 2).
-use Rattle.std.specs.Prelude.{ℕ, ◌==◌, ◌&&◌, ◌||◌, nat_lt, nat_le, if◌then◌else◌, Bool, List, [], ◌∷◌, length, drop, codes, Option, None, Some}
+use Rattle.std.specs.Prelude.{ℕ, ◌==◌, ◌&&◌, ◌||◌, nat_lt, nat_le, if◌then◌else◌, Bool, List, [], ◌∷◌, length, drop, codes, Option, None, Some, unwrap_or}
 use Rattle.std.specs.List.{list_all, list_any}
 use Rattle.std.specs.Str.{bytes_eq}
 use Rattle.chess_base.specs.Texts.{is_digit, value_after}
@@ -49,30 +49,32 @@ is_told_of_playing word = is_named word playing_words
 unfoldable pub is_told_of_clocks : List ℕ → Bool
 is_told_of_clocks word = is_named word clock_words
 
--- the command that a first word names, with this argument. A line whose first word is no command's name, and that has a
--- move's shape, is a move
-abbrev pub command_by : List ℕ → List ℕ → List ℕ → Command
-command_by word argument text =
-    if bytes_eq word [] || is_told_of_playing word || is_told_of_clocks word then Silent
-    else if bytes_eq word (codes "new") then New
-    else if bytes_eq word (codes "setboard") then SetBoard
-    else if bytes_eq word (codes "usermove") then (if length argument == 0 then Unknown else UserMove)
-    else if bytes_eq word (codes "undo") then Undo
-    else if bytes_eq word (codes "remove") then Remove
-    else if bytes_eq word (codes "result") then Declare
-    else if bytes_eq word (codes "claim") then Claim
-    else if bytes_eq word (codes "ping") then ping_of (command_number argument)
-    else if bytes_eq word (codes "protover") then protover_of (command_number argument)
-    else if bytes_eq word (codes "variant") then Variant
-    else if bytes_eq word (codes "go") then Go
-    else if bytes_eq word (codes "showfen") then ShowFen
-    else if bytes_eq word (codes "showmoves") then ShowMoves
-    else if bytes_eq word (codes "showstate") then ShowState
-    else if bytes_eq word (codes "showpgn") then ShowPgn
-    else if bytes_eq word (codes "quit") then Quit
-    else if shape text then BareMove
-    else Unknown
+-- the command that a first word names, with this argument; none where it is no command's name
+unfoldable pub named_command : List ℕ → List ℕ → Option Command
+named_command word argument =
+    if bytes_eq word [] || is_told_of_playing word || is_told_of_clocks word then Some Silent
+    else if bytes_eq word (codes "new") then Some New
+    else if bytes_eq word (codes "setboard") then Some SetBoard
+    else if bytes_eq word (codes "usermove") then (if length argument == 0 then Some Unknown else Some UserMove)
+    else if bytes_eq word (codes "undo") then Some Undo
+    else if bytes_eq word (codes "remove") then Some Remove
+    else if bytes_eq word (codes "result") then Some Declare
+    else if bytes_eq word (codes "claim") then Some Claim
+    else if bytes_eq word (codes "ping") then Some (ping_of (command_number argument))
+    else if bytes_eq word (codes "protover") then Some (protover_of (command_number argument))
+    else if bytes_eq word (codes "variant") then Some Variant
+    else if bytes_eq word (codes "go") then Some Go
+    else if bytes_eq word (codes "showfen") then Some ShowFen
+    else if bytes_eq word (codes "showmoves") then Some ShowMoves
+    else if bytes_eq word (codes "showstate") then Some ShowState
+    else if bytes_eq word (codes "showpgn") then Some ShowPgn
+    else if bytes_eq word (codes "quit") then Some Quit
+    else None
+
+-- a line whose first word is no command's name, and that has a move's shape, is a move
+abbrev pub unnamed_command : List ℕ → Command
+unnamed_command text = if shape text then BareMove else Unknown
 
 -- what a line with this text commands
 unfoldable pub command_of : List ℕ → Command
-command_of text = command_by (word_of text) (argument_of text) text
+command_of text = unwrap_or (named_command (word_of text) (argument_of text)) (unnamed_command text)

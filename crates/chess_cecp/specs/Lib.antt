@@ -6,3 +6,4 @@ pub mod Held
 pub mod Session
 pub mod Run
 pub mod laws
+pub mod ties

@@ -2,7 +2,7 @@
 
 ghost use Rattle.std.specs.Prelude.{◌≡◌, ◌+◌, ◌≤◌, ◌++◌, length};
 ghost use Rattle.chess_cecp.specs.Lines.{is_blank};
-ghost use Rattle.chess_cecp.specs.Commands.{command_of, command_by, word_of, argument_of, command_number, ping_of, protover_of, is_told_of_playing, is_told_of_clocks};
+ghost use Rattle.chess_cecp.specs.Commands.{command_of, named_command, word_of, argument_of, command_number, ping_of, protover_of, is_told_of_playing, is_told_of_clocks};
 
 use crate::trim::is_blank;
 use chess_text::has_move_shape;
@@ -155,51 +155,64 @@ fn is_told_of_clocks(word: &[u8]) -> bool
         || word == b"?".as_slice()
 }
 
+// The command that the first word of a text names, with what follows it; none where the word is no command's name.
+#[tactic(auto, unfolding(crate::specs::Commands::named_command))]
+pub(crate) fn named_command(text: &[u8]) -> Option<Command>
+    ensures { result ≡ named_command (word_of text.now) (argument_of text.now) }
+{
+    let (word, argument) = split_word(text);
+    if word.is_empty() || is_told_of_playing(word) || is_told_of_clocks(word) {
+        Some(Command::Silent)
+    } else if word == b"new".as_slice() {
+        Some(Command::New)
+    } else if word == b"setboard".as_slice() {
+        Some(Command::SetBoard)
+    } else if word == b"usermove".as_slice() {
+        if argument.is_empty() {
+            Some(Command::Unknown)
+        } else {
+            Some(Command::UserMove)
+        }
+    } else if word == b"undo".as_slice() {
+        Some(Command::Undo)
+    } else if word == b"remove".as_slice() {
+        Some(Command::Remove)
+    } else if word == b"result".as_slice() {
+        Some(Command::Declare)
+    } else if word == b"claim".as_slice() {
+        Some(Command::Claim)
+    } else if word == b"ping".as_slice() {
+        Some(ping(argument))
+    } else if word == b"protover".as_slice() {
+        Some(protover(argument))
+    } else if word == b"variant".as_slice() {
+        Some(Command::Variant)
+    } else if word == b"go".as_slice() {
+        Some(Command::Go)
+    } else if word == b"showfen".as_slice() {
+        Some(Command::ShowFen)
+    } else if word == b"showmoves".as_slice() {
+        Some(Command::ShowMoves)
+    } else if word == b"showstate".as_slice() {
+        Some(Command::ShowState)
+    } else if word == b"showpgn".as_slice() {
+        Some(Command::ShowPgn)
+    } else if word == b"quit".as_slice() {
+        Some(Command::Quit)
+    } else {
+        None
+    }
+}
+
 /// What a line with this text commands. The text is that of a line: blanks at both ends are cut.
 #[tactic(auto, unfolding(crate::specs::Commands::command_of))]
 pub fn read_command(text: &[u8]) -> Command
     ensures { result ≡ command_of text.now }
 {
-    let (word, argument) = split_word(text);
-    if word.is_empty() || is_told_of_playing(word) || is_told_of_clocks(word) {
-        Command::Silent
-    } else if word == b"new".as_slice() {
-        Command::New
-    } else if word == b"setboard".as_slice() {
-        Command::SetBoard
-    } else if word == b"usermove".as_slice() {
-        if argument.is_empty() {
-            Command::Unknown
-        } else {
-            Command::UserMove
-        }
-    } else if word == b"undo".as_slice() {
-        Command::Undo
-    } else if word == b"remove".as_slice() {
-        Command::Remove
-    } else if word == b"result".as_slice() {
-        Command::Declare
-    } else if word == b"claim".as_slice() {
-        Command::Claim
-    } else if word == b"ping".as_slice() {
-        ping(argument)
-    } else if word == b"protover".as_slice() {
-        protover(argument)
-    } else if word == b"variant".as_slice() {
-        Command::Variant
-    } else if word == b"go".as_slice() {
-        Command::Go
-    } else if word == b"showfen".as_slice() {
-        Command::ShowFen
-    } else if word == b"showmoves".as_slice() {
-        Command::ShowMoves
-    } else if word == b"showstate".as_slice() {
-        Command::ShowState
-    } else if word == b"showpgn".as_slice() {
-        Command::ShowPgn
-    } else if word == b"quit".as_slice() {
-        Command::Quit
-    } else if has_move_shape(text) {
+    if let Some(command) = named_command(text) {
+        return command;
+    }
+    if has_move_shape(text) {
         Command::BareMove
     } else {
         Command::Unknown

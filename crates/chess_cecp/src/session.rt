@@ -9,14 +9,17 @@ ghost use Rattle.chess_game.specs.Game.{current, is_over, IsPlayable};
 ghost use Rattle.chess_cecp.specs.Held.{opened_session, game_held};
 ghost use Rattle.chess_pgn.specs.GameText.{pgn};
 ghost use Rattle.chess_game.specs.Results.{cut_comment};
+ghost use Rattle.chess_text.specs.Moves.{reading, shape, IsLegalReading};
+ghost use Rattle.chess_cecp.specs.Commands.{argument_of, unnamed_command};
 ghost use Rattle.chess_cecp.specs.Declaring.{declared_by};
+ghost use Rattle.chess_cecp.specs.ties.Reads.{has_shape};
 ghost use Rattle.chess_cecp.specs.Session.{row, move_row, undo_row, remove_row, result_row, draws, claim_row, setboard_row, normal_row, variant_row, stands, next_state, answer_to, is_quit, is_quit_command, shows_pgn, asks_for_pgn, joined_line, moves_line, IsRefusal};
 
 use crate::answer::{
     Answer, write_features, write_illegal_position, write_line, write_moves, write_pong,
     write_result, write_state, write_verdict,
 };
-use crate::command::{Command, argument, read_command};
+use crate::command::{Command, argument, named_command};
 use crate::declaring::declared_by;
 use crate::lines::Line;
 use byte_devices::{Output, WriteFault, put};
@@ -86,8 +89,19 @@ impl<B: Board> Session<B> {
         self.game.position()
     }
 
-    // Plays the one legal move that a text spells.
-    fn play(&mut self, text: &[u8], answer: &mut Answer)
+    // What a text is in the present position, which also tells whether it has a move's shape.
+    fn read(&self, text: &[u8]) -> Reading
+        ensures value { result ≡ reading (current self.now.state) text.now }
+        ensures legal { IsLegalReading (current self.now.state) result }
+        ensures shape { has_shape result ≡ shape text.now }
+    {
+        read_move(self.game.board(), text)
+    }
+
+    // Plays the one legal move that a text was read as.
+    fn play(&mut self, read: Reading, text: &[u8], answer: &mut Answer)
+        requires read { read ≡ reading (current self.old.state) text.now }
+        requires legal { IsLegalReading (current self.old.state) read }
         requires short { length text.now ≤ 1024 }
         requires empty { answer.old.items ≡ [] }
         ensures next { self.new ≡ stands self.old (move_row self.old.limit self.old.state text.now) }
@@ -101,7 +115,7 @@ impl<B: Board> Session<B> {
             write_line(answer, b"Error (game too long): ", text);
             return;
         }
-        match read_move(self.game.board(), text) {
+        match read {
             Reading::Move(m) => {
                 let _played = self.game.play(m);
                 write_verdict(answer, self.game.verdict());
@@ -109,6 +123,17 @@ impl<B: Board> Session<B> {
             Reading::Ambiguous => write_line(answer, b"Error (ambiguous move): ", text),
             Reading::NoSuch | Reading::NotAMove => write_line(answer, b"Illegal move: ", text),
         }
+    }
+
+    // Plays the one legal move that a text spells.
+    fn play_text(&mut self, text: &[u8], answer: &mut Answer)
+        requires short { length text.now ≤ 1024 }
+        requires empty { answer.old.items ≡ [] }
+        ensures next { self.new ≡ stands self.old (move_row self.old.limit self.old.state text.now) }
+        ensures text { answer.new.items ≡ (move_row self.old.limit self.old.state text.now).text }
+    {
+        let read = self.read(text);
+        self.play(read, text, answer);
     }
 
     // Starts the game anew from the position that a FEN spells.
@@ -262,8 +287,8 @@ impl<B: Board> Session<B> {
         match command {
             Command::New => self.game.restart(&Position::initial()),
             Command::SetBoard => self.set_board(argument, answer),
-            Command::UserMove => self.play(argument, answer),
-            Command::BareMove => self.play(text, answer),
+            Command::UserMove => self.play_text(argument, answer),
+            Command::BareMove => self.play_text(text, answer),
             Command::Undo => self.undo(answer),
             Command::Remove => self.remove(answer),
             Command::Declare => self.declare(text, argument, answer),
@@ -286,8 +311,27 @@ impl<B: Board> Session<B> {
         }
     }
 
+    // Does what the row of a line says whose first word names no command, and answers whether the session goes on. The text is
+    // read once, which tells whether it is a move.
+    fn obey_unnamed(&mut self, text: &[u8], answer: &mut Answer) -> Go
+        requires short { length text.now ≤ 1024 }
+        requires empty { answer.old.items ≡ [] }
+        ensures next { self.new ≡ stands self.old (row self.old.tags self.old.limit self.old.state text.now (argument_of text.now) (unnamed_command text.now)) }
+        ensures text { answer.new.items ≡ (row self.old.tags self.old.limit self.old.state text.now (argument_of text.now) (unnamed_command text.now)).text }
+        ensures go { result ≡ (if is_quit_command (unnamed_command text.now) then Go.Quit else Go.On) }
+    {
+        let read = self.read(text);
+        match read {
+            Reading::NotAMove => write_line(answer, b"Error (unknown command): ", text),
+            Reading::Move(_) | Reading::Ambiguous | Reading::NoSuch => {
+                self.play(read, text, answer);
+            }
+        }
+        Go::On
+    }
+
     // Does what the row of a line says, and answers whether the session goes on.
-    #[tactic(auto, unfolding(crate::specs::Session::next_state, crate::specs::Session::answer_to, crate::specs::Session::is_quit, crate::specs::Session::asks_for_pgn))]
+    #[tactic(auto, unfolding(crate::specs::Session::next_state, crate::specs::Session::answer_to, crate::specs::Session::is_quit, crate::specs::Session::asks_for_pgn, crate::specs::Commands::command_of))]
     fn obey_line(&mut self, line: &Line<1024>, answer: &mut Answer) -> Go
         requires brief { asks_for_pgn line.now ≡ false }
         requires empty { answer.old.items ≡ [] }
@@ -300,7 +344,9 @@ impl<B: Board> Session<B> {
             write_line(answer, b"Error (line too long): ", text);
             return Go::On;
         }
-        let command = read_command(text);
+        let Some(command) = named_command(text) else {
+            return self.obey_unnamed(text, answer);
+        };
         self.obey(command, text, argument(text), answer);
         go_after(command)
     }
@@ -342,11 +388,17 @@ impl<B: Board> Session<B> {
 }
 
 // Whether the line asks for the game's text.
-#[tactic(auto, unfolding(crate::specs::Session::asks_for_pgn))]
+#[tactic(auto, unfolding(crate::specs::Session::asks_for_pgn, crate::specs::Commands::command_of))]
 fn asks_for_pgn(line: &Line<1024>) -> bool
     ensures { result ≡ asks_for_pgn line.now }
 {
-    !line.is_too_long() && shows_pgn(read_command(line.text()))
+    if line.is_too_long() {
+        return false;
+    }
+    match named_command(line.text()) {
+        Some(command) => shows_pgn(command),
+        None => false,
+    }
 }
 
 fn shows_pgn(command: Command) -> bool
