@@ -534,6 +534,30 @@ const ROWS: [Row; 77] = [
     },
 ];
 
+// Reads a game, without clauses: what its contract says stays in here, and tests compare values. So does what a loop below
+// does in each round: a loop in a long body is dear to prove.
+fn read(
+    rt: &impl Abort,
+    text: &[u8],
+    at: usize,
+    game: &mut Game<Plain>,
+) -> Result<Option<PgnEnd>, PgnFault> {
+    assert!(rt; at <= text.len());
+    read_pgn(text, at, game)
+}
+
+// Reads a row's text, and compares the answer, the half-moves that stand and what is declared.
+fn is_read(rt: &impl Abort, game: &mut Game<Plain>, row: &Row) {
+    assert_eq!(rt;
+        read(rt, row.text, 0, game),
+        row.wanted.answer(),
+        "at {:?}",
+        row.text
+    );
+    assert_eq!(rt; game.ply(), row.ply, "at {:?}", row.text);
+    assert_eq!(rt; declared(rt, game), row.declared, "at {:?}", row.text);
+}
+
 // The outcome that is declared with an empty comment.
 fn declared(rt: &impl Abort, game: &Game<Plain>) -> Option<Outcome> {
     let declared = game.declared()?;
@@ -541,19 +565,16 @@ fn declared(rt: &impl Abort, game: &Game<Plain>) -> Option<Outcome> {
     Some(declared.outcome)
 }
 
+fn are_read(rt: &impl Abort, game: &mut Game<Plain>, rows: &[Row]) {
+    for row in rows {
+        is_read(rt, game, row);
+    }
+}
+
 #[test]
 fn games_are_read(rt: HostRuntime) -> Result<(), Fail> {
     let mut game = Game::open(rt.alloc(), Plain::new(), 100)?;
-    for row in &ROWS {
-        assert_eq!(rt;
-            read_pgn(row.text, 0, &mut game),
-            row.wanted.answer(),
-            "at {:?}",
-            row.text
-        );
-        assert_eq!(rt; game.ply(), row.ply, "at {:?}", row.text);
-        assert_eq!(rt; declared(&rt, &game), row.declared, "at {:?}", row.text);
-    }
+    are_read(&rt, &mut game, &ROWS);
     Ok(())
 }
 
@@ -652,36 +673,54 @@ const VARIANTS: [Row; 14] = [
 #[test]
 fn variants_and_terminations_are_read(rt: HostRuntime) -> Result<(), Fail> {
     let mut game = Game::open(rt.alloc(), Plain::new(), 100)?;
-    for row in &VARIANTS {
-        assert_eq!(rt;
-            read_pgn(row.text, 0, &mut game),
-            row.wanted.answer(),
-            "at {:?}",
-            row.text
-        );
-        assert_eq!(rt; game.ply(), row.ply, "at {:?}", row.text);
-        assert_eq!(rt; declared(&rt, &game), row.declared, "at {:?}", row.text);
-    }
+    are_read(&rt, &mut game, &VARIANTS);
     Ok(())
+}
+
+fn is_too_long(rt: &impl Abort, text: &[u8], game: &mut Game<Plain>) {
+    assert_eq!(rt;
+        read(rt, text, 0, game),
+        Wanted::Fault(PgnFaultKind::TooLong, 6).answer()
+    );
+    assert_eq!(rt; game.ply(), 1);
+    assert_eq!(rt; game.outcome(), Outcome::Unfinished);
 }
 
 #[test]
 fn a_game_of_one_move_is_full(rt: HostRuntime) -> Result<(), Fail> {
     let mut game = Game::open(rt.alloc(), Plain::new(), 1)?;
-    for text in [b"1. e4 e5 *".as_slice(), b"1. e4 e4 *".as_slice()] {
-        assert_eq!(rt;
-            read_pgn(text, 0, &mut game),
-            Wanted::Fault(PgnFaultKind::TooLong, 6).answer()
-        );
-        assert_eq!(rt; game.ply(), 1);
-        assert_eq!(rt; game.outcome(), Outcome::Unfinished);
-    }
+    is_too_long(&rt, b"1. e4 e5 *", &mut game);
+    is_too_long(&rt, b"1. e4 e4 *", &mut game);
     assert_eq!(rt;
-        read_pgn(b"1. e4 1-0", 0, &mut game),
+        read(&rt, b"1. e4 1-0", 0, &mut game),
         Wanted::Ended(Outcome::WhiteWins, 9).answer()
     );
     assert_eq!(rt; game.outcome(), Outcome::WhiteWins);
     Ok(())
+}
+
+// What is read from a place on, and how many half-moves stand then.
+fn is_read_on(
+    rt: &impl Abort,
+    text: &[u8],
+    game: &mut Game<Plain>,
+    at: usize,
+    wanted: Wanted,
+    ply: usize,
+) {
+    assert_eq!(rt; read(rt, text, at, game), wanted.answer(), "at {at}");
+    assert_eq!(rt; game.ply(), ply, "at {at}");
+}
+
+fn are_read_on(
+    rt: &impl Abort,
+    text: &[u8],
+    game: &mut Game<Plain>,
+    rows: &[(usize, Wanted, usize)],
+) {
+    for row in rows {
+        is_read_on(rt, text, game, row.0, row.1, row.2);
+    }
 }
 
 #[test]
@@ -695,11 +734,7 @@ fn games_are_read_one_after_the_other(rt: HostRuntime) -> Result<(), Fail> {
         (33, Wanted::NoGame, 0),
         (40, Wanted::NoGame, 0),
     ];
-    for (at, wanted, ply) in rows {
-        assert!(rt; at <= text.len());
-        assert_eq!(rt; read_pgn(text, at, &mut game), wanted.answer(), "at {at}");
-        assert_eq!(rt; game.ply(), ply, "at {at}");
-    }
+    are_read_on(&rt, text, &mut game, &rows);
     // With no game left, it is the initial position with nothing declared.
     assert!(rt; game.declared().is_none());
     let initial: &[u8] = b"rnbqkbnr/pppppppp/8/8/8/8/PPPPPPPP/RNBQKBNR w KQkq - 0 1";
@@ -712,7 +747,8 @@ fn a_bad_fen_leaves_the_start_before_it(rt: HostRuntime) -> Result<(), Fail> {
     let mut game = Game::open(rt.alloc(), Plain::new(), 100)?;
     let fen: &[u8] = b"4k3/8/8/8/8/8/4P3/4K3 w - - 0 1";
     assert_eq!(rt;
-        read_pgn(
+        read(
+            &rt,
             b"[FEN \"4k3/8/8/8/8/8/4P3/4K3 w - - 0 1\"]\n[FEN \"x\"] e4 *",
             0,
             &mut game
@@ -744,7 +780,7 @@ dxe5 5. Qxd8+ Kxd8 6. Nxe5) 5. Qxf3 dxe5 6. Bc4 Nf6 ; 6... Qf6 is better
 fn a_whole_game_is_read(rt: HostRuntime) -> Result<(), Fail> {
     let mut game = Game::open(rt.alloc(), Plain::new(), 100)?;
     assert_eq!(rt;
-        read_pgn(OPERA, 0, &mut game),
+        read(&rt, OPERA, 0, &mut game),
         Wanted::Ended(Outcome::WhiteWins, OPERA.len() - 1).answer()
     );
     assert_eq!(rt; game.ply(), 33);

@@ -11,6 +11,20 @@ use std::alloc::Global;
 use std::process::Abort;
 use std::test::Fail;
 
+// Plays a move, where the word is one. Without clauses: what the contracts say stays in here.
+fn play(game: &mut Game<Plain>, word: &[u8]) -> Result<(), Fail> {
+    if let Reading::Move(m) = read_move(game.board(), word) {
+        game.play(m).or(Err("played"))?;
+    }
+    Ok(())
+}
+
+fn declare(game: &mut Game<Plain>, outcome: Outcome, comment: &[u8]) -> Result<(), Fail> {
+    game.declare(outcome, Comment::cut(comment))
+        .or(Err("declared"))?;
+    Ok(())
+}
+
 // A game from a position, or from the initial one, with the moves between spaces.
 fn played(alloc: Global, fen: &[u8], moves: &[u8]) -> Result<Game<Plain>, Fail> {
     let mut game = Game::open(alloc, Plain::new(), 100)?;
@@ -18,9 +32,7 @@ fn played(alloc: Global, fen: &[u8], moves: &[u8]) -> Result<Game<Plain>, Fail> 
         game.restart(&read_fen(fen).ok().ok_or("sound")?);
     }
     for word in moves.split(|byte| *byte == b' ') {
-        if let Reading::Move(m) = read_move(game.board(), word) {
-            game.play(m).or(Err("played"))?;
-        }
+        play(&mut game, word)?;
     }
     Ok(game)
 }
@@ -129,8 +141,7 @@ fn games_are_written(rt: HostRuntime) -> Result<(), Fail> {
 #[test]
 fn tags_and_declared_results_are_written(rt: HostRuntime) -> Result<(), Fail> {
     let mut game = played(rt.alloc(), b"", b"e4 c5")?;
-    game.declare(Outcome::WhiteWins, Comment::cut(b"Black resigns"))
-        .or(Err("declared"))?;
+    declare(&mut game, Outcome::WhiteWins, b"Black resigns")?;
     let tags = Tags {
         event: TagText::cut(b"A \"B\" \\"),
         site: TagText::cut(b""),
@@ -154,9 +165,7 @@ fn the_end_of_a_game_of_chess960_is_written(rt: HostRuntime) -> Result<(), Fail>
     let mut game = Game::open(rt.alloc(), Plain::new(), 100)?;
     let start = read_fen_as(Variant::Fischerandom, b"4k3/8/8/8/8/8/8/RK5R w HA - 0 1");
     game.restart(&start.ok().ok_or("sound")?);
-    if let Reading::Move(m) = read_move(game.board(), b"O-O-O") {
-        game.play(m).or(Err("played"))?;
-    }
+    play(&mut game, b"O-O-O")?;
     let tags = Tags {
         ended: HowEnded::TimeForfeit,
         ..Tags::default()
@@ -165,8 +174,7 @@ fn the_end_of_a_game_of_chess960_is_written(rt: HostRuntime) -> Result<(), Fail>
         b"[FEN \"4k3/8/8/8/8/8/8/RK5R w HA - 0 1\"]\n[SetUp \"1\"]\n[Termination \"unterminated\"]\n[Variant \"fischerandom\"]\n\n1. O-O-O *\n\n";
     let text = written(rt.alloc(), &game, &tags, b"", 9000)?;
     assert!(rt; text.as_slice().ends_with(unended));
-    game.declare(Outcome::Draw, Comment::cut(b""))
-        .or(Err("declared"))?;
+    declare(&mut game, Outcome::Draw, b"")?;
     let ended: &[u8] =
         b"[FEN \"4k3/8/8/8/8/8/8/RK5R w HA - 0 1\"]\n[SetUp \"1\"]\n[Termination \"time forfeit\"]\n[Variant \"fischerandom\"]\n\n1. O-O-O 1/2-1/2\n\n";
     let text = written(rt.alloc(), &game, &tags, b"", 9000)?;
@@ -182,8 +190,7 @@ fn each_declared_result_is_written(rt: HostRuntime) -> Result<(), Fail> {
         (Outcome::Draw, b"\n1. e4 1/2-1/2\n\n".as_slice()),
         (Outcome::Unfinished, b"\n1. e4 *\n\n".as_slice()),
     ] {
-        game.declare(outcome, Comment::cut(b""))
-            .or(Err("declared"))?;
+        declare(&mut game, outcome, b"")?;
         let text = written(rt.alloc(), &game, &Tags::default(), b"", 9000)?;
         assert!(rt; text.as_slice().ends_with(line));
     }
