@@ -1,6 +1,6 @@
 -- The games were told, and the score stands behind them: that is the text of the match (GamesTold.all_told,
 -- fault_told), or a beginning of it where the score could not be written (GamesTold.score_broken).
-use Rattle.std.proofs.Common.{◌≡◌, ◌∙◌, None, Some, false, true, is_err, sym, rules}
+use Rattle.std.proofs.Common.{◌≡◌, ◌∙◌, None, Some, sym, rules}
 use Rattle.chess_arbiter.specs.Games.{score_line}
 use Rattle.chess_arbiter.proofs.GamesTold.{all_told, fault_told, is_broken, is_sent, score_broken}
 use Rattle.chess_arbiter.proofs.games.play_games.Goals as goal
