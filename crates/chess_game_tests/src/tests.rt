@@ -186,21 +186,46 @@ fn by_squares(squares: &[u8; 4]) -> Move {
     }
 }
 
+// The calls of a game whose contracts are big, without clauses: the facts stay in here, and tests compare values. So do the
+// loops below, each in a function of its own: a loop in a long body is dear to prove.
+
+fn play<B: Board>(game: &mut Game<B>, squares: &[u8; 4]) -> Result<(), PlayRefusal> {
+    game.play(by_squares(squares))
+}
+
+fn take_back<B: Board>(game: &mut Game<B>) -> Result<Move, NoMove> {
+    game.take_back()
+}
+
+fn declare<B: Board>(
+    game: &mut Game<B>,
+    outcome: Outcome,
+    comment: &[u8],
+) -> Result<(), BoardSaysOtherwise> {
+    game.declare(outcome, Comment::cut(comment))
+}
+
+// Plays one move, behind which more may stand.
+fn play_first<B: Board>(game: &mut Game<B>, moves: &[u8]) -> Result<(), Fail> {
+    let [from_file, from_rank, to_file, to_rank, ..] = *moves else {
+        return Err("no move".into());
+    };
+    play(game, &[from_file, from_rank, to_file, to_rank])?;
+    Ok(())
+}
+
 // Plays moves, as `e2e4 e7e5`, none of which is refused.
 fn play_all<B: Board>(game: &mut Game<B>, moves: &[u8]) -> Result<(), Fail> {
     for word in moves.chunks(5) {
-        let [from_file, from_rank, to_file, to_rank, ..] = *word else {
-            return Err("no move".into());
-        };
-        game.play(by_squares(&[from_file, from_rank, to_file, to_rank]))?;
+        play_first(game, word)?;
     }
     Ok(())
 }
 
 // What was declared: the outcome and the comment.
 fn said<B: Board>(game: &Game<B>) -> Option<(Outcome, &[u8])> {
-    game.declared()
-        .map(|declared| (declared.outcome, declared.comment.as_bytes()))
+    let declared = game.declared()?;
+    Some((declared.outcome, declared.comment.as_bytes()))
 }
 
 const INITIAL: &[u8] = b"rnbqkbnr/pppppppp/8/8/8/8/PPPPPPPP/RNBQKBNR w KQkq - 0 1";
@@ -538,37 +563,53 @@ fn undeclared(verdict: Option<Verdict>) -> Outcome {
     }
 }
 
+// A start, and why the game is over there.
+fn starts_as_told<B: Board>(
+    rt: &impl Abort,
+    game: &mut Game<B>,
+    start: &[u8],
+    verdict: Option<Verdict>,
+) -> Result<(), Fail> {
+    game.restart(&read_fen(start)?);
+    assert_eq!(rt; game.verdict(), verdict, "at {start:?}");
+    assert_eq!(rt; game.outcome(), undeclared(verdict), "at {start:?}");
+    assert_eq!(rt; game.is_over(), verdict.is_some(), "at {start:?}");
+    assert_eq!(rt; game.repetitions(), 1, "at {start:?}");
+    Ok(())
+}
+
+fn goes_as_told<B: Board>(rt: &impl Abort, game: &mut Game<B>, told: &Told) -> Result<(), Fail> {
+    game.restart(&read_fen(told.start)?);
+    play_all(game, told.moves)?;
+    assert_eq!(rt; game.verdict(), told.verdict, "after {:?}", told.moves);
+    assert_eq!(rt;
+        game.outcome(),
+        undeclared(told.verdict),
+        "after {:?}",
+        told.moves
+    );
+    assert_eq!(rt;
+        game.repetitions(),
+        told.repetitions,
+        "after {:?}",
+        told.moves
+    );
+    assert_eq!(rt;
+        game.position().setup().halfmove,
+        told.halfmove,
+        "after {:?}",
+        told.moves
+    );
+    assert_eq!(rt; game.claims(), told.claims, "after {:?}", told.moves);
+    Ok(())
+}
+
 fn ends_as_told<B: Board>(rt: &impl Abort, game: &mut Game<B>) -> Result<(), Fail> {
-    for (start, verdict) in STARTS {
-        game.restart(&read_fen(start)?);
-        assert_eq!(rt; game.verdict(), verdict, "at {start:?}");
-        assert_eq!(rt; game.outcome(), undeclared(verdict), "at {start:?}");
-        assert_eq!(rt; game.is_over(), verdict.is_some(), "at {start:?}");
-        assert_eq!(rt; game.repetitions(), 1, "at {start:?}");
+    for start in &STARTS {
+        starts_as_told(rt, game, start.0, start.1)?;
     }
     for told in &LINES {
-        game.restart(&read_fen(told.start)?);
-        play_all(game, told.moves)?;
-        assert_eq!(rt; game.verdict(), told.verdict, "after {:?}", told.moves);
-        assert_eq!(rt;
-            game.outcome(),
-            undeclared(told.verdict),
-            "after {:?}",
-            told.moves
-        );
-        assert_eq!(rt;
-            game.repetitions(),
-            told.repetitions,
-            "after {:?}",
-            told.moves
-        );
-        assert_eq!(rt;
-            game.position().setup().halfmove,
-            told.halfmove,
-            "after {:?}",
-            told.moves
-        );
-        assert_eq!(rt; game.claims(), told.claims, "after {:?}", told.moves);
+        goes_as_told(rt, game, told)?;
     }
     Ok(())
 }
@@ -592,66 +633,64 @@ fn ends_and_claims(rt: HostRuntime) -> Result<(), Fail> {
     Ok(())
 }
 
+// The board says otherwise, and nothing is declared.
+fn is_not_declared<B: Board>(rt: &impl Abort, game: &mut Game<B>, outcome: Outcome) {
+    assert_eq!(rt; declare(game, outcome, b"x"), Err(BoardSaysOtherwise));
+    assert!(rt; game.declared().is_none());
+}
+
 // 1. f3 e5 2. g4 Qh4#. The game is over until its last move is taken back, whatever is declared.
 #[test]
 fn mate_stands_against_declared_results(rt: HostRuntime) -> Result<(), Fail> {
     let mut game = Game::open(rt.alloc(), Plain::new(), 100)?;
     play_all(&mut game, b"f2f3 e7e5 g2g4 d8h4")?;
-    assert_eq!(rt; game.play(by_squares(b"a2a3")), Err(PlayRefusal::Over));
+    assert_eq!(rt; play(&mut game, b"a2a3"), Err(PlayRefusal::Over));
     for outcome in [Outcome::WhiteWins, Outcome::Draw, Outcome::Unfinished] {
-        let refused = game.declare(outcome, Comment::cut(b"x"));
-        assert_eq!(rt; refused, Err(BoardSaysOtherwise));
-        assert!(rt; game.declared().is_none());
+        is_not_declared(&rt, &mut game, outcome);
     }
-    assert_eq!(rt;
-        game.declare(Outcome::BlackWins, Comment::cut(b"mate")),
-        Ok(())
-    );
+    assert_eq!(rt; declare(&mut game, Outcome::BlackWins, b"mate"), Ok(()));
     assert_eq!(rt; said(&game), Some((Outcome::BlackWins, b"mate".as_slice())));
     game.clear_declared();
     assert!(rt; game.declared().is_none());
     assert!(rt; game.is_over());
     assert_eq!(rt; game.outcome(), Outcome::BlackWins);
     assert_eq!(rt; game.ply(), 4);
-    assert_eq!(rt; game.take_back(), Ok(by_squares(b"d8h4")));
+    assert_eq!(rt; take_back(&mut game), Ok(by_squares(b"d8h4")));
     assert_eq!(rt; game.verdict(), None);
     assert_eq!(rt; game.outcome(), Outcome::Unfinished);
-    assert_eq!(rt; game.play(by_squares(b"d8e7")), Ok(()));
+    assert_eq!(rt; play(&mut game, b"d8e7"), Ok(()));
     Ok(())
 }
 
 #[test]
 fn declared_results_end_the_game(rt: HostRuntime) -> Result<(), Fail> {
     let mut game = Game::open(rt.alloc(), Plain::new(), 100)?;
-    assert_eq!(rt; game.declare(Outcome::Draw, Comment::cut(b"a{b}c")), Ok(()));
+    assert_eq!(rt; declare(&mut game, Outcome::Draw, b"a{b}c"), Ok(()));
     assert_eq!(rt; said(&game), Some((Outcome::Draw, b"a?b?c".as_slice())));
     assert_eq!(rt; game.verdict(), None);
     assert_eq!(rt; game.outcome(), Outcome::Draw);
-    assert_eq!(rt; game.play(by_squares(b"e2e4")), Err(PlayRefusal::Over));
+    assert_eq!(rt; play(&mut game, b"e2e4"), Err(PlayRefusal::Over));
     // What is declared anew takes its place. A game that was given up is over too.
-    assert_eq!(rt;
-        game.declare(Outcome::Unfinished, Comment::cut(b"")),
-        Ok(())
-    );
+    assert_eq!(rt; declare(&mut game, Outcome::Unfinished, b""), Ok(()));
     assert_eq!(rt; said(&game), Some((Outcome::Unfinished, b"".as_slice())));
     assert_eq!(rt; game.outcome(), Outcome::Unfinished);
     assert!(rt; game.is_over());
-    assert_eq!(rt; game.play(by_squares(b"e2e4")), Err(PlayRefusal::Over));
+    assert_eq!(rt; play(&mut game, b"e2e4"), Err(PlayRefusal::Over));
     // No move stands that could be taken back, so the result stays.
-    assert_eq!(rt; game.take_back(), Err(NoMove));
+    assert_eq!(rt; take_back(&mut game), Err(NoMove));
     assert!(rt; game.declared().is_some());
     game.clear_declared();
     assert!(rt; !game.is_over());
-    assert_eq!(rt; game.play(by_squares(b"e2e4")), Ok(()));
+    assert_eq!(rt; play(&mut game, b"e2e4"), Ok(()));
     // A move that is taken back, and a new start, clear the result.
     assert_eq!(rt;
-        game.declare(Outcome::WhiteWins, Comment::cut(b"Black resigns")),
+        declare(&mut game, Outcome::WhiteWins, b"Black resigns"),
         Ok(())
     );
-    assert_eq!(rt; game.take_back(), Ok(by_squares(b"e2e4")));
+    assert_eq!(rt; take_back(&mut game), Ok(by_squares(b"e2e4")));
     assert!(rt; game.declared().is_none());
     assert_eq!(rt;
-        game.declare(Outcome::BlackWins, Comment::cut(b"White resigns")),
+        declare(&mut game, Outcome::BlackWins, b"White resigns"),
         Ok(())
     );
     game.restart(&Position::initial());
@@ -666,14 +705,14 @@ fn fifth_time_is_taken_back(rt: HostRuntime) -> Result<(), Fail> {
     let mut game = Game::open(rt.alloc(), Plain::new(), 100)?;
     play_all(&mut game, b"g1f3 g8f6 f3g1 f6g8 g1f3 g8f6 f3g1 f6g8")?;
     assert_eq!(rt; game.claims(), THREEFOLD);
-    let claimed = game.declare(Outcome::Draw, Comment::cut(b"Threefold repetition"));
+    let claimed = declare(&mut game, Outcome::Draw, b"Threefold repetition");
     assert_eq!(rt; claimed, Ok(()));
-    assert_eq!(rt; game.play(by_squares(b"g1f3")), Err(PlayRefusal::Over));
+    assert_eq!(rt; play(&mut game, b"g1f3"), Err(PlayRefusal::Over));
     game.clear_declared();
     play_all(&mut game, b"g1f3 g8f6 f3g1 f6g8 g1f3 g8f6 f3g1 f6g8")?;
     assert_eq!(rt; game.verdict(), Some(Verdict::FivefoldRepetition));
-    assert_eq!(rt; game.play(by_squares(b"e2e4")), Err(PlayRefusal::Over));
-    assert_eq!(rt; game.take_back(), Ok(by_squares(b"f6g8")));
+    assert_eq!(rt; play(&mut game, b"e2e4"), Err(PlayRefusal::Over));
+    assert_eq!(rt; take_back(&mut game), Ok(by_squares(b"f6g8")));
     assert_eq!(rt; game.ply(), 15);
     assert_eq!(rt; game.verdict(), None);
     assert_eq!(rt; game.repetitions(), 4);
@@ -686,25 +725,41 @@ fn fifth_time_is_taken_back(rt: HostRuntime) -> Result<(), Fail> {
 #[test]
 fn no_more_moves_than_the_limit(rt: HostRuntime) -> Result<(), Fail> {
     let mut game = Game::open(rt.alloc(), Plain::new(), 3)?;
-    assert_eq!(rt; game.play(by_squares(b"e2e5")), Err(PlayRefusal::Illegal));
+    assert_eq!(rt; play(&mut game, b"e2e5"), Err(PlayRefusal::Illegal));
     play_all(&mut game, b"e2e4 e7e5")?;
     assert!(rt; !game.is_full());
-    assert_eq!(rt; game.play(by_squares(b"g1f3")), Ok(()));
+    assert_eq!(rt; play(&mut game, b"g1f3"), Ok(()));
     assert!(rt; game.is_full());
     assert!(rt; !game.is_over());
-    assert_eq!(rt; game.play(by_squares(b"b8c6")), Err(PlayRefusal::TooLong));
-    assert_eq!(rt; game.play(by_squares(b"a1a1")), Err(PlayRefusal::TooLong));
+    assert_eq!(rt; play(&mut game, b"b8c6"), Err(PlayRefusal::TooLong));
+    assert_eq!(rt; play(&mut game, b"a1a1"), Err(PlayRefusal::TooLong));
     assert_eq!(rt;
-        game.declare(Outcome::Unfinished, Comment::cut(b"Game too long")),
+        declare(&mut game, Outcome::Unfinished, b"Game too long"),
         Ok(())
     );
-    assert_eq!(rt; game.play(by_squares(b"b8c6")), Err(PlayRefusal::Over));
-    assert_eq!(rt; game.take_back(), Ok(by_squares(b"g1f3")));
-    assert_eq!(rt; game.play(by_squares(b"g1e2")), Ok(()));
-    assert_eq!(rt; game.play(by_squares(b"b8c6")), Err(PlayRefusal::TooLong));
+    assert_eq!(rt; play(&mut game, b"b8c6"), Err(PlayRefusal::Over));
+    assert_eq!(rt; take_back(&mut game), Ok(by_squares(b"g1f3")));
+    assert_eq!(rt; play(&mut game, b"g1e2"), Ok(()));
+    assert_eq!(rt; play(&mut game, b"b8c6"), Err(PlayRefusal::TooLong));
     game.restart(&Position::initial());
     assert!(rt; !game.is_full());
     Ok(())
+}
+
+fn is_position_at<B: Board>(rt: &impl Abort, game: &Game<B>, ply: usize, fen: &[u8]) {
+    assert!(rt; ply <= game.ply());
+    assert_eq!(rt; write_fen(&game.position_at(ply)).as_slice(), fen);
+}
+
+fn are_positions<B: Board>(rt: &impl Abort, game: &Game<B>, fens: &[&[u8]]) {
+    for (ply, fen) in fens.iter().enumerate() {
+        is_position_at(rt, game, ply, fen);
+    }
+}
+
+fn is_move_at<B: Board>(rt: &impl Abort, game: &Game<B>, ply: usize, squares: &[u8; 4]) {
+    assert!(rt; ply < game.ply());
+    assert_eq!(rt; game.move_at(ply), by_squares(squares));
 }
 
 // The FEN after each half-move.
@@ -718,22 +773,20 @@ fn positions_of_a_line(rt: HostRuntime) -> Result<(), Fail> {
         b"rnbqkbnr/pppppppp/8/8/4P3/8/PPPP1PPP/RNBQKBNR b KQkq - 4 3",
     ];
     let mut game = Game::open(rt.alloc(), Plain::new(), 100)?;
-    assert_eq!(rt; game.take_back(), Err(NoMove));
+    assert_eq!(rt; take_back(&mut game), Err(NoMove));
     game.restart(&read_fen(positions[0])?);
     play_all(&mut game, b"g8f6 g1f3 f6g8 f3g1")?;
     assert_eq!(rt; game.ply(), 4);
-    for (ply, fen) in positions.iter().enumerate() {
-        assert_eq!(rt; write_fen(&game.position_at(ply)).as_slice(), *fen);
-    }
-    assert_eq!(rt; game.move_at(0), by_squares(b"g8f6"));
-    assert_eq!(rt; game.move_at(3), by_squares(b"f3g1"));
+    are_positions(&rt, &game, &positions);
+    is_move_at(&rt, &game, 0, b"g8f6");
+    is_move_at(&rt, &game, 3, b"f3g1");
     assert_eq!(rt; write_fen(&game.start()).as_slice(), positions[0]);
     assert_eq!(rt; write_fen(&game.position()).as_slice(), positions[4]);
     assert_eq!(rt;
         write_fen(&game.board().position()).as_slice(),
         positions[4]
     );
-    assert_eq!(rt; game.take_back(), Ok(by_squares(b"f3g1")));
+    assert_eq!(rt; take_back(&mut game), Ok(by_squares(b"f3g1")));
     assert_eq!(rt; write_fen(&game.position()).as_slice(), positions[3]);
     Ok(())
 }
@@ -757,7 +810,7 @@ fn game_opens_at_the_initial_position(rt: HostRuntime) -> Result<(), Fail> {
 fn promotion_to_a_knight_leaves_too_few_men(rt: HostRuntime) -> Result<(), Fail> {
     let mut game = Game::open(rt.alloc(), Plain::new(), 100)?;
     game.restart(&read_fen(b"8/4P3/8/8/8/2k5/8/4K3 w - - 0 1")?);
-    assert_eq!(rt; game.play(by_squares(b"e7e8")), Err(PlayRefusal::Illegal));
+    assert_eq!(rt; play(&mut game, b"e7e8"), Err(PlayRefusal::Illegal));
     let promotion = Move {
         promotion: Some(Kind::Knight),
         ..by_squares(b"e7e8")
@@ -765,6 +818,65 @@ fn promotion_to_a_knight_leaves_too_few_men(rt: HostRuntime) -> Result<(), Fail>
     assert_eq!(rt; game.play(promotion), Ok(()));
     assert_eq!(rt; game.verdict(), Some(Verdict::InsufficientMaterial));
     Ok(())
+}
+
+// A move is made by one call; where it is refused, as it is at once again, nothing is called.
+fn is_made_once(rt: &impl Abort, game: &mut Game<Counting<'_>>, calls: &Calls, squares: &[u8; 4]) {
+    assert_eq!(rt; play(game, squares), Ok(()));
+    assert_eq!(rt; calls.since(), (0, 1, 0));
+    assert!(rt; play(game, squares).is_err());
+    assert_eq!(rt; calls.since(), (0, 0, 0));
+}
+
+fn is_taken_back<B: Board>(rt: &impl Abort, game: &mut Game<B>, squares: &[u8; 4]) {
+    assert_eq!(rt; take_back(game), Ok(by_squares(squares)));
+}
+
+fn is_taken_back_once(
+    rt: &impl Abort,
+    game: &mut Game<Counting<'_>>,
+    calls: &Calls,
+    squares: &[u8; 4],
+) {
+    is_taken_back(rt, game, squares);
+    assert_eq!(rt; calls.since(), (0, 0, 1));
+}
+
+fn are_made_once(
+    rt: &impl Abort,
+    game: &mut Game<Counting<'_>>,
+    calls: &Calls,
+    moves: &[&[u8; 4]],
+) {
+    for squares in moves {
+        is_made_once(rt, game, calls, squares);
+    }
+}
+
+fn are_taken_back_once(
+    rt: &impl Abort,
+    game: &mut Game<Counting<'_>>,
+    calls: &Calls,
+    moves: &[&[u8; 4]],
+) {
+    for squares in moves.iter().rev() {
+        is_taken_back_once(rt, game, calls, squares);
+    }
+}
+
+// What is asked of the game asks for none of the three.
+fn asked_calls_nothing(rt: &impl Abort, game: &mut Game<Counting<'_>>, calls: &Calls) {
+    assert_eq!(rt; game.repetitions(), 1);
+    assert_eq!(rt; game.ply(), 9);
+    is_position_at(
+        rt,
+        game,
+        8,
+        b"rnbqkbnr/pppppppp/8/8/8/8/PPPPPPPP/RNBQKBNR w KQkq - 8 5",
+    );
+    assert_eq!(rt; declare(game, Outcome::Draw, b"x"), Ok(()));
+    assert_eq!(rt; play(game, b"e7e5"), Err(PlayRefusal::Over));
+    assert_eq!(rt; calls.since(), (0, 0, 0));
 }
 
 // Nothing is replayed: how often `set`, `make` and `take_back` of the board are called.
@@ -782,29 +894,42 @@ fn each_move_is_made_once(rt: HostRuntime) -> Result<(), Fail> {
     let moves = [
         b"g1f3", b"g8f6", b"f3g1", b"f6g8", b"g1f3", b"g8f6", b"f3g1", b"f6g8", b"e2e4",
     ];
-    for squares in moves {
-        assert_eq!(rt; game.play(by_squares(squares)), Ok(()));
-        assert_eq!(rt; calls.since(), (0, 1, 0));
-        assert!(rt; game.play(by_squares(squares)).is_err());
-        assert_eq!(rt; calls.since(), (0, 0, 0));
-    }
-    // What is asked of the game asks for none of them.
-    assert_eq!(rt; game.repetitions(), 1);
-    assert_eq!(rt; game.ply(), 9);
-    assert_eq!(rt;
-        write_fen(&game.position_at(8)).as_slice(),
-        b"rnbqkbnr/pppppppp/8/8/8/8/PPPPPPPP/RNBQKBNR w KQkq - 8 5".as_slice()
-    );
-    assert_eq!(rt; game.declare(Outcome::Draw, Comment::cut(b"x")), Ok(()));
-    assert_eq!(rt; game.play(by_squares(b"e7e5")), Err(PlayRefusal::Over));
-    assert_eq!(rt; calls.since(), (0, 0, 0));
-    for squares in moves.iter().rev() {
-        assert_eq!(rt; game.take_back(), Ok(by_squares(squares)));
-        assert_eq!(rt; calls.since(), (0, 0, 1));
-    }
-    assert_eq!(rt; game.take_back(), Err(NoMove));
+    are_made_once(&rt, &mut game, &calls, &moves);
+    asked_calls_nothing(&rt, &mut game, &calls);
+    are_taken_back_once(&rt, &mut game, &calls, &moves);
+    assert_eq!(rt; take_back(&mut game), Err(NoMove));
     assert_eq!(rt; calls.since(), (0, 0, 0));
     Ok(())
+}
+
+// The word is asked for where a move is played, and not where it is refused.
+fn is_asked_for_its_word_once(
+    rt: &impl Abort,
+    game: &mut Game<Counting<'_>>,
+    calls: &Calls,
+    squares: &[u8; 4],
+) {
+    assert_eq!(rt; play(game, squares), Ok(()));
+    assert_eq!(rt; calls.words_since(), 1);
+    assert!(rt; play(game, squares).is_err());
+    assert_eq!(rt; calls.words_since(), 0);
+}
+
+fn are_asked_for_their_words_once(
+    rt: &impl Abort,
+    game: &mut Game<Counting<'_>>,
+    calls: &Calls,
+    moves: &[&[u8; 4]],
+) {
+    for squares in moves {
+        is_asked_for_its_word_once(rt, game, calls, squares);
+    }
+}
+
+fn are_taken_back<B: Board>(rt: &impl Abort, game: &mut Game<B>, moves: &[&[u8; 4]]) {
+    for squares in moves.iter().rev() {
+        is_taken_back(rt, game, squares);
+    }
 }
 
 // A game keeps the words of its positions: each is asked for once, when the position is reached.
@@ -822,17 +947,10 @@ fn each_position_is_asked_for_its_word_once(rt: HostRuntime) -> Result<(), Fail>
     let moves = [
         b"g1f3", b"g8f6", b"f3g1", b"f6g8", b"g1f3", b"g8f6", b"f3g1", b"f6g8",
     ];
-    for squares in moves {
-        assert_eq!(rt; game.play(by_squares(squares)), Ok(()));
-        assert_eq!(rt; calls.words_since(), 1);
-        assert!(rt; game.play(by_squares(squares)).is_err());
-        assert_eq!(rt; calls.words_since(), 0);
-    }
+    are_asked_for_their_words_once(&rt, &mut game, &calls, &moves);
     assert_eq!(rt; game.repetitions(), 3);
     assert_eq!(rt; game.claims(), THREEFOLD);
-    for squares in moves.iter().rev() {
-        assert_eq!(rt; game.take_back(), Ok(by_squares(squares)));
-    }
+    are_taken_back(&rt, &mut game, &moves);
     assert_eq!(rt; game.repetitions(), 1);
     assert_eq!(rt; calls.words_since(), 0);
     Ok(())
@@ -883,6 +1001,12 @@ fn results_are_shown(rt: HostRuntime) -> Result<(), Fail> {
     Ok(())
 }
 
+fn are_cut(rt: &impl Abort, texts: &[(&[u8], &[u8])]) {
+    for text in texts {
+        assert_eq!(rt; Comment::cut(text.0).as_bytes(), text.1);
+    }
+}
+
 #[test]
 fn comments_are_cut(rt: HostRuntime) {
     let sixty = [b'z'; 60];
@@ -893,9 +1017,7 @@ fn comments_are_cut(rt: HostRuntime) {
         (b"\x1f ~\x7f\x80\xc8\xff\0\n", b"? ~??????"),
         (&sixty, &sixty),
     ];
-    for (text, comment) in texts {
-        assert_eq!(rt; Comment::cut(text).as_bytes(), comment);
-    }
+    are_cut(&rt, &texts);
     let mut longer = [b'z'; 61];
     longer[60] = b'y';
     assert_eq!(rt; Comment::cut(&longer).as_bytes(), sixty.as_slice());
