@@ -14,6 +14,7 @@ WORD = r"[A-Za-z_]\w*'*"
 SHORT = {
     "devices": "byte_devices",
     "base": "chess_base",
+    "fen": "chess_fen",
     "moves": "chess_moves",
     "bits": "chess_bits",
     "game": "chess_game",
@@ -27,6 +28,7 @@ SHORT = {
     "words": "arbiter_words",
     "arbiter": "chess_arbiter",
     "base_tests": "chess_base_tests",
+    "fen_tests": "chess_fen_tests",
     "boards_tests": "boards_tests",
     "game_tests": "chess_game_tests",
     "text_tests": "chess_text_tests",

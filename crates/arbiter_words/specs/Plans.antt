@@ -22,7 +22,7 @@ use Rattle.arbiter_words.specs.declared.spelled.MatchWords.{MatchWords}
 use Rattle.arbiter_words.specs.declared.spelled.Spelled.{Spelled}
 use Rattle.arbiter_words.specs.declared.spelled.Spelled.TheVariants as spelled
 use Rattle.chess_base.specs.Initial.{initial_setup_of}
-use Rattle.chess_base.specs.Reading.{fen_reading_as}
+use Rattle.chess_fen.specs.Reading.{fen_reading_as}
 use Rattle.chess_base.specs.declared.fault.FenFault.{FenFault}
 use Rattle.chess_base.specs.declared.man.Variant.{Variant}
 use Rattle.chess_base.specs.declared.man.Variant.TheVariants.{Normal, Fischerandom}

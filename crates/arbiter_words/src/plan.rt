@@ -6,7 +6,8 @@ ghost use Rattle.arbiter_words.specs.Plans.{IsMatchFault, IsMatchPlan, IsPlanFau
 
 use crate::fault::WordsFault;
 use crate::spelled::{MatchWords, Spelled};
-use chess_base::{FenFault, Position, Variant, read_fen_as};
+use chess_base::{FenFault, Position, Variant};
+use chess_fen::read_fen_as;
 use engine_lines::Level;
 
 /// What a match is played by.

@@ -1,7 +1,8 @@
 //! What the words of the command line ask for, and which are refused.
 
 use arbiter_words::{Plan, VerifyPlan, WordsFault, read_words};
-use chess_base::{Variant, write_fen};
+use chess_base::Variant;
+use chess_fen::write_fen;
 use std::test::Fail;
 
 #[test]

@@ -10,8 +10,9 @@ mod relay;
 #[cfg(test)]
 mod tests;
 
-use chess_base::{Position, read_fen};
+use chess_base::Position;
 use chess_bits::Bits;
+use chess_fen::read_fen;
 use chess_game::Game;
 use chess_moves::Board;
 use engine_lines::Level;

@@ -1,7 +1,8 @@
 ghost use Rattle.std.specs.Prelude.{◌≡◌, OnOk};
 
-use chess_base::{Move, Position, Square, Variant, read_fen, read_fen_as};
+use chess_base::{Move, Position, Square, Variant};
 use chess_bits::Bits;
+use chess_fen::{read_fen, read_fen_as};
 use chess_moves::{Board, Plain, make_then_take_back};
 use std::process::Abort;
 use std::test::Fail;

@@ -3,22 +3,18 @@ use Rattle.std.proofs.Common.{◌≡◌, ℕ, Bool, true, false, ◌&&◌, cond,
 use Rattle.chess_base.specs.declared.castling.Castle.{Castle}
 use Rattle.chess_base.specs.declared.steps.Steps.{Steps}
 use Rattle.chess_base.specs.declared.man.Colour.{Colour}
-use Rattle.chess_base.specs.declared.man.Colour.TheVariants.{White, Black}
-use Rattle.chess_base.specs.RightNames.{side_letter}
 use Rattle.chess_base.specs.declared.man.CastlingSide.{CastlingSide}
 use Rattle.chess_base.specs.declared.man.CastlingSide.TheVariants.{KingSide, QueenSide}
 use Rattle.chess_base.specs.declared.man.Kind.TheVariants.{King, Rook, Pawn}
 use Rattle.chess_base.specs.declared.man.Man.{Man}
 use Rattle.chess_base.specs.declared.man.Move.{Move}
-use Rattle.chess_base.specs.declared.man.Rights.{Rights}
 use Rattle.chess_base.specs.declared.man.Variant.TheVariants.{Normal}
 use Rattle.chess_base.specs.declared.setup.Setup.{Setup}
 use Rattle.chess_base.specs.Men.{Men, man_at, is_man, same_colour, same_kind, other}
 use Rattle.chess_base.specs.Moves.{behind, is_en_passant, man_that_lands, castles_or_moves, moves_as, has_pattern, pawn_moves, second_square_emptied, men_after, rights_after, target_after, halfmove_after, fullmove_after, is_legal, after}
 use Rattle.chess_base.specs.Castling.{names_castling, says_castling, castling, castle_by, castle_of, mover_to, rook_from, rook_to, lands_on, castling_rook_to, castled_king_file, right_of, right_stands, right_stands_at, home_square, king_home_file}
 use Rattle.chess_base.specs.Steps.{men_stepped}
-use Rattle.chess_base.specs.Writing.{rights_text, right_text}
-use Rattle.chess_base.specs.laws.Normal.{normal_right_stands_at, normal_says_castling, normal_castling, normal_castle_of, normal_moves_as, normal_has_pattern, normal_men_after, normal_after, normal_is_legal, letter_if, normal_rights_text, NormalIsKept}
+use Rattle.chess_base.specs.laws.Normal.{normal_right_stands_at, normal_says_castling, normal_castling, normal_castle_of, normal_moves_as, normal_has_pattern, normal_men_after, normal_after, normal_is_legal, NormalIsKept}
 
 in_turn : (a b c : Bool) → (a && (b && c)) ≡ (true && a && b && c)
 in_turn true true c = refl
@@ -86,13 +82,5 @@ stands_kept : (p : Setup) → p.variant ≡ Normal → (c : Colour) (w : Castlin
 unfolding right_stands
 stands_kept p e c w = ap (λ v. right_stands_at v p.men c w (right_of p.rights c w)) e ∙ stands_by p.men c w (right_of p.rights c w)
 
-one_written : (c : Colour) (w : CastlingSide) (o : Option ℕ) → right_text Normal c w o ≡ letter_if o (side_letter c w)
-one_written c w None = refl
-one_written c w (Some s) = refl
-
-written_by : (r : Rights) → rights_text Normal r ≡ normal_rights_text r
-written_by r =
-    rw (one_written White KingSide r.white.king_side, one_written White QueenSide r.white.queen_side, one_written Black KingSide r.black.king_side, one_written Black QueenSide r.black.queen_side) refl
-
 pub normal_kept : (p : Setup) → p.variant ≡ Normal → NormalIsKept p
-normal_kept p e = record { stands = stands_kept p e; legal = legal_kept p e; after = after_kept p e; written = ap (λ v. rights_text v p.rights) e ∙ written_by p.rights }
+normal_kept p e = record { stands = stands_kept p e; legal = legal_kept p e; after = after_kept p e }

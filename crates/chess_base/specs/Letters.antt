@@ -1,11 +1,9 @@
--- The bytes of a FEN: the letters of men (PGN standard of 1994, section 16.1.3.1), and what stands between.
+-- The bytes of texts: letters and digits, what stands between, the letters of kinds of men and the names of squares.
 use Prim.Native.String.{String as Text}
-use Rattle.std.specs.Prelude.{ℕ, ◌+◌, ◌==◌, List, [], ◌∷◌, ◌++◌, map, find, Option, codes}
-use Rattle.chess_base.specs.declared.man.Man.{Man}
+use Rattle.std.specs.Prelude.{ℕ, ◌+◌, ◌-◌, ◌*◌, Bool, ◌&&◌, ◌||◌, List, [], ◌∷◌, nat_le, codes}
 use Rattle.chess_base.specs.declared.man.Kind.{Kind}
 use Rattle.chess_base.specs.declared.man.Kind.TheVariants.{Pawn, Knight, Bishop, Rook, Queen, King}
-use Rattle.chess_base.specs.declared.man.Colour.{Colour}
-use Rattle.chess_base.specs.declared.man.Colour.TheVariants.{White, Black}
+use Rattle.chess_base.specs.Squares.{file, rank}
 
 abbrev first_of : List ℕ → ℕ
 first_of [] = 0
@@ -28,12 +26,22 @@ tab = 9
 abbrev pub space : ℕ
 space = byte " "
 
-abbrev pub stroke : ℕ
-stroke = byte "/"
+-- ---- letters and digits
 
-abbrev pub dash : ℕ
-dash = byte "-"
+abbrev pub is_letter : ℕ → Bool
+is_letter c = (nat_le (byte "A") c && nat_le c (byte "Z")) || (nat_le (byte "a") c && nat_le c (byte "z"))
 
+abbrev pub is_digit : ℕ → Bool
+is_digit c = nat_le (byte "0") c && nat_le c (byte "9")
+
+-- the value of digits behind a number
+abbrev pub value_after : ℕ → List ℕ → ℕ
+value_after n [] = n
+value_after n (c ∷ cs) = value_after (10 * n + (c - byte "0")) cs
+
+-- ---- men and squares
+
+-- the capital letter of a kind of men (PGN standard of 1994, sections 8.2.3.2 and 16.1.3.1)
 abbrev pub white_letter : Kind → ℕ
 white_letter Pawn = byte "P"
 white_letter Knight = byte "N"
@@ -42,20 +50,6 @@ white_letter Rook = byte "R"
 white_letter Queen = byte "Q"
 white_letter King = byte "K"
 
--- White's letters are capital, Black's small
-abbrev pub letter_by : Colour → Kind → ℕ
-letter_by White kind = white_letter kind
-letter_by Black kind = white_letter kind + 32
-
-abbrev pub letter : Man → ℕ
-letter m = letter_by m.colour m.kind
-
-abbrev pub kinds : List Kind
-kinds = Pawn ∷ Knight ∷ Bishop ∷ Rook ∷ Queen ∷ King ∷ []
-
-abbrev pub all_men : List Man
-all_men = map (λ k. record { colour = White; kind = k }) kinds ++ map (λ k. record { colour = Black; kind = k }) kinds
-
--- the man with this letter, if there is one
-abbrev pub man_with_letter : ℕ → Option Man
-man_with_letter c = find (λ m. letter m == c) all_men
+-- the name of a square: the file's letter and the rank's digit
+abbrev pub square_text : ℕ → List ℕ
+square_text square = (byte "a" + file square) ∷ (byte "1" + rank square) ∷ []

@@ -10,10 +10,4 @@ pub mod Initial
 pub mod MoveList
 pub mod Before
 pub mod Letters
-pub mod Writing
-pub mod Texts
-pub mod RightNames
-pub mod Reading
-pub mod Spelling
-pub mod FenFaults
 pub mod laws

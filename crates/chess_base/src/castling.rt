@@ -35,8 +35,8 @@ pub(crate) fn king_home_file() -> u8
     4
 }
 
-// The file on which that side's rook begins in normal chess (Laws of Chess 2023, article 2.3).
-pub(crate) fn rook_file(castling_side: CastlingSide) -> u8
+/// The file on which that side's rook begins in normal chess (Laws of Chess 2023, article 2.3).
+pub fn rook_file(castling_side: CastlingSide) -> u8
     ensures value { result ≡ rook_file castling_side }
     ensures in_range { result < 8 }
 {
@@ -96,8 +96,8 @@ fn king_place(men: &[Option<Man>; 64], colour: Colour) -> Option<usize>
     men.iter().position(|man| is_man(colour, Kind::King, *man))
 }
 
-// Where the king of that colour stands.
-pub(crate) fn king_square(men: &[Option<Man>; 64], colour: Colour) -> Option<Square>
+/// The square of the king of that colour, of several the first from a1 on; none where it has none.
+pub fn king_square(men: &[Option<Man>; 64], colour: Colour) -> Option<Square>
     ensures { result ≡ king_square men.now colour }
 {
     match king_place(men, colour) {

@@ -4,8 +4,6 @@
 #[cfg(test)]
 mod chess960;
 #[cfg(test)]
-mod fen;
-#[cfg(test)]
 mod positions;
 #[cfg(test)]
 mod squares;

@@ -1,7 +1,7 @@
 use chess_base::{
     Colour, ColourRights, FenFault, Kind, Man, Move, Position, Rights, Setup, Square, Variant,
-    read_fen, write_fen,
 };
+use chess_fen::{read_fen, write_fen};
 use std::test::Fail;
 
 fn man(letter: u8) -> Option<Man> {
@@ -214,17 +214,6 @@ fn moves_leave_their_positions(rt: HostRuntime) -> Result<(), Fail> {
             (position, fen) => assert_eq!(rt; position.is_some(), fen.is_some(), "at {squares:?}"),
         }
     }
-    Ok(())
-}
-
-#[test]
-fn positions_are_written(rt: HostRuntime) -> Result<(), Fail> {
-    assert_eq!(rt;
-        write_fen(&Position::initial()).as_slice(),
-        b"rnbqkbnr/pppppppp/8/8/8/8/PPPPPPPP/RNBQKBNR w KQkq - 0 1".as_slice()
-    );
-    let longest = read_fen(LONGEST).ok().ok_or("sound")?;
-    assert_eq!(rt; write_fen(&longest).as_slice(), LONGEST);
     Ok(())
 }
 

@@ -7,7 +7,7 @@ use Rattle.chess_base.specs.declared.setup.Setup.{Setup}
 use Rattle.chess_base.specs.Castling.{castling}
 use Rattle.chess_base.specs.Moves.{after}
 use Rattle.chess_base.specs.MoveList.{moves}
-use Rattle.chess_base.specs.Reading.{fen_reading_as}
+use Rattle.chess_fen.specs.Reading.{fen_reading_as}
 use Rattle.chess_text.specs.Moves.{coordinate}
 use Rattle.chess_text.specs.San.{shown_move, shown_as}
 use Rattle.chess_game.specs.Game.{State, current}

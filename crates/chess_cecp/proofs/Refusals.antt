@@ -6,7 +6,7 @@ use Rattle.chess_base.specs.declared.fault.FenFault.{FenFault}
 use Rattle.chess_base.specs.declared.man.Variant.{Variant as Rules}
 use Rattle.chess_base.specs.declared.man.Variant.TheVariants.{Normal, Fischerandom}
 use Rattle.chess_base.specs.declared.setup.Setup.{Setup}
-use Rattle.chess_base.specs.Reading.{fen_reading_as}
+use Rattle.chess_fen.specs.Reading.{fen_reading_as}
 use Rattle.chess_base.specs.Initial.{initial_setup, initial_setup_of}
 use Rattle.chess_cecp.specs.Lines.{LineSeen}
 use Rattle.chess_cecp.specs.Held.{SessionSeen}

@@ -2,7 +2,7 @@
 use Rattle.std.specs.Prelude.{ℕ, ◌==◌, ◌&&◌, ◌||◌, nat_lt, nat_le, if◌then◌else◌, Bool, List, [], ◌∷◌, length, drop, codes, Option, None, Some, unwrap_or}
 use Rattle.std.specs.List.{list_all, list_any}
 use Rattle.std.specs.Str.{bytes_eq}
-use Rattle.chess_base.specs.Texts.{is_digit, value_after}
+use Rattle.chess_base.specs.Letters.{is_digit, value_after}
 use Rattle.chess_cecp.specs.Lines.{is_blank, without_front_blanks}
 use Rattle.chess_text.specs.Moves.{shape}
 use Rattle.chess_cecp.specs.declared.command.Command.{Command}

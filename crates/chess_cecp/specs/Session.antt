@@ -13,8 +13,8 @@ use Rattle.chess_base.specs.declared.setup.Setup.{Setup}
 use Rattle.chess_base.specs.Initial.{initial_setup, initial_setup_of}
 use Rattle.std.specs.List.{flat_map}
 use Rattle.chess_base.specs.MoveList.{moves}
-use Rattle.chess_base.specs.Reading.{fen_reading_as}
-use Rattle.chess_base.specs.Writing.{fen}
+use Rattle.chess_fen.specs.Reading.{fen_reading_as}
+use Rattle.chess_fen.specs.Writing.{fen}
 use Rattle.chess_cecp.specs.Lines.{LineSeen}
 use Rattle.chess_cecp.specs.Held.{SessionSeen}
 use Rattle.chess_pgn.specs.GameText.{pgn}

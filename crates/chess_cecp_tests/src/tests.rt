@@ -1,11 +1,12 @@
 ghost use Rattle.std.specs.Prelude.{◌≤◌};
 
 use byte_devices::{Counted, GatedReader, GatedWriter, PieceReader, PieceWriter};
-use chess_base::{Move, Position, Square, write_fen};
+use chess_base::{Move, Position, Square};
 use chess_cecp::{
     Command, End, Fault, Lines, Session, lines_are_pieces, normal_chess_keeps_its_rows,
     read_command, refusals_change_nothing, run_session,
 };
+use chess_fen::write_fen;
 use chess_moves::{Board, Plain};
 use chess_pgn::Tags;
 use std::alloc::{AllocError, Global};

@@ -1,6 +1,7 @@
 ghost use Rattle.chess_moves.specs.PositionWord.{position_word};
 
-use chess_base::{Kind, Move, Position, Saved, Setup, Square, read_fen, write_fen};
+use chess_base::{Kind, Move, Position, Saved, Setup, Square};
+use chess_fen::{read_fen, write_fen};
 use chess_game::{
     BoardSaysOtherwise, Claims, Comment, Game, NoMove, Outcome, PlayRefusal, Verdict,
 };

@@ -8,7 +8,7 @@ use Rattle.chess_base.specs.declared.man.Move.{Move}
 use Rattle.chess_base.specs.declared.setup.Setup.{Setup}
 use Rattle.chess_base.specs.Men.{Men, same_colour, same_kind}
 use Rattle.chess_base.specs.Moves.{after}
-use Rattle.chess_base.specs.Writing.{fen}
+use Rattle.chess_fen.specs.Writing.{fen}
 use Rattle.chess_game.specs.Ends.{verdict, claims}
 use Rattle.chess_game.specs.Line.{last}
 use Rattle.chess_game.specs.declared.ends.Claims.{Claims}

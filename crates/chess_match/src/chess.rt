@@ -4,7 +4,7 @@ ghost use Rattle.std.specs.Prelude.{◌≡◌, ◌≤◌, ◌<◌, ◌++◌, ◌
 ghost use Rattle.std.specs.Option.{option_map};
 ghost use Rattle.arrayvec.specs.ArrayVec.{array_vec_len};
 ghost use Rattle.std.specs.List.{list_all};
-ghost use Rattle.chess_base.specs.Writing.{fen};
+ghost use Rattle.chess_fen.specs.Writing.{fen};
 ghost use Rattle.chess_base.specs.Initial.{initial_setup};
 ghost use Rattle.chess_game.specs.Game.{current, verdict_now, State};
 ghost use Rattle.chess_game.specs.Ends.{verdict, claims};
@@ -15,7 +15,8 @@ ghost use Rattle.chess_match.specs.Rules.{rules_of, has_bare_king, is_king_or_ot
 use crate::block::{Block, add, add_move};
 use crate::played::Played;
 use crate::reason::DrawClaim;
-use chess_base::{Colour, FenText, Kind, Man, Move, Position, Variant, write_fen};
+use chess_base::{Colour, Kind, Man, Move, Position, Variant};
+use chess_fen::{FenText, write_fen};
 use chess_game::{Claims, Game, Verdict};
 use chess_moves::Board;
 use chess_text::{Reading, move_text, read_move, read_moves_are_legal, san};

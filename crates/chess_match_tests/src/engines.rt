@@ -1,5 +1,6 @@
 use byte_devices::{Counted, PieceReader, PieceWriter};
-use chess_base::{Colour, Position, read_fen};
+use chess_base::{Colour, Position};
+use chess_fen::read_fen;
 use chess_game::Game;
 use chess_match::{Ends, MatchFault, Moments, Setup, run_match};
 use chess_moves::Plain;

@@ -1,7 +1,8 @@
 //! Engines that flood or fail, Chess960, and what is told of an end.
 
 use byte_devices::{Counted, PieceReader, PieceWriter};
-use chess_base::{Colour, Position, Variant, read_fen_as};
+use chess_base::{Colour, Position, Variant};
+use chess_fen::read_fen_as;
 use chess_game::{Game, Outcome};
 use chess_match::{Ends, MatchEnd, MatchFault, Moments, Setup, run_match};
 use chess_moves::Plain;

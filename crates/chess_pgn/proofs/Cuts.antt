@@ -5,7 +5,7 @@ use Rattle.std.specs.List.{prefix_len, take_while}
 use Rattle.std.proofs.lemmas.Bool.Decides.{nat_tests}
 use Rattle.std.proofs.lemmas.List.{take-append-drop}
 use Rattle.chess_pgn.specs.Tokens.{Token, Plain, Brace, Line, Inside, is_white_space, is_word_byte, is_name_byte, behind_brace, behind_gap, string_at, onto, behind_byte, behind_next, closed, with_text, with_string, with_name, tag_at, variation_at, comment_at, token_at}
-use Rattle.chess_base.specs.Texts.{is_digit}
+use Rattle.chess_base.specs.Letters.{is_digit}
 
 -- the rest of a text behind a byte other than 10
 pub record Cut (text rest : List ℕ) : Type 0 where

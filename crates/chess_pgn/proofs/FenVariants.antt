@@ -7,8 +7,8 @@ use Rattle.chess_base.specs.declared.man.Variant.{Variant}
 use Rattle.chess_base.specs.declared.setup.Setup.{Setup}
 use Rattle.chess_base.specs.Initial.{initial_setup_of}
 use Rattle.chess_base.specs.Faults.{setup_fault}
-use Rattle.chess_base.specs.Reading.{◌>>=◌, Description, letters_of, described_by, described_in, description_of, setup_from, unless_fault, sound_from, fen_reading_as, side_of, counters_of}
-use Rattle.chess_base.specs.Texts.{fields_of, placement_of, target_of}
+use Rattle.chess_fen.specs.Reading.{◌>>=◌, Description, letters_of, described_by, described_in, description_of, setup_from, unless_fault, sound_from, fen_reading_as, side_of, counters_of}
+use Rattle.chess_fen.specs.Texts.{fields_of, placement_of, target_of}
 
 pub initial_variant : (v : Variant) → (initial_setup_of v).variant ≡ v
 unfolding initial_setup_of

@@ -10,7 +10,7 @@ use Rattle.chess_base.specs.declared.man.Variant.{Variant}
 use Rattle.chess_base.specs.declared.man.Variant.TheVariants.{Normal}
 use Rattle.chess_base.specs.declared.setup.Setup.{Setup}
 use Rattle.chess_base.specs.Initial.{initial_setup_of}
-use Rattle.chess_base.specs.Reading.{fen_reading_as}
+use Rattle.chess_fen.specs.Reading.{fen_reading_as}
 use Rattle.chess_game.specs.Game.{State, Seen, from_start, current, verdict_now}
 use Rattle.chess_game.specs.Game.{at as left_at}
 use Rattle.chess_game.specs.declared.results.Outcome.{Outcome}

@@ -7,11 +7,11 @@ use Rattle.std.proofs.lemmas.Bool.{and_parts}
 use Rattle.std.proofs.lemmas.Bool.Decides.{nat_tests}
 use Rattle.chess_base.specs.declared.man.Move.{Move}
 use Rattle.chess_base.specs.declared.setup.Setup.{Setup}
-use Rattle.chess_base.specs.Reading.{fen_reading_as}
-use Rattle.chess_base.specs.Writing.{fen}
+use Rattle.chess_fen.specs.Reading.{fen_reading_as}
+use Rattle.chess_fen.specs.Writing.{fen}
 use Rattle.chess_base.specs.Sound.{IsSound}
 use Rattle.chess_base.specs.Moves.{is_legal}
-use Rattle.chess_base.specs.laws.Laws.{WrittenIsReadBack}
+use Rattle.chess_fen.specs.laws.Laws.{WrittenIsReadBack}
 use Rattle.chess_game.specs.Game.{State, from_start, played, with_declared, current, verdict_now}
 use Rattle.chess_game.specs.Results.{outcome_text}
 use Rattle.chess_game.specs.declared.results.Outcome.{Outcome}

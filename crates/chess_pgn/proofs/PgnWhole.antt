@@ -8,10 +8,11 @@ use Rattle.chess_base.specs.declared.man.Variant.{Variant}
 use Rattle.chess_base.specs.declared.man.Variant.TheVariants.{Normal, Fischerandom}
 use Rattle.chess_base.specs.declared.setup.Setup.{Setup}
 use Rattle.chess_base.specs.Initial.{initial_setup, initial_setup_of}
-use Rattle.chess_base.specs.laws.Laws.{AfterIsSound, WrittenIsReadBack}
-use Rattle.chess_base.specs.Reading.{fen_reading_as}
+use Rattle.chess_base.specs.laws.Laws.{AfterIsSound}
+use Rattle.chess_fen.specs.laws.Laws.{WrittenIsReadBack}
+use Rattle.chess_fen.specs.Reading.{fen_reading_as}
 use Rattle.chess_base.specs.Sound.{IsSound}
-use Rattle.chess_base.specs.Writing.{fen}
+use Rattle.chess_fen.specs.Writing.{fen}
 use Rattle.chess_game.specs.declared.ends.Verdict.{Verdict}
 use Rattle.chess_game.specs.Game.{State, from_start, outcome_by, outcome_now, verdict_now, IsPlayable}
 use Rattle.chess_game.specs.Results.{outcome_text}

@@ -18,7 +18,7 @@ use Rattle.chess_game.specs.declared.results.Outcome.TheVariants.{WhiteWins, Bla
 use Rattle.chess_pgn.specs.declared.word.WordKind.TheVariants.{End, Number, Move}
 use Rattle.chess_text.specs.laws.Laws.{is_san_byte, begins_with_letter}
 use Rattle.chess_pgn.specs.Tokens.{Word, is_word_byte, token_at}
-use Rattle.chess_base.specs.Texts.{is_digit, is_letter}
+use Rattle.chess_base.specs.Letters.{is_digit, is_letter}
 use Rattle.chess_pgn.specs.Words.{outcome_of, kind_by, kind_of}
 
 -- ---- a run of bytes that pass

@@ -11,7 +11,7 @@ use Rattle.chess_base.specs.declared.fault.FenFault.{FenFault}
 use Rattle.chess_base.specs.declared.man.Variant.{Variant}
 use Rattle.chess_base.specs.declared.man.Variant.TheVariants.{Normal}
 use Rattle.chess_base.specs.declared.setup.Setup.{Setup}
-use Rattle.chess_base.specs.Reading.{fen_reading_as}
+use Rattle.chess_fen.specs.Reading.{fen_reading_as}
 use Rattle.chess_game.specs.Game.{current, played, verdict_now}
 use Rattle.chess_text.specs.declared.reading.Reading.{Reading}
 use Rattle.chess_text.specs.declared.reading.Reading.TheVariants as reads
@@ -25,7 +25,7 @@ use Rattle.chess_pgn.specs.declared.word.WordKind.TheVariants.{End, Number, Mark
 use Rattle.chess_pgn.specs.GameRead.{SoFar, GameRead, Step, On, Stop, fails, unless_full, move_step, word_step, fen_step, tag_step, step, go_on, game_of, at_text_end, nothing_read, behind_word, told_by, told_next, variant_told, tokens_read, pgn_read}
 use Rattle.chess_pgn.specs.Local.{is_over, is_gap, if_behind, could_go_on, is_open_behind, is_open_string, is_open_name, is_open_tag, has_word_end, is_firm, settled_by, settles_variant, settles_fault, settles_answer, is_settled, ReadingIsLocal}
 use Rattle.chess_pgn.specs.Tokens.{Token, Skip, Tag, Word, Bad_tag, Unclosed_comment, Unclosed_variation, Bad, Inside, Plain, Brace, Line, is_white_space, is_name_byte, is_word_byte, behind_brace, behind_gap, behind_byte, behind_next, string_at, onto, closed, with_text, with_string, with_name, tag_at, variation_at, comment_at, token_at, tokens_of, first_place, begins_line, tokens_from}
-use Rattle.chess_base.specs.Texts.{is_digit}
+use Rattle.chess_base.specs.Letters.{is_digit}
 use Rattle.chess_pgn.specs.Words.{kind_of}
 use Rattle.chess_pgn.proofs.Cuts.{pick, Suffix, suffix_then, cut_suffix, Left, token_left, token_ten}
 use Rattle.chess_pgn.proofs.FaultPlaces.{behind}

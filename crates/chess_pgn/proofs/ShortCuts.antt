@@ -3,7 +3,7 @@ use Rattle.std.proofs.Common.{◌≡◌, ◌≤◌, ◌⊎◌, inl, inr, ℕ, ze
 use Rattle.std.specs.Prelude.{◌&&◌, ◌||◌}
 use Rattle.std.specs.List.{prefix_len, take_while}
 use Rattle.std.proofs.lemmas.List.{length-append, length-drop, take-append-drop}
-use Rattle.chess_base.specs.Texts.{is_digit}
+use Rattle.chess_base.specs.Letters.{is_digit}
 use Rattle.chess_pgn.specs.Tokens.{Token, Skip, Tag, Word, Bad_tag, Unclosed_comment, Unclosed_variation, Bad, Inside, Plain, Brace, Line, is_white_space, is_name_byte, is_word_byte, behind_brace, behind_gap, behind_byte, behind_next, string_at, onto, closed, with_text, with_string, with_name, tag_at, variation_at, comment_at, token_at}
 use Rattle.chess_pgn.proofs.Cuts.{pick, Suffix, Cut, Left, gap_suffix, string_suffix, next_cut, brace_cut, name_left, variation_cut}
 use Rattle.chess_pgn.proofs.Settled.{both, shift, Stops, run_stops, drop_stops, take_stops}

@@ -8,7 +8,7 @@ use Rattle.chess_base.specs.declared.man.Variant.{Variant}
 use Rattle.chess_base.specs.declared.man.Variant.TheVariants.{Normal, Fischerandom}
 use Rattle.chess_base.specs.declared.setup.Setup.{Setup}
 use Rattle.chess_base.specs.Initial.{initial_setup_of}
-use Rattle.chess_base.specs.Reading.{fen_reading_as}
+use Rattle.chess_fen.specs.Reading.{fen_reading_as}
 use Rattle.chess_game.specs.Game.{State, from_start, played, with_declared, current, verdict_now}
 use Rattle.chess_game.specs.declared.results.Declared.{Declared}
 use Rattle.chess_game.specs.declared.results.Outcome.{Outcome}

@@ -2,8 +2,7 @@
 -- `%` lines, `$` glyphs and variations are skipped; tags and words are told; the first token that can't be read is the last.
 -- This project's own: the bytes of a word, and that a `%` line is skipped also in a tag and in a variation.
 use Rattle.std.specs.Prelude.{ℕ, zero, suc, ◌-◌, Bool, true, false, not, ◌&&◌, ◌||◌, List, [], ◌∷◌, ◌++◌, length, take, drop, slice_index, Option, Some, None, ◌==◌, nat_le, if◌then◌else◌}
-use Rattle.chess_base.specs.Texts.{is_digit, is_letter}
-use Rattle.chess_base.specs.Letters.{byte, carriage_return, new_line, space, tab}
+use Rattle.chess_base.specs.Letters.{is_digit, is_letter, byte, carriage_return, new_line, space, tab}
 use Rattle.std.specs.List.{prefix_len, position_or_len, take_while}
 use Rattle.std.specs.Str.{bytes_eq}
 

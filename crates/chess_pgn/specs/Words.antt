@@ -1,6 +1,6 @@
 -- What a word of a game's text is (PGN standard of 1994, sections 8.2.2, 8.2.3.8 and 8.2.6).
 use Rattle.std.specs.Prelude.{ℕ, ◌||◌, List, [], ◌∷◌, Option, Some, None, find, ◌==◌, if◌then◌else◌}
-use Rattle.chess_base.specs.Letters.{byte}
+use Rattle.chess_base.specs.Letters.{byte, is_digit}
 use Rattle.std.specs.List.{list_all}
 use Rattle.std.specs.Str.{bytes_eq}
 use Rattle.chess_game.specs.Results.{outcome_text}
@@ -8,7 +8,6 @@ use Rattle.chess_game.specs.declared.results.Outcome.{Outcome}
 use Rattle.chess_game.specs.declared.results.Outcome.TheVariants.{WhiteWins, BlackWins, Draw, Unfinished}
 use Rattle.chess_pgn.specs.declared.word.WordKind.{WordKind}
 use Rattle.chess_pgn.specs.declared.word.WordKind.TheVariants.{End, Number, Marks, Move}
-use Rattle.chess_base.specs.Texts.{is_digit}
 
 -- the outcome that is written so
 abbrev pub outcome_of : List ℕ → Option Outcome

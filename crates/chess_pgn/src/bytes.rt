@@ -2,7 +2,7 @@
 
 ghost use Rattle.std.specs.Prelude.{◌≡◌};
 ghost use Rattle.chess_pgn.specs.Tokens.{is_white_space, is_name_byte, is_word_byte};
-ghost use Rattle.chess_base.specs.Texts.{is_digit};
+ghost use Rattle.chess_base.specs.Letters.{is_digit};
 
 pub(crate) fn is_white_space(byte: u8) -> bool
     ensures { result ≡ is_white_space byte }

@@ -8,7 +8,8 @@ ghost use Rattle.chess_pgn.specs.laws.Normal.{NormalIsKept};
 ghost use Rattle.chess_pgn.specs.laws.PgnLaw.{PgnIsReadBack};
 ghost use Rattle.chess_pgn.specs.Written.{AreShort, IsMoveText, move_text_of};
 
-use chess_base::{Position, Variant, after_is_sound, written_is_spelled};
+use chess_base::{Position, Variant, after_is_sound};
+use chess_fen::written_is_spelled;
 use chess_text::san_is_a_word;
 
 /// The text that tokens of 1 to 79 bytes make from left to right has them in filled lines, and no other text has: no line

@@ -3,7 +3,7 @@
 ghost use Rattle.std.specs.Prelude.{◌≡◌, ◌≤◌, ◌∷◌, length, drop, false};
 ghost use Rattle.std.specs.List.{prefix_len, take_while};
 ghost use Rattle.chess_pgn.specs.Tokens.{is_word_byte, token_at, comment_at, behind_brace, variation_at, Plain, tag_at, begins_line, first_place};
-ghost use Rattle.chess_base.specs.Texts.{is_digit};
+ghost use Rattle.chess_base.specs.Letters.{is_digit};
 ghost use Rattle.chess_pgn.specs.ties.Seen.{first_seen, IsNextToken};
 
 use crate::bytes::{is_digit, is_white_space, is_word_byte};

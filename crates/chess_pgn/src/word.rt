@@ -2,7 +2,7 @@
 
 ghost use Rattle.std.specs.Prelude.{◌≡◌, ◌||◌, ◌==◌};
 ghost use Rattle.std.specs.List.{list_all};
-ghost use Rattle.chess_base.specs.Texts.{is_digit};
+ghost use Rattle.chess_base.specs.Letters.{is_digit};
 ghost use Rattle.chess_pgn.specs.Words.{outcome_of, kind_of};
 
 use crate::bytes::is_digit;

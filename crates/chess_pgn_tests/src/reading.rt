@@ -1,4 +1,4 @@
-use chess_base::write_fen;
+use chess_fen::write_fen;
 use chess_game::{Game, Outcome, Verdict};
 use chess_moves::Plain;
 use chess_pgn::{PgnEnd, PgnFault, PgnFaultKind, Termination, read_pgn};

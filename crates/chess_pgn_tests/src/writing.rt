@@ -1,5 +1,6 @@
 use byte_devices::{Counted, PieceWriter, WriteFault};
-use chess_base::{Variant, read_fen, read_fen_as};
+use chess_base::Variant;
+use chess_fen::{read_fen, read_fen_as};
 use chess_game::{Comment, Game, Outcome};
 use chess_moves::Plain;
 use chess_pgn::{

@@ -5,9 +5,8 @@ use Rattle.std.specs.Option.{option_map}
 use Rattle.std.proofs.lemmas.Bool.Decides.{nat_tests}
 use Rattle.chess_base.specs.declared.man.Kind.{Kind}
 use Rattle.chess_base.specs.declared.man.Kind.TheVariants.{Pawn, Knight, Bishop, Rook, Queen, King}
-use Rattle.chess_base.specs.Letters.{white_letter}
-use Rattle.chess_base.specs.Writing.{square_text}
-use Rattle.chess_base.proofs.SpelledFields.{chosen}
+use Rattle.chess_base.specs.Letters.{white_letter, square_text}
+use Rattle.chess_base.proofs.Choices.{chosen}
 use Rattle.chess_text.specs.declared.parts.Parts.{Parts}
 use Rattle.chess_text.specs.declared.parts.End.{End}
 use Rattle.chess_text.specs.declared.parts.Promotion.{Promotion}

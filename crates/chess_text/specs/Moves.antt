@@ -9,13 +9,12 @@ use Rattle.chess_base.specs.declared.man.Kind.TheVariants.{Pawn}
 use Rattle.chess_base.specs.declared.man.Man.{Man}
 use Rattle.chess_base.specs.declared.man.Move.{Move}
 use Rattle.chess_base.specs.declared.setup.Setup.{Setup}
-use Rattle.chess_base.specs.Letters.{white_letter}
+use Rattle.chess_base.specs.Letters.{white_letter, square_text}
 use Rattle.chess_base.specs.Men.{man_at, is_of, other, same_kind}
 use Rattle.chess_base.specs.Moves.{is_en_passant, is_legal}
 use Rattle.chess_base.specs.Castling.{castling}
 use Rattle.chess_base.specs.MoveList.{moves}
 use Rattle.chess_base.specs.Squares.{file, rank}
-use Rattle.chess_base.specs.Writing.{square_text}
 use Rattle.chess_text.specs.declared.described.Described.{Described}
 use Rattle.chess_text.specs.declared.parts.Parts.{Parts}
 use Rattle.chess_text.specs.declared.parts.Promotion.{Promotion}

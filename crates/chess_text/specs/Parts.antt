@@ -4,8 +4,7 @@ use Rattle.std.specs.List.{suffix_len}
 use Rattle.std.specs.Option.{option_map}
 use Rattle.chess_base.specs.declared.man.Kind.{Kind}
 use Rattle.chess_base.specs.declared.man.Kind.TheVariants.{King, Queen, Rook, Bishop, Knight, Pawn}
-use Rattle.chess_base.specs.Letters.{byte, white_letter}
-use Rattle.chess_base.specs.Writing.{square_text}
+use Rattle.chess_base.specs.Letters.{byte, white_letter, square_text}
 use Rattle.chess_text.specs.declared.parts.Parts.{Parts}
 use Rattle.chess_text.specs.declared.parts.End.{End}
 use Rattle.chess_text.specs.declared.parts.Promotion.{Promotion}

@@ -2,9 +2,8 @@
 
 ghost use Rattle.std.specs.Prelude.{◌≡◌, ◌+◌, ◌≤◌, ◌<◌, ◌∷◌, [], ◌++◌, length, IsTrue};
 ghost use Rattle.arrayvec.specs.ArrayVec.{array_vec_len};
-ghost use Rattle.chess_base.specs.Letters.{white_letter};
+ghost use Rattle.chess_base.specs.Letters.{white_letter, square_text};
 ghost use Rattle.chess_base.specs.Moves.{is_legal};
-ghost use Rattle.chess_base.specs.Writing.{square_text};
 ghost use Rattle.chess_text.specs.Parts.{when, parts_text};
 ghost use Rattle.chess_text.specs.San.{castling_text, some_on_file, some_on_rank, said, told_start, pawn_parts, officer_parts, is_rival, rival_starts, promotes_as_a_pawn, move_text, check_mark, san};
 

@@ -1,4 +1,5 @@
-use chess_base::{Kind, Move, Square, Variant, read_fen, read_fen_as, write_fen};
+use chess_base::{Kind, Move, Square, Variant};
+use chess_fen::{read_fen, read_fen_as, write_fen};
 use chess_moves::{Board, Plain};
 use chess_text::{
     Reading, coordinate, coordinate_spells_its_move, has_move_shape, move_text,

@@ -2,7 +2,7 @@
 use Rattle.std.proofs.Common.{◌≡◌, ℕ, zero, suc, ◌+◌, ◌-◌, ◌≤◌, ◌<◌, Bool, true, false, List, [], ◌∷◌, ◌++◌, length, take, drop, refl, ap, sym, ◌∙◌, Option, None, Some, arith, length-drop, append_assoc, append-nil}
 use Rattle.std.specs.Prelude.{if◌then◌else◌, ◌==◌, codes, option_and_then}
 use Rattle.std.specs.Str.{bytes_eq}
-use Rattle.chess_base.specs.Texts.{is_digit}
+use Rattle.chess_base.specs.Letters.{is_digit}
 use Rattle.chess_cecp.specs.Lines.{without_front_blanks}
 use Rattle.chess_cecp.proofs.Parts.{wfb_short}
 use Rattle.engine_lines.specs.Words.{is_name_byte, run_of}

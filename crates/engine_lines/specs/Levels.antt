@@ -2,8 +2,7 @@
 use Rattle.std.specs.Prelude.{ℕ, ◌+◌, ◌-◌, ◌*◌, ◌/◌, ◌%◌, ◌==◌, ◌≤◌, ◌&&◌, nat_lt, nat_le, not, if◌then◌else◌, List, [], ◌∷◌, ◌++◌, length, take, drop, codes, decimal, Option, None, Some}
 use Rattle.std.specs.List.{list_all}
 use Rattle.std.specs.Option.{option_map}
-use Rattle.chess_base.specs.Letters.{byte}
-use Rattle.chess_base.specs.Texts.{is_digit, value_after}
+use Rattle.chess_base.specs.Letters.{byte, is_digit, value_after}
 use Rattle.chess_cecp.specs.Commands.{word_of, argument_of}
 use Rattle.chess_cecp.specs.Lines.{without_front_blanks}
 use Rattle.engine_lines.specs.Words.{run_of}

@@ -1,7 +1,7 @@
 //! An example of the crates at work: the scholar's mate, read move by move, with its verdict and its FEN.
 #![tactic(auto)]
 
-use chess_base::write_fen;
+use chess_fen::write_fen;
 use chess_game::Game;
 use chess_moves::{Board, Plain};
 use chess_text::{Reading, read_move};

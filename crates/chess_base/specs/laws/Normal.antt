@@ -1,6 +1,6 @@
 -- The rules as they are said for normal chess alone: what the definitions of both variants come to there. Each of these is the
 -- definition of the same name without `normal_`, with castling named by the king's squares from and to the e-file.
-use Rattle.std.specs.Prelude.{◌≡◌, ℕ, ◌==◌, nat_lt, Bool, false, true, not, ◌&&◌, Option, Some, None, is_some, if◌then◌else◌, ◌++◌, List, [], ◌∷◌}
+use Rattle.std.specs.Prelude.{◌≡◌, ℕ, ◌==◌, nat_lt, Bool, false, true, not, ◌&&◌, Option, Some, None, is_some, if◌then◌else◌}
 use Rattle.chess_base.specs.declared.castling.Castle.{Castle}
 use Rattle.chess_base.specs.declared.steps.Steps.{Steps}
 use Rattle.chess_base.specs.declared.man.Colour.{Colour}
@@ -9,7 +9,6 @@ use Rattle.chess_base.specs.declared.man.CastlingSide.TheVariants.{KingSide, Que
 use Rattle.chess_base.specs.declared.man.Kind.TheVariants.{King, Rook, Pawn}
 use Rattle.chess_base.specs.declared.man.Man.{Man}
 use Rattle.chess_base.specs.declared.man.Move.{Move}
-use Rattle.chess_base.specs.declared.man.Rights.{Rights}
 use Rattle.chess_base.specs.declared.man.Variant.TheVariants.{Normal}
 use Rattle.chess_base.specs.declared.setup.Setup.{Setup}
 use Rattle.chess_base.specs.Men.{Men, man_at, is_man, same_colour, same_kind, other}
@@ -17,8 +16,6 @@ use Rattle.chess_base.specs.Attacks.{is_in_check}
 use Rattle.chess_base.specs.Castling.{right_of, rook_file, king_home_file, home_square, right_stands, castled_king_file, castle_by, mover_to, rook_from, rook_to}
 use Rattle.chess_base.specs.Steps.{men_stepped}
 use Rattle.chess_base.specs.Moves.{pawn_moves, is_en_passant, behind, castles_or_moves, man_that_lands, rights_after, target_after, halfmove_after, fullmove_after, is_legal, after}
-use Rattle.chess_base.specs.Letters.{byte}
-use Rattle.chess_base.specs.Writing.{or_dash, rights_text}
 
 abbrev pub normal_right_stands_at : Men → Colour → CastlingSide → Option ℕ → Bool
 normal_right_stands_at men c w None = true
@@ -73,16 +70,8 @@ normal_after p m = record {
 unfoldable pub normal_is_legal : Setup → Move → Bool
 normal_is_legal p m = normal_has_pattern p m && not (is_in_check (normal_after p m).men p.side)
 
-abbrev pub letter_if : Option ℕ → ℕ → List ℕ
-letter_if None c = []
-letter_if (Some corner) c = c ∷ []
-
-abbrev pub normal_rights_text : Rights → List ℕ
-normal_rights_text r = or_dash (letter_if r.white.king_side (byte "K") ++ letter_if r.white.queen_side (byte "Q") ++ letter_if r.black.king_side (byte "k") ++ letter_if r.black.queen_side (byte "q"))
-
 -- on positions of normal chess the rules of both variants are these
 pub record NormalIsKept (p : Setup) : Type 0 where
   pub stands : (c : Colour) (w : CastlingSide) → right_stands p c w ≡ normal_right_stands_at p.men c w (right_of p.rights c w)
   pub legal : (m : Move) → is_legal p m ≡ normal_is_legal p m
   pub after : (m : Move) → after p m ≡ normal_after p m
-  pub written : rights_text p.variant p.rights ≡ normal_rights_text p.rights

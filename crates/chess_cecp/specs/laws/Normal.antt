@@ -1,11 +1,11 @@
 -- The rows of the table as they are said for normal chess alone. All others speak of positions by the rules, of which the same
--- is said (`NormalIsKept` of chess_base, and of texts).
+-- is said (`NormalIsKept` of chess_base and chess_fen, and of texts).
 use Rattle.std.specs.Prelude.{◌≡◌, ℕ, List, ◌∷◌, ◌++◌, length, codes, decimal, if◌then◌else◌}
 use Rattle.std.specs.List.{flat_map}
 use Rattle.std.specs.Str.{bytes_eq}
 use Rattle.chess_base.specs.declared.man.Move.{Move}
 use Rattle.chess_base.specs.MoveList.{moves}
-use Rattle.chess_base.specs.Reading.{fen_reading}
+use Rattle.chess_fen.specs.Reading.{fen_reading}
 use Rattle.chess_text.specs.Moves.{coordinate}
 use Rattle.chess_game.specs.Game.{State, current}
 use Rattle.chess_pgn.specs.declared.tags.Tags.{Tags}

@@ -4,7 +4,7 @@ use Rattle.std.specs.Str.{bytes_eq}
 use Rattle.chess_base.specs.declared.man.Variant.TheVariants.{Normal}
 use Rattle.chess_base.specs.declared.setup.Setup.{Setup}
 use Rattle.chess_base.specs.Initial.{initial_setup}
-use Rattle.chess_base.specs.Reading.{fen_reading}
+use Rattle.chess_fen.specs.Reading.{fen_reading}
 use Rattle.chess_game.specs.Game.{from_start}
 use Rattle.chess_pgn.specs.declared.read.PgnFaultKind.TheVariants.{NoResult}
 use Rattle.chess_pgn.specs.declared.termination.Termination.{Termination}

@@ -1,11 +1,10 @@
 -- The laws of the texts, each as one statement.
 use Rattle.std.specs.Prelude.{◌≡◌, ℕ, ◌≤◌, ◌==◌, nat_le, Bool, false, ◌&&◌, ◌||◌, ◌⊎◌, ◌↔◌, List, [], ◌∷◌, length, Some, IsTrue}
-use Rattle.chess_base.specs.Texts.{is_digit, is_letter}
+use Rattle.chess_base.specs.Letters.{is_digit, is_letter, byte}
 use Rattle.std.specs.List.{list_all}
 use Rattle.chess_base.specs.declared.man.CastlingSide.{CastlingSide}
 use Rattle.chess_base.specs.declared.man.Move.{Move}
 use Rattle.chess_base.specs.declared.setup.Setup.{Setup}
-use Rattle.chess_base.specs.Letters.{byte}
 use Rattle.chess_base.specs.Moves.{is_legal}
 use Rattle.chess_base.specs.Sound.{IsSound}
 use Rattle.chess_text.specs.declared.described.Described.{Described}

@@ -1,6 +1,6 @@
 use Rattle.std.proofs.Common.{drop, ◌^◌, ◌≡◌, ◌<◌}
 use Rattle.std.specs.List.{list_all}
-use Rattle.chess_base.specs.Texts.{is_digit, value_after}
+use Rattle.chess_base.specs.Letters.{is_digit, value_after}
 use Rattle.chess_cecp.proofs.command.read_number.Given as goal
 
 -- what is left gives the whole number

@@ -1,6 +1,6 @@
 use Rattle.std.proofs.Common.{◌≡◌, ◌+◌, ◌-◌, ◌≤◌, length, drop}
 use Rattle.std.specs.List.{prefix_len}
-use Rattle.chess_base.specs.Texts.{is_digit}
+use Rattle.chess_base.specs.Letters.{is_digit}
 use Rattle.chess_pgn.proofs.token.behind_digits.Given as goal
 
 abbrev pub invariant-loop-end : goal.invariant-loop-end

@@ -1,5 +1,5 @@
 use Rattle.std.proofs.Common.{length, drop, ◌-◌, ◌+◌, ◌≡◌, ◌≤◌}
-use Rattle.chess_base.specs.Texts.{is_digit}
+use Rattle.chess_base.specs.Letters.{is_digit}
 use Rattle.engine_lines.specs.Words.{run_of}
 use Rattle.engine_lines.proofs.item.digits_len.Given as goal
 

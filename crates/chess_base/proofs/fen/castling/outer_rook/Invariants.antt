@@ -1,7 +1,0 @@
-use Rattle.std.proofs.Common.{◌≡◌}
-use Rattle.chess_base.specs.RightNames.{rook_among, outer_rook}
-use Rattle.chess_base.proofs.fen.castling.outer_rook.Given as goal
-
--- what is left gives the whole
-abbrev pub invariant-loop-left : goal.invariant-loop-left
-invariant-loop-left l = rook_among l.men l.colour l.castling_side l.left ≡ outer_rook l.men l.colour l.castling_side

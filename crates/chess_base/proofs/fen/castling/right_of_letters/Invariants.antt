@@ -1,8 +1,0 @@
-use Rattle.std.proofs.Common.{◌≡◌, drop, None}
-use Rattle.chess_base.specs.RightNames.{right_after_letters}
-use Rattle.chess_base.proofs.fen.castling.right_of_letters.Given as goal
-
--- what is left gives the whole
-abbrev pub invariant-loop-letter : goal.invariant-loop-letter
-invariant-loop-letter l = right_after_letters l.men l.colour l.castling_side l.found (drop l.letter-index l.letters)
-    ≡ right_after_letters l.men l.colour l.castling_side None l.letters

@@ -1,0 +1,59 @@
+-- Pieces that are joined by a byte are cut there again.
+use Rattle.std.proofs.Common.{◌≡◌, ℕ, suc, ◌<◌, ◌≤◌, true, false, eqb, ltb, List, [], ◌∷◌, ◌++◌, length, refl, ap, ◌∙◌, arith}
+use Rattle.std.specs.List.{slice_split, join_with_byte, AllByRecursion, filter}
+use Rattle.std.proofs.lemmas.Bool.Decides.{nat_tests}
+use Rattle.chess_fen.specs.Texts.{fields_of}
+
+-- each byte is at least k
+abbrev pub From : ℕ → List ℕ → Type 0
+From k text = AllByRecursion (λ b. k ≤ b) text
+
+pub From-append : (k : ℕ) (xs ys : List ℕ) → From k xs → From k ys → From k (xs ++ ys)
+From-append k [] ys p q = q
+From-append k (x ∷ xs) ys p q = (p.0, From-append k xs ys p.1 q)
+
+pub From-weaker : (j k : ℕ) (xs : List ℕ) → j ≤ k → From k xs → From j xs
+From-weaker j k [] h p = tt
+From-weaker j k (x ∷ xs) h p = let at : k ≤ x = p.0 in (omega arith, From-weaker j k xs h p.1)
+
+pub From-join : (c k : ℕ) (texts : List (List ℕ)) → k ≤ c → AllByRecursion (From k) texts
+    → From k (join_with_byte c texts)
+From-join c k [] h p = tt
+From-join c k (x ∷ []) h p = p.0
+From-join c k (x ∷ y ∷ texts) h p = From-append k x (c ∷ join_with_byte c (y ∷ texts)) p.0
+    (h, From-join c k (y ∷ texts) h p.1)
+
+split_whole : (c : ℕ) (text : List ℕ) → From (suc c) text → slice_split (λ b. eqb b c) text ≡ text ∷ []
+split_whole c [] p = refl
+split_whole c (x ∷ xs) p =
+    let at : c < x = p.0 in
+    let other : eqb x c ≡ false = grind (arith, nat_tests) in
+    rw (other, split_whole c xs p.1) refl
+
+split_first : (c : ℕ) (text rest : List ℕ) → From (suc c) text → slice_split (λ b. eqb b c) (text ++ c ∷ rest)
+    ≡ text ∷ slice_split (λ b. eqb b c) rest
+split_first c [] rest p = let same : eqb c c ≡ true = grind (arith, nat_tests) in rw same refl
+split_first c (x ∷ xs) rest p =
+    let at : c < x = p.0 in
+    let other : eqb x c ≡ false = grind (arith, nat_tests) in
+    rw (other, split_first c xs rest p.1) refl
+
+pub slice_split-join : (c : ℕ) (x : List ℕ) (texts : List (List ℕ)) → AllByRecursion (From (suc c)) (x ∷ texts)
+    → slice_split (λ b. eqb b c) (join_with_byte c (x ∷ texts)) ≡ x ∷ texts
+slice_split-join c x [] p = split_whole c x p.0
+slice_split-join c x (y ∷ texts) p = split_first c x (join_with_byte c (y ∷ texts)) p.0
+    ∙ ap (λ parts. x ∷ parts) (slice_split-join c y texts p.1)
+
+keep_all : (texts : List (List ℕ)) → AllByRecursion (λ text. 0 < length text) texts
+    → filter (λ text. ltb 0 (length text)) texts ≡ texts
+keep_all [] p = refl
+keep_all (x ∷ xs) p =
+    let at : 0 < length x = p.0 in
+    let yes : ltb 0 (length x) ≡ true = grind (arith, nat_tests) in
+    rw (yes, keep_all xs p.1) refl
+
+-- fields that are joined by spaces are those fields
+pub fields_of-join : (x : List ℕ) (texts : List (List ℕ)) → AllByRecursion (From 33) (x ∷ texts)
+    → AllByRecursion (λ text. 0 < length text) (x ∷ texts) → fields_of (join_with_byte 32 (x ∷ texts)) ≡ x ∷ texts
+fields_of-join x texts p q = ap (filter (λ text. ltb 0 (length text))) (slice_split-join 32 x texts p)
+    ∙ keep_all (x ∷ texts) q

@@ -1,0 +1,16 @@
+pub mod Lengths
+pub mod RanksText
+pub mod Ranks
+pub mod Splits
+pub mod Placements
+pub mod SpelledRanks
+pub mod RookAmong
+pub mod SpelledRights
+pub mod RightsBack
+pub mod NamedRooks
+pub mod Joined
+pub mod RoundTrip
+pub mod SpelledFields
+pub mod SpelledFen
+pub mod NormalWritten
+pub mod WrittenFen

@@ -1,0 +1,23 @@
+-- On positions of normal chess the rights are written as for normal chess alone.
+use Rattle.std.proofs.Common.{◌≡◌, ℕ, Option, Some, None, refl, ap, ◌∙◌}
+use Rattle.chess_base.specs.declared.man.Colour.{Colour}
+use Rattle.chess_base.specs.declared.man.Colour.TheVariants.{White, Black}
+use Rattle.chess_base.specs.declared.man.CastlingSide.{CastlingSide}
+use Rattle.chess_base.specs.declared.man.CastlingSide.TheVariants.{KingSide, QueenSide}
+use Rattle.chess_base.specs.declared.man.Rights.{Rights}
+use Rattle.chess_base.specs.declared.man.Variant.TheVariants.{Normal}
+use Rattle.chess_base.specs.declared.setup.Setup.{Setup}
+use Rattle.chess_fen.specs.RightNames.{side_letter}
+use Rattle.chess_fen.specs.Writing.{rights_text, right_text}
+use Rattle.chess_fen.specs.laws.Normal.{letter_if, normal_rights_text, NormalIsKept}
+
+one_written : (c : Colour) (w : CastlingSide) (o : Option ℕ) → right_text Normal c w o ≡ letter_if o (side_letter c w)
+one_written c w None = refl
+one_written c w (Some s) = refl
+
+written_by : (r : Rights) → rights_text Normal r ≡ normal_rights_text r
+written_by r =
+    rw (one_written White KingSide r.white.king_side, one_written White QueenSide r.white.queen_side, one_written Black KingSide r.black.king_side, one_written Black QueenSide r.black.queen_side) refl
+
+pub normal_kept : (p : Setup) → p.variant ≡ Normal → NormalIsKept p
+normal_kept p e = ap (λ v. rights_text v p.rights) e ∙ written_by p.rights

@@ -1,0 +1,24 @@
+-- No rook stands on the files already passed, so the first rook among those left is the outermost of all (RookAmong).
+use Rattle.std.proofs.Common.{◌-◌, ◌∙◌, sym, refl, arith}
+use Rattle.chess_fen.specs.RightNames.{outer_rook}
+use Rattle.chess_fen.proofs.RookAmong.{rook_here, no_rook_here}
+use Rattle.chess_fen.proofs.castling.outer_rook.Goals as goal
+
+pub loop-left-init : goal.loop-left-init
+unfolding outer_rook
+loop-left-init c = refl
+
+pub returns-then-is_man : goal.returns-then-is_man
+returns-then-is_man c =
+    let man = sym c.is_man.ensures ∙ c.if-is_man.true in
+    let rook = rw (c.index.ensures.value, c.home_square-square.ensures, c.edge_file.ensures.value) at man in
+    rw (c.home_square-square.ensures, c.edge_file.ensures.value)
+    (rook_here c.args.men.now c.args.colour c.args.castling_side c.loop-left.left (c.loop-left.left - 1)
+    (omega arith) rook ∙ c.loop-left.invariant)
+
+pub loop-left-preserved : goal.loop-left-preserved
+loop-left-preserved c =
+    let man = sym c.is_man.ensures ∙ c.if-is_man.false in
+    let none = rw (c.index.ensures.value, c.home_square-square.ensures, c.edge_file.ensures.value) at man in
+    no_rook_here c.args.men.now c.args.colour c.args.castling_side c.loop-left.left (c.loop-left.left - 1) (omega arith)
+    none ∙ c.loop-left.invariant

@@ -1,0 +1,7 @@
+use Rattle.std.proofs.Common.{◌≡◌}
+use Rattle.chess_fen.specs.RightNames.{rook_among, outer_rook}
+use Rattle.chess_fen.proofs.castling.outer_rook.Given as goal
+
+-- what is left gives the whole
+abbrev pub invariant-loop-left : goal.invariant-loop-left
+invariant-loop-left l = rook_among l.men l.colour l.castling_side l.left ≡ outer_rook l.men l.colour l.castling_side

@@ -1,0 +1,5 @@
+use Rattle.chess_fen.proofs.NamedRooks.{rights_named}
+use Rattle.chess_fen.proofs.laws.rights_are_named.Goals as goal
+
+pub returns : goal.returns
+returns c = rights_named

@@ -1,0 +1,33 @@
+-- The letters of men in a FEN (PGN standard of 1994, section 16.1.3.1), and the bytes with a meaning of their own.
+use Rattle.std.specs.Prelude.{ℕ, ◌+◌, ◌==◌, List, [], ◌∷◌, ◌++◌, map, find, Option}
+use Rattle.chess_base.specs.declared.man.Man.{Man}
+use Rattle.chess_base.specs.declared.man.Kind.{Kind}
+use Rattle.chess_base.specs.declared.man.Kind.TheVariants.{Pawn, Knight, Bishop, Rook, Queen, King}
+use Rattle.chess_base.specs.declared.man.Colour.{Colour}
+use Rattle.chess_base.specs.declared.man.Colour.TheVariants.{White, Black}
+use Rattle.chess_base.specs.Letters.{byte, white_letter}
+
+-- what stands between ranks; what stands for none
+abbrev pub stroke : ℕ
+stroke = byte "/"
+
+abbrev pub dash : ℕ
+dash = byte "-"
+
+-- White's letters are capital, Black's small
+abbrev pub letter_by : Colour → Kind → ℕ
+letter_by White kind = white_letter kind
+letter_by Black kind = white_letter kind + 32
+
+abbrev pub letter : Man → ℕ
+letter m = letter_by m.colour m.kind
+
+abbrev pub kinds : List Kind
+kinds = Pawn ∷ Knight ∷ Bishop ∷ Rook ∷ Queen ∷ King ∷ []
+
+abbrev pub all_men : List Man
+all_men = map (λ k. record { colour = White; kind = k }) kinds ++ map (λ k. record { colour = Black; kind = k }) kinds
+
+-- the man with this letter, if there is one
+abbrev pub man_with_letter : ℕ → Option Man
+man_with_letter c = find (λ m. letter m == c) all_men

@@ -1,0 +1,106 @@
+-- Which texts spell a position, as a relation (PGN standard of 1994, section 16.1.3): what each field stands for. One
+-- or more spaces separate the fields, and may stand at both ends.
+use Rattle.std.specs.Prelude.{◌≡◌, ℕ, ◌+◌, ◌<◌, ◌≤◌, ◌⊎◌, List, [], ◌∷◌, ◌++◌, length, replicate, Option, Some, None, IfSome, IsSome, IsTrue, ◌↔◌, codes, max, ◌==◌}
+use Rattle.std.specs.List.{slice_split, AllZip, AllByRecursion}
+use Rattle.std.specs.Str.Parse.{digits_value}
+use Rattle.chess_base.specs.declared.man.Man.{Man}
+use Rattle.chess_base.specs.declared.man.Colour.TheVariants.{White, Black}
+use Rattle.chess_base.specs.declared.man.CastlingSide.TheVariants.{KingSide, QueenSide}
+use Rattle.chess_base.specs.declared.man.Variant.{Variant}
+use Rattle.chess_base.specs.declared.man.Variant.TheVariants.{Normal, Fischerandom}
+use Rattle.chess_base.specs.declared.man.Colour.{Colour}
+use Rattle.chess_base.specs.declared.man.CastlingSide.{CastlingSide}
+use Rattle.chess_base.specs.Men.{Men}
+use Rattle.chess_fen.specs.RightNames.{side_letter, right_after_letters}
+use Rattle.chess_base.specs.Squares.{rank}
+use Rattle.chess_base.specs.Castling.{right_of, home_square, rook_file}
+use Rattle.chess_base.specs.declared.setup.Setup.{Setup}
+use Rattle.chess_fen.specs.ManLetters.{letter, stroke}
+use Rattle.chess_base.specs.Letters.{byte}
+use Rattle.chess_fen.specs.Texts.{times, occurs, may_name_right, fields_of}
+use Rattle.chess_fen.specs.Writing.{side_text, target_text}
+
+-- a man's letter stands for the man, a digit from 1 to 8 for so many empty squares
+abbrev pub StandsFor : ℕ → List (Option Man) → Type 0
+StandsFor c squares = ((man : Man) × (c ≡ letter man) × (squares ≡ Some man ∷ [])) ⊎ ((n : ℕ) × (0 < n) × (n ≤ 8) × (c ≡ byte "0" + n) × (squares ≡ replicate n None))
+
+-- the squares of the bytes in a row
+abbrev pub SpellsSquares : List ℕ → List (Option Man) → Type 0
+SpellsSquares [] squares = squares ≡ []
+SpellsSquares (c ∷ cs) squares = (first : List (Option Man)) × (others : List (Option Man)) × StandsFor c first × SpellsSquares cs others × (squares ≡ first ++ others)
+
+-- eight of them
+abbrev pub SpellsRank : List ℕ → List (Option Man) → Type 0
+SpellsRank text row = SpellsSquares text row × (length row ≡ 8)
+
+-- ranks told from the highest down, as one list from the lowest up
+abbrev pub from_top : List (List (Option Man)) → List (Option Man)
+from_top [] = []
+from_top (row ∷ rows) = from_top rows ++ row
+
+-- eight ranks, the eighth first, with a stroke between
+abbrev pub SpellsPlacement : List ℕ → List (Option Man) → Type 0
+SpellsPlacement text men = (rows : List (List (Option Man))) × (length rows ≡ 8) × AllZip SpellsRank (slice_split (λ c. c == stroke) text) rows × (men ≡ from_top rows)
+
+-- one to four of the letters K, Q, k and q, in Chess960 of files too, none twice
+pub record AreRightLetters (v : Variant) (text : List ℕ) : Type 0 where
+  pub some : 0 < length text
+  pub few : length text ≤ 4
+  pub each : AllByRecursion (λ c. IsTrue (may_name_right v c)) text
+  pub distinct : (c : ℕ) → times c text ≤ 1
+
+-- a dash, or such letters
+abbrev pub IsCastling : Variant → List ℕ → Type 0
+IsCastling v text = (text ≡ codes "-") ⊎ AreRightLetters v text
+
+-- a right is held exactly if its letter occurs, and then with the rook on its corner
+abbrev pub IsHeldBy : ℕ → List ℕ → Option ℕ → ℕ → Type 0
+IsHeldBy letter text right corner = (IsSome right ↔ IsTrue (occurs letter text)) × IfSome right (λ square. square ≡ corner)
+
+-- in normal chess by its own letter; in Chess960 it is the one that the letters name, if any does
+abbrev pub IsHeld : Variant → Men → List ℕ → Colour → CastlingSide → Option ℕ → Type 0
+IsHeld Normal men text c w right = IsHeldBy (side_letter c w) text right (home_square c (rook_file w))
+IsHeld Fischerandom men text c w right = right ≡ right_after_letters men c w None text
+
+-- each right by its letter; so a dash for none
+pub record SpellsRights (text : List ℕ) (p : Setup) : Type 0 where
+  pub letters : IsCastling p.variant text
+  pub white_king_side : IsHeld p.variant p.men text White KingSide (right_of p.rights White KingSide)
+  pub white_queen_side : IsHeld p.variant p.men text White QueenSide (right_of p.rights White QueenSide)
+  pub black_king_side : IsHeld p.variant p.men text Black KingSide (right_of p.rights Black KingSide)
+  pub black_queen_side : IsHeld p.variant p.men text Black QueenSide (right_of p.rights Black QueenSide)
+
+-- a dash for none; else a square of the third or the sixth rank
+abbrev pub SpellsTarget : List ℕ → Option ℕ → Type 0
+SpellsTarget text target = (text ≡ target_text target) × IfSome target (λ square. (rank square ≡ 2) ⊎ (rank square ≡ 5))
+
+-- one to six digits
+abbrev pub SpellsNumber : List ℕ → ℕ → Type 0
+SpellsNumber text n = (0 < length text) × (length text ≤ 6) × AllByRecursion (λ c. (byte "0" ≤ c) × (c ≤ byte "9")) text × (n ≡ digits_value 10 text)
+
+-- neither, or both; a fullmove number of 0 is read as 1
+abbrev pub SpellsCounters : List (List ℕ) → ℕ → ℕ → Type 0
+SpellsCounters [] halfmove fullmove = (halfmove ≡ 0) × (fullmove ≡ 1)
+SpellsCounters (a ∷ []) halfmove fullmove = ⊥
+SpellsCounters (a ∷ b ∷ []) halfmove fullmove = SpellsNumber a halfmove × ((n : ℕ) × SpellsNumber b n × (fullmove ≡ max n 1))
+SpellsCounters (a ∷ b ∷ c ∷ more) halfmove fullmove = ⊥
+
+-- field by field
+pub record SpellsFields (a b c d : List ℕ) (counters_text : List (List ℕ)) (p : Setup) : Type 0 where
+  pub men : SpellsPlacement a p.men
+  pub side : b ≡ side_text p.side
+  pub rights : SpellsRights c p
+  pub target : SpellsTarget d p.target
+  pub counters : SpellsCounters counters_text p.halfmove p.fullmove
+
+-- the text has four fields or six, which spell the position in its variant
+abbrev pub SpellsFenOf : List ℕ → Setup → Type 0
+SpellsFenOf text p = (a : List ℕ) × (b : List ℕ) × (c : List ℕ) × (d : List ℕ) × (more : List (List ℕ)) × (fields_of text ≡ a ∷ b ∷ c ∷ d ∷ more) × SpellsFields a b c d more p
+
+-- the text spells the position, which is of that variant
+abbrev pub SpellsFenAs : Variant → List ℕ → Setup → Type 0
+SpellsFenAs v text p = (p.variant ≡ v) × SpellsFenOf text p
+
+-- it spells the position of normal chess
+abbrev pub SpellsFen : List ℕ → Setup → Type 0
+SpellsFen text p = SpellsFenAs Normal text p

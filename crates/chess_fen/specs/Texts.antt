@@ -1,0 +1,109 @@
+-- What the fields of a FEN stand for (PGN standard of 1994, section 16.1.3). This project's own beside the standard:
+-- several spaces between fields and at both ends, digits of empty squares one behind another, letters of rights in any
+-- order, leading zeros.
+use Rattle.std.specs.Prelude.{◌≡◌, ◌≢◌, ℕ, codes, count_by, ◌+◌, ◌-◌, ◌*◌, Bool, false, ◌&&◌, ◌||◌, List, [], ◌∷◌, ◌++◌, length, replicate, Option, Some, None, nat_lt, nat_le, ◌==◌, if◌then◌else◌, option_and_then}
+use Rattle.std.specs.List.{slice_split, list_all, list_any, filter}
+use Rattle.std.specs.Borrow.{Bor}
+use Rattle.chess_fen.specs.declared.fields.Fields.{Fields}
+use Rattle.std.specs.Option.{option_map}
+use Rattle.chess_base.specs.declared.man.Variant.{Variant}
+use Rattle.chess_base.specs.declared.man.Variant.TheVariants.{Normal, Fischerandom}
+use Rattle.chess_base.specs.declared.man.Colour.{Colour}
+use Rattle.chess_base.specs.declared.man.Colour.TheVariants.{White, Black}
+use Rattle.chess_base.specs.declared.man.Man.{Man}
+use Rattle.chess_base.specs.Letters.{byte, space, is_digit, value_after}
+use Rattle.chess_fen.specs.ManLetters.{stroke, dash, man_with_letter}
+
+-- ---- numbers
+
+-- the number that one to six digits write
+abbrev pub number_of : List ℕ → Option ℕ
+number_of text = if nat_lt 0 (length text) && nat_le (length text) 6 && list_all is_digit text then Some (value_after 0 text) else None
+
+-- ---- ranks
+
+-- what a byte stands for: so many empty squares, or a man
+abbrev pub squares_of : ℕ → Option (List (Option Man))
+squares_of c = if nat_le (byte "1") c && nat_le c (byte "8") then Some (replicate (c - byte "0") None) else option_map (λ m. Some m ∷ []) (man_with_letter c)
+
+-- the eight squares that a text stands for, where row is before it
+abbrev pub rank_after : List (Option Man) → List ℕ → Option (List (Option Man))
+rank_after row [] = if length row == 8 then Some row else None
+rank_after row (c ∷ cs) = option_and_then (λ squares. rank_after (row ++ squares) cs) (squares_of c)
+
+abbrev pub rank_of : List ℕ → Option (List (Option Man))
+rank_of text = rank_after [] text
+
+-- ---- placement
+
+-- the men of ranks read from the eighth down, each below those before it
+abbrev pub stacked : List (Option Man) → List (List ℕ) → Option (List (Option Man))
+stacked above [] = Some above
+stacked above (text ∷ texts) = option_and_then (λ row. stacked (row ++ above) texts) (rank_of text)
+
+abbrev pub placement_of : List ℕ → Option (List (Option Man))
+placement_of text = let ranks = slice_split (λ c. c == stroke) text in if length ranks == 8 then stacked [] ranks else None
+
+-- ---- castling
+
+-- how often a letter occurs; whether it does
+abbrev pub times : ℕ → List ℕ → ℕ
+times c text = count_by (λ b. b == c) text
+
+abbrev pub occurs : ℕ → List ℕ → Bool
+occurs c text = list_any (λ b. b == c) text
+
+-- the letter of file a
+abbrev pub first_letter : Colour → ℕ
+first_letter White = byte "A"
+first_letter Black = byte "a"
+
+-- the letter of a file: White's are capital, Black's small
+abbrev pub names_file : Colour → ℕ → Bool
+names_file c letter = nat_le (first_letter c) letter && nat_lt letter (first_letter c + 8)
+
+-- the letters that may name rights: of sides, and in Chess960 of files too
+unfoldable pub may_name_right : Variant → ℕ → Bool
+may_name_right Normal letter = occurs letter (codes "KQkq")
+may_name_right Fischerandom letter = occurs letter (codes "KQkq") || names_file White letter || names_file Black letter
+
+-- a letter that names a right, and is there once
+abbrev pub names_once : Variant → List ℕ → ℕ → Bool
+names_once v text c = may_name_right v c && (times c text == 1)
+
+abbrev pub are_letters : Variant → List ℕ → Bool
+are_letters v text = nat_lt 0 (length text) && nat_le (length text) 4 && list_all (names_once v text) text
+
+-- a dash, or one to four letters, none twice
+abbrev pub is_castling : Variant → List ℕ → Bool
+is_castling v [] = false
+is_castling v (c ∷ cs) = ((c == dash) && (length cs == 0)) || are_letters v (c ∷ cs)
+
+-- ---- target
+
+abbrev pub target_of : List ℕ → Option (Option ℕ)
+target_of [] = None
+target_of (c ∷ []) = if c == dash then Some None else None
+target_of (f ∷ r ∷ []) = if nat_le (byte "a") f && nat_le f (byte "h") && (r == byte "3" || r == byte "6") then Some (Some (8 * (r - byte "1") + (f - byte "a"))) else None
+target_of (f ∷ r ∷ c ∷ cs) = None
+
+-- ---- fields
+
+-- the pieces between spaces that aren't empty
+abbrev pub fields_of : List ℕ → List (List ℕ)
+fields_of text = filter (λ field. nat_lt 0 (length field)) (slice_split (λ c. c == space) text)
+
+-- the parts behind a separator
+abbrev pub parts_of : ℕ → Option (Bor (List ℕ)) → List (List ℕ)
+parts_of c None = []
+parts_of c (Some rest) = slice_split (λ b. b == c) rest.now
+
+-- the fields of the counters, if they are there
+abbrev pub counter_fields : Option (Bor (List ℕ) × Bor (List ℕ)) → List (List ℕ)
+counter_fields None = []
+counter_fields (Some c) = c.0.now ∷ c.1.now ∷ []
+
+-- the same fields, four or six of them
+abbrev pub FieldsAre : Option Fields → List (List ℕ) → Type 0
+FieldsAre None fields = (length fields ≢ 4) × (length fields ≢ 6)
+FieldsAre (Some f) fields = fields ≡ f.placement.now ∷ f.side.now ∷ f.castling.now ∷ f.target.now ∷ counter_fields f.counters

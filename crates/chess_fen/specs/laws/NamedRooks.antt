@@ -1,0 +1,36 @@
+-- Which rook a letter of a FEN of Chess960 names (X-FEN), and what the letters say of each right, said with no reader.
+use Rattle.std.specs.Prelude.{◌≡◌, ◌≢◌, ◌⊎◌, ℕ, ◌+◌, true, false, List, ◌∷◌, ◌++◌, Option, Some, None}
+use Rattle.std.specs.List.{AllByRecursion}
+use Rattle.chess_base.specs.declared.man.Colour.{Colour}
+use Rattle.chess_base.specs.declared.man.CastlingSide.{CastlingSide}
+use Rattle.chess_base.specs.declared.man.Kind.TheVariants.{Rook}
+use Rattle.chess_base.specs.Squares.{file, rank}
+use Rattle.chess_base.specs.Men.{Men, man_at, is_man, first_rank}
+use Rattle.chess_base.specs.Castling.{king_square, is_to_side}
+use Rattle.chess_fen.specs.Texts.{first_letter}
+use Rattle.chess_fen.specs.RightNames.{side_letter, is_towards}
+
+-- on s, on its first rank, stands colour c's outermost rook of that side: none of its rooks there stands further out
+pub record IsOutermost (men : Men) (c : Colour) (w : CastlingSide) (s : ℕ) : Type 0 where
+  pub rook : is_man c Rook (man_at men s) ≡ true
+  pub home : rank s ≡ first_rank c
+  pub none_beyond : (t : ℕ) → rank t ≡ first_rank c → is_to_side w s t ≡ true → is_man c Rook (man_at men t) ≡ false
+
+-- the letter of a side names the outermost rook, the letter of a file the rook on that file
+abbrev pub NamesRook : Men → Colour → CastlingSide → ℕ → ℕ → Type 0
+NamesRook men c w letter s = ((letter ≡ side_letter c w) × IsOutermost men c w s) ⊎ (letter ≡ first_letter c + file s)
+
+-- the letter names no rook on that side of the king: it is neither the side's nor that of a file there
+pub record NamesNone (men : Men) (c : Colour) (w : CastlingSide) (letter : ℕ) : Type 0 where
+  pub not_side : letter ≢ side_letter c w
+  pub not_file : (s : ℕ) → rank s ≡ first_rank c → letter ≡ first_letter c + file s → is_towards w (king_square men c) s ≡ false
+
+-- where the right is held, one letter names its rook, and no other names one on that side; where it isn't, none does
+abbrev pub RightIsNamed : List ℕ → Men → Colour → CastlingSide → Option ℕ → Type 0
+RightIsNamed text men c w None = AllByRecursion (NamesNone men c w) text
+RightIsNamed text men c w (Some s) =
+    (before : List ℕ) × (letter : ℕ) × (after : List ℕ)
+    × (text ≡ before ++ letter ∷ after)
+    × NamesRook men c w letter s
+    × AllByRecursion (NamesNone men c w) before
+    × AllByRecursion (NamesNone men c w) after

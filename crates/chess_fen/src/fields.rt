@@ -1,0 +1,100 @@
+//! The fields of a text.
+
+ghost use Rattle.std.specs.Prelude.{◌≡◌, ◌∷◌, [], IfSome, IfNone, not, position, drop, ◌==◌};
+ghost use Rattle.std.specs.List.{position_or_len, before_first, slice_split};
+ghost use Rattle.chess_base.specs.Letters.{space};
+ghost use Rattle.chess_fen.specs.Texts.{fields_of, FieldsAre, parts_of};
+
+// The place of the first byte that is no space.
+fn first_other(text: &[u8]) -> Option<usize>
+    ensures { result ≡ position (λ b. not (b == space)) text.now }
+{
+    text.iter().position(|byte| *byte != b' ')
+}
+
+// The place of the first separator.
+fn first_place(text: &[u8], separator: u8) -> Option<usize>
+    ensures { result ≡ position (λ b. b == separator) text.now }
+{
+    text.iter().position(|byte| *byte == separator)
+}
+
+// The text from its first byte that is no space on.
+#[tactic(auto, using(crate::proofs::Splits::place_or_len, crate::proofs::Splits::place_le))]
+fn skip_spaces(text: &[u8]) -> &[u8]
+    ensures { result.now ≡ drop (position_or_len (λ b. not (b == space)) text.now) text.now }
+{
+    let start = first_other(text).unwrap_or(text.len());
+    text.split_at(start).1
+}
+
+// The text before a separator, and from it on.
+#[tactic(auto, using(crate::proofs::Splits::place_or_len, crate::proofs::Splits::place_le))]
+fn split_before(text: &[u8], separator: u8) -> (&[u8], &[u8])
+    ensures front { result.0.now ≡ before_first (λ b. b == separator) text.now }
+    ensures back { result.1.now ≡ drop (position_or_len (λ b. b == separator) text.now) text.now }
+{
+    let end = first_place(text, separator).unwrap_or(text.len());
+    text.split_at(end)
+}
+
+// The next field, and what stands behind it.
+fn next_field(text: &[u8]) -> Option<(&[u8], &[u8])>
+    ensures found { IfSome result (λ r. fields_of text.now ≡ r.0.now ∷ fields_of r.1.now) }
+    ensures none { IfNone result (fields_of text.now ≡ []) }
+{
+    let text = skip_spaces(text);
+    if text.is_empty() {
+        None
+    } else {
+        Some(split_before(text, b' '))
+    }
+}
+
+// The part before a separator, and what stands behind the separator, if there is one.
+pub(crate) fn next_part(text: &[u8], separator: u8) -> (&[u8], Option<&[u8]>)
+    ensures { slice_split (λ c. c == separator) text.now ≡ result.0.now ∷ parts_of separator result.1 }
+{
+    let (front, back) = split_before(text, separator);
+    match back {
+        [] => (front, None),
+        [_, rest @ ..] => (front, Some(rest)),
+    }
+}
+
+// The fields of a text, with those of the counters where they are given.
+#[derive(Clone, Copy)]
+pub(crate) struct Fields<'a> {
+    pub placement: &'a [u8],
+    pub side: &'a [u8],
+    pub castling: &'a [u8],
+    pub target: &'a [u8],
+    pub counters: Option<(&'a [u8], &'a [u8])>,
+}
+
+// The fields of a text with four or six of them.
+pub(crate) fn read_fields(text: &[u8]) -> Option<Fields<'_>>
+    ensures { FieldsAre result (fields_of text.now) }
+{
+    let (placement, rest) = next_field(text)?;
+    let (side, rest) = next_field(rest)?;
+    let (castling, rest) = next_field(rest)?;
+    let (target, rest) = next_field(rest)?;
+    let counters = match next_field(rest) {
+        None => None,
+        Some((halfmove, rest)) => {
+            let (fullmove, rest) = next_field(rest)?;
+            if next_field(rest).is_some() {
+                return None;
+            }
+            Some((halfmove, fullmove))
+        }
+    };
+    Some(Fields {
+        placement,
+        side,
+        castling,
+        target,
+        counters,
+    })
+}

@@ -1,0 +1,22 @@
+//! Positions as FEN (PGN standard of 1994, section 16.1; X-FEN in Chess960), read and written.
+//!
+//! ```
+//! let position = read_fen(b"4k3/8/8/8/8/8/4P3/4K3 w - - 0 1")?;
+//! let text = write_fen(&position);
+//! ```
+#![tactic(auto)]
+
+mod castling;
+mod fields;
+mod laws;
+mod letters;
+mod number;
+mod placement;
+mod rank;
+mod reading;
+mod target;
+mod writing;
+
+pub use laws::{normal_is_kept, rights_are_named, written_is_spelled};
+pub use reading::{read_fen, read_fen_as};
+pub use writing::{FenText, write_fen};
