@@ -386,10 +386,10 @@ class Sources:
         return found
 
 
-def wrong_bodies():
-    """The names of the wrong bodies by crate: those that the gate tries."""
+def wrong_bodies(ending="edit"):
+    """The names of the wrong bodies by crate: those that the gate tries, or, by the ending `md`, those tried apart from it."""
     found = {}
-    for path in sorted(TOP.glob("crates/*/must-fail/*.edit")):
+    for path in sorted(TOP.glob(f"crates/*/must-fail/*.{ending}")):
         found.setdefault(path.parent.parent.name, []).append(path.stem)
     return found
 

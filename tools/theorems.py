@@ -118,32 +118,29 @@ def check_tests(where, line, sources):
 
 
 def with_tried(text):
-    """The page with wrong bodies that are tried by now moved, at their claim, from those that are only read to those refused."""
+    """The page with wrong bodies that are tried by now moved, at their claim, from those tried apart to those that the gate tries."""
     tried = wrong_bodies()
     parts = re.split(r"^(?=### )", text, flags=re.M)
     for i, part in enumerate(parts):
-        for crate, names in re.findall(r"^- Only read \((\w+)\): (.*)$", part, re.M):
+        for crate, names in re.findall(r"^- Tried apart \((\w+)\): (.*)$", part, re.M):
             names = re.findall(r"`(\w+)`", names)
             moved = [n for n in names if n in tried.get(crate, [])]
             refused = re.search(rf"^- Refused \({crate}\): (.*)\n", part, re.M)
             all_refused = sorted(moved + (re.findall(r"`(\w+)`", refused.group(1)) if refused else []))
-            lines = [("Refused", all_refused), ("Only read", [n for n in names if n not in moved])]
+            lines = [("Refused", all_refused), ("Tried apart", [n for n in names if n not in moved])]
             shown = "".join(f"- {kind} ({crate}): {', '.join(f'`{n}`' for n in ns)}\n" for kind, ns in lines if ns)
             part = part.replace(refused.group(0), "") if refused else part
-            part = re.sub(rf"^- Only read \({crate}\): .*\n", lambda m: shown, part, flags=re.M)
+            part = re.sub(rf"^- Tried apart \({crate}\): .*\n", lambda m: shown, part, flags=re.M)
         parts[i] = part
     return "".join(parts)
 
 
 def check_wrong_bodies(text):
     """Each wrong body stands on the page just once, under its crate."""
-    told = {"Refused": {}, "Only read": {}}
-    for kind, crate, names in re.findall(r"^- (Refused|Only read) \((\w+)\): (.*)$", text, re.M):
+    told = {"Refused": {}, "Tried apart": {}}
+    for kind, crate, names in re.findall(r"^- (Refused|Tried apart) \((\w+)\): (.*)$", text, re.M):
         told[kind].setdefault(crate, []).extend(re.findall(r"`(\w+)`", names))
-    read_only = {}
-    for path in sorted(TOP.glob("crates/*/must-fail/*.md")):
-        read_only.setdefault(path.parent.parent.name, []).append(path.stem)
-    for kind, there in (("Refused", wrong_bodies()), ("Only read", read_only)):
+    for kind, there in (("Refused", wrong_bodies()), ("Tried apart", wrong_bodies("md"))):
         for crate in sorted(set(there) | set(told[kind])):
             named, real = told[kind].get(crate, []), there.get(crate, [])
             for name in sorted(set(real) - set(named)):
@@ -153,6 +150,23 @@ def check_wrong_bodies(text):
             for name in sorted({n for n in named if named.count(n) > 1}):
                 fault(PAGE, f"the wrong body {name} of {crate} stands there more than once")
     return {kind: sum(len(names) for names in crates.values()) for kind, crates in told.items()}
+
+
+def check_wrong_bodies_fit():
+    """Each old text of a wrong body stands just once in its file, also where no run of the gate would tell."""
+    for edit in sorted(TOP.glob("crates/*/must-fail/*")):
+        file, texts = None, {}
+        for line in edit.read_text(encoding="utf-8").split("\n"):
+            kind, _, rest = line.partition(": ")
+            if kind == "file":
+                file = edit.parent.parent / rest.strip()
+                texts.setdefault(file, file.read_text(encoding="utf-8") if file.is_file() else "")
+            elif kind == "old" and texts.get(file, "").count(rest) != 1:
+                fault(edit.relative_to(TOP), f"this text does not stand just once in its file: {rest.strip()}")
+            elif kind == "old":
+                old = rest
+            elif line.startswith("new:") and file:
+                texts[file] = texts[file].replace(old, rest)
 
 
 # ---- links
@@ -268,7 +282,7 @@ def filled(page, is_to_fill, figures, reading):
     text = path.read_text(encoding="utf-8")
     if reading and (now := reading(text)) != text:
         if not is_to_fill:
-            fault(page, "files to read are others, or wrong bodies that were only read are tried; --fill writes them anew")
+            fault(page, "files to read are others, or wrong bodies that were tried apart are tried; --fill writes them anew")
         text = now if is_to_fill else text
     for mark, now in (("reach", figures), ("links", links_of(text))):
         if now is None or between(text, mark) == now:
@@ -297,6 +311,7 @@ def main(words):
             check_tests(where, line, reached.sources)
     check_all_are_told(text, reached.sources)
     counts = check_wrong_bodies(text)
+    check_wrong_bodies_fit()
     for number in re.findall(r"(\d+) wrong bodies", (TOP / "README.md").read_text(encoding="utf-8")):
         if int(number) != counts["Refused"]:
             fault("README.md", f"{number} wrong bodies are told, but there are {counts['Refused']}")
@@ -305,7 +320,7 @@ def main(words):
     for told in FAULTS:
         print(told)
     theorems = len(re.findall(r"^- Theorem: ", text, re.M))
-    print(f"{theorems} claims, {counts['Refused']} wrong bodies refused, {counts['Only read']} only read, {len(FAULTS)} faults")
+    print(f"{theorems} claims, {counts['Refused']} wrong bodies refused, {counts['Tried apart']} tried apart, {len(FAULTS)} faults")
     return 1 if FAULTS else 0
 
 
