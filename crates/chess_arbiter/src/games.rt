@@ -254,7 +254,7 @@ fn play_one<'a, P: Processes + Clock, M: Moments, W: Output>(
     }
 }
 
-/// The score of the games that were played, and the fault that ended them.
+// The score of the games that were played, and the fault that ended them.
 #[derive(Clone, Copy)]
 struct Played {
     score: Score,

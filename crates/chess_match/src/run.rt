@@ -57,7 +57,7 @@ pub struct Setup {
 pub struct MatchEnd {
     /// The outcome: `Unfinished` where a fault ended the match, or where no further move has room.
     pub outcome: Outcome,
-    /// What is said of the end, as the engines were told it behind `result`.
+    /// What is said of the end, as it is sent to the engines behind `result`.
     pub comment: Comment,
     /// How it came, as the PGN tag `Termination` tells it.
     pub ended: HowEnded,
@@ -70,12 +70,15 @@ pub struct MatchEnd {
 }
 
 /// Plays one game between two engines by the Chess Engine Communication Protocol, version 2, to its end; the game begins
-/// anew from the start, and `scratch` is any board, which holds anything afterwards. Each engine is sent what the protocol
-/// asks for, block by block, before the next line is read; `moments` is asked once after each line, and once at the end of
-/// each turn's opening. No memory is taken. An engine that never answers is waited for.
+/// anew from the start, and `scratch` is any board, which holds anything afterwards.
 ///
 /// In the contract there is a transcript of the match: the lines, moments, ends and failures in their order. It agrees with
-/// both engines' devices and with the moments, and it tells all that was sent, the game and the end.
+/// both engines' devices and with the moments, one for each line and one at the end of each turn's opening, and it tells
+/// all that was sent, the game and the end. Where nothing was unflushed before, nothing is at the end, but for the beginning of a
+/// block at which a write or a flush failed.
+///
+/// That a block is flushed before the next line is read, and that a moment is asked for behind its line or opening, is only
+/// tested. By the code no memory is taken, and an engine that doesn't answer is waited for.
 pub fn run_match<R: Input, W: Output, M: Moments, B: Board>(
     white: &mut Ends<R, W>,
     black: &mut Ends<R, W>,

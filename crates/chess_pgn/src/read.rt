@@ -337,14 +337,14 @@ fn told_variant(text: &[u8], at: usize) -> Variant
     }
 }
 
-// Whether the byte counts nothing where a token begins: a blank or a dot.
+// Whether the byte counts nothing where a token begins: white space or a dot.
 fn is_passed(byte: u8) -> bool
     ensures { result ≡ (is_white_space byte || byte == 46) }
 {
     is_white_space(byte) || byte == b'.'
 }
 
-// Behind the blanks and dots from a place on. They are tokens too, but a game is read alike without them.
+// Behind the white space and dots from a place on. They are tokens too, but a game is read alike without them.
 fn behind_blanks(text: &[u8], at: usize) -> usize
     requires { at ≤ length text.now }
     ensures alike { ReadsAlike text.now at result }

@@ -125,8 +125,8 @@ fn level_in(moves: &[u8], base_text: &[u8], increment: &[u8], rest: &[u8]) -> Op
 }
 
 impl Level {
-    /// The level that a text spells: `MOVES BASE INCREMENT`, each a number of one to three digits, the base in minutes or as
-    /// `minutes:seconds`, with blanks between.
+    /// The level that a text spells: `MOVES BASE INCREMENT`, each a number of one to three digits, with blanks between and
+    /// perhaps around. The base is in minutes, or `minutes:seconds` with one or two digits for fewer than 60 seconds.
     #[tactic(auto, unfolding(crate::specs::Levels::level_of))]
     pub fn read(text: &[u8]) -> Option<Self>
         ensures { result ≡ level_of text.now }

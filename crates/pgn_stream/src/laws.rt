@@ -14,7 +14,7 @@ pub(crate) fn windows_tell()
     settled_is_moved();
 }
 
-/// In a text of at most 16,777,216 bytes the game at each place is told as `read_pgn` reads it: none is too long.
+/// In a text of at most 16,777,216 bytes the game at each place is told as `read_pgn` reads it: none has too many bytes.
 pub fn short_texts_are_read()
     ensures { ShortTextsAreRead }
 {}
