@@ -40,8 +40,8 @@ fn pong(text: &[u8]) -> EngineLine<'_>
     }
 }
 
-/// What a line with this text says, told by its first words. Blanks at the text's ends are not cut here: a line's text has
-/// none.
+/// What a line with this text says, told by its first words. Blanks at the text's ends are not cut here: a
+/// line's text has none.
 #[tactic(auto, unfolding(crate::specs::EngineLines::kind_of))]
 pub fn read_engine_line(text: &[u8]) -> EngineLine<'_>
     ensures { seen result ≡ kind_of text.now }

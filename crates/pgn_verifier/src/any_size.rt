@@ -104,20 +104,20 @@ fn tell_any<R: Input, W: Output>(
     }
 }
 
-/// Reads the games of an input of any length and writes a line for each, by the options as `verify_by` does. A game, with
-/// what stands before it, may have 16,777,216 bytes: where more are left, and these with the one behind them don't settle
-/// how it is read, the fault is `too long`, at the first of them that is no white space, or behind them where there is none.
-/// Places count from the input's first byte. The lines are those of each text that begins with what was read, or of that
-/// alone where the input has ended, and all were flushed.
+/// Reads the games of an input of any length and writes a line for each, by the options as `verify_by` does. A game,
+/// with what stands before it, may have 16,777,216 bytes: where more are left, and these with the one behind them don't
+/// settle how it is read, the fault is `too long`, at the first of them that is no white space, or behind them where
+/// there is none. Places count from the input's first byte. The lines are those of each text that begins with what was
+/// read, or of that alone where the input has ended, and all were flushed.
 ///
-/// No clause says when a line is written, how far the input is read behind the last fault that is told, nor how much memory
-/// is used. By the code the input is read a window of 16 MiB at a time, which is all that is kept of it, and a game's line
-/// is written before the next game is read.
+/// No clause says when a line is written, how far the input is read behind the last fault that is told, nor how much
+/// memory is used. By the code the input is read a window of 16 MiB at a time, which is all that is kept of it, and a
+/// game's line is written before the next game is read.
 ///
 /// # Errors
-/// Where there is no memory: nothing was read or written. Where a read failed, or 2^64 - 2^25 bytes or more were read: the
-/// lines of the first games were written, perhaps not of all games before that. Where a write or the flush failed: a
-/// beginning of the lines was written.
+/// Where there is no memory: nothing was read or written. Where a read failed, or 2^64 - 2^25 bytes or more were read:
+/// the lines of the first games were written, perhaps not of all games before that. Where a write or the flush failed:
+/// a beginning of the lines was written.
 pub fn verify_any_size<R: Input, W: Output>(
     alloc: Global,
     options: VerifyOptions,

@@ -201,9 +201,9 @@ fn tell_collection<W: Output>(
 }
 
 /// Reads the games of the input and writes a line for each, as `verify` does. With `keep_going` the next game begins at
-/// the next line behind the fault's place that begins with `[Event `, and last comes the line `games G half-moves H faults F`: how many
-/// games have no fault, how many half-moves these have, and how many games have a fault. With `quiet` the lines of games
-/// without a fault are left out.
+/// the next line behind the fault's place that begins with `[Event `, and last comes the line
+/// `games G half-moves H faults F`: how many games have no fault, how many half-moves these have, and how many games
+/// have a fault. With `quiet` the lines of games without a fault are left out.
 ///
 /// # Errors
 /// As of `verify`; what a failed writer leaves behind is a beginning of what is told.

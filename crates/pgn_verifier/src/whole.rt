@@ -220,8 +220,8 @@ fn tell_games<W: Output>(
 }
 
 /// Reads all games of the input and writes a line for each, `game K: N half-moves, OUTCOME`, with the outcome that the
-/// text tells, and behind it `, TERMINATION` where the text tells that too. A game with a fault has the line `game K: FAULT
-/// at byte B` and is the last. All lines were flushed.
+/// text tells, and behind it `, TERMINATION` where the text tells that too. A game with a fault has the line
+/// `game K: FAULT at byte B` and is the last. All lines were flushed.
 ///
 /// # Errors
 /// Where a device or memory failed, or the input has more than 16,777,216 bytes. Only a failed writer leaves anything
