@@ -1,4 +1,4 @@
-//! What is wrong with the text or the setup of a position.
+//! What is wrong with the setup of a position, or with its text, which chess_fen reads.
 
 /// Why a text spells no position, or a setup is none: the first fault in the order fields, placement, side, spelling of
 /// the rights, spelling of the target, counters, kings, pawns, men, homes of the rights, men round the target, check.

@@ -1,6 +1,4 @@
-use chess_base::{
-    Colour, ColourRights, Kind, Man, Move, Position, Rights, Setup, Square, Variant,
-};
+use chess_base::{Colour, ColourRights, Kind, Man, Move, Position, Rights, Setup, Square, Variant};
 use chess_fen::{read_fen_as, write_fen};
 use std::test::Fail;
 

@@ -15,17 +15,17 @@ pub enum EngineLine<'a> {
     Features(&'a [u8]),
     /// `move M`: the move's text, which may be empty.
     Move(&'a [u8]),
-    /// `resign`
+    /// `resign`, whatever follows.
     Resign,
-    /// `offer draw`
+    /// `offer draw`, whatever follows.
     Offer,
     /// `1/2-1/2`, whatever follows.
     Draw,
     /// `1-0` or `0-1`, whatever follows: who wins.
     Win(Colour),
-    /// `Illegal move ..`
+    /// `Illegal move`, whatever follows.
     Rejection,
-    /// `pong N`, with a number of one to nine digits.
+    /// `pong N`, with a number of one to nine digits and nothing else.
     Pong(u32),
     /// Anything else.
     Other,
