@@ -3,7 +3,8 @@
 ghost use Rattle.std.specs.Prelude.{[], ◌∷◌, codes};
 ghost use Rattle.arbiter_words.specs.Plans.{AskFor, PlansAreNamed, VerifyAsBare, VerifyIsAsSpelled};
 
-/// No words, `session` alone and `verify` alone are taken, and ask for what they say; `verify` alone tells none of its words.
+/// No words, `session` alone and `verify` alone are taken, and ask for what they say; `verify` alone
+/// tells none of its words.
 pub fn plain_words_are_taken()
     ensures none { AskFor [] (codes "session") }
     ensures session { AskFor (codes "session" ∷ []) (codes "session") }

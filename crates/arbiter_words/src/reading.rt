@@ -31,8 +31,8 @@ fn entered<'m, 'a>(matches: &'m ArgMatches<'a>) -> Option<(&'a str, &'m ArgMatch
 /// Reads the words behind the program's name.
 ///
 /// # Errors
-/// Where `clap` refuses the words or asks to show help or the version, where there is no memory, and where level, FEN or
-/// date of a match isn't in its form, the first of them.
+/// Where `clap` refuses the words or asks to show help or the version, where there is no memory, and where level, FEN
+/// or date of a match isn't in its form, the first of them.
 pub fn read_words<'a>(alloc: Global, words: &'a [&'a str]) -> Result<Plan<'a>, WordsFault>
     ensures { IsReading (map (λ w. w.now) words.entry.now) result }
 {

@@ -1,7 +1,7 @@
 //! Measures the crates below the program. `bench DEPTH [FEN..]` counts the lines of legal moves from a position,
-//! `bench games FILE` the games and half-moves of a PGN file, reading each, and `bench match TIMES` the half-moves of so many
-//! matches between two engines in memory, each of 500. It writes the counts, and on standard error how many lines or
-//! half-moves a second it made.
+//! `bench games FILE` the games and half-moves of a PGN file, reading each, and `bench match TIMES` the half-moves of
+//! so many matches between two engines in memory, each of 500. It writes the counts, and on standard error how many
+//! lines or half-moves a second it made.
 #![tactic(auto)]
 
 mod games;

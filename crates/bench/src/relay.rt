@@ -76,8 +76,8 @@ fn greeting(alloc: Global) -> Result<Vec<u8>, AllocError> {
     Ok(said)
 }
 
-/// What two engines say that play a game of up to so many half-moves, in which hardly a man is taken; the game is played
-/// here.
+/// What two engines say that play a game of up to so many half-moves, in which hardly a man is taken; the
+/// game is played here.
 ///
 /// # Errors
 /// Where memory is wanting.

@@ -9,7 +9,8 @@ use std::test::Fail;
 
 const LEFT_ELSEWHERE: &str = "taking back left another position";
 
-/// How many lines of so many legal moves there are: the last moves are counted, and each move before is made and taken back.
+/// How many lines of so many legal moves there are: the last moves are counted, and each move before is
+/// made and taken back.
 fn lines<B: Board>(board: &mut B, depth: u32) -> Result<u64, &'static str>
     ensures { OnOk result (B.position board.new ≡ B.position board.old) }
 {
@@ -66,7 +67,8 @@ const NORMAL: [Counted; 6] = [
     },
 ];
 
-// Chess960: a usual position, and king and rooks that stand beside each other, so that castling moves one of them alone.
+// Chess960: a usual position, and king and rooks that stand beside each other, so that castling
+// moves one of them alone.
 const FISCHERANDOM: [Counted; 2] = [
     Counted {
         fen: b"bqnb1rkr/pp3ppp/3ppn2/2p5/5P2/P2P4/NPP1P1PP/BQ1BNRKR w HFhf - 2 9",
@@ -147,8 +149,8 @@ fn what_is_made_is_the_position_after(rt: HostRuntime) -> Result<(), Fail> {
     Ok(())
 }
 
-// Positions and their words, as a program apart from this one tells them: all kinds of men, either side on move, all rights,
-// one and none. Target and counters make no difference.
+// Positions and their words, as a program apart from this one tells them: all kinds of men, either side on move, all
+// rights, one and none. Target and counters make no difference.
 const WORDS: [(&[u8], u64); 6] = [
     (
         b"rnbqkbnr/pppppppp/8/8/8/8/PPPPPPPP/RNBQKBNR w KQkq - 0 1",

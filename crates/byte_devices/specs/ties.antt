@@ -1,2 +1,3 @@
--- What only joins code to the definitions: no claim rests on it.
+-- What only joins code to the definitions: no clause that a caller sees reaches it. Within the crate the clauses on what `Counted`
+-- makes of an answer do.
 pub mod Counting

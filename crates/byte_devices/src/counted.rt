@@ -7,8 +7,8 @@ ghost use Rattle.byte_devices.specs.ties.Counting.{no_counts, one_failure_more, 
 use crate::traits::{Input, Output, ReadFault, WriteFault};
 use std::io::{self, Read, Write};
 
-// The counts of a reader's or a writer's calls: failures, ends, the length of the last piece that was read, how many were,
-// and how many bytes were taken since the last flush that succeeded.
+// The counts of a reader's or a writer's calls: failures, ends, the length of the last piece that was read, how many
+// were, and how many bytes were taken since the last flush that succeeded.
 #[derive(Drop)]
 pub(crate) struct Counts {
     failures: u64,
@@ -105,9 +105,9 @@ impl Counts {
     }
 }
 
-/// A reader or a writer, with the counts of its calls. Each call is one call of the device with the same piece. Each `Err`
-/// is a failure, and so is a write that takes nothing of a piece that isn't empty. A count that has reached 2^64 - 1 stays
-/// there, and after as many pieces each read is a failure, with no call of the device.
+/// A reader or a writer, with the counts of its calls. Each call is one call of the device with the same piece. Each
+/// `Err` is a failure, and so is a write that takes nothing of a piece that isn't empty. A count that has reached
+/// 2^64 - 1 stays there, and after as many pieces each read is a failure, with no call of the device.
 #[derive(Drop)]
 pub struct Counted<D> {
     device: D,

@@ -11,8 +11,9 @@ use std::alloc::Global;
 use std::cell::Cell;
 use std::io::{Error, ErrorKind, Read, Result, Write};
 
-/// Gives one line at a call, and shuts the gate behind it; a flush of its `GatedWriter` opens it, and a write shuts it too.
-/// Where the gate is shut, a read fails and is counted: it came too early, before the answer to the last line was handed on.
+/// Gives one line at a call, and shuts the gate behind it; a flush of its `GatedWriter` opens it, and a write
+/// shuts it too. Where the gate is shut, a read fails and is counted: it came too early, before the answer to the
+/// last line was handed on.
 #[derive(Drop)]
 pub struct GatedReader<'a> {
     /// The bytes that are still to be given.

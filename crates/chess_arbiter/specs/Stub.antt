@@ -181,7 +181,8 @@ ByWrite w w' s t last_len =
     × (t.taken ≡ replies s before ++ start)
     × LeavesUnflushed w w' start
 
--- the whole promise, as that of a session: each reply was flushed before anything else
+-- the whole promise, as that of a session. Each reply was flushed before more was read: at all ends but that by a failed write
+-- nothing is unflushed
 abbrev pub StubRan : {A : Type 0} → InputState → InputState → OutputState → OutputState → StubState → Result A StubFault → Type 0
 StubRan r r' w w' s (Ok _) =
     (t : Transcript) × FitsDevices r r' w w' t false false × (ByLine s t r'.last_len ⊎ ByInput s t r') × (t.taken ≡ replies s (lines_given t)) × LeavesUnflushed w w' []

@@ -11,25 +11,26 @@ use thiserror::Error;
 /// Why the program ended otherwise than it was asked to.
 #[derive(Clone, Copy, Debug, PartialEq, Eq, Error)]
 pub enum ProgramFault {
-    /// A read of the standard input failed.
+    /// A read of the input failed.
     #[error("read failed")]
     ReadFailed,
-    /// A write or a flush of the standard output failed.
+    /// A write or a flush of the output failed.
     #[error("write failed")]
     WriteFailed,
     /// There was no memory.
     #[error("no memory")]
     NoMemory,
-    /// The text of games is longer than 16,777,216 bytes, or where any size is taken, than places with 64 bits can tell.
+    /// The text of games is longer than 16,777,216 bytes, or where any size is taken, so long that places in it could
+    /// pass 64 bits.
     #[error("input too long")]
     InputTooLong,
-    /// The program's words are not those of any of its forms.
+    /// The program's words could not be had, as where one of them is no UTF-8.
     #[error("wrong words")]
     WrongWords,
 }
 
 impl ProgramFault {
-    /// The program's exit status: 1 where a device or memory failed, 2 for wrong words.
+    /// The program's exit status: 2 for wrong words, else 1.
     pub fn status(self) -> u8
         ensures { result ≡ fault_status self }
     {

@@ -254,7 +254,7 @@ fn play_one<'a, P: Processes + Clock, M: Moments, W: Output>(
     }
 }
 
-/// The score of the games that were played, and the fault that ended them.
+// The score of the games that were played, and the fault that ended them.
 #[derive(Clone, Copy)]
 struct Played {
     score: Score,
@@ -304,8 +304,8 @@ fn open_game(alloc: Global) -> Result<Game<Bits>, AllocError>
 /// Plays the games of a match, with colours changed after each, and writes each game's text and then the score.
 ///
 /// # Errors
-/// Where an engine can't be started, there is no memory, the output failed, or an engine failed in a game, which is then
-/// the last.
+/// Where an engine can't be started, there is no memory, the output failed, or an engine failed in a game,
+/// which is then the last.
 pub(crate) fn play_games<'a, P: Processes + Clock, W: Output>(
     rt: &P,
     alloc: Global,

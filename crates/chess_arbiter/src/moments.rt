@@ -4,7 +4,8 @@ use chess_match::Moments;
 use std::rt::Clock;
 use std::time::Instant;
 
-/// The milliseconds since this was made, by a runtime's monotonic clock; 0 where that can't be read.
+/// The milliseconds since this was made, by a runtime's monotonic clock; 0 where that can't be read. No
+/// contract tells them.
 #[derive(Drop)]
 pub struct SinceStart<'a, R> {
     rt: &'a R,

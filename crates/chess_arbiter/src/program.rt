@@ -20,7 +20,7 @@ use std::fmt::Display;
 use std::process::Processes;
 use std::rt::Clock;
 
-/// The number of half-moves that can stand in the program's session.
+// The number of half-moves that can stand in the program's session.
 const SESSION_LIMIT: u32 = 20_000;
 
 // A session as `new` leaves it, with its boards.
@@ -287,10 +287,26 @@ fn matched<P: Processes + Clock, W: Output, E: Output>(
     }
 }
 
-/// Runs the program on its words and gives its exit status: 0 where the session ended by `quit` or the input's end, each
-/// game was verified, or help was shown; 1 where a device or memory failed, or a game has a fault; 2 for wrong words. No
-/// words, or `session`: a session of at most 20,000 half-moves. `verify`: the games of a text, told one by one. A fault, but
-/// for that of a game, is told on the error output as `arbiter: FAULT`, and wrong words by the text of `clap`.
+/// Runs the program on its words, read as `arbiter_words` reads them, and gives its exit status.
+///
+/// - No words, or `session`: a session of at most 20,000 half-moves.
+/// - `verify`: the games of the input, told one by one up to the first fault. With `--keep-going` the games
+///   behind a fault too, and counts at the end; with `--quiet` only games with a fault; with `--any-size` an
+///   input of any length.
+/// - `match` with `--white`, `--black` and perhaps `--games`, `--level`, `--fen`, `--variant` and `--date`:
+///   games between two engines that are started as processes, the text of each game, and then the score. The
+///   input is left alone.
+/// - `stub`, and words to play: an engine that plays these on the input and the output.
+/// - Help or the version, where `clap` asks for it: a text on the output. The input is left alone.
+///
+/// The status is 0 where the session or the stub ended by its own command or the input's end, no game verified has
+/// a fault, all games of the match were played, or help was shown; 1 where the input, the output or memory failed,
+/// the input was too long, a game verified has a fault, or an engine could not be started or failed in a game; 2
+/// for all other words.
+///
+/// The contract tells what was read and written, and the status; of a match it doesn't tell which programs ran, and of
+/// the error output nothing. Tests show both: on the error output stands `arbiter: FAULT`, or what `clap` says of wrong
+/// words, and nothing where a game verified has a fault.
 pub fn run_program<'a, P: Processes + Clock, R: Input, W: Output, E: Output>(
     rt: &P,
     alloc: Global,

@@ -48,8 +48,9 @@ fn words_fault(error: &io::Error) -> ProgramFault
     }
 }
 
-/// Runs the program on the words behind its name and the standard streams, as `main` does; the result is its exit status, as
-/// `run_program` tells it. Words that are no UTF-8 are wrong words.
+/// Runs the program on the words behind its name and the standard streams, as `main` does, and gives its exit status,
+/// that of `run_program`; 2 where a word is no UTF-8, and 1 where there is no memory for the words. No clause says so:
+/// it is read off these lines, and stored runs show it.
 pub fn run(rt: &HostRuntime) -> ExitCode {
     match status_of(rt) {
         Ok(status) => ExitCode::from(status),

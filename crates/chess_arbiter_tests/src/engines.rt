@@ -8,7 +8,8 @@ use std::alloc::Global;
 use std::test::Fail;
 use std::{env, fs};
 
-// What a child of a test runs: the program, on the words behind this test's name. It also runs by itself, with no words.
+// What a child of a test runs: the program, on the words behind this test's name. It also runs by
+// itself, with no words.
 #[test]
 fn acts_as_the_program(rt: HostRuntime) -> Result<(), Fail> {
     let owned = env::args(&rt)?.skip(2).collect::<Vec<String>>(rt.alloc())?;

@@ -336,7 +336,8 @@ const LONG: [(&[&str], &[u8], usize, &[u8], &[u8], u8); 7] = [
         b"game 1: too long at byte 0\n",
         1,
     ),
-    // Its bytes and the blanks before it are counted from where the game before it ended; its place is its own first byte.
+    // Its bytes and the white space before it are counted from where the game before it ended; its place
+    // is its own first byte.
     (
         &["verify", "--any-size", "--keep-going"],
         b"1. e4 *\n\n[Event \"x\"]\n{",

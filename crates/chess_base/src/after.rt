@@ -86,7 +86,8 @@ fn right_after(
     }
 }
 
-/// The castling rights after the move: a right is lost when the king moves, or when a move leaves or enters the rook's square.
+/// The castling rights after the move: a right is lost when the king moves, or when a move leaves or
+/// enters the rook's square.
 #[tactic(auto, unfolding(crate::specs::Moves::rights_after))]
 pub fn rights_after(setup: &Setup, m: &Move) -> Rights
     ensures { result ≡ rights_after setup.now m.now }

@@ -9,8 +9,8 @@ use crate::rules::first_rank;
 use crate::setup::Setup;
 use crate::square::Square;
 
-/// The squares of a castling (Laws of Chess 2023, article 3.8.2): where its king and its rook start, and where they end. In Chess960 an
-/// end may be a start, its own or the other's.
+/// The squares of a castling (Laws of Chess 2023, article 3.8.2): where its king and its rook start, and where they
+/// end. In Chess960 an end may be a start, its own or the other's.
 #[derive(Clone, Copy, Debug, PartialEq, Eq)]
 pub struct Castle {
     pub king_from: Square,

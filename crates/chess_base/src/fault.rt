@@ -1,7 +1,7 @@
-//! What is wrong with the text or the setup of a position.
+//! What is wrong with the setup of a position, or with its text, which chess_fen reads.
 
-/// Why a text spells no position, or a setup is none: the first fault in the order fields, placement, side, spelling
-/// of the rights, spelling of the target, counters, kings, pawns, men, homes of the rights, men round the target, check.
+/// Why a text spells no position, or a setup is none: the first fault in the order fields, placement, side, spelling of
+/// the rights, spelling of the target, counters, kings, pawns, men, homes of the rights, men round the target, check.
 #[derive(Clone, Copy, Debug, PartialEq, Eq, thiserror::Error)]
 pub enum FenFault {
     /// The first field is not eight ranks of eight squares.
@@ -10,8 +10,8 @@ pub enum FenFault {
     /// The second field is neither `w` nor `b`.
     #[error("the side is neither w nor b")]
     Side,
-    /// The third field spells no rights, or a right has not its king and its rook where they belong; in Chess960 also where a letter
-    /// names no rook on that side of the king, or two letters name one side.
+    /// The third field spells no rights, or a right has not its king and its rook where they belong; in Chess960 also
+    /// where a letter names no rook on that side of the king, or two letters name one side.
     #[error("the castling rights are misspelled or do not fit the men")]
     Castling,
     /// The fourth field spells no target, or the target is not the empty square behind an enemy pawn's double advance.

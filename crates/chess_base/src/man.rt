@@ -95,7 +95,8 @@ pub struct Rights {
 }
 
 /// A move: its start and end squares, and what a pawn becomes on its last rank (Laws of Chess 2023, article 3.7).
-/// Castling is named by the king's squares, in Chess960 by the king's and its rook's, en passant by the pawn's. The default, from a1 to a1, is no man's move: a blank in a list.
+/// Castling is named by the king's squares, in Chess960 by the king's and its rook's, en passant by the pawn's. The
+/// default, from a1 to a1, is no man's move: a blank in a list.
 #[derive(Clone, Copy, Debug, Default, PartialEq, Eq)]
 pub struct Move {
     pub from: Square,

@@ -10,8 +10,8 @@ use crate::rules::{first_rank, man_on};
 use crate::setup::Setup;
 use crate::square::is_square;
 
-// The number of the square straight ahead for a pawn of that colour. Ahead of the last rank, where no pawn stands, it is for White
-// past 63 and for Black 0.
+// The number of the square straight ahead for a pawn of that colour. Ahead of the last rank, where no pawn stands, it
+// is for White past 63 and for Black 0.
 pub(crate) fn forward(colour: Colour, number: u8) -> u8
     requires { number < 248 }
     ensures { result ≡ forward colour number }

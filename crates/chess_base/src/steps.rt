@@ -7,9 +7,9 @@ ghost use Rattle.chess_base.specs.Steps.{men_stepped};
 use crate::man::Man;
 use crate::square::Square;
 
-/// What a move changes on the board, and what taking it back changes: the mover and perhaps a second man leave their squares, then
-/// perhaps a second man and the mover arrive. A move's second man is the pawn taken en passant, which only leaves, or the castling
-/// rook; taken back, it is the captured man, which only arrives, or the castling rook.
+/// What a move changes on the board, and what taking it back changes: the mover and perhaps a second man leave their
+/// squares, then perhaps a second man and the mover arrive. A move's second man is the pawn taken en passant, which
+/// only leaves, or the castling rook; taken back, it is the captured man, which only arrives, or the castling rook.
 #[derive(Clone, Copy, Debug, PartialEq, Eq)]
 pub struct Steps {
     /// The square that the mover leaves.
@@ -34,7 +34,8 @@ fn put(men: &mut [Option<Man>; 64], square: Option<Square>, man: Option<Man>)
     }
 }
 
-/// Changes the men by these steps. Both men leave before one arrives: in Chess960 a castling king and rook may change places.
+/// Changes the men by these steps. Both men leave before one arrives: in Chess960 a castling king and
+/// rook may change places.
 pub fn take_steps(men: &mut [Option<Man>; 64], steps: &Steps)
     ensures { men.new ≡ men_stepped men.old steps.now }
 {

@@ -1,6 +1,4 @@
-use chess_base::{
-    Colour, ColourRights, Kind, Man, Move, Position, Rights, Setup, Square, Variant,
-};
+use chess_base::{Colour, ColourRights, Kind, Man, Move, Position, Rights, Setup, Square, Variant};
 use chess_fen::{read_fen_as, write_fen};
 use std::test::Fail;
 
@@ -19,8 +17,9 @@ fn play(position: Position, squares: &[u8; 4]) -> Option<Position> {
     position.is_legal(m).then(|| position.after(again))
 }
 
-// A position, the squares of king and rook, and the FEN after castling; nothing where it is illegal. The king stays, the rook stays,
-// and they change places, on both sides; then out of, through and into attacked squares, with b1 attacked, and off a pin.
+// A position, the squares of king and rook, and the FEN after castling; nothing where it is illegal. The king stays,
+// the rook stays, and they change places, on both sides; then out of, through and into attacked squares, with b1
+// attacked, and off a pin.
 #[test]
 fn castling_leaves_its_positions(rt: HostRuntime) -> Result<(), Fail> {
     let rows: [(&[u8], &[u8; 4], &[u8]); 12] = [
@@ -91,8 +90,8 @@ fn put_on_free(rank: &mut [u8; 8], place: usize, man: u8) {
     }
 }
 
-// The first rank of the start with that number, 0 to 959, by the usual numbering: the bishops, the queen, then the knights by a
-// table; a rook, the king and a rook on what is left.
+// The first rank of the start with that number, 0 to 959, by the usual numbering: the bishops, the queen, then the
+// knights by a table; a rook, the king and a rook on what is left.
 fn start_rank(number: usize) -> [u8; 8] {
     const KNIGHTS: [(usize, usize); 10] = [
         (0, 1),

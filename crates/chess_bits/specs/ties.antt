@@ -1,4 +1,5 @@
--- What only joins code to the definitions: no claim rests on it.
+-- What only joins code to the definitions: no clause that a caller sees reaches it. Within the crate two claims rest on
+-- it: that the sets of a `Bits` are those of its squares (its invariant), and what its tables and sweeps hold.
 pub mod Rays
 pub mod Shapes
 pub mod Occupancy

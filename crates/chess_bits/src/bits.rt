@@ -19,8 +19,8 @@ use chess_moves::{Board, MoveList, SquareSet, word_with, would_promote};
 use std::alloc::{AllocError, Global};
 use std::marker::Model;
 
-/// A board that keeps, beside the man of each square, sets of the squares of the men by colour and kind, and tables of attacks.
-/// In contracts it is the `Setup` of its position.
+/// A board that keeps, beside the man of each square, sets of the squares of the men by colour and kind, and tables of
+/// attacks. In contracts it is the `Setup` of its position.
 #[derive(Drop)]
 pub struct Bits {
     pub(crate) setup: Setup,

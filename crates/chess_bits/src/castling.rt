@@ -99,8 +99,8 @@ impl Bits {
         }
     }
 
-    // Whether the king is safe after castling that nothing prevents: in Chess960 the rook may have stood between him and an
-    // attacker.
+    // Whether the king is safe after castling that nothing prevents: in Chess960 the rook may have stood between
+    // him and an attacker.
     fn is_safe_castled(&self, m: &Move, castle: &Castle) -> bool
         requires castle { castle_of self.now m.now ≡ Some castle.now }
         requires none { m.now.promotion ≡ None }

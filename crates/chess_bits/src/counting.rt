@@ -236,8 +236,8 @@ impl Bits {
         count
     }
 
-    // How many legal moves there are: those of the free men kind by kind, and then those of the king and of the men that
-    // may shield him.
+    // How many legal moves there are: those of the free men kind by kind, and then those of the king and of the men
+    // that may shield him.
     pub(crate) fn count(&self) -> usize
         ensures { result ≡ length (moves self.now) }
     {
@@ -340,8 +340,8 @@ impl Bits {
         self.has_pawn_move(pawns.intersection(free))
     }
 
-    // Whether there is a legal move. It looks no further than the first man that has one, and sees to the king early, since in
-    // check he mostly has one.
+    // Whether there is a legal move. It looks no further than the first man that has one, and sees to the king early,
+    // since in check he mostly has one.
     pub(crate) fn has_move(&self) -> bool
         ensures { result ≡ nat_lt 0 (length (moves self.now)) }
     {

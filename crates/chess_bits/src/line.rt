@@ -1,3 +1,5 @@
+//! The lines of the board, and its rays: which squares lie on a line through a square, above it in number or below it.
+
 ghost use Rattle.std.specs.Prelude.{◌≡◌};
 ghost use Rattle.chess_bits.specs.ties.Rays.{line_number, is_on_ray};
 

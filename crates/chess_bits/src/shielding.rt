@@ -12,8 +12,8 @@ use chess_base::{Kind, Square};
 use chess_moves::{Board, SquareSet};
 
 impl Bits {
-    // The own men that the king sees on his rank and file, if one of them hides a rook or queen from him, and else none:
-    // taking off any other man opens neither.
+    // The own men that the king sees on his rank and file, if one of them hides a rook or queen from him, and else
+    // none: taking off any other man opens neither.
     #[tactic(auto, unfolding(crate::specs::ties::Shapes::in_shape))]
     fn line_shields(&self, king: Square) -> SquareSet
         ensures { (a : ℕ) → a < 64 → is_of (self.now).side (man_at (self.now).men a) ≡ true → has result a ≡ false → OpensNoLine self.now a king }
@@ -76,8 +76,8 @@ impl Bits {
         others.without(shields)
     }
 
-    // The men of the side on move that stand on none of their king's lines, where he is not in check: they may go anywhere,
-    // as far as he is concerned. They are found sooner than all free men.
+    // The men of the side on move that stand on none of their king's lines, where he is not in check: they may go
+    // anywhere, as far as he is concerned. They are found sooner than all free men.
     #[tactic(auto, unfolding(crate::specs::ties::Shapes::in_shape))]
     pub(crate) fn men_off_lines(&self) -> SquareSet
         ensures { (k : ℕ) → k < 64 → has result k ≡ true → IsFree self.now k }

@@ -1,3 +1,5 @@
+//! Tables of sets of squares, one set for each square: what a man attacks there on an empty board, or a ray from there.
+
 ghost use Rattle.std.specs.Prelude.{◌≡◌, ℕ, ◌<◌};
 ghost use Rattle.chess_moves.specs.Sets.{has};
 ghost use Rattle.chess_bits.specs.ties.Shapes.{in_shape};

@@ -77,8 +77,8 @@ impl Bits {
         reached.without(self.sets.all(side))
     }
 
-    // The squares of the castling that the move is, if it is one: its end names castling to that side with the rook of the
-    // right. In normal chess a king whose right stands is at home, so no more has to be asked.
+    // The squares of the castling that the move is, if it is one: its end names castling to that side with the rook of
+    // the right. In normal chess a king whose right stands is at home, so no more has to be asked.
     fn castle_to(&self, m: &Move, castling_side: CastlingSide, rook: Square) -> Option<Castle>
         requires right { right_of (self.now).rights (self.now).side castling_side ≡ Some rook }
         requires end { m.now.to ≡ castling_end (self.now).variant (self.now).side castling_side rook }
@@ -201,7 +201,8 @@ impl Bits {
         reached.intersection(aims)
     }
 
-    // The squares from which pawns of the side on move may go to one: those of its file, and those from which they attack it.
+    // The squares from which pawns of the side on move may go to one: those of its file, and those from
+    // which they attack it.
     #[tactic(auto, unfolding(crate::specs::ties::Shapes::in_shape))]
     pub(crate) fn pawn_starts(&self, to: Square) -> SquareSet
         ensures { (k : ℕ) → k < 64 → has result k ≡ ((is_on_ray File true to k || is_on_ray File false to k) || in_shape (PawnAttack (other (self.now).side)) to k) }
@@ -222,8 +223,8 @@ impl Bits {
         advances.union(captures)
     }
 
-    // Where the man goes that stands there, if it is of the side on move: each end square of its legal moves is there, and
-    // none to which it hasn't the pattern of a move.
+    // Where the man goes that stands there, if it is of the side on move: each end square of its legal moves is there,
+    // and none to which it hasn't the pattern of a move.
     pub(crate) fn targets(&self, from: Square) -> SquareSet
         ensures sound { (k : ℕ) → k < 64 → has result k ≡ true → goes self.now from k ≡ true }
         ensures complete { (m : Move) → is_legal self.now m ≡ true → m.from ≡ from → has result m.to ≡ true }

@@ -99,7 +99,7 @@ ByWrite r w w' s s' t last_len =
     × LeavesUnflushed w w' start
 
 -- the whole promise: what was answered, of the session, the devices and the transcript. Each answer was flushed before
--- anything else: at all ends but that by a failed write nothing is unflushed
+-- more was read: at all ends but that by a failed write nothing is unflushed
 abbrev pub Ran : InputState → InputState → OutputState → OutputState → SessionSeen → SessionSeen → Transcript → Result End Fault → Type 0
 Ran r r' w w' s s' t (Ok Quit) = FitsDevices r r' w w' t false false × ByQuit s s' t r'.last_len × AnsweredKnown r s s' t true × LeavesUnflushed w w' []
 Ran r r' w w' s s' t (Ok InputEnded) = FitsDevices r r' w w' t false false × ByEnd s s' t r' × AnsweredKnown r s s' t false × LeavesUnflushed w w' []

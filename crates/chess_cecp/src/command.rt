@@ -7,7 +7,8 @@ ghost use Rattle.chess_cecp.specs.Commands.{command_of, named_command, word_of, 
 use crate::trim::is_blank;
 use chess_text::has_move_shape;
 
-/// The kinds of command (CECP, version 2; `claim`, `showfen`, `showmoves`, `showpgn` and `showstate` are this project's own). A command's text stands in its line.
+/// The kinds of command (CECP, version 2; `claim`, `showfen`, `showmoves`, `showpgn` and `showstate` are this project's
+/// own). A command's text stands in its line.
 #[derive(Clone, Copy, Debug, PartialEq, Eq)]
 pub enum Command {
     /// `new`

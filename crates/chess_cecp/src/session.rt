@@ -39,8 +39,8 @@ pub enum Go {
     Quit,
 }
 
-/// A session over one game. In contracts it is the game's start, the moves that stand and what was declared, the number of
-/// half-moves that can stand, and the tags with which games are written.
+/// A session over one game. In contracts it is the game's start, the moves that stand and what was declared, the number
+/// of half-moves that can stand, and the tags with which games are written.
 #[derive(Drop)]
 pub struct Session<B: Board> {
     game: Game<B>,
@@ -57,8 +57,8 @@ impl<B: Board> Model for Session<B> {
 }
 
 impl<B: Board + Drop> Session<B> {
-    /// A session as `new` leaves it: the initial position, no moves, nothing declared, wherever the boards were. Games are
-    /// written with these tags, by way of `scratch`. All memory is taken here, for `limit` half-moves.
+    /// A session as `new` leaves it: the initial position, no moves, nothing declared, wherever the boards were. Games
+    /// are written with these tags, by way of `scratch`. All memory is taken here, for `limit` half-moves.
     ///
     /// # Errors
     /// Where there is no memory; what was taken is given back, and the boards and the tags are dropped.
@@ -312,8 +312,8 @@ impl<B: Board> Session<B> {
         }
     }
 
-    // Does what the row of a line says whose first word names no command, and answers whether the session goes on. The text is
-    // read once, which tells whether it is a move.
+    // Does what the row of a line says whose first word names no command, and answers whether the session goes on. The
+    // text is read once, which tells whether it is a move.
     fn obey_unnamed(&mut self, text: &[u8], answer: &mut Answer) -> Go
         requires short { length text.now ≤ 1024 }
         requires empty { answer.old.items ≡ [] }

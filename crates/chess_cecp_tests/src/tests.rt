@@ -185,7 +185,8 @@ const RUNS: [Run; 33] = [
         answers: b"feature ping=1 setboard=1 playother=0 san=0 usermove=1 time=1 draw=1 sigint=0 sigterm=0 reuse=1 analyze=0 colors=0 debug=1 myname=\"CECP arbiter\" variants=\"normal,fischerandom\" done=1\npong 1\npong 2\n",
         end: End::Quit,
     },
-    // Chess960: its initial position, castling by its rook and by its side, a rook that uncovers the king, names of rights.
+    // Chess960: its initial position, castling by its rook and by its side, a rook that uncovers the
+    // king, names of rights.
     Run {
         input: b"variant fischerandom\nshowfen\nsetboard 4k3/8/8/8/8/8/8/RK5R w KQ - 0 1\nshowmoves\nb1a1\nshowfen\nundo\nO-O\nshowfen\nundo\n0-0-0\nshowfen\n",
         answers: b"# fen rnbqkbnr/pppppppp/8/8/8/8/PPPPPPPP/RNBQKBNR w HAha - 0 1\n# moves 25 a1a2 a1a3 a1a4 a1a5 a1a6 a1a7 a1a8 O-O-O b1c1 O-O b1a2 b1b2 b1c2 h1c1 h1d1 h1e1 h1f1 h1g1 h1h2 h1h3 h1h4 h1h5 h1h6 h1h7 h1h8\n# fen 4k3/8/8/8/8/8/8/2KR3R b - - 1 1\n# fen 4k3/8/8/8/8/8/8/R4RK1 b - - 1 1\n# fen 4k3/8/8/8/8/8/8/2KR3R b - - 1 1\n",

@@ -13,8 +13,8 @@ pub fn written_is_spelled()
     ensures read_back { WrittenIsReadBack }
 {}
 
-/// In Chess960 a right is named by the letter of its rook's file, or by the letter of its side where its rook is the outermost one on
-/// that side; no other letter of the field names a rook there.
+/// In Chess960 a right is named by the letter of its rook's file, or by the letter of its side where its rook is the
+/// outermost one on that side; no other letter of the field names a rook there.
 pub fn rights_are_named()
     ensures { RightsAreNamed }
 {}

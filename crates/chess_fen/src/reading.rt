@@ -132,9 +132,9 @@ fn spelled_position(variant: Variant, text: &[u8]) -> Result<Position, FenFault>
     }
 }
 
-/// The position of that variant that a text spells as FEN (PGN standard of 1994, section 16.1), or the first fault of the
-/// text. Byte 32 alone separates the fields, and may stand at both ends. In Chess960 a right is named by the letter of its
-/// rook's file, or by `K`, `Q`, `k` or `q` as the outermost rook on that side.
+/// The position of that variant that a text spells as FEN (PGN standard of 1994, section 16.1), or the first fault of
+/// the text. Byte 32 alone separates the fields, and may stand at both ends. In Chess960 a right is named by the letter
+/// of its rook's file, or by `K`, `Q`, `k` or `q` as the outermost rook on that side.
 pub fn read_fen_as(variant: Variant, text: &[u8]) -> Result<Position, FenFault>
     ensures value { result ≡ fen_reading_as variant text.now }
     // What is read is spelled so, and sound.
@@ -149,8 +149,8 @@ pub fn read_fen_as(variant: Variant, text: &[u8]) -> Result<Position, FenFault>
     spelled_position(variant, text)
 }
 
-/// The position of normal chess that a text spells as FEN (PGN standard of 1994, section 16.1), or the first fault of the text.
-/// Byte 32 alone separates the fields, and may stand at both ends.
+/// The position of normal chess that a text spells as FEN (PGN standard of 1994, section 16.1), or the first fault of
+/// the text. Byte 32 alone separates the fields, and may stand at both ends.
 pub fn read_fen(text: &[u8]) -> Result<Position, FenFault>
     ensures value { result ≡ fen_reading text.now }
     // What is read is spelled so, and sound.

@@ -158,8 +158,8 @@ fn write_number(out: &mut FenText, number: u32)
 }
 
 /// The one FEN that is written for a position (PGN standard of 1994, section 16.1): six fields with one space between,
-/// the rights in the order `KQkq`, in Chess960 by their rooks' files, the target as the position holds it, whether or not a pawn may take there, and
-/// numbers without leading zeros.
+/// the rights in the order `KQkq`, in Chess960 by their rooks' files, the target as the position holds it, whether or
+/// not a pawn may take there, and numbers without leading zeros.
 pub fn write_fen(position: &Position) -> FenText
     ensures text { result.items ≡ fen position.now }
     ensures len { array_vec_len result ≤ 95 }

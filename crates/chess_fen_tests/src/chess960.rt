@@ -54,8 +54,8 @@ fn rights_are_read_and_written_by_files(rt: HostRuntime) -> Result<(), Fail> {
     Ok(())
 }
 
-// Each field of rights but the last two's names no rook, one right twice, two on one side, or is no such field. The last two have
-// a fault that is told before the squares of the rights, and one that is told after their spelling.
+// Each field of rights but the last two's names no rook, one right twice, two on one side, or is no such field. The
+// last two have a fault that is told before the squares of the rights, and one that is told after their spelling.
 #[test]
 fn bad_rights_are_refused(rt: HostRuntime) -> Result<(), Fail> {
     let rows: [(&[u8], FenFault); 16] = [

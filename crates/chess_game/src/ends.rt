@@ -17,8 +17,8 @@ pub enum Verdict {
     BlackMates,
     /// The side on move has no legal move and is not in check (article 5.2.1).
     Stalemate,
-    /// Neither side has the men to mate with (article 5.2.2): no pawn, rook or queen, and at most one bishop or knight, or
-    /// bishops alone, all on squares of one colour.
+    /// Neither side has the men to mate with (article 5.2.2): no pawn, rook or queen, and at most one bishop or knight,
+    /// or bishops alone, all on squares of one colour.
     InsufficientMaterial,
     /// The position is there for the fifth time (article 9.6.1).
     FivefoldRepetition,

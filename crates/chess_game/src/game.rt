@@ -49,8 +49,8 @@ pub(crate) struct Place {
     pub(crate) reached: Known,
 }
 
-/// A game of at most `limit` half-moves on a board. In contracts it is its limit and its state: the start, the moves that
-/// stand, and what was declared.
+/// A game of at most `limit` half-moves on a board. In contracts it is its limit and its state: the start, the moves
+/// that stand, and what was declared.
 #[derive(Drop)]
 pub struct Game<B: Board> {
     board: B,
@@ -118,8 +118,8 @@ fn repetitions(start: &Known, places: &[Place]) -> usize
     count + start.times_same(now)
 }
 
-// Whether the present position, of that clock, is there for at least the fifth time. Sides take turns, so that needs more than
-// eight positions since the last capture or pawn move.
+// Whether the present position, of that clock, is there for at least the fifth time. Sides take turns, so that needs
+// more than eight positions since the last capture or pawn move.
 fn is_fivefold(start: &Known, places: &[Place], halfmove: u32) -> bool
     requires start { IsKnown start.now }
     requires follows { Follows start.now.position places.now }

@@ -1,4 +1,5 @@
-//! A match between two chess engines by the Chess Engine Communication Protocol, version 2, from the side of its arbiter.
+//! A match between two chess engines by the Chess Engine Communication Protocol, version 2, from the
+//! side of its arbiter.
 //!
 //! The engines are any two inputs and outputs:
 //!

@@ -18,13 +18,13 @@ pub enum MatchFault {
     Write,
     /// Its hello did not end within 1,000 lines.
     NoDone,
-    /// It does not answer pings.
+    /// Its hello doesn't say `ping=1`.
     NoPing,
-    /// It takes no start other than the initial position.
+    /// The start is to be told, and its hello doesn't say `setboard=1`.
     NoSetboard,
-    /// It sent too many lines that say nothing.
+    /// It sent 10,000 lines in its setup or in a turn that count as ignored.
     Flood,
-    /// It does not play the variant.
+    /// The variant is Chess960, and its hello says `variants` without `fischerandom`.
     NoVariant,
 }
 

@@ -57,7 +57,7 @@ pub struct Setup {
 pub struct MatchEnd {
     /// The outcome: `Unfinished` where a fault ended the match, or where no further move has room.
     pub outcome: Outcome,
-    /// What is said of the end, as the engines were told it behind `result`.
+    /// What is said of the end, as it is sent to the engines behind `result`.
     pub comment: Comment,
     /// How it came, as the PGN tag `Termination` tells it.
     pub ended: HowEnded,
@@ -69,13 +69,16 @@ pub struct MatchEnd {
     pub fault: Option<(Colour, MatchFault)>,
 }
 
-/// Plays one game between two engines by the Chess Engine Communication Protocol, version 2, to its end; the game begins
-/// anew from the start, and `scratch` is any board, which holds anything afterwards. Each engine is sent what the protocol
-/// asks for, block by block, before the next line is read; `moments` is asked once after each line, and once at the end of
-/// each turn's opening. No memory is taken. An engine that never answers is waited for.
+/// Plays one game between two engines by the Chess Engine Communication Protocol, version 2, to its end; the game
+/// begins anew from the start, and `scratch` is any board, which holds anything afterwards.
 ///
-/// In the contract there is a transcript of the match: the lines, moments, ends and failures in their order. It agrees with
-/// both engines' devices and with the moments, and it tells all that was sent, the game and the end.
+/// In the contract there is a transcript of the match: the lines, moments, ends and failures in their order. It agrees
+/// with both engines' devices and with the moments, one for each line and one at the end of each turn's opening, and it
+/// tells all that was sent, the game and the end. Where nothing was unflushed before, nothing is at the end, but for
+/// the beginning of a block at which a write or a flush failed.
+///
+/// That a block is flushed before the next line is read, and that a moment is asked for behind its line or opening, is
+/// only tested. By the code no memory is taken, and an engine that doesn't answer is waited for.
 pub fn run_match<R: Input, W: Output, M: Moments, B: Board>(
     white: &mut Ends<R, W>,
     black: &mut Ends<R, W>,
@@ -205,7 +208,8 @@ fn send_both<W: Output, G: Played, S: Board>(
     }
 }
 
-// A write to a side's engine failed, which ends the match: the other is sent its end lines. Whether a write to it fails too.
+// A write to a side's engine failed, which ends the match: the other is sent its end lines. Whether a
+// write to it fails too.
 fn end_for_other<W: Output, G: Played, S: Board>(
     others: &mut W,
     core: &mut Core,
@@ -223,8 +227,8 @@ fn end_for_other<W: Output, G: Played, S: Board>(
     send(others, core, game, scratch, given, b"", side.other()).is_err()
 }
 
-// Sends the blocks of an event in a match that is on, first to the side of which it came. Whether a write to that side failed,
-// and whether one to the other.
+// Sends the blocks of an event in a match that is on, first to the side of which it came. Whether a write to that side
+// failed, and whether one to the other.
 fn send_in_turn<W: Output, G: Played, S: Board>(
     own: &mut W,
     others: &mut W,
@@ -252,8 +256,8 @@ fn send_in_turn<W: Output, G: Played, S: Board>(
     (false, false)
 }
 
-// Sends the blocks of an event: first to the side of which it came, and at the end to White and then to Black. A write that
-// fails ends the match.
+// Sends the blocks of an event: first to the side of which it came, and at the end to White and then to Black. A write
+// that fails ends the match.
 fn deliver<W: Output, G: Played, S: Board>(
     white: &mut W,
     black: &mut W,
@@ -326,7 +330,8 @@ fn said(line: &Line<8192>) -> EngineLine<'_>
     }
 }
 
-// Hears a line of a side's engine, and then asks for the moment. What is to be sent, and the text of the items to be answered.
+// Hears a line of a side's engine, and then asks for the moment. What is to be sent, and the text of the
+// items to be answered.
 fn hear_line<'a, M: Moments, G: Played>(
     core: &mut Core,
     moments: &mut M,
@@ -348,7 +353,8 @@ fn hear_line<'a, M: Moments, G: Played>(
     (given, text)
 }
 
-// Hears what a call for the next line of a side's engine gave. What is to be sent, and the text of the items to be answered.
+// Hears what a call for the next line of a side's engine gave. What is to be sent, and the text of the
+// items to be answered.
 fn note<'a, M: Moments, G: Played>(
     core: &mut Core,
     moments: &mut M,

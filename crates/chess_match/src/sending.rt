@@ -307,8 +307,8 @@ fn has_room(block: &Block, name: &[u8]) -> bool
     name.len() <= 280 && block.len() <= 280 - name.len()
 }
 
-// Answers an item of that name behind what waits; where there is no room for it, what waits is written first, and then the
-// answer.
+// Answers an item of that name behind what waits; where there is no room for it, what waits is written first,
+// and then the answer.
 fn answer<W: Output>(writer: &mut W, block: &mut Block, name: &[u8]) -> Result<(), WriteFault>
     requires { array_vec_len block.old ≤ 290 }
     ensures adds { Adds (W.seen writer.old) (W.seen writer.new) block.old.items block.new.items result (answer_line name.now) }
@@ -432,8 +432,8 @@ fn put_and_flush<W: Output>(writer: &mut W, text: &[u8]) -> Result<(), WriteFaul
     writer.flush()
 }
 
-/// Writes and flushes the block that is given for a side, if it isn't empty: answers to the items of a text, an offer, and
-/// what the phase gives. It is written by one call, unless there are more answers than fit the buffer.
+/// Writes and flushes the block that is given for a side, if it isn't empty: answers to the items of a text, an offer,
+/// and what the phase gives. It is written by one call, unless there are more answers than fit the buffer.
 pub(crate) fn send<W: Output, G: Played, S: Board>(
     writer: &mut W,
     core: &Core,

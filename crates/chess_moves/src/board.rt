@@ -28,8 +28,8 @@ pub trait Board {
     /// The position that the board is at.
     ghost position: { Self → Setup };
 
-    /// What the board's position words are: its own choice, but told by the men, the side on move and the castling rights
-    /// alone. So the same positions (Laws of Chess 2023, article 9.2.3) have equal words; others may have, too.
+    /// What the board's position words are: its own choice, but told by the men, the side on move and the castling
+    /// rights alone. So the same positions (Laws of Chess 2023, article 9.2.3) have equal words; others may have, too.
     ghost word_of: { Men → Colour → Rights → ℕ };
 
     /// Leaves the board at that position.
@@ -47,7 +47,8 @@ pub trait Board {
         ensures value { result.now ≡ position self.now }
         ensures sound { IsSound (position self.now) };
 
-    /// All legal moves, each once, rising by start square, end square and promotion (none, queen, rook, bishop, knight).
+    /// All legal moves, each once, rising by start square, end square and promotion (none, queen,
+    /// rook, bishop, knight).
     fn legal_moves(&self) -> MoveList
         ensures moves { result.items ≡ moves (position self.now) }
         ensures legal { All (λ m. IsTrue (is_legal (position self.now) m)) result.items };
@@ -56,7 +57,8 @@ pub trait Board {
     fn legal_move_count(&self) -> usize
         ensures { result ≡ length (moves (position self.now)) };
 
-    /// Whether there is a legal move. It looks no further than the first man that has one.
+    /// Whether there is a legal move. Both boards look no further than the first man that has one,
+    /// which no clause says.
     fn has_legal_move(&self) -> bool
         ensures { result ≡ nat_lt 0 (length (moves (position self.now))) };
 
@@ -64,8 +66,8 @@ pub trait Board {
     fn is_legal(&self, m: &Move) -> bool
         ensures { result ≡ is_legal (position self.now) m.now };
 
-    /// Squares from which men of a kind, of the side on move, may go to a square: each from which one has a legal move to it
-    /// is among them, others may be.
+    /// Squares from which men of a kind, of the side on move, may go to a square: each from which one has a legal move
+    /// to it is among them, others may be.
     fn origins(&self, kind: Kind, to: Square) -> SquareSet
         ensures { HasOrigins (position self.now) kind to result };
 
@@ -93,7 +95,8 @@ pub trait Board {
         ensures sound { IsSound (position self.new) };
 }
 
-/// The law of every board: a legal move that is made and taken back leaves the very position. It gives the position in between.
+/// The law of every board: a legal move that is made and taken back leaves the very position. It gives the
+/// position in between.
 pub fn make_then_take_back<B: Board>(board: &mut B, m: Move) -> Position
     requires { IsTrue (is_legal (B.position board.old) m) }
     ensures between { result ≡ after (B.position board.old) m }

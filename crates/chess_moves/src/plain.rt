@@ -16,7 +16,8 @@ use chess_base::rules::is_legal;
 use chess_base::{Colour, Kind, Man, Move, Position, Saved, Setup, Square};
 use std::marker::Model;
 
-/// A board that keeps the man of each of the 64 squares and changes them in place. In contracts it is the `Setup` of its position.
+/// A board that keeps the man of each of the 64 squares and changes them in place. In contracts it is the
+/// `Setup` of its position.
 #[derive(Clone, Copy, PartialEq, Eq)]
 pub struct Plain {
     setup: Setup,

@@ -201,7 +201,7 @@ token_left begins c rest e =
     pick (LeavesOf (c ∷ rest)) (eqb c 42) _ _ (λ _. inr (cut_here c rest e)) (λ _.
     pick (LeavesOf (c ∷ rest)) (is_word_byte c) _ _ (λ k. word_left c rest e k) (λ _. inl refl)))))))))
 
--- one that does is a blank
+-- one that does is white space
 pub token_ten : (begins : Bool) (rest : List ℕ) → (token_at begins 10 rest).1 ≡ rest
 unfolding token_at
 token_ten true rest = refl

@@ -170,7 +170,7 @@ more limit text from game new p q here behind t r is later h same step_is = reco
   whole = stepped limit text from game p here t (tokens_from text behind) (On (so_far new.state q)) r is step_is;
 }
 
--- ---- blanks and dots, at which nothing counts
+-- ---- white space and dots, at which nothing counts
 
 passed_token : (begins : Bool) (c : ℕ) (rest : List ℕ) → (is_white_space c || (c == 46)) ≡ true
     → token_at begins c rest ≡ (Skip, rest)

@@ -35,7 +35,7 @@ gap_line_more (c ∷ rest) next h e is =
     rw (line, more, is) (ap (λ t. behind_gap false false (line_end t)) (take_rest (c ∷ rest) 1)
     ∙ sym (gap_line false rest))
 
--- a blank
+-- white space
 pub gap_blank_more : (begins : Bool) (xs next : List ℕ) → 1 ≤ length xs → is_white_space (get_or xs 0 0) ≡ true
     → next ≡ take (length xs - 1) (drop 1 xs) → behind_gap false (eqb (get_or xs 0 0) 10) next ≡ behind_gap false begins
     xs

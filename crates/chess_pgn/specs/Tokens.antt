@@ -1,5 +1,5 @@
--- The tokens of a game's text as it is read (PGN standard of 1994, sections 5 to 7 and 8.2): blanks, dots, comments,
--- `%` lines, `$` glyphs and variations are skipped; tags and words are told; the first token that can't be read is the last.
+-- The tokens of a game's text as it is read (PGN standard of 1994, sections 5 to 7 and 8.2): white space, dots,
+-- comments, `%` lines, `$` glyphs and variations are skipped; tags and words are told; the first token that can't be read is the last.
 -- This project's own: the bytes of a word, and that a `%` line is skipped also in a tag and in a variation.
 use Rattle.std.specs.Prelude.{ℕ, zero, suc, ◌-◌, Bool, true, false, not, ◌&&◌, ◌||◌, List, [], ◌∷◌, ◌++◌, length, take, drop, slice_index, Option, Some, None, ◌==◌, nat_le, if◌then◌else◌}
 use Rattle.chess_base.specs.Letters.{is_digit, is_letter, byte, carriage_return, new_line, space, tab}
@@ -42,7 +42,7 @@ abbrev pub behind_brace : List ℕ → Option (List ℕ)
 behind_brace [] = None
 behind_brace (c ∷ rest) = if c == byte "}" then Some rest else behind_brace rest
 
--- behind blanks and `%` lines: in such a line or not, where a line begins or not
+-- behind white space and `%` lines: in such a line or not, where a line begins or not
 abbrev pub behind_gap : Bool → Bool → List ℕ → List ℕ
 behind_gap skips begins [] = []
 behind_gap true begins (c ∷ rest) = behind_gap (not (c == new_line)) true rest

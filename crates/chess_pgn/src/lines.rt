@@ -12,7 +12,8 @@ use byte_devices::{Output, WriteFault};
 // The most bytes of a line of moves, its prefix and its end not counted (PGN standard of 1994, section 4.3).
 const LINE_LEN: usize = 79;
 
-/// Writes lines, each behind a prefix. Tokens go into the line that is begun, which has `column` bytes so far; 0 is no line.
+/// Writes lines, each behind a prefix. Tokens go into the line that is begun, which has `column` bytes
+/// so far; 0 is no line.
 #[derive(Drop)]
 pub(crate) struct LineWriter<'a> {
     prefix: &'a [u8],

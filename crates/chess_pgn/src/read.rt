@@ -27,8 +27,8 @@ use chess_text::{Reading, read_move};
 pub struct PgnEnd {
     /// The outcome that the termination tells; where there is a verdict, the game has the verdict's.
     pub outcome: Outcome,
-    /// How the game ended, as its last tag `Termination` tells; `None` where it has none, or one with another text. It is
-    /// not compared with the outcome.
+    /// How the game ended, as its last tag `Termination` tells; `None` where it has none, or one with another text. It
+    /// is not compared with the outcome.
     pub termination: Option<Termination>,
     /// The byte behind the termination, from the text's first byte on.
     pub place: usize,
@@ -337,14 +337,14 @@ fn told_variant(text: &[u8], at: usize) -> Variant
     }
 }
 
-// Whether the byte counts nothing where a token begins: a blank or a dot.
+// Whether the byte counts nothing where a token begins: white space or a dot.
 fn is_passed(byte: u8) -> bool
     ensures { result ≡ (is_white_space byte || byte == 46) }
 {
     is_white_space(byte) || byte == b'.'
 }
 
-// Behind the blanks and dots from a place on. They are tokens too, but a game is read alike without them.
+// Behind the white space and dots from a place on. They are tokens too, but a game is read alike without them.
 fn behind_blanks(text: &[u8], at: usize) -> usize
     requires { at ≤ length text.now }
     ensures alike { ReadsAlike text.now at result }
@@ -358,10 +358,11 @@ fn behind_blanks(text: &[u8], at: usize) -> usize
     place
 }
 
-/// Reads the first game of a text from a place on (PGN standard of 1994; which words are taken is this project's own). The
-/// game begins anew from the initial position or from the last FEN tag's, of the variant that the last tag `Variant` names;
-/// its moves are played as they are met, and the termination's outcome is declared unless there is a verdict or it is `*`. `None` where no tag, number, move or
-/// termination stands up to the text's end. The next game begins at the place that is answered.
+/// Reads the first game of a text from a place on (PGN standard of 1994; which words are taken is this project's own).
+/// The game begins anew from the initial position or from the last FEN tag's, of the variant that the last tag
+/// `Variant` names; its moves are played as they are met, and the termination's outcome is declared unless there is a
+/// verdict or it is `*`. `None` where no tag, number, move or termination stands up to the text's end. The next game
+/// begins at the place that is answered.
 ///
 /// # Errors
 /// The first place that can't be read or played. The game holds the moves before it, and nothing is declared.

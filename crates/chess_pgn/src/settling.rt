@@ -154,9 +154,9 @@ fn settles_fault(text: &[u8], at: usize, fault: &PgnFault) -> bool
     }
 }
 
-/// Whether a text settles what reading a game at a place of it answered: whatever followed the text, the answer would be the
-/// same. A game that ended needs a byte behind its end, and a text of fewer than three bytes settles nothing at place 0,
-/// where a byte order mark could stand.
+/// Whether a text settles what reading a game at a place of it answered: whatever followed the text, the answer would
+/// be the same. A game that ended needs a byte behind its end, and a text of fewer than three bytes settles nothing at
+/// place 0, where a byte order mark could stand.
 pub fn settles(text: &[u8], at: usize, answer: &Result<Option<PgnEnd>, PgnFault>) -> bool
     requires { at ≤ length text.now }
     ensures { result ≡ (nat_lt 0 at || nat_le 3 (length text.now)) && settles_answer text.now at answer.now }

@@ -1,4 +1,4 @@
-//! What is skipped between tokens: blanks, `%` lines and comments. Each function cuts the front of a text off.
+//! What is skipped between tokens: white space, `%` lines and comments. Each function cuts the front of a text off.
 
 ghost use Rattle.std.specs.Prelude.{◌≡◌, ◌≤◌, ◌<◌, length, false, Option, IfSome};
 ghost use Rattle.std.specs.Option.{option_map};
@@ -36,7 +36,7 @@ pub(crate) fn behind_brace(text: &[u8]) -> Option<&[u8]>
     None
 }
 
-// Behind blanks and `%` lines, where no line begins at the text's first byte.
+// Behind white space and `%` lines, where no line begins at the text's first byte.
 pub(crate) fn behind_gap(text: &[u8]) -> &[u8]
     ensures { result.now ≡ behind_gap false false text.now }
 {

@@ -40,7 +40,8 @@ pub(crate) fn behind_next(byte: u8, text: &[u8]) -> Option<&[u8]>
     }
 }
 
-// A string's bytes up to its closing quote, and what stands behind that. A backslash keeps the next byte from being one.
+// A string's bytes up to its closing quote, and what stands behind that. A backslash keeps the next
+// byte from being one.
 pub(crate) fn split_string(text: &[u8]) -> Option<(&[u8], &[u8])>
     ensures { option_map (λ r. (r.0.now, r.1.now)) result ≡ string_at text.now }
 {

@@ -14,7 +14,7 @@ use crate::variation::behind_variation;
 /// What was read.
 #[derive(Clone, Copy)]
 pub(crate) enum Token<'a> {
-    /// Nothing that counts: a blank, a dot, a comment, a `%` line, a `$` glyph or a variation.
+    /// Nothing that counts: white space, a dot, a comment, a `%` line, a `$` glyph or a variation.
     Skip,
     /// A tag.
     Tag(Tag<'a>),

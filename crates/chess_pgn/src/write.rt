@@ -24,9 +24,9 @@ use itoa::Buffer;
 // The token of a number: at most ten digits, and three dots.
 type NumberText = ArrayVec<u8, 13>;
 
-/// Writes a game's text (PGN standard of 1994, section 3.2, the form for exchange): its tags, an empty line, its moves in
-/// SAN with the outcome last, and an empty line. Each line stands behind the prefix and is ended by byte 10. The writer is
-/// not flushed; the scratch board is left at some position.
+/// Writes a game's text (PGN standard of 1994, section 3.2, the form for exchange): its tags, an empty line, its moves
+/// in SAN with the outcome last, and an empty line. Each line stands behind the prefix and is ended by byte 10. The
+/// writer is not flushed; the scratch board is left at some position.
 ///
 /// # Errors
 /// Where the writer failed; a beginning was taken.

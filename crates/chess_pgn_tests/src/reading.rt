@@ -534,8 +534,8 @@ const ROWS: [Row; 77] = [
     },
 ];
 
-// Reads a game, without clauses: what its contract says stays in here, and tests compare values. So does what a loop below
-// does in each round: a loop in a long body is dear to prove.
+// Reads a game, without clauses: what its contract says stays in here, and tests compare values. So does what a loop
+// below does in each round: a loop in a long body is dear to prove.
 fn read(
     rt: &impl Abort,
     text: &[u8],

@@ -39,7 +39,8 @@ fn castling_name(castling_side: CastlingSide) -> CoordinateText
     text
 }
 
-/// The text of a move as lists and lines of moves show it: its coordinate text, but `O-O` or `O-O-O` for castling in Chess960.
+/// The text of a move as lists and lines of moves show it: its coordinate text, but `O-O` or `O-O-O` for
+/// castling in Chess960.
 #[tactic(auto, unfolding(crate::specs::San::shown_move))]
 pub fn move_text(position: &Position, m: Move) -> CoordinateText
     ensures text { result.items ≡ shown_move position.now m }

@@ -8,8 +8,8 @@ use chess_base::attack::is_of;
 use chess_base::rules::{castling, is_en_passant};
 use chess_base::{CastlingSide, Kind, Move, Setup, Square};
 
-/// A move of a position, as far as a text can tell it: its man, squares and promotion, whether it captures, and to which
-/// side it castles.
+/// A move of a position, as far as a text can tell it: its man, squares and promotion, whether it captures, and to
+/// which side it castles.
 #[derive(Clone, Copy, Debug, PartialEq, Eq)]
 pub struct Described {
     pub man: Kind,

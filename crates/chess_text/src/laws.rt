@@ -13,8 +13,9 @@ pub fn san_spells_its_move()
     ensures read_back { SanIsReadBack }
 {}
 
-/// The SAN of a legal move of a sound position has two to seven bytes, all of them letters, digits, `+`, `#`, `=` and `-`,
-/// and begins with a letter: so it is one word, and no number or outcome of a game (PGN standard of 1994, section 8.2).
+/// The SAN of a legal move of a sound position has two to seven bytes, all of them letters, digits, `+`, `#`,
+/// `=` and `-`, and begins with a letter: so it is one word, and no number or outcome of a game (PGN standard
+/// of 1994, section 8.2).
 pub fn san_is_a_word()
     ensures short { SanIsShort }
     ensures bytes { SanHasBytes }
@@ -33,16 +34,16 @@ pub fn coordinate_spells_its_move()
     ensures read_back { CoordinateIsReadBack }
 {}
 
-/// The text of a legal move of a sound position as lists and lines of moves show it, castling in Chess960 among them, spells
-/// it and no other legal move, and is read as it.
+/// The text of a legal move of a sound position as lists and lines of moves show it, castling in Chess960 among them,
+/// spells it and no other legal move, and is read as it.
 pub fn move_text_spells_its_move()
     ensures spells { ShownMoveSpellsItsMove }
     ensures shape { ShownMoveHasShape }
     ensures read_back { ShownMoveIsReadBack }
 {}
 
-/// The parts of a text are those that it is written from; so a text spells the castling that it names, or what the parts fit
-/// whose text it is, and has a move's shape if it names castling, or is the text of parts that have a form.
+/// The parts of a text are those that it is written from; so a text spells the castling that it names, or what the
+/// parts fit whose text it is, and has a move's shape if it names castling, or is the text of parts that have a form.
 pub fn texts_have_parts()
     ensures read { PartsAreTheTexts }
     ensures written { PartsAreRead }
@@ -50,8 +51,8 @@ pub fn texts_have_parts()
     ensures shaped { ShapedByText }
 {}
 
-/// On positions of normal chess the texts of both variants are those said for normal chess alone: where a spelled castling
-/// ends, and how a move is shown.
+/// On positions of normal chess the texts of both variants are those said for normal chess alone: where a spelled
+/// castling ends, and how a move is shown.
 pub fn normal_is_kept()
     ensures { (p : Setup) → p.variant ≡ Normal → NormalIsKept p }
 {}

@@ -26,8 +26,9 @@ pub enum Reading {
     NotAMove,
 }
 
-/// Whether a text has the shape of a move, in any position: a move by coordinates, castling, or a man's move, as SAN (PGN
-/// standard of 1994, section 8.2.3) or without what SAN asks for; a run of `+`, `#`, `!` and `?` at its end is passed over.
+/// Whether a text has the shape of a move, in any position: a move by coordinates, castling, or a man's move,
+/// as SAN (PGN standard of 1994, section 8.2.3) or without what SAN asks for; a run of `+`, `#`, `!` and `?` at
+/// its end is passed over.
 pub fn has_move_shape(text: &[u8]) -> bool
     ensures { result ≡ shape text.now }
 {
@@ -114,7 +115,8 @@ fn with_move(found: Reading, m: Move) -> Reading
     }
 }
 
-// What a text is that spells the legal moves too from there to there, with one of those promotions, that the form spells.
+// What a text is that spells the legal moves too from there to there, with one of those promotions,
+// that the form spells.
 fn with_spelled<B: Board>(
     board: &B,
     form: &Form,
@@ -176,8 +178,8 @@ fn spelled<B: Board>(board: &B, form: &Form) -> Reading
     found
 }
 
-/// What a text is in the board's position: of the legal moves it may spell one, several or none. Whether a mark `+` or `#` is
-/// true isn't asked; en passant is a capture.
+/// What a text is in the board's position: of the legal moves it may spell one, several or none. Whether a mark `+` or
+/// `#` is true isn't asked; en passant is a capture.
 pub fn read_move<B: Board>(board: &B, text: &[u8]) -> Reading
     ensures value { result ≡ reading (B.position board.now) text.now }
     ensures legal { IsLegalReading (B.position board.now) result }

@@ -15,7 +15,8 @@ struct SideClock {
     used: u64,
 }
 
-/// The clocks of a game at a level: of each side the number of its moves, and the sum of the milliseconds that they used.
+/// The clocks of a game at a level: of each side the number of its moves, and the sum of the
+/// milliseconds that they used.
 #[derive(Clone, Copy)]
 pub struct Clocks {
     level: Level,

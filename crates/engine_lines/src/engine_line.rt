@@ -15,17 +15,17 @@ pub enum EngineLine<'a> {
     Features(&'a [u8]),
     /// `move M`: the move's text, which may be empty.
     Move(&'a [u8]),
-    /// `resign`
+    /// `resign`, whatever follows.
     Resign,
-    /// `offer draw`
+    /// `offer draw`, whatever follows.
     Offer,
     /// `1/2-1/2`, whatever follows.
     Draw,
     /// `1-0` or `0-1`, whatever follows: who wins.
     Win(Colour),
-    /// `Illegal move ..`
+    /// `Illegal move`, whatever follows.
     Rejection,
-    /// `pong N`, with a number of one to nine digits.
+    /// `pong N`, with a number of one to nine digits and nothing else.
     Pong(u32),
     /// Anything else.
     Other,
@@ -40,7 +40,8 @@ fn pong(text: &[u8]) -> EngineLine<'_>
     }
 }
 
-/// What a line with this text says. The text is that of a line: blanks at both ends are cut.
+/// What a line with this text says, told by its first words. Blanks at the text's ends are not cut here: a
+/// line's text has none.
 #[tactic(auto, unfolding(crate::specs::EngineLines::kind_of))]
 pub fn read_engine_line(text: &[u8]) -> EngineLine<'_>
     ensures { seen result ≡ kind_of text.now }

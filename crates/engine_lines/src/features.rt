@@ -6,7 +6,7 @@ ghost use Rattle.engine_lines.specs.Seen.{features_of, item_seen};
 
 use crate::item::Item;
 
-/// What an engine takes, as it said in its hello.
+/// What an engine takes, by the items that it said.
 #[derive(Clone, Copy, Debug, PartialEq, Eq)]
 pub struct Features {
     pub ping: bool,

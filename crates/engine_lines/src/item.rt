@@ -211,7 +211,7 @@ fn has_word(text: &[u8], word: &[u8]) -> bool
     &text[from..] == word
 }
 
-/// Whether an item of that name is accepted.
+/// Whether a feature of that name is known.
 #[tactic(auto, unfolding(crate::specs::Items::is_known))]
 pub fn is_known(name: &[u8]) -> bool
     ensures { result ≡ is_known name.now }

@@ -6,8 +6,8 @@ ghost use Rattle.engine_lines.specs.Levels.{level_of, level_in, level_behind, ba
 use chess_cecp::{argument, first_word, trim_start};
 use std::marker::Model;
 
-/// A level of time (CECP, version 2, command `level`): so many moves a session, 0 for one session without end, and a base
-/// and an increment in seconds.
+/// A level of time (CECP, version 2, command `level`): so many moves a session, 0 for one session without end, and a
+/// base and an increment in seconds.
 #[derive(Clone, Copy, PartialEq, Eq)]
 pub struct Level {
     moves: u32,
@@ -125,8 +125,9 @@ fn level_in(moves: &[u8], base_text: &[u8], increment: &[u8], rest: &[u8]) -> Op
 }
 
 impl Level {
-    /// The level that a text spells: `MOVES BASE INCREMENT`, each a number of one to three digits, the base in minutes or as
-    /// `minutes:seconds`, with blanks between.
+    /// The level that a text spells: `MOVES BASE INCREMENT`, each a number of one to three digits, with blanks
+    /// between and perhaps around. The base is in minutes, or `minutes:seconds` with one or two digits for
+    /// fewer than 60 seconds.
     #[tactic(auto, unfolding(crate::specs::Levels::level_of))]
     pub fn read(text: &[u8]) -> Option<Self>
         ensures { result ≡ level_of text.now }

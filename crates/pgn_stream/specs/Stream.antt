@@ -24,7 +24,7 @@ first_bytes text at = take (at + 16777217) text
 unfoldable pub is_in_reach : ℕ → List ℕ → ℕ → Bool
 is_in_reach limit text at = nat_le (length text) (at + 16777216) || is_settled limit (first_bytes text at) at
 
--- where the game begins: at the first byte that is no blank
+-- where the game begins: at the first of these bytes that is no white space, or behind them where there is none
 unfoldable pub game_begin : List ℕ → ℕ → ℕ
 game_begin text at = at + prefix_len is_white_space (drop at (first_bytes text at))
 

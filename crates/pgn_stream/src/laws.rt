@@ -14,13 +14,14 @@ pub(crate) fn windows_tell()
     settled_is_moved();
 }
 
-/// In a text of at most 16,777,216 bytes the game at each place is told as `read_pgn` reads it: none is too long.
+/// In a text of at most 16,777,216 bytes the game at each place is told as `read_pgn` reads it:
+/// none has too many bytes.
 pub fn short_texts_are_read()
     ensures { ShortTextsAreRead }
 {}
 
-/// In a text of any length a game that ends at most 16,777,216 bytes behind the place where it is read is told as `read_pgn`
-/// reads it, whatever follows: it is never too long.
+/// In a text of any length a game that ends at most 16,777,216 bytes behind the place where it is read is told as
+/// `read_pgn` reads it, whatever follows: it is never too long.
 pub fn ended_games_are_told()
     ensures { EndedGamesAreTold }
 {

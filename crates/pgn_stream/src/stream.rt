@@ -42,8 +42,8 @@ pub enum StreamFault {
     InputTooLong,
 }
 
-/// The games of an input, read one after another through a window of 16 MiB. A game, with what stands before it, may have
-/// 16,777,216 bytes.
+/// The games of an input, read one after another through a window of 16 MiB. A game, with what stands before it, may
+/// have 16,777,216 bytes.
 #[derive(Drop)]
 pub struct PgnStream {
     // The window is its front. It never grows.
@@ -74,21 +74,21 @@ impl Model for PgnStream {
     ghost invariant = { λ s. (vec_len s.bytes ≡ 16777218) × (length s.bytes.items ≡ 16777218) × (s.len ≤ 16777218) × (s.at ≤ s.len) × (s.len ≤ s.at + 16777217) × (0 < s.before → 0 < s.at) × (s.before + 2 ^ 25 ≤ 2 ^ 64) };
 }
 
-// Whether a byte is a blank.
+// Whether a byte is white space.
 fn is_white_space(byte: u8) -> bool
     ensures { result ≡ is_white_space byte }
 {
     matches!(byte, b' ' | b'\t' | b'\n' | b'\r')
 }
 
-// The place of the first byte that is no blank.
+// The place of the first byte that is no white space.
 fn first_other(text: &[u8]) -> Option<usize>
     ensures { result ≡ position (λ b. not (is_white_space b)) text.now }
 {
     text.iter().position(|byte| !is_white_space(*byte))
 }
 
-// How many blanks a text begins with.
+// With how many bytes of white space a text begins.
 #[tactic(auto, using(crate::proofs::Blanks::blanks_are, crate::proofs::Blanks::few_blanks))]
 fn blanks(text: &[u8]) -> usize
     ensures value { result ≡ prefix_len is_white_space text.now }
@@ -99,6 +99,9 @@ fn blanks(text: &[u8]) -> usize
 
 impl PgnStream {
     /// A stream that read nothing yet.
+    ///
+    /// # Errors
+    /// Where there is no memory for the window.
     pub fn open(alloc: Global) -> Result<Self, AllocError>
         ensures { IfOk result (λ s. s ≡ unread) }
     {
@@ -266,14 +269,16 @@ impl PgnStream {
         }
     }
 
-    /// Reads the game at the place, and goes on behind it, or to its fault. What is told holds of the whole input, however
-    /// it goes on: it is what `read_pgn` answers there, or the fault `TooLong`, at the game's first byte, where the 16,777,216
-    /// bytes from the place on, with the one behind them, don't settle how the game is read and more are left. `None` where
-    /// no game is left. Nothing is read where the bytes that are held tell how the game is read.
+    /// Reads the game at the place, and goes on behind it, or to its fault. What is told holds of the whole input,
+    /// however it goes on: it is what `read_pgn` answers there, or the fault `TooLong` where more than 16,777,216
+    /// bytes are left, and so many with the one behind them don't settle how the game is read. Its place is the
+    /// first of these bytes that is no white space, or behind them where there is none. `None` where no game is
+    /// left. Nothing is read where the bytes that are held tell how the game is read; how many are read where they
+    /// don't, no clause says.
     ///
     /// # Errors
-    /// Where a read failed, or places in the input could pass 64 bits. The stream then stands where it stood, and holds the end
-    /// of what was read.
+    /// Where a read failed, or places in the input could pass 64 bits. The stream then stands where it stood, and holds
+    /// the end of what was read.
     pub fn read_game<R: Input, B: Board>(
         &mut self,
         input: &mut R,
@@ -294,8 +299,8 @@ impl PgnStream {
         Ok(self.go_on(answer))
     }
 
-    // Looks in the window for the next line of a tag Event, and goes to it. Where there is none it goes to the last place
-    // behind which one may yet come.
+    // Looks in the window for the next line of a tag Event, and goes to it. Where there is none it goes to the last
+    // place behind which one may yet come.
     fn find_held(&mut self) -> bool
         ensures { FindsHeld self.old self.new result }
     {
@@ -311,12 +316,13 @@ impl PgnStream {
         }
     }
 
-    /// Goes to the next line behind the place that begins as that of a tag Event, `[Event `, and answers whether there is
-    /// one. Where there is none the input has ended. It never goes back, and reads nothing where such a line is held.
+    /// Goes to the next line behind the place that begins as that of a tag Event, `[Event `, and answers
+    /// whether there is one. Where there is none the input has ended. It never goes back, and reads nothing
+    /// where such a line is held.
     ///
     /// # Errors
-    /// Where a read failed, or places in the input could pass 64 bits. The stream then holds the end of what was read, and stands
-    /// where it stood or further on; no such line was passed, however the input goes on.
+    /// Where a read failed, or places in the input could pass 64 bits. The stream then holds the end of what was read,
+    /// and stands where it stood or further on; no such line was passed, however the input goes on.
     pub fn next_event<R: Input>(&mut self, input: &mut R) -> Result<bool, StreamFault>
         ensures event { (r : InputState) (text : List ℕ) → StandsAt self.old r (R.seen input.old) text → FindsEvent self.old self.new r (R.seen input.new) text result }
         ensures further { IfOk result (λ found. StandsFurther self.old self.new found) }

@@ -1,4 +1,4 @@
-//! Verifying a text of any size: each game is told once it is read, and the text is kept nowhere as a whole.
+//! Verifying a text of any size: what is told of each game holds of the whole text, which is read through a stream.
 
 ghost use Rattle.std.specs.Prelude.{◌≡◌};
 ghost use Rattle.pgn_stream.specs.Stream.{unread};
@@ -104,14 +104,20 @@ fn tell_any<R: Input, W: Output>(
     }
 }
 
-/// Reads the games of an input of any length and writes a line for each once it is read, by the options as `verify_by` does. A game,
-/// with what stands before it, may have 16,777,216 bytes; a longer one has the fault `too long`, told at its first byte that
-/// is no blank. Places count from the input's first byte. Where faults are not gone on behind, the input is read no further
-/// than the first one asks for.
+/// Reads the games of an input of any length and writes a line for each, by the options as `verify_by` does. A game,
+/// with what stands before it, may have 16,777,216 bytes: where more are left, and these with the one behind them don't
+/// settle how it is read, the fault is `too long`, at the first of them that is no white space, or behind them where
+/// there is none. Places count from the input's first byte. The lines are those of each text that begins with what was
+/// read, or of that alone where the input has ended, and all were flushed.
+///
+/// No clause says when a line is written, how far the input is read behind the last fault that is told, nor how much
+/// memory is used. By the code the input is read a window of 16 MiB at a time, which is all that is kept of it, and a
+/// game's line is written before the next game is read.
 ///
 /// # Errors
-/// Where memory fails, before anything is read; where a device fails, behind the lines of the first games; and where a text
-/// has nearly 2^64 bytes.
+/// Where there is no memory: nothing was read or written. Where a read failed, or 2^64 - 2^25 bytes or more were read:
+/// the lines of the first games were written, perhaps not of all games before that. Where a write or the flush failed:
+/// a beginning of the lines was written.
 pub fn verify_any_size<R: Input, W: Output>(
     alloc: Global,
     options: VerifyOptions,

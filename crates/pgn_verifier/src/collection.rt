@@ -200,13 +200,13 @@ fn tell_collection<W: Output>(
     Ok(verified_by(tally))
 }
 
-/// Reads the games of the input and writes a line for each, as `verify` does. With `keep_going` the next game begins behind
-/// a fault at the next line that begins with `[Event `, and last comes the line `games G half-moves H faults F`: how many
-/// games have no fault, how many half-moves these have, and how many games have a fault. With `quiet` the lines of games
-/// without a fault are left out.
+/// Reads the games of the input and writes a line for each, as `verify` does. With `keep_going` the next game begins at
+/// the next line behind the fault's place that begins with `[Event `, and last comes the line
+/// `games G half-moves H faults F`: how many games have no fault, how many half-moves these have, and how many games
+/// have a fault. With `quiet` the lines of games without a fault are left out.
 ///
 /// # Errors
-/// As of `verify`.
+/// As of `verify`; what a failed writer leaves behind is a beginning of what is told.
 pub fn verify_by<R: Input, W: Output>(
     alloc: Global,
     options: VerifyOptions,

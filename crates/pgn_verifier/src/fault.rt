@@ -14,7 +14,8 @@ pub enum VerifyFault {
     /// There was no memory.
     #[error("no memory")]
     NoMemory,
-    /// The text of games is longer than 16,777,216 bytes, or where any size is taken, than places with 64 bits can tell.
+    /// The text of games is longer than 16,777,216 bytes, or where any size is taken, so long that places in it could
+    /// pass 64 bits.
     #[error("input too long")]
     InputTooLong,
 }

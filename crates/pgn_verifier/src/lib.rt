@@ -9,8 +9,8 @@
 //! }
 //! ```
 //!
-//! The output then has the line `game 1: 1 half-moves, *`. `verify_by` goes on behind a fault or tells faults alone, and
-//! `verify_any_size` keeps no more of the text than one window.
+//! The output then has the line `game 1: 1 half-moves, *`. `verify_by` goes on behind a fault or tells faults alone,
+//! and `verify_any_size` takes a text of any length.
 #![tactic(auto)]
 
 mod any_size;

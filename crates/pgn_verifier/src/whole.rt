@@ -33,7 +33,7 @@ pub(crate) type ReportLine = ArrayVec<u8, LINE_LEN>;
 /// How verifying ended.
 #[derive(Clone, Copy, Debug, PartialEq, Eq)]
 pub enum Verified {
-    /// Each game of the text was read.
+    /// No game that was read has a fault.
     EachGame,
     /// A game has a fault, which was told.
     FaultTold,
@@ -220,11 +220,12 @@ fn tell_games<W: Output>(
 }
 
 /// Reads all games of the input and writes a line for each, `game K: N half-moves, OUTCOME`, with the outcome that the
-/// text tells, and behind it `, TERMINATION` where the text tells that too. A game with a fault has the line `game K: FAULT at byte B` and is the last.
+/// text tells, and behind it `, TERMINATION` where the text tells that too. A game with a fault has the line
+/// `game K: FAULT at byte B` and is the last. All lines were flushed.
 ///
 /// # Errors
-/// Where a device or memory failed, or the input has more than 16,777,216 bytes. Only a failed writer leaves lines
-/// behind, of the first games.
+/// Where a device or memory failed, or the input has more than 16,777,216 bytes. Only a failed writer leaves anything
+/// behind: a beginning of the lines of the first games.
 pub fn verify<R: Input, W: Output>(
     alloc: Global,
     input: &mut R,

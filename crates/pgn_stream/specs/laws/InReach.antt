@@ -1,4 +1,4 @@
--- Of which games it is never told that they are too long.
+-- Of which games it is never told that they have too many bytes.
 use Rattle.std.specs.Prelude.{◌≡◌, ◌≤◌, ℕ, ◌+◌, List, length, Some, Ok}
 use Rattle.chess_pgn.specs.declared.read.PgnEnd.{PgnEnd}
 use Rattle.chess_pgn.specs.GameRead.{pgn_read}

@@ -1,5 +1,5 @@
 -- What stands behind the gap of the rest stands behind the gap of the text, since the definition too skips a `%` line
--- and a blank (Skipped.gap_line_more, gap_blank_more).
+-- and white space (Skipped.gap_line_more, gap_blank_more).
 use Rattle.std.proofs.Common.{sym, ap, ◌∙◌, false}
 use Rattle.chess_pgn.specs.Tokens.{behind_gap}
 use Rattle.chess_pgn.proofs.Skipped.{gap_line_more, gap_blank_more}
