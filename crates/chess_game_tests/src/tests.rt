@@ -6,6 +6,7 @@ use chess_game::{
     BoardSaysOtherwise, Claims, Comment, Game, NoMove, Outcome, PlayRefusal, Verdict,
 };
 use chess_moves::{Board, MoveList, Plain, SquareSet};
+use std::alloc::Global;
 use std::cell::Cell;
 use std::process::Abort;
 use std::test::Fail;
@@ -187,8 +188,25 @@ fn by_squares(squares: &[u8; 4]) -> Move {
     }
 }
 
-// The calls of a game whose contracts are big, without clauses: the facts stay in here, and tests compare values. So do
-// the loops below, each in a function of its own: a loop in a long body is dear to prove.
+// The calls of a game whose contracts are big, without clauses: the facts stay in here, and tests compare values. So do the
+// loops and the comparisons below, each in a function of its own: a long body is dear to prove.
+
+fn opened<B: Board + Drop>(alloc: Global, board: B) -> Result<Game<B>, Fail> {
+    Ok(Game::open(alloc, board, 100)?)
+}
+
+fn restart<B: Board>(game: &mut Game<B>, fen: &[u8]) -> Result<(), Fail> {
+    game.restart(&read_fen(fen)?);
+    Ok(())
+}
+
+fn restart_initial<B: Board>(game: &mut Game<B>) {
+    game.restart(&Position::initial());
+}
+
+fn clear_declared<B: Board>(game: &mut Game<B>) {
+    game.clear_declared();
+}
 
 fn play<B: Board>(game: &mut Game<B>, squares: &[u8; 4]) -> Result<(), PlayRefusal> {
     game.play(by_squares(squares))
@@ -227,6 +245,93 @@ fn play_all<B: Board>(game: &mut Game<B>, moves: &[u8]) -> Result<(), Fail> {
 fn said<B: Board>(game: &Game<B>) -> Option<(Outcome, &[u8])> {
     let declared = game.declared()?;
     Some((declared.outcome, declared.comment.as_bytes()))
+}
+
+// What a call of a game answers, and what is told of the game: one comparison each.
+
+fn is_played<B: Board>(rt: &impl Abort, game: &mut Game<B>, squares: &[u8; 4]) {
+    assert_eq!(rt; play(game, squares), Ok(()), "at {squares:?}");
+}
+
+fn is_refused<B: Board>(
+    rt: &impl Abort,
+    game: &mut Game<B>,
+    squares: &[u8; 4],
+    refusal: PlayRefusal,
+) {
+    assert_eq!(rt; play(game, squares), Err(refusal), "at {squares:?}");
+}
+
+fn is_taken_back<B: Board>(rt: &impl Abort, game: &mut Game<B>, squares: &[u8; 4]) {
+    assert_eq!(rt; take_back(game), Ok(by_squares(squares)));
+}
+
+fn has_no_move<B: Board>(rt: &impl Abort, game: &mut Game<B>) {
+    assert_eq!(rt; take_back(game), Err(NoMove));
+}
+
+fn is_declared<B: Board>(rt: &impl Abort, game: &mut Game<B>, outcome: Outcome, comment: &[u8]) {
+    assert_eq!(rt; declare(game, outcome, comment), Ok(()), "as {comment:?}");
+}
+
+fn says<B: Board>(rt: &impl Abort, game: &Game<B>, outcome: Outcome, comment: &[u8]) {
+    assert_eq!(rt; said(game), Some((outcome, comment)));
+}
+
+fn says_nothing<B: Board>(rt: &impl Abort, game: &Game<B>) {
+    assert!(rt; game.declared().is_none());
+}
+
+fn has_verdict<B: Board>(rt: &impl Abort, game: &Game<B>, verdict: Option<Verdict>) {
+    assert_eq!(rt; game.verdict(), verdict);
+}
+
+fn has_outcome<B: Board>(rt: &impl Abort, game: &Game<B>, outcome: Outcome) {
+    assert_eq!(rt; game.outcome(), outcome);
+}
+
+fn has_ply<B: Board>(rt: &impl Abort, game: &Game<B>, ply: usize) {
+    assert_eq!(rt; game.ply(), ply);
+}
+
+fn has_repetitions<B: Board>(rt: &impl Abort, game: &Game<B>, repetitions: u32) {
+    assert_eq!(rt; game.repetitions(), repetitions);
+}
+
+fn has_clock<B: Board>(rt: &impl Abort, game: &Game<B>, halfmove: u32) {
+    assert_eq!(rt; game.position().setup().halfmove, halfmove);
+}
+
+fn has_claims<B: Board>(rt: &impl Abort, game: &Game<B>, claims: Claims) {
+    assert_eq!(rt; game.claims(), claims);
+}
+
+fn is_over<B: Board>(rt: &impl Abort, game: &Game<B>) {
+    assert!(rt; game.is_over());
+}
+
+fn goes_on<B: Board>(rt: &impl Abort, game: &Game<B>) {
+    assert!(rt; !game.is_over());
+}
+
+fn is_full<B: Board>(rt: &impl Abort, game: &Game<B>) {
+    assert!(rt; game.is_full());
+}
+
+fn has_room<B: Board>(rt: &impl Abort, game: &Game<B>) {
+    assert!(rt; !game.is_full());
+}
+
+fn starts_at<B: Board>(rt: &impl Abort, game: &Game<B>, fen: &[u8]) {
+    assert_eq!(rt; write_fen(&game.start()).as_slice(), fen);
+}
+
+fn is_at<B: Board>(rt: &impl Abort, game: &Game<B>, fen: &[u8]) {
+    assert_eq!(rt; write_fen(&game.position()).as_slice(), fen);
+}
+
+fn board_is_at<B: Board>(rt: &impl Abort, game: &Game<B>, fen: &[u8]) {
+    assert_eq!(rt; write_fen(&game.board().position()).as_slice(), fen);
 }
 
 const INITIAL: &[u8] = b"rnbqkbnr/pppppppp/8/8/8/8/PPPPPPPP/RNBQKBNR w KQkq - 0 1";
@@ -384,8 +489,7 @@ const LINES: [Told; 27] = [
         halfmove: 150,
         claims: BOTH,
     },
-    // A target on which nobody may capture tells nothing: no pawn stands beside it, also after a
-    // move that set it; a pin.
+    // A target on which nobody may capture tells nothing: no pawn stands beside it, also after a move that set it; a pin.
     Told {
         start: b"rnbqkbnr/pppppppp/8/8/4P3/8/PPPP1PPP/RNBQKBNR b KQkq e3 0 1",
         moves: b"g8f6 g1f3 f6g8 f3g1",
@@ -410,8 +514,8 @@ const LINES: [Told; 27] = [
         halfmove: 4,
         claims: NONE,
     },
-    // Games on which programs differ: the third time counts the position behind a double advance that nobody could
-    // answer en passant; the capturing pawn would uncover its king along the rank.
+    // Games on which programs differ: the third time counts the position behind a double advance that nobody could answer en
+    // passant; the capturing pawn would uncover its king along the rank.
     Told {
         start: b"rnbqkbnr/pppppppp/8/8/8/8/PPPPPPPP/RNBQKBNR w KQkq - 0 1",
         moves: b"a2a4 b7b5 h2h3 g8h6 b1c3 h6g8 e2e3 g8h6 d2d4 g7g6 a4a5 e7e5 d1f3 b8a6 f3d1 a6b8 d1f3 h6f5 f3d1 f5h6",
@@ -606,145 +710,201 @@ fn goes_as_told<B: Board>(rt: &impl Abort, game: &mut Game<B>, told: &Told) -> R
     Ok(())
 }
 
-fn ends_as_told<B: Board>(rt: &impl Abort, game: &mut Game<B>) -> Result<(), Fail> {
-    for start in &STARTS {
+fn all_start_as_told<B: Board>(
+    rt: &impl Abort,
+    game: &mut Game<B>,
+    starts: &[(&[u8], Option<Verdict>)],
+) -> Result<(), Fail> {
+    for start in starts {
         starts_as_told(rt, game, start.0, start.1)?;
     }
-    for told in &LINES {
+    Ok(())
+}
+
+fn all_go_as_told<B: Board>(
+    rt: &impl Abort,
+    game: &mut Game<B>,
+    lines: &[Told],
+) -> Result<(), Fail> {
+    for told in lines {
         goes_as_told(rt, game, told)?;
     }
     Ok(())
 }
 
+fn ends_as_told<B: Board + Drop>(rt: &impl Abort, alloc: Global, board: B) -> Result<(), Fail> {
+    let mut game = opened(alloc, board)?;
+    all_start_as_told(rt, &mut game, &STARTS)?;
+    all_go_as_told(rt, &mut game, &LINES)?;
+    Ok(())
+}
+
 #[test]
 fn ends_and_claims(rt: HostRuntime) -> Result<(), Fail> {
-    let mut game = Game::open(rt.alloc(), Plain::new(), 100)?;
-    ends_as_told(&rt, &mut game)?;
+    ends_as_told(&rt, rt.alloc(), Plain::new())?;
     let calls = Calls::none();
     let board = Counting {
         plain: Plain::new(),
         calls: &calls,
     };
-    let mut game = Game::open(rt.alloc(), board, 100)?;
-    ends_as_told(&rt, &mut game)?;
+    ends_as_told(&rt, rt.alloc(), board)?;
     let board = Wordless {
         plain: Plain::new(),
     };
-    let mut game = Game::open(rt.alloc(), board, 100)?;
-    ends_as_told(&rt, &mut game)?;
+    ends_as_told(&rt, rt.alloc(), board)?;
     Ok(())
 }
 
 // The board says otherwise, and nothing is declared.
 fn is_not_declared<B: Board>(rt: &impl Abort, game: &mut Game<B>, outcome: Outcome) {
     assert_eq!(rt; declare(game, outcome, b"x"), Err(BoardSaysOtherwise));
-    assert!(rt; game.declared().is_none());
+    says_nothing(rt, game);
+}
+
+fn are_not_declared<B: Board>(rt: &impl Abort, game: &mut Game<B>, outcomes: &[Outcome]) {
+    for outcome in outcomes {
+        is_not_declared(rt, game, *outcome);
+    }
+}
+
+const AGAINST_BLACK: [Outcome; 3] = [Outcome::WhiteWins, Outcome::Draw, Outcome::Unfinished];
+
+fn only_the_mate_is_declared<B: Board>(rt: &impl Abort, game: &mut Game<B>) {
+    are_not_declared(rt, game, &AGAINST_BLACK);
+    is_declared(rt, game, Outcome::BlackWins, b"mate");
+    says(rt, game, Outcome::BlackWins, b"mate");
+    clear_declared(game);
+    says_nothing(rt, game);
+}
+
+fn mate_is_taken_back<B: Board>(rt: &impl Abort, game: &mut Game<B>) {
+    is_over(rt, game);
+    has_outcome(rt, game, Outcome::BlackWins);
+    has_ply(rt, game, 4);
+    is_taken_back(rt, game, b"d8h4");
+    has_verdict(rt, game, None);
+    has_outcome(rt, game, Outcome::Unfinished);
+    is_played(rt, game, b"d8e7");
 }
 
 // 1. f3 e5 2. g4 Qh4#. The game is over until its last move is taken back, whatever is declared.
 #[test]
 fn mate_stands_against_declared_results(rt: HostRuntime) -> Result<(), Fail> {
-    let mut game = Game::open(rt.alloc(), Plain::new(), 100)?;
+    let mut game = opened(rt.alloc(), Plain::new())?;
     play_all(&mut game, b"f2f3 e7e5 g2g4 d8h4")?;
-    assert_eq!(rt; play(&mut game, b"a2a3"), Err(PlayRefusal::Over));
-    for outcome in [Outcome::WhiteWins, Outcome::Draw, Outcome::Unfinished] {
-        is_not_declared(&rt, &mut game, outcome);
-    }
-    assert_eq!(rt; declare(&mut game, Outcome::BlackWins, b"mate"), Ok(()));
-    assert_eq!(rt; said(&game), Some((Outcome::BlackWins, b"mate".as_slice())));
-    game.clear_declared();
-    assert!(rt; game.declared().is_none());
-    assert!(rt; game.is_over());
-    assert_eq!(rt; game.outcome(), Outcome::BlackWins);
-    assert_eq!(rt; game.ply(), 4);
-    assert_eq!(rt; take_back(&mut game), Ok(by_squares(b"d8h4")));
-    assert_eq!(rt; game.verdict(), None);
-    assert_eq!(rt; game.outcome(), Outcome::Unfinished);
-    assert_eq!(rt; play(&mut game, b"d8e7"), Ok(()));
+    is_refused(&rt, &mut game, b"a2a3", PlayRefusal::Over);
+    only_the_mate_is_declared(&rt, &mut game);
+    mate_is_taken_back(&rt, &mut game);
     Ok(())
+}
+
+fn draw_ends_the_game<B: Board>(rt: &impl Abort, game: &mut Game<B>) {
+    is_declared(rt, game, Outcome::Draw, b"a{b}c");
+    says(rt, game, Outcome::Draw, b"a?b?c");
+    has_verdict(rt, game, None);
+    has_outcome(rt, game, Outcome::Draw);
+    is_refused(rt, game, b"e2e4", PlayRefusal::Over);
+}
+
+// What is declared anew takes its place. A game that was given up is over too.
+fn given_up_ends_the_game<B: Board>(rt: &impl Abort, game: &mut Game<B>) {
+    is_declared(rt, game, Outcome::Unfinished, b"");
+    says(rt, game, Outcome::Unfinished, b"");
+    has_outcome(rt, game, Outcome::Unfinished);
+    is_over(rt, game);
+    is_refused(rt, game, b"e2e4", PlayRefusal::Over);
+}
+
+// No move stands that could be taken back, so the result stays.
+fn result_stays<B: Board>(rt: &impl Abort, game: &mut Game<B>) {
+    has_no_move(rt, game);
+    assert!(rt; game.declared().is_some());
+    clear_declared(game);
+    goes_on(rt, game);
+    is_played(rt, game, b"e2e4");
+}
+
+// A move that is taken back, and a new start, clear the result.
+fn result_is_cleared<B: Board>(rt: &impl Abort, game: &mut Game<B>) {
+    is_declared(rt, game, Outcome::WhiteWins, b"Black resigns");
+    is_taken_back(rt, game, b"e2e4");
+    says_nothing(rt, game);
+    is_declared(rt, game, Outcome::BlackWins, b"White resigns");
+    restart_initial(game);
+    says_nothing(rt, game);
+    has_outcome(rt, game, Outcome::Unfinished);
 }
 
 #[test]
 fn declared_results_end_the_game(rt: HostRuntime) -> Result<(), Fail> {
-    let mut game = Game::open(rt.alloc(), Plain::new(), 100)?;
-    assert_eq!(rt; declare(&mut game, Outcome::Draw, b"a{b}c"), Ok(()));
-    assert_eq!(rt; said(&game), Some((Outcome::Draw, b"a?b?c".as_slice())));
-    assert_eq!(rt; game.verdict(), None);
-    assert_eq!(rt; game.outcome(), Outcome::Draw);
-    assert_eq!(rt; play(&mut game, b"e2e4"), Err(PlayRefusal::Over));
-    // What is declared anew takes its place. A game that was given up is over too.
-    assert_eq!(rt; declare(&mut game, Outcome::Unfinished, b""), Ok(()));
-    assert_eq!(rt; said(&game), Some((Outcome::Unfinished, b"".as_slice())));
-    assert_eq!(rt; game.outcome(), Outcome::Unfinished);
-    assert!(rt; game.is_over());
-    assert_eq!(rt; play(&mut game, b"e2e4"), Err(PlayRefusal::Over));
-    // No move stands that could be taken back, so the result stays.
-    assert_eq!(rt; take_back(&mut game), Err(NoMove));
-    assert!(rt; game.declared().is_some());
-    game.clear_declared();
-    assert!(rt; !game.is_over());
-    assert_eq!(rt; play(&mut game, b"e2e4"), Ok(()));
-    // A move that is taken back, and a new start, clear the result.
-    assert_eq!(rt;
-        declare(&mut game, Outcome::WhiteWins, b"Black resigns"),
-        Ok(())
-    );
-    assert_eq!(rt; take_back(&mut game), Ok(by_squares(b"e2e4")));
-    assert!(rt; game.declared().is_none());
-    assert_eq!(rt;
-        declare(&mut game, Outcome::BlackWins, b"White resigns"),
-        Ok(())
-    );
-    game.restart(&Position::initial());
-    assert!(rt; game.declared().is_none());
-    assert_eq!(rt; game.outcome(), Outcome::Unfinished);
+    let mut game = opened(rt.alloc(), Plain::new())?;
+    draw_ends_the_game(&rt, &mut game);
+    given_up_ends_the_game(&rt, &mut game);
+    result_stays(&rt, &mut game);
+    result_is_cleared(&rt, &mut game);
     Ok(())
+}
+
+fn third_time_is_claimed<B: Board>(rt: &impl Abort, game: &mut Game<B>) {
+    has_claims(rt, game, THREEFOLD);
+    is_declared(rt, game, Outcome::Draw, b"Threefold repetition");
+    is_refused(rt, game, b"g1f3", PlayRefusal::Over);
+    clear_declared(game);
+}
+
+fn fifth_time_stands<B: Board>(rt: &impl Abort, game: &mut Game<B>) {
+    has_verdict(rt, game, Some(Verdict::FivefoldRepetition));
+    is_refused(rt, game, b"e2e4", PlayRefusal::Over);
+    is_taken_back(rt, game, b"f6g8");
+    has_ply(rt, game, 15);
+}
+
+fn fourth_time_stands<B: Board>(rt: &impl Abort, game: &Game<B>) {
+    has_verdict(rt, game, None);
+    has_repetitions(rt, game, 4);
+    has_clock(rt, game, 15);
+    has_claims(rt, game, THREEFOLD);
 }
 
 // A claim at the third time ends the game; without it, the fifth time does.
 #[test]
 fn fifth_time_is_taken_back(rt: HostRuntime) -> Result<(), Fail> {
-    let mut game = Game::open(rt.alloc(), Plain::new(), 100)?;
+    let mut game = opened(rt.alloc(), Plain::new())?;
     play_all(&mut game, b"g1f3 g8f6 f3g1 f6g8 g1f3 g8f6 f3g1 f6g8")?;
-    assert_eq!(rt; game.claims(), THREEFOLD);
-    let claimed = declare(&mut game, Outcome::Draw, b"Threefold repetition");
-    assert_eq!(rt; claimed, Ok(()));
-    assert_eq!(rt; play(&mut game, b"g1f3"), Err(PlayRefusal::Over));
-    game.clear_declared();
+    third_time_is_claimed(&rt, &mut game);
     play_all(&mut game, b"g1f3 g8f6 f3g1 f6g8 g1f3 g8f6 f3g1 f6g8")?;
-    assert_eq!(rt; game.verdict(), Some(Verdict::FivefoldRepetition));
-    assert_eq!(rt; play(&mut game, b"e2e4"), Err(PlayRefusal::Over));
-    assert_eq!(rt; take_back(&mut game), Ok(by_squares(b"f6g8")));
-    assert_eq!(rt; game.ply(), 15);
-    assert_eq!(rt; game.verdict(), None);
-    assert_eq!(rt; game.repetitions(), 4);
-    assert_eq!(rt; game.position().setup().halfmove, 15);
-    assert_eq!(rt; game.claims(), THREEFOLD);
+    fifth_time_stands(&rt, &mut game);
+    fourth_time_stands(&rt, &game);
     Ok(())
+}
+
+fn third_move_is_the_last<B: Board>(rt: &impl Abort, game: &mut Game<B>) {
+    has_room(rt, game);
+    is_played(rt, game, b"g1f3");
+    is_full(rt, game);
+    goes_on(rt, game);
+    is_refused(rt, game, b"b8c6", PlayRefusal::TooLong);
+    is_refused(rt, game, b"a1a1", PlayRefusal::TooLong);
+}
+
+fn full_game_is_declared<B: Board>(rt: &impl Abort, game: &mut Game<B>) {
+    is_declared(rt, game, Outcome::Unfinished, b"Game too long");
+    is_refused(rt, game, b"b8c6", PlayRefusal::Over);
+    is_taken_back(rt, game, b"g1f3");
+    is_played(rt, game, b"g1e2");
+    is_refused(rt, game, b"b8c6", PlayRefusal::TooLong);
+    restart_initial(game);
+    has_room(rt, game);
 }
 
 // A game over comes before the limit, and the limit before an illegal move.
 #[test]
 fn no_more_moves_than_the_limit(rt: HostRuntime) -> Result<(), Fail> {
     let mut game = Game::open(rt.alloc(), Plain::new(), 3)?;
-    assert_eq!(rt; play(&mut game, b"e2e5"), Err(PlayRefusal::Illegal));
+    is_refused(&rt, &mut game, b"e2e5", PlayRefusal::Illegal);
     play_all(&mut game, b"e2e4 e7e5")?;
-    assert!(rt; !game.is_full());
-    assert_eq!(rt; play(&mut game, b"g1f3"), Ok(()));
-    assert!(rt; game.is_full());
-    assert!(rt; !game.is_over());
-    assert_eq!(rt; play(&mut game, b"b8c6"), Err(PlayRefusal::TooLong));
-    assert_eq!(rt; play(&mut game, b"a1a1"), Err(PlayRefusal::TooLong));
-    assert_eq!(rt;
-        declare(&mut game, Outcome::Unfinished, b"Game too long"),
-        Ok(())
-    );
-    assert_eq!(rt; play(&mut game, b"b8c6"), Err(PlayRefusal::Over));
-    assert_eq!(rt; take_back(&mut game), Ok(by_squares(b"g1f3")));
-    assert_eq!(rt; play(&mut game, b"g1e2"), Ok(()));
-    assert_eq!(rt; play(&mut game, b"b8c6"), Err(PlayRefusal::TooLong));
-    game.restart(&Position::initial());
-    assert!(rt; !game.is_full());
+    third_move_is_the_last(&rt, &mut game);
+    full_game_is_declared(&rt, &mut game);
     Ok(())
 }
 
@@ -764,33 +924,49 @@ fn is_move_at<B: Board>(rt: &impl Abort, game: &Game<B>, ply: usize, squares: &[
     assert_eq!(rt; game.move_at(ply), by_squares(squares));
 }
 
+// A position, and the positions after each of four half-moves from there.
+const POSITIONS: [&[u8]; 5] = [
+    b"rnbqkbnr/pppppppp/8/8/4P3/8/PPPP1PPP/RNBQKBNR b KQkq e3 0 1",
+    b"rnbqkb1r/pppppppp/5n2/8/4P3/8/PPPP1PPP/RNBQKBNR w KQkq - 1 2",
+    b"rnbqkb1r/pppppppp/5n2/8/4P3/5N2/PPPP1PPP/RNBQKB1R b KQkq - 2 2",
+    b"rnbqkbnr/pppppppp/8/8/4P3/5N2/PPPP1PPP/RNBQKB1R w KQkq - 3 3",
+    b"rnbqkbnr/pppppppp/8/8/4P3/8/PPPP1PPP/RNBQKBNR b KQkq - 4 3",
+];
+
+fn line_stands<B: Board>(rt: &impl Abort, game: &Game<B>) {
+    has_ply(rt, game, 4);
+    are_positions(rt, game, &POSITIONS);
+    is_move_at(rt, game, 0, b"g8f6");
+    is_move_at(rt, game, 3, b"f3g1");
+}
+
+fn present_position_is_told<B: Board>(rt: &impl Abort, game: &mut Game<B>) {
+    starts_at(rt, game, POSITIONS[0]);
+    is_at(rt, game, POSITIONS[4]);
+    board_is_at(rt, game, POSITIONS[4]);
+    is_taken_back(rt, game, b"f3g1");
+    is_at(rt, game, POSITIONS[3]);
+}
+
 // The FEN after each half-move.
 #[test]
 fn positions_of_a_line(rt: HostRuntime) -> Result<(), Fail> {
-    let positions: [&[u8]; 5] = [
-        b"rnbqkbnr/pppppppp/8/8/4P3/8/PPPP1PPP/RNBQKBNR b KQkq e3 0 1",
-        b"rnbqkb1r/pppppppp/5n2/8/4P3/8/PPPP1PPP/RNBQKBNR w KQkq - 1 2",
-        b"rnbqkb1r/pppppppp/5n2/8/4P3/5N2/PPPP1PPP/RNBQKB1R b KQkq - 2 2",
-        b"rnbqkbnr/pppppppp/8/8/4P3/5N2/PPPP1PPP/RNBQKB1R w KQkq - 3 3",
-        b"rnbqkbnr/pppppppp/8/8/4P3/8/PPPP1PPP/RNBQKBNR b KQkq - 4 3",
-    ];
-    let mut game = Game::open(rt.alloc(), Plain::new(), 100)?;
-    assert_eq!(rt; take_back(&mut game), Err(NoMove));
-    game.restart(&read_fen(positions[0])?);
+    let mut game = opened(rt.alloc(), Plain::new())?;
+    has_no_move(&rt, &mut game);
+    restart(&mut game, POSITIONS[0])?;
     play_all(&mut game, b"g8f6 g1f3 f6g8 f3g1")?;
-    assert_eq!(rt; game.ply(), 4);
-    are_positions(&rt, &game, &positions);
-    is_move_at(&rt, &game, 0, b"g8f6");
-    is_move_at(&rt, &game, 3, b"f3g1");
-    assert_eq!(rt; write_fen(&game.start()).as_slice(), positions[0]);
-    assert_eq!(rt; write_fen(&game.position()).as_slice(), positions[4]);
-    assert_eq!(rt;
-        write_fen(&game.board().position()).as_slice(),
-        positions[4]
-    );
-    assert_eq!(rt; take_back(&mut game), Ok(by_squares(b"f3g1")));
-    assert_eq!(rt; write_fen(&game.position()).as_slice(), positions[3]);
+    line_stands(&rt, &game);
+    present_position_is_told(&rt, &mut game);
     Ok(())
+}
+
+fn is_initial<B: Board>(rt: &impl Abort, game: &Game<B>) {
+    is_at(rt, game, INITIAL);
+    starts_at(rt, game, INITIAL);
+    has_ply(rt, game, 0);
+    has_verdict(rt, game, None);
+    says_nothing(rt, game);
+    has_room(rt, game);
 }
 
 // A board that was elsewhere is at the initial position once a game has it.
@@ -799,39 +975,42 @@ fn game_opens_at_the_initial_position(rt: HostRuntime) -> Result<(), Fail> {
     let mut board = Plain::new();
     board.set(&read_fen(b"4k3/8/8/8/8/8/8/R3K3 w - - 99 80")?);
     let game = Game::open(rt.alloc(), board, 20_000)?;
-    assert_eq!(rt; write_fen(&game.position()).as_slice(), INITIAL);
-    assert_eq!(rt; write_fen(&game.start()).as_slice(), INITIAL);
-    assert_eq!(rt; game.ply(), 0);
-    assert_eq!(rt; game.verdict(), None);
-    assert!(rt; game.declared().is_none());
-    assert!(rt; !game.is_full());
+    is_initial(&rt, &game);
     Ok(())
 }
 
-#[test]
-fn promotion_to_a_knight_leaves_too_few_men(rt: HostRuntime) -> Result<(), Fail> {
-    let mut game = Game::open(rt.alloc(), Plain::new(), 100)?;
-    game.restart(&read_fen(b"8/4P3/8/8/8/2k5/8/4K3 w - - 0 1")?);
-    assert_eq!(rt; play(&mut game, b"e7e8"), Err(PlayRefusal::Illegal));
+fn promotion_to_a_knight_is_played<B: Board>(rt: &impl Abort, game: &mut Game<B>) {
     let promotion = Move {
         promotion: Some(Kind::Knight),
         ..by_squares(b"e7e8")
     };
     assert_eq!(rt; game.play(promotion), Ok(()));
-    assert_eq!(rt; game.verdict(), Some(Verdict::InsufficientMaterial));
+}
+
+#[test]
+fn promotion_to_a_knight_leaves_too_few_men(rt: HostRuntime) -> Result<(), Fail> {
+    let mut game = opened(rt.alloc(), Plain::new())?;
+    restart(&mut game, b"8/4P3/8/8/8/2k5/8/4K3 w - - 0 1")?;
+    is_refused(&rt, &mut game, b"e7e8", PlayRefusal::Illegal);
+    promotion_to_a_knight_is_played(&rt, &mut game);
+    has_verdict(&rt, &game, Some(Verdict::InsufficientMaterial));
     Ok(())
+}
+
+fn were_called(rt: &impl Abort, calls: &Calls, times: (u32, u32, u32)) {
+    assert_eq!(rt; calls.since(), times);
+}
+
+fn is_refused_again<B: Board>(rt: &impl Abort, game: &mut Game<B>, squares: &[u8; 4]) {
+    assert!(rt; play(game, squares).is_err());
 }
 
 // A move is made by one call; where it is refused, as it is at once again, nothing is called.
 fn is_made_once(rt: &impl Abort, game: &mut Game<Counting<'_>>, calls: &Calls, squares: &[u8; 4]) {
-    assert_eq!(rt; play(game, squares), Ok(()));
-    assert_eq!(rt; calls.since(), (0, 1, 0));
-    assert!(rt; play(game, squares).is_err());
-    assert_eq!(rt; calls.since(), (0, 0, 0));
-}
-
-fn is_taken_back<B: Board>(rt: &impl Abort, game: &mut Game<B>, squares: &[u8; 4]) {
-    assert_eq!(rt; take_back(game), Ok(by_squares(squares)));
+    is_played(rt, game, squares);
+    were_called(rt, calls, (0, 1, 0));
+    is_refused_again(rt, game, squares);
+    were_called(rt, calls, (0, 0, 0));
 }
 
 fn is_taken_back_once(
@@ -841,7 +1020,7 @@ fn is_taken_back_once(
     squares: &[u8; 4],
 ) {
     is_taken_back(rt, game, squares);
-    assert_eq!(rt; calls.since(), (0, 0, 1));
+    were_called(rt, calls, (0, 0, 1));
 }
 
 fn are_made_once(
@@ -868,18 +1047,22 @@ fn are_taken_back_once(
 
 // What is asked of the game asks for none of the three.
 fn asked_calls_nothing(rt: &impl Abort, game: &mut Game<Counting<'_>>, calls: &Calls) {
-    assert_eq!(rt; game.repetitions(), 1);
-    assert_eq!(rt; game.ply(), 9);
+    has_repetitions(rt, game, 1);
+    has_ply(rt, game, 9);
     is_position_at(
         rt,
         game,
         8,
         b"rnbqkbnr/pppppppp/8/8/8/8/PPPPPPPP/RNBQKBNR w KQkq - 8 5",
     );
-    assert_eq!(rt; declare(game, Outcome::Draw, b"x"), Ok(()));
-    assert_eq!(rt; play(game, b"e7e5"), Err(PlayRefusal::Over));
-    assert_eq!(rt; calls.since(), (0, 0, 0));
+    is_declared(rt, game, Outcome::Draw, b"x");
+    is_refused(rt, game, b"e7e5", PlayRefusal::Over);
+    were_called(rt, calls, (0, 0, 0));
 }
+
+const MOVES: [&[u8; 4]; 9] = [
+    b"g1f3", b"g8f6", b"f3g1", b"f6g8", b"g1f3", b"g8f6", b"f3g1", b"f6g8", b"e2e4",
+];
 
 // Nothing is replayed: how often `set`, `make` and `take_back` of the board are called.
 #[test]
@@ -890,18 +1073,19 @@ fn each_move_is_made_once(rt: HostRuntime) -> Result<(), Fail> {
         calls: &calls,
     };
     let mut game = Game::open(rt.alloc(), board, 9)?;
-    assert_eq!(rt; calls.since(), (1, 0, 0));
-    game.restart(&read_fen(INITIAL)?);
-    assert_eq!(rt; calls.since(), (1, 0, 0));
-    let moves = [
-        b"g1f3", b"g8f6", b"f3g1", b"f6g8", b"g1f3", b"g8f6", b"f3g1", b"f6g8", b"e2e4",
-    ];
-    are_made_once(&rt, &mut game, &calls, &moves);
+    were_called(&rt, &calls, (1, 0, 0));
+    restart(&mut game, INITIAL)?;
+    were_called(&rt, &calls, (1, 0, 0));
+    are_made_once(&rt, &mut game, &calls, &MOVES);
     asked_calls_nothing(&rt, &mut game, &calls);
-    are_taken_back_once(&rt, &mut game, &calls, &moves);
-    assert_eq!(rt; take_back(&mut game), Err(NoMove));
-    assert_eq!(rt; calls.since(), (0, 0, 0));
+    are_taken_back_once(&rt, &mut game, &calls, &MOVES);
+    has_no_move(&rt, &mut game);
+    were_called(&rt, &calls, (0, 0, 0));
     Ok(())
+}
+
+fn was_asked(rt: &impl Abort, calls: &Calls, times: u32) {
+    assert_eq!(rt; calls.words_since(), times);
 }
 
 // The word is asked for where a move is played, and not where it is refused.
@@ -911,10 +1095,10 @@ fn is_asked_for_its_word_once(
     calls: &Calls,
     squares: &[u8; 4],
 ) {
-    assert_eq!(rt; play(game, squares), Ok(()));
-    assert_eq!(rt; calls.words_since(), 1);
-    assert!(rt; play(game, squares).is_err());
-    assert_eq!(rt; calls.words_since(), 0);
+    is_played(rt, game, squares);
+    was_asked(rt, calls, 1);
+    is_refused_again(rt, game, squares);
+    was_asked(rt, calls, 0);
 }
 
 fn are_asked_for_their_words_once(
@@ -943,52 +1127,67 @@ fn each_position_is_asked_for_its_word_once(rt: HostRuntime) -> Result<(), Fail>
         calls: &calls,
     };
     let mut game = Game::open(rt.alloc(), board, 9)?;
-    assert_eq!(rt; calls.words_since(), 1);
-    game.restart(&read_fen(INITIAL)?);
-    assert_eq!(rt; calls.words_since(), 1);
-    let moves = [
-        b"g1f3", b"g8f6", b"f3g1", b"f6g8", b"g1f3", b"g8f6", b"f3g1", b"f6g8",
-    ];
-    are_asked_for_their_words_once(&rt, &mut game, &calls, &moves);
-    assert_eq!(rt; game.repetitions(), 3);
-    assert_eq!(rt; game.claims(), THREEFOLD);
-    are_taken_back(&rt, &mut game, &moves);
-    assert_eq!(rt; game.repetitions(), 1);
-    assert_eq!(rt; calls.words_since(), 0);
+    was_asked(&rt, &calls, 1);
+    restart(&mut game, INITIAL)?;
+    was_asked(&rt, &calls, 1);
+    are_asked_for_their_words_once(&rt, &mut game, &calls, &MOVES[..8]);
+    has_repetitions(&rt, &game, 3);
+    has_claims(&rt, &game, THREEFOLD);
+    are_taken_back(&rt, &mut game, &MOVES[..8]);
+    has_repetitions(&rt, &game, 1);
+    was_asked(&rt, &calls, 0);
     Ok(())
+}
+
+const OUTCOMES: [(Outcome, &[u8]); 4] = [
+    (Outcome::WhiteWins, b"1-0"),
+    (Outcome::BlackWins, b"0-1"),
+    (Outcome::Draw, b"1/2-1/2"),
+    (Outcome::Unfinished, b"*"),
+];
+
+const VERDICTS: [(Verdict, &[u8], &[u8]); 6] = [
+    (Verdict::WhiteMates, b"1-0", b"White mates"),
+    (Verdict::BlackMates, b"0-1", b"Black mates"),
+    (Verdict::Stalemate, b"1/2-1/2", b"Stalemate"),
+    (
+        Verdict::InsufficientMaterial,
+        b"1/2-1/2",
+        b"Insufficient material",
+    ),
+    (
+        Verdict::FivefoldRepetition,
+        b"1/2-1/2",
+        b"Fivefold repetition",
+    ),
+    (Verdict::SeventyFiveMoves, b"1/2-1/2", b"75-move rule"),
+];
+
+fn outcome_is_written(rt: &impl Abort, outcome: Outcome, text: &[u8]) {
+    assert_eq!(rt; outcome.text(), text);
+}
+
+fn outcomes_are_written(rt: &impl Abort, outcomes: &[(Outcome, &[u8])]) {
+    for row in outcomes {
+        outcome_is_written(rt, row.0, row.1);
+    }
+}
+
+fn verdict_is_written(rt: &impl Abort, verdict: Verdict, comment: &[u8]) {
+    assert_eq!(rt; verdict.comment(), comment);
+}
+
+fn verdicts_are_written(rt: &impl Abort, verdicts: &[(Verdict, &[u8], &[u8])]) {
+    for row in verdicts {
+        outcome_is_written(rt, row.0.outcome(), row.1);
+        verdict_is_written(rt, row.0, row.2);
+    }
 }
 
 #[test]
 fn results_are_written(rt: HostRuntime) {
-    let outcomes: [(Outcome, &[u8]); 4] = [
-        (Outcome::WhiteWins, b"1-0"),
-        (Outcome::BlackWins, b"0-1"),
-        (Outcome::Draw, b"1/2-1/2"),
-        (Outcome::Unfinished, b"*"),
-    ];
-    for (outcome, text) in outcomes {
-        assert_eq!(rt; outcome.text(), text);
-    }
-    let verdicts: [(Verdict, &[u8], &[u8]); 6] = [
-        (Verdict::WhiteMates, b"1-0", b"White mates"),
-        (Verdict::BlackMates, b"0-1", b"Black mates"),
-        (Verdict::Stalemate, b"1/2-1/2", b"Stalemate"),
-        (
-            Verdict::InsufficientMaterial,
-            b"1/2-1/2",
-            b"Insufficient material",
-        ),
-        (
-            Verdict::FivefoldRepetition,
-            b"1/2-1/2",
-            b"Fivefold repetition",
-        ),
-        (Verdict::SeventyFiveMoves, b"1/2-1/2", b"75-move rule"),
-    ];
-    for (verdict, outcome, comment) in verdicts {
-        assert_eq!(rt; verdict.outcome().text(), outcome);
-        assert_eq!(rt; verdict.comment(), comment);
-    }
+    outcomes_are_written(&rt, &OUTCOMES);
+    verdicts_are_written(&rt, &VERDICTS);
 }
 
 #[test]
