@@ -642,13 +642,7 @@ fn lines_of_1024_bytes_and_more(rt: HostRuntime) -> Result<(), Fail> {
     let input = long_lines(rt.alloc())?;
     let answers = long_answers(rt.alloc())?;
     for cut in [1, 1000, 1024, 5000] {
-        check_long(
-            &rt,
-            rt.alloc(),
-            input.as_slice(),
-            answers.as_slice(),
-            cut,
-        )?;
+        check_long(&rt, rt.alloc(), input.as_slice(), answers.as_slice(), cut)?;
     }
     Ok(())
 }
