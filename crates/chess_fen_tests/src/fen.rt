@@ -1,7 +1,6 @@
 use chess_base::{FenFault, Position};
-use chess_fen::{read_fen, write_fen};
+use chess_fen::{FenText, read_fen, write_fen};
 use std::process::Abort;
-use std::test::Fail;
 
 // What is to come of a text: it is what is written of its position, another text is, or it is refused.
 #[derive(Clone, Copy)]
@@ -11,21 +10,42 @@ enum Wanted {
     Refused(FenFault),
 }
 
-fn check(rt: &impl Abort, text: &[u8], wanted: Wanted) {
-    match (read_fen(text), wanted) {
-        (Ok(position), Wanted::Same) => assert_eq!(rt; write_fen(&position).as_slice(), text),
-        (Ok(position), Wanted::Written(written)) => {
-            assert_eq!(rt; write_fen(&position).as_slice(), written);
-        }
-        (Ok(_), Wanted::Refused(fault)) => assert!(rt; false, "{text:?} is no {fault:?}"),
-        (Err(found), Wanted::Refused(fault)) => assert_eq!(rt; found, fault, "at {text:?}"),
-        (Err(found), _) => assert!(rt; false, "{text:?} is refused by {found:?}"),
+// What is read: what is written of its position, or the fault.
+fn reading(text: &[u8]) -> Result<FenText, FenFault> {
+    match read_fen(text) {
+        Ok(position) => Ok(write_fen(&position)),
+        Err(fault) => Err(fault),
     }
 }
 
-// Positions of well-known test suites and games, and some that each change one of them.
-const KNOWN_POSITIONS: [(&[u8], Wanted); 60] = [
-    // The usual positions of move generators.
+fn is_wanted(found: &Result<FenText, FenFault>, text: &[u8], wanted: Wanted) -> bool {
+    match (found, wanted) {
+        (Ok(written), Wanted::Same) => written.as_slice() == text,
+        (Ok(written), Wanted::Written(other)) => written.as_slice() == other,
+        (Err(found), Wanted::Refused(fault)) => *found == fault,
+        _ => false,
+    }
+}
+
+fn check(rt: &impl Abort, text: &[u8], wanted: Wanted) {
+    let found = reading(text);
+    assert!(rt;
+        is_wanted(&found, text, wanted),
+        "{text:?} is read as {found:?}"
+    );
+}
+
+fn check_all(rt: &impl Abort, rows: &[(&[u8], Wanted)]) {
+    for (text, wanted) in rows {
+        check(rt, text, *wanted);
+    }
+}
+
+// Below stand positions of well-known test suites and games, and some that each change one of them. Each table has a test of its own,
+// since a check's length grows with the square of the rows that one function names.
+
+// The usual positions of move generators.
+const USUAL: &[(&[u8], Wanted)] = &[
     (
         b"rnbqkbnr/pppppppp/8/8/8/8/PPPPPPPP/RNBQKBNR w KQkq - 0 1",
         Wanted::Same,
@@ -69,7 +89,15 @@ const KNOWN_POSITIONS: [(&[u8], Wanted); 60] = [
     (b"2K2r2/4P3/8/8/8/8/8/3k4 w - - 0 1", Wanted::Same),
     (b"8/8/1P2K3/8/2n5/1q6/8/5k2 b - - 0 1", Wanted::Same),
     (b"8/8/2k5/5q2/5n2/8/5K2/8 b - - 0 1", Wanted::Same),
-    // En passant, and castling.
+];
+
+#[test]
+fn usual_positions_are_judged(rt: HostRuntime) {
+    check_all(&rt, USUAL);
+}
+
+// En passant, and castling.
+const SPECIAL: &[(&[u8], Wanted)] = &[
     (b"8/8/1k6/2b5/2pP4/8/5K2/8 b - d3 0 1", Wanted::Same),
     (b"8/8/8/2k5/2pP4/8/B7/4K3 b - d3 0 3", Wanted::Same),
     (b"7k/8/8/K2pP2r/8/8/8/8 w - d6 0 1", Wanted::Same),
@@ -91,7 +119,15 @@ const KNOWN_POSITIONS: [(&[u8], Wanted); 60] = [
     (b"3k4/8/8/8/8/8/8/R3K3 w Q - 0 1", Wanted::Same),
     (b"4k3/8/8/8/8/8/1r6/R3K3 w Q - 0 1", Wanted::Same),
     (b"r3k3/1R6/8/8/8/8/8/4K3 b q - 0 1", Wanted::Same),
-    // Endgames, mates and stalemates.
+];
+
+#[test]
+fn positions_of_special_moves_are_judged(rt: HostRuntime) {
+    check_all(&rt, SPECIAL);
+}
+
+// Endgames, mates and stalemates; then Win at Chess, Bratko and Kopec: four fields.
+const LATE: &[(&[u8], Wanted)] = &[
     (b"1K1k4/1P6/8/8/8/8/r7/2R5 w - - 0 1", Wanted::Same),
     (b"4k3/1R6/r7/3KP3/8/8/8/8 w - - 0 1", Wanted::Same),
     (b"8/8/1KP5/3r4/8/8/8/k7 w - - 0 1", Wanted::Same),
@@ -112,7 +148,6 @@ const KNOWN_POSITIONS: [(&[u8], Wanted); 60] = [
         Wanted::Same,
     ),
     (b"k7/8/8/QQQQQQQQ/QQQQQQQ1/8/8/7K b - - 0 1", Wanted::Same),
-    // Win at Chess, Bratko and Kopec: four fields.
     (
         b"2rr3k/pp3pp1/1nnqbN1p/3pN3/2pP4/2P3Q1/PPB4P/R4RK1 w - -",
         Wanted::Written(b"2rr3k/pp3pp1/1nnqbN1p/3pN3/2pP4/2P3Q1/PPB4P/R4RK1 w - - 0 1"),
@@ -129,7 +164,15 @@ const KNOWN_POSITIONS: [(&[u8], Wanted); 60] = [
         b"3r1k2/4npp1/1ppr3p/p6P/P2PPPP1/1NR5/5K2/2R5 w - -",
         Wanted::Written(b"3r1k2/4npp1/1ppr3p/p6P/P2PPPP1/1NR5/5K2/2R5 w - - 0 1"),
     ),
-    // Each is one change away from one of those.
+];
+
+#[test]
+fn late_positions_are_judged(rt: HostRuntime) {
+    check_all(&rt, LATE);
+}
+
+// Each is one change away from one of those.
+const CHANGED: &[(&[u8], Wanted)] = &[
     (
         b"r3k2r/p1ppqpb1/bn2pnp1/3PN3/1p2P3/2N2Q1p/PPPBBPPP/R3K1R1 w KQkq - 0 1",
         Wanted::Refused(FenFault::Castling),
@@ -201,15 +244,14 @@ const KNOWN_POSITIONS: [(&[u8], Wanted); 60] = [
 ];
 
 #[test]
-fn known_positions_are_judged(rt: HostRuntime) {
-    for (text, wanted) in KNOWN_POSITIONS {
-        check(&rt, text, wanted);
-    }
+fn changed_positions_are_judged(rt: HostRuntime) {
+    check_all(&rt, CHANGED);
 }
 
-// Texts that are spelled otherwise than they are written, and texts with each fault.
-const SPELLINGS: [(&[u8], Wanted); 38] = [
-    // What is read beside what is written.
+// Below stand texts that are spelled otherwise than they are written, and texts with each fault, and of several the first.
+
+// What is read beside what is written.
+const SPELLINGS: &[(&[u8], Wanted)] = &[
     (
         b"4k3/8/8/8/8/8/8/4K2R  w  K -",
         Wanted::Written(b"4k3/8/8/8/8/8/8/4K2R w K - 0 1"),
@@ -230,7 +272,15 @@ const SPELLINGS: [(&[u8], Wanted); 38] = [
         b"4k3/11111111/8/8/8/8/8/4K3 w - - 999999 999999",
         Wanted::Written(b"4k3/8/8/8/8/8/8/4K3 w - - 999999 999999"),
     ),
-    // Each fault, and of several the first.
+];
+
+#[test]
+fn other_spellings_are_read(rt: HostRuntime) {
+    check_all(&rt, SPELLINGS);
+}
+
+// Faults of one field.
+const FIELDS: &[(&[u8], Wanted)] = &[
     (b"", Wanted::Refused(FenFault::Fields)),
     (b"   ", Wanted::Refused(FenFault::Fields)),
     (
@@ -313,6 +363,15 @@ const SPELLINGS: [(&[u8], Wanted); 38] = [
         b"4k3/8/8/8/8/8/8/K3K3 w - - 0 1x",
         Wanted::Refused(FenFault::Counters),
     ),
+];
+
+#[test]
+fn faults_of_fields_are_named(rt: HostRuntime) {
+    check_all(&rt, FIELDS);
+}
+
+// Faults of the position.
+const POSITIONS: &[(&[u8], Wanted)] = &[
     (
         b"4k3/8/8/8/8/8/8/K3K3 w - - 0 1",
         Wanted::Refused(FenFault::Kings),
@@ -360,10 +419,12 @@ const SPELLINGS: [(&[u8], Wanted); 38] = [
 ];
 
 #[test]
-fn texts_of_any_form_are_judged(rt: HostRuntime) {
-    for (text, wanted) in SPELLINGS {
-        check(&rt, text, wanted);
-    }
+fn faults_of_positions_are_named(rt: HostRuntime) {
+    check_all(&rt, POSITIONS);
+}
+
+#[test]
+fn long_texts_are_refused(rt: HostRuntime) {
     check(&rt, &[b' '; 10_000], Wanted::Refused(FenFault::Fields));
     check(&rt, &[b'8'; 10_000], Wanted::Refused(FenFault::Fields));
 }
@@ -373,12 +434,10 @@ const LONGEST: &[u8] =
     b"r1b1k1n1/1p1p1p1p/p1p1p1p1/1q1r1b1n/P1P1P1P1/1Q1R1B1N/1P1P1P1P/R1B1K1N1 b Qq e3 999999 999999";
 
 #[test]
-fn positions_are_written(rt: HostRuntime) -> Result<(), Fail> {
+fn positions_are_written(rt: HostRuntime) {
     assert_eq!(rt;
         write_fen(&Position::initial()).as_slice(),
         b"rnbqkbnr/pppppppp/8/8/8/8/PPPPPPPP/RNBQKBNR w KQkq - 0 1".as_slice()
     );
-    let longest = read_fen(LONGEST).ok().ok_or("sound")?;
-    assert_eq!(rt; write_fen(&longest).as_slice(), LONGEST);
-    Ok(())
+    check(&rt, LONGEST, Wanted::Same);
 }
