@@ -54,7 +54,7 @@ fn check_all(rt: &impl Abort, fen: &[u8], rows: &[(&[u8], Wanted)]) -> Result<()
 // Both castlings, a capture en passant, a pinned knight on c3 and one that may move.
 const MIDDLE_GAME: &[u8] = b"r3k2r/ppp2ppp/2n2n2/3pP3/1b6/2N2N2/PPP2PPP/R3K2R w KQkq d6 0 8";
 
-const MIDDLE_GAME_TEXTS: [(&[u8], Wanted); 103] = [
+const PAWN_TEXTS: &[(&[u8], Wanted)] = &[
     (b"e6", Wanted::Move(b"e5e6")),
     (b"e5e6", Wanted::Move(b"e5e6")),
     (b"ee6", Wanted::Move(b"e5e6")),
@@ -81,6 +81,14 @@ const MIDDLE_GAME_TEXTS: [(&[u8], Wanted); 103] = [
     (b"xe6", Wanted::NotAMove),
     (b"xd6", Wanted::NotAMove),
     (b"4e5", Wanted::NotAMove),
+];
+
+#[test]
+fn pawn_moves_in_a_middle_game(rt: HostRuntime) -> Result<(), Fail> {
+    check_all(&rt, MIDDLE_GAME, PAWN_TEXTS)
+}
+
+const KING_TEXTS: &[(&[u8], Wanted)] = &[
     (b"O-O", Wanted::Move(b"e1g1")),
     (b"0-0", Wanted::Move(b"e1g1")),
     (b"O-O-O", Wanted::Move(b"e1c1")),
@@ -104,6 +112,14 @@ const MIDDLE_GAME_TEXTS: [(&[u8], Wanted); 103] = [
     (b"KE2", Wanted::NotAMove),
     (b"ke2", Wanted::NotAMove),
     (b"Ke2", Wanted::Move(b"e1e2")),
+];
+
+#[test]
+fn king_moves_in_a_middle_game(rt: HostRuntime) -> Result<(), Fail> {
+    check_all(&rt, MIDDLE_GAME, KING_TEXTS)
+}
+
+const KNIGHT_TEXTS: &[(&[u8], Wanted)] = &[
     (b"Nd2", Wanted::Move(b"f3d2")),
     (b"Nd4", Wanted::Move(b"f3d4")),
     (b"Nd4+", Wanted::Move(b"f3d4")),
@@ -124,6 +140,14 @@ const MIDDLE_GAME_TEXTS: [(&[u8], Wanted); 103] = [
     (b"N", Wanted::NotAMove),
     (b"Nf", Wanted::NotAMove),
     (b"N5", Wanted::NotAMove),
+];
+
+#[test]
+fn knight_moves_in_a_middle_game(rt: HostRuntime) -> Result<(), Fail> {
+    check_all(&rt, MIDDLE_GAME, KNIGHT_TEXTS)
+}
+
+const OTHER_TEXTS: &[(&[u8], Wanted)] = &[
     (b"Rd1", Wanted::Move(b"a1d1")),
     (b"Rad1", Wanted::Move(b"a1d1")),
     (b"R1d1", Wanted::Move(b"a1d1")),
@@ -142,6 +166,14 @@ const MIDDLE_GAME_TEXTS: [(&[u8], Wanted); 103] = [
     (b"bc3", Wanted::NoSuch),
     (b"cc3", Wanted::NoSuch),
     (b"c2c3", Wanted::NoSuch),
+];
+
+#[test]
+fn other_moves_in_a_middle_game(rt: HostRuntime) -> Result<(), Fail> {
+    check_all(&rt, MIDDLE_GAME, OTHER_TEXTS)
+}
+
+const BROKEN_TEXTS: &[(&[u8], Wanted)] = &[
     (b"", Wanted::NotAMove),
     (b"+", Wanted::NotAMove),
     (b"!?", Wanted::NotAMove),
@@ -161,14 +193,14 @@ const MIDDLE_GAME_TEXTS: [(&[u8], Wanted); 103] = [
 ];
 
 #[test]
-fn texts_in_a_middle_game(rt: HostRuntime) -> Result<(), Fail> {
-    check_all(&rt, MIDDLE_GAME, MIDDLE_GAME_TEXTS.as_slice())
+fn broken_texts_in_a_middle_game(rt: HostRuntime) -> Result<(), Fail> {
+    check_all(&rt, MIDDLE_GAME, BROKEN_TEXTS)
 }
 
 // A pawn on e7 may go on or capture on either side.
 const PROMOTION: &[u8] = b"3r1n1k/4P3/8/8/8/8/8/4K3 w - - 0 1";
 
-const PROMOTION_TEXTS: [(&[u8], Wanted); 42] = [
+const PROMOTION_TEXTS: &[(&[u8], Wanted)] = &[
     (b"e8=Q", Wanted::Move(b"e7e8q")),
     (b"e8Q", Wanted::Move(b"e7e8q")),
     (b"e8q", Wanted::Move(b"e7e8q")),
@@ -190,6 +222,14 @@ const PROMOTION_TEXTS: [(&[u8], Wanted); 42] = [
     (b"e8=QQ", Wanted::NotAMove),
     (b"e8=", Wanted::NotAMove),
     (b"e8=Q=", Wanted::NotAMove),
+];
+
+#[test]
+fn texts_of_promotions(rt: HostRuntime) -> Result<(), Fail> {
+    check_all(&rt, PROMOTION, PROMOTION_TEXTS)
+}
+
+const PROMOTING_CAPTURE_TEXTS: &[(&[u8], Wanted)] = &[
     (b"exd8=N+", Wanted::Move(b"e7d8n")),
     (b"ed8=N", Wanted::Move(b"e7d8n")),
     (b"ed8n", Wanted::Move(b"e7d8n")),
@@ -214,14 +254,14 @@ const PROMOTION_TEXTS: [(&[u8], Wanted); 42] = [
 ];
 
 #[test]
-fn texts_of_promotions(rt: HostRuntime) -> Result<(), Fail> {
-    check_all(&rt, PROMOTION, PROMOTION_TEXTS.as_slice())
+fn texts_of_promoting_captures(rt: HostRuntime) -> Result<(), Fail> {
+    check_all(&rt, PROMOTION, PROMOTING_CAPTURE_TEXTS)
 }
 
 // Three queens attack e1.
 const QUEENS: &[u8] = b"8/k7/8/8/4Q2Q/8/K7/7Q w - - 0 1";
 
-const QUEENS_TEXTS: [(&[u8], Wanted); 23] = [
+const QUEENS_TEXTS: &[(&[u8], Wanted)] = &[
     (b"Qe1", Wanted::Ambiguous),
     (b"Qee1", Wanted::Move(b"e4e1")),
     (b"Q4e1", Wanted::Ambiguous),
@@ -249,7 +289,7 @@ const QUEENS_TEXTS: [(&[u8], Wanted); 23] = [
 
 #[test]
 fn texts_of_three_queens(rt: HostRuntime) -> Result<(), Fail> {
-    check_all(&rt, QUEENS, QUEENS_TEXTS.as_slice())
+    check_all(&rt, QUEENS, QUEENS_TEXTS)
 }
 
 #[test]
