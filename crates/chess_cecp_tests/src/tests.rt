@@ -11,7 +11,6 @@ use chess_moves::{Board, Plain};
 use chess_pgn::Tags;
 use std::alloc::{AllocError, Global};
 use std::cell::Cell;
-use std::io::{Read, Write};
 use std::process::Abort;
 use std::test::Fail;
 
@@ -342,17 +341,6 @@ fn open(alloc: Global, limit: u32) -> Result<Session<Plain>, AllocError>
     Session::open(alloc, Plain::new(), Plain::new(), Tags::default(), limit)
 }
 
-// The calls whose contracts are big, each in a function without clauses: the facts stay in there, and tests compare values.
-// So does each loop stand in a function of its own: a loop in a long body is dear to prove.
-
-fn run_over<R: Read, W: Write>(
-    reader: &mut Counted<R>,
-    writer: &mut Counted<W>,
-    session: &mut Session<Plain>,
-) -> Result<End, Fault> {
-    run_session(reader, writer, session)
-}
-
 // Runs a session of `limit` half-moves on an input in pieces, where calls of the devices fail.
 fn check(
     rt: &impl Abort,
@@ -362,7 +350,7 @@ fn check(
     answers: &[u8],
     end: Result<End, Fault>,
 ) {
-    let ended = run_over(&mut reader, &mut writer, &mut session);
+    let ended = run_session(&mut reader, &mut writer, &mut session);
     assert_eq!(rt; ended, end);
     assert_eq!(rt; writer.writer().bytes.as_slice(), answers);
 }
@@ -390,33 +378,18 @@ fn check_run(rt: &impl Abort, alloc: Global, run: &Run, cut: usize) -> Result<()
     Ok(())
 }
 
-fn check_run_at(rt: &impl Abort, alloc: Global, run: &Run, cuts: &[usize]) -> Result<(), Fail> {
-    for cut in cuts {
-        check_run(rt, alloc, run, *cut)?;
-    }
-    Ok(())
-}
-
-fn check_run_from_4(rt: &impl Abort, alloc: Global, run: &Run) -> Result<(), Fail> {
-    for cut in 4..=run.input.len() {
-        check_run(rt, alloc, run, cut)?;
-    }
-    Ok(())
-}
-
-fn check_short_run(rt: &impl Abort, alloc: Global, run: &Run) -> Result<(), Fail> {
-    check_run_at(rt, alloc, run, &[1, 2, 3, 7, 20, 1024])?;
-    if run.input.len() <= 40 {
-        check_run_from_4(rt, alloc, run)?;
-    }
-    Ok(())
-}
-
 // Short runs in pieces of each length, long ones in pieces of some.
 #[test]
 fn runs_however_they_are_cut(rt: HostRuntime) -> Result<(), Fail> {
     for run in &RUNS {
-        check_short_run(&rt, rt.alloc(), run)?;
+        for cut in [1, 2, 3, 7, 20, 1024] {
+            check_run(&rt, rt.alloc(), run, cut)?;
+        }
+        if run.input.len() <= 40 {
+            for cut in 4..=run.input.len() {
+                check_run(&rt, rt.alloc(), run, cut)?;
+            }
+        }
     }
     Ok(())
 }
@@ -424,7 +397,9 @@ fn runs_however_they_are_cut(rt: HostRuntime) -> Result<(), Fail> {
 #[test]
 fn games_in_pieces(rt: HostRuntime) -> Result<(), Fail> {
     for run in &GAMES {
-        check_run_at(&rt, rt.alloc(), run, &[1, 2, 3, 1024])?;
+        for cut in [1, 2, 3, 1024] {
+            check_run(&rt, rt.alloc(), run, cut)?;
+        }
     }
     Ok(())
 }
@@ -444,91 +419,64 @@ fn no_more_moves_than_the_limit(rt: HostRuntime) -> Result<(), Fail> {
     Ok(())
 }
 
-// A read fails behind so many calls.
-fn check_failed_read(rt: &impl Abort, alloc: Global, cut: usize, calls: usize) -> Result<(), Fail> {
-    let input = b"ping 1\nping 1\nping 1\n";
-    let answers = b"pong 1\npong 1\npong 1\n";
-    let asked = cut.saturating_mul(calls);
-    let given = input.len().min(asked);
-    let whole = given / 7 * 7;
-    let end = if asked < input.len().saturating_add(cut) {
-        Err(Fault::Read)
-    } else {
-        Ok(End::InputEnded)
-    };
-    let session = open(alloc, 1)?;
-    let writer = taking(alloc, 100, 0);
-    check(
-        rt,
-        session,
-        pieces(input, cut, (calls as u64).saturating_add(1)),
-        writer,
-        &answers[..whole.min(21)],
-        end,
-    );
-    Ok(())
-}
-
-fn check_failed_reads(rt: &impl Abort, alloc: Global, cut: usize) -> Result<(), Fail> {
-    for calls in 0..22 {
-        check_failed_read(rt, alloc, cut, calls)?;
-    }
-    Ok(())
-}
-
 // Each line is `ping 1`, so the answers to n whole lines are n times `pong 1`.
 #[test]
 fn a_read_that_fails_at_each_place(rt: HostRuntime) -> Result<(), Fail> {
-    for cut in 1..8 {
-        check_failed_reads(&rt, rt.alloc(), cut)?;
-    }
-    Ok(())
-}
-
-// A writer takes so many bytes at a time, and fails at a call: the bytes that it took.
-fn check_failed_write(
-    rt: &impl Abort,
-    alloc: Global,
-    cut: usize,
-    fails_at: u64,
-    taken: usize,
-) -> Result<(), Fail> {
+    let input = b"ping 1\nping 1\nping 1\n";
     let answers = b"pong 1\npong 1\npong 1\n";
-    let session = open(alloc, 1)?;
-    let writer = taking(alloc, cut, fails_at);
-    check(
-        rt,
-        session,
-        pieces(b"ping 1\nping 1\nping 1\n", 100, 0),
-        writer,
-        &answers[..taken.min(21)],
-        Err(Fault::Write),
-    );
+    for cut in 1..8 {
+        for calls in 0..22 {
+            let given = input.len().min(cut * calls);
+            let whole = given / 7 * 7;
+            let end = if cut * calls < input.len() + cut {
+                Err(Fault::Read)
+            } else {
+                Ok(End::InputEnded)
+            };
+            let session = open(rt.alloc(), 1)?;
+            let writer = taking(rt.alloc(), 100, 0);
+            check(
+                &rt,
+                session,
+                pieces(input, cut, calls as u64 + 1),
+                writer,
+                &answers[..whole.min(21)],
+                end,
+            );
+        }
+    }
     Ok(())
 }
 
 // Of each answer of 7 bytes, a writer that takes 2 at a time takes 2, 2, 2 and 1, and is then flushed: five calls.
 #[test]
 fn a_write_that_fails_at_each_place(rt: HostRuntime) -> Result<(), Fail> {
+    let input = b"ping 1\nping 1\nping 1\n";
+    let answers = b"pong 1\npong 1\npong 1\n";
     for calls in 0..15 {
         let taken = calls / 5 * 7 + (calls % 5 * 2).min(7);
-        check_failed_write(&rt, rt.alloc(), 2, calls as u64 + 1, taken)?;
+        let session = open(rt.alloc(), 1)?;
+        let writer = taking(rt.alloc(), 2, calls as u64 + 1);
+        check(
+            &rt,
+            session,
+            pieces(input, 100, 0),
+            writer,
+            &answers[..taken.min(21)],
+            Err(Fault::Write),
+        );
     }
-    Ok(())
-}
-
-#[test]
-fn a_writer_that_takes_nothing(rt: HostRuntime) -> Result<(), Fail> {
-    check_failed_write(&rt, rt.alloc(), 0, 0, 0)
-}
-
-fn stands_after_e4(rt: &impl Abort, session: &Session<Plain>) {
-    let position = session.position();
-    assert_eq!(rt; position.at(Square::new(12)), None);
-    assert_eq!(rt;
-        write_fen(&position).as_slice(),
-        b"rnbqkbnr/pppppppp/8/8/4P3/8/PPPP1PPP/RNBQKBNR b KQkq e3 0 1".as_slice()
+    let session = open(rt.alloc(), 1)?;
+    let writer = taking(rt.alloc(), 0, 0);
+    check(
+        &rt,
+        session,
+        pieces(input, 100, 0),
+        writer,
+        b"",
+        Err(Fault::Write),
     );
+    Ok(())
 }
 
 #[test]
@@ -536,31 +484,15 @@ fn a_move_stands_where_writing_breaks_off(rt: HostRuntime) -> Result<(), Fail> {
     let mut session = open(rt.alloc(), 100)?;
     let mut reader = pieces(b"e2e4\nshowfen\n", 100, 0);
     let mut writer = taking(rt.alloc(), 3, 3);
-    let ended = run_over(&mut reader, &mut writer, &mut session);
+    let ended = run_session(&mut reader, &mut writer, &mut session);
     assert_eq!(rt; ended, Err(Fault::Write));
     assert_eq!(rt; writer.writer().bytes.as_slice(), b"# f".as_slice());
-    stands_after_e4(&rt, &session);
-    Ok(())
-}
-
-fn gated_input(alloc: Global, last: &[u8]) -> Result<Vec<u8>, Fail> {
-    let mut input = Vec::new(alloc);
-    input.extend_from_slice(b"ping 1\nnew\nshowpgn\ne2e4\nx\nshowpgn\nping 2\n")?;
-    input.extend_from_slice(last)?;
-    Ok(input)
-}
-
-fn check_gated(rt: &impl Abort, alloc: Global, last: &[u8], end: End) -> Result<(), Fail> {
-    let input = gated_input(alloc, last)?;
-    let gate = Cell::new(true);
-    let mut reader = Counted::reading(GatedReader::new(input.as_slice(), &gate));
-    let mut writer = Counted::writing(GatedWriter::new(alloc, &gate));
-    let mut session = open(alloc, 1)?;
-    let ended = run_over(&mut reader, &mut writer, &mut session);
-    assert_eq!(rt; ended, Ok(end));
-    assert_eq!(rt; reader.reader().early, 0);
-    assert!(rt; writer.writer().bytes.ends_with(b"\npong 2\n"));
-    assert_eq!(rt; gate.get(), end == End::Quit);
+    let position = session.position();
+    assert_eq!(rt; position.at(Square::new(12)), None);
+    assert_eq!(rt;
+        write_fen(&position).as_slice(),
+        b"rnbqkbnr/pppppppp/8/8/4P3/8/PPPP1PPP/RNBQKBNR b KQkq e3 0 1".as_slice()
+    );
     Ok(())
 }
 
@@ -568,8 +500,22 @@ fn check_gated(rt: &impl Abort, alloc: Global, last: &[u8], end: End) -> Result<
 // for, a silent one and that to `showpgn` too, and nothing is left unflushed.
 #[test]
 fn an_answer_is_flushed_before_more_is_read(rt: HostRuntime) -> Result<(), Fail> {
-    check_gated(&rt, rt.alloc(), b"quit\n", End::Quit)?;
-    check_gated(&rt, rt.alloc(), b"", End::InputEnded)
+    let ends: [(&[u8], End); 2] = [(b"quit\n", End::Quit), (b"", End::InputEnded)];
+    for (last, end) in ends {
+        let mut input = Vec::new(rt.alloc());
+        input.extend_from_slice(b"ping 1\nnew\nshowpgn\ne2e4\nx\nshowpgn\nping 2\n")?;
+        input.extend_from_slice(last)?;
+        let gate = Cell::new(true);
+        let mut reader = Counted::reading(GatedReader::new(input.as_slice(), &gate));
+        let mut writer = Counted::writing(GatedWriter::new(rt.alloc(), &gate));
+        let mut session = open(rt.alloc(), 1)?;
+        let ended = run_session(&mut reader, &mut writer, &mut session);
+        assert_eq!(rt; ended, Ok(end));
+        assert_eq!(rt; reader.reader().early, 0);
+        assert!(rt; writer.writer().bytes.ends_with(b"\npong 2\n"));
+        assert_eq!(rt; gate.get(), end == End::Quit);
+    }
+    Ok(())
 }
 
 // The whole text of a game is taken by one write, and then the flush fails.
@@ -578,156 +524,93 @@ fn the_flush_behind_a_game_may_fail(rt: HostRuntime) -> Result<(), Fail> {
     let mut session = open(rt.alloc(), 1)?;
     let mut reader = pieces(b"showpgn\nping 1\n", 100, 0);
     let mut writer = taking(rt.alloc(), 9000, 2);
-    let ended = run_over(&mut reader, &mut writer, &mut session);
+    let ended = run_session(&mut reader, &mut writer, &mut session);
     assert_eq!(rt; ended, Err(Fault::Write));
     assert!(rt; writer.writer().bytes.ends_with(b"# *\n# \n"));
     assert_eq!(rt; writer.writer().calls, 2);
     Ok(())
 }
 
-const ZS: [u8; 1024] = [b'z'; 1024];
-
-// What stands behind 1,024 bytes of a line: a line of 1,024 bytes; one byte more, byte 13 that makes it one more, and one
-// more at the input's end.
-const LONG_ENDS: [&[u8]; 4] = [b"\n", b"z\n", b"\r\nping 3\n", b"z"];
-
-// What is answered: the text before the line's bytes, how many of them, and the text behind them.
-const LONG_ANSWERS: [(&[u8], usize, &[u8]); 4] = [
-    (b"Error (unknown command): ", 1024, b"\n"),
-    (b"Error (line too long): ", 64, b"\n"),
-    (b"Error (line too long): ", 64, b"\npong 3\n"),
-    (b"Error (line too long): ", 64, b"\n"),
-];
-
-fn long_lines(alloc: Global) -> Result<Vec<u8>, Fail> {
-    let mut input = Vec::new(alloc);
-    for end in &LONG_ENDS {
-        input.extend_from_slice(&ZS)?;
-        input.extend_from_slice(end)?;
-    }
-    Ok(input)
-}
-
-fn long_answers(alloc: Global) -> Result<Vec<u8>, Fail> {
-    let mut answers = Vec::new(alloc);
-    for (front, shown, behind) in &LONG_ANSWERS {
-        answers.extend_from_slice(front)?;
-        answers.extend_from_slice(&ZS[..(*shown).min(1024)])?;
-        answers.extend_from_slice(behind)?;
-    }
-    Ok(answers)
-}
-
-fn check_long(
-    rt: &impl Abort,
-    alloc: Global,
-    input: &[u8],
-    answers: &[u8],
-    cut: usize,
-) -> Result<(), Fail> {
-    let session = open(alloc, 1)?;
-    let writer = taking(alloc, cut, 0);
-    check(
-        rt,
-        session,
-        pieces(input, cut, 0),
-        writer,
-        answers,
-        Ok(End::InputEnded),
-    );
-    Ok(())
-}
-
 #[test]
 fn lines_of_1024_bytes_and_more(rt: HostRuntime) -> Result<(), Fail> {
-    let input = long_lines(rt.alloc())?;
-    let answers = long_answers(rt.alloc())?;
+    let zs = [b'z'; 1024];
+    let mut input = Vec::new(rt.alloc());
+    // A line of 1,024 bytes; one byte more, byte 13 that makes it one more, and one more at the input's end.
+    let ends: [&[u8]; 4] = [b"\n", b"z\n", b"\r\nping 3\n", b"z"];
+    for end in ends {
+        input.extend_from_slice(&zs)?;
+        input.extend_from_slice(end)?;
+    }
+    let mut answers = Vec::new(rt.alloc());
+    let texts: [(&[u8], usize, &[u8]); 4] = [
+        (b"Error (unknown command): ", 1024, b"\n"),
+        (b"Error (line too long): ", 64, b"\n"),
+        (b"Error (line too long): ", 64, b"\npong 3\n"),
+        (b"Error (line too long): ", 64, b"\n"),
+    ];
+    for (front, shown, behind) in texts {
+        answers.extend_from_slice(front)?;
+        answers.extend_from_slice(&zs[..shown.min(1024)])?;
+        answers.extend_from_slice(behind)?;
+    }
     for cut in [1, 1000, 1024, 5000] {
-        check_long(&rt, rt.alloc(), input.as_slice(), answers.as_slice(), cut)?;
+        let session = open(rt.alloc(), 1)?;
+        let writer = taking(rt.alloc(), cut, 0);
+        check(
+            &rt,
+            session,
+            pieces(input.as_slice(), cut, 0),
+            writer,
+            answers.as_slice(),
+            Ok(End::InputEnded),
+        );
     }
     Ok(())
-}
-
-fn next_fails(rt: &impl Abort, lines: &mut Lines<64>, reader: &mut Counted<PieceReader<'_>>) {
-    assert!(rt; lines.next(reader).is_err());
-}
-
-fn next_is_ab(
-    rt: &impl Abort,
-    lines: &mut Lines<64>,
-    reader: &mut Counted<PieceReader<'_>>,
-) -> Result<(), Fail> {
-    let Ok(Some(line)) = lines.next(reader) else {
-        return Err(Fail::from("a line"));
-    };
-    assert_eq!(rt; line.text(), b"ab".as_slice());
-    assert!(rt; line.is_ended() && !line.is_too_long());
-    Ok(())
-}
-
-fn next_is_cd(
-    rt: &impl Abort,
-    lines: &mut Lines<64>,
-    reader: &mut Counted<PieceReader<'_>>,
-) -> Result<(), Fail> {
-    let Ok(Some(last)) = lines.next(reader) else {
-        return Err(Fail::from("a last line"));
-    };
-    assert_eq!(rt; last.text(), b"cd".as_slice());
-    assert!(rt; !last.is_ended());
-    Ok(())
-}
-
-fn next_is_none(rt: &impl Abort, lines: &mut Lines<64>, reader: &mut Counted<PieceReader<'_>>) {
-    assert!(rt; matches!(&lines.next(reader), Ok(None)));
 }
 
 #[test]
 fn what_was_read_stays_after_a_fault(rt: HostRuntime) -> Result<(), Fail> {
     let mut reader = pieces(b" ab \r\ncd", 3, 2);
     let mut lines: Lines<64> = Lines::new();
-    next_fails(&rt, &mut lines, &mut reader);
-    next_is_ab(&rt, &mut lines, &mut reader)?;
-    next_is_cd(&rt, &mut lines, &mut reader)?;
-    next_is_none(&rt, &mut lines, &mut reader);
+    assert!(rt; lines.next(&mut reader).is_err());
+    let Ok(Some(line)) = lines.next(&mut reader) else {
+        return Err(Fail::from("a line"));
+    };
+    assert_eq!(rt; line.text(), b"ab".as_slice());
+    assert!(rt; line.is_ended() && !line.is_too_long());
+    let Ok(Some(last)) = lines.next(&mut reader) else {
+        return Err(Fail::from("a last line"));
+    };
+    assert_eq!(rt; last.text(), b"cd".as_slice());
+    assert!(rt; !last.is_ended());
+    assert!(rt; matches!(&lines.next(&mut reader), Ok(None)));
     Ok(())
-}
-
-const COMMANDS: [(&[u8], Command); 17] = [
-    (b"", Command::Silent),
-    (b"new game", Command::New),
-    (b"usermove\te7e8q", Command::UserMove),
-    (b"e7e8q", Command::BareMove),
-    (b"undo", Command::Undo),
-    (b"ping 000000012", Command::Ping(12)),
-    (b"ping -1", Command::BadNumber),
-    (b"showfen", Command::ShowFen),
-    (b"showmoves", Command::ShowMoves),
-    (b"setboard", Command::SetBoard),
-    (b"protover 2", Command::Protover(2)),
-    (b"variant normal", Command::Variant),
-    (b"go", Command::Go),
-    (b"xboard", Command::Silent),
-    (b"?", Command::Silent),
-    (b"quit", Command::Quit),
-    (b"newgame", Command::Unknown),
-];
-
-fn is_read_as(rt: &impl Abort, text: &[u8], command: Command) {
-    assert_eq!(rt; read_command(text), command);
 }
 
 #[test]
 fn commands_are_told_by_their_first_word(rt: HostRuntime) {
-    for (text, command) in &COMMANDS {
-        is_read_as(&rt, text, *command);
+    let commands: [(&[u8], Command); 16] = [
+        (b"", Command::Silent),
+        (b"new game", Command::New),
+        (b"usermove\te7e8q", Command::UserMove),
+        (b"e7e8q", Command::BareMove),
+        (b"undo", Command::Undo),
+        (b"ping 000000012", Command::Ping(12)),
+        (b"ping -1", Command::BadNumber),
+        (b"showfen", Command::ShowFen),
+        (b"showmoves", Command::ShowMoves),
+        (b"setboard", Command::SetBoard),
+        (b"protover 2", Command::Protover(2)),
+        (b"variant normal", Command::Variant),
+        (b"go", Command::Go),
+        (b"xboard", Command::Silent),
+        (b"?", Command::Silent),
+        (b"quit", Command::Quit),
+    ];
+    for (text, command) in commands {
+        assert_eq!(rt; read_command(text), command);
     }
-}
-
-fn lines_start_with(rt: &impl Abort, text: &[u8], starts: &[&[u8]]) {
-    for (line, start) in text.split(|byte| *byte == b'\n').zip(starts) {
-        assert!(rt; line.starts_with(start));
-    }
+    assert_eq!(rt; read_command(b"newgame"), Command::Unknown);
 }
 
 // The numbers of legal moves in four well-known test positions.
@@ -738,30 +621,26 @@ fn moves_of_test_positions_are_counted(rt: HostRuntime) -> Result<(), Fail> {
     let mut session = open(rt.alloc(), 100)?;
     let mut reader = pieces(input, 1000, 0);
     let mut writer = taking(rt.alloc(), 1000, 0);
-    let ended = run_over(&mut reader, &mut writer, &mut session);
+    let ended = run_session(&mut reader, &mut writer, &mut session);
     assert_eq!(rt; ended, Ok(End::InputEnded));
-    lines_start_with(
-        &rt,
-        writer.writer().bytes.as_slice(),
-        &[
-            b"# moves 48 ",
-            b"# moves 14 ",
-            b"# moves 6 ",
-            b"# moves 44 ",
-        ],
-    );
+    let counts: [&[u8]; 4] = [
+        b"# moves 48 ",
+        b"# moves 14 ",
+        b"# moves 6 ",
+        b"# moves 44 ",
+    ];
+    let answers = writer.writer().bytes.as_slice();
+    for (line, count) in answers.split(|byte| *byte == b'\n').zip(counts) {
+        assert!(rt; line.starts_with(count));
+    }
     Ok(())
 }
 
-// The laws may be called.
-fn laws_are_told() {
+#[test]
+fn a_session_opens_at_the_initial_position(rt: HostRuntime) -> Result<(), Fail> {
     lines_are_pieces();
     refusals_change_nothing();
     normal_chess_keeps_its_rows();
-}
-
-// A board after 1. e4.
-fn board_after_e4(rt: &impl Abort) -> Plain {
     let mut board = Plain::new();
     let e4 = Move {
         from: Square::new(12),
@@ -772,13 +651,6 @@ fn board_after_e4(rt: &impl Abort) -> Plain {
     let initial = Position::initial();
     assert!(rt; initial.is_legal(judged));
     board.set(&initial.after(made));
-    board
-}
-
-#[test]
-fn a_session_opens_at_the_initial_position(rt: HostRuntime) -> Result<(), Fail> {
-    laws_are_told();
-    let board = board_after_e4(&rt);
     let session = Session::open(rt.alloc(), board, Plain::new(), Tags::default(), 20_000)?;
     assert!(rt; session.position() == Position::initial());
     Ok(())
