@@ -1,8 +1,7 @@
 //! The program over devices that are cut and that fail.
 
-use crate::runs::{Devices, Outcome, SOUND, is_outcome, run};
+use crate::runs::{Devices, SOUND, run};
 use std::alloc::Global;
-use std::process::Abort;
 use std::test::Fail;
 
 /// A line to the program, and what it answers.
@@ -87,78 +86,28 @@ fn input_of(alloc: Global, lines: &[Line]) -> Result<Vec<u8>, Fail> {
 // The most calls of a device in the runs below.
 const CALLS: u64 = 400;
 
-// Each loop below stands in a function of its own, around one call: a loop in a long body is dear to prove.
-
-fn runs_at_piece(
-    host: &HostRuntime,
-    rt: &impl Abort,
-    words: &[&str],
-    input: &[u8],
-    output: &[u8],
-    piece: usize,
-) {
-    for taken in [1, 2, 1024] {
-        let devices = Devices {
-            piece,
-            taken,
-            ..SOUND
-        };
-        is_outcome(rt, &run(host, words, input, devices), output, b"", 0);
-    }
-}
-
-fn runs_in_all_pieces(
-    host: &HostRuntime,
-    rt: &impl Abort,
-    words: &[&str],
-    input: &[u8],
-    output: &[u8],
-) {
-    for piece in [1, 2, 3, 1024] {
-        runs_at_piece(host, rt, words, input, output, piece);
-    }
-}
-
-fn talks_in_all_pieces(host: &HostRuntime, rt: &impl Abort, talk: &Talk) -> Result<(), Fail> {
-    let input = input_of(host.alloc(), talk.lines)?;
-    let (answers, _) = answered(host.alloc(), talk.lines, input.len())?;
-    runs_in_all_pieces(host, rt, talk.words, input.as_slice(), answers.as_slice());
-    Ok(())
-}
-
 #[test]
 fn answers_are_the_same_in_all_pieces(rt: HostRuntime) -> Result<(), Fail> {
     for talk in &TALKS {
-        talks_in_all_pieces(&rt, &rt, talk)?;
-    }
-    Ok(())
-}
-
-fn talks_as_far_as_given(
-    host: &HostRuntime,
-    rt: &impl Abort,
-    talk: &Talk,
-    input: &[u8],
-    given: usize,
-) -> Result<(), Fail> {
-    let (answers, read) = answered(host.alloc(), talk.lines, given)?;
-    let front = input.get(..given).ok_or("a beginning")?;
-    let outcome = run(host, talk.words, front, SOUND);
-    let behind = outcome
-        .output
-        .strip_prefix(answers.as_slice())
-        .ok_or("the answers to whole lines")?;
-    let lines = behind.iter().filter(|byte| **byte == b'\n').count();
-    assert!(rt; lines <= 2 && (read < given || behind.is_empty()));
-    assert_eq!(rt; outcome.errors.as_slice(), b"".as_slice());
-    assert_eq!(rt; outcome.status, 0);
-    Ok(())
-}
-
-fn talks_to_each_byte(host: &HostRuntime, rt: &impl Abort, talk: &Talk) -> Result<(), Fail> {
-    let input = input_of(host.alloc(), talk.lines)?;
-    for given in 0..=input.len() {
-        talks_as_far_as_given(host, rt, talk, input.as_slice(), given)?;
+        let input = input_of(rt.alloc(), talk.lines)?;
+        let (answers, _) = answered(rt.alloc(), talk.lines, input.len())?;
+        for piece in [1, 2, 3, 1024] {
+            for taken in [1, 2, 1024] {
+                let outcome = run(
+                    &rt,
+                    talk.words,
+                    input.as_slice(),
+                    Devices {
+                        piece,
+                        taken,
+                        ..SOUND
+                    },
+                );
+                assert_eq!(rt; outcome.output.as_slice(), answers.as_slice());
+                assert_eq!(rt; outcome.errors.as_slice(), b"".as_slice());
+                assert_eq!(rt; outcome.status, 0);
+            }
+        }
     }
     Ok(())
 }
@@ -167,40 +116,20 @@ fn talks_to_each_byte(host: &HostRuntime, rt: &impl Abort, talk: &Talk) -> Resul
 #[test]
 fn inputs_cut_after_each_byte(rt: HostRuntime) -> Result<(), Fail> {
     for talk in &TALKS {
-        talks_to_each_byte(&rt, &rt, talk)?;
-    }
-    Ok(())
-}
-
-fn read_fails_in_talk(
-    host: &HostRuntime,
-    rt: &impl Abort,
-    talk: &Talk,
-    input: &[u8],
-    call: usize,
-) -> Result<(), Fail> {
-    let given = call.saturating_sub(1);
-    let (answers, _) = answered(host.alloc(), talk.lines, given)?;
-    let devices = Devices {
-        piece: 1,
-        read_fails: call as u64,
-        ..SOUND
-    };
-    let outcome = run(host, talk.words, input, devices);
-    is_outcome(
-        rt,
-        &outcome,
-        answers.as_slice(),
-        b"arbiter: read failed\n",
-        1,
-    );
-    Ok(())
-}
-
-fn reads_fail_in_talk(host: &HostRuntime, rt: &impl Abort, talk: &Talk) -> Result<(), Fail> {
-    let input = input_of(host.alloc(), talk.lines)?;
-    for call in 1..=input.len() {
-        read_fails_in_talk(host, rt, talk, input.as_slice(), call)?;
+        let input = input_of(rt.alloc(), talk.lines)?;
+        for given in 0..=input.len() {
+            let (answers, read) = answered(rt.alloc(), talk.lines, given)?;
+            let front = input.get(..given).ok_or("a beginning")?;
+            let outcome = run(&rt, talk.words, front, SOUND);
+            let behind = outcome
+                .output
+                .strip_prefix(answers.as_slice())
+                .ok_or("the answers to whole lines")?;
+            let lines = behind.iter().filter(|byte| **byte == b'\n').count();
+            assert!(rt; lines <= 2 && (read < given || behind.is_empty()));
+            assert_eq!(rt; outcome.errors.as_slice(), b"".as_slice());
+            assert_eq!(rt; outcome.status, 0);
+        }
     }
     Ok(())
 }
@@ -209,63 +138,24 @@ fn reads_fail_in_talk(host: &HostRuntime, rt: &impl Abort, talk: &Talk) -> Resul
 #[test]
 fn reads_that_fail_at_each_place(rt: HostRuntime) -> Result<(), Fail> {
     for talk in &TALKS {
-        reads_fail_in_talk(&rt, &rt, talk)?;
-    }
-    Ok(())
-}
-
-// A write or flush fails, where it is reached: what was taken is a beginning of the answers, and not less than before.
-fn write_fails_in_talk(
-    host: &HostRuntime,
-    rt: &impl Abort,
-    words: &[&str],
-    input: &[u8],
-    answers: &[u8],
-    call: u64,
-    taken_before: usize,
-) -> Outcome {
-    let devices = Devices {
-        taken: 1,
-        write_fails: call,
-        ..SOUND
-    };
-    let outcome = run(host, words, input, devices);
-    assert!(rt; answers.starts_with(outcome.output.as_slice()));
-    assert!(rt; outcome.output.len() >= taken_before);
-    if outcome.status != 0 {
-        assert_eq!(rt;
-            outcome.errors.as_slice(),
-            b"arbiter: write failed\n".as_slice()
-        );
-        assert_eq!(rt; outcome.status, 1);
-    }
-    outcome
-}
-
-// How many bytes were taken where no call failed.
-fn writes_fail_in_turn(
-    host: &HostRuntime,
-    rt: &impl Abort,
-    words: &[&str],
-    input: &[u8],
-    answers: &[u8],
-) -> usize {
-    let mut taken_before = 0;
-    for call in 1..=CALLS {
-        let outcome = write_fails_in_talk(host, rt, words, input, answers, call, taken_before);
-        taken_before = outcome.output.len();
-        if outcome.status == 0 {
-            break;
+        let input = input_of(rt.alloc(), talk.lines)?;
+        for call in 1..=input.len() {
+            let given = call.saturating_sub(1);
+            let (answers, _) = answered(rt.alloc(), talk.lines, given)?;
+            let devices = Devices {
+                piece: 1,
+                read_fails: call as u64,
+                ..SOUND
+            };
+            let outcome = run(&rt, talk.words, input.as_slice(), devices);
+            assert_eq!(rt; outcome.output.as_slice(), answers.as_slice());
+            assert_eq!(rt;
+                outcome.errors.as_slice(),
+                b"arbiter: read failed\n".as_slice()
+            );
+            assert_eq!(rt; outcome.status, 1);
         }
     }
-    taken_before
-}
-
-fn writes_fail_in_talk(host: &HostRuntime, rt: &impl Abort, talk: &Talk) -> Result<(), Fail> {
-    let input = input_of(host.alloc(), talk.lines)?;
-    let (answers, _) = answered(host.alloc(), talk.lines, input.len())?;
-    let taken = writes_fail_in_turn(host, rt, talk.words, input.as_slice(), answers.as_slice());
-    assert_eq!(rt; taken, answers.len());
     Ok(())
 }
 
@@ -273,16 +163,30 @@ fn writes_fail_in_talk(host: &HostRuntime, rt: &impl Abort, talk: &Talk) -> Resu
 #[test]
 fn writes_that_fail_at_each_place(rt: HostRuntime) -> Result<(), Fail> {
     for talk in &TALKS {
-        writes_fail_in_talk(&rt, &rt, talk)?;
+        let input = input_of(rt.alloc(), talk.lines)?;
+        let (answers, _) = answered(rt.alloc(), talk.lines, input.len())?;
+        let mut taken_before = 0;
+        for call in 1..=CALLS {
+            let devices = Devices {
+                taken: 1,
+                write_fails: call,
+                ..SOUND
+            };
+            let outcome = run(&rt, talk.words, input.as_slice(), devices);
+            assert!(rt; answers.starts_with(outcome.output.as_slice()));
+            assert!(rt; outcome.output.len() >= taken_before);
+            taken_before = outcome.output.len();
+            if outcome.status == 0 {
+                break;
+            }
+            assert_eq!(rt;
+                outcome.errors.as_slice(),
+                b"arbiter: write failed\n".as_slice()
+            );
+            assert_eq!(rt; outcome.status, 1);
+        }
+        assert_eq!(rt; taken_before, answers.len());
     }
-    Ok(())
-}
-
-fn takes_nothing(host: &HostRuntime, rt: &impl Abort, talk: &Talk) -> Result<(), Fail> {
-    let input = input_of(host.alloc(), talk.lines)?;
-    let devices = Devices { taken: 0, ..SOUND };
-    let outcome = run(host, talk.words, input.as_slice(), devices);
-    is_outcome(rt, &outcome, b"", b"arbiter: write failed\n", 1);
     Ok(())
 }
 
@@ -290,7 +194,15 @@ fn takes_nothing(host: &HostRuntime, rt: &impl Abort, talk: &Talk) -> Result<(),
 #[test]
 fn writers_that_take_nothing(rt: HostRuntime) -> Result<(), Fail> {
     for talk in &TALKS {
-        takes_nothing(&rt, &rt, talk)?;
+        let input = input_of(rt.alloc(), talk.lines)?;
+        let devices = Devices { taken: 0, ..SOUND };
+        let outcome = run(&rt, talk.words, input.as_slice(), devices);
+        assert_eq!(rt; outcome.output.as_slice(), b"".as_slice());
+        assert_eq!(rt;
+            outcome.errors.as_slice(),
+            b"arbiter: write failed\n".as_slice()
+        );
+        assert_eq!(rt; outcome.status, 1);
     }
     Ok(())
 }
@@ -306,73 +218,75 @@ const LINES: &[u8] = b"game 1: 1 half-moves, *\ngame 2: 4 half-moves, 0-1\n";
 
 #[test]
 fn games_in_all_pieces(rt: HostRuntime) {
-    runs_in_all_pieces(&rt, &rt, &["verify"], BOTH, LINES);
-}
-
-fn verifies_as_far_as_given(host: &HostRuntime, rt: &impl Abort, given: usize) -> Result<(), Fail> {
-    let front = BOTH.get(..given).ok_or("a beginning")?;
-    let outcome = run(host, &["verify"], front, SOUND);
-    let is_whole = given == 0
-        || given == FIRST.len() - 1
-        || given == FIRST.len()
-        || given >= BOTH.len() - 1;
-    assert_eq!(rt; outcome.status == 0, is_whole);
-    if given >= FIRST.len() - 1 {
-        assert!(rt; outcome.output.starts_with(FIRST_LINE));
+    for piece in [1, 2, 3, 1024] {
+        for taken in [1, 2, 1024] {
+            let devices = Devices {
+                piece,
+                taken,
+                ..SOUND
+            };
+            let outcome = run(&rt, &["verify"], BOTH, devices);
+            assert_eq!(rt; outcome.output.as_slice(), LINES);
+            assert_eq!(rt; outcome.errors.as_slice(), b"".as_slice());
+            assert_eq!(rt; outcome.status, 0);
+        }
     }
-    assert_eq!(rt; outcome.errors.as_slice(), b"".as_slice());
-    Ok(())
 }
 
 // A text is verified where it ends behind a game, or behind the blanks after it.
 #[test]
 fn texts_cut_after_each_byte(rt: HostRuntime) -> Result<(), Fail> {
     for given in 0..=BOTH.len() {
-        verifies_as_far_as_given(&rt, &rt, given)?;
+        let front = BOTH.get(..given).ok_or("a beginning")?;
+        let outcome = run(&rt, &["verify"], front, SOUND);
+        let is_whole = given == 0
+            || given == FIRST.len() - 1
+            || given == FIRST.len()
+            || given >= BOTH.len() - 1;
+        assert_eq!(rt; outcome.status == 0, is_whole);
+        if given >= FIRST.len() - 1 {
+            assert!(rt; outcome.output.starts_with(FIRST_LINE));
+        }
+        assert_eq!(rt; outcome.errors.as_slice(), b"".as_slice());
     }
     Ok(())
-}
-
-fn read_of_games_fails(host: &HostRuntime, rt: &impl Abort, call: usize) {
-    let devices = Devices {
-        piece: 1,
-        read_fails: call as u64,
-        ..SOUND
-    };
-    let outcome = run(host, &["verify"], BOTH, devices);
-    is_outcome(rt, &outcome, b"", b"arbiter: read failed\n", 1);
 }
 
 // Without all of its text, `verify` tells nothing.
 #[test]
 fn reads_of_games_that_fail(rt: HostRuntime) {
     for call in 1..=BOTH.len() {
-        read_of_games_fails(&rt, &rt, call);
+        let devices = Devices {
+            piece: 1,
+            read_fails: call as u64,
+            ..SOUND
+        };
+        let outcome = run(&rt, &["verify"], BOTH, devices);
+        assert_eq!(rt; outcome.output.as_slice(), b"".as_slice());
+        assert_eq!(rt;
+            outcome.errors.as_slice(),
+            b"arbiter: read failed\n".as_slice()
+        );
+        assert_eq!(rt; outcome.status, 1);
     }
-}
-
-fn write_of_games_fails(host: &HostRuntime, rt: &impl Abort, call: usize) {
-    let devices = Devices {
-        taken: 1,
-        write_fails: call as u64,
-        ..SOUND
-    };
-    let outcome = run(host, &["verify"], BOTH, devices);
-    let taken = LINES
-        .split_at_checked(call.saturating_sub(1))
-        .map(|parts| parts.0);
-    assert_eq!(rt; Some(outcome.output.as_slice()), taken);
-    assert_eq!(rt;
-        outcome.errors.as_slice(),
-        b"arbiter: write failed\n".as_slice()
-    );
-    assert_eq!(rt; outcome.status, 1);
 }
 
 // Each write in turn, and the flush behind them.
 #[test]
 fn writes_of_games_that_fail(rt: HostRuntime) {
     for call in 1..=LINES.len().saturating_add(1) {
-        write_of_games_fails(&rt, &rt, call);
+        let devices = Devices {
+            taken: 1,
+            write_fails: call as u64,
+            ..SOUND
+        };
+        let outcome = run(&rt, &["verify"], BOTH, devices);
+        let taken = LINES.split_at_checked(call - 1).map(|parts| parts.0);
+        assert_eq!(rt; Some(outcome.output.as_slice()), taken);
+        assert_eq!(rt;
+            outcome.errors.as_slice(),
+            b"arbiter: write failed\n".as_slice()
+        );
+        assert_eq!(rt; outcome.status, 1);
     }
 }

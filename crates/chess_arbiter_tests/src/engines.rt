@@ -1,29 +1,25 @@
 //! Matches between engines that run as processes: the program itself, as a stub.
 
-use crate::runs::{Devices, Outcome, SOUND, is_outcome, run, run_over};
+use crate::runs::{Devices, SOUND, run};
 use byte_devices::Counted;
-use chess_arbiter::SinceStart;
+use chess_arbiter::{SinceStart, run_program};
 use chess_match::Moments;
 use std::alloc::Global;
-use std::process::Abort;
 use std::test::Fail;
 use std::{env, fs};
 
-fn texts_of(alloc: Global, owned: &Vec<String>) -> Result<Vec<&str>, Fail> {
-    let mut words = Vec::new(alloc);
-    for word in owned {
-        words.push(word.as_str())?;
-    }
-    Ok(words)
-}
-
-// What a child of a test runs: the program, on the words behind this test's name. It also runs by itself, with no words.
+// What a child of a test runs: the program, on the words behind this test's name. It also runs by
+// itself, with no words.
 #[test]
 fn acts_as_the_program(rt: HostRuntime) -> Result<(), Fail> {
     let owned = env::args(&rt)?.skip(2).collect::<Vec<String>>(rt.alloc())?;
-    let words = texts_of(rt.alloc(), &owned)?;
-    let _status = run_over(
+    let mut words = Vec::new(rt.alloc());
+    for word in &owned {
+        words.push(word.as_str())?;
+    }
+    let _status = run_program(
         &rt,
+        rt.alloc(),
         words.as_slice(),
         &mut Counted::reading(rt.stdin()),
         &mut Counted::writing(rt.stdout()),
@@ -115,63 +111,43 @@ const PLAYED: [Played; 7] = [
     },
 ];
 
-fn add_word(words: &mut Vec<String>, alloc: Global, word: &str) -> Result<(), Fail> {
-    words.push(String::from_str(alloc, word)?)?;
-    Ok(())
-}
-
-fn add_words(words: &mut Vec<String>, alloc: Global, more: &[&str]) -> Result<(), Fail> {
-    for word in more {
-        add_word(words, alloc, word)?;
-    }
-    Ok(())
-}
-
 // The words of a match.
 fn words_of(rt: &HostRuntime, played: &Played) -> Result<Vec<String>, Fail> {
     let mut words = Vec::new(rt.alloc());
-    add_words(&mut words, rt.alloc(), &["match", "--white"])?;
+    words.push(String::from_str(rt.alloc(), "match")?)?;
+    words.push(String::from_str(rt.alloc(), "--white")?)?;
     words.push(stub(rt, played.white)?)?;
-    add_word(&mut words, rt.alloc(), "--black")?;
+    words.push(String::from_str(rt.alloc(), "--black")?)?;
     words.push(stub(rt, played.black)?)?;
-    add_words(&mut words, rt.alloc(), played.others)?;
+    for word in played.others {
+        words.push(String::from_str(rt.alloc(), word)?)?;
+    }
     Ok(words)
-}
-
-fn run_match(
-    rt: &HostRuntime,
-    played: &Played,
-    input: &[u8],
-    devices: Devices,
-) -> Result<Outcome, Fail> {
-    let owned = words_of(rt, played)?;
-    let words = texts_of(rt.alloc(), &owned)?;
-    Ok(run(rt, words.as_slice(), input, devices))
-}
-
-fn plays_as_told(host: &HostRuntime, rt: &impl Abort, played: &Played) -> Result<(), Fail> {
-    // The input is not read, so its failure is not met.
-    let devices = Devices {
-        read_fails: 1,
-        ..SOUND
-    };
-    let outcome = run_match(host, played, b"x", devices)?;
-    assert_eq!(rt;
-        std::str::from_utf8(outcome.output.as_slice())?,
-        played.output
-    );
-    assert_eq!(rt;
-        std::str::from_utf8(outcome.errors.as_slice())?,
-        played.errors
-    );
-    assert_eq!(rt; outcome.status, played.status);
-    Ok(())
 }
 
 #[test]
 fn stubs_play(rt: HostRuntime) -> Result<(), Fail> {
     for played in &PLAYED {
-        plays_as_told(&rt, &rt, played)?;
+        let owned = words_of(&rt, played)?;
+        let mut words = Vec::new(rt.alloc());
+        for word in &owned {
+            words.push(word.as_str())?;
+        }
+        // The input is not read, so its failure is not met.
+        let devices = Devices {
+            read_fails: 1,
+            ..SOUND
+        };
+        let outcome = run(&rt, words.as_slice(), b"x", devices);
+        assert_eq!(rt;
+            std::str::from_utf8(outcome.output.as_slice())?,
+            played.output
+        );
+        assert_eq!(rt;
+            std::str::from_utf8(outcome.errors.as_slice())?,
+            played.errors
+        );
+        assert_eq!(rt; outcome.status, played.status);
     }
     Ok(())
 }
@@ -182,112 +158,115 @@ fn held(rt: &HostRuntime) -> Result<(usize, Vec<u8>), Fail> {
     Ok((open, fs::read(rt, "/proc/thread-self/children")?))
 }
 
-fn leaves_as_held(
-    host: &HostRuntime,
-    rt: &impl Abort,
-    played: &Played,
-    open_before: usize,
-    children_before: &[u8],
-) -> Result<(), Fail> {
-    let _outcome = run_match(host, played, b"", SOUND)?;
-    let (open, children) = held(host)?;
-    assert_eq!(rt; open, open_before);
-    assert_eq!(rt; children.as_slice(), children_before);
-    Ok(())
-}
-
 #[test]
 fn engines_leave_nothing_behind(rt: HostRuntime) -> Result<(), Fail> {
-    let (open, children) = held(&rt)?;
+    let (open_before, children_before) = held(&rt)?;
     for played in &PLAYED {
-        leaves_as_held(&rt, &rt, played, open, children.as_slice())?;
+        let owned = words_of(&rt, played)?;
+        let mut words = Vec::new(rt.alloc());
+        for word in &owned {
+            words.push(word.as_str())?;
+        }
+        let _outcome = run(&rt, words.as_slice(), b"", SOUND);
+        let (open, children) = held(&rt)?;
+        assert_eq!(rt; open, open_before);
+        assert_eq!(rt; children.as_slice(), children_before.as_slice());
     }
     Ok(())
 }
 
-// A match ends before a game, with that told.
-fn ends_early(host: &HostRuntime, rt: &impl Abort, words: &[&str], told: &[u8], status: u8) {
-    is_outcome(rt, &run(host, words, b"", SOUND), b"", told, status);
-}
-
-fn can_not_start(host: &HostRuntime, rt: &impl Abort, white: &str, black: &str, told: &[u8]) {
-    let words = ["match", "--white", white, "--black", black];
-    ends_early(host, rt, words.as_slice(), told, 1);
+// Whether a match ends before a game, with that told.
+fn ends_early(rt: &HostRuntime, words: &[&str], told: &[u8], wanted: u8) -> bool {
+    let outcome = run(rt, words, b"", SOUND);
+    outcome.output.is_empty() && outcome.errors.as_slice() == told && outcome.status == wanted
 }
 
 #[test]
 fn engines_that_can_not_start(rt: HostRuntime) -> Result<(), Fail> {
     let stub = stub(&rt, "e2e4")?;
-    can_not_start(
-        &rt,
-        &rt,
-        "/no/such/engine x",
-        stub.as_str(),
-        b"arbiter: can not start /no/such/engine x\n",
+    assert!(rt;
+        ends_early(
+            &rt,
+            &[
+                "match",
+                "--white",
+                "/no/such/engine x",
+                "--black",
+                stub.as_str()
+            ],
+            b"arbiter: can not start /no/such/engine x\n",
+            1
+        )
     );
-    can_not_start(
-        &rt,
-        &rt,
-        stub.as_str(),
-        "/no/such/engine",
-        b"arbiter: can not start /no/such/engine\n",
+    assert!(rt;
+        ends_early(
+            &rt,
+            &[
+                "match",
+                "--white",
+                stub.as_str(),
+                "--black",
+                "/no/such/engine"
+            ],
+            b"arbiter: can not start /no/such/engine\n",
+            1
+        )
     );
-    can_not_start(
-        &rt,
-        &rt,
-        stub.as_str(),
-        " \t",
-        b"arbiter: can not start  \t\n",
+    assert!(rt;
+        ends_early(
+            &rt,
+            &["match", "--white", stub.as_str(), "--black", " \t"],
+            b"arbiter: can not start  \t\n",
+            1
+        )
     );
     Ok(())
 }
 
-fn is_out_of_form(host: &HostRuntime, rt: &impl Abort, option: &str, value: &str, told: &[u8]) {
-    let words = ["match", "--white", "x", "--black", "y", option, value];
-    ends_early(host, rt, words.as_slice(), told, 2);
-}
-
 #[test]
 fn matches_out_of_form(rt: HostRuntime) {
-    is_out_of_form(&rt, &rt, "--level", "40 5", b"arbiter: bad level\n");
-    is_out_of_form(&rt, &rt, "--level", "0 0:60 0", b"arbiter: bad level\n");
-    is_out_of_form(
-        &rt,
-        &rt,
-        "--fen",
-        "8/8/8/8/8/8/8/8 w - - 0 1",
-        b"arbiter: illegal position (kings)\n",
+    assert!(rt;
+        ends_early(
+            &rt,
+            &["match", "--white", "x", "--black", "y", "--level", "40 5"],
+            b"arbiter: bad level\n",
+            2
+        )
     );
-    is_out_of_form(&rt, &rt, "--date", "\u{7f}", b"arbiter: bad date\n");
-}
-
-fn match_breaks_off(
-    host: &HostRuntime,
-    rt: &impl Abort,
-    words: &[&str],
-    whole: &[u8],
-    write_fails: u64,
-) {
-    let devices = Devices {
-        taken: 4096,
-        write_fails,
-        ..SOUND
-    };
-    let broken = run(host, words, b"", devices);
-    assert!(rt; whole.starts_with(broken.output.as_slice()));
-    assert_eq!(rt;
-        broken.errors.as_slice(),
-        b"arbiter: write failed\n".as_slice()
+    assert!(rt;
+        ends_early(
+            &rt,
+            &[
+                "match", "--white", "x", "--black", "y", "--level", "0 0:60 0"
+            ],
+            b"arbiter: bad level\n",
+            2
+        )
     );
-    assert_eq!(rt; broken.status, 1);
-}
-
-fn match_breaks_off_in_turn(host: &HostRuntime, rt: &impl Abort, words: &[&str]) {
-    let whole = run(host, words, b"", SOUND);
-    assert_eq!(rt; whole.status, 0);
-    for write_fails in 1..=6 {
-        match_breaks_off(host, rt, words, whole.output.as_slice(), write_fails);
-    }
+    assert!(rt;
+        ends_early(
+            &rt,
+            &[
+                "match",
+                "--white",
+                "x",
+                "--black",
+                "y",
+                "--fen",
+                "8/8/8/8/8/8/8/8 w - - 0 1"
+            ],
+            b"arbiter: illegal position (kings)\n",
+            2
+        )
+    );
+    assert!(rt;
+        ends_early(
+            &rt,
+            &["match", "--white", "x", "--black", "y", "--date", "\u{7f}"],
+            b"arbiter: bad date\n",
+            2
+        )
+    );
 }
 
 // The output fails at the calls of a match of two games: at most this number.
@@ -303,7 +282,22 @@ fn a_match_on_a_failed_output(rt: HostRuntime) -> Result<(), Fail> {
         "--games",
         "2",
     ];
-    match_breaks_off_in_turn(&rt, &rt, words.as_slice());
+    let whole = run(&rt, words.as_slice(), b"", SOUND);
+    assert_eq!(rt; whole.status, 0);
+    for write_fails in 1..=6 {
+        let devices = Devices {
+            taken: 4096,
+            write_fails,
+            ..SOUND
+        };
+        let broken = run(&rt, words.as_slice(), b"", devices);
+        assert!(rt; whole.output.starts_with(broken.output.as_slice()));
+        assert_eq!(rt;
+            broken.errors.as_slice(),
+            b"arbiter: write failed\n".as_slice()
+        );
+        assert_eq!(rt; broken.status, 1);
+    }
     Ok(())
 }
 
@@ -431,19 +425,17 @@ const SAID: [Said; 12] = [
     },
 ];
 
-fn says_as_told(host: &HostRuntime, rt: &impl Abort, said: &Said) {
-    let devices = Devices {
-        read_fails: said.fails.0,
-        write_fails: said.fails.1,
-        ..SOUND
-    };
-    let outcome = run(host, said.words, said.input, devices);
-    is_outcome(rt, &outcome, said.output, said.errors, said.status);
-}
-
 #[test]
 fn stubs_say(rt: HostRuntime) {
     for said in &SAID {
-        says_as_told(&rt, &rt, said);
+        let devices = Devices {
+            read_fails: said.fails.0,
+            write_fails: said.fails.1,
+            ..SOUND
+        };
+        let outcome = run(&rt, said.words, said.input, devices);
+        assert_eq!(rt; outcome.output.as_slice(), said.output);
+        assert_eq!(rt; outcome.errors.as_slice(), said.errors);
+        assert_eq!(rt; outcome.status, said.status);
     }
 }

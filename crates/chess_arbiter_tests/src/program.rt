@@ -1,9 +1,9 @@
 //! The program over memory: its words, its faults and its help.
 
-use crate::runs::{Devices, SOUND, is_outcome, run, run_over};
+use crate::runs::{Devices, SOUND, run};
 use byte_devices::{Counted, PieceWriter};
-use chess_arbiter::ProgramFault;
-use std::process::{Abort, ExitCode};
+use chess_arbiter::{ProgramFault, run_program};
+use std::process::ExitCode;
 use std::test::Fail;
 
 /// A run of the program over memory, where a call of the input or of the output fails (0: none does).
@@ -199,21 +199,19 @@ const CASES: [Case; 22] = [
     },
 ];
 
-fn runs_as_told(host: &HostRuntime, rt: &impl Abort, case: &Case) {
-    let devices = Devices {
-        piece: 100,
-        read_fails: case.fails.0,
-        taken: 100,
-        write_fails: case.fails.1,
-    };
-    let outcome = run(host, case.words, case.input, devices);
-    is_outcome(rt, &outcome, case.output, case.errors, case.status);
-}
-
 #[test]
 fn runs_of_the_program(rt: HostRuntime) {
     for case in &CASES {
-        runs_as_told(&rt, &rt, case);
+        let devices = Devices {
+            piece: 100,
+            read_fails: case.fails.0,
+            taken: 100,
+            write_fails: case.fails.1,
+        };
+        let outcome = run(&rt, case.words, case.input, devices);
+        assert_eq!(rt; outcome.output.as_slice(), case.output);
+        assert_eq!(rt; outcome.errors.as_slice(), case.errors);
+        assert_eq!(rt; outcome.status, case.status);
     }
 }
 
@@ -222,7 +220,14 @@ fn a_failed_error_output_changes_no_status(rt: HostRuntime) {
     let mut input = Counted::reading(b"".as_slice());
     let mut output = Counted::writing(Vec::<u8>::new(rt.alloc()));
     let mut errors = Counted::writing(PieceWriter::new(rt.alloc(), 3, 2));
-    let status = run_over(&rt, &["x"], &mut input, &mut output, &mut errors);
+    let status = run_program(
+        &rt,
+        rt.alloc(),
+        &["x"],
+        &mut input,
+        &mut output,
+        &mut errors,
+    );
     assert_eq!(rt; errors.writer().bytes.as_slice(), b"err".as_slice());
     assert_eq!(rt; status, 2);
 }
@@ -262,29 +267,16 @@ const HELP: [(&[&str], &[&str]); 3] = [
     ),
 ];
 
-fn names_all(rt: &impl Abort, help: &str, named: &[&str]) {
-    for name in named {
-        assert!(rt; help.contains(*name));
-    }
-}
-
-fn is_help(
-    host: &HostRuntime,
-    rt: &impl Abort,
-    words: &[&str],
-    named: &[&str],
-) -> Result<(), Fail> {
-    let outcome = run(host, words, b"ping 1\n", SOUND);
-    names_all(rt, std::str::from_utf8(outcome.output.as_slice())?, named);
-    assert_eq!(rt; outcome.errors.as_slice(), b"".as_slice());
-    assert_eq!(rt; outcome.status, 0);
-    Ok(())
-}
-
 #[test]
 fn help_names_the_words(rt: HostRuntime) -> Result<(), Fail> {
     for (words, named) in &HELP {
-        is_help(&rt, &rt, words, named)?;
+        let outcome = run(&rt, words, b"ping 1\n", SOUND);
+        let help = std::str::from_utf8(outcome.output.as_slice())?;
+        for name in *named {
+            assert!(rt; help.contains(*name));
+        }
+        assert_eq!(rt; outcome.errors.as_slice(), b"".as_slice());
+        assert_eq!(rt; outcome.status, 0);
     }
     Ok(())
 }
@@ -297,7 +289,12 @@ fn help_on_a_failed_output(rt: HostRuntime) {
         ..SOUND
     };
     let outcome = run(&rt, &["--version"], b"", devices);
-    is_outcome(&rt, &outcome, b"arb", b"arbiter: write failed\n", 1);
+    assert_eq!(rt; outcome.output.as_slice(), b"arb".as_slice());
+    assert_eq!(rt;
+        outcome.errors.as_slice(),
+        b"arbiter: write failed\n".as_slice()
+    );
+    assert_eq!(rt; outcome.status, 1);
 }
 
 // Each fault, how it is told and the status.
@@ -309,23 +306,12 @@ const FAULTS: [(ProgramFault, &str, u8); 5] = [
     (ProgramFault::WrongWords, "wrong words", 2),
 ];
 
-fn fault_is_told(
-    host: &HostRuntime,
-    rt: &impl Abort,
-    fault: &ProgramFault,
-    text: &str,
-    status: u8,
-) -> Result<(), Fail> {
-    let told = format!(in host.alloc(); "{fault}")?;
-    assert_eq!(rt; told.as_str(), text);
-    assert_eq!(rt; fault.status(), status);
-    Ok(())
-}
-
 #[test]
 fn faults_have_texts(rt: HostRuntime) -> Result<(), Fail> {
     for (fault, text, status) in &FAULTS {
-        fault_is_told(&rt, &rt, fault, text, *status)?;
+        let told = format!(in rt.alloc(); "{fault}")?;
+        assert_eq!(rt; told.as_str(), *text);
+        assert_eq!(rt; fault.status(), *status);
     }
     Ok(())
 }

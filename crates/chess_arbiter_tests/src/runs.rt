@@ -2,8 +2,6 @@
 
 use byte_devices::{Counted, PieceReader, PieceWriter};
 use chess_arbiter::run_program;
-use std::io::{Read, Write};
-use std::process::Abort;
 
 /// How the devices of a run are cut, and at which call they fail (0: at none).
 #[derive(Clone, Copy)]
@@ -34,18 +32,7 @@ pub struct Outcome {
     pub status: u8,
 }
 
-/// Runs the program over devices. Its contract stays in here: tests compare values.
-pub fn run_over<R: Read, W: Write, E: Write>(
-    rt: &HostRuntime,
-    words: &[&str],
-    input: &mut Counted<R>,
-    output: &mut Counted<W>,
-    errors: &mut Counted<E>,
-) -> u8 {
-    run_program(rt, rt.alloc(), words, input, output, errors)
-}
-
-/// Runs the program over memory.
+/// Runs the program over memory. Its contract stays in here: tests compare values.
 pub fn run(rt: &HostRuntime, words: &[&str], input: &[u8], devices: Devices) -> Outcome {
     let mut reader = Counted::reading(PieceReader::new(
         input,
@@ -58,17 +45,10 @@ pub fn run(rt: &HostRuntime, words: &[&str], input: &[u8], devices: Devices) -> 
         devices.write_fails,
     ));
     let mut errors = Counted::writing(PieceWriter::new(rt.alloc(), 1024, 0));
-    let status = run_over(rt, words, &mut reader, &mut output, &mut errors);
+    let status = run_program(rt, rt.alloc(), words, &mut reader, &mut output, &mut errors);
     Outcome {
         output: output.into_writer().bytes,
         errors: errors.into_writer().bytes,
         status,
     }
-}
-
-/// A run wrote these bytes and ended with that status.
-pub fn is_outcome(rt: &impl Abort, outcome: &Outcome, output: &[u8], errors: &[u8], status: u8) {
-    assert_eq!(rt; outcome.output.as_slice(), output);
-    assert_eq!(rt; outcome.errors.as_slice(), errors);
-    assert_eq!(rt; outcome.status, status);
 }

@@ -2,12 +2,11 @@
 
 ghost use Rattle.std.specs.Prelude.{◌≤◌, length};
 
-use crate::runs::{Devices, SOUND, is_outcome, run, run_over};
+use crate::runs::{Devices, SOUND, run};
 use byte_devices::{Counted, GatedWriter};
-use std::alloc::Global;
+use chess_arbiter::run_program;
 use std::cell::Cell;
 use std::io::{self, Read};
-use std::process::Abort;
 use std::test::Fail;
 
 // Games as they are verified: the text, what is told, and the status.
@@ -67,18 +66,6 @@ const GAMES: [(&[u8], &[u8], u8); 16] = [
     (b"", b"", 0),
 ];
 
-fn is_verified(
-    host: &HostRuntime,
-    rt: &impl Abort,
-    words: &[&str],
-    text: &[u8],
-    devices: Devices,
-    told: &[u8],
-    status: u8,
-) {
-    is_outcome(rt, &run(host, words, text, devices), told, b"", status);
-}
-
 #[test]
 fn games_are_verified(rt: HostRuntime) {
     let devices = Devices {
@@ -86,8 +73,11 @@ fn games_are_verified(rt: HostRuntime) {
         taken: 5,
         ..SOUND
     };
-    for (text, told, status) in &GAMES {
-        is_verified(&rt, &rt, &["verify"], text, devices, told, *status);
+    for (text, told, wanted) in &GAMES {
+        let outcome = run(&rt, &["verify"], text, devices);
+        assert_eq!(rt; outcome.output.as_slice(), *told);
+        assert_eq!(rt; outcome.errors.as_slice(), b"".as_slice());
+        assert_eq!(rt; outcome.status, *wanted);
     }
 }
 
@@ -98,7 +88,14 @@ fn lines_on_games_are_flushed(rt: HostRuntime) {
     let mut input = Counted::reading(b"* 1. e4 *".as_slice());
     let mut output = Counted::writing(GatedWriter::new(rt.alloc(), &open));
     let mut errors = Counted::writing(Vec::<u8>::new(rt.alloc()));
-    let status = run_over(&rt, &["verify"], &mut input, &mut output, &mut errors);
+    let status = run_program(
+        &rt,
+        rt.alloc(),
+        &["verify"],
+        &mut input,
+        &mut output,
+        &mut errors,
+    );
     assert_eq!(rt; status, 0);
     assert_eq!(rt;
         output.writer().bytes.as_slice(),
@@ -127,7 +124,14 @@ fn more_than_16_mebibytes_are_too_long(rt: HostRuntime) {
     let mut input = Counted::reading(Blanks);
     let mut output = Counted::writing(Vec::<u8>::new(rt.alloc()));
     let mut errors = Counted::writing(Vec::<u8>::new(rt.alloc()));
-    let status = run_over(&rt, &["verify"], &mut input, &mut output, &mut errors);
+    let status = run_program(
+        &rt,
+        rt.alloc(),
+        &["verify"],
+        &mut input,
+        &mut output,
+        &mut errors,
+    );
     assert_eq!(rt; output.writer().as_slice(), b"".as_slice());
     assert_eq!(rt;
         errors.writer().as_slice(),
@@ -208,65 +212,35 @@ const BY_WORDS: [(&[&str], &[u8], &[u8], u8); 11] = [
     ),
 ];
 
-fn is_verified_in_pieces(
-    host: &HostRuntime,
-    rt: &impl Abort,
-    words: &[&str],
-    text: &[u8],
-    pieces: &[usize],
-    told: &[u8],
-    status: u8,
-) {
-    for piece in pieces {
-        let devices = Devices {
-            piece: *piece,
-            ..SOUND
-        };
-        is_verified(host, rt, words, text, devices, told, status);
-    }
-}
-
 #[test]
 fn games_verified_by_words(rt: HostRuntime) {
     for (words, text, told, status) in &BY_WORDS {
-        is_verified_in_pieces(&rt, &rt, words, text, &[1, 7, 100], told, *status);
+        for piece in [1, 7, 100] {
+            let outcome = run(&rt, words, text, Devices { piece, ..SOUND });
+            assert_eq!(rt; outcome.output.as_slice(), *told);
+            assert_eq!(rt; outcome.errors.as_slice(), b"".as_slice());
+            assert_eq!(rt; outcome.status, *status);
+        }
     }
-}
-
-// Words with `--any-size` behind so many of them.
-fn words_with_any_size<'a>(
-    alloc: Global,
-    words: &[&'a str],
-    place: usize,
-) -> Result<Vec<&'a str>, Fail> {
-    let (front, back) = words.split_at_checked(place).ok_or("a place")?;
-    let mut more = Vec::new(alloc);
-    more.extend_from_slice(front)?;
-    more.push("--any-size")?;
-    more.extend_from_slice(back)?;
-    Ok(more)
-}
-
-fn is_verified_at_any_size(
-    host: &HostRuntime,
-    rt: &impl Abort,
-    words: &[&str],
-    text: &[u8],
-    told: &[u8],
-    status: u8,
-) -> Result<(), Fail> {
-    for place in 1..=words.len() {
-        let more = words_with_any_size(host.alloc(), words, place)?;
-        is_verified_in_pieces(host, rt, more.as_slice(), text, &[1, 100], told, status);
-    }
-    Ok(())
 }
 
 // With `--any-size` the lines are the same, wherever it stands among the words.
 #[test]
 fn games_of_any_size_by_words(rt: HostRuntime) -> Result<(), Fail> {
     for (words, text, told, status) in &BY_WORDS {
-        is_verified_at_any_size(&rt, &rt, words, text, told, *status)?;
+        for place in 1..=words.len() {
+            let (front, back) = words.split_at_checked(place).ok_or("a place")?;
+            let mut more = Vec::new(rt.alloc());
+            more.extend_from_slice(front)?;
+            more.push("--any-size")?;
+            more.extend_from_slice(back)?;
+            for piece in [1, 100] {
+                let outcome = run(&rt, more.as_slice(), text, Devices { piece, ..SOUND });
+                assert_eq!(rt; outcome.output.as_slice(), *told);
+                assert_eq!(rt; outcome.errors.as_slice(), b"".as_slice());
+                assert_eq!(rt; outcome.status, *status);
+            }
+        }
     }
     Ok(())
 }
@@ -279,16 +253,11 @@ fn games_of_any_size(rt: HostRuntime) {
         taken: 5,
         ..SOUND
     };
-    for (text, told, status) in &GAMES {
-        is_verified(
-            &rt,
-            &rt,
-            &["verify", "--any-size"],
-            text,
-            devices,
-            told,
-            *status,
-        );
+    for (text, told, wanted) in &GAMES {
+        let outcome = run(&rt, &["verify", "--any-size"], text, devices);
+        assert_eq!(rt; outcome.output.as_slice(), *told);
+        assert_eq!(rt; outcome.errors.as_slice(), b"".as_slice());
+        assert_eq!(rt; outcome.status, *wanted);
     }
 }
 
@@ -389,30 +358,18 @@ const LONG: [(&[&str], &[u8], usize, &[u8], &[u8], u8); 7] = [
     (&["verify"], b"{", 16_777_212, b"} *\n1. e4 *", b"", 1),
 ];
 
-fn long_comment_is_verified(
-    host: &HostRuntime,
-    rt: &impl Abort,
-    words: &[&str],
-    comment: LongComment,
-    told: &[u8],
-    status: u8,
-) {
-    let mut input = Counted::reading(comment);
-    let mut output = Counted::writing(Vec::<u8>::new(host.alloc()));
-    let mut errors = Counted::writing(Vec::<u8>::new(host.alloc()));
-    let ended = run_over(host, words, &mut input, &mut output, &mut errors);
-    assert_eq!(rt; output.writer().as_slice(), told);
-    assert_eq!(rt; ended, status);
-}
-
 #[test]
 fn games_with_long_comments(rt: HostRuntime) {
     for (words, front, inner, back, told, status) in &LONG {
-        let comment = LongComment {
+        let mut input = Counted::reading(LongComment {
             front,
             inner: *inner,
             back,
-        };
-        long_comment_is_verified(&rt, &rt, words, comment, told, *status);
+        });
+        let mut output = Counted::writing(Vec::<u8>::new(rt.alloc()));
+        let mut errors = Counted::writing(Vec::<u8>::new(rt.alloc()));
+        let ended = run_program(&rt, rt.alloc(), words, &mut input, &mut output, &mut errors);
+        assert_eq!(rt; output.writer().as_slice(), *told);
+        assert_eq!(rt; ended, *status);
     }
 }

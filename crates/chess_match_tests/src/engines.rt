@@ -1,13 +1,38 @@
-use crate::plays::{Listed, play_over, setup_of};
 use byte_devices::{Counted, PieceReader, PieceWriter};
 use chess_base::{Colour, Position};
 use chess_fen::read_fen;
-use chess_match::{Ends, MatchFault, Moments};
+use chess_game::Game;
+use chess_match::{Ends, MatchFault, Moments, Setup, run_match};
+use chess_moves::Plain;
+use engine_lines::Level;
 use std::alloc::Global;
 use std::cell::Cell;
 use std::io::{Error, ErrorKind, Read, Write};
 use std::process::Abort;
 use std::test::Fail;
+
+/// Moments in a list, and then zeros.
+#[derive(Drop)]
+struct Listed<'a> {
+    rest: &'a [u64],
+}
+
+impl Moments for Listed<'_> {
+    ghost use Rattle.std.specs.Prelude.{None};
+
+    ghost coming = { λ m n. None };
+
+    fn now(&mut self) -> u64 {
+        match self.rest {
+            [] => 0,
+            [first, behind @ ..] => {
+                let moment = *first;
+                self.rest = behind;
+                moment
+            }
+        }
+    }
+}
 
 /// A match: its level and start, what the engines say, the moments, and what the engines are sent.
 struct Row {
@@ -145,23 +170,36 @@ fn ends(alloc: Global, bytes: &[u8], cut: usize, read: u64, write: u64) -> TestE
     }
 }
 
-// The first row over devices that may fail, at a read from White and at writes to both. The fault at the end, and what both
-// took.
-fn broken(
+// The first row over devices that may fail. The fault at the end, and what both took.
+fn broken<'a>(
     rt: &impl Abort,
     alloc: Global,
-    fails: (u64, u64, u64),
-    fault: (Colour, MatchFault),
+    mut white: TestEnds<'a>,
+    mut black: TestEnds<'a>,
+    fault: Option<(Colour, MatchFault)>,
     to_white: &[u8],
     to_black: &[u8],
 ) -> Result<(), Fail> {
-    let row = &ROWS[0];
-    let setup = setup_of(rt, row.level, Position::initial());
-    let mut white = ends(alloc, row.white, 1024, fails.0, fails.1);
-    let mut black = ends(alloc, row.black, 1024, 0, fails.2);
+    let level = match Level::read(ROWS[0].level) {
+        Some(level) => level,
+        None => panic!(rt; "level"),
+    };
+    let setup = Setup {
+        start: Position::initial(),
+        level,
+    };
+    let mut game = Game::open(alloc, Plain::new(), 100)?;
+    let mut scratch = Plain::new();
     let mut moments = Listed { rest: &[] };
-    let (end, _) = play_over(alloc, &mut white, &mut black, &mut moments, &setup)?;
-    assert_eq!(rt; end.fault, Some(fault));
+    let end = run_match(
+        &mut white,
+        &mut black,
+        &mut moments,
+        &setup,
+        &mut game,
+        &mut scratch,
+    );
+    assert_eq!(rt; end.fault, fault);
     assert_eq!(rt; white.writer.writer().bytes.as_slice(), to_white);
     assert_eq!(rt; black.writer.writer().bytes.as_slice(), to_black);
     Ok(())
@@ -169,27 +207,31 @@ fn broken(
 
 #[test]
 fn devices_that_fail(rt: HostRuntime) -> Result<(), Fail> {
+    let row = &ROWS[0];
     broken(
         &rt,
         rt.alloc(),
-        (1, 0, 0),
-        (Colour::White, MatchFault::Read),
+        ends(rt.alloc(), row.white, 1024, 1, 0),
+        ends(rt.alloc(), row.black, 1024, 0, 0),
+        Some((Colour::White, MatchFault::Read)),
         b"xboard\nprotover 2\nresult * {White can not be read}\nquit\n",
         b"result * {White can not be read}\nquit\n",
     )?;
     broken(
         &rt,
         rt.alloc(),
-        (0, 0, 1),
-        (Colour::Black, MatchFault::Write),
+        ends(rt.alloc(), row.white, 1024, 0, 0),
+        ends(rt.alloc(), row.black, 1024, 0, 1),
+        Some((Colour::Black, MatchFault::Write)),
         b"xboard\nprotover 2\naccepted ping\naccepted usermove\naccepted done\nresult * {Black can not be written}\nquit\n",
         b"",
     )?;
     broken(
         &rt,
         rt.alloc(),
-        (0, 1, 0),
-        (Colour::White, MatchFault::Write),
+        ends(rt.alloc(), row.white, 1024, 0, 1),
+        ends(rt.alloc(), row.black, 1024, 0, 0),
+        Some((Colour::White, MatchFault::Write)),
         b"",
         b"result * {White can not be written}\nquit\n",
     )?;
@@ -197,8 +239,9 @@ fn devices_that_fail(rt: HostRuntime) -> Result<(), Fail> {
     broken(
         &rt,
         rt.alloc(),
-        (0, 4, 0),
-        (Colour::White, MatchFault::Write),
+        ends(rt.alloc(), row.white, 1024, 0, 4),
+        ends(rt.alloc(), row.black, 1024, 0, 0),
+        Some((Colour::White, MatchFault::Write)),
         b"xboard\nprotover 2\naccepted ping\naccepted usermove\naccepted done\n",
         b"result * {White can not be written}\nquit\n",
     )?;
@@ -206,45 +249,52 @@ fn devices_that_fail(rt: HostRuntime) -> Result<(), Fail> {
     broken(
         &rt,
         rt.alloc(),
-        (0, 15, 0),
-        (Colour::White, MatchFault::Write),
+        ends(rt.alloc(), row.white, 1024, 0, 15),
+        ends(rt.alloc(), row.black, 1024, 0, 0),
+        Some((Colour::White, MatchFault::Write)),
         b"xboard\nprotover 2\naccepted ping\naccepted usermove\naccepted done\nnew\nlevel 0 0:10 0\nnopost\neasy\nforce\nping 1\ntime 1000\notim 1000\ngo\nping 2\ntime 1000\notim 1000\nusermove e7e5\nping 3\n",
-        ROWS[0].to_black,
+        row.to_black,
     )
 }
 
-// The position of a FEN; of none, the initial one.
-fn start_of(rt: &impl Abort, fen: &[u8]) -> Position {
-    if fen.is_empty() {
-        return Position::initial();
-    }
-    match read_fen(fen) {
-        Ok(start) => start,
-        Err(_) => panic!(rt; "start"),
-    }
-}
-
 fn check(rt: &impl Abort, alloc: Global, row: &Row, cut: usize) -> Result<(), Fail> {
-    let setup = setup_of(rt, row.level, start_of(rt, row.start));
+    let level = match Level::read(row.level) {
+        Some(level) => level,
+        None => panic!(rt; "level"),
+    };
+    let start = if row.start.is_empty() {
+        Position::initial()
+    } else {
+        match read_fen(row.start) {
+            Ok(start) => start,
+            Err(_) => panic!(rt; "start"),
+        }
+    };
+    let setup = Setup { start, level };
+    let mut game = Game::open(alloc, Plain::new(), 100)?;
+    let mut scratch = Plain::new();
     let mut white = ends(alloc, row.white, cut, 0, 0);
     let mut black = ends(alloc, row.black, cut, 0, 0);
     let mut moments = Listed { rest: row.moments };
-    let _end = play_over(alloc, &mut white, &mut black, &mut moments, &setup)?;
+    let _end = run_match(
+        &mut white,
+        &mut black,
+        &mut moments,
+        &setup,
+        &mut game,
+        &mut scratch,
+    );
     assert_eq!(rt; white.writer.writer().bytes.as_slice(), row.to_white);
     assert_eq!(rt; black.writer.writer().bytes.as_slice(), row.to_black);
     Ok(())
 }
 
-fn check_in_pieces(rt: &impl Abort, alloc: Global, row: &Row) -> Result<(), Fail> {
-    check(rt, alloc, row, 1)?;
-    check(rt, alloc, row, 7)?;
-    check(rt, alloc, row, 1024)
-}
-
 #[test]
 fn worked_matches(rt: HostRuntime) -> Result<(), Fail> {
     for row in &ROWS {
-        check_in_pieces(&rt, rt.alloc(), row)?;
+        for cut in [1, 7, 1024] {
+            check(&rt, rt.alloc(), row, cut)?;
+        }
     }
     Ok(())
 }
@@ -368,28 +418,6 @@ const BLACK_SAYS: [(u64, &'static [u8]); 5] = [
     (18, b"move d8h4\n"),
 ];
 
-type ScriptedEnds<'a> = Ends<Counted<Scripted<'a>>, Counted<Flushed<'a>>>;
-
-fn scripted_ends<'a>(
-    alloc: Global,
-    lines: &'static [(u64, &'static [u8])],
-    shared: &'a Shared,
-    side: Colour,
-) -> ScriptedEnds<'a> {
-    Ends {
-        reader: Counted::reading(Scripted {
-            lines,
-            shared,
-            side,
-        }),
-        writer: Counted::writing(Flushed {
-            bytes: Vec::new(alloc),
-            shared,
-            side,
-        }),
-    }
-}
-
 #[test]
 fn blocks_are_flushed_and_moments_asked_in_time(rt: HostRuntime) -> Result<(), Fail> {
     let shared = Shared {
@@ -397,11 +425,49 @@ fn blocks_are_flushed_and_moments_asked_in_time(rt: HostRuntime) -> Result<(), F
         black: Cell::new(0),
         reads: Cell::new(0),
     };
-    let mut white = scripted_ends(rt.alloc(), &WHITE_SAYS, &shared, Colour::White);
-    let mut black = scripted_ends(rt.alloc(), &BLACK_SAYS, &shared, Colour::Black);
-    let setup = setup_of(&rt, b"0 0:10 0", Position::initial());
+    let mut white = Ends {
+        reader: Counted::reading(Scripted {
+            lines: &WHITE_SAYS,
+            shared: &shared,
+            side: Colour::White,
+        }),
+        writer: Counted::writing(Flushed {
+            bytes: Vec::new(rt.alloc()),
+            shared: &shared,
+            side: Colour::White,
+        }),
+    };
+    let mut black = Ends {
+        reader: Counted::reading(Scripted {
+            lines: &BLACK_SAYS,
+            shared: &shared,
+            side: Colour::Black,
+        }),
+        writer: Counted::writing(Flushed {
+            bytes: Vec::new(rt.alloc()),
+            shared: &shared,
+            side: Colour::Black,
+        }),
+    };
+    let level = match Level::read(b"0 0:10 0") {
+        Some(level) => level,
+        None => panic!(rt; "level"),
+    };
+    let setup = Setup {
+        start: Position::initial(),
+        level,
+    };
+    let mut game = Game::open(rt.alloc(), Plain::new(), 100)?;
+    let mut scratch = Plain::new();
     let mut moments = Ticks { shared: &shared };
-    let (end, _) = play_over(rt.alloc(), &mut white, &mut black, &mut moments, &setup)?;
+    let end = run_match(
+        &mut white,
+        &mut black,
+        &mut moments,
+        &setup,
+        &mut game,
+        &mut scratch,
+    );
     assert_eq!(rt; end.fault, None);
     assert_eq!(rt;
         white.writer.writer().bytes.as_slice(),

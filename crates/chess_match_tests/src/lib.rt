@@ -5,5 +5,3 @@
 mod engines;
 #[cfg(test)]
 mod matches;
-#[cfg(test)]
-mod plays;
