@@ -2,7 +2,6 @@ use chess_fen::write_fen;
 use chess_game::{Game, Outcome, Verdict};
 use chess_moves::Plain;
 use chess_pgn::{PgnEnd, PgnFault, PgnFaultKind, Termination, read_pgn};
-use std::alloc::Global;
 use std::process::Abort;
 use std::test::Fail;
 
@@ -535,13 +534,8 @@ const ROWS: [Row; 77] = [
     },
 ];
 
-// Calls of a game without clauses: what the contracts say stays in here, and tests compare values. So does what a loop below
-// does in each round, and each comparison: a long body is dear to prove.
-
-fn opened(alloc: Global, limit: u32) -> Result<Game<Plain>, Fail> {
-    Ok(Game::open(alloc, Plain::new(), limit.clamp(1, 20_000))?)
-}
-
+// Reads a game, without clauses: what its contract says stays in here, and tests compare values. So does what a loop
+// below does in each round: a loop in a long body is dear to prove.
 fn read(
     rt: &impl Abort,
     text: &[u8],
@@ -552,23 +546,16 @@ fn read(
     read_pgn(text, at, game)
 }
 
-fn is_answered(rt: &impl Abort, game: &mut Game<Plain>, text: &[u8], wanted: Wanted) {
-    assert_eq!(rt; read(rt, text, 0, game), wanted.answer(), "at {text:?}");
-}
-
-fn has_ply(rt: &impl Abort, game: &Game<Plain>, ply: usize, text: &[u8]) {
-    assert_eq!(rt; game.ply(), ply, "at {text:?}");
-}
-
-fn has_declared(rt: &impl Abort, game: &Game<Plain>, outcome: Option<Outcome>, text: &[u8]) {
-    assert_eq!(rt; declared(rt, game), outcome, "at {text:?}");
-}
-
 // Reads a row's text, and compares the answer, the half-moves that stand and what is declared.
 fn is_read(rt: &impl Abort, game: &mut Game<Plain>, row: &Row) {
-    is_answered(rt, game, row.text, row.wanted);
-    has_ply(rt, game, row.ply, row.text);
-    has_declared(rt, game, row.declared, row.text);
+    assert_eq!(rt;
+        read(rt, row.text, 0, game),
+        row.wanted.answer(),
+        "at {:?}",
+        row.text
+    );
+    assert_eq!(rt; game.ply(), row.ply, "at {:?}", row.text);
+    assert_eq!(rt; declared(rt, game), row.declared, "at {:?}", row.text);
 }
 
 // The outcome that is declared with an empty comment.
@@ -586,7 +573,7 @@ fn are_read(rt: &impl Abort, game: &mut Game<Plain>, rows: &[Row]) {
 
 #[test]
 fn games_are_read(rt: HostRuntime) -> Result<(), Fail> {
-    let mut game = opened(rt.alloc(), 100)?;
+    let mut game = Game::open(rt.alloc(), Plain::new(), 100)?;
     are_read(&rt, &mut game, &ROWS);
     Ok(())
 }
@@ -685,41 +672,30 @@ const VARIANTS: [Row; 14] = [
 
 #[test]
 fn variants_and_terminations_are_read(rt: HostRuntime) -> Result<(), Fail> {
-    let mut game = opened(rt.alloc(), 100)?;
+    let mut game = Game::open(rt.alloc(), Plain::new(), 100)?;
     are_read(&rt, &mut game, &VARIANTS);
     Ok(())
 }
 
-fn has_outcome(rt: &impl Abort, game: &Game<Plain>, outcome: Outcome) {
-    assert_eq!(rt; game.outcome(), outcome);
-}
-
-fn says_nothing(rt: &impl Abort, game: &Game<Plain>) {
-    assert!(rt; game.declared().is_none());
-}
-
-fn starts_at(rt: &impl Abort, game: &Game<Plain>, fen: &[u8]) {
-    assert_eq!(rt; write_fen(&game.start()).as_slice(), fen);
-}
-
-fn is_at(rt: &impl Abort, game: &Game<Plain>, fen: &[u8]) {
-    assert_eq!(rt; write_fen(&game.position()).as_slice(), fen);
-}
-
 fn is_too_long(rt: &impl Abort, text: &[u8], game: &mut Game<Plain>) {
-    is_answered(rt, game, text, Wanted::Fault(PgnFaultKind::TooLong, 6));
-    has_ply(rt, game, 1, text);
-    has_outcome(rt, game, Outcome::Unfinished);
+    assert_eq!(rt;
+        read(rt, text, 0, game),
+        Wanted::Fault(PgnFaultKind::TooLong, 6).answer()
+    );
+    assert_eq!(rt; game.ply(), 1);
+    assert_eq!(rt; game.outcome(), Outcome::Unfinished);
 }
 
 #[test]
 fn a_game_of_one_move_is_full(rt: HostRuntime) -> Result<(), Fail> {
-    let mut game = opened(rt.alloc(), 1)?;
+    let mut game = Game::open(rt.alloc(), Plain::new(), 1)?;
     is_too_long(&rt, b"1. e4 e5 *", &mut game);
     is_too_long(&rt, b"1. e4 e4 *", &mut game);
-    let wanted = Wanted::Ended(Outcome::WhiteWins, 9);
-    is_answered(&rt, &mut game, b"1. e4 1-0", wanted);
-    has_outcome(&rt, &game, Outcome::WhiteWins);
+    assert_eq!(rt;
+        read(&rt, b"1. e4 1-0", 0, &mut game),
+        Wanted::Ended(Outcome::WhiteWins, 9).answer()
+    );
+    assert_eq!(rt; game.outcome(), Outcome::WhiteWins);
     Ok(())
 }
 
@@ -747,41 +723,40 @@ fn are_read_on(
     }
 }
 
-const GAMES_OF_A_TEXT: [(usize, Wanted, usize); 5] = [
-    (0, Wanted::Ended(Outcome::Unfinished, 1), 0),
-    (1, Wanted::Ended(Outcome::Draw, 15), 1),
-    (15, Wanted::Ended(Outcome::BlackWins, 33), 1),
-    (33, Wanted::NoGame, 0),
-    (40, Wanted::NoGame, 0),
-];
-
 #[test]
 fn games_are_read_one_after_the_other(rt: HostRuntime) -> Result<(), Fail> {
-    let mut game = opened(rt.alloc(), 100)?;
+    let mut game = Game::open(rt.alloc(), Plain::new(), 100)?;
     let text: &[u8] = b"* 1. d4 1/2-1/2[White \"x\"]\ne4 0-1 {end}\n";
-    are_read_on(&rt, text, &mut game, &GAMES_OF_A_TEXT);
+    let rows = [
+        (0, Wanted::Ended(Outcome::Unfinished, 1), 0),
+        (1, Wanted::Ended(Outcome::Draw, 15), 1),
+        (15, Wanted::Ended(Outcome::BlackWins, 33), 1),
+        (33, Wanted::NoGame, 0),
+        (40, Wanted::NoGame, 0),
+    ];
+    are_read_on(&rt, text, &mut game, &rows);
     // With no game left, it is the initial position with nothing declared.
-    says_nothing(&rt, &game);
-    is_at(
-        &rt,
-        &game,
-        b"rnbqkbnr/pppppppp/8/8/8/8/PPPPPPPP/RNBQKBNR w KQkq - 0 1",
-    );
+    assert!(rt; game.declared().is_none());
+    let initial: &[u8] = b"rnbqkbnr/pppppppp/8/8/8/8/PPPPPPPP/RNBQKBNR w KQkq - 0 1";
+    assert_eq!(rt; write_fen(&game.position()).as_slice(), initial);
     Ok(())
 }
 
 #[test]
 fn a_bad_fen_leaves_the_start_before_it(rt: HostRuntime) -> Result<(), Fail> {
-    let mut game = opened(rt.alloc(), 100)?;
+    let mut game = Game::open(rt.alloc(), Plain::new(), 100)?;
     let fen: &[u8] = b"4k3/8/8/8/8/8/4P3/4K3 w - - 0 1";
-    is_answered(
-        &rt,
-        &mut game,
-        b"[FEN \"4k3/8/8/8/8/8/4P3/4K3 w - - 0 1\"]\n[FEN \"x\"] e4 *",
-        Wanted::Fault(PgnFaultKind::BadFen, 46),
+    assert_eq!(rt;
+        read(
+            &rt,
+            b"[FEN \"4k3/8/8/8/8/8/4P3/4K3 w - - 0 1\"]\n[FEN \"x\"] e4 *",
+            0,
+            &mut game
+        ),
+        Wanted::Fault(PgnFaultKind::BadFen, 46).answer()
     );
-    starts_at(&rt, &game, fen);
-    is_at(&rt, &game, fen);
+    assert_eq!(rt; write_fen(&game.start()).as_slice(), fen);
+    assert_eq!(rt; write_fen(&game.position()).as_slice(), fen);
     Ok(())
 }
 
@@ -801,26 +776,19 @@ dxe5 5. Qxd8+ Kxd8 6. Nxe5) 5. Qxf3 dxe5 6. Bc4 Nf6 ; 6... Qf6 is better
 15. Bxd7+ Nxd7 16. Qb8+!! Nxb8 17. Rd8# 1-0
 ";
 
-// Behind its last move and outcome only the line's end stands.
-fn opera_ended() -> Wanted {
-    Wanted::Ended(Outcome::WhiteWins, OPERA.len() - 1)
-}
-
-fn has_verdict(rt: &impl Abort, game: &Game<Plain>, verdict: Option<Verdict>) {
-    assert_eq!(rt; game.verdict(), verdict);
-}
-
 #[test]
 fn a_whole_game_is_read(rt: HostRuntime) -> Result<(), Fail> {
-    let mut game = opened(rt.alloc(), 100)?;
-    is_answered(&rt, &mut game, OPERA, opera_ended());
-    has_ply(&rt, &game, 33, OPERA);
-    has_verdict(&rt, &game, Some(Verdict::WhiteMates));
-    says_nothing(&rt, &game);
-    is_at(
-        &rt,
-        &game,
-        b"1n1Rkb1r/p4ppp/4q3/4p1B1/4P3/8/PPP2PPP/2K5 b k - 1 17",
+    let mut game = Game::open(rt.alloc(), Plain::new(), 100)?;
+    assert_eq!(rt;
+        read(&rt, OPERA, 0, &mut game),
+        Wanted::Ended(Outcome::WhiteWins, OPERA.len() - 1).answer()
+    );
+    assert_eq!(rt; game.ply(), 33);
+    assert_eq!(rt; game.verdict(), Some(Verdict::WhiteMates));
+    assert!(rt; game.declared().is_none());
+    assert_eq!(rt;
+        write_fen(&game.position()).as_slice(),
+        b"1n1Rkb1r/p4ppp/4q3/4p1B1/4P3/8/PPP2PPP/2K5 b k - 1 17".as_slice()
     );
     Ok(())
 }
