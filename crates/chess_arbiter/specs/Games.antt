@@ -25,6 +25,7 @@ use Rattle.chess_arbiter.specs.declared.games.Played.{Played}
 use Rattle.chess_pgn.specs.Written.{cut_tag}
 use Rattle.chess_pgn.specs.declared.tags.Tags.{Tags}
 use Rattle.chess_arbiter.specs.declared.score.Score.{Score}
+use Rattle.chess_game.specs.declared.game.TheConstants.{MOST_MOVES}
 
 -- in odd games the first engine has White
 abbrev pub is_odd : ℕ → Bool
@@ -97,7 +98,7 @@ pub record GameTold : Type 0 where
 
 -- it is one of the plan, of at most 20,000 half-moves
 abbrev pub IsOfPlan : MatchPlan → GameTold → Type 0
-IsOfPlan plan told = (before : Seen) × (before.limit ≡ 20000) × IsMatchEnd plan.start plan.level before told.game told.end
+IsOfPlan plan told = (before : Seen) × (before.limit ≡ MOST_MOVES) × IsMatchEnd plan.start plan.level before told.game told.end
 
 -- its text, where it has that number
 abbrev pub game_text : MatchPlan → ℕ → GameTold → List ℕ

@@ -29,6 +29,7 @@ use Rattle.chess_arbiter.specs.declared.games.GamesFault.{GamesFault}
 use Rattle.chess_arbiter.specs.Stub.{StubRan, Words, beginning}
 use Rattle.chess_arbiter.specs.declared.stub.StubFault.{StubFault}
 use Rattle.chess_arbiter.specs.declared.fault.ProgramFault.TheVariants.{ReadFailed, WriteFailed, NoMemory, InputTooLong, WrongWords}
+use Rattle.chess_game.specs.declared.game.TheConstants.{MOST_MOVES}
 
 -- nothing was read or written
 pub record IsUntouched (r r' : InputState) (w w' : OutputState) : Type 0 where
@@ -37,9 +38,9 @@ pub record IsUntouched (r r' : InputState) (w w' : OutputState) : Type 0 where
 
 -- a session of 20,000 half-moves, from what `new` leaves, ran to this end; or there was no memory for one
 abbrev pub Served : InputState → InputState → OutputState → OutputState → Result End ProgramFault → Type 0
-Served r r' w w' (Ok end) = (s : SessionSeen) × (t : Transcript) × Ran r r' w w' (opened_session default_tags 20000) s t (Ok end)
-Served r r' w w' (Err ReadFailed) = (s : SessionSeen) × (t : Transcript) × Ran r r' w w' (opened_session default_tags 20000) s t (Err Read)
-Served r r' w w' (Err WriteFailed) = (s : SessionSeen) × (t : Transcript) × Ran r r' w w' (opened_session default_tags 20000) s t (Err Write)
+Served r r' w w' (Ok end) = (s : SessionSeen) × (t : Transcript) × Ran r r' w w' (opened_session default_tags MOST_MOVES) s t (Ok end)
+Served r r' w w' (Err ReadFailed) = (s : SessionSeen) × (t : Transcript) × Ran r r' w w' (opened_session default_tags MOST_MOVES) s t (Err Read)
+Served r r' w w' (Err WriteFailed) = (s : SessionSeen) × (t : Transcript) × Ran r r' w w' (opened_session default_tags MOST_MOVES) s t (Err Write)
 Served r r' w w' (Err NoMemory) = IsUntouched r r' w w'
 Served r r' w w' (Err InputTooLong) = ⊥
 Served r r' w w' (Err WrongWords) = ⊥

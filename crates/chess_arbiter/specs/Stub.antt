@@ -16,6 +16,7 @@ use Rattle.chess_arbiter.specs.declared.stub.Onward.{Onward}
 use Rattle.chess_arbiter.specs.declared.stub.Onward.TheVariants.{On, Over}
 use Rattle.chess_arbiter.specs.declared.stub.StubFault.{StubFault}
 use Rattle.chess_arbiter.specs.declared.stub.StubFault.TheVariants.{Read, Write}
+use Rattle.chess_cecp.specs.declared.session.TheConstants.{COMMAND_LEN}
 
 abbrev pub Words : Type 0
 Words = List (Bor (List ℕ))
@@ -158,7 +159,7 @@ ends_in s (line ∷ lines) = ends_at s line || ends_in (after s line) lines
 pub record StubEndsAt (s : StubState) (t : Transcript) (last_len : ℕ) (before : List LineSeen) (line : LineSeen) (after : List LineSeen) : Type 0 where
   pub lines : lines_given t ≡ before ++ line ∷ after
   pub goes_on : ends_in s before ≡ false
-  pub on_demand : length (whole 1024 (before_piece last_len t.given)) ≤ length before
+  pub on_demand : length (whole COMMAND_LEN (before_piece last_len t.given)) ≤ length before
 
 -- an end by a line
 abbrev pub ByLine : StubState → Transcript → ℕ → Type 0

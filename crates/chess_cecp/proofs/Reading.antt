@@ -8,6 +8,7 @@ use Rattle.byte_devices.specs.Devices.{InputState, GavePiece, risen}
 use Rattle.byte_devices.proofs.DeviceLaws.{consumes_more, consumes_none}
 use Rattle.chess_cecp.specs.Lines.{LineSeen, Held, nothing_held, lines_from, lines_held, line_of, HasNoEnd}
 use Rattle.chess_cecp.specs.Next.{before_piece, Waits, work, NextLine, HeldLine}
+use Rattle.chess_cecp.specs.declared.lines.TheConstants.{PIECE_LEN}
 
 -- after some reads: what was given, and that what is held stands for it
 pub record SoFar (n : ℕ) (r r' : InputState) (held held' : Held) (given : List ℕ) : Type 0 where
@@ -48,7 +49,7 @@ waits_on n r r' r'' h h' h'' given piece s f p =
 pub start : (n : ℕ) (r : InputState) (h : Held) → SoFar n r r h h []
 start n r h = record { bytes = consumes_none r.known_bytes; waits = inl (refl, refl); lines = λ told rest. refl; failures = refl; ends = refl; work = omega arith }
 
-pub piece_on : (n : ℕ) (r r' r'' : InputState) (h h' h'' : Held) (given piece : List ℕ) → SoFar n r r' h h' given → HeldLine n h' h'' None → GavePiece r' r'' piece → 0 < length piece → length piece ≤ 1024
+pub piece_on : (n : ℕ) (r r' r'' : InputState) (h h' h'' : Held) (given piece : List ℕ) → SoFar n r r' h h' given → HeldLine n h' h'' None → GavePiece r' r'' piece → 0 < length piece → length piece ≤ PIECE_LEN
     → SoFar n r r'' h (record { part = h''.part; coming = piece }) (given ++ piece)
 piece_on n r r' r'' h h' h'' given piece s f p some few = record {
   bytes = consumes_more r.known_bytes r'.known_bytes r''.known_bytes given piece s.bytes p.bytes;

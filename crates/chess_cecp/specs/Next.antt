@@ -4,6 +4,7 @@ use Rattle.std.specs.Bool.{MatchBool}
 use Rattle.std.specs.Io.KnownBytes.{Consumes, IsAtEnd}
 use Rattle.byte_devices.specs.Devices.{InputState, risen, GavePiece, FailedToRead}
 use Rattle.chess_cecp.specs.Lines.{LineSeen, Held, nothing_held, lines_from, lines_held}
+use Rattle.chess_cecp.specs.declared.lines.TheConstants.{PIECE_LEN}
 
 -- bytes less the last piece
 abbrev pub before_piece : ℕ → List ℕ → List ℕ
@@ -15,7 +16,7 @@ Waits n r r' held given =
     ((given ≡ []) × (r'.last_len ≡ r.last_len))
     ⊎ ((r'.last_len ≤ length given) × (lines_held n false held (before_piece r'.last_len given) ≡ []))
 
--- how much can still be read and is held, in a unit that falls with each line; a piece has at most 1024 bytes
+-- how much can still be read and is held, in a unit that falls with each line; a piece has at most PIECE_LEN bytes
 abbrev pub work : InputState → Held → ℕ
 work r held = r.pieces_left * 1025 + length held.coming
 
@@ -76,5 +77,5 @@ HeldLine n held held' None =
 
 -- a piece was read into an empty window, or a read failed
 abbrev pub Filled : {E : Type 0} → InputState → InputState → Result ℕ E → List ℕ → Type 0
-Filled r r' (Ok n) coming = (n ≡ length coming) × (n ≤ 1024) × GavePiece r r' coming
+Filled r r' (Ok n) coming = (n ≡ length coming) × (n ≤ PIECE_LEN) × GavePiece r r' coming
 Filled r r' (Err e) coming = (coming ≡ []) × FailedToRead r r'

@@ -12,6 +12,7 @@ use Rattle.chess_cecp.specs.declared.run.End.{End}
 use Rattle.chess_cecp.specs.declared.run.End.TheVariants.{Quit, InputEnded}
 use Rattle.chess_cecp.specs.declared.run.Fault.{Fault}
 use Rattle.chess_cecp.specs.declared.run.Fault.TheVariants.{Read, Write}
+use Rattle.chess_cecp.specs.declared.session.TheConstants.{COMMAND_LEN}
 
 -- what passed in a call: the bytes that the reader gave, whether it told its end, and the bytes that the writer took
 pub record Transcript : Type 0 where
@@ -38,7 +39,7 @@ LeavesUnflushed w w' text = w.unflushed ≡ 0 → w'.unflushed ≡ raised 0 text
 
 -- the lines that were given: an unended last one counts where the end was told
 abbrev pub lines_given : Transcript → List LineSeen
-lines_given t = lines_heard 1024 t.told t.given
+lines_given t = lines_heard COMMAND_LEN t.told t.given
 
 -- these lines were answered by this text, up to a `quit`, and the state is the one after them
 pub record Answered (s s' : SessionSeen) (text : List ℕ) (ls : List LineSeen) : Type 0 where
@@ -52,18 +53,18 @@ AnsweredAll s s' t = Answered s s' t.taken (lines_given t)
 -- where the bytes that were still to come were known, all their lines were answered, up to a `quit`, however they
 -- were cut; and whether one of them is a `quit`
 abbrev pub AnsweredKnown : InputState → SessionSeen → SessionSeen → Transcript → Bool → Type 0
-AnsweredKnown r s s' t quit = IfSome r.known_bytes (λ xs. Answered s s' t.taken (lines 1024 xs) × (has_quit (lines 1024 xs) ≡ quit))
+AnsweredKnown r s s' t quit = IfSome r.known_bytes (λ xs. Answered s s' t.taken (lines COMMAND_LEN xs) × (has_quit (lines COMMAND_LEN xs) ≡ quit))
 
 -- where the bytes that were still to come were known, these lines are the first of theirs
 abbrev pub FirstOfKnown : InputState → List LineSeen → Type 0
-FirstOfKnown r ls = IfSome r.known_bytes (λ xs. (behind : List LineSeen) × (lines 1024 xs ≡ ls ++ behind))
+FirstOfKnown r ls = IfSome r.known_bytes (λ xs. (behind : List LineSeen) × (lines COMMAND_LEN xs ≡ ls ++ behind))
 
 -- the line behind those before, none of them `quit`, is the one at which the call ended: nothing was read while
 -- a whole line was unanswered, so before the last piece fewer lines were whole
 pub record EndsAt (t : Transcript) (last_len : ℕ) (before : List LineSeen) (line : LineSeen) (after : List LineSeen) : Type 0 where
   pub lines : lines_given t ≡ before ++ line ∷ after
   pub no_quit : has_quit before ≡ false
-  pub on_demand : length (whole 1024 (before_piece last_len t.given)) < length before + 1
+  pub on_demand : length (whole COMMAND_LEN (before_piece last_len t.given)) < length before + 1
 
 -- an end by the first `quit`
 abbrev pub ByQuit : SessionSeen → SessionSeen → Transcript → ℕ → Type 0
@@ -81,10 +82,10 @@ pub record ByEnd (s s' : SessionSeen) (t : Transcript) (r' : InputState) : Type 
 -- an end by a read that failed: the lines that byte 10 ended were answered
 pub record ByRead (r : InputState) (s s' : SessionSeen) (t : Transcript) : Type 0 where
   pub told : t.told ≡ false
-  pub no_quit : has_quit (whole 1024 t.given) ≡ false
-  pub taken : t.taken ≡ answers s (whole 1024 t.given)
-  pub state : s' ≡ standing s (whole 1024 t.given)
-  pub first : FirstOfKnown r (whole 1024 t.given)
+  pub no_quit : has_quit (whole COMMAND_LEN t.given) ≡ false
+  pub taken : t.taken ≡ answers s (whole COMMAND_LEN t.given)
+  pub state : s' ≡ standing s (whole COMMAND_LEN t.given)
+  pub first : FirstOfKnown r (whole COMMAND_LEN t.given)
 
 -- an end by a write or a flush that failed: a beginning of the answer to the line was written, and its change stands. That
 -- beginning is all that is not flushed

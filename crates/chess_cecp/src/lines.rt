@@ -4,6 +4,7 @@ ghost use Rattle.std.specs.Prelude.{◌≡◌, ◌+◌, ◌≤◌, ◌==◌, [],
 ghost use Rattle.byte_devices.specs.Devices.{GavePiece, FailedToRead};
 ghost use Rattle.chess_cecp.specs.Lines.{line_of, nothing_held, trimmed};
 ghost use Rattle.chess_cecp.specs.Next.{NextLine, SameLines, HeldLine, Filled};
+ghost use Rattle.chess_cecp.specs.declared.lines.TheConstants.{PIECE_LEN};
 
 use crate::trim::trim;
 use arrayvec::ArrayVec;
@@ -134,12 +135,12 @@ fn kept_text<const N: usize>(bytes: &ArrayVec<u8, N>, is_too_long: bool) -> Arra
     text
 }
 
-const PIECE: usize = 1024;
+const PIECE_LEN: usize = 1024;
 
 // The bytes that were read and not looked at.
 #[derive(Drop)]
 struct Window {
-    piece: [u8; PIECE],
+    piece: [u8; PIECE_LEN],
     from: usize,
     to: usize,
 }
@@ -151,7 +152,7 @@ impl Model for Window {
 
     ghost view = { λ w. slice_range w.piece w.from w.to };
 
-    ghost invariant = { λ w. (w.from ≤ w.to) × (w.to ≤ 1024) };
+    ghost invariant = { λ w. (w.from ≤ w.to) × (w.to ≤ PIECE_LEN) };
 }
 
 impl Window {
@@ -159,7 +160,7 @@ impl Window {
         ensures { result ≡ [] }
     {
         Window {
-            piece: [0; PIECE],
+            piece: [0; PIECE_LEN],
             from: 0,
             to: 0,
         }

@@ -15,12 +15,13 @@ use Rattle.pgn_verifier.specs.declared.whole.Report.{Report}
 use Rattle.pgn_verifier.specs.declared.whole.Report.TheVariants.{Game, Faulty}
 use Rattle.pgn_verifier.specs.declared.whole.Verified.{Verified}
 use Rattle.pgn_verifier.specs.Verify.{Extent, All, First, read_at, verified}
+use Rattle.chess_game.specs.declared.game.TheConstants.{MOST_MOVES}
 
 -- ---- the reports
 
 -- what is told of a game from a place on, of at most 20,000 half-moves
 abbrev pub told_at : List ℕ → ℕ → Result (Option PgnEnd) PgnFault
-told_at = game_at 20000
+told_at = game_at MOST_MOVES
 
 -- no game is left; of first reports this isn't asked
 abbrev pub EndsAnyAt : Extent → List ℕ → ℕ → Type 0

@@ -16,6 +16,7 @@ use Rattle.pgn_verifier.specs.declared.whole.Report.{Report}
 use Rattle.pgn_verifier.specs.declared.whole.Report.TheVariants.{Game, Faulty}
 use Rattle.pgn_verifier.specs.declared.whole.Verified.{Verified}
 use Rattle.pgn_verifier.specs.declared.whole.Verified.TheVariants.{EachGame, FaultTold}
+use Rattle.chess_game.specs.declared.game.TheConstants.{MOST_MOVES}
 
 -- ---- the text
 
@@ -38,7 +39,7 @@ IsNotHad r r' InputTooLong = (text : List ℕ) × IsFront r r' text × (16777216
 
 -- a game of a text from a place on, of at most 20,000 half-moves
 abbrev pub read_at : List ℕ → ℕ → GameRead
-read_at = pgn_read 20000
+read_at = pgn_read MOST_MOVES
 
 -- whether reports are those on all games of a text, or on its first ones
 pub data Extent : Type 0 where

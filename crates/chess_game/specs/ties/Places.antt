@@ -13,6 +13,7 @@ use Rattle.chess_game.specs.Ends.{verdict}
 use Rattle.chess_game.specs.declared.ends.Verdict.{Verdict}
 use Rattle.chess_game.specs.declared.repetition.Known.{Known}
 use Rattle.chess_game.specs.declared.game.Place.{Place}
+use Rattle.chess_game.specs.declared.game.TheConstants.{MOST_MOVES}
 
 abbrev pub moves_of : List Place → List Move
 moves_of places = map (λ x. x.made) places
@@ -60,4 +61,4 @@ pub record IsJudged (start : Setup) (moves : List Move) (v : Option Verdict) : T
 pub record HasRoom (taken limit capacity : ℕ) : Type 0 where
   pub few : taken ≤ limit
   pub made : limit ≤ capacity
-  pub bound : limit ≤ 20000
+  pub bound : limit ≤ MOST_MOVES

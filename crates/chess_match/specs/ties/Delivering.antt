@@ -17,6 +17,7 @@ use Rattle.chess_match.specs.ties.Stands.{Stands}
 use Rattle.chess_match.specs.ties.Told.{SendsIf}
 use Rattle.chess_match.specs.Transcript.{is_on}
 use Rattle.chess_match.specs.declared.state.Core.{Core}
+use Rattle.chess_match.specs.declared.run.TheConstants.{ENGINE_LINE_LEN}
 
 -- what is White's, and what is Black's
 abbrev pub by_side : {A : Type 0} → A → A → Colour → A
@@ -50,9 +51,9 @@ is_heard_of S (FailsToWrite c) = false
 
 -- the bytes that came with an event, and what it was told by
 abbrev pub Tells : Event → InputState → InputState → Held → Held → List ℕ → Type 0
-Tells (Line c text moment) r r' held held' more = (line : LineSeen) × GotLine 8192 r r' held held' more line × (text ≡ text_heard line)
-Tells (OutputEnds c) r r' held held' more = ((line : LineSeen) × GotLast 8192 r r' held held' more line) ⊎ GotNone 8192 r r' held held' more
-Tells (FailsToRead c) r r' held held' more = GotFault 8192 r r' held held' more
+Tells (Line c text moment) r r' held held' more = (line : LineSeen) × GotLine ENGINE_LINE_LEN r r' held held' more line × (text ≡ text_heard line)
+Tells (OutputEnds c) r r' held held' more = ((line : LineSeen) × GotLast ENGINE_LINE_LEN r r' held held' more line) ⊎ GotNone ENGINE_LINE_LEN r r' held held' more
+Tells (FailsToRead c) r r' held held' more = GotFault ENGINE_LINE_LEN r r' held held' more
 Tells (Opened c moment) r r' held held' more = more ≡ []
 Tells (FailsToWrite c) r r' held held' more = more ≡ []
 
