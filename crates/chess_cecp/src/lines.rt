@@ -4,7 +4,6 @@ ghost use Rattle.std.specs.Prelude.{◌≡◌, ◌+◌, ◌≤◌, ◌==◌, [],
 ghost use Rattle.byte_devices.specs.Devices.{GavePiece, FailedToRead};
 ghost use Rattle.chess_cecp.specs.Lines.{line_of, nothing_held, trimmed};
 ghost use Rattle.chess_cecp.specs.Next.{NextLine, SameLines, HeldLine, Filled};
-ghost use Rattle.chess_cecp.specs.declared.lines.TheConstants.{PIECE_LEN};
 
 use crate::trim::trim;
 use arrayvec::ArrayVec;
@@ -147,6 +146,7 @@ struct Window {
 
 impl Model for Window {
     ghost use Rattle.std.specs.Prelude.{◌≡◌, ◌≤◌, List, ℕ, length, slice_range};
+    ghost use Rattle.chess_cecp.specs.declared.lines.TheConstants.{PIECE_LEN};
 
     ghost Value = { List ℕ };
 
