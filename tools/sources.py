@@ -27,6 +27,7 @@ SHORT = {
     "match": "chess_match",
     "words": "arbiter_words",
     "arbiter": "chess_arbiter",
+    "devices_tests": "byte_devices_tests",
     "base_tests": "chess_base_tests",
     "fen_tests": "chess_fen_tests",
     "boards_tests": "boards_tests",

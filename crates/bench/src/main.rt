@@ -16,7 +16,7 @@ use chess_moves::Board;
 use engine_lines::Level;
 use games::read_games;
 use lines::count_lines;
-use relay::{relay, write_script};
+use relay::{Script, relay, write_script};
 use std::alloc::{AllocError, Global};
 use std::process::ExitCode;
 use std::time::{Duration, Instant};
@@ -77,11 +77,20 @@ fn measure_lines(rt: &HostRuntime, depth: u8, fen: &[u8]) -> io::Result<ExitCode
     Ok(ExitCode::SUCCESS)
 }
 
+fn open_game(alloc: Global) -> Result<Game<Bits>, AllocError> {
+    Game::open(alloc, Bits::open(alloc)?, MOST_MOVES)
+}
+
 // Reads the games of a text.
 fn measure_games(rt: &HostRuntime, text: &[u8]) -> io::Result<ExitCode> {
-    let mut game = Game::open(rt.alloc(), Bits::open(rt.alloc())?, MOST_MOVES)?;
+    let mut game = open_game(rt.alloc())?;
+    time_games(rt, text, &mut game)
+}
+
+// The same on a game that is open.
+fn time_games(rt: &HostRuntime, text: &[u8], game: &mut Game<Bits>) -> io::Result<ExitCode> {
     let begun = Instant::now(rt)?;
-    match read_games(text, &mut game) {
+    match read_games(text, game) {
         Ok(tally) => {
             let rate = a_second(tally.half_moves, begun.elapsed(rt)?);
             println!(rt; "{} games, {} half-moves", tally.games, tally.half_moves)?;
@@ -100,22 +109,46 @@ const MATCH_LEN: usize = 500;
 
 // Plays a match between two engines in memory so many times.
 fn measure_matches(rt: &HostRuntime, times: u32) -> io::Result<ExitCode> {
-    let mut game = Game::open(rt.alloc(), Bits::open(rt.alloc())?, MOST_MOVES)?;
+    let mut game = open_game(rt.alloc())?;
     let mut scratch = Bits::open(rt.alloc())?;
     let script = write_script(rt.alloc(), &mut game, MATCH_LEN)?;
+    time_matches(rt, times, &script, &mut game, &mut scratch)
+}
+
+// The same with all that it takes.
+fn time_matches(
+    rt: &HostRuntime,
+    times: u32,
+    script: &Script,
+    game: &mut Game<Bits>,
+    scratch: &mut Bits,
+) -> io::Result<ExitCode> {
     let Some(level) = Level::read(b"0 60 0") else {
         return misused(rt);
     };
-    let mut half_moves: u64 = 0;
     let begun = Instant::now(rt)?;
-    for _ in 0..times {
-        let played = relay(rt.alloc(), &script, level, &mut game, &mut scratch);
-        half_moves = half_moves.saturating_add(played as u64);
-    }
+    let half_moves = play_matches(rt.alloc(), times, script, level, game, scratch);
     let rate = a_second(half_moves, begun.elapsed(rt)?);
     println!(rt; "{times} matches, {half_moves} half-moves")?;
     eprintln!(rt; "{rate} half-moves a second")?;
     Ok(ExitCode::SUCCESS)
+}
+
+// The half-moves of so many matches.
+fn play_matches(
+    alloc: Global,
+    times: u32,
+    script: &Script,
+    level: Level,
+    game: &mut Game<Bits>,
+    scratch: &mut Bits,
+) -> u64 {
+    let mut half_moves: u64 = 0;
+    for _ in 0..times {
+        let played = relay(alloc, script, level, game, scratch);
+        half_moves = half_moves.saturating_add(played as u64);
+    }
+    half_moves
 }
 
 // A little of each.

@@ -1,6 +1,6 @@
 ghost use Rattle.std.specs.Prelude.{◌≤◌, IfOk};
 
-use crate::{
+use byte_devices::{
     Counted, GatedReader, GatedWriter, Input, Output, PieceReader, PieceWriter, ReadFault,
     WriteFault, put, put_parts,
 };
