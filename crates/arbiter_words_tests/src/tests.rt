@@ -76,9 +76,9 @@ fn verify_by_its_words(rt: HostRuntime) -> Result<(), Fail> {
         assert_eq!(rt;
             plan,
             VerifyPlan {
-                keep_going,
-                quiet,
-                any_size
+                keep_going: *keep_going,
+                quiet: *quiet,
+                any_size: *any_size,
             }
         );
     }
@@ -179,7 +179,7 @@ fn a_variant_has_its_initial_position(rt: HostRuntime) -> Result<(), Fail> {
 }
 
 // Words of a match, and what is told of them.
-const FAULTS: [([&str; 6], &str); 7] = [
+const FAULTS: [([&str; 6], &str); 8] = [
     (
         ["--level", "40 5", "--fen", "x", "--date", "\u{7f}"],
         "bad level",
