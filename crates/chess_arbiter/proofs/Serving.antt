@@ -11,7 +11,8 @@ use Rattle.chess_arbiter.specs.Program.{Served}
 use Rattle.chess_arbiter.specs.declared.fault.ProgramFault.TheVariants.{WriteFailed}
 use Rattle.chess_game.specs.declared.game.TheConstants.{MOST_MOVES}
 
-pub served : (r r' : InputState) (w w' : OutputState) (s s' : SessionSeen) (end : End) → s ≡ opened_session default_tags MOST_MOVES
+pub served : (r r' : InputState) (w w' : OutputState) (s s' : SessionSeen) (end : End)
+    → s ≡ opened_session default_tags MOST_MOVES
     → (t : Transcript) × Ran r r' w w' s s' t (Ok end) → Served r r' w w' (Ok end)
 served r r' w w' s s' end is (t, ran) = (s', t, subst (λ v. Ran r r' w w' v s' t (Ok end)) is ran)
 

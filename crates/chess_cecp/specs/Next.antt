@@ -22,7 +22,8 @@ work r held = r.pieces_left * 1025 + length held.coming
 
 -- a line that byte 10 ended
 pub record GotLine (n : ℕ) (r r' : InputState) (held held' : Held) (given : List ℕ) (line : LineSeen) : Type 0 where
-  pub lines : (told : Bool) (rest : List ℕ) → lines_held n told held (given ++ rest) ≡ line ∷ lines_held n told held' rest
+  pub lines : (told : Bool) (rest : List ℕ)
+      → lines_held n told held (given ++ rest) ≡ line ∷ lines_held n told held' rest
   pub failures : r'.failure_count ≡ r.failure_count
   pub ends : r'.end_count ≡ r.end_count
   pub falls : work r' held' < work r held
@@ -60,7 +61,8 @@ Got n r r' held held' given (Err e) = GotFault n r r' held held' given
 -- a call for the next line read these bytes, none of them while a whole line was held, and gave this
 abbrev pub NextLine : {E : Type 0} → ℕ → InputState → InputState → Held → Held → Result (Option LineSeen) E → Type 0
 NextLine n r r' held held' result =
-    (given : List ℕ) × Consumes r.known_bytes r'.known_bytes given × Waits n r r' held given × Got n r r' held held' given result
+    (given : List ℕ) × Consumes r.known_bytes r'.known_bytes given × Waits n r r' held given
+        × Got n r r' held held' given result
 
 -- the two ways to spell what has come of a line and is alike for all that follows
 abbrev pub SameLines : ℕ → List ℕ → List ℕ → Type 0

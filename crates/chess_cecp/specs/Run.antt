@@ -26,7 +26,8 @@ risen_if false n = n
 
 -- the transcript is that of the devices, as far as they tell. Their counts show that a device failed exactly where that
 -- is said of it here
-pub record FitsDevices (r r' : InputState) (w w' : OutputState) (t : Transcript) (read_failed write_failed : Bool) : Type 0 where
+pub record FitsDevices (r r' : InputState) (w w' : OutputState) (t : Transcript)
+    (read_failed write_failed : Bool) : Type 0 where
   pub given : Consumes r.known_bytes r'.known_bytes t.given
   pub taken : Appends w.known_bytes w'.known_bytes t.taken
   pub told : r'.end_count ≡ risen_if t.told r.end_count
@@ -53,7 +54,8 @@ AnsweredAll s s' t = Answered s s' t.taken (lines_given t)
 -- where the bytes that were still to come were known, all their lines were answered, up to a `quit`, however they
 -- were cut; and whether one of them is a `quit`
 abbrev pub AnsweredKnown : InputState → SessionSeen → SessionSeen → Transcript → Bool → Type 0
-AnsweredKnown r s s' t quit = IfSome r.known_bytes (λ xs. Answered s s' t.taken (lines COMMAND_LEN xs) × (has_quit (lines COMMAND_LEN xs) ≡ quit))
+AnsweredKnown r s s' t quit = IfSome r.known_bytes
+    (λ xs. Answered s s' t.taken (lines COMMAND_LEN xs) × (has_quit (lines COMMAND_LEN xs) ≡ quit))
 
 -- where the bytes that were still to come were known, these lines are the first of theirs
 abbrev pub FirstOfKnown : InputState → List LineSeen → Type 0
@@ -61,7 +63,8 @@ FirstOfKnown r ls = IfSome r.known_bytes (λ xs. (behind : List LineSeen) × (li
 
 -- the line behind those before, none of them `quit`, is the one at which the call ended: nothing was read while
 -- a whole line was unanswered, so before the last piece fewer lines were whole
-pub record EndsAt (t : Transcript) (last_len : ℕ) (before : List LineSeen) (line : LineSeen) (after : List LineSeen) : Type 0 where
+pub record EndsAt (t : Transcript) (last_len : ℕ) (before : List LineSeen) (line : LineSeen)
+    (after : List LineSeen) : Type 0 where
   pub lines : lines_given t ≡ before ++ line ∷ after
   pub no_quit : has_quit before ≡ false
   pub on_demand : length (whole COMMAND_LEN (before_piece last_len t.given)) < length before + 1
@@ -101,8 +104,11 @@ ByWrite r w w' s s' t last_len =
 
 -- the whole promise: what was answered, of the session, the devices and the transcript. Each answer was flushed before
 -- more was read: at all ends but that by a failed write nothing is unflushed
-abbrev pub Ran : InputState → InputState → OutputState → OutputState → SessionSeen → SessionSeen → Transcript → Result End Fault → Type 0
-Ran r r' w w' s s' t (Ok Quit) = FitsDevices r r' w w' t false false × ByQuit s s' t r'.last_len × AnsweredKnown r s s' t true × LeavesUnflushed w w' []
-Ran r r' w w' s s' t (Ok InputEnded) = FitsDevices r r' w w' t false false × ByEnd s s' t r' × AnsweredKnown r s s' t false × LeavesUnflushed w w' []
+abbrev pub Ran : InputState → InputState → OutputState → OutputState → SessionSeen → SessionSeen → Transcript
+    → Result End Fault → Type 0
+Ran r r' w w' s s' t (Ok Quit) = FitsDevices r r' w w' t false false × ByQuit s s' t r'.last_len
+    × AnsweredKnown r s s' t true × LeavesUnflushed w w' []
+Ran r r' w w' s s' t (Ok InputEnded) = FitsDevices r r' w w' t false false × ByEnd s s' t r'
+    × AnsweredKnown r s s' t false × LeavesUnflushed w w' []
 Ran r r' w w' s s' t (Err Read) = FitsDevices r r' w w' t true false × ByRead r s s' t × LeavesUnflushed w w' []
 Ran r r' w w' s s' t (Err Write) = FitsDevices r r' w w' t false true × ByWrite r w w' s s' t r'.last_len

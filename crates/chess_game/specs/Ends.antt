@@ -45,7 +45,8 @@ has_bishop_on c men = some_square (λ s. same_colour c (square_colour s) && is_k
 unfoldable pub is_bare : Men → Bool
 is_bare men =
     not (list_any is_heavy men)
-    && (nat_le (count_by is_minor men) 1 || (not (list_any (is_kind Knight) men) && not (has_bishop_on White men && has_bishop_on Black men)))
+    && (nat_le (count_by is_minor men) 1 || (not (list_any (is_kind Knight) men)
+        && not (has_bishop_on White men && has_bishop_on Black men)))
 
 abbrev pub mates : Colour → Verdict
 mates White = WhiteMates

@@ -15,7 +15,9 @@ AreFilled [] = Unit {0}
 AreFilled ([] ∷ lines) = ⊥
 AreFilled ((t ∷ ts) ∷ []) = length (line_text (t ∷ ts)) ≤ 79
 AreFilled ((t ∷ ts) ∷ [] ∷ lines) = ⊥
-AreFilled ((t ∷ ts) ∷ (next ∷ us) ∷ lines) = (length (line_text (t ∷ ts)) ≤ 79) × (79 < length (line_text (t ∷ ts)) + 1 + length next) × AreFilled ((next ∷ us) ∷ lines)
+AreFilled ((t ∷ ts) ∷ (next ∷ us) ∷ lines) =
+    (length (line_text (t ∷ ts)) ≤ 79) × (79 < length (line_text (t ∷ ts)) + 1 + length next)
+    × AreFilled ((next ∷ us) ∷ lines)
 
 -- the tokens of lines, in order
 abbrev pub tokens_in : List (List (List ℕ)) → List (List ℕ)

@@ -26,7 +26,8 @@ allotted_grows l k =
     let i : l.increment * k ≤ l.increment * (k + 1) = mul-le-mul_left l.increment (omega arith) in
     omega arith
 
-pub within_more : (l : LevelSeen) (s : Spent) (used : ℕ) → IsWithin l s → used ≤ left l s.moves s.used → s.moves < MOST_MOVES
+pub within_more : (l : LevelSeen) (s : Spent) (used : ℕ) → IsWithin l s → used ≤ left l s.moves s.used
+    → s.moves < MOST_MOVES
     → IsWithin l (spent_more s used)
 unfolding left
 within_more l s used w in_time few =

@@ -153,7 +153,8 @@ module _ (quiet : Bool) (w w' w'' : OutputState) (tally : Tally) (reports : List
       (breaks_more w w' w'' (lines_by quiet 1 reports) (told_line quiet (1 + length reports) r) t
       (subst (λ n. BreaksOff w' w'' (told_line quiet n r)) numbered h))
 
-module _ (options : VerifyOptions) (text : List ℕ) (w w' w'' : OutputState) (at : ℕ) (tally : Tally) (reports : List Report)
+module _ (options : VerifyOptions) (text : List ℕ) (w w' w'' : OutputState) (at : ℕ) (tally : Tally)
+    (reports : List Report)
     (s : SoFar options text w w' at tally reports) where
   -- one line more
   line_told : (r : Report) → Took w' w'' (told_line options.quiet (tally.games + tally.faults + 1) r)
@@ -213,7 +214,8 @@ module _ (options : VerifyOptions) (text : List ℕ) (w w' w'' : OutputState) (a
   )
 
   -- the writer failed at a line
-  pub broken_off : {E : Type 0} (r : Report) (result : Result Tally E) → AreReportsBy options First text (Some at) (r ∷ [])
+  pub broken_off : {E : Type 0} (r : Report) (result : Result Tally E)
+      → AreReportsBy options First text (Some at) (r ∷ [])
       → BreaksOff w' w'' (told_line options.quiet (tally.games + tally.faults + 1) r) → IsErr result
       → CountsEach options text w w'' result
   broken_off r (Ok v) is h failed = cc
@@ -233,11 +235,13 @@ pub all_told : (E : Type 0) (options : VerifyOptions) (text : List ℕ) (w w' : 
     (reports : List Report) → SoFar options text w w' at tally reports → (read_at text at).answer ≡ Ok None
     → CountsEach {E = E} options text w w' (Ok tally)
 all_told E options text w w' at tally reports s none =
-    (reports, subst (AreReportsBy options All text (Some 0)) (append-nil reports) (s.joins All [] none), s.counted, s.took)
+    (reports, subst (AreReportsBy options All text (Some 0)) (append-nil reports) (s.joins All [] none), s.counted,
+        s.took)
 
 -- ---- what reading a game answered
 
-pub few_plies : (plies : ℕ) (g : Seen) → IsPlayable g → g.limit ≡ MOST_MOVES → plies ≡ length g.state.moves → plies ≤ MOST_MOVES
+pub few_plies : (plies : ℕ) (g : Seen) → IsPlayable g → g.limit ≡ MOST_MOVES → plies ≡ length g.state.moves
+    → plies ≤ MOST_MOVES
 few_plies plies g h few is = let most = h.limit in omega (arith, most, few, is)
 
 -- a fault is not before the place where reading began

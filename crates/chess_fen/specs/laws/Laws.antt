@@ -27,4 +27,6 @@ WrittenIsReadBack = (p : Setup) → IsSound p → fen_reading_as p.variant (fen 
 abbrev pub RightsAreNamed : Type 0
 RightsAreNamed =
     (text : List ℕ) → (p : Setup) → p.variant ≡ Fischerandom → IsSound p
-    → (SpellsRights text p ↔ (IsCastling Fischerandom text × ((c : Colour) → (w : CastlingSide) → RightIsNamed text p.men c w (right_of p.rights c w))))
+    → (SpellsRights text p ↔
+        (IsCastling Fischerandom text × ((c : Colour) → (w : CastlingSide)
+            → RightIsNamed text p.men c w (right_of p.rights c w))))

@@ -8,5 +8,6 @@ use Rattle.chess_pgn.specs.Local.{is_settled}
 -- first place on it has three bytes, since a byte order mark could stand there
 abbrev pub EndedIsSettled : Type 0
 EndedIsSettled =
-    (limit : ℕ) (front rest : List ℕ) (at : ℕ) (e : PgnEnd) → at ≤ length front → (0 < at) ⊎ (3 ≤ length front) → (pgn_read limit (front ++ rest) at).answer ≡ Ok (Some e) → e.place < length front
+    (limit : ℕ) (front rest : List ℕ) (at : ℕ) (e : PgnEnd) → at ≤ length front → (0 < at) ⊎ (3 ≤ length front)
+        → (pgn_read limit (front ++ rest) at).answer ≡ Ok (Some e) → e.place < length front
     → is_settled limit front at ≡ true

@@ -11,7 +11,8 @@ invariant-loop-read g l =
     (l.game.limit ≡ MOST_MOVES)
     × ((text : List ℕ) × (reports : List Report)
     × StandsAt l.stream (g.R.Input.seen l.fn.input) (g.R.Input.seen l.input) text
-    × SoFar l.options l.stream.ended text (g.W.Output.seen l.fn.output) (g.W.Output.seen l.output) (place l.stream) l.tally
+    × SoFar l.options l.stream.ended text (g.W.Output.seen l.fn.output) (g.W.Output.seen l.output) (place l.stream)
+        l.tally
     reports)
 
 abbrev pub decreases-loop-read : goal.decreases-loop-read
