@@ -131,8 +131,8 @@ abbrev pub IsNoWordsFault : WordsFault → Type 0
 IsNoWordsFault (Words e) = ⊥
 IsNoWordsFault _ = ⊤
 
--- a plan is what the words ask for. Words that `clap` promises to take are never refused as words; and a level, FEN or date
--- out of its form is told as IsFaultOf says
+-- a plan is what the words ask for. Words that `clap` promises to take are never refused as words; and a level, FEN or
+-- date out of its form is told as IsFaultOf says
 abbrev pub IsReadBy : Lent → List Text → Result Plan WordsFault → Type 0
 IsReadBy names words (Ok plan) = IsPlanOf (asked names words) plan
 IsReadBy names words (Err f) = (takes_words names words ≡ true → IsNoWordsFault f) × IsFaultOf (asked names words) f

@@ -18,7 +18,7 @@ use Rattle.chess_match.specs.declared.reason.Reason.TheVariants.{Faulted}
 is_text : (bytes : List ℕ) → list_all is_ascii bytes ≡ true → IsUtf8 bytes
 is_text bytes h = IsUtf8-from_ascii bytes (IsAscii-from_all bytes
     (All-weaker (λ b. is_ascii b ≡ true) (λ b. b < 128) (λ b e. ltb-true b 128 e) bytes
-        (AllPass-from_list_all is_ascii bytes h)))
+    (AllPass-from_list_all is_ascii bytes h)))
 
 is_ascii_comment : (side : Colour) (fault : MatchFault) → list_all is_ascii (comment_of (Faulted side fault)) ≡ true
 is_ascii_comment White Ended = refl

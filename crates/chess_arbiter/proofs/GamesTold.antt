@@ -68,18 +68,18 @@ sound_more [] g h k = ap (λ (o : Option (Colour × MatchFault)). not (is_some o
 sound_more (x ∷ games) g h k =
     let here = not (is_some x.end.fault) in
     and_from here (are_sound (games ++ g ∷ [])) (and_first here (are_sound games) h)
-        (sound_more games g (and_second here (are_sound games) h) k)
+    (sound_more games g (and_second here (are_sound games) h) k)
 
 -- ---- so far
 
 -- games without a fault were played and told
 pub record SoFar (plan : MatchPlan) (w w' : OutputState) (number : ℕ) (score : Score) (games : List GameTold) : Type 0
-    where
-  pub games_sound : SoundGames plan games
-  pub numbered : number ≡ 1 + length games
-  pub few : length games ≤ plan.games
-  pub counted : score ≡ score_of games
-  pub told : Flushed w w' (game_texts plan 1 games)
+  where
+    pub games_sound : SoundGames plan games
+    pub numbered : number ≡ 1 + length games
+    pub few : length games ≤ plan.games
+    pub counted : score ≡ score_of games
+    pub told : Flushed w w' (game_texts plan 1 games)
 
 pub start : (plan : MatchPlan) (w : OutputState) → SoFar plan w w 1 no_score []
 start plan w = record {
@@ -96,13 +96,13 @@ module _ (plan : MatchPlan) (w w' w'' : OutputState) (number : ℕ) (score : Sco
       → Flushed w w'' (game_texts plan 1 (games ++ g ∷ []))
   told_more g sent =
       rw (texts_more plan 1 games g) (flushed_more w w' w'' (game_texts plan 1 games)
-          (game_text plan (1 + length games) g) s.told
+      (game_text plan (1 + length games) g) s.told
       (subst (λ n. Sent w' w'' (game_text plan n g)) s.numbered sent))
 
   counted_more : (g : GameTold) → scored (is_odd number) g.end.outcome score ≡ score_of (games ++ g ∷ [])
   counted_more g =
       ap (λ n. scored (is_odd n) g.end.outcome score) s.numbered
-          ∙ ap (λ v. scored (is_odd (1 + length games)) g.end.outcome v) s.counted
+      ∙ ap (λ v. scored (is_odd (1 + length games)) g.end.outcome v) s.counted
       ∙ sym (score_more 1 games g no_score)
 
   pub one_more : (g : GameTold) → number ≤ plan.games → IsOfPlan plan g → g.end.fault ≡ None
@@ -112,8 +112,10 @@ module _ (plan : MatchPlan) (w w' w'' : OutputState) (number : ℕ) (score : Sco
       let n = s.numbered in
       let longer = length-append games (g ∷ []) in
       record {
-        games_sound = record { of_plan = of_plan_more plan games g s.games_sound.of_plan of;
-            sound = sound_more games g s.games_sound.sound none };
+        games_sound = record {
+          of_plan = of_plan_more plan games g s.games_sound.of_plan of;
+          sound = sound_more games g s.games_sound.sound none;
+        };
         numbered = omega (arith, n, longer);
         few = omega (arith, n, longer, le);
         counted = counted_more g;
@@ -123,7 +125,7 @@ module _ (plan : MatchPlan) (w w' w'' : OutputState) (number : ℕ) (score : Sco
   pub with_fault : (g : GameTold) (side : Colour) (fault : MatchFault) → number ≤ plan.games → IsOfPlan plan g
       → g.end.fault ≡ Some (side, fault) → Sent w' w'' (game_text plan number g)
       → HasPlayed plan w w''
-          (Ok (record { score = scored (is_odd number) g.end.outcome score; fault = Some (number, side, fault) }))
+      (Ok (record { score = scored (is_odd number) g.end.outcome score; fault = Some (number, side, fault) }))
   with_fault g side fault le of is sent =
       let n = s.numbered in (
         games ++ g ∷ [],
@@ -148,14 +150,22 @@ module _ (plan : MatchPlan) (w w' w'' : OutputState) (number : ℕ) (score : Sco
       )
   broke NoMemory le (is, same) =
       let n = s.numbered in
-      let m : number ≡ length games + 1 = omega (arith, n) in
-      (games, s.games_sound, omega (arith, n, le), subst (λ k. IsStartFault plan k NoMemory) m is,
-          subst (λ v. Flushed w v (game_texts plan 1 games)) (sym same) s.told)
+      let m : number ≡ length games + 1 = omega (arith, n) in (
+        games,
+        s.games_sound,
+        omega (arith, n, le),
+        subst (λ k. IsStartFault plan k NoMemory) m is,
+        subst (λ v. Flushed w v (game_texts plan 1 games)) (sym same) s.told,
+      )
   broke (CanNotStart command) le (is, same) =
       let n = s.numbered in
-      let m : number ≡ length games + 1 = omega (arith, n) in
-      (games, s.games_sound, omega (arith, n, le), subst (λ k. IsStartFault plan k (CanNotStart command)) m is,
-          subst (λ v. Flushed w v (game_texts plan 1 games)) (sym same) s.told)
+      let m : number ≡ length games + 1 = omega (arith, n) in (
+        games,
+        s.games_sound,
+        omega (arith, n, le),
+        subst (λ k. IsStartFault plan k (CanNotStart command)) m is,
+        subst (λ v. Flushed w v (game_texts plan 1 games)) (sym same) s.told,
+      )
   broke (Game k text) le (is, same) = elim is [
     | inl h ↦ absurd h
     | inr h ↦ absurd h
@@ -186,7 +196,7 @@ module _ (plan : MatchPlan) (w w' w'' : OutputState) (played : Played) (h : HasP
   score_sent : Sent w' w'' (score_line played.score) → Flushed w w'' (match_text plan h.0)
   score_sent sent =
       flushed_more w w' w'' (game_texts plan 1 h.0) (score_line (score_of h.0)) h.3
-          (subst (λ v. Sent w' w'' (score_line v)) h.2 sent)
+      (subst (λ v. Sent w' w'' (score_line v)) h.2 sent)
 
   pub all_told : Sent w' w'' (score_line played.score) → played.fault ≡ None
       → RanGames {A = Unit {0}} plan w w'' (Ok (tt {0}))

@@ -57,7 +57,7 @@ module _ (words : Words) (at : ℕ) (d : Bor (List ℕ)) (text : List ℕ) (lt :
   behind_here =
       ap behind_remarks (drop_more words at d lt) ∙ behind_one here (drop (at + 1) words)
       ∙ ap (λ (o : Option (List ℕ)). if is_some o then behind_remarks (drop (at + 1) words) else here ∷ drop (at + 1)
-          words) is
+      words) is
 
   pub more : (from : ℕ) (w w' w'' : OutputState) (before : List ℕ) → SoFar words from at w w' before → Took w' w'' text
       → SoFar words from (at + 1) w w'' (before ++ text)
@@ -74,13 +74,13 @@ module _ (words : Words) (at : ℕ) (d : Bor (List ℕ)) (text : List ℕ) (lt :
   broken from w w' w'' before (Err e) s h failed =
       subst (BreaksOff w w'') (ap (λ v. before ++ v) (sym said_here) ∙ s.rest)
       (breaks_more w w' w'' before (text ++ remarks (drop (at + 1) words)) s.took
-          (breaks_longer w' w'' text (remarks (drop (at + 1) words)) h))
+      (breaks_longer w' w'' text (remarks (drop (at + 1) words)) h))
 
 -- a word that is none, or no word
 pub no_more : (E : Type 0) (words : Words) (from at : ℕ) (w w' : OutputState) (before : List ℕ)
     → SoFar words from at w w' before
     → remarks (drop at words) ≡ [] → behind_remarks (drop at words) ≡ drop at words
-        → SaysRemarks {E = E} words from w w' (Ok at)
+    → SaysRemarks {E = E} words from w w' (Ok at)
 no_more E words from at w w' before s none behind = (
   subst (Took w w') (sym (append-nil before) ∙ ap (λ v. before ++ v) (sym none) ∙ s.rest) s.took,
   s.within,
@@ -96,8 +96,8 @@ at_other E words from at d w w' before lt is s =
     no_more E words from at w w' before s
     (ap remarks (drop_more words at d lt) ∙ remarks_one here rest ∙ ap (λ o. before_others o (remarks rest)) is)
     (ap behind_remarks (drop_more words at d lt) ∙ behind_one here rest
-        ∙ ap (λ (o : Option (List ℕ)). if is_some o then behind_remarks rest else here ∷ rest) is
-        ∙ sym (drop_more words at d lt))
+    ∙ ap (λ (o : Option (List ℕ)). if is_some o then behind_remarks rest else here ∷ rest) is
+    ∙ sym (drop_more words at d lt))
 
 pub at_end : (E : Type 0) (words : Words) (from at : ℕ) (w w' : OutputState) (before : List ℕ) → length words ≤ at
     → SoFar words from at w w' before → SaysRemarks {E = E} words from w w' (Ok at)
@@ -115,13 +115,22 @@ module _ (words : Words) (at : ℕ) (d : Bor (List ℕ)) (lt : at < length words
   abbrev behind : Words
   behind = drop (at + 1) words
 
-  played : turn (drop at words) ≡ record { text = move_text word ++ remarks behind;
-      state = record { words = behind_remarks behind; plays = true }; ends = false }
+  played : turn (drop at words) ≡ record {
+    text = move_text word ++ remarks behind;
+    state = record { words = behind_remarks behind; plays = true };
+    ends = false;
+  }
   played = ap turn (drop_more words at d lt)
-      ∙ ap (λ (b : Bool). if b then record { text = codes "mov"; state = record { words = behind; plays = true };
-          ends = true }
-      else record { text = move_text word ++ remarks behind;
-          state = record { words = behind_remarks behind; plays = true }; ends = false }) other
+      ∙ ap (λ (b : Bool). if b then record {
+        text = codes "mov";
+        state = record { words = behind; plays = true };
+        ends = true;
+      }
+      else record {
+        text = move_text word ++ remarks behind;
+        state = record { words = behind_remarks behind; plays = true };
+        ends = false;
+      }) other
 
   said : move_text word ++ remarks behind ≡ (turn (drop at words)).text
   said = ap (λ (r : Reply). r.text) (sym played)

@@ -42,7 +42,7 @@ replies_on s (x ∷ xs) ys h =
     let n : ends_at s x ≡ false = or_left (ends_at s x) (ends_in (after s x) xs) h in
     let m : ends_in (after s x) xs ≡ false = or_right (ends_at s x) (ends_in (after s x) xs) h in
     rw n (ap (λ v. said s x ++ v) (replies_on (after s x) xs ys m)
-        ∙ sym (append_assoc (said s x) (replies (after s x) xs) (replies (standing (after s x) xs) ys)))
+    ∙ sym (append_assoc (said s x) (replies (after s x) xs) (replies (standing (after s x) xs) ys)))
 
 standing_on : (s : StubState) (xs ys : List LineSeen) → ends_in s xs ≡ false
     → standing s (xs ++ ys) ≡ standing (standing s xs) ys
@@ -105,21 +105,21 @@ start r w s = record {
 waited : (r r' r'' : InputState) (w w' : OutputState) (s s' : StubState) (held : Held) (given more : List ℕ)
     (done : List LineSeen)
     → SoFar r r' w w' s s' held given done → Waits COMMAND_LEN r' r'' held more
-        → length (whole COMMAND_LEN (before_piece r''.last_len (given ++ more))) ≤ length done
+    → length (whole COMMAND_LEN (before_piece r''.last_len (given ++ more))) ≤ length done
 waited r r' r'' w w' s s' held given more done f (inl (none, same)) =
     let e : before_piece r''.last_len (given ++ more) ≡ before_piece r'.last_len given =
     ap (λ v. before_piece r''.last_len (given ++ v)) none ∙ ap (before_piece r''.last_len) (append-nil given)
-        ∙ ap (λ v. before_piece v given) same in
+    ∙ ap (λ v. before_piece v given) same in
     rw e f.on_demand
 waited r r' r'' w w' s s' held given more done f (inr (few, none)) =
     let len : length (given ++ more) ≡ length given + length more = length-append given more in
     let cut : before_piece r''.last_len (given ++ more) ≡ given ++ before_piece r''.last_len more =
     ap (λ v. take v (given ++ more)) (let at : length (given ++ more) - r''.last_len ≡ length given
-        + (length more - r''.last_len) = omega arith in at)
+    + (length more - r''.last_len) = omega arith in at)
     ∙ take-append-add given more (length more - r''.last_len) in
     let e : whole COMMAND_LEN (before_piece r''.last_len (given ++ more)) ≡ done =
     ap (whole COMMAND_LEN) cut ∙ f.lines false (before_piece r''.last_len more) ∙ ap (λ v. done ++ v) none
-        ∙ append-nil done in
+    ∙ append-nil done in
     omega (arith, ap length e)
 
 -- a line was reached: the lines that were given are those that are done, and that one, and what stands behind it
@@ -134,7 +134,7 @@ pub record Reached (r r' : InputState) (given : List ℕ) (told : Bool) (done : 
 reached_ended : (r r' r'' : InputState) (w w' : OutputState) (s s' : StubState) (held held' : Held)
     (given more : List ℕ) (done : List LineSeen) (line : LineSeen)
     → SoFar r r' w w' s s' held given done → Consumes r'.known_bytes r''.known_bytes more
-        → Waits COMMAND_LEN r' r'' held more → GotLine COMMAND_LEN r' r'' held held' more line
+    → Waits COMMAND_LEN r' r'' held more → GotLine COMMAND_LEN r' r'' held held' more line
     → Reached r r'' (given ++ more) false done line (lines_held COMMAND_LEN false held' [])
 reached_ended r r' r'' w w' s s' held held' given more done line f bytes waits got = record {
   bytes = consumes_more r.known_bytes r'.known_bytes r''.known_bytes given more f.bytes bytes;
@@ -148,7 +148,7 @@ reached_ended r r' r'' w w' s s' held held' given more done line f bytes waits g
 reached_last : (r r' r'' : InputState) (w w' : OutputState) (s s' : StubState) (held held' : Held) (given more : List ℕ)
     (done : List LineSeen) (line : LineSeen)
     → SoFar r r' w w' s s' held given done → Consumes r'.known_bytes r''.known_bytes more
-        → Waits COMMAND_LEN r' r'' held more → GotLast COMMAND_LEN r' r'' held held' more line
+    → Waits COMMAND_LEN r' r'' held more → GotLast COMMAND_LEN r' r'' held held' more line
     → Reached r r'' (given ++ more) true done line []
 reached_last r r' r'' w w' s s' held held' given more done line f bytes waits got = record {
   bytes = consumes_more r.known_bytes r'.known_bytes r''.known_bytes given more f.bytes bytes;
@@ -166,18 +166,25 @@ IsReached r r' done line = (given : List ℕ) × (told : Bool) × (behind : List
 reached_by : (b : Bool) (E : Type 0) (r r' r'' : InputState) (w w' : OutputState) (s s' : StubState) (held held' : Held)
     (given : List ℕ) (done : List LineSeen) (line : LineSeen)
     → SoFar r r' w w' s s' held given done → NextLine {E = E} COMMAND_LEN r' r'' held held' (Ok (Some line))
-        → line.ended ≡ b → IsReached r r'' done line
-reached_by true E r r' r'' w w' s s' held held' given done line f (more, bytes, waits, got) e =
-    (given ++ more, false, lines_held COMMAND_LEN false held' [],
-        reached_ended r r' r'' w w' s s' held held' given more done line f bytes waits (of_true line.ended _ _ e got))
-reached_by false E r r' r'' w w' s s' held held' given done line f (more, bytes, waits, got) e =
-    (given ++ more, true, [], reached_last r r' r'' w w' s s' held held' given more done line f bytes waits
-        (of_false line.ended _ _ e got))
+    → line.ended ≡ b → IsReached r r'' done line
+reached_by true E r r' r'' w w' s s' held held' given done line f (more, bytes, waits, got) e = (
+  given ++ more,
+  false,
+  lines_held COMMAND_LEN false held' [],
+  reached_ended r r' r'' w w' s s' held held' given more done line f bytes waits (of_true line.ended _ _ e got),
+)
+reached_by false E r r' r'' w w' s s' held held' given done line f (more, bytes, waits, got) e = (
+  given ++ more,
+  true,
+  [],
+  reached_last r r' r'' w w' s s' held held' given more done line f bytes waits
+      (of_false line.ended _ _ e got),
+)
 
 pub reached : (E : Type 0) (r r' r'' : InputState) (w w' : OutputState) (s s' : StubState) (held held' : Held)
     (given : List ℕ) (done : List LineSeen) (line : LineSeen)
     → SoFar r r' w w' s s' held given done → NextLine {E = E} COMMAND_LEN r' r'' held held' (Ok (Some line))
-        → IsReached r r'' done line
+    → IsReached r r'' done line
 reached E r r' r'' w w' s s' held held' given done line f n =
     reached_by line.ended E r r' r'' w w' s s' held held' given done line f n refl
 
@@ -186,13 +193,13 @@ said_on : (s s' : StubState) (done : List LineSeen) (line : LineSeen) → s' ≡
     → replies s (done ++ line ∷ []) ≡ replies s done ++ said s' line
 said_on s s' done line is on =
     replies_on s done (line ∷ []) on ∙ ap (λ v. replies s done ++ v)
-        (replies_last (standing s done) line ∙ ap (λ v. said v line) (sym is))
+    (replies_last (standing s done) line ∙ ap (λ v. said v line) (sym is))
 
 -- the next line, once it was answered
 pub go_on : (E : Type 0) (r r' r'' : InputState) (w w' w'' : OutputState) (s s' s'' : StubState) (held held' : Held)
     (given : List ℕ) (done : List LineSeen) (line : LineSeen)
     → SoFar r r' w w' s s' held given done → NextLine {E = E} COMMAND_LEN r' r'' held held' (Ok (Some line))
-        → line.ended ≡ true
+    → line.ended ≡ true
     → Sent w' w'' (said s' line) → s'' ≡ after s' line → ends_at s' line ≡ false
     → (given' : List ℕ) × SoFar r r'' w w'' s s'' held' given' (done ++ line ∷ [])
 go_on E r r' r'' w w' w'' s s' s'' held held' given done line f (more, bytes, waits, got) ended took next on =
@@ -221,15 +228,15 @@ go_on E r r' r'' w w' w'' s s' s'' held held' given done line f (more, bytes, wa
 pub by_line : (r r' r'' : InputState) (w w' w'' : OutputState) (s s' : StubState) (held : Held) (given : List ℕ)
     (done : List LineSeen) (line : LineSeen)
     → SoFar r r' w w' s s' held given done → IsReached r r'' done line → Sent w' w'' (said s' line)
-        → ends_at s' line ≡ true → StubRan {A = Unit {0}} r r'' w w'' s (Ok (tt {0}))
+    → ends_at s' line ≡ true → StubRan {A = Unit {0}} r r'' w w'' s (Ok (tt {0}))
 by_line r r' r'' w w' w'' s s' held given done line f (all, told, behind, at) took over =
     let both : SentAll w w'' (replies s done ++ said s' line) =
-        sent_more w w' w'' (replies s done) (said s' line) f.took took in
+    sent_more w w' w'' (replies s done) (said s' line) f.took took in
     let here : ends_at (standing s done) line ≡ true = ap (λ v. ends_at v line) (sym f.state) ∙ over in
     let is : replies s done ++ said s' line ≡ replies s (lines_heard COMMAND_LEN told all) =
     sym (ap (replies s) at.lines ∙ replies_on s done (line ∷ behind) f.goes_on
     ∙ ap (λ v. replies s done ++ v) (replies_one (standing s done) line behind here
-        ∙ ap (λ v. said v line) (sym f.state))) in (
+    ∙ ap (λ v. said v line) (sym f.state))) in (
       record { given = all; told = told; taken = replies s done ++ said s' line },
       record { given = at.bytes; taken = both.bytes; told = at.ends; reads = at.failures; writes = both.failures },
       inl (done, line, behind, record { lines = at.lines; goes_on = f.goes_on; on_demand = at.on_demand }, here),
@@ -241,7 +248,7 @@ by_line r r' r'' w w' w'' s s' held given done line f (all, told, behind, at) to
 pub by_write : (r r' r'' : InputState) (w w' w'' : OutputState) (s s' : StubState) (held : Held) (given : List ℕ)
     (done : List LineSeen) (line : LineSeen)
     → SoFar r r' w w' s s' held given done → IsReached r r'' done line → BreaksOff w' w'' (said s' line)
-        → StubRan {A = Unit {0}} r r'' w w'' s (Err Write)
+    → StubRan {A = Unit {0}} r r'' w w'' s (Err Write)
 by_write r r' r'' w w' w'' s s' held given done line f (all, told, behind, at) (start, (rest, is), broke) =
     let both : SentSome w w'' (replies s done) start = sent_some w w' w'' (replies s done) start f.took broke in (
       record { given = all; told = told; taken = replies s done ++ start },
@@ -262,19 +269,23 @@ by_write r r' r'' w w' w'' s s' held given done line f (all, told, behind, at) (
 pub by_last : (E : Type 0) (r r' r'' : InputState) (w w' w'' : OutputState) (s s' : StubState) (held held' : Held)
     (given : List ℕ) (done : List LineSeen) (line : LineSeen)
     → SoFar r r' w w' s s' held given done → NextLine {E = E} COMMAND_LEN r' r'' held held' (Ok (Some line))
-        → line.ended ≡ false
+    → line.ended ≡ false
     → Sent w' w'' (said s' line) → ends_at s' line ≡ false → StubRan {A = Unit {0}} r r'' w w'' s (Ok (tt {0}))
 by_last E r r' r'' w w' w'' s s' held held' given done line f (more, bytes, waits, got) ended took on =
     let g : GotLast COMMAND_LEN r' r'' held held' more line = of_false line.ended _ _ ended got in
     let at : Reached r r'' (given ++ more) true done line [] =
-        reached_last r r' r'' w w' s s' held held' given more done line f bytes waits g in
+    reached_last r r' r'' w w' s s' held held' given more done line f bytes waits g in
     let both : SentAll w w'' (replies s done ++ said s' line) =
-        sent_more w w' w'' (replies s done) (said s' line) f.took took in
+    sent_more w w' w'' (replies s done) (said s' line) f.took took in
     let here : ends_at (standing s done) line ≡ false = ap (λ v. ends_at v line) (sym f.state) ∙ on in (
       record { given = given ++ more; told = true; taken = replies s done ++ said s' line },
       record { given = at.bytes; taken = both.bytes; told = at.ends; reads = at.failures; writes = both.failures },
-      inr (record { told = refl; at_end = g.at_end; goes_on = ap (ends_in s) at.lines
-          ∙ goes_on s done line f.goes_on here }),
+      inr (record {
+        told = refl;
+        at_end = g.at_end;
+        goes_on = ap (ends_in s) at.lines
+            ∙ goes_on s done line f.goes_on here;
+      }),
       sym (ap (replies s) at.lines ∙ said_on s s' done line f.state f.goes_on),
       both.flushed,
     )
@@ -283,10 +294,10 @@ by_last E r r' r'' w w' w'' s s' held held' given done line f (more, bytes, wait
 pub by_end : (E : Type 0) (r r' r'' : InputState) (w w' : OutputState) (s s' : StubState) (held held' : Held)
     (given : List ℕ) (done : List LineSeen)
     → SoFar r r' w w' s s' held given done → NextLine {E = E} COMMAND_LEN r' r'' held held' (Ok None)
-        → StubRan {A = Unit {0}} r r'' w w' s (Ok (tt {0}))
+    → StubRan {A = Unit {0}} r r'' w w' s (Ok (tt {0}))
 by_end E r r' r'' w w' s s' held held' given done f (more, bytes, waits, got) =
     let is : lines_heard COMMAND_LEN true (given ++ more) ≡ done =
-        f.lines true more ∙ ap (λ v. done ++ v) (got.lines true) ∙ append-nil done in (
+    f.lines true more ∙ ap (λ v. done ++ v) (got.lines true) ∙ append-nil done in (
       record { given = given ++ more; told = true; taken = replies s done },
       record {
         given = consumes_more r.known_bytes r'.known_bytes r''.known_bytes given more f.bytes bytes;
@@ -304,10 +315,10 @@ by_end E r r' r'' w w' s s' held held' given done f (more, bytes, waits, got) =
 pub by_read : {E : Type 0} (e : E) (r r' r'' : InputState) (w w' : OutputState) (s s' : StubState) (held held' : Held)
     (given : List ℕ) (done : List LineSeen)
     → SoFar r r' w w' s s' held given done → NextLine {E = E} COMMAND_LEN r' r'' held held' (Err e)
-        → StubRan {A = Unit {0}} r r'' w w' s (Err Read)
+    → StubRan {A = Unit {0}} r r'' w w' s (Err Read)
 by_read e r r' r'' w w' s s' held held' given done f (more, bytes, waits, got) =
     let is : lines_heard COMMAND_LEN false (given ++ more) ≡ done =
-        f.lines false more ∙ ap (λ v. done ++ v) got.whole ∙ append-nil done in (
+    f.lines false more ∙ ap (λ v. done ++ v) got.whole ∙ append-nil done in (
       record { given = given ++ more; told = false; taken = replies s done },
       record {
         given = consumes_more r.known_bytes r'.known_bytes r''.known_bytes given more f.bytes bytes;

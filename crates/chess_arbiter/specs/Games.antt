@@ -73,19 +73,27 @@ won false s = record { first = s.first; second = one_more s.second; drawn = s.dr
 abbrev pub scored : Bool → Outcome → Score → Score
 scored first_has_white WhiteWins s = won first_has_white s
 scored first_has_white BlackWins s = won (not first_has_white) s
-scored first_has_white Draw s = record { first = s.first; second = s.second; drawn = one_more s.drawn;
-    unfinished = s.unfinished }
-scored first_has_white Unfinished s = record { first = s.first; second = s.second; drawn = s.drawn;
-    unfinished = one_more s.unfinished }
+scored first_has_white Draw s = record {
+  first = s.first;
+  second = s.second;
+  drawn = one_more s.drawn;
+  unfinished = s.unfinished;
+}
+scored first_has_white Unfinished s = record {
+  first = s.first;
+  second = s.second;
+  drawn = s.drawn;
+  unfinished = one_more s.unfinished;
+}
 
 unfoldable pub score_line : Score → List ℕ
 score_line s =
     codes "score first "
-        ++ (decimal s.first
-            ++ (codes " second "
-                ++ (decimal s.second
-                    ++ (codes " drawn "
-                        ++ (decimal s.drawn ++ (codes " unfinished " ++ (decimal s.unfinished ++ new_line ∷ [])))))))
+    ++ (decimal s.first
+    ++ (codes " second "
+    ++ (decimal s.second
+    ++ (codes " drawn "
+    ++ (decimal s.drawn ++ (codes " unfinished " ++ (decimal s.unfinished ++ new_line ∷ [])))))))
 
 -- ---- one game
 
@@ -93,7 +101,7 @@ score_line s =
 abbrev pub IsMatchEnd : Setup → LevelSeen → Seen → Seen → MatchEnd → Type 0
 IsMatchEnd start level g g' end =
     (w : Ports) × (w' : Ports) × (coming : ℕ → Option ℕ) × (coming' : ℕ → Option ℕ)
-        × Ran start level g g' end w w' coming coming'
+    × Ran start level g g' end w w' coming coming'
 
 -- these were White's and Black's engines, as their ports stood before
 abbrev pub IsMatchEndOf : Setup → LevelSeen → Seen → Seen → MatchEnd → Ports → Type 0
@@ -173,7 +181,7 @@ EndsGames plan games None = SoundGames plan games × (length games ≡ plan.game
 EndsGames plan games (Some (number, side, fault)) =
     (before : List GameTold) × (last : GameTold)
     × (games ≡ before ++ last ∷ []) × SoundGames plan before × IsOfPlan plan last
-        × (last.end.fault ≡ Some (side, fault))
+    × (last.end.fault ≡ Some (side, fault))
     × (number ≡ length before + 1) × (length before < plan.games)
 
 -- the games before were played and told, and the next could not be started; or a beginning of its text was written
@@ -190,7 +198,7 @@ BrokeOff plan w w' fault =
 abbrev pub HasPlayed : MatchPlan → OutputState → OutputState → Result Played GamesFault → Type 0
 HasPlayed plan w w' (Ok played) =
     (games : List GameTold) × EndsGames plan games played.fault × (played.score ≡ score_of games)
-        × Flushed w w' (game_texts plan 1 games)
+    × Flushed w w' (game_texts plan 1 games)
 HasPlayed plan w w' (Err fault) = BrokeOff plan w w' fault
 
 -- the text of a match: each game, and then the score
@@ -202,16 +210,16 @@ abbrev pub BrokeOffAtScore : MatchPlan → OutputState → OutputState → Type 
 BrokeOffAtScore plan w w' =
     (games : List GameTold) × (last : Option (ℕ × Colour × MatchFault)) × (start : List ℕ)
     × EndsGames plan games last × Begins start (score_line (score_of games))
-        × FlushedThenFailed w w' (game_texts plan 1 games) start
+    × FlushedThenFailed w w' (game_texts plan 1 games) start
 
--- all games were played, or one with a fault was the last: they were told, and then the score; the fault is told as in the
--- game's comment. Where something broke off, the games before were told
+-- all games were played, or one with a fault was the last: they were told, and then the score; the fault is told as in
+-- the game's comment. Where something broke off, the games before were told
 abbrev pub RanGames : {A : Type 0} → MatchPlan → OutputState → OutputState → Result A GamesFault → Type 0
 RanGames plan w w' (Ok _) = (games : List GameTold) × EndsGames plan games None × Flushed w w' (match_text plan games)
 RanGames plan w w' (Err (Game number text)) =
     (games : List GameTold) × (side : Colour) × (fault : MatchFault)
     × EndsGames plan games (Some (number, side, fault)) × (text.now ≡ comment_of (Faulted side fault))
-        × Flushed w w' (match_text plan games)
+    × Flushed w w' (match_text plan games)
 RanGames plan w w' (Err WriteFailed) = BrokeOff plan w w' WriteFailed ⊎ BrokeOffAtScore plan w w'
 RanGames plan w w' (Err NoMemory) = (w' ≡ w) ⊎ BrokeOff plan w w' NoMemory
 RanGames plan w w' (Err (CanNotStart command)) = BrokeOff plan w w' (CanNotStart command)

@@ -65,10 +65,16 @@ move_text word =
 abbrev pub turn : Words → Reply
 turn [] = record { text = codes "resign" ++ new_line ∷ []; state = record { words = []; plays = true }; ends = false }
 turn (word ∷ words) =
-    if bytes_eq word.now (codes "end") then record { text = codes "mov"; state = record { words = words; plays = true };
-        ends = true }
-    else record { text = move_text word.now ++ remarks words;
-        state = record { words = behind_remarks words; plays = true }; ends = false }
+    if bytes_eq word.now (codes "end") then record {
+      text = codes "mov";
+      state = record { words = words; plays = true };
+      ends = true;
+    }
+    else record {
+      text = move_text word.now ++ remarks words;
+      state = record { words = behind_remarks words; plays = true };
+      ends = false;
+    }
 
 -- ---- a line
 
@@ -158,8 +164,8 @@ abbrev pub ends_in : StubState → List LineSeen → Bool
 ends_in s [] = false
 ends_in s (line ∷ lines) = ends_at s line || ends_in (after s line) lines
 
--- the line behind those before, at none of which the stub ends, is the one at which the call ended: nothing was read while a
--- whole line was unanswered, so before the last piece fewer lines were whole
+-- the line behind those before, at none of which the stub ends, is the one at which the call ended: nothing was read
+-- while a whole line was unanswered, so before the last piece fewer lines were whole
 pub record StubEndsAt (s : StubState) (t : Transcript) (last_len : ℕ) (before : List LineSeen) (line : LineSeen)
     (after : List LineSeen) : Type 0 where
   pub lines : lines_given t ≡ before ++ line ∷ after
@@ -187,15 +193,15 @@ ByWrite w w' s t last_len =
     × (t.taken ≡ replies s before ++ start)
     × LeavesUnflushed w w' start
 
--- the whole promise, as that of a session. Each reply was flushed before more was read: at all ends but that by a failed write
--- nothing is unflushed
+-- the whole promise, as that of a session. Each reply was flushed before more was read: at all ends but that by a
+-- failed write nothing is unflushed
 abbrev pub StubRan : {A : Type 0} → InputState → InputState → OutputState → OutputState → StubState → Result A StubFault
     → Type 0
 StubRan r r' w w' s (Ok _) =
     (t : Transcript) × FitsDevices r r' w w' t false false × (ByLine s t r'.last_len ⊎ ByInput s t r')
-        × (t.taken ≡ replies s (lines_given t)) × LeavesUnflushed w w' []
+    × (t.taken ≡ replies s (lines_given t)) × LeavesUnflushed w w' []
 StubRan r r' w w' s (Err Read) =
     (t : Transcript) × FitsDevices r r' w w' t true false × (t.told ≡ false) × (ends_in s (lines_given t) ≡ false)
-        × (t.taken ≡ replies s (lines_given t)) × LeavesUnflushed w w' []
+    × (t.taken ≡ replies s (lines_given t)) × LeavesUnflushed w w' []
 StubRan r r' w w' s (Err Write) =
     (t : Transcript) × FitsDevices r r' w w' t false true × ByWrite w w' s t r'.last_len

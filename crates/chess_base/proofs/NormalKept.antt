@@ -27,8 +27,8 @@ never false b c = refl
 
 says_by : (c : Colour) (m : Move) (w : CastlingSide) (king : Bool) (o : Option ℕ)
     → (king && names_castling Normal c m w o)
-        ≡ (is_some o && king && (m.from == home_square c king_home_file)
-            && (m.to == home_square c (castled_king_file w)))
+    ≡ (is_some o && king && (m.from == home_square c king_home_file)
+    && (m.to == home_square c (castled_king_file w)))
 says_by c m w king None = never king (m.from == home_square c king_home_file)
     (m.to == home_square c (castled_king_file w))
 says_by c m w king (Some rook) = in_turn king (m.from == home_square c king_home_file)
@@ -74,11 +74,25 @@ men_kept p e m = ap (λ o. men_stepped p.men (steps_by p m o)) (castle_kept p e 
 after_kept : (p : Setup) → p.variant ≡ Normal → (m : Move) → after p m ≡ normal_after p m
 unfolding after normal_after
 after_kept p e m =
-    ap (λ (men : Men). record { variant = p.variant; men = men; side = other p.side; rights = rights_after p m;
-        target = target_after p m; halfmove = halfmove_after p m; fullmove = fullmove_after p.side p.fullmove })
-            (men_kept p e m)
-    ∙ ap (λ v. record { variant = v; men = normal_men_after p m; side = other p.side; rights = rights_after p m;
-        target = target_after p m; halfmove = halfmove_after p m; fullmove = fullmove_after p.side p.fullmove }) e
+    ap (λ (men : Men). record {
+      variant = p.variant;
+      men = men;
+      side = other p.side;
+      rights = rights_after p m;
+      target = target_after p m;
+      halfmove = halfmove_after p m;
+      fullmove = fullmove_after p.side p.fullmove;
+    })
+    (men_kept p e m)
+    ∙ ap (λ v. record {
+      variant = v;
+      men = normal_men_after p m;
+      side = other p.side;
+      rights = rights_after p m;
+      target = target_after p m;
+      halfmove = halfmove_after p m;
+      fullmove = fullmove_after p.side p.fullmove;
+    }) e
 
 legal_kept : (p : Setup) → p.variant ≡ Normal → (m : Move) → is_legal p m ≡ normal_is_legal p m
 unfolding is_legal normal_is_legal

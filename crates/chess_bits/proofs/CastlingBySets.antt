@@ -56,18 +56,20 @@ starts : (v : Variant) (men : Men) (c : Colour) (w : CastlingSide) (m : Move) (r
     → (rank m.from ≡ first_rank c) × (rank r ≡ first_rank c)
 starts Normal men c w m r n s =
     let from = eqb-true m.from (home_square c king_home_file)
-        (and_parts (m.from == home_square c king_home_file) (m.to == home_square c (castled_king_file w)) n).0 in
+    (and_parts (m.from == home_square c king_home_file) (m.to == home_square c (castled_king_file w)) n).0 in
     let two = and_parts ((r == home_square c (rook_file w)) && is_man c King
-        (man_at men (home_square c king_home_file))) (is_man c Rook (man_at men r)) s in
+    (man_at men (home_square c king_home_file))) (is_man c Rook (man_at men r)) s in
     let rook = eqb-true r (home_square c (rook_file w))
-        (and_parts (r == home_square c (rook_file w)) (is_man c King (man_at men (home_square c king_home_file)))
-            two.0).0 in
-    (ap (λ k. rank k) from ∙ rank_home c king_home_file (omega arith), ap (λ k. rank k) rook
-        ∙ rank_home c (rook_file w) (rook_low w))
+    (and_parts (r == home_square c (rook_file w)) (is_man c King (man_at men (home_square c king_home_file)))
+    two.0).0 in (
+      ap (λ k. rank k) from ∙ rank_home c king_home_file (omega arith),
+      ap (λ k. rank k) rook
+          ∙ rank_home c (rook_file w) (rook_low w),
+    )
 starts Fischerandom men c w m r n s =
     let same = eqb-true (rank m.from) (rank r) (and_parts (rank m.from == rank r) (m.to == r) n).0 in
     let there = beside (king_square men c) (and_parts (is_beside c w (king_square men c) r)
-        (is_man c Rook (man_at men r)) s).0 in
+    (is_man c Rook (man_at men r)) s).0 in
     (same ∙ there, there)
   where
     beside : (o : Option ℕ) → is_beside c w o r ≡ true → rank r ≡ first_rank c
@@ -75,7 +77,7 @@ starts Fischerandom men c w m r n s =
     beside (Some k) e =
         eqb-true (rank r) (first_rank c)
         (and_parts (rank k == first_rank c) (rank r == first_rank c)
-            (and_parts ((rank k == first_rank c) && (rank r == first_rank c)) (is_to_side w k r) e).0).1
+        (and_parts ((rank k == first_rank c) && (rank r == first_rank c)) (is_to_side w k r) e).0).1
 
 pub record OnRank (k : Castle) : Type 0 where
   pub kings : rank k.king_from ≡ rank k.king_to
@@ -90,7 +92,7 @@ on_rank_by p m k sound e (Some w) says =
     let names = (castling_says p m w (says_from_castling p m w says)).1 in
     let named : names_castling_with p.variant p.side m w there.0 ≡ true = rw there.1 at names in
     let stands = right_that_stands p.variant p.men p.side w (right_of p.rights p.side w) there.0
-        (right_stands_of p sound p.side w) there.1 in
+    (right_stands_of p sound p.side w) there.1 in
     let ranks = starts p.variant p.men p.side w m there.0 named stands in
     let same : castle_from p.side w m.from there.0 ≡ k = cc in
     subst OnRank same (record {
@@ -161,15 +163,15 @@ crossed x y z u false = by (((x || y) && not z) && not u)
 -- no man is met on the ways
 pub way_is_empty : (men : Men) (k : Castle) (met : ℕ → Bool)
     → ((x : ℕ) → x < 64
-        → met x ≡
-            ((((is_on_way k.king_from k.king_to x || is_on_way k.rook_from k.rook_to x) && not (x == k.king_from))
-                && not (x == k.rook_from)) && not (is_none (man_at men x))))
+    → met x ≡
+    ((((is_on_way k.king_from k.king_to x || is_on_way k.rook_from k.rook_to x) && not (x == k.king_from))
+    && not (x == k.rook_from)) && not (is_none (man_at men x))))
     → not (some_square met) ≡ castling_way_is_empty men k
 unfolding castling_way_is_empty castling_crosses
 way_is_empty men k met h =
     sym (each_not _ met
     (λ x low. crossed (is_on_way k.king_from k.king_to x) (is_on_way k.rook_from k.rook_to x) (x == k.king_from)
-        (x == k.rook_from) (is_none (man_at men x)) ∙ ap not (sym (h x low))))
+    (x == k.rook_from) (is_none (man_at men x)) ∙ ap not (sym (h x low))))
 
 pub way_is_safe : (men : Men) (c : Colour) (k : Castle) (way : ℕ → Bool)
     → ((x : ℕ) → x < 64 → way x ≡ is_on_way k.king_from k.king_to x)
@@ -210,16 +212,22 @@ castle_pattern p m k sound high none e =
 
 -- and its steps
 pub castle_steps : (p : Setup) (m : Move) (k : Castle) → castle_of p m ≡ Some k → m.promotion ≡ None
-    → record { from = m.from; second_from = Some k.rook_from; second_to = Some k.rook_to;
-        second = Some (record { colour = p.side; kind = Rook }); to = k.king_to; mover =
-            Some (record { colour = p.side; kind = King }) } ≡ steps_of p m
+    → record {
+      from = m.from;
+      second_from = Some k.rook_from;
+      second_to = Some k.rook_to;
+      second = Some (record { colour = p.side; kind = Rook });
+      to = k.king_to;
+      mover =
+          Some (record { colour = p.side; kind = King });
+    } ≡ steps_of p m
 unfolding second_square_emptied castling_rook_to lands_on
 castle_steps p m k e none =
     let king = king_goes p m k e (castling p m) refl in
     let still = no_en_passant p m (is_man-kind p.side p.side King Pawn (man_at p.men m.from) refl king) in
     let mover : man_that_lands (man_at p.men m.from) m.promotion ≡ Some (record { colour = p.side; kind = King }) =
     ap (λ o. man_that_lands (man_at p.men m.from) o) none
-        ∙ ap (λ o. man_that_lands o None) (man_told p.side King (man_at p.men m.from) king) in
+    ∙ ap (λ o. man_that_lands o None) (man_told p.side King (man_at p.men m.from) king) in
     rw (still, e, mover) refl
 
 pub not_castling : (p : Setup) (m : Move) → has_pattern p m ≡ false → false ≡ is_legal p m

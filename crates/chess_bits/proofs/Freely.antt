@@ -46,7 +46,7 @@ lands_same (Some x) = refl
 free_is_legal : (p : Setup) (a b king : ℕ) → IsSound p → IsFree p a → a < 64 → king < 64
     → ((k : ℕ) → k < 64 → is_man p.side King (man_at p.men k) ≡ (k == king))
     → goes p a b ≡ true → would_promote p a b ≡ false → is_en_passant p (triple a b None) ≡ false
-        → is_legal p (triple a b None) ≡ true
+    → is_legal p (triple a b None) ≡ true
 unfolding second_square_emptied castling_rook_to
 free_is_legal p a b king sound free low there one go stays no_passing =
     let m = triple a b None in
@@ -54,11 +54,15 @@ free_is_legal p a b king sound free low there one go stays no_passing =
     let here : is_man p.side King (man_at p.men king) ≡ true = one king there ∙ eq-eqb king king refl in
     let no_king : is_man p.side King (man_at p.men a) ≡ false = one a low ∙ free.apart king there here in
     let no_castle : castle_of p m ≡ None = none_castles p m (no_king_says p m KingSide no_king)
-        (no_king_says p m QueenSide no_king) in
-    let plain : IsPlain p m = record { also = rw (no_passing, no_castle) refl; rook = rw no_castle refl;
-        mover = mover_some p m pattern; own = mover_own p m pattern } in
+    (no_king_says p m QueenSide no_king) in
+    let plain : IsPlain p m = record {
+      also = rw (no_passing, no_castle) refl;
+      rook = rw no_castle refl;
+      mover = mover_some p m pattern;
+      own = mover_own p m pattern;
+    } in
     let safe : is_attacked (men_after p m) king (other p.side) ≡ false =
-        stays_safe p m king sound.board low plain (free.safe king there here) in
+    stays_safe p m king sound.board low plain (free.safe king there here) in
     let king_there : is_man p.side King (man_at (men_after p m) king) ≡ true =
     king_stays p m king sound pattern one (ap (λ o. is_man p.side King o) (lands_same (man_at p.men a)) ∙ no_king) in
     sym (legal_is p m pattern) ∙ ap not (check_after p m king sound pattern there king_there ∙ safe)
@@ -98,11 +102,11 @@ not_taken p a b (Some t) pawn off =
       | inl same ↦
           let at : t ≡ b = eqb-true t b same in
           let miss : could_capture p.men p.side Pawn a b ≡ false =
-              sym (pawn_from p.men p.side a b) ∙ ap (λ s. in_shape (shape.Pawn p.side) a s) (sym at) ∙ off in
+          sym (pawn_from p.men p.side a b) ∙ ap (λ s. in_shape (shape.Pawn p.side) a s) (sym at) ∙ off in
           let free : attacks p.men a b ≡ false =
-              ap (λ x. could_capture_as p.men x a b) (man_told p.side Pawn (man_at p.men a) pawn) ∙ miss in
+          ap (λ x. could_capture_as p.men x a b) (man_told p.side Pawn (man_at p.men a) pawn) ∙ miss in
           and_left (is_man p.side Pawn (man_at p.men a) && attacks p.men a b) (t == b)
-              (and_right (is_man p.side Pawn (man_at p.men a)) (attacks p.men a b) free)
+          (and_right (is_man p.side Pawn (man_at p.men a)) (attacks p.men a b) free)
       | inr apart ↦ and_right (is_man p.side Pawn (man_at p.men a) && attacks p.men a b) (t == b) apart
     ]
 
@@ -125,13 +129,13 @@ pawn_usual p a sound low pawn no_target off = record {
           | inr takes ↦
               capture_stays p.side a b off
               (pawn_attack p.men p.side a b pawn (and_parts (attacks p.men a b)
-                  (is_of (other p.side) (man_at p.men b) || is_square p.target b) takes).0).1
+              (is_of (other p.side) (man_at p.men b) || is_square p.target b) takes).0).1
         ]
 
 -- as the code tells it
 pub usual_from : (p : Setup) (a : ℕ) → IsSound p → a < 64
     → (is_man p.side Pawn (man_at p.men a) && (aims_at p.target p.side a || (rank a == pawn_rank (other p.side))))
-        ≡ false → IsUsual p a
+    ≡ false → IsUsual p a
 usual_from p a sound low h = by (is_man p.side Pawn (man_at p.men a)) refl h
   where
     by : (b : Bool) → is_man p.side Pawn (man_at p.men a) ≡ b
@@ -140,7 +144,7 @@ usual_from p a sound low h = by (is_man p.side Pawn (man_at p.men a)) refl h
     by true e g =
         let neither = or_parts (aims_at p.target p.side a) (rank a == pawn_rank (other p.side)) g in
         pawn_usual p a sound low e neither.0 (λ same. both_ways (rank a == pawn_rank (other p.side)) neither.1
-            (eq-eqb (rank a) (pawn_rank (other p.side)) same))
+        (eq-eqb (rank a) (pawn_rank (other p.side)) same))
 
 -- ---- so each square is the end of one legal move
 
@@ -156,11 +160,11 @@ all_once g (x ∷ xs) h =
 pub free_counted : (p : Setup) (a king w : ℕ) → IsSound p → IsFree p a → IsUsual p a → a < 64 → king < 64
     → ((k : ℕ) → k < 64 → is_man p.side King (man_at p.men k) ≡ (k == king))
     → ((k : ℕ) → k < 64 → has w k ≡ true → goes p a k ≡ true)
-        → ((m : Move) → is_legal p m ≡ true → m.from ≡ a → has w m.to ≡ true)
+    → ((m : Move) → is_legal p m ≡ true → m.from ≡ a → has w m.to ≡ true)
     → length (members w) ≡ length (moves_from p a)
 free_counted p a king w sound free usual low there one sets all =
     sym (all_once (λ b. moves_between p a b) (members w) (each_member w (λ b. length (moves_between p a b) ≡ 1) once))
-        ∙ ap length (from_targets p a w all)
+    ∙ ap length (from_targets p a w all)
   where
     once : (b : ℕ) → b < 64 → has w b ≡ true → length (moves_between p a b) ≡ 1
     once b high h =
@@ -190,9 +194,9 @@ queen_told false s d t u h g e = e
 
 capture_before : (men later : Men) (c : Colour) (k : Kind) (a b : ℕ)
     → ((same_kind Rook k || same_kind Queen k) ≡ true → (not (a == b) && share_rank_or_file a b) ≡ true
-        → is_clear later a b ≡ true → is_clear men a b ≡ true)
+    → is_clear later a b ≡ true → is_clear men a b ≡ true)
     → ((same_kind Bishop k || same_kind Queen k) ≡ true → (not (a == b) && share_diagonal a b) ≡ true
-        → is_clear later a b ≡ true → is_clear men a b ≡ true)
+    → is_clear later a b ≡ true → is_clear men a b ≡ true)
     → could_capture later c k a b ≡ true → could_capture men c k a b ≡ true
 unfolding could_capture
 capture_before men later c King a b l d e = e
@@ -200,7 +204,7 @@ capture_before men later c Knight a b l d e = e
 capture_before men later c Pawn a b l d e = e
 capture_before men later c Queen a b l d e =
     queen_told (not (a == b)) (share_rank_or_file a b) (share_diagonal a b) (is_clear later a b) (is_clear men a b)
-        (l refl) (d refl) e
+    (l refl) (d refl) e
 capture_before men later c Rook a b l d e =
     last_told (not (a == b)) (share_rank_or_file a b) (is_clear later a b) (is_clear men a b) (l refl) e
 capture_before men later c Bishop a b l d e =
@@ -234,21 +238,21 @@ freed p a king sound low there calm one out lines diagonals = record {
   apart = at_king p a king (λ k. (a == k) ≡ false) one out;
   safe = at_king p a king
       (λ k. some_square (λ b. is_of (other p.side) (man_at (lifted p.men a) b)
-          && could_capture_as (lifted p.men a) (man_at (lifted p.men a) b) b k) ≡ false) one
+      && could_capture_as (lifted p.men a) (man_at (lifted p.men a) b) b k) ≡ false) one
       (some_square-none _
       (λ b l.
       false_from_ne_true _
       (λ e.
       let both = and_parts (is_of (other p.side) (man_at (lifted p.men a) b))
-          (could_capture_as (lifted p.men a) (man_at (lifted p.men a) b) b king) e in
+      (could_capture_as (lifted p.men a) (man_at (lifted p.men a) b) b king) e in
       let stood : man_at (lifted p.men a) b ≡ man_at p.men b =
       lifted_at p.men a b sound.board low ∙ lifted_enemy (b == a) (man_at p.men b) (other p.side)
-          (rw (lifted_at p.men a b sound.board low) at both.0) in
+      (rw (lifted_at p.men a b sound.board low) at both.0) in
       let was : is_of (other p.side) (man_at p.men b) ≡ true = rw (← stood) both.0 in
       let hit : could_capture_as p.men (man_at p.men b) b king ≡ true =
-          hits_before p a b king (man_at p.men b) l refl was lines diagonals (rw (← stood) both.1) in
+      hits_before p a b king (man_at p.men b) l refl was lines diagonals (rw (← stood) both.1) in
       both_ways (is_attacked p.men king (other p.side)) (sym (check_is p.men p.side king there one) ∙ calm)
-          (some_square-at _ b l (and_from _ _ was hit)))));
+      (some_square-at _ b l (and_from _ _ was hit)))));
 }
 
 -- what a set tells that is empty
@@ -264,7 +268,7 @@ and_true_left false b e h = cc
 pub free_listed : (p : Setup) (a king w : ℕ) → IsSound p → IsFree p a → IsUsual p a → a < 64 → king < 64
     → ((k : ℕ) → k < 64 → is_man p.side King (man_at p.men k) ≡ (k == king))
     → ((k : ℕ) → k < 64 → has w k ≡ true → goes p a k ≡ true) → (b : ℕ) → b < 64 → has w b ≡ true
-        → moves_between p a b ≡ triple a b None ∷ []
+    → moves_between p a b ≡ triple a b None ∷ []
 free_listed p a king w sound free usual low there one sets b high h =
     let go = sets b high h in
     let stays = usual.stays b high go in

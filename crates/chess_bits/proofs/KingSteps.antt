@@ -114,20 +114,20 @@ far_from_home men Black QueenSide = refl
 named_apart : (v : Variant) (men : Men) (c : Colour) (a b : ℕ) (w : CastlingSide) (o : Option ℕ)
     → ((r : ℕ) → o ≡ Some r → is_man c Rook (man_at men r) ≡ true)
     → could_capture men c King a b ≡ true → is_of c (man_at men b) ≡ false
-        → names_castling v c (triple a b None) w o ≡ true → ⊥
+    → names_castling v c (triple a b None) w o ≡ true → ⊥
 named_apart v men c a b w None rook step free e = absurd cc
 named_apart Normal men c a b w (Some r) rook step free e =
     let both = and_parts (a == home_square c king_home_file) (b == home_square c (castled_king_file w)) e in
     let start = eqb-true a (home_square c king_home_file) both.0 in
     let end = eqb-true b (home_square c (castled_king_file w)) both.1 in
     both_ways (could_capture men c King (home_square c king_home_file) (home_square c (castled_king_file w)))
-        (far_from_home men c w)
+    (far_from_home men c w)
     (sym (ap (λ s. could_capture men c King s b) start
-        ∙ ap (λ s. could_capture men c King (home_square c king_home_file) s) end) ∙ step)
+    ∙ ap (λ s. could_capture men c King (home_square c king_home_file) s) end) ∙ step)
 named_apart Fischerandom men c a b w (Some r) rook step free e =
     let at = eqb-true b r (and_parts (rank a == rank r) (b == r) e).1 in
     both_ways (is_of c (man_at men b)) free (ap (λ s. is_of c (man_at men s)) at
-        ∙ is_of-from_is_man c Rook (man_at men r) (rook r refl))
+    ∙ is_of-from_is_man c Rook (man_at men r) (rook r refl))
 
 not_said : (p : Setup) (a b : ℕ) (w : CastlingSide) → IsSound p → could_capture p.men p.side King a b ≡ true
     → is_of p.side (man_at p.men b) ≡ false
@@ -140,7 +140,7 @@ not_said p a b w sound step free =
     (λ r at. castling_rook_stands p p.side w r (right_stands_of p sound p.side w) at)
     step free
     (and_parts (is_man p.side King (man_at p.men a))
-        (names_castling p.variant p.side (triple a b None) w (right_of p.rights p.side w)) e).1)
+    (names_castling p.variant p.side (triple a b None) w (right_of p.rights p.side w)) e).1)
 
 -- what a king's step is
 step_parts : (p : Setup) (a b : ℕ) → is_man p.side King (man_at p.men a) ≡ true → man_moves p (triple a b None) ≡ true
@@ -148,7 +148,7 @@ step_parts : (p : Setup) (a b : ℕ) → is_man p.side King (man_at p.men a) ≡
 step_parts p a b king moves =
     let at = man_told p.side King (man_at p.men a) king in
     let both = and_parts (could_capture p.men p.side King a b) (not (is_of p.side (man_at p.men b)))
-        (sym (steps_of_man p a b _ at refl) ∙ moves) in
+    (sym (steps_of_man p a b _ at refl) ∙ moves) in
     (both.0, off (is_of p.side (man_at p.men b)) both.1)
   where
     off : (t : Bool) → not t ≡ true → t ≡ false
@@ -160,7 +160,7 @@ pub step_no_castling : (p : Setup) (a b : ℕ) → IsSound p → is_man p.side K
 step_no_castling p a b sound king moves =
     let parts = step_parts p a b king moves in
     none_castles p (triple a b None) (not_said p a b KingSide sound parts.0 parts.1)
-        (not_said p a b QueenSide sound parts.0 parts.1)
+    (not_said p a b QueenSide sound parts.0 parts.1)
 
 -- ---- a step is legal where the square isn't attacked once the king has left his own
 
@@ -178,7 +178,7 @@ step_is p a b sound king moves low high =
     let at = man_told p.side King (man_at p.men a) king in
     let none : castle_of p m ≡ None = step_no_castling p a b sound king moves in
     let go : goes p a b ≡ true = man_sound p a b _ at refl refl low high
-        (ap (λ o. legal_or p m o (man_moves p m)) none ∙ moves) in
+    (ap (λ o. legal_or p m o (man_moves p m)) none ∙ moves) in
     let stays : would_promote p a b ≡ false = not_promoting p a b _ at refl in
     let pattern : has_pattern p m ≡ true = pattern_of p a b None go (rw stays refl) in
     let lands : lands_on p m ≡ b = ap (mover_to m) none in
@@ -186,13 +186,17 @@ step_is p a b sound king moves low high =
     king_lands p m b (sym lands) high (ap (λ o. is_man p.side King o) (lands_same (man_at p.men a)) ∙ king) in
     let no_passing : is_en_passant p m ≡ false =
     not_passing p m (rw (no_pawn_there p a _ at refl) refl) in
-    let plain : IsPlain p m = record { also = rw (no_passing, none) refl; rook = rw none refl;
-        mover = mover_some p m pattern; own = mover_own p m pattern } in
+    let plain : IsPlain p m = record {
+      also = rw (no_passing, none) refl;
+      rook = rw none refl;
+      mover = mover_some p m pattern;
+      own = mover_own p m pattern;
+    } in
     let same : (k : ℕ) → k < 64 → (k == b) ≡ false → man_at (lifted p.men a) k ≡ man_at (men_after p m) k =
     λ k l apart. lifted_at p.men a k sound.board low
-        ∙ sym (plain_after p m k plain l ∙ rw (lands, eq_back b k, apart, eq_back a k) refl) in
+    ∙ sym (plain_after p m k plain l ∙ rw (lands, eq_back b k, apart, eq_back a k) refl) in
     ap not (attacked_same (lifted p.men a) (men_after p m) b (other p.side) same
-        ∙ sym (check_after p m b sound pattern high there)) ∙ legal_is p m pattern
+    ∙ sym (check_after p m b sound pattern high there)) ∙ legal_is p m pattern
 
 -- ---- his steps and castling are all his moves
 
@@ -201,7 +205,7 @@ two_range : {A : Type 0} (g : ℕ → List A) (s e : ℕ → Bool) (n a : ℕ) �
     → ((k : ℕ) → k < 64 → s k ≡ false → e k ≡ false → g k ≡ [])
     → ((k : ℕ) → k < 64 → s k ≡ true → e k ≡ false)
     → length (flat_map g (filter e (range_with_len a n)))
-        + length (flat_map g (filter s (range_with_len a n))) ≡ length (flat_map g (range_with_len a n))
+    + length (flat_map g (filter s (range_with_len a n))) ≡ length (flat_map g (range_with_len a n))
 two_range g s e zero a fits out apart = refl
 two_range g s e (suc n) a fits out apart =
     let rest = two_range g s e n (a + 1) (omega arith) out apart in
@@ -240,7 +244,7 @@ king_goes p a b s e k king low high steps ends off out =
     by None none h = both_ways (man_moves p (triple a b None)) (sym steps ∙ off) h
     by (Some castle) some h =
         both_ways (is_legal p (triple a b None))
-            (sym (ends ∙ ap (λ o. legal_or p (triple a b None) o false) some) ∙ out) h
+        (sym (ends ∙ ap (λ o. legal_or p (triple a b None) o false) some) ∙ out) h
 
 pub king_counted : (p : Setup) (a s e : ℕ) → IsSound p → is_man p.side King (man_at p.men a) ≡ true → a < 64
     → ((k : ℕ) → k < 64 → has s k ≡ man_moves p (triple a k None))
@@ -254,10 +258,10 @@ king_counted p a s e sound king low steps ends =
     sym (ap (λ n. n + length (flat_map (λ b. moves_between p a b) (members s))) ones)
     ∙ two_sets (λ b. moves_between p a b) s e
     (λ b high off out. none_there p a b (λ k. king_goes p a b (has s b) (has e b) k king low high (steps b high)
-        (ends b high) off out))
+    (ends b high) off out))
     (λ b high on.
     ends b high ∙ ap (λ o. legal_or p (triple a b None) o false)
-        (step_no_castling p a b sound king (sym (steps b high) ∙ on)))
+    (step_no_castling p a b sound king (sym (steps b high) ∙ on)))
   where
     castled : (m : Move) (o : Option Castle) → legal_or p m o false ≡ true → is_legal p m ≡ true
     castled m None h = cc
@@ -267,7 +271,7 @@ king_counted p a s e sound king low steps ends =
     once b high h =
         let legal = castled (triple a b None) (castle_of p (triple a b None)) (sym (ends b high) ∙ h) in
         let stays : would_promote p a b ≡ false =
-            not_promoting p a b _ (man_told p.side King (man_at p.men a) king) refl in
+        not_promoting p a b _ (man_told p.side King (man_at p.men a) king) refl in
         sym (rw legal at (one_counted p a b stays))
 
 -- as the code tells them

@@ -53,7 +53,7 @@ pub record IsPlain (p : Setup) (m : Move) : Type 0 where
 
 pub plain_after : (p : Setup) (m : Move) (k : ℕ) → IsPlain p m → k < 64
     → man_at (men_after p m) k ≡ cond (lands_on p m == k) (man_that_lands (man_at p.men m.from) m.promotion)
-        (cond (m.from == k) None (man_at p.men k))
+    (cond (m.from == k) None (man_at p.men k))
 unfolding man_after
 plain_after p m k h l = man_at-men_after p m k l ∙ rw (h.also, h.rook) refl
 
@@ -73,7 +73,7 @@ empty_before false arr o g e = e
 
 lands_over : (p : Setup) (m : Move) (k : ℕ) → length p.men ≡ 64 → m.from < 64 → IsPlain p m → k < 64
     → man_at (men_after p m) k ≡ cond (lands_on p m == k) (man_that_lands (man_at p.men m.from) m.promotion)
-        (man_at (lifted p.men m.from) k)
+    (man_at (lifted p.men m.from) k)
 lands_over p m k all low plain l =
     plain_after p m k plain l
     ∙ ap (λ o. cond (lands_on p m == k) (man_that_lands (man_at p.men m.from) m.promotion) o)
@@ -91,7 +91,7 @@ clear_before p m a b all low h e =
           let now = rw inside at (each_square-at _ e x l) in
           rw inside
           (empty_before (lands_on p m == x) (man_that_lands (man_at p.men m.from) m.promotion)
-              (man_at (lifted p.men m.from) x) h.mover
+          (man_at (lifted p.men m.from) x) h.mover
           (rw (lands_over p m x all low h l) at now))
     ])
 
@@ -105,16 +105,16 @@ stays_safe p m king all low h before =
     false_from_ne_true _
     (λ e.
     let both = and_parts (is_of (other p.side) (man_at (men_after p m) a))
-        (could_capture_as (men_after p m) (man_at (men_after p m) a) a king) e in
+    (could_capture_as (men_after p m) (man_at (men_after p m) a) a king) e in
     let stood : man_at (men_after p m) a ≡ man_at (lifted p.men m.from) a =
     lands_over p m a all low h k
     ∙ enemy_before (lands_on p m == a) (man_that_lands (man_at p.men m.from) m.promotion)
-        (man_at (lifted p.men m.from) a) (other p.side) h.own
+    (man_at (lifted p.men m.from) a) (other p.side) h.own
     (rw (lands_over p m a all low h k) at both.0) in
     let was : is_of (other p.side) (man_at (lifted p.men m.from) a) ≡ true = rw (← stood) both.0 in
     let hit : could_capture_as (lifted p.men m.from) (man_at (lifted p.men m.from) a) a king ≡ true =
     could_capture_as_clear (lifted p.men m.from) (men_after p m) (man_at (lifted p.men m.from) a) a king
-        (clear_before p m a king all low h) (rw (← stood) both.1) in
+    (clear_before p m a king all low h) (rw (← stood) both.1) in
     both_ways _ before (some_square-at _ a k (and_from _ _ was hit))))
 
 -- ---- moves that change only their two squares
@@ -132,12 +132,18 @@ not_passing p m h = out (is_man p.side Pawn (man_at p.men m.from)) (attacks p.me
 
 pub plain_steps : (p : Setup) (m : Move) → is_man p.side King (man_at p.men m.from) ≡ false
     → (is_man p.side Pawn (man_at p.men m.from) && is_square p.target m.to) ≡ false
-    → record { from = m.from; second_from = None; second_to = None;
-        second = Some (record { colour = p.side; kind = Rook }); to = m.to; mover =
-            man_that_lands (man_at p.men m.from) m.promotion } ≡ steps_of p m
+    → record {
+      from = m.from;
+      second_from = None;
+      second_to = None;
+      second = Some (record { colour = p.side; kind = Rook });
+      to = m.to;
+      mover =
+          man_that_lands (man_at p.men m.from) m.promotion;
+    } ≡ steps_of p m
 unfolding second_square_emptied castling_rook_to lands_on
 plain_steps p m no_king no_passing =
     let still = not_passing p m no_passing in
     let no_castle : castle_of p m ≡ None = none_castles p m (no_king_says p m KingSide no_king)
-        (no_king_says p m QueenSide no_king) in
+    (no_king_says p m QueenSide no_king) in
     rw (still, no_castle) refl

@@ -49,8 +49,10 @@ six e Pawn = refl
 
 pub no_kinds : (e : ℕ) (c : Colour) (men : Men) → ((k : ℕ) → has e k ≡ false) → ((k : ℕ) → k < 64 → man_at men k ≡ None)
     → IsKinds (e ∷ e ∷ e ∷ e ∷ e ∷ e ∷ []) c men
-no_kinds e c men empty none = record { of_kind = λ kind k low. ap (λ w. has w k) (six e kind) ∙ empty k
-    ∙ sym (no_man c kind (man_at men k) (none k low)) }
+no_kinds e c men empty none = record {
+  of_kind = λ kind k low. ap (λ w. has w k) (six e kind) ∙ empty k
+      ∙ sym (no_man c kind (man_at men k) (none k low));
+}
 
 pub no_sets : (s : Sets) (men : Men) → ((k : ℕ) → k < 64 → man_at men k ≡ None) → IsKinds s.white.sets White men
     → IsKinds s.black.sets Black men

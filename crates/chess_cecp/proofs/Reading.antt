@@ -47,12 +47,21 @@ waits_on : (n : ℕ) (r r' r'' : InputState) (h h' h'' : Held) (given piece : Li
 waits_on n r r' r'' h h' h'' given piece s f p =
     let len : length (given ++ piece) ≡ length given + length piece = length-append given piece in
     let last = p.last in
-    inr (omega arith, ap (lines_held n false h) (before_last given piece r''.last_len p.last)
-        ∙ whole_so_far n r r' h h' h'' given s f)
+    inr (
+      omega arith,
+      ap (lines_held n false h) (before_last given piece r''.last_len p.last)
+          ∙ whole_so_far n r r' h h' h'' given s f,
+    )
 
 pub start : (n : ℕ) (r : InputState) (h : Held) → SoFar n r r h h []
-start n r h = record { bytes = consumes_none r.known_bytes; waits = inl (refl, refl); lines = λ told rest. refl;
-    failures = refl; ends = refl; work = omega arith }
+start n r h = record {
+  bytes = consumes_none r.known_bytes;
+  waits = inl (refl, refl);
+  lines = λ told rest. refl;
+  failures = refl;
+  ends = refl;
+  work = omega arith;
+}
 
 pub piece_on : (n : ℕ) (r r' r'' : InputState) (h h' h'' : Held) (given piece : List ℕ) → SoFar n r r' h h' given
     → HeldLine n h' h'' None → GavePiece r' r'' piece → 0 < length piece → length piece ≤ PIECE_LEN
@@ -83,7 +92,7 @@ lines_end : (n : ℕ) (r r' : InputState) (h h' h'' : Held) (given piece : List 
     → lines_held n told h (given ++ piece) ≡ lines_from n told h''.part []
 lines_end n r r' h h' h'' given piece s f e told =
     ap (lines_held n told h) (sym (append-nil (given ++ piece))) ∙ lines_on n r r' h h' h'' given piece s f told []
-        ∙ ap (λ v. lines_from n told h''.part (v ++ [])) e
+    ∙ ap (λ v. lines_from n told h''.part (v ++ [])) e
 
 pub both_empty : (a b : List ℕ) → a ≡ [] → b ≡ [] → record { part = a; coming = b } ≡ nothing_held
 both_empty a b e f = ap (λ (v : List ℕ). let h : Held = record { part = v; coming = b } in h) e
@@ -132,7 +141,7 @@ piece_on_part : (n : ℕ) (told : Bool) (part piece rest : List ℕ) → HasNoEn
 piece_on_part n told part [] rest h = ap (λ v. lines_from n told v rest) (sym (append-nil part))
 piece_on_part n told part (c ∷ cs) rest h =
     byte_step n told part c (cs ++ rest) h.0 ∙ piece_on_part n told (part ++ c ∷ []) cs rest h.1
-        ∙ ap (λ v. lines_from n told v rest) (append_assoc part (c ∷ []) cs)
+    ∙ ap (λ v. lines_from n told v rest) (append_assoc part (c ∷ []) cs)
 
 pub law_ended : (n : ℕ) (told : Bool) (piece rest : List ℕ) → HasNoEnd piece
     → lines_from n told [] (piece ++ 10 ∷ rest) ≡ line_of n true piece ∷ lines_from n told [] rest

@@ -50,7 +50,7 @@ answers_on s (x ∷ xs) ys h =
     let n : is_quit x ≡ false = or_left (is_quit x) (has_quit xs) h in
     let m : has_quit xs ≡ false = or_right (is_quit x) (has_quit xs) h in
     rw n (ap (λ v. answer_to s x ++ v) (answers_on (next_state s x) xs ys m)
-        ∙ sym (append_assoc (answer_to s x) (answers (next_state s x) xs) (answers (standing (next_state s x) xs) ys)))
+    ∙ sym (append_assoc (answer_to s x) (answers (next_state s x) xs) (answers (standing (next_state s x) xs) ys)))
 
 pub standing_on : (s : SessionSeen) (xs ys : List LineSeen) → has_quit xs ≡ false
     → standing s (xs ++ ys) ≡ standing (standing s xs) ys
@@ -148,21 +148,21 @@ start r w s = record {
 waited : (r r' r'' : InputState) (w w' : OutputState) (s s' : SessionSeen) (held : Held) (given more : List ℕ)
     (done : List LineSeen)
     → SoFar r r' w w' s s' held given done → Waits COMMAND_LEN r' r'' held more
-        → length (whole COMMAND_LEN (before_piece r''.last_len (given ++ more))) ≤ length done
+    → length (whole COMMAND_LEN (before_piece r''.last_len (given ++ more))) ≤ length done
 waited r r' r'' w w' s s' held given more done f (inl (none, same)) =
     let e : before_piece r''.last_len (given ++ more) ≡ before_piece r'.last_len given =
     ap (λ v. before_piece r''.last_len (given ++ v)) none ∙ ap (before_piece r''.last_len) (append-nil given)
-        ∙ ap (λ v. before_piece v given) same in
+    ∙ ap (λ v. before_piece v given) same in
     rw e f.on_demand
 waited r r' r'' w w' s s' held given more done f (inr (few, none)) =
     let len : length (given ++ more) ≡ length given + length more = length-append given more in
     let cut : before_piece r''.last_len (given ++ more) ≡ given ++ before_piece r''.last_len more =
     ap (λ v. take v (given ++ more)) (let at : length (given ++ more) - r''.last_len ≡ length given
-        + (length more - r''.last_len) = omega arith in at)
+    + (length more - r''.last_len) = omega arith in at)
     ∙ take-append-add given more (length more - r''.last_len) in
     let e : whole COMMAND_LEN (before_piece r''.last_len (given ++ more)) ≡ done =
     ap (whole COMMAND_LEN) cut ∙ f.lines false (before_piece r''.last_len more) ∙ ap (λ v. done ++ v) none
-        ∙ append-nil done in
+    ∙ append-nil done in
     omega (arith, ap length e)
 
 -- where the known bytes have lines, the first of them are those that are done, and that one
@@ -197,7 +197,7 @@ of_false false P Q e p = p
 pub reached_ended : (r r' r'' : InputState) (w w' : OutputState) (s s' : SessionSeen) (held held' : Held)
     (given more : List ℕ) (done : List LineSeen) (line : LineSeen)
     → SoFar r r' w w' s s' held given done → Consumes r'.known_bytes r''.known_bytes more
-        → Waits COMMAND_LEN r' r'' held more → GotLine COMMAND_LEN r' r'' held held' more line
+    → Waits COMMAND_LEN r' r'' held more → GotLine COMMAND_LEN r' r'' held held' more line
     → Reached r r'' (given ++ more) false done line (lines_held COMMAND_LEN false held' [])
 reached_ended r r' r'' w w' s s' held held' given more done line f bytes waits got = record {
   bytes = consumes_more r.known_bytes r'.known_bytes r''.known_bytes given more f.bytes bytes;
@@ -205,8 +205,11 @@ reached_ended r r' r'' w w' s s' held held' given more done line f bytes waits g
       ∙ ap (λ v. done ++ v) (got.lines false []);
   known = known_front r.known_bytes r''.known_bytes (given ++ more) (BeginsWith done line)
       (consumes_more r.known_bytes r'.known_bytes r''.known_bytes given more f.bytes bytes)
-      (λ rest. (lines_held COMMAND_LEN true held' rest, ap (lines_heard COMMAND_LEN true) (append_assoc given more rest)
-          ∙ f.lines true (more ++ rest) ∙ ap (λ v. done ++ v) (got.lines true rest)));
+      (λ rest. (
+        lines_held COMMAND_LEN true held' rest,
+        ap (lines_heard COMMAND_LEN true) (append_assoc given more rest)
+            ∙ f.lines true (more ++ rest) ∙ ap (λ v. done ++ v) (got.lines true rest),
+      ));
   on_demand = waited r r' r'' w w' s s' held given more done f waits;
   failures = got.failures ∙ f.failures;
   ends = got.ends ∙ f.ends;
@@ -215,7 +218,7 @@ reached_ended r r' r'' w w' s s' held held' given more done line f bytes waits g
 pub reached_last : (r r' r'' : InputState) (w w' : OutputState) (s s' : SessionSeen) (held held' : Held)
     (given more : List ℕ) (done : List LineSeen) (line : LineSeen)
     → SoFar r r' w w' s s' held given done → Consumes r'.known_bytes r''.known_bytes more
-        → Waits COMMAND_LEN r' r'' held more → GotLast COMMAND_LEN r' r'' held held' more line
+    → Waits COMMAND_LEN r' r'' held more → GotLast COMMAND_LEN r' r'' held held' more line
     → Reached r r'' (given ++ more) true done line []
 reached_last r r' r'' w w' s s' held held' given more done line f bytes waits got = record {
   bytes = consumes_more r.known_bytes r'.known_bytes r''.known_bytes given more f.bytes bytes;
@@ -236,18 +239,25 @@ IsReached r r' done line = (given : List ℕ) × (told : Bool) × (after : List 
 reached_by : (b : Bool) (E : Type 0) (r r' r'' : InputState) (w w' : OutputState) (s s' : SessionSeen)
     (held held' : Held) (given : List ℕ) (done : List LineSeen) (line : LineSeen)
     → SoFar r r' w w' s s' held given done → NextLine {E = E} COMMAND_LEN r' r'' held held' (Ok (Some line))
-        → line.ended ≡ b → IsReached r r'' done line
-reached_by true E r r' r'' w w' s s' held held' given done line f (more, bytes, waits, got) e =
-    (given ++ more, false, lines_held COMMAND_LEN false held' [],
-        reached_ended r r' r'' w w' s s' held held' given more done line f bytes waits (of_true line.ended _ _ e got))
-reached_by false E r r' r'' w w' s s' held held' given done line f (more, bytes, waits, got) e =
-    (given ++ more, true, [], reached_last r r' r'' w w' s s' held held' given more done line f bytes waits
-        (of_false line.ended _ _ e got))
+    → line.ended ≡ b → IsReached r r'' done line
+reached_by true E r r' r'' w w' s s' held held' given done line f (more, bytes, waits, got) e = (
+  given ++ more,
+  false,
+  lines_held COMMAND_LEN false held' [],
+  reached_ended r r' r'' w w' s s' held held' given more done line f bytes waits (of_true line.ended _ _ e got),
+)
+reached_by false E r r' r'' w w' s s' held held' given done line f (more, bytes, waits, got) e = (
+  given ++ more,
+  true,
+  [],
+  reached_last r r' r'' w w' s s' held held' given more done line f bytes waits
+      (of_false line.ended _ _ e got),
+)
 
 pub reached : (E : Type 0) (r r' r'' : InputState) (w w' : OutputState) (s s' : SessionSeen) (held held' : Held)
     (given : List ℕ) (done : List LineSeen) (line : LineSeen)
     → SoFar r r' w w' s s' held given done → NextLine {E = E} COMMAND_LEN r' r'' held held' (Ok (Some line))
-        → IsReached r r'' done line
+    → IsReached r r'' done line
 reached E r r' r'' w w' s s' held held' given done line f n =
     reached_by line.ended E r r' r'' w w' s s' held held' given done line f n refl
 
@@ -260,14 +270,14 @@ state_on s s' s'' done line e n = n ∙ ap (λ v. next_state v line) e
 pub go_on : (E : Type 0) (r r' r'' : InputState) (w w' w'' : OutputState) (s s' s'' : SessionSeen) (held held' : Held)
     (given : List ℕ) (done : List LineSeen) (line : LineSeen)
     → SoFar r r' w w' s s' held given done → NextLine {E = E} COMMAND_LEN r' r'' held held' (Ok (Some line))
-        → line.ended ≡ true
+    → line.ended ≡ true
     → Sent w' w'' (answer_to s' line) → s'' ≡ next_state s' line → is_quit line ≡ false
     → (given' : List ℕ) × SoFar r r'' w w'' s s'' held' given' (done ++ line ∷ [])
 go_on E r r' r'' w w' w'' s s' s'' held held' given done line f (more, bytes, waits, got) ended took next on =
     let g : GotLine COMMAND_LEN r' r'' held held' more line = of_true line.ended _ _ ended got in
     let told_text : answers s (done ++ line ∷ []) ≡ answers s done ++ answer_to s' line =
     answers_on s done (line ∷ []) f.no_quit ∙ ap (λ v. answers s done ++ v)
-        (answers_last (standing s done) line ∙ ap (λ v. answer_to v line) (sym f.state)) in (
+    (answers_last (standing s done) line ∙ ap (λ v. answer_to v line) (sym f.state)) in (
       given ++ more,
       record {
         bytes = consumes_more r.known_bytes r'.known_bytes r''.known_bytes given more f.bytes bytes;
@@ -293,10 +303,10 @@ quit_answered : (r r' : InputState) (w w' : OutputState) (s s' s'' : SessionSeen
 quit_answered r r' w w' s s' s'' held given done line behind ls f e next on = record {
   taken = sym (ap (answers s) e ∙ answers_on s done (line ∷ behind) f.no_quit
       ∙ ap (λ v. answers s done ++ v) (answers_one (standing s done) line behind on
-          ∙ ap (λ v. answer_to v line) (sym f.state)));
+      ∙ ap (λ v. answer_to v line) (sym f.state)));
   state = state_on s s' s'' done line f.state next
       ∙ sym (ap (standing s) e ∙ standing_on s done (line ∷ behind) f.no_quit
-          ∙ standing_one (standing s done) line behind on);
+      ∙ standing_one (standing s done) line behind on);
 }
 
 quit_stands : (done : List LineSeen) (line : LineSeen) (behind : List LineSeen) → is_quit line ≡ true
@@ -309,11 +319,11 @@ quit_stands (x ∷ done) line behind on = or_right_true (is_quit x) (has_quit (d
 known_answered : (r r' : InputState) (s s' : SessionSeen) (t : Transcript) (quit : Bool)
     → Consumes r.known_bytes r'.known_bytes t.given → IsAtEnd r'.known_bytes
     → Answered s s' t.taken (lines COMMAND_LEN t.given) → has_quit (lines COMMAND_LEN t.given) ≡ quit
-        → AnsweredKnown r s s' t quit
+    → AnsweredKnown r s s' t quit
 known_answered r r' s s' t quit bytes end all is =
     Consumes-whole r.known_bytes r'.known_bytes t.given
-        (λ xs. Answered s s' t.taken (lines COMMAND_LEN xs) × (has_quit (lines COMMAND_LEN xs) ≡ quit)) bytes end
-            (all, is)
+    (λ xs. Answered s s' t.taken (lines COMMAND_LEN xs) × (has_quit (lines COMMAND_LEN xs) ≡ quit)) bytes end
+    (all, is)
 
 -- a run that ends by the line that was reached
 pub by_quit : (r r' r'' : InputState) (w w' w'' : OutputState) (s s' s'' : SessionSeen) (held : Held) (given : List ℕ)
@@ -323,7 +333,7 @@ pub by_quit : (r r' r'' : InputState) (w w' w'' : OutputState) (s s' s'' : Sessi
     → (t : Transcript) × Ran r r'' w w'' s s'' t (Ok Quit)
 by_quit r r' r'' w w' w'' s s' s'' held given done line f (all, told, after, at) took next on =
     let both : SentAll w w'' (answers s done ++ answer_to s' line) =
-        sent_more w w' w'' (answers s done) (answer_to s' line) f.took took in (
+    sent_more w w' w'' (answers s done) (answer_to s' line) f.took took in (
       record { given = all; told = told; taken = answers s done ++ answer_to s' line },
       (
         record { given = at.bytes; taken = both.bytes; told = at.ends; reads = at.failures; writes = both.failures },
@@ -336,8 +346,10 @@ by_quit r r' r'' w w' w'' s s' s'' held given done line f (all, told, after, at)
           quit_answered r r' w w' s s' s'' held given done line after _ f at.lines next on,
         ),
         IfSome_then r.known_bytes at.known
-            (λ xs (behind, e). (quit_answered r r' w w' s s' s'' held given done line behind _ f e next on,
-                ap has_quit e ∙ quit_stands done line behind on)),
+            (λ xs (behind, e). (
+              quit_answered r r' w w' s s' s'' held given done line behind _ f e next on,
+              ap has_quit e ∙ quit_stands done line behind on,
+            )),
         both.flushed,
       ),
     )
@@ -374,25 +386,25 @@ by_write r r' r'' w w' w'' s s' s'' held given done line f (all, told, after, at
 pub by_last : (E : Type 0) (r r' r'' : InputState) (w w' w'' : OutputState) (s s' s'' : SessionSeen) (held held' : Held)
     (given : List ℕ) (done : List LineSeen) (line : LineSeen)
     → SoFar r r' w w' s s' held given done → NextLine {E = E} COMMAND_LEN r' r'' held held' (Ok (Some line))
-        → line.ended ≡ false
+    → line.ended ≡ false
     → Sent w' w'' (answer_to s' line) → s'' ≡ next_state s' line → is_quit line ≡ false
     → (t : Transcript) × Ran r r'' w w'' s s'' t (Ok InputEnded)
 by_last E r r' r'' w w' w'' s s' s'' held held' given done line f (more, bytes, waits, got) ended took next on =
     let g : GotLast COMMAND_LEN r' r'' held held' more line = of_false line.ended _ _ ended got in
     let at : Reached r r'' (given ++ more) true done line [] =
-        reached_last r r' r'' w w' s s' held held' given more done line f bytes waits g in
+    reached_last r r' r'' w w' s s' held held' given more done line f bytes waits g in
     let both : SentAll w w'' (answers s done ++ answer_to s' line) =
-        sent_more w w' w'' (answers s done) (answer_to s' line) f.took took in
+    sent_more w w' w'' (answers s done) (answer_to s' line) f.took took in
     let t : Transcript = record { given = given ++ more; told = true; taken = answers s done ++ answer_to s' line } in
     let none : has_quit (lines COMMAND_LEN (given ++ more)) ≡ false =
-        ap has_quit at.lines ∙ no_quit_on done line f.no_quit on in
+    ap has_quit at.lines ∙ no_quit_on done line f.no_quit on in
     let all : Answered s s'' t.taken (lines COMMAND_LEN (given ++ more)) = record {
       taken = sym (ap (answers s) at.lines ∙ answers_on s done (line ∷ []) f.no_quit
           ∙ ap (λ v. answers s done ++ v) (answers_last (standing s done) line
-              ∙ ap (λ v. answer_to v line) (sym f.state)));
+          ∙ ap (λ v. answer_to v line) (sym f.state)));
       state = state_on s s' s'' done line f.state next
           ∙ sym (ap (standing s) at.lines ∙ standing_on s done (line ∷ []) f.no_quit
-              ∙ standing_last (standing s done) line);
+          ∙ standing_last (standing s done) line);
     } in (
       t,
       (
@@ -410,17 +422,22 @@ pub by_end : (E : Type 0) (r r' r'' : InputState) (w w' : OutputState) (s s' : S
     → (t : Transcript) × Ran r r'' w w' s s' t (Ok InputEnded)
 by_end E r r' r'' w w' s s' held held' given done f (more, bytes, waits, got) =
     let is : lines_heard COMMAND_LEN true (given ++ more) ≡ done =
-        f.lines true more ∙ ap (λ v. done ++ v) (got.lines true) ∙ append-nil done in
+    f.lines true more ∙ ap (λ v. done ++ v) (got.lines true) ∙ append-nil done in
     let both : Consumes r.known_bytes r''.known_bytes (given ++ more) =
-        consumes_more r.known_bytes r'.known_bytes r''.known_bytes given more f.bytes bytes in
+    consumes_more r.known_bytes r'.known_bytes r''.known_bytes given more f.bytes bytes in
     let t : Transcript = record { given = given ++ more; told = true; taken = answers s done } in
     let none : has_quit (lines COMMAND_LEN (given ++ more)) ≡ false = ap has_quit is ∙ f.no_quit in
     let all : Answered s s' t.taken (lines COMMAND_LEN (given ++ more)) =
-        record { taken = sym (ap (answers s) is); state = f.state ∙ sym (ap (standing s) is) } in (
+    record { taken = sym (ap (answers s) is); state = f.state ∙ sym (ap (standing s) is) } in (
       t,
       (
-        record { given = both; taken = f.took.bytes; told = got.ends ∙ ap risen f.ends;
-            reads = got.failures ∙ f.failures; writes = f.took.failures },
+        record {
+          given = both;
+          taken = f.took.bytes;
+          told = got.ends ∙ ap risen f.ends;
+          reads = got.failures ∙ f.failures;
+          writes = f.took.failures;
+        },
         record { told = refl; at_end = got.at_end; no_quit = none; all = all },
         known_answered r r'' s s' t false both got.at_end all none,
         f.took.flushed,
@@ -434,15 +451,20 @@ pub by_read : {E : Type 0} (e : E) (r r' r'' : InputState) (w w' : OutputState) 
     → (t : Transcript) × Ran r r'' w w' s s' t (Err Read)
 by_read e r r' r'' w w' s s' held held' given done f (more, bytes, waits, got) =
     let is : whole COMMAND_LEN (given ++ more) ≡ done =
-        f.lines false more ∙ ap (λ v. done ++ v) got.whole ∙ append-nil done in
+    f.lines false more ∙ ap (λ v. done ++ v) got.whole ∙ append-nil done in
     let both : Consumes r.known_bytes r''.known_bytes (given ++ more) =
-        consumes_more r.known_bytes r'.known_bytes r''.known_bytes given more f.bytes bytes in
+    consumes_more r.known_bytes r'.known_bytes r''.known_bytes given more f.bytes bytes in
     let P : List ℕ → Type 0 = λ xs. (behind : List LineSeen)
-        × (lines COMMAND_LEN xs ≡ whole COMMAND_LEN (given ++ more) ++ behind) in (
+    × (lines COMMAND_LEN xs ≡ whole COMMAND_LEN (given ++ more) ++ behind) in (
       record { given = given ++ more; told = false; taken = answers s done },
       (
-        record { given = both; taken = f.took.bytes; told = got.ends ∙ f.ends;
-            reads = got.failures ∙ ap risen f.failures; writes = f.took.failures },
+        record {
+          given = both;
+          taken = f.took.bytes;
+          told = got.ends ∙ f.ends;
+          reads = got.failures ∙ ap risen f.failures;
+          writes = f.took.failures;
+        },
         record {
           told = refl;
           no_quit = ap has_quit is ∙ f.no_quit;

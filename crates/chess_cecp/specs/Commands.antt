@@ -34,17 +34,18 @@ protover_of None = BadNumber
 abbrev pub is_named : List ℕ → List (List ℕ) → Bool
 is_named word names = list_any (bytes_eq word) names
 
--- commands to an engine that plays, which an arbiter hears in silence: how it is to play, and of opponent, clocks and offers
+-- commands to an engine that plays, which an arbiter hears in silence: how it is to play, and of opponent, clocks and
+-- offers
 abbrev pub playing_words : List (List ℕ)
 playing_words =
     codes "xboard" ∷ codes "accepted" ∷ codes "rejected" ∷ codes "force" ∷ codes "random" ∷ codes "hard" ∷ codes "easy"
-        ∷ codes "post" ∷ codes "nopost"
+    ∷ codes "post" ∷ codes "nopost"
     ∷ codes "computer" ∷ []
 
 abbrev pub clock_words : List (List ℕ)
 clock_words =
     codes "name" ∷ codes "rating" ∷ codes "ics" ∷ codes "level" ∷ codes "st" ∷ codes "sd" ∷ codes "time" ∷ codes "otim"
-        ∷ codes "draw" ∷ codes "?" ∷ []
+    ∷ codes "draw" ∷ codes "?" ∷ []
 
 unfoldable pub is_told_of_playing : List ℕ → Bool
 is_told_of_playing word = is_named word playing_words

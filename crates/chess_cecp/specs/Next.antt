@@ -62,7 +62,7 @@ Got n r r' held held' given (Err e) = GotFault n r r' held held' given
 abbrev pub NextLine : {E : Type 0} → ℕ → InputState → InputState → Held → Held → Result (Option LineSeen) E → Type 0
 NextLine n r r' held held' result =
     (given : List ℕ) × Consumes r.known_bytes r'.known_bytes given × Waits n r r' held given
-        × Got n r r' held held' given result
+    × Got n r r' held held' given result
 
 -- the two ways to spell what has come of a line and is alike for all that follows
 abbrev pub SameLines : ℕ → List ℕ → List ℕ → Type 0

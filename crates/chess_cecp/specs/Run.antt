@@ -90,8 +90,8 @@ pub record ByRead (r : InputState) (s s' : SessionSeen) (t : Transcript) : Type 
   pub state : s' ≡ standing s (whole COMMAND_LEN t.given)
   pub first : FirstOfKnown r (whole COMMAND_LEN t.given)
 
--- an end by a write or a flush that failed: a beginning of the answer to the line was written, and its change stands. That
--- beginning is all that is not flushed
+-- an end by a write or a flush that failed: a beginning of the answer to the line was written, and its change stands.
+-- That beginning is all that is not flushed
 abbrev pub ByWrite : InputState → OutputState → OutputState → SessionSeen → SessionSeen → Transcript → ℕ → Type 0
 ByWrite r w w' s s' t last_len =
     (before : List LineSeen) × (line : LineSeen) × (after : List LineSeen) × (start : List ℕ)

@@ -129,8 +129,11 @@ result_row s text (Some d) =
 
 -- a draw is declared and answered
 abbrev pub draws : State → List ℕ → Row
-draws s comment = record { text = result_line Draw comment; next = with_declared s
-    (Some (record { outcome = Draw; comment = comment })) }
+draws s comment = record {
+  text = result_line Draw comment;
+  next = with_declared s
+      (Some (record { outcome = Draw; comment = comment }));
+}
 
 abbrev pub claimed : State → Claims → Row
 claimed s c =

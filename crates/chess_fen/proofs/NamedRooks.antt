@@ -43,7 +43,7 @@ kept_by : (men : Men) (c : Colour) (w : CastlingSide) (s t x : ℕ) (xs : List �
     → named_square men c w x ≡ o
     → ((u : ℕ) → right_after_letters men c w (Some u) xs ≡ Some t → (u ≡ t) × AllByRecursion (IsUnnamed men c w) xs)
     → right_after_letters men c w (only_one_of (Some s) o) xs ≡ Some t
-        → (s ≡ t) × AllByRecursion (IsUnnamed men c w) (x ∷ xs)
+    → (s ≡ t) × AllByRecursion (IsUnnamed men c w) (x ∷ xs)
 kept_by men c w s t x xs n None at rec e = let r = rec s e in (r.0, (at, r.1))
 kept_by men c w s t x xs n (Some u) at rec e = let r = rec nowhere e in absurd (n (sym r.0))
 
@@ -69,7 +69,7 @@ abbrev One : Men → Colour → CastlingSide → ℕ → List ℕ → Type 0
 One men c w t ls =
     (before : List ℕ) × (l : ℕ) × (after : List ℕ)
     × (ls ≡ before ++ l ∷ after) × (named_square men c w l ≡ Some t) × AllByRecursion (IsUnnamed men c w) before
-        × AllByRecursion (IsUnnamed men c w) after
+    × AllByRecursion (IsUnnamed men c w) after
 
 one_by : (men : Men) (c : Colour) (w : CastlingSide) (t x : ℕ) (xs : List ℕ) → t ≢ nowhere → (o : Option ℕ)
     → named_square men c w x ≡ o
@@ -90,7 +90,7 @@ skipped : (men : Men) (c : Colour) (w : CastlingSide) (found : Option ℕ) (ls :
 skipped men c w found [] h = refl
 skipped men c w found (x ∷ xs) h =
     ap (λ o. right_after_letters men c w o xs) (ap (only_one_of found) h.0 ∙ only-none found)
-        ∙ skipped men c w found xs h.1
+    ∙ skipped men c w found xs h.1
 
 -- ---- the outermost rook
 
@@ -139,10 +139,10 @@ RookLeft men c w k = is_man c Rook (man_at men (home_square c (edge_file w k)))
 beyond : (men : Men) (c : Colour) (w : CastlingSide) (k : ℕ) → k < 8
     → ((j : ℕ) → k < j → j < 8 → RookLeft men c w j ≡ false)
     → (t : ℕ) → rank t ≡ first_rank c → is_to_side w (home_square c (edge_file w k)) t ≡ true
-        → is_man c Rook (man_at men t) ≡ false
+    → is_man c Rook (man_at men t) ≡ false
 beyond men c w k l above t h e =
     ap (λ x. is_man c Rook (man_at men x)) (sym (from_left c w t h))
-        ∙ above (files_left w t) (further c w k t l h e) (left_few w t)
+    ∙ above (files_left w t) (further c w k t l h e) (left_few w t)
 
 among_by : (men : Men) (c : Colour) (w : CastlingSide) (s k : ℕ) → k < 8 → (b : Bool) → RookLeft men c w k ≡ b
     → ((j : ℕ) → k < j → j < 8 → RookLeft men c w j ≡ false)
@@ -150,7 +150,7 @@ among_by : (men : Men) (c : Colour) (w : CastlingSide) (s k : ℕ) → k < 8 →
     → cond b (home_square c (edge_file w k)) (rook_among men c w k) ≡ s → IsOutermost men c w s
 among_by men c w s k l true at above rec e =
     subst (IsOutermost men c w) e
-        (record { rook = at; home = home_rank c w k l; none_beyond = beyond men c w k l above })
+    (record { rook = at; home = home_rank c w k l; none_beyond = beyond men c w k l above })
 among_by men c w s k l false at above rec e =
     rec (λ j low high. elim (cases_lt k j) [
       | inl past ↦ above j past high
@@ -163,7 +163,7 @@ among : (men : Men) (c : Colour) (w : CastlingSide) (s : ℕ) → s ≢ nowhere 
 among men c w s n zero low above e = absurd (n (sym e))
 among men c w s n (suc k) low above e =
     among_by men c w s k (omega (arith, low)) (RookLeft men c w k) refl (λ j past. above j (omega (arith, past)))
-        (among men c w s n k (omega (arith, low))) e
+    (among men c w s n k (omega (arith, low))) e
 
 outermost : (men : Men) (c : Colour) (w : CastlingSide) (s : ℕ) → s ≢ nowhere → outer_rook men c w ≡ s
     → IsOutermost men c w s
@@ -178,12 +178,12 @@ found_from men c w s o (suc k) low past =
       | inl before ↦
           let l : k < 8 = omega (arith, low) in
           let none : RookLeft men c w k ≡ false =
-              o.none_beyond (home_square c (edge_file w k)) (home_rank c w k l) (nearer c w k s l o.home before) in
+          o.none_beyond (home_square c (edge_file w k)) (home_rank c w k l) (nearer c w k s l o.home before) in
           rw none (found_from men c w s o k (omega (arith, low)) before)
       | inr on ↦
           let same : files_left w s ≡ k = omega (arith, past, on) in
           let here : home_square c (edge_file w k) ≡ s =
-              ap (λ j. home_square c (edge_file w j)) (sym same) ∙ from_left c w s o.home in
+          ap (λ j. home_square c (edge_file w j)) (sym same) ∙ from_left c w s o.home in
           rw (here, o.rook) refl
     ]
 
@@ -227,7 +227,7 @@ away_by : (men : Men) (c : Colour) (w : CastlingSide) (s : ℕ) → rank s ≡ f
     → (b : Bool) → is_towards w (king_square men c) s ≡ b → is_towards w (king_square men c) s ≡ false
 away_by men c w s home e true t =
     let v : named_square men c w (first_letter c + file s) ≡ Some s =
-        rw (no_side_letter c c w (file s) (file_in s), own_file c (file s) (file_in s), file_back c s home, t) refl in
+    rw (no_side_letter c c w (file s) (file_in s), own_file c (file s) (file_in s), file_back c s home, t) refl in
     let f : Some s ≡ None = sym v ∙ e in
     absurd cc
 away_by men c w s home e false t = t
@@ -247,7 +247,7 @@ all_none men c w (x ∷ xs) h = (none_says men c w x h.0, all_none men c w xs h.
 some_by : (men : Men) (c : Colour) (w : CastlingSide) (l s : ℕ) → s ≢ nowhere → (a b : Bool)
     → eqb l (side_letter c w) ≡ a → IsFileTowards men c w l ≡ b
     → cond a (Some (outer_rook men c w)) (cond b (Some (home_square c (l - first_letter c))) None) ≡ Some s
-        → NamesRook men c w l s
+    → NamesRook men c w l s
 some_by men c w l s n true b at bt e = let same : outer_rook men c w ≡ s =
     cc in inl (eqb-true l (side_letter c w) at, outermost men c w s n same)
 some_by men c w l s n false true at bt e =
@@ -310,7 +310,7 @@ told_by men c w text (Some s) st h =
     let front : right_after_letters men c w None h.0 ≡ None = skipped men c w None h.0 (all_unnamed men c w h.0 h.5) in
     let here : named_square men c w h.1 ≡ Some s = named_some men c w h.1 s (beside men c w s st) h.4 in
     let back : right_after_letters men c w (Some s) h.2 ≡ Some s =
-        skipped men c w (Some s) h.2 (all_unnamed men c w h.2 h.6) in
+    skipped men c w (Some s) h.2 (all_unnamed men c w h.2 h.6) in
     sym (ap (right_after_letters men c w None) h.3 ∙ after-append men c w None h.0 (h.1 ∷ h.2)
     ∙ ap (λ o. right_after_letters men c w o (h.1 ∷ h.2)) front
     ∙ ap (λ o. right_after_letters men c w o h.2) here ∙ back)
@@ -340,15 +340,22 @@ field_of text p h Black QueenSide = h.black_queen_side
 
 spelled_of : (text : List ℕ) (p : Setup) → IsCastling p.variant text
     → ((c : Colour) (w : CastlingSide) → IsHeld p.variant p.men text c w (right_of p.rights c w)) → SpellsRights text p
-spelled_of text p l h = record { letters = l; white_king_side = h White KingSide; white_queen_side = h White QueenSide;
-    black_king_side = h Black KingSide; black_queen_side = h Black QueenSide }
+spelled_of text p l h = record {
+  letters = l;
+  white_king_side = h White KingSide;
+  white_queen_side = h White QueenSide;
+  black_king_side = h Black KingSide;
+  black_queen_side = h Black QueenSide;
+}
 
 pub rights_named : RightsAreNamed
 rights_named text p e sound = (
-  (λ h. (subst (λ v. IsCastling v text) e h.letters,
-      λ c w. named_by p.men c w text (right_of p.rights c w) (stands_of p e sound c w)
-          (held_of p.variant p.men text c w (right_of p.rights c w) e (field_of text p h c w)))),
+  (λ h. (
+    subst (λ v. IsCastling v text) e h.letters,
+    λ c w. named_by p.men c w text (right_of p.rights c w) (stands_of p e sound c w)
+        (held_of p.variant p.men text c w (right_of p.rights c w) e (field_of text p h c w)),
+  )),
   (λ h. spelled_of text p (subst (λ v. IsCastling v text) (sym e) h.0)
       (λ c w. of_held p.variant p.men text c w (right_of p.rights c w) e
-          (told_by p.men c w text (right_of p.rights c w) (stands_of p e sound c w) (h.1 c w)))),
+      (told_by p.men c w text (right_of p.rights c w) (stands_of p e sound c w) (h.1 c w)))),
 )

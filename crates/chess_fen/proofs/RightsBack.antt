@@ -36,8 +36,13 @@ beside_by men c w s None at e = cc
 beside_by men c w s (Some k) at e =
     let two = and_parts (eqb (rank k) (first_rank c) && eqb (rank s) (first_rank c)) (is_to_side w k s) e in
     let one = and_parts (eqb (rank k) (first_rank c)) (eqb (rank s) (first_rank c)) two.0 in
-    record { king = k; at = at; king_rank = eqb-true (rank k) (first_rank c) one.0;
-        rook_rank = eqb-true (rank s) (first_rank c) one.1; side = two.1 }
+    record {
+      king = k;
+      at = at;
+      king_rank = eqb-true (rank k) (first_rank c) one.0;
+      rook_rank = eqb-true (rank s) (first_rank c) one.1;
+      side = two.1;
+    }
 
 pub beside : (men : Men) (c : Colour) (w : CastlingSide) (s : ℕ) → right_stands_at Fischerandom men c w (Some s) ≡ true
     → Beside men c w s
@@ -97,8 +102,12 @@ named_other_side : (men : Men) (c : Colour) (w : CastlingSide) (s : ℕ) → Bes
     → named_square men c (other_side w) (first_letter c + file s) ≡ None
 named_other_side men c w s b =
     let t : is_towards (other_side w) (king_square men c) s ≡ false = rw b.at (towards_other w b.king s b.side) in
-    rw (no_side_letter c c (other_side w) (file s) (file_in s), own_file c (file s) (file_in s),
-        file_back c s b.rook_rank, t) refl
+    rw (
+      no_side_letter c c (other_side w) (file s) (file_in s),
+      own_file c (file s) (file_in s),
+      file_back c s b.rook_rank,
+      t,
+    ) refl
 
 named_other_colour : (men : Men) (c : Colour) (w : CastlingSide) (s : ℕ)
     → named_square men (other c) w (first_letter c + file s) ≡ None
@@ -129,7 +138,7 @@ colour_text men c w u found (Some s) = ap (only_one_of found) (named_other_colou
 
 pub after-append : (men : Men) (c : Colour) (w : CastlingSide) (found : Option ℕ) (xs ys : List ℕ)
     → right_after_letters men c w found (xs ++ ys)
-        ≡ right_after_letters men c w (right_after_letters men c w found xs) ys
+    ≡ right_after_letters men c w (right_after_letters men c w found xs) ys
 after-append men c w found [] ys = refl
 after-append men c w found (x ∷ xs) ys = after-append men c w (only_one_of found (named_square men c w x)) xs ys
 
@@ -162,39 +171,48 @@ D r = right_text Fischerandom Black QueenSide r.black.queen_side
 
 in_turn : (men : Men) (r : Rights) (c : Colour) (w : CastlingSide)
     → right_after_letters men c w None (rights_text Fischerandom r)
-        ≡ right_after_letters men c w (right_after_letters men c w
-            (right_after_letters men c w (right_after_letters men c w None (A r)) (B r)) (C r)) (D r)
+    ≡ right_after_letters men c w (right_after_letters men c w
+    (right_after_letters men c w (right_after_letters men c w None (A r)) (B r)) (C r)) (D r)
 in_turn men r c w =
     after-dash men c w (((A r ++ B r) ++ C r) ++ D r) ∙ after-append men c w None ((A r ++ B r) ++ C r) (D r)
     ∙ ap (λ o. right_after_letters men c w o (D r))
-        (after-append men c w None (A r ++ B r) (C r)
-            ∙ ap (λ o. right_after_letters men c w o (C r)) (after-append men c w None (A r) (B r)))
+    (after-append men c w None (A r ++ B r) (C r)
+    ∙ ap (λ o. right_after_letters men c w o (C r)) (after-append men c w None (A r) (B r)))
 
 pub right_back : (men : Men) (r : Rights) (c : Colour) (w : CastlingSide) → Stand men r
     → right_after_letters men c w None (rights_text Fischerandom r) ≡ right_of r c w
 right_back men r White KingSide s =
     in_turn men r White KingSide
-    ∙ rw (own_text men White KingSide r.white.king_side s.a,
-        side_text men White QueenSide r.white.king_side r.white.queen_side s.b,
-            colour_text men Black KingSide KingSide r.white.king_side r.black.king_side,
-                colour_text men Black QueenSide KingSide r.white.king_side r.black.queen_side) refl
+    ∙ rw (
+      own_text men White KingSide r.white.king_side s.a,
+      side_text men White QueenSide r.white.king_side r.white.queen_side s.b,
+      colour_text men Black KingSide KingSide r.white.king_side r.black.king_side,
+      colour_text men Black QueenSide KingSide r.white.king_side r.black.queen_side,
+    ) refl
 right_back men r White QueenSide s =
     in_turn men r White QueenSide
-    ∙ rw (side_text men White KingSide None r.white.king_side s.a, own_text men White QueenSide r.white.queen_side s.b,
-        colour_text men Black KingSide QueenSide r.white.queen_side r.black.king_side,
-            colour_text men Black QueenSide QueenSide r.white.queen_side r.black.queen_side) refl
+    ∙ rw (
+      side_text men White KingSide None r.white.king_side s.a,
+      own_text men White QueenSide r.white.queen_side s.b,
+      colour_text men Black KingSide QueenSide r.white.queen_side r.black.king_side,
+      colour_text men Black QueenSide QueenSide r.white.queen_side r.black.queen_side,
+    ) refl
 right_back men r Black KingSide s =
     in_turn men r Black KingSide
-    ∙ rw (colour_text men White KingSide KingSide None r.white.king_side,
-        colour_text men White QueenSide KingSide None r.white.queen_side,
-            own_text men Black KingSide r.black.king_side s.c,
-                side_text men Black QueenSide r.black.king_side r.black.queen_side s.d) refl
+    ∙ rw (
+      colour_text men White KingSide KingSide None r.white.king_side,
+      colour_text men White QueenSide KingSide None r.white.queen_side,
+      own_text men Black KingSide r.black.king_side s.c,
+      side_text men Black QueenSide r.black.king_side r.black.queen_side s.d,
+    ) refl
 right_back men r Black QueenSide s =
     in_turn men r Black QueenSide
-    ∙ rw (colour_text men White KingSide QueenSide None r.white.king_side,
-        colour_text men White QueenSide QueenSide None r.white.queen_side,
-            side_text men Black KingSide None r.black.king_side s.c,
-                own_text men Black QueenSide r.black.queen_side s.d) refl
+    ∙ rw (
+      colour_text men White KingSide QueenSide None r.white.king_side,
+      colour_text men White QueenSide QueenSide None r.white.queen_side,
+      side_text men Black KingSide None r.black.king_side s.c,
+      own_text men Black QueenSide r.black.queen_side s.d,
+    ) refl
 
 -- ---- they are letters of rights, none twice
 
@@ -226,18 +244,38 @@ record Placed (men : Men) (c : Colour) (w : CastlingSide) (n : ℕ) : Type 0 whe
 
 placed : (men : Men) (c : Colour) (w : CastlingSide) (s : ℕ) → Beside men c w s
     → Placed men c w (first_letter c + file s)
-placed men White KingSide s b = record { king = b.king; at = b.at; low = omega arith; high = omega arith;
-    side = (let e = b.side in let l = ltb-true b.king s e in let t : 65 + b.king % 8 < 65
-        + s % 8 = omega (arith, b.king_rank, b.rook_rank, l) in grind (arith, nat_tests, t)) }
-placed men White QueenSide s b = record { king = b.king; at = b.at; low = omega arith; high = omega arith;
-    side = (let e = b.side in let l = ltb-true s b.king e in let t : 65 + s % 8 < 65
-        + b.king % 8 = omega (arith, b.king_rank, b.rook_rank, l) in grind (arith, nat_tests, t)) }
-placed men Black KingSide s b = record { king = b.king; at = b.at; low = omega arith; high = omega arith;
-    side = (let e = b.side in let l = ltb-true b.king s e in let t : 97 + b.king % 8 < 97
-        + s % 8 = omega (arith, b.king_rank, b.rook_rank, l) in grind (arith, nat_tests, t)) }
-placed men Black QueenSide s b = record { king = b.king; at = b.at; low = omega arith; high = omega arith;
-    side = (let e = b.side in let l = ltb-true s b.king e in let t : 97 + s % 8 < 97
-        + b.king % 8 = omega (arith, b.king_rank, b.rook_rank, l) in grind (arith, nat_tests, t)) }
+placed men White KingSide s b = record {
+  king = b.king;
+  at = b.at;
+  low = omega arith;
+  high = omega arith;
+  side = (let e = b.side in let l = ltb-true b.king s e in let t : 65 + b.king % 8 < 65
+      + s % 8 = omega (arith, b.king_rank, b.rook_rank, l) in grind (arith, nat_tests, t));
+}
+placed men White QueenSide s b = record {
+  king = b.king;
+  at = b.at;
+  low = omega arith;
+  high = omega arith;
+  side = (let e = b.side in let l = ltb-true s b.king e in let t : 65 + s % 8 < 65
+      + b.king % 8 = omega (arith, b.king_rank, b.rook_rank, l) in grind (arith, nat_tests, t));
+}
+placed men Black KingSide s b = record {
+  king = b.king;
+  at = b.at;
+  low = omega arith;
+  high = omega arith;
+  side = (let e = b.side in let l = ltb-true b.king s e in let t : 97 + b.king % 8 < 97
+      + s % 8 = omega (arith, b.king_rank, b.rook_rank, l) in grind (arith, nat_tests, t));
+}
+placed men Black QueenSide s b = record {
+  king = b.king;
+  at = b.at;
+  low = omega arith;
+  high = omega arith;
+  side = (let e = b.side in let l = ltb-true s b.king e in let t : 97 + s % 8 < 97
+      + b.king % 8 = omega (arith, b.king_rank, b.rook_rank, l) in grind (arith, nat_tests, t));
+}
 
 Occurs : Men → Colour → CastlingSide → ℕ → ℕ → Type 0
 Occurs men c w n t = (t ≡ 0) ⊎ ((t ≡ 1) × Placed men c w n)
@@ -254,7 +292,7 @@ unfolding Occurs
 occurrence men c w None n e = inl refl
 occurrence men c w (Some s) n e = rw (times-cons n (first_letter c + file s) [])
     (occurs_by men c w (first_letter c + file s) n (placed men c w s (beside men c w s e))
-        (eqb (first_letter c + file s) n) refl)
+    (eqb (first_letter c + file s) n) refl)
 
 not_both : (men : Men) (c : Colour) (n : ℕ) → Placed men c KingSide n → Placed men c QueenSide n → ⊥
 not_both men c n p q =
@@ -289,14 +327,19 @@ times-append n xs ys = sum_by-append (λ b. cond (eqb b n) 1 0) xs ys
 none_twice : (men : Men) (r : Rights) (n : ℕ) → Stand men r → times n (((A r ++ B r) ++ C r) ++ D r) ≤ 1
 none_twice men r n s =
     let white = of_colour men White n (times n (A r)) (times n (B r))
-        (occurrence men White KingSide r.white.king_side n s.a)
-            (occurrence men White QueenSide r.white.queen_side n s.b) in
+    (occurrence men White KingSide r.white.king_side n s.a)
+    (occurrence men White QueenSide r.white.queen_side n s.b) in
     let black = of_colour men Black n (times n (C r)) (times n (D r))
-        (occurrence men Black KingSide r.black.king_side n s.c)
-            (occurrence men Black QueenSide r.black.queen_side n s.d) in
+    (occurrence men Black KingSide r.black.king_side n s.c)
+    (occurrence men Black QueenSide r.black.queen_side n s.d) in
     let all = of_both n (times n (A r) + times n (B r)) (times n (C r) + times n (D r)) white black in
-    omega (arith, all, times-append n ((A r ++ B r) ++ C r) (D r), times-append n (A r ++ B r) (C r),
-        times-append n (A r) (B r))
+    omega (
+      arith,
+      all,
+      times-append n ((A r ++ B r) ++ C r) (D r),
+      times-append n (A r ++ B r) (C r),
+      times-append n (A r) (B r),
+    )
 
 castling_or_dash : (text : List ℕ) → length text ≤ 4 → AllByRecursion (λ l. IsTrue (may_name_right Fischerandom l)) text
     → ((n : ℕ) → times n text ≤ 1) → IsCastling Fischerandom (or_dash text)
@@ -312,10 +355,18 @@ text_is_castling men r s =
     let c = one_at_most Black KingSide r.black.king_side in
     let d = one_at_most Black QueenSide r.black.queen_side in
     castling_or_dash (((A r ++ B r) ++ C r) ++ D r)
-    (omega (arith, a, b, c, d, length-append ((A r ++ B r) ++ C r) (D r), length-append (A r ++ B r) (C r),
-        length-append (A r) (B r)))
+    (omega (
+      arith,
+      a,
+      b,
+      c,
+      d,
+      length-append ((A r ++ B r) ++ C r) (D r),
+      length-append (A r ++ B r) (C r),
+      length-append (A r) (B r),
+    ))
     (all_append P ((A r ++ B r) ++ C r) (D r)
     (all_append P (A r ++ B r) (C r) (all_append P (A r) (B r) (each_one White KingSide r.white.king_side)
-        (each_one White QueenSide r.white.queen_side)) (each_one Black KingSide r.black.king_side))
+    (each_one White QueenSide r.white.queen_side)) (each_one Black KingSide r.black.king_side))
     (each_one Black QueenSide r.black.queen_side))
     (λ n. none_twice men r n s)

@@ -31,9 +31,10 @@ spelled-counters (a ∷ b ∷ []) n e = by_numbers (number_of a) refl (number_of
     by_numbers : (h : Option ℕ) → number_of a ≡ h → (m : Option ℕ) → number_of b ≡ m → numbers_of h m ≡ Some n
         → SpellsCounters (a ∷ b ∷ []) n.0 n.1
     by_numbers (Some h) p (Some m) q e =
-        let is : (h, max m 1) ≡ n = cc in
-        (spelled-number a n.0 (p ∙ ap (λ (r : ℕ × ℕ). Some r.0) is),
-            (m, spelled-number b m q, sym (ap (λ (r : ℕ × ℕ). r.1) is)))
+        let is : (h, max m 1) ≡ n = cc in (
+          spelled-number a n.0 (p ∙ ap (λ (r : ℕ × ℕ). Some r.0) is),
+          (m, spelled-number b m q, sym (ap (λ (r : ℕ × ℕ). r.1) is)),
+        )
     by_numbers (Some h) p None q e = absurd cc
     by_numbers None p m q e = absurd cc
 spelled-counters (a ∷ b ∷ c ∷ more) n e = absurd cc
@@ -53,8 +54,15 @@ abbrev with_numbers : Variant → List (Option Man) → Colour → List ℕ → 
     → Result Description FenFault
 with_numbers v men colour letters passed more =
     ok_or (counters_of more) faults.Counters >>= λ numbers. Ok
-        (record { variant = v; men = men; side = colour; letters = letters; target = passed; halfmove = numbers.0;
-            fullmove = numbers.1 })
+    (record {
+      variant = v;
+      men = men;
+      side = colour;
+      letters = letters;
+      target = passed;
+      halfmove = numbers.0;
+      fullmove = numbers.1;
+    })
 
 abbrev with_target : Variant → List (Option Man) → Colour → List ℕ → List ℕ → List (List ℕ)
     → Result Description FenFault
@@ -84,19 +92,36 @@ numbers_outcome v a b c d more men colour passed hm hs hc ht = by_numbers (count
   where
     by_numbers : (o : Option (ℕ × ℕ)) → counters_of more ≡ o
         → Outcome v a b c d more (ok_or o faults.Counters >>= λ numbers. Ok
-            (record { variant = v; men = men; side = colour; letters = c; target = passed; halfmove = numbers.0;
-                fullmove = numbers.1 }))
-    by_numbers None e = ((men, spelled-placement a men hm), (colour, spelled-side b colour hs), spelled-castling v c hc,
-        (passed, spelled-target d passed ht), (λ h f s. some_impossible (counters_of more) (h, f) e
-            (counters-spelled more h f s)))
+        (record {
+          variant = v;
+          men = men;
+          side = colour;
+          letters = c;
+          target = passed;
+          halfmove = numbers.0;
+          fullmove = numbers.1;
+        }))
+    by_numbers None e = (
+      (men, spelled-placement a men hm),
+      (colour, spelled-side b colour hs),
+      spelled-castling v c hc,
+      (passed, spelled-target d passed ht),
+      (λ h f s. some_impossible (counters_of more) (h, f) e
+          (counters-spelled more h f s)),
+    )
     by_numbers (Some n) e = (
       refl,
       record {
         men = spelled-placement a men hm;
         side = spelled-side b colour hs;
-        rights = record { letters = spelled-castling v c hc; white_king_side = spelled-told v men c White KingSide;
-            white_queen_side = spelled-told v men c White QueenSide; black_king_side =
-                spelled-told v men c Black KingSide; black_queen_side = spelled-told v men c Black QueenSide };
+        rights = record {
+          letters = spelled-castling v c hc;
+          white_king_side = spelled-told v men c White KingSide;
+          white_queen_side = spelled-told v men c White QueenSide;
+          black_king_side =
+              spelled-told v men c Black KingSide;
+          black_queen_side = spelled-told v men c Black QueenSide;
+        };
         target = spelled-target d passed ht;
         counters = spelled-counters more n e;
       },
@@ -109,8 +134,12 @@ target_outcome v a b c d more men colour hm hs hc = by_target (target_of d) refl
   where
     by_target : (o : Option (Option ℕ)) → target_of d ≡ o
         → Outcome v a b c d more (ok_or o faults.EnPassant >>= λ passed. with_numbers v men colour c passed more)
-    by_target None e = ((men, spelled-placement a men hm), (colour, spelled-side b colour hs), spelled-castling v c hc,
-        (λ target s. some_impossible (target_of d) target e (target-spelled d target s)))
+    by_target None e = (
+      (men, spelled-placement a men hm),
+      (colour, spelled-side b colour hs),
+      spelled-castling v c hc,
+      (λ target s. some_impossible (target_of d) target e (target-spelled d target s)),
+    )
     by_target (Some passed) e = numbers_outcome v a b c d more men colour passed hm hs hc e
 
 letters_outcome : (v : Variant) (a b c d : List ℕ) (more : List (List ℕ)) (men : List (Option Man)) (colour : Colour)
@@ -119,10 +148,13 @@ letters_outcome v a b c d more men colour hm hs = by_test (is_castling v c) refl
   where
     by_test : (t : Bool) → is_castling v c ≡ t
         → Outcome v a b c d more (ok_or (cond t (Some c) None) faults.Castling >>= λ letters. with_target v men colour
-            letters d more)
+        letters d more)
     by_test true e = target_outcome v a b c d more men colour hm hs e
-    by_test false e = ((men, spelled-placement a men hm), (colour, spelled-side b colour hs),
-        (λ s. let t = sym e ∙ castling-spelled v c s in absurd cc))
+    by_test false e = (
+      (men, spelled-placement a men hm),
+      (colour, spelled-side b colour hs),
+      (λ s. let t = sym e ∙ castling-spelled v c s in absurd cc),
+    )
 
 side_outcome : (v : Variant) (a b c d : List ℕ) (more : List (List ℕ)) (men : List (Option Man))
     → placement_of a ≡ Some men → Outcome v a b c d more (with_side v men b c d more)
@@ -130,9 +162,11 @@ side_outcome v a b c d more men hm = by_side (side_of b) refl
   where
     by_side : (o : Option Colour) → side_of b ≡ o
         → Outcome v a b c d more (ok_or o faults.Side >>= λ colour. with_letters v men colour c d more)
-    by_side None e =
-        ((men, spelled-placement a men hm), (λ colour s. some_impossible (side_of b) colour e
-            (side-spelled b colour s)))
+    by_side None e = (
+      (men, spelled-placement a men hm),
+      (λ colour s. some_impossible (side_of b) colour e
+          (side-spelled b colour s)),
+    )
     by_side (Some colour) e = letters_outcome v a b c d more men colour hm e
 
 outcome : (v : Variant) (a b c d : List ℕ) (more : List (List ℕ)) → Outcome v a b c d more (described_by v a b c d more)
@@ -173,10 +207,10 @@ text_outcome_by v text (a ∷ b ∷ c ∷ d ∷ f ∷ []) e =
     fieldless v text 5 (ap length e) (λ h. omega (arith, h)) (λ h. omega (arith, h))
 text_outcome_by v text (a ∷ b ∷ c ∷ d ∷ f ∷ g ∷ []) e =
     of_fields v text a b c d (f ∷ g ∷ []) e (inr refl) (described_by v a b c d (f ∷ g ∷ []))
-        (outcome v a b c d (f ∷ g ∷ []))
+    (outcome v a b c d (f ∷ g ∷ []))
 text_outcome_by v text (a ∷ b ∷ c ∷ d ∷ f ∷ g ∷ h ∷ more) e =
     fieldless v text (length (a ∷ b ∷ c ∷ d ∷ f ∷ g ∷ h ∷ more)) (ap length e) (λ n. omega (arith, n))
-        (λ n. omega (arith, n))
+    (λ n. omega (arith, n))
 
 pub text_outcome : (v : Variant) (text : List ℕ) → TextOutcome v text (description_of v text)
 text_outcome v text = text_outcome_by v text (fields_of text) refl
@@ -190,21 +224,34 @@ pub record Describes (v : Variant) (text : List ℕ) (p : Setup) : Type 0 where
   pub named : setup_from described ≡ p
 
 abbrev told_by : List ℕ → Setup → Description
-told_by c p = record { variant = p.variant; men = p.men; side = p.side; letters = c; target = p.target;
-    halfmove = p.halfmove; fullmove = p.fullmove }
+told_by c p = record {
+  variant = p.variant;
+  men = p.men;
+  side = p.side;
+  letters = c;
+  target = p.target;
+  halfmove = p.halfmove;
+  fullmove = p.fullmove;
+}
 
 fields-described : (a b c d : List ℕ) (more : List (List ℕ)) (p : Setup) → SpellsFields a b c d more p
     → described_by p.variant a b c d more ≡ Ok (told_by c p)
-fields-described a b c d more p s = rw (placement-spelled a p.men s.men, side-spelled b p.side s.side,
-    castling-spelled p.variant c s.rights.letters, target-spelled d p.target s.target,
-        counters-spelled more p.halfmove p.fullmove s.counters) refl
+fields-described a b c d more p s = rw (
+  placement-spelled a p.men s.men,
+  side-spelled b p.side s.side,
+  castling-spelled p.variant c s.rights.letters,
+  target-spelled d p.target s.target,
+  counters-spelled more p.halfmove p.fullmove s.counters,
+) refl
 
 rights-named : (c : List ℕ) (p : Setup) → SpellsRights c p → setup_from (told_by c p) ≡ p
 rights-named c p s =
-    rw (told-spelled p.variant p.men c White KingSide p.rights.white.king_side s.white_king_side,
-        told-spelled p.variant p.men c White QueenSide p.rights.white.queen_side s.white_queen_side,
-            told-spelled p.variant p.men c Black KingSide p.rights.black.king_side s.black_king_side,
-                told-spelled p.variant p.men c Black QueenSide p.rights.black.queen_side s.black_queen_side) refl
+    rw (
+      told-spelled p.variant p.men c White KingSide p.rights.white.king_side s.white_king_side,
+      told-spelled p.variant p.men c White QueenSide p.rights.white.queen_side s.white_queen_side,
+      told-spelled p.variant p.men c Black KingSide p.rights.black.king_side s.black_king_side,
+      told-spelled p.variant p.men c Black QueenSide p.rights.black.queen_side s.black_queen_side,
+    ) refl
 
 in_fields : (a b c d : List ℕ) (more : List (List ℕ)) (p : Setup) → SpellsFields a b c d more p
     → described_in p.variant (a ∷ b ∷ c ∷ d ∷ more) ≡ Ok (told_by c p)
@@ -229,7 +276,7 @@ pub reading-spelled : (v : Variant) (text : List ℕ) (p : Setup) → SpellsFenA
 reading-spelled v text p s h =
     let d = described v text p s in
     ap (λ r. r >>= sound_from) d.is ∙ ap (λ q. unless_fault q (setup_fault q)) d.named
-        ∙ ap (unless_fault p) (no_fault_from_IsSound p h)
+    ∙ ap (unless_fault p) (no_fault_from_IsSound p h)
 
 -- what is read is spelled, and the fault is true
 abbrev ReadingOutcome : Variant → List ℕ → Result Setup FenFault → Type 0
@@ -270,7 +317,7 @@ pub judged-read : (v : Variant) (text : List ℕ) (d : Description) (setup : Set
     → IfErr r (λ f. Some f ≡ setup_fault setup) → r ≡ fen_reading_as v text
 judged-read v text d setup r is made sound value fault =
     judged setup r sound value fault ∙ sym (ap (λ o. o >>= sound_from) is
-        ∙ ap (λ q. unless_fault q (setup_fault q)) (sym made))
+    ∙ ap (λ q. unless_fault q (setup_fault q)) (sym made))
 
 -- ---- a fault that is true is the one that is found
 
@@ -287,17 +334,31 @@ misread : (v : Variant) (a b c d : List ℕ) (more : List (List ℕ)) (f : FenFa
     → described_by v a b c d more ≡ Err f
 misread v a b c d more faults.Placement h =
     rw (none_if (placement_of a) (λ men e. h men (spelled-placement a men e))) refl
-misread v a b c d more faults.Side h = rw (placement-spelled a h.0.0 h.0.1,
-    none_if (side_of b) (λ colour e. h.1 colour (spelled-side b colour e))) refl
+misread v a b c d more faults.Side h = rw (
+  placement-spelled a h.0.0 h.0.1,
+  none_if (side_of b) (λ colour e. h.1 colour (spelled-side b colour e)),
+) refl
 misread v a b c d more faults.Castling h =
-    rw (placement-spelled a h.0.0 h.0.1, side-spelled b h.1.0 h.1.1,
-        no_castling v c (is_castling v c) refl (λ e. h.2 (spelled-castling v c e))) refl
+    rw (
+      placement-spelled a h.0.0 h.0.1,
+      side-spelled b h.1.0 h.1.1,
+      no_castling v c (is_castling v c) refl (λ e. h.2 (spelled-castling v c e)),
+    ) refl
 misread v a b c d more faults.EnPassant h =
-    rw (placement-spelled a h.0.0 h.0.1, side-spelled b h.1.0 h.1.1, castling-spelled v c h.2,
-        none_if (target_of d) (λ target e. h.3 target (spelled-target d target e))) refl
+    rw (
+      placement-spelled a h.0.0 h.0.1,
+      side-spelled b h.1.0 h.1.1,
+      castling-spelled v c h.2,
+      none_if (target_of d) (λ target e. h.3 target (spelled-target d target e)),
+    ) refl
 misread v a b c d more faults.Counters h =
-    rw (placement-spelled a h.0.0 h.0.1, side-spelled b h.1.0 h.1.1, castling-spelled v c h.2,
-        target-spelled d h.3.0 h.3.1, none_if (counters_of more) (λ n e. h.4 n.0 n.1 (spelled-counters more n e))) refl
+    rw (
+      placement-spelled a h.0.0 h.0.1,
+      side-spelled b h.1.0 h.1.1,
+      castling-spelled v c h.2,
+      target-spelled d h.3.0 h.3.1,
+      none_if (counters_of more) (λ n e. h.4 n.0 n.1 (spelled-counters more n e)),
+    ) refl
 misread v a b c d more faults.Fields h = absurd h
 misread v a b c d more faults.Kings h = absurd h
 misread v a b c d more faults.Pawns h = absurd h

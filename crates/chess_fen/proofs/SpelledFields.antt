@@ -37,8 +37,12 @@ read_on_top (text ∷ texts) above whole e =
     by_rank later None is e = absurd cc
     by_rank later (Some row) is e =
         let r = later row e in
-        record { rows = row ∷ r.rows; each = (spelled-rank text row is, r.each);
-            parts = r.parts ∙ sym (append_assoc (from_top r.rows) row above); count = ap suc r.count }
+        record {
+          rows = row ∷ r.rows;
+          each = (spelled-rank text row is, r.each);
+          parts = r.parts ∙ sym (append_assoc (from_top r.rows) row above);
+          count = ap suc r.count;
+        }
 
 pub spelled-placement : (text : List ℕ) (men : List (Option Man)) → placement_of text ≡ Some men
     → SpellsPlacement text men
@@ -56,9 +60,11 @@ stack_spelled [] [] above p = (refl, refl)
 stack_spelled [] (row ∷ rows) above p = absurd p
 stack_spelled (text ∷ texts) [] above p = absurd p
 stack_spelled (text ∷ texts) (row ∷ rows) above p =
-    let more = stack_spelled texts rows (row ++ above) p.1 in
-    (ap (option_and_then (λ r. stacked (r ++ above) texts)) (rank-of_spelled text row p.0) ∙ more.0
-        ∙ ap Some (sym (append_assoc (from_top rows) row above)), ap suc more.1)
+    let more = stack_spelled texts rows (row ++ above) p.1 in (
+      ap (option_and_then (λ r. stacked (r ++ above) texts)) (rank-of_spelled text row p.0) ∙ more.0
+          ∙ ap Some (sym (append_assoc (from_top rows) row above)),
+      ap suc more.1,
+    )
 
 pub placement-spelled : (text : List ℕ) (men : List (Option Man)) → SpellsPlacement text men
     → placement_of text ≡ Some men
@@ -141,7 +147,7 @@ digits_all (c ∷ cs) p =
 pub spelled-number : (text : List ℕ) (n : ℕ) → number_of text ≡ Some n → SpellsNumber text n
 spelled-number text n e =
     let h = chosen (ltb 0 (length text) && leb (length text) 6 && list_all is_digit text) (Some (value_after 0 text)) n
-        e in
+    e in
     let t = both3 (ltb 0 (length text)) (leb (length text) 6) (list_all is_digit text) h.0 in
     let some : 0 < length text = grind (arith, nat_tests, t.0) in
     let short : length text ≤ 6 = grind (arith, nat_tests, t.1) in

@@ -79,7 +79,7 @@ rank-spelled [] before row s = ap (λ r. rank_after r []) (sym (ap (λ r. before
 rank-spelled (c ∷ cs) before row s =
     ap (option_and_then (λ squares. rank_after (before ++ squares) cs)) (squares-spelled c s.0 s.2)
     ∙ rank-spelled cs (before ++ s.0) s.1 s.3
-        ∙ ap (λ r. rank_after r []) (append_assoc before s.0 s.1 ∙ ap (λ r. before ++ r) (sym s.4))
+    ∙ ap (λ r. rank_after r []) (append_assoc before s.0 s.1 ∙ ap (λ r. before ++ r) (sym s.4))
 
 -- ---- and back
 
@@ -99,8 +99,12 @@ read_behind [] before whole e = by_test (eqb (length before) 8) refl e
     by_test true t e =
         let same : before ≡ whole = cc in
         let eight : length before ≡ 8 = grind (arith, nat_tests) in
-        record { row = []; spells = refl; parts = sym same ∙ sym (append-nil before);
-            eight = ap length (sym same) ∙ eight }
+        record {
+          row = [];
+          spells = refl;
+          parts = sym same ∙ sym (append-nil before);
+          eight = ap length (sym same) ∙ eight;
+        }
     by_test false t e = absurd cc
 read_behind (c ∷ cs) before whole e = by_squares (λ first h. read_behind cs (before ++ first) whole h) (squares_of c)
     refl e
@@ -112,8 +116,12 @@ read_behind (c ∷ cs) before whole e = by_squares (λ first h. read_behind cs (
     by_squares later None is e = absurd cc
     by_squares later (Some first) is e =
         let r = later first e in
-        record { row = first ++ r.row; spells = (first, r.row, spelled_squares c first is, r.spells, refl);
-            parts = r.parts ∙ append_assoc before first r.row; eight = r.eight }
+        record {
+          row = first ++ r.row;
+          spells = (first, r.row, spelled_squares c first is, r.spells, refl);
+          parts = r.parts ∙ append_assoc before first r.row;
+          eight = r.eight;
+        }
 
 pub spelled-rank : (text : List ℕ) (row : List (Option Man)) → rank_of text ≡ Some row → SpellsRank text row
 spelled-rank text row e = let r = read_behind text [] row

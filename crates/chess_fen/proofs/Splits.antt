@@ -33,11 +33,11 @@ fields_of-skip (c ∷ cs) = by_test (eqb c 32) c cs refl (fields_of-skip cs)
         → fields_of (c ∷ cs) ≡ fields_of (drop (position_or_len (λ b. not (eqb b 32)) (c ∷ cs)) (c ∷ cs))
     by_test true c cs e more =
         let next : 1 + position_or_len (λ b. not (eqb b 32)) cs ≡ suc (position_or_len (λ b. not (eqb b 32)) cs) =
-            omega arith in
+        omega arith in
         rw e (more ∙ ap (λ n. fields_of (drop n (c ∷ cs))) (sym next))
     by_test false c cs e more =
         ap (λ b. fields_of (drop (cond (not (not b)) (1 + position_or_len (λ b. not (eqb b 32)) cs) 0) (c ∷ cs)))
-            (sym e)
+        (sym e)
 
 -- where a list is cut: nowhere
 pub record IsWhole {A : Type 0} (p : A → Bool) (xs : List A) : Type 0 where
@@ -63,11 +63,19 @@ cut {A} p (x ∷ xs) = by_test (p x) refl (cut p xs)
     by_test : (b : Bool) → p x ≡ b → IsWhole p xs ⊎ IsCut p xs → IsWhole p (x ∷ xs) ⊎ IsCut p (x ∷ xs)
     by_test true e more = inr (record { at = x; behind = xs; passes = e; rest = rw e refl; split = rw e refl })
     by_test false e (inl w) =
-        inl (record { rest = rw (e, next) w.rest; front = rw (e, next) (ap (λ ys. x ∷ ys) w.front);
-            split = rw (e, w.split) refl })
+        inl (record {
+          rest = rw (e, next) w.rest;
+          front = rw (e, next) (ap (λ ys. x ∷ ys) w.front);
+          split = rw (e, w.split) refl;
+        })
     by_test false e (inr c) =
-        inr (record { at = c.at; behind = c.behind; passes = c.passes; rest = rw (e, next) c.rest;
-            split = rw (e, next, c.split) refl })
+        inr (record {
+          at = c.at;
+          behind = c.behind;
+          passes = c.passes;
+          rest = rw (e, next) c.rest;
+          split = rw (e, next, c.split) refl;
+        })
 
 pub no_fields : (text from : List ℕ) → from ≡ drop (position_or_len (λ b. not (eqb b 32)) text) text → length from ≡ 0
     → fields_of text ≡ []
@@ -101,7 +109,7 @@ first_field text h = by_cut (cut (λ b. eqb b 32) text)
 
     by_cut : IsWhole (λ b. eqb b 32) text ⊎ IsCut (λ b. eqb b 32) text
         → fields_of text ≡ before_first (λ b. eqb b 32) text ∷ fields_of
-            (drop (position_or_len (λ b. eqb b 32) text) text)
+        (drop (position_or_len (λ b. eqb b 32) text) text)
     by_cut (inl w) =
         let long : ltb 0 (length text) ≡ true = ap (λ ys. ltb 0 (length ys)) (sym w.front) ∙ keeps in
         rw (w.split, w.rest, long) (ap (λ ys. ys ∷ []) (sym w.front))
@@ -112,7 +120,7 @@ pub next_fields : (text from front back : List ℕ) → from ≡ drop (position_
     → back ≡ drop (position_or_len (λ b. eqb b 32) from) from → fields_of text ≡ front ∷ fields_of back
 next_fields text from front back is some f b =
     fields_of-skip text ∙ ap fields_of (sym is) ∙ first_field from (begins (cut (λ b. not (eqb b 32)) text))
-        ∙ rw (f, b) refl
+    ∙ rw (f, b) refl
   where
     begins : IsWhole (λ b. not (eqb b 32)) text ⊎ IsCut (λ b. not (eqb b 32)) text
         → 0 < length (before_first (λ b. eqb b 32) from)
@@ -120,5 +128,5 @@ next_fields text from front back is some f b =
     begins (inr c) =
         let first : eqb c.at 32 ≡ false = grind (arith, nat_tests, c.passes) in
         let next : 1 + position_or_len (λ b. eqb b 32) c.behind ≡ suc (position_or_len (λ b. eqb b 32) c.behind) =
-            omega arith in
+        omega arith in
         rw (is ∙ c.rest, first, next) (omega arith)

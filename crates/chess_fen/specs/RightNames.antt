@@ -1,5 +1,6 @@
--- Which rights the letters of a FEN name: in normal chess K, Q, k and q (PGN standard of 1994, section 16.1.3.3); in Chess960 a
--- rook by its file, or as the outermost one (X-FEN). A text that names a right wrongly spells one that does not stand.
+-- Which rights the letters of a FEN name: in normal chess K, Q, k and q (PGN standard of 1994, section 16.1.3.3); in
+-- Chess960 a rook by its file, or as the outermost one (X-FEN). A text that names a right wrongly spells one that does
+-- not stand.
 use Rattle.std.specs.Prelude.{ℕ, zero, suc, ◌+◌, ◌-◌, ◌==◌, nat_lt, Bool, false, not, ◌&&◌, List, [], ◌∷◌, Option, Some, None, if◌then◌else◌}
 use Rattle.chess_base.specs.declared.man.Colour.{Colour}
 use Rattle.chess_base.specs.declared.man.Colour.TheVariants.{White, Black}
@@ -67,7 +68,7 @@ abbrev pub named_square : Men → Colour → CastlingSide → ℕ → Option ℕ
 named_square men c w letter =
     if letter == side_letter c w then Some (outer_rook men c w)
     else (if names_file c letter && is_towards w (king_square men c) (home_square c (letter - first_letter c)) then Some
-        (home_square c (letter - first_letter c)) else None)
+    (home_square c (letter - first_letter c)) else None)
 
 -- one of the two, if only one is named; where two are, neither
 abbrev pub only_one_of : Option ℕ → Option ℕ → Option ℕ

@@ -57,7 +57,7 @@ or_dash (c ∷ cs) = c ∷ cs
 abbrev pub rights_text : Variant → Rights → List ℕ
 rights_text v r =
     or_dash (right_text v White KingSide r.white.king_side ++ right_text v White QueenSide r.white.queen_side
-        ++ right_text v Black KingSide r.black.king_side ++ right_text v Black QueenSide r.black.queen_side)
+    ++ right_text v Black KingSide r.black.king_side ++ right_text v Black QueenSide r.black.queen_side)
 
 -- a dash for none, else the square's name
 abbrev pub target_text : Option ℕ → List ℕ

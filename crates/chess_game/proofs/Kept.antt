@@ -50,9 +50,12 @@ pub at_end : (p : Setup) (xs : List Place) (d : Place) → Follows p xs → 0 < 
 at_end p xs d f h =
     let at = at_place p xs (length xs - 1) d f (omega arith) in
     let all : length xs - 1 + 1 ≡ length (moves_of xs) = let e =
-        length-map xs (λ (x : Place). x.made) in omega (arith, e) in
-    record { known = at.known; reached = at.reached ∙ ap (λ n. last p (take n (moves_of xs))) all
-        ∙ ap (last p) (take-length (moves_of xs)) }
+    length-map xs (λ (x : Place). x.made) in omega (arith, e) in
+    record {
+      known = at.known;
+      reached = at.reached ∙ ap (λ n. last p (take n (moves_of xs))) all
+          ∙ ap (last p) (take-length (moves_of xs));
+    }
 
 -- the moves that are kept are a line
 pub kept_line : (p : Setup) (xs : List Place) → Follows p xs → IsLine p (moves_of xs)
@@ -65,9 +68,12 @@ follows_more : (p : Setup) (xs : List Place) (x : Place) → Follows p xs
 follows_more p [] x f made known = (made, known, tt)
 follows_more p (y ∷ ys) x f made known =
     let at : last (after p y.made) (moves_of ys) ≡ last y.reached.position (moves_of ys) =
-        ap (λ v. last v (moves_of ys)) (sym f.0.left) in
-    (f.0, f.1, follows_more y.reached.position ys x f.2
-        (subst (λ v. WasMade v x.made x.saved x.reached.position) at made) known)
+    ap (λ v. last v (moves_of ys)) (sym f.0.left) in (
+      f.0,
+      f.1,
+      follows_more y.reached.position ys x f.2
+          (subst (λ v. WasMade v x.made x.saved x.reached.position) at made) known,
+    )
 
 last-more : (p : Setup) (xs : List Place) (x : Place) → WasMade (last p (moves_of xs)) x.made x.saved x.reached.position
     → x.reached.position ≡ last p (moves_of (xs ++ x ∷ []))
@@ -85,8 +91,8 @@ pub added : (p : Setup) (xs : List Place) (x : Place) (before after : Setup) →
     → Added p xs x after
 added p xs x before after f at made reached known =
     let here : WasMade (last p (moves_of xs)) x.made x.saved x.reached.position =
-        subst (λ v. WasMade v x.made x.saved x.reached.position) at
-            (subst (WasMade before x.made x.saved) (sym reached) made) in
+    subst (λ v. WasMade v x.made x.saved x.reached.position) at
+    (subst (WasMade before x.made x.saved) (sym reached) made) in
     record { follows = follows_more p xs x f here known; at_end = sym reached ∙ last-more p xs x here }
 
 -- one fewer
@@ -105,7 +111,7 @@ pub taken : (p : Setup) (xs ys : List Place) (x : Place) (q : Setup) → Follows
     → q ≡ last p (moves_of xs) → WasMade (last p (moves_of ys)) x.made x.saved q
 taken p xs ys x q f is at =
     subst (WasMade (last p (moves_of ys)) x.made x.saved) (ap (λ v. last p (moves_of v)) (sym is) ∙ sym at)
-        (made-last p ys x (subst (Follows p) is f))
+    (made-last p ys x (subst (Follows p) is f))
 
 pub fewer : (p : Setup) (xs ys : List Place) (x : Place) → Follows p xs → xs ≡ ys ++ x ∷ [] → Follows p ys
 fewer p xs ys x f is = follows_fewer p ys x (subst (Follows p) is f)
@@ -154,6 +160,6 @@ pub room : (limit : ℕ) (p : Setup) (xs : List Place) (d : Option Declared) (g 
     → (full : Bool) → full ≡ is_full g → full ≡ false → length xs < limit
 room limit p xs d g view full is not_full =
     let told : is_full (record { limit = limit; state = record { start = p; moves = moves_of xs; declared = d } })
-        ≡ false = ap is_full view ∙ sym is ∙ not_full in
+    ≡ false = ap is_full view ∙ sym is ∙ not_full in
     let len = length-map xs (λ (x : Place). x.made) in
     grind (arith, nat_tests, told, len)

@@ -33,14 +33,17 @@ name_kept r T S name e = e
 
 -- a game that ended so
 abbrev ended : ℕ → Setup → List Move → Reason → game.Seen
-ended limit start moves reason = record { limit = limit; state =
-    record { start = start; moves = moves; declared = declared_at (verdict start moves) reason } }
+ended limit start moves reason = record {
+  limit = limit;
+  state =
+      record { start = start; moves = moves; declared = declared_at (verdict start moves) reason };
+}
 
 -- the game at the end: its start and its limit, the moves of the match, and what was declared
 game_kept : (g h h' : game.Seen) (start : Setup) (level : LevelSeen) (T : List Event) (reason : Reason)
     → h.state.start ≡ start → h.limit ≡ g.limit → h.state.moves ≡ (match_of (rules_of start level g.limit) T).played
     → h' ≡ game.at h (with_declared h.state (declared_at (verdict_now h.state) reason))
-        → h' ≡ game_after g start (rules_of start level g.limit) T reason
+    → h' ≡ game_after g start (rules_of start level g.limit) T reason
 unfolding rules_of
 game_kept g h h' start level T reason s l m e =
     e
@@ -50,15 +53,15 @@ game_kept g h h' start level T reason s l m e =
 
 pub ran : (g h h' : game.Seen) (start : Setup) (level : LevelSeen) (T : List Event) (core : Core) (reason : Reason)
     (failed : Failed) (end : MatchEnd) (nw nb nw' nb' : InputState) (held : Colour → Held) (ow ob ow' ob' : OutputState)
-        (coming coming' : ℕ → Option ℕ)
+    (coming coming' : ℕ → Option ℕ)
     → IsUnderWay (rules_of start level g.limit) T core h.state.moves (by_side failed.white failed.black) (by_side nw nb)
-        (by_side nw' nb') held (by_side ow ob) (by_side ow' ob') coming coming'
+    (by_side nw' nb') held (by_side ow ob) (by_side ow' ob') coming coming'
     → core.phase ≡ Over reason → IsTold reason failed end → end.white_name ≡ core.white.name
-        → end.black_name ≡ core.black.name
+    → end.black_name ≡ core.black.name
     → h.state.start ≡ start → h.limit ≡ g.limit
-        → h' ≡ game.at h (with_declared h.state (declared_at (verdict_now h.state) reason))
+    → h' ≡ game.at h (with_declared h.state (declared_at (verdict_now h.state) reason))
     → Ran start level g h' end (record { white_reader = nw; white_writer = ow; black_reader = nb; black_writer = ob })
-        (record { white_reader = nw'; white_writer = ow'; black_reader = nb'; black_writer = ob' }) coming coming'
+    (record { white_reader = nw'; white_writer = ow'; black_reader = nb'; black_writer = ob' }) coming coming'
 ran g h h' start level T core reason failed end nw nb nw' nb' held ow ob ow' ob' coming coming' u over told wn bn s l
     e =
     let r : Rules = rules_of start level g.limit in

@@ -26,7 +26,7 @@ not_both false e h = absurd cc
 
 first_lines : (r r' : InputState) (h : Held) (given : List ℕ) (texts : List (Option (List ℕ)))
     (s : Hearing r r' h given texts) → engine_lines given ≡ texts
-        ++ map text_heard (lines_held ENGINE_LINE_LEN false h [])
+    ++ map text_heard (lines_held ENGINE_LINE_LEN false h [])
 first_lines r r' h given texts s =
     ap (λ bytes. map text_heard (lines_heard ENGINE_LINE_LEN false bytes)) (sym (append-nil given))
     ∙ ap (λ ls. map text_heard ls) (s.lines.2 false [])

@@ -65,12 +65,12 @@ no_failure_yet S T U failed failed' none old new h =
 pub all_step : (r : Rules) (T : List Event) (e : Event) (core core' : Core) (played played' : List Move)
     (failed failed' : Colour → Bool) (n n' n'' : Colour → InputState) (held held' : Colour → Held)
     (w w' w'' : Colour → OutputState) (coming coming' coming'' : ℕ → Option ℕ)
-        → IsUnderWay r T core played failed n n' held w w' coming coming'
+    → IsUnderWay r T core played failed n n' held w w' coming coming'
     → is_on (match_of r T).phase ≡ true → is_sound e ≡ true → fits_next nothing_due (match_of r T) e ≡ true
-        → IsSane r (after r (match_of r T) e)
+    → IsSane r (after r (match_of r T) e)
     → ((S : Colour) → HearsAt S e (n' S) (n'' S) (held S) (held' S)) → Asked coming' coming'' (moment_in e)
     → AllSent r core' played' (after r (match_of r T) e) (λ S. block r (match_of r T) (after r (match_of r T) e) S) w'
-        w'' failed'
+    w'' failed'
     → IsUnderWay r (T ++ e ∷ []) core' played' failed' n n'' held' w w'' coming coming''
 all_step r T e core core' played played' failed failed' n n' n'' held held' w w' w'' coming coming' coming'' u on sound
     fit sane hears asked sent =
@@ -81,17 +81,17 @@ all_step r T e core core' played played' failed failed' n n' n'' held held' w w'
       sane = subst (λ (x : Match). IsSane r x) (sym now) sane;
       heard = λ S. subst (λ (x : Match). HeardSoFar S (T ++ e ∷ []) (is_on x.phase) (n S) (n'' S) (held' S)) (sym now)
           (so_far_on S T e [] (is_on (match_of r T).phase) (is_on (after r (match_of r T) e).phase) (n S) (n' S) (n'' S)
-              (held S) (held' S) no_tail on (stopped r (match_of r T) e) (hears S) (u.heard S));
+          (held S) (held' S) no_tail on (stopped r (match_of r T) e) (hears S) (u.heard S));
       written = λ S. subst (λ (bs : List (List SentLine)). Written (failed' S) (w S) (w'' S) bs)
           (sym (blocks-append r S T e [] sound ∙ ap (λ (bs : List (List SentLine)). blocks r S T ++ bs)
-              (block_alone r S (match_of r T) e sound)))
+          (block_alone r S (match_of r T) e sound)))
           (written_more (failed' S) (w S) (w' S) (w'' S) (blocks r S T)
-              (block r (match_of r T) (after r (match_of r T) e) S)
-                  (all_sent (failed S) (w S) (w' S) (blocks r S T) (u.fine on S) (u.written S)) (sent.puts S));
+          (block r (match_of r T) (after r (match_of r T) e) S)
+          (all_sent (failed S) (w S) (w' S) (blocks r S T) (u.fine on S) (u.written S)) (sent.puts S));
       fine = λ h. sent.fine (subst (λ (x : Match). is_on x.phase ≡ true) now h);
       failing = λ S. no_failure_yet S T (e ∷ []) (failed S) (failed' S) (u.fine on S) (u.failing S)
           (λ h. let no : fails_at e S || false ≡ false = ap (λ b. b || false) (sound_write S e sound) in not_both _ no
-              h);
+          h);
       moments = subst (λ (ms : List ℕ). Asked coming coming'' ms) (sym (moments_more T e [] no_tail))
           (asked_more coming coming' coming'' (moments_of T) (moment_in e) u.moments asked);
     }
@@ -109,10 +109,10 @@ flushed_both w w' v bs t n = subst (λ (text : List ℕ). Flushed w v text) (app
 two_blocks : (r : Rules) (m : Match) (d c : Colour) (text : Option (List ℕ)) (k : ℕ) (first : Colour) → d ≡ first
     → (f : Bool) (w w' w'' : OutputState) (bs : List (List SentLine)) → Flushed w w' (bytes_of (joined_blocks bs))
     → ((v : OutputState)
-        × Flushed w' v (bytes_of (if same_colour c first then [] else block r m (after r m (Line d text k)) (other c)))
-        × SendsIf f v w''
-            (bytes_of (block r (after r m (Line d text k)) (after r (after r m (Line d text k)) (FailsToWrite c))
-                (other c))))
+    × Flushed w' v (bytes_of (if same_colour c first then [] else block r m (after r m (Line d text k)) (other c)))
+    × SendsIf f v w''
+    (bytes_of (block r (after r m (Line d text k)) (after r (after r m (Line d text k)) (FailsToWrite c))
+    (other c))))
     → Written f w w'' (bs ++ blocks_from r (other c) m (Line d text k ∷ FailsToWrite c ∷ []))
 unfolding bytes_of
 two_blocks r m White White text k White e f w w' w'' bs t (v, took, puts) =
@@ -121,16 +121,16 @@ two_blocks r m Black Black text k Black e f w w' w'' bs t (v, took, puts) =
     written_more f w v w'' bs _ (flushed_both w w' v bs t took) puts
 two_blocks r m White Black text k White e f w w' w'' bs t (v, took, puts) =
     subst (λ (all : List (List SentLine)). Written f w w'' all)
-        (append_assoc bs (block r m (after r m (Line White text k)) White ∷ [])
-            (block r (after r m (Line White text k)) (after r (after r m (Line White text k)) (FailsToWrite Black))
-                White ∷ [])) (written_more f w v w'' (bs ++ block r m (after r m (Line White text k)) White ∷ []) _
-                    (sent_more w w' v bs _ t took) puts)
+    (append_assoc bs (block r m (after r m (Line White text k)) White ∷ [])
+    (block r (after r m (Line White text k)) (after r (after r m (Line White text k)) (FailsToWrite Black))
+    White ∷ [])) (written_more f w v w'' (bs ++ block r m (after r m (Line White text k)) White ∷ []) _
+    (sent_more w w' v bs _ t took) puts)
 two_blocks r m Black White text k Black e f w w' w'' bs t (v, took, puts) =
     subst (λ (all : List (List SentLine)). Written f w w'' all)
-        (append_assoc bs (block r m (after r m (Line Black text k)) Black ∷ [])
-            (block r (after r m (Line Black text k)) (after r (after r m (Line Black text k)) (FailsToWrite White))
-                Black ∷ [])) (written_more f w v w'' (bs ++ block r m (after r m (Line Black text k)) Black ∷ []) _
-                    (sent_more w w' v bs _ t took) puts)
+    (append_assoc bs (block r m (after r m (Line Black text k)) Black ∷ [])
+    (block r (after r m (Line Black text k)) (after r (after r m (Line Black text k)) (FailsToWrite White))
+    Black ∷ [])) (written_more f w v w'' (bs ++ block r m (after r m (Line Black text k)) Black ∷ []) _
+    (sent_more w w' v bs _ t took) puts)
 two_blocks r m White White text k Black e f w w' w'' bs t p = absurd cc
 two_blocks r m White Black text k Black e f w w' w'' bs t p = absurd cc
 two_blocks r m Black White text k White e f w w' w'' bs t p = absurd cc
@@ -140,7 +140,7 @@ two_blocks r m Black Black text k White e f w w' w'' bs t p = absurd cc
 broken_block : (r : Rules) (m : Match) (d c : Colour) (text : Option (List ℕ)) (k : ℕ) (f : Bool)
     (w w' w'' : OutputState) (bs : List (List SentLine)) → f ≡ true → Flushed w w' (bytes_of (joined_blocks bs))
     → BreaksOff w' w'' (bytes_of (block r m (after r m (Line d text k)) c))
-        → Written f w w'' (bs ++ blocks_from r c m (Line d text k ∷ FailsToWrite c ∷ []))
+    → Written f w w'' (bs ++ blocks_from r c m (Line d text k ∷ FailsToWrite c ∷ []))
 broken_block r m White White text k true w w' w'' bs e t b = written_more true w w' w'' bs _ t b
 broken_block r m White Black text k true w w' w'' bs e t b = written_more true w w' w'' bs _ t b
 broken_block r m Black White text k true w w' w'' bs e t b = written_more true w w' w'' bs _ t b
@@ -167,14 +167,14 @@ own_fails Black failed h White e = absurd cc
 -- a line of d, and then a write that fails
 pub failed_step : (r : Rules) (T : List Event) (d : Colour) (text : Option (List ℕ)) (k : ℕ) (core core' : Core)
     (played played' : List Move) (failed failed' : Colour → Bool) (n n' n'' : Colour → InputState)
-        (held held' : Colour → Held)
+    (held held' : Colour → Held)
     (w w' w'' : Colour → OutputState) (coming coming' coming'' : ℕ → Option ℕ) (c : Colour)
-        → IsUnderWay r T core played failed n n' held w w' coming coming'
+    → IsUnderWay r T core played failed n n' held w w' coming coming'
     → is_on (match_of r T).phase ≡ true → fits_next nothing_due (match_of r T) (Line d text k) ≡ true
-        → IsSane r (after r (match_of r T) (Line d text k))
+    → IsSane r (after r (match_of r T) (Line d text k))
     → ((S : Colour) → HearsAt S (Line d text k) (n' S) (n'' S) (held S) (held' S)) → Asked coming' coming'' (k ∷ [])
     → OneFailed r core' played' (after r (match_of r T) (Line d text k))
-        (λ S. block r (match_of r T) (after r (match_of r T) (Line d text k)) S) d w' w'' failed' c
+    (λ S. block r (match_of r T) (after r (match_of r T) (Line d text k)) S) d w' w'' failed' c
     → IsUnderWay r (T ++ Line d text k ∷ FailsToWrite c ∷ []) core' played' failed' n n'' held' w w'' coming coming''
 failed_step r T d text k core core' played played' failed failed' n n' n'' held held' w w' w'' coming coming' coming'' c
     u on fit sane hears asked sent =
@@ -191,15 +191,15 @@ failed_step r T d text k core core' played played' failed failed' n n' n'' held 
       sane = subst (λ (x : Match). IsSane r x) (sym now) (sane_over r (after r m e) _ sane);
       heard = λ S. subst (λ (x : Match). HeardSoFar S (T ++ e ∷ U) (is_on x.phase) (n S) (n'' S) (held' S)) (sym now)
           (so_far_on S T e U (is_on m.phase) false (n S) (n' S) (n'' S) (held S) (held' S) (failed_tail c) on
-              (λ h. refl) (hears S) (u.heard S));
+          (λ h. refl) (hears S) (u.heard S));
       written = λ S. subst (λ (bs : List (List SentLine)). Written (failed' S) (w S) (w'' S) bs)
           (sym (blocks-append r S T e U refl))
           (by_either (λ X. Written (failed' X) (w X) (w'' X) (blocks r X T ++ blocks_from r X m (e ∷ U))) c
           (broken_block r m d c text k (failed' c) (w c) (w' c) (w'' c) (blocks r c T) sent.fails
-              (all_sent (failed c) (w c) (w' c) (blocks r c T) (u.fine on c) (u.written c)) sent.broke)
+          (all_sent (failed c) (w c) (w' c) (blocks r c T) (u.fine on c) (u.written c)) sent.broke)
           (two_blocks r m d c text k d refl (failed' (other c)) (w (other c)) (w' (other c)) (w'' (other c))
-              (blocks r (other c) T) (all_sent (failed (other c)) (w (other c)) (w' (other c)) (blocks r (other c) T)
-                  (u.fine on (other c)) (u.written (other c))) sent.others)
+          (blocks r (other c) T) (all_sent (failed (other c)) (w (other c)) (w' (other c)) (blocks r (other c) T)
+          (u.fine on (other c)) (u.written (other c))) sent.others)
           S);
       fine = λ h. let no : false ≡ true = subst (λ (x : Match). is_on x.phase ≡ true) now h in absurd cc;
       failing = λ S. no_failure_yet S T (e ∷ U) (failed S) (failed' S) (u.fine on S) (u.failing S)
@@ -228,9 +228,12 @@ one_by r core played m due due' first w w' failed c e s = record {
   stands = s.stands;
   fails = s.fails;
   broke = subst (λ (b : List SentLine). BreaksOff (w c) (w' c) (bytes_of b)) (e c) s.broke;
-  others =
-      (s.others.0, subst (λ (b : List SentLine). Flushed (w (other c)) s.others.0
-          (bytes_of (if same_colour c first then [] else b))) (e (other c)) s.others.1, s.others.2);
+  others = (
+    s.others.0,
+    subst (λ (b : List SentLine). Flushed (w (other c)) s.others.0
+        (bytes_of (if same_colour c first then [] else b))) (e (other c)) s.others.1,
+    s.others.2,
+  );
 }
 
 pub delivered_by : (r : Rules) (core : Core) (played : List Move) (m : Match) (due due' : Colour → List SentLine)
@@ -247,8 +250,12 @@ just_heard : (S : Colour) (T : List Event) (on : Bool) (r : InputState) (h : Hel
     → lines_of S T ≡ [] → has_end S T ≡ false → has_read_failure S T ≡ false → HeardSoFar S T on r r h
 just_heard S T on r h none l e f =
     let s : IsHearing S T r r nothing_held [] =
-        record { hearing = subst (λ (ts : List (Option (List ℕ))). Hearing r r nothing_held [] ts) (sym l)
-            (hearing_start r); unended = e; unfailed = f } in
+    record {
+      hearing = subst (λ (ts : List (Option (List ℕ))). Hearing r r nothing_held [] ts) (sym l)
+          (hearing_start r);
+      unended = e;
+      unfailed = f;
+    } in
     subst (λ (x : Held). HeardSoFar S T on r r x) (sym none) ([], heard_still S T r r nothing_held [] s, λ o. s)
 
 first_block : (f : Bool) (w w' : OutputState) (b : List SentLine) → SendsIf f w w' (bytes_of b)
@@ -260,7 +267,7 @@ all_started : (r : Rules) (core : Core) (played : List Move) (failed : Colour �
     (held : Colour → Held) (w w' : Colour → OutputState) (coming : ℕ → Option ℕ)
     → ((S : Colour) → held S ≡ nothing_held)
     → AllSent r core played start (λ S. entry r start S) w w' failed
-        → IsUnderWay r [] core played failed n n held w w' coming coming
+    → IsUnderWay r [] core played failed n n held w w' coming coming
 all_started r core played failed n held w w' coming none s = record {
   fitting = refl;
   stands = s.stands;
@@ -285,7 +292,7 @@ one_started : (r : Rules) (core : Core) (played : List Move) (failed : Colour �
     (held : Colour → Held) (w w' : Colour → OutputState) (coming : ℕ → Option ℕ) (c : Colour)
     → ((S : Colour) → held S ≡ nothing_held)
     → OneFailed r core played start (λ S. entry r start S) White w w' failed c
-        → IsUnderWay r (FailsToWrite c ∷ []) core played failed n n held w w' coming coming
+    → IsUnderWay r (FailsToWrite c ∷ []) core played failed n n held w w' coming coming
 one_started r core played failed n held w w' coming Black none s = let no : 0 < 0 = s.some in absurd (omega (arith, no))
 one_started r core played failed n held w w' coming White none s = record {
   fitting = ap (λ b. b && true) (lt-ltb 0 (length (entry r start White)) s.some);
@@ -305,7 +312,7 @@ pub started : (r : Rules) (core : Core) (played : List Move) (failed : Colour �
     (held : Colour → Held) (w w' : Colour → OutputState) (coming : ℕ → Option ℕ)
     → ((S : Colour) → held S ≡ nothing_held)
     → Delivered r core played start (λ S. entry r start S) White w w' failed
-        → (T : List Event) × IsUnderWay r T core played failed n n held w w' coming coming
+    → (T : List Event) × IsUnderWay r T core played failed n n held w w' coming coming
 started r core played failed n held w w' coming none (inl s) =
     ([], all_started r core played failed n held w w' coming none s)
 started r core played failed n held w w' coming none (inr (c, s)) =
@@ -316,34 +323,40 @@ started r core played failed n held w w' coming none (inr (c, s)) =
 pub event_step : (r : Rules) (T : List Event) (e : Event) (d : Colour) (core core' : Core) (played played' : List Move)
     (failed failed' : Colour → Bool) (n n' n'' : Colour → InputState) (held held' : Colour → Held)
     (w w' w'' : Colour → OutputState) (coming coming' coming'' : ℕ → Option ℕ)
-        → IsUnderWay r T core played failed n n' held w w' coming coming'
+    → IsUnderWay r T core played failed n n' held w w' coming coming'
     → is_heard_of d e ≡ true → is_on (match_of r T).phase ≡ true → fits_next nothing_due (match_of r T) e ≡ true
-        → IsSane r (after r (match_of r T) e)
+    → IsSane r (after r (match_of r T) e)
     → ((S : Colour) → HearsAt S e (n' S) (n'' S) (held S) (held' S)) → Asked coming' coming'' (moment_in e)
     → Delivered r core' played' (after r (match_of r T) e) (λ S. block r (match_of r T) (after r (match_of r T) e) S) d
-        w' w'' failed'
+    w' w'' failed'
     → (T' : List Event) × IsUnderWay r T' core' played' failed' n n'' held' w w'' coming coming''
 event_step r T (Line c text k) d core core' played played' failed failed' n n' n'' held held' w w' w'' coming coming'
-    coming'' u is on fit sane hears asked (inl s) =
-    (T ++ Line c text k ∷ [], all_step r T (Line c text k) core core' played played' failed failed' n n' n'' held held'
-        w w' w'' coming coming' coming'' u on refl fit sane hears asked s)
+    coming'' u is on fit sane hears asked (inl s) = (
+      T ++ Line c text k ∷ [],
+      all_step r T (Line c text k) core core' played played' failed failed' n n' n'' held held'
+          w w' w'' coming coming' coming'' u on refl fit sane hears asked s,
+    )
 event_step r T (OutputEnds c) d core core' played played' failed failed' n n' n'' held held' w w' w'' coming coming'
-    coming'' u is on fit sane hears asked (inl s) =
-    (T ++ OutputEnds c ∷ [], all_step r T (OutputEnds c) core core' played played' failed failed' n n' n'' held held' w
-        w' w'' coming coming' coming'' u on refl fit sane hears asked s)
+    coming'' u is on fit sane hears asked (inl s) = (
+      T ++ OutputEnds c ∷ [],
+      all_step r T (OutputEnds c) core core' played played' failed failed' n n' n'' held held' w
+          w' w'' coming coming' coming'' u on refl fit sane hears asked s,
+    )
 event_step r T (FailsToRead c) d core core' played played' failed failed' n n' n'' held held' w w' w'' coming coming'
-    coming'' u is on fit sane hears asked (inl s) =
-    (T ++ FailsToRead c ∷ [], all_step r T (FailsToRead c) core core' played played' failed failed' n n' n'' held held'
-        w w' w'' coming coming' coming'' u on refl fit sane hears asked s)
+    coming'' u is on fit sane hears asked (inl s) = (
+      T ++ FailsToRead c ∷ [],
+      all_step r T (FailsToRead c) core core' played played' failed failed' n n' n'' held held'
+          w w' w'' coming coming' coming'' u on refl fit sane hears asked s,
+    )
 event_step r T (Line c text k) d core core' played played' failed failed' n n' n'' held held' w w' w'' coming coming'
     coming'' u is on fit sane hears asked (inr (x, s)) = (
-  T ++ Line c text k ∷ FailsToWrite x ∷ [],
-  failed_step r T c text k core core' played played' failed failed' n n' n'' held held' w w' w'' coming coming' coming''
-      x u on fit sane hears asked
-      (subst (λ (y : Colour). OneFailed r core' played' (after r (match_of r T) (Line c text k))
+      T ++ Line c text k ∷ FailsToWrite x ∷ [],
+      failed_step r T c text k core core' played played' failed failed' n n' n'' held held' w w' w'' coming coming' coming''
+          x u on fit sane hears asked
+          (subst (λ (y : Colour). OneFailed r core' played' (after r (match_of r T) (Line c text k))
           (λ S. block r (match_of r T) (after r (match_of r T) (Line c text k)) S) y w' w'' failed' x)
-              (sym (same_colour-true c d is)) s),
-)
+          (sym (same_colour-true c d is)) s),
+    )
 event_step r T (OutputEnds c) d core core' played played' failed failed' n n' n'' held held' w w' w'' coming coming'
     coming'' u is on fit sane hears asked (inr (x, s)) = let no : false ≡ true = s.on in absurd cc
 event_step r T (FailsToRead c) d core core' played played' failed failed' n n' n'' held held' w w' w'' coming coming'
@@ -375,16 +388,16 @@ none_given r m S = refl
 
 pub opened_step : (r : Rules) (T : List Event) (d : Colour) (k : ℕ) (core core' : Core) (played : List Move)
     (failed : Colour → Bool) (n n' : Colour → InputState) (held : Colour → Held) (w w' : Colour → OutputState)
-        (coming coming' coming'' : ℕ → Option ℕ)
+    (coming coming' coming'' : ℕ → Option ℕ)
     → IsUnderWay r T core played failed n n' held w w' coming coming' → opens (match_of r T).phase d ≡ true
-        → Asked coming' coming'' (k ∷ [])
+    → Asked coming' coming'' (k ∷ [])
     → Goes r core' played (record { answers = None; draw = None; entered = false }) [] (match_of r T)
-        (after r (match_of r T) (Opened d k))
+    (after r (match_of r T) (Opened d k))
     → IsUnderWay r (T ++ Opened d k ∷ []) core' played failed n n' held w w' coming coming''
 opened_step r T d k core core' played failed n n' held w w' coming coming' coming'' u opening asked goes =
     let on : is_on (match_of r T).phase ≡ true = opens_on (match_of r T).phase d opening in
     all_step r T (Opened d k) core core' played played failed failed n n' n' held held w w' w' coming coming' coming'' u
-        on refl opening (sane_opened r (match_of r T) d k opening u.sane) (λ S. (refl, refl)) asked
+    on refl opening (sane_opened r (match_of r T) d k opening u.sane) (λ S. (refl, refl)) asked
     (record {
       stands = goes.stands;
       puts = λ S. nothing_put (failed S) (w' S) _ (u.fine on S)

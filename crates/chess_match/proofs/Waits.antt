@@ -17,8 +17,11 @@ waits o waiting text = record { out = []; took = took_none o; is = refl }
 pub put_after : {A E : Type 0} (o v o' : OutputState) (result : Result A E) (waiting left text : List ℕ)
     → Took o v waiting → left ≡ [] → Puts v o' result text → Adds o o' waiting left result text
 put_after o v o' (Ok x) waiting left text t e p =
-    record { out = waiting ++ text; took = took_more o v o' waiting text t p;
-        is = sym (append-nil (waiting ++ text)) ∙ ap (λ ls. (waiting ++ text) ++ ls) (sym e) }
+    record {
+      out = waiting ++ text;
+      took = took_more o v o' waiting text t p;
+      is = sym (append-nil (waiting ++ text)) ∙ ap (λ ls. (waiting ++ text) ++ ls) (sym e);
+    }
 put_after o v o' (Err x) waiting left text t e p = breaks_more o v o' waiting text t p
 
 -- a block of which a beginning was written, and the rest waits, is sent with what follows it
@@ -26,8 +29,8 @@ pub send_rest : {A E : Type 0} (o v o' : OutputState) (result : Result A E) (wai
     → TookSome o v [] waiting text → Sends v o' result (waiting ++ rest) → SendsIf (is_err result) o o' (text ++ rest)
 send_rest o v o' result waiting text rest h p =
     subst (λ (ls : List ℕ). SendsIf (is_err result) o o' ls)
-        (sym (append_assoc h.out waiting rest) ∙ ap (λ ls. ls ++ rest) (sym h.is))
-            (sends_more o v o' result h.out (waiting ++ rest) h.took p)
+    (sym (append_assoc h.out waiting rest) ∙ ap (λ ls. ls ++ rest) (sym h.is))
+    (sends_more o v o' result h.out (waiting ++ rest) h.took p)
 
 -- nothing was written, and nothing waits
 pub nothing_left : (o v : OutputState) (waiting text rest : List ℕ) → TookSome o v [] waiting text → text ≡ []

@@ -66,8 +66,15 @@ new_seat = record { items = []; used = []; offers = false }
 
 -- before any line: White's hello
 abbrev pub start : Match
-start = record { phase = Hello White; white = new_seat; black = new_seat; played = []; untold = None; count = 0;
-    opened = 0 }
+start = record {
+  phase = Hello White;
+  white = new_seat;
+  black = new_seat;
+  played = [];
+  untold = None;
+  count = 0;
+  opened = 0;
+}
 
 -- ---- ways to go on
 
@@ -209,7 +216,7 @@ either_way r S _ m = ignore S m
 abbrev pub before_row : Rules → Colour → LineKind → ℕ → Match → Match
 before_row r S (Moves text) moment m =
     if nat_le r.limit (length m.played) then over over_by.GameTooLong m else move_row r S (r.reading m.played text)
-        moment m
+    moment m
 before_row r S kind moment m = either_way r S kind m
 
 -- the flag is judged first

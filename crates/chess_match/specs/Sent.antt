@@ -90,7 +90,7 @@ variant_lines Fischerandom = VariantSet ∷ []
 unfoldable pub setup_lines : Rules → List SentLine
 setup_lines r =
     New ∷ (variant_lines r.variant ++ (LevelSet r.level ∷ Nopost ∷ Easy ∷ Force ∷
-        (start_lines r.start_fen ++ Ping 1 ∷ [])))
+    (start_lines r.start_fen ++ Ping 1 ∷ [])))
 
 -- the last move, as S takes it
 unfoldable pub last_move : Rules → Match → Colour → SentLine

@@ -29,7 +29,7 @@ xor_append ms ns = fold-append bit_xor 0 ms ns ∙ xor_from (xor_of ms) ns
 pub rights_apart : (r : Rights)
     → xor_of (rights_keys r)
     ≡ bit_xor
-        (bit_xor (bit_xor (xor_of (right_keys White r.white.king_side)) (xor_of (right_keys White r.white.queen_side)))
+    (bit_xor (bit_xor (xor_of (right_keys White r.white.king_side)) (xor_of (right_keys White r.white.queen_side)))
     (xor_of (right_keys Black r.black.king_side))) (xor_of (right_keys Black r.black.queen_side))
 unfolding rights_keys
 rights_apart r =
@@ -133,7 +133,7 @@ men_changed men s d o all low e =
     λ k away. ap (λ v. square_keys k v) (get_or-set_other men s k o None away) in
     rw by_range
     (changed_at (keys_on men) (keys_on (set men s o)) s d 64 0 others (ap (λ v. xor_of (square_keys s v)) here ∙ e)
-        (omega arith)
+    (omega arith)
     (omega arith))
 
 -- a man comes to an empty square, and a man leaves his: the word changes by his key

@@ -28,7 +28,7 @@ pub added_break : (a b c : OutputState) (w x t u : List ℕ) → TookSome a b w 
     → BreaksOff a c (w ++ (t ++ u))
 added_break a b c w x t u h k =
     let all : w ++ (t ++ u) ≡ h.out ++ (x ++ u) =
-        sym (append_assoc w t u) ∙ ap (λ v. v ++ u) h.is ∙ append_assoc h.out x u in
+    sym (append_assoc w t u) ∙ ap (λ v. v ++ u) h.is ∙ append_assoc h.out x u in
     rw all (breaks_more a b c h.out (x ++ u) h.took k)
 
 -- where a text broke off, so did each longer one
@@ -54,8 +54,11 @@ put_behind {A = A} {E = E} a b c r w x t h none k = by_result r k
     all = sym (append-nil w) ∙ h.is ∙ ap (λ v. h.out ++ v) none ∙ append-nil h.out
 
     by_result : (r : Result A E) → Puts b c r t → Adds a c w x r t
-    by_result (Ok v) k = record { out = h.out ++ t; took = took_more a b c h.out t h.took k;
-        is = ap (λ v. v ++ t) all ∙ sym (ap (λ v. (h.out ++ t) ++ v) none ∙ append-nil (h.out ++ t)) }
+    by_result (Ok v) k = record {
+      out = h.out ++ t;
+      took = took_more a b c h.out t h.took k;
+      is = ap (λ v. v ++ t) all ∙ sym (ap (λ v. (h.out ++ t) ++ v) none ∙ append-nil (h.out ++ t));
+    }
     by_result (Err e) k = rw all (breaks_more a b c h.out t h.took k)
 
 -- where all was added, what waits is written
@@ -82,4 +85,4 @@ parts_break a b c w x f xs i d h s t =
     ap (flat_map f) (sym (take-append-drop (i + 1) xs)) ∙ flat_map-append f (take (i + 1) xs) (drop (i + 1) xs) in
     let front : flat_map f (take (i + 1) xs) ≡ flat_map f (take i xs) ++ f (get_or xs i d) = flat_more f xs i d h in
     rw (e, front) (break_longer a c w (flat_map f (take i xs) ++ f (get_or xs i d)) (flat_map f (drop (i + 1) xs))
-        (added_break a b c w x (flat_map f (take i xs)) (f (get_or xs i d)) s t))
+    (added_break a b c w x (flat_map f (take i xs)) (f (get_or xs i d)) s t))

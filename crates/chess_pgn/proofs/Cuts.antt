@@ -76,22 +76,22 @@ variation_cut (Brace left) begins depth [] = inl refl
 variation_cut Line begins depth [] = inl refl
 variation_cut Line begins depth (c ∷ rest) =
     pick (LeavesOf (c ∷ rest)) (eqb c 10) (variation_at Plain true (suc depth) rest)
-        (variation_at Line false (suc depth) rest)
+    (variation_at Line false (suc depth) rest)
     (λ e. left_more c rest _ (variation_cut Plain true depth rest))
-        (λ e. left_more c rest _ (variation_cut Line false depth rest))
+    (λ e. left_more c rest _ (variation_cut Line false depth rest))
 variation_cut (Brace left) begins depth (c ∷ rest) =
     pick (LeavesOf (c ∷ rest)) (eqb c 125) (variation_at Plain false (suc depth) rest)
-        (variation_at (Brace left) false (suc depth) rest)
+    (variation_at (Brace left) false (suc depth) rest)
     (λ e. left_more c rest _ (variation_cut Plain false depth rest))
-        (λ e. left_more c rest _ (variation_cut (Brace left) false depth rest))
+    (λ e. left_more c rest _ (variation_cut (Brace left) false depth rest))
 variation_cut Plain begins depth (c ∷ rest) =
     pick (LeavesOf (c ∷ rest)) (begins && eqb c 37) _ _ (λ _. left_more c rest _ (variation_cut Line false depth rest))
-        (λ _.
+    (λ _.
     pick (LeavesOf (c ∷ rest)) (eqb c 123) _ _
-        (λ _. left_more c rest _ (variation_cut (Brace (suc (length rest))) false depth rest)) (λ _.
+    (λ _. left_more c rest _ (variation_cut (Brace (suc (length rest))) false depth rest)) (λ _.
     pick (LeavesOf (c ∷ rest)) (eqb c 59) _ _ (λ _. left_more c rest _ (variation_cut Line false depth rest)) (λ _.
     pick (LeavesOf (c ∷ rest)) (eqb c 40) _ _ (λ _. left_more c rest _ (variation_cut Plain false (suc depth) rest))
-        (λ _.
+    (λ _.
     pick (LeavesOf (c ∷ rest)) (eqb c 41) _ _ (λ e. closing depth e (λ d. variation_cut Plain false d rest)) (λ _.
     left_more c rest _ (variation_cut Plain (eqb c 10) depth rest))))))
   where
@@ -113,20 +113,28 @@ suffix_more : (c : ℕ) (text rest : List ℕ) → Suffix text rest → Suffix (
 suffix_more c text rest h = record { front = c ∷ h.front; is = ap (λ xs. c ∷ xs) h.is }
 
 pub suffix_then : (text more rest : List ℕ) → Suffix text more → Suffix more rest → Suffix text rest
-suffix_then text more rest h k = record { front = h.front ++ k.front;
-    is = h.is ∙ ap (λ xs. h.front ++ xs) k.is ∙ sym (append_assoc h.front k.front rest) }
+suffix_then text more rest h k = record {
+  front = h.front ++ k.front;
+  is = h.is ∙ ap (λ xs. h.front ++ xs) k.is ∙ sym (append_assoc h.front k.front rest);
+}
 
 suffix_cut : (text more rest : List ℕ) → Suffix text more → Cut more rest → Cut text rest
-suffix_cut text more rest h k = record { front = h.front ++ k.front; last = k.last;
-    is = h.is ∙ ap (λ xs. h.front ++ xs) k.is ∙ sym (append_assoc h.front k.front (k.last ∷ rest)); no_end = k.no_end }
+suffix_cut text more rest h k = record {
+  front = h.front ++ k.front;
+  last = k.last;
+  is = h.is ∙ ap (λ xs. h.front ++ xs) k.is ∙ sym (append_assoc h.front k.front (k.last ∷ rest));
+  no_end = k.no_end;
+}
 
 suffix_left : (text more rest : List ℕ) → Suffix text more → Left more rest → Left text rest
 suffix_left text more rest h (inl e) = inl e
 suffix_left text more rest h (inr k) = inr (suffix_cut text more rest h k)
 
 pub cut_suffix : (text rest : List ℕ) → Cut text rest → Suffix text rest
-cut_suffix text rest k = record { front = k.front ++ k.last ∷ [];
-    is = k.is ∙ sym (append_assoc k.front (k.last ∷ []) rest) }
+cut_suffix text rest k = record {
+  front = k.front ++ k.last ∷ [];
+  is = k.is ∙ sym (append_assoc k.front (k.last ∷ []) rest);
+}
 
 pub gap_suffix : (skips begins : Bool) (text : List ℕ) → Suffix text (behind_gap skips begins text)
 gap_suffix skips begins [] = suffix_all []
@@ -134,7 +142,7 @@ gap_suffix true begins (c ∷ rest) = suffix_more c rest _ (gap_suffix (not (eqb
 gap_suffix false begins (c ∷ rest) =
     pick (Suffix (c ∷ rest)) (begins && eqb c 37) _ _ (λ _. suffix_more c rest _ (gap_suffix true false rest)) (λ _.
     pick (Suffix (c ∷ rest)) (is_white_space c) _ _ (λ _. suffix_more c rest _ (gap_suffix false (eqb c 10) rest))
-        (λ _. suffix_all (c ∷ rest)))
+    (λ _. suffix_all (c ∷ rest)))
 
 abbrev LeavesSuffix : List ℕ → Option (List ℕ × List ℕ) → Type 0
 LeavesSuffix text o = IfSome o (λ (f : List ℕ × List ℕ). Suffix text f.1)
@@ -155,11 +163,11 @@ string_suffix (c ∷ []) = pick (LeavesSuffix (c ∷ [])) (eqb c 34) _ _ (λ _. 
     (λ _. tt)
 string_suffix (c ∷ d ∷ rest) =
     pick (LeavesSuffix (c ∷ d ∷ rest)) (eqb c 34) _ _ (λ _. suffix_more c (d ∷ rest) (d ∷ rest) (suffix_all (d ∷ rest)))
-        (λ _.
+    (λ _.
     pick (LeavesSuffix (c ∷ d ∷ rest)) (eqb c 10) _ _ (λ _. tt) (λ _.
     pick (LeavesSuffix (c ∷ d ∷ rest)) (eqb c 92) _ _
-        (λ _. pick (LeavesSuffix (c ∷ d ∷ rest)) (eqb d 10) _ _ (λ _. tt)
-            (λ _. kept_suffix (c ∷ d ∷ []) rest c d (string_at rest) (string_suffix rest))) (λ _.
+    (λ _. pick (LeavesSuffix (c ∷ d ∷ rest)) (eqb d 10) _ _ (λ _. tt)
+    (λ _. kept_suffix (c ∷ d ∷ []) rest c d (string_at rest) (string_suffix rest))) (λ _.
     onto_suffix (c ∷ []) (d ∷ rest) c (string_at (d ∷ rest)) (string_suffix (d ∷ rest)))))
 
 -- behind a byte other than 10
@@ -203,8 +211,8 @@ tag_left text = by_name (behind_gap false false text) (gap_suffix false false te
     by_name inner h =
         let n : ℕ = prefix_len is_name_byte inner in
         suffix_left text (drop n inner) _ (suffix_then text inner (drop n inner) h
-            (record { front = take_while is_name_byte inner; is = sym (take-append-drop n inner) }))
-                (name_left (take_while is_name_byte inner) (drop n inner))
+        (record { front = take_while is_name_byte inner; is = sym (take-append-drop n inner) }))
+        (name_left (take_while is_name_byte inner) (drop n inner))
 
 -- ---- tokens
 
@@ -226,7 +234,7 @@ token_left begins c rest e =
     pick (LeavesOf (c ∷ rest)) (begins && eqb c 37) _ _ (λ _. inr (run_cut (λ b. not (eqb b 10)) refl c rest e)) (λ _.
     pick (LeavesOf (c ∷ rest)) (is_white_space c || eqb c 46) _ _ (λ _. inr (cut_here c rest e)) (λ _.
     pick (LeavesOf (c ∷ rest)) (eqb c 123) _ _
-        (λ _. comment_left c (suc (length rest)) rest (behind_brace rest) (brace_cut rest)) (λ _.
+    (λ _. comment_left c (suc (length rest)) rest (behind_brace rest) (brace_cut rest)) (λ _.
     pick (LeavesOf (c ∷ rest)) (eqb c 59) _ _ (λ _. inr (run_cut (λ b. not (eqb b 10)) refl c rest e)) (λ _.
     pick (LeavesOf (c ∷ rest)) (eqb c 36) _ _ (λ _. inr (run_cut is_digit refl c rest e)) (λ _.
     pick (LeavesOf (c ∷ rest)) (eqb c 40) _ _ (λ _. left_more c rest _ (variation_cut Plain false 0 rest)) (λ _.

@@ -18,13 +18,13 @@ behind_is prefix column [] some short = let e : eqb column 0 ≡ false = grind (
 behind_is prefix column (t ∷ ts) some short =
     let e : eqb column 0 ≡ false = grind (arith, nat_tests) in
     rw e (by_test (leb (column + 1 + length t) 79) (behind_is prefix (column + 1 + length t) ts (omega arith) short.1)
-        (behind_is prefix (length t) ts short.0.0 short.1))
+    (behind_is prefix (length t) ts short.0.0 short.1))
   where
     by_test : (b : Bool) → filled_from prefix (column + 1 + length t) ts ≡ behind prefix (column + 1 + length t) ts
         → filled_from prefix (length t) ts ≡ behind prefix (length t) ts
         → cond b (32 ∷ t) (10 ∷ prefix ++ t) ++ filled_from prefix (cond b (column + 1 + length t) (length t)) ts
-            ≡ cond b (32 ∷ t ++ behind prefix (column + 1 + length t) ts)
-                (10 ∷ prefix ++ t ++ behind prefix (length t) ts)
+        ≡ cond b (32 ∷ t ++ behind prefix (column + 1 + length t) ts)
+        (10 ∷ prefix ++ t ++ behind prefix (length t) ts)
     by_test true h k = ap (λ xs. 32 ∷ t ++ xs) h
     by_test false h k = ap (λ xs. 10 ∷ prefix ++ t ++ xs) k
 
@@ -69,7 +69,7 @@ takes_more prefix t ts u us e pushed g =
           ∙ ap (λ n. line_text (t ∷ (ts ++ u ∷ [])) ++ behind prefix n us) (sym pushed)
           ∙ g.text
           ∙ ap (λ (xs : List (List ℕ)). (line_text (t ∷ xs) ++ 10 ∷ []) ++ flat_map (ended prefix) g.others)
-              (sym regroup);
+          (sym regroup);
     }
 
 line_ended : (prefix u rest : List ℕ) (more : List (List ℕ)) (others : List (List (List ℕ)))
@@ -95,18 +95,23 @@ begins_line prefix t ts u us e h over next =
       text =
           ap (λ b. line ++ cond b (32 ∷ u ++ rest) (10 ∷ prefix ++ u ++ behind prefix (length u) us)) e
           ∙ ap (λ xs. line ++ 10 ∷ xs) (line_ended prefix u (behind prefix (length u) us) next.more next.others
-              next.text)
+          next.text)
           ∙ sym (append_assoc line (10 ∷ []) (ended prefix (u ∷ next.more) ++ flat_map (ended prefix) next.others))
           ∙ ap (λ (xs : List (List ℕ)). (line_text (t ∷ xs) ++ 10 ∷ [])
-              ++ flat_map (ended prefix) ((u ∷ next.more) ∷ next.others)) whole;
+          ++ flat_map (ended prefix) ((u ∷ next.more) ∷ next.others)) whole;
     }
 
 goes_on : (prefix t : List ℕ) (ts rest : List (List ℕ)) → length (line_text (t ∷ ts)) ≤ 79 → AreShort rest
     → GoesOn prefix t ts rest
 goes_on prefix t ts [] h short =
     let whole : ts ++ [] ≡ ts = append-nil ts in
-    record { more = []; others = []; filled = rw whole h; all = refl;
-        text = rw whole (sym (append-nil (line_text (t ∷ ts) ++ 10 ∷ []))) }
+    record {
+      more = [];
+      others = [];
+      filled = rw whole h;
+      all = refl;
+      text = rw whole (sym (append-nil (line_text (t ∷ ts) ++ 10 ∷ [])));
+    }
 goes_on prefix t ts (u ∷ us) h short = by_test (leb (length (line_text (t ∷ ts)) + 1 + length u) 79) refl
     (λ k. goes_on prefix t (ts ++ u ∷ []) us k short.1) (goes_on prefix u [] us short.0.1 short.1)
   where
@@ -129,9 +134,13 @@ filled-move_text prefix [] short = record { lines = []; filled = tt; all = refl;
 filled-move_text prefix (t ∷ ts) short = from_first (goes_on prefix t [] ts short.0.1 short.1)
   where
     from_first : GoesOn prefix t [] ts → IsMoveText prefix (t ∷ ts) (move_text_of prefix (t ∷ ts))
-    from_first g = record { lines = (t ∷ g.more) ∷ g.others; filled = g.filled; all = ap (λ xs. t ∷ xs) g.all;
-        is = ap (λ xs. prefix ++ t ++ xs) (behind_is prefix (length t) ts short.0.0 short.1)
-        ∙ line_ended prefix t (behind prefix (length t) ts) g.more g.others g.text }
+    from_first g = record {
+      lines = (t ∷ g.more) ∷ g.others;
+      filled = g.filled;
+      all = ap (λ xs. t ∷ xs) g.all;
+      is = ap (λ xs. prefix ++ t ++ xs) (behind_is prefix (length t) ts short.0.0 short.1)
+          ∙ line_ended prefix t (behind prefix (length t) ts) g.more g.others g.text;
+    }
 
 -- ---- no other text has it
 
@@ -154,9 +163,9 @@ goes_on_behind prefix column (u ∷ ts) rest h =
     let place : column + 1 + length u + length (tail ts) ≡ column + length (tail (u ∷ ts)) = omega (arith, all) in
     let few : column + 1 + length u + length (tail ts) ≤ 79 = omega (arith, all, h) in
     ap (λ b. cond b (32 ∷ u ++ behind prefix (column + 1 + length u) (ts ++ rest))
-        (10 ∷ prefix ++ u ++ behind prefix (length u) (ts ++ rest))) fits
+    (10 ∷ prefix ++ u ++ behind prefix (length u) (ts ++ rest))) fits
     ∙ ap (λ xs. 32 ∷ u ++ xs) (goes_on_behind prefix (column + 1 + length u) ts rest few
-        ∙ ap (λ n. tail ts ++ behind prefix n rest) place)
+    ∙ ap (λ n. tail ts ++ behind prefix n rest) place)
     ∙ sym (append_assoc (32 ∷ u) (tail ts) (behind prefix (column + length (tail (u ∷ ts))) rest))
 
 -- a line of tokens, and what follows it
@@ -167,7 +176,7 @@ one_line prefix t ts rest text h next =
     let line : line_text (t ∷ ts) ≡ t ++ tail ts = line_text-tail t ts in
     let all : length (line_text (t ∷ ts)) ≡ length t + length (tail ts) = ap length line ∙ length-append t (tail ts) in
     ap (λ xs. prefix ++ t ++ xs) (goes_on_behind prefix (length t) ts rest (omega (arith, all, h))
-        ∙ ap (λ n. tail ts ++ behind prefix n rest) (sym all) ∙ ap (λ xs. tail ts ++ xs) next)
+    ∙ ap (λ n. tail ts ++ behind prefix n rest) (sym all) ∙ ap (λ xs. tail ts ++ xs) next)
     ∙ sym (append_assoc (prefix ++ t) (tail ts) (10 ∷ text))
     ∙ ap (λ xs. xs ++ 10 ∷ text) (append_assoc prefix t (tail ts) ∙ ap (λ xs. prefix ++ xs) (sym line))
     ∙ sym (append_assoc (prefix ++ line_text (t ∷ ts)) (10 ∷ []) text)
@@ -181,7 +190,7 @@ lines_are prefix t ts ((u ∷ us) ∷ lines) h =
     let line : List ℕ = line_text (t ∷ ts) in
     one_line prefix t ts ((u ∷ us) ++ tokens_in lines) (flat_map (ended prefix) ((u ∷ us) ∷ lines)) h.0
     (ap (λ b. cond b (32 ∷ u ++ behind prefix (length line + 1 + length u) (us ++ tokens_in lines))
-        (10 ∷ prefix ++ u ++ behind prefix (length u) (us ++ tokens_in lines))) over
+    (10 ∷ prefix ++ u ++ behind prefix (length u) (us ++ tokens_in lines))) over
     ∙ ap (λ xs. 10 ∷ xs) (lines_are prefix u us lines h.2))
 
 only_lines : (prefix : List ℕ) (lines : List (List (List ℕ))) → AreFilled lines → AreShort (tokens_in lines)
@@ -190,7 +199,7 @@ only_lines prefix [] h short = refl
 only_lines prefix ([] ∷ lines) h short = absurd h
 only_lines prefix ((t ∷ ts) ∷ lines) h short =
     sym (ap (λ xs. prefix ++ t ++ xs) (behind_is prefix (length t) (ts ++ tokens_in lines) short.0.0 short.1)
-        ∙ lines_are prefix t ts lines h)
+    ∙ lines_are prefix t ts lines h)
 
 pub only_move_text : (prefix : List ℕ) (tokens : List (List ℕ)) (text : List ℕ) → AreShort tokens
     → IsMoveText prefix tokens text → text ≡ move_text_of prefix tokens

@@ -57,7 +57,7 @@ further_is : (prefix before : List ℕ) (start : Setup) (v : Variant) (t : Termi
     ++ ended before (last_lines v t)
 further_is prefix before start v t is b =
     flat_map-append (λ text. prefix ++ text ++ 10 ∷ []) (start_lines_in start.variant start)
-        (last_lines start.variant t)
+    (last_lines start.variant t)
     ∙ ap (λ q. ended prefix (start_lines_in start.variant start) ++ ended q (last_lines start.variant t)) (sym b)
     ∙ ap (λ u. ended prefix (start_lines_in start.variant start) ++ ended before (last_lines u t)) (sym is)
 
@@ -67,12 +67,12 @@ pub start_broke : (a b : OutputState) (w prefix : List ℕ) (start : Setup) (t :
 start_broke a b w prefix start t h =
     subst (λ v. BreaksOff a b (w ++ v)) (sym (further_is prefix prefix start start.variant t refl refl))
     (break_longer a b w (ended prefix (start_lines_in start.variant start)) (ended prefix (last_lines start.variant t))
-        h)
+    h)
 
 pub further_put : {A E : Type 0} (a b c : OutputState) (r : Result A E) (w x y prefix before : List ℕ) (start : Setup)
     (v : Variant) (t : Termination) → v ≡ start.variant → before ≡ prefix
     → TookSome a b w x (ended prefix (start_lines_in start.variant start))
-        → Adds b c x y r (ended before (last_lines v t)) → Adds a c w y r (ended prefix (further_lines start t))
+    → Adds b c x y r (ended before (last_lines v t)) → Adds a c w y r (ended prefix (further_lines start t))
 further_put a b c r w x y prefix before start v t is same h k =
     subst (Adds a c w y r) (sym (further_is prefix before start v t is same))
     (adds_more a b c r w x y (ended prefix (start_lines_in start.variant start)) (ended before (last_lines v t)) h k)
@@ -82,7 +82,7 @@ pub tags_are : (prefix before last_before : List ℕ) (t : Tags) (outcome : Outc
     (termination : Termination) (s : State) → outcome ≡ outcome_now s → start ≡ s.start
     → termination ≡ termination_of t.ended outcome → before ≡ prefix → last_before ≡ prefix
     → HasParts (ended prefix (roster_lines t outcome)) (ended before (further_lines start termination))
-        (last_before ++ [] ++ 10 ∷ []) (ended prefix (tag_lines t s ++ [] ∷ []))
+    (last_before ++ [] ++ 10 ∷ []) (ended prefix (tag_lines t s ++ [] ∷ []))
 tags_are prefix before last_before t outcome start termination s o is told b l =
     let line : List ℕ → List ℕ = λ text. prefix ++ text ++ 10 ∷ [] in
     let roster : List (List ℕ) = roster_lines t (outcome_now s) in
@@ -99,15 +99,15 @@ tags_are prefix before last_before t outcome start termination s o is told b l =
 -- a game's tags, its moves, and an empty line
 pub game_is : (prefix before last_before : List ℕ) (t : Tags) (s : State) → before ≡ prefix → last_before ≡ prefix
     → HasParts (ended prefix (tag_lines t s ++ [] ∷ [])) (move_text_of before (game_tokens s))
-        (last_before ++ [] ++ 10 ∷ []) (pgn prefix t s)
+    (last_before ++ [] ++ 10 ∷ []) (pgn prefix t s)
 unfolding pgn
 game_is prefix before last_before t s b l =
     record {
       is =
           append_assoc (ended prefix (tag_lines t s ++ [] ∷ [])) (move_text_of prefix (game_tokens s))
-              (ended prefix ([] ∷ []))
+          (ended prefix ([] ∷ []))
           ∙ ap (λ v. ended prefix (tag_lines t s ++ [] ∷ []) ++ (move_text_of prefix (game_tokens s) ++ v))
-              (append-nil (prefix ++ [] ++ 10 ∷ []))
+          (append-nil (prefix ++ [] ++ 10 ∷ []))
           ∙ rw (b, l) refl;
     }
 
@@ -117,7 +117,7 @@ pub game_written : {A E : Type 0} (a b c : OutputState) (r : Result A E) (w x pr
     → Puts a c r (pgn prefix t s)
 game_written a b c r w x prefix before t s none is h k =
     subst (Puts a c r) (ap (λ v. v ++ pgn before t s) none ∙ ap (λ v. pgn v t s) is)
-        (finished a b c r w x (pgn before t s) h k)
+    (finished a b c r w x (pgn before t s) h k)
 
 -- ---- tokens, one list behind another
 
@@ -128,7 +128,7 @@ placed_all-append prefix column [] us = refl
 placed_all-append prefix column (t ∷ ts) us =
     ap (λ v. placed prefix column t ++ v) (placed_all-append prefix (column_behind column t) ts us)
     ∙ sym (append_assoc (placed prefix column t) (placed_all prefix (column_behind column t) ts)
-        (placed_all prefix (column_behind_all column (t ∷ ts)) us))
+    (placed_all prefix (column_behind_all column (t ∷ ts)) us))
 
 pub column_behind_all-append : (column : ℕ) (ts us : List (List ℕ))
     → column_behind_all column (ts ++ us) ≡ column_behind_all (column_behind_all column ts) us
@@ -142,17 +142,19 @@ filled_from-append prefix column [] us = refl
 filled_from-append prefix column (t ∷ ts) us =
     ap (λ v. placed prefix column t ++ v) (filled_from-append prefix (column_behind column t) ts us)
     ∙ sym (append_assoc (placed prefix column t) (placed_all prefix (column_behind column t) ts)
-        (filled_from prefix (column_behind_all column (t ∷ ts)) us))
+    (filled_from prefix (column_behind_all column (t ∷ ts)) us))
 
 -- the moves of a game, its outcome, and the end of the line
 pub moves_are : (prefix before outcome : List ℕ) (column col end : ℕ) (s : State) → column ≡ 0 → before ≡ prefix
     → col ≡ column_behind_all column (move_tokens true s.start s.moves) → outcome ≡ outcome_text (outcome_now s)
     → end ≡ column_behind col outcome
     → HasParts (placed_all prefix column (move_tokens true s.start s.moves)) (placed before col outcome)
-        (line_close end) (move_text_of prefix (game_tokens s))
+    (line_close end) (move_text_of prefix (game_tokens s))
 moves_are prefix before outcome column col end s none b is o e =
-    record { is = rw (e, o, is, b, none) (filled_from-append prefix 0 (move_tokens true s.start s.moves)
-        (outcome_text (outcome_now s) ∷ [])) }
+    record {
+      is = rw (e, o, is, b, none) (filled_from-append prefix 0 (move_tokens true s.start s.moves)
+          (outcome_text (outcome_now s) ∷ []));
+    }
 
 -- ---- the tokens of a move
 
@@ -160,7 +162,7 @@ one_placed : (prefix before text token : List ℕ) (column col : ℕ) → before
     → placed before col text ≡ placed_all prefix column (token ∷ [])
 one_placed prefix before text token column col p c t =
     ap (λ v. placed v col text) p ∙ ap (λ n. placed prefix n text) c ∙ ap (λ v. placed prefix column v) t
-        ∙ sym (append-nil (placed prefix column token))
+    ∙ sym (append-nil (placed prefix column token))
 
 -- the number could not be put
 pub number_broke : (a b : OutputState) (w prefix : List ℕ) (column : ℕ) (f : Bool) (p q : Setup) (m : Move) → q ≡ p
@@ -170,7 +172,7 @@ number_broke a b w prefix column f p q m same h =
     let number : List (List ℕ) = number_token p.side f p.fullmove in
     subst (λ text. BreaksOff a b (w ++ text)) (sym (placed_all-append prefix column number (san p m ∷ [])))
     (break_longer a b w (placed_all prefix column number)
-        (placed_all prefix (column_behind_all column number) (san p m ∷ []))
+    (placed_all prefix (column_behind_all column number) (san p m ∷ []))
     (subst (λ (s : Setup). BreaksOff a b (w ++ placed_all prefix column (number_token s.side f s.fullmove))) same h))
 
 -- the move could not be put
@@ -178,35 +180,35 @@ pub move_broke : (a b c : OutputState) (w x prefix before text : List ℕ) (colu
     (m : Move) → q ≡ p → before ≡ prefix → col ≡ column_behind_all column (number_token q.side f q.fullmove)
     → text ≡ san p m
     → TookSome a b w x (placed_all prefix column (number_token q.side f q.fullmove))
-        → BreaksOff b c (x ++ placed before col text)
-        → BreaksOff a c (w ++ placed_all prefix column (tokens_of_move f p m))
+    → BreaksOff b c (x ++ placed before col text)
+    → BreaksOff a c (w ++ placed_all prefix column (tokens_of_move f p m))
 move_broke a b c w x prefix before text column col f p q m same pre is said h k =
     let number : List (List ℕ) = number_token p.side f p.fullmove in
     let here : col ≡ column_behind_all column number =
-        is ∙ ap (λ (s : Setup). column_behind_all column (number_token s.side f s.fullmove)) same in
+    is ∙ ap (λ (s : Setup). column_behind_all column (number_token s.side f s.fullmove)) same in
     subst (λ v. BreaksOff a c (w ++ v)) (sym (placed_all-append prefix column number (san p m ∷ [])))
     (added_break a b c w x (placed_all prefix column number)
-        (placed_all prefix (column_behind_all column number) (san p m ∷ []))
+    (placed_all prefix (column_behind_all column number) (san p m ∷ []))
     (subst (λ (s : Setup). TookSome a b w x (placed_all prefix column (number_token s.side f s.fullmove))) same h)
     (subst (λ v. BreaksOff b c (x ++ v)) (one_placed prefix before text (san p m) (column_behind_all column number) col
-        pre here said) k))
+    pre here said) k))
 
 -- both were put
 pub move_put : (a b c : OutputState) (w x y prefix before text : List ℕ) (column col : ℕ) (f : Bool) (p q : Setup)
     (m : Move) → q ≡ p → before ≡ prefix → col ≡ column_behind_all column (number_token q.side f q.fullmove)
     → text ≡ san p m
     → TookSome a b w x (placed_all prefix column (number_token q.side f q.fullmove))
-        → TookSome b c x y (placed before col text) → TookSome a c w y (placed_all prefix column (tokens_of_move f p m))
+    → TookSome b c x y (placed before col text) → TookSome a c w y (placed_all prefix column (tokens_of_move f p m))
 move_put a b c w x y prefix before text column col f p q m same pre is said h k =
     let number : List (List ℕ) = number_token p.side f p.fullmove in
     let here : col ≡ column_behind_all column number =
-        is ∙ ap (λ (s : Setup). column_behind_all column (number_token s.side f s.fullmove)) same in
+    is ∙ ap (λ (s : Setup). column_behind_all column (number_token s.side f s.fullmove)) same in
     subst (TookSome a c w y) (sym (placed_all-append prefix column number (san p m ∷ [])))
     (added_more a b c w x y (placed_all prefix column number)
-        (placed_all prefix (column_behind_all column number) (san p m ∷ []))
+    (placed_all prefix (column_behind_all column number) (san p m ∷ []))
     (subst (λ (s : Setup). TookSome a b w x (placed_all prefix column (number_token s.side f s.fullmove))) same h)
     (subst (TookSome b c x y) (one_placed prefix before text (san p m) (column_behind_all column number) col pre here
-        said) k))
+    said) k))
 
 -- ---- the tokens of moves, one move behind another
 
@@ -235,7 +237,7 @@ more_behind p (x ∷ ms) zero m e = let same : x ≡ m =
 more_behind p (x ∷ ms) (suc i) m e =
     ap (λ v. tokens_of_move false p x ++ v) (more_behind (after p x) ms i m e)
     ∙ sym (append_assoc (tokens_of_move false p x) (move_tokens false (after p x) (take i ms))
-        (tokens_of_move false (last (after p x) (take i ms)) m))
+    (tokens_of_move false (last (after p x) (take i ms)) m))
 
 moves_more : (p : Setup) (ms : List Move) (i : ℕ) (m : Move) → slice_get ms i ≡ Some m
     → move_tokens true p (take (suc i) ms) ≡ move_tokens true p (take i ms)
@@ -249,7 +251,7 @@ moves_more p (x ∷ ms) (suc i) m e =
     rw later (
     ap (λ v. tokens_of_move true p x ++ v) (more_behind (after p x) ms i m e)
     ∙ sym (append_assoc (tokens_of_move true p x) (move_tokens false (after p x) (take i ms))
-        (tokens_of_move false (last (after p x) (take i ms)) m)))
+    (tokens_of_move false (last (after p x) (take i ms)) m)))
 
 -- where the moves go on behind some of them
 moves_split : (f : Bool) (p : Setup) (ms : List Move) (n : ℕ)
@@ -260,10 +262,14 @@ moves_split f p (x ∷ ms) (suc n) = by_rest (moves_split false (after p x) ms n
   where
     by_rest : (rest : List (List ℕ)) × (move_tokens false (after p x) ms ≡ move_tokens false (after p x) (take n ms)
         ++ rest) → (rest : List (List ℕ)) × (move_tokens f p (x ∷ ms) ≡ move_tokens f p (take (suc n) (x ∷ ms)) ++ rest)
-    by_rest (rest, is) = (rest, ap (λ v. tokens_of_move f p x ++ v) is
-        ∙ sym (append_assoc (tokens_of_move f p x) (move_tokens false (after p x) (take n ms)) rest))
+    by_rest (rest, is) = (
+      rest,
+      ap (λ v. tokens_of_move f p x ++ v) is
+          ∙ sym (append_assoc (tokens_of_move f p x) (move_tokens false (after p x) (take n ms)) rest),
+    )
 
--- how a move stands behind those before it: of the game's moves the one with that number, in the position that they give
+-- how a move stands behind those before it: of the game's moves the one with that number, in the position that they
+-- give
 pub record IsNext (prefix : List ℕ) (column : ℕ) (p : Setup) (ms : List Move) (i : ℕ) (before : List ℕ) (col : ℕ)
     (f : Bool) (q : Setup) (m : Move) : Type 0 where
   pub prefix_is : before ≡ prefix
@@ -275,7 +281,7 @@ pub record IsNext (prefix : List ℕ) (column : ℕ) (p : Setup) (ms : List Move
 next_text : (prefix before : List ℕ) (column col : ℕ) (p q : Setup) (ms : List Move) (i : ℕ) (f : Bool) (m : Move)
     → IsNext prefix column p ms i before col f q m
     → placed_all prefix column (move_tokens true p (take (suc i) ms))
-        ≡ placed_all prefix column (move_tokens true p (take i ms)) ++ placed_all before col (tokens_of_move f q m)
+    ≡ placed_all prefix column (move_tokens true p (take i ms)) ++ placed_all before col (tokens_of_move f q m)
 next_text prefix before column col p q ms i f m n =
     let so_far : List (List ℕ) = move_tokens true p (take i ms) in
     let next : List (List ℕ) = tokens_of_move (eqb i 0) (last p (take i ms)) m in
@@ -287,19 +293,19 @@ next_text prefix before column col p q ms i f m n =
 pub moves_put : (a b c : OutputState) (w x y prefix before : List ℕ) (column col : ℕ) (p q : Setup) (ms : List Move)
     (i : ℕ) (f : Bool) (m : Move) → IsNext prefix column p ms i before col f q m
     → TookSome a b w x (placed_all prefix column (move_tokens true p (take i ms)))
-        → TookSome b c x y (placed_all before col (tokens_of_move f q m))
-        → TookSome a c w y (placed_all prefix column (move_tokens true p (take (i + 1) ms)))
+    → TookSome b c x y (placed_all before col (tokens_of_move f q m))
+    → TookSome a c w y (placed_all prefix column (move_tokens true p (take (i + 1) ms)))
 moves_put a b c w x y prefix before column col p q ms i f m n h k =
     rw (add-one i, next_text prefix before column col p q ms i f m n)
-        (added_more a b c w x y (placed_all prefix column (move_tokens true p (take i ms)))
-            (placed_all before col (tokens_of_move f q m)) h k)
+    (added_more a b c w x y (placed_all prefix column (move_tokens true p (take i ms)))
+    (placed_all before col (tokens_of_move f q m)) h k)
 
 -- one could not be put
 pub moves_broke : (a b c : OutputState) (w x prefix before : List ℕ) (column col : ℕ) (p q : Setup) (ms : List Move)
     (i : ℕ) (f : Bool) (m : Move) → IsNext prefix column p ms i before col f q m
     → TookSome a b w x (placed_all prefix column (move_tokens true p (take i ms)))
-        → BreaksOff b c (x ++ placed_all before col (tokens_of_move f q m))
-        → BreaksOff a c (w ++ placed_all prefix column (move_tokens true p ms))
+    → BreaksOff b c (x ++ placed_all before col (tokens_of_move f q m))
+    → BreaksOff a c (w ++ placed_all prefix column (move_tokens true p ms))
 moves_broke a b c w x prefix before column col p q ms i f m n h k = by_rest (moves_split true p ms (suc i))
   where
     by_rest : (rest : List (List ℕ)) × (move_tokens true p ms ≡ move_tokens true p (take (suc i) ms) ++ rest)
@@ -308,28 +314,28 @@ moves_broke a b c w x prefix before column col p q ms i f m n h k = by_rest (mov
         let so_far : List ℕ = placed_all prefix column (move_tokens true p (take i ms)) in
         let text : List ℕ = placed_all prefix column (move_tokens true p (take (suc i) ms)) in
         let behind : List ℕ = placed_all prefix (column_behind_all column (move_tokens true p (take (suc i) ms)))
-            rest in
+        rest in
         let whole : placed_all prefix column (move_tokens true p ms) ≡ text ++ behind =
-            ap (placed_all prefix column) is ∙ placed_all-append prefix column (move_tokens true p (take (suc i) ms))
-                rest in
+        ap (placed_all prefix column) is ∙ placed_all-append prefix column (move_tokens true p (take (suc i) ms))
+        rest in
         subst (λ v. BreaksOff a c (w ++ v)) (sym whole)
         (break_longer a c w text behind
         (subst (λ v. BreaksOff a c (w ++ v)) (sym (next_text prefix before column col p q ms i f m n))
-            (added_break a b c w x so_far (placed_all before col (tokens_of_move f q m)) h k)))
+        (added_break a b c w x so_far (placed_all before col (tokens_of_move f q m)) h k)))
 
 pub columns_more : (prefix before : List ℕ) (column col new : ℕ) (p q : Setup) (ms : List Move) (i : ℕ) (f : Bool)
     (m : Move) → IsNext prefix column p ms i before col f q m
     → new ≡ column_behind_all col (tokens_of_move f q m)
-        → new ≡ column_behind_all column (move_tokens true p (take (i + 1) ms))
+    → new ≡ column_behind_all column (move_tokens true p (take (i + 1) ms))
 columns_more prefix before column col new p q ms i f m n is =
     let so_far : List (List ℕ) = move_tokens true p (take i ms) in
     let next : List (List ℕ) = tokens_of_move (eqb i 0) (last p (take i ms)) m in
     let here : column_behind_all col (tokens_of_move f q m) ≡ column_behind_all (column_behind_all column so_far) next =
-        rw (n.column_is, n.first, n.position) refl in
+    rw (n.column_is, n.first, n.position) refl in
     let whole : column_behind_all column (move_tokens true p (take (i + 1) ms))
-        ≡ column_behind_all (column_behind_all column so_far) next =
+    ≡ column_behind_all (column_behind_all column so_far) next =
     ap (λ k. column_behind_all column (move_tokens true p (take k ms))) (add-one i)
-        ∙ ap (column_behind_all column) (moves_more p ms i m n.move) ∙ column_behind_all-append column so_far next in
+    ∙ ap (column_behind_all column) (moves_more p ms i m n.move) ∙ column_behind_all-append column so_far next in
     is ∙ here ∙ sym whole
 
 pub positions_more : (p q new : Setup) (ms : List Move) (i : ℕ) (m : Move) → q ≡ last p (take i ms)

@@ -46,9 +46,9 @@ module _ (k : ℕ) where
         → unless_full limit g here s ≡ moved_step (unless_full limit g place t)
     unless_moved here place s t e f =
         either (is_some (verdict_now g.state)) _ _ (fails g AfterEnd place)
-            (cond (nat_lt (length g.state.moves) limit) t (fails g TooLong place)) (fails_moved AfterEnd here place e)
+        (cond (nat_lt (length g.state.moves) limit) t (fails g TooLong place)) (fails_moved AfterEnd here place e)
         (either (nat_lt (length g.state.moves) limit) _ _ t (fails g TooLong place) f
-            (fails_moved TooLong here place e))
+        (fails_moved TooLong here place e))
 
     move_moved : (here place : ℕ) (r : Reading) → here ≡ k + place
         → move_step limit g here r ≡ moved_step (move_step limit g place r)
@@ -74,14 +74,14 @@ module _ (k : ℕ) where
         → tag_step g name text here ≡ moved_step (tag_step g name text place)
     tag_moved name text here place e = either (bytes_eq name (codes "FEN")) _ _
         (fen_step g place (fen_reading_as g.state.start.variant text)) _
-            (fen_moved here place (fen_reading_as g.state.start.variant text) e) refl
+        (fen_moved here place (fen_reading_as g.state.start.variant text) e) refl
 
     step_moved : (total left : ℕ) (t : Token) → left ≤ total → IsWithin left t
         → step limit (k + total) g left t ≡ moved_step (step limit total g left t)
     step_moved total left Skip h w = refl
     step_moved total left (Tag name text string) h w =
         either g.is_begun _ _ (fails g NoResult (total - left)) (tag_step g name text (total - string))
-            (fails_moved NoResult (k + total - left) (total - left) (omega (arith, h)))
+        (fails_moved NoResult (k + total - left) (total - left) (omega (arith, h)))
         (tag_moved name text (k + total - string) (total - string) (omega (arith, h, w)))
     step_moved total left (Word word) h w = word_moved (k + total - left) (total - left) word (kind_of word)
         (omega (arith, h))
@@ -98,11 +98,16 @@ module _ (k : ℕ) where
   ended_moved : (total : ℕ) (g : SoFar) → at_text_end (k + total) g ≡ moved k (at_text_end total g)
   ended_moved total g = by_test g.is_met
     where
-      by_test : (b : Bool) → record { state = g.state; answer = cond b
-          (Err (record { kind = NoResult; place = k + total })) (Ok None) }
-              ≡ moved k
-                  (record { state = g.state; answer = cond b (Err (record { kind = NoResult; place = total })) (Ok None)
-                      })
+      by_test : (b : Bool) → record {
+        state = g.state;
+        answer = cond b
+            (Err (record { kind = NoResult; place = k + total })) (Ok None);
+      }
+          ≡ moved k
+          (record {
+            state = g.state;
+            answer = cond b (Err (record { kind = NoResult; place = total })) (Ok None);
+          })
       by_test true = refl
       by_test false = refl
 
@@ -121,10 +126,10 @@ module _ (k : ℕ) where
       let fewer = shorter begins c rest in
       let few : length t.1 ≤ total = omega (arith, h, fewer) in
       ap (λ s. go_on s (λ u. game_of limit (k + total) u (tokens_of n (eqb c 10) t.1)))
-          (step_moved limit g total (suc (length rest)) t.0 h (within begins c rest))
+      (step_moved limit g total (suc (length rest)) t.0 h (within begins c rest))
       ∙ gone_on (step limit total g (suc (length rest)) t.0) (λ u. game_of limit total u (tokens_of n (eqb c 10) t.1))
-          (λ u. game_of limit (k + total) u (tokens_of n (eqb c 10) t.1))
-              (λ u. game_moved limit total n (eqb c 10) u t.1 few)
+      (λ u. game_of limit (k + total) u (tokens_of n (eqb c 10) t.1))
+      (λ u. game_moved limit total n (eqb c 10) u t.1 few)
 
 -- ---- the text
 
@@ -140,7 +145,7 @@ line_is before text at h =
     let there : length before + at - 1 - length before ≡ at - 1 = omega (arith, h) in
     ap (λ b. b || eqb (get_or (before ++ text) (length before + at - 1) 0) 10) more
     ∙ ap (λ x. eqb x 10) (get_or-append_right before text (length before) (length before + at - 1) 0 refl
-        (omega (arith, h)) ∙ ap (λ i. get_or text i 0) there)
+    (omega (arith, h)) ∙ ap (λ i. get_or text i 0) there)
     ∙ sym (ap (λ b. b || eqb (get_or text (at - 1) 0) 10) some)
 
 pub tokens_are : (before text : List ℕ) (at : ℕ) → 0 < at
@@ -152,18 +157,18 @@ tokens_are before text at h =
     let few : length (drop at text) ≤ length text = omega (arith, rest) in
     let fewer : length (drop at text) ≤ length (before ++ text) = omega (arith, sum, rest) in
     ap (λ b. tokens_of (length (before ++ text)) b (drop (length before + at) (before ++ text)))
-        (line_is before text at h)
+    (line_is before text at h)
     ∙ ap (tokens_of (length (before ++ text)) (begins_line text at)) (drop-append-add before text at)
     ∙ enough (length (before ++ text)) (length text) (begins_line text at) (drop at text) fewer few
 
 all_moved : (limit : ℕ) (before text : List ℕ) (at : ℕ)
     → tokens_read limit (length before + length text) (tokens_from text at)
-        ≡ moved (length before) (tokens_read limit (length text) (tokens_from text at))
+    ≡ moved (length before) (tokens_read limit (length text) (tokens_from text at))
 unfolding tokens_from
 all_moved limit before text at =
     let rest = length-drop at text in
     game_moved (length before) limit (length text) (length text) (begins_line text at)
-        (nothing_read (variant_told Normal (tokens_from text at))) (drop at text) (omega (arith, rest))
+    (nothing_read (variant_told Normal (tokens_from text at))) (drop at text) (omega (arith, rest))
 
 pub read_moved : ReadingIsMoved
 unfolding pgn_read
@@ -171,7 +176,7 @@ read_moved limit before text at h inside =
     let tokens : List (ℕ × Token) = tokens_from text at in
     let some : 0 < length before + at = omega (arith, h) in
     ap (λ p. tokens_read limit (length (before ++ text)) (tokens_from (before ++ text) p))
-        (place_is (before ++ text) (length before + at) some)
+    (place_is (before ++ text) (length before + at) some)
     ∙ ap (tokens_read limit (length (before ++ text))) (tokens_are before text at h)
     ∙ ap (λ n. tokens_read limit n tokens) (length-append before text)
     ∙ all_moved limit before text at

@@ -93,8 +93,12 @@ module _ (limit total : ℕ) (g : SoFar) (normal : g.state.start.variant ≡ Nor
   same_tag : (name text : List ℕ) (place : ℕ) → tag_step g name text place ≡ normal_tag_step g name text place
   same_tag name text place =
       ap (λ v. cond (bytes_eq name (codes "FEN")) (fen_step g place (fen_reading_as v text))
-          (On (record { state = g.state; is_met = true; is_begun = g.is_begun;
-              termination = told_behind g.termination name text }))) normal
+      (On (record {
+        state = g.state;
+        is_met = true;
+        is_begun = g.is_begun;
+        termination = told_behind g.termination name text;
+      }))) normal
 
   same_step : (left : ℕ) (t : Token) → step limit total g left t ≡ normal_step limit total g left t
   same_step left Skip = refl
@@ -112,7 +116,7 @@ same_game limit total g [] normal = refl
 same_game limit total g (t ∷ ts) normal =
     ap (λ s. go_on s (λ h. game_of limit total h ts)) (same_step limit total g normal t.0 t.1)
     ∙ by_step ts (λ h n. same_game limit total h ts n) (normal_step limit total g t.0 t.1)
-        (keeps limit total g normal t.0 t.1)
+    (keeps limit total g normal t.0 t.1)
   where
     by_step : (ts : List (ℕ × Token)) → ((h : SoFar) → h.state.start.variant ≡ Normal
         → game_of limit total h ts ≡ normal_game_of limit total h ts) → (s : Step) → IsNormal s
@@ -132,7 +136,7 @@ read_so limit text at none =
     ap (λ v. game_of limit (length text) (nothing_read v) tokens) (normal_told tokens none)
     ∙ same_game limit (length text) (nothing_read Normal) tokens (initial_variant Normal)
     ∙ ap (λ p. normal_game_of limit (length text)
-        (record { state = from_start p; is_met = false; is_begun = false; termination = None }) tokens) initial_is
+    (record { state = from_start p; is_met = false; is_begun = false; termination = None }) tokens) initial_is
 
 pub normal_kept : NormalIsKept
 normal_kept = record { written = λ start t is. ap (λ v. start_lines_in v start ++ last_lines v t) is; read = read_so }

@@ -51,8 +51,10 @@ moved g m = record { state = played g.state m; is_met = true; is_begun = true; t
 
 -- ended by an outcome's word
 abbrev pub ended_game : Option Termination → State → Outcome → ℕ → GameRead
-ended_game t s o place = record { state = with_declared s (declared_behind (is_some (verdict_now s)) o);
-    answer = Ok (Some (record { outcome = o; termination = t; place = place })) }
+ended_game t s o place = record {
+  state = with_declared s (declared_behind (is_some (verdict_now s)) o);
+  answer = Ok (Some (record { outcome = o; termination = t; place = place }));
+}
 
 -- ---- the termination that a tag tells
 
@@ -92,7 +94,7 @@ module _ (limit total : ℕ) where
   unfolding tokens_of behind_step
   token_on g h begins c rest token behind is next =
       let few : length behind ≤ length rest =
-          subst (λ (t : Token × List ℕ). length t.1 ≤ length rest) is (shorter begins c rest) in
+      subst (λ (t : Token × List ℕ). length t.1 ≤ length rest) is (shorter begins c rest) in
       ap (λ (t : Token × List ℕ). behind_step g c t (suc (length rest)) (length rest)) is
       ∙ ap (λ s. go_on s (λ k. game_of limit total k (tokens_of (length rest) (eqb c 10) behind))) next
       ∙ ap (game_of limit total h) (enough (length rest) (length behind) (eqb c 10) behind few (omega arith))
@@ -139,7 +141,7 @@ module _ (limit total : ℕ) where
   word_takes g h (c ∷ cs) some all next = λ begins d rest ends.
       let here = (and_parts (is_word_byte c) (list_all is_word_byte cs) all).0 in
       token_on g h begins c (cs ++ d ∷ rest) (Word (c ∷ cs)) (d ∷ rest) (word_token begins c cs d rest all ends)
-          (next (total - suc (length (cs ++ d ∷ rest))))
+      (next (total - suc (length (cs ++ d ∷ rest))))
       ∙ ap (λ b. read_on limit total h b (d ∷ rest)) (not_byte is_word_byte 10 c refl here)
 
   -- a number, and the dots behind it
@@ -147,7 +149,7 @@ module _ (limit total : ℕ) where
   number_takes g n h =
       let digits = decimal_digits n h in
       word_takes g (begun g) (decimal n) (decimal_some n h) (number_bytes (decimal n) digits)
-          (λ place. ap (word_step limit g place (decimal n)) (number_kind (decimal n) digits))
+      (λ place. ap (word_step limit g place (decimal n)) (number_kind (decimal n) digits))
 
   pub white_number : (g : SoFar) (n : ℕ) → n ≤ 999999 → Takes g (begun g) (decimal n ++ codes ".")
   white_number g n h = λ begins d rest ends.
@@ -177,25 +179,25 @@ module _ (limit total : ℕ) where
       → verdict_now g.state ≡ None → length g.state.moves < limit → Takes g (moved g m) (san p m)
   san_takes g p m sound legal at none few =
       word_takes g (moved g m) (san p m) (omega (arith, (san_short p m sound legal).0))
-          (san_bytes_in_word (san p m) (san_bytes p m sound legal))
-              (λ place. ap (word_step limit g place (san p m)) (move_kind (san p m) (san_letter p m sound legal))
-                  ∙ san_step g place p m sound legal at none few)
+      (san_bytes_in_word (san p m) (san_bytes p m sound legal))
+      (λ place. ap (word_step limit g place (san p m)) (move_kind (san p m) (san_letter p m sound legal))
+      ∙ san_step g place p m sound legal at none few)
 
   -- ---- the termination
 
   pub outcome_ends : (g : SoFar) (o : Outcome) (begins : Bool) (d : ℕ) (rest : List ℕ) → is_word_byte d ≡ false
       → read_on limit total g begins (outcome_text o ++ d ∷ rest)
-          ≡ ended_game g.termination g.state o (total - length (outcome_text o ++ d ∷ rest) + length (outcome_text o))
+      ≡ ended_game g.termination g.state o (total - length (outcome_text o ++ d ∷ rest) + length (outcome_text o))
   unfolding token_at
   outcome_ends g WhiteWins begins d rest off =
       token_ends g begins 49 (45 ∷ 48 ∷ d ∷ rest) (Word (codes "1-0")) (d ∷ rest) _
-          (word_token begins 49 (45 ∷ 48 ∷ []) d rest refl off) refl
+      (word_token begins 49 (45 ∷ 48 ∷ []) d rest refl off) refl
   outcome_ends g BlackWins begins d rest off =
       token_ends g begins 48 (45 ∷ 49 ∷ d ∷ rest) (Word (codes "0-1")) (d ∷ rest) _
-          (word_token begins 48 (45 ∷ 49 ∷ []) d rest refl off) refl
+      (word_token begins 48 (45 ∷ 49 ∷ []) d rest refl off) refl
   outcome_ends g Draw begins d rest off = token_ends g begins 49 (47 ∷ 50 ∷ 45 ∷ 49 ∷ 47 ∷ 50 ∷ d ∷ rest)
       (Word (codes "1/2-1/2")) (d ∷ rest) _ (word_token begins 49 (47 ∷ 50 ∷ 45 ∷ 49 ∷ 47 ∷ 50 ∷ []) d rest refl off)
-          refl
+      refl
   outcome_ends g Unfinished true d rest off = token_ends g true 42 (d ∷ rest) (Word (codes "*")) (d ∷ rest) _ refl refl
   outcome_ends g Unfinished false d rest off =
       token_ends g false 42 (d ∷ rest) (Word (codes "*")) (d ∷ rest) _ refl refl
@@ -217,8 +219,8 @@ module _ (limit total : ℕ) where
       let string : List ℕ = escaped text ++ 34 ∷ 93 ∷ 10 ∷ rest in
       ap (read_on limit total g begins) (tag_line_bytes name text (10 ∷ rest))
       ∙ token_on g h begins 91 (name ++ 32 ∷ 34 ∷ string) (Tag name (escaped text) (length string)) (10 ∷ rest)
-          (tag_token begins name text (10 ∷ rest) named line)
-              (next (suc (length (name ++ 32 ∷ 34 ∷ string))) (length string))
+      (tag_token begins name text (10 ∷ rest) named line)
+      (next (suc (length (name ++ 32 ∷ 34 ∷ string))) (length string))
       ∙ skip_line_end h false rest
 
   pub plain_tag : (met : Bool) (t : Option Termination) (s : State) (name text : List ℕ) → is_tag_name name ≡ true
@@ -232,17 +234,17 @@ module _ (limit total : ℕ) where
   termination_tag t s u =
       let bare = termination_bare u in
       tag_takes (tagged true t s) (tagged true (Some u) s) (codes "Termination") (termination_text u) refl
-          (bare_in_line (termination_text u) bare) (λ left string.
+      (bare_in_line (termination_text u) bare) (λ left string.
       ap (λ o. On (tagged true o s)) (ap termination_named (bare_escaped (termination_text u) bare)
-          ∙ termination_back u))
+      ∙ termination_back u))
 
   pub fen_tag : WrittenIsReadBack → (t : Option Termination) (s : State) (p : Setup) → IsSound p
       → s.start.variant ≡ p.variant → TakesLine (tagged true t s) (tagged true t (from_start p))
-          (tag_line (codes "FEN") (fen p))
+      (tag_line (codes "FEN") (fen p))
   fen_tag law t s p sound same =
       let bare = fen_bare p sound in
       tag_takes (tagged true t s) (tagged true t (from_start p)) (codes "FEN") (fen p) refl (bare_in_line (fen p) bare)
-          (λ left string.
+      (λ left string.
       ap (λ text. fen_step (tagged true t s) (total - string) (fen_reading_as s.start.variant text))
-          (bare_escaped (fen p) bare)
+      (bare_escaped (fen p) bare)
       ∙ ap (fen_step (tagged true t s) (total - string)) (ap (λ v. fen_reading_as v (fen p)) same ∙ law p sound))

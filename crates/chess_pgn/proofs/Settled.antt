@@ -178,7 +178,7 @@ module _ (more : List ℕ) where
       both StringKept (eqb c 34) _ _ _ _ (λ _. refl) (λ _.
       both StringKept (eqb c 10) _ _ _ _ (λ _. tt) (λ _.
       both StringKept (eqb c 92) _ _ _ _ (λ _. both StringKept (eqb d 10) _ _ _ _ (λ _. tt)
-          (λ _. onto_kept (c ∷ d ∷ []) (string_at rest) _ (string_kept rest))) (λ _.
+      (λ _. onto_kept (c ∷ d ∷ []) (string_at rest) _ (string_kept rest))) (λ _.
       onto_kept (c ∷ []) (string_at (d ∷ rest)) _ (string_kept (d ∷ rest)))))
 
   -- one that meets the end of its line is never closed
@@ -212,9 +212,9 @@ module _ (more : List ℕ) where
       both (Never (has_ten (c ∷ d ∷ rest))) (eqb c 92) _ _ _ _ (λ _.
       both (Never (has_ten (c ∷ d ∷ rest))) (eqb d 10) _ _ _ _ (λ _. λ e t. refl) (λ g.
       λ e t. onto_never (c ∷ d ∷ []) (has_ten rest) (string_at rest) _ (string_never rest) e
-          (the_second (eqb d 10) _ (the_second (eqb c 10) _ t f) g))) (λ _.
+      (the_second (eqb d 10) _ (the_second (eqb c 10) _ t f) g))) (λ _.
       λ e t. onto_never (c ∷ []) (has_ten (d ∷ rest)) (string_at (d ∷ rest)) _ (string_never (d ∷ rest)) e
-          (the_second (eqb c 10) _ t f))))
+      (the_second (eqb c 10) _ t f))))
 
   -- ---- tags, behind the bracket of a text that begins with c
 
@@ -240,7 +240,7 @@ module _ (more : List ℕ) where
 
     closed_kept : (name text : List ℕ) (left : ℕ) (g : List ℕ)
         → K (is_gap g) (closed name left text (behind_next 93 g))
-            (closed name (left + length more) text (behind_next 93 (g ++ more)))
+        (closed name (left + length more) text (behind_next 93 (g ++ more)))
     closed_kept name text left g = by_gap (behind_gap false false g) (behind_gap false false (g ++ more))
         (gap_kept false false g)
       where
@@ -250,13 +250,13 @@ module _ (more : List ℕ) where
         by_gap (x ∷ xs) q (inl e) = absurd (cc)
         by_gap (x ∷ xs) q (inr e) =
             subst (λ (r : List ℕ). K false (closed name left text (behind_byte 93 (x ∷ xs)))
-                (closed name (left + length more) text (behind_byte 93 r))) (sym e)
+            (closed name (left + length more) text (behind_byte 93 r))) (sym e)
             (both (λ o u. K false (closed name left text o) (closed name (left + length more) text u)) (eqb x 93)
-                (Some xs) None (Some (xs ++ more)) None (λ _. same refl) (λ _. no_tag refl refl))
+            (Some xs) None (Some (xs ++ more)) None (λ _. same refl) (λ _. no_tag refl refl))
 
     text_kept : (name s : List ℕ) (left : ℕ)
         → K (is_open_string s) (with_text name left (string_at s))
-            (with_text name (left + length more) (string_at (s ++ more)))
+        (with_text name (left + length more) (string_at (s ++ more)))
     text_kept name s left = by_string (string_at s) refl (string_at (s ++ more)) refl (string_kept s)
       where
         never : (o u : Option (List ℕ × List ℕ)) → o ≡ None → string_at s ≡ o → string_at (s ++ more) ≡ u → (b : Bool)
@@ -271,7 +271,7 @@ module _ (more : List ℕ) where
         by_string None is u will h = never None u refl is will (has_ten s) refl
         by_string (Some f) is u will h =
             subst (λ (o : Option (List ℕ × List ℕ)). K (is_gap f.1) (with_text name left (Some f))
-                (with_text name (left + length more) o)) (sym h)
+            (with_text name (left + length more) o)) (sym h)
             (closed_kept name f.0 left f.1)
 
     string_tag_kept : (name rest : List ℕ) → K (could_go_on 34 is_open_string rest)
@@ -290,9 +290,9 @@ module _ (more : List ℕ) where
         by_gap (x ∷ xs) q (inl e) = absurd (cc)
         by_gap (x ∷ xs) q (inr e) =
             subst (λ (r : List ℕ). K (if_behind is_open_string (behind_byte 34 (x ∷ xs)))
-                (with_string name (behind_byte 34 (x ∷ xs))) (with_string name (behind_byte 34 r))) (sym e)
+            (with_string name (behind_byte 34 (x ∷ xs))) (with_string name (behind_byte 34 r))) (sym e)
             (both (λ o u. K (if_behind is_open_string o) (with_string name o) (with_string name u)) (eqb x 34) (Some xs)
-                None (Some (xs ++ more)) None (λ _. begun xs) (λ _. no_tag refl refl))
+            None (Some (xs ++ more)) None (λ _. begun xs) (λ _. no_tag refl refl))
 
     name_kept : (name rest : List ℕ) → K (is_open_name name rest) (with_name name rest) (with_name name (rest ++ more))
     name_kept [] rest = no_tag refl refl
@@ -318,22 +318,22 @@ module _ (more : List ℕ) where
             let name = take_whole is_name_byte (x ∷ xs) all in
             let rest = drop_whole is_name_byte (x ∷ xs) all in
             let bad : named (x ∷ xs) ≡ (Bad_tag, []) =
-                ap (λ (n : List ℕ). with_name n (drop (prefix_len is_name_byte (x ∷ xs)) (x ∷ xs))) name
-                ∙ ap (with_name (x ∷ xs)) rest in
+            ap (λ (n : List ℕ). with_name n (drop (prefix_len is_name_byte (x ∷ xs)) (x ∷ xs))) name
+            ∙ ap (with_name (x ∷ xs)) rest in
             let unclosed : is_open_inner (x ∷ xs) ≡ true =
-                ap (λ (n : List ℕ). is_open_name n (drop (prefix_len is_name_byte (x ∷ xs)) (x ∷ xs))) name
-                ∙ ap (is_open_name (x ∷ xs)) rest in
+            ap (λ (n : List ℕ). is_open_name n (drop (prefix_len is_name_byte (x ∷ xs)) (x ∷ xs))) name
+            ∙ ap (is_open_name (x ∷ xs)) rest in
             maybe_tag bad (name_bracket (take_while is_name_byte (x ∷ xs ++ more))
-                (drop (prefix_len is_name_byte (x ∷ xs ++ more)) (x ∷ xs ++ more))) unclosed
+            (drop (prefix_len is_name_byte (x ∷ xs ++ more)) (x ∷ xs ++ more))) unclosed
         by_run (inr k) =
             let text : List ℕ = x ∷ xs in
             let is : named (text ++ more) ≡ with_name (take_while is_name_byte text)
-                (drop (prefix_len is_name_byte text) text ++ more) =
+            (drop (prefix_len is_name_byte text) text ++ more) =
             ap (λ (n : List ℕ). with_name n (drop (prefix_len is_name_byte (text ++ more)) (text ++ more)))
-                (take_stops is_name_byte text more k)
+            (take_stops is_name_byte text more k)
             ∙ ap (with_name (take_while is_name_byte text)) (drop_stops is_name_byte text more k) in
             subst (K (is_open_inner text) (named text)) (sym is)
-                (name_kept (take_while is_name_byte text) (drop (prefix_len is_name_byte text) text))
+            (name_kept (take_while is_name_byte text) (drop (prefix_len is_name_byte text) text))
 
     tag_kept : (text : List ℕ) → K (is_open_tag text) (tag_at text) (tag_at (text ++ more))
     tag_kept text = inner_kept (behind_gap false false text) (behind_gap false false (text ++ more))
@@ -349,24 +349,24 @@ module _ (more : List ℕ) where
     module _ (unclosed : Bool) where
       variation_kept : (inside : Inside) (left : ℕ) (begins : Bool) (depth : ℕ) (text : List ℕ)
           → K unclosed (variation_at inside begins (suc depth) text)
-              (variation_at (other left inside) begins (suc depth) (text ++ more))
+          (variation_at (other left inside) begins (suc depth) (text ++ more))
       variation_kept Plain left begins depth [] = open_variation refl
       variation_kept (Brace n) left begins depth [] = open_comment n refl
       variation_kept Line left begins depth [] = open_variation refl
       variation_kept Line left begins depth (c ∷ rest) =
           both (K unclosed) (eqb c 10) _ _ _ _ (λ _. variation_kept Plain left true depth rest)
-              (λ _. variation_kept Line left false depth rest)
+          (λ _. variation_kept Line left false depth rest)
       variation_kept (Brace n) left begins depth (c ∷ rest) =
           both (K unclosed) (eqb c 125) _ _ _ _ (λ _. variation_kept Plain left false depth rest)
-              (λ _. variation_kept (Brace n) left false depth rest)
+          (λ _. variation_kept (Brace n) left false depth rest)
       variation_kept Plain left begins depth (c ∷ rest) =
           both (K unclosed) (begins && eqb c 37) _ _ _ _ (λ _. variation_kept Line left false depth rest) (λ _.
           both (K unclosed) (eqb c 123) _ _ _ _ (λ _. variation_kept (Brace (suc (length rest)))
-              (suc (length (rest ++ more))) false depth rest) (λ _.
+          (suc (length (rest ++ more))) false depth rest) (λ _.
           both (K unclosed) (eqb c 59) _ _ _ _ (λ _. variation_kept Line left false depth rest) (λ _.
           both (K unclosed) (eqb c 40) _ _ _ _ (λ _. variation_kept Plain left false (suc depth) rest) (λ _.
           both (K unclosed) (eqb c 41) _ _ _ _ (λ _. closing_kept depth (λ d. variation_kept Plain left false d rest))
-              (λ _.
+          (λ _.
           variation_kept Plain left (eqb c 10) depth rest)))))
         where
           closing_kept : (n : ℕ) → ((d : ℕ) → K unclosed (variation_at Plain false (suc d) rest)
@@ -383,7 +383,7 @@ module _ (more : List ℕ) where
         where
           by_run : (prefix_len p text ≡ length text) ⊎ Stops p text more
               → K unclosed (Skip, drop (prefix_len p text) text)
-                  (Skip, drop (prefix_len p (text ++ more)) (text ++ more))
+              (Skip, drop (prefix_len p (text ++ more)) (text ++ more))
           by_run (inl all) = skipped (ap (λ (r : List ℕ). (Skip, r)) (drop_whole p text all))
           by_run (inr k) = same (ap (λ (r : List ℕ). (Skip, r)) (drop_stops p text more k))
 
@@ -395,27 +395,33 @@ module _ (more : List ℕ) where
   -- ---- words
 
   word_kept : (c : ℕ) (rest : List ℕ) (unclosed : Bool)
-      → Kept more c rest unclosed (Word (take_while is_word_byte (c ∷ rest)),
-          drop (prefix_len is_word_byte (c ∷ rest)) (c ∷ rest))
-      (Word (take_while is_word_byte (c ∷ rest ++ more)),
-          drop (prefix_len is_word_byte (c ∷ rest ++ more)) (c ∷ rest ++ more))
+      → Kept more c rest unclosed (
+        Word (take_while is_word_byte (c ∷ rest)),
+        drop (prefix_len is_word_byte (c ∷ rest)) (c ∷ rest),
+      ) (
+        Word (take_while is_word_byte (c ∷ rest ++ more)),
+        drop (prefix_len is_word_byte (c ∷ rest ++ more)) (c ∷ rest ++ more),
+      )
   word_kept c rest unclosed = by_run (run_stops is_word_byte (c ∷ rest) more)
     where
       by_run : (prefix_len is_word_byte (c ∷ rest) ≡ length (c ∷ rest)) ⊎ Stops is_word_byte (c ∷ rest) more
-          → Kept more c rest unclosed (Word (take_while is_word_byte (c ∷ rest)),
-              drop (prefix_len is_word_byte (c ∷ rest)) (c ∷ rest))
-          (Word (take_while is_word_byte (c ∷ rest ++ more)),
-              drop (prefix_len is_word_byte (c ∷ rest ++ more)) (c ∷ rest ++ more))
+          → Kept more c rest unclosed (
+            Word (take_while is_word_byte (c ∷ rest)),
+            drop (prefix_len is_word_byte (c ∷ rest)) (c ∷ rest),
+          ) (
+            Word (take_while is_word_byte (c ∷ rest ++ more)),
+            drop (prefix_len is_word_byte (c ∷ rest ++ more)) (c ∷ rest ++ more),
+          )
       by_run (inl all) =
           whole (take_while is_word_byte (c ∷ rest))
-              (ap (λ (r : List ℕ). (Word (take_while is_word_byte (c ∷ rest)), r))
-                  (drop_whole is_word_byte (c ∷ rest) all))
+          (ap (λ (r : List ℕ). (Word (take_while is_word_byte (c ∷ rest)), r))
+          (drop_whole is_word_byte (c ∷ rest) all))
           (ap length (take_whole is_word_byte (c ∷ rest) all)) (all_pass is_word_byte (c ∷ rest) all)
       by_run (inr k) =
           same (ap (λ (w : List ℕ). (Word w, drop (prefix_len is_word_byte (c ∷ rest ++ more)) (c ∷ rest ++ more)))
-              (take_stops is_word_byte (c ∷ rest) more k)
+          (take_stops is_word_byte (c ∷ rest) more k)
           ∙ ap (λ (r : List ℕ). (Word (take_while is_word_byte (c ∷ rest)), r))
-              (drop_stops is_word_byte (c ∷ rest) more k))
+          (drop_stops is_word_byte (c ∷ rest) more k))
 
   -- ---- tokens
 
@@ -425,35 +431,38 @@ module _ (more : List ℕ) where
   kept begins c rest =
       let unclosed : Bool = is_open_tag rest in
       both (Kept more c rest (is_open_tag rest)) (begins && eqb c 37) _ _ _ _
-          (λ _. run_kept c rest unclosed (λ b. not (eqb b 10)) rest) (λ _.
+      (λ _. run_kept c rest unclosed (λ b. not (eqb b 10)) rest) (λ _.
       both (Kept more c rest (is_open_tag rest)) (is_white_space c || eqb c 46) _ _ _ _ (λ _. same refl) (λ _.
       both (Kept more c rest (is_open_tag rest)) (eqb c 123) _ _ _ _
-          (λ _. comment_kept c rest unclosed (suc (length rest)) (suc (length (rest ++ more))) (behind_brace rest)
-              (behind_brace (rest ++ more)) (brace_kept rest)) (λ _.
+      (λ _. comment_kept c rest unclosed (suc (length rest)) (suc (length (rest ++ more))) (behind_brace rest)
+      (behind_brace (rest ++ more)) (brace_kept rest)) (λ _.
       both (Kept more c rest (is_open_tag rest)) (eqb c 59) _ _ _ _
-          (λ _. run_kept c rest unclosed (λ b. not (eqb b 10)) rest) (λ _.
+      (λ _. run_kept c rest unclosed (λ b. not (eqb b 10)) rest) (λ _.
       both (Kept more c rest (is_open_tag rest)) (eqb c 36) _ _ _ _ (λ _. run_kept c rest unclosed is_digit rest) (λ _.
       both (Kept more c rest (is_open_tag rest)) (eqb c 40) _ _ _ _
-          (λ _. variation_kept c rest unclosed Plain 0 false 0 rest) (λ _.
+      (λ _. variation_kept c rest unclosed Plain 0 false 0 rest) (λ _.
       both (Kept more c rest (is_open_tag rest)) (eqb c 91) _ _ _ _ (λ _. tag_kept c rest rest) (λ _.
       both (Kept more c rest (is_open_tag rest)) (eqb c 42) _ _ _ _ (λ _. same refl) (λ _.
       both (Kept more c rest (is_open_tag rest)) (is_word_byte c) _ _ _ _ (λ _. word_kept c rest unclosed)
-          (λ _. bad refl refl)))))))))
+      (λ _. bad refl refl)))))))))
 
 -- a token leaves an end of its text
 token_suffix : (begins : Bool) (c : ℕ) (rest : List ℕ) → Suffix (c ∷ rest) (token_at begins c rest).1
 token_suffix begins c rest = by_test (eqb c 10) refl
   where
     by_left : Left (c ∷ rest) (token_at begins c rest).1 → Suffix (c ∷ rest) (token_at begins c rest).1
-    by_left (inl e) = record { front = c ∷ rest; is = sym (append-nil (c ∷ rest))
-        ∙ ap (λ (r : List ℕ). (c ∷ rest) ++ r) (sym e) }
+    by_left (inl e) = record {
+      front = c ∷ rest;
+      is = sym (append-nil (c ∷ rest))
+          ∙ ap (λ (r : List ℕ). (c ∷ rest) ++ r) (sym e);
+    }
     by_left (inr k) = cut_suffix (c ∷ rest) (token_at begins c rest).1 k
 
     by_test : (t : Bool) → eqb c 10 ≡ t → Suffix (c ∷ rest) (token_at begins c rest).1
     by_test true e =
         let is : c ≡ 10 = grind (arith, nat_tests) in
         let left : (token_at begins c rest).1 ≡ rest =
-            ap (λ b. (token_at begins b rest).1) is ∙ token_ten begins rest in
+        ap (λ b. (token_at begins b rest).1) is ∙ token_ten begins rest in
         record { front = c ∷ []; is = ap (λ xs. c ∷ xs) (sym left) }
     by_test false e = by_left (token_left begins c rest e)
 
@@ -476,7 +485,7 @@ pub shift_step : (limit total m : ℕ) (g : SoFar) (left : ℕ) (t : Token)
 shift_step limit total m g left Skip = refl
 shift_step limit total m g left (Tag name text string) =
     ap (λ n. cond g.is_begun (fails g NoResult n) (tag_step g name text ((total + m) - (string + m))))
-        (same_place total left m)
+    (same_place total left m)
     ∙ ap (λ n. cond g.is_begun (fails g NoResult (total - left)) (tag_step g name text n)) (same_place total string m)
 shift_step limit total m g left (Word word) =
     ap (λ n. word_step limit g n word (kind_of word)) (same_place total left m)
@@ -530,7 +539,7 @@ module _ (limit : ℕ) (g : SoFar) (fresh : g.is_begun ≡ false) where
   stays_open total left v u Skip e = fresh
   stays_open total left v u (Tag name text string) e =
       pick StaysOpen g.is_begun _ _ (λ b. absurd (not_both g.is_begun b fresh))
-          (λ _. tag_open name text (total - string))
+      (λ _. tag_open name text (total - string))
   stays_open total left v u (Word word) e = word_open v u (total - left) word (kind_of word) e
   stays_open total left v u Bad_tag e = absurd (cc)
   stays_open total left v u (Unclosed_comment brace) e = absurd (cc)
@@ -582,7 +591,7 @@ module _ (limit : ℕ) (front more : List ℕ) where
       → Settled (game_of limit (length front) g (tokens_of n begins [])).answer → ⊥
   none_open n begins g h =
       end_open g (subst (λ (ts : List (ℕ × Token)). Settled (game_of limit (length front) g ts).answer)
-          (none_left n begins) h)
+      (none_left n begins) h)
 
   -- ---- at a rest that begins with c
 
@@ -598,7 +607,7 @@ module _ (limit : ℕ) (front more : List ℕ) where
         let all = ap length there.is in
         let sum = length-append there.front (c ∷ rest) in
         ap (drop (length front - suc (length rest))) there.is
-            ∙ drop_at there.front (c ∷ rest) (length front - suc (length rest)) (omega (arith, all, sum))
+        ∙ drop_at there.front (c ∷ rest) (length front - suc (length rest)) (omega (arith, all, sum))
 
     behind_rest : drop (length front - suc (length rest) + 1) front ≡ rest
     behind_rest =
@@ -607,7 +616,7 @@ module _ (limit : ℕ) (front more : List ℕ) where
         let more_sum = length-append there.front (c ∷ []) in
         ap (drop (length front - suc (length rest) + 1)) (there.is ∙ sym (append_assoc there.front (c ∷ []) rest))
         ∙ drop_at (there.front ++ c ∷ []) rest (length front - suc (length rest) + 1)
-            (omega (arith, all, sum, more_sum))
+        (omega (arith, all, sum, more_sum))
 
     -- a word up to the text's end settles nothing
     module _ (g : SoFar) (word : List ℕ) (all : length word ≡ suc (length rest))
@@ -661,9 +670,9 @@ module _ (limit : ℕ) (front more : List ℕ) where
     abbrev Later : ℕ → ℕ → Bool → List ℕ → Type 0
     Later n n' ends xs = (g : SoFar) → Settled (game_of limit (length front) g (tokens_of n ends xs)).answer
         → (game_of limit (length front + length more) g (tokens_of n' ends (xs ++ more))
-            ≡ game_of limit (length front) g (tokens_of n ends xs))
+        ≡ game_of limit (length front) g (tokens_of n ends xs))
         × (g.is_begun ≡ false → NoFen (game_of limit (length front) g (tokens_of n ends xs)).answer → (v : Variant)
-            → variant_told v (tokens_of n' ends (xs ++ more)) ≡ variant_told v (tokens_of n ends xs))
+        → variant_told v (tokens_of n' ends (xs ++ more)) ≡ variant_told v (tokens_of n ends xs))
 
     pub left_more : suc (length (rest ++ more)) ≡ suc (length rest) + length more
     left_more = let sum = length-append rest more in omega (arith, sum)
@@ -682,13 +691,13 @@ module _ (limit : ℕ) (front more : List ℕ) where
             (step_same g p.0) ∙ games (step limit (length front) g (suc (length rest)) p.0) h,
         λ fresh no_fen v.
             ap (λ o. told_next v o (λ u. variant_told u (tokens_of n' ends (p.1 ++ more))))
-                (shift_told (length more) v p.0)
+            (shift_told (length more) v p.0)
             ∙ variants fresh v (told_by v p.0) refl no_fen,
       )
         where
           games : (s : Step) → Settled (go_on s (λ k. game_of limit (length front) k (tokens_of n ends p.1))).answer
               → go_on s (λ k. game_of limit (length front + length more) k (tokens_of n' ends (p.1 ++ more)))
-                  ≡ go_on s (λ k. game_of limit (length front) k (tokens_of n ends p.1))
+              ≡ go_on s (λ k. game_of limit (length front) k (tokens_of n ends p.1))
           games (On k) h = (later k h).0
           games (Stop r) h = refl
 
@@ -702,7 +711,7 @@ module _ (limit : ℕ) (front more : List ℕ) where
           variants : g.is_begun ≡ false → (v : Variant) (o : Option Variant) → told_by v p.0 ≡ o
               → NoFen (leads n ends g p).answer
               → told_next v o (λ u. variant_told u (tokens_of n' ends (p.1 ++ more)))
-                  ≡ told_next v o (λ u. variant_told u (tokens_of n ends p.1))
+              ≡ told_next v o (λ u. variant_told u (tokens_of n ends p.1))
           variants fresh v None e no_fen = refl
           variants fresh v (Some u) e no_fen = stepped u (step limit (length front) g (suc (length rest)) p.0)
               (stays_open limit g fresh (length front) (suc (length rest)) v u p.0 e) h no_fen
@@ -716,7 +725,7 @@ module _ (limit : ℕ) (front more : List ℕ) where
       bracket_step : (b : Bool) → g.is_begun ≡ b → (t : Token) → IsOfBracket t
           → SettledKind (cond b NoResult BadTag) (length front - suc (length rest)) → is_open_tag rest ≡ true
           → (step limit (length front + length more) g (suc (length (rest ++ more))) t
-              ≡ fails g (cond g.is_begun NoResult BadTag) (length front - suc (length rest))) × (g.is_begun ≡ false → ⊥)
+          ≡ fails g (cond g.is_begun NoResult BadTag) (length front - suc (length rest))) × (g.is_begun ≡ false → ⊥)
       bracket_step false e t is h unclosed = absurd (not_both _ unclosed (ap is_open_tag (sym behind_rest) ∙ h))
       bracket_step true e Skip is h unclosed = absurd is
       bracket_step true e (Word word) is h unclosed = absurd is
@@ -748,25 +757,29 @@ module _ (limit : ℕ) (front more : List ℕ) where
           (none_open n ends g (subst (λ (x : Token × List ℕ). Settled (leads n ends g x).answer) e h))
       goal_at p q later (whole word e all bytes) h =
           absurd (kind_open g word all bytes (kind_of word)
-              (subst (λ (ts : List (ℕ × Token)). Settled
-                  (go_on (word_step limit g (length front - suc (length rest)) word (kind_of word))
-                      (λ k. game_of limit (length front) k ts)).answer) (none_left n ends)
-                          (subst (λ (x : Token × List ℕ). Settled (leads n ends g x).answer) e h)))
+          (subst (λ (ts : List (ℕ × Token)). Settled
+          (go_on (word_step limit g (length front - suc (length rest)) word (kind_of word))
+          (λ k. game_of limit (length front) k ts)).answer) (none_left n ends)
+          (subst (λ (x : Token × List ℕ). Settled (leads n ends g x).answer) e h)))
       goal_at p q later (no_tag e f) h =
-          subst (λ (x : Token × List ℕ). Goal n n' ends g x q) (sym e) (subst (Goal n n' ends g (Bad_tag, [])) (sym f)
-          (ap (λ s. go_on s (λ k. game_of limit (length front + length more) k (tokens_of n' ends [])))
-              (same_fault (cond g.is_begun NoResult BadTag)), λ fresh no_fen v. refl))
+          subst (λ (x : Token × List ℕ). Goal n n' ends g x q) (sym e) (subst (Goal n n' ends g (Bad_tag, [])) (sym f) (
+            ap (λ s. go_on s (λ k. game_of limit (length front + length more) k (tokens_of n' ends [])))
+                (same_fault (cond g.is_begun NoResult BadTag)),
+            λ fresh no_fen v. refl,
+          ))
       goal_at p q later (maybe_tag e is unclosed) h =
           subst (λ (x : Token × List ℕ). Goal n n' ends g x q) (sym e)
-              (bracket_goal q is unclosed (subst (λ (x : Token × List ℕ). Settled (leads n ends g x).answer) e h))
+          (bracket_goal q is unclosed (subst (λ (x : Token × List ℕ). Settled (leads n ends g x).answer) e h))
       goal_at p q later (open_comment brace e) h =
           absurd (subst (λ (x : Token × List ℕ). Settled (leads n ends g x).answer) e h)
       goal_at p q later (open_variation e) h =
           absurd (subst (λ (x : Token × List ℕ). Settled (leads n ends g x).answer) e h)
       goal_at p q later (bad e f) h =
-          subst (λ (x : Token × List ℕ). Goal n n' ends g x q) (sym e) (subst (Goal n n' ends g (Bad, [])) (sym f)
-          (ap (λ s. go_on s (λ k. game_of limit (length front + length more) k (tokens_of n' ends [])))
-              (same_fault BadToken), λ fresh no_fen v. refl))
+          subst (λ (x : Token × List ℕ). Goal n n' ends g x q) (sym e) (subst (Goal n n' ends g (Bad, [])) (sym f) (
+            ap (λ s. go_on s (λ k. game_of limit (length front + length more) k (tokens_of n' ends [])))
+                (same_fault BadToken),
+            λ fresh no_fen v. refl,
+          ))
 
     -- ---- the variant alone
 
@@ -784,7 +797,7 @@ module _ (limit : ℕ) (front more : List ℕ) where
 
       pub word_told : (word : List ℕ) → length word ≡ suc (length rest) → (k : WordKind)
           → settled_by (nat_lt (length word) (suc (length rest))) (behind_word v k)
-              (λ u. settles_variant front u (tokens_of n ends [])) ≡ true → ⊥
+          (λ u. settles_variant front u (tokens_of n ends [])) ≡ true → ⊥
       word_told word all (End o) h = let less = ltb-true (length word) (suc (length rest)) h in omega (arith, less, all)
       word_told word all Number h = let less = ltb-true (length word) (suc (length rest)) h in omega (arith, less, all)
       word_told word all Marks h = none_told v h
@@ -798,7 +811,7 @@ module _ (limit : ℕ) (front more : List ℕ) where
           by_told : (o : Option Variant) → settled_by (is_firm front (suc (length rest)) p.0) o
               (λ u. settles_variant front u (tokens_of n ends p.1)) ≡ true
               → told_next v o (λ u. variant_told u (tokens_of n' ends (p.1 ++ more)))
-                  ≡ told_next v o (λ u. variant_told u (tokens_of n ends p.1))
+              ≡ told_next v o (λ u. variant_told u (tokens_of n ends p.1))
           by_told None h = refl
           by_told (Some u) h = later u h
 
@@ -844,9 +857,9 @@ module _ (limit : ℕ) (front more : List ℕ) where
   local : (n n' : ℕ) (begins : Bool) (xs : List ℕ) → Suffix front xs → length xs ≤ n → length (xs ++ more) ≤ n'
       → (g : SoFar) → Settled (game_of limit (length front) g (tokens_of n begins xs)).answer
       → (game_of limit (length front + length more) g (tokens_of n' begins (xs ++ more))
-          ≡ game_of limit (length front) g (tokens_of n begins xs))
+      ≡ game_of limit (length front) g (tokens_of n begins xs))
       × (g.is_begun ≡ false → NoFen (game_of limit (length front) g (tokens_of n begins xs)).answer → (v : Variant)
-          → variant_told v (tokens_of n' begins (xs ++ more)) ≡ variant_told v (tokens_of n begins xs))
+      → variant_told v (tokens_of n' begins (xs ++ more)) ≡ variant_told v (tokens_of n begins xs))
   unfolding tokens_of
   local zero n' begins [] there h k g told = absurd (end_open g told)
   local (suc n) n' begins [] there h k g told = absurd (end_open g told)
@@ -855,7 +868,7 @@ module _ (limit : ℕ) (front more : List ℕ) where
   local (suc n) (suc n') begins (c ∷ rest) there h k g told =
       goal_at c rest there n n' (eqb c 10) g (token_at begins c rest) (token_at begins c (rest ++ more))
       (local n n' (eqb c 10) (token_at begins c rest).1 (next_there begins c rest there) (fewer_left begins c rest n h)
-          (fewer_more begins c rest n' k))
+      (fewer_more begins c rest n' k))
       (kept more begins c rest) told
 
   told_local : (n n' : ℕ) (begins : Bool) (xs : List ℕ) → Suffix front xs → length xs ≤ n → length (xs ++ more) ≤ n'
@@ -869,7 +882,7 @@ module _ (limit : ℕ) (front more : List ℕ) where
   told_local (suc n) (suc n') begins (c ∷ rest) there h k v told =
       told_at c rest there n n' (eqb c 10) v (token_at begins c rest) (token_at begins c (rest ++ more))
       (told_local n n' (eqb c 10) (token_at begins c rest).1 (next_there begins c rest there)
-          (fewer_left begins c rest n h) (fewer_more begins c rest n' k))
+      (fewer_left begins c rest n h) (fewer_more begins c rest n' k))
       (kept more begins c rest) told
 
   -- ---- the text from a place on
@@ -941,7 +954,7 @@ module _ (limit : ℕ) (front more : List ℕ) where
     pub read_local_at : (g : SoFar) → Settled (game_of limit (length front) g tokens).answer
         → (game_of limit (length front + length more) g longer ≡ game_of limit (length front) g tokens)
         × (g.is_begun ≡ false → NoFen (game_of limit (length front) g tokens).answer → (v : Variant)
-            → variant_told v longer ≡ variant_told v tokens)
+        → variant_told v longer ≡ variant_told v tokens)
     read_local_at = local (length front) (length (front ++ more)) (begins_line front place) (drop place front)
         (rest_there place within) few_here few_longer
 
@@ -952,7 +965,7 @@ module _ (limit : ℕ) (front more : List ℕ) where
     variant_same : (at : ℕ) → tokens_from front (first_place front at) ≡ tokens → (r : Result (Option PgnEnd) PgnFault)
         → (tokens_read limit (length front) tokens).answer ≡ r → settles_answer front at r ≡ true
         → (NoFen r → variant_told Normal longer ≡ variant_told Normal tokens)
-            → variant_told Normal longer ≡ variant_told Normal tokens
+        → variant_told Normal longer ≡ variant_told Normal tokens
     variant_same at are (Ok o) is h later = later tt
     variant_same at are (Err f) is h later = elim (fen_or_not f.kind) [
       | inl e ↦ told_local_at (ap (settles_variant front Normal) (sym are)
@@ -977,15 +990,15 @@ module _ (limit : ℕ) (front more : List ℕ) where
   unfolding pgn_read tokens_from is_settled
   read_same at inside settled =
       let parts = and_parts (nat_lt 0 at || nat_le 3 (length front))
-          (settles_answer front at (pgn_read limit front at).answer) settled in
+      (settles_answer front at (pgn_read limit front at).answer) settled in
       let place : ℕ = first_place front at in
       let within : place ≤ length front = (behind front at inside).1 in
       let all : List ℕ = front ++ more in
       ap (λ p. tokens_read limit (length all) (tokens_of (length all) (begins_line all p) (drop p all)))
-          (place_same at parts.0)
+      (place_same at parts.0)
       ∙ ap (λ b. tokens_read limit (length all) (tokens_of (length all) b (drop place all))) (line_same place within)
       ∙ ap (λ xs. tokens_read limit (length all) (tokens_of (length all) (begins_line front place) xs))
-          (rest_same place within)
+      (rest_same place within)
       ∙ settled_read place within at refl parts.1
 
 pub read_local : ReadingIsLocal

@@ -27,8 +27,8 @@ use Rattle.chess_pgn.specs.Terminations.{termination_named}
 use Rattle.chess_pgn.specs.Tokens.{Token, Skip, Tag, Word, Bad_tag, Unclosed_comment, Unclosed_variation, Bad, first_place, tokens_from}
 use Rattle.chess_pgn.specs.Words.{kind_of}
 
--- the game so far. It is met where it had a tag, number or move, and begun where it had a number or move; the termination
--- is what its tags told
+-- the game so far. It is met where it had a tag, number or move, and begun where it had a number or move; the
+-- termination is what its tags told
 pub record SoFar : Type 0 where
   pub state : State
   pub is_met : Bool
@@ -101,8 +101,12 @@ told_behind before name text = if bytes_eq name (codes "Termination") then termi
 abbrev pub tag_step : SoFar → List ℕ → List ℕ → ℕ → Step
 tag_step g name text place =
     if bytes_eq name (codes "FEN") then fen_step g place (fen_reading_as g.state.start.variant text)
-    else On (record { state = g.state; is_met = true; is_begun = g.is_begun;
-        termination = told_behind g.termination name text })
+    else On (record {
+      state = g.state;
+      is_met = true;
+      is_begun = g.is_begun;
+      termination = told_behind g.termination name text;
+    })
 
 -- ---- tokens, in a text of so many bytes; each with how many bytes are left where it begins
 
@@ -118,8 +122,11 @@ step limit total g left Bad = fails g BadToken (total - left)
 
 -- at the text's end there is no game, or one without a result
 abbrev pub at_text_end : ℕ → SoFar → GameRead
-at_text_end total g = record { state = g.state; answer = if g.is_met then Err
-    (record { kind = NoResult; place = total }) else Ok None }
+at_text_end total g = record {
+  state = g.state;
+  answer = if g.is_met then Err
+      (record { kind = NoResult; place = total }) else Ok None;
+}
 
 abbrev pub go_on : Step → (SoFar → GameRead) → GameRead
 go_on (On g) later = later g
@@ -130,8 +137,12 @@ game_of limit total g [] = at_text_end total g
 game_of limit total g (t ∷ ts) = go_on (step limit total g t.0 t.1) (λ h. game_of limit total h ts)
 
 abbrev pub nothing_read : Variant → SoFar
-nothing_read v = record { state = from_start (initial_setup_of v); is_met = false; is_begun = false;
-    termination = None }
+nothing_read v = record {
+  state = from_start (initial_setup_of v);
+  is_met = false;
+  is_begun = false;
+  termination = None;
+}
 
 -- ---- the variant: the last that tags name before the game's first number, move or outcome, as far as these can be read
 
@@ -139,7 +150,7 @@ nothing_read v = record { state = from_start (initial_setup_of v); is_met = fals
 abbrev pub variant_named : List ℕ → Variant
 variant_named text =
     if str_eq_ignore_ascii_case text (codes "fischerandom") || str_eq_ignore_ascii_case text (codes "fischerrandom")
-        || str_eq_ignore_ascii_case text (codes "chess960") then Fischerandom
+    || str_eq_ignore_ascii_case text (codes "chess960") then Fischerandom
     else Normal
 
 abbrev pub behind_word : Variant → WordKind → Option Variant

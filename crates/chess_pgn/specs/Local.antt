@@ -45,7 +45,7 @@ is_open_name (n ∷ ns) rest = could_go_on (byte "\"") is_open_string rest
 abbrev pub is_open_tag : List ℕ → Bool
 is_open_tag text =
     let inner = behind_gap false false text in is_over inner
-        || is_open_name (take_while is_name_byte inner) (drop (prefix_len is_name_byte inner) inner)
+    || is_open_name (take_while is_name_byte inner) (drop (prefix_len is_name_byte inner) inner)
 
 -- ---- what the beginning of a text settles
 
@@ -137,5 +137,5 @@ FaultsHavePlaces = (limit : ℕ) (text : List ℕ) (at : ℕ) → at ≤ length 
 abbrev pub HalfMovesHaveBytes : Type 0
 HalfMovesHaveBytes =
     (limit : ℕ) (text : List ℕ) (at : ℕ) → at ≤ length text
-        → IfOk (pgn_read limit text at).answer
-            (λ o. IfSome o (λ e. length (pgn_read limit text at).state.moves + at ≤ e.place))
+    → IfOk (pgn_read limit text at).answer
+    (λ o. IfSome o (λ e. length (pgn_read limit text at).state.moves + at ≤ e.place))

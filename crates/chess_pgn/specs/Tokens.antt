@@ -1,6 +1,7 @@
 -- The tokens of a game's text as it is read (PGN standard of 1994, sections 5 to 7 and 8.2): white space, dots,
--- comments, `%` lines, `$` glyphs and variations are skipped; tags and words are told; the first token that can't be read is the last.
--- This project's own: the bytes of a word, and that a `%` line is skipped also in a tag and in a variation.
+-- comments, `%` lines, `$` glyphs and variations are skipped; tags and words are told; the first token that can't be
+-- read is the last. This project's own: the bytes of a word, and that a `%` line is skipped also in a tag and in a
+-- variation.
 use Rattle.std.specs.Prelude.{ℕ, zero, suc, ◌-◌, Bool, true, false, not, ◌&&◌, ◌||◌, List, [], ◌∷◌, ◌++◌, length, take, drop, slice_index, Option, Some, None, ◌==◌, nat_le, if◌then◌else◌}
 use Rattle.chess_base.specs.Letters.{is_digit, is_letter, byte, carriage_return, new_line, space, tab}
 use Rattle.std.specs.List.{prefix_len, position_or_len, take_while}
@@ -32,9 +33,9 @@ abbrev pub is_word_byte : ℕ → Bool
 is_word_byte c =
     is_name_byte c
     || (c == byte "+"
-        || (c == byte "#"
-            || (c == byte "="
-                || (c == byte "-" || (c == byte "/" || (c == byte "!" || (c == byte "?" || c == byte ":")))))))
+    || (c == byte "#"
+    || (c == byte "="
+    || (c == byte "-" || (c == byte "/" || (c == byte "!" || (c == byte "?" || c == byte ":")))))))
 
 -- ---- what is skipped
 
@@ -53,7 +54,7 @@ behind_gap skips begins [] = []
 behind_gap true begins (c ∷ rest) = behind_gap (not (c == new_line)) true rest
 behind_gap false begins (c ∷ rest) = if begins
     && c == byte "%" then behind_gap true false rest else
-        (if is_white_space c then behind_gap false (c == new_line) rest else c ∷ rest)
+    (if is_white_space c then behind_gap false (c == new_line) rest else c ∷ rest)
 
 -- ---- variations
 
@@ -79,7 +80,7 @@ variation_at Plain line_begins (suc depth) (c ∷ rest) =
     else variation_at Plain (c == new_line) (suc depth) rest))))
 variation_at (Brace left) line_begins (suc depth) (c ∷ rest) =
     if c == byte "}" then variation_at Plain false (suc depth) rest else variation_at (Brace left) false (suc depth)
-        rest
+    rest
 variation_at Line line_begins (suc depth) (c ∷ rest) =
     if c == new_line then variation_at Plain true (suc depth) rest else variation_at Line false (suc depth) rest
 
@@ -148,8 +149,10 @@ token_at line_begins c rest =
     else (if c == byte "(" then variation_at Plain false 1 rest
     else (if c == byte "[" then tag_at rest
     else (if c == byte "*" then (Word (c ∷ []), rest)
-    else (if is_word_byte c then (Word (take_while is_word_byte (c ∷ rest)),
-        drop (prefix_len is_word_byte (c ∷ rest)) (c ∷ rest))
+    else (if is_word_byte c then (
+      Word (take_while is_word_byte (c ∷ rest)),
+      drop (prefix_len is_word_byte (c ∷ rest)) (c ∷ rest),
+    )
     else (Bad, [])))))))))
 
 -- the tokens of a text, each with how many bytes are left where it begins; at most `most` of them

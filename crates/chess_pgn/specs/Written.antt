@@ -1,4 +1,5 @@
--- A game's text as it is written (PGN standard of 1994, sections 4.3, 8.1 and 8.2): the tags' lines and the lines of moves.
+-- A game's text as it is written (PGN standard of 1994, sections 4.3, 8.1 and 8.2): the tags' lines and the lines of
+-- moves.
 use Rattle.std.specs.Prelude.{◌≡◌, ℕ, ◌+◌, ◌<◌, ◌≤◌, ◌||◌, List, [], ◌∷◌, ◌++◌, length, map, take, codes, ◌==◌, nat_le, nat_lt, if◌then◌else◌}
 use Rattle.chess_base.specs.Letters.{byte, new_line, space}
 use Rattle.std.specs.List.{join_with_byte, flat_map, AllByRecursion}

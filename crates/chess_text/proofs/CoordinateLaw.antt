@@ -21,8 +21,13 @@ use Rattle.chess_text.proofs.Solid.{bare_parts}
 use Rattle.chess_text.proofs.Told.{same_square}
 
 abbrev squares_named : Move → Parts
-squares_named m = record { letter = None; file = Some (file m.from); rank = Some (rank m.from); takes = false;
-    end = record { to = m.to; promotion = written false true m.promotion } }
+squares_named m = record {
+  letter = None;
+  file = Some (file m.from);
+  rank = Some (rank m.from);
+  takes = false;
+  end = record { to = m.to; promotion = written false true m.promotion };
+}
 
 letter_is : (o : Option Kind) → optional small_letter_text o ≡ optional promotion_text (written false true o)
 letter_is None = refl
@@ -71,10 +76,10 @@ by_squares : (p : Setup) (m n : Move) (k : Kind) → is_by_squares (squares_name
 unfolding is_by_squares
 by_squares p m n k e =
     let e5 = and_parts ((file m.from == file n.from) && (rank m.from == rank n.from) && true && (m.to == n.to)
-        && not (has_equals (written false true m.promotion))) (promotes_so (written false true m.promotion) n.promotion)
-            e in
+    && not (has_equals (written false true m.promotion))) (promotes_so (written false true m.promotion) n.promotion)
+    e in
     let e4 = and_parts ((file m.from == file n.from) && (rank m.from == rank n.from) && true && (m.to == n.to))
-        (not (has_equals (written false true m.promotion))) e5.0 in
+    (not (has_equals (written false true m.promotion))) e5.0 in
     let e3 = and_parts ((file m.from == file n.from) && (rank m.from == rank n.from) && true) (m.to == n.to) e4.0 in
     let e2 = and_parts ((file m.from == file n.from) && (rank m.from == rank n.from)) true e3.0 in
     let e1 = and_parts (file m.from == file n.from) (rank m.from == rank n.from) e2.0 in
@@ -89,9 +94,9 @@ from_file : (p : Setup) (m n : Move) (k : Kind) → is_from_file (squares_named 
 unfolding is_from_file
 from_file p m n k e =
     let e4 = and_parts ((file m.from == file n.from) && (rank m.from == rank n.from) && same_kind Pawn k && true
-        && (m.to == n.to)) (promotes_so (written false true m.promotion) n.promotion) e in
+    && (m.to == n.to)) (promotes_so (written false true m.promotion) n.promotion) e in
     let e3 = and_parts ((file m.from == file n.from) && (rank m.from == rank n.from) && same_kind Pawn k && true)
-        (m.to == n.to) e4.0 in
+    (m.to == n.to) e4.0 in
     let e2 = and_parts ((file m.from == file n.from) && (rank m.from == rank n.from) && same_kind Pawn k) true e3.0 in
     let e1 = and_parts ((file m.from == file n.from) && (rank m.from == rank n.from)) (same_kind Pawn k) e2.0 in
     let e0 = and_parts (file m.from == file n.from) (rank m.from == rank n.from) e1.0 in
@@ -116,15 +121,15 @@ fits_alone p m n k e =
     let a = not_by_letter p m n k in
     let b = not_straight p m n k in
     elim (or_cases (is_by_squares (squares_named m) (told_of p n k) || is_by_letter (squares_named m) (told_of p n k)
-        || is_straight (squares_named m) (told_of p n k)) (is_from_file (squares_named m) (told_of p n k)) e) [
+    || is_straight (squares_named m) (told_of p n k)) (is_from_file (squares_named m) (told_of p n k)) e) [
       | inr h ↦ from_file p m n k h
       | inl h ↦ elim
           (or_cases (is_by_squares (squares_named m) (told_of p n k) || is_by_letter (squares_named m) (told_of p n k))
-              (is_straight (squares_named m) (told_of p n k)) h) [
-        | inr g ↦ absurd cc
-        | inl g ↦ elim (or_cases (is_by_squares (squares_named m) (told_of p n k))
-            (is_by_letter (squares_named m) (told_of p n k)) g) [ inl f ↦ by_squares p m n k f | inr f ↦ absurd cc ]
-      ]
+          (is_straight (squares_named m) (told_of p n k)) h) [
+            | inr g ↦ absurd cc
+            | inl g ↦ elim (or_cases (is_by_squares (squares_named m) (told_of p n k))
+                (is_by_letter (squares_named m) (told_of p n k)) g) [ inl f ↦ by_squares p m n k f | inr f ↦ absurd cc ]
+          ]
     ]
 
 pub coordinate_alone : (p : Setup) (m : Move) → IsSound p → IsTrue (is_legal p m) → SpellsAlone p (coordinate m) m
@@ -137,9 +142,9 @@ coordinate_alone p m sound legal =
       λ n n_legal e.
           let g = legal_move p n n_legal in
           let same =
-              fits_alone p m n g.man
-                  (sym (spells_move p (coordinate m) n g
-                      ∙ spelled_parts (coordinate m) (squares_named m) (told_of p n g.man) at are) ∙ e) in
+          fits_alone p m n g.man
+          (sym (spells_move p (coordinate m) n g
+          ∙ spelled_parts (coordinate m) (squares_named m) (told_of p n g.man) at are) ∙ e) in
           move_is n m same.from same.to same.promotion,
     )
 

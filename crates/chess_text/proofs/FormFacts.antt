@@ -51,10 +51,15 @@ shape-form text = shape_by (unmarked text) (list_any (bytes_eq (unmarked text)) 
 -- parts of no form fit no move
 no_form : (letter : Option Kind) (f r : Option ℕ) (takes : Bool) (to : ℕ) (promotion : Option Promotion) (d : Described)
     → is_form
-        (record { letter = letter; file = f; rank = r; takes = takes; end = record { to = to; promotion = promotion } })
-            ≡ false
-    → fits (record { letter = letter; file = f; rank = r; takes = takes;
-        end = record { to = to; promotion = promotion } }) d ≡ false
+    (record { letter = letter; file = f; rank = r; takes = takes; end = record { to = to; promotion = promotion } })
+    ≡ false
+    → fits (record {
+      letter = letter;
+      file = f;
+      rank = r;
+      takes = takes;
+      end = record { to = to; promotion = promotion };
+    }) d ≡ false
 unfolding is_form fits is_by_squares is_by_letter is_straight is_from_file
 no_form (Some k) f r takes to (Some x) d e = simp (and_right)
 no_form (Some k) f r takes to None d e = absurd cc
@@ -80,10 +85,10 @@ same_for test other h (Some v) = h v
 -- a text of castling spells castling to its side
 pub spelled_castling : (text : List ℕ) (w : CastlingSide) (d : Described) → IsCastling text w
     → (passes (λ v. list_any (bytes_eq text) (castling_texts v)) d.castles || passes (λ q. fits q d) (parts_at text))
-        ≡ passes (same_side w) d.castles
+    ≡ passes (same_side w) d.castles
 spelled_castling text w d h =
     rw h.no_parts (or-false _ ∙ same_for (λ v. list_any (bytes_eq text) (castling_texts v)) (same_side w) h.names
-        d.castles)
+    d.castles)
 
 not_named : (text : List ℕ) → list_any (bytes_eq text) (castling_texts KingSide) ≡ false
     → list_any (bytes_eq text) (castling_texts QueenSide) ≡ false
@@ -124,8 +129,8 @@ unfolding reading
 reading_spelled p text form e =
     let has : shape text ≡ true = shape-form text ∙ ap is_some e in
     rw has (ap one_of
-        (sym (filter_agree (λ m. spells p text m) (λ m. is_spelled form p m) (λ m. spells-read form text p m e)
-            (moves p))))
+    (sym (filter_agree (λ m. spells p text m) (λ m. is_spelled form p m) (λ m. spells-read form text p m e)
+    (moves p))))
 
 pub reading_nothing : (p : Setup) (text : List ℕ) → form_of text ≡ None → reads.NotAMove ≡ reading p text
 unfolding reading

@@ -27,8 +27,14 @@ use Rattle.chess_text.specs.Moves.{captures, described, described_as}
 
 -- what a text can tell of a move of that man
 abbrev pub told_of : Setup → Move → Kind → Described
-told_of p m k = record { man = k; from = m.from; to = m.to; promotion = m.promotion; captures = captures p m;
-    castles = castling p m }
+told_of p m k = record {
+  man = k;
+  from = m.from;
+  to = m.to;
+  promotion = m.promotion;
+  captures = captures p m;
+  castles = castling p m;
+}
 
 -- by the kind of man: a pawn's move, or one without a promotion
 abbrev pub MovesAs : Setup → Move → Kind → Type 0
@@ -60,7 +66,7 @@ none_promotes o e = rw e tt
 -- castling is the king's move between squares that name it
 pub castling_says : (p : Setup) (m : Move) (w : CastlingSide) → castling p m ≡ Some w
     → (is_man p.side King (man_at p.men m.from) ≡ true)
-        × (names_castling p.variant p.side m w (right_of p.rights p.side w) ≡ true)
+    × (names_castling p.variant p.side m w (right_of p.rights p.side w) ≡ true)
 unfolding says_castling
 castling_says p m w e = and_parts (is_man p.side King (man_at p.men m.from))
     (names_castling p.variant p.side m w (right_of p.rights p.side w)) (says_from_castling p m w e)
@@ -109,7 +115,7 @@ kind_promotes : (p : Setup) (m : Move) (k : Kind) → MovesAs p m k → IfSome m
 unfolding pawn_moves
 kind_promotes p m Pawn e = fits_last (rank m.to == first_rank (other p.side)) m.promotion
     (and_parts (promotion_fits (rank m.to == first_rank (other p.side)) m.promotion)
-        (pawn_advances p m || pawn_captures p m) e.0).0
+    (pawn_advances p m || pawn_captures p m) e.0).0
 kind_promotes p m King e = none_promotes m.promotion e
 kind_promotes p m Queen e = none_promotes m.promotion e
 kind_promotes p m Rook e = none_promotes m.promotion e
@@ -121,19 +127,25 @@ move_by : (p : Setup) (m : Move) (o : Option Man) → man_at p.men m.from ≡ o 
 move_by p m None at f t e = absurd cc
 move_by p m (Some x) at f t e =
     let both = and_parts (same_colour p.side x.colour)
-        (cond (same_kind Pawn x.kind) (pawn_moves p m) (officer_moves p m)) e in
+    (cond (same_kind Pawn x.kind) (pawn_moves p m) (officer_moves p m)) e in
     let own : x.colour ≡ p.side = sym (same_colour-true p.side x.colour both.0) in
     let at' : man_at p.men m.from ≡ Some (record { colour = p.side; kind = x.kind }) =
-        at ∙ ap (λ (c : Colour). let man : Man = record { colour = c; kind = x.kind } in Some man) own in
+    at ∙ ap (λ (c : Colour). let man : Man = record { colour = c; kind = x.kind } in Some man) own in
     let goes = kind_moves p m x.kind at' both.1 in
-    record { from_in = f; to_in = t; man = x.kind; at_from = at'; moves_as = goes;
-        promotion_is = kind_promotes p m x.kind goes }
+    record {
+      from_in = f;
+      to_in = t;
+      man = x.kind;
+      at_from = at';
+      moves_as = goes;
+      promotion_is = kind_promotes p m x.kind goes;
+    }
 
 pub legal_move : (p : Setup) (m : Move) → is_legal p m ≡ true → IsMove p m
 unfolding is_legal has_pattern
 legal_move p m e =
     let legal = and_parts (nat_lt m.from 64 && nat_lt m.to 64 && moves_as p m (man_at p.men m.from))
-        (not (is_in_check (after p m).men p.side)) e in
+    (not (is_in_check (after p m).men p.side)) e in
     let three = and_parts (nat_lt m.from 64 && nat_lt m.to 64) (moves_as p m (man_at p.men m.from)) legal.0 in
     let two = and_parts (nat_lt m.from 64) (nat_lt m.to 64) three.0 in
     move_by p m (man_at p.men m.from) refl (ltb-true m.from 64 two.0) (ltb-true m.to 64 two.1) three.1

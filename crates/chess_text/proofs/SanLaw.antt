@@ -79,13 +79,18 @@ same_castling p m n w sound h g e f =
     let right = right_of p.rights p.side w in
     move_is n m (one_king p.men p.side n.from m.from sound.board (one_king_of p sound p.side) b.0 a.0)
     (names_end p.variant p.side n w right b.1 ∙ sym (names_end p.variant p.side m w right a.1))
-        (castles_plain p n w g.man g.moves_as f ∙ sym (castles_plain p m w h.man h.moves_as e))
+    (castles_plain p n w g.man g.moves_as f ∙ sym (castles_plain p m w h.man h.moves_as e))
 
 -- ---- pawns
 
 abbrev pawn_named : Bool → ℕ → ℕ → Option Promotion → Parts
-pawn_named c from to promotion = record { letter = None; file = if_said c (file from); rank = None; takes = c;
-    end = record { to = to; promotion = promotion } }
+pawn_named c from to promotion = record {
+  letter = None;
+  file = if_said c (file from);
+  rank = None;
+  takes = c;
+  end = record { to = to; promotion = promotion };
+}
 
 as_written : (o : Option Kind) → option_map (λ k. record { kind = k; equals = true; small = false }) o
     ≡ written true false o
@@ -110,8 +115,13 @@ promotion_part (Some k) h = h
 
 pawn_are_parts : (c : Bool) (from to : ℕ) (o : Option Kind) → to < 64 → IfSome o CanPromote
     → AreParts (pawn_named c from to (written true false o))
-pawn_are_parts c from to o h k = record { letter_is = tt; file_is = said_file c from; rank_is = tt; to_is = h;
-    promotion_is = promotion_part o k }
+pawn_are_parts c from to o h k = record {
+  letter_is = tt;
+  file_is = said_file c from;
+  rank_is = tt;
+  to_is = h;
+  promotion_is = promotion_part o k;
+}
 
 pawn_form : (c : Bool) (from to : ℕ) (o : Option Promotion) → is_form (pawn_named c from to o) ≡ true
 unfolding is_form
@@ -144,15 +154,19 @@ straight_fits : (p : Setup) (m n : Move) (l : Kind)
 unfolding fits is_by_squares is_by_letter is_straight is_from_file
 straight_fits p m n l e =
     let straight : (same_kind Pawn l && (file n.from == file n.to) && (m.to == n.to)
-        && promotes_so (written true false m.promotion) n.promotion) ≡ true =
+    && promotes_so (written true false m.promotion) n.promotion) ≡ true =
     elim (or_cases (same_kind Pawn l && (file n.from == file n.to) && (m.to == n.to)
-        && promotes_so (written true false m.promotion) n.promotion) false e) [ inl h ↦ h | inr h ↦ absurd cc ] in
+    && promotes_so (written true false m.promotion) n.promotion) false e) [ inl h ↦ h | inr h ↦ absurd cc ] in
     let e3 = and_parts (same_kind Pawn l && (file n.from == file n.to) && (m.to == n.to))
-        (promotes_so (written true false m.promotion) n.promotion) straight in
+    (promotes_so (written true false m.promotion) n.promotion) straight in
     let e2 = and_parts (same_kind Pawn l && (file n.from == file n.to)) (m.to == n.to) e3.0 in
     let e1 = and_parts (same_kind Pawn l) (file n.from == file n.to) e2.0 in
-    record { man = sym (same_kind-true Pawn l e1.0); on = eqb-true (file n.from) (file n.to) e1.1;
-        to = sym (eqb-true m.to n.to e2.1); promotion = promotes-same true false m.promotion n.promotion e3.1 }
+    record {
+      man = sym (same_kind-true Pawn l e1.0);
+      on = eqb-true (file n.from) (file n.to) e1.1;
+      to = sym (eqb-true m.to n.to e2.1);
+      promotion = promotes-same true false m.promotion n.promotion e3.1;
+    }
 
 record Takes (p : Setup) (m n : Move) (l : Kind) : Type 0 where
   man : l ≡ Pawn
@@ -166,7 +180,7 @@ takes_fits : (p : Setup) (m n : Move) (l : Kind)
 unfolding fits is_by_squares is_by_letter is_straight is_from_file
 takes_fits p m n l e =
     let e4 = and_parts ((file m.from == file n.from) && true && same_kind Pawn l && captures p n && (m.to == n.to))
-        (promotes_so (written true false m.promotion) n.promotion) (by_squares e) in
+    (promotes_so (written true false m.promotion) n.promotion) (by_squares e) in
     let e3 = and_parts ((file m.from == file n.from) && true && same_kind Pawn l && captures p n) (m.to == n.to) e4.0 in
     let e2 = and_parts ((file m.from == file n.from) && true && same_kind Pawn l) (captures p n) e3.0 in
     let e1 = and_parts ((file m.from == file n.from) && true) (same_kind Pawn l) e2.0 in
@@ -185,33 +199,35 @@ takes_fits p m n l e =
 
     by_squares : fits (pawn_named true m.from m.to (written true false m.promotion)) (told_of p n l) ≡ true
         → ((file m.from == file n.from) && true && same_kind Pawn l && captures p n && (m.to == n.to)
-            && promotes_so (written true false m.promotion) n.promotion) ≡ true
+        && promotes_so (written true false m.promotion) n.promotion) ≡ true
     by_squares e =
         let none = no_rank (file m.from == file n.from) false (m.to == n.to)
-            (not (has_equals (written true false m.promotion)))
-                (promotes_so (written true false m.promotion) n.promotion) in
+        (not (has_equals (written true false m.promotion)))
+        (promotes_so (written true false m.promotion) n.promotion) in
         elim (or_cases
-            (((file m.from == file n.from) && false && false && (m.to == n.to)
-                && not (has_equals (written true false m.promotion))
-                && promotes_so (written true false m.promotion) n.promotion) || false || false)
-                    ((file m.from == file n.from) && true && same_kind Pawn l && captures p n && (m.to == n.to)
-                        && promotes_so (written true false m.promotion) n.promotion) e) [
+        (((file m.from == file n.from) && false && false && (m.to == n.to)
+        && not (has_equals (written true false m.promotion))
+        && promotes_so (written true false m.promotion) n.promotion) || false || false)
+        ((file m.from == file n.from) && true && same_kind Pawn l && captures p n && (m.to == n.to)
+        && promotes_so (written true false m.promotion) n.promotion) e) [
           | inr h ↦ h
           | inl h ↦ elim
               (or_cases
-                  (((file m.from == file n.from) && false && false && (m.to == n.to)
-                      && not (has_equals (written true false m.promotion))
-                      && promotes_so (written true false m.promotion) n.promotion) || false) false h) [
-            | inr g ↦ absurd cc
-            | inl g ↦ elim
-                (or_cases ((file m.from == file n.from) && false && false && (m.to == n.to)
+              (((file m.from == file n.from) && false && false && (m.to == n.to)
+              && not (has_equals (written true false m.promotion))
+              && promotes_so (written true false m.promotion) n.promotion) || false) false h) [
+                | inr g ↦ absurd cc
+                | inl g ↦ elim
+                    (or_cases ((file m.from == file n.from) && false && false && (m.to == n.to)
                     && not (has_equals (written true false m.promotion))
-                    && promotes_so (written true false m.promotion) n.promotion) false g)
-                        [ inr k ↦ absurd cc | inl k ↦ absurd
-                            (both_ways ((file m.from == file n.from) && false && false && (m.to == n.to)
-                                && not (has_equals (written true false m.promotion))
-                                && promotes_so (written true false m.promotion) n.promotion) none k) ]
-          ]
+                    && promotes_so (written true false m.promotion) n.promotion) false g) [
+                      | inr k ↦ absurd cc
+                      | inl k ↦ absurd
+                          (both_ways ((file m.from == file n.from) && false && false && (m.to == n.to)
+                          && not (has_equals (written true false m.promotion))
+                          && promotes_so (written true false m.promotion) n.promotion) none k)
+                    ]
+              ]
         ]
 
 as_pawn : (p : Setup) (n : Move) (g : IsMove p n) → g.man ≡ Pawn
@@ -254,23 +270,38 @@ rivals p m k = rival_starts p (moves p) (told_of p m k)
 
 abbrev officer_named : Kind → ToldStart → Bool → ℕ → ℕ → Parts
 officer_named k start c from to =
-    record { letter = Some k; file = if_said start.file (file from); rank = if_said start.rank (rank from); takes = c;
-        end = record { to = to; promotion = None } }
+    record {
+      letter = Some k;
+      file = if_said start.file (file from);
+      rank = if_said start.rank (rank from);
+      takes = c;
+      end = record { to = to; promotion = None };
+    }
 
 officer_is : (p : Setup) (m : Move) (k : Kind) (others : List ℕ) → m.promotion ≡ None
     → officer_parts others (told_of p m k) ≡ officer_named k (told_start m.from others) (captures p m) m.from m.to
 officer_is p m k others none =
     ap (λ (o : Option Kind). let start = told_start m.from others in
-    let q : Parts = record { letter = Some k; file = if_said start.file (file m.from);
-        rank = if_said start.rank (rank m.from); takes = captures p m; end =
-            record { to = m.to; promotion = option_map (λ k. record { kind = k; equals = true; small = false }) o } } in
+    let q : Parts = record {
+      letter = Some k;
+      file = if_said start.file (file m.from);
+      rank = if_said start.rank (rank m.from);
+      takes = captures p m;
+      end =
+          record { to = m.to; promotion = option_map (λ k. record { kind = k; equals = true; small = false }) o };
+    } in
     q) none
 
 officer_are_parts : (k : Kind) (start : ToldStart) (c : Bool) (from to : ℕ) → IsOfficer k → from < 64 → to < 64
     → AreParts (officer_named k start c from to)
 officer_are_parts k start c from to officer f t =
-    record { letter_is = officer; file_is = said_file start.file from; rank_is = said_rank start.rank from f; to_is = t;
-        promotion_is = tt }
+    record {
+      letter_is = officer;
+      file_is = said_file start.file from;
+      rank_is = said_rank start.rank from f;
+      to_is = t;
+      promotion_is = tt;
+    }
 
 officer_form : (k : Kind) (start : ToldStart) (c : Bool) (from to : ℕ)
     → is_form (officer_named k start c from to) ≡ true
@@ -300,39 +331,44 @@ officer_goes : (p : Setup) (m n : Move) (k l : Kind) (start : ToldStart) (c : Bo
 unfolding fits is_by_squares is_by_letter is_straight is_from_file
 officer_goes p m n k l start c e =
     let by_letter : (same_kind k l && is_none (castling p n) && admits (if_said start.file (file m.from)) (file n.from)
-        && admits (if_said start.rank (rank m.from)) (rank n.from) && (not c || captures p n) && (m.to == n.to) && true)
-            ≡ true =
+    && admits (if_said start.rank (rank m.from)) (rank n.from) && (not c || captures p n) && (m.to == n.to) && true)
+    ≡ true =
     elim (or_cases
-        ((same_kind k l && is_none (castling p n) && admits (if_said start.file (file m.from)) (file n.from)
-            && admits (if_said start.rank (rank m.from)) (rank n.from) && (not c || captures p n) && (m.to == n.to)
-            && true) || false) false e) [
+    ((same_kind k l && is_none (castling p n) && admits (if_said start.file (file m.from)) (file n.from)
+    && admits (if_said start.rank (rank m.from)) (rank n.from) && (not c || captures p n) && (m.to == n.to)
+    && true) || false) false e) [
       | inr h ↦ absurd cc
       | inl h ↦ elim
           (or_cases (same_kind k l && is_none (castling p n) && admits (if_said start.file (file m.from)) (file n.from)
-              && admits (if_said start.rank (rank m.from)) (rank n.from) && (not c || captures p n) && (m.to == n.to)
-              && true) false h) [
-        | inr g ↦ absurd cc
-        | inl g ↦ g
-      ]
+          && admits (if_said start.rank (rank m.from)) (rank n.from) && (not c || captures p n) && (m.to == n.to)
+          && true) false h) [
+            | inr g ↦ absurd cc
+            | inl g ↦ g
+          ]
     ] in
     let e5 = and_parts (same_kind k l && is_none (castling p n)
-        && admits (if_said start.file (file m.from)) (file n.from)
-        && admits (if_said start.rank (rank m.from)) (rank n.from) && (not c || captures p n) && (m.to == n.to)) true
-            by_letter in
+    && admits (if_said start.file (file m.from)) (file n.from)
+    && admits (if_said start.rank (rank m.from)) (rank n.from) && (not c || captures p n) && (m.to == n.to)) true
+    by_letter in
     let e4 = and_parts (same_kind k l && is_none (castling p n)
-        && admits (if_said start.file (file m.from)) (file n.from)
-        && admits (if_said start.rank (rank m.from)) (rank n.from) && (not c || captures p n)) (m.to == n.to) e5.0 in
+    && admits (if_said start.file (file m.from)) (file n.from)
+    && admits (if_said start.rank (rank m.from)) (rank n.from) && (not c || captures p n)) (m.to == n.to) e5.0 in
     let e3 = and_parts (same_kind k l && is_none (castling p n)
-        && admits (if_said start.file (file m.from)) (file n.from)
-        && admits (if_said start.rank (rank m.from)) (rank n.from)) (not c || captures p n) e4.0 in
+    && admits (if_said start.file (file m.from)) (file n.from)
+    && admits (if_said start.rank (rank m.from)) (rank n.from)) (not c || captures p n) e4.0 in
     let e2 = and_parts (same_kind k l && is_none (castling p n)
-        && admits (if_said start.file (file m.from)) (file n.from))
-            (admits (if_said start.rank (rank m.from)) (rank n.from)) e3.0 in
+    && admits (if_said start.file (file m.from)) (file n.from))
+    (admits (if_said start.rank (rank m.from)) (rank n.from)) e3.0 in
     let e1 = and_parts (same_kind k l && is_none (castling p n))
-        (admits (if_said start.file (file m.from)) (file n.from)) e2.0 in
+    (admits (if_said start.file (file m.from)) (file n.from)) e2.0 in
     let e0 = and_parts (same_kind k l) (is_none (castling p n)) e1.0 in
-    record { man = sym (same_kind-true k l e0.0); walks = is_none-None (castling p n) e0.1; file_fits = e1.1;
-        rank_fits = e2.1; to = sym (eqb-true m.to n.to e4.1) }
+    record {
+      man = sym (same_kind-true k l e0.0);
+      walks = is_none-None (castling p n) e0.1;
+      file_fits = e1.1;
+      rank_fits = e2.1;
+      to = sym (eqb-true m.to n.to e4.1);
+    }
 
 any-map : {A B : Type 0} (t : B → Bool) (g : A → B) (xs : List A) → list_any t (map g xs) ≡ list_any (λ x. t (g x)) xs
 any-map t g [] = refl
@@ -346,7 +382,7 @@ rival_stands p m n k t legal rival e =
     any-map t (λ (x : Move). x.from) (filter (λ x. is_rival p (told_of p m k) x) (moves p))
     ∙ any-filter (λ x. is_rival p (told_of p m k) x) (λ (x : Move). t x.from) (moves p)
     ∙ any-move p (λ x. is_rival p (told_of p m k) x && t x.from) n legal
-        (and_from (is_rival p (told_of p m k) n) (t n.from) rival e)
+    (and_from (is_rival p (told_of p m k) n) (t n.from) rival e)
 
 rival_is : (p : Setup) (m n : Move) (k : Kind) (g : IsMove p n) → g.man ≡ k → n.to ≡ m.to → (n.from == m.from) ≡ false
     → is_rival p (told_of p m k) n ≡ true
@@ -368,7 +404,7 @@ no_promotion p n Knight officer h = h
 officer_alone : (p : Setup) (m n : Move) (k : Kind) → IsOfficer k → m.promotion ≡ None → is_legal p n ≡ true
     → (g : IsMove p n)
     → fits (officer_named k (told_start m.from (rivals p m k)) (captures p m) m.from m.to) (told_of p n g.man) ≡ true
-        → n ≡ m
+    → n ≡ m
 officer_alone p m n k officer none legal g fit = by_start (n.from == m.from) refl
   where
     goes : Goes p m n k g.man (told_start m.from (rivals p m k))
@@ -483,8 +519,8 @@ castling_law p m text w sound h e bare =
         λ n legal s.
             let g = legal_move p n legal in
             let to =
-                castles_so w (castling p n)
-                    (sym (spells_move p text n g ∙ spelled_castling text w (told_of p n g.man) is) ∙ s) in
+            castles_so w (castling p n)
+            (sym (spells_move p text n g ∙ spelled_castling text w (told_of p n g.man) is) ∙ s) in
             same_castling p m n w sound h g e to,
       );
     }
@@ -498,14 +534,14 @@ walk_law p m text q h parts bare = record {
     λ n legal s.
         let g = legal_move p n legal in
         parts.alone n legal g (sym (spells_move p text n g ∙ spelled_parts text q (told_of p n g.man) bare parts.are)
-            ∙ s),
+        ∙ s),
   );
 }
 
 law_by : (p : Setup) (m : Move) (text : List ℕ) → IsSound p → (h : IsMove p m) → (o : Option CastlingSide)
     → castling p m ≡ o
     → text ≡ text_by_castling o (rivals p m h.man) (told_of p m h.man) ++ check_mark (after p m)
-        → Law p m text × Word text
+    → Law p m text × Word text
 law_by p m text sound h (Some w) e is = (
   castling_law p m text w sound h e (ap unmarked is ∙ bare_marked (after p m) (castling_text w) (bare_castling w)),
   marked_word (after p m) (castling_text w) text (castling_word w) (castling_bytes w) is,

@@ -25,8 +25,12 @@ record IsSolid (text : List ℕ) : Type 0 where
   plain : is_mark last ≡ false
 
 solid-append : (xs text : List ℕ) → IsSolid text → IsSolid (xs ++ text)
-solid-append xs text h = record { front = xs ++ h.front; last = h.last;
-    split = ap (λ v. xs ++ v) h.split ∙ sym (append_assoc xs h.front (h.last ∷ [])); plain = h.plain }
+solid-append xs text h = record {
+  front = xs ++ h.front;
+  last = h.last;
+  split = ap (λ v. xs ++ v) h.split ∙ sym (append_assoc xs h.front (h.last ∷ []));
+  plain = h.plain;
+}
 
 bare : (text : List ℕ) → IsSolid text → unmarked text ≡ text
 bare text h = ap unmarked h.split ∙ unmarked-solid h.front h.last h.plain ∙ sym h.split
@@ -57,8 +61,12 @@ solid_end : (s : ℕ) (o : Option Promotion) → s < 64 → IsSolid (square_text
 solid_end s None h = record { front = (97 + file s) ∷ []; last = 49 + rank s; split = refl; plain = digit_no_mark s h }
 solid_end s (Some p) h =
     solid-append (square_text s) (promotion_text p)
-        (record { front = when p.equals (61 ∷ []); last = promotion_letter p; split = refl;
-            plain = letter_no_mark p.small p.kind })
+    (record {
+      front = when p.equals (61 ∷ []);
+      last = promotion_letter p;
+      split = refl;
+      plain = letter_no_mark p.small p.kind;
+    })
 
 pub bare_parts : (q : Parts) → q.end.to < 64 → unmarked (parts_text q) ≡ parts_text q
 bare_parts q h =

@@ -30,8 +30,10 @@ abbrev pub value_of : List ℕ → Option (Value × List ℕ)
 value_of [] = None
 value_of (c ∷ cs) =
     if c == byte "\"" then quoted cs
-    else if is_digit c then Some (Digits (take (run_of is_digit (c ∷ cs)) (c ∷ cs)),
-        drop (run_of is_digit (c ∷ cs)) (c ∷ cs))
+    else if is_digit c then Some (
+      Digits (take (run_of is_digit (c ∷ cs)) (c ∷ cs)),
+      drop (run_of is_digit (c ∷ cs)) (c ∷ cs),
+    )
     else None
 
 -- blanks or the line's end stand here
@@ -42,7 +44,7 @@ is_apart (c ∷ cs) = is_blank c
 abbrev pub with_value : List ℕ → List ℕ → Option (Item × List ℕ)
 with_value name rest =
     option_and_then (λ (p : Value × List ℕ). if is_apart p.1 then Some
-        (record { name = name; value = p.0 }, without_front_blanks p.1) else None) (value_of rest)
+    (record { name = name; value = p.0 }, without_front_blanks p.1) else None) (value_of rest)
 
 abbrev pub with_name : List ℕ → List ℕ → Option (Item × List ℕ)
 with_name [] rest = None
@@ -120,7 +122,7 @@ abbrev pub has_word_behind : List ℕ → List ℕ → List ℕ → Bool
 has_word_behind word piece [] = bytes_eq piece word
 has_word_behind word piece (c ∷ cs) =
     if is_comma_or_blank c then bytes_eq piece word
-        || has_word_behind word [] cs else has_word_behind word (piece ++ c ∷ []) cs
+    || has_word_behind word [] cs else has_word_behind word (piece ++ c ∷ []) cs
 
 -- a text, cut at commas and blanks, has this word
 unfoldable pub has_word : List ℕ → List ℕ → Bool

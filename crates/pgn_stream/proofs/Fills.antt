@@ -41,8 +41,11 @@ broke_more r r' r'' text more front h = record {
 -- a piece is more, or the end
 piece_read : (b : Bool) (r r' : InputState) (piece : List ℕ) → (length piece == 0) ≡ b → GavePiece r r' piece
     → HasRead b r r' piece
-piece_read false r r' piece h gave = record { bytes = gave.bytes; failures = gave.failures;
-    ends = gave.ends ∙ ap (λ b. if b then risen r.end_count else r.end_count) h }
+piece_read false r r' piece h gave = record {
+  bytes = gave.bytes;
+  failures = gave.failures;
+  ends = gave.ends ∙ ap (λ b. if b then risen r.end_count else r.end_count) h;
+}
 piece_read true r r' piece h gave = record {
   bytes = gave.bytes;
   at_end = gave.at_end (is_none piece h);
@@ -54,8 +57,11 @@ piece_read true r r' piece h gave = record {
     is_none xs h = grind (arith, nat_tests, h)
 
 failed_read : (r r' : InputState) → FailedToRead r r' → BrokeOff r r' []
-failed_read r r' failed = record { bytes = consumes_kept r.known_bytes r'.known_bytes failed.bytes;
-    failures = failed.failures; ends = failed.ends }
+failed_read r r' failed = record {
+  bytes = consumes_kept r.known_bytes r'.known_bytes failed.bytes;
+  failures = failed.failures;
+  ends = failed.ends;
+}
 
 -- ---- filling a window: what was added so far
 
@@ -80,7 +86,7 @@ begin_filling s r h = record { adds = adds_none s; read = subst (λ b. HasRead b
 pub filled_more : (s s' s'' : StreamState) (r r' r'' : InputState) (more piece : List ℕ) → IsFilling s s' r r' more
     → s'.ended ≡ false
     → Adds s' s'' piece → GavePiece r' r'' piece → s''.ended ≡ (length piece == 0)
-        → IsFilling s s'' r r'' (more ++ piece)
+    → IsFilling s s'' r r'' (more ++ piece)
 filled_more s s' s'' r r' r'' more piece h going adds gave ended = record {
   adds = adds_more s s' s'' more piece h.adds adds;
   read = read_more s''.ended r r' r'' more piece (subst (λ b. HasRead b r r' more) going h.read)
@@ -90,7 +96,7 @@ filled_more s s' s'' r r' r'' more piece h going adds gave ended = record {
 pub filling_broke : {E : Type 0} (s s' s'' : StreamState) (r r' r'' : InputState) (more : List ℕ)
     → IsFilling s s' r r' more → s'.ended ≡ false
     → Adds s' s'' [] × FailedToRead r' r'' × (s''.ended ≡ s'.ended) → (result : Result (Unit {0}) E) → IsErr result
-        → Fills s s'' r r'' result
+    → Fills s s'' r r'' result
 filling_broke s s' s'' r r' r'' more h going failed (Ok _) is = cc
 filling_broke s s' s'' r r' r'' more h going failed (Err e) is = (
   more ++ [],

@@ -82,8 +82,8 @@ IsPastPlaces text = 2 ^ 64 ≤ length text + 2 ^ 25
 
 -- ---- a stream of games
 
--- what a contract sees of it: the bytes that it holds, how many came before them, at which of those held the next game is
--- read, and whether the input has ended
+-- what a contract sees of it: the bytes that it holds, how many came before them, at which of those held the next game
+-- is read, and whether the input has ended
 pub record StreamState : Type 0 where
   pub window : List ℕ
   pub before : ℕ
@@ -112,7 +112,7 @@ pub record StandsAt (s : StreamState) (r r' : InputState) (text : List ℕ) : Ty
 abbrev pub GoesOn : StreamState → StreamState → InputState → InputState → List ℕ → (List ℕ → Type 0) → Type 0
 GoesOn s s' r r' text told =
     (more : List ℕ) × StandsAt s' r r' (text ++ more)
-        × ((whole : List ℕ) → IsWholeOf s'.ended (text ++ more) whole → IsWholeOf s.ended text whole × told whole)
+    × ((whole : List ℕ) → IsWholeOf s'.ended (text ++ more) whole → IsWholeOf s.ended text whole × told whole)
 
 -- why no more was read behind this text: a read failed, or places could pass 64 bits
 abbrev pub IsCause : InputState → InputState → List ℕ → StreamFault → Type 0
@@ -145,8 +145,8 @@ StandsBehind s s' plies (Ok None) = (place s' ≡ place s) × (s'.ended ≡ true
 StandsBehind s s' plies (Ok (Some e)) = (place s' ≡ e.place) × (place s < e.place) × (plies + place s ≤ e.place)
 StandsBehind s s' plies (Err f) = (place s' ≡ f.place) × (place s ≤ f.place)
 
--- the bytes that are held tell how the game is read: no others are left, and no more than a game may have, or they settle it.
--- Nothing is read then
+-- the bytes that are held tell how the game is read: no others are left, and no more than a game may have, or they
+-- settle it. Nothing is read then
 unfoldable pub is_held : ℕ → StreamState → Bool
 is_held limit s = (s.ended && nat_le (length s.window) (s.at + 16777216)) || is_settled limit s.window s.at
 
@@ -156,14 +156,14 @@ is_held limit s = (s.ended && nat_le (length s.window) (s.at + 16777216)) || is_
 abbrev pub NoEventUpTo : List ℕ → ℕ → ℕ → Type 0
 NoEventUpTo text place last = (q : ℕ) → place < q → q ≤ last → is_event_line text q ≡ false
 
--- the stream goes on to the first such line behind its place; there is none in a text that has ended. Where it goes on no
--- more, it has passed none, however the text goes on
+-- the stream goes on to the first such line behind its place; there is none in a text that has ended. Where it goes on
+-- no more, it has passed none, however the text goes on
 abbrev pub FindsEvent : StreamState → StreamState → InputState → InputState → List ℕ → Result Bool StreamFault → Type 0
 FindsEvent s s' r r' text (Ok found) = GoesOn s s' r r' text
     (λ whole. IsNextEvent whole (place s) (if found then Some (place s') else None))
 FindsEvent s s' r r' text (Err e) =
     (more : List ℕ) × Stops s' r r' (text ++ more) e × (place s ≤ place s')
-        × ((whole : List ℕ) → IsWholeOf false (text ++ more) whole → NoEventUpTo whole (place s) (place s'))
+    × ((whole : List ℕ) → IsWholeOf false (text ++ more) whole → NoEventUpTo whole (place s) (place s'))
 
 -- it stands further on then, or the input has ended, and it has not gone back
 abbrev pub StandsFurther : StreamState → StreamState → Bool → Type 0

@@ -57,7 +57,7 @@ pub record SoFar (options : VerifyOptions) (ended : Bool) (text : List ℕ) (w w
   pub took : Took w w' (lines_by options.quiet 1 reports)
   pub joins : (whole : List ℕ) → IsWholeOf ended text whole → (extent : Extent) (rest : List Report)
       → AreReportsOfAny options extent whole (Some at) rest
-          → AreReportsOfAny options extent whole (Some 0) (reports ++ rest)
+      → AreReportsOfAny options extent whole (Some 0) (reports ++ rest)
 
 pub start : (options : VerifyOptions) (w : OutputState) → SoFar options false [] w w 0 no_tally []
 start options w = record {

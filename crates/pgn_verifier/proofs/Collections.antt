@@ -234,9 +234,12 @@ first_end options text (Some at) = tt
 pub all_told : (E : Type 0) (options : VerifyOptions) (text : List ℕ) (w w' : OutputState) (at : ℕ) (tally : Tally)
     (reports : List Report) → SoFar options text w w' at tally reports → (read_at text at).answer ≡ Ok None
     → CountsEach {E = E} options text w w' (Ok tally)
-all_told E options text w w' at tally reports s none =
-    (reports, subst (AreReportsBy options All text (Some 0)) (append-nil reports) (s.joins All [] none), s.counted,
-        s.took)
+all_told E options text w w' at tally reports s none = (
+  reports,
+  subst (AreReportsBy options All text (Some 0)) (append-nil reports) (s.joins All [] none),
+  s.counted,
+  s.took,
+)
 
 -- ---- what reading a game answered
 

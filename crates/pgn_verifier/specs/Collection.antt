@@ -21,18 +21,18 @@ IsNext true text place next = IsNextEvent text place next
 
 -- ---- the reports
 
--- these are reports on the games of a text from a place on, if the text goes on: each is what reading at its place answers.
--- A game begins where the one before ended, or behind its fault at the next place
+-- these are reports on the games of a text from a place on, if the text goes on: each is what reading at its place
+-- answers. A game begins where the one before ended, or behind its fault at the next place
 abbrev pub AreReportsBy : VerifyOptions → Extent → List ℕ → Option ℕ → List Report → Type 0
 AreReportsBy options extent text None reports = reports ≡ []
 AreReportsBy options extent text (Some at) [] = EndsTextAt extent text at
 AreReportsBy options extent text (Some at) (Game plies end ∷ rest) =
     ((read_at text at).answer ≡ Ok (Some end)) × (plies ≡ length (read_at text at).state.moves)
-        × AreReportsBy options extent text (Some end.place) rest
+    × AreReportsBy options extent text (Some end.place) rest
 AreReportsBy options extent text (Some at) (Faulty fault ∷ rest) =
     ((read_at text at).answer ≡ Err fault) ×
-        ((next : Option ℕ) × IsNext options.keep_going text fault.place next
-            × AreReportsBy options extent text next rest)
+    ((next : Option ℕ) × IsNext options.keep_going text fault.place next
+    × AreReportsBy options extent text next rest)
 
 -- ---- their lines
 
@@ -72,9 +72,9 @@ faults_in (Faulty fault ∷ rest) = faults_in rest + 1
 unfoldable pub counts_line : ℕ → ℕ → ℕ → List ℕ
 counts_line games half_moves faults =
     codes "games "
-        ++ (decimal games
-            ++ (codes " half-moves "
-                ++ (decimal half_moves ++ (codes " faults " ++ (decimal faults ++ new_line ∷ [])))))
+    ++ (decimal games
+    ++ (codes " half-moves "
+    ++ (decimal half_moves ++ (codes " faults " ++ (decimal faults ++ new_line ∷ [])))))
 
 -- the counts stand behind the lines where faults are gone on behind
 abbrev pub counts_if : Bool → ℕ → ℕ → ℕ → List ℕ
@@ -94,7 +94,8 @@ pub record IsTallyOf (tally : Tally) (reports : List Report) : Type 0 where
   pub half_moves : tally.half_moves ≡ half_moves_in reports
   pub faults : tally.faults ≡ faults_in reports
 
--- the lines of the reports on a text were told, and counted; where the writer failed, a beginning of the lines of the first ones
+-- the lines of the reports on a text were told, and counted; where the writer failed, a beginning of the lines of the
+-- first ones
 abbrev pub CountsEach : {E : Type 0} → VerifyOptions → List ℕ → OutputState → OutputState → Result Tally E → Type 0
 CountsEach options text w w' (Ok tally) = (reports : List Report) × AreReportsBy options All text (Some 0) reports
     × IsTallyOf tally reports × Took w w' (lines_by options.quiet 1 reports)

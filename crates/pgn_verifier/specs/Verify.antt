@@ -101,7 +101,8 @@ report_lines number (report ∷ rest) = report_line number report ++ report_line
 
 -- ---- verifying
 
--- the reports on a text were told, each on its line; where the writer failed, a beginning of the lines of the first ones
+-- the reports on a text were told, each on its line; where the writer failed, a beginning of the lines of the first
+-- ones
 abbrev pub Told : {E : Type 0} → List ℕ → OutputState → OutputState → Result Verified E → Type 0
 Told text w w' (Ok told) = (reports : List Report) × AreReports All text 0 reports × (told ≡ verified reports)
     × Took w w' (report_lines 1 reports)
@@ -118,7 +119,8 @@ HandedOn text w w' (Err e) = Told text w w' (Err e)
 abbrev pub LacksMemory : InputState → InputState → Type 0
 LacksMemory r r' = IsNotHad r r' NoMemory ⊎ ((text : List ℕ) × IsAll r r' text)
 
--- all of the input was read, and the reports on its games were told and flushed; without all of it, or without memory, nothing was
+-- all of the input was read, and the reports on its games were told and flushed; without all of it, or without memory,
+-- nothing was
 abbrev pub Verifies : InputState → InputState → OutputState → OutputState → Result Verified VerifyFault → Type 0
 Verifies r r' w w' (Ok told) = (text : List ℕ) × IsAll r r' text × HandedOn {E = VerifyFault} text w w' (Ok told)
 Verifies r r' w w' (Err ReadFailed) = IsNotHad r r' ReadFailed × (w' ≡ w)

@@ -1,5 +1,6 @@
--- The rules as they are said for normal chess alone: what the definitions of both variants come to there. Each of these is the
--- definition of the same name without `normal_`, with castling named by the king's squares from and to the e-file.
+-- The rules as they are said for normal chess alone: what the definitions of both variants come to there. Each of these
+-- is the definition of the same name without `normal_`, with castling named by the king's squares from and to the
+-- e-file.
 use Rattle.std.specs.Prelude.{◌≡◌, ℕ, ◌==◌, nat_lt, Bool, false, true, not, ◌&&◌, Option, Some, None, is_some, if◌then◌else◌}
 use Rattle.chess_base.specs.declared.castling.Castle.{Castle}
 use Rattle.chess_base.specs.declared.steps.Steps.{Steps}
@@ -21,7 +22,7 @@ abbrev pub normal_right_stands_at : Men → Colour → CastlingSide → Option �
 normal_right_stands_at men c w None = true
 normal_right_stands_at men c w (Some s) =
     (s == home_square c (rook_file w)) && is_man c King (man_at men (home_square c king_home_file))
-        && is_man c Rook (man_at men s)
+    && is_man c Rook (man_at men s)
 
 unfoldable pub normal_says_castling : Setup → Move → CastlingSide → Bool
 normal_says_castling p m w =
@@ -41,7 +42,7 @@ abbrev pub normal_moves_as : Setup → Move → Option Man → Bool
 normal_moves_as p m None = false
 normal_moves_as p m (Some x) =
     same_colour p.side x.colour && (if same_kind Pawn x.kind then pawn_moves p m else castles_or_moves p m
-        (normal_castle_of p m))
+    (normal_castle_of p m))
 
 unfoldable pub normal_has_pattern : Setup → Move → Bool
 normal_has_pattern p m = nat_lt m.from 64 && nat_lt m.to 64 && normal_moves_as p m (man_at p.men m.from)

@@ -44,8 +44,8 @@ abbrev pub Follows : Setup → List Place → Type 0
 Follows p [] = Unit {0}
 Follows p (x ∷ xs) = WasMade p x.made x.saved x.reached.position × IsKnown x.reached × Follows x.reached.position xs
 
--- from this start the places follow, all with words by the board's definition, and the board is at the position at the end
--- of the line
+-- from this start the places follow, all with words by the board's definition, and the board is at the position at the
+-- end of the line
 pub record IsKept (f : Wording) (start : Known) (places : List Place) (board : Setup) : Type 0 where
   pub known : IsKnown start
   pub follows : Follows start.position places

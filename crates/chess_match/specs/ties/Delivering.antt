@@ -64,19 +64,20 @@ Tells (FailsToWrite c) r r' held held' more = more ≡ []
 abbrev pub HearsAt : Colour → Event → InputState → InputState → Held → Held → Type 0
 HearsAt S e r r' held held' =
     MatchBool (is_heard_of S e) ((more : List ℕ) × Consumes r.known_bytes r'.known_bytes more
-        × Tells e r r' held held' more) ((r' ≡ r) × (held' ≡ held))
+    × Tells e r r' held held' more) ((r' ≡ r) × (held' ≡ held))
 
 -- ---- what is sent
 
--- no write failed before the end: each engine was sent what is due to it, and at the end a beginning where a write failed
+-- no write failed before the end: each engine was sent what is due to it, and at the end a beginning where a write
+-- failed
 pub record AllSent (r : Rules) (core : Core) (played : List Move) (m : Match) (due : Colour → List SentLine)
     (w w' : Colour → OutputState) (failed : Colour → Bool) : Type 0 where
   pub stands : Stands r core played m
   pub puts : (S : Colour) → SendsIf (failed S) (w S) (w' S) (bytes_of (due S))
   pub fine : is_on m.phase ≡ true → (S : Colour) → failed S ≡ false
 
--- a write to c failed, which ended the match. The other engine was sent what is due to it, unless it comes after, and its end
--- lines
+-- a write to c failed, which ended the match. The other engine was sent what is due to it, unless it comes after, and
+-- its end lines
 pub record OneFailed (r : Rules) (core : Core) (played : List Move) (m : Match) (due : Colour → List SentLine)
     (first : Colour) (w w' : Colour → OutputState) (failed : Colour → Bool) (c : Colour) : Type 0 where
   pub on : is_on m.phase ≡ true

@@ -22,15 +22,19 @@ use Rattle.chess_pgn.specs.Written.{tag_line}
 abbrev pub normal_further_lines : Setup → Termination → List (List ℕ)
 normal_further_lines start termination =
     (if is_initial start then [] else fen_lines start)
-        ++ tag_line (codes "Termination") (termination_text termination) ∷ []
+    ++ tag_line (codes "Termination") (termination_text termination) ∷ []
 
 -- ---- read
 
 abbrev pub normal_tag_step : SoFar → List ℕ → List ℕ → ℕ → Step
 normal_tag_step g name text place =
     if bytes_eq name (codes "FEN") then fen_step g place (fen_reading text)
-    else On (record { state = g.state; is_met = true; is_begun = g.is_begun;
-        termination = told_behind g.termination name text })
+    else On (record {
+      state = g.state;
+      is_met = true;
+      is_begun = g.is_begun;
+      termination = told_behind g.termination name text;
+    })
 
 abbrev pub normal_step : ℕ → ℕ → SoFar → ℕ → Token → Step
 normal_step limit total g left (Tag name text string) =

@@ -31,6 +31,6 @@ pub record IsReadBack (s : State) (termination : Termination) (text_end : ℕ) (
 abbrev pub PgnIsReadBack : Type 0
 PgnIsReadBack =
     (limit : ℕ) → (tags : Tags) → (s : State) → (before after : List ℕ) → AreTagTexts tags
-        → IsPlayable (record { limit = limit; state = s })
+    → IsPlayable (record { limit = limit; state = s })
     → IsReadBack s (termination_of tags.ended (outcome_now s)) (length (before ++ pgn [] tags s))
-        (pgn_read limit (before ++ pgn [] tags s ++ after) (length before))
+    (pgn_read limit (before ++ pgn [] tags s ++ after) (length before))

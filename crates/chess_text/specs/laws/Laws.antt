@@ -36,8 +36,8 @@ abbrev pub begins_with_letter : List ℕ → Bool
 begins_with_letter [] = false
 begins_with_letter (c ∷ cs) = is_letter c
 
--- what is written for a legal move has two to seven bytes, each of them one of these, and begins with a letter, as no number and
--- no outcome of a game does
+-- what is written for a legal move has two to seven bytes, each of them one of these, and begins with a letter, as no
+-- number and no outcome of a game does
 abbrev pub SanIsShort : Type 0
 SanIsShort = (p : Setup) → (m : Move) → IsSound p → IsTrue (is_legal p m)
     → (2 ≤ length (san p m)) × (length (san p m) ≤ 7)

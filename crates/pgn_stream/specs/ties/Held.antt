@@ -74,8 +74,8 @@ IsPlaced s plies (Ok None) = s.ended ≡ true
 IsPlaced s plies (Ok (Some e)) = (s.at < e.place) × (plies + s.at ≤ e.place) × (e.place ≤ length s.window)
 IsPlaced s plies (Err f) = (s.at ≤ f.place) × (f.place ≤ length s.window)
 
--- what each stream keeps: the place is in the window, which has no more bytes than are told of the game there, and the byte
--- before it, if there is one
+-- what each stream keeps: the place is in the window, which has no more bytes than are told of the game there, and the
+-- byte before it, if there is one
 pub record IsSound (s : StreamState) : Type 0 where
   pub within : s.at ≤ length s.window
   pub few : length s.window ≤ s.at + 16777217
@@ -83,20 +83,21 @@ pub record IsSound (s : StreamState) : Type 0 where
 
 -- ---- the law
 
--- what a window tells of a game is told of it in each whole text: where the window is full, and doesn't tell it, the game is
--- too long
+-- what a window tells of a game is told of it in each whole text: where the window is full, and doesn't tell it, the
+-- game is too long
 abbrev pub WindowsTell : Type 0
 WindowsTell =
     (limit : ℕ) (s : StreamState) (text whole : List ℕ) → IsSound s → s.before ≤ length text
-        → s.window ≡ drop s.before text → IsWholeOf s.ended text whole
+    → s.window ≡ drop s.before text → IsWholeOf s.ended text whole
     → (is_held limit s ≡ true → (game_at limit whole (place s) ≡ moved_answer s.before (held_answer limit s))
-        × ((pgn_read limit whole (place s)).state ≡ (pgn_read limit s.window s.at).state))
+    × ((pgn_read limit whole (place s)).state ≡ (pgn_read limit s.window s.at).state))
     × (is_held limit s ≡ false → is_full s ≡ true
-        → game_at limit whole (place s) ≡ moved_answer s.before (Err (too_long s)))
+    → game_at limit whole (place s) ≡ moved_answer s.before (Err (too_long s)))
 
 -- ---- lines of a tag Event
 
--- the place is at the next line of a tag Event that is held, or where none is, at the last place behind which one may yet come
+-- the place is at the next line of a tag Event that is held, or where none is, at the last place behind which one may
+-- yet come
 abbrev pub FindsHeld : StreamState → StreamState → Bool → Type 0
 FindsHeld s s' true = (s' ≡ record s { at = s'.at }) × IsNextEvent s.window s.at (Some s'.at)
     × (s'.at ≤ length s.window)

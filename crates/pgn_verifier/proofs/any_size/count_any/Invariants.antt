@@ -12,7 +12,7 @@ invariant-loop-read g l =
     × ((text : List ℕ) × (reports : List Report)
     × StandsAt l.stream (g.R.Input.seen l.fn.input) (g.R.Input.seen l.input) text
     × SoFar l.options l.stream.ended text (g.W.Output.seen l.fn.output) (g.W.Output.seen l.output) (place l.stream)
-        l.tally
+    l.tally
     reports)
 
 abbrev pub decreases-loop-read : goal.decreases-loop-read
