@@ -27,6 +27,7 @@ SHORT = {
     "match": "chess_match",
     "words": "arbiter_words",
     "arbiter": "chess_arbiter",
+    "devices_tests": "byte_devices_tests",
     "base_tests": "chess_base_tests",
     "fen_tests": "chess_fen_tests",
     "boards_tests": "boards_tests",
@@ -278,6 +279,7 @@ class Sources:
         self.models = {}
         self.ghosts = {}
         self.members = {}
+        self.shown = []
         self.exports = {}
         self.uses = used_crates()
         for crate in crates():
@@ -307,6 +309,8 @@ class Sources:
                 self.ghosts.setdefault(owner, []).append((path, m.group(2)))
             if of_trait and (m := re.match(r"^\s+ghost (\w+) = ", line)):
                 self.members.setdefault((crate, owner), set()).add(m.group(1))
+            if of_trait and (m := re.match(r"^\s+ghost output = \{(.*)\};", line)):
+                self.shown.append((path, m.group(1)))
             if m := re.match(r"^\s*(pub )?(?:pub\(\w+\) )?(?:const )?fn (\w+)", line):
                 is_pub = bool(m.group(1)) or is_trait or of_trait
                 i = self.read_function(crate, path, lines, i, owner, m.group(2), is_pub)

@@ -72,7 +72,8 @@ pub record IsMatchOf (rows : List Row) (m : MatchWords) : Type 0 where
 abbrev pub IsSpelledOf : Text × List Row → Spelled → Type 0
 IsSpelledOf p spelled.Session = p.0 ≡ codes "session"
 IsSpelledOf p (spelled.Verify v) = (p.0 ≡ codes "verify") × (v ≡ verify_plan_of p.1)
-IsSpelledOf p (spelled.Stub words) = (p.0 ≡ codes "stub") × (map (λ w. w.now) words.items ≡ unwrap_or (all_of (codes "words") p.1) [])
+IsSpelledOf p (spelled.Stub words) = (p.0 ≡ codes "stub")
+    × (map (λ w. w.now) words.items ≡ unwrap_or (all_of (codes "words") p.1) [])
 IsSpelledOf p (spelled.Match m) = (p.0 ≡ codes "match") × IsMatchOf p.1 m
 
 -- ---- what it means
@@ -101,8 +102,10 @@ abbrev pub IsMatchFault : MatchWords → WordsFault → Type 0
 IsMatchFault m (Words e) = ⊥
 IsMatchFault m NoMemory = ⊥
 IsMatchFault m BadLevel = level_of m.level.now ≡ None
-IsMatchFault m (BadFen f) = (l : LevelSeen) × (level_of m.level.now ≡ Some l) × (start_of m.variant (option_map (λ t. t.now) m.fen) ≡ Err f)
-IsMatchFault m BadDate = (l : LevelSeen) × (p : Setup) × (level_of m.level.now ≡ Some l) × (start_of m.variant (option_map (λ t. t.now) m.fen) ≡ Ok p) × (is_date m.date.now ≡ false)
+IsMatchFault m (BadFen f) = (l : LevelSeen) × (level_of m.level.now ≡ Some l)
+    × (start_of m.variant (option_map (λ t. t.now) m.fen) ≡ Err f)
+IsMatchFault m BadDate = (l : LevelSeen) × (p : Setup) × (level_of m.level.now ≡ Some l)
+    × (start_of m.variant (option_map (λ t. t.now) m.fen) ≡ Ok p) × (is_date m.date.now ≡ false)
 
 abbrev pub IsPlanned : Spelled → Plan → Type 0
 IsPlanned spelled.Session plan = plan ≡ Session
@@ -128,8 +131,8 @@ abbrev pub IsNoWordsFault : WordsFault → Type 0
 IsNoWordsFault (Words e) = ⊥
 IsNoWordsFault _ = ⊤
 
--- a plan is what the words ask for. Words that `clap` promises to take are never refused as words; and a level, FEN or date
--- out of its form is told as IsFaultOf says
+-- a plan is what the words ask for. Words that `clap` promises to take are never refused as words; and a level, FEN or
+-- date out of its form is told as IsFaultOf says
 abbrev pub IsReadBy : Lent → List Text → Result Plan WordsFault → Type 0
 IsReadBy names words (Ok plan) = IsPlanOf (asked names words) plan
 IsReadBy names words (Err f) = (takes_words names words ≡ true → IsNoWordsFault f) × IsFaultOf (asked names words) f
@@ -170,7 +173,8 @@ VerifyAsBare words = (names : Lent) → verify_plan_of (asked names words).1 ≡
 
 -- what `clap` gives for the words, by the grammar
 abbrev pub IsParsedBy : Lent → List Text → Result ArgMatches Error → Type 0
-IsParsedBy names words (Ok m) = (subcommand_rows_of m ≡ subcommand_of (arbiter_app names) words) × (fault_of (arbiter_app names) words ≡ [])
+IsParsedBy names words (Ok m) = (subcommand_rows_of m ≡ subcommand_of (arbiter_app names) words)
+    × (fault_of (arbiter_app names) words ≡ [])
 IsParsedBy names words (Err e) = takes_words names words ≡ true → kind_of e ≡ OutOfMemory
 
 abbrev pub IsParsed : List Text → Result ArgMatches Error → Type 0
@@ -182,7 +186,8 @@ IsCommand name = (name ≡ codes "session") ⊎ (name ≡ codes "verify") ⊎ (n
 
 -- both programs are given where a match is asked for
 abbrev pub NamesBoth : Text × List Row → Type 0
-NamesBoth p = p.0 ≡ codes "match" → (is_some (first_of (codes "white") p.1) ≡ true) × (is_some (first_of (codes "black") p.1) ≡ true)
+NamesBoth p = p.0 ≡ codes "match" → (is_some (first_of (codes "white") p.1) ≡ true)
+    × (is_some (first_of (codes "black") p.1) ≡ true)
 
 -- where a number of games is given, it is from 1 to 1,000
 abbrev pub HasGames : List Row → Type 0

@@ -18,101 +18,87 @@ fn plans_without_arguments(rt: HostRuntime) -> Result<(), Fail> {
     Ok(())
 }
 
+// Words of `verify`, and whether it goes on, is quiet, and takes any size.
+const VERIFY: [(&[&str], bool, bool, bool); 14] = [
+    (&["verify"], false, false, false),
+    (&["verify", "--keep-going"], true, false, false),
+    (&["verify", "--quiet"], false, true, false),
+    (&["verify", "--any-size"], false, false, true),
+    (&["verify", "--keep-going", "--quiet"], true, true, false),
+    (&["verify", "--quiet", "--keep-going"], true, true, false),
+    (&["verify", "--any-size", "--quiet"], false, true, true),
+    (&["verify", "--keep-going", "--any-size"], true, false, true),
+    (
+        &["verify", "--any-size", "--keep-going", "--quiet"],
+        true,
+        true,
+        true,
+    ),
+    (
+        &["verify", "--any-size", "--quiet", "--keep-going"],
+        true,
+        true,
+        true,
+    ),
+    (
+        &["verify", "--keep-going", "--any-size", "--quiet"],
+        true,
+        true,
+        true,
+    ),
+    (
+        &["verify", "--quiet", "--any-size", "--keep-going"],
+        true,
+        true,
+        true,
+    ),
+    (
+        &["verify", "--keep-going", "--quiet", "--any-size"],
+        true,
+        true,
+        true,
+    ),
+    (
+        &["verify", "--quiet", "--keep-going", "--any-size"],
+        true,
+        true,
+        true,
+    ),
+];
+
 // The words of `verify` go together in any order.
 #[test]
 fn verify_by_its_words(rt: HostRuntime) -> Result<(), Fail> {
-    for (words, keep_going, quiet, any_size) in [
-        (["verify"].as_slice(), false, false, false),
-        (["verify", "--keep-going"].as_slice(), true, false, false),
-        (["verify", "--quiet"].as_slice(), false, true, false),
-        (["verify", "--any-size"].as_slice(), false, false, true),
-        (
-            ["verify", "--keep-going", "--quiet"].as_slice(),
-            true,
-            true,
-            false,
-        ),
-        (
-            ["verify", "--quiet", "--keep-going"].as_slice(),
-            true,
-            true,
-            false,
-        ),
-        (
-            ["verify", "--any-size", "--quiet"].as_slice(),
-            false,
-            true,
-            true,
-        ),
-        (
-            ["verify", "--keep-going", "--any-size"].as_slice(),
-            true,
-            false,
-            true,
-        ),
-        (
-            ["verify", "--any-size", "--keep-going", "--quiet"].as_slice(),
-            true,
-            true,
-            true,
-        ),
-        (
-            ["verify", "--any-size", "--quiet", "--keep-going"].as_slice(),
-            true,
-            true,
-            true,
-        ),
-        (
-            ["verify", "--keep-going", "--any-size", "--quiet"].as_slice(),
-            true,
-            true,
-            true,
-        ),
-        (
-            ["verify", "--quiet", "--any-size", "--keep-going"].as_slice(),
-            true,
-            true,
-            true,
-        ),
-        (
-            ["verify", "--keep-going", "--quiet", "--any-size"].as_slice(),
-            true,
-            true,
-            true,
-        ),
-        (
-            ["verify", "--quiet", "--keep-going", "--any-size"].as_slice(),
-            true,
-            true,
-            true,
-        ),
-    ] {
+    for (words, keep_going, quiet, any_size) in &VERIFY {
         let Plan::Verify(plan) = read_words(rt.alloc(), words)? else {
             return Err(Fail::new("another plan"));
         };
         assert_eq!(rt;
             plan,
             VerifyPlan {
-                keep_going,
-                quiet,
-                any_size
+                keep_going: *keep_going,
+                quiet: *quiet,
+                any_size: *any_size,
             }
         );
     }
     Ok(())
 }
 
+// Words of `stub`, and how many of them it plays.
+const STUBS: [(&[&str], usize); 3] = [
+    (&["stub", "e2e4", "offer"], 2),
+    (&["stub"], 0),
+    (&["stub", "--", "-x"], 1),
+];
+
 #[test]
 fn a_stub_keeps_its_words(rt: HostRuntime) -> Result<(), Fail> {
-    for (words, count) in [
-        (["stub", "e2e4", "offer"].as_slice(), 2),
-        (["stub"].as_slice(), 0),
-        (["stub", "--", "-x"].as_slice(), 1),
-    ] {
+    for (words, count) in &STUBS {
         let Plan::Stub(found) = read_words(rt.alloc(), words)? else {
             return Err(Fail::new("another plan"));
         };
-        assert_eq!(rt; found.len(), count);
+        assert_eq!(rt; found.len(), *count);
         assert!(rt; words.ends_with(found.as_slice()));
     }
     Ok(())
@@ -169,184 +155,192 @@ fn a_match_with_all_options(rt: HostRuntime) -> Result<(), Fail> {
     Ok(())
 }
 
+const VARIANTS: [(&str, &[u8]); 2] = [
+    (
+        "normal",
+        b"rnbqkbnr/pppppppp/8/8/8/8/PPPPPPPP/RNBQKBNR w KQkq - 0 1",
+    ),
+    (
+        "fischerandom",
+        b"rnbqkbnr/pppppppp/8/8/8/8/PPPPPPPP/RNBQKBNR w HAha - 0 1",
+    ),
+];
+
 #[test]
 fn a_variant_has_its_initial_position(rt: HostRuntime) -> Result<(), Fail> {
-    for (name, fen) in [
-        (
-            "normal",
-            b"rnbqkbnr/pppppppp/8/8/8/8/PPPPPPPP/RNBQKBNR w KQkq - 0 1".as_slice(),
-        ),
-        (
-            "fischerandom",
-            b"rnbqkbnr/pppppppp/8/8/8/8/PPPPPPPP/RNBQKBNR w HAha - 0 1".as_slice(),
-        ),
-    ] {
-        let words = ["match", "--white", "x", "--black", "y", "--variant", name];
+    for (name, fen) in &VARIANTS {
+        let words = ["match", "--white", "x", "--black", "y", "--variant", *name];
         let Plan::Match(plan) = read_words(rt.alloc(), words.as_slice())? else {
             return Err(Fail::new("another plan"));
         };
-        assert_eq!(rt; write_fen(&plan.start).as_slice(), fen);
+        assert_eq!(rt; write_fen(&plan.start).as_slice(), *fen);
     }
     Ok(())
 }
+
+// Words of a match, and what is told of them.
+const FAULTS: [([&str; 6], &str); 8] = [
+    (
+        ["--level", "40 5", "--fen", "x", "--date", "\u{7f}"],
+        "bad level",
+    ),
+    (
+        ["--level", "0 0:60 0", "--fen", "x", "--date", "x"],
+        "bad level",
+    ),
+    (
+        [
+            "--level",
+            "40 5 0",
+            "--fen",
+            "8/8/8/8/8/8/8/8 w - - 0 1",
+            "--date",
+            "\u{7f}",
+        ],
+        "illegal position (kings)",
+    ),
+    (
+        ["--level", "40 5 0", "--fen", "4k3/8 w - -", "--date", "x"],
+        "illegal position (placement)",
+    ),
+    (
+        [
+            "--level",
+            "0 1 0",
+            "--fen",
+            "4k3/8/8/8/8/8/8/4K3 w - - 0 1",
+            "--date",
+            "\u{7f}",
+        ],
+        "bad date",
+    ),
+    (
+        [
+            "--level",
+            "0 1 0",
+            "--fen",
+            "4k3/8/8/8/8/8/8/4K3 w - - 0 1",
+            "--date",
+            "é",
+        ],
+        "bad date",
+    ),
+    (
+        [
+            "--games",
+            "1",
+            "--variant",
+            "normal",
+            "--date",
+            "0123456789012345678901234567890123456789012345678901234567890",
+        ],
+        "bad date",
+    ),
+    (
+        [
+            "--games",
+            "1",
+            "--variant",
+            "normal",
+            "--fen",
+            "4k3/8/8/8/8/8/8/RK5R w HA - 0 1",
+        ],
+        "illegal position (castling)",
+    ),
+];
 
 // Words that ask for nothing: what is told of them.
 #[test]
 fn faults_are_told(rt: HostRuntime) -> Result<(), Fail> {
-    let bare = "8/8/8/8/8/8/8/8 w - - 0 1";
-    let cases = [
-        (
-            ["--level", "40 5", "--fen", "x", "--date", "\u{7f}"],
-            "bad level",
-        ),
-        (
-            ["--level", "0 0:60 0", "--fen", "x", "--date", "x"],
-            "bad level",
-        ),
-        (
-            ["--level", "40 5 0", "--fen", bare, "--date", "\u{7f}"],
-            "illegal position (kings)",
-        ),
-        (
-            ["--level", "40 5 0", "--fen", "4k3/8 w - -", "--date", "x"],
-            "illegal position (placement)",
-        ),
-        (
-            [
-                "--level",
-                "0 1 0",
-                "--fen",
-                "4k3/8/8/8/8/8/8/4K3 w - - 0 1",
-                "--date",
-                "\u{7f}",
-            ],
-            "bad date",
-        ),
-        (
-            [
-                "--level",
-                "0 1 0",
-                "--fen",
-                "4k3/8/8/8/8/8/8/4K3 w - - 0 1",
-                "--date",
-                "é",
-            ],
-            "bad date",
-        ),
-        (
-            [
-                "--games",
-                "1",
-                "--variant",
-                "normal",
-                "--date",
-                "0123456789012345678901234567890123456789012345678901234567890",
-            ],
-            "bad date",
-        ),
-        (
-            [
-                "--games",
-                "1",
-                "--variant",
-                "normal",
-                "--fen",
-                "4k3/8/8/8/8/8/8/RK5R w HA - 0 1",
-            ],
-            "illegal position (castling)",
-        ),
-    ];
-    for ([a, b, c, d, e, f], wanted) in cases {
-        let words = ["match", "--white", "x", "--black", "y", a, b, c, d, e, f];
+    for ([a, b, c, d, e, f], wanted) in &FAULTS {
+        let words = [
+            "match", "--white", "x", "--black", "y", *a, *b, *c, *d, *e, *f,
+        ];
         let Err(fault) = read_words(rt.alloc(), words.as_slice()) else {
             return Err(Fail::new("a plan"));
         };
         let told = format!(in rt.alloc(); "{fault}")?;
-        assert!(rt; told.as_str() == wanted);
+        assert!(rt; told.as_str() == *wanted);
     }
     Ok(())
 }
 
+const OTHERS: [(&[&str], i32); 33] = [
+    (&["match", "--white", "x"], 2),
+    (
+        &["match", "--white", "x", "--white", "y", "--black", "z"],
+        2,
+    ),
+    (&["match", "--white", "-x", "--black", "y"], 2),
+    (&["match", "--white", "x", "--black", "--date", "y"], 2),
+    (
+        &["match", "--white", "x", "--black", "y", "--games", "0"],
+        2,
+    ),
+    (
+        &["match", "--white", "x", "--black", "y", "--games", "1001"],
+        2,
+    ),
+    (
+        &["match", "--white", "x", "--black", "y", "--games", "two"],
+        2,
+    ),
+    (
+        &[
+            "match",
+            "--white",
+            "x",
+            "--black",
+            "y",
+            "--variant",
+            "atomic",
+        ],
+        2,
+    ),
+    (
+        &[
+            "match",
+            "--white",
+            "x",
+            "--black",
+            "y",
+            "--variant",
+            "Normal",
+        ],
+        2,
+    ),
+    (&["match", "--white", "x", "--black", "y", "z"], 2),
+    (&["stub", "-x"], 2),
+    (&["mat"], 2),
+    (&[""], 2),
+    (&["help"], 2),
+    (&["session", "x"], 2),
+    (&["verify", "--version"], 2),
+    (&["verify", "--keep"], 2),
+    (&["verify", "--quiet=true"], 2),
+    (&["verify", "--quiet", "--quiet"], 2),
+    (&["verify", "--any"], 2),
+    (&["verify", "--any-size=true"], 2),
+    (&["verify", "--any-size", "--any-size"], 2),
+    (&["verify", "--any-size", "16"], 2),
+    (&["session", "--any-size"], 2),
+    (&["session", "--quiet"], 2),
+    (&["verify", "--quiet", "--help"], 0),
+    (&["--white", "x"], 2),
+    (&["--help"], 0),
+    (&["-h"], 0),
+    (&["match", "--help"], 0),
+    (&["stub", "e2e4", "--help"], 0),
+    (&["--version"], 0),
+    (&["-V"], 0),
+];
+
 // Words that are none of the program's forms, or ask for help: the status that `clap` gives them.
 #[test]
 fn other_words_are_refused(rt: HostRuntime) -> Result<(), Fail> {
-    let cases = [
-        (["match", "--white", "x"].as_slice(), 2),
-        (
-            ["match", "--white", "x", "--white", "y", "--black", "z"].as_slice(),
-            2,
-        ),
-        (["match", "--white", "-x", "--black", "y"].as_slice(), 2),
-        (
-            ["match", "--white", "x", "--black", "--date", "y"].as_slice(),
-            2,
-        ),
-        (
-            ["match", "--white", "x", "--black", "y", "--games", "0"].as_slice(),
-            2,
-        ),
-        (
-            ["match", "--white", "x", "--black", "y", "--games", "1001"].as_slice(),
-            2,
-        ),
-        (
-            ["match", "--white", "x", "--black", "y", "--games", "two"].as_slice(),
-            2,
-        ),
-        (
-            [
-                "match",
-                "--white",
-                "x",
-                "--black",
-                "y",
-                "--variant",
-                "atomic",
-            ]
-            .as_slice(),
-            2,
-        ),
-        (
-            [
-                "match",
-                "--white",
-                "x",
-                "--black",
-                "y",
-                "--variant",
-                "Normal",
-            ]
-            .as_slice(),
-            2,
-        ),
-        (["match", "--white", "x", "--black", "y", "z"].as_slice(), 2),
-        (["stub", "-x"].as_slice(), 2),
-        (["mat"].as_slice(), 2),
-        ([""].as_slice(), 2),
-        (["help"].as_slice(), 2),
-        (["session", "x"].as_slice(), 2),
-        (["verify", "--version"].as_slice(), 2),
-        (["verify", "--keep"].as_slice(), 2),
-        (["verify", "--quiet=true"].as_slice(), 2),
-        (["verify", "--quiet", "--quiet"].as_slice(), 2),
-        (["verify", "--any"].as_slice(), 2),
-        (["verify", "--any-size=true"].as_slice(), 2),
-        (["verify", "--any-size", "--any-size"].as_slice(), 2),
-        (["verify", "--any-size", "16"].as_slice(), 2),
-        (["session", "--any-size"].as_slice(), 2),
-        (["session", "--quiet"].as_slice(), 2),
-        (["verify", "--quiet", "--help"].as_slice(), 0),
-        (["--white", "x"].as_slice(), 2),
-        (["--help"].as_slice(), 0),
-        (["-h"].as_slice(), 0),
-        (["match", "--help"].as_slice(), 0),
-        (["stub", "e2e4", "--help"].as_slice(), 0),
-        (["--version"].as_slice(), 0),
-        (["-V"].as_slice(), 0),
-    ];
-    for (words, status) in cases {
+    for (words, status) in &OTHERS {
         match read_words(rt.alloc(), words) {
-            Err(WordsFault::Words(error)) => assert_eq!(rt; error.exit_code(), status),
+            Err(WordsFault::Words(error)) => assert_eq!(rt; error.exit_code(), *status),
             _ => return Err(Fail::new("not clap's fault")),
         }
     }

@@ -1,46 +1,51 @@
 //! Measures the crates below the program. `bench DEPTH [FEN..]` counts the lines of legal moves from a position,
 //! `bench games FILE` the games and half-moves of a PGN file, reading each, and `bench match TIMES` the half-moves of
 //! so many matches between two engines in memory, each of 500. It writes the counts, and on standard error how many
-//! lines or half-moves a second it made.
+//! lines or half-moves a second it made. With no words it does a little of each.
 #![tactic(auto)]
 
 mod games;
 mod lines;
 mod relay;
-#[cfg(test)]
-mod tests;
 
 use chess_base::Position;
 use chess_bits::Bits;
 use chess_fen::read_fen;
-use chess_game::Game;
+use chess_game::{Game, MOST_MOVES};
 use chess_moves::Board;
 use engine_lines::Level;
 use games::read_games;
 use lines::count_lines;
-use relay::{relay, write_script};
+use relay::{Script, relay, write_script};
 use std::alloc::{AllocError, Global};
 use std::process::ExitCode;
 use std::time::{Duration, Instant};
 use std::{env, fs, io};
 
 const USAGE: &str =
-    "usage: bench DEPTH [FEN..], with DEPTH from 0 to 255; no FEN is the initial position\n       bench games FILE\n       bench match TIMES";
+    "usage: bench\n       bench DEPTH [FEN..], with DEPTH from 0 to 255; no FEN is the initial position\n       bench games FILE\n       bench match TIMES";
 
-// The most half-moves of a game.
-const GAME_LIMIT: u32 = 20_000;
+// A position with many kinds of moves (Chess Programming Wiki, perft results, position 2).
+const MANY_KINDS: &[u8] = b"r3k2r/p1ppqpb1/bn2pnp1/3PN3/1p2P3/2N2Q1p/PPPBBPPP/R3K2R w KQkq - 0 1";
 
-// The position that the words of a FEN spell. No words are the initial position.
-fn start_of(alloc: Global, fen: &[String]) -> io::Result<Option<Position>> {
-    if fen.is_empty() {
-        return Ok(Some(Position::initial()));
-    }
+const TWO_GAMES: &[u8] = b"1. e4 e5 1-0 [Event \"x\"] 1. f3 (1. d4) e5 2. g4 *";
+
+// Words with a blank behind each.
+fn joined(alloc: Global, words: &[String]) -> io::Result<Vec<u8>> {
     let mut text = Vec::new(alloc);
-    for word in fen {
+    for word in words {
         text.extend_from_slice(word.as_bytes())?;
         text.push(b' ').map_err(AllocError::from)?;
     }
-    Ok(read_fen(text.as_slice()).ok())
+    Ok(text)
+}
+
+// The position that a FEN spells. No text is the initial position.
+fn start_of(fen: &[u8]) -> Option<Position> {
+    if fen.is_empty() {
+        return Some(Position::initial());
+    }
+    read_fen(fen).ok()
 }
 
 // How many a second that is, with a millisecond at least.
@@ -57,9 +62,9 @@ fn words_of(rt: &HostRuntime) -> io::Result<Vec<String>> {
     Ok(words)
 }
 
-// Counts lines from the position that the words of a FEN spell.
-fn measure_lines(rt: &HostRuntime, depth: u8, fen: &[String]) -> io::Result<ExitCode> {
-    let Some(start) = start_of(rt.alloc(), fen)? else {
+// Counts lines from the position that a FEN spells.
+fn measure_lines(rt: &HostRuntime, depth: u8, fen: &[u8]) -> io::Result<ExitCode> {
+    let Some(start) = start_of(fen) else {
         return misused(rt);
     };
     let mut board = Bits::open(rt.alloc())?;
@@ -72,12 +77,20 @@ fn measure_lines(rt: &HostRuntime, depth: u8, fen: &[String]) -> io::Result<Exit
     Ok(ExitCode::SUCCESS)
 }
 
-// Reads the games of a file.
-fn measure_games(rt: &HostRuntime, path: &str) -> io::Result<ExitCode> {
-    let text = fs::read(rt, path)?;
-    let mut game = Game::open(rt.alloc(), Bits::open(rt.alloc())?, GAME_LIMIT)?;
+fn open_game(alloc: Global) -> Result<Game<Bits>, AllocError> {
+    Game::open(alloc, Bits::open(alloc)?, MOST_MOVES)
+}
+
+// Reads the games of a text.
+fn measure_games(rt: &HostRuntime, text: &[u8]) -> io::Result<ExitCode> {
+    let mut game = open_game(rt.alloc())?;
+    time_games(rt, text, &mut game)
+}
+
+// The same on a game that is open.
+fn time_games(rt: &HostRuntime, text: &[u8], game: &mut Game<Bits>) -> io::Result<ExitCode> {
     let begun = Instant::now(rt)?;
-    match read_games(text.as_slice(), &mut game) {
+    match read_games(text, game) {
         Ok(tally) => {
             let rate = a_second(tally.half_moves, begun.elapsed(rt)?);
             println!(rt; "{} games, {} half-moves", tally.games, tally.half_moves)?;
@@ -96,22 +109,53 @@ const MATCH_LEN: usize = 500;
 
 // Plays a match between two engines in memory so many times.
 fn measure_matches(rt: &HostRuntime, times: u32) -> io::Result<ExitCode> {
-    let mut game = Game::open(rt.alloc(), Bits::open(rt.alloc())?, GAME_LIMIT)?;
+    let mut game = open_game(rt.alloc())?;
     let mut scratch = Bits::open(rt.alloc())?;
     let script = write_script(rt.alloc(), &mut game, MATCH_LEN)?;
+    time_matches(rt, times, &script, &mut game, &mut scratch)
+}
+
+// The same with all that it takes.
+fn time_matches(
+    rt: &HostRuntime,
+    times: u32,
+    script: &Script,
+    game: &mut Game<Bits>,
+    scratch: &mut Bits,
+) -> io::Result<ExitCode> {
     let Some(level) = Level::read(b"0 60 0") else {
         return misused(rt);
     };
-    let mut half_moves: u64 = 0;
     let begun = Instant::now(rt)?;
-    for _ in 0..times {
-        let played = relay(rt.alloc(), &script, level, &mut game, &mut scratch);
-        half_moves = half_moves.saturating_add(played as u64);
-    }
+    let half_moves = play_matches(rt.alloc(), times, script, level, game, scratch);
     let rate = a_second(half_moves, begun.elapsed(rt)?);
     println!(rt; "{times} matches, {half_moves} half-moves")?;
     eprintln!(rt; "{rate} half-moves a second")?;
     Ok(ExitCode::SUCCESS)
+}
+
+// The half-moves of so many matches.
+fn play_matches(
+    alloc: Global,
+    times: u32,
+    script: &Script,
+    level: Level,
+    game: &mut Game<Bits>,
+    scratch: &mut Bits,
+) -> u64 {
+    let mut half_moves: u64 = 0;
+    for _ in 0..times {
+        let played = relay(alloc, script, level, game, scratch);
+        half_moves = half_moves.saturating_add(played as u64);
+    }
+    half_moves
+}
+
+// A little of each.
+fn measure_each(rt: &HostRuntime) -> io::Result<ExitCode> {
+    measure_lines(rt, 4, MANY_KINDS)?;
+    measure_games(rt, TWO_GAMES)?;
+    measure_matches(rt, 1)
 }
 
 fn misused(rt: &HostRuntime) -> io::Result<ExitCode> {
@@ -122,16 +166,22 @@ fn misused(rt: &HostRuntime) -> io::Result<ExitCode> {
 fn run(rt: &HostRuntime) -> io::Result<ExitCode> {
     let words = words_of(rt)?;
     match words.as_slice() {
-        [first, path] if first.as_str() == "games" => measure_games(rt, path.as_str()),
+        [first, path] if first.as_str() == "games" => {
+            let text = fs::read(rt, path.as_str())?;
+            measure_games(rt, text.as_slice())
+        }
         [first, times] if first.as_str() == "match" => match times.parse() {
             Ok(times) => measure_matches(rt, times),
             Err(_) => misused(rt),
         },
         [depth, fen @ ..] => match depth.parse() {
-            Ok(depth) => measure_lines(rt, depth, fen),
+            Ok(depth) => {
+                let text = joined(rt.alloc(), fen)?;
+                measure_lines(rt, depth, text.as_slice())
+            }
             Err(_) => misused(rt),
         },
-        [] => misused(rt),
+        [] => measure_each(rt),
     }
 }
 

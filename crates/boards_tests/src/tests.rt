@@ -169,12 +169,17 @@ const WORDS: [(&[u8], u64); 6] = [
     (b"4k3/8/8/8/8/8/8/4K3 w - - 0 1", 0xD933_5A52_334C_2F4E),
 ];
 
-/// Asks a board for the words of these positions, and on the way from one to another by 1. e4, and back.
+/// Asks a board for the words of these positions.
 fn tells_words<B: Board>(rt: &impl Abort, board: &mut B) -> Result<(), Fail> {
-    for (fen, word) in WORDS {
+    for (fen, word) in &WORDS {
         board.set(&read_fen(fen).ok().ok_or("sound")?);
-        assert_eq!(rt; board.word(), word, "at {fen:?}");
+        assert_eq!(rt; board.word(), *word, "at {fen:?}");
     }
+    Ok(())
+}
+
+/// Asks a board for the words on the way from one position to another by 1. e4, and back.
+fn tells_words_on_the_way<B: Board>(rt: &impl Abort, board: &mut B) -> Result<(), Fail> {
     board.set(&Position::initial());
     let m = Move {
         from: Square::new(12),
@@ -197,8 +202,10 @@ fn tells_words<B: Board>(rt: &impl Abort, board: &mut B) -> Result<(), Fail> {
 #[test]
 fn words_are_those_counted_apart(rt: HostRuntime) -> Result<(), Fail> {
     tells_words(&rt, &mut Plain::new())?;
+    tells_words_on_the_way(&rt, &mut Plain::new())?;
     let mut bits = Bits::open(rt.alloc()).ok().ok_or("memory")?;
-    tells_words(&rt, &mut bits)
+    tells_words(&rt, &mut bits)?;
+    tells_words_on_the_way(&rt, &mut bits)
 }
 
 // Fool's mate, and a stalemate.

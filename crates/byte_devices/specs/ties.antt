@@ -1,3 +1,3 @@
--- What only joins code to the definitions: no clause that a caller sees reaches it. Within the crate the clauses on what `Counted`
--- makes of an answer do.
+-- What only joins code to the definitions: no clause that a caller sees reaches it. Within the crate the clauses on
+-- what `Counted` makes of an answer do.
 pub mod Counting

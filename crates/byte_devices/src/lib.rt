@@ -20,6 +20,3 @@ pub use counted::Counted;
 pub use gated::{GatedReader, GatedWriter};
 pub use memory::{PieceReader, PieceWriter};
 pub use traits::{Input, Output, ReadFault, WriteFault, put, put_parts};
-
-#[cfg(test)]
-mod tests;

@@ -17,7 +17,8 @@ use Rattle.chess_match.specs.declared.reason.Reason.TheVariants.{Faulted}
 
 is_text : (bytes : List ℕ) → list_all is_ascii bytes ≡ true → IsUtf8 bytes
 is_text bytes h = IsUtf8-from_ascii bytes (IsAscii-from_all bytes
-    (All-weaker (λ b. is_ascii b ≡ true) (λ b. b < 128) (λ b e. ltb-true b 128 e) bytes (AllPass-from_list_all is_ascii bytes h)))
+    (All-weaker (λ b. is_ascii b ≡ true) (λ b. b < 128) (λ b e. ltb-true b 128 e) bytes
+    (AllPass-from_list_all is_ascii bytes h)))
 
 is_ascii_comment : (side : Colour) (fault : MatchFault) → list_all is_ascii (comment_of (Faulted side fault)) ≡ true
 is_ascii_comment White Ended = refl
@@ -37,5 +38,6 @@ is_ascii_comment Black NoSetboard = refl
 is_ascii_comment Black Flood = refl
 is_ascii_comment Black NoVariant = refl
 
-pub comment_is_text : (side : Colour) (fault : MatchFault) (bytes : List ℕ) → bytes ≡ comment_of (Faulted side fault) → IsUtf8 bytes
+pub comment_is_text : (side : Colour) (fault : MatchFault) (bytes : List ℕ) → bytes ≡ comment_of (Faulted side fault)
+    → IsUtf8 bytes
 comment_is_text side fault bytes e = subst IsUtf8 (sym e) (is_text _ (is_ascii_comment side fault))

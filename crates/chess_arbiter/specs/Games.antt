@@ -25,6 +25,7 @@ use Rattle.chess_arbiter.specs.declared.games.Played.{Played}
 use Rattle.chess_pgn.specs.Written.{cut_tag}
 use Rattle.chess_pgn.specs.declared.tags.Tags.{Tags}
 use Rattle.chess_arbiter.specs.declared.score.Score.{Score}
+use Rattle.chess_game.specs.declared.game.TheConstants.{MOST_MOVES}
 
 -- in odd games the first engine has White
 abbrev pub is_odd : ℕ → Bool
@@ -72,23 +73,40 @@ won false s = record { first = s.first; second = one_more s.second; drawn = s.dr
 abbrev pub scored : Bool → Outcome → Score → Score
 scored first_has_white WhiteWins s = won first_has_white s
 scored first_has_white BlackWins s = won (not first_has_white) s
-scored first_has_white Draw s = record { first = s.first; second = s.second; drawn = one_more s.drawn; unfinished = s.unfinished }
-scored first_has_white Unfinished s = record { first = s.first; second = s.second; drawn = s.drawn; unfinished = one_more s.unfinished }
+scored first_has_white Draw s = record {
+  first = s.first;
+  second = s.second;
+  drawn = one_more s.drawn;
+  unfinished = s.unfinished;
+}
+scored first_has_white Unfinished s = record {
+  first = s.first;
+  second = s.second;
+  drawn = s.drawn;
+  unfinished = one_more s.unfinished;
+}
 
 unfoldable pub score_line : Score → List ℕ
 score_line s =
-    codes "score first " ++ (decimal s.first ++ (codes " second " ++ (decimal s.second ++ (codes " drawn " ++ (decimal s.drawn ++ (codes " unfinished " ++ (decimal s.unfinished ++ new_line ∷ [])))))))
+    codes "score first "
+    ++ (decimal s.first
+    ++ (codes " second "
+    ++ (decimal s.second
+    ++ (codes " drawn "
+    ++ (decimal s.drawn ++ (codes " unfinished " ++ (decimal s.unfinished ++ new_line ∷ [])))))))
 
 -- ---- one game
 
 -- a game from that start was played between two engines, whatever these sent
 abbrev pub IsMatchEnd : Setup → LevelSeen → Seen → Seen → MatchEnd → Type 0
 IsMatchEnd start level g g' end =
-    (w : Ports) × (w' : Ports) × (coming : ℕ → Option ℕ) × (coming' : ℕ → Option ℕ) × Ran start level g g' end w w' coming coming'
+    (w : Ports) × (w' : Ports) × (coming : ℕ → Option ℕ) × (coming' : ℕ → Option ℕ)
+    × Ran start level g g' end w w' coming coming'
 
 -- these were White's and Black's engines, as their ports stood before
 abbrev pub IsMatchEndOf : Setup → LevelSeen → Seen → Seen → MatchEnd → Ports → Type 0
-IsMatchEndOf start level g g' end w = (w' : Ports) × (coming : ℕ → Option ℕ) × (coming' : ℕ → Option ℕ) × Ran start level g g' end w w' coming coming'
+IsMatchEndOf start level g g' end w = (w' : Ports) × (coming : ℕ → Option ℕ) × (coming' : ℕ → Option ℕ)
+    × Ran start level g g' end w w' coming coming'
 
 -- a game as it is told: how it stands, and how it ended
 pub record GameTold : Type 0 where
@@ -97,7 +115,8 @@ pub record GameTold : Type 0 where
 
 -- it is one of the plan, of at most 20,000 half-moves
 abbrev pub IsOfPlan : MatchPlan → GameTold → Type 0
-IsOfPlan plan told = (before : Seen) × (before.limit ≡ 20000) × IsMatchEnd plan.start plan.level before told.game told.end
+IsOfPlan plan told = (before : Seen) × (before.limit ≡ MOST_MOVES)
+    × IsMatchEnd plan.start plan.level before told.game told.end
 
 -- its text, where it has that number
 abbrev pub game_text : MatchPlan → ℕ → GameTold → List ℕ
@@ -117,13 +136,16 @@ TellsStart start.CanNotStart command fault = (c : Bor (List ℕ)) × (fault ≡ 
 
 -- that is so of one of the engines of the game with that number
 abbrev pub IsStartFault : MatchPlan → ℕ → GamesFault → Type 0
-IsStartFault plan number fault = FailsToStart (white_command plan number) fault ⊎ FailsToStart (black_command plan number) fault
+IsStartFault plan number fault = FailsToStart (white_command plan number) fault
+    ⊎ FailsToStart (black_command plan number) fault
 
 -- the game with that number was played, and its text was written and flushed; or its engines could not be started, and
 -- nothing was written; or a beginning of its text was
 abbrev pub PlayedOne : MatchPlan → ℕ → OutputState → OutputState → Result MatchEnd GamesFault → Type 0
-PlayedOne plan number w w' (Ok end) = (game : Seen) × IsOfPlan plan (record { game = game; end = end }) × Sent w w' (game_text plan number (record { game = game; end = end }))
-PlayedOne plan number w w' (Err WriteFailed) = (told : GameTold) × IsOfPlan plan told × BreaksOff w w' (game_text plan number told)
+PlayedOne plan number w w' (Ok end) = (game : Seen) × IsOfPlan plan (record { game = game; end = end })
+    × Sent w w' (game_text plan number (record { game = game; end = end }))
+PlayedOne plan number w w' (Err WriteFailed) =
+    (told : GameTold) × IsOfPlan plan told × BreaksOff w w' (game_text plan number told)
 PlayedOne plan number w w' (Err fault) = IsStartFault plan number fault × (w' ≡ w)
 
 -- ---- the games
@@ -158,7 +180,8 @@ abbrev pub EndsGames : MatchPlan → List GameTold → Option (ℕ × Colour × 
 EndsGames plan games None = SoundGames plan games × (length games ≡ plan.games)
 EndsGames plan games (Some (number, side, fault)) =
     (before : List GameTold) × (last : GameTold)
-    × (games ≡ before ++ last ∷ []) × SoundGames plan before × IsOfPlan plan last × (last.end.fault ≡ Some (side, fault))
+    × (games ≡ before ++ last ∷ []) × SoundGames plan before × IsOfPlan plan last
+    × (last.end.fault ≡ Some (side, fault))
     × (number ≡ length before + 1) × (length before < plan.games)
 
 -- the games before were played and told, and the next could not be started; or a beginning of its text was written
@@ -174,7 +197,8 @@ BrokeOff plan w w' fault =
 -- games were played, each was told, and the score counts them
 abbrev pub HasPlayed : MatchPlan → OutputState → OutputState → Result Played GamesFault → Type 0
 HasPlayed plan w w' (Ok played) =
-    (games : List GameTold) × EndsGames plan games played.fault × (played.score ≡ score_of games) × Flushed w w' (game_texts plan 1 games)
+    (games : List GameTold) × EndsGames plan games played.fault × (played.score ≡ score_of games)
+    × Flushed w w' (game_texts plan 1 games)
 HasPlayed plan w w' (Err fault) = BrokeOff plan w w' fault
 
 -- the text of a match: each game, and then the score
@@ -185,15 +209,17 @@ match_text plan games = game_texts plan 1 games ++ score_line (score_of games)
 abbrev pub BrokeOffAtScore : MatchPlan → OutputState → OutputState → Type 0
 BrokeOffAtScore plan w w' =
     (games : List GameTold) × (last : Option (ℕ × Colour × MatchFault)) × (start : List ℕ)
-    × EndsGames plan games last × Begins start (score_line (score_of games)) × FlushedThenFailed w w' (game_texts plan 1 games) start
+    × EndsGames plan games last × Begins start (score_line (score_of games))
+    × FlushedThenFailed w w' (game_texts plan 1 games) start
 
--- all games were played, or one with a fault was the last: they were told, and then the score; the fault is told as in the
--- game's comment. Where something broke off, the games before were told
+-- all games were played, or one with a fault was the last: they were told, and then the score; the fault is told as in
+-- the game's comment. Where something broke off, the games before were told
 abbrev pub RanGames : {A : Type 0} → MatchPlan → OutputState → OutputState → Result A GamesFault → Type 0
 RanGames plan w w' (Ok _) = (games : List GameTold) × EndsGames plan games None × Flushed w w' (match_text plan games)
 RanGames plan w w' (Err (Game number text)) =
     (games : List GameTold) × (side : Colour) × (fault : MatchFault)
-    × EndsGames plan games (Some (number, side, fault)) × (text.now ≡ comment_of (Faulted side fault)) × Flushed w w' (match_text plan games)
+    × EndsGames plan games (Some (number, side, fault)) × (text.now ≡ comment_of (Faulted side fault))
+    × Flushed w w' (match_text plan games)
 RanGames plan w w' (Err WriteFailed) = BrokeOff plan w w' WriteFailed ⊎ BrokeOffAtScore plan w w'
 RanGames plan w w' (Err NoMemory) = (w' ≡ w) ⊎ BrokeOff plan w w' NoMemory
 RanGames plan w w' (Err (CanNotStart command)) = BrokeOff plan w w' (CanNotStart command)

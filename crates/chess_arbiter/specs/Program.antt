@@ -29,6 +29,7 @@ use Rattle.chess_arbiter.specs.declared.games.GamesFault.{GamesFault}
 use Rattle.chess_arbiter.specs.Stub.{StubRan, Words, beginning}
 use Rattle.chess_arbiter.specs.declared.stub.StubFault.{StubFault}
 use Rattle.chess_arbiter.specs.declared.fault.ProgramFault.TheVariants.{ReadFailed, WriteFailed, NoMemory, InputTooLong, WrongWords}
+use Rattle.chess_game.specs.declared.game.TheConstants.{MOST_MOVES}
 
 -- nothing was read or written
 pub record IsUntouched (r r' : InputState) (w w' : OutputState) : Type 0 where
@@ -37,9 +38,12 @@ pub record IsUntouched (r r' : InputState) (w w' : OutputState) : Type 0 where
 
 -- a session of 20,000 half-moves, from what `new` leaves, ran to this end; or there was no memory for one
 abbrev pub Served : InputState → InputState → OutputState → OutputState → Result End ProgramFault → Type 0
-Served r r' w w' (Ok end) = (s : SessionSeen) × (t : Transcript) × Ran r r' w w' (opened_session default_tags 20000) s t (Ok end)
-Served r r' w w' (Err ReadFailed) = (s : SessionSeen) × (t : Transcript) × Ran r r' w w' (opened_session default_tags 20000) s t (Err Read)
-Served r r' w w' (Err WriteFailed) = (s : SessionSeen) × (t : Transcript) × Ran r r' w w' (opened_session default_tags 20000) s t (Err Write)
+Served r r' w w' (Ok end) = (s : SessionSeen) × (t : Transcript)
+    × Ran r r' w w' (opened_session default_tags MOST_MOVES) s t (Ok end)
+Served r r' w w' (Err ReadFailed) = (s : SessionSeen) × (t : Transcript)
+    × Ran r r' w w' (opened_session default_tags MOST_MOVES) s t (Err Read)
+Served r r' w w' (Err WriteFailed) = (s : SessionSeen) × (t : Transcript)
+    × Ran r r' w w' (opened_session default_tags MOST_MOVES) s t (Err Write)
 Served r r' w w' (Err NoMemory) = IsUntouched r r' w w'
 Served r r' w w' (Err InputTooLong) = ⊥
 Served r r' w w' (Err WrongWords) = ⊥
@@ -70,11 +74,13 @@ verify_status (Err fault) = fault_status (program_fault fault)
 
 -- a session ran, and the status tells how it ended
 abbrev pub RanSession : InputState → InputState → OutputState → OutputState → ℕ → Type 0
-RanSession r r' w w' status = (outcome : Result End ProgramFault) × Served r r' w w' outcome × (status ≡ status_of outcome)
+RanSession r r' w w' status = (outcome : Result End ProgramFault) × Served r r' w w' outcome
+    × (status ≡ status_of outcome)
 
 -- the games of the input were verified, and the status tells whether there was a fault
 abbrev pub RanVerify : InputState → InputState → OutputState → OutputState → ℕ → Type 0
-RanVerify r r' w w' status = (outcome : Result Verified VerifyFault) × Verifies r r' w w' outcome × (status ≡ verify_status outcome)
+RanVerify r r' w w' status = (outcome : Result Verified VerifyFault) × Verifies r r' w w' outcome
+    × (status ≡ verify_status outcome)
 
 -- the options that the words of `verify` ask for
 abbrev pub options_of : VerifyPlan → VerifyOptions
@@ -82,7 +88,8 @@ options_of plan = record { keep_going = plan.keep_going; quiet = plan.quiet }
 
 -- they were verified by words of `verify`
 abbrev pub RanVerifyBy : VerifyPlan → InputState → InputState → OutputState → OutputState → ℕ → Type 0
-RanVerifyBy plan r r' w w' status = (outcome : Result Verified VerifyFault) × VerifiesBy (options_of plan) r r' w w' outcome × (status ≡ verify_status outcome)
+RanVerifyBy plan r r' w w' status = (outcome : Result Verified VerifyFault)
+    × VerifiesBy (options_of plan) r r' w w' outcome × (status ≡ verify_status outcome)
 
 -- `verify` has any of its words on what is told
 abbrev pub has_words : VerifyPlan → Bool
@@ -95,7 +102,8 @@ RanVerifyIf false plan r r' w w' status = RanVerify r r' w w' status
 
 -- they were verified at any size
 abbrev pub RanVerifyAny : VerifyPlan → InputState → InputState → OutputState → OutputState → ℕ → Type 0
-RanVerifyAny plan r r' w w' status = (outcome : Result Verified VerifyFault) × VerifiesAny (options_of plan) r r' w w' outcome × (status ≡ verify_status outcome)
+RanVerifyAny plan r r' w w' status = (outcome : Result Verified VerifyFault)
+    × VerifiesAny (options_of plan) r r' w w' outcome × (status ≡ verify_status outcome)
 
 -- at any size, or with as many bytes as are kept as a whole
 abbrev pub RanVerifyAt : Bool → VerifyPlan → InputState → InputState → OutputState → OutputState → ℕ → Type 0
@@ -133,7 +141,8 @@ stub_status (Ok _) = 0
 stub_status (Err fault) = 1
 
 abbrev pub RanStub : Words → InputState → InputState → OutputState → OutputState → ℕ → Type 0
-RanStub words r r' w w' status = (outcome : Result (Unit {0}) StubFault) × StubRan r r' w w' (beginning words) outcome × (status ≡ stub_status outcome)
+RanStub words r r' w w' status = (outcome : Result (Unit {0}) StubFault) × StubRan r r' w w' (beginning words) outcome
+    × (status ≡ stub_status outcome)
 
 -- the games of a match were played and told, and the status tells whether anything failed
 abbrev pub games_status : {A : Type 0} → Result A GamesFault → ℕ
@@ -141,7 +150,8 @@ games_status (Ok _) = 0
 games_status (Err fault) = 1
 
 abbrev pub RanMatch : MatchPlan → OutputState → OutputState → ℕ → Type 0
-RanMatch plan w w' status = (outcome : Result (Unit {0}) GamesFault) × RanGames plan w w' outcome × (status ≡ games_status outcome)
+RanMatch plan w w' status = (outcome : Result (Unit {0}) GamesFault) × RanGames plan w w' outcome
+    × (status ≡ games_status outcome)
 
 -- what the words ask for was done, or was told why they ask for nothing
 abbrev pub RanPlan : Result Plan WordsFault → InputState → InputState → OutputState → OutputState → ℕ → Type 0
@@ -153,4 +163,5 @@ RanPlan (Err fault) r r' w w' status = (r' ≡ r) × ToldWords fault w w' status
 
 -- the words were read, and what they ask for was done
 abbrev pub RanProgram : List Text → InputState → InputState → OutputState → OutputState → ℕ → Type 0
-RanProgram words r r' w w' status = (read : Result Plan WordsFault) × IsReading words read × RanPlan read r r' w w' status
+RanProgram words r r' w w' status = (read : Result Plan WordsFault) × IsReading words read
+    × RanPlan read r r' w w' status

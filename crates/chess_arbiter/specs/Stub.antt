@@ -16,6 +16,7 @@ use Rattle.chess_arbiter.specs.declared.stub.Onward.{Onward}
 use Rattle.chess_arbiter.specs.declared.stub.Onward.TheVariants.{On, Over}
 use Rattle.chess_arbiter.specs.declared.stub.StubFault.{StubFault}
 use Rattle.chess_arbiter.specs.declared.stub.StubFault.TheVariants.{Read, Write}
+use Rattle.chess_cecp.specs.declared.session.TheConstants.{COMMAND_LEN}
 
 abbrev pub Words : Type 0
 Words = List (Bor (List ℕ))
@@ -64,8 +65,16 @@ move_text word =
 abbrev pub turn : Words → Reply
 turn [] = record { text = codes "resign" ++ new_line ∷ []; state = record { words = []; plays = true }; ends = false }
 turn (word ∷ words) =
-    if bytes_eq word.now (codes "end") then record { text = codes "mov"; state = record { words = words; plays = true }; ends = true }
-    else record { text = move_text word.now ++ remarks words; state = record { words = behind_remarks words; plays = true }; ends = false }
+    if bytes_eq word.now (codes "end") then record {
+      text = codes "mov";
+      state = record { words = words; plays = true };
+      ends = true;
+    }
+    else record {
+      text = move_text word.now ++ remarks words;
+      state = record { words = behind_remarks words; plays = true };
+      ends = false;
+    }
 
 -- ---- a line
 
@@ -113,7 +122,8 @@ Stands words r (stub, onward) = (stub.at ≤ length words) × (state_at words st
 
 -- the remarks from there on were said, or a beginning of them
 abbrev pub SaysRemarks : {E : Type 0} → Words → ℕ → OutputState → OutputState → Result ℕ E → Type 0
-SaysRemarks words from w w' (Ok at) = Took w w' (remarks (drop from words)) × (at ≤ length words) × (drop at words ≡ behind_remarks (drop from words))
+SaysRemarks words from w w' (Ok at) = Took w w' (remarks (drop from words)) × (at ≤ length words)
+    × (drop at words ≡ behind_remarks (drop from words))
 SaysRemarks words from w w' (Err e) = BreaksOff w w' (remarks (drop from words))
 
 -- a reply was given, or a beginning of it
@@ -122,7 +132,8 @@ Gives words r w w' (Ok next) = Took w w' r.text × Stands words r next
 Gives words r w w' (Err e) = BreaksOff w w' r.text
 
 -- and then flushed
-abbrev pub GivesAndFlushes : {E : Type 0} → Words → Reply → OutputState → OutputState → Result (Stub × Onward) E → Type 0
+abbrev pub GivesAndFlushes : {E : Type 0} → Words → Reply → OutputState → OutputState → Result (Stub × Onward) E
+    → Type 0
 GivesAndFlushes words r w w' (Ok next) = Sent w w' r.text × Stands words r next
 GivesAndFlushes words r w w' (Err e) = BreaksOff w w' r.text
 
@@ -153,12 +164,13 @@ abbrev pub ends_in : StubState → List LineSeen → Bool
 ends_in s [] = false
 ends_in s (line ∷ lines) = ends_at s line || ends_in (after s line) lines
 
--- the line behind those before, at none of which the stub ends, is the one at which the call ended: nothing was read while a
--- whole line was unanswered, so before the last piece fewer lines were whole
-pub record StubEndsAt (s : StubState) (t : Transcript) (last_len : ℕ) (before : List LineSeen) (line : LineSeen) (after : List LineSeen) : Type 0 where
+-- the line behind those before, at none of which the stub ends, is the one at which the call ended: nothing was read
+-- while a whole line was unanswered, so before the last piece fewer lines were whole
+pub record StubEndsAt (s : StubState) (t : Transcript) (last_len : ℕ) (before : List LineSeen) (line : LineSeen)
+    (after : List LineSeen) : Type 0 where
   pub lines : lines_given t ≡ before ++ line ∷ after
   pub goes_on : ends_in s before ≡ false
-  pub on_demand : length (whole 1024 (before_piece last_len t.given)) ≤ length before
+  pub on_demand : length (whole COMMAND_LEN (before_piece last_len t.given)) ≤ length before
 
 -- an end by a line
 abbrev pub ByLine : StubState → Transcript → ℕ → Type 0
@@ -181,12 +193,15 @@ ByWrite w w' s t last_len =
     × (t.taken ≡ replies s before ++ start)
     × LeavesUnflushed w w' start
 
--- the whole promise, as that of a session. Each reply was flushed before more was read: at all ends but that by a failed write
--- nothing is unflushed
-abbrev pub StubRan : {A : Type 0} → InputState → InputState → OutputState → OutputState → StubState → Result A StubFault → Type 0
+-- the whole promise, as that of a session. Each reply was flushed before more was read: at all ends but that by a
+-- failed write nothing is unflushed
+abbrev pub StubRan : {A : Type 0} → InputState → InputState → OutputState → OutputState → StubState → Result A StubFault
+    → Type 0
 StubRan r r' w w' s (Ok _) =
-    (t : Transcript) × FitsDevices r r' w w' t false false × (ByLine s t r'.last_len ⊎ ByInput s t r') × (t.taken ≡ replies s (lines_given t)) × LeavesUnflushed w w' []
+    (t : Transcript) × FitsDevices r r' w w' t false false × (ByLine s t r'.last_len ⊎ ByInput s t r')
+    × (t.taken ≡ replies s (lines_given t)) × LeavesUnflushed w w' []
 StubRan r r' w w' s (Err Read) =
-    (t : Transcript) × FitsDevices r r' w w' t true false × (t.told ≡ false) × (ends_in s (lines_given t) ≡ false) × (t.taken ≡ replies s (lines_given t)) × LeavesUnflushed w w' []
+    (t : Transcript) × FitsDevices r r' w w' t true false × (t.told ≡ false) × (ends_in s (lines_given t) ≡ false)
+    × (t.taken ≡ replies s (lines_given t)) × LeavesUnflushed w w' []
 StubRan r r' w w' s (Err Write) =
     (t : Transcript) × FitsDevices r r' w w' t false true × ByWrite w w' s t r'.last_len

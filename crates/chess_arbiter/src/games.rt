@@ -6,6 +6,7 @@ ghost use Rattle.chess_match.specs.Reasons.{comment_of};
 ghost use Rattle.chess_match.specs.declared.reason.Reason.TheVariants.{Faulted};
 ghost use Rattle.chess_pgn.specs.GameText.{pgn};
 ghost use Rattle.chess_arbiter.specs.Games.{FailsToStart, HasPlayed, IsMatchEnd, IsMatchEndOf, PlayedOne, RanGames, TellsStart, black_command, is_odd, name_of, score_line, tags_of, white_command};
+ghost use Rattle.chess_game.specs.declared.game.TheConstants.{MOST_MOVES};
 
 use crate::engine::{Engine, StartFault, finish, start};
 use crate::fault::ProgramFault;
@@ -15,7 +16,7 @@ use arbiter_words::MatchPlan;
 use byte_devices::{Counted, Input, Output, WriteFault, put};
 use chess_base::Colour;
 use chess_bits::Bits;
-use chess_game::Game;
+use chess_game::{Game, MOST_MOVES};
 use chess_match::{Ends, MatchEnd, MatchFault, Moments, Reason, Setup, run_match};
 use chess_pgn::{TagText, Tags, write_pgn};
 use itoa::Buffer;
@@ -23,9 +24,6 @@ use std::alloc::{AllocError, Global};
 use std::process::{OpenProcess, Processes};
 use std::rt::Clock;
 use thiserror::Error;
-
-// The most half-moves of a game.
-const GAME_LIMIT: u32 = 20_000;
 
 /// Why a match was not played to its end.
 #[derive(Clone, Copy, Debug, Error)]
@@ -229,8 +227,8 @@ fn play_one<'a, P: Processes + Clock, M: Moments, W: Output>(
     scratch: &mut Bits,
     output: &mut W,
 ) -> Result<MatchEnd, GamesFault<'a>>
-    requires limit { game.old.limit ≡ 20000 }
-    ensures limit { game.new.limit ≡ 20000 }
+    requires limit { game.old.limit ≡ MOST_MOVES }
+    ensures limit { game.new.limit ≡ MOST_MOVES }
     ensures played { PlayedOne plan.now number (W.seen output.old) (W.seen output.new) result }
 {
     let (white, black) = match start_both(
@@ -271,7 +269,7 @@ fn play_each<'a, P: Processes + Clock, M: Moments, W: Output>(
     scratch: &mut Bits,
     output: &mut W,
 ) -> Result<Played, GamesFault<'a>>
-    requires { game.old.limit ≡ 20000 }
+    requires { game.old.limit ≡ MOST_MOVES }
     ensures { HasPlayed plan.now (W.seen output.old) (W.seen output.new) result }
 {
     let mut score = Score::new();
@@ -295,10 +293,10 @@ fn play_each<'a, P: Processes + Clock, M: Moments, W: Output>(
 
 // A game with its board.
 fn open_game(alloc: Global) -> Result<Game<Bits>, AllocError>
-    ensures { IfOk result (λ g. g.limit ≡ 20000) }
+    ensures { IfOk result (λ g. g.limit ≡ MOST_MOVES) }
 {
     let board = Bits::open(alloc)?;
-    Game::open(alloc, board, GAME_LIMIT)
+    Game::open(alloc, board, MOST_MOVES)
 }
 
 /// Plays the games of a match, with colours changed after each, and writes each game's text and then the score.

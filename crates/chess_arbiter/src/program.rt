@@ -5,6 +5,7 @@ ghost use Rattle.byte_devices.specs.Devices.{Sends};
 ghost use Rattle.chess_cecp.specs.Held.{opened_session};
 ghost use Rattle.chess_pgn.specs.Tags.{default_tags};
 ghost use Rattle.chess_arbiter.specs.Program.{Served, Shown, RanHelp, RanMatch, RanProgram, RanSession, RanStub, RanVerify, RanVerifyAny, RanVerifyAt, RanVerifyBy, RanVerifyIf, ToldWords, has_words, options_of, program_fault, verify_status};
+ghost use Rattle.chess_game.specs.declared.game.TheConstants.{MOST_MOVES};
 
 use crate::fault::{ProgramFault, tell_text, told};
 use crate::games::play_games;
@@ -13,6 +14,7 @@ use arbiter_words::{MatchPlan, Plan, VerifyPlan, WordsFault, read_words};
 use byte_devices::{Input, Output, WriteFault, put};
 use chess_bits::Bits;
 use chess_cecp::{End, Fault, Session, run_session};
+use chess_game::MOST_MOVES;
 use chess_pgn::Tags;
 use pgn_verifier::{Verified, VerifyFault, VerifyOptions, verify, verify_any_size, verify_by};
 use std::alloc::{AllocError, Global};
@@ -20,16 +22,13 @@ use std::fmt::Display;
 use std::process::Processes;
 use std::rt::Clock;
 
-// The number of half-moves that can stand in the program's session.
-const SESSION_LIMIT: u32 = 20_000;
-
 // A session as `new` leaves it, with its boards.
 fn open_session(alloc: Global) -> Result<Session<Bits>, AllocError>
-    ensures { IfOk result (λ s. s ≡ opened_session default_tags 20000) }
+    ensures { IfOk result (λ s. s ≡ opened_session default_tags MOST_MOVES) }
 {
     let board = Bits::open(alloc)?;
     let scratch = Bits::open(alloc)?;
-    Session::open(alloc, board, scratch, Tags::default(), SESSION_LIMIT)
+    Session::open(alloc, board, scratch, Tags::default(), MOST_MOVES)
 }
 
 // A session on the input and the output.

@@ -7,7 +7,7 @@ ghost use Rattle.chess_arbiter.specs.Stub.{Gives, GivesAndFlushes, SaysRemarks, 
 
 use arrayvec::ArrayVec;
 use byte_devices::{Input, Output, WriteFault, put, put_parts};
-use chess_cecp::{Command, Line, Lines, first_word, read_command};
+use chess_cecp::{COMMAND_LEN, Command, Line, Lines, first_word, read_command};
 use itoa::Buffer;
 
 const FEATURES: &[u8] = b"feature ping=1 setboard=1 usermove=1 myname=\"stub\" done=1\n";
@@ -196,7 +196,7 @@ fn obey<W: Output>(
 fn answer<W: Output>(
     words: &[&str],
     stub: Stub,
-    line: &Line<1024>,
+    line: &Line<COMMAND_LEN>,
     writer: &mut W,
 ) -> Result<(Stub, Onward), WriteFault>
     requires { stub.at ≤ length words.now }
@@ -222,7 +222,7 @@ pub(crate) fn run_stub<R: Input, W: Output>(
 ) -> Result<(), StubFault>
     ensures { StubRan (R.seen reader.old) (R.seen reader.new) (W.seen writer.old) (W.seen writer.new) (beginning words.now) result }
 {
-    let mut lines: Lines<1024> = Lines::new();
+    let mut lines: Lines<COMMAND_LEN> = Lines::new();
     let mut stub = Stub {
         at: 0,
         plays: false,

@@ -25,11 +25,17 @@ never : (a b c : Bool) → (a && false) ≡ (false && a && b && c)
 never true b c = refl
 never false b c = refl
 
-says_by : (c : Colour) (m : Move) (w : CastlingSide) (king : Bool) (o : Option ℕ) → (king && names_castling Normal c m w o) ≡ (is_some o && king && (m.from == home_square c king_home_file) && (m.to == home_square c (castled_king_file w)))
-says_by c m w king None = never king (m.from == home_square c king_home_file) (m.to == home_square c (castled_king_file w))
-says_by c m w king (Some rook) = in_turn king (m.from == home_square c king_home_file) (m.to == home_square c (castled_king_file w))
+says_by : (c : Colour) (m : Move) (w : CastlingSide) (king : Bool) (o : Option ℕ)
+    → (king && names_castling Normal c m w o)
+    ≡ (is_some o && king && (m.from == home_square c king_home_file)
+    && (m.to == home_square c (castled_king_file w)))
+says_by c m w king None = never king (m.from == home_square c king_home_file)
+    (m.to == home_square c (castled_king_file w))
+says_by c m w king (Some rook) = in_turn king (m.from == home_square c king_home_file)
+    (m.to == home_square c (castled_king_file w))
 
-says_kept : (p : Setup) → p.variant ≡ Normal → (m : Move) (w : CastlingSide) → says_castling p m w ≡ normal_says_castling p m w
+says_kept : (p : Setup) → p.variant ≡ Normal → (m : Move) (w : CastlingSide)
+    → says_castling p m w ≡ normal_says_castling p m w
 unfolding says_castling normal_says_castling
 says_kept p e m w = rw e (says_by p.side m w (is_man p.side King (man_at p.men m.from)) (right_of p.rights p.side w))
 
@@ -43,7 +49,8 @@ castle_kept p e m = ap (castle_by p.side p.rights m) (castling_kept p e m)
 
 moves_kept : (p : Setup) → p.variant ≡ Normal → (m : Move) (o : Option Man) → moves_as p m o ≡ normal_moves_as p m o
 moves_kept p e m None = refl
-moves_kept p e m (Some x) = ap (λ k. same_colour p.side x.colour && cond (same_kind Pawn x.kind) (pawn_moves p m) (castles_or_moves p m k)) (castle_kept p e m)
+moves_kept p e m (Some x) = ap (λ k. same_colour p.side x.colour
+    && cond (same_kind Pawn x.kind) (pawn_moves p m) (castles_or_moves p m k)) (castle_kept p e m)
 
 pattern_kept : (p : Setup) → p.variant ≡ Normal → (m : Move) → has_pattern p m ≡ normal_has_pattern p m
 unfolding has_pattern normal_has_pattern
@@ -67,20 +74,40 @@ men_kept p e m = ap (λ o. men_stepped p.men (steps_by p m o)) (castle_kept p e 
 after_kept : (p : Setup) → p.variant ≡ Normal → (m : Move) → after p m ≡ normal_after p m
 unfolding after normal_after
 after_kept p e m =
-    ap (λ (men : Men). record { variant = p.variant; men = men; side = other p.side; rights = rights_after p m; target = target_after p m; halfmove = halfmove_after p m; fullmove = fullmove_after p.side p.fullmove }) (men_kept p e m)
-    ∙ ap (λ v. record { variant = v; men = normal_men_after p m; side = other p.side; rights = rights_after p m; target = target_after p m; halfmove = halfmove_after p m; fullmove = fullmove_after p.side p.fullmove }) e
+    ap (λ (men : Men). record {
+      variant = p.variant;
+      men = men;
+      side = other p.side;
+      rights = rights_after p m;
+      target = target_after p m;
+      halfmove = halfmove_after p m;
+      fullmove = fullmove_after p.side p.fullmove;
+    })
+    (men_kept p e m)
+    ∙ ap (λ v. record {
+      variant = v;
+      men = normal_men_after p m;
+      side = other p.side;
+      rights = rights_after p m;
+      target = target_after p m;
+      halfmove = halfmove_after p m;
+      fullmove = fullmove_after p.side p.fullmove;
+    }) e
 
 legal_kept : (p : Setup) → p.variant ≡ Normal → (m : Move) → is_legal p m ≡ normal_is_legal p m
 unfolding is_legal normal_is_legal
 legal_kept p e m = rw (pattern_kept p e m, after_kept p e m) refl
 
-stands_by : (men : Men) (c : Colour) (w : CastlingSide) (o : Option ℕ) → right_stands_at Normal men c w o ≡ normal_right_stands_at men c w o
+stands_by : (men : Men) (c : Colour) (w : CastlingSide) (o : Option ℕ)
+    → right_stands_at Normal men c w o ≡ normal_right_stands_at men c w o
 stands_by men c w None = refl
 stands_by men c w (Some s) = refl
 
-stands_kept : (p : Setup) → p.variant ≡ Normal → (c : Colour) (w : CastlingSide) → right_stands p c w ≡ normal_right_stands_at p.men c w (right_of p.rights c w)
+stands_kept : (p : Setup) → p.variant ≡ Normal → (c : Colour) (w : CastlingSide)
+    → right_stands p c w ≡ normal_right_stands_at p.men c w (right_of p.rights c w)
 unfolding right_stands
-stands_kept p e c w = ap (λ v. right_stands_at v p.men c w (right_of p.rights c w)) e ∙ stands_by p.men c w (right_of p.rights c w)
+stands_kept p e c w = ap (λ v. right_stands_at v p.men c w (right_of p.rights c w)) e
+    ∙ stands_by p.men c w (right_of p.rights c w)
 
 pub normal_kept : (p : Setup) → p.variant ≡ Normal → NormalIsKept p
 normal_kept p e = record { stands = stands_kept p e; legal = legal_kept p e; after = after_kept p e }

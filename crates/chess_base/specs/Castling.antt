@@ -1,5 +1,6 @@
--- Castling (Laws of Chess 2023, article 3.8.2): with which rook, between which squares, and when. In Chess960 (Laws of Chess 2023,
--- Guidelines II) king and rooks begin anywhere on the first rank, the king between the rooks; where both end stays the same.
+-- Castling (Laws of Chess 2023, article 3.8.2): with which rook, between which squares, and when. In Chess960 (Laws of
+-- Chess 2023, Guidelines II) king and rooks begin anywhere on the first rank, the king between the rooks; where both
+-- end stays the same.
 use Rattle.std.specs.Prelude.{ℕ, ◌+◌, ◌*◌, ◌==◌, nat_lt, Bool, true, false, not, ◌&&◌, ◌||◌, Option, Some, None, is_none, position, if◌then◌else◌}
 use Rattle.chess_base.specs.declared.castling.Castle.{Castle}
 use Rattle.chess_base.specs.declared.man.Colour.{Colour}
@@ -65,11 +66,12 @@ abbrev pub is_beside : Colour → CastlingSide → Option ℕ → ℕ → Bool
 is_beside c w None s = false
 is_beside c w (Some k) s = (rank k == first_rank c) && (rank s == first_rank c) && is_to_side w k s
 
--- king and rook, which is on s, stand where castling to that side begins: in normal chess both at home, in Chess960 both on
--- the first rank, the rook on that side of the king
+-- king and rook, which is on s, stand where castling to that side begins: in normal chess both at home, in Chess960
+-- both on the first rank, the rook on that side of the king
 abbrev pub stand_for_castling : Variant → Men → Colour → CastlingSide → ℕ → Bool
 stand_for_castling Normal men c w s =
-    (s == home_square c (rook_file w)) && is_man c King (man_at men (home_square c king_home_file)) && is_man c Rook (man_at men s)
+    (s == home_square c (rook_file w)) && is_man c King (man_at men (home_square c king_home_file))
+    && is_man c Rook (man_at men s)
 stand_for_castling Fischerandom men c w s = is_beside c w (king_square men c) s && is_man c Rook (man_at men s)
 
 abbrev pub right_stands_at : Variant → Men → Colour → CastlingSide → Option ℕ → Bool
@@ -82,10 +84,11 @@ right_stands p c w = right_stands_at p.variant p.men c w (right_of p.rights c w)
 
 -- ---- which moves are castling
 
--- the squares of the move name castling with that rook: in normal chess the king's squares, from home to where castling on
--- that side takes it; in Chess960 the king's square and the rook's, on one rank
+-- the squares of the move name castling with that rook: in normal chess the king's squares, from home to where castling
+-- on that side takes it; in Chess960 the king's square and the rook's, on one rank
 abbrev pub names_castling_with : Variant → Colour → Move → CastlingSide → ℕ → Bool
-names_castling_with Normal c m w rook = (m.from == home_square c king_home_file) && (m.to == home_square c (castled_king_file w))
+names_castling_with Normal c m w rook = (m.from == home_square c king_home_file)
+    && (m.to == home_square c (castled_king_file w))
 names_castling_with Fischerandom c m w rook = (rank m.from == rank rook) && (m.to == rook)
 
 -- the right is there, and the squares name castling with its rook
@@ -95,17 +98,24 @@ names_castling v c m w (Some rook) = names_castling_with v c m w rook
 
 -- the king goes as castling on that side is named, and the right is there
 unfoldable pub says_castling : Setup → Move → CastlingSide → Bool
-says_castling p m w = is_man p.side King (man_at p.men m.from) && names_castling p.variant p.side m w (right_of p.rights p.side w)
+says_castling p m w = is_man p.side King (man_at p.men m.from)
+    && names_castling p.variant p.side m w (right_of p.rights p.side w)
 
 -- the side of the castling that the move is, if it is one
 unfoldable pub castling : Setup → Move → Option CastlingSide
-castling p m = if says_castling p m KingSide then Some KingSide else if says_castling p m QueenSide then Some QueenSide else None
+castling p m = if says_castling p m KingSide then Some KingSide else if says_castling p m QueenSide then Some QueenSide
+    else None
 
 -- ---- the squares of a castling
 
 -- castling of colour c on that side, with the king on k and the rook on r
 abbrev pub castle_from : Colour → CastlingSide → ℕ → ℕ → Castle
-castle_from c w k r = record { king_from = k; king_to = home_square c (castled_king_file w); rook_from = r; rook_to = home_square c (castled_rook_file w) }
+castle_from c w k r = record {
+  king_from = k;
+  king_to = home_square c (castled_king_file w);
+  rook_from = r;
+  rook_to = home_square c (castled_rook_file w);
+}
 
 abbrev pub castle_with : Colour → CastlingSide → ℕ → Option ℕ → Option Castle
 castle_with c w k None = None
@@ -134,7 +144,8 @@ abbrev pub rook_to : Option Castle → Option ℕ
 rook_to None = None
 rook_to (Some k) = Some k.rook_to
 
--- where the mover stands after the move. In normal chess that is m.to, castling too, since it is named by the king's squares
+-- where the mover stands after the move. In normal chess that is m.to, castling too, since it is named by the king's
+-- squares
 unfoldable pub lands_on : Setup → Move → ℕ
 lands_on p m = mover_to m (castle_of p m)
 
@@ -151,7 +162,8 @@ is_on_way a b x = (x == a) || (x == b) || is_between a b x
 -- king or rook crosses x or ends there, and neither of the two stands there
 unfoldable pub castling_crosses : Castle → ℕ → Bool
 castling_crosses k x =
-    (is_on_way k.king_from k.king_to x || is_on_way k.rook_from k.rook_to x) && not (x == k.king_from) && not (x == k.rook_from)
+    (is_on_way k.king_from k.king_to x || is_on_way k.rook_from k.rook_to x) && not (x == k.king_from)
+    && not (x == k.rook_from)
 
 -- the squares that king and rook cross or end on are empty, but for these two (3.8.2.2.2)
 unfoldable pub castling_way_is_empty : Men → Castle → Bool
@@ -159,7 +171,8 @@ castling_way_is_empty men k = each_square (λ x. not (castling_crosses k x) || i
 
 -- the king's start, crossed and end squares are not attacked (3.8.2.2.1)
 unfoldable pub castling_way_is_safe : Men → Colour → Castle → Bool
-castling_way_is_safe men c k = each_square (λ x. not (is_on_way k.king_from k.king_to x) || not (is_attacked men x (other c)))
+castling_way_is_safe men c k = each_square
+    (λ x. not (is_on_way k.king_from k.king_to x) || not (is_attacked men x (other c)))
 
 -- nothing prevents this castling, and the move names no promotion
 unfoldable pub castles : Setup → Move → Castle → Bool

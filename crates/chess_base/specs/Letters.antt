@@ -1,6 +1,8 @@
 -- The bytes of texts: letters and digits, what stands between, the letters of kinds of men and the names of squares.
 use Prim.Native.String.{String as Text}
 use Rattle.std.specs.Prelude.{ℕ, ◌+◌, ◌-◌, ◌*◌, Bool, ◌&&◌, ◌||◌, List, [], ◌∷◌, nat_le, codes}
+use Rattle.chess_base.specs.declared.man.Colour.{Colour}
+use Rattle.chess_base.specs.declared.man.Colour.TheVariants.{White, Black}
 use Rattle.chess_base.specs.declared.man.Kind.{Kind}
 use Rattle.chess_base.specs.declared.man.Kind.TheVariants.{Pawn, Knight, Bishop, Rook, Queen, King}
 use Rattle.chess_base.specs.Squares.{file, rank}
@@ -49,6 +51,19 @@ white_letter Bishop = byte "B"
 white_letter Rook = byte "R"
 white_letter Queen = byte "Q"
 white_letter King = byte "K"
+
+-- the words of colours and kinds of men
+abbrev pub colour_word : Colour → List ℕ
+colour_word White = codes "white"
+colour_word Black = codes "black"
+
+abbrev pub kind_word : Kind → List ℕ
+kind_word King = codes "king"
+kind_word Queen = codes "queen"
+kind_word Rook = codes "rook"
+kind_word Bishop = codes "bishop"
+kind_word Knight = codes "knight"
+kind_word Pawn = codes "pawn"
 
 -- the name of a square: the file's letter and the rank's digit
 abbrev pub square_text : ℕ → List ℕ

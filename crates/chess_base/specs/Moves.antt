@@ -66,7 +66,8 @@ castles_or_moves p m (Some k) = castles p m k
 abbrev pub moves_as : Setup → Move → Option Man → Bool
 moves_as p m None = false
 moves_as p m (Some x) =
-    same_colour p.side x.colour && (if same_kind Pawn x.kind then pawn_moves p m else castles_or_moves p m (castle_of p m))
+    same_colour p.side x.colour && (if same_kind Pawn x.kind then pawn_moves p m else castles_or_moves p m
+    (castle_of p m))
 
 -- the move has the pattern of one of the men's moves: it is pseudo-legal, legal but for what becomes of the king
 unfoldable pub has_pattern : Setup → Move → Bool
@@ -107,7 +108,10 @@ right_after p m c (Some s) =
     if is_man c King (man_at p.men m.from) || (m.from == s) || (m.to == s) then None else Some s
 
 abbrev pub colour_rights_after : Setup → Move → Colour → ColourRights
-colour_rights_after p m c = record { king_side = right_after p m c (right_of p.rights c KingSide); queen_side = right_after p m c (right_of p.rights c QueenSide) }
+colour_rights_after p m c = record {
+  king_side = right_after p m c (right_of p.rights c KingSide);
+  queen_side = right_after p m c (right_of p.rights c QueenSide);
+}
 
 unfoldable pub rights_after : Setup → Move → Rights
 rights_after p m = record { white = colour_rights_after p m White; black = colour_rights_after p m Black }

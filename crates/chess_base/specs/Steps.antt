@@ -1,5 +1,6 @@
--- What changes on the board when a move is made, and when it is taken back: the mover and perhaps a second man leave, and then
--- perhaps a second man and the mover arrive. All leave before one arrives: in Chess960 a castling king and rook may change places.
+-- What changes on the board when a move is made, and when it is taken back: the mover and perhaps a second man leave,
+-- and then perhaps a second man and the mover arrive. All leave before one arrives: in Chess960 a castling king and
+-- rook may change places.
 use Rattle.std.specs.Prelude.{ℕ, ◌==◌, ◌||◌, Option, None, if◌then◌else◌}
 use Rattle.chess_base.specs.declared.man.Man.{Man}
 use Rattle.chess_base.specs.declared.steps.Steps.{Steps}

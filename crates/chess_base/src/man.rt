@@ -1,6 +1,7 @@
 //! Colours, men, castling rights and moves.
 
-ghost use Rattle.std.specs.Prelude.{◌≡◌};
+ghost use Rattle.std.specs.Prelude.{◌≡◌, Some};
+ghost use Rattle.chess_base.specs.Letters.{colour_word, kind_word};
 ghost use Rattle.chess_base.specs.Men.{other, is_of, is_man, same_kind, same_colour};
 
 use crate::square::Square;
@@ -26,6 +27,8 @@ impl Colour {
 }
 
 impl fmt::Display for Colour {
+    ghost output = { λ c. Some (colour_word c) };
+
     fn fmt<W: fmt::Write>(&self, f: &mut fmt::Formatter<W>) -> fmt::Result {
         f.write_str(match self {
             Colour::White => "white",
@@ -46,6 +49,8 @@ pub enum Kind {
 }
 
 impl fmt::Display for Kind {
+    ghost output = { λ k. Some (kind_word k) };
+
     fn fmt<W: fmt::Write>(&self, f: &mut fmt::Formatter<W>) -> fmt::Result {
         f.write_str(match self {
             Kind::King => "king",

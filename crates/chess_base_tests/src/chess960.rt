@@ -20,56 +20,57 @@ fn play(position: Position, squares: &[u8; 4]) -> Option<Position> {
 // A position, the squares of king and rook, and the FEN after castling; nothing where it is illegal. The king stays,
 // the rook stays, and they change places, on both sides; then out of, through and into attacked squares, with b1
 // attacked, and off a pin.
+const CASTLINGS: [(&[u8], &[u8; 4], &[u8]); 12] = [
+    (
+        b"4k3/8/8/8/8/8/8/6KR w H - 0 1",
+        b"g1h1",
+        b"4k3/8/8/8/8/8/8/5RK1 b - - 1 1",
+    ),
+    (
+        b"4k3/8/8/8/8/8/8/4KR2 w F - 0 1",
+        b"e1f1",
+        b"4k3/8/8/8/8/8/8/5RK1 b - - 1 1",
+    ),
+    (
+        b"4k3/8/8/8/8/8/8/5KR1 w G - 0 1",
+        b"f1g1",
+        b"4k3/8/8/8/8/8/8/5RK1 b - - 1 1",
+    ),
+    (
+        b"4k3/8/8/8/8/8/8/1RK5 w B - 0 1",
+        b"c1b1",
+        b"4k3/8/8/8/8/8/8/2KR4 b - - 1 1",
+    ),
+    (
+        b"4k3/8/8/8/8/8/8/3RK3 w D - 0 1",
+        b"e1d1",
+        b"4k3/8/8/8/8/8/8/2KR4 b - - 1 1",
+    ),
+    (
+        b"2rk4/8/8/8/8/8/8/6K1 b c - 0 1",
+        b"d8c8",
+        b"2kr4/8/8/8/8/8/8/6K1 w - - 1 2",
+    ),
+    (b"4kr2/8/8/8/8/8/8/5KR1 w G - 0 1", b"f1g1", b""),
+    (b"k4r2/8/8/8/8/8/8/3K3R w H - 0 1", b"d1h1", b""),
+    (b"k5r1/8/8/8/8/8/8/3K3R w H - 0 1", b"d1h1", b""),
+    (
+        b"1r5k/8/8/8/8/8/8/R3K3 w A - 0 1",
+        b"e1a1",
+        b"1r5k/8/8/8/8/8/8/2KR4 b - - 1 1",
+    ),
+    (b"4k3/8/8/8/8/8/8/rRK5 w B - 0 1", b"c1b1", b""),
+    (b"4k3/8/8/8/8/8/8/2NRK3 w D - 0 1", b"e1d1", b""),
+];
+
 #[test]
 fn castling_leaves_its_positions(rt: HostRuntime) -> Result<(), Fail> {
-    let rows: [(&[u8], &[u8; 4], &[u8]); 12] = [
-        (
-            b"4k3/8/8/8/8/8/8/6KR w H - 0 1",
-            b"g1h1",
-            b"4k3/8/8/8/8/8/8/5RK1 b - - 1 1",
-        ),
-        (
-            b"4k3/8/8/8/8/8/8/4KR2 w F - 0 1",
-            b"e1f1",
-            b"4k3/8/8/8/8/8/8/5RK1 b - - 1 1",
-        ),
-        (
-            b"4k3/8/8/8/8/8/8/5KR1 w G - 0 1",
-            b"f1g1",
-            b"4k3/8/8/8/8/8/8/5RK1 b - - 1 1",
-        ),
-        (
-            b"4k3/8/8/8/8/8/8/1RK5 w B - 0 1",
-            b"c1b1",
-            b"4k3/8/8/8/8/8/8/2KR4 b - - 1 1",
-        ),
-        (
-            b"4k3/8/8/8/8/8/8/3RK3 w D - 0 1",
-            b"e1d1",
-            b"4k3/8/8/8/8/8/8/2KR4 b - - 1 1",
-        ),
-        (
-            b"2rk4/8/8/8/8/8/8/6K1 b c - 0 1",
-            b"d8c8",
-            b"2kr4/8/8/8/8/8/8/6K1 w - - 1 2",
-        ),
-        (b"4kr2/8/8/8/8/8/8/5KR1 w G - 0 1", b"f1g1", b""),
-        (b"k4r2/8/8/8/8/8/8/3K3R w H - 0 1", b"d1h1", b""),
-        (b"k5r1/8/8/8/8/8/8/3K3R w H - 0 1", b"d1h1", b""),
-        (
-            b"1r5k/8/8/8/8/8/8/R3K3 w A - 0 1",
-            b"e1a1",
-            b"1r5k/8/8/8/8/8/8/2KR4 b - - 1 1",
-        ),
-        (b"4k3/8/8/8/8/8/8/rRK5 w B - 0 1", b"c1b1", b""),
-        (b"4k3/8/8/8/8/8/8/2NRK3 w D - 0 1", b"e1d1", b""),
-    ];
-    for (start, squares, fen) in rows {
+    for (start, squares, fen) in &CASTLINGS {
         let start = read_fen_as(Variant::Fischerandom, start)
             .ok()
             .ok_or("sound")?;
         match play(start, squares) {
-            Some(position) => assert_eq!(rt; write_fen(&position).as_slice(), fen),
+            Some(position) => assert_eq!(rt; write_fen(&position).as_slice(), *fen),
             None => assert!(rt; fen.is_empty(), "at {squares:?}"),
         }
     }

@@ -113,29 +113,38 @@ const LONGEST: &[u8] =
 fn initial_position_has_20_moves(rt: HostRuntime) -> Result<(), Fail> {
     let position = Position::initial();
     assert!(rt; Position::new(setup(INITIAL, Colour::White)).ok() == Some(position));
+    assert_eq!(rt; position.side(), Colour::White);
+    assert_eq!(rt; position.setup().fullmove, 1);
     assert_eq!(rt; legal_moves(&position), 20);
     assert_eq!(rt; legal_pairs(&position), 400);
     Ok(())
 }
 
+// The usual test positions of move generators, with the number of their moves.
+const COUNTED: [(&[u8], u32); 4] = [
+    (KIWIPETE, 48),
+    (b"8/2p5/3p4/KP5r/1R3p1k/8/4P1P1/8 w - - 0 1", 14),
+    (
+        b"r3k2r/Pppp1ppp/1b3nbN/nP6/BBP1P3/q4N2/Pp1P2PP/R2Q1RK1 w kq - 0 1",
+        6,
+    ),
+    (
+        b"rnbq1k1r/pp1Pbppp/2p5/8/2B5/8/PPP1NnPP/RNBQK2R w KQ - 1 8",
+        44,
+    ),
+];
+
 #[test]
 fn test_positions_have_their_moves(rt: HostRuntime) -> Result<(), Fail> {
-    let rows: [(&[u8], u32); 4] = [
-        (KIWIPETE, 48),
-        (b"8/2p5/3p4/KP5r/1R3p1k/8/4P1P1/8 w - - 0 1", 14),
-        (
-            b"r3k2r/Pppp1ppp/1b3nbN/nP6/BBP1P3/q4N2/Pp1P2PP/R2Q1RK1 w kq - 0 1",
-            6,
-        ),
-        (
-            b"rnbq1k1r/pp1Pbppp/2p5/8/2B5/8/PPP1NnPP/RNBQK2R w KQ - 1 8",
-            44,
-        ),
-    ];
-    for (fen, moves) in rows {
+    for (fen, moves) in &COUNTED {
         let position = read_fen(fen).ok().ok_or("sound")?;
-        assert_eq!(rt; legal_moves(&position), moves, "at {fen:?}");
+        assert_eq!(rt; legal_moves(&position), *moves, "at {fen:?}");
     }
+    Ok(())
+}
+
+#[test]
+fn a_test_position_has_its_pairs_of_moves(rt: HostRuntime) -> Result<(), Fail> {
     let kiwipete = read_fen(KIWIPETE).ok().ok_or("sound")?;
     assert_eq!(rt; legal_pairs(&kiwipete), 2039);
     Ok(())
@@ -156,60 +165,67 @@ fn play(position: Position, squares: &[u8; 4], promotion: Option<Kind>) -> Optio
     position.is_legal(m).then(|| position.after(again))
 }
 
+type Row = (
+    &'static [u8],
+    &'static [u8; 4],
+    Option<Kind>,
+    Option<&'static [u8]>,
+);
 // A position, a move, and the FEN after it; none where the move is illegal.
+const MADE: [Row; 9] = [
+    (
+        b"rnbqkbnr/pppppppp/8/8/8/8/PPPPPPPP/RNBQKBNR w KQkq - 0 1",
+        b"e2e4",
+        None,
+        Some(b"rnbqkbnr/pppppppp/8/8/4P3/8/PPPP1PPP/RNBQKBNR b KQkq e3 0 1"),
+    ),
+    (
+        b"4k3/8/8/8/8/8/1r6/R3K3 w Q - 0 1",
+        b"e1c1",
+        None,
+        Some(b"4k3/8/8/8/8/8/1r6/2KR4 b - - 1 1"),
+    ),
+    (b"8/4P3/8/8/8/2k5/8/4K3 w - - 0 1", b"e7e8", None, None),
+    (
+        b"8/4P3/8/8/8/2k5/8/4K3 w - - 0 1",
+        b"e7e8",
+        Some(Kind::King),
+        None,
+    ),
+    (
+        b"8/4P3/8/8/8/2k5/8/4K3 w - - 0 1",
+        b"e7e8",
+        Some(Kind::Queen),
+        Some(b"4Q3/8/8/8/8/2k5/8/4K3 b - - 0 1"),
+    ),
+    (b"7k/8/8/K2pP2r/8/8/8/8 w - d6 0 1", b"e5d6", None, None),
+    (
+        b"4k3/8/8/3pP3/8/8/8/4K3 w - d6 0 1",
+        b"e5d6",
+        None,
+        Some(b"4k3/8/3P4/8/8/8/8/4K3 b - - 0 1"),
+    ),
+    (
+        KIWIPETE,
+        b"e1c1",
+        None,
+        Some(b"r3k2r/p1ppqpb1/bn2pnp1/3PN3/1p2P3/2N2Q1p/PPPBBPPP/2KR3R b kq - 1 1"),
+    ),
+    (
+        LONGEST,
+        b"h5f4",
+        None,
+        Some(
+            b"r1b1k1n1/1p1p1p1p/p1p1p1p1/1q1r1b2/P1P1PnP1/1Q1R1B1N/1P1P1P1P/R1B1K1N1 w Qq - 999999 999999",
+        ),
+    ),
+];
+
 #[test]
 fn moves_leave_their_positions(rt: HostRuntime) -> Result<(), Fail> {
-    type Row = (
-        &'static [u8],
-        &'static [u8; 4],
-        Option<Kind>,
-        Option<&'static [u8]>,
-    );
-    let rows: [Row; 8] = [
-        (
-            b"rnbqkbnr/pppppppp/8/8/8/8/PPPPPPPP/RNBQKBNR w KQkq - 0 1",
-            b"e2e4",
-            None,
-            Some(b"rnbqkbnr/pppppppp/8/8/4P3/8/PPPP1PPP/RNBQKBNR b KQkq e3 0 1"),
-        ),
-        (
-            b"4k3/8/8/8/8/8/1r6/R3K3 w Q - 0 1",
-            b"e1c1",
-            None,
-            Some(b"4k3/8/8/8/8/8/1r6/2KR4 b - - 1 1"),
-        ),
-        (b"8/4P3/8/8/8/2k5/8/4K3 w - - 0 1", b"e7e8", None, None),
-        (
-            b"8/4P3/8/8/8/2k5/8/4K3 w - - 0 1",
-            b"e7e8",
-            Some(Kind::King),
-            None,
-        ),
-        (
-            b"8/4P3/8/8/8/2k5/8/4K3 w - - 0 1",
-            b"e7e8",
-            Some(Kind::Queen),
-            Some(b"4Q3/8/8/8/8/2k5/8/4K3 b - - 0 1"),
-        ),
-        (b"7k/8/8/K2pP2r/8/8/8/8 w - d6 0 1", b"e5d6", None, None),
-        (
-            b"4k3/8/8/3pP3/8/8/8/4K3 w - d6 0 1",
-            b"e5d6",
-            None,
-            Some(b"4k3/8/3P4/8/8/8/8/4K3 b - - 0 1"),
-        ),
-        (
-            LONGEST,
-            b"h5f4",
-            None,
-            Some(
-                b"r1b1k1n1/1p1p1p1p/p1p1p1p1/1q1r1b2/P1P1PnP1/1Q1R1B1N/1P1P1P1P/R1B1K1N1 w Qq - 999999 999999",
-            ),
-        ),
-    ];
-    for (start, squares, promotion, fen) in rows {
+    for (start, squares, promotion, fen) in &MADE {
         let start = read_fen(start).ok().ok_or("sound")?;
-        match (play(start, squares, promotion), fen) {
+        match (play(start, squares, *promotion), *fen) {
             (Some(position), Some(fen)) => assert_eq!(rt; write_fen(&position).as_slice(), fen),
             (position, fen) => assert_eq!(rt; position.is_some(), fen.is_some(), "at {squares:?}"),
         }
@@ -217,37 +233,37 @@ fn moves_leave_their_positions(rt: HostRuntime) -> Result<(), Fail> {
     Ok(())
 }
 
-// 1. e4 a6 2. e5 d5 3. exd6.
-#[test]
-fn pawn_taken_en_passant_is_gone(rt: HostRuntime) -> Result<(), Fail> {
-    let position = play(Position::initial(), b"e2e4", None).ok_or("e4")?;
-    assert_eq!(rt; position.setup().target, Some(Square::new(20)));
-    let position = play(position, b"a7a6", None).ok_or("a6")?;
-    assert_eq!(rt; position.setup().target, None);
-    let position = play(position, b"e4e5", None).ok_or("e5")?;
-    let position = play(position, b"d7d5", None).ok_or("d5")?;
-    let position = play(position, b"e5d6", None).ok_or("exd6")?;
-    assert_eq!(rt; position.at(Square::new(35)), None);
-    assert_eq!(rt; position.at(Square::new(43)), man(b'P'));
-    assert_eq!(rt; position.side(), Colour::Black);
-    assert_eq!(rt; position.setup().fullmove, 3);
-    assert_eq!(rt; position.setup().halfmove, 0);
-    Ok(())
-}
+// 1. e4 a6 2. e5 d5 3. exd6, with the FEN after each move: the pawn taken en passant is gone.
+const EN_PASSANT: [(&[u8; 4], &[u8]); 5] = [
+    (
+        b"e2e4",
+        b"rnbqkbnr/pppppppp/8/8/4P3/8/PPPP1PPP/RNBQKBNR b KQkq e3 0 1",
+    ),
+    (
+        b"a7a6",
+        b"rnbqkbnr/1ppppppp/p7/8/4P3/8/PPPP1PPP/RNBQKBNR w KQkq - 0 2",
+    ),
+    (
+        b"e4e5",
+        b"rnbqkbnr/1ppppppp/p7/4P3/8/8/PPPP1PPP/RNBQKBNR b KQkq - 0 2",
+    ),
+    (
+        b"d7d5",
+        b"rnbqkbnr/1pp1pppp/p7/3pP3/8/8/PPPP1PPP/RNBQKBNR w KQkq d6 0 3",
+    ),
+    (
+        b"e5d6",
+        b"rnbqkbnr/1pp1pppp/p2P4/8/8/8/PPPP1PPP/RNBQKBNR b KQkq - 0 3",
+    ),
+];
 
 #[test]
-fn castling_moves_the_rook_and_ends_both_rights(rt: HostRuntime) -> Result<(), Fail> {
-    let position = read_fen(KIWIPETE).ok().ok_or("sound")?;
-    let position = play(position, b"e1c1", None).ok_or("O-O-O")?;
-    assert_eq!(rt; position.at(Square::new(0)), None);
-    assert_eq!(rt; position.at(Square::new(3)), man(b'R'));
-    assert_eq!(rt; position.at(Square::new(2)), man(b'K'));
-    assert_eq!(rt; position.setup().rights.white.king_side, None);
-    assert_eq!(rt; position.setup().rights.white.queen_side, None);
-    assert_eq!(rt;
-        position.setup().rights.black.king_side,
-        Some(Square::new(63))
-    );
+fn pawn_taken_en_passant_is_gone(rt: HostRuntime) -> Result<(), Fail> {
+    let mut position = Position::initial();
+    for (squares, fen) in &EN_PASSANT {
+        position = play(position, squares, None).ok_or("legal")?;
+        assert_eq!(rt; write_fen(&position).as_slice(), *fen);
+    }
     Ok(())
 }
 

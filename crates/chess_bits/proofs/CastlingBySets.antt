@@ -51,36 +51,48 @@ rook_end_low : (w : CastlingSide) → castled_rook_file w < 8
 rook_end_low KingSide = omega arith
 rook_end_low QueenSide = omega arith
 
-starts : (v : Variant) (men : Men) (c : Colour) (w : CastlingSide) (m : Move) (r : ℕ) → names_castling_with v c m w r ≡ true → stand_for_castling v men c w r ≡ true
+starts : (v : Variant) (men : Men) (c : Colour) (w : CastlingSide) (m : Move) (r : ℕ)
+    → names_castling_with v c m w r ≡ true → stand_for_castling v men c w r ≡ true
     → (rank m.from ≡ first_rank c) × (rank r ≡ first_rank c)
 starts Normal men c w m r n s =
-    let from = eqb-true m.from (home_square c king_home_file) (and_parts (m.from == home_square c king_home_file) (m.to == home_square c (castled_king_file w)) n).0 in
-    let two = and_parts ((r == home_square c (rook_file w)) && is_man c King (man_at men (home_square c king_home_file))) (is_man c Rook (man_at men r)) s in
-    let rook = eqb-true r (home_square c (rook_file w)) (and_parts (r == home_square c (rook_file w)) (is_man c King (man_at men (home_square c king_home_file))) two.0).0 in
-    (ap (λ k. rank k) from ∙ rank_home c king_home_file (omega arith), ap (λ k. rank k) rook ∙ rank_home c (rook_file w) (rook_low w))
+    let from = eqb-true m.from (home_square c king_home_file)
+    (and_parts (m.from == home_square c king_home_file) (m.to == home_square c (castled_king_file w)) n).0 in
+    let two = and_parts ((r == home_square c (rook_file w)) && is_man c King
+    (man_at men (home_square c king_home_file))) (is_man c Rook (man_at men r)) s in
+    let rook = eqb-true r (home_square c (rook_file w))
+    (and_parts (r == home_square c (rook_file w)) (is_man c King (man_at men (home_square c king_home_file)))
+    two.0).0 in (
+      ap (λ k. rank k) from ∙ rank_home c king_home_file (omega arith),
+      ap (λ k. rank k) rook
+          ∙ rank_home c (rook_file w) (rook_low w),
+    )
 starts Fischerandom men c w m r n s =
     let same = eqb-true (rank m.from) (rank r) (and_parts (rank m.from == rank r) (m.to == r) n).0 in
-    let there = beside (king_square men c) (and_parts (is_beside c w (king_square men c) r) (is_man c Rook (man_at men r)) s).0 in
+    let there = beside (king_square men c) (and_parts (is_beside c w (king_square men c) r)
+    (is_man c Rook (man_at men r)) s).0 in
     (same ∙ there, there)
   where
     beside : (o : Option ℕ) → is_beside c w o r ≡ true → rank r ≡ first_rank c
     beside None e = cc
     beside (Some k) e =
         eqb-true (rank r) (first_rank c)
-        (and_parts (rank k == first_rank c) (rank r == first_rank c) (and_parts ((rank k == first_rank c) && (rank r == first_rank c)) (is_to_side w k r) e).0).1
+        (and_parts (rank k == first_rank c) (rank r == first_rank c)
+        (and_parts ((rank k == first_rank c) && (rank r == first_rank c)) (is_to_side w k r) e).0).1
 
 pub record OnRank (k : Castle) : Type 0 where
   pub kings : rank k.king_from ≡ rank k.king_to
   pub rooks : rank k.rook_from ≡ rank k.rook_to
 
-on_rank_by : (p : Setup) (m : Move) (k : Castle) → IsSound p → castle_of p m ≡ Some k → (o : Option CastlingSide) → castling p m ≡ o → OnRank k
+on_rank_by : (p : Setup) (m : Move) (k : Castle) → IsSound p → castle_of p m ≡ Some k → (o : Option CastlingSide)
+    → castling p m ≡ o → OnRank k
 unfolding right_stands
 on_rank_by p m k sound e None none = let gone = no_castle p m none in absurd cc
 on_rank_by p m k sound e (Some w) says =
     let there = castle_there p m w says in
     let names = (castling_says p m w (says_from_castling p m w says)).1 in
     let named : names_castling_with p.variant p.side m w there.0 ≡ true = rw there.1 at names in
-    let stands = right_that_stands p.variant p.men p.side w (right_of p.rights p.side w) there.0 (right_stands_of p sound p.side w) there.1 in
+    let stands = right_that_stands p.variant p.men p.side w (right_of p.rights p.side w) there.0
+    (right_stands_of p sound p.side w) there.1 in
     let ranks = starts p.variant p.men p.side w m there.0 named stands in
     let same : castle_from p.side w m.from there.0 ≡ k = cc in
     subst OnRank same (record {
@@ -93,24 +105,28 @@ on_rank p m k sound e = on_rank_by p m k sound e (castling p m) refl
 
 -- ---- ways
 
-inside_up : (a b k : ℕ) → a < b → ((nat_lt a k && nat_lt k b) || (nat_lt b k && nat_lt k a)) ≡ (nat_lt a k && nat_lt k b)
+inside_up : (a b k : ℕ) → a < b → ((nat_lt a k && nat_lt k b) || (nat_lt b k && nat_lt k a))
+    ≡ (nat_lt a k && nat_lt k b)
 inside_up a b k h = grind (arith, nat_tests, h)
 
-inside_down : (a b k : ℕ) → b ≤ a → ((nat_lt a k && nat_lt k b) || (nat_lt b k && nat_lt k a)) ≡ (nat_lt b k && nat_lt k a)
+inside_down : (a b k : ℕ) → b ≤ a → ((nat_lt a k && nat_lt k b) || (nat_lt b k && nat_lt k a))
+    ≡ (nat_lt b k && nat_lt k a)
 inside_down a b k h = grind (arith, nat_tests, h)
 
 four : (x u v : Bool) → ((x && u) && (x && v)) ≡ (x && (u && v))
 four true u v = refl
 four false u v = refl
 
-pub between_up : (a b k : ℕ) → rank a ≡ rank b → a < b → (is_on_ray Rank true a k && is_on_ray Rank false b k) ≡ is_between a b k
+pub between_up : (a b k : ℕ) → rank a ≡ rank b → a < b
+    → (is_on_ray Rank true a k && is_on_ray Rank false b k) ≡ is_between a b k
 between_up a b k same h =
     sym (between_on_line Rank a b k (eq-eqb (rank a) (rank b) same)
     ∙ ap (λ t. (rank a == rank k) && t) (inside_up a b k h)
     ∙ sym (four (rank a == rank k) (nat_lt a k) (nat_lt k b))
     ∙ ap (λ r. ((rank a == rank k) && nat_lt a k) && ((r == rank k) && nat_lt k b)) same)
 
-pub between_down : (a b k : ℕ) → rank a ≡ rank b → b ≤ a → (is_on_ray Rank true b k && is_on_ray Rank false a k) ≡ is_between a b k
+pub between_down : (a b k : ℕ) → rank a ≡ rank b → b ≤ a
+    → (is_on_ray Rank true b k && is_on_ray Rank false a k) ≡ is_between a b k
 between_down a b k same h =
     sym (between_on_line Rank a b k (eq-eqb (rank a) (rank b) same)
     ∙ ap (λ t. (rank a == rank k) && t) (inside_down a b k h)
@@ -121,7 +137,8 @@ between_down a b k same h =
 
 each_not_below : (n : ℕ) (p q : ℕ → Bool) → ((k : ℕ) → k < n → p k ≡ not (q k)) → each_below n p ≡ not (some_below n q)
 each_not_below zero p q h = refl
-each_not_below (suc n) p q h = rw (each_not_below n p q (λ k l. h k (omega arith)), h n (omega arith)) (by (some_below n q) (q n))
+each_not_below (suc n) p q h = rw (each_not_below n p q (λ k l. h k (omega arith)), h n (omega arith))
+    (by (some_below n q) (q n))
   where
     by : (x y : Bool) → (not x && not y) ≡ not (x || y)
     by true y = refl
@@ -145,21 +162,28 @@ crossed x y z u false = by (((x || y) && not z) && not u)
 
 -- no man is met on the ways
 pub way_is_empty : (men : Men) (k : Castle) (met : ℕ → Bool)
-    → ((x : ℕ) → x < 64 → met x ≡ ((((is_on_way k.king_from k.king_to x || is_on_way k.rook_from k.rook_to x) && not (x == k.king_from)) && not (x == k.rook_from)) && not (is_none (man_at men x))))
+    → ((x : ℕ) → x < 64
+    → met x ≡
+    ((((is_on_way k.king_from k.king_to x || is_on_way k.rook_from k.rook_to x) && not (x == k.king_from))
+    && not (x == k.rook_from)) && not (is_none (man_at men x))))
     → not (some_square met) ≡ castling_way_is_empty men k
 unfolding castling_way_is_empty castling_crosses
 way_is_empty men k met h =
     sym (each_not _ met
-    (λ x low. crossed (is_on_way k.king_from k.king_to x) (is_on_way k.rook_from k.rook_to x) (x == k.king_from) (x == k.rook_from) (is_none (man_at men x)) ∙ ap not (sym (h x low))))
+    (λ x low. crossed (is_on_way k.king_from k.king_to x) (is_on_way k.rook_from k.rook_to x) (x == k.king_from)
+    (x == k.rook_from) (is_none (man_at men x)) ∙ ap not (sym (h x low))))
 
-pub way_is_safe : (men : Men) (c : Colour) (k : Castle) (way : ℕ → Bool) → ((x : ℕ) → x < 64 → way x ≡ is_on_way k.king_from k.king_to x)
+pub way_is_safe : (men : Men) (c : Colour) (k : Castle) (way : ℕ → Bool)
+    → ((x : ℕ) → x < 64 → way x ≡ is_on_way k.king_from k.king_to x)
     → each_square (λ x. not (way x) || not (is_attacked men x (other c))) ≡ castling_way_is_safe men c k
 unfolding each_square castling_way_is_safe
-way_is_safe men c k way h = each_below_same 64 _ _ (λ x low. ap (λ t. not t || not (is_attacked men x (other c))) (h x low))
+way_is_safe men c k way h = each_below_same 64 _ _
+    (λ x low. ap (λ t. not t || not (is_attacked men x (other c))) (h x low))
 
 -- ---- the pattern of castling
 
-pub king_goes : (p : Setup) (m : Move) (k : Castle) → castle_of p m ≡ Some k → (o : Option CastlingSide) → castling p m ≡ o → is_man p.side King (man_at p.men m.from) ≡ true
+pub king_goes : (p : Setup) (m : Move) (k : Castle) → castle_of p m ≡ Some k → (o : Option CastlingSide)
+    → castling p m ≡ o → is_man p.side King (man_at p.men m.from) ≡ true
 king_goes p m k e None none = let gone = no_castle p m none in absurd cc
 king_goes p m k e (Some w) says = (castling_says p m w (says_from_castling p m w says)).0
 
@@ -179,7 +203,8 @@ castle_pattern_by p a b k sound high e =
     ∙ officer_goes p a b _ at refl refl low high
     ∙ ap (castles_or_moves p (triple a b None)) e
 
-pub castle_pattern : (p : Setup) (m : Move) (k : Castle) → IsSound p → m.to < 64 → m.promotion ≡ None → castle_of p m ≡ Some k
+pub castle_pattern : (p : Setup) (m : Move) (k : Castle) → IsSound p → m.to < 64 → m.promotion ≡ None
+    → castle_of p m ≡ Some k
     → has_pattern p m ≡ (castling_way_is_empty p.men k && castling_way_is_safe p.men p.side k)
 castle_pattern p m k sound high none e =
     ap (λ o. has_pattern p (triple m.from m.to o)) none
@@ -187,13 +212,22 @@ castle_pattern p m k sound high none e =
 
 -- and its steps
 pub castle_steps : (p : Setup) (m : Move) (k : Castle) → castle_of p m ≡ Some k → m.promotion ≡ None
-    → record { from = m.from; second_from = Some k.rook_from; second_to = Some k.rook_to; second = Some (record { colour = p.side; kind = Rook }); to = k.king_to; mover = Some (record { colour = p.side; kind = King }) } ≡ steps_of p m
+    → record {
+      from = m.from;
+      second_from = Some k.rook_from;
+      second_to = Some k.rook_to;
+      second = Some (record { colour = p.side; kind = Rook });
+      to = k.king_to;
+      mover =
+          Some (record { colour = p.side; kind = King });
+    } ≡ steps_of p m
 unfolding second_square_emptied castling_rook_to lands_on
 castle_steps p m k e none =
     let king = king_goes p m k e (castling p m) refl in
     let still = no_en_passant p m (is_man-kind p.side p.side King Pawn (man_at p.men m.from) refl king) in
     let mover : man_that_lands (man_at p.men m.from) m.promotion ≡ Some (record { colour = p.side; kind = King }) =
-    ap (λ o. man_that_lands (man_at p.men m.from) o) none ∙ ap (λ o. man_that_lands o None) (man_told p.side King (man_at p.men m.from) king) in
+    ap (λ o. man_that_lands (man_at p.men m.from) o) none
+    ∙ ap (λ o. man_that_lands o None) (man_told p.side King (man_at p.men m.from) king) in
     rw (still, e, mover) refl
 
 pub not_castling : (p : Setup) (m : Move) → has_pattern p m ≡ false → false ≡ is_legal p m

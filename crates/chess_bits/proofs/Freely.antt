@@ -43,17 +43,26 @@ pub lands_same : (o : Option Man) → man_that_lands o None ≡ o
 lands_same None = refl
 lands_same (Some x) = refl
 
-free_is_legal : (p : Setup) (a b king : ℕ) → IsSound p → IsFree p a → a < 64 → king < 64 → ((k : ℕ) → k < 64 → is_man p.side King (man_at p.men k) ≡ (k == king))
-    → goes p a b ≡ true → would_promote p a b ≡ false → is_en_passant p (triple a b None) ≡ false → is_legal p (triple a b None) ≡ true
+free_is_legal : (p : Setup) (a b king : ℕ) → IsSound p → IsFree p a → a < 64 → king < 64
+    → ((k : ℕ) → k < 64 → is_man p.side King (man_at p.men k) ≡ (k == king))
+    → goes p a b ≡ true → would_promote p a b ≡ false → is_en_passant p (triple a b None) ≡ false
+    → is_legal p (triple a b None) ≡ true
 unfolding second_square_emptied castling_rook_to
 free_is_legal p a b king sound free low there one go stays no_passing =
     let m = triple a b None in
     let pattern : has_pattern p m ≡ true = pattern_of p a b None go (rw stays refl) in
     let here : is_man p.side King (man_at p.men king) ≡ true = one king there ∙ eq-eqb king king refl in
     let no_king : is_man p.side King (man_at p.men a) ≡ false = one a low ∙ free.apart king there here in
-    let no_castle : castle_of p m ≡ None = none_castles p m (no_king_says p m KingSide no_king) (no_king_says p m QueenSide no_king) in
-    let plain : IsPlain p m = record { also = rw (no_passing, no_castle) refl; rook = rw no_castle refl; mover = mover_some p m pattern; own = mover_own p m pattern } in
-    let safe : is_attacked (men_after p m) king (other p.side) ≡ false = stays_safe p m king sound.board low plain (free.safe king there here) in
+    let no_castle : castle_of p m ≡ None = none_castles p m (no_king_says p m KingSide no_king)
+    (no_king_says p m QueenSide no_king) in
+    let plain : IsPlain p m = record {
+      also = rw (no_passing, no_castle) refl;
+      rook = rw no_castle refl;
+      mover = mover_some p m pattern;
+      own = mover_own p m pattern;
+    } in
+    let safe : is_attacked (men_after p m) king (other p.side) ≡ false =
+    stays_safe p m king sound.board low plain (free.safe king there here) in
     let king_there : is_man p.side King (man_at (men_after p m) king) ≡ true =
     king_stays p m king sound pattern one (ap (λ o. is_man p.side King o) (lands_same (man_at p.men a)) ∙ no_king) in
     sym (legal_is p m pattern) ∙ ap not (check_after p m king sound pattern there king_there ∙ safe)
@@ -69,19 +78,22 @@ pub no_pawn_usual : (p : Setup) (a : ℕ) → is_man p.side Pawn (man_at p.men a
 unfolding would_promote is_en_passant
 no_pawn_usual p a no_pawn = record { stays = λ b low go. rw no_pawn refl; passes = λ b. rw no_pawn refl }
 
-advance_stays : (c : Colour) (a b : ℕ) → 8 ≤ a → a < 64 → (rank a ≡ pawn_rank (other c) → ⊥) → (b ≡ forward c a) ⊎ ((rank a ≡ pawn_rank c) × (b ≡ forward c (forward c a)))
+advance_stays : (c : Colour) (a b : ℕ) → 8 ≤ a → a < 64 → (rank a ≡ pawn_rank (other c) → ⊥)
+    → (b ≡ forward c a) ⊎ ((rank a ≡ pawn_rank c) × (b ≡ forward c (forward c a)))
     → rank b ≡ first_rank (other c) → ⊥
 advance_stays White a b high low off (inl e) = λ last. off (omega (arith, e, last))
 advance_stays White a b high low off (inr e) = λ last. absurd (omega (arith, e.0, e.1, last))
 advance_stays Black a b high low off (inl e) = λ last. off (omega (arith, e, last, high))
 advance_stays Black a b high low off (inr e) = λ last. absurd (omega (arith, e.0, e.1, last))
 
-capture_stays : (c : Colour) (a b : ℕ) → (rank a ≡ pawn_rank (other c) → ⊥) → is_rank_ahead c a b ≡ true → rank b ≡ first_rank (other c) → ⊥
+capture_stays : (c : Colour) (a b : ℕ) → (rank a ≡ pawn_rank (other c) → ⊥) → is_rank_ahead c a b ≡ true
+    → rank b ≡ first_rank (other c) → ⊥
 capture_stays White a b off ahead = λ last. let e = eqb-true (rank b) (rank a + 1) ahead in off (omega (arith, e, last))
 capture_stays Black a b off ahead = λ last. let e = eqb-true (rank a) (rank b + 1) ahead in off (omega (arith, e, last))
 
 -- a pawn that doesn't attack the target doesn't take there
-not_taken : (p : Setup) (a b : ℕ) (o : Option ℕ) → is_man p.side Pawn (man_at p.men a) ≡ true → aims_at o p.side a ≡ false
+not_taken : (p : Setup) (a b : ℕ) (o : Option ℕ) → is_man p.side Pawn (man_at p.men a) ≡ true
+    → aims_at o p.side a ≡ false
     → ((is_man p.side Pawn (man_at p.men a) && attacks p.men a b) && is_square o b) ≡ false
 unfolding attacks
 not_taken p a b None pawn off = and_right (is_man p.side Pawn (man_at p.men a) && attacks p.men a b) false refl
@@ -89,16 +101,21 @@ not_taken p a b (Some t) pawn off =
     elim (cases_Bool (t == b)) [
       | inl same ↦
           let at : t ≡ b = eqb-true t b same in
-          let miss : could_capture p.men p.side Pawn a b ≡ false = sym (pawn_from p.men p.side a b) ∙ ap (λ s. in_shape (shape.Pawn p.side) a s) (sym at) ∙ off in
-          let free : attacks p.men a b ≡ false = ap (λ x. could_capture_as p.men x a b) (man_told p.side Pawn (man_at p.men a) pawn) ∙ miss in
-          and_left (is_man p.side Pawn (man_at p.men a) && attacks p.men a b) (t == b) (and_right (is_man p.side Pawn (man_at p.men a)) (attacks p.men a b) free)
+          let miss : could_capture p.men p.side Pawn a b ≡ false =
+          sym (pawn_from p.men p.side a b) ∙ ap (λ s. in_shape (shape.Pawn p.side) a s) (sym at) ∙ off in
+          let free : attacks p.men a b ≡ false =
+          ap (λ x. could_capture_as p.men x a b) (man_told p.side Pawn (man_at p.men a) pawn) ∙ miss in
+          and_left (is_man p.side Pawn (man_at p.men a) && attacks p.men a b) (t == b)
+          (and_right (is_man p.side Pawn (man_at p.men a)) (attacks p.men a b) free)
       | inr apart ↦ and_right (is_man p.side Pawn (man_at p.men a) && attacks p.men a b) (t == b) apart
     ]
 
-pub pawn_usual : (p : Setup) (a : ℕ) → IsSound p → a < 64 → is_man p.side Pawn (man_at p.men a) ≡ true → aims_at p.target p.side a ≡ false → (rank a ≡ pawn_rank (other p.side) → ⊥) → IsUsual p a
+pub pawn_usual : (p : Setup) (a : ℕ) → IsSound p → a < 64 → is_man p.side Pawn (man_at p.men a) ≡ true
+    → aims_at p.target p.side a ≡ false → (rank a ≡ pawn_rank (other p.side) → ⊥) → IsUsual p a
 unfolding would_promote is_en_passant no_pawn_on_end_ranks pawn_captures
 pawn_usual p a sound low pawn no_target off = record {
-  stays = λ b high go. and_right (is_man p.side Pawn (man_at p.men a)) (rank b == first_rank (other p.side)) (ne_eqb (rank b) (first_rank (other p.side)) (last b high go));
+  stays = λ b high go. and_right (is_man p.side Pawn (man_at p.men a)) (rank b == first_rank (other p.side))
+      (ne_eqb (rank b) (first_rank (other p.side)) (last b high go));
   passes = λ b. not_taken p a b p.target pawn no_target;
 }
   where
@@ -107,26 +124,32 @@ pawn_usual p a sound low pawn no_target off = record {
         let told : (pawn_advances p (triple a b None) || pawn_captures p (triple a b None)) ≡ true =
         sym (pawn_goes p a b _ (man_told p.side Pawn (man_at p.men a) pawn) refl refl low high) ∙ go in
         elim (or_cases (pawn_advances p (triple a b None)) (pawn_captures p (triple a b None)) told) [
-          | inl ahead ↦ advance_stays p.side a b (off_lowest p.men p.side a pawn (each_square-at _ sound.pawns a low)) low off (advance_goes p (triple a b None) ahead)
+          | inl ahead ↦ advance_stays p.side a b (off_lowest p.men p.side a pawn (each_square-at _ sound.pawns a low))
+              low off (advance_goes p (triple a b None) ahead)
           | inr takes ↦
               capture_stays p.side a b off
-              (pawn_attack p.men p.side a b pawn (and_parts (attacks p.men a b) (is_of (other p.side) (man_at p.men b) || is_square p.target b) takes).0).1
+              (pawn_attack p.men p.side a b pawn (and_parts (attacks p.men a b)
+              (is_of (other p.side) (man_at p.men b) || is_square p.target b) takes).0).1
         ]
 
 -- as the code tells it
 pub usual_from : (p : Setup) (a : ℕ) → IsSound p → a < 64
-    → (is_man p.side Pawn (man_at p.men a) && (aims_at p.target p.side a || (rank a == pawn_rank (other p.side)))) ≡ false → IsUsual p a
+    → (is_man p.side Pawn (man_at p.men a) && (aims_at p.target p.side a || (rank a == pawn_rank (other p.side))))
+    ≡ false → IsUsual p a
 usual_from p a sound low h = by (is_man p.side Pawn (man_at p.men a)) refl h
   where
-    by : (b : Bool) → is_man p.side Pawn (man_at p.men a) ≡ b → (b && (aims_at p.target p.side a || (rank a == pawn_rank (other p.side)))) ≡ false → IsUsual p a
+    by : (b : Bool) → is_man p.side Pawn (man_at p.men a) ≡ b
+        → (b && (aims_at p.target p.side a || (rank a == pawn_rank (other p.side)))) ≡ false → IsUsual p a
     by false e g = no_pawn_usual p a e
     by true e g =
         let neither = or_parts (aims_at p.target p.side a) (rank a == pawn_rank (other p.side)) g in
-        pawn_usual p a sound low e neither.0 (λ same. both_ways (rank a == pawn_rank (other p.side)) neither.1 (eq-eqb (rank a) (pawn_rank (other p.side)) same))
+        pawn_usual p a sound low e neither.0 (λ same. both_ways (rank a == pawn_rank (other p.side)) neither.1
+        (eq-eqb (rank a) (pawn_rank (other p.side)) same))
 
 -- ---- so each square is the end of one legal move
 
-pub all_once : {A : Type 0} (g : ℕ → List A) (ms : List ℕ) → Each (λ b. length (g b) ≡ 1) ms → length (flat_map g ms) ≡ length ms
+pub all_once : {A : Type 0} (g : ℕ → List A) (ms : List ℕ) → Each (λ b. length (g b) ≡ 1) ms
+    → length (flat_map g ms) ≡ length ms
 all_once g [] h = refl
 all_once g (x ∷ xs) h =
     let rest = all_once g xs h.1 in
@@ -134,11 +157,14 @@ all_once g (x ∷ xs) h =
     let parts = length-append (g x) (flat_map g xs) in
     omega (arith, rest, once, parts)
 
-pub free_counted : (p : Setup) (a king w : ℕ) → IsSound p → IsFree p a → IsUsual p a → a < 64 → king < 64 → ((k : ℕ) → k < 64 → is_man p.side King (man_at p.men k) ≡ (k == king))
-    → ((k : ℕ) → k < 64 → has w k ≡ true → goes p a k ≡ true) → ((m : Move) → is_legal p m ≡ true → m.from ≡ a → has w m.to ≡ true)
+pub free_counted : (p : Setup) (a king w : ℕ) → IsSound p → IsFree p a → IsUsual p a → a < 64 → king < 64
+    → ((k : ℕ) → k < 64 → is_man p.side King (man_at p.men k) ≡ (k == king))
+    → ((k : ℕ) → k < 64 → has w k ≡ true → goes p a k ≡ true)
+    → ((m : Move) → is_legal p m ≡ true → m.from ≡ a → has w m.to ≡ true)
     → length (members w) ≡ length (moves_from p a)
 free_counted p a king w sound free usual low there one sets all =
-    sym (all_once (λ b. moves_between p a b) (members w) (each_member w (λ b. length (moves_between p a b) ≡ 1) once)) ∙ ap length (from_targets p a w all)
+    sym (all_once (λ b. moves_between p a b) (members w) (each_member w (λ b. length (moves_between p a b) ≡ 1) once))
+    ∙ ap length (from_targets p a w all)
   where
     once : (b : ℕ) → b < 64 → has w b ≡ true → length (moves_between p a b) ≡ 1
     once b high h =
@@ -148,7 +174,8 @@ free_counted p a king w sound free usual low there one sets all =
 
 -- ---- the set of the free men
 
-at_king : (p : Setup) (a king : ℕ) (P : ℕ → Type 0) → ((k : ℕ) → k < 64 → is_man p.side King (man_at p.men k) ≡ (k == king)) → P king
+at_king : (p : Setup) (a king : ℕ) (P : ℕ → Type 0)
+    → ((k : ℕ) → k < 64 → is_man p.side King (man_at p.men k) ≡ (k == king)) → P king
     → (k : ℕ) → k < 64 → is_man p.side King (man_at p.men k) ≡ true → P k
 at_king p a king P one h k low man = subst P (sym (eqb-true k king (sym (one k low) ∙ man))) h
 
@@ -158,29 +185,38 @@ last_told true true t u h e = h refl e
 last_told true false t u h e = e
 last_told false s t u h e = e
 
-queen_told : (n s d t u : Bool) → ((n && s) ≡ true → t ≡ true → u ≡ true) → ((n && d) ≡ true → t ≡ true → u ≡ true) → (n && (s || d) && t) ≡ true → (n && (s || d) && u) ≡ true
+queen_told : (n s d t u : Bool) → ((n && s) ≡ true → t ≡ true → u ≡ true) → ((n && d) ≡ true → t ≡ true → u ≡ true)
+    → (n && (s || d) && t) ≡ true → (n && (s || d) && u) ≡ true
 queen_told true true d t u h g e = h refl e
 queen_told true false true t u h g e = g refl e
 queen_told true false false t u h g e = e
 queen_told false s d t u h g e = e
 
 capture_before : (men later : Men) (c : Colour) (k : Kind) (a b : ℕ)
-    → ((same_kind Rook k || same_kind Queen k) ≡ true → (not (a == b) && share_rank_or_file a b) ≡ true → is_clear later a b ≡ true → is_clear men a b ≡ true)
-    → ((same_kind Bishop k || same_kind Queen k) ≡ true → (not (a == b) && share_diagonal a b) ≡ true → is_clear later a b ≡ true → is_clear men a b ≡ true)
+    → ((same_kind Rook k || same_kind Queen k) ≡ true → (not (a == b) && share_rank_or_file a b) ≡ true
+    → is_clear later a b ≡ true → is_clear men a b ≡ true)
+    → ((same_kind Bishop k || same_kind Queen k) ≡ true → (not (a == b) && share_diagonal a b) ≡ true
+    → is_clear later a b ≡ true → is_clear men a b ≡ true)
     → could_capture later c k a b ≡ true → could_capture men c k a b ≡ true
 unfolding could_capture
 capture_before men later c King a b l d e = e
 capture_before men later c Knight a b l d e = e
 capture_before men later c Pawn a b l d e = e
-capture_before men later c Queen a b l d e = queen_told (not (a == b)) (share_rank_or_file a b) (share_diagonal a b) (is_clear later a b) (is_clear men a b) (l refl) (d refl) e
-capture_before men later c Rook a b l d e = last_told (not (a == b)) (share_rank_or_file a b) (is_clear later a b) (is_clear men a b) (l refl) e
-capture_before men later c Bishop a b l d e = last_told (not (a == b)) (share_diagonal a b) (is_clear later a b) (is_clear men a b) (d refl) e
+capture_before men later c Queen a b l d e =
+    queen_told (not (a == b)) (share_rank_or_file a b) (share_diagonal a b) (is_clear later a b) (is_clear men a b)
+    (l refl) (d refl) e
+capture_before men later c Rook a b l d e =
+    last_told (not (a == b)) (share_rank_or_file a b) (is_clear later a b) (is_clear men a b) (l refl) e
+capture_before men later c Bishop a b l d e =
+    last_told (not (a == b)) (share_diagonal a b) (is_clear later a b) (is_clear men a b) (d refl) e
 
-of_kinds : (c : Colour) (x : Man) (j k : Kind) → is_of c (Some x) ≡ true → (same_kind j x.kind || same_kind k x.kind) ≡ true → (is_man c j (Some x) || is_man c k (Some x)) ≡ true
+of_kinds : (c : Colour) (x : Man) (j k : Kind) → is_of c (Some x) ≡ true
+    → (same_kind j x.kind || same_kind k x.kind) ≡ true → (is_man c j (Some x) || is_man c k (Some x)) ≡ true
 unfolding is_of is_man
 of_kinds c x j k own h = rw own h
 
-hits_before : (p : Setup) (a b king : ℕ) (o : Option Man) → b < 64 → man_at p.men b ≡ o → is_of (other p.side) o ≡ true → OpensNoLine p a king → OpensNoDiagonal p a king
+hits_before : (p : Setup) (a b king : ℕ) (o : Option Man) → b < 64 → man_at p.men b ≡ o → is_of (other p.side) o ≡ true
+    → OpensNoLine p a king → OpensNoDiagonal p a king
     → could_capture_as (lifted p.men a) o b king ≡ true → could_capture_as p.men o b king ≡ true
 hits_before p a b king None low at own lines diagonals e = cc
 hits_before p a b king (Some x) low at own lines diagonals e =
@@ -194,22 +230,29 @@ unfolding is_of
 lifted_enemy true o c h = cc
 lifted_enemy false o c h = refl
 
-pub freed : (p : Setup) (a king : ℕ) → IsSound p → a < 64 → king < 64 → is_in_check p.men p.side ≡ false → ((k : ℕ) → k < 64 → is_man p.side King (man_at p.men k) ≡ (k == king))
+pub freed : (p : Setup) (a king : ℕ) → IsSound p → a < 64 → king < 64 → is_in_check p.men p.side ≡ false
+    → ((k : ℕ) → k < 64 → is_man p.side King (man_at p.men k) ≡ (k == king))
     → (a == king) ≡ false → OpensNoLine p a king → OpensNoDiagonal p a king → IsFree p a
 unfolding is_attacked attacks
 freed p a king sound low there calm one out lines diagonals = record {
   apart = at_king p a king (λ k. (a == k) ≡ false) one out;
-  safe = at_king p a king (λ k. some_square (λ b. is_of (other p.side) (man_at (lifted p.men a) b) && could_capture_as (lifted p.men a) (man_at (lifted p.men a) b) b k) ≡ false) one
+  safe = at_king p a king
+      (λ k. some_square (λ b. is_of (other p.side) (man_at (lifted p.men a) b)
+      && could_capture_as (lifted p.men a) (man_at (lifted p.men a) b) b k) ≡ false) one
       (some_square-none _
       (λ b l.
       false_from_ne_true _
       (λ e.
-      let both = and_parts (is_of (other p.side) (man_at (lifted p.men a) b)) (could_capture_as (lifted p.men a) (man_at (lifted p.men a) b) b king) e in
+      let both = and_parts (is_of (other p.side) (man_at (lifted p.men a) b))
+      (could_capture_as (lifted p.men a) (man_at (lifted p.men a) b) b king) e in
       let stood : man_at (lifted p.men a) b ≡ man_at p.men b =
-      lifted_at p.men a b sound.board low ∙ lifted_enemy (b == a) (man_at p.men b) (other p.side) (rw (lifted_at p.men a b sound.board low) at both.0) in
+      lifted_at p.men a b sound.board low ∙ lifted_enemy (b == a) (man_at p.men b) (other p.side)
+      (rw (lifted_at p.men a b sound.board low) at both.0) in
       let was : is_of (other p.side) (man_at p.men b) ≡ true = rw (← stood) both.0 in
-      let hit : could_capture_as p.men (man_at p.men b) b king ≡ true = hits_before p a b king (man_at p.men b) l refl was lines diagonals (rw (← stood) both.1) in
-      both_ways (is_attacked p.men king (other p.side)) (sym (check_is p.men p.side king there one) ∙ calm) (some_square-at _ b l (and_from _ _ was hit)))));
+      let hit : could_capture_as p.men (man_at p.men b) b king ≡ true =
+      hits_before p a b king (man_at p.men b) l refl was lines diagonals (rw (← stood) both.1) in
+      both_ways (is_attacked p.men king (other p.side)) (sym (check_is p.men p.side king there one) ∙ calm)
+      (some_square-at _ b l (and_from _ _ was hit)))));
 }
 
 -- what a set tells that is empty
@@ -222,8 +265,10 @@ and_true_left true b e h = h
 and_true_left false b e h = cc
 
 -- and that is the move that is listed
-pub free_listed : (p : Setup) (a king w : ℕ) → IsSound p → IsFree p a → IsUsual p a → a < 64 → king < 64 → ((k : ℕ) → k < 64 → is_man p.side King (man_at p.men k) ≡ (k == king))
-    → ((k : ℕ) → k < 64 → has w k ≡ true → goes p a k ≡ true) → (b : ℕ) → b < 64 → has w b ≡ true → moves_between p a b ≡ triple a b None ∷ []
+pub free_listed : (p : Setup) (a king w : ℕ) → IsSound p → IsFree p a → IsUsual p a → a < 64 → king < 64
+    → ((k : ℕ) → k < 64 → is_man p.side King (man_at p.men k) ≡ (k == king))
+    → ((k : ℕ) → k < 64 → has w k ≡ true → goes p a k ≡ true) → (b : ℕ) → b < 64 → has w b ≡ true
+    → moves_between p a b ≡ triple a b None ∷ []
 free_listed p a king w sound free usual low there one sets b high h =
     let go = sets b high h in
     let stays = usual.stays b high go in
@@ -231,7 +276,8 @@ free_listed p a king w sound free usual low there one sets b high h =
     none_promotes p a b stays ∙ rw legal refl
 
 -- its place in the list
-pub one_fits : {A : Type 0} (g : ℕ → List A) (x : A) (now whole : List A) (ms : List ℕ) (s : ℕ) (ns : List ℕ) (n : ℕ) → ms ≡ s ∷ ns → now ++ flat_map g ms ≡ whole → length whole ≤ n → g s ≡ x ∷ [] → length now < n
+pub one_fits : {A : Type 0} (g : ℕ → List A) (x : A) (now whole : List A) (ms : List ℕ) (s : ℕ) (ns : List ℕ) (n : ℕ)
+    → ms ≡ s ∷ ns → now ++ flat_map g ms ≡ whole → length whole ≤ n → g s ≡ x ∷ [] → length now < n
 one_fits g x now whole ms s ns n e h fits one =
     let room = room_for g now whole ms s ns n e h fits in
     let single : length (g s) ≡ 1 = ap length one in

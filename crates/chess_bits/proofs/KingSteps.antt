@@ -60,7 +60,8 @@ pub not_between_end : (a b : ℕ) → is_between a b b ≡ false
 unfolding is_between is_between_on_file is_between_on_rank is_between_on_diagonal
 not_between_end a b = grind (arith, nat_tests)
 
-clear_same : (men later : Men) (a b : ℕ) → ((k : ℕ) → k < 64 → (k == b) ≡ false → man_at men k ≡ man_at later k) → is_clear men a b ≡ is_clear later a b
+clear_same : (men later : Men) (a b : ℕ) → ((k : ℕ) → k < 64 → (k == b) ≡ false → man_at men k ≡ man_at later k)
+    → is_clear men a b ≡ is_clear later a b
 unfolding is_clear
 clear_same men later a b h =
     each_square_same _ _
@@ -70,7 +71,8 @@ clear_same men later a b h =
       | inr apart ↦ rw (h x l apart) refl
     ])
 
-capture_same : (men later : Men) (c : Colour) (k : Kind) (a b : ℕ) → is_clear men a b ≡ is_clear later a b → could_capture men c k a b ≡ could_capture later c k a b
+capture_same : (men later : Men) (c : Colour) (k : Kind) (a b : ℕ) → is_clear men a b ≡ is_clear later a b
+    → could_capture men c k a b ≡ could_capture later c k a b
 unfolding could_capture
 capture_same men later c King a b e = refl
 capture_same men later c Queen a b e = rw e refl
@@ -79,11 +81,14 @@ capture_same men later c Bishop a b e = rw e refl
 capture_same men later c Knight a b e = refl
 capture_same men later c Pawn a b e = refl
 
-capture_as_same : (men later : Men) (o : Option Man) (a b : ℕ) → is_clear men a b ≡ is_clear later a b → could_capture_as men o a b ≡ could_capture_as later o a b
+capture_as_same : (men later : Men) (o : Option Man) (a b : ℕ) → is_clear men a b ≡ is_clear later a b
+    → could_capture_as men o a b ≡ could_capture_as later o a b
 capture_as_same men later None a b e = refl
 capture_as_same men later (Some x) a b e = capture_same men later x.colour x.kind a b e
 
-attacked_same : (men later : Men) (b : ℕ) (c : Colour) → ((k : ℕ) → k < 64 → (k == b) ≡ false → man_at men k ≡ man_at later k) → is_attacked men b c ≡ is_attacked later b c
+attacked_same : (men later : Men) (b : ℕ) (c : Colour)
+    → ((k : ℕ) → k < 64 → (k == b) ≡ false → man_at men k ≡ man_at later k)
+    → is_attacked men b c ≡ is_attacked later b c
 unfolding is_attacked attacks
 attacked_same men later b c h =
     some_square_same _ _
@@ -98,27 +103,34 @@ attacked_same men later b c h =
 
 -- ---- a step is no castling
 
-far_from_home : (men : Men) (c : Colour) (w : CastlingSide) → could_capture men c King (home_square c king_home_file) (home_square c (castled_king_file w)) ≡ false
+far_from_home : (men : Men) (c : Colour) (w : CastlingSide)
+    → could_capture men c King (home_square c king_home_file) (home_square c (castled_king_file w)) ≡ false
 unfolding could_capture
 far_from_home men White KingSide = refl
 far_from_home men White QueenSide = refl
 far_from_home men Black KingSide = refl
 far_from_home men Black QueenSide = refl
 
-named_apart : (v : Variant) (men : Men) (c : Colour) (a b : ℕ) (w : CastlingSide) (o : Option ℕ) → ((r : ℕ) → o ≡ Some r → is_man c Rook (man_at men r) ≡ true)
-    → could_capture men c King a b ≡ true → is_of c (man_at men b) ≡ false → names_castling v c (triple a b None) w o ≡ true → ⊥
+named_apart : (v : Variant) (men : Men) (c : Colour) (a b : ℕ) (w : CastlingSide) (o : Option ℕ)
+    → ((r : ℕ) → o ≡ Some r → is_man c Rook (man_at men r) ≡ true)
+    → could_capture men c King a b ≡ true → is_of c (man_at men b) ≡ false
+    → names_castling v c (triple a b None) w o ≡ true → ⊥
 named_apart v men c a b w None rook step free e = absurd cc
 named_apart Normal men c a b w (Some r) rook step free e =
     let both = and_parts (a == home_square c king_home_file) (b == home_square c (castled_king_file w)) e in
     let start = eqb-true a (home_square c king_home_file) both.0 in
     let end = eqb-true b (home_square c (castled_king_file w)) both.1 in
-    both_ways (could_capture men c King (home_square c king_home_file) (home_square c (castled_king_file w))) (far_from_home men c w)
-    (sym (ap (λ s. could_capture men c King s b) start ∙ ap (λ s. could_capture men c King (home_square c king_home_file) s) end) ∙ step)
+    both_ways (could_capture men c King (home_square c king_home_file) (home_square c (castled_king_file w)))
+    (far_from_home men c w)
+    (sym (ap (λ s. could_capture men c King s b) start
+    ∙ ap (λ s. could_capture men c King (home_square c king_home_file) s) end) ∙ step)
 named_apart Fischerandom men c a b w (Some r) rook step free e =
     let at = eqb-true b r (and_parts (rank a == rank r) (b == r) e).1 in
-    both_ways (is_of c (man_at men b)) free (ap (λ s. is_of c (man_at men s)) at ∙ is_of-from_is_man c Rook (man_at men r) (rook r refl))
+    both_ways (is_of c (man_at men b)) free (ap (λ s. is_of c (man_at men s)) at
+    ∙ is_of-from_is_man c Rook (man_at men r) (rook r refl))
 
-not_said : (p : Setup) (a b : ℕ) (w : CastlingSide) → IsSound p → could_capture p.men p.side King a b ≡ true → is_of p.side (man_at p.men b) ≡ false
+not_said : (p : Setup) (a b : ℕ) (w : CastlingSide) → IsSound p → could_capture p.men p.side King a b ≡ true
+    → is_of p.side (man_at p.men b) ≡ false
     → says_castling p (triple a b None) w ≡ false
 unfolding says_castling
 not_said p a b w sound step free =
@@ -127,39 +139,46 @@ not_said p a b w sound step free =
     named_apart p.variant p.men p.side a b w (right_of p.rights p.side w)
     (λ r at. castling_rook_stands p p.side w r (right_stands_of p sound p.side w) at)
     step free
-    (and_parts (is_man p.side King (man_at p.men a)) (names_castling p.variant p.side (triple a b None) w (right_of p.rights p.side w)) e).1)
+    (and_parts (is_man p.side King (man_at p.men a))
+    (names_castling p.variant p.side (triple a b None) w (right_of p.rights p.side w)) e).1)
 
 -- what a king's step is
 step_parts : (p : Setup) (a b : ℕ) → is_man p.side King (man_at p.men a) ≡ true → man_moves p (triple a b None) ≡ true
     → (could_capture p.men p.side King a b ≡ true) × (is_of p.side (man_at p.men b) ≡ false)
 step_parts p a b king moves =
     let at = man_told p.side King (man_at p.men a) king in
-    let both = and_parts (could_capture p.men p.side King a b) (not (is_of p.side (man_at p.men b))) (sym (steps_of_man p a b _ at refl) ∙ moves) in
+    let both = and_parts (could_capture p.men p.side King a b) (not (is_of p.side (man_at p.men b)))
+    (sym (steps_of_man p a b _ at refl) ∙ moves) in
     (both.0, off (is_of p.side (man_at p.men b)) both.1)
   where
     off : (t : Bool) → not t ≡ true → t ≡ false
     off true h = cc
     off false h = refl
 
-pub step_no_castling : (p : Setup) (a b : ℕ) → IsSound p → is_man p.side King (man_at p.men a) ≡ true → man_moves p (triple a b None) ≡ true → castle_of p (triple a b None) ≡ None
+pub step_no_castling : (p : Setup) (a b : ℕ) → IsSound p → is_man p.side King (man_at p.men a) ≡ true
+    → man_moves p (triple a b None) ≡ true → castle_of p (triple a b None) ≡ None
 step_no_castling p a b sound king moves =
     let parts = step_parts p a b king moves in
-    none_castles p (triple a b None) (not_said p a b KingSide sound parts.0 parts.1) (not_said p a b QueenSide sound parts.0 parts.1)
+    none_castles p (triple a b None) (not_said p a b KingSide sound parts.0 parts.1)
+    (not_said p a b QueenSide sound parts.0 parts.1)
 
 -- ---- a step is legal where the square isn't attacked once the king has left his own
 
-no_pawn_there : (p : Setup) (a : ℕ) (x : Man) → man_at p.men a ≡ Some x → x.kind ≡ King → is_man p.side Pawn (man_at p.men a) ≡ false
+no_pawn_there : (p : Setup) (a : ℕ) (x : Man) → man_at p.men a ≡ Some x → x.kind ≡ King
+    → is_man p.side Pawn (man_at p.men a) ≡ false
 unfolding is_man
 no_pawn_there p a x at king = rw (at, king) (and_right _ false refl)
 
-pub step_is : (p : Setup) (a b : ℕ) → IsSound p → is_man p.side King (man_at p.men a) ≡ true → man_moves p (triple a b None) ≡ true → a < 64 → b < 64
+pub step_is : (p : Setup) (a b : ℕ) → IsSound p → is_man p.side King (man_at p.men a) ≡ true
+    → man_moves p (triple a b None) ≡ true → a < 64 → b < 64
     → not (is_attacked (lifted p.men a) b (other p.side)) ≡ is_legal p (triple a b None)
 unfolding second_square_emptied castling_rook_to lands_on
 step_is p a b sound king moves low high =
     let m = triple a b None in
     let at = man_told p.side King (man_at p.men a) king in
     let none : castle_of p m ≡ None = step_no_castling p a b sound king moves in
-    let go : goes p a b ≡ true = man_sound p a b _ at refl refl low high (ap (λ o. legal_or p m o (man_moves p m)) none ∙ moves) in
+    let go : goes p a b ≡ true = man_sound p a b _ at refl refl low high
+    (ap (λ o. legal_or p m o (man_moves p m)) none ∙ moves) in
     let stays : would_promote p a b ≡ false = not_promoting p a b _ at refl in
     let pattern : has_pattern p m ≡ true = pattern_of p a b None go (rw stays refl) in
     let lands : lands_on p m ≡ b = ap (mover_to m) none in
@@ -167,10 +186,17 @@ step_is p a b sound king moves low high =
     king_lands p m b (sym lands) high (ap (λ o. is_man p.side King o) (lands_same (man_at p.men a)) ∙ king) in
     let no_passing : is_en_passant p m ≡ false =
     not_passing p m (rw (no_pawn_there p a _ at refl) refl) in
-    let plain : IsPlain p m = record { also = rw (no_passing, none) refl; rook = rw none refl; mover = mover_some p m pattern; own = mover_own p m pattern } in
+    let plain : IsPlain p m = record {
+      also = rw (no_passing, none) refl;
+      rook = rw none refl;
+      mover = mover_some p m pattern;
+      own = mover_own p m pattern;
+    } in
     let same : (k : ℕ) → k < 64 → (k == b) ≡ false → man_at (lifted p.men a) k ≡ man_at (men_after p m) k =
-    λ k l apart. lifted_at p.men a k sound.board low ∙ sym (plain_after p m k plain l ∙ rw (lands, eq_back b k, apart, eq_back a k) refl) in
-    ap not (attacked_same (lifted p.men a) (men_after p m) b (other p.side) same ∙ sym (check_after p m b sound pattern high there)) ∙ legal_is p m pattern
+    λ k l apart. lifted_at p.men a k sound.board low
+    ∙ sym (plain_after p m k plain l ∙ rw (lands, eq_back b k, apart, eq_back a k) refl) in
+    ap not (attacked_same (lifted p.men a) (men_after p m) b (other p.side) same
+    ∙ sym (check_after p m b sound pattern high there)) ∙ legal_is p m pattern
 
 -- ---- his steps and castling are all his moves
 
@@ -178,7 +204,8 @@ step_is p a b sound king moves low high =
 two_range : {A : Type 0} (g : ℕ → List A) (s e : ℕ → Bool) (n a : ℕ) → a + n ≤ 64
     → ((k : ℕ) → k < 64 → s k ≡ false → e k ≡ false → g k ≡ [])
     → ((k : ℕ) → k < 64 → s k ≡ true → e k ≡ false)
-    → length (flat_map g (filter e (range_with_len a n))) + length (flat_map g (filter s (range_with_len a n))) ≡ length (flat_map g (range_with_len a n))
+    → length (flat_map g (filter e (range_with_len a n)))
+    + length (flat_map g (filter s (range_with_len a n))) ≡ length (flat_map g (range_with_len a n))
 two_range g s e zero a fits out apart = refl
 two_range g s e (suc n) a fits out apart =
     let rest = two_range g s e n (a + 1) (omega arith) out apart in
@@ -203,7 +230,8 @@ pub two_sets : {A : Type 0} (g : ℕ → List A) (s e : ℕ)
 unfolding members squares
 two_sets g s e out apart = two_range g (λ k. has s k) (λ k. has e k) 64 0 (omega arith) out apart
 
-king_goes : (p : Setup) (a b : ℕ) (s e : Bool) (k : Option Kind) → is_man p.side King (man_at p.men a) ≡ true → a < 64 → b < 64
+king_goes : (p : Setup) (a b : ℕ) (s e : Bool) (k : Option Kind) → is_man p.side King (man_at p.men a) ≡ true → a < 64
+    → b < 64
     → s ≡ man_moves p (triple a b None) → e ≡ legal_or p (triple a b None) (castle_of p (triple a b None)) false
     → s ≡ false → e ≡ false → is_legal p (triple a b k) ≡ false
 king_goes p a b s e k king low high steps ends off out =
@@ -211,10 +239,12 @@ king_goes p a b s e k king low high steps ends off out =
     false_from_ne_true (is_legal p (triple a b k))
     (λ legal. by (castle_of p (triple a b None)) refl (man_complete p (triple a b k) _ at refl refl low high legal))
   where
-    by : (o : Option Castle) → castle_of p (triple a b None) ≡ o → legal_or p (triple a b None) o (man_moves p (triple a b None)) ≡ true → ⊥
+    by : (o : Option Castle) → castle_of p (triple a b None) ≡ o
+        → legal_or p (triple a b None) o (man_moves p (triple a b None)) ≡ true → ⊥
     by None none h = both_ways (man_moves p (triple a b None)) (sym steps ∙ off) h
     by (Some castle) some h =
-        both_ways (is_legal p (triple a b None)) (sym (ends ∙ ap (λ o. legal_or p (triple a b None) o false) some) ∙ out) h
+        both_ways (is_legal p (triple a b None))
+        (sym (ends ∙ ap (λ o. legal_or p (triple a b None) o false) some) ∙ out) h
 
 pub king_counted : (p : Setup) (a s e : ℕ) → IsSound p → is_man p.side King (man_at p.men a) ≡ true → a < 64
     → ((k : ℕ) → k < 64 → has s k ≡ man_moves p (triple a k None))
@@ -227,9 +257,11 @@ king_counted p a s e sound king low steps ends =
     all_once (λ b. moves_between p a b) (members e) (each_member e (λ b. length (moves_between p a b) ≡ 1) once) in
     sym (ap (λ n. n + length (flat_map (λ b. moves_between p a b) (members s))) ones)
     ∙ two_sets (λ b. moves_between p a b) s e
-    (λ b high off out. none_there p a b (λ k. king_goes p a b (has s b) (has e b) k king low high (steps b high) (ends b high) off out))
+    (λ b high off out. none_there p a b (λ k. king_goes p a b (has s b) (has e b) k king low high (steps b high)
+    (ends b high) off out))
     (λ b high on.
-    ends b high ∙ ap (λ o. legal_or p (triple a b None) o false) (step_no_castling p a b sound king (sym (steps b high) ∙ on)))
+    ends b high ∙ ap (λ o. legal_or p (triple a b None) o false)
+    (step_no_castling p a b sound king (sym (steps b high) ∙ on)))
   where
     castled : (m : Move) (o : Option Castle) → legal_or p m o false ≡ true → is_legal p m ≡ true
     castled m None h = cc
@@ -238,7 +270,8 @@ king_counted p a s e sound king low steps ends =
     once : (b : ℕ) → b < 64 → has e b ≡ true → length (moves_between p a b) ≡ 1
     once b high h =
         let legal = castled (triple a b None) (castle_of p (triple a b None)) (sym (ends b high) ∙ h) in
-        let stays : would_promote p a b ≡ false = not_promoting p a b _ (man_told p.side King (man_at p.men a) king) refl in
+        let stays : would_promote p a b ≡ false =
+        not_promoting p a b _ (man_told p.side King (man_at p.men a) king) refl in
         sym (rw legal at (one_counted p a b stays))
 
 -- as the code tells them
@@ -246,5 +279,6 @@ pub steps_are : (p : Setup) (a b : ℕ) → is_man p.side King (man_at p.men a) 
     → (could_capture p.men p.side King a b && not (is_of p.side (man_at p.men b))) ≡ man_moves p (triple a b None)
 steps_are p a b king = sym (steps_of_man p a b _ (man_told p.side King (man_at p.men a) king) refl)
 
-pub step_counted : (p : Setup) (a b : ℕ) → is_man p.side King (man_at p.men a) ≡ true → cond (is_legal p (triple a b None)) 1 0 ≡ length (moves_between p a b)
+pub step_counted : (p : Setup) (a b : ℕ) → is_man p.side King (man_at p.men a) ≡ true
+    → cond (is_legal p (triple a b None)) 1 0 ≡ length (moves_between p a b)
 step_counted p a b king = one_counted p a b (not_promoting p a b _ (man_told p.side King (man_at p.men a) king) refl)

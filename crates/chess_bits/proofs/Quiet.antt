@@ -26,17 +26,20 @@ last_of_three true false r s h e = e
 last_of_three false q r s h e = e
 
 -- a man could_capture no less where fewer squares are in the way
-could_capture_clear : (men later : Men) (c : Colour) (k : Kind) (a b : ℕ) → (is_clear later a b ≡ true → is_clear men a b ≡ true)
+could_capture_clear : (men later : Men) (c : Colour) (k : Kind) (a b : ℕ)
+    → (is_clear later a b ≡ true → is_clear men a b ≡ true)
     → could_capture later c k a b ≡ true → could_capture men c k a b ≡ true
 unfolding could_capture
 could_capture_clear men later c King a b h e = e
 could_capture_clear men later c Knight a b h e = e
 could_capture_clear men later c Pawn a b h e = e
-could_capture_clear men later c Queen a b h e = last_of_three (not (a == b)) (share_rank_or_file a b || share_diagonal a b) _ _ h e
+could_capture_clear men later c Queen a b h e =
+    last_of_three (not (a == b)) (share_rank_or_file a b || share_diagonal a b) _ _ h e
 could_capture_clear men later c Rook a b h e = last_of_three (not (a == b)) (share_rank_or_file a b) _ _ h e
 could_capture_clear men later c Bishop a b h e = last_of_three (not (a == b)) (share_diagonal a b) _ _ h e
 
-pub could_capture_as_clear : (men later : Men) (o : Option Man) (a b : ℕ) → (is_clear later a b ≡ true → is_clear men a b ≡ true)
+pub could_capture_as_clear : (men later : Men) (o : Option Man) (a b : ℕ)
+    → (is_clear later a b ≡ true → is_clear men a b ≡ true)
     → could_capture_as later o a b ≡ true → could_capture_as men o a b ≡ true
 could_capture_as_clear men later None a b h e = e
 could_capture_as_clear men later (Some x) a b h e = could_capture_clear men later x.colour x.kind a b h e
@@ -49,14 +52,16 @@ pub record IsPlain (p : Setup) (m : Move) : Type 0 where
   pub own : is_of (other p.side) (man_that_lands (man_at p.men m.from) m.promotion) ≡ false
 
 pub plain_after : (p : Setup) (m : Move) (k : ℕ) → IsPlain p m → k < 64
-    → man_at (men_after p m) k ≡ cond (lands_on p m == k) (man_that_lands (man_at p.men m.from) m.promotion) (cond (m.from == k) None (man_at p.men k))
+    → man_at (men_after p m) k ≡ cond (lands_on p m == k) (man_that_lands (man_at p.men m.from) m.promotion)
+    (cond (m.from == k) None (man_at p.men k))
 unfolding man_after
 plain_after p m k h l = man_at-men_after p m k l ∙ rw (h.also, h.rook) refl
 
 -- ---- the king is as safe after such a move as with the mover taken off
 
 -- an enemy that is there after the move was there before
-enemy_before : (t : Bool) (arr o : Option Man) (c : Colour) → is_of c arr ≡ false → is_of c (cond t arr o) ≡ true → cond t arr o ≡ o
+enemy_before : (t : Bool) (arr o : Option Man) (c : Colour) → is_of c arr ≡ false → is_of c (cond t arr o) ≡ true
+    → cond t arr o ≡ o
 unfolding is_of
 enemy_before true arr o c n e = absurd (both_ways _ n e)
 enemy_before false arr o c n e = refl
@@ -67,13 +72,15 @@ empty_before true arr o g e = absurd (both_ways _ g e)
 empty_before false arr o g e = e
 
 lands_over : (p : Setup) (m : Move) (k : ℕ) → length p.men ≡ 64 → m.from < 64 → IsPlain p m → k < 64
-    → man_at (men_after p m) k ≡ cond (lands_on p m == k) (man_that_lands (man_at p.men m.from) m.promotion) (man_at (lifted p.men m.from) k)
+    → man_at (men_after p m) k ≡ cond (lands_on p m == k) (man_that_lands (man_at p.men m.from) m.promotion)
+    (man_at (lifted p.men m.from) k)
 lands_over p m k all low plain l =
     plain_after p m k plain l
     ∙ ap (λ o. cond (lands_on p m == k) (man_that_lands (man_at p.men m.from) m.promotion) o)
     (ap (λ t. cond t None (man_at p.men k)) (eq_back m.from k) ∙ sym (lifted_at p.men m.from k all low))
 
-clear_before : (p : Setup) (m : Move) (a b : ℕ) → length p.men ≡ 64 → m.from < 64 → IsPlain p m → is_clear (men_after p m) a b ≡ true → is_clear (lifted p.men m.from) a b ≡ true
+clear_before : (p : Setup) (m : Move) (a b : ℕ) → length p.men ≡ 64 → m.from < 64 → IsPlain p m
+    → is_clear (men_after p m) a b ≡ true → is_clear (lifted p.men m.from) a b ≡ true
 unfolding is_clear
 clear_before p m a b all low h e =
     each_square-all _
@@ -83,7 +90,8 @@ clear_before p m a b all low h e =
       | inl inside ↦
           let now = rw inside at (each_square-at _ e x l) in
           rw inside
-          (empty_before (lands_on p m == x) (man_that_lands (man_at p.men m.from) m.promotion) (man_at (lifted p.men m.from) x) h.mover
+          (empty_before (lands_on p m == x) (man_that_lands (man_at p.men m.from) m.promotion)
+          (man_at (lifted p.men m.from) x) h.mover
           (rw (lands_over p m x all low h l) at now))
     ])
 
@@ -96,31 +104,46 @@ stays_safe p m king all low h before =
     (λ a k.
     false_from_ne_true _
     (λ e.
-    let both = and_parts (is_of (other p.side) (man_at (men_after p m) a)) (could_capture_as (men_after p m) (man_at (men_after p m) a) a king) e in
+    let both = and_parts (is_of (other p.side) (man_at (men_after p m) a))
+    (could_capture_as (men_after p m) (man_at (men_after p m) a) a king) e in
     let stood : man_at (men_after p m) a ≡ man_at (lifted p.men m.from) a =
     lands_over p m a all low h k
-    ∙ enemy_before (lands_on p m == a) (man_that_lands (man_at p.men m.from) m.promotion) (man_at (lifted p.men m.from) a) (other p.side) h.own
+    ∙ enemy_before (lands_on p m == a) (man_that_lands (man_at p.men m.from) m.promotion)
+    (man_at (lifted p.men m.from) a) (other p.side) h.own
     (rw (lands_over p m a all low h k) at both.0) in
     let was : is_of (other p.side) (man_at (lifted p.men m.from) a) ≡ true = rw (← stood) both.0 in
     let hit : could_capture_as (lifted p.men m.from) (man_at (lifted p.men m.from) a) a king ≡ true =
-    could_capture_as_clear (lifted p.men m.from) (men_after p m) (man_at (lifted p.men m.from) a) a king (clear_before p m a king all low h) (rw (← stood) both.1) in
+    could_capture_as_clear (lifted p.men m.from) (men_after p m) (man_at (lifted p.men m.from) a) a king
+    (clear_before p m a king all low h) (rw (← stood) both.1) in
     both_ways _ before (some_square-at _ a k (and_from _ _ was hit))))
 
 -- ---- moves that change only their two squares
 
-pub not_passing : (p : Setup) (m : Move) → (is_man p.side Pawn (man_at p.men m.from) && is_square p.target m.to) ≡ false → is_en_passant p m ≡ false
+pub not_passing : (p : Setup) (m : Move) → (is_man p.side Pawn (man_at p.men m.from) && is_square p.target m.to) ≡ false
+    → is_en_passant p m ≡ false
 unfolding is_en_passant
-not_passing p m h = out (is_man p.side Pawn (man_at p.men m.from)) (attacks p.men m.from m.to) (is_square p.target m.to) h
+not_passing p m h = out (is_man p.side Pawn (man_at p.men m.from)) (attacks p.men m.from m.to) (is_square p.target m.to)
+    h
   where
     out : (a b c : Bool) → (a && c) ≡ false → ((a && b) && c) ≡ false
     out true true c e = e
     out true false c e = refl
     out false b c e = refl
 
-pub plain_steps : (p : Setup) (m : Move) → is_man p.side King (man_at p.men m.from) ≡ false → (is_man p.side Pawn (man_at p.men m.from) && is_square p.target m.to) ≡ false
-    → record { from = m.from; second_from = None; second_to = None; second = Some (record { colour = p.side; kind = Rook }); to = m.to; mover = man_that_lands (man_at p.men m.from) m.promotion } ≡ steps_of p m
+pub plain_steps : (p : Setup) (m : Move) → is_man p.side King (man_at p.men m.from) ≡ false
+    → (is_man p.side Pawn (man_at p.men m.from) && is_square p.target m.to) ≡ false
+    → record {
+      from = m.from;
+      second_from = None;
+      second_to = None;
+      second = Some (record { colour = p.side; kind = Rook });
+      to = m.to;
+      mover =
+          man_that_lands (man_at p.men m.from) m.promotion;
+    } ≡ steps_of p m
 unfolding second_square_emptied castling_rook_to lands_on
 plain_steps p m no_king no_passing =
     let still = not_passing p m no_passing in
-    let no_castle : castle_of p m ≡ None = none_castles p m (no_king_says p m KingSide no_king) (no_king_says p m QueenSide no_king) in
+    let no_castle : castle_of p m ≡ None = none_castles p m (no_king_says p m KingSide no_king)
+    (no_king_says p m QueenSide no_king) in
     rw (still, no_castle) refl

@@ -15,7 +15,8 @@ use Rattle.chess_bits.specs.declared.sets.Sets.{Sets}
 use Rattle.chess_bits.specs.ties.KindSets.{IsKinds}
 use Rattle.chess_bits.specs.ties.BoardSets.{IsSets}
 
-pub kinds_same : (sets : List ℕ) (c : Colour) (a b : Men) → ((k : ℕ) → k < 64 → man_at a k ≡ man_at b k) → IsKinds sets c a → IsKinds sets c b
+pub kinds_same : (sets : List ℕ) (c : Colour) (a b : Men) → ((k : ℕ) → k < 64 → man_at a k ≡ man_at b k)
+    → IsKinds sets c a → IsKinds sets c b
 kinds_same sets c a b same h = record { of_kind = λ kind k low. h.of_kind kind k low ∙ ap (is_man c kind) (same k low) }
 
 -- the sets of the same men on the same squares
@@ -48,9 +49,13 @@ six e Pawn = refl
 
 pub no_kinds : (e : ℕ) (c : Colour) (men : Men) → ((k : ℕ) → has e k ≡ false) → ((k : ℕ) → k < 64 → man_at men k ≡ None)
     → IsKinds (e ∷ e ∷ e ∷ e ∷ e ∷ e ∷ []) c men
-no_kinds e c men empty none = record { of_kind = λ kind k low. ap (λ w. has w k) (six e kind) ∙ empty k ∙ sym (no_man c kind (man_at men k) (none k low)) }
+no_kinds e c men empty none = record {
+  of_kind = λ kind k low. ap (λ w. has w k) (six e kind) ∙ empty k
+      ∙ sym (no_man c kind (man_at men k) (none k low));
+}
 
-pub no_sets : (s : Sets) (men : Men) → ((k : ℕ) → k < 64 → man_at men k ≡ None) → IsKinds s.white.sets White men → IsKinds s.black.sets Black men
+pub no_sets : (s : Sets) (men : Men) → ((k : ℕ) → k < 64 → man_at men k ≡ None) → IsKinds s.white.sets White men
+    → IsKinds s.black.sets Black men
     → ((k : ℕ) → has s.all_white k ≡ false) → ((k : ℕ) → has s.all_black k ≡ false) → s.men_word ≡ 0 → IsSets s men
 no_sets s men none white black all_white all_black word = record {
   of_white = white;
@@ -67,11 +72,13 @@ unfolding is_of
 some_of None = refl
 some_of (Some x) = by_colour x.colour
   where
-    by_colour : (c : Colour) → (is_of White (Some (record { colour = c; kind = x.kind })) || is_of Black (Some (record { colour = c; kind = x.kind }))) ≡ true
+    by_colour : (c : Colour) → (is_of White (Some (record { colour = c; kind = x.kind }))
+        || is_of Black (Some (record { colour = c; kind = x.kind }))) ≡ true
     by_colour White = refl
     by_colour Black = refl
 
-pub occupied_by : (s : Sets) (men : Men) (w : ℕ) → IsSets s men → ((k : ℕ) → has w k ≡ (has s.all_white k || has s.all_black k)) → IsOccupied w men
+pub occupied_by : (s : Sets) (men : Men) (w : ℕ) → IsSets s men
+    → ((k : ℕ) → has w k ≡ (has s.all_white k || has s.all_black k)) → IsOccupied w men
 occupied_by s men w h union = record {
   of_men = λ k low. union k ∙ rw (h.all_white k low, h.all_black k low) (some_of (man_at men k));
 }

@@ -8,6 +8,7 @@ use Rattle.byte_devices.specs.Devices.{InputState, GavePiece, risen}
 use Rattle.byte_devices.proofs.DeviceLaws.{consumes_more, consumes_none}
 use Rattle.chess_cecp.specs.Lines.{LineSeen, Held, nothing_held, lines_from, lines_held, line_of, HasNoEnd}
 use Rattle.chess_cecp.specs.Next.{before_piece, Waits, work, NextLine, HeldLine}
+use Rattle.chess_cecp.specs.declared.lines.TheConstants.{PIECE_LEN}
 
 -- after some reads: what was given, and that what is held stands for it
 pub record SoFar (n : ℕ) (r r' : InputState) (held held' : Held) (given : List ℕ) : Type 0 where
@@ -23,11 +24,13 @@ at_false true P Q e p = cc
 at_false false P Q e p = p
 
 -- where the held bytes have no line, none of the bytes so far is past one
-whole_so_far : (n : ℕ) (r r' : InputState) (h h' h'' : Held) (given : List ℕ) → SoFar n r r' h h' given → HeldLine n h' h'' None → lines_held n false h given ≡ []
+whole_so_far : (n : ℕ) (r r' : InputState) (h h' h'' : Held) (given : List ℕ) → SoFar n r r' h h' given
+    → HeldLine n h' h'' None → lines_held n false h given ≡ []
 whole_so_far n r r' h h' h'' given s f = ap (lines_held n false h) (sym (append-nil given)) ∙ s.lines false [] ∙ f.0
 
 -- what is held after a piece
-lines_on : (n : ℕ) (r r' : InputState) (h h' h'' : Held) (given piece : List ℕ) → SoFar n r r' h h' given → HeldLine n h' h'' None → (told : Bool) (rest : List ℕ)
+lines_on : (n : ℕ) (r r' : InputState) (h h' h'' : Held) (given piece : List ℕ) → SoFar n r r' h h' given
+    → HeldLine n h' h'' None → (told : Bool) (rest : List ℕ)
     → lines_held n told h ((given ++ piece) ++ rest) ≡ lines_from n told h''.part (piece ++ rest)
 lines_on n r r' h h' h'' given piece s f told rest =
     ap (lines_held n told h) (append_assoc given piece rest) ∙ s.lines told (piece ++ rest) ∙ f.2 told (piece ++ rest)
@@ -39,16 +42,29 @@ before_last given piece last e =
     let at : length (given ++ piece) - last ≡ length given = omega arith in
     ap (λ v. take v (given ++ piece)) at ∙ take-append_seam given piece
 
-waits_on : (n : ℕ) (r r' r'' : InputState) (h h' h'' : Held) (given piece : List ℕ) → SoFar n r r' h h' given → HeldLine n h' h'' None → GavePiece r' r'' piece → Waits n r r'' h (given ++ piece)
+waits_on : (n : ℕ) (r r' r'' : InputState) (h h' h'' : Held) (given piece : List ℕ) → SoFar n r r' h h' given
+    → HeldLine n h' h'' None → GavePiece r' r'' piece → Waits n r r'' h (given ++ piece)
 waits_on n r r' r'' h h' h'' given piece s f p =
     let len : length (given ++ piece) ≡ length given + length piece = length-append given piece in
     let last = p.last in
-    inr (omega arith, ap (lines_held n false h) (before_last given piece r''.last_len p.last) ∙ whole_so_far n r r' h h' h'' given s f)
+    inr (
+      omega arith,
+      ap (lines_held n false h) (before_last given piece r''.last_len p.last)
+          ∙ whole_so_far n r r' h h' h'' given s f,
+    )
 
 pub start : (n : ℕ) (r : InputState) (h : Held) → SoFar n r r h h []
-start n r h = record { bytes = consumes_none r.known_bytes; waits = inl (refl, refl); lines = λ told rest. refl; failures = refl; ends = refl; work = omega arith }
+start n r h = record {
+  bytes = consumes_none r.known_bytes;
+  waits = inl (refl, refl);
+  lines = λ told rest. refl;
+  failures = refl;
+  ends = refl;
+  work = omega arith;
+}
 
-pub piece_on : (n : ℕ) (r r' r'' : InputState) (h h' h'' : Held) (given piece : List ℕ) → SoFar n r r' h h' given → HeldLine n h' h'' None → GavePiece r' r'' piece → 0 < length piece → length piece ≤ 1024
+pub piece_on : (n : ℕ) (r r' r'' : InputState) (h h' h'' : Held) (given piece : List ℕ) → SoFar n r r' h h' given
+    → HeldLine n h' h'' None → GavePiece r' r'' piece → 0 < length piece → length piece ≤ PIECE_LEN
     → SoFar n r r'' h (record { part = h''.part; coming = piece }) (given ++ piece)
 piece_on n r r' r'' h h' h'' given piece s f p some few = record {
   bytes = consumes_more r.known_bytes r'.known_bytes r''.known_bytes given piece s.bytes p.bytes;
@@ -71,22 +87,28 @@ last_left : (n : ℕ) (part : List ℕ) → 0 < length part → lines_from n tru
 unfolding lines_from
 last_left n part h = let e : nat_lt 0 (length part) ≡ true = grind arith in rw e refl
 
-lines_end : (n : ℕ) (r r' : InputState) (h h' h'' : Held) (given piece : List ℕ) → SoFar n r r' h h' given → HeldLine n h' h'' None → piece ≡ [] → (told : Bool)
+lines_end : (n : ℕ) (r r' : InputState) (h h' h'' : Held) (given piece : List ℕ) → SoFar n r r' h h' given
+    → HeldLine n h' h'' None → piece ≡ [] → (told : Bool)
     → lines_held n told h (given ++ piece) ≡ lines_from n told h''.part []
 lines_end n r r' h h' h'' given piece s f e told =
-    ap (lines_held n told h) (sym (append-nil (given ++ piece))) ∙ lines_on n r r' h h' h'' given piece s f told [] ∙ ap (λ v. lines_from n told h''.part (v ++ [])) e
+    ap (lines_held n told h) (sym (append-nil (given ++ piece))) ∙ lines_on n r r' h h' h'' given piece s f told []
+    ∙ ap (λ v. lines_from n told h''.part (v ++ [])) e
 
 pub both_empty : (a b : List ℕ) → a ≡ [] → b ≡ [] → record { part = a; coming = b } ≡ nothing_held
-both_empty a b e f = ap (λ (v : List ℕ). let h : Held = record { part = v; coming = b } in h) e ∙ ap (λ (v : List ℕ). let h : Held = record { part = []; coming = v } in h) f
+both_empty a b e f = ap (λ (v : List ℕ). let h : Held = record { part = v; coming = b } in h) e
+    ∙ ap (λ (v : List ℕ). let h : Held = record { part = []; coming = v } in h) f
 
-pub end_none : (E : Type 0) (n : ℕ) (r r' r'' : InputState) (h h' h'' h3 : Held) (given piece : List ℕ) → SoFar n r r' h h' given → HeldLine n h' h'' None → GavePiece r' r'' piece → piece ≡ [] → h''.part ≡ [] → h3 ≡ nothing_held
+pub end_none : (E : Type 0) (n : ℕ) (r r' r'' : InputState) (h h' h'' h3 : Held) (given piece : List ℕ)
+    → SoFar n r r' h h' given → HeldLine n h' h'' None → GavePiece r' r'' piece → piece ≡ [] → h''.part ≡ []
+    → h3 ≡ nothing_held
     → NextLine {E = E} n r r'' h h3 (Ok None)
 end_none E n r r' r'' h h' h'' h3 given piece s f p e empty left = (
   given ++ piece,
   consumes_more r.known_bytes r'.known_bytes r''.known_bytes given piece s.bytes p.bytes,
   waits_on n r r' r'' h h' h'' given piece s f p,
   record {
-    lines = λ told. lines_end n r r' h h' h'' given piece s f e told ∙ ap (λ v. lines_from n told v []) empty ∙ nothing_left n told;
+    lines = λ told. lines_end n r r' h h' h'' given piece s f e told ∙ ap (λ v. lines_from n told v []) empty
+        ∙ nothing_left n told;
     rest = left;
     at_end = p.at_end (ap length e);
     failures = p.failures ∙ s.failures;
@@ -94,7 +116,9 @@ end_none E n r r' r'' h h' h'' h3 given piece s f p e empty left = (
   },
 )
 
-pub end_last : (E : Type 0) (n : ℕ) (r r' r'' : InputState) (h h' h'' h3 : Held) (given piece : List ℕ) (line : LineSeen) → SoFar n r r' h h' given → HeldLine n h' h'' None → GavePiece r' r'' piece → piece ≡ [] → 0 < length h''.part
+pub end_last : (E : Type 0) (n : ℕ) (r r' r'' : InputState) (h h' h'' h3 : Held) (given piece : List ℕ)
+    (line : LineSeen) → SoFar n r r' h h' given → HeldLine n h' h'' None → GavePiece r' r'' piece → piece ≡ []
+    → 0 < length h''.part
     → line ≡ line_of n false h''.part → h3 ≡ nothing_held → NextLine {E = E} n r r'' h h3 (Ok (Some line))
 end_last E n r r' r'' h h' h'' h3 given piece line s f p e some is left =
     let ended : line.ended ≡ false = ap (λ (l : LineSeen). l.ended) is ∙ line_ended n false h''.part in (
@@ -103,7 +127,8 @@ end_last E n r r' r'' h h' h'' h3 given piece line s f p e some is left =
       waits_on n r r' r'' h h' h'' given piece s f p,
       at_false line.ended _ _ ended (record {
         whole = lines_end n r r' h h' h'' given piece s f e false ∙ none_from n h''.part;
-        lines = lines_end n r r' h h' h'' given piece s f e true ∙ last_left n h''.part some ∙ ap (λ v. v ∷ []) (sym is);
+        lines = lines_end n r r' h h' h'' given piece s f e true ∙ last_left n h''.part some
+            ∙ ap (λ v. v ∷ []) (sym is);
         rest = left;
         at_end = p.at_end (ap length e);
         failures = p.failures ∙ s.failures;
@@ -111,16 +136,22 @@ end_last E n r r' r'' h h' h'' h3 given piece line s f p e some is left =
       }),
     )
 
-piece_on_part : (n : ℕ) (told : Bool) (part piece rest : List ℕ) → HasNoEnd piece → lines_from n told part (piece ++ rest) ≡ lines_from n told (part ++ piece) rest
+piece_on_part : (n : ℕ) (told : Bool) (part piece rest : List ℕ) → HasNoEnd piece
+    → lines_from n told part (piece ++ rest) ≡ lines_from n told (part ++ piece) rest
 piece_on_part n told part [] rest h = ap (λ v. lines_from n told v rest) (sym (append-nil part))
 piece_on_part n told part (c ∷ cs) rest h =
-    byte_step n told part c (cs ++ rest) h.0 ∙ piece_on_part n told (part ++ c ∷ []) cs rest h.1 ∙ ap (λ v. lines_from n told v rest) (append_assoc part (c ∷ []) cs)
+    byte_step n told part c (cs ++ rest) h.0 ∙ piece_on_part n told (part ++ c ∷ []) cs rest h.1
+    ∙ ap (λ v. lines_from n told v rest) (append_assoc part (c ∷ []) cs)
 
-pub law_ended : (n : ℕ) (told : Bool) (piece rest : List ℕ) → HasNoEnd piece → lines_from n told [] (piece ++ 10 ∷ rest) ≡ line_of n true piece ∷ lines_from n told [] rest
+pub law_ended : (n : ℕ) (told : Bool) (piece rest : List ℕ) → HasNoEnd piece
+    → lines_from n told [] (piece ++ 10 ∷ rest) ≡ line_of n true piece ∷ lines_from n told [] rest
 law_ended n told piece rest h = piece_on_part n told [] piece (10 ∷ rest) h ∙ ten_step n told piece 10 rest refl
 
-pub law_last : (n : ℕ) (piece : List ℕ) → HasNoEnd piece → 0 < length piece → lines_from n true [] piece ≡ line_of n false piece ∷ []
-law_last n piece h some = ap (lines_from n true []) (sym (append-nil piece)) ∙ piece_on_part n true [] piece [] h ∙ last_left n piece some
+pub law_last : (n : ℕ) (piece : List ℕ) → HasNoEnd piece → 0 < length piece
+    → lines_from n true [] piece ≡ line_of n false piece ∷ []
+law_last n piece h some = ap (lines_from n true []) (sym (append-nil piece)) ∙ piece_on_part n true [] piece [] h
+    ∙ last_left n piece some
 
 pub law_not_told : (n : ℕ) (piece : List ℕ) → HasNoEnd piece → lines_from n false [] piece ≡ []
-law_not_told n piece h = ap (lines_from n false []) (sym (append-nil piece)) ∙ piece_on_part n false [] piece [] h ∙ none_from n piece
+law_not_told n piece h = ap (lines_from n false []) (sym (append-nil piece)) ∙ piece_on_part n false [] piece [] h
+    ∙ none_from n piece

@@ -147,7 +147,8 @@ row_keeps tags limit s text argument Silent = λ h. refl
 row_keeps tags limit s text argument BadNumber = λ h. refl
 row_keeps tags limit s text argument Unknown = λ h. refl
 
-pub refused_keeps : (seen : SessionSeen) (line : LineSeen) → IsRefusal (answer_to seen line) → next_state seen line ≡ seen
+pub refused_keeps : (seen : SessionSeen) (line : LineSeen) → IsRefusal (answer_to seen line)
+    → next_state seen line ≡ seen
 unfolding answer_to next_state
 refused_keeps seen line h =
     ap (λ v. record { tags = seen.tags; limit = seen.limit; state = v })
@@ -158,11 +159,13 @@ refused_keeps seen line h =
     h)
 
 -- the same of a session that is left; and tags and limit stay in any case
-pub refused : (seen left : SessionSeen) (line : LineSeen) → left ≡ next_state seen line → IsRefusal (answer_to seen line)
+pub refused : (seen left : SessionSeen) (line : LineSeen) → left ≡ next_state seen line
+    → IsRefusal (answer_to seen line)
     → left ≡ seen
 refused seen left line is h = is ∙ refused_keeps seen line h
 
-pub tags_and_limit_stay : (seen left : SessionSeen) (line : LineSeen) → left ≡ next_state seen line → (left.tags ≡ seen.tags)
+pub tags_and_limit_stay : (seen left : SessionSeen) (line : LineSeen) → left ≡ next_state seen line
+    → (left.tags ≡ seen.tags)
     × (left.limit ≡ seen.limit)
 unfolding next_state
 tags_and_limit_stay seen left line is = (ap (λ (s : SessionSeen). s.tags) is, ap (λ (s : SessionSeen). s.limit) is)

@@ -19,7 +19,8 @@ argument_of text = without_front_blanks (drop (length (word_of text)) text)
 
 -- the number that one to nine digits write
 unfoldable pub command_number : List ℕ → Option ℕ
-command_number text = if nat_lt 0 (length text) && nat_le (length text) 9 && list_all is_digit text then Some (value_after 0 text) else None
+command_number text = if nat_lt 0 (length text) && nat_le (length text) 9
+    && list_all is_digit text then Some (value_after 0 text) else None
 
 abbrev pub ping_of : Option ℕ → Command
 ping_of (Some n) = Ping n
@@ -33,15 +34,18 @@ protover_of None = BadNumber
 abbrev pub is_named : List ℕ → List (List ℕ) → Bool
 is_named word names = list_any (bytes_eq word) names
 
--- commands to an engine that plays, which an arbiter hears in silence: how it is to play, and of opponent, clocks and offers
+-- commands to an engine that plays, which an arbiter hears in silence: how it is to play, and of opponent, clocks and
+-- offers
 abbrev pub playing_words : List (List ℕ)
 playing_words =
-    codes "xboard" ∷ codes "accepted" ∷ codes "rejected" ∷ codes "force" ∷ codes "random" ∷ codes "hard" ∷ codes "easy" ∷ codes "post" ∷ codes "nopost"
+    codes "xboard" ∷ codes "accepted" ∷ codes "rejected" ∷ codes "force" ∷ codes "random" ∷ codes "hard" ∷ codes "easy"
+    ∷ codes "post" ∷ codes "nopost"
     ∷ codes "computer" ∷ []
 
 abbrev pub clock_words : List (List ℕ)
 clock_words =
-    codes "name" ∷ codes "rating" ∷ codes "ics" ∷ codes "level" ∷ codes "st" ∷ codes "sd" ∷ codes "time" ∷ codes "otim" ∷ codes "draw" ∷ codes "?" ∷ []
+    codes "name" ∷ codes "rating" ∷ codes "ics" ∷ codes "level" ∷ codes "st" ∷ codes "sd" ∷ codes "time" ∷ codes "otim"
+    ∷ codes "draw" ∷ codes "?" ∷ []
 
 unfoldable pub is_told_of_playing : List ℕ → Bool
 is_told_of_playing word = is_named word playing_words

@@ -30,7 +30,8 @@ inside_braces text = take (length text - 2) (drop 1 text)
 unfoldable pub comment_told : List ℕ → Option (List ℕ)
 comment_told text =
     if length text == 0 then Some []
-    else if nat_le 2 (length text) && (slice_index_or text 0 0 == byte "{") && (slice_index_or text (length text - 1) 0 == byte "}") then Some (inside_braces text)
+    else if nat_le 2 (length text) && (slice_index_or text 0 0 == byte "{")
+    && (slice_index_or text (length text - 1) 0 == byte "}") then Some (inside_braces text)
     else None
 
 abbrev pub declared_as : Option Outcome → Option (List ℕ) → Option Declared
@@ -67,6 +68,7 @@ claims_text c = claims_by c.threefold c.fifty_moves
 -- half-moves that stand, repetitions, the halfmove clock, claims, verdict and declared result
 unfoldable pub state_text : State → List ℕ
 state_text s =
-    decimal (length s.moves) ++ (codes " rep " ++ (decimal (rep s.start s.moves) ++ (codes " clock " ++ (decimal (current s).halfmove
+    decimal (length s.moves)
+    ++ (codes " rep " ++ (decimal (rep s.start s.moves) ++ (codes " clock " ++ (decimal (current s).halfmove
     ++ (codes " claims " ++ (claims_text (claims s.start s.moves) ++ (codes " verdict " ++ (verdict_text (verdict_now s)
     ++ (codes " declared " ++ declared_text s.declared)))))))))

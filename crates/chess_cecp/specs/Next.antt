@@ -4,6 +4,7 @@ use Rattle.std.specs.Bool.{MatchBool}
 use Rattle.std.specs.Io.KnownBytes.{Consumes, IsAtEnd}
 use Rattle.byte_devices.specs.Devices.{InputState, risen, GavePiece, FailedToRead}
 use Rattle.chess_cecp.specs.Lines.{LineSeen, Held, nothing_held, lines_from, lines_held}
+use Rattle.chess_cecp.specs.declared.lines.TheConstants.{PIECE_LEN}
 
 -- bytes less the last piece
 abbrev pub before_piece : ℕ → List ℕ → List ℕ
@@ -15,13 +16,14 @@ Waits n r r' held given =
     ((given ≡ []) × (r'.last_len ≡ r.last_len))
     ⊎ ((r'.last_len ≤ length given) × (lines_held n false held (before_piece r'.last_len given) ≡ []))
 
--- how much can still be read and is held, in a unit that falls with each line; a piece has at most 1024 bytes
+-- how much can still be read and is held, in a unit that falls with each line; a piece has at most PIECE_LEN bytes
 abbrev pub work : InputState → Held → ℕ
 work r held = r.pieces_left * 1025 + length held.coming
 
 -- a line that byte 10 ended
 pub record GotLine (n : ℕ) (r r' : InputState) (held held' : Held) (given : List ℕ) (line : LineSeen) : Type 0 where
-  pub lines : (told : Bool) (rest : List ℕ) → lines_held n told held (given ++ rest) ≡ line ∷ lines_held n told held' rest
+  pub lines : (told : Bool) (rest : List ℕ)
+      → lines_held n told held (given ++ rest) ≡ line ∷ lines_held n told held' rest
   pub failures : r'.failure_count ≡ r.failure_count
   pub ends : r'.end_count ≡ r.end_count
   pub falls : work r' held' < work r held
@@ -59,7 +61,8 @@ Got n r r' held held' given (Err e) = GotFault n r r' held held' given
 -- a call for the next line read these bytes, none of them while a whole line was held, and gave this
 abbrev pub NextLine : {E : Type 0} → ℕ → InputState → InputState → Held → Held → Result (Option LineSeen) E → Type 0
 NextLine n r r' held held' result =
-    (given : List ℕ) × Consumes r.known_bytes r'.known_bytes given × Waits n r r' held given × Got n r r' held held' given result
+    (given : List ℕ) × Consumes r.known_bytes r'.known_bytes given × Waits n r r' held given
+    × Got n r r' held held' given result
 
 -- the two ways to spell what has come of a line and is alike for all that follows
 abbrev pub SameLines : ℕ → List ℕ → List ℕ → Type 0
@@ -76,5 +79,5 @@ HeldLine n held held' None =
 
 -- a piece was read into an empty window, or a read failed
 abbrev pub Filled : {E : Type 0} → InputState → InputState → Result ℕ E → List ℕ → Type 0
-Filled r r' (Ok n) coming = (n ≡ length coming) × (n ≤ 1024) × GavePiece r r' coming
+Filled r r' (Ok n) coming = (n ≡ length coming) × (n ≤ PIECE_LEN) × GavePiece r r' coming
 Filled r r' (Err e) coming = (coming ≡ []) × FailedToRead r r'

@@ -12,6 +12,7 @@ use Rattle.chess_cecp.specs.declared.run.End.{End}
 use Rattle.chess_cecp.specs.declared.run.End.TheVariants.{Quit, InputEnded}
 use Rattle.chess_cecp.specs.declared.run.Fault.{Fault}
 use Rattle.chess_cecp.specs.declared.run.Fault.TheVariants.{Read, Write}
+use Rattle.chess_cecp.specs.declared.session.TheConstants.{COMMAND_LEN}
 
 -- what passed in a call: the bytes that the reader gave, whether it told its end, and the bytes that the writer took
 pub record Transcript : Type 0 where
@@ -25,7 +26,8 @@ risen_if false n = n
 
 -- the transcript is that of the devices, as far as they tell. Their counts show that a device failed exactly where that
 -- is said of it here
-pub record FitsDevices (r r' : InputState) (w w' : OutputState) (t : Transcript) (read_failed write_failed : Bool) : Type 0 where
+pub record FitsDevices (r r' : InputState) (w w' : OutputState) (t : Transcript)
+    (read_failed write_failed : Bool) : Type 0 where
   pub given : Consumes r.known_bytes r'.known_bytes t.given
   pub taken : Appends w.known_bytes w'.known_bytes t.taken
   pub told : r'.end_count ≡ risen_if t.told r.end_count
@@ -38,7 +40,7 @@ LeavesUnflushed w w' text = w.unflushed ≡ 0 → w'.unflushed ≡ raised 0 text
 
 -- the lines that were given: an unended last one counts where the end was told
 abbrev pub lines_given : Transcript → List LineSeen
-lines_given t = lines_heard 1024 t.told t.given
+lines_given t = lines_heard COMMAND_LEN t.told t.given
 
 -- these lines were answered by this text, up to a `quit`, and the state is the one after them
 pub record Answered (s s' : SessionSeen) (text : List ℕ) (ls : List LineSeen) : Type 0 where
@@ -52,18 +54,20 @@ AnsweredAll s s' t = Answered s s' t.taken (lines_given t)
 -- where the bytes that were still to come were known, all their lines were answered, up to a `quit`, however they
 -- were cut; and whether one of them is a `quit`
 abbrev pub AnsweredKnown : InputState → SessionSeen → SessionSeen → Transcript → Bool → Type 0
-AnsweredKnown r s s' t quit = IfSome r.known_bytes (λ xs. Answered s s' t.taken (lines 1024 xs) × (has_quit (lines 1024 xs) ≡ quit))
+AnsweredKnown r s s' t quit = IfSome r.known_bytes
+    (λ xs. Answered s s' t.taken (lines COMMAND_LEN xs) × (has_quit (lines COMMAND_LEN xs) ≡ quit))
 
 -- where the bytes that were still to come were known, these lines are the first of theirs
 abbrev pub FirstOfKnown : InputState → List LineSeen → Type 0
-FirstOfKnown r ls = IfSome r.known_bytes (λ xs. (behind : List LineSeen) × (lines 1024 xs ≡ ls ++ behind))
+FirstOfKnown r ls = IfSome r.known_bytes (λ xs. (behind : List LineSeen) × (lines COMMAND_LEN xs ≡ ls ++ behind))
 
 -- the line behind those before, none of them `quit`, is the one at which the call ended: nothing was read while
 -- a whole line was unanswered, so before the last piece fewer lines were whole
-pub record EndsAt (t : Transcript) (last_len : ℕ) (before : List LineSeen) (line : LineSeen) (after : List LineSeen) : Type 0 where
+pub record EndsAt (t : Transcript) (last_len : ℕ) (before : List LineSeen) (line : LineSeen)
+    (after : List LineSeen) : Type 0 where
   pub lines : lines_given t ≡ before ++ line ∷ after
   pub no_quit : has_quit before ≡ false
-  pub on_demand : length (whole 1024 (before_piece last_len t.given)) < length before + 1
+  pub on_demand : length (whole COMMAND_LEN (before_piece last_len t.given)) < length before + 1
 
 -- an end by the first `quit`
 abbrev pub ByQuit : SessionSeen → SessionSeen → Transcript → ℕ → Type 0
@@ -81,13 +85,13 @@ pub record ByEnd (s s' : SessionSeen) (t : Transcript) (r' : InputState) : Type 
 -- an end by a read that failed: the lines that byte 10 ended were answered
 pub record ByRead (r : InputState) (s s' : SessionSeen) (t : Transcript) : Type 0 where
   pub told : t.told ≡ false
-  pub no_quit : has_quit (whole 1024 t.given) ≡ false
-  pub taken : t.taken ≡ answers s (whole 1024 t.given)
-  pub state : s' ≡ standing s (whole 1024 t.given)
-  pub first : FirstOfKnown r (whole 1024 t.given)
+  pub no_quit : has_quit (whole COMMAND_LEN t.given) ≡ false
+  pub taken : t.taken ≡ answers s (whole COMMAND_LEN t.given)
+  pub state : s' ≡ standing s (whole COMMAND_LEN t.given)
+  pub first : FirstOfKnown r (whole COMMAND_LEN t.given)
 
--- an end by a write or a flush that failed: a beginning of the answer to the line was written, and its change stands. That
--- beginning is all that is not flushed
+-- an end by a write or a flush that failed: a beginning of the answer to the line was written, and its change stands.
+-- That beginning is all that is not flushed
 abbrev pub ByWrite : InputState → OutputState → OutputState → SessionSeen → SessionSeen → Transcript → ℕ → Type 0
 ByWrite r w w' s s' t last_len =
     (before : List LineSeen) × (line : LineSeen) × (after : List LineSeen) × (start : List ℕ)
@@ -100,8 +104,11 @@ ByWrite r w w' s s' t last_len =
 
 -- the whole promise: what was answered, of the session, the devices and the transcript. Each answer was flushed before
 -- more was read: at all ends but that by a failed write nothing is unflushed
-abbrev pub Ran : InputState → InputState → OutputState → OutputState → SessionSeen → SessionSeen → Transcript → Result End Fault → Type 0
-Ran r r' w w' s s' t (Ok Quit) = FitsDevices r r' w w' t false false × ByQuit s s' t r'.last_len × AnsweredKnown r s s' t true × LeavesUnflushed w w' []
-Ran r r' w w' s s' t (Ok InputEnded) = FitsDevices r r' w w' t false false × ByEnd s s' t r' × AnsweredKnown r s s' t false × LeavesUnflushed w w' []
+abbrev pub Ran : InputState → InputState → OutputState → OutputState → SessionSeen → SessionSeen → Transcript
+    → Result End Fault → Type 0
+Ran r r' w w' s s' t (Ok Quit) = FitsDevices r r' w w' t false false × ByQuit s s' t r'.last_len
+    × AnsweredKnown r s s' t true × LeavesUnflushed w w' []
+Ran r r' w w' s s' t (Ok InputEnded) = FitsDevices r r' w w' t false false × ByEnd s s' t r'
+    × AnsweredKnown r s s' t false × LeavesUnflushed w w' []
 Ran r r' w w' s s' t (Err Read) = FitsDevices r r' w w' t true false × ByRead r s s' t × LeavesUnflushed w w' []
 Ran r r' w w' s s' t (Err Write) = FitsDevices r r' w w' t false true × ByWrite r w w' s s' t r'.last_len

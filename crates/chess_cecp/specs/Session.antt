@@ -95,7 +95,8 @@ setboard_row s (Err fault) = refuses s (codes "tellusererror Illegal position ("
 
 -- what the arbiter tells of itself to an interface that speaks version 2
 unfoldable pub feature_text : List ℕ
-feature_text = codes "feature ping=1 setboard=1 playother=0 san=0 usermove=1 time=1 draw=1 sigint=0 sigterm=0 reuse=1 analyze=0 colors=0 debug=1 myname=\"CECP arbiter\" variants=\"normal,fischerandom\" done=1"
+feature_text =
+    codes "feature ping=1 setboard=1 playother=0 san=0 usermove=1 time=1 draw=1 sigint=0 sigterm=0 reuse=1 analyze=0 colors=0 debug=1 myname=\"CECP arbiter\" variants=\"normal,fischerandom\" done=1"
 
 -- the one legal move that a text spells is played
 abbrev pub reading_row : State → List ℕ → Reading → Row
@@ -112,10 +113,12 @@ move_row limit s text =
     else reading_row s text (reading (current s) text)
 
 abbrev pub undo_row : State → Row
-undo_row s = if nat_le 1 (length s.moves) then becomes (taken_back s 1) else refuses s (codes "Error (command not legal now): ") (codes "undo")
+undo_row s = if nat_le 1 (length s.moves) then becomes (taken_back s 1) else refuses s
+    (codes "Error (command not legal now): ") (codes "undo")
 
 abbrev pub remove_row : State → Row
-remove_row s = if nat_le 2 (length s.moves) then becomes (taken_back s 2) else refuses s (codes "Error (command not legal now): ") (codes "remove")
+remove_row s = if nat_le 2 (length s.moves) then becomes (taken_back s 2) else refuses s
+    (codes "Error (command not legal now): ") (codes "remove")
 
 -- a result is declared, unless the text declares none or there is a verdict with another outcome
 abbrev pub result_row : State → List ℕ → Option Declared → Row
@@ -126,7 +129,11 @@ result_row s text (Some d) =
 
 -- a draw is declared and answered
 abbrev pub draws : State → List ℕ → Row
-draws s comment = record { text = result_line Draw comment; next = with_declared s (Some (record { outcome = Draw; comment = comment })) }
+draws s comment = record {
+  text = result_line Draw comment;
+  next = with_declared s
+      (Some (record { outcome = Draw; comment = comment }));
+}
 
 abbrev pub claimed : State → Claims → Row
 claimed s c =
@@ -135,7 +142,8 @@ claimed s c =
     else refuses s (codes "Error (no claim): ") (codes "claim")
 
 abbrev pub claim_row : State → Row
-claim_row s = if is_over s then refuses s (codes "Error (command not legal now): ") (codes "claim") else claimed s (claims s.start s.moves)
+claim_row s = if is_over s then refuses s (codes "Error (command not legal now): ") (codes "claim") else claimed s
+    (claims s.start s.moves)
 
 -- normal chess is asked for: silence in a game of it; in one of Chess960 the game starts anew, as after `new`
 abbrev pub normal_row : State → Rules → Row
@@ -192,7 +200,8 @@ answer_to seen line = (row_on seen line).text
 
 -- the texts of refusals
 abbrev pub IsRefusal : List ℕ → Type 0
-IsRefusal text = Begins (codes "Error") text ⊎ (Begins (codes "Illegal move") text ⊎ Begins (codes "tellusererror") text)
+IsRefusal text = Begins (codes "Error") text
+    ⊎ (Begins (codes "Illegal move") text ⊎ Begins (codes "tellusererror") text)
 
 abbrev pub is_quit_command : Command → Bool
 is_quit_command Quit = true
@@ -217,7 +226,8 @@ standing seen (line ∷ rest) = if is_quit line then next_state seen line else s
 -- the answers to lines, up to the first `quit`
 abbrev pub answers : SessionSeen → List LineSeen → List ℕ
 answers seen [] = []
-answers seen (line ∷ rest) = if is_quit line then answer_to seen line else answer_to seen line ++ answers (next_state seen line) rest
+answers seen (line ∷ rest) = if is_quit line then answer_to seen line else answer_to seen line
+    ++ answers (next_state seen line) rest
 
 abbrev pub has_quit : List LineSeen → Bool
 has_quit [] = false

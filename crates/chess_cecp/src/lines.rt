@@ -134,24 +134,25 @@ fn kept_text<const N: usize>(bytes: &ArrayVec<u8, N>, is_too_long: bool) -> Arra
     text
 }
 
-const PIECE: usize = 1024;
+const PIECE_LEN: usize = 1024;
 
 // The bytes that were read and not looked at.
 #[derive(Drop)]
 struct Window {
-    piece: [u8; PIECE],
+    piece: [u8; PIECE_LEN],
     from: usize,
     to: usize,
 }
 
 impl Model for Window {
     ghost use Rattle.std.specs.Prelude.{◌≡◌, ◌≤◌, List, ℕ, length, slice_range};
+    ghost use Rattle.chess_cecp.specs.declared.lines.TheConstants.{PIECE_LEN};
 
     ghost Value = { List ℕ };
 
     ghost view = { λ w. slice_range w.piece w.from w.to };
 
-    ghost invariant = { λ w. (w.from ≤ w.to) × (w.to ≤ 1024) };
+    ghost invariant = { λ w. (w.from ≤ w.to) × (w.to ≤ PIECE_LEN) };
 }
 
 impl Window {
@@ -159,7 +160,7 @@ impl Window {
         ensures { result ≡ [] }
     {
         Window {
-            piece: [0; PIECE],
+            piece: [0; PIECE_LEN],
             from: 0,
             to: 0,
         }

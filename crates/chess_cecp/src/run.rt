@@ -4,7 +4,7 @@ ghost use Rattle.chess_game.specs.Game.{IsPlayable};
 ghost use Rattle.chess_cecp.specs.Run.{Transcript, Ran};
 
 use crate::lines::Lines;
-use crate::session::{Go, Session};
+use crate::session::{COMMAND_LEN, Go, Session};
 use byte_devices::{Input, Output};
 use chess_moves::Board;
 
@@ -38,7 +38,7 @@ pub fn run_session<R: Input, W: Output, B: Board>(
     ensures { (t : Transcript) × Ran (R.seen reader.old) (R.seen reader.new) (W.seen writer.old) (W.seen writer.new)
         session.old session.new t result }
 {
-    let mut lines: Lines<1024> = Lines::new();
+    let mut lines: Lines<COMMAND_LEN> = Lines::new();
     loop {
         let line = match lines.next(reader) {
             Ok(Some(line)) => line,

@@ -14,6 +14,8 @@ ghost use Rattle.chess_cecp.specs.Commands.{argument_of, unnamed_command};
 ghost use Rattle.chess_cecp.specs.Declaring.{declared_by};
 ghost use Rattle.chess_cecp.specs.ties.Reads.{has_shape};
 ghost use Rattle.chess_cecp.specs.Session.{row, move_row, undo_row, remove_row, result_row, draws, claim_row, setboard_row, normal_row, variant_row, stands, next_state, answer_to, is_quit, is_quit_command, shows_pgn, asks_for_pgn, joined_line, moves_line, IsRefusal};
+ghost use Rattle.chess_game.specs.declared.game.TheConstants.{MOST_MOVES};
+ghost use Rattle.chess_cecp.specs.declared.session.TheConstants.{COMMAND_LEN};
 
 use crate::answer::{
     Answer, write_features, write_illegal_position, write_line, write_moves, write_pong,
@@ -31,6 +33,9 @@ use chess_pgn::{Tags, write_pgn};
 use chess_text::{Reading, read_move};
 use std::alloc::{AllocError, Global};
 use std::marker::Model;
+
+/// The most bytes of a line that a session reads; a longer one is refused.
+pub const COMMAND_LEN: usize = 1024;
 
 /// Whether a session goes on after a line.
 #[derive(Clone, Copy, Debug, PartialEq, Eq)]
@@ -70,7 +75,7 @@ impl<B: Board + Drop> Session<B> {
         limit: u32,
     ) -> Result<Self, AllocError>
         requires some { 1 ≤ limit }
-        requires few { limit ≤ 20000 }
+        requires few { limit ≤ MOST_MOVES }
         ensures { IfOk result (λ s. s ≡ opened_session tags limit) }
     {
         Ok(Session {
@@ -103,7 +108,7 @@ impl<B: Board> Session<B> {
     fn play(&mut self, read: Reading, text: &[u8], answer: &mut Answer)
         requires read { read ≡ reading (current self.old.state) text.now }
         requires legal { IsLegalReading (current self.old.state) read }
-        requires short { length text.now ≤ 1024 }
+        requires short { length text.now ≤ COMMAND_LEN }
         requires empty { answer.old.items ≡ [] }
         ensures next { self.new ≡ stands self.old (move_row self.old.limit self.old.state text.now) }
         ensures text { answer.new.items ≡ (move_row self.old.limit self.old.state text.now).text }
@@ -128,7 +133,7 @@ impl<B: Board> Session<B> {
 
     // Plays the one legal move that a text spells.
     fn play_text(&mut self, text: &[u8], answer: &mut Answer)
-        requires short { length text.now ≤ 1024 }
+        requires short { length text.now ≤ COMMAND_LEN }
         requires empty { answer.old.items ≡ [] }
         ensures next { self.new ≡ stands self.old (move_row self.old.limit self.old.state text.now) }
         ensures text { answer.new.items ≡ (move_row self.old.limit self.old.state text.now).text }
@@ -154,7 +159,7 @@ impl<B: Board> Session<B> {
 
     // Goes over to the variant that the argument of `variant` tells.
     fn change_variant(&mut self, text: &[u8], argument: &[u8], answer: &mut Answer)
-        requires short { length text.now ≤ 1024 }
+        requires short { length text.now ≤ COMMAND_LEN }
         requires empty { answer.old.items ≡ [] }
         ensures next { self.new ≡ stands self.old (variant_row self.old.state text.now argument.now) }
         ensures text { answer.new.items ≡ (variant_row self.old.state text.now argument.now).text }
@@ -207,7 +212,7 @@ impl<B: Board> Session<B> {
 
     // Declares the result that the argument of `result` tells.
     fn declare(&mut self, text: &[u8], argument: &[u8], answer: &mut Answer)
-        requires short { length text.now ≤ 1024 }
+        requires short { length text.now ≤ COMMAND_LEN }
         requires empty { answer.old.items ≡ [] }
         ensures next { self.new ≡ stands self.old (result_row self.old.state text.now (declared_by argument.now)) }
         ensures text { answer.new.items ≡ (result_row self.old.state text.now (declared_by argument.now)).text }
@@ -278,8 +283,8 @@ impl<B: Board> Session<B> {
 
     // Does what a row of the table says.
     fn obey(&mut self, command: Command, text: &[u8], argument: &[u8], answer: &mut Answer)
-        requires short { length text.now ≤ 1024 }
-        requires short_argument { length argument.now ≤ 1024 }
+        requires short { length text.now ≤ COMMAND_LEN }
+        requires short_argument { length argument.now ≤ COMMAND_LEN }
         requires brief { shows_pgn command ≡ false }
         requires empty { answer.old.items ≡ [] }
         ensures next { self.new ≡ stands self.old (row self.old.tags self.old.limit self.old.state text.now argument.now command) }
@@ -315,7 +320,7 @@ impl<B: Board> Session<B> {
     // Does what the row of a line says whose first word names no command, and answers whether the session goes on. The
     // text is read once, which tells whether it is a move.
     fn obey_unnamed(&mut self, text: &[u8], answer: &mut Answer) -> Go
-        requires short { length text.now ≤ 1024 }
+        requires short { length text.now ≤ COMMAND_LEN }
         requires empty { answer.old.items ≡ [] }
         ensures next { self.new ≡ stands self.old (row self.old.tags self.old.limit self.old.state text.now (argument_of text.now) (unnamed_command text.now)) }
         ensures text { answer.new.items ≡ (row self.old.tags self.old.limit self.old.state text.now (argument_of text.now) (unnamed_command text.now)).text }
@@ -333,7 +338,7 @@ impl<B: Board> Session<B> {
 
     // Does what the row of a line says, and answers whether the session goes on.
     #[tactic(auto, unfolding(crate::specs::Session::next_state, crate::specs::Session::answer_to, crate::specs::Session::is_quit, crate::specs::Session::asks_for_pgn, crate::specs::Commands::command_of))]
-    fn obey_line(&mut self, line: &Line<1024>, answer: &mut Answer) -> Go
+    fn obey_line(&mut self, line: &Line<COMMAND_LEN>, answer: &mut Answer) -> Go
         requires brief { asks_for_pgn line.now ≡ false }
         requires empty { answer.old.items ≡ [] }
         ensures next { self.new ≡ next_state self.old line.now }
@@ -366,7 +371,11 @@ impl<B: Board> Session<B> {
     ///
     /// # Errors
     /// Where a write or the flush failed. The change stands, and a beginning of the answer was written.
-    pub fn answer<W: Output>(&mut self, line: &Line<1024>, writer: &mut W) -> Result<Go, WriteFault>
+    pub fn answer<W: Output>(
+        &mut self,
+        line: &Line<COMMAND_LEN>,
+        writer: &mut W,
+    ) -> Result<Go, WriteFault>
         ensures next { self.new ≡ next_state self.old line.now }
         ensures written { Sends (W.seen writer.old) (W.seen writer.new) result (answer_to self.old line.now) }
         ensures go { IfOk result (λ go. go ≡ (if is_quit line.now then Go.Quit else Go.On)) }
@@ -390,7 +399,7 @@ impl<B: Board> Session<B> {
 
 // Whether the line asks for the game's text.
 #[tactic(auto, unfolding(crate::specs::Session::asks_for_pgn, crate::specs::Commands::command_of))]
-fn asks_for_pgn(line: &Line<1024>) -> bool
+fn asks_for_pgn(line: &Line<COMMAND_LEN>) -> bool
     ensures { result ≡ asks_for_pgn line.now }
 {
     if line.is_too_long() {

@@ -17,7 +17,12 @@ one_written c w (Some s) = refl
 
 written_by : (r : Rights) → rights_text Normal r ≡ normal_rights_text r
 written_by r =
-    rw (one_written White KingSide r.white.king_side, one_written White QueenSide r.white.queen_side, one_written Black KingSide r.black.king_side, one_written Black QueenSide r.black.queen_side) refl
+    rw (
+      one_written White KingSide r.white.king_side,
+      one_written White QueenSide r.white.queen_side,
+      one_written Black KingSide r.black.king_side,
+      one_written Black QueenSide r.black.queen_side,
+    ) refl
 
 pub normal_kept : (p : Setup) → p.variant ≡ Normal → NormalIsKept p
 normal_kept p e = ap (λ v. rights_text v p.rights) e ∙ written_by p.rights

@@ -30,15 +30,24 @@ pub record Beside (men : Men) (c : Colour) (w : CastlingSide) (s : ℕ) : Type 0
   pub rook_rank : rank s ≡ first_rank c
   pub side : is_to_side w king s ≡ true
 
-beside_by : (men : Men) (c : Colour) (w : CastlingSide) (s : ℕ) (o : Option ℕ) → king_square men c ≡ o → is_beside c w o s ≡ true → Beside men c w s
+beside_by : (men : Men) (c : Colour) (w : CastlingSide) (s : ℕ) (o : Option ℕ) → king_square men c ≡ o
+    → is_beside c w o s ≡ true → Beside men c w s
 beside_by men c w s None at e = cc
 beside_by men c w s (Some k) at e =
     let two = and_parts (eqb (rank k) (first_rank c) && eqb (rank s) (first_rank c)) (is_to_side w k s) e in
     let one = and_parts (eqb (rank k) (first_rank c)) (eqb (rank s) (first_rank c)) two.0 in
-    record { king = k; at = at; king_rank = eqb-true (rank k) (first_rank c) one.0; rook_rank = eqb-true (rank s) (first_rank c) one.1; side = two.1 }
+    record {
+      king = k;
+      at = at;
+      king_rank = eqb-true (rank k) (first_rank c) one.0;
+      rook_rank = eqb-true (rank s) (first_rank c) one.1;
+      side = two.1;
+    }
 
-pub beside : (men : Men) (c : Colour) (w : CastlingSide) (s : ℕ) → right_stands_at Fischerandom men c w (Some s) ≡ true → Beside men c w s
-beside men c w s e = beside_by men c w s (king_square men c) refl (and_parts (is_beside c w (king_square men c) s) (is_man c Rook (man_at men s)) e).0
+pub beside : (men : Men) (c : Colour) (w : CastlingSide) (s : ℕ) → right_stands_at Fischerandom men c w (Some s) ≡ true
+    → Beside men c w s
+beside men c w s e = beside_by men c w s (king_square men c) refl
+    (and_parts (is_beside c w (king_square men c) s) (is_man c Rook (man_at men s)) e).0
 
 abbrev other_side : CastlingSide → CastlingSide
 other_side KingSide = QueenSide
@@ -46,7 +55,8 @@ other_side QueenSide = KingSide
 
 -- ---- a letter that is written, among those of sides and files
 
-pub no_side_letter : (c d : Colour) (w : CastlingSide) (f : ℕ) → f < 8 → eqb (first_letter c + f) (side_letter d w) ≡ false
+pub no_side_letter : (c d : Colour) (w : CastlingSide) (f : ℕ) → f < 8
+    → eqb (first_letter c + f) (side_letter d w) ≡ false
 no_side_letter White White KingSide f h = grind (arith, nat_tests)
 no_side_letter White White QueenSide f h = grind (arith, nat_tests)
 no_side_letter White Black KingSide f h = grind (arith, nat_tests)
@@ -64,7 +74,8 @@ other_file : (c : Colour) (f : ℕ) → f < 8 → names_file (other c) (first_le
 other_file White f h = grind (arith, nat_tests)
 other_file Black f h = grind (arith, nat_tests)
 
-pub file_back : (c : Colour) (s : ℕ) → rank s ≡ first_rank c → home_square c ((first_letter c + file s) - first_letter c) ≡ s
+pub file_back : (c : Colour) (s : ℕ) → rank s ≡ first_rank c
+    → home_square c ((first_letter c + file s) - first_letter c) ≡ s
 file_back White s e = omega arith
 file_back Black s e = omega arith
 
@@ -81,41 +92,58 @@ file_in s = omega arith
 
 -- ---- which right it names
 
-pub named_own : (men : Men) (c : Colour) (w : CastlingSide) (s : ℕ) → Beside men c w s → named_square men c w (first_letter c + file s) ≡ Some s
+pub named_own : (men : Men) (c : Colour) (w : CastlingSide) (s : ℕ) → Beside men c w s
+    → named_square men c w (first_letter c + file s) ≡ Some s
 named_own men c w s b =
     let t : is_towards w (king_square men c) s ≡ true = rw b.at (towards_own w b.king s b.side) in
     rw (no_side_letter c c w (file s) (file_in s), own_file c (file s) (file_in s), file_back c s b.rook_rank, t) refl
 
-named_other_side : (men : Men) (c : Colour) (w : CastlingSide) (s : ℕ) → Beside men c w s → named_square men c (other_side w) (first_letter c + file s) ≡ None
+named_other_side : (men : Men) (c : Colour) (w : CastlingSide) (s : ℕ) → Beside men c w s
+    → named_square men c (other_side w) (first_letter c + file s) ≡ None
 named_other_side men c w s b =
     let t : is_towards (other_side w) (king_square men c) s ≡ false = rw b.at (towards_other w b.king s b.side) in
-    rw (no_side_letter c c (other_side w) (file s) (file_in s), own_file c (file s) (file_in s), file_back c s b.rook_rank, t) refl
+    rw (
+      no_side_letter c c (other_side w) (file s) (file_in s),
+      own_file c (file s) (file_in s),
+      file_back c s b.rook_rank,
+      t,
+    ) refl
 
-named_other_colour : (men : Men) (c : Colour) (w : CastlingSide) (s : ℕ) → named_square men (other c) w (first_letter c + file s) ≡ None
-named_other_colour men c w s = rw (no_side_letter c (other c) w (file s) (file_in s), other_file c (file s) (file_in s)) refl
+named_other_colour : (men : Men) (c : Colour) (w : CastlingSide) (s : ℕ)
+    → named_square men (other c) w (first_letter c + file s) ≡ None
+named_other_colour men c w s = rw (no_side_letter c (other c) w (file s) (file_in s), other_file c (file s) (file_in s))
+    refl
 
 pub only-none : (o : Option ℕ) → only_one_of o None ≡ o
 only-none None = refl
 only-none (Some s) = refl
 
 -- what a written right adds to what was found
-own_text : (men : Men) (c : Colour) (w : CastlingSide) (o : Option ℕ) → right_stands_at Fischerandom men c w o ≡ true → right_after_letters men c w None (right_text Fischerandom c w o) ≡ o
+own_text : (men : Men) (c : Colour) (w : CastlingSide) (o : Option ℕ) → right_stands_at Fischerandom men c w o ≡ true
+    → right_after_letters men c w None (right_text Fischerandom c w o) ≡ o
 own_text men c w None e = refl
 own_text men c w (Some s) e = named_own men c w s (beside men c w s e)
 
-side_text : (men : Men) (c : Colour) (w : CastlingSide) (found o : Option ℕ) → right_stands_at Fischerandom men c w o ≡ true → right_after_letters men c (other_side w) found (right_text Fischerandom c w o) ≡ found
+side_text : (men : Men) (c : Colour) (w : CastlingSide) (found o : Option ℕ)
+    → right_stands_at Fischerandom men c w o ≡ true
+    → right_after_letters men c (other_side w) found (right_text Fischerandom c w o) ≡ found
 side_text men c w found None e = refl
-side_text men c w found (Some s) e = ap (only_one_of found) (named_other_side men c w s (beside men c w s e)) ∙ only-none found
+side_text men c w found (Some s) e = ap (only_one_of found) (named_other_side men c w s (beside men c w s e))
+    ∙ only-none found
 
-colour_text : (men : Men) (c : Colour) (w u : CastlingSide) (found o : Option ℕ) → right_after_letters men (other c) u found (right_text Fischerandom c w o) ≡ found
+colour_text : (men : Men) (c : Colour) (w u : CastlingSide) (found o : Option ℕ)
+    → right_after_letters men (other c) u found (right_text Fischerandom c w o) ≡ found
 colour_text men c w u found None = refl
 colour_text men c w u found (Some s) = ap (only_one_of found) (named_other_colour men c u s) ∙ only-none found
 
-pub after-append : (men : Men) (c : Colour) (w : CastlingSide) (found : Option ℕ) (xs ys : List ℕ) → right_after_letters men c w found (xs ++ ys) ≡ right_after_letters men c w (right_after_letters men c w found xs) ys
+pub after-append : (men : Men) (c : Colour) (w : CastlingSide) (found : Option ℕ) (xs ys : List ℕ)
+    → right_after_letters men c w found (xs ++ ys)
+    ≡ right_after_letters men c w (right_after_letters men c w found xs) ys
 after-append men c w found [] ys = refl
 after-append men c w found (x ∷ xs) ys = after-append men c w (only_one_of found (named_square men c w x)) xs ys
 
-after-dash : (men : Men) (c : Colour) (w : CastlingSide) (xs : List ℕ) → right_after_letters men c w None (or_dash xs) ≡ right_after_letters men c w None xs
+after-dash : (men : Men) (c : Colour) (w : CastlingSide) (xs : List ℕ)
+    → right_after_letters men c w None (or_dash xs) ≡ right_after_letters men c w None xs
 after-dash men White KingSide [] = refl
 after-dash men White QueenSide [] = refl
 after-dash men Black KingSide [] = refl
@@ -142,24 +170,49 @@ abbrev D : Rights → List ℕ
 D r = right_text Fischerandom Black QueenSide r.black.queen_side
 
 in_turn : (men : Men) (r : Rights) (c : Colour) (w : CastlingSide)
-    → right_after_letters men c w None (rights_text Fischerandom r) ≡ right_after_letters men c w (right_after_letters men c w (right_after_letters men c w (right_after_letters men c w None (A r)) (B r)) (C r)) (D r)
+    → right_after_letters men c w None (rights_text Fischerandom r)
+    ≡ right_after_letters men c w (right_after_letters men c w
+    (right_after_letters men c w (right_after_letters men c w None (A r)) (B r)) (C r)) (D r)
 in_turn men r c w =
     after-dash men c w (((A r ++ B r) ++ C r) ++ D r) ∙ after-append men c w None ((A r ++ B r) ++ C r) (D r)
-    ∙ ap (λ o. right_after_letters men c w o (D r)) (after-append men c w None (A r ++ B r) (C r) ∙ ap (λ o. right_after_letters men c w o (C r)) (after-append men c w None (A r) (B r)))
+    ∙ ap (λ o. right_after_letters men c w o (D r))
+    (after-append men c w None (A r ++ B r) (C r)
+    ∙ ap (λ o. right_after_letters men c w o (C r)) (after-append men c w None (A r) (B r)))
 
-pub right_back : (men : Men) (r : Rights) (c : Colour) (w : CastlingSide) → Stand men r → right_after_letters men c w None (rights_text Fischerandom r) ≡ right_of r c w
+pub right_back : (men : Men) (r : Rights) (c : Colour) (w : CastlingSide) → Stand men r
+    → right_after_letters men c w None (rights_text Fischerandom r) ≡ right_of r c w
 right_back men r White KingSide s =
     in_turn men r White KingSide
-    ∙ rw (own_text men White KingSide r.white.king_side s.a, side_text men White QueenSide r.white.king_side r.white.queen_side s.b, colour_text men Black KingSide KingSide r.white.king_side r.black.king_side, colour_text men Black QueenSide KingSide r.white.king_side r.black.queen_side) refl
+    ∙ rw (
+      own_text men White KingSide r.white.king_side s.a,
+      side_text men White QueenSide r.white.king_side r.white.queen_side s.b,
+      colour_text men Black KingSide KingSide r.white.king_side r.black.king_side,
+      colour_text men Black QueenSide KingSide r.white.king_side r.black.queen_side,
+    ) refl
 right_back men r White QueenSide s =
     in_turn men r White QueenSide
-    ∙ rw (side_text men White KingSide None r.white.king_side s.a, own_text men White QueenSide r.white.queen_side s.b, colour_text men Black KingSide QueenSide r.white.queen_side r.black.king_side, colour_text men Black QueenSide QueenSide r.white.queen_side r.black.queen_side) refl
+    ∙ rw (
+      side_text men White KingSide None r.white.king_side s.a,
+      own_text men White QueenSide r.white.queen_side s.b,
+      colour_text men Black KingSide QueenSide r.white.queen_side r.black.king_side,
+      colour_text men Black QueenSide QueenSide r.white.queen_side r.black.queen_side,
+    ) refl
 right_back men r Black KingSide s =
     in_turn men r Black KingSide
-    ∙ rw (colour_text men White KingSide KingSide None r.white.king_side, colour_text men White QueenSide KingSide None r.white.queen_side, own_text men Black KingSide r.black.king_side s.c, side_text men Black QueenSide r.black.king_side r.black.queen_side s.d) refl
+    ∙ rw (
+      colour_text men White KingSide KingSide None r.white.king_side,
+      colour_text men White QueenSide KingSide None r.white.queen_side,
+      own_text men Black KingSide r.black.king_side s.c,
+      side_text men Black QueenSide r.black.king_side r.black.queen_side s.d,
+    ) refl
 right_back men r Black QueenSide s =
     in_turn men r Black QueenSide
-    ∙ rw (colour_text men White KingSide QueenSide None r.white.king_side, colour_text men White QueenSide QueenSide None r.white.queen_side, side_text men Black KingSide None r.black.king_side s.c, own_text men Black QueenSide r.black.queen_side s.d) refl
+    ∙ rw (
+      colour_text men White KingSide QueenSide None r.white.king_side,
+      colour_text men White QueenSide QueenSide None r.white.queen_side,
+      side_text men Black KingSide None r.black.king_side s.c,
+      own_text men Black QueenSide r.black.queen_side s.d,
+    ) refl
 
 -- ---- they are letters of rights, none twice
 
@@ -168,7 +221,8 @@ unfolding may_name_right
 may_name White f h = or_left _ _ (or_right _ _ (own_file White f h))
 may_name Black f h = or_right _ _ (own_file Black f h)
 
-each_one : (c : Colour) (w : CastlingSide) (o : Option ℕ) → AllByRecursion (λ l. IsTrue (may_name_right Fischerandom l)) (right_text Fischerandom c w o)
+each_one : (c : Colour) (w : CastlingSide) (o : Option ℕ)
+    → AllByRecursion (λ l. IsTrue (may_name_right Fischerandom l)) (right_text Fischerandom c w o)
 each_one c w None = tt
 each_one c w (Some s) = (may_name c (file s) (file_in s), tt)
 
@@ -188,24 +242,57 @@ record Placed (men : Men) (c : Colour) (w : CastlingSide) (n : ℕ) : Type 0 whe
   high : n < first_letter c + 8
   side : is_to_side w (first_letter c + file king) n ≡ true
 
-placed : (men : Men) (c : Colour) (w : CastlingSide) (s : ℕ) → Beside men c w s → Placed men c w (first_letter c + file s)
-placed men White KingSide s b = record { king = b.king; at = b.at; low = omega arith; high = omega arith; side = (let e = b.side in let l = ltb-true b.king s e in let t : 65 + b.king % 8 < 65 + s % 8 = omega (arith, b.king_rank, b.rook_rank, l) in grind (arith, nat_tests, t)) }
-placed men White QueenSide s b = record { king = b.king; at = b.at; low = omega arith; high = omega arith; side = (let e = b.side in let l = ltb-true s b.king e in let t : 65 + s % 8 < 65 + b.king % 8 = omega (arith, b.king_rank, b.rook_rank, l) in grind (arith, nat_tests, t)) }
-placed men Black KingSide s b = record { king = b.king; at = b.at; low = omega arith; high = omega arith; side = (let e = b.side in let l = ltb-true b.king s e in let t : 97 + b.king % 8 < 97 + s % 8 = omega (arith, b.king_rank, b.rook_rank, l) in grind (arith, nat_tests, t)) }
-placed men Black QueenSide s b = record { king = b.king; at = b.at; low = omega arith; high = omega arith; side = (let e = b.side in let l = ltb-true s b.king e in let t : 97 + s % 8 < 97 + b.king % 8 = omega (arith, b.king_rank, b.rook_rank, l) in grind (arith, nat_tests, t)) }
+placed : (men : Men) (c : Colour) (w : CastlingSide) (s : ℕ) → Beside men c w s
+    → Placed men c w (first_letter c + file s)
+placed men White KingSide s b = record {
+  king = b.king;
+  at = b.at;
+  low = omega arith;
+  high = omega arith;
+  side = (let e = b.side in let l = ltb-true b.king s e in let t : 65 + b.king % 8 < 65
+      + s % 8 = omega (arith, b.king_rank, b.rook_rank, l) in grind (arith, nat_tests, t));
+}
+placed men White QueenSide s b = record {
+  king = b.king;
+  at = b.at;
+  low = omega arith;
+  high = omega arith;
+  side = (let e = b.side in let l = ltb-true s b.king e in let t : 65 + s % 8 < 65
+      + b.king % 8 = omega (arith, b.king_rank, b.rook_rank, l) in grind (arith, nat_tests, t));
+}
+placed men Black KingSide s b = record {
+  king = b.king;
+  at = b.at;
+  low = omega arith;
+  high = omega arith;
+  side = (let e = b.side in let l = ltb-true b.king s e in let t : 97 + b.king % 8 < 97
+      + s % 8 = omega (arith, b.king_rank, b.rook_rank, l) in grind (arith, nat_tests, t));
+}
+placed men Black QueenSide s b = record {
+  king = b.king;
+  at = b.at;
+  low = omega arith;
+  high = omega arith;
+  side = (let e = b.side in let l = ltb-true s b.king e in let t : 97 + s % 8 < 97
+      + b.king % 8 = omega (arith, b.king_rank, b.rook_rank, l) in grind (arith, nat_tests, t));
+}
 
 Occurs : Men → Colour → CastlingSide → ℕ → ℕ → Type 0
 Occurs men c w n t = (t ≡ 0) ⊎ ((t ≡ 1) × Placed men c w n)
 
-occurs_by : (men : Men) (c : Colour) (w : CastlingSide) (l n : ℕ) → Placed men c w l → (b : Bool) → eqb l n ≡ b → Occurs men c w n (cond b 1 0 + 0)
+occurs_by : (men : Men) (c : Colour) (w : CastlingSide) (l n : ℕ) → Placed men c w l → (b : Bool) → eqb l n ≡ b
+    → Occurs men c w n (cond b 1 0 + 0)
 unfolding Occurs
 occurs_by men c w l n p true e = let at = eqb-true l n e in inr (refl, rw (← at) p)
 occurs_by men c w l n p false e = inl refl
 
-occurrence : (men : Men) (c : Colour) (w : CastlingSide) (o : Option ℕ) (n : ℕ) → right_stands_at Fischerandom men c w o ≡ true → Occurs men c w n (times n (right_text Fischerandom c w o))
+occurrence : (men : Men) (c : Colour) (w : CastlingSide) (o : Option ℕ) (n : ℕ)
+    → right_stands_at Fischerandom men c w o ≡ true → Occurs men c w n (times n (right_text Fischerandom c w o))
 unfolding Occurs
 occurrence men c w None n e = inl refl
-occurrence men c w (Some s) n e = rw (times-cons n (first_letter c + file s) []) (occurs_by men c w (first_letter c + file s) n (placed men c w s (beside men c w s e)) (eqb (first_letter c + file s) n) refl)
+occurrence men c w (Some s) n e = rw (times-cons n (first_letter c + file s) [])
+    (occurs_by men c w (first_letter c + file s) n (placed men c w s (beside men c w s e))
+    (eqb (first_letter c + file s) n) refl)
 
 not_both : (men : Men) (c : Colour) (n : ℕ) → Placed men c KingSide n → Placed men c QueenSide n → ⊥
 not_both men c n p q =
@@ -219,7 +306,8 @@ not_both men c n p q =
 Once : Colour → ℕ → ℕ → Type 0
 Once c n t = (t ≡ 0) ⊎ ((t ≡ 1) × (first_letter c ≤ n) × (n < first_letter c + 8))
 
-of_colour : (men : Men) (c : Colour) (n t u : ℕ) → Occurs men c KingSide n t → Occurs men c QueenSide n u → Once c n (t + u)
+of_colour : (men : Men) (c : Colour) (n t u : ℕ) → Occurs men c KingSide n t → Occurs men c QueenSide n u
+    → Once c n (t + u)
 unfolding Occurs Once
 of_colour men c n t u (inl e) (inl f) = inl (omega arith)
 of_colour men c n t u (inl e) (inr f) = inr (omega (arith, f.0), f.1.low, f.1.high)
@@ -238,14 +326,26 @@ times-append n xs ys = sum_by-append (λ b. cond (eqb b n) 1 0) xs ys
 
 none_twice : (men : Men) (r : Rights) (n : ℕ) → Stand men r → times n (((A r ++ B r) ++ C r) ++ D r) ≤ 1
 none_twice men r n s =
-    let white = of_colour men White n (times n (A r)) (times n (B r)) (occurrence men White KingSide r.white.king_side n s.a) (occurrence men White QueenSide r.white.queen_side n s.b) in
-    let black = of_colour men Black n (times n (C r)) (times n (D r)) (occurrence men Black KingSide r.black.king_side n s.c) (occurrence men Black QueenSide r.black.queen_side n s.d) in
+    let white = of_colour men White n (times n (A r)) (times n (B r))
+    (occurrence men White KingSide r.white.king_side n s.a)
+    (occurrence men White QueenSide r.white.queen_side n s.b) in
+    let black = of_colour men Black n (times n (C r)) (times n (D r))
+    (occurrence men Black KingSide r.black.king_side n s.c)
+    (occurrence men Black QueenSide r.black.queen_side n s.d) in
     let all = of_both n (times n (A r) + times n (B r)) (times n (C r) + times n (D r)) white black in
-    omega (arith, all, times-append n ((A r ++ B r) ++ C r) (D r), times-append n (A r ++ B r) (C r), times-append n (A r) (B r))
+    omega (
+      arith,
+      all,
+      times-append n ((A r ++ B r) ++ C r) (D r),
+      times-append n (A r ++ B r) (C r),
+      times-append n (A r) (B r),
+    )
 
-castling_or_dash : (text : List ℕ) → length text ≤ 4 → AllByRecursion (λ l. IsTrue (may_name_right Fischerandom l)) text → ((n : ℕ) → times n text ≤ 1) → IsCastling Fischerandom (or_dash text)
+castling_or_dash : (text : List ℕ) → length text ≤ 4 → AllByRecursion (λ l. IsTrue (may_name_right Fischerandom l)) text
+    → ((n : ℕ) → times n text ≤ 1) → IsCastling Fischerandom (or_dash text)
 castling_or_dash [] few each distinct = inl refl
-castling_or_dash (x ∷ xs) few each distinct = inr (record { some = omega arith; few = few; each = each; distinct = distinct })
+castling_or_dash (x ∷ xs) few each distinct =
+    inr (record { some = omega arith; few = few; each = each; distinct = distinct })
 
 pub text_is_castling : (men : Men) (r : Rights) → Stand men r → IsCastling Fischerandom (rights_text Fischerandom r)
 text_is_castling men r s =
@@ -255,8 +355,18 @@ text_is_castling men r s =
     let c = one_at_most Black KingSide r.black.king_side in
     let d = one_at_most Black QueenSide r.black.queen_side in
     castling_or_dash (((A r ++ B r) ++ C r) ++ D r)
-    (omega (arith, a, b, c, d, length-append ((A r ++ B r) ++ C r) (D r), length-append (A r ++ B r) (C r), length-append (A r) (B r)))
+    (omega (
+      arith,
+      a,
+      b,
+      c,
+      d,
+      length-append ((A r ++ B r) ++ C r) (D r),
+      length-append (A r ++ B r) (C r),
+      length-append (A r) (B r),
+    ))
     (all_append P ((A r ++ B r) ++ C r) (D r)
-    (all_append P (A r ++ B r) (C r) (all_append P (A r) (B r) (each_one White KingSide r.white.king_side) (each_one White QueenSide r.white.queen_side)) (each_one Black KingSide r.black.king_side))
+    (all_append P (A r ++ B r) (C r) (all_append P (A r) (B r) (each_one White KingSide r.white.king_side)
+    (each_one White QueenSide r.white.queen_side)) (each_one Black KingSide r.black.king_side))
     (each_one Black QueenSide r.black.queen_side))
     (λ n. none_twice men r n s)

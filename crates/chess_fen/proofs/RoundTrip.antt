@@ -38,7 +38,15 @@ use Rattle.chess_fen.proofs.Joined.{From, From-append, From-weaker, From-join, s
 
 -- what the text of a position describes
 abbrev pub told : Setup → Description
-told p = record { variant = p.variant; men = p.men; side = p.side; letters = rights_text p.variant p.rights; target = p.target; halfmove = p.halfmove; fullmove = p.fullmove }
+told p = record {
+  variant = p.variant;
+  men = p.men;
+  side = p.side;
+  letters = rights_text p.variant p.rights;
+  target = p.target;
+  halfmove = p.halfmove;
+  fullmove = p.fullmove;
+}
 
 -- ---- numbers
 
@@ -59,7 +67,8 @@ digits_from [] p = tt
 digits_from (c ∷ cs) p = (p.0.0, digits_from cs p.1)
 
 pub decimal_from : (n : ℕ) → n < 1000000 → From 33 (decimal n)
-decimal_from n h = From-weaker 33 48 (decimal n) (omega arith) (digits_from (decimal n) (digits_decimal own_bytes n (omega arith)))
+decimal_from n h = From-weaker 33 48 (decimal n) (omega arith)
+    (digits_from (decimal n) (digits_decimal own_bytes n (omega arith)))
 
 pub number-decimal : (n : ℕ) → n < 1000000 → number_of (decimal n) ≡ Some n
 number-decimal n h =
@@ -73,7 +82,9 @@ number-decimal n h =
 -- ---- rights, side and target
 
 abbrev text_by : Option ℕ → Option ℕ → Option ℕ → Option ℕ → List ℕ
-text_by a b c d = rights_text Normal (record { white = record { king_side = a; queen_side = b }; black = record { king_side = c; queen_side = d } })
+text_by a b c d =
+    rights_text Normal
+    (record { white = record { king_side = a; queen_side = b }; black = record { king_side = c; queen_side = d } })
 
 record Tells (a b c d : Option ℕ) : Type 0 where
   letters : is_castling Normal (text_by a b c d) ≡ true
@@ -84,15 +95,40 @@ record Tells (a b c d : Option ℕ) : Type 0 where
 
 tells : (a b c d : Option ℕ) → Tells a b c d
 unfolding may_name_right
-tells (Some a) (Some b) (Some c) (Some d) = record { letters = refl; first = refl; second = refl; third = refl; fourth = refl }
-tells (Some a) (Some b) (Some c) None = record { letters = refl; first = refl; second = refl; third = refl; fourth = refl }
-tells (Some a) (Some b) None (Some d) = record { letters = refl; first = refl; second = refl; third = refl; fourth = refl }
+tells (Some a) (Some b) (Some c) (Some d) =
+    record { letters = refl; first = refl; second = refl; third = refl; fourth = refl }
+tells (Some a) (Some b) (Some c) None = record {
+  letters = refl;
+  first = refl;
+  second = refl;
+  third = refl;
+  fourth = refl;
+}
+tells (Some a) (Some b) None (Some d) = record {
+  letters = refl;
+  first = refl;
+  second = refl;
+  third = refl;
+  fourth = refl;
+}
 tells (Some a) (Some b) None None = record { letters = refl; first = refl; second = refl; third = refl; fourth = refl }
-tells (Some a) None (Some c) (Some d) = record { letters = refl; first = refl; second = refl; third = refl; fourth = refl }
+tells (Some a) None (Some c) (Some d) = record {
+  letters = refl;
+  first = refl;
+  second = refl;
+  third = refl;
+  fourth = refl;
+}
 tells (Some a) None (Some c) None = record { letters = refl; first = refl; second = refl; third = refl; fourth = refl }
 tells (Some a) None None (Some d) = record { letters = refl; first = refl; second = refl; third = refl; fourth = refl }
 tells (Some a) None None None = record { letters = refl; first = refl; second = refl; third = refl; fourth = refl }
-tells None (Some b) (Some c) (Some d) = record { letters = refl; first = refl; second = refl; third = refl; fourth = refl }
+tells None (Some b) (Some c) (Some d) = record {
+  letters = refl;
+  first = refl;
+  second = refl;
+  third = refl;
+  fourth = refl;
+}
 tells None (Some b) (Some c) None = record { letters = refl; first = refl; second = refl; third = refl; fourth = refl }
 tells None (Some b) None (Some d) = record { letters = refl; first = refl; second = refl; third = refl; fourth = refl }
 tells None (Some b) None None = record { letters = refl; first = refl; second = refl; third = refl; fourth = refl }
@@ -102,11 +138,14 @@ tells None None None (Some d) = record { letters = refl; first = refl; second = 
 tells None None None None = record { letters = refl; first = refl; second = refl; third = refl; fourth = refl }
 
 -- a right that stands in normal chess has its rook on its corner
-on_corner : (men : Men) (c : Colour) (w : CastlingSide) (right : Option ℕ) → right_stands_at Normal men c w right ≡ true → cond (is_some right) (Some (home_square c (rook_file w))) None ≡ right
+on_corner : (men : Men) (c : Colour) (w : CastlingSide) (right : Option ℕ) → right_stands_at Normal men c w right ≡ true
+    → cond (is_some right) (Some (home_square c (rook_file w))) None ≡ right
 on_corner men c w None e = refl
 on_corner men c w (Some s) e =
-    let outer = and_parts (eqb s (home_square c (rook_file w)) && is_man c King (man_at men (home_square c 4))) (is_man c Rook (man_at men s)) e in
-    let inner = and_parts (eqb s (home_square c (rook_file w))) (is_man c King (man_at men (home_square c 4))) outer.0 in
+    let outer = and_parts (eqb s (home_square c (rook_file w)) && is_man c King (man_at men (home_square c 4)))
+    (is_man c Rook (man_at men s)) e in
+    let inner = and_parts (eqb s (home_square c (rook_file w))) (is_man c King (man_at men (home_square c 4)))
+    outer.0 in
     ap Some (sym (eqb-true s (home_square c (rook_file w)) inner.0))
 
 -- what is written for the rights of a position is a text of rights, and tells them
@@ -120,23 +159,41 @@ record AllStand (v : Variant) (men : Men) (r : Rights) : Type 0 where
   c : right_stands_at v men Black KingSide r.black.king_side ≡ true
   d : right_stands_at v men Black QueenSide r.black.queen_side ≡ true
 
-told_right : (men : Men) (r : Rights) → AllStand Normal men r → (c : Colour) (w : CastlingSide) → right_told Normal men (rights_text Normal r) c w ≡ right_of r c w
-told_right men r s White KingSide = ap (λ b. cond b (Some 7) None) (tells r.white.king_side r.white.queen_side r.black.king_side r.black.queen_side).first ∙ on_corner men White KingSide r.white.king_side s.a
-told_right men r s White QueenSide = ap (λ b. cond b (Some 0) None) (tells r.white.king_side r.white.queen_side r.black.king_side r.black.queen_side).second ∙ on_corner men White QueenSide r.white.queen_side s.b
-told_right men r s Black KingSide = ap (λ b. cond b (Some 63) None) (tells r.white.king_side r.white.queen_side r.black.king_side r.black.queen_side).third ∙ on_corner men Black KingSide r.black.king_side s.c
-told_right men r s Black QueenSide = ap (λ b. cond b (Some 56) None) (tells r.white.king_side r.white.queen_side r.black.king_side r.black.queen_side).fourth ∙ on_corner men Black QueenSide r.black.queen_side s.d
+told_right : (men : Men) (r : Rights) → AllStand Normal men r → (c : Colour) (w : CastlingSide)
+    → right_told Normal men (rights_text Normal r) c w ≡ right_of r c w
+told_right men r s White KingSide = ap (λ b. cond b (Some 7) None)
+    (tells r.white.king_side r.white.queen_side r.black.king_side r.black.queen_side).first
+    ∙ on_corner men White KingSide r.white.king_side s.a
+told_right men r s White QueenSide = ap (λ b. cond b (Some 0) None)
+    (tells r.white.king_side r.white.queen_side r.black.king_side r.black.queen_side).second
+    ∙ on_corner men White QueenSide r.white.queen_side s.b
+told_right men r s Black KingSide = ap (λ b. cond b (Some 63) None)
+    (tells r.white.king_side r.white.queen_side r.black.king_side r.black.queen_side).third
+    ∙ on_corner men Black KingSide r.black.king_side s.c
+told_right men r s Black QueenSide = ap (λ b. cond b (Some 56) None)
+    (tells r.white.king_side r.white.queen_side r.black.king_side r.black.queen_side).fourth
+    ∙ on_corner men Black QueenSide r.black.queen_side s.d
 
 are_told : (v : Variant) (men : Men) (r : Rights) → AllStand v men r → Told v men r
-are_told Normal men r s = record { letters = (tells r.white.king_side r.white.queen_side r.black.king_side r.black.queen_side).letters; rights = told_right men r s }
+are_told Normal men r s =
+    record {
+      letters = (tells r.white.king_side r.white.queen_side r.black.king_side r.black.queen_side).letters;
+      rights = told_right men r s;
+    }
 are_told Fischerandom men r s =
     let stand : Stand men r = record { a = s.a; b = s.b; c = s.c; d = s.d } in
-    record { letters = castling-spelled Fischerandom (rights_text Fischerandom r) (text_is_castling men r stand); rights = λ c w. right_back men r c w stand }
+    record {
+      letters = castling-spelled Fischerandom (rights_text Fischerandom r) (text_is_castling men r stand);
+      rights = λ c w. right_back men r c w stand;
+    }
 
 told_of : (p : Setup) → IsSound p → Told p.variant p.men p.rights
 unfolding right_stands
-told_of p h = are_told p.variant p.men p.rights (record { a = h.white_king_side; b = h.white_queen_side; c = h.black_king_side; d = h.black_queen_side })
+told_of p h = are_told p.variant p.men p.rights
+    (record { a = h.white_king_side; b = h.white_queen_side; c = h.black_king_side; d = h.black_queen_side })
 
-letters-text : (p : Setup) → IsSound p → letters_of p.variant (rights_text p.variant p.rights) ≡ Some (rights_text p.variant p.rights)
+letters-text : (p : Setup) → IsSound p → letters_of p.variant (rights_text p.variant p.rights)
+    ≡ Some (rights_text p.variant p.rights)
 letters-text p h = ap (λ b. cond b (Some (rights_text p.variant p.rights)) None) (told_of p h).letters
 
 pub rights_back : (p : Setup) → IsSound p → rights_named (told p) ≡ p.rights
@@ -145,12 +202,28 @@ rights_back p h =
     rw (t White KingSide, t White QueenSide, t Black KingSide, t Black QueenSide) refl
 
 pub setup-back : (p : Setup) → IsSound p → setup_from (told p) ≡ p
-setup-back p h = ap (λ r. record { variant = p.variant; men = p.men; side = p.side; rights = r; target = p.target; halfmove = p.halfmove; fullmove = p.fullmove }) (rights_back p h)
+setup-back p h =
+    ap (λ r. record {
+      variant = p.variant;
+      men = p.men;
+      side = p.side;
+      rights = r;
+      target = p.target;
+      halfmove = p.halfmove;
+      fullmove = p.fullmove;
+    }) (rights_back p h)
 
 -- a target that stands has rank 3 or 6
-target_rank : (men : Men) (c : Colour) (target : Option ℕ) → target_is_behind_double_advance_at men c target ≡ true → IfSome target (λ square. (square / 8 ≡ 2) ⊎ (square / 8 ≡ 5))
+target_rank : (men : Men) (c : Colour) (target : Option ℕ) → target_is_behind_double_advance_at men c target ≡ true
+    → IfSome target (λ square. (square / 8 ≡ 2) ⊎ (square / 8 ≡ 5))
 target_rank men c None e = tt
-target_rank men c (Some t) e = by_colour c (and_parts (eqb (t / 8) (crossed_rank (other c))) (is_none (man_at men t)) (and_parts (eqb (t / 8) (crossed_rank (other c)) && is_none (man_at men t)) (is_man (other c) Pawn (man_at men (forward (other c) t))) (and_parts (eqb (t / 8) (crossed_rank (other c)) && is_none (man_at men t) && is_man (other c) Pawn (man_at men (forward (other c) t))) (is_none (man_at men (forward c t))) e).0).0).0
+target_rank men c (Some t) e = by_colour c
+    (and_parts (eqb (t / 8) (crossed_rank (other c))) (is_none (man_at men t))
+    (and_parts (eqb (t / 8) (crossed_rank (other c)) && is_none (man_at men t))
+    (is_man (other c) Pawn (man_at men (forward (other c) t)))
+    (and_parts (eqb (t / 8) (crossed_rank (other c)) && is_none (man_at men t)
+    && is_man (other c) Pawn (man_at men (forward (other c) t))) (is_none (man_at men (forward c t)))
+    e).0).0).0
   where
     by_colour : (d : Colour) → eqb (t / 8) (crossed_rank (other d)) ≡ true → (t / 8 ≡ 2) ⊎ (t / 8 ≡ 5)
     by_colour White h = inr (eqb-true (t / 8) 5 h)
@@ -164,7 +237,8 @@ pub side-text : (colour : Colour) → side_of (side_text colour) ≡ Some colour
 side-text White = refl
 side-text Black = refl
 
-target_read : (f r t : ℕ) → 97 ≤ f → f ≤ 104 → (r ≡ 51) ⊎ (r ≡ 54) → t ≡ 8 * (r - 49) + (f - 97) → target_of (f ∷ r ∷ []) ≡ Some (Some t)
+target_read : (f r t : ℕ) → 97 ≤ f → f ≤ 104 → (r ≡ 51) ⊎ (r ≡ 54) → t ≡ 8 * (r - 49) + (f - 97)
+    → target_of (f ∷ r ∷ []) ≡ Some (Some t)
 target_read f r t low high rank is = by_rank rank
   where
     t0 : leb 97 f ≡ true
@@ -177,7 +251,8 @@ target_read f r t low high rank is = by_rank rank
     by_rank (inl e) = rw (is, e, t0, t1) refl
     by_rank (inr e) = rw (is, e, t0, t1) refl
 
-pub target-text : (target : Option ℕ) → IfSome target (λ square. (square / 8 ≡ 2) ⊎ (square / 8 ≡ 5)) → target_of (target_text target) ≡ Some target
+pub target-text : (target : Option ℕ) → IfSome target (λ square. (square / 8 ≡ 2) ⊎ (square / 8 ≡ 5))
+    → target_of (target_text target) ≡ Some target
 target-text None h = refl
 target-text (Some t) h = target_read (97 + t % 8) (49 + t / 8) t (omega arith) (omega arith) (ranks h) (omega arith)
   where
@@ -187,23 +262,32 @@ target-text (Some t) h = target_read (97 + t % 8) (49 + t / 8) t (omega arith) (
 
 -- ---- ranks
 
-run_read : (n : ℕ) (before : List (Option Man)) (rest : List ℕ) → n ≤ 8 → rank_after before (run_text n ++ rest) ≡ rank_after (before ++ replicate n None) rest
+run_read : (n : ℕ) (before : List (Option Man)) (rest : List ℕ) → n ≤ 8
+    → rank_after before (run_text n ++ rest) ≡ rank_after (before ++ replicate n None) rest
 run_read zero before rest h = ap (λ r. rank_after r rest) (sym (append-nil before))
 run_read (suc n) before rest h =
     let k : (48 + suc n) - 48 ≡ suc n = omega arith in
-    ap (option_and_then (λ s. rank_after (before ++ s) rest)) (squares-digit (48 + suc n) (omega arith) (omega arith) ∙ ap (λ m. Some (replicate m None)) k)
+    ap (option_and_then (λ s. rank_after (before ++ s) rest))
+    (squares-digit (48 + suc n) (omega arith) (omega arith) ∙ ap (λ m. Some (replicate m None)) k)
 
-row_read : (squares : List (Option Man)) (n : ℕ) (before : List (Option Man)) → n + length squares ≤ 8 → rank_after before (row_text n squares) ≡ rank_after ((before ++ replicate n None) ++ squares) []
-row_read [] n before h = ap (rank_after before) (sym (append-nil (run_text n))) ∙ run_read n before [] (omega arith) ∙ ap (λ r. rank_after r []) (sym (append-nil (before ++ replicate n None)))
+row_read : (squares : List (Option Man)) (n : ℕ) (before : List (Option Man)) → n + length squares ≤ 8
+    → rank_after before (row_text n squares) ≡ rank_after ((before ++ replicate n None) ++ squares) []
+row_read [] n before h = ap (rank_after before) (sym (append-nil (run_text n))) ∙ run_read n before [] (omega arith)
+    ∙ ap (λ r. rank_after r []) (sym (append-nil (before ++ replicate n None)))
 row_read (None ∷ squares) n before h =
     let k : suc n ≡ n + 1 = omega arith in
     row_read squares (suc n) before (omega arith)
-    ∙ ap (λ r. rank_after r []) (ap (λ r. (before ++ r) ++ squares) (ap (λ m. replicate m None) k ∙ replicate_next n None) ∙ ap (λ r. r ++ squares) (sym (append_assoc before (replicate n None) (None ∷ []))) ∙ append_assoc (before ++ replicate n None) (None ∷ []) squares)
+    ∙ ap (λ r. rank_after r []) (ap (λ r. (before ++ r) ++ squares)
+    (ap (λ m. replicate m None) k ∙ replicate_next n None)
+    ∙ ap (λ r. r ++ squares) (sym (append_assoc before (replicate n None) (None ∷ [])))
+    ∙ append_assoc (before ++ replicate n None) (None ∷ []) squares)
 row_read (Some man ∷ squares) n before h =
     run_read n before (letter man ∷ row_text 0 squares) (omega arith)
-    ∙ ap (option_and_then (λ s. rank_after ((before ++ replicate n None) ++ s) (row_text 0 squares))) (squares-letter man)
+    ∙ ap (option_and_then (λ s. rank_after ((before ++ replicate n None) ++ s) (row_text 0 squares)))
+    (squares-letter man)
     ∙ row_read squares 0 ((before ++ replicate n None) ++ Some man ∷ []) (omega arith)
-    ∙ ap (λ r. rank_after r []) (ap (λ r. r ++ squares) (append-nil ((before ++ replicate n None) ++ Some man ∷ [])) ∙ append_assoc (before ++ replicate n None) (Some man ∷ []) squares)
+    ∙ ap (λ r. rank_after r []) (ap (λ r. r ++ squares) (append-nil ((before ++ replicate n None) ++ Some man ∷ []))
+    ∙ append_assoc (before ++ replicate n None) (Some man ∷ []) squares)
 
 pub rank-text : (squares : List (Option Man)) → length squares ≡ 8 → rank_of (fen_rank squares) ≡ Some squares
 rank-text squares eight = row_read squares 0 [] (omega arith) ∙ ap (λ n. cond (eqb n 8) (Some squares) None) eight
@@ -229,13 +313,15 @@ letter_from Black kind = omega (arith, white_from kind)
 row_from : (squares : List (Option Man)) (n : ℕ) → From 48 (row_text n squares)
 row_from [] n = subst (From 48) (append-nil (run_text n)) (run_from n [] tt)
 row_from (None ∷ squares) n = row_from squares (suc n)
-row_from (Some man ∷ squares) n = run_from n (letter man ∷ row_text 0 squares) (letter_from man.colour man.kind, row_from squares 0)
+row_from (Some man ∷ squares) n = run_from n (letter man ∷ row_text 0 squares)
+    (letter_from man.colour man.kind, row_from squares 0)
 
 rows_from : (n : ℕ) (men : List (Option Man)) → AllByRecursion (From 48) (map fen_rank (ranks_down n men))
 rows_from zero men = tt
 rows_from (suc n) men = (row_from (take 8 (drop (8 * n) men)) 0, rows_from n men)
 
-ranks_read : (n : ℕ) (men above : List (Option Man)) → 8 * n ≤ length men → stacked above (map fen_rank (ranks_down n men)) ≡ Some (take (8 * n) men ++ above)
+ranks_read : (n : ℕ) (men above : List (Option Man)) → 8 * n ≤ length men
+    → stacked above (map fen_rank (ranks_down n men)) ≡ Some (take (8 * n) men ++ above)
 ranks_read zero men above h = refl
 ranks_read (suc n) men above h =
     let squares : List (Option Man) = take 8 (drop (8 * n) men) in
@@ -243,17 +329,22 @@ ranks_read (suc n) men above h =
     let at : 8 * suc n ≡ 8 * n + 8 = omega arith in
     ap (option_and_then (λ r. stacked (r ++ above) (map fen_rank (ranks_down n men)))) (rank-text squares eight)
     ∙ ranks_read n men (squares ++ above) (omega arith)
-    ∙ ap Some (sym (append_assoc (take (8 * n) men) squares above) ∙ ap (λ r. r ++ above) (sym (ap (λ k. take k men) at ∙ take-add (8 * n) 8 men)))
+    ∙ ap Some (sym (append_assoc (take (8 * n) men) squares above)
+    ∙ ap (λ r. r ++ above) (sym (ap (λ k. take k men) at ∙ take-add (8 * n) 8 men)))
 
 pub placement-text : (men : List (Option Man)) → length men ≡ 64 → placement_of (placement_text men) ≡ Some men
 unfolding placement_text
 placement-text men all =
-    let parts : slice_split (λ c. eqb c 47) (ranks_text 8 men) ≡ map fen_rank (ranks_down 8 men) = slice_split-join 47 (fen_rank (take 8 (drop 56 men))) (map fen_rank (ranks_down 7 men)) (rows_from 8 men) in
-    ap (λ ranks. cond (eqb (length ranks) 8) (stacked [] ranks) None) parts ∙ ranks_read 8 men [] (omega arith) ∙ ap Some (append-nil (take 64 men) ∙ take_all 64 men (omega arith))
+    let parts : slice_split (λ c. eqb c 47) (ranks_text 8 men) ≡ map fen_rank (ranks_down 8 men) =
+    slice_split-join 47 (fen_rank (take 8 (drop 56 men))) (map fen_rank (ranks_down 7 men)) (rows_from 8 men) in
+    ap (λ ranks. cond (eqb (length ranks) 8) (stacked [] ranks) None) parts ∙ ranks_read 8 men [] (omega arith)
+    ∙ ap Some (append-nil (take 64 men) ∙ take_all 64 men (omega arith))
 
 placement_from : (men : List (Option Man)) → From 33 (placement_text men)
 unfolding placement_text
-placement_from men = From-weaker 33 47 (ranks_text 8 men) (omega arith) (From-join 47 47 (map fen_rank (ranks_down 8 men)) (omega arith) (weaker (map fen_rank (ranks_down 8 men)) (rows_from 8 men)))
+placement_from men = From-weaker 33 47 (ranks_text 8 men) (omega arith)
+    (From-join 47 47 (map fen_rank (ranks_down 8 men)) (omega arith)
+    (weaker (map fen_rank (ranks_down 8 men)) (rows_from 8 men)))
   where
     weaker : (texts : List (List ℕ)) → AllByRecursion (From 48) texts → AllByRecursion (From 47) texts
     weaker [] p = tt
@@ -301,11 +392,15 @@ rights_from v r =
     let d = right_text v Black QueenSide r.black.queen_side in
     dash_from (((a ++ b) ++ c) ++ d)
     (From-append 33 ((a ++ b) ++ c) d
-    (From-append 33 (a ++ b) c (From-append 33 a b (right_from v White KingSide r.white.king_side) (right_from v White QueenSide r.white.queen_side)) (right_from v Black KingSide r.black.king_side))
+    (From-append 33 (a ++ b) c (From-append 33 a b (right_from v White KingSide r.white.king_side)
+    (right_from v White QueenSide r.white.queen_side)) (right_from v Black KingSide r.black.king_side))
     (right_from v Black QueenSide r.black.queen_side))
 
 rights_some : (v : Variant) (r : Rights) → 0 < length (rights_text v r)
-rights_some v r = dash_some (((right_text v White KingSide r.white.king_side ++ right_text v White QueenSide r.white.queen_side) ++ right_text v Black KingSide r.black.king_side) ++ right_text v Black QueenSide r.black.queen_side)
+rights_some v r =
+    dash_some
+    (((right_text v White KingSide r.white.king_side ++ right_text v White QueenSide r.white.queen_side)
+    ++ right_text v Black KingSide r.black.king_side) ++ right_text v Black QueenSide r.black.queen_side)
 
 target_from : (target : Option ℕ) → From 33 (target_text target)
 target_from None = (omega arith, tt)
@@ -322,10 +417,44 @@ describing-fen p h =
     let halfmove : p.halfmove < 1000000 = let e = h.halfmove in grind (arith, nat_tests, e) in
     let fullmove : p.fullmove < 1000000 = let e = h.fullmove_high in grind (arith, nat_tests, e) in
     let some : 0 < p.fullmove = let e = h.fullmove_low in grind (arith, nat_tests, e) in
-    let fields : fields_of (fen p) ≡ placement_text p.men ∷ side_text p.side ∷ rights_text p.variant p.rights ∷ target_text p.target ∷ decimal p.halfmove ∷ decimal p.fullmove ∷ [] =
-    fields_of-join (placement_text p.men) (side_text p.side ∷ rights_text p.variant p.rights ∷ target_text p.target ∷ decimal p.halfmove ∷ decimal p.fullmove ∷ [])
-    (placement_from p.men, (side_from p.side, (rights_from p.variant p.rights, (target_from p.target, (decimal_from p.halfmove halfmove, (decimal_from p.fullmove fullmove, tt))))))
-    (placement_some p.men, (side_some p.side, (rights_some p.variant p.rights, (target_some p.target, (decimal_nonempty p.halfmove (omega (arith, halfmove)), (decimal_nonempty p.fullmove (omega (arith, fullmove)), tt)))))) in
+    let fields : fields_of (fen p) ≡ placement_text p.men ∷ side_text p.side ∷ rights_text p.variant p.rights ∷
+    target_text p.target ∷ decimal p.halfmove ∷ decimal p.fullmove ∷ [] =
+    fields_of-join (placement_text p.men) (side_text p.side ∷ rights_text p.variant p.rights ∷ target_text p.target ∷
+    decimal p.halfmove ∷ decimal p.fullmove ∷ []) (
+      placement_from p.men,
+      (
+        side_from p.side,
+        (
+          rights_from p.variant p.rights,
+          (
+            target_from p.target,
+            (decimal_from p.halfmove halfmove, (decimal_from p.fullmove fullmove, tt)),
+          ),
+        ),
+      ),
+    ) (
+      placement_some p.men,
+      (
+        side_some p.side,
+        (
+          rights_some p.variant p.rights,
+          (
+            target_some p.target,
+            (
+              decimal_nonempty p.halfmove (omega (arith, halfmove)),
+              (decimal_nonempty p.fullmove (omega (arith, fullmove)), tt),
+            ),
+          ),
+        ),
+      ),
+    ) in
     let counted : max p.fullmove 1 ≡ p.fullmove = omega (arith, some) in
-    let numbers : counters_of (decimal p.halfmove ∷ decimal p.fullmove ∷ []) ≡ Some (p.halfmove, p.fullmove) = rw (number-decimal p.halfmove halfmove, number-decimal p.fullmove fullmove, counted) refl in
-    ap (described_in p.variant) fields ∙ rw (placement-text p.men h.board, side-text p.side, letters-text p h, target-text p.target (target_fits p h), numbers) refl
+    let numbers : counters_of (decimal p.halfmove ∷ decimal p.fullmove ∷ []) ≡ Some (p.halfmove, p.fullmove) =
+    rw (number-decimal p.halfmove halfmove, number-decimal p.fullmove fullmove, counted) refl in
+    ap (described_in p.variant) fields ∙ rw (
+      placement-text p.men h.board,
+      side-text p.side,
+      letters-text p h,
+      target-text p.target (target_fits p h),
+      numbers,
+    ) refl

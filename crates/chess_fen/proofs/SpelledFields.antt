@@ -25,17 +25,27 @@ record ReadOnTop (texts : List (List ℕ)) (above whole : List (Option Man)) : T
   parts : whole ≡ from_top rows ++ above
   count : length rows ≡ length texts
 
-read_on_top : (texts : List (List ℕ)) (above whole : List (Option Man)) → stacked above texts ≡ Some whole → ReadOnTop texts above whole
+read_on_top : (texts : List (List ℕ)) (above whole : List (Option Man)) → stacked above texts ≡ Some whole
+    → ReadOnTop texts above whole
 read_on_top [] above whole e = record { rows = []; each = tt; parts = (cc); count = refl }
-read_on_top (text ∷ texts) above whole e = by_rank (λ row h. read_on_top texts (row ++ above) whole h) (rank_of text) refl e
+read_on_top (text ∷ texts) above whole e =
+    by_rank (λ row h. read_on_top texts (row ++ above) whole h) (rank_of text) refl e
   where
-    by_rank : ((row : List (Option Man)) → stacked (row ++ above) texts ≡ Some whole → ReadOnTop texts (row ++ above) whole) → (o : Option (List (Option Man))) → rank_of text ≡ o → option_and_then (λ row. stacked (row ++ above) texts) o ≡ Some whole → ReadOnTop (text ∷ texts) above whole
+    by_rank : ((row : List (Option Man)) → stacked (row ++ above) texts ≡ Some whole
+        → ReadOnTop texts (row ++ above) whole) → (o : Option (List (Option Man))) → rank_of text ≡ o
+        → option_and_then (λ row. stacked (row ++ above) texts) o ≡ Some whole → ReadOnTop (text ∷ texts) above whole
     by_rank later None is e = absurd cc
     by_rank later (Some row) is e =
         let r = later row e in
-        record { rows = row ∷ r.rows; each = (spelled-rank text row is, r.each); parts = r.parts ∙ sym (append_assoc (from_top r.rows) row above); count = ap suc r.count }
+        record {
+          rows = row ∷ r.rows;
+          each = (spelled-rank text row is, r.each);
+          parts = r.parts ∙ sym (append_assoc (from_top r.rows) row above);
+          count = ap suc r.count;
+        }
 
-pub spelled-placement : (text : List ℕ) (men : List (Option Man)) → placement_of text ≡ Some men → SpellsPlacement text men
+pub spelled-placement : (text : List ℕ) (men : List (Option Man)) → placement_of text ≡ Some men
+    → SpellsPlacement text men
 spelled-placement text men e =
     let ranks : List (List ℕ) = slice_split (λ c. eqb c 47) text in
     let h = chosen (eqb (length ranks) 8) (stacked [] ranks) men e in
@@ -43,15 +53,21 @@ spelled-placement text men e =
     let r = read_on_top ranks [] men h.1 in
     (r.rows, r.count ∙ eight, r.each, r.parts ∙ append-nil (from_top r.rows))
 
-stack_spelled : (texts : List (List ℕ)) (rows : List (List (Option Man))) (above : List (Option Man)) → AllZip SpellsRank texts rows → (stacked above texts ≡ Some (from_top rows ++ above)) × (length texts ≡ length rows)
+stack_spelled : (texts : List (List ℕ)) (rows : List (List (Option Man))) (above : List (Option Man))
+    → AllZip SpellsRank texts rows → (stacked above texts ≡ Some (from_top rows ++ above))
+    × (length texts ≡ length rows)
 stack_spelled [] [] above p = (refl, refl)
 stack_spelled [] (row ∷ rows) above p = absurd p
 stack_spelled (text ∷ texts) [] above p = absurd p
 stack_spelled (text ∷ texts) (row ∷ rows) above p =
-    let more = stack_spelled texts rows (row ++ above) p.1 in
-    (ap (option_and_then (λ r. stacked (r ++ above) texts)) (rank-of_spelled text row p.0) ∙ more.0 ∙ ap Some (sym (append_assoc (from_top rows) row above)), ap suc more.1)
+    let more = stack_spelled texts rows (row ++ above) p.1 in (
+      ap (option_and_then (λ r. stacked (r ++ above) texts)) (rank-of_spelled text row p.0) ∙ more.0
+          ∙ ap Some (sym (append_assoc (from_top rows) row above)),
+      ap suc more.1,
+    )
 
-pub placement-spelled : (text : List ℕ) (men : List (Option Man)) → SpellsPlacement text men → placement_of text ≡ Some men
+pub placement-spelled : (text : List ℕ) (men : List (Option Man)) → SpellsPlacement text men
+    → placement_of text ≡ Some men
 placement-spelled text men s =
     let ranks : List (List ℕ) = slice_split (λ c. eqb c 47) text in
     let read = stack_spelled ranks s.0 [] s.2 in
@@ -64,9 +80,12 @@ pub spelled-side : (text : List ℕ) (colour : Colour) → side_of text ≡ Some
 spelled-side [] colour e = absurd cc
 spelled-side (c ∷ []) colour e = by_tests (eqb c 119) refl (eqb c 98) refl e
   where
-    by_tests : (w : Bool) → eqb c 119 ≡ w → (b : Bool) → eqb c 98 ≡ b → cond w (Some White) (cond b (Some Black) None) ≡ Some colour → c ∷ [] ≡ side_text colour
-    by_tests true p b q e = let at : c ≡ 119 = grind (arith, nat_tests) in let is : White ≡ colour = cc in ap (λ x. x ∷ []) at ∙ ap side_text is
-    by_tests false p true q e = let at : c ≡ 98 = grind (arith, nat_tests) in let is : Black ≡ colour = cc in ap (λ x. x ∷ []) at ∙ ap side_text is
+    by_tests : (w : Bool) → eqb c 119 ≡ w → (b : Bool) → eqb c 98 ≡ b
+        → cond w (Some White) (cond b (Some Black) None) ≡ Some colour → c ∷ [] ≡ side_text colour
+    by_tests true p b q e = let at : c ≡ 119 = grind (arith, nat_tests) in let is : White ≡ colour =
+        cc in ap (λ x. x ∷ []) at ∙ ap side_text is
+    by_tests false p true q e = let at : c ≡ 98 = grind (arith, nat_tests) in let is : Black ≡ colour =
+        cc in ap (λ x. x ∷ []) at ∙ ap side_text is
     by_tests false p false q e = absurd cc
 spelled-side (c ∷ d ∷ cs) colour e = absurd cc
 
@@ -127,7 +146,8 @@ digits_all (c ∷ cs) p =
 
 pub spelled-number : (text : List ℕ) (n : ℕ) → number_of text ≡ Some n → SpellsNumber text n
 spelled-number text n e =
-    let h = chosen (ltb 0 (length text) && leb (length text) 6 && list_all is_digit text) (Some (value_after 0 text)) n e in
+    let h = chosen (ltb 0 (length text) && leb (length text) 6 && list_all is_digit text) (Some (value_after 0 text)) n
+    e in
     let t = both3 (ltb 0 (length text)) (leb (length text) 6) (list_all is_digit text) h.0 in
     let some : 0 < length text = grind (arith, nat_tests, t.0) in
     let short : length text ≤ 6 = grind (arith, nat_tests, t.1) in

@@ -15,7 +15,8 @@ use Rattle.chess_fen.specs.Spelling.{StandsFor, SpellsSquares, SpellsRank}
 use Rattle.chess_fen.proofs.Ranks.{squares-digit}
 
 -- a man's letter is read as the man
-squares-letter_by : (colour : Colour) (kind : Kind) → squares_of (letter_by colour kind) ≡ Some (Some (record { colour = colour; kind = kind }) ∷ [])
+squares-letter_by : (colour : Colour) (kind : Kind)
+    → squares_of (letter_by colour kind) ≡ Some (Some (record { colour = colour; kind = kind }) ∷ [])
 squares-letter_by White Pawn = refl
 squares-letter_by White Knight = refl
 squares-letter_by White Bishop = refl
@@ -37,8 +38,10 @@ found : (men : List Man) (c : ℕ) (man : Man) → find (λ m. eqb (letter m) c)
 found [] c man e = absurd cc
 found (m ∷ men) c man e = by_test (λ h. found men c man h) (eqb (letter m) c) refl e
   where
-    by_test : (find (λ n. eqb (letter n) c) men ≡ Some man → c ≡ letter man) → (b : Bool) → eqb (letter m) c ≡ b → cond b (Some m) (find (λ n. eqb (letter n) c) men) ≡ Some man → c ≡ letter man
-    by_test later true t e = let same : m ≡ man = cc in let at : letter m ≡ c = grind (arith, nat_tests) in sym at ∙ ap letter same
+    by_test : (find (λ n. eqb (letter n) c) men ≡ Some man → c ≡ letter man) → (b : Bool) → eqb (letter m) c ≡ b
+        → cond b (Some m) (find (λ n. eqb (letter n) c) men) ≡ Some man → c ≡ letter man
+    by_test later true t e = let same : m ≡ man = cc in let at : letter m ≡ c =
+        grind (arith, nat_tests) in sym at ∙ ap letter same
     by_test later false t e = later e
 
 -- ---- a byte
@@ -46,11 +49,14 @@ found (m ∷ men) c man e = by_test (λ h. found men c man h) (eqb (letter m) c)
 pub spelled_squares : (c : ℕ) (squares : List (Option Man)) → squares_of c ≡ Some squares → StandsFor c squares
 spelled_squares c squares e = by_test (leb 49 c && leb c 56) refl e
   where
-    by_man : (o : Option Man) → man_with_letter c ≡ o → option_map (λ m. Some m ∷ []) o ≡ Some squares → StandsFor c squares
+    by_man : (o : Option Man) → man_with_letter c ≡ o → option_map (λ m. Some m ∷ []) o ≡ Some squares
+        → StandsFor c squares
     by_man None is e = absurd cc
     by_man (Some man) is e = inl (man, found all_men c man is, cc)
 
-    by_test : (b : Bool) → (leb 49 c && leb c 56) ≡ b → cond b (Some (replicate (c - 48) None)) (option_map (λ m. Some m ∷ []) (man_with_letter c)) ≡ Some squares → StandsFor c squares
+    by_test : (b : Bool) → (leb 49 c && leb c 56) ≡ b
+        → cond b (Some (replicate (c - 48) None)) (option_map (λ m. Some m ∷ []) (man_with_letter c)) ≡ Some squares
+        → StandsFor c squares
     by_test true t e =
         let low : 49 ≤ c = grind (arith, nat_tests) in
         let high : c ≤ 56 = grind (arith, nat_tests) in
@@ -59,18 +65,21 @@ spelled_squares c squares e = by_test (leb 49 c && leb c 56) refl e
 
 pub squares-spelled : (c : ℕ) (squares : List (Option Man)) → StandsFor c squares → squares_of c ≡ Some squares
 squares-spelled c squares (inl m) = ap squares_of m.1 ∙ squares-letter m.0 ∙ ap Some (sym m.2)
-squares-spelled c squares (inr d) = squares-digit c (omega (arith, d.1, d.3)) (omega (arith, d.2, d.3)) ∙ digits (omega (arith, d.3))
+squares-spelled c squares (inr d) = squares-digit c (omega (arith, d.1, d.3)) (omega (arith, d.2, d.3))
+    ∙ digits (omega (arith, d.3))
   where
     digits : c - 48 ≡ d.0 → Some (replicate (c - 48) None) ≡ Some squares
     digits e = ap (λ k. Some (replicate k None)) e ∙ ap Some (sym d.4)
 
 -- ---- a rank
 
-pub rank-spelled : (text : List ℕ) (before row : List (Option Man)) → SpellsSquares text row → rank_after before text ≡ rank_after (before ++ row) []
+pub rank-spelled : (text : List ℕ) (before row : List (Option Man)) → SpellsSquares text row
+    → rank_after before text ≡ rank_after (before ++ row) []
 rank-spelled [] before row s = ap (λ r. rank_after r []) (sym (ap (λ r. before ++ r) s ∙ append-nil before))
 rank-spelled (c ∷ cs) before row s =
     ap (option_and_then (λ squares. rank_after (before ++ squares) cs)) (squares-spelled c s.0 s.2)
-    ∙ rank-spelled cs (before ++ s.0) s.1 s.3 ∙ ap (λ r. rank_after r []) (append_assoc before s.0 s.1 ∙ ap (λ r. before ++ r) (sym s.4))
+    ∙ rank-spelled cs (before ++ s.0) s.1 s.3
+    ∙ ap (λ r. rank_after r []) (append_assoc before s.0 s.1 ∙ ap (λ r. before ++ r) (sym s.4))
 
 -- ---- and back
 
@@ -81,25 +90,42 @@ pub record ReadBehind (text : List ℕ) (before whole : List (Option Man)) : Typ
   pub parts : whole ≡ before ++ row
   pub eight : length whole ≡ 8
 
-read_behind : (text : List ℕ) (before whole : List (Option Man)) → rank_after before text ≡ Some whole → ReadBehind text before whole
+read_behind : (text : List ℕ) (before whole : List (Option Man)) → rank_after before text ≡ Some whole
+    → ReadBehind text before whole
 read_behind [] before whole e = by_test (eqb (length before) 8) refl e
   where
-    by_test : (b : Bool) → eqb (length before) 8 ≡ b → cond b (Some before) None ≡ Some whole → ReadBehind [] before whole
+    by_test : (b : Bool) → eqb (length before) 8 ≡ b → cond b (Some before) None ≡ Some whole
+        → ReadBehind [] before whole
     by_test true t e =
         let same : before ≡ whole = cc in
         let eight : length before ≡ 8 = grind (arith, nat_tests) in
-        record { row = []; spells = refl; parts = sym same ∙ sym (append-nil before); eight = ap length (sym same) ∙ eight }
+        record {
+          row = [];
+          spells = refl;
+          parts = sym same ∙ sym (append-nil before);
+          eight = ap length (sym same) ∙ eight;
+        }
     by_test false t e = absurd cc
-read_behind (c ∷ cs) before whole e = by_squares (λ first h. read_behind cs (before ++ first) whole h) (squares_of c) refl e
+read_behind (c ∷ cs) before whole e = by_squares (λ first h. read_behind cs (before ++ first) whole h) (squares_of c)
+    refl e
   where
-    by_squares : ((first : List (Option Man)) → rank_after (before ++ first) cs ≡ Some whole → ReadBehind cs (before ++ first) whole) → (o : Option (List (Option Man))) → squares_of c ≡ o → option_and_then (λ squares. rank_after (before ++ squares) cs) o ≡ Some whole → ReadBehind (c ∷ cs) before whole
+    by_squares : ((first : List (Option Man)) → rank_after (before ++ first) cs ≡ Some whole
+        → ReadBehind cs (before ++ first) whole) → (o : Option (List (Option Man))) → squares_of c ≡ o
+        → option_and_then (λ squares. rank_after (before ++ squares) cs) o ≡ Some whole
+        → ReadBehind (c ∷ cs) before whole
     by_squares later None is e = absurd cc
     by_squares later (Some first) is e =
         let r = later first e in
-        record { row = first ++ r.row; spells = (first, r.row, spelled_squares c first is, r.spells, refl); parts = r.parts ∙ append_assoc before first r.row; eight = r.eight }
+        record {
+          row = first ++ r.row;
+          spells = (first, r.row, spelled_squares c first is, r.spells, refl);
+          parts = r.parts ∙ append_assoc before first r.row;
+          eight = r.eight;
+        }
 
 pub spelled-rank : (text : List ℕ) (row : List (Option Man)) → rank_of text ≡ Some row → SpellsRank text row
-spelled-rank text row e = let r = read_behind text [] row e in (subst (SpellsSquares text) (sym r.parts) r.spells, r.eight)
+spelled-rank text row e = let r = read_behind text [] row
+    e in (subst (SpellsSquares text) (sym r.parts) r.spells, r.eight)
 
 pub rank-of_spelled : (text : List ℕ) (row : List (Option Man)) → SpellsRank text row → rank_of text ≡ Some row
 rank-of_spelled text row s = rank-spelled text [] row s.0 ∙ ap (λ n. cond (eqb n 8) (Some row) None) s.1

@@ -15,22 +15,29 @@ place_le p (x ∷ xs) = by_test (p x) (position_or_len p xs) (length xs) (place_
     by_test true n m h = omega arith
     by_test false n m h = omega arith
 
-pub place_or_len : {A : Type 0} (p : A → Bool) (xs : List A) → unwrap_or (position p xs) (length xs) ≡ position_or_len p xs
+pub place_or_len : {A : Type 0} (p : A → Bool) (xs : List A)
+    → unwrap_or (position p xs) (length xs) ≡ position_or_len p xs
 place_or_len p xs = elim (cases_lt (position_or_len p xs) (length xs)) [
   | inl lt ↦ grind (arith, nat_tests)
   | inr ge ↦ grind (arith, nat_tests, place_le p xs)
 ]
 
 -- spaces before the first field don't count
-pub fields_of-skip : (text : List ℕ) → fields_of text ≡ fields_of (drop (position_or_len (λ b. not (eqb b 32)) text) text)
+pub fields_of-skip : (text : List ℕ) → fields_of text
+    ≡ fields_of (drop (position_or_len (λ b. not (eqb b 32)) text) text)
 fields_of-skip [] = refl
 fields_of-skip (c ∷ cs) = by_test (eqb c 32) c cs refl (fields_of-skip cs)
   where
-    by_test : (b : Bool) (c : ℕ) (cs : List ℕ) → eqb c 32 ≡ b → fields_of cs ≡ fields_of (drop (position_or_len (λ b. not (eqb b 32)) cs) cs) → fields_of (c ∷ cs) ≡ fields_of (drop (position_or_len (λ b. not (eqb b 32)) (c ∷ cs)) (c ∷ cs))
+    by_test : (b : Bool) (c : ℕ) (cs : List ℕ) → eqb c 32 ≡ b
+        → fields_of cs ≡ fields_of (drop (position_or_len (λ b. not (eqb b 32)) cs) cs)
+        → fields_of (c ∷ cs) ≡ fields_of (drop (position_or_len (λ b. not (eqb b 32)) (c ∷ cs)) (c ∷ cs))
     by_test true c cs e more =
-        let next : 1 + position_or_len (λ b. not (eqb b 32)) cs ≡ suc (position_or_len (λ b. not (eqb b 32)) cs) = omega arith in
+        let next : 1 + position_or_len (λ b. not (eqb b 32)) cs ≡ suc (position_or_len (λ b. not (eqb b 32)) cs) =
+        omega arith in
         rw e (more ∙ ap (λ n. fields_of (drop n (c ∷ cs))) (sym next))
-    by_test false c cs e more = ap (λ b. fields_of (drop (cond (not (not b)) (1 + position_or_len (λ b. not (eqb b 32)) cs) 0) (c ∷ cs))) (sym e)
+    by_test false c cs e more =
+        ap (λ b. fields_of (drop (cond (not (not b)) (1 + position_or_len (λ b. not (eqb b 32)) cs) 0) (c ∷ cs)))
+        (sym e)
 
 -- where a list is cut: nowhere
 pub record IsWhole {A : Type 0} (p : A → Bool) (xs : List A) : Type 0 where
@@ -55,46 +62,71 @@ cut {A} p (x ∷ xs) = by_test (p x) refl (cut p xs)
 
     by_test : (b : Bool) → p x ≡ b → IsWhole p xs ⊎ IsCut p xs → IsWhole p (x ∷ xs) ⊎ IsCut p (x ∷ xs)
     by_test true e more = inr (record { at = x; behind = xs; passes = e; rest = rw e refl; split = rw e refl })
-    by_test false e (inl w) = inl (record { rest = rw (e, next) w.rest; front = rw (e, next) (ap (λ ys. x ∷ ys) w.front); split = rw (e, w.split) refl })
-    by_test false e (inr c) = inr (record { at = c.at; behind = c.behind; passes = c.passes; rest = rw (e, next) c.rest; split = rw (e, next, c.split) refl })
+    by_test false e (inl w) =
+        inl (record {
+          rest = rw (e, next) w.rest;
+          front = rw (e, next) (ap (λ ys. x ∷ ys) w.front);
+          split = rw (e, w.split) refl;
+        })
+    by_test false e (inr c) =
+        inr (record {
+          at = c.at;
+          behind = c.behind;
+          passes = c.passes;
+          rest = rw (e, next) c.rest;
+          split = rw (e, next, c.split) refl;
+        })
 
-pub no_fields : (text from : List ℕ) → from ≡ drop (position_or_len (λ b. not (eqb b 32)) text) text → length from ≡ 0 → fields_of text ≡ []
+pub no_fields : (text from : List ℕ) → from ≡ drop (position_or_len (λ b. not (eqb b 32)) text) text → length from ≡ 0
+    → fields_of text ≡ []
 no_fields text from is none = fields_of-skip text ∙ ap fields_of (sym is ∙ nil_from_length from none)
 
-pub part_last : {A : Type 0} (p : A → Bool) (xs front back : List A) → front ≡ before_first p xs → back ≡ drop (position_or_len p xs) xs → length back < 1 → slice_split p xs ≡ front ∷ []
+pub part_last : {A : Type 0} (p : A → Bool) (xs front back : List A) → front ≡ before_first p xs
+    → back ≡ drop (position_or_len p xs) xs → length back < 1 → slice_split p xs ≡ front ∷ []
 part_last p xs front back f b short = by_cut (cut p xs)
   where
     by_cut : IsWhole p xs ⊎ IsCut p xs → slice_split p xs ≡ front ∷ []
     by_cut (inl w) = w.split ∙ ap (λ ys. ys ∷ []) (sym (f ∙ w.front))
     by_cut (inr c) = absurd (omega (arith, ap length (b ∙ c.rest)))
 
-pub part_next : {A : Type 0} (p : A → Bool) (xs front back : List A) → front ≡ before_first p xs → back ≡ drop (position_or_len p xs) xs → 1 ≤ length back → slice_split p xs ≡ front ∷ slice_split p (take (length back - 1) (drop 1 back))
+pub part_next : {A : Type 0} (p : A → Bool) (xs front back : List A) → front ≡ before_first p xs
+    → back ≡ drop (position_or_len p xs) xs → 1 ≤ length back
+    → slice_split p xs ≡ front ∷ slice_split p (take (length back - 1) (drop 1 back))
 part_next p xs front back f b long = by_cut (cut p xs)
   where
     by_cut : IsWhole p xs ⊎ IsCut p xs → slice_split p xs ≡ front ∷ slice_split p (take (length back - 1) (drop 1 back))
     by_cut (inl w) = absurd (omega (arith, ap length (b ∙ w.rest)))
-    by_cut (inr c) = c.split ∙ ap (λ ys. ys ∷ slice_split p c.behind) (sym f) ∙ ap (λ ys. front ∷ slice_split p ys) (sym (take_rest back 1 ∙ ap (drop 1) (b ∙ c.rest)))
+    by_cut (inr c) = c.split ∙ ap (λ ys. ys ∷ slice_split p c.behind) (sym f)
+        ∙ ap (λ ys. front ∷ slice_split p ys) (sym (take_rest back 1 ∙ ap (drop 1) (b ∙ c.rest)))
 
 -- the field at the front of a text that begins with one
-first_field : (text : List ℕ) → 0 < length (before_first (λ b. eqb b 32) text) → fields_of text ≡ before_first (λ b. eqb b 32) text ∷ fields_of (drop (position_or_len (λ b. eqb b 32) text) text)
+first_field : (text : List ℕ) → 0 < length (before_first (λ b. eqb b 32) text)
+    → fields_of text ≡ before_first (λ b. eqb b 32) text ∷ fields_of (drop (position_or_len (λ b. eqb b 32) text) text)
 first_field text h = by_cut (cut (λ b. eqb b 32) text)
   where
     keeps : ltb 0 (length (before_first (λ b. eqb b 32) text)) ≡ true
     keeps = grind (arith, nat_tests)
 
-    by_cut : IsWhole (λ b. eqb b 32) text ⊎ IsCut (λ b. eqb b 32) text → fields_of text ≡ before_first (λ b. eqb b 32) text ∷ fields_of (drop (position_or_len (λ b. eqb b 32) text) text)
+    by_cut : IsWhole (λ b. eqb b 32) text ⊎ IsCut (λ b. eqb b 32) text
+        → fields_of text ≡ before_first (λ b. eqb b 32) text ∷ fields_of
+        (drop (position_or_len (λ b. eqb b 32) text) text)
     by_cut (inl w) =
         let long : ltb 0 (length text) ≡ true = ap (λ ys. ltb 0 (length ys)) (sym w.front) ∙ keeps in
         rw (w.split, w.rest, long) (ap (λ ys. ys ∷ []) (sym w.front))
     by_cut (inr c) = rw (c.split, c.rest, keeps, c.passes) refl
 
-pub next_fields : (text from front back : List ℕ) → from ≡ drop (position_or_len (λ b. not (eqb b 32)) text) text → 0 < length from → front ≡ before_first (λ b. eqb b 32) from → back ≡ drop (position_or_len (λ b. eqb b 32) from) from → fields_of text ≡ front ∷ fields_of back
+pub next_fields : (text from front back : List ℕ) → from ≡ drop (position_or_len (λ b. not (eqb b 32)) text) text
+    → 0 < length from → front ≡ before_first (λ b. eqb b 32) from
+    → back ≡ drop (position_or_len (λ b. eqb b 32) from) from → fields_of text ≡ front ∷ fields_of back
 next_fields text from front back is some f b =
-    fields_of-skip text ∙ ap fields_of (sym is) ∙ first_field from (begins (cut (λ b. not (eqb b 32)) text)) ∙ rw (f, b) refl
+    fields_of-skip text ∙ ap fields_of (sym is) ∙ first_field from (begins (cut (λ b. not (eqb b 32)) text))
+    ∙ rw (f, b) refl
   where
-    begins : IsWhole (λ b. not (eqb b 32)) text ⊎ IsCut (λ b. not (eqb b 32)) text → 0 < length (before_first (λ b. eqb b 32) from)
+    begins : IsWhole (λ b. not (eqb b 32)) text ⊎ IsCut (λ b. not (eqb b 32)) text
+        → 0 < length (before_first (λ b. eqb b 32) from)
     begins (inl w) = absurd (omega (arith, ap length (is ∙ w.rest)))
     begins (inr c) =
         let first : eqb c.at 32 ≡ false = grind (arith, nat_tests, c.passes) in
-        let next : 1 + position_or_len (λ b. eqb b 32) c.behind ≡ suc (position_or_len (λ b. eqb b 32) c.behind) = omega arith in
+        let next : 1 + position_or_len (λ b. eqb b 32) c.behind ≡ suc (position_or_len (λ b. eqb b 32) c.behind) =
+        omega arith in
         rw (is ∙ c.rest, first, next) (omega arith)

@@ -28,8 +28,10 @@ abbrev pub IsFieldFault : Variant → List ℕ → List ℕ → List ℕ → Lis
 IsFieldFault v a b c d more Placement = (men : Men) → SpellsPlacement a men → ⊥
 IsFieldFault v a b c d more Side = SomeMen a × ((colour : Colour) → b ≢ side_text colour)
 IsFieldFault v a b c d more Castling = SomeMen a × SomeSide b × (IsCastling v c → ⊥)
-IsFieldFault v a b c d more EnPassant = SomeMen a × SomeSide b × IsCastling v c × ((target : Option ℕ) → SpellsTarget d target → ⊥)
-IsFieldFault v a b c d more Counters = SomeMen a × SomeSide b × IsCastling v c × SomeTarget d × ((halfmove fullmove : ℕ) → SpellsCounters more halfmove fullmove → ⊥)
+IsFieldFault v a b c d more EnPassant = SomeMen a × SomeSide b × IsCastling v c
+    × ((target : Option ℕ) → SpellsTarget d target → ⊥)
+IsFieldFault v a b c d more Counters = SomeMen a × SomeSide b × IsCastling v c × SomeTarget d
+    × ((halfmove fullmove : ℕ) → SpellsCounters more halfmove fullmove → ⊥)
 IsFieldFault v a b c d more f = ⊥
 
 -- neither four nor six fields

@@ -63,7 +63,15 @@ described_by v placement side castling target counters = do
   letters ← ok_or (letters_of v castling) faults.Castling
   passed ← ok_or (target_of target) faults.EnPassant
   numbers ← ok_or (counters_of counters) faults.Counters
-  Ok (record { variant = v; men = men; side = colour; letters = letters; target = passed; halfmove = numbers.0; fullmove = numbers.1 })
+  Ok (record {
+    variant = v;
+    men = men;
+    side = colour;
+    letters = letters;
+    target = passed;
+    halfmove = numbers.0;
+    fullmove = numbers.1;
+  })
 
 -- four fields, or six
 abbrev pub described_in : Variant → List (List ℕ) → Result Description FenFault
@@ -76,7 +84,15 @@ description_of v text = described_in v (fields_of text)
 
 -- the same description, with the letters in the text
 abbrev pub description : Described → Description
-description d = record { variant = d.variant; men = d.men; side = d.side; letters = d.letters.now; target = d.target; halfmove = d.halfmove; fullmove = d.fullmove }
+description d = record {
+  variant = d.variant;
+  men = d.men;
+  side = d.side;
+  letters = d.letters.now;
+  target = d.target;
+  halfmove = d.halfmove;
+  fullmove = d.fullmove;
+}
 
 abbrev pub IsDescribed : Result Described FenFault → Result Description FenFault → Type 0
 IsDescribed (Ok d) r = r ≡ Ok (description d)
@@ -87,12 +103,26 @@ IsDescribed (Err f) r = r ≡ Err f
 -- the rights that the letters name
 abbrev pub rights_named : Description → Rights
 rights_named d = record {
-  white = record { king_side = right_told d.variant d.men d.letters White KingSide; queen_side = right_told d.variant d.men d.letters White QueenSide };
-  black = record { king_side = right_told d.variant d.men d.letters Black KingSide; queen_side = right_told d.variant d.men d.letters Black QueenSide };
+  white = record {
+    king_side = right_told d.variant d.men d.letters White KingSide;
+    queen_side = right_told d.variant d.men d.letters White QueenSide;
+  };
+  black = record {
+    king_side = right_told d.variant d.men d.letters Black KingSide;
+    queen_side = right_told d.variant d.men d.letters Black QueenSide;
+  };
 }
 
 abbrev pub setup_from : Description → Setup
-setup_from d = record { variant = d.variant; men = d.men; side = d.side; rights = rights_named d; target = d.target; halfmove = d.halfmove; fullmove = d.fullmove }
+setup_from d = record {
+  variant = d.variant;
+  men = d.men;
+  side = d.side;
+  rights = rights_named d;
+  target = d.target;
+  halfmove = d.halfmove;
+  fullmove = d.fullmove;
+}
 
 -- ---- soundness
 

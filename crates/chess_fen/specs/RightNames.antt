@@ -1,5 +1,6 @@
--- Which rights the letters of a FEN name: in normal chess K, Q, k and q (PGN standard of 1994, section 16.1.3.3); in Chess960 a
--- rook by its file, or as the outermost one (X-FEN). A text that names a right wrongly spells one that does not stand.
+-- Which rights the letters of a FEN name: in normal chess K, Q, k and q (PGN standard of 1994, section 16.1.3.3); in
+-- Chess960 a rook by its file, or as the outermost one (X-FEN). A text that names a right wrongly spells one that does
+-- not stand.
 use Rattle.std.specs.Prelude.{ℕ, zero, suc, ◌+◌, ◌-◌, ◌==◌, nat_lt, Bool, false, not, ◌&&◌, List, [], ◌∷◌, Option, Some, None, if◌then◌else◌}
 use Rattle.chess_base.specs.declared.man.Colour.{Colour}
 use Rattle.chess_base.specs.declared.man.Colour.TheVariants.{White, Black}
@@ -46,7 +47,8 @@ edge_file QueenSide k = 7 - k
 -- the first rook on the first rank from the edge, among the files that are left
 abbrev pub rook_among : Men → Colour → CastlingSide → ℕ → ℕ
 rook_among men c w zero = nowhere
-rook_among men c w (suc k) = if is_man c Rook (man_at men (home_square c (edge_file w k))) then home_square c (edge_file w k) else rook_among men c w k
+rook_among men c w (suc k) = if is_man c Rook (man_at men (home_square c (edge_file w k))) then home_square c
+    (edge_file w k) else rook_among men c w k
 
 -- the outermost rook on that side
 unfoldable pub outer_rook : Men → Colour → CastlingSide → ℕ
@@ -65,7 +67,8 @@ is_towards QueenSide king s = is_left_of king s
 abbrev pub named_square : Men → Colour → CastlingSide → ℕ → Option ℕ
 named_square men c w letter =
     if letter == side_letter c w then Some (outer_rook men c w)
-    else (if names_file c letter && is_towards w (king_square men c) (home_square c (letter - first_letter c)) then Some (home_square c (letter - first_letter c)) else None)
+    else (if names_file c letter && is_towards w (king_square men c) (home_square c (letter - first_letter c)) then Some
+    (home_square c (letter - first_letter c)) else None)
 
 -- one of the two, if only one is named; where two are, neither
 abbrev pub only_one_of : Option ℕ → Option ℕ → Option ℕ
@@ -76,7 +79,8 @@ only_one_of (Some s) (Some t) = Some nowhere
 -- the right on that side that letters name, where some were found before
 abbrev pub right_after_letters : Men → Colour → CastlingSide → Option ℕ → List ℕ → Option ℕ
 right_after_letters men c w found [] = found
-right_after_letters men c w found (letter ∷ letters) = right_after_letters men c w (only_one_of found (named_square men c w letter)) letters
+right_after_letters men c w found (letter ∷ letters) =
+    right_after_letters men c w (only_one_of found (named_square men c w letter)) letters
 
 -- ---- both
 

@@ -22,12 +22,14 @@ use Rattle.chess_fen.specs.Writing.{side_text, target_text}
 
 -- a man's letter stands for the man, a digit from 1 to 8 for so many empty squares
 abbrev pub StandsFor : ℕ → List (Option Man) → Type 0
-StandsFor c squares = ((man : Man) × (c ≡ letter man) × (squares ≡ Some man ∷ [])) ⊎ ((n : ℕ) × (0 < n) × (n ≤ 8) × (c ≡ byte "0" + n) × (squares ≡ replicate n None))
+StandsFor c squares = ((man : Man) × (c ≡ letter man) × (squares ≡ Some man ∷ []))
+    ⊎ ((n : ℕ) × (0 < n) × (n ≤ 8) × (c ≡ byte "0" + n) × (squares ≡ replicate n None))
 
 -- the squares of the bytes in a row
 abbrev pub SpellsSquares : List ℕ → List (Option Man) → Type 0
 SpellsSquares [] squares = squares ≡ []
-SpellsSquares (c ∷ cs) squares = (first : List (Option Man)) × (others : List (Option Man)) × StandsFor c first × SpellsSquares cs others × (squares ≡ first ++ others)
+SpellsSquares (c ∷ cs) squares = (first : List (Option Man)) × (others : List (Option Man)) × StandsFor c first
+    × SpellsSquares cs others × (squares ≡ first ++ others)
 
 -- eight of them
 abbrev pub SpellsRank : List ℕ → List (Option Man) → Type 0
@@ -40,7 +42,8 @@ from_top (row ∷ rows) = from_top rows ++ row
 
 -- eight ranks, the eighth first, with a stroke between
 abbrev pub SpellsPlacement : List ℕ → List (Option Man) → Type 0
-SpellsPlacement text men = (rows : List (List (Option Man))) × (length rows ≡ 8) × AllZip SpellsRank (slice_split (λ c. c == stroke) text) rows × (men ≡ from_top rows)
+SpellsPlacement text men = (rows : List (List (Option Man))) × (length rows ≡ 8)
+    × AllZip SpellsRank (slice_split (λ c. c == stroke) text) rows × (men ≡ from_top rows)
 
 -- one to four of the letters K, Q, k and q, in Chess960 of files too, none twice
 pub record AreRightLetters (v : Variant) (text : List ℕ) : Type 0 where
@@ -55,7 +58,8 @@ IsCastling v text = (text ≡ codes "-") ⊎ AreRightLetters v text
 
 -- a right is held exactly if its letter occurs, and then with the rook on its corner
 abbrev pub IsHeldBy : ℕ → List ℕ → Option ℕ → ℕ → Type 0
-IsHeldBy letter text right corner = (IsSome right ↔ IsTrue (occurs letter text)) × IfSome right (λ square. square ≡ corner)
+IsHeldBy letter text right corner = (IsSome right ↔ IsTrue (occurs letter text))
+    × IfSome right (λ square. square ≡ corner)
 
 -- in normal chess by its own letter; in Chess960 it is the one that the letters name, if any does
 abbrev pub IsHeld : Variant → Men → List ℕ → Colour → CastlingSide → Option ℕ → Type 0
@@ -76,13 +80,15 @@ SpellsTarget text target = (text ≡ target_text target) × IfSome target (λ sq
 
 -- one to six digits
 abbrev pub SpellsNumber : List ℕ → ℕ → Type 0
-SpellsNumber text n = (0 < length text) × (length text ≤ 6) × AllByRecursion (λ c. (byte "0" ≤ c) × (c ≤ byte "9")) text × (n ≡ digits_value 10 text)
+SpellsNumber text n = (0 < length text) × (length text ≤ 6) × AllByRecursion (λ c. (byte "0" ≤ c) × (c ≤ byte "9")) text
+    × (n ≡ digits_value 10 text)
 
 -- neither, or both; a fullmove number of 0 is read as 1
 abbrev pub SpellsCounters : List (List ℕ) → ℕ → ℕ → Type 0
 SpellsCounters [] halfmove fullmove = (halfmove ≡ 0) × (fullmove ≡ 1)
 SpellsCounters (a ∷ []) halfmove fullmove = ⊥
-SpellsCounters (a ∷ b ∷ []) halfmove fullmove = SpellsNumber a halfmove × ((n : ℕ) × SpellsNumber b n × (fullmove ≡ max n 1))
+SpellsCounters (a ∷ b ∷ []) halfmove fullmove =
+    SpellsNumber a halfmove × ((n : ℕ) × SpellsNumber b n × (fullmove ≡ max n 1))
 SpellsCounters (a ∷ b ∷ c ∷ more) halfmove fullmove = ⊥
 
 -- field by field
@@ -95,7 +101,8 @@ pub record SpellsFields (a b c d : List ℕ) (counters_text : List (List ℕ)) (
 
 -- the text has four fields or six, which spell the position in its variant
 abbrev pub SpellsFenOf : List ℕ → Setup → Type 0
-SpellsFenOf text p = (a : List ℕ) × (b : List ℕ) × (c : List ℕ) × (d : List ℕ) × (more : List (List ℕ)) × (fields_of text ≡ a ∷ b ∷ c ∷ d ∷ more) × SpellsFields a b c d more p
+SpellsFenOf text p = (a : List ℕ) × (b : List ℕ) × (c : List ℕ) × (d : List ℕ) × (more : List (List ℕ))
+    × (fields_of text ≡ a ∷ b ∷ c ∷ d ∷ more) × SpellsFields a b c d more p
 
 -- the text spells the position, which is of that variant
 abbrev pub SpellsFenAs : Variant → List ℕ → Setup → Type 0

@@ -18,13 +18,15 @@ use Rattle.chess_fen.specs.ManLetters.{stroke, dash, man_with_letter}
 
 -- the number that one to six digits write
 abbrev pub number_of : List ℕ → Option ℕ
-number_of text = if nat_lt 0 (length text) && nat_le (length text) 6 && list_all is_digit text then Some (value_after 0 text) else None
+number_of text = if nat_lt 0 (length text) && nat_le (length text) 6
+    && list_all is_digit text then Some (value_after 0 text) else None
 
 -- ---- ranks
 
 -- what a byte stands for: so many empty squares, or a man
 abbrev pub squares_of : ℕ → Option (List (Option Man))
-squares_of c = if nat_le (byte "1") c && nat_le c (byte "8") then Some (replicate (c - byte "0") None) else option_map (λ m. Some m ∷ []) (man_with_letter c)
+squares_of c = if nat_le (byte "1") c && nat_le c (byte "8") then Some (replicate (c - byte "0") None) else option_map
+    (λ m. Some m ∷ []) (man_with_letter c)
 
 -- the eight squares that a text stands for, where row is before it
 abbrev pub rank_after : List (Option Man) → List ℕ → Option (List (Option Man))
@@ -42,7 +44,8 @@ stacked above [] = Some above
 stacked above (text ∷ texts) = option_and_then (λ row. stacked (row ++ above) texts) (rank_of text)
 
 abbrev pub placement_of : List ℕ → Option (List (Option Man))
-placement_of text = let ranks = slice_split (λ c. c == stroke) text in if length ranks == 8 then stacked [] ranks else None
+placement_of text = let ranks = slice_split (λ c. c == stroke) text in if length ranks == 8 then stacked [] ranks else
+    None
 
 -- ---- castling
 
@@ -84,7 +87,8 @@ is_castling v (c ∷ cs) = ((c == dash) && (length cs == 0)) || are_letters v (c
 abbrev pub target_of : List ℕ → Option (Option ℕ)
 target_of [] = None
 target_of (c ∷ []) = if c == dash then Some None else None
-target_of (f ∷ r ∷ []) = if nat_le (byte "a") f && nat_le f (byte "h") && (r == byte "3" || r == byte "6") then Some (Some (8 * (r - byte "1") + (f - byte "a"))) else None
+target_of (f ∷ r ∷ []) = if nat_le (byte "a") f && nat_le f (byte "h")
+    && (r == byte "3" || r == byte "6") then Some (Some (8 * (r - byte "1") + (f - byte "a"))) else None
 target_of (f ∷ r ∷ c ∷ cs) = None
 
 -- ---- fields
@@ -106,4 +110,5 @@ counter_fields (Some c) = c.0.now ∷ c.1.now ∷ []
 -- the same fields, four or six of them
 abbrev pub FieldsAre : Option Fields → List (List ℕ) → Type 0
 FieldsAre None fields = (length fields ≢ 4) × (length fields ≢ 6)
-FieldsAre (Some f) fields = fields ≡ f.placement.now ∷ f.side.now ∷ f.castling.now ∷ f.target.now ∷ counter_fields f.counters
+FieldsAre (Some f) fields = fields ≡ f.placement.now ∷ f.side.now ∷ f.castling.now ∷ f.target.now ∷ counter_fields
+    f.counters

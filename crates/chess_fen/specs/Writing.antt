@@ -56,7 +56,8 @@ or_dash (c ∷ cs) = c ∷ cs
 -- White's on the king's side and on the queen's, then Black's: in normal chess in the order KQkq
 abbrev pub rights_text : Variant → Rights → List ℕ
 rights_text v r =
-    or_dash (right_text v White KingSide r.white.king_side ++ right_text v White QueenSide r.white.queen_side ++ right_text v Black KingSide r.black.king_side ++ right_text v Black QueenSide r.black.queen_side)
+    or_dash (right_text v White KingSide r.white.king_side ++ right_text v White QueenSide r.white.queen_side
+    ++ right_text v Black KingSide r.black.king_side ++ right_text v Black QueenSide r.black.queen_side)
 
 -- a dash for none, else the square's name
 abbrev pub target_text : Option ℕ → List ℕ
@@ -65,4 +66,5 @@ target_text (Some square) = square_text square
 
 -- six fields, with one space between
 abbrev pub fen : Setup → List ℕ
-fen p = join_with_byte space (placement_text p.men ∷ side_text p.side ∷ rights_text p.variant p.rights ∷ target_text p.target ∷ decimal p.halfmove ∷ decimal p.fullmove ∷ [])
+fen p = join_with_byte space (placement_text p.men ∷ side_text p.side ∷ rights_text p.variant p.rights ∷ target_text
+    p.target ∷ decimal p.halfmove ∷ decimal p.fullmove ∷ [])

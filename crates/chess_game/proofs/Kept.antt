@@ -19,7 +19,8 @@ pub record IsAt (p : Setup) (xs : List Place) (k : ℕ) (x : Place) : Type 0 whe
   pub known : IsKnown x.reached
   pub reached : x.reached.position ≡ last p (take (k + 1) (moves_of xs))
 
-pub at_place : (p : Setup) (xs : List Place) (k : ℕ) (d : Place) → Follows p xs → k < length xs → IsAt p xs k (get_or xs k d)
+pub at_place : (p : Setup) (xs : List Place) (k : ℕ) (d : Place) → Follows p xs → k < length xs
+    → IsAt p xs k (get_or xs k d)
 at_place p [] k d f h = absurd (omega arith)
 at_place p (y ∷ ys) zero d f h = record { known = f.1; reached = f.0.left }
 at_place p (y ∷ ys) (suc k) d f h =
@@ -27,11 +28,13 @@ at_place p (y ∷ ys) (suc k) d f h =
     let one_more : suc k + 1 ≡ suc (k + 1) = omega arith in
     record {
       known = behind.known;
-      reached = behind.reached ∙ ap (λ v. last v (take (k + 1) (moves_of ys))) f.0.left ∙ ap (λ n. last p (take n (moves_of (y ∷ ys)))) (sym one_more);
+      reached = behind.reached ∙ ap (λ v. last v (take (k + 1) (moves_of ys))) f.0.left
+          ∙ ap (λ n. last p (take n (moves_of (y ∷ ys)))) (sym one_more);
     }
 
 -- after some half-moves
-pub reached_by : (p : Setup) (xs : List Place) (ply : ℕ) (d : Place) → Follows p xs → 0 < ply → ply ≤ length (moves_of xs) → (get_or xs (ply - 1) d).reached.position ≡ last p (take ply (moves_of xs))
+pub reached_by : (p : Setup) (xs : List Place) (ply : ℕ) (d : Place) → Follows p xs → 0 < ply
+    → ply ≤ length (moves_of xs) → (get_or xs (ply - 1) d).reached.position ≡ last p (take ply (moves_of xs))
 reached_by p xs ply d f some h =
     let len = length-map xs (λ (x : Place). x.made) in
     let again : ply - 1 + 1 ≡ ply = omega arith in
@@ -42,11 +45,17 @@ pub record IsAtEnd (p : Setup) (xs : List Place) (x : Place) : Type 0 where
   pub known : IsKnown x.reached
   pub reached : x.reached.position ≡ last p (moves_of xs)
 
-pub at_end : (p : Setup) (xs : List Place) (d : Place) → Follows p xs → 0 < length xs → IsAtEnd p xs (get_or xs (length xs - 1) d)
+pub at_end : (p : Setup) (xs : List Place) (d : Place) → Follows p xs → 0 < length xs
+    → IsAtEnd p xs (get_or xs (length xs - 1) d)
 at_end p xs d f h =
     let at = at_place p xs (length xs - 1) d f (omega arith) in
-    let all : length xs - 1 + 1 ≡ length (moves_of xs) = let e = length-map xs (λ (x : Place). x.made) in omega (arith, e) in
-    record { known = at.known; reached = at.reached ∙ ap (λ n. last p (take n (moves_of xs))) all ∙ ap (last p) (take-length (moves_of xs)) }
+    let all : length xs - 1 + 1 ≡ length (moves_of xs) = let e =
+    length-map xs (λ (x : Place). x.made) in omega (arith, e) in
+    record {
+      known = at.known;
+      reached = at.reached ∙ ap (λ n. last p (take n (moves_of xs))) all
+          ∙ ap (last p) (take-length (moves_of xs));
+    }
 
 -- the moves that are kept are a line
 pub kept_line : (p : Setup) (xs : List Place) → Follows p xs → IsLine p (moves_of xs)
@@ -54,13 +63,20 @@ kept_line p [] f = tt
 kept_line p (x ∷ xs) f = (f.0.legal, subst (λ v. IsLine v (moves_of xs)) f.0.left (kept_line x.reached.position xs f.2))
 
 -- one more move
-follows_more : (p : Setup) (xs : List Place) (x : Place) → Follows p xs → WasMade (last p (moves_of xs)) x.made x.saved x.reached.position → IsKnown x.reached → Follows p (xs ++ x ∷ [])
+follows_more : (p : Setup) (xs : List Place) (x : Place) → Follows p xs
+    → WasMade (last p (moves_of xs)) x.made x.saved x.reached.position → IsKnown x.reached → Follows p (xs ++ x ∷ [])
 follows_more p [] x f made known = (made, known, tt)
 follows_more p (y ∷ ys) x f made known =
-    let at : last (after p y.made) (moves_of ys) ≡ last y.reached.position (moves_of ys) = ap (λ v. last v (moves_of ys)) (sym f.0.left) in
-    (f.0, f.1, follows_more y.reached.position ys x f.2 (subst (λ v. WasMade v x.made x.saved x.reached.position) at made) known)
+    let at : last (after p y.made) (moves_of ys) ≡ last y.reached.position (moves_of ys) =
+    ap (λ v. last v (moves_of ys)) (sym f.0.left) in (
+      f.0,
+      f.1,
+      follows_more y.reached.position ys x f.2
+          (subst (λ v. WasMade v x.made x.saved x.reached.position) at made) known,
+    )
 
-last-more : (p : Setup) (xs : List Place) (x : Place) → WasMade (last p (moves_of xs)) x.made x.saved x.reached.position → x.reached.position ≡ last p (moves_of (xs ++ x ∷ []))
+last-more : (p : Setup) (xs : List Place) (x : Place) → WasMade (last p (moves_of xs)) x.made x.saved x.reached.position
+    → x.reached.position ≡ last p (moves_of (xs ++ x ∷ []))
 last-more p [] x made = made.left
 last-more p (y ∷ ys) x made = last-more (after p y.made) ys x made
 
@@ -69,10 +85,14 @@ pub record Added (p : Setup) (xs : List Place) (x : Place) (board : Setup) : Typ
   pub follows : Follows p (xs ++ x ∷ [])
   pub at_end : board ≡ last p (moves_of (xs ++ x ∷ []))
 
-pub added : (p : Setup) (xs : List Place) (x : Place) (before after : Setup) → Follows p xs → before ≡ last p (moves_of xs) → WasMade before x.made x.saved after → x.reached.position ≡ after → IsKnown x.reached
+pub added : (p : Setup) (xs : List Place) (x : Place) (before after : Setup) → Follows p xs
+    → before ≡ last p (moves_of xs) → WasMade before x.made x.saved after → x.reached.position ≡ after
+    → IsKnown x.reached
     → Added p xs x after
 added p xs x before after f at made reached known =
-    let here : WasMade (last p (moves_of xs)) x.made x.saved x.reached.position = subst (λ v. WasMade v x.made x.saved x.reached.position) at (subst (WasMade before x.made x.saved) (sym reached) made) in
+    let here : WasMade (last p (moves_of xs)) x.made x.saved x.reached.position =
+    subst (λ v. WasMade v x.made x.saved x.reached.position) at
+    (subst (WasMade before x.made x.saved) (sym reached) made) in
     record { follows = follows_more p xs x f here known; at_end = sym reached ∙ last-more p xs x here }
 
 -- one fewer
@@ -80,14 +100,18 @@ follows_fewer : (p : Setup) (xs : List Place) (x : Place) → Follows p (xs ++ x
 follows_fewer p [] x f = tt
 follows_fewer p (y ∷ ys) x f = (f.0, f.1, follows_fewer y.reached.position ys x f.2)
 
-made-last : (p : Setup) (xs : List Place) (x : Place) → Follows p (xs ++ x ∷ []) → WasMade (last p (moves_of xs)) x.made x.saved (last p (moves_of (xs ++ x ∷ [])))
+made-last : (p : Setup) (xs : List Place) (x : Place) → Follows p (xs ++ x ∷ [])
+    → WasMade (last p (moves_of xs)) x.made x.saved (last p (moves_of (xs ++ x ∷ [])))
 made-last p [] x f = subst (WasMade p x.made x.saved) f.0.left f.0
-made-last p (y ∷ ys) x f = subst (λ v. WasMade (last v (moves_of ys)) x.made x.saved (last v (moves_of (ys ++ x ∷ [])))) f.0.left (made-last y.reached.position ys x f.2)
+made-last p (y ∷ ys) x f = subst (λ v. WasMade (last v (moves_of ys)) x.made x.saved (last v (moves_of (ys ++ x ∷ []))))
+    f.0.left (made-last y.reached.position ys x f.2)
 
 -- the last place tells the position that was left
-pub taken : (p : Setup) (xs ys : List Place) (x : Place) (q : Setup) → Follows p xs → xs ≡ ys ++ x ∷ [] → q ≡ last p (moves_of xs) → WasMade (last p (moves_of ys)) x.made x.saved q
+pub taken : (p : Setup) (xs ys : List Place) (x : Place) (q : Setup) → Follows p xs → xs ≡ ys ++ x ∷ []
+    → q ≡ last p (moves_of xs) → WasMade (last p (moves_of ys)) x.made x.saved q
 taken p xs ys x q f is at =
-    subst (WasMade (last p (moves_of ys)) x.made x.saved) (ap (λ v. last p (moves_of v)) (sym is) ∙ sym at) (made-last p ys x (subst (Follows p) is f))
+    subst (WasMade (last p (moves_of ys)) x.made x.saved) (ap (λ v. last p (moves_of v)) (sym is) ∙ sym at)
+    (made-last p ys x (subst (Follows p) is f))
 
 pub fewer : (p : Setup) (xs ys : List Place) (x : Place) → Follows p xs → xs ≡ ys ++ x ∷ [] → Follows p ys
 fewer p xs ys x f is = follows_fewer p ys x (subst (Follows p) is f)
@@ -108,7 +132,8 @@ all_more : (f : Wording) (xs : List Place) (x : Place) → AllHave f xs → HasW
 all_more f [] x all here = (here, tt)
 all_more f (y ∷ ys) x all here = (all.0, all_more f ys x all.1 here)
 
-pub words_more : (f : Wording) (start : Known) (xs : List Place) (x : Place) → HaveWords f start xs → HasWord f x.reached
+pub words_more : (f : Wording) (start : Known) (xs : List Place) (x : Place) → HaveWords f start xs
+    → HasWord f x.reached
     → HaveWords f start (xs ++ x ∷ [])
 words_more f start xs x h here = record { start = h.start; behind = all_more f xs x h.behind here }
 
@@ -116,21 +141,25 @@ all_fewer : (f : Wording) (xs : List Place) (x : Place) → AllHave f (xs ++ x �
 all_fewer f [] x all = tt
 all_fewer f (y ∷ ys) x all = (all.0, all_fewer f ys x all.1)
 
-pub words_fewer : (f : Wording) (start : Known) (xs ys : List Place) (x : Place) → HaveWords f start xs → xs ≡ ys ++ x ∷ []
+pub words_fewer : (f : Wording) (start : Known) (xs ys : List Place) (x : Place) → HaveWords f start xs
+    → xs ≡ ys ++ x ∷ []
     → HaveWords f start ys
 words_fewer f start xs ys x h is = record { start = h.start; behind = all_fewer f ys x (subst (AllHave f) is h.behind) }
 
 -- ---- room
 
 -- a push that did not fail added its place
-pub pushed : {A E : Type 0} (r : Result A E) (xs ys zs : List Place) → is_err r ≡ false → zs ≡ (if is_ok r then ys else xs) → zs ≡ ys
+pub pushed : {A E : Type 0} (r : Result A E) (xs ys zs : List Place) → is_err r ≡ false
+    → zs ≡ (if is_ok r then ys else xs) → zs ≡ ys
 pushed (Ok v) xs ys zs h e = e
 pushed (Err v) xs ys zs h e = cc
 
 -- a game that is not full has a place
-pub room : (limit : ℕ) (p : Setup) (xs : List Place) (d : Option Declared) (g : Seen) → record { limit = limit; state = record { start = p; moves = moves_of xs; declared = d } } ≡ g
+pub room : (limit : ℕ) (p : Setup) (xs : List Place) (d : Option Declared) (g : Seen)
+    → record { limit = limit; state = record { start = p; moves = moves_of xs; declared = d } } ≡ g
     → (full : Bool) → full ≡ is_full g → full ≡ false → length xs < limit
 room limit p xs d g view full is not_full =
-    let told : is_full (record { limit = limit; state = record { start = p; moves = moves_of xs; declared = d } }) ≡ false = ap is_full view ∙ sym is ∙ not_full in
+    let told : is_full (record { limit = limit; state = record { start = p; moves = moves_of xs; declared = d } })
+    ≡ false = ap is_full view ∙ sym is ∙ not_full in
     let len = length-map xs (λ (x : Place). x.made) in
     grind (arith, nat_tests, told, len)

@@ -45,14 +45,15 @@ has_bishop_on c men = some_square (λ s. same_colour c (square_colour s) && is_k
 unfoldable pub is_bare : Men → Bool
 is_bare men =
     not (list_any is_heavy men)
-    && (nat_le (count_by is_minor men) 1 || (not (list_any (is_kind Knight) men) && not (has_bishop_on White men && has_bishop_on Black men)))
+    && (nat_le (count_by is_minor men) 1 || (not (list_any (is_kind Knight) men)
+    && not (has_bishop_on White men && has_bishop_on Black men)))
 
 abbrev pub mates : Colour → Verdict
 mates White = WhiteMates
 mates Black = BlackMates
 
--- the first end that holds at the end of the line: without a legal move mate in check, else stalemate; bare material; the
--- position for the fifth time; 75 moves of each side, 150 half-moves, without a pawn move or capture
+-- the first end that holds at the end of the line: without a legal move mate in check, else stalemate; bare material;
+-- the position for the fifth time; 75 moves of each side, 150 half-moves, without a pawn move or capture
 unfoldable pub verdict : Setup → List Move → Option Verdict
 verdict start ms =
     let p = last start ms in

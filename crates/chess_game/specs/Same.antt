@@ -46,7 +46,8 @@ captures_legally p b a = is_en_passant p (triple a b None) && is_legal p (triple
 -- the same side on move, the same men on the same squares, the same rights, and the same pawn to capture en passant;
 -- clock and number make no difference
 unfoldable pub same : Setup → Setup → Bool
-same p q = same_colour p.side q.side && same_men p.men q.men && same_rights p.rights q.rights && same_square (live_target p) (live_target q)
+same p q = same_colour p.side q.side && same_men p.men q.men && same_rights p.rights q.rights
+    && same_square (live_target p) (live_target q)
 
 -- how many positions of the game, from its start to the present one, are the same as the present one
 unfoldable pub rep : Setup → List Move → ℕ

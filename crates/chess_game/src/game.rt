@@ -2,6 +2,7 @@
 
 ghost use Rattle.std.specs.Prelude.{false, ◌≡◌, ◌≤◌, ◌<◌, ◌+◌, ◌↔◌, IsTrue, IsFalse, IsNone, IsOk, IsErr, IfOk, OnOk, OnErr, Err, None, Some, [], ◌∷◌, ◌++◌, length, take, slice_get, nat_le};
 ghost use Rattle.chess_base.specs.Moves.{is_legal};
+ghost use Rattle.chess_game.specs.declared.game.TheConstants.{MOST_MOVES};
 ghost use Rattle.std.specs.Option.{option_map};
 ghost use Rattle.chess_game.specs.Line.{last};
 ghost use Rattle.chess_game.specs.Same.{rep};
@@ -16,6 +17,9 @@ use chess_base::{Move, Position, Saved, reserve_never_grows};
 use chess_moves::Board;
 use std::alloc::{AllocError, Global};
 use std::marker::Model;
+
+/// The most half-moves that a game can be opened for.
+pub const MOST_MOVES: u32 = 20_000;
 
 /// Why a move is not played.
 #[derive(Clone, Copy, Debug, PartialEq, Eq, thiserror::Error)]
@@ -168,7 +172,7 @@ impl<B: Board + Drop> Game<B> {
     /// Where there is no memory; what was taken is given back, and the board is dropped.
     pub fn open(alloc: Global, mut board: B, limit: u32) -> Result<Self, AllocError>
         requires some { 1 ≤ limit }
-        requires few { limit ≤ 20000 }
+        requires few { limit ≤ MOST_MOVES }
         ensures { IfOk result (λ g. g ≡ opened limit) }
     {
         board.set(&Position::initial());
@@ -414,7 +418,7 @@ impl<B: Board> Game<B> {
     /// Whether as many half-moves stand as can.
     pub fn is_full(&self) -> bool
         ensures value { result ≡ is_full self.now }
-        ensures few { result ≡ false → length self.now.state.moves < 20000 }
+        ensures few { result ≡ false → length self.now.state.moves < MOST_MOVES }
     {
         self.places.len() >= self.limit as usize
     }

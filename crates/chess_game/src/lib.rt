@@ -17,5 +17,5 @@ mod repetition;
 mod results;
 
 pub use ends::{Claims, Verdict};
-pub use game::{BoardSaysOtherwise, Game, NoMove, PlayRefusal};
+pub use game::{BoardSaysOtherwise, Game, MOST_MOVES, NoMove, PlayRefusal};
 pub use results::{Comment, Declared, Outcome};

@@ -12,7 +12,8 @@ pub last_nil : (xs ys : List ℕ) → xs ++ ys ≡ [] → ys ≡ []
 last_nil [] ys e = e
 last_nil (x ∷ xs) ys e = absurd cc
 
--- something is due where there are answers, of which some were written and what is left waits, or where the text isn't empty
+-- something is due where there are answers, of which some were written and what is left waits, or where the text isn't
+-- empty
 pub due_of : (answers rest : List SentLine) (out left text : List ℕ) (answered : Bool)
     → answered ≡ nat_lt 0 (length answers) → bytes_of answers ≡ out ++ left → text ≡ left ++ bytes_of rest
     → (answered ≡ false → text ≢ []) → 0 < length (answers ++ rest)

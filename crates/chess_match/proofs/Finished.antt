@@ -26,17 +26,24 @@ use Rattle.chess_match.specs.declared.run.MatchEnd.{MatchEnd}
 use Rattle.chess_match.specs.declared.state.Core.{Core}
 use Rattle.chess_match.proofs.Delivers.{both_sides}
 
-name_kept : (r : Rules) (T : List Event) (S : Colour) (name : List ℕ) → name ≡ name_by (seat (match_of r T) S).items → name ≡ name_of r T S
+name_kept : (r : Rules) (T : List Event) (S : Colour) (name : List ℕ) → name ≡ name_by (seat (match_of r T) S).items
+    → name ≡ name_of r T S
 unfolding name_by
 name_kept r T S name e = e
 
 -- a game that ended so
 abbrev ended : ℕ → Setup → List Move → Reason → game.Seen
-ended limit start moves reason = record { limit = limit; state = record { start = start; moves = moves; declared = declared_at (verdict start moves) reason } }
+ended limit start moves reason = record {
+  limit = limit;
+  state =
+      record { start = start; moves = moves; declared = declared_at (verdict start moves) reason };
+}
 
 -- the game at the end: its start and its limit, the moves of the match, and what was declared
-game_kept : (g h h' : game.Seen) (start : Setup) (level : LevelSeen) (T : List Event) (reason : Reason) → h.state.start ≡ start → h.limit ≡ g.limit → h.state.moves ≡ (match_of (rules_of start level g.limit) T).played
-    → h' ≡ game.at h (with_declared h.state (declared_at (verdict_now h.state) reason)) → h' ≡ game_after g start (rules_of start level g.limit) T reason
+game_kept : (g h h' : game.Seen) (start : Setup) (level : LevelSeen) (T : List Event) (reason : Reason)
+    → h.state.start ≡ start → h.limit ≡ g.limit → h.state.moves ≡ (match_of (rules_of start level g.limit) T).played
+    → h' ≡ game.at h (with_declared h.state (declared_at (verdict_now h.state) reason))
+    → h' ≡ game_after g start (rules_of start level g.limit) T reason
 unfolding rules_of
 game_kept g h h' start level T reason s l m e =
     e
@@ -44,12 +51,19 @@ game_kept g h h' start level T reason s l m e =
     ∙ ap (λ (a : Setup). ended g.limit a h.state.moves reason) s
     ∙ ap (λ (ms : List Move). ended g.limit start ms reason) m
 
-pub ran : (g h h' : game.Seen) (start : Setup) (level : LevelSeen) (T : List Event) (core : Core) (reason : Reason) (failed : Failed) (end : MatchEnd) (nw nb nw' nb' : InputState) (held : Colour → Held) (ow ob ow' ob' : OutputState) (coming coming' : ℕ → Option ℕ)
-    → IsUnderWay (rules_of start level g.limit) T core h.state.moves (by_side failed.white failed.black) (by_side nw nb) (by_side nw' nb') held (by_side ow ob) (by_side ow' ob') coming coming'
-    → core.phase ≡ Over reason → IsTold reason failed end → end.white_name ≡ core.white.name → end.black_name ≡ core.black.name
-    → h.state.start ≡ start → h.limit ≡ g.limit → h' ≡ game.at h (with_declared h.state (declared_at (verdict_now h.state) reason))
-    → Ran start level g h' end (record { white_reader = nw; white_writer = ow; black_reader = nb; black_writer = ob }) (record { white_reader = nw'; white_writer = ow'; black_reader = nb'; black_writer = ob' }) coming coming'
-ran g h h' start level T core reason failed end nw nb nw' nb' held ow ob ow' ob' coming coming' u over told wn bn s l e =
+pub ran : (g h h' : game.Seen) (start : Setup) (level : LevelSeen) (T : List Event) (core : Core) (reason : Reason)
+    (failed : Failed) (end : MatchEnd) (nw nb nw' nb' : InputState) (held : Colour → Held) (ow ob ow' ob' : OutputState)
+    (coming coming' : ℕ → Option ℕ)
+    → IsUnderWay (rules_of start level g.limit) T core h.state.moves (by_side failed.white failed.black) (by_side nw nb)
+    (by_side nw' nb') held (by_side ow ob) (by_side ow' ob') coming coming'
+    → core.phase ≡ Over reason → IsTold reason failed end → end.white_name ≡ core.white.name
+    → end.black_name ≡ core.black.name
+    → h.state.start ≡ start → h.limit ≡ g.limit
+    → h' ≡ game.at h (with_declared h.state (declared_at (verdict_now h.state) reason))
+    → Ran start level g h' end (record { white_reader = nw; white_writer = ow; black_reader = nb; black_writer = ob })
+    (record { white_reader = nw'; white_writer = ow'; black_reader = nb'; black_writer = ob' }) coming coming'
+ran g h h' start level T core reason failed end nw nb nw' nb' held ow ob ow' ob' coming coming' u over told wn bn s l
+    e =
     let r : Rules = rules_of start level g.limit in
     let w : Ports = record { white_reader = nw; white_writer = ow; black_reader = nb; black_writer = ob } in
     let w' : Ports = record { white_reader = nw'; white_writer = ow'; black_reader = nb'; black_writer = ob' } in (
@@ -59,8 +73,10 @@ ran g h h' start level T core reason failed end nw nb nw' nb' held ow ob ow' ob'
       record {
         fitting = u.fitting;
         ending = ap ending_in (sym u.stands.phase ∙ over);
-        heard = both_sides (λ S. (given : List ℕ) × Heard S T (reader_at w S) (reader_at w' S) given) ((u.heard White).0, (u.heard White).1) ((u.heard Black).0, (u.heard Black).1);
-        written = both_sides (λ S. Written (by_side failed.white failed.black S) (writer_at w S) (writer_at w' S) (blocks r S T)) (u.written White) (u.written Black);
+        heard = both_sides (λ S. (given : List ℕ) × Heard S T (reader_at w S) (reader_at w' S) given)
+            ((u.heard White).0, (u.heard White).1) ((u.heard Black).0, (u.heard Black).1);
+        written = both_sides (λ S. Written (by_side failed.white failed.black S) (writer_at w S) (writer_at w' S)
+            (blocks r S T)) (u.written White) (u.written Black);
         failing = u.failing;
         moments = u.moments;
       },

@@ -14,6 +14,7 @@ use Rattle.chess_match.specs.Transcript.{if_line_of, line_in, lines_of, is_end_o
 use Rattle.chess_match.specs.ties.UnderWay.{IsHearing, HeardSoFar}
 use Rattle.chess_match.proofs.Hears.{hearing_more, heard_last, heard_none, heard_fault}
 use Rattle.chess_match.proofs.Runs.{IsTail, lines_more, end_more, failure_more}
+use Rattle.chess_match.specs.declared.run.TheConstants.{ENGINE_LINE_LEN}
 
 map_both : (xs ys : List LineSeen) → map text_heard (xs ++ ys) ≡ map text_heard xs ++ map text_heard ys
 map_both [] ys = refl
@@ -24,19 +25,20 @@ not_both true e h = absurd cc
 not_both false e h = absurd cc
 
 first_lines : (r r' : InputState) (h : Held) (given : List ℕ) (texts : List (Option (List ℕ)))
-    (s : Hearing r r' h given texts) → engine_lines given ≡ texts ++ map text_heard (lines_held 8192 false h [])
+    (s : Hearing r r' h given texts) → engine_lines given ≡ texts
+    ++ map text_heard (lines_held ENGINE_LINE_LEN false h [])
 first_lines r r' h given texts s =
-    ap (λ bytes. map text_heard (lines_heard 8192 false bytes)) (sym (append-nil given))
+    ap (λ bytes. map text_heard (lines_heard ENGINE_LINE_LEN false bytes)) (sym (append-nil given))
     ∙ ap (λ ls. map text_heard ls) (s.lines.2 false [])
-    ∙ map_both s.lines.0 (lines_held 8192 false h [])
-    ∙ ap (λ ls. ls ++ map text_heard (lines_held 8192 false h [])) s.lines.1
+    ∙ map_both s.lines.0 (lines_held ENGINE_LINE_LEN false h [])
+    ∙ ap (λ ls. ls ++ map text_heard (lines_held ENGINE_LINE_LEN false h [])) s.lines.1
 
 -- while an engine is heard, its lines so far are the first of all
 pub heard_still : (S : Colour) (T : List Event) (r r' : InputState) (h : Held) (given : List ℕ)
     → IsHearing S T r r' h given → Heard S T r r' given
 heard_still S T r r' h given s = record {
   bytes = s.hearing.bytes;
-  lines = (map text_heard (lines_held 8192 false h []), first_lines r r' h given (lines_of S T) s.hearing);
+  lines = (map text_heard (lines_held ENGINE_LINE_LEN false h []), first_lines r r' h given (lines_of S T) s.hearing);
   ends = s.hearing.ends ∙ ap (λ b. risen_if b r.end_count) (sym s.unended);
   failures = s.hearing.failures ∙ ap (λ b. risen_if b r.failure_count) (sym s.unfailed);
   at_end = λ e. not_both (has_end S T) s.unended e;

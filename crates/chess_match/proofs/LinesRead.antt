@@ -25,6 +25,7 @@ use Rattle.chess_match.specs.declared.state.Core.{Core}
 use Rattle.chess_match.proofs.Runs.{nothing_due}
 use Rattle.chess_match.proofs.Sane.{sane_over, sane_line}
 use Rattle.chess_match.proofs.Outcomes.{not_other}
+use Rattle.chess_match.specs.declared.run.TheConstants.{ENGINE_LINE_LEN}
 
 -- ---- by whether byte 10 ended the line
 
@@ -76,7 +77,7 @@ hears_as S e r r' h h' more is b t =
     ((r' ≡ r) × (h' ≡ h))) (sym is) (more, b, t)
 
 pub own_hears : {E : Type 0} (S : Colour) (moment : ℕ) (r r' : InputState) (h h' : Held)
-    (result : Result (Option LineSeen) E) → NextLine 8192 r r' h h' result
+    (result : Result (Option LineSeen) E) → NextLine ENGINE_LINE_LEN r r' h h' result
     → HearsAt S (event_heard S moment result) r r' h h'
 own_hears S moment r r' h h' (Err x) (more, b, w, got) =
     hears_as S (FailsToRead S) r r' h h' more (same_colour-self S) b got
@@ -85,7 +86,7 @@ own_hears S moment r r' h h' (Ok None) (more, b, w, got) =
 own_hears S moment r r' h h' (Ok (Some line)) (more, b, w, got) = by_whether line.ended refl got
   where
     by_whether : (x : Bool) → line.ended ≡ x
-        → MatchBool x (GotLine 8192 r r' h h' more line) (GotLast 8192 r r' h h' more line)
+        → MatchBool x (GotLine ENGINE_LINE_LEN r r' h h' more line) (GotLast ENGINE_LINE_LEN r r' h h' more line)
         → HearsAt S (if line.ended then Line S (text_heard line) moment else OutputEnds S) r r' h h'
     by_whether true e g = by_ended (λ v. HearsAt S v r r' h h') S line moment true e
         (hears_as S (Line S (text_heard line) moment) r r' h h' more (same_colour-self S) b (line, g, refl))
@@ -155,7 +156,7 @@ over_after r core played m due first w w' failed o (inr (c, s)) = ap is_on s.sta
 pub heard_less : {E : Type 0} (r : Rules) (p : Phase) (core : Core) (played : List Move) (m : Match) (S : Colour)
     (moment : ℕ) (result : Result (Option LineSeen) E) (due : Colour → List SentLine) (n n' : Colour → InputState)
     (h h' : Colour → Held) (w w' : Colour → OutputState) (failed : Colour → Bool)
-    → reads p S ≡ true → NextLine 8192 (n S) (n' S) (h S) (h' S) result → n' (other S) ≡ n (other S)
+    → reads p S ≡ true → NextLine ENGINE_LINE_LEN (n S) (n' S) (h S) (h' S) result → n' (other S) ≡ n (other S)
     → h' (other S) ≡ h (other S)
     → Delivered r core played (after r m (event_heard S moment result)) due S w w' failed
     → steps_left core.phase (work (n' White) (h' White) + work (n' Black) (h' Black)) < steps_left p
@@ -167,8 +168,8 @@ heard_less r p core played m S moment (Ok None) due n n' h h' w w' failed readin
 heard_less r p core played m S moment (Ok (Some line)) due n n' h h' w w' failed reading (more, b, waits, got) same kept
     d = by_whether line.ended refl got
   where
-    by_whether : (x : Bool) → line.ended ≡ x → MatchBool x (GotLine 8192 (n S) (n' S) (h S) (h' S) more line)
-        (GotLast 8192 (n S) (n' S) (h S) (h' S) more line)
+    by_whether : (x : Bool) → line.ended ≡ x → MatchBool x (GotLine ENGINE_LINE_LEN (n S) (n' S) (h S) (h' S) more line)
+        (GotLast ENGINE_LINE_LEN (n S) (n' S) (h S) (h' S) more line)
         → steps_left core.phase (work (n' White) (h' White) + work (n' Black) (h' Black)) < steps_left p
         (work (n White) (h White) + work (n Black) (h Black))
     by_whether true e g =

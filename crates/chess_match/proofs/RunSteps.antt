@@ -27,6 +27,7 @@ use Rattle.chess_match.specs.declared.state.Core.{Core}
 use Rattle.chess_match.proofs.Going.{reads_on}
 use Rattle.chess_match.proofs.LinesRead.{heard_of, heard_of_none, heard_fits, heard_sane, own_hears, others_hear_none, opened_less}
 use Rattle.chess_match.proofs.UnderWays.{by_either, delivered_by, started, event_step}
+use Rattle.chess_match.specs.declared.run.TheConstants.{ENGINE_LINE_LEN}
 
 -- ---- the start
 
@@ -71,7 +72,7 @@ pub heard_on : {E : Type 0} (r : Rules) (T : List Event) (S : Colour) (moment : 
     (held held' : Colour → Held)
     (w w' w'' : Colour → OutputState) (coming coming' coming'' : ℕ → Option ℕ)
     → IsUnderWay r T core played failed n n' held w w' coming coming' → reads core.phase S ≡ true
-    → NextLine 8192 (n' S) (n'' S) (held S) (held' S) result → n'' (other S) ≡ n' (other S)
+    → NextLine ENGINE_LINE_LEN (n' S) (n'' S) (held S) (held' S) result → n'' (other S) ≡ n' (other S)
     → held' (other S) ≡ held (other S)
     → Asked coming' coming'' (moment_in (event_heard S moment result))
     → Delivered r core' played' (after r (match_of r T) (event_heard S moment result))

@@ -1,4 +1,5 @@
--- Worked matches over a table of moves in place of chess, computed from the definitions: each fits, ends so, and sends these lines.
+-- Worked matches over a table of moves in place of chess, computed from the definitions: each fits, ends so, and sends
+-- these lines.
 use Rattle.std.proofs.Common.{◌≡◌, ℕ, zero, suc, true, false, List, [], ◌∷◌, ◌++◌, refl}
 use Rattle.std.specs.Fmt.{digits}
 use Rattle.std.specs.Prelude.{codes, nat_le, length, if◌then◌else◌, Option, None, Some}

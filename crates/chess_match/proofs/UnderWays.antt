@@ -44,67 +44,103 @@ sound_write S (FailsToRead c) h = refl
 sound_write S (FailsToWrite c) h = absurd cc
 
 -- what was heard of S, one event more
-so_far_on : (S : Colour) (T : List Event) (e : Event) (U : List Event) (on on' : Bool) (r r' r'' : InputState) (h h' : Held) → IsTail U → on ≡ true → (is_stop e ≡ true → on' ≡ false) → HearsAt S e r' r'' h h'
+so_far_on : (S : Colour) (T : List Event) (e : Event) (U : List Event) (on on' : Bool) (r r' r'' : InputState)
+    (h h' : Held) → IsTail U → on ≡ true → (is_stop e ≡ true → on' ≡ false) → HearsAt S e r' r'' h h'
     → HeardSoFar S T on r r' h → HeardSoFar S (T ++ e ∷ U) on' r r'' h'
-so_far_on S T e U on on' r r' r'' h h' t is stop hears s = heard_more S T e U on' r r' r'' h h' s.0 t stop hears (s.2 is)
+so_far_on S T e U on on' r r' r'' h h' t is stop hears s =
+    heard_more S T e U on' r r' r'' h h' s.0 t stop hears (s.2 is)
 
 -- no write had failed
-no_failure_yet : (S : Colour) (T U : List Event) (failed failed' : Bool) → failed ≡ false → (has_write_failure S T ≡ true → failed ≡ true) → (has_write_failure S U ≡ true → failed' ≡ true) → has_write_failure S (T ++ U) ≡ true → failed' ≡ true
-no_failure_yet S T U failed failed' none old new h = by_first (has_write_failure S T) refl (sym (has_write_failure-append S T U) ∙ h)
+no_failure_yet : (S : Colour) (T U : List Event) (failed failed' : Bool) → failed ≡ false
+    → (has_write_failure S T ≡ true → failed ≡ true) → (has_write_failure S U ≡ true → failed' ≡ true)
+    → has_write_failure S (T ++ U) ≡ true → failed' ≡ true
+no_failure_yet S T U failed failed' none old new h =
+    by_first (has_write_failure S T) refl (sym (has_write_failure-append S T U) ∙ h)
   where
     by_first : (b : Bool) → has_write_failure S T ≡ b → b || has_write_failure S U ≡ true → failed' ≡ true
     by_first true e k = not_both failed none (old e)
     by_first false e k = new k
 
 -- an event at which no write fails before the end
-pub all_step : (r : Rules) (T : List Event) (e : Event) (core core' : Core) (played played' : List Move) (failed failed' : Colour → Bool) (n n' n'' : Colour → InputState) (held held' : Colour → Held)
-    (w w' w'' : Colour → OutputState) (coming coming' coming'' : ℕ → Option ℕ) → IsUnderWay r T core played failed n n' held w w' coming coming'
-    → is_on (match_of r T).phase ≡ true → is_sound e ≡ true → fits_next nothing_due (match_of r T) e ≡ true → IsSane r (after r (match_of r T) e)
+pub all_step : (r : Rules) (T : List Event) (e : Event) (core core' : Core) (played played' : List Move)
+    (failed failed' : Colour → Bool) (n n' n'' : Colour → InputState) (held held' : Colour → Held)
+    (w w' w'' : Colour → OutputState) (coming coming' coming'' : ℕ → Option ℕ)
+    → IsUnderWay r T core played failed n n' held w w' coming coming'
+    → is_on (match_of r T).phase ≡ true → is_sound e ≡ true → fits_next nothing_due (match_of r T) e ≡ true
+    → IsSane r (after r (match_of r T) e)
     → ((S : Colour) → HearsAt S e (n' S) (n'' S) (held S) (held' S)) → Asked coming' coming'' (moment_in e)
-    → AllSent r core' played' (after r (match_of r T) e) (λ S. block r (match_of r T) (after r (match_of r T) e) S) w' w'' failed'
+    → AllSent r core' played' (after r (match_of r T) e) (λ S. block r (match_of r T) (after r (match_of r T) e) S) w'
+    w'' failed'
     → IsUnderWay r (T ++ e ∷ []) core' played' failed' n n'' held' w w'' coming coming''
-all_step r T e core core' played played' failed failed' n n' n'' held held' w w' w'' coming coming' coming'' u on sound fit sane hears asked sent =
+all_step r T e core core' played played' failed failed' n n' n'' held held' w w' w'' coming coming' coming'' u on sound
+    fit sane hears asked sent =
     let now : match_of r (T ++ e ∷ []) ≡ after r (match_of r T) e = match_of-append r T (e ∷ []) in
     record {
       fitting = fits-append r T e [] sound u.fitting (ap (λ b. b && true) fit);
       stands = subst (λ (x : Match). Stands r core' played' x) (sym now) sent.stands;
       sane = subst (λ (x : Match). IsSane r x) (sym now) sane;
       heard = λ S. subst (λ (x : Match). HeardSoFar S (T ++ e ∷ []) (is_on x.phase) (n S) (n'' S) (held' S)) (sym now)
-          (so_far_on S T e [] (is_on (match_of r T).phase) (is_on (after r (match_of r T) e).phase) (n S) (n' S) (n'' S) (held S) (held' S) no_tail on (stopped r (match_of r T) e) (hears S) (u.heard S));
+          (so_far_on S T e [] (is_on (match_of r T).phase) (is_on (after r (match_of r T) e).phase) (n S) (n' S) (n'' S)
+          (held S) (held' S) no_tail on (stopped r (match_of r T) e) (hears S) (u.heard S));
       written = λ S. subst (λ (bs : List (List SentLine)). Written (failed' S) (w S) (w'' S) bs)
-          (sym (blocks-append r S T e [] sound ∙ ap (λ (bs : List (List SentLine)). blocks r S T ++ bs) (block_alone r S (match_of r T) e sound)))
-          (written_more (failed' S) (w S) (w' S) (w'' S) (blocks r S T) (block r (match_of r T) (after r (match_of r T) e) S) (all_sent (failed S) (w S) (w' S) (blocks r S T) (u.fine on S) (u.written S)) (sent.puts S));
+          (sym (blocks-append r S T e [] sound ∙ ap (λ (bs : List (List SentLine)). blocks r S T ++ bs)
+          (block_alone r S (match_of r T) e sound)))
+          (written_more (failed' S) (w S) (w' S) (w'' S) (blocks r S T)
+          (block r (match_of r T) (after r (match_of r T) e) S)
+          (all_sent (failed S) (w S) (w' S) (blocks r S T) (u.fine on S) (u.written S)) (sent.puts S));
       fine = λ h. sent.fine (subst (λ (x : Match). is_on x.phase ≡ true) now h);
-      failing = λ S. no_failure_yet S T (e ∷ []) (failed S) (failed' S) (u.fine on S) (u.failing S) (λ h. let no : fails_at e S || false ≡ false = ap (λ b. b || false) (sound_write S e sound) in not_both _ no h);
-      moments = subst (λ (ms : List ℕ). Asked coming coming'' ms) (sym (moments_more T e [] no_tail)) (asked_more coming coming' coming'' (moments_of T) (moment_in e) u.moments asked);
+      failing = λ S. no_failure_yet S T (e ∷ []) (failed S) (failed' S) (u.fine on S) (u.failing S)
+          (λ h. let no : fails_at e S || false ≡ false = ap (λ b. b || false) (sound_write S e sound) in not_both _ no
+          h);
+      moments = subst (λ (ms : List ℕ). Asked coming coming'' ms) (sym (moments_more T e [] no_tail))
+          (asked_more coming coming' coming'' (moments_of T) (moment_in e) u.moments asked);
     }
 
 -- ---- a write that fails
 
 -- nothing more was written
-flushed_both : (w w' v : OutputState) (bs : List (List SentLine)) → Flushed w w' (bytes_of (joined_blocks bs)) → Flushed w' v (bytes_of []) → Flushed w v (bytes_of (joined_blocks bs))
+flushed_both : (w w' v : OutputState) (bs : List (List SentLine)) → Flushed w w' (bytes_of (joined_blocks bs))
+    → Flushed w' v (bytes_of []) → Flushed w v (bytes_of (joined_blocks bs))
 unfolding bytes_of
-flushed_both w w' v bs t n = subst (λ (text : List ℕ). Flushed w v text) (append-nil (bytes_of (joined_blocks bs))) (flushed_more w w' v (bytes_of (joined_blocks bs)) [] t n)
+flushed_both w w' v bs t n = subst (λ (text : List ℕ). Flushed w v text) (append-nil (bytes_of (joined_blocks bs)))
+    (flushed_more w w' v (bytes_of (joined_blocks bs)) [] t n)
 
 -- the blocks of a line of d and of a failed write to c
-two_blocks : (r : Rules) (m : Match) (d c : Colour) (text : Option (List ℕ)) (k : ℕ) (first : Colour) → d ≡ first → (f : Bool) (w w' w'' : OutputState) (bs : List (List SentLine)) → Flushed w w' (bytes_of (joined_blocks bs))
-    → ((v : OutputState) × Flushed w' v (bytes_of (if same_colour c first then [] else block r m (after r m (Line d text k)) (other c))) × SendsIf f v w'' (bytes_of (block r (after r m (Line d text k)) (after r (after r m (Line d text k)) (FailsToWrite c)) (other c))))
+two_blocks : (r : Rules) (m : Match) (d c : Colour) (text : Option (List ℕ)) (k : ℕ) (first : Colour) → d ≡ first
+    → (f : Bool) (w w' w'' : OutputState) (bs : List (List SentLine)) → Flushed w w' (bytes_of (joined_blocks bs))
+    → ((v : OutputState)
+    × Flushed w' v (bytes_of (if same_colour c first then [] else block r m (after r m (Line d text k)) (other c)))
+    × SendsIf f v w''
+    (bytes_of (block r (after r m (Line d text k)) (after r (after r m (Line d text k)) (FailsToWrite c))
+    (other c))))
     → Written f w w'' (bs ++ blocks_from r (other c) m (Line d text k ∷ FailsToWrite c ∷ []))
 unfolding bytes_of
-two_blocks r m White White text k White e f w w' w'' bs t (v, took, puts) = written_more f w v w'' bs _ (flushed_both w w' v bs t took) puts
-two_blocks r m Black Black text k Black e f w w' w'' bs t (v, took, puts) = written_more f w v w'' bs _ (flushed_both w w' v bs t took) puts
+two_blocks r m White White text k White e f w w' w'' bs t (v, took, puts) =
+    written_more f w v w'' bs _ (flushed_both w w' v bs t took) puts
+two_blocks r m Black Black text k Black e f w w' w'' bs t (v, took, puts) =
+    written_more f w v w'' bs _ (flushed_both w w' v bs t took) puts
 two_blocks r m White Black text k White e f w w' w'' bs t (v, took, puts) =
-    subst (λ (all : List (List SentLine)). Written f w w'' all) (append_assoc bs (block r m (after r m (Line White text k)) White ∷ []) (block r (after r m (Line White text k)) (after r (after r m (Line White text k)) (FailsToWrite Black)) White ∷ [])) (written_more f w v w'' (bs ++ block r m (after r m (Line White text k)) White ∷ []) _ (sent_more w w' v bs _ t took) puts)
+    subst (λ (all : List (List SentLine)). Written f w w'' all)
+    (append_assoc bs (block r m (after r m (Line White text k)) White ∷ [])
+    (block r (after r m (Line White text k)) (after r (after r m (Line White text k)) (FailsToWrite Black))
+    White ∷ [])) (written_more f w v w'' (bs ++ block r m (after r m (Line White text k)) White ∷ []) _
+    (sent_more w w' v bs _ t took) puts)
 two_blocks r m Black White text k Black e f w w' w'' bs t (v, took, puts) =
-    subst (λ (all : List (List SentLine)). Written f w w'' all) (append_assoc bs (block r m (after r m (Line Black text k)) Black ∷ []) (block r (after r m (Line Black text k)) (after r (after r m (Line Black text k)) (FailsToWrite White)) Black ∷ [])) (written_more f w v w'' (bs ++ block r m (after r m (Line Black text k)) Black ∷ []) _ (sent_more w w' v bs _ t took) puts)
+    subst (λ (all : List (List SentLine)). Written f w w'' all)
+    (append_assoc bs (block r m (after r m (Line Black text k)) Black ∷ [])
+    (block r (after r m (Line Black text k)) (after r (after r m (Line Black text k)) (FailsToWrite White))
+    Black ∷ [])) (written_more f w v w'' (bs ++ block r m (after r m (Line Black text k)) Black ∷ []) _
+    (sent_more w w' v bs _ t took) puts)
 two_blocks r m White White text k Black e f w w' w'' bs t p = absurd cc
 two_blocks r m White Black text k Black e f w w' w'' bs t p = absurd cc
 two_blocks r m Black White text k White e f w w' w'' bs t p = absurd cc
 two_blocks r m Black Black text k White e f w w' w'' bs t p = absurd cc
 
 -- the block that broke off is the last
-broken_block : (r : Rules) (m : Match) (d c : Colour) (text : Option (List ℕ)) (k : ℕ) (f : Bool) (w w' w'' : OutputState) (bs : List (List SentLine)) → f ≡ true → Flushed w w' (bytes_of (joined_blocks bs))
-    → BreaksOff w' w'' (bytes_of (block r m (after r m (Line d text k)) c)) → Written f w w'' (bs ++ blocks_from r c m (Line d text k ∷ FailsToWrite c ∷ []))
+broken_block : (r : Rules) (m : Match) (d c : Colour) (text : Option (List ℕ)) (k : ℕ) (f : Bool)
+    (w w' w'' : OutputState) (bs : List (List SentLine)) → f ≡ true → Flushed w w' (bytes_of (joined_blocks bs))
+    → BreaksOff w' w'' (bytes_of (block r m (after r m (Line d text k)) c))
+    → Written f w w'' (bs ++ blocks_from r c m (Line d text k ∷ FailsToWrite c ∷ []))
 broken_block r m White White text k true w w' w'' bs e t b = written_more true w w' w'' bs _ t b
 broken_block r m White Black text k true w w' w'' bs e t b = written_more true w w' w'' bs _ t b
 broken_block r m Black White text k true w w' w'' bs e t b = written_more true w w' w'' bs _ t b
@@ -121,20 +157,27 @@ by_either P White x y Black = y
 by_either P Black x y White = y
 by_either P Black x y Black = x
 
-own_fails : (c : Colour) (failed : Colour → Bool) → failed c ≡ true → (S : Colour) → same_colour c S || false ≡ true → failed S ≡ true
+own_fails : (c : Colour) (failed : Colour → Bool) → failed c ≡ true → (S : Colour) → same_colour c S || false ≡ true
+    → failed S ≡ true
 own_fails White failed h White e = h
 own_fails Black failed h Black e = h
 own_fails White failed h Black e = absurd cc
 own_fails Black failed h White e = absurd cc
 
 -- a line of d, and then a write that fails
-pub failed_step : (r : Rules) (T : List Event) (d : Colour) (text : Option (List ℕ)) (k : ℕ) (core core' : Core) (played played' : List Move) (failed failed' : Colour → Bool) (n n' n'' : Colour → InputState) (held held' : Colour → Held)
-    (w w' w'' : Colour → OutputState) (coming coming' coming'' : ℕ → Option ℕ) (c : Colour) → IsUnderWay r T core played failed n n' held w w' coming coming'
-    → is_on (match_of r T).phase ≡ true → fits_next nothing_due (match_of r T) (Line d text k) ≡ true → IsSane r (after r (match_of r T) (Line d text k))
+pub failed_step : (r : Rules) (T : List Event) (d : Colour) (text : Option (List ℕ)) (k : ℕ) (core core' : Core)
+    (played played' : List Move) (failed failed' : Colour → Bool) (n n' n'' : Colour → InputState)
+    (held held' : Colour → Held)
+    (w w' w'' : Colour → OutputState) (coming coming' coming'' : ℕ → Option ℕ) (c : Colour)
+    → IsUnderWay r T core played failed n n' held w w' coming coming'
+    → is_on (match_of r T).phase ≡ true → fits_next nothing_due (match_of r T) (Line d text k) ≡ true
+    → IsSane r (after r (match_of r T) (Line d text k))
     → ((S : Colour) → HearsAt S (Line d text k) (n' S) (n'' S) (held S) (held' S)) → Asked coming' coming'' (k ∷ [])
-    → OneFailed r core' played' (after r (match_of r T) (Line d text k)) (λ S. block r (match_of r T) (after r (match_of r T) (Line d text k)) S) d w' w'' failed' c
+    → OneFailed r core' played' (after r (match_of r T) (Line d text k))
+    (λ S. block r (match_of r T) (after r (match_of r T) (Line d text k)) S) d w' w'' failed' c
     → IsUnderWay r (T ++ Line d text k ∷ FailsToWrite c ∷ []) core' played' failed' n n'' held' w w'' coming coming''
-failed_step r T d text k core core' played played' failed failed' n n' n'' held held' w w' w'' coming coming' coming'' c u on fit sane hears asked sent =
+failed_step r T d text k core core' played played' failed failed' n n' n'' held held' w w' w'' coming coming' coming'' c
+    u on fit sane hears asked sent =
     let e : Event = Line d text k in
     let m : Match = match_of r T in
     let U : List Event = FailsToWrite c ∷ [] in
@@ -147,20 +190,28 @@ failed_step r T d text k core core' played played' failed failed' n n' n'' held 
       stands = subst (λ (x : Match). Stands r core' played' x) (sym now) sent.stands;
       sane = subst (λ (x : Match). IsSane r x) (sym now) (sane_over r (after r m e) _ sane);
       heard = λ S. subst (λ (x : Match). HeardSoFar S (T ++ e ∷ U) (is_on x.phase) (n S) (n'' S) (held' S)) (sym now)
-          (so_far_on S T e U (is_on m.phase) false (n S) (n' S) (n'' S) (held S) (held' S) (failed_tail c) on (λ h. refl) (hears S) (u.heard S));
-      written = λ S. subst (λ (bs : List (List SentLine)). Written (failed' S) (w S) (w'' S) bs) (sym (blocks-append r S T e U refl))
+          (so_far_on S T e U (is_on m.phase) false (n S) (n' S) (n'' S) (held S) (held' S) (failed_tail c) on
+          (λ h. refl) (hears S) (u.heard S));
+      written = λ S. subst (λ (bs : List (List SentLine)). Written (failed' S) (w S) (w'' S) bs)
+          (sym (blocks-append r S T e U refl))
           (by_either (λ X. Written (failed' X) (w X) (w'' X) (blocks r X T ++ blocks_from r X m (e ∷ U))) c
-          (broken_block r m d c text k (failed' c) (w c) (w' c) (w'' c) (blocks r c T) sent.fails (all_sent (failed c) (w c) (w' c) (blocks r c T) (u.fine on c) (u.written c)) sent.broke)
-          (two_blocks r m d c text k d refl (failed' (other c)) (w (other c)) (w' (other c)) (w'' (other c)) (blocks r (other c) T) (all_sent (failed (other c)) (w (other c)) (w' (other c)) (blocks r (other c) T) (u.fine on (other c)) (u.written (other c))) sent.others)
+          (broken_block r m d c text k (failed' c) (w c) (w' c) (w'' c) (blocks r c T) sent.fails
+          (all_sent (failed c) (w c) (w' c) (blocks r c T) (u.fine on c) (u.written c)) sent.broke)
+          (two_blocks r m d c text k d refl (failed' (other c)) (w (other c)) (w' (other c)) (w'' (other c))
+          (blocks r (other c) T) (all_sent (failed (other c)) (w (other c)) (w' (other c)) (blocks r (other c) T)
+          (u.fine on (other c)) (u.written (other c))) sent.others)
           S);
       fine = λ h. let no : false ≡ true = subst (λ (x : Match). is_on x.phase ≡ true) now h in absurd cc;
-      failing = λ S. no_failure_yet S T (e ∷ U) (failed S) (failed' S) (u.fine on S) (u.failing S) (own_fails c failed' sent.fails S);
-      moments = subst (λ (ms : List ℕ). Asked coming coming'' ms) (sym (moments_more T e U (failed_tail c))) (asked_more coming coming' coming'' (moments_of T) (k ∷ []) u.moments asked);
+      failing = λ S. no_failure_yet S T (e ∷ U) (failed S) (failed' S) (u.fine on S) (u.failing S)
+          (own_fails c failed' sent.fails S);
+      moments = subst (λ (ms : List ℕ). Asked coming coming'' ms) (sym (moments_more T e U (failed_tail c)))
+          (asked_more coming coming' coming'' (moments_of T) (k ∷ []) u.moments asked);
     }
 
 -- ---- the blocks that are due
 
-all_by : (r : Rules) (core : Core) (played : List Move) (m : Match) (due due' : Colour → List SentLine) (w w' : Colour → OutputState) (failed : Colour → Bool) → ((S : Colour) → due S ≡ due' S)
+all_by : (r : Rules) (core : Core) (played : List Move) (m : Match) (due due' : Colour → List SentLine)
+    (w w' : Colour → OutputState) (failed : Colour → Bool) → ((S : Colour) → due S ≡ due' S)
     → AllSent r core played m due w w' failed → AllSent r core played m due' w w' failed
 all_by r core played m due due' w w' failed e s = record {
   stands = s.stands;
@@ -168,7 +219,8 @@ all_by r core played m due due' w w' failed e s = record {
   fine = s.fine;
 }
 
-one_by : (r : Rules) (core : Core) (played : List Move) (m : Match) (due due' : Colour → List SentLine) (first : Colour) (w w' : Colour → OutputState) (failed : Colour → Bool) (c : Colour) → ((S : Colour) → due S ≡ due' S)
+one_by : (r : Rules) (core : Core) (played : List Move) (m : Match) (due due' : Colour → List SentLine) (first : Colour)
+    (w w' : Colour → OutputState) (failed : Colour → Bool) (c : Colour) → ((S : Colour) → due S ≡ due' S)
     → OneFailed r core played m due first w w' failed c → OneFailed r core played m due' first w w' failed c
 one_by r core played m due due' first w w' failed c e s = record {
   on = s.on;
@@ -176,27 +228,46 @@ one_by r core played m due due' first w w' failed c e s = record {
   stands = s.stands;
   fails = s.fails;
   broke = subst (λ (b : List SentLine). BreaksOff (w c) (w' c) (bytes_of b)) (e c) s.broke;
-  others = (s.others.0, subst (λ (b : List SentLine). Flushed (w (other c)) s.others.0 (bytes_of (if same_colour c first then [] else b))) (e (other c)) s.others.1, s.others.2);
+  others = (
+    s.others.0,
+    subst (λ (b : List SentLine). Flushed (w (other c)) s.others.0
+        (bytes_of (if same_colour c first then [] else b))) (e (other c)) s.others.1,
+    s.others.2,
+  );
 }
 
-pub delivered_by : (r : Rules) (core : Core) (played : List Move) (m : Match) (due due' : Colour → List SentLine) (first : Colour) (w w' : Colour → OutputState) (failed : Colour → Bool) → ((S : Colour) → due S ≡ due' S)
+pub delivered_by : (r : Rules) (core : Core) (played : List Move) (m : Match) (due due' : Colour → List SentLine)
+    (first : Colour) (w w' : Colour → OutputState) (failed : Colour → Bool) → ((S : Colour) → due S ≡ due' S)
     → Delivered r core played m due first w w' failed → Delivered r core played m due' first w w' failed
-delivered_by r core played m due due' first w w' failed e (inl s) = inl (all_by r core played m due due' w w' failed e s)
-delivered_by r core played m due due' first w w' failed e (inr (c, s)) = inr (c, one_by r core played m due due' first w w' failed c e s)
+delivered_by r core played m due due' first w w' failed e (inl s) =
+    inl (all_by r core played m due due' w w' failed e s)
+delivered_by r core played m due due' first w w' failed e (inr (c, s)) =
+    inr (c, one_by r core played m due due' first w w' failed c e s)
 
 -- ---- the start
 
-just_heard : (S : Colour) (T : List Event) (on : Bool) (r : InputState) (h : Held) → h ≡ nothing_held → lines_of S T ≡ [] → has_end S T ≡ false → has_read_failure S T ≡ false → HeardSoFar S T on r r h
+just_heard : (S : Colour) (T : List Event) (on : Bool) (r : InputState) (h : Held) → h ≡ nothing_held
+    → lines_of S T ≡ [] → has_end S T ≡ false → has_read_failure S T ≡ false → HeardSoFar S T on r r h
 just_heard S T on r h none l e f =
-    let s : IsHearing S T r r nothing_held [] = record { hearing = subst (λ (ts : List (Option (List ℕ))). Hearing r r nothing_held [] ts) (sym l) (hearing_start r); unended = e; unfailed = f } in
+    let s : IsHearing S T r r nothing_held [] =
+    record {
+      hearing = subst (λ (ts : List (Option (List ℕ))). Hearing r r nothing_held [] ts) (sym l)
+          (hearing_start r);
+      unended = e;
+      unfailed = f;
+    } in
     subst (λ (x : Held). HeardSoFar S T on r r x) (sym none) ([], heard_still S T r r nothing_held [] s, λ o. s)
 
-first_block : (f : Bool) (w w' : OutputState) (b : List SentLine) → SendsIf f w w' (bytes_of b) → Written f w w' (b ∷ [])
+first_block : (f : Bool) (w w' : OutputState) (b : List SentLine) → SendsIf f w w' (bytes_of b)
+    → Written f w w' (b ∷ [])
 unfolding bytes_of
 first_block f w w' b p = written_more f w w w' [] b (flushed_none w) p
 
-all_started : (r : Rules) (core : Core) (played : List Move) (failed : Colour → Bool) (n : Colour → InputState) (held : Colour → Held) (w w' : Colour → OutputState) (coming : ℕ → Option ℕ) → ((S : Colour) → held S ≡ nothing_held)
-    → AllSent r core played start (λ S. entry r start S) w w' failed → IsUnderWay r [] core played failed n n held w w' coming coming
+all_started : (r : Rules) (core : Core) (played : List Move) (failed : Colour → Bool) (n : Colour → InputState)
+    (held : Colour → Held) (w w' : Colour → OutputState) (coming : ℕ → Option ℕ)
+    → ((S : Colour) → held S ≡ nothing_held)
+    → AllSent r core played start (λ S. entry r start S) w w' failed
+    → IsUnderWay r [] core played failed n n held w w' coming coming
 all_started r core played failed n held w w' coming none s = record {
   fitting = refl;
   stands = s.stands;
@@ -208,15 +279,20 @@ all_started r core played failed n held w w' coming none s = record {
   moments = asked_none coming;
 }
 
-broken_start : (f : Bool) (w w' : OutputState) (b : List SentLine) → f ≡ true → BreaksOff w w' (bytes_of b) → Written f w w' (b ∷ [])
+broken_start : (f : Bool) (w w' : OutputState) (b : List SentLine) → f ≡ true → BreaksOff w w' (bytes_of b)
+    → Written f w w' (b ∷ [])
 broken_start true w w' b e p = first_block true w w' b p
 broken_start false w w' b e p = absurd cc
 
-other_start : (r : Rules) (f : Bool) (w w' : OutputState) (b : List SentLine) → ((v : OutputState) × Flushed w v (bytes_of []) × SendsIf f v w' (bytes_of b)) → Written f w w' ([] ∷ b ∷ [])
+other_start : (r : Rules) (f : Bool) (w w' : OutputState) (b : List SentLine)
+    → ((v : OutputState) × Flushed w v (bytes_of []) × SendsIf f v w' (bytes_of b)) → Written f w w' ([] ∷ b ∷ [])
 other_start r f w w' b (v, t, p) = written_more f w v w' ([] ∷ []) b t p
 
-one_started : (r : Rules) (core : Core) (played : List Move) (failed : Colour → Bool) (n : Colour → InputState) (held : Colour → Held) (w w' : Colour → OutputState) (coming : ℕ → Option ℕ) (c : Colour) → ((S : Colour) → held S ≡ nothing_held)
-    → OneFailed r core played start (λ S. entry r start S) White w w' failed c → IsUnderWay r (FailsToWrite c ∷ []) core played failed n n held w w' coming coming
+one_started : (r : Rules) (core : Core) (played : List Move) (failed : Colour → Bool) (n : Colour → InputState)
+    (held : Colour → Held) (w w' : Colour → OutputState) (coming : ℕ → Option ℕ) (c : Colour)
+    → ((S : Colour) → held S ≡ nothing_held)
+    → OneFailed r core played start (λ S. entry r start S) White w w' failed c
+    → IsUnderWay r (FailsToWrite c ∷ []) core played failed n n held w w' coming coming
 one_started r core played failed n held w w' coming Black none s = let no : 0 < 0 = s.some in absurd (omega (arith, no))
 one_started r core played failed n held w w' coming White none s = record {
   fitting = ap (λ b. b && true) (lt-ltb 0 (length (entry r start White)) s.some);
@@ -232,34 +308,63 @@ one_started r core played failed n held w w' coming White none s = record {
 }
 
 -- the first lines of White's hello were sent
-pub started : (r : Rules) (core : Core) (played : List Move) (failed : Colour → Bool) (n : Colour → InputState) (held : Colour → Held) (w w' : Colour → OutputState) (coming : ℕ → Option ℕ) → ((S : Colour) → held S ≡ nothing_held)
-    → Delivered r core played start (λ S. entry r start S) White w w' failed → (T : List Event) × IsUnderWay r T core played failed n n held w w' coming coming
-started r core played failed n held w w' coming none (inl s) = ([], all_started r core played failed n held w w' coming none s)
-started r core played failed n held w w' coming none (inr (c, s)) = (FailsToWrite c ∷ [], one_started r core played failed n held w w' coming c none s)
+pub started : (r : Rules) (core : Core) (played : List Move) (failed : Colour → Bool) (n : Colour → InputState)
+    (held : Colour → Held) (w w' : Colour → OutputState) (coming : ℕ → Option ℕ)
+    → ((S : Colour) → held S ≡ nothing_held)
+    → Delivered r core played start (λ S. entry r start S) White w w' failed
+    → (T : List Event) × IsUnderWay r T core played failed n n held w w' coming coming
+started r core played failed n held w w' coming none (inl s) =
+    ([], all_started r core played failed n held w w' coming none s)
+started r core played failed n held w w' coming none (inr (c, s)) =
+    (FailsToWrite c ∷ [], one_started r core played failed n held w w' coming c none s)
 
 -- ---- one event of d's output
 
-pub event_step : (r : Rules) (T : List Event) (e : Event) (d : Colour) (core core' : Core) (played played' : List Move) (failed failed' : Colour → Bool) (n n' n'' : Colour → InputState) (held held' : Colour → Held)
-    (w w' w'' : Colour → OutputState) (coming coming' coming'' : ℕ → Option ℕ) → IsUnderWay r T core played failed n n' held w w' coming coming'
-    → is_heard_of d e ≡ true → is_on (match_of r T).phase ≡ true → fits_next nothing_due (match_of r T) e ≡ true → IsSane r (after r (match_of r T) e)
+pub event_step : (r : Rules) (T : List Event) (e : Event) (d : Colour) (core core' : Core) (played played' : List Move)
+    (failed failed' : Colour → Bool) (n n' n'' : Colour → InputState) (held held' : Colour → Held)
+    (w w' w'' : Colour → OutputState) (coming coming' coming'' : ℕ → Option ℕ)
+    → IsUnderWay r T core played failed n n' held w w' coming coming'
+    → is_heard_of d e ≡ true → is_on (match_of r T).phase ≡ true → fits_next nothing_due (match_of r T) e ≡ true
+    → IsSane r (after r (match_of r T) e)
     → ((S : Colour) → HearsAt S e (n' S) (n'' S) (held S) (held' S)) → Asked coming' coming'' (moment_in e)
-    → Delivered r core' played' (after r (match_of r T) e) (λ S. block r (match_of r T) (after r (match_of r T) e) S) d w' w'' failed'
+    → Delivered r core' played' (after r (match_of r T) e) (λ S. block r (match_of r T) (after r (match_of r T) e) S) d
+    w' w'' failed'
     → (T' : List Event) × IsUnderWay r T' core' played' failed' n n'' held' w w'' coming coming''
-event_step r T (Line c text k) d core core' played played' failed failed' n n' n'' held held' w w' w'' coming coming' coming'' u is on fit sane hears asked (inl s) =
-    (T ++ Line c text k ∷ [], all_step r T (Line c text k) core core' played played' failed failed' n n' n'' held held' w w' w'' coming coming' coming'' u on refl fit sane hears asked s)
-event_step r T (OutputEnds c) d core core' played played' failed failed' n n' n'' held held' w w' w'' coming coming' coming'' u is on fit sane hears asked (inl s) =
-    (T ++ OutputEnds c ∷ [], all_step r T (OutputEnds c) core core' played played' failed failed' n n' n'' held held' w w' w'' coming coming' coming'' u on refl fit sane hears asked s)
-event_step r T (FailsToRead c) d core core' played played' failed failed' n n' n'' held held' w w' w'' coming coming' coming'' u is on fit sane hears asked (inl s) =
-    (T ++ FailsToRead c ∷ [], all_step r T (FailsToRead c) core core' played played' failed failed' n n' n'' held held' w w' w'' coming coming' coming'' u on refl fit sane hears asked s)
-event_step r T (Line c text k) d core core' played played' failed failed' n n' n'' held held' w w' w'' coming coming' coming'' u is on fit sane hears asked (inr (x, s)) = (
-  T ++ Line c text k ∷ FailsToWrite x ∷ [],
-  failed_step r T c text k core core' played played' failed failed' n n' n'' held held' w w' w'' coming coming' coming'' x u on fit sane hears asked
-      (subst (λ (y : Colour). OneFailed r core' played' (after r (match_of r T) (Line c text k)) (λ S. block r (match_of r T) (after r (match_of r T) (Line c text k)) S) y w' w'' failed' x) (sym (same_colour-true c d is)) s),
-)
-event_step r T (OutputEnds c) d core core' played played' failed failed' n n' n'' held held' w w' w'' coming coming' coming'' u is on fit sane hears asked (inr (x, s)) = let no : false ≡ true = s.on in absurd cc
-event_step r T (FailsToRead c) d core core' played played' failed failed' n n' n'' held held' w w' w'' coming coming' coming'' u is on fit sane hears asked (inr (x, s)) = let no : false ≡ true = s.on in absurd cc
-event_step r T (Opened c k) d core core' played played' failed failed' n n' n'' held held' w w' w'' coming coming' coming'' u is on fit sane hears asked s = absurd cc
-event_step r T (FailsToWrite c) d core core' played played' failed failed' n n' n'' held held' w w' w'' coming coming' coming'' u is on fit sane hears asked s = absurd cc
+event_step r T (Line c text k) d core core' played played' failed failed' n n' n'' held held' w w' w'' coming coming'
+    coming'' u is on fit sane hears asked (inl s) = (
+      T ++ Line c text k ∷ [],
+      all_step r T (Line c text k) core core' played played' failed failed' n n' n'' held held'
+          w w' w'' coming coming' coming'' u on refl fit sane hears asked s,
+    )
+event_step r T (OutputEnds c) d core core' played played' failed failed' n n' n'' held held' w w' w'' coming coming'
+    coming'' u is on fit sane hears asked (inl s) = (
+      T ++ OutputEnds c ∷ [],
+      all_step r T (OutputEnds c) core core' played played' failed failed' n n' n'' held held' w
+          w' w'' coming coming' coming'' u on refl fit sane hears asked s,
+    )
+event_step r T (FailsToRead c) d core core' played played' failed failed' n n' n'' held held' w w' w'' coming coming'
+    coming'' u is on fit sane hears asked (inl s) = (
+      T ++ FailsToRead c ∷ [],
+      all_step r T (FailsToRead c) core core' played played' failed failed' n n' n'' held held'
+          w w' w'' coming coming' coming'' u on refl fit sane hears asked s,
+    )
+event_step r T (Line c text k) d core core' played played' failed failed' n n' n'' held held' w w' w'' coming coming'
+    coming'' u is on fit sane hears asked (inr (x, s)) = (
+      T ++ Line c text k ∷ FailsToWrite x ∷ [],
+      failed_step r T c text k core core' played played' failed failed' n n' n'' held held' w w' w'' coming coming' coming''
+          x u on fit sane hears asked
+          (subst (λ (y : Colour). OneFailed r core' played' (after r (match_of r T) (Line c text k))
+          (λ S. block r (match_of r T) (after r (match_of r T) (Line c text k)) S) y w' w'' failed' x)
+          (sym (same_colour-true c d is)) s),
+    )
+event_step r T (OutputEnds c) d core core' played played' failed failed' n n' n'' held held' w w' w'' coming coming'
+    coming'' u is on fit sane hears asked (inr (x, s)) = let no : false ≡ true = s.on in absurd cc
+event_step r T (FailsToRead c) d core core' played played' failed failed' n n' n'' held held' w w' w'' coming coming'
+    coming'' u is on fit sane hears asked (inr (x, s)) = let no : false ≡ true = s.on in absurd cc
+event_step r T (Opened c k) d core core' played played' failed failed' n n' n'' held held' w w' w'' coming coming'
+    coming'' u is on fit sane hears asked s = absurd cc
+event_step r T (FailsToWrite c) d core core' played played' failed failed' n n' n'' held held' w w' w'' coming coming'
+    coming'' u is on fit sane hears asked s = absurd cc
 
 -- ---- the moment at the end of an opening
 
@@ -276,19 +381,26 @@ opens_on (Before c) S h = refl
 opens_on (After c) S h = refl
 opens_on (Over x) S h = absurd cc
 
-none_given : (r : Rules) (m : Match) (S : Colour) → [] ≡ given_block r (record { answers = None; draw = None; entered = false }) [] m S
+none_given : (r : Rules) (m : Match) (S : Colour)
+    → [] ≡ given_block r (record { answers = None; draw = None; entered = false }) [] m S
 unfolding given_block
 none_given r m S = refl
 
-pub opened_step : (r : Rules) (T : List Event) (d : Colour) (k : ℕ) (core core' : Core) (played : List Move) (failed : Colour → Bool) (n n' : Colour → InputState) (held : Colour → Held) (w w' : Colour → OutputState) (coming coming' coming'' : ℕ → Option ℕ)
-    → IsUnderWay r T core played failed n n' held w w' coming coming' → opens (match_of r T).phase d ≡ true → Asked coming' coming'' (k ∷ [])
-    → Goes r core' played (record { answers = None; draw = None; entered = false }) [] (match_of r T) (after r (match_of r T) (Opened d k))
+pub opened_step : (r : Rules) (T : List Event) (d : Colour) (k : ℕ) (core core' : Core) (played : List Move)
+    (failed : Colour → Bool) (n n' : Colour → InputState) (held : Colour → Held) (w w' : Colour → OutputState)
+    (coming coming' coming'' : ℕ → Option ℕ)
+    → IsUnderWay r T core played failed n n' held w w' coming coming' → opens (match_of r T).phase d ≡ true
+    → Asked coming' coming'' (k ∷ [])
+    → Goes r core' played (record { answers = None; draw = None; entered = false }) [] (match_of r T)
+    (after r (match_of r T) (Opened d k))
     → IsUnderWay r (T ++ Opened d k ∷ []) core' played failed n n' held w w' coming coming''
 opened_step r T d k core core' played failed n n' held w w' coming coming' coming'' u opening asked goes =
     let on : is_on (match_of r T).phase ≡ true = opens_on (match_of r T).phase d opening in
-    all_step r T (Opened d k) core core' played played failed failed n n' n' held held w w' w' coming coming' coming'' u on refl opening (sane_opened r (match_of r T) d k opening u.sane) (λ S. (refl, refl)) asked
+    all_step r T (Opened d k) core core' played played failed failed n n' n' held held w w' w' coming coming' coming'' u
+    on refl opening (sane_opened r (match_of r T) d k opening u.sane) (λ S. (refl, refl)) asked
     (record {
       stands = goes.stands;
-      puts = λ S. nothing_put (failed S) (w' S) _ (u.fine on S) (none_given r (after r (match_of r T) (Opened d k)) S ∙ goes.gives S);
+      puts = λ S. nothing_put (failed S) (w' S) _ (u.fine on S)
+          (none_given r (after r (match_of r T) (Opened d k)) S ∙ goes.gives S);
       fine = λ h S. u.fine on S;
     })

@@ -66,7 +66,15 @@ new_seat = record { items = []; used = []; offers = false }
 
 -- before any line: White's hello
 abbrev pub start : Match
-start = record { phase = Hello White; white = new_seat; black = new_seat; played = []; untold = None; count = 0; opened = 0 }
+start = record {
+  phase = Hello White;
+  white = new_seat;
+  black = new_seat;
+  played = [];
+  untold = None;
+  count = 0;
+  opened = 0;
+}
 
 -- ---- ways to go on
 
@@ -92,7 +100,8 @@ items_heard (Features text) = items_of text
 items_heard _ = []
 
 abbrev pub hear : Colour → List Item → Match → Match
-hear S items m = with_seat m S (record { items = (seat m S).items ++ items; used = (seat m S).used; offers = (seat m S).offers })
+hear S items m =
+    with_seat m S (record { items = (seat m S).items ++ items; used = (seat m S).used; offers = (seat m S).offers })
 
 -- what an engine lacks: ping; setboard, where a start is told; the variant
 abbrev pub lacking : Bool → Variant → Bool → Bool → Bool → Option MatchFault
@@ -107,7 +116,8 @@ lacking has_start v ping setboard fischerandom =
     lacking_variant Fischerandom false = Some NoVariant
 
 abbrev pub lack : Rules → List Item → Option MatchFault
-lack r items = lacking (is_some r.start_fen) r.variant (takes (codes "ping") items) (takes (codes "setboard") items) (plays_fischerandom items)
+lack r items = lacking (is_some r.start_fen) r.variant (takes (codes "ping") items) (takes (codes "setboard") items)
+    (plays_fischerandom items)
 
 -- after both hellos White is judged, then Black
 abbrev pub judged : Option MatchFault → Option MatchFault → Match → Match
@@ -198,13 +208,15 @@ abbrev pub either_way : Rules → Colour → LineKind → Match → Match
 either_way r S Resigns m = over (over_by.Resigns S) m
 either_way r S OffersDraw m = offer_row S m
 either_way r S ClaimsDraw m = draw_row (r.claim m.played) S m
-either_way r S (ClaimsWin c) m = if same_colour c S then over (over_by.ClaimsFalsely S) m else over (over_by.Resigns S) m
+either_way r S (ClaimsWin c) m = if same_colour c S then over (over_by.ClaimsFalsely S) m else over (over_by.Resigns S)
+    m
 either_way r S Rejects m = if was_told m S then over (over_by.RejectsLegalMove S) m else ignore S m
 either_way r S _ m = ignore S m
 
 abbrev pub before_row : Rules → Colour → LineKind → ℕ → Match → Match
 before_row r S (Moves text) moment m =
-    if nat_le r.limit (length m.played) then over over_by.GameTooLong m else move_row r S (r.reading m.played text) moment m
+    if nat_le r.limit (length m.played) then over over_by.GameTooLong m else move_row r S (r.reading m.played text)
+    moment m
 before_row r S kind moment m = either_way r S kind m
 
 -- the flag is judged first

@@ -89,11 +89,13 @@ variant_lines Fischerandom = VariantSet ∷ []
 
 unfoldable pub setup_lines : Rules → List SentLine
 setup_lines r =
-    New ∷ (variant_lines r.variant ++ (LevelSet r.level ∷ Nopost ∷ Easy ∷ Force ∷ (start_lines r.start_fen ++ Ping 1 ∷ [])))
+    New ∷ (variant_lines r.variant ++ (LevelSet r.level ∷ Nopost ∷ Easy ∷ Force ∷
+    (start_lines r.start_fen ++ Ping 1 ∷ [])))
 
 -- the last move, as S takes it
 unfoldable pub last_move : Rules → Match → Colour → SentLine
-last_move r m S = MoveTold (takes (codes "usermove") (seat m S).items) (r.move_text (takes (codes "san") (seat m S).items) m.played)
+last_move r m S = MoveTold (takes (codes "usermove") (seat m S).items)
+    (r.move_text (takes (codes "san") (seat m S).items) m.played)
 
 abbrev pub last_move_lines : Rules → Match → Colour → List SentLine
 last_move_lines r m S = if nat_lt 0 (length m.played) then last_move r m S ∷ [] else []
@@ -159,7 +161,8 @@ new_items old new = drop (length old.items) new.items
 
 -- an offer that came to stand between, for an engine that takes draws
 abbrev pub draw_line : Seat → Seat → Seat → List SentLine
-draw_line told old new = if not old.offers && new.offers && takes (codes "draw") told.items then DrawOffered ∷ [] else []
+draw_line told old new = if not old.offers && new.offers
+    && takes (codes "draw") told.items then DrawOffered ∷ [] else []
 
 -- what S is sent where a match goes from m to m': answers to its items, the other's offer, and what the phase gives
 unfoldable pub block : Rules → Match → Match → Colour → List SentLine

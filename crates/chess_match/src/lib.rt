@@ -36,4 +36,4 @@ pub use laws::{
 pub use moments::Moments;
 pub use phase::Phase;
 pub use reason::{DrawClaim, MatchFault, Reason};
-pub use run::{Ends, MatchEnd, Setup, run_match};
+pub use run::{ENGINE_LINE_LEN, Ends, MatchEnd, Setup, run_match};

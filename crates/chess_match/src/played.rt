@@ -5,6 +5,7 @@ ghost use Rattle.std.specs.Prelude.{◌≡◌, ◌<◌, ◌≤◌, ◌+◌, ◌=
 ghost use Rattle.arrayvec.specs.ArrayVec.{array_vec_len};
 ghost use Rattle.chess_match.specs.Rules.{Rules};
 ghost use Rattle.chess_match.specs.Sent.{bytes_of, start_lines, MoveTold};
+ghost use Rattle.chess_game.specs.declared.game.TheConstants.{MOST_MOVES};
 
 use crate::block::Block;
 use crate::reason::DrawClaim;
@@ -42,7 +43,7 @@ pub(crate) trait Played {
     /// Whether as many moves stand as can.
     fn is_full(&self) -> bool
         ensures value { (r : Rules) → plays self.now r → result ≡ nat_le r.limit (length (played self.now)) }
-        ensures few { result ≡ false → length (played self.now) < 20000 };
+        ensures few { result ≡ false → length (played self.now) < MOST_MOVES };
 
     /// The one legal move that a text spells.
     fn reading(&self, text: &[u8]) -> Option<Move>

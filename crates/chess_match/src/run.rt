@@ -19,6 +19,7 @@ ghost use Rattle.chess_match.specs.ties.Stands.{Stands, Goes, given_block, items
 ghost use Rattle.chess_match.specs.ties.Steps.{IsSane};
 ghost use Rattle.chess_match.specs.ties.Told.{SendsIf, IsTold};
 ghost use Rattle.chess_match.specs.Transcript.{is_on, reads, moment_in};
+ghost use Rattle.chess_match.specs.declared.run.TheConstants.{ENGINE_LINE_LEN};
 
 use crate::moments::Moments;
 use crate::phase::Phase;
@@ -33,6 +34,9 @@ use chess_game::{Comment, Game, Outcome};
 use chess_moves::Board;
 use chess_pgn::{HowEnded, TagText};
 use engine_lines::{EngineLine, Level, read_engine_line};
+
+/// The most bytes of an engine's line that are read; a longer one is no move.
+pub const ENGINE_LINE_LEN: usize = 8192;
 
 /// The two ends of an engine: what reads its output, and what writes its input.
 #[derive(Drop)]
@@ -94,8 +98,8 @@ pub fn run_match<R: Input, W: Output, M: Moments, B: Board>(
 {
     game.restart(&setup.start);
     let mut core = Core::new(setup.level);
-    let mut white_lines: Lines<8192> = Lines::new();
-    let mut black_lines: Lines<8192> = Lines::new();
+    let mut white_lines: Lines<ENGINE_LINE_LEN> = Lines::new();
+    let mut black_lines: Lines<ENGINE_LINE_LEN> = Lines::new();
     let mut failed = deliver(
         &mut white.writer,
         &mut black.writer,
@@ -164,11 +168,11 @@ fn awaited_in(phase: Phase) -> Awaited
 fn next_line<R: Input>(
     white: &mut R,
     black: &mut R,
-    white_lines: &mut Lines<8192>,
-    black_lines: &mut Lines<8192>,
+    white_lines: &mut Lines<ENGINE_LINE_LEN>,
+    black_lines: &mut Lines<ENGINE_LINE_LEN>,
     side: Colour,
-) -> Result<Option<Line<8192>>, ReadFault>
-    ensures next { NextLine 8192 (by_side (R.seen white.old) (R.seen black.old) side) (by_side (R.seen white.new) (R.seen black.new) side) (by_side white_lines.old black_lines.old side) (by_side white_lines.new black_lines.new side) result }
+) -> Result<Option<Line<ENGINE_LINE_LEN>>, ReadFault>
+    ensures next { NextLine ENGINE_LINE_LEN (by_side (R.seen white.old) (R.seen black.old) side) (by_side (R.seen white.new) (R.seen black.new) side) (by_side white_lines.old black_lines.old side) (by_side white_lines.new black_lines.new side) result }
     ensures others { by_side (R.seen white.new) (R.seen black.new) (other side) ≡ by_side (R.seen white.old) (R.seen black.old) (other side) }
     ensures held { by_side white_lines.new black_lines.new (other side) ≡ by_side white_lines.old black_lines.old (other side) }
 {
@@ -320,7 +324,7 @@ fn items_text(phase: Phase, said: EngineLine<'_>) -> &[u8]
 }
 
 // What a line says; of one that is too long nothing.
-fn said(line: &Line<8192>) -> EngineLine<'_>
+fn said(line: &Line<ENGINE_LINE_LEN>) -> EngineLine<'_>
     ensures { seen result ≡ kind_heard (text_heard line.now) }
 {
     if line.is_too_long() {
@@ -336,7 +340,7 @@ fn hear_line<'a, M: Moments, G: Played>(
     core: &mut Core,
     moments: &mut M,
     game: &mut G,
-    line: &'a Line<8192>,
+    line: &'a Line<ENGINE_LINE_LEN>,
     side: Colour,
 ) -> (Given, &'a [u8])
     requires { (r : Rules) × (m : Match) × (G.plays game.old r) × Stands r core.old (G.played game.old) m × IsSane r m × (reads m.phase side ≡ true) }
@@ -359,7 +363,7 @@ fn note<'a, M: Moments, G: Played>(
     core: &mut Core,
     moments: &mut M,
     game: &mut G,
-    heard: &'a Result<Option<Line<8192>>, ReadFault>,
+    heard: &'a Result<Option<Line<ENGINE_LINE_LEN>>, ReadFault>,
     side: Colour,
 ) -> (Given, &'a [u8])
     requires { (r : Rules) × (m : Match) × (G.plays game.old r) × Stands r core.old (G.played game.old) m × IsSane r m × (reads m.phase side ≡ true) }
@@ -390,7 +394,7 @@ fn hear<W: Output, M: Moments, G: Played, S: Board>(
     core: &mut Core,
     game: &mut G,
     scratch: &mut S,
-    heard: &Result<Option<Line<8192>>, ReadFault>,
+    heard: &Result<Option<Line<ENGINE_LINE_LEN>>, ReadFault>,
     side: Colour,
 ) -> Failed
     requires { (r : Rules) × (m : Match) × (G.plays game.old r) × Stands r core.old (G.played game.old) m × IsSane r m × (reads m.phase side ≡ true) }

@@ -18,7 +18,8 @@ use Rattle.chess_moves.proofs.Members.{by_range}
 
 xor_from : (a : ℕ) (ns : List ℕ) → fold bit_xor a ns ≡ bit_xor a (xor_of ns)
 xor_from a [] = sym (xor_zero_r a)
-xor_from a (n ∷ ns) = xor_from (bit_xor a n) ns ∙ xor_assoc a n (xor_of ns) ∙ ap (λ x. bit_xor a x) (sym (xor_from n ns))
+xor_from a (n ∷ ns) = xor_from (bit_xor a n) ns ∙ xor_assoc a n (xor_of ns)
+    ∙ ap (λ x. bit_xor a x) (sym (xor_from n ns))
 
 pub xor_append : (ms ns : List ℕ) → xor_of (ms ++ ns) ≡ bit_xor (xor_of ms) (xor_of ns)
 xor_append ms ns = fold-append bit_xor 0 ms ns ∙ xor_from (xor_of ms) ns
@@ -27,7 +28,8 @@ xor_append ms ns = fold-append bit_xor 0 ms ns ∙ xor_from (xor_of ms) ns
 
 pub rights_apart : (r : Rights)
     → xor_of (rights_keys r)
-    ≡ bit_xor (bit_xor (bit_xor (xor_of (right_keys White r.white.king_side)) (xor_of (right_keys White r.white.queen_side)))
+    ≡ bit_xor
+    (bit_xor (bit_xor (xor_of (right_keys White r.white.king_side)) (xor_of (right_keys White r.white.queen_side)))
     (xor_of (right_keys Black r.black.king_side))) (xor_of (right_keys Black r.black.queen_side))
 unfolding rights_keys
 rights_apart r =
@@ -130,7 +132,8 @@ men_changed men s d o all low e =
     let others : (k : ℕ) → k ≢ s → keys_on (set men s o) k ≡ keys_on men k =
     λ k away. ap (λ v. square_keys k v) (get_or-set_other men s k o None away) in
     rw by_range
-    (changed_at (keys_on men) (keys_on (set men s o)) s d 64 0 others (ap (λ v. xor_of (square_keys s v)) here ∙ e) (omega arith)
+    (changed_at (keys_on men) (keys_on (set men s o)) s d 64 0 others (ap (λ v. xor_of (square_keys s v)) here ∙ e)
+    (omega arith)
     (omega arith))
 
 -- a man comes to an empty square, and a man leaves his: the word changes by his key

@@ -1,6 +1,6 @@
--- The position word of the boards `Plain` and `Bits`: the exclusive or of keys, numbers below 2 to the 64th, one for each man on
--- its square, one for Black on move and one for each castling right. Target and counters have no part in it. No claim says that
--- two positions have different words.
+-- The position word of the boards `Plain` and `Bits`: the exclusive or of keys, numbers below 2 to the 64th, one for
+-- each man on its square, one for Black on move and one for each castling right. Target and counters have no part in
+-- it. No claim says that two positions have different words.
 use Rattle.std.specs.Prelude.{ℕ, ◌+◌, ◌*◌, ◌/◌, ◌%◌, ◌^◌, Option, Some, None, List, [], ◌∷◌, ◌++◌, bit_xor, fold, flat_map}
 use Rattle.chess_base.specs.declared.man.Colour.{Colour}
 use Rattle.chess_base.specs.declared.man.Colour.TheVariants.{White, Black}
@@ -12,8 +12,8 @@ use Rattle.chess_base.specs.Squares.{file}
 use Rattle.chess_base.specs.Men.{Men, man_at}
 use Rattle.chess_base.specs.MoveList.{squares}
 
--- ---- keys: the numbers, from index 0, that the generator SplitMix64 gives when it starts at 0 (splitmix64.c by Vigna, 2015,
--- after Steele, Lea and Flood, Fast Splittable Pseudorandom Number Generators, 2014)
+-- ---- keys: the numbers, from index 0, that the generator SplitMix64 gives when it starts at 0 (splitmix64.c by Vigna,
+-- 2015, after Steele, Lea and Flood, Fast Splittable Pseudorandom Number Generators, 2014)
 
 abbrev pub increment : ℕ
 increment = 0x9e3779b97f4a7c15

@@ -46,11 +46,13 @@ passes_no_ten p ten c h = by_test (eqb c 10) refl
     by_test false e = refl
 
 -- behind a run of bytes that pass
-run_cut : (p : ℕ → Bool) → p 10 ≡ false → (c : ℕ) (rest : List ℕ) → eqb c 10 ≡ false → Cut (c ∷ rest) (drop (prefix_len p rest) rest)
+run_cut : (p : ℕ → Bool) → p 10 ≡ false → (c : ℕ) (rest : List ℕ) → eqb c 10 ≡ false
+    → Cut (c ∷ rest) (drop (prefix_len p rest) rest)
 run_cut p ten c [] e = cut_here c [] e
 run_cut p ten c (d ∷ rest) e = by_test (p d) refl (λ k. run_cut p ten d rest k)
   where
-    by_test : (t : Bool) → p d ≡ t → (eqb d 10 ≡ false → Cut (d ∷ rest) (drop (prefix_len p rest) rest)) → Cut (c ∷ d ∷ rest) (drop (cond t (1 + prefix_len p rest) 0) (d ∷ rest))
+    by_test : (t : Bool) → p d ≡ t → (eqb d 10 ≡ false → Cut (d ∷ rest) (drop (prefix_len p rest) rest))
+        → Cut (c ∷ d ∷ rest) (drop (cond t (1 + prefix_len p rest) 0) (d ∷ rest))
     by_test true k more =
         let next : 1 + prefix_len p rest ≡ suc (prefix_len p rest) = omega arith in
         rw next (cut_more c (d ∷ rest) (drop (prefix_len p rest) rest) (more (passes_no_ten p ten d k)))
@@ -58,7 +60,8 @@ run_cut p ten c (d ∷ rest) e = by_test (p d) refl (λ k. run_cut p ten d rest 
 
 pub brace_cut : (text : List ℕ) → IfSome (behind_brace text) (Cut text)
 brace_cut [] = tt
-brace_cut (c ∷ rest) = pick (λ o. IfSome o (Cut (c ∷ rest))) (eqb c 125) (Some rest) (behind_brace rest) (λ e. cut_here c rest (grind (arith, nat_tests, e))) (λ e. more (behind_brace rest) (brace_cut rest))
+brace_cut (c ∷ rest) = pick (λ o. IfSome o (Cut (c ∷ rest))) (eqb c 125) (Some rest) (behind_brace rest)
+    (λ e. cut_here c rest (grind (arith, nat_tests, e))) (λ e. more (behind_brace rest) (brace_cut rest))
   where
     more : (o : Option (List ℕ)) → IfSome o (Cut rest) → IfSome o (Cut (c ∷ rest))
     more None h = tt
@@ -66,25 +69,34 @@ brace_cut (c ∷ rest) = pick (λ o. IfSome o (Cut (c ∷ rest))) (eqb c 125) (S
 
 -- ---- variations
 
-pub variation_cut : (inside : Inside) (begins : Bool) (depth : ℕ) (text : List ℕ) → Left text (variation_at inside begins (suc depth) text).1
+pub variation_cut : (inside : Inside) (begins : Bool) (depth : ℕ) (text : List ℕ)
+    → Left text (variation_at inside begins (suc depth) text).1
 variation_cut Plain begins depth [] = inl refl
 variation_cut (Brace left) begins depth [] = inl refl
 variation_cut Line begins depth [] = inl refl
 variation_cut Line begins depth (c ∷ rest) =
-    pick (LeavesOf (c ∷ rest)) (eqb c 10) (variation_at Plain true (suc depth) rest) (variation_at Line false (suc depth) rest)
-    (λ e. left_more c rest _ (variation_cut Plain true depth rest)) (λ e. left_more c rest _ (variation_cut Line false depth rest))
+    pick (LeavesOf (c ∷ rest)) (eqb c 10) (variation_at Plain true (suc depth) rest)
+    (variation_at Line false (suc depth) rest)
+    (λ e. left_more c rest _ (variation_cut Plain true depth rest))
+    (λ e. left_more c rest _ (variation_cut Line false depth rest))
 variation_cut (Brace left) begins depth (c ∷ rest) =
-    pick (LeavesOf (c ∷ rest)) (eqb c 125) (variation_at Plain false (suc depth) rest) (variation_at (Brace left) false (suc depth) rest)
-    (λ e. left_more c rest _ (variation_cut Plain false depth rest)) (λ e. left_more c rest _ (variation_cut (Brace left) false depth rest))
+    pick (LeavesOf (c ∷ rest)) (eqb c 125) (variation_at Plain false (suc depth) rest)
+    (variation_at (Brace left) false (suc depth) rest)
+    (λ e. left_more c rest _ (variation_cut Plain false depth rest))
+    (λ e. left_more c rest _ (variation_cut (Brace left) false depth rest))
 variation_cut Plain begins depth (c ∷ rest) =
-    pick (LeavesOf (c ∷ rest)) (begins && eqb c 37) _ _ (λ _. left_more c rest _ (variation_cut Line false depth rest)) (λ _.
-    pick (LeavesOf (c ∷ rest)) (eqb c 123) _ _ (λ _. left_more c rest _ (variation_cut (Brace (suc (length rest))) false depth rest)) (λ _.
+    pick (LeavesOf (c ∷ rest)) (begins && eqb c 37) _ _ (λ _. left_more c rest _ (variation_cut Line false depth rest))
+    (λ _.
+    pick (LeavesOf (c ∷ rest)) (eqb c 123) _ _
+    (λ _. left_more c rest _ (variation_cut (Brace (suc (length rest))) false depth rest)) (λ _.
     pick (LeavesOf (c ∷ rest)) (eqb c 59) _ _ (λ _. left_more c rest _ (variation_cut Line false depth rest)) (λ _.
-    pick (LeavesOf (c ∷ rest)) (eqb c 40) _ _ (λ _. left_more c rest _ (variation_cut Plain false (suc depth) rest)) (λ _.
+    pick (LeavesOf (c ∷ rest)) (eqb c 40) _ _ (λ _. left_more c rest _ (variation_cut Plain false (suc depth) rest))
+    (λ _.
     pick (LeavesOf (c ∷ rest)) (eqb c 41) _ _ (λ e. closing depth e (λ d. variation_cut Plain false d rest)) (λ _.
     left_more c rest _ (variation_cut Plain (eqb c 10) depth rest))))))
   where
-    closing : (n : ℕ) → eqb c 41 ≡ true → ((d : ℕ) → Left rest (variation_at Plain false (suc d) rest).1) → Left (c ∷ rest) (variation_at Plain false n rest).1
+    closing : (n : ℕ) → eqb c 41 ≡ true → ((d : ℕ) → Left rest (variation_at Plain false (suc d) rest).1)
+        → Left (c ∷ rest) (variation_at Plain false n rest).1
     closing zero e more = inr (cut_here c rest (grind (arith, nat_tests)))
     closing (suc d) e more = left_more c rest _ (more d)
 
@@ -101,49 +113,68 @@ suffix_more : (c : ℕ) (text rest : List ℕ) → Suffix text rest → Suffix (
 suffix_more c text rest h = record { front = c ∷ h.front; is = ap (λ xs. c ∷ xs) h.is }
 
 pub suffix_then : (text more rest : List ℕ) → Suffix text more → Suffix more rest → Suffix text rest
-suffix_then text more rest h k = record { front = h.front ++ k.front; is = h.is ∙ ap (λ xs. h.front ++ xs) k.is ∙ sym (append_assoc h.front k.front rest) }
+suffix_then text more rest h k = record {
+  front = h.front ++ k.front;
+  is = h.is ∙ ap (λ xs. h.front ++ xs) k.is ∙ sym (append_assoc h.front k.front rest);
+}
 
 suffix_cut : (text more rest : List ℕ) → Suffix text more → Cut more rest → Cut text rest
-suffix_cut text more rest h k = record { front = h.front ++ k.front; last = k.last; is = h.is ∙ ap (λ xs. h.front ++ xs) k.is ∙ sym (append_assoc h.front k.front (k.last ∷ rest)); no_end = k.no_end }
+suffix_cut text more rest h k = record {
+  front = h.front ++ k.front;
+  last = k.last;
+  is = h.is ∙ ap (λ xs. h.front ++ xs) k.is ∙ sym (append_assoc h.front k.front (k.last ∷ rest));
+  no_end = k.no_end;
+}
 
 suffix_left : (text more rest : List ℕ) → Suffix text more → Left more rest → Left text rest
 suffix_left text more rest h (inl e) = inl e
 suffix_left text more rest h (inr k) = inr (suffix_cut text more rest h k)
 
 pub cut_suffix : (text rest : List ℕ) → Cut text rest → Suffix text rest
-cut_suffix text rest k = record { front = k.front ++ k.last ∷ []; is = k.is ∙ sym (append_assoc k.front (k.last ∷ []) rest) }
+cut_suffix text rest k = record {
+  front = k.front ++ k.last ∷ [];
+  is = k.is ∙ sym (append_assoc k.front (k.last ∷ []) rest);
+}
 
 pub gap_suffix : (skips begins : Bool) (text : List ℕ) → Suffix text (behind_gap skips begins text)
 gap_suffix skips begins [] = suffix_all []
 gap_suffix true begins (c ∷ rest) = suffix_more c rest _ (gap_suffix (not (eqb c 10)) true rest)
 gap_suffix false begins (c ∷ rest) =
     pick (Suffix (c ∷ rest)) (begins && eqb c 37) _ _ (λ _. suffix_more c rest _ (gap_suffix true false rest)) (λ _.
-    pick (Suffix (c ∷ rest)) (is_white_space c) _ _ (λ _. suffix_more c rest _ (gap_suffix false (eqb c 10) rest)) (λ _. suffix_all (c ∷ rest)))
+    pick (Suffix (c ∷ rest)) (is_white_space c) _ _ (λ _. suffix_more c rest _ (gap_suffix false (eqb c 10) rest))
+    (λ _. suffix_all (c ∷ rest)))
 
 abbrev LeavesSuffix : List ℕ → Option (List ℕ × List ℕ) → Type 0
 LeavesSuffix text o = IfSome o (λ (f : List ℕ × List ℕ). Suffix text f.1)
 
-onto_suffix : (front text : List ℕ) (c : ℕ) (o : Option (List ℕ × List ℕ)) → LeavesSuffix text o → LeavesSuffix (c ∷ text) (onto front o)
+onto_suffix : (front text : List ℕ) (c : ℕ) (o : Option (List ℕ × List ℕ)) → LeavesSuffix text o
+    → LeavesSuffix (c ∷ text) (onto front o)
 onto_suffix front text c None h = tt
 onto_suffix front text c (Some f) h = suffix_more c text f.1 h
 
-kept_suffix : (front text : List ℕ) (c d : ℕ) (o : Option (List ℕ × List ℕ)) → LeavesSuffix text o → LeavesSuffix (c ∷ d ∷ text) (onto front o)
+kept_suffix : (front text : List ℕ) (c d : ℕ) (o : Option (List ℕ × List ℕ)) → LeavesSuffix text o
+    → LeavesSuffix (c ∷ d ∷ text) (onto front o)
 kept_suffix front text c d None h = tt
 kept_suffix front text c d (Some f) h = suffix_more c (d ∷ text) f.1 (suffix_more d text f.1 h)
 
 pub string_suffix : (text : List ℕ) → LeavesSuffix text (string_at text)
 string_suffix [] = tt
-string_suffix (c ∷ []) = pick (LeavesSuffix (c ∷ [])) (eqb c 34) _ _ (λ _. suffix_more c [] [] (suffix_all [])) (λ _. tt)
+string_suffix (c ∷ []) = pick (LeavesSuffix (c ∷ [])) (eqb c 34) _ _ (λ _. suffix_more c [] [] (suffix_all []))
+    (λ _. tt)
 string_suffix (c ∷ d ∷ rest) =
-    pick (LeavesSuffix (c ∷ d ∷ rest)) (eqb c 34) _ _ (λ _. suffix_more c (d ∷ rest) (d ∷ rest) (suffix_all (d ∷ rest))) (λ _.
+    pick (LeavesSuffix (c ∷ d ∷ rest)) (eqb c 34) _ _ (λ _. suffix_more c (d ∷ rest) (d ∷ rest) (suffix_all (d ∷ rest)))
+    (λ _.
     pick (LeavesSuffix (c ∷ d ∷ rest)) (eqb c 10) _ _ (λ _. tt) (λ _.
-    pick (LeavesSuffix (c ∷ d ∷ rest)) (eqb c 92) _ _ (λ _. pick (LeavesSuffix (c ∷ d ∷ rest)) (eqb d 10) _ _ (λ _. tt) (λ _. kept_suffix (c ∷ d ∷ []) rest c d (string_at rest) (string_suffix rest))) (λ _.
+    pick (LeavesSuffix (c ∷ d ∷ rest)) (eqb c 92) _ _
+    (λ _. pick (LeavesSuffix (c ∷ d ∷ rest)) (eqb d 10) _ _ (λ _. tt)
+    (λ _. kept_suffix (c ∷ d ∷ []) rest c d (string_at rest) (string_suffix rest))) (λ _.
     onto_suffix (c ∷ []) (d ∷ rest) c (string_at (d ∷ rest)) (string_suffix (d ∷ rest)))))
 
 -- behind a byte other than 10
 byte_cut : (b : ℕ) (text : List ℕ) → eqb b 10 ≡ false → IfSome (behind_byte b text) (Cut text)
 byte_cut b [] e = tt
-byte_cut b (c ∷ rest) e = pick (λ (o : Option (List ℕ)). IfSome o (Cut (c ∷ rest))) (eqb c b) _ _ (λ k. cut_here c rest (grind (arith, nat_tests, e, k))) (λ _. tt)
+byte_cut b (c ∷ rest) e = pick (λ (o : Option (List ℕ)). IfSome o (Cut (c ∷ rest))) (eqb c b) _ _
+    (λ k. cut_here c rest (grind (arith, nat_tests, e, k))) (λ _. tt)
 
 pub next_cut : (b : ℕ) (text : List ℕ) → eqb b 10 ≡ false → IfSome (behind_next b text) (Cut text)
 next_cut b text e = by_option (behind_next b text) (byte_cut b (behind_gap false false text) e)
@@ -152,17 +183,21 @@ next_cut b text e = by_option (behind_next b text) (byte_cut b (behind_gap false
     by_option None h = tt
     by_option (Some rest) h = suffix_cut text (behind_gap false false text) rest (gap_suffix false false text) h
 
-closed_left : (name text from : List ℕ) (left : ℕ) (o : Option (List ℕ)) → IfSome o (Cut from) → LeavesOf from (closed name left text o)
+closed_left : (name text from : List ℕ) (left : ℕ) (o : Option (List ℕ)) → IfSome o (Cut from)
+    → LeavesOf from (closed name left text o)
 closed_left name text from left None h = inl refl
 closed_left name text from left (Some rest) h = inr h
 
-text_left : (name from : List ℕ) (left : ℕ) (o : Option (List ℕ × List ℕ)) → LeavesSuffix from o → LeavesOf from (with_text name left o)
+text_left : (name from : List ℕ) (left : ℕ) (o : Option (List ℕ × List ℕ)) → LeavesSuffix from o
+    → LeavesOf from (with_text name left o)
 text_left name from left None h = inl refl
-text_left name from left (Some f) h = suffix_left from f.1 _ h (closed_left name f.0 f.1 left (behind_next 93 f.1) (next_cut 93 f.1 refl))
+text_left name from left (Some f) h = suffix_left from f.1 _ h
+    (closed_left name f.0 f.1 left (behind_next 93 f.1) (next_cut 93 f.1 refl))
 
 string_left : (name from : List ℕ) (o : Option (List ℕ)) → IfSome o (Cut from) → LeavesOf from (with_string name o)
 string_left name from None h = inl refl
-string_left name from (Some string) h = suffix_left from string _ (cut_suffix from string h) (text_left name string (length string) (string_at string) (string_suffix string))
+string_left name from (Some string) h = suffix_left from string _ (cut_suffix from string h)
+    (text_left name string (length string) (string_at string) (string_suffix string))
 
 pub name_left : (name from : List ℕ) → LeavesOf from (with_name name from)
 name_left [] from = inl refl
@@ -171,18 +206,23 @@ name_left (n ∷ ns) from = string_left (n ∷ ns) from (behind_next 34 from) (n
 tag_left : (text : List ℕ) → LeavesOf text (tag_at text)
 tag_left text = by_name (behind_gap false false text) (gap_suffix false false text)
   where
-    by_name : (inner : List ℕ) → Suffix text inner → LeavesOf text (with_name (take_while is_name_byte inner) (drop (prefix_len is_name_byte inner) inner))
+    by_name : (inner : List ℕ) → Suffix text inner
+        → LeavesOf text (with_name (take_while is_name_byte inner) (drop (prefix_len is_name_byte inner) inner))
     by_name inner h =
         let n : ℕ = prefix_len is_name_byte inner in
-        suffix_left text (drop n inner) _ (suffix_then text inner (drop n inner) h (record { front = take_while is_name_byte inner; is = sym (take-append-drop n inner) })) (name_left (take_while is_name_byte inner) (drop n inner))
+        suffix_left text (drop n inner) _ (suffix_then text inner (drop n inner) h
+        (record { front = take_while is_name_byte inner; is = sym (take-append-drop n inner) }))
+        (name_left (take_while is_name_byte inner) (drop n inner))
 
 -- ---- tokens
 
-comment_left : (c left : ℕ) (rest : List ℕ) (o : Option (List ℕ)) → IfSome o (Cut rest) → LeavesOf (c ∷ rest) (comment_at left o)
+comment_left : (c left : ℕ) (rest : List ℕ) (o : Option (List ℕ)) → IfSome o (Cut rest)
+    → LeavesOf (c ∷ rest) (comment_at left o)
 comment_left c left rest None h = inl refl
 comment_left c left rest (Some r) h = inr (cut_more c rest r h)
 
-word_left : (c : ℕ) (rest : List ℕ) → eqb c 10 ≡ false → is_word_byte c ≡ true → Left (c ∷ rest) (drop (prefix_len is_word_byte (c ∷ rest)) (c ∷ rest))
+word_left : (c : ℕ) (rest : List ℕ) → eqb c 10 ≡ false → is_word_byte c ≡ true
+    → Left (c ∷ rest) (drop (prefix_len is_word_byte (c ∷ rest)) (c ∷ rest))
 word_left c rest e k =
     let next : 1 + prefix_len is_word_byte rest ≡ suc (prefix_len is_word_byte rest) = omega arith in
     rw (k, next) (inr (run_cut is_word_byte refl c rest e))
@@ -193,7 +233,8 @@ unfolding token_at
 token_left begins c rest e =
     pick (LeavesOf (c ∷ rest)) (begins && eqb c 37) _ _ (λ _. inr (run_cut (λ b. not (eqb b 10)) refl c rest e)) (λ _.
     pick (LeavesOf (c ∷ rest)) (is_white_space c || eqb c 46) _ _ (λ _. inr (cut_here c rest e)) (λ _.
-    pick (LeavesOf (c ∷ rest)) (eqb c 123) _ _ (λ _. comment_left c (suc (length rest)) rest (behind_brace rest) (brace_cut rest)) (λ _.
+    pick (LeavesOf (c ∷ rest)) (eqb c 123) _ _
+    (λ _. comment_left c (suc (length rest)) rest (behind_brace rest) (brace_cut rest)) (λ _.
     pick (LeavesOf (c ∷ rest)) (eqb c 59) _ _ (λ _. inr (run_cut (λ b. not (eqb b 10)) refl c rest e)) (λ _.
     pick (LeavesOf (c ∷ rest)) (eqb c 36) _ _ (λ _. inr (run_cut is_digit refl c rest e)) (λ _.
     pick (LeavesOf (c ∷ rest)) (eqb c 40) _ _ (λ _. left_more c rest _ (variation_cut Plain false 0 rest)) (λ _.

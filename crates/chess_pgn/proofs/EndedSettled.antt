@@ -168,7 +168,8 @@ module _ (limit : ℕ) (front more : List ℕ) where
   by_step n n' ends xs later (Stop r) h = h
 
   same_token : (n n' : ℕ) (ends : Bool) (g : SoFar) (rest : List ℕ) (p : Token × List ℕ) → EndsBoth n n' ends p.1
-      → Ends (leads_on n' ends g rest (shift (length more) p.0, p.1 ++ more)).answer → Ends (leads n ends g rest p).answer
+      → Ends (leads_on n' ends g rest (shift (length more) p.0, p.1 ++ more)).answer
+      → Ends (leads n ends g rest p).answer
   same_token n n' ends g rest p later h =
       by_step n n' ends p.1 later (step limit (length front) g (suc (length rest)) p.0)
       (subst (λ (s : Step). Ends (go_on s
@@ -260,7 +261,8 @@ module _ (limit : ℕ) (front more : List ℕ) where
       let place : ℕ = first_place front at in
       let within : place ≤ length front = (behind front at inside).1 in
       let told : (nat_lt 0 at || nat_le 3 (length front)) ≡ true = enough at some in
-      let same : tokens_read limit (length all) (tokens_of (length all) (begins_line all (first_place all at)) (drop (first_place all at) all))
+      let same : tokens_read limit (length all)
+      (tokens_of (length all) (begins_line all (first_place all at)) (drop (first_place all at) all))
       ≡ tokens_read limit (length all) (tokens_of (length all) (begins_line front place) (drop place front ++ more)) =
       ap (λ p. tokens_read limit (length all) (tokens_of (length all) (begins_line all p) (drop p all)))
       (place_same limit front more at told)

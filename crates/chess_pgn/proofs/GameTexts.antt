@@ -33,40 +33,56 @@ pub record HasParts (t u v text : List ℕ) : Type 0 where
   pub is : text ≡ t ++ (u ++ v)
 
 -- the first could not be put
-pub first_broke : (a b : OutputState) (w t u v text : List ℕ) → HasParts t u v text → BreaksOff a b (w ++ t) → BreaksOff a b (w ++ text)
+pub first_broke : (a b : OutputState) (w t u v text : List ℕ) → HasParts t u v text → BreaksOff a b (w ++ t)
+    → BreaksOff a b (w ++ text)
 first_broke a b w t u v text parts h = rw parts.is (break_longer a b w t (u ++ v) h)
 
 -- the second could not be put
-pub second_broke : (a b c : OutputState) (w x t u v text : List ℕ) → HasParts t u v text → TookSome a b w x t → BreaksOff b c (x ++ u) → BreaksOff a c (w ++ text)
-second_broke a b c w x t u v text parts h k = rw parts.is (added_break a b c w x t (u ++ v) h (break_longer b c x u v k))
+pub second_broke : (a b c : OutputState) (w x t u v text : List ℕ) → HasParts t u v text → TookSome a b w x t
+    → BreaksOff b c (x ++ u) → BreaksOff a c (w ++ text)
+second_broke a b c w x t u v text parts h k =
+    rw parts.is (added_break a b c w x t (u ++ v) h (break_longer b c x u v k))
 
 -- the first two were put, and what became of the third became of all
-pub third_put : {A E : Type 0} (a b c d : OutputState) (r : Result A E) (w x y z t u v text : List ℕ) → HasParts t u v text → TookSome a b w x t → TookSome b c x y u → Adds c d y z r v → Adds a d w z r text
-third_put a b c d r w x y z t u v text parts h k l = rw parts.is (adds_more a b d r w x z t (u ++ v) h (adds_more b c d r x y z u v k l))
+pub third_put : {A E : Type 0} (a b c d : OutputState) (r : Result A E) (w x y z t u v text : List ℕ)
+    → HasParts t u v text → TookSome a b w x t → TookSome b c x y u → Adds c d y z r v → Adds a d w z r text
+third_put a b c d r w x y z t u v text parts h k l =
+    rw parts.is (adds_more a b d r w x z t (u ++ v) h (adds_more b c d r x y z u v k l))
 
 -- ---- tags
 
 -- the tags of a start, and the last ones behind them
-further_is : (prefix before : List ℕ) (start : Setup) (v : Variant) (t : Termination) → v ≡ start.variant → before ≡ prefix → ended prefix (further_lines start t) ≡ ended prefix (start_lines_in start.variant start) ++ ended before (last_lines v t)
+further_is : (prefix before : List ℕ) (start : Setup) (v : Variant) (t : Termination) → v ≡ start.variant
+    → before ≡ prefix → ended prefix (further_lines start t) ≡ ended prefix (start_lines_in start.variant start)
+    ++ ended before (last_lines v t)
 further_is prefix before start v t is b =
-    flat_map-append (λ text. prefix ++ text ++ 10 ∷ []) (start_lines_in start.variant start) (last_lines start.variant t)
+    flat_map-append (λ text. prefix ++ text ++ 10 ∷ []) (start_lines_in start.variant start)
+    (last_lines start.variant t)
     ∙ ap (λ q. ended prefix (start_lines_in start.variant start) ++ ended q (last_lines start.variant t)) (sym b)
     ∙ ap (λ u. ended prefix (start_lines_in start.variant start) ++ ended before (last_lines u t)) (sym is)
 
-pub start_broke : (a b : OutputState) (w prefix : List ℕ) (start : Setup) (t : Termination) → BreaksOff a b (w ++ ended prefix (start_lines_in start.variant start)) → BreaksOff a b (w ++ ended prefix (further_lines start t))
+pub start_broke : (a b : OutputState) (w prefix : List ℕ) (start : Setup) (t : Termination)
+    → BreaksOff a b (w ++ ended prefix (start_lines_in start.variant start))
+    → BreaksOff a b (w ++ ended prefix (further_lines start t))
 start_broke a b w prefix start t h =
     subst (λ v. BreaksOff a b (w ++ v)) (sym (further_is prefix prefix start start.variant t refl refl))
-    (break_longer a b w (ended prefix (start_lines_in start.variant start)) (ended prefix (last_lines start.variant t)) h)
+    (break_longer a b w (ended prefix (start_lines_in start.variant start)) (ended prefix (last_lines start.variant t))
+    h)
 
-pub further_put : {A E : Type 0} (a b c : OutputState) (r : Result A E) (w x y prefix before : List ℕ) (start : Setup) (v : Variant) (t : Termination) → v ≡ start.variant → before ≡ prefix
-    → TookSome a b w x (ended prefix (start_lines_in start.variant start)) → Adds b c x y r (ended before (last_lines v t)) → Adds a c w y r (ended prefix (further_lines start t))
+pub further_put : {A E : Type 0} (a b c : OutputState) (r : Result A E) (w x y prefix before : List ℕ) (start : Setup)
+    (v : Variant) (t : Termination) → v ≡ start.variant → before ≡ prefix
+    → TookSome a b w x (ended prefix (start_lines_in start.variant start))
+    → Adds b c x y r (ended before (last_lines v t)) → Adds a c w y r (ended prefix (further_lines start t))
 further_put a b c r w x y prefix before start v t is same h k =
     subst (Adds a c w y r) (sym (further_is prefix before start v t is same))
     (adds_more a b c r w x y (ended prefix (start_lines_in start.variant start)) (ended before (last_lines v t)) h k)
 
 -- the tags of a game and an empty line
-pub tags_are : (prefix before last_before : List ℕ) (t : Tags) (outcome : Outcome) (start : Setup) (termination : Termination) (s : State) → outcome ≡ outcome_now s → start ≡ s.start → termination ≡ termination_of t.ended outcome → before ≡ prefix → last_before ≡ prefix
-    → HasParts (ended prefix (roster_lines t outcome)) (ended before (further_lines start termination)) (last_before ++ [] ++ 10 ∷ []) (ended prefix (tag_lines t s ++ [] ∷ []))
+pub tags_are : (prefix before last_before : List ℕ) (t : Tags) (outcome : Outcome) (start : Setup)
+    (termination : Termination) (s : State) → outcome ≡ outcome_now s → start ≡ s.start
+    → termination ≡ termination_of t.ended outcome → before ≡ prefix → last_before ≡ prefix
+    → HasParts (ended prefix (roster_lines t outcome)) (ended before (further_lines start termination))
+    (last_before ++ [] ++ 10 ∷ []) (ended prefix (tag_lines t s ++ [] ∷ []))
 tags_are prefix before last_before t outcome start termination s o is told b l =
     let line : List ℕ → List ℕ = λ text. prefix ++ text ++ 10 ∷ [] in
     let roster : List (List ℕ) = roster_lines t (outcome_now s) in
@@ -82,133 +98,190 @@ tags_are prefix before last_before t outcome start termination s o is told b l =
 
 -- a game's tags, its moves, and an empty line
 pub game_is : (prefix before last_before : List ℕ) (t : Tags) (s : State) → before ≡ prefix → last_before ≡ prefix
-    → HasParts (ended prefix (tag_lines t s ++ [] ∷ [])) (move_text_of before (game_tokens s)) (last_before ++ [] ++ 10 ∷ []) (pgn prefix t s)
+    → HasParts (ended prefix (tag_lines t s ++ [] ∷ [])) (move_text_of before (game_tokens s))
+    (last_before ++ [] ++ 10 ∷ []) (pgn prefix t s)
 unfolding pgn
 game_is prefix before last_before t s b l =
     record {
       is =
-          append_assoc (ended prefix (tag_lines t s ++ [] ∷ [])) (move_text_of prefix (game_tokens s)) (ended prefix ([] ∷ []))
-          ∙ ap (λ v. ended prefix (tag_lines t s ++ [] ∷ []) ++ (move_text_of prefix (game_tokens s) ++ v)) (append-nil (prefix ++ [] ++ 10 ∷ []))
+          append_assoc (ended prefix (tag_lines t s ++ [] ∷ [])) (move_text_of prefix (game_tokens s))
+          (ended prefix ([] ∷ []))
+          ∙ ap (λ v. ended prefix (tag_lines t s ++ [] ∷ []) ++ (move_text_of prefix (game_tokens s) ++ v))
+          (append-nil (prefix ++ [] ++ 10 ∷ []))
           ∙ rw (b, l) refl;
     }
 
 -- all was put behind nothing, and what waits is written
-pub game_written : {A E : Type 0} (a b c : OutputState) (r : Result A E) (w x prefix before : List ℕ) (t : Tags) (s : State) → w ≡ [] → before ≡ prefix → TookSome a b w x (pgn before t s) → Puts b c r x → Puts a c r (pgn prefix t s)
+pub game_written : {A E : Type 0} (a b c : OutputState) (r : Result A E) (w x prefix before : List ℕ) (t : Tags)
+    (s : State) → w ≡ [] → before ≡ prefix → TookSome a b w x (pgn before t s) → Puts b c r x
+    → Puts a c r (pgn prefix t s)
 game_written a b c r w x prefix before t s none is h k =
-    subst (Puts a c r) (ap (λ v. v ++ pgn before t s) none ∙ ap (λ v. pgn v t s) is) (finished a b c r w x (pgn before t s) h k)
+    subst (Puts a c r) (ap (λ v. v ++ pgn before t s) none ∙ ap (λ v. pgn v t s) is)
+    (finished a b c r w x (pgn before t s) h k)
 
 -- ---- tokens, one list behind another
 
-pub placed_all-append : (prefix : List ℕ) (column : ℕ) (ts us : List (List ℕ)) → placed_all prefix column (ts ++ us) ≡ placed_all prefix column ts ++ placed_all prefix (column_behind_all column ts) us
+pub placed_all-append : (prefix : List ℕ) (column : ℕ) (ts us : List (List ℕ))
+    → placed_all prefix column (ts ++ us) ≡ placed_all prefix column ts
+    ++ placed_all prefix (column_behind_all column ts) us
 placed_all-append prefix column [] us = refl
 placed_all-append prefix column (t ∷ ts) us =
     ap (λ v. placed prefix column t ++ v) (placed_all-append prefix (column_behind column t) ts us)
-    ∙ sym (append_assoc (placed prefix column t) (placed_all prefix (column_behind column t) ts) (placed_all prefix (column_behind_all column (t ∷ ts)) us))
+    ∙ sym (append_assoc (placed prefix column t) (placed_all prefix (column_behind column t) ts)
+    (placed_all prefix (column_behind_all column (t ∷ ts)) us))
 
-pub column_behind_all-append : (column : ℕ) (ts us : List (List ℕ)) → column_behind_all column (ts ++ us) ≡ column_behind_all (column_behind_all column ts) us
+pub column_behind_all-append : (column : ℕ) (ts us : List (List ℕ))
+    → column_behind_all column (ts ++ us) ≡ column_behind_all (column_behind_all column ts) us
 column_behind_all-append column [] us = refl
 column_behind_all-append column (t ∷ ts) us = column_behind_all-append (column_behind column t) ts us
 
-pub filled_from-append : (prefix : List ℕ) (column : ℕ) (ts us : List (List ℕ)) → filled_from prefix column (ts ++ us) ≡ placed_all prefix column ts ++ filled_from prefix (column_behind_all column ts) us
+pub filled_from-append : (prefix : List ℕ) (column : ℕ) (ts us : List (List ℕ))
+    → filled_from prefix column (ts ++ us) ≡ placed_all prefix column ts
+    ++ filled_from prefix (column_behind_all column ts) us
 filled_from-append prefix column [] us = refl
 filled_from-append prefix column (t ∷ ts) us =
     ap (λ v. placed prefix column t ++ v) (filled_from-append prefix (column_behind column t) ts us)
-    ∙ sym (append_assoc (placed prefix column t) (placed_all prefix (column_behind column t) ts) (filled_from prefix (column_behind_all column (t ∷ ts)) us))
+    ∙ sym (append_assoc (placed prefix column t) (placed_all prefix (column_behind column t) ts)
+    (filled_from prefix (column_behind_all column (t ∷ ts)) us))
 
 -- the moves of a game, its outcome, and the end of the line
-pub moves_are : (prefix before outcome : List ℕ) (column col end : ℕ) (s : State) → column ≡ 0 → before ≡ prefix → col ≡ column_behind_all column (move_tokens true s.start s.moves) → outcome ≡ outcome_text (outcome_now s) → end ≡ column_behind col outcome
-    → HasParts (placed_all prefix column (move_tokens true s.start s.moves)) (placed before col outcome) (line_close end) (move_text_of prefix (game_tokens s))
+pub moves_are : (prefix before outcome : List ℕ) (column col end : ℕ) (s : State) → column ≡ 0 → before ≡ prefix
+    → col ≡ column_behind_all column (move_tokens true s.start s.moves) → outcome ≡ outcome_text (outcome_now s)
+    → end ≡ column_behind col outcome
+    → HasParts (placed_all prefix column (move_tokens true s.start s.moves)) (placed before col outcome)
+    (line_close end) (move_text_of prefix (game_tokens s))
 moves_are prefix before outcome column col end s none b is o e =
-    record { is = rw (e, o, is, b, none) (filled_from-append prefix 0 (move_tokens true s.start s.moves) (outcome_text (outcome_now s) ∷ [])) }
+    record {
+      is = rw (e, o, is, b, none) (filled_from-append prefix 0 (move_tokens true s.start s.moves)
+          (outcome_text (outcome_now s) ∷ []));
+    }
 
 -- ---- the tokens of a move
 
-one_placed : (prefix before text token : List ℕ) (column col : ℕ) → before ≡ prefix → col ≡ column → text ≡ token → placed before col text ≡ placed_all prefix column (token ∷ [])
+one_placed : (prefix before text token : List ℕ) (column col : ℕ) → before ≡ prefix → col ≡ column → text ≡ token
+    → placed before col text ≡ placed_all prefix column (token ∷ [])
 one_placed prefix before text token column col p c t =
-    ap (λ v. placed v col text) p ∙ ap (λ n. placed prefix n text) c ∙ ap (λ v. placed prefix column v) t ∙ sym (append-nil (placed prefix column token))
+    ap (λ v. placed v col text) p ∙ ap (λ n. placed prefix n text) c ∙ ap (λ v. placed prefix column v) t
+    ∙ sym (append-nil (placed prefix column token))
 
 -- the number could not be put
-pub number_broke : (a b : OutputState) (w prefix : List ℕ) (column : ℕ) (f : Bool) (p q : Setup) (m : Move) → q ≡ p → BreaksOff a b (w ++ placed_all prefix column (number_token q.side f q.fullmove)) → BreaksOff a b (w ++ placed_all prefix column (tokens_of_move f p m))
+pub number_broke : (a b : OutputState) (w prefix : List ℕ) (column : ℕ) (f : Bool) (p q : Setup) (m : Move) → q ≡ p
+    → BreaksOff a b (w ++ placed_all prefix column (number_token q.side f q.fullmove))
+    → BreaksOff a b (w ++ placed_all prefix column (tokens_of_move f p m))
 number_broke a b w prefix column f p q m same h =
     let number : List (List ℕ) = number_token p.side f p.fullmove in
     subst (λ text. BreaksOff a b (w ++ text)) (sym (placed_all-append prefix column number (san p m ∷ [])))
-    (break_longer a b w (placed_all prefix column number) (placed_all prefix (column_behind_all column number) (san p m ∷ []))
+    (break_longer a b w (placed_all prefix column number)
+    (placed_all prefix (column_behind_all column number) (san p m ∷ []))
     (subst (λ (s : Setup). BreaksOff a b (w ++ placed_all prefix column (number_token s.side f s.fullmove))) same h))
 
 -- the move could not be put
-pub move_broke : (a b c : OutputState) (w x prefix before text : List ℕ) (column col : ℕ) (f : Bool) (p q : Setup) (m : Move) → q ≡ p → before ≡ prefix → col ≡ column_behind_all column (number_token q.side f q.fullmove) → text ≡ san p m
-    → TookSome a b w x (placed_all prefix column (number_token q.side f q.fullmove)) → BreaksOff b c (x ++ placed before col text) → BreaksOff a c (w ++ placed_all prefix column (tokens_of_move f p m))
+pub move_broke : (a b c : OutputState) (w x prefix before text : List ℕ) (column col : ℕ) (f : Bool) (p q : Setup)
+    (m : Move) → q ≡ p → before ≡ prefix → col ≡ column_behind_all column (number_token q.side f q.fullmove)
+    → text ≡ san p m
+    → TookSome a b w x (placed_all prefix column (number_token q.side f q.fullmove))
+    → BreaksOff b c (x ++ placed before col text)
+    → BreaksOff a c (w ++ placed_all prefix column (tokens_of_move f p m))
 move_broke a b c w x prefix before text column col f p q m same pre is said h k =
     let number : List (List ℕ) = number_token p.side f p.fullmove in
-    let here : col ≡ column_behind_all column number = is ∙ ap (λ (s : Setup). column_behind_all column (number_token s.side f s.fullmove)) same in
+    let here : col ≡ column_behind_all column number =
+    is ∙ ap (λ (s : Setup). column_behind_all column (number_token s.side f s.fullmove)) same in
     subst (λ v. BreaksOff a c (w ++ v)) (sym (placed_all-append prefix column number (san p m ∷ [])))
-    (added_break a b c w x (placed_all prefix column number) (placed_all prefix (column_behind_all column number) (san p m ∷ []))
+    (added_break a b c w x (placed_all prefix column number)
+    (placed_all prefix (column_behind_all column number) (san p m ∷ []))
     (subst (λ (s : Setup). TookSome a b w x (placed_all prefix column (number_token s.side f s.fullmove))) same h)
-    (subst (λ v. BreaksOff b c (x ++ v)) (one_placed prefix before text (san p m) (column_behind_all column number) col pre here said) k))
+    (subst (λ v. BreaksOff b c (x ++ v)) (one_placed prefix before text (san p m) (column_behind_all column number) col
+    pre here said) k))
 
 -- both were put
-pub move_put : (a b c : OutputState) (w x y prefix before text : List ℕ) (column col : ℕ) (f : Bool) (p q : Setup) (m : Move) → q ≡ p → before ≡ prefix → col ≡ column_behind_all column (number_token q.side f q.fullmove) → text ≡ san p m
-    → TookSome a b w x (placed_all prefix column (number_token q.side f q.fullmove)) → TookSome b c x y (placed before col text) → TookSome a c w y (placed_all prefix column (tokens_of_move f p m))
+pub move_put : (a b c : OutputState) (w x y prefix before text : List ℕ) (column col : ℕ) (f : Bool) (p q : Setup)
+    (m : Move) → q ≡ p → before ≡ prefix → col ≡ column_behind_all column (number_token q.side f q.fullmove)
+    → text ≡ san p m
+    → TookSome a b w x (placed_all prefix column (number_token q.side f q.fullmove))
+    → TookSome b c x y (placed before col text) → TookSome a c w y (placed_all prefix column (tokens_of_move f p m))
 move_put a b c w x y prefix before text column col f p q m same pre is said h k =
     let number : List (List ℕ) = number_token p.side f p.fullmove in
-    let here : col ≡ column_behind_all column number = is ∙ ap (λ (s : Setup). column_behind_all column (number_token s.side f s.fullmove)) same in
+    let here : col ≡ column_behind_all column number =
+    is ∙ ap (λ (s : Setup). column_behind_all column (number_token s.side f s.fullmove)) same in
     subst (TookSome a c w y) (sym (placed_all-append prefix column number (san p m ∷ [])))
-    (added_more a b c w x y (placed_all prefix column number) (placed_all prefix (column_behind_all column number) (san p m ∷ []))
+    (added_more a b c w x y (placed_all prefix column number)
+    (placed_all prefix (column_behind_all column number) (san p m ∷ []))
     (subst (λ (s : Setup). TookSome a b w x (placed_all prefix column (number_token s.side f s.fullmove))) same h)
-    (subst (TookSome b c x y) (one_placed prefix before text (san p m) (column_behind_all column number) col pre here said) k))
+    (subst (TookSome b c x y) (one_placed prefix before text (san p m) (column_behind_all column number) col pre here
+    said) k))
 
 -- ---- the tokens of moves, one move behind another
 
 -- each move of a line is legal in the position behind those before it
-pub legal_next : (start : Setup) (ms : List Move) (i : ℕ) (m : Move) → IsLine start ms → slice_get ms i ≡ Some m → IsTrue (is_legal (last start (take i ms)) m)
+pub legal_next : (start : Setup) (ms : List Move) (i : ℕ) (m : Move) → IsLine start ms → slice_get ms i ≡ Some m
+    → IsTrue (is_legal (last start (take i ms)) m)
 legal_next start [] zero m h e = cc
 legal_next start [] (suc i) m h e = cc
 legal_next start (x ∷ ms) zero m h e = let same : x ≡ m = cc in subst (λ v. IsTrue (is_legal start v)) same h.0
 legal_next start (x ∷ ms) (suc i) m h e = legal_next (after start x) ms i m h.1 e
 
-last_more : (start : Setup) (ms : List Move) (i : ℕ) (m : Move) → slice_get ms i ≡ Some m → last start (take (suc i) ms) ≡ after (last start (take i ms)) m
+last_more : (start : Setup) (ms : List Move) (i : ℕ) (m : Move) → slice_get ms i ≡ Some m
+    → last start (take (suc i) ms) ≡ after (last start (take i ms)) m
 last_more start [] zero m e = cc
 last_more start [] (suc i) m e = cc
 last_more start (x ∷ ms) zero m e = let same : x ≡ m = cc in ap (after start) same
 last_more start (x ∷ ms) (suc i) m e = last_more (after start x) ms i m e
 
-more_behind : (p : Setup) (ms : List Move) (i : ℕ) (m : Move) → slice_get ms i ≡ Some m → move_tokens false p (take (suc i) ms) ≡ move_tokens false p (take i ms) ++ tokens_of_move false (last p (take i ms)) m
+more_behind : (p : Setup) (ms : List Move) (i : ℕ) (m : Move) → slice_get ms i ≡ Some m
+    → move_tokens false p (take (suc i) ms) ≡ move_tokens false p (take i ms)
+    ++ tokens_of_move false (last p (take i ms)) m
 more_behind p [] zero m e = cc
 more_behind p [] (suc i) m e = cc
-more_behind p (x ∷ ms) zero m e = let same : x ≡ m = cc in append-nil (tokens_of_move false p x) ∙ ap (tokens_of_move false p) same
+more_behind p (x ∷ ms) zero m e = let same : x ≡ m =
+    cc in append-nil (tokens_of_move false p x) ∙ ap (tokens_of_move false p) same
 more_behind p (x ∷ ms) (suc i) m e =
     ap (λ v. tokens_of_move false p x ++ v) (more_behind (after p x) ms i m e)
-    ∙ sym (append_assoc (tokens_of_move false p x) (move_tokens false (after p x) (take i ms)) (tokens_of_move false (last (after p x) (take i ms)) m))
+    ∙ sym (append_assoc (tokens_of_move false p x) (move_tokens false (after p x) (take i ms))
+    (tokens_of_move false (last (after p x) (take i ms)) m))
 
-moves_more : (p : Setup) (ms : List Move) (i : ℕ) (m : Move) → slice_get ms i ≡ Some m → move_tokens true p (take (suc i) ms) ≡ move_tokens true p (take i ms) ++ tokens_of_move (eqb i 0) (last p (take i ms)) m
+moves_more : (p : Setup) (ms : List Move) (i : ℕ) (m : Move) → slice_get ms i ≡ Some m
+    → move_tokens true p (take (suc i) ms) ≡ move_tokens true p (take i ms)
+    ++ tokens_of_move (eqb i 0) (last p (take i ms)) m
 moves_more p [] zero m e = cc
 moves_more p [] (suc i) m e = cc
-moves_more p (x ∷ ms) zero m e = let same : x ≡ m = cc in append-nil (tokens_of_move true p x) ∙ ap (tokens_of_move true p) same
+moves_more p (x ∷ ms) zero m e = let same : x ≡ m =
+    cc in append-nil (tokens_of_move true p x) ∙ ap (tokens_of_move true p) same
 moves_more p (x ∷ ms) (suc i) m e =
     let later : eqb (suc i) 0 ≡ false = grind (arith, nat_tests) in
     rw later (
     ap (λ v. tokens_of_move true p x ++ v) (more_behind (after p x) ms i m e)
-    ∙ sym (append_assoc (tokens_of_move true p x) (move_tokens false (after p x) (take i ms)) (tokens_of_move false (last (after p x) (take i ms)) m)))
+    ∙ sym (append_assoc (tokens_of_move true p x) (move_tokens false (after p x) (take i ms))
+    (tokens_of_move false (last (after p x) (take i ms)) m)))
 
 -- where the moves go on behind some of them
-moves_split : (f : Bool) (p : Setup) (ms : List Move) (n : ℕ) → (rest : List (List ℕ)) × (move_tokens f p ms ≡ move_tokens f p (take n ms) ++ rest)
+moves_split : (f : Bool) (p : Setup) (ms : List Move) (n : ℕ)
+    → (rest : List (List ℕ)) × (move_tokens f p ms ≡ move_tokens f p (take n ms) ++ rest)
 moves_split f p ms zero = (move_tokens f p ms, refl)
 moves_split f p [] (suc n) = ([], refl)
 moves_split f p (x ∷ ms) (suc n) = by_rest (moves_split false (after p x) ms n)
   where
-    by_rest : (rest : List (List ℕ)) × (move_tokens false (after p x) ms ≡ move_tokens false (after p x) (take n ms) ++ rest) → (rest : List (List ℕ)) × (move_tokens f p (x ∷ ms) ≡ move_tokens f p (take (suc n) (x ∷ ms)) ++ rest)
-    by_rest (rest, is) = (rest, ap (λ v. tokens_of_move f p x ++ v) is ∙ sym (append_assoc (tokens_of_move f p x) (move_tokens false (after p x) (take n ms)) rest))
+    by_rest : (rest : List (List ℕ)) × (move_tokens false (after p x) ms ≡ move_tokens false (after p x) (take n ms)
+        ++ rest) → (rest : List (List ℕ)) × (move_tokens f p (x ∷ ms) ≡ move_tokens f p (take (suc n) (x ∷ ms)) ++ rest)
+    by_rest (rest, is) = (
+      rest,
+      ap (λ v. tokens_of_move f p x ++ v) is
+          ∙ sym (append_assoc (tokens_of_move f p x) (move_tokens false (after p x) (take n ms)) rest),
+    )
 
--- how a move stands behind those before it: of the game's moves the one with that number, in the position that they give
-pub record IsNext (prefix : List ℕ) (column : ℕ) (p : Setup) (ms : List Move) (i : ℕ) (before : List ℕ) (col : ℕ) (f : Bool) (q : Setup) (m : Move) : Type 0 where
+-- how a move stands behind those before it: of the game's moves the one with that number, in the position that they
+-- give
+pub record IsNext (prefix : List ℕ) (column : ℕ) (p : Setup) (ms : List Move) (i : ℕ) (before : List ℕ) (col : ℕ)
+    (f : Bool) (q : Setup) (m : Move) : Type 0 where
   pub prefix_is : before ≡ prefix
   pub column_is : col ≡ column_behind_all column (move_tokens true p (take i ms))
   pub first : f ≡ eqb i 0
   pub position : q ≡ last p (take i ms)
   pub move : slice_get ms i ≡ Some m
 
-next_text : (prefix before : List ℕ) (column col : ℕ) (p q : Setup) (ms : List Move) (i : ℕ) (f : Bool) (m : Move) → IsNext prefix column p ms i before col f q m
-    → placed_all prefix column (move_tokens true p (take (suc i) ms)) ≡ placed_all prefix column (move_tokens true p (take i ms)) ++ placed_all before col (tokens_of_move f q m)
+next_text : (prefix before : List ℕ) (column col : ℕ) (p q : Setup) (ms : List Move) (i : ℕ) (f : Bool) (m : Move)
+    → IsNext prefix column p ms i before col f q m
+    → placed_all prefix column (move_tokens true p (take (suc i) ms))
+    ≡ placed_all prefix column (move_tokens true p (take i ms)) ++ placed_all before col (tokens_of_move f q m)
 next_text prefix before column col p q ms i f m n =
     let so_far : List (List ℕ) = move_tokens true p (take i ms) in
     let next : List (List ℕ) = tokens_of_move (eqb i 0) (last p (take i ms)) m in
@@ -217,35 +290,55 @@ next_text prefix before column col p q ms i f m n =
     ∙ ap (λ v. placed_all prefix column so_far ++ v) (rw (n.prefix_is, n.column_is, n.first, n.position) refl)
 
 -- one move more was put
-pub moves_put : (a b c : OutputState) (w x y prefix before : List ℕ) (column col : ℕ) (p q : Setup) (ms : List Move) (i : ℕ) (f : Bool) (m : Move) → IsNext prefix column p ms i before col f q m
-    → TookSome a b w x (placed_all prefix column (move_tokens true p (take i ms))) → TookSome b c x y (placed_all before col (tokens_of_move f q m)) → TookSome a c w y (placed_all prefix column (move_tokens true p (take (i + 1) ms)))
+pub moves_put : (a b c : OutputState) (w x y prefix before : List ℕ) (column col : ℕ) (p q : Setup) (ms : List Move)
+    (i : ℕ) (f : Bool) (m : Move) → IsNext prefix column p ms i before col f q m
+    → TookSome a b w x (placed_all prefix column (move_tokens true p (take i ms)))
+    → TookSome b c x y (placed_all before col (tokens_of_move f q m))
+    → TookSome a c w y (placed_all prefix column (move_tokens true p (take (i + 1) ms)))
 moves_put a b c w x y prefix before column col p q ms i f m n h k =
-    rw (add-one i, next_text prefix before column col p q ms i f m n) (added_more a b c w x y (placed_all prefix column (move_tokens true p (take i ms))) (placed_all before col (tokens_of_move f q m)) h k)
+    rw (add-one i, next_text prefix before column col p q ms i f m n)
+    (added_more a b c w x y (placed_all prefix column (move_tokens true p (take i ms)))
+    (placed_all before col (tokens_of_move f q m)) h k)
 
 -- one could not be put
-pub moves_broke : (a b c : OutputState) (w x prefix before : List ℕ) (column col : ℕ) (p q : Setup) (ms : List Move) (i : ℕ) (f : Bool) (m : Move) → IsNext prefix column p ms i before col f q m
-    → TookSome a b w x (placed_all prefix column (move_tokens true p (take i ms))) → BreaksOff b c (x ++ placed_all before col (tokens_of_move f q m)) → BreaksOff a c (w ++ placed_all prefix column (move_tokens true p ms))
+pub moves_broke : (a b c : OutputState) (w x prefix before : List ℕ) (column col : ℕ) (p q : Setup) (ms : List Move)
+    (i : ℕ) (f : Bool) (m : Move) → IsNext prefix column p ms i before col f q m
+    → TookSome a b w x (placed_all prefix column (move_tokens true p (take i ms)))
+    → BreaksOff b c (x ++ placed_all before col (tokens_of_move f q m))
+    → BreaksOff a c (w ++ placed_all prefix column (move_tokens true p ms))
 moves_broke a b c w x prefix before column col p q ms i f m n h k = by_rest (moves_split true p ms (suc i))
   where
-    by_rest : (rest : List (List ℕ)) × (move_tokens true p ms ≡ move_tokens true p (take (suc i) ms) ++ rest) → BreaksOff a c (w ++ placed_all prefix column (move_tokens true p ms))
+    by_rest : (rest : List (List ℕ)) × (move_tokens true p ms ≡ move_tokens true p (take (suc i) ms) ++ rest)
+        → BreaksOff a c (w ++ placed_all prefix column (move_tokens true p ms))
     by_rest (rest, is) =
         let so_far : List ℕ = placed_all prefix column (move_tokens true p (take i ms)) in
         let text : List ℕ = placed_all prefix column (move_tokens true p (take (suc i) ms)) in
-        let behind : List ℕ = placed_all prefix (column_behind_all column (move_tokens true p (take (suc i) ms))) rest in
-        let whole : placed_all prefix column (move_tokens true p ms) ≡ text ++ behind = ap (placed_all prefix column) is ∙ placed_all-append prefix column (move_tokens true p (take (suc i) ms)) rest in
+        let behind : List ℕ = placed_all prefix (column_behind_all column (move_tokens true p (take (suc i) ms)))
+        rest in
+        let whole : placed_all prefix column (move_tokens true p ms) ≡ text ++ behind =
+        ap (placed_all prefix column) is ∙ placed_all-append prefix column (move_tokens true p (take (suc i) ms))
+        rest in
         subst (λ v. BreaksOff a c (w ++ v)) (sym whole)
         (break_longer a c w text behind
-        (subst (λ v. BreaksOff a c (w ++ v)) (sym (next_text prefix before column col p q ms i f m n)) (added_break a b c w x so_far (placed_all before col (tokens_of_move f q m)) h k)))
+        (subst (λ v. BreaksOff a c (w ++ v)) (sym (next_text prefix before column col p q ms i f m n))
+        (added_break a b c w x so_far (placed_all before col (tokens_of_move f q m)) h k)))
 
-pub columns_more : (prefix before : List ℕ) (column col new : ℕ) (p q : Setup) (ms : List Move) (i : ℕ) (f : Bool) (m : Move) → IsNext prefix column p ms i before col f q m
-    → new ≡ column_behind_all col (tokens_of_move f q m) → new ≡ column_behind_all column (move_tokens true p (take (i + 1) ms))
+pub columns_more : (prefix before : List ℕ) (column col new : ℕ) (p q : Setup) (ms : List Move) (i : ℕ) (f : Bool)
+    (m : Move) → IsNext prefix column p ms i before col f q m
+    → new ≡ column_behind_all col (tokens_of_move f q m)
+    → new ≡ column_behind_all column (move_tokens true p (take (i + 1) ms))
 columns_more prefix before column col new p q ms i f m n is =
     let so_far : List (List ℕ) = move_tokens true p (take i ms) in
     let next : List (List ℕ) = tokens_of_move (eqb i 0) (last p (take i ms)) m in
-    let here : column_behind_all col (tokens_of_move f q m) ≡ column_behind_all (column_behind_all column so_far) next = rw (n.column_is, n.first, n.position) refl in
-    let whole : column_behind_all column (move_tokens true p (take (i + 1) ms)) ≡ column_behind_all (column_behind_all column so_far) next =
-    ap (λ k. column_behind_all column (move_tokens true p (take k ms))) (add-one i) ∙ ap (column_behind_all column) (moves_more p ms i m n.move) ∙ column_behind_all-append column so_far next in
+    let here : column_behind_all col (tokens_of_move f q m) ≡ column_behind_all (column_behind_all column so_far) next =
+    rw (n.column_is, n.first, n.position) refl in
+    let whole : column_behind_all column (move_tokens true p (take (i + 1) ms))
+    ≡ column_behind_all (column_behind_all column so_far) next =
+    ap (λ k. column_behind_all column (move_tokens true p (take k ms))) (add-one i)
+    ∙ ap (column_behind_all column) (moves_more p ms i m n.move) ∙ column_behind_all-append column so_far next in
     is ∙ here ∙ sym whole
 
-pub positions_more : (p q new : Setup) (ms : List Move) (i : ℕ) (m : Move) → q ≡ last p (take i ms) → slice_get ms i ≡ Some m → new ≡ after q m → new ≡ last p (take (i + 1) ms)
-positions_more p q new ms i m same e is = is ∙ ap (λ v. after v m) same ∙ sym (last_more p ms i m e) ∙ ap (λ k. last p (take k ms)) (sym (add-one i))
+pub positions_more : (p q new : Setup) (ms : List Move) (i : ℕ) (m : Move) → q ≡ last p (take i ms)
+    → slice_get ms i ≡ Some m → new ≡ after q m → new ≡ last p (take (i + 1) ms)
+positions_more p q new ms i m same e is = is ∙ ap (λ v. after v m) same ∙ sym (last_more p ms i m e)
+    ∙ ap (λ k. last p (take k ms)) (sym (add-one i))

@@ -36,7 +36,9 @@ normal_told ((left, Tag name text string) ∷ ts) h =
     rw none.0 (normal_told ts none.1)
 normal_told ((left, Word word) ∷ ts) h = by_kind (λ e. normal_told ts e) (kind_of word) h
   where
-    by_kind : (names_no_variant ts ≡ true → variant_told Normal ts ≡ Normal) → (k : WordKind) → cond (not (is_mark_word k)) true (not false && names_no_variant ts) ≡ true → told_next Normal (behind_word Normal k) (λ u. variant_told u ts) ≡ Normal
+    by_kind : (names_no_variant ts ≡ true → variant_told Normal ts ≡ Normal) → (k : WordKind)
+        → cond (not (is_mark_word k)) true (not false && names_no_variant ts) ≡ true
+        → told_next Normal (behind_word Normal k) (λ u. variant_told u ts) ≡ Normal
     by_kind later (End o) e = refl
     by_kind later Number e = refl
     by_kind later Marks e = later e
@@ -70,12 +72,14 @@ module _ (limit total : ℕ) (g : SoFar) (normal : g.state.start.variant ≡ Nor
   word_keeps place word Marks = normal
   word_keeps place word Move = move_keeps place (reading (current g.state) word)
 
-  fen_keeps : (place : ℕ) (text : List ℕ) (r : Result Setup FenFault) → fen_reading_as Normal text ≡ r → IsNormal (fen_step g place r)
+  fen_keeps : (place : ℕ) (text : List ℕ) (r : Result Setup FenFault) → fen_reading_as Normal text ≡ r
+      → IsNormal (fen_step g place r)
   fen_keeps place text (Ok start) e = read_variant Normal text start e
   fen_keeps place text (Err fault) e = tt
 
   tag_keeps : (name text : List ℕ) (place : ℕ) → IsNormal (normal_tag_step g name text place)
-  tag_keeps name text place = pick IsNormal (bytes_eq name (codes "FEN")) _ _ (λ _. fen_keeps place text (fen_reading_as Normal text) refl) (λ _. normal)
+  tag_keeps name text place = pick IsNormal (bytes_eq name (codes "FEN")) _ _
+      (λ _. fen_keeps place text (fen_reading_as Normal text) refl) (λ _. normal)
 
   keeps : (left : ℕ) (t : Token) → IsNormal (normal_step limit total g left t)
   keeps left Skip = normal
@@ -88,24 +92,35 @@ module _ (limit total : ℕ) (g : SoFar) (normal : g.state.start.variant ≡ Nor
 
   same_tag : (name text : List ℕ) (place : ℕ) → tag_step g name text place ≡ normal_tag_step g name text place
   same_tag name text place =
-      ap (λ v. cond (bytes_eq name (codes "FEN")) (fen_step g place (fen_reading_as v text)) (On (record { state = g.state; is_met = true; is_begun = g.is_begun; termination = told_behind g.termination name text }))) normal
+      ap (λ v. cond (bytes_eq name (codes "FEN")) (fen_step g place (fen_reading_as v text))
+      (On (record {
+        state = g.state;
+        is_met = true;
+        is_begun = g.is_begun;
+        termination = told_behind g.termination name text;
+      }))) normal
 
   same_step : (left : ℕ) (t : Token) → step limit total g left t ≡ normal_step limit total g left t
   same_step left Skip = refl
-  same_step left (Tag name text string) = ap (λ s. cond g.is_begun (fails g NoResult (total - left)) s) (same_tag name text (total - string))
+  same_step left (Tag name text string) = ap (λ s. cond g.is_begun (fails g NoResult (total - left)) s)
+      (same_tag name text (total - string))
   same_step left (Word word) = refl
   same_step left Bad_tag = refl
   same_step left (Unclosed_comment brace) = refl
   same_step left Unclosed_variation = refl
   same_step left Bad = refl
 
-same_game : (limit total : ℕ) (g : SoFar) (ts : List (ℕ × Token)) → g.state.start.variant ≡ Normal → game_of limit total g ts ≡ normal_game_of limit total g ts
+same_game : (limit total : ℕ) (g : SoFar) (ts : List (ℕ × Token)) → g.state.start.variant ≡ Normal
+    → game_of limit total g ts ≡ normal_game_of limit total g ts
 same_game limit total g [] normal = refl
 same_game limit total g (t ∷ ts) normal =
     ap (λ s. go_on s (λ h. game_of limit total h ts)) (same_step limit total g normal t.0 t.1)
-    ∙ by_step ts (λ h n. same_game limit total h ts n) (normal_step limit total g t.0 t.1) (keeps limit total g normal t.0 t.1)
+    ∙ by_step ts (λ h n. same_game limit total h ts n) (normal_step limit total g t.0 t.1)
+    (keeps limit total g normal t.0 t.1)
   where
-    by_step : (ts : List (ℕ × Token)) → ((h : SoFar) → h.state.start.variant ≡ Normal → game_of limit total h ts ≡ normal_game_of limit total h ts) → (s : Step) → IsNormal s → go_on s (λ h. game_of limit total h ts) ≡ go_on s (λ h. normal_game_of limit total h ts)
+    by_step : (ts : List (ℕ × Token)) → ((h : SoFar) → h.state.start.variant ≡ Normal
+        → game_of limit total h ts ≡ normal_game_of limit total h ts) → (s : Step) → IsNormal s
+        → go_on s (λ h. game_of limit total h ts) ≡ go_on s (λ h. normal_game_of limit total h ts)
     by_step ts later (On h) n = later h n
     by_step ts later (Stop read) n = refl
 
@@ -113,13 +128,15 @@ initial_is : initial_setup_of Normal ≡ initial_setup
 unfolding initial_setup
 initial_is = refl
 
-read_so : (limit : ℕ) (text : List ℕ) (at : ℕ) → names_no_variant (tokens_from text (first_place text at)) ≡ true → pgn_read limit text at ≡ normal_read limit (length text) (tokens_from text (first_place text at))
+read_so : (limit : ℕ) (text : List ℕ) (at : ℕ) → names_no_variant (tokens_from text (first_place text at)) ≡ true
+    → pgn_read limit text at ≡ normal_read limit (length text) (tokens_from text (first_place text at))
 unfolding pgn_read
 read_so limit text at none =
     let tokens : List (ℕ × Token) = tokens_from text (first_place text at) in
     ap (λ v. game_of limit (length text) (nothing_read v) tokens) (normal_told tokens none)
     ∙ same_game limit (length text) (nothing_read Normal) tokens (initial_variant Normal)
-    ∙ ap (λ p. normal_game_of limit (length text) (record { state = from_start p; is_met = false; is_begun = false; termination = None }) tokens) initial_is
+    ∙ ap (λ p. normal_game_of limit (length text)
+    (record { state = from_start p; is_met = false; is_begun = false; termination = None }) tokens) initial_is
 
 pub normal_kept : NormalIsKept
 normal_kept = record { written = λ start t is. ap (λ v. start_lines_in v start ++ last_lines v t) is; read = read_so }

@@ -39,38 +39,56 @@ or_left : (a b : Bool) → (a || b) ≡ false → a ≡ false
 or_left true b e = absurd (cc)
 or_left false b e = refl
 
-any_more : (p : ℕ × Token → Bool) (ts : List (ℕ × Token)) (t : ℕ × Token) → list_any p (ts ++ t ∷ []) ≡ (list_any p ts || p t)
+any_more : (p : ℕ × Token → Bool) (ts : List (ℕ × Token)) (t : ℕ × Token)
+    → list_any p (ts ++ t ∷ []) ≡ (list_any p ts || p t)
 any_more p ts t = list_any-append p ts (t ∷ []) ∙ ap (λ b. list_any p ts || b) (or-false (p t))
 
 -- ---- one token more
 
-read_more : (limit : ℕ) (start : Setup) (done : List Played) (ws : List (List ℕ)) (ms : List Played) (w : List ℕ) (m : Played) → AreReadAs limit start done ws ms → verdict start (done ++ ms) ≡ None → length (done ++ ms) < limit → reading (last start (done ++ ms)) w ≡ reads.Move m
+read_more : (limit : ℕ) (start : Setup) (done : List Played) (ws : List (List ℕ)) (ms : List Played) (w : List ℕ)
+    (m : Played) → AreReadAs limit start done ws ms → verdict start (done ++ ms) ≡ None → length (done ++ ms) < limit
+    → reading (last start (done ++ ms)) w ≡ reads.Move m
     → AreReadAs limit start done (ws ++ w ∷ []) (ms ++ m ∷ [])
 read_more limit start done [] [] w m h none few k =
-    let same = append-nil done in
-    (ap (verdict start) (sym same) ∙ none, subst (λ ds. length ds < limit) same few, ap (λ ds. reading (last start ds) w) (sym same) ∙ k, tt)
+    let same = append-nil done in (
+      ap (verdict start) (sym same) ∙ none,
+      subst (λ ds. length ds < limit) same few,
+      ap (λ ds. reading (last start ds) w) (sym same) ∙ k,
+      tt,
+    )
 read_more limit start done [] (n ∷ ms) w m h none few k = absurd h
 read_more limit start done (v ∷ ws) [] w m h none few k = absurd h
 read_more limit start done (v ∷ ws) (n ∷ ms) w m h none few k =
-    let same : (done ++ n ∷ []) ++ ms ≡ done ++ n ∷ ms = append_assoc done (n ∷ []) ms in
-    (h.0, h.1, h.2, read_more limit start (done ++ n ∷ []) ws ms w m h.3 (ap (verdict start) same ∙ none) (subst (λ ds. length ds < limit) (sym same) few) (ap (λ ds. reading (last start ds) w) same ∙ k))
+    let same : (done ++ n ∷ []) ++ ms ≡ done ++ n ∷ ms = append_assoc done (n ∷ []) ms in (
+      h.0,
+      h.1,
+      h.2,
+      read_more limit start (done ++ n ∷ []) ws ms w m h.3 (ap (verdict start) same ∙ none)
+          (subst (λ ds. length ds < limit) (sym same) few) (ap (λ ds. reading (last start ds) w) same ∙ k),
+    )
 
-start_more : (v : Variant) (p : Setup) (ts : List (ℕ × Token)) (t : ℕ × Token) → start_told v p (ts ++ t ∷ []) ≡ start_by v (start_told v p ts) t.1
+start_more : (v : Variant) (p : Setup) (ts : List (ℕ × Token)) (t : ℕ × Token)
+    → start_told v p (ts ++ t ∷ []) ≡ start_by v (start_told v p ts) t.1
 start_more v p [] t = refl
 start_more v p (u ∷ ts) t = start_more v (start_by v p u.1) ts t
 
-termination_more : (o : Option Termination) (ts : List (ℕ × Token)) (t : ℕ × Token) → termination_told o (ts ++ t ∷ []) ≡ termination_by_token (termination_told o ts) t.1
+termination_more : (o : Option Termination) (ts : List (ℕ × Token)) (t : ℕ × Token)
+    → termination_told o (ts ++ t ∷ []) ≡ termination_by_token (termination_told o ts) t.1
 termination_more o [] t = refl
 termination_more o (u ∷ ts) t = termination_more (termination_by_token o u.1) ts t
 
 words_more : (ts : List (ℕ × Token)) (t : ℕ × Token) → move_words (ts ++ t ∷ []) ≡ move_words ts ++ move_words_of t.1
-words_more ts t = flat_map-append (λ (u : ℕ × Token). move_words_of u.1) ts (t ∷ []) ∙ ap (λ v. move_words ts ++ v) (append-nil (move_words_of t.1))
+words_more ts t = flat_map-append (λ (u : ℕ × Token). move_words_of u.1) ts (t ∷ [])
+    ∙ ap (λ v. move_words ts ++ v) (append-nil (move_words_of t.1))
 
-taken_more : (v : Variant) (begun : Bool) (ts : List (ℕ × Token)) (t : ℕ × Token) → can_all_be_taken v begun ts ≡ true → can_be_taken v (begun || list_any (λ u. begins u.1) ts) t.1 ≡ true → can_all_be_taken v begun (ts ++ t ∷ []) ≡ true
+taken_more : (v : Variant) (begun : Bool) (ts : List (ℕ × Token)) (t : ℕ × Token) → can_all_be_taken v begun ts ≡ true
+    → can_be_taken v (begun || list_any (λ u. begins u.1) ts) t.1 ≡ true
+    → can_all_be_taken v begun (ts ++ t ∷ []) ≡ true
 taken_more v begun [] t h k = rw (ap (λ b. can_be_taken v b t.1) (sym (or-false begun)) ∙ k) refl
 taken_more v begun (u ∷ ts) t h k =
     let both = and_parts (can_be_taken v begun u.1) (can_all_be_taken v (begun || begins u.1) ts) h in
-    let here : can_be_taken v ((begun || begins u.1) || list_any (λ w. begins w.1) ts) t.1 ≡ true = ap (λ b. can_be_taken v b t.1) (or_assoc begun (begins u.1) (list_any (λ w. begins w.1) ts)) ∙ k in
+    let here : can_be_taken v ((begun || begins u.1) || list_any (λ w. begins w.1) ts) t.1 ≡ true =
+    ap (λ b. can_be_taken v b t.1) (or_assoc begun (begins u.1) (list_any (λ w. begins w.1) ts)) ∙ k in
     rw both.0 (taken_more v (begun || begins u.1) ts t both.1 here)
 
 -- the tag FEN is not the tag Termination
@@ -106,7 +124,8 @@ module _ (limit total : ℕ) (v : Variant) where
     told : termination_by_token g.termination t ≡ h.termination
     fresh : h.is_begun ≡ false → (h.state.moves ≡ []) × (move_words done ++ move_words_of t ≡ [])
 
-  more : (done : List (ℕ × Token)) (left : ℕ) (t : Token) (g h : SoFar) → IsSoFar done g → IsNext done t g h → IsSoFar (done ++ (left, t) ∷ []) h
+  more : (done : List (ℕ × Token)) (left : ℕ) (t : Token) (g h : SoFar) → IsSoFar done g → IsNext done t g h
+      → IsSoFar (done ++ (left, t) ∷ []) h
   more done left t g h s n = record {
     can_be = taken_more v false done (left, t) s.can_be (ap (λ b. can_be_taken v b t) s.begun ∙ n.can_be);
     start = n.start ∙ ap (λ p. start_by v p t) s.start ∙ sym (start_more v (initial_setup_of v) done (left, t));
@@ -120,11 +139,14 @@ module _ (limit total : ℕ) (v : Variant) where
   }
 
   -- a token that leaves the state, and has no move
-  same_words : (done : List (ℕ × Token)) (t : Token) → move_words_of t ≡ [] → move_words done ++ move_words_of t ≡ move_words done
+  same_words : (done : List (ℕ × Token)) (t : Token) → move_words_of t ≡ []
+      → move_words done ++ move_words_of t ≡ move_words done
   same_words done t none = ap (λ ws. move_words done ++ ws) none ∙ append-nil (move_words done)
 
-  quiet : (done : List (ℕ × Token)) (t : Token) (g : SoFar) (met begun : Bool) (o : Option Termination) → IsSoFar done g → move_words_of t ≡ [] → g.state.start ≡ start_by v g.state.start t
-      → can_be_taken v g.is_begun t ≡ true → (g.is_met || counts t) ≡ met → (g.is_begun || begins t) ≡ begun → termination_by_token g.termination t ≡ o
+  quiet : (done : List (ℕ × Token)) (t : Token) (g : SoFar) (met begun : Bool) (o : Option Termination) → IsSoFar done g
+      → move_words_of t ≡ [] → g.state.start ≡ start_by v g.state.start t
+      → can_be_taken v g.is_begun t ≡ true → (g.is_met || counts t) ≡ met → (g.is_begun || begins t) ≡ begun
+      → termination_by_token g.termination t ≡ o
       → IsNext done t g (record { state = g.state; is_met = met; is_begun = begun; termination = o })
   quiet done t g met begun o s none start can is_met is_begun told = record {
     can_be = can;
@@ -150,7 +172,9 @@ module _ (limit total : ℕ) (v : Variant) where
   Leaves done t (On h) = IsSoFar (done ++ t ∷ []) h
   Leaves done t (Stop r) = IsStopped done t r
 
-  fault_leaves : (done : List (ℕ × Token)) (left : ℕ) (t : Token) (g : SoFar) (kind : PgnFaultKind) (place : ℕ) → IsSoFar done g → token_fault limit total v g.is_begun g.state left t ≡ Some (record { kind = kind; place = place }) → Leaves done (left, t) (fails g kind place)
+  fault_leaves : (done : List (ℕ × Token)) (left : ℕ) (t : Token) (g : SoFar) (kind : PgnFaultKind) (place : ℕ)
+      → IsSoFar done g → token_fault limit total v g.is_begun g.state left t
+      ≡ Some (record { kind = kind; place = place }) → Leaves done (left, t) (fails g kind place)
   fault_leaves done left t g kind place s e = record {
     can_be = s.can_be;
     start = s.start;
@@ -160,38 +184,67 @@ module _ (limit total : ℕ) (v : Variant) where
 
   -- ---- moves
 
-  module _ (done : List (ℕ × Token)) (left : ℕ) (word : List ℕ) (g : SoFar) (kind : kind_of word ≡ Move) (s : IsSoFar done g) where
-    move_fails : (r : Reading) → reading (current g.state) word ≡ r → (k : PgnFaultKind) → move_fault limit g.state r ≡ Some k → Leaves done (left, Word word) (fails g k (total - left))
+  module _ (done : List (ℕ × Token)) (left : ℕ) (word : List ℕ) (g : SoFar) (kind : kind_of word ≡ Move)
+      (s : IsSoFar done g) where
+    move_fails : (r : Reading) → reading (current g.state) word ≡ r → (k : PgnFaultKind)
+        → move_fault limit g.state r ≡ Some k → Leaves done (left, Word word) (fails g k (total - left))
     move_fails r is k e =
         fault_leaves done left (Word word) g k (total - left) s
         (ap (λ w. fault_at (total - left) (word_fault limit g.state word w)) kind
         ∙ ap (λ q. fault_at (total - left) (move_fault limit g.state q)) is
         ∙ ap (fault_at (total - left)) e)
 
-    open_leaves : (r : Reading) → reading (current g.state) word ≡ r → (o : Option PgnFaultKind) → move_fault limit g.state r ≡ unless_closed limit g.state o → (next : Step)
-        → (is_some (verdict_now g.state) ≡ false → nat_lt (length g.state.moves) limit ≡ true → Leaves done (left, Word word) next) → Leaves done (left, Word word) (unless_full limit g (total - left) next)
-    open_leaves r is o fault next later = by_tests (is_some (verdict_now g.state)) refl (nat_lt (length g.state.moves) limit) refl
+    open_leaves : (r : Reading) → reading (current g.state) word ≡ r → (o : Option PgnFaultKind)
+        → move_fault limit g.state r ≡ unless_closed limit g.state o → (next : Step)
+        → (is_some (verdict_now g.state) ≡ false → nat_lt (length g.state.moves) limit ≡ true
+        → Leaves done (left, Word word) next)
+        → Leaves done (left, Word word) (unless_full limit g (total - left) next)
+    open_leaves r is o fault next later = by_tests (is_some (verdict_now g.state)) refl
+        (nat_lt (length g.state.moves) limit) refl
       where
-        by_tests : (a : Bool) → is_some (verdict_now g.state) ≡ a → (b : Bool) → nat_lt (length g.state.moves) limit ≡ b → Leaves done (left, Word word) (cond a (fails g AfterEnd (total - left)) (cond b next (fails g TooLong (total - left))))
-        by_tests true ea b eb = move_fails r is AfterEnd (fault ∙ ap (λ x. cond x (Some AfterEnd) (cond (nat_lt (length g.state.moves) limit) o (Some TooLong))) ea)
+        by_tests : (a : Bool) → is_some (verdict_now g.state) ≡ a → (b : Bool) → nat_lt (length g.state.moves) limit ≡ b
+            → Leaves done (left, Word word) (cond a (fails g AfterEnd (total - left))
+            (cond b next (fails g TooLong (total - left))))
+        by_tests true ea b eb = move_fails r is AfterEnd
+            (fault ∙ ap (λ x. cond x (Some AfterEnd) (cond (nat_lt (length g.state.moves) limit) o (Some TooLong))) ea)
         by_tests false ea true eb = later ea eb
-        by_tests false ea false eb = move_fails r is TooLong (fault ∙ ap (λ x. cond x (Some AfterEnd) (cond (nat_lt (length g.state.moves) limit) o (Some TooLong))) ea ∙ ap (λ y. cond y o (Some TooLong)) eb)
+        by_tests false ea false eb = move_fails r is TooLong
+            (fault ∙ ap (λ x. cond x (Some AfterEnd) (cond (nat_lt (length g.state.moves) limit) o (Some TooLong))) ea
+            ∙ ap (λ y. cond y o (Some TooLong)) eb)
 
-    shut : (r : Reading) → reading (current g.state) word ≡ r → (k : PgnFaultKind) → move_fault limit g.state r ≡ unless_closed limit g.state (Some k) → Leaves done (left, Word word) (unless_full limit g (total - left) (fails g k (total - left)))
+    shut : (r : Reading) → reading (current g.state) word ≡ r → (k : PgnFaultKind)
+        → move_fault limit g.state r ≡ unless_closed limit g.state (Some k)
+        → Leaves done (left, Word word) (unless_full limit g (total - left) (fails g k (total - left)))
     shut r is k fault =
         open_leaves r is (Some k) fault (fails g k (total - left))
-        (λ ea eb. move_fails r is k (fault ∙ ap (λ x. cond x (Some AfterEnd) (cond (nat_lt (length g.state.moves) limit) (Some k) (Some TooLong))) ea ∙ ap (λ y. cond y (Some k) (Some TooLong)) eb))
+        (λ ea eb. move_fails r is k
+        (fault ∙ ap
+        (λ x. cond x (Some AfterEnd) (cond (nat_lt (length g.state.moves) limit) (Some k) (Some TooLong))) ea
+        ∙ ap (λ y. cond y (Some k) (Some TooLong)) eb))
 
     one_word : move_words_of (Word word) ≡ word ∷ []
     one_word = ap (if_move word) kind
 
-    played_next : (m : Played) → reading (current g.state) word ≡ reads.Move m → is_some (verdict_now g.state) ≡ false → nat_lt (length g.state.moves) limit ≡ true
-        → IsNext done (Word word) g (record { state = record { start = g.state.start; moves = g.state.moves ++ m ∷ []; declared = g.state.declared }; is_met = true; is_begun = true; termination = g.termination })
+    played_next : (m : Played) → reading (current g.state) word ≡ reads.Move m → is_some (verdict_now g.state) ≡ false
+        → nat_lt (length g.state.moves) limit ≡ true
+        → IsNext done (Word word) g
+        (record {
+          state = record {
+            start = g.state.start;
+            moves = g.state.moves ++ m ∷ [];
+            declared = g.state.declared;
+          };
+          is_met = true;
+          is_begun = true;
+          termination = g.termination;
+        })
     played_next m is none few = record {
       can_be = ap (λ k. not (is_outcome k)) kind;
       start = refl;
       variant = s.variant;
-      moves = subst (λ ws. AreReadAs limit g.state.start [] (move_words done ++ ws) (g.state.moves ++ m ∷ [])) (sym one_word) (read_more limit g.state.start [] (move_words done) g.state.moves word m s.moves (none_by (verdict_now g.state) none) (ltb-true (length g.state.moves) limit few) is);
+      moves = subst (λ ws. AreReadAs limit g.state.start [] (move_words done ++ ws) (g.state.moves ++ m ∷ []))
+          (sym one_word) (read_more limit g.state.start [] (move_words done) g.state.moves word m s.moves
+          (none_by (verdict_now g.state) none) (ltb-true (length g.state.moves) limit few) is);
       undeclared = s.undeclared;
       met = ap (λ k. g.is_met || is_number_or_move k) kind ∙ or-true g.is_met;
       begun = ap (λ k. g.is_begun || is_number_or_move k) kind ∙ or-true g.is_begun;
@@ -199,14 +252,17 @@ module _ (limit total : ℕ) (v : Variant) where
       fresh = λ e. absurd (cc);
     }
 
-    move_leaves : (r : Reading) → reading (current g.state) word ≡ r → Leaves done (left, Word word) (move_step limit g (total - left) r)
+    move_leaves : (r : Reading) → reading (current g.state) word ≡ r
+        → Leaves done (left, Word word) (move_step limit g (total - left) r)
     move_leaves reads.NotAMove is = move_fails reads.NotAMove is BadToken refl
     move_leaves reads.Ambiguous is = shut reads.Ambiguous is AmbiguousMove refl
     move_leaves reads.NoSuch is = shut reads.NoSuch is IllegalMove refl
     move_leaves (reads.Move m) is =
-        open_leaves (reads.Move m) is None refl _ (λ none few. more done left (Word word) g _ s (played_next m is none few))
+        open_leaves (reads.Move m) is None refl _
+        (λ none few. more done left (Word word) g _ s (played_next m is none few))
 
-  word_leaves : (done : List (ℕ × Token)) (left : ℕ) (word : List ℕ) (g : SoFar) (k : WordKind) → kind_of word ≡ k → IsSoFar done g → Leaves done (left, Word word) (word_step limit g (total - left) word k)
+  word_leaves : (done : List (ℕ × Token)) (left : ℕ) (word : List ℕ) (g : SoFar) (k : WordKind) → kind_of word ≡ k
+      → IsSoFar done g → Leaves done (left, Word word) (word_step limit g (total - left) word k)
   word_leaves done left word g (End o) kind s = record {
     can_be = s.can_be;
     start = s.start;
@@ -215,20 +271,27 @@ module _ (limit total : ℕ) (v : Variant) where
   }
   word_leaves done left word g Number kind s =
       more done left (Word word) g _ s
-      (quiet done (Word word) g true true g.termination s (ap (if_move word) kind) refl (ap (λ k. not (is_outcome k)) kind) (ap (λ k. g.is_met || is_number_or_move k) kind ∙ or-true g.is_met) (ap (λ k. g.is_begun || is_number_or_move k) kind ∙ or-true g.is_begun) refl)
+      (quiet done (Word word) g true true g.termination s (ap (if_move word) kind) refl
+      (ap (λ k. not (is_outcome k)) kind) (ap (λ k. g.is_met || is_number_or_move k) kind ∙ or-true g.is_met)
+      (ap (λ k. g.is_begun || is_number_or_move k) kind ∙ or-true g.is_begun) refl)
   word_leaves done left word g Marks kind s =
       more done left (Word word) g _ s
-      (quiet done (Word word) g g.is_met g.is_begun g.termination s (ap (if_move word) kind) refl (ap (λ k. not (is_outcome k)) kind) (ap (λ k. g.is_met || is_number_or_move k) kind ∙ or-false g.is_met) (ap (λ k. g.is_begun || is_number_or_move k) kind ∙ or-false g.is_begun) refl)
+      (quiet done (Word word) g g.is_met g.is_begun g.termination s (ap (if_move word) kind) refl
+      (ap (λ k. not (is_outcome k)) kind) (ap (λ k. g.is_met || is_number_or_move k) kind ∙ or-false g.is_met)
+      (ap (λ k. g.is_begun || is_number_or_move k) kind ∙ or-false g.is_begun) refl)
   word_leaves done left word g Move kind s = move_leaves done left word g kind s (reading (current g.state) word) refl
 
   -- ---- tags
 
-  module _ (done : List (ℕ × Token)) (left string : ℕ) (name text : List ℕ) (g : SoFar) (open_yet : g.is_begun ≡ false) (s : IsSoFar done g) where
+  module _ (done : List (ℕ × Token)) (left string : ℕ) (name text : List ℕ) (g : SoFar) (open_yet : g.is_begun ≡ false)
+      (s : IsSoFar done g) where
     same : (r : Result Setup FenFault) → fen_reading_as g.state.start.variant text ≡ r → fen_reading_as v text ≡ r
     same r e = ap (λ u. fen_reading_as u text) (sym s.variant) ∙ e
 
-    fen_leaves : is_fen name ≡ true → (r : Result Setup FenFault) → fen_reading_as v text ≡ r → Leaves done (left, Tag name text string) (fen_step g (total - string) r)
-    fen_leaves e (Err fault) f = fault_leaves done left (Tag name text string) g BadFen (total - string) s (rw (open_yet, e, f) refl)
+    fen_leaves : is_fen name ≡ true → (r : Result Setup FenFault) → fen_reading_as v text ≡ r
+        → Leaves done (left, Tag name text string) (fen_step g (total - string) r)
+    fen_leaves e (Err fault) f = fault_leaves done left (Tag name text string) g BadFen (total - string) s
+        (rw (open_yet, e, f) refl)
     fen_leaves e (Ok start) f =
         let none : move_words done ++ [] ≡ [] = append-nil (move_words done) ∙ (s.fresh open_yet).1 in
         more done left (Tag name text string) g _ s (record {
@@ -243,43 +306,93 @@ module _ (limit total : ℕ) (v : Variant) where
           fresh = λ x. (refl, none);
         })
 
-    tag_leaves : (b : Bool) → is_fen name ≡ b → Leaves done (left, Tag name text string) (cond b (fen_step g (total - string) (fen_reading_as g.state.start.variant text)) (On (record { state = g.state; is_met = true; is_begun = g.is_begun; termination = told_behind g.termination name text })))
+    tag_leaves : (b : Bool) → is_fen name ≡ b
+        → Leaves done (left, Tag name text string)
+        (cond b (fen_step g (total - string) (fen_reading_as g.state.start.variant text))
+        (On (record {
+          state = g.state;
+          is_met = true;
+          is_begun = g.is_begun;
+          termination = told_behind g.termination name text;
+        })))
     tag_leaves true e = fen_leaves e (fen_reading_as g.state.start.variant text) (same _ refl)
     tag_leaves false e =
         more done left (Tag name text string) g _ s
-        (quiet done (Tag name text string) g true g.is_begun (told_behind g.termination name text) s refl (rw e refl) (rw (open_yet, e) refl) (or-true g.is_met) (or-false g.is_begun) refl)
+        (quiet done (Tag name text string) g true g.is_begun (told_behind g.termination name text) s refl (rw e refl)
+        (rw (open_yet, e) refl) (or-true g.is_met) (or-false g.is_begun) refl)
 
   -- ---- all tokens
 
-  step_leaves : (done : List (ℕ × Token)) (left : ℕ) (t : Token) (g : SoFar) → IsSoFar done g → Leaves done (left, t) (step limit total g left t)
-  step_leaves done left Skip g s = more done left Skip g g s (quiet done Skip g g.is_met g.is_begun g.termination s refl refl refl (or-false g.is_met) (or-false g.is_begun) refl)
+  step_leaves : (done : List (ℕ × Token)) (left : ℕ) (t : Token) (g : SoFar) → IsSoFar done g
+      → Leaves done (left, t) (step limit total g left t)
+  step_leaves done left Skip g s = more done left Skip g g s
+      (quiet done Skip g g.is_met g.is_begun g.termination s refl refl refl (or-false g.is_met) (or-false g.is_begun)
+      refl)
   step_leaves done left (Tag name text string) g s = by_begun g.is_begun refl
     where
-      by_begun : (b : Bool) → g.is_begun ≡ b → Leaves done (left, Tag name text string) (cond b (fails g NoResult (total - left)) (tag_step g name text (total - string)))
+      by_begun : (b : Bool) → g.is_begun ≡ b → Leaves done (left, Tag name text string)
+          (cond b (fails g NoResult (total - left)) (tag_step g name text (total - string)))
       by_begun true e = fault_leaves done left (Tag name text string) g NoResult (total - left) s (rw e refl)
       by_begun false e = tag_leaves done left string name text g e s (is_fen name) refl
   step_leaves done left (Word word) g s = word_leaves done left word g (kind_of word) refl s
   step_leaves done left Bad_tag g s = fault_leaves done left Bad_tag g _ (total - left) s refl
-  step_leaves done left (Unclosed_comment brace) g s = fault_leaves done left (Unclosed_comment brace) g UnclosedComment (total - brace) s refl
-  step_leaves done left Unclosed_variation g s = fault_leaves done left Unclosed_variation g UnclosedVariation (total - left) s refl
+  step_leaves done left (Unclosed_comment brace) g s =
+      fault_leaves done left (Unclosed_comment brace) g UnclosedComment (total - brace) s refl
+  step_leaves done left Unclosed_variation g s =
+      fault_leaves done left Unclosed_variation g UnclosedVariation (total - left) s refl
   step_leaves done left Bad g s = fault_leaves done left Bad g BadToken (total - left) s refl
 
-  of_tokens : (tokens done ts : List (ℕ × Token)) (g : SoFar) → done ++ ts ≡ tokens → IsSoFar done g → IsOfTokens limit total v tokens (game_of limit total g ts)
-  of_tokens tokens done [] g all s = record { taken = done; others = []; all = all; can_be = s.can_be; start = s.start; moves = s.moves; stop = at_end g.is_met s.met }
+  of_tokens : (tokens done ts : List (ℕ × Token)) (g : SoFar) → done ++ ts ≡ tokens → IsSoFar done g
+      → IsOfTokens limit total v tokens (game_of limit total g ts)
+  of_tokens tokens done [] g all s = record {
+    taken = done;
+    others = [];
+    all = all;
+    can_be = s.can_be;
+    start = s.start;
+    moves = s.moves;
+    stop = at_end g.is_met s.met;
+  }
     where
-      at_end : (met : Bool) → list_any (λ t. counts t.1) done ≡ met → StopsAt limit total v done [] g.state (cond met (Err (record { kind = NoResult; place = total })) (Ok None))
+      at_end : (met : Bool) → list_any (λ t. counts t.1) done ≡ met
+          → StopsAt limit total v done [] g.state (cond met (Err (record { kind = NoResult; place = total })) (Ok None))
       at_end true e = (s.undeclared, e, refl)
       at_end false e = (s.undeclared, e)
-  of_tokens tokens done (t ∷ ts) g all s = by_step tokens done t ts all (λ k l. of_tokens tokens (done ++ t ∷ []) ts k (append_assoc done (t ∷ []) ts ∙ all) l) (step limit total g t.0 t.1) (step_leaves done t.0 t.1 g s)
+  of_tokens tokens done (t ∷ ts) g all s = by_step tokens done t ts all
+      (λ k l. of_tokens tokens (done ++ t ∷ []) ts k (append_assoc done (t ∷ []) ts ∙ all) l)
+      (step limit total g t.0 t.1) (step_leaves done t.0 t.1 g s)
     where
-      by_step : (tokens done : List (ℕ × Token)) (t : ℕ × Token) (ts : List (ℕ × Token)) → done ++ t ∷ ts ≡ tokens → ((k : SoFar) → IsSoFar (done ++ t ∷ []) k → IsOfTokens limit total v tokens (game_of limit total k ts)) → (x : Step) → Leaves done t x → IsOfTokens limit total v tokens (go_on x (λ k. game_of limit total k ts))
-      by_step tokens done t ts all later (Stop r) k = record { taken = done; others = t ∷ ts; all = all; can_be = k.can_be; start = k.start; moves = k.moves; stop = k.stop ts }
+      by_step : (tokens done : List (ℕ × Token)) (t : ℕ × Token) (ts : List (ℕ × Token)) → done ++ t ∷ ts ≡ tokens
+          → ((k : SoFar) → IsSoFar (done ++ t ∷ []) k → IsOfTokens limit total v tokens (game_of limit total k ts))
+          → (x : Step) → Leaves done t x → IsOfTokens limit total v tokens (go_on x (λ k. game_of limit total k ts))
+      by_step tokens done t ts all later (Stop r) k =
+          record {
+            taken = done;
+            others = t ∷ ts;
+            all = all;
+            can_be = k.can_be;
+            start = k.start;
+            moves = k.moves;
+            stop = k.stop ts;
+          }
       by_step tokens done t ts all later (On k) l = later k l
 
-pub game_of_tokens : (limit : ℕ) (text : List ℕ) (at : ℕ) → IsOfTokens limit (length text) (variant_told Normal (tokens_from text (first_place text at))) (tokens_from text (first_place text at)) (pgn_read limit text at)
+pub game_of_tokens : (limit : ℕ) (text : List ℕ) (at : ℕ)
+    → IsOfTokens limit (length text) (variant_told Normal (tokens_from text (first_place text at)))
+    (tokens_from text (first_place text at)) (pgn_read limit text at)
 unfolding pgn_read
 game_of_tokens limit text at =
     let tokens : List (ℕ × Token) = tokens_from text (first_place text at) in
     let v : Variant = variant_told Normal tokens in
     of_tokens limit (length text) v tokens [] tokens (nothing_read v) refl
-    (record { can_be = refl; start = refl; variant = initial_variant v; moves = tt; undeclared = refl; met = refl; begun = refl; told = refl; fresh = λ e. (refl, refl) })
+    (record {
+      can_be = refl;
+      start = refl;
+      variant = initial_variant v;
+      moves = tt;
+      undeclared = refl;
+      met = refl;
+      begun = refl;
+      told = refl;
+      fresh = λ e. (refl, refl);
+    })

@@ -47,11 +47,19 @@ record EndsWord (text : List ℕ) : Type 0 where
   off : is_word_byte first ≡ false
 
 -- what follows a token does
-filled_ends : (column : ℕ) (ts : List (List ℕ)) (rest : List ℕ) → 0 < column → EndsWord (filled_from [] column ts ++ rest)
-filled_ends column [] rest some = record { first = 10; rest = rest; is = ap (λ xs. xs ++ rest) (close_after column some); off = refl }
-filled_ends column (t ∷ ts) rest some = by_test (eqb column 0) (grind (arith, nat_tests)) (leb (column + 1 + length t) 79) (filled_from [] (column_behind column t) ts)
+filled_ends : (column : ℕ) (ts : List (List ℕ)) (rest : List ℕ) → 0 < column
+    → EndsWord (filled_from [] column ts ++ rest)
+filled_ends column [] rest some = record {
+  first = 10;
+  rest = rest;
+  is = ap (λ xs. xs ++ rest) (close_after column some);
+  off = refl;
+}
+filled_ends column (t ∷ ts) rest some = by_test (eqb column 0) (grind (arith, nat_tests))
+    (leb (column + 1 + length t) 79) (filled_from [] (column_behind column t) ts)
   where
-    by_test : (a : Bool) → a ≡ false → (b : Bool) (more : List ℕ) → EndsWord ((cond a t (cond b (32 ∷ t) (10 ∷ t)) ++ more) ++ rest)
+    by_test : (a : Bool) → a ≡ false → (b : Bool) (more : List ℕ)
+        → EndsWord ((cond a t (cond b (32 ∷ t) (10 ∷ t)) ++ more) ++ rest)
     by_test true e b more = absurd (cc)
     by_test false e true more = record { first = 32; rest = (t ++ more) ++ rest; is = refl; off = refl }
     by_test false e false more = record { first = 10; rest = (t ++ more) ++ rest; is = refl; off = refl }
@@ -65,11 +73,21 @@ placed_long column t = by_test (eqb column 0) (leb (column + 1 + length t) 79)
     by_test false false = omega arith
 
 -- the last token and the end of its line are part of the text
-pub filled_long : (column : ℕ) (ts : List (List ℕ)) (t : List ℕ) → 0 < length t → length t < length (filled_from [] column (ts ++ t ∷ []))
+pub filled_long : (column : ℕ) (ts : List (List ℕ)) (t : List ℕ) → 0 < length t
+    → length t < length (filled_from [] column (ts ++ t ∷ []))
 filled_long column [] t some =
-    omega (arith, length-append (placed [] column t) (line_close (column_behind column t)), placed_long column t, ap length (close_after (column_behind column t) (column_after column t some)))
+    omega (
+      arith,
+      length-append (placed [] column t) (line_close (column_behind column t)),
+      placed_long column t,
+      ap length (close_after (column_behind column t) (column_after column t some)),
+    )
 filled_long column (u ∷ ts) t some =
-    omega (arith, length-append (placed [] column u) (filled_from [] (column_behind column u) (ts ++ t ∷ [])), filled_long (column_behind column u) ts t some)
+    omega (
+      arith,
+      length-append (placed [] column u) (filled_from [] (column_behind column u) (ts ++ t ∷ [])),
+      filled_long (column_behind column u) ts t some,
+    )
 
 pub outcome_some : (o : Outcome) → 0 < length (outcome_text o)
 outcome_some WhiteWins = omega arith
@@ -81,7 +99,12 @@ outcome_some Unfinished = omega arith
 
 -- so many of them were read; a first number may be behind them
 abbrev pub read_so_far : Option Termination → Setup → List Move → Bool → SoFar
-read_so_far t start done is_begun = record { state = record { start = start; moves = done; declared = None }; is_met = true; is_begun = is_begun; termination = t }
+read_so_far t start done is_begun = record {
+  state = record { start = start; moves = done; declared = None };
+  is_met = true;
+  is_begun = is_begun;
+  termination = t;
+}
 
 last-more : (start : Setup) (done : List Move) (m : Move) → last start (done ++ m ∷ []) ≡ after (last start done) m
 last-more start [] m = refl
@@ -89,7 +112,9 @@ last-more start (x ∷ done) m = last-more (after start x) done m
 
 module _ (limit total : ℕ) where
   -- what stands before a token in its line is skipped
-  placed_read : (g : SoFar) (begins : Bool) (column : ℕ) (t more : List ℕ) (r : GameRead) → ((b : Bool) → read_on limit total g b (t ++ more) ≡ r) → read_on limit total g begins (placed [] column t ++ more) ≡ r
+  placed_read : (g : SoFar) (begins : Bool) (column : ℕ) (t more : List ℕ) (r : GameRead)
+      → ((b : Bool) → read_on limit total g b (t ++ more) ≡ r)
+      → read_on limit total g begins (placed [] column t ++ more) ≡ r
   placed_read g begins column t more r reads = by_test (eqb column 0) (leb (column + 1 + length t) 79)
     where
       by_test : (a b : Bool) → read_on limit total g begins (cond a t (cond b (32 ∷ t) (10 ∷ t)) ++ more) ≡ r
@@ -98,39 +123,50 @@ module _ (limit total : ℕ) where
       by_test false false = skip_line_end limit total g begins (t ++ more) ∙ reads true
 
   -- a token, and what follows it
-  token_read : (g h : SoFar) (begins : Bool) (column : ℕ) (t : List ℕ) (ts : List (List ℕ)) (rest : List ℕ) (r : GameRead) → Takes limit total g h t → 0 < length t
-      → read_on limit total h false (filled_from [] (column_behind column t) ts ++ rest) ≡ r → read_on limit total g begins (filled_from [] column (t ∷ ts) ++ rest) ≡ r
+  token_read : (g h : SoFar) (begins : Bool) (column : ℕ) (t : List ℕ) (ts : List (List ℕ)) (rest : List ℕ)
+      (r : GameRead) → Takes limit total g h t → 0 < length t
+      → read_on limit total h false (filled_from [] (column_behind column t) ts ++ rest) ≡ r
+      → read_on limit total g begins (filled_from [] column (t ∷ ts) ++ rest) ≡ r
   token_read g h begins column t ts rest r takes some reads =
       let more : List ℕ = filled_from [] (column_behind column t) ts in
       let next = filled_ends (column_behind column t) ts rest (column_after column t some) in
       ap (read_on limit total g begins) (append_assoc (placed [] column t) more rest)
       ∙ placed_read g begins column t (more ++ rest) r (λ b.
-      ap (λ xs. read_on limit total g b (t ++ xs)) next.is ∙ takes b next.first next.rest next.off ∙ ap (read_on limit total h false) (sym next.is) ∙ reads)
+      ap (λ xs. read_on limit total g b (t ++ xs)) next.is ∙ takes b next.first next.rest next.off
+      ∙ ap (read_on limit total h false) (sym next.is) ∙ reads)
 
   -- the last token, which is the outcome
-  pub outcome_read : (g : SoFar) (begins : Bool) (column : ℕ) (o : Outcome) (rest : List ℕ) → read_on limit total g begins (filled_from [] column (outcome_text o ∷ []) ++ rest) ≡ ended_game g.termination g.state o (total - length (outcome_text o ++ 10 ∷ rest) + length (outcome_text o))
+  pub outcome_read : (g : SoFar) (begins : Bool) (column : ℕ) (o : Outcome) (rest : List ℕ)
+      → read_on limit total g begins (filled_from [] column (outcome_text o ∷ []) ++ rest)
+      ≡ ended_game g.termination g.state o (total - length (outcome_text o ++ 10 ∷ rest) + length (outcome_text o))
   outcome_read g begins column o rest =
       let t : List ℕ = outcome_text o in
       ap (read_on limit total g begins) (append_assoc (placed [] column t) (line_close (column_behind column t)) rest)
       ∙ placed_read g begins column t (line_close (column_behind column t) ++ rest) _ (λ b.
-      ap (λ xs. read_on limit total g b (t ++ (xs ++ rest))) (close_after (column_behind column t) (column_after column t (outcome_some o)))
+      ap (λ xs. read_on limit total g b (t ++ (xs ++ rest)))
+      (close_after (column_behind column t) (column_after column t (outcome_some o)))
       ∙ outcome_ends limit total g o b 10 rest refl)
 
   -- ---- the moves of a game
 
   -- what is read from there is the same wherever a line began
   abbrev pub Reads : Option Termination → Setup → List Move → List (List ℕ) → List ℕ → GameRead → Type 0
-  Reads told start done ts rest r = (is_begun begins : Bool) (column : ℕ) → read_on limit total (read_so_far told start done is_begun) begins (filled_from [] column ts ++ rest) ≡ r
+  Reads told start done ts rest r = (is_begun begins : Bool) (column : ℕ)
+      → read_on limit total (read_so_far told start done is_begun) begins (filled_from [] column ts ++ rest) ≡ r
 
-  number_read : (told : Option Termination) (start : Setup) (done : List Move) (c : Colour) (is_first : Bool) (n : ℕ) (ts : List (List ℕ)) (rest : List ℕ) (r : GameRead) → n ≤ 999999 → Reads told start done ts rest r → Reads told start done (number_token c is_first n ++ ts) rest r
+  number_read : (told : Option Termination) (start : Setup) (done : List Move) (c : Colour) (is_first : Bool) (n : ℕ)
+      (ts : List (List ℕ)) (rest : List ℕ) (r : GameRead) → n ≤ 999999 → Reads told start done ts rest r
+      → Reads told start done (number_token c is_first n ++ ts) rest r
   number_read told start done White is_first n ts rest r h reads is_begun begins column =
       let g : SoFar = read_so_far told start done is_begun in
       let t : List ℕ = decimal n ++ codes "." in
-      token_read g (begun g) begins column t ts rest r (white_number limit total g n h) (omega (arith, length-append (decimal n) (codes "."))) (reads true false (column_behind column t))
+      token_read g (begun g) begins column t ts rest r (white_number limit total g n h)
+      (omega (arith, length-append (decimal n) (codes "."))) (reads true false (column_behind column t))
   number_read told start done Black true n ts rest r h reads is_begun begins column =
       let g : SoFar = read_so_far told start done is_begun in
       let t : List ℕ = decimal n ++ codes "..." in
-      token_read g (begun g) begins column t ts rest r (black_number limit total g n h) (omega (arith, length-append (decimal n) (codes "..."))) (reads true false (column_behind column t))
+      token_read g (begun g) begins column t ts rest r (black_number limit total g n h)
+      (omega (arith, length-append (decimal n) (codes "..."))) (reads true false (column_behind column t))
   number_read told start done Black false n ts rest r h reads is_begun begins column = reads is_begun begins column
 
   -- the whole game that is read
@@ -138,18 +174,31 @@ module _ (limit total : ℕ) where
     pub few : length all ≤ limit
     pub unended : (k : ℕ) → k < length all → verdict start (take k all) ≡ None
 
-  pub moves_read : AfterIsSound → (told : Option Termination) (start : Setup) (all : List Move) → IsWhole start all → (last_token rest : List ℕ) (r : GameRead) → Reads told start all (last_token ∷ []) rest r
-      → (is_first : Bool) (p : Setup) (done ms : List Move) → done ++ ms ≡ all → last start done ≡ p → IsSound p → IsLine p ms → Reads told start done (move_tokens is_first p ms ++ last_token ∷ []) rest r
+  pub moves_read : AfterIsSound → (told : Option Termination) (start : Setup) (all : List Move) → IsWhole start all
+      → (last_token rest : List ℕ) (r : GameRead) → Reads told start all (last_token ∷ []) rest r
+      → (is_first : Bool) (p : Setup) (done ms : List Move) → done ++ ms ≡ all → last start done ≡ p → IsSound p
+      → IsLine p ms → Reads told start done (move_tokens is_first p ms ++ last_token ∷ []) rest r
   moves_read law told start all whole o rest r ended is_first p done [] same at sound line is_begun begins column =
-      ap (λ d. read_on limit total (read_so_far told start d is_begun) begins (filled_from [] column (o ∷ []) ++ rest)) (sym (append-nil done) ∙ same) ∙ ended is_begun begins column
-  moves_read law told start all whole o rest r ended is_first p done (m ∷ ms) same at sound line is_begun begins column =
+      ap (λ d. read_on limit total (read_so_far told start d is_begun) begins (filled_from [] column (o ∷ []) ++ rest))
+      (sym (append-nil done) ∙ same) ∙ ended is_begun begins column
+  moves_read law told start all whole o rest r ended is_first p done (m ∷ ms) same at sound line is_begun begins
+      column =
       let more : List (List ℕ) = move_tokens false (after p m) ms ++ o ∷ [] in
       let count : length all ≡ length done + suc (length ms) = ap length (sym same) ∙ length-append done (m ∷ ms) in
       let here : take (length done) all ≡ done = ap (take (length done)) (sym same) ∙ take-append_seam done (m ∷ ms) in
-      let open_yet : verdict start done ≡ None = ap (verdict start) (sym here) ∙ whole.unended (length done) (omega arith) in
+      let open_yet : verdict start done ≡ None =
+      ap (verdict start) (sym here) ∙ whole.unended (length done) (omega arith) in
       let room : length done < limit = omega (arith, whole.few) in
-      let behind = moves_read law told start all whole o rest r ended false (after p m) (done ++ m ∷ []) ms (append_assoc done (m ∷ []) ms ∙ same) (last-more start done m ∙ ap (λ q. after q m) at) (law p m sound line.0) line.1 in
-      let tokens : move_tokens is_first p (m ∷ ms) ++ o ∷ [] ≡ number_token p.side is_first p.fullmove ++ san p m ∷ more = simp append_assoc in
-      ap (λ ts. read_on limit total (read_so_far told start done is_begun) begins (filled_from [] column ts ++ rest)) tokens
-      ∙ number_read told start done p.side is_first p.fullmove (san p m ∷ more) rest r (leb-true _ _ sound.fullmove_high) (λ x b k.
-      token_read (read_so_far told start done x) (read_so_far told start (done ++ m ∷ []) true) b k (san p m) more rest r (san_takes limit total (read_so_far told start done x) p m sound line.0 at open_yet room) (omega (arith, (san_short p m sound line.0).0)) (behind true false (column_behind k (san p m)))) is_begun begins column
+      let behind = moves_read law told start all whole o rest r ended false (after p m) (done ++ m ∷ []) ms
+      (append_assoc done (m ∷ []) ms ∙ same) (last-more start done m ∙ ap (λ q. after q m) at)
+      (law p m sound line.0) line.1 in
+      let tokens : move_tokens is_first p (m ∷ ms) ++ o ∷ [] ≡ number_token p.side is_first p.fullmove
+      ++ san p m ∷ more = simp append_assoc in
+      ap (λ ts. read_on limit total (read_so_far told start done is_begun) begins (filled_from [] column ts ++ rest))
+      tokens
+      ∙ number_read told start done p.side is_first p.fullmove (san p m ∷ more) rest r
+      (leb-true _ _ sound.fullmove_high) (λ x b k.
+      token_read (read_so_far told start done x) (read_so_far told start (done ++ m ∷ []) true) b k (san p m) more rest
+      r (san_takes limit total (read_so_far told start done x) p m sound line.0 at open_yet room)
+      (omega (arith, (san_short p m sound line.0).0)) (behind true false (column_behind k (san p m)))) is_begun
+      begins column

@@ -51,7 +51,10 @@ moved g m = record { state = played g.state m; is_met = true; is_begun = true; t
 
 -- ended by an outcome's word
 abbrev pub ended_game : Option Termination → State → Outcome → ℕ → GameRead
-ended_game t s o place = record { state = with_declared s (declared_behind (is_some (verdict_now s)) o); answer = Ok (Some (record { outcome = o; termination = t; place = place })) }
+ended_game t s o place = record {
+  state = with_declared s (declared_behind (is_some (verdict_now s)) o);
+  answer = Ok (Some (record { outcome = o; termination = t; place = place }));
+}
 
 -- ---- the termination that a tag tells
 
@@ -81,20 +84,24 @@ termination_back ending.Unterminated = refl
 module _ (limit total : ℕ) where
   -- what follows the first token's step
   behind_step : SoFar → ℕ → Token × List ℕ → ℕ → ℕ → GameRead
-  behind_step g c t left most = go_on (step limit total g left t.0) (λ h. game_of limit total h (tokens_of most (eqb c 10) t.1))
+  behind_step g c t left most = go_on (step limit total g left t.0)
+      (λ h. game_of limit total h (tokens_of most (eqb c 10) t.1))
 
   -- reading goes on behind a token
-  pub token_on : (g h : SoFar) (begins : Bool) (c : ℕ) (rest : List ℕ) (token : Token) (behind : List ℕ) → token_at begins c rest ≡ (token, behind) → step limit total g (suc (length rest)) token ≡ On h
+  pub token_on : (g h : SoFar) (begins : Bool) (c : ℕ) (rest : List ℕ) (token : Token) (behind : List ℕ)
+      → token_at begins c rest ≡ (token, behind) → step limit total g (suc (length rest)) token ≡ On h
       → read_on limit total g begins (c ∷ rest) ≡ read_on limit total h (eqb c 10) behind
   unfolding tokens_of behind_step
   token_on g h begins c rest token behind is next =
-      let few : length behind ≤ length rest = subst (λ (t : Token × List ℕ). length t.1 ≤ length rest) is (shorter begins c rest) in
+      let few : length behind ≤ length rest =
+      subst (λ (t : Token × List ℕ). length t.1 ≤ length rest) is (shorter begins c rest) in
       ap (λ (t : Token × List ℕ). behind_step g c t (suc (length rest)) (length rest)) is
       ∙ ap (λ s. go_on s (λ k. game_of limit total k (tokens_of (length rest) (eqb c 10) behind))) next
       ∙ ap (game_of limit total h) (enough (length rest) (length behind) (eqb c 10) behind few (omega arith))
 
   -- reading ends at a token
-  pub token_ends : (g : SoFar) (begins : Bool) (c : ℕ) (rest : List ℕ) (token : Token) (behind : List ℕ) (r : GameRead) → token_at begins c rest ≡ (token, behind) → step limit total g (suc (length rest)) token ≡ Stop r
+  pub token_ends : (g : SoFar) (begins : Bool) (c : ℕ) (rest : List ℕ) (token : Token) (behind : List ℕ) (r : GameRead)
+      → token_at begins c rest ≡ (token, behind) → step limit total g (suc (length rest)) token ≡ Stop r
       → read_on limit total g begins (c ∷ rest) ≡ r
   unfolding tokens_of behind_step
   token_ends g begins c rest token behind r is next =
@@ -103,17 +110,20 @@ module _ (limit total : ℕ) where
 
   -- ---- skipped bytes
 
-  pub skip_space : (g : SoFar) (begins : Bool) (rest : List ℕ) → read_on limit total g begins (32 ∷ rest) ≡ read_on limit total g false rest
+  pub skip_space : (g : SoFar) (begins : Bool) (rest : List ℕ)
+      → read_on limit total g begins (32 ∷ rest) ≡ read_on limit total g false rest
   unfolding token_at
   skip_space g true rest = token_on g g true 32 rest Skip rest refl refl
   skip_space g false rest = token_on g g false 32 rest Skip rest refl refl
 
-  pub skip_line_end : (g : SoFar) (begins : Bool) (rest : List ℕ) → read_on limit total g begins (10 ∷ rest) ≡ read_on limit total g true rest
+  pub skip_line_end : (g : SoFar) (begins : Bool) (rest : List ℕ)
+      → read_on limit total g begins (10 ∷ rest) ≡ read_on limit total g true rest
   unfolding token_at
   skip_line_end g true rest = token_on g g true 10 rest Skip rest refl refl
   skip_line_end g false rest = token_on g g false 10 rest Skip rest refl refl
 
-  skip_dot : (g : SoFar) (begins : Bool) (rest : List ℕ) → read_on limit total g begins (46 ∷ rest) ≡ read_on limit total g false rest
+  skip_dot : (g : SoFar) (begins : Bool) (rest : List ℕ)
+      → read_on limit total g begins (46 ∷ rest) ≡ read_on limit total g false rest
   unfolding token_at
   skip_dot g true rest = token_on g g true 46 rest Skip rest refl refl
   skip_dot g false rest = token_on g g false 46 rest Skip rest refl refl
@@ -122,20 +132,24 @@ module _ (limit total : ℕ) where
 
   -- a text takes the game from one to another, where a byte of no word follows
   abbrev pub Takes : SoFar → SoFar → List ℕ → Type 0
-  Takes g h text = (begins : Bool) (d : ℕ) (rest : List ℕ) → is_word_byte d ≡ false → read_on limit total g begins (text ++ d ∷ rest) ≡ read_on limit total h false (d ∷ rest)
+  Takes g h text = (begins : Bool) (d : ℕ) (rest : List ℕ) → is_word_byte d ≡ false
+      → read_on limit total g begins (text ++ d ∷ rest) ≡ read_on limit total h false (d ∷ rest)
 
-  word_takes : (g h : SoFar) (word : List ℕ) → 0 < length word → list_all is_word_byte word ≡ true → ((place : ℕ) → word_step limit g place word (kind_of word) ≡ On h) → Takes g h word
+  word_takes : (g h : SoFar) (word : List ℕ) → 0 < length word → list_all is_word_byte word ≡ true
+      → ((place : ℕ) → word_step limit g place word (kind_of word) ≡ On h) → Takes g h word
   word_takes g h [] some all next = absurd (omega arith)
   word_takes g h (c ∷ cs) some all next = λ begins d rest ends.
       let here = (and_parts (is_word_byte c) (list_all is_word_byte cs) all).0 in
-      token_on g h begins c (cs ++ d ∷ rest) (Word (c ∷ cs)) (d ∷ rest) (word_token begins c cs d rest all ends) (next (total - suc (length (cs ++ d ∷ rest))))
+      token_on g h begins c (cs ++ d ∷ rest) (Word (c ∷ cs)) (d ∷ rest) (word_token begins c cs d rest all ends)
+      (next (total - suc (length (cs ++ d ∷ rest))))
       ∙ ap (λ b. read_on limit total h b (d ∷ rest)) (not_byte is_word_byte 10 c refl here)
 
   -- a number, and the dots behind it
   number_takes : (g : SoFar) (n : ℕ) → n ≤ 999999 → Takes g (begun g) (decimal n)
   number_takes g n h =
       let digits = decimal_digits n h in
-      word_takes g (begun g) (decimal n) (decimal_some n h) (number_bytes (decimal n) digits) (λ place. ap (word_step limit g place (decimal n)) (number_kind (decimal n) digits))
+      word_takes g (begun g) (decimal n) (decimal_some n h) (number_bytes (decimal n) digits)
+      (λ place. ap (word_step limit g place (decimal n)) (number_kind (decimal n) digits))
 
   pub white_number : (g : SoFar) (n : ℕ) → n ≤ 999999 → Takes g (begun g) (decimal n ++ codes ".")
   white_number g n h = λ begins d rest ends.
@@ -152,57 +166,85 @@ module _ (limit total : ℕ) where
       ∙ skip_dot (begun g) false (d ∷ rest)
 
   -- a legal move, where there is no verdict and the limit admits one more
-  san_step : (g : SoFar) (place : ℕ) (p : Setup) (m : Move) → IsSound p → IsTrue (is_legal p m) → current g.state ≡ p → verdict_now g.state ≡ None → length g.state.moves < limit → move_step limit g place (reading (current g.state) (san p m)) ≡ On (moved g m)
+  san_step : (g : SoFar) (place : ℕ) (p : Setup) (m : Move) → IsSound p → IsTrue (is_legal p m) → current g.state ≡ p
+      → verdict_now g.state ≡ None → length g.state.moves < limit
+      → move_step limit g place (reading (current g.state) (san p m)) ≡ On (moved g m)
   san_step g place p m sound legal at none few =
       let room : nat_lt (length g.state.moves) limit ≡ true = grind (arith, nat_tests) in
       ap (λ q. move_step limit g place (reading q (san p m))) at
       ∙ ap (move_step limit g place) (san_read p m sound legal)
       ∙ rw (none, room) refl
 
-  pub san_takes : (g : SoFar) (p : Setup) (m : Move) → IsSound p → IsTrue (is_legal p m) → current g.state ≡ p → verdict_now g.state ≡ None → length g.state.moves < limit → Takes g (moved g m) (san p m)
+  pub san_takes : (g : SoFar) (p : Setup) (m : Move) → IsSound p → IsTrue (is_legal p m) → current g.state ≡ p
+      → verdict_now g.state ≡ None → length g.state.moves < limit → Takes g (moved g m) (san p m)
   san_takes g p m sound legal at none few =
-      word_takes g (moved g m) (san p m) (omega (arith, (san_short p m sound legal).0)) (san_bytes_in_word (san p m) (san_bytes p m sound legal)) (λ place. ap (word_step limit g place (san p m)) (move_kind (san p m) (san_letter p m sound legal)) ∙ san_step g place p m sound legal at none few)
+      word_takes g (moved g m) (san p m) (omega (arith, (san_short p m sound legal).0))
+      (san_bytes_in_word (san p m) (san_bytes p m sound legal))
+      (λ place. ap (word_step limit g place (san p m)) (move_kind (san p m) (san_letter p m sound legal))
+      ∙ san_step g place p m sound legal at none few)
 
   -- ---- the termination
 
   pub outcome_ends : (g : SoFar) (o : Outcome) (begins : Bool) (d : ℕ) (rest : List ℕ) → is_word_byte d ≡ false
-      → read_on limit total g begins (outcome_text o ++ d ∷ rest) ≡ ended_game g.termination g.state o (total - length (outcome_text o ++ d ∷ rest) + length (outcome_text o))
+      → read_on limit total g begins (outcome_text o ++ d ∷ rest)
+      ≡ ended_game g.termination g.state o (total - length (outcome_text o ++ d ∷ rest) + length (outcome_text o))
   unfolding token_at
-  outcome_ends g WhiteWins begins d rest off = token_ends g begins 49 (45 ∷ 48 ∷ d ∷ rest) (Word (codes "1-0")) (d ∷ rest) _ (word_token begins 49 (45 ∷ 48 ∷ []) d rest refl off) refl
-  outcome_ends g BlackWins begins d rest off = token_ends g begins 48 (45 ∷ 49 ∷ d ∷ rest) (Word (codes "0-1")) (d ∷ rest) _ (word_token begins 48 (45 ∷ 49 ∷ []) d rest refl off) refl
-  outcome_ends g Draw begins d rest off = token_ends g begins 49 (47 ∷ 50 ∷ 45 ∷ 49 ∷ 47 ∷ 50 ∷ d ∷ rest) (Word (codes "1/2-1/2")) (d ∷ rest) _ (word_token begins 49 (47 ∷ 50 ∷ 45 ∷ 49 ∷ 47 ∷ 50 ∷ []) d rest refl off) refl
+  outcome_ends g WhiteWins begins d rest off =
+      token_ends g begins 49 (45 ∷ 48 ∷ d ∷ rest) (Word (codes "1-0")) (d ∷ rest) _
+      (word_token begins 49 (45 ∷ 48 ∷ []) d rest refl off) refl
+  outcome_ends g BlackWins begins d rest off =
+      token_ends g begins 48 (45 ∷ 49 ∷ d ∷ rest) (Word (codes "0-1")) (d ∷ rest) _
+      (word_token begins 48 (45 ∷ 49 ∷ []) d rest refl off) refl
+  outcome_ends g Draw begins d rest off = token_ends g begins 49 (47 ∷ 50 ∷ 45 ∷ 49 ∷ 47 ∷ 50 ∷ d ∷ rest)
+      (Word (codes "1/2-1/2")) (d ∷ rest) _ (word_token begins 49 (47 ∷ 50 ∷ 45 ∷ 49 ∷ 47 ∷ 50 ∷ []) d rest refl off)
+      refl
   outcome_ends g Unfinished true d rest off = token_ends g true 42 (d ∷ rest) (Word (codes "*")) (d ∷ rest) _ refl refl
-  outcome_ends g Unfinished false d rest off = token_ends g false 42 (d ∷ rest) (Word (codes "*")) (d ∷ rest) _ refl refl
+  outcome_ends g Unfinished false d rest off =
+      token_ends g false 42 (d ∷ rest) (Word (codes "*")) (d ∷ rest) _ refl refl
 
   -- ---- lines of tags
 
   -- a line takes the game from one to another
   abbrev pub TakesLine : SoFar → SoFar → List ℕ → Type 0
-  TakesLine g h line = (begins : Bool) (rest : List ℕ) → read_on limit total g begins (line ++ 10 ∷ rest) ≡ read_on limit total h true rest
+  TakesLine g h line = (begins : Bool) (rest : List ℕ)
+      → read_on limit total g begins (line ++ 10 ∷ rest) ≡ read_on limit total h true rest
 
   pub empty_line : (g : SoFar) → TakesLine g g []
   empty_line g begins rest = skip_line_end g begins rest
 
-  tag_takes : (g h : SoFar) (name text : List ℕ) → is_tag_name name ≡ true → list_all is_in_line text ≡ true → ((left string : ℕ) → step limit total g left (Tag name (escaped text) string) ≡ On h) → TakesLine g h (tag_line name text)
+  tag_takes : (g h : SoFar) (name text : List ℕ) → is_tag_name name ≡ true → list_all is_in_line text ≡ true
+      → ((left string : ℕ) → step limit total g left (Tag name (escaped text) string) ≡ On h)
+      → TakesLine g h (tag_line name text)
   tag_takes g h name text named line next begins rest =
       let string : List ℕ = escaped text ++ 34 ∷ 93 ∷ 10 ∷ rest in
       ap (read_on limit total g begins) (tag_line_bytes name text (10 ∷ rest))
-      ∙ token_on g h begins 91 (name ++ 32 ∷ 34 ∷ string) (Tag name (escaped text) (length string)) (10 ∷ rest) (tag_token begins name text (10 ∷ rest) named line) (next (suc (length (name ++ 32 ∷ 34 ∷ string))) (length string))
+      ∙ token_on g h begins 91 (name ++ 32 ∷ 34 ∷ string) (Tag name (escaped text) (length string)) (10 ∷ rest)
+      (tag_token begins name text (10 ∷ rest) named line)
+      (next (suc (length (name ++ 32 ∷ 34 ∷ string))) (length string))
       ∙ skip_line_end h false rest
 
-  pub plain_tag : (met : Bool) (t : Option Termination) (s : State) (name text : List ℕ) → is_tag_name name ≡ true → bytes_eq name (codes "FEN") ≡ false → bytes_eq name (codes "Termination") ≡ false → list_all is_in_line text ≡ true → TakesLine (tagged met t s) (tagged true t s) (tag_line name text)
+  pub plain_tag : (met : Bool) (t : Option Termination) (s : State) (name text : List ℕ) → is_tag_name name ≡ true
+      → bytes_eq name (codes "FEN") ≡ false → bytes_eq name (codes "Termination") ≡ false
+      → list_all is_in_line text ≡ true → TakesLine (tagged met t s) (tagged true t s) (tag_line name text)
   plain_tag met t s name text named other different line =
       tag_takes (tagged met t s) (tagged true t s) name text named line (λ left string. rw (other, different) refl)
 
-  pub termination_tag : (t : Option Termination) (s : State) (u : Termination) → TakesLine (tagged true t s) (tagged true (Some u) s) (tag_line (codes "Termination") (termination_text u))
+  pub termination_tag : (t : Option Termination) (s : State) (u : Termination)
+      → TakesLine (tagged true t s) (tagged true (Some u) s) (tag_line (codes "Termination") (termination_text u))
   termination_tag t s u =
       let bare = termination_bare u in
-      tag_takes (tagged true t s) (tagged true (Some u) s) (codes "Termination") (termination_text u) refl (bare_in_line (termination_text u) bare) (λ left string.
-      ap (λ o. On (tagged true o s)) (ap termination_named (bare_escaped (termination_text u) bare) ∙ termination_back u))
+      tag_takes (tagged true t s) (tagged true (Some u) s) (codes "Termination") (termination_text u) refl
+      (bare_in_line (termination_text u) bare) (λ left string.
+      ap (λ o. On (tagged true o s)) (ap termination_named (bare_escaped (termination_text u) bare)
+      ∙ termination_back u))
 
-  pub fen_tag : WrittenIsReadBack → (t : Option Termination) (s : State) (p : Setup) → IsSound p → s.start.variant ≡ p.variant → TakesLine (tagged true t s) (tagged true t (from_start p)) (tag_line (codes "FEN") (fen p))
+  pub fen_tag : WrittenIsReadBack → (t : Option Termination) (s : State) (p : Setup) → IsSound p
+      → s.start.variant ≡ p.variant → TakesLine (tagged true t s) (tagged true t (from_start p))
+      (tag_line (codes "FEN") (fen p))
   fen_tag law t s p sound same =
       let bare = fen_bare p sound in
-      tag_takes (tagged true t s) (tagged true t (from_start p)) (codes "FEN") (fen p) refl (bare_in_line (fen p) bare) (λ left string.
-      ap (λ text. fen_step (tagged true t s) (total - string) (fen_reading_as s.start.variant text)) (bare_escaped (fen p) bare)
+      tag_takes (tagged true t s) (tagged true t (from_start p)) (codes "FEN") (fen p) refl (bare_in_line (fen p) bare)
+      (λ left string.
+      ap (λ text. fen_step (tagged true t s) (total - string) (fen_reading_as s.start.variant text))
+      (bare_escaped (fen p) bare)
       ∙ ap (fen_step (tagged true t s) (total - string)) (ap (λ v. fen_reading_as v (fen p)) same ∙ law p sound))

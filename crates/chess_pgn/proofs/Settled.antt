@@ -33,7 +33,8 @@ use Rattle.chess_pgn.proofs.Walk.{none_left, shorter}
 use Rattle.chess_pgn.proofs.Strings.{string_quote}
 
 -- a property of two choices by one test
-pub both : {A B : Type 0} (P : A → B → Type 0) (t : Bool) (x y : A) (u v : B) → (t ≡ true → P x u) → (t ≡ false → P y v) → P (cond t x y) (cond t u v)
+pub both : {A B : Type 0} (P : A → B → Type 0) (t : Bool) (x y : A) (u v : B) → (t ≡ true → P x u) → (t ≡ false → P y v)
+    → P (cond t x y) (cond t u v)
 both P true x y u v f g = f refl
 both P false x y u v f g = g refl
 
@@ -69,7 +70,8 @@ IsOfBracket Bad = ⊥
 pub data Kept (more : List ℕ) (c : ℕ) (rest : List ℕ) (unclosed : Bool) (p q : Token × List ℕ) : Type 0 where
   same : q ≡ (shift (length more) p.0, p.1 ++ more) → Kept more c rest unclosed p q
   skipped : p ≡ (Skip, []) → Kept more c rest unclosed p q
-  whole : (word : List ℕ) → p ≡ (Word word, []) → length word ≡ suc (length rest) → list_any (λ b. not (is_word_byte b)) (c ∷ rest) ≡ false → Kept more c rest unclosed p q
+  whole : (word : List ℕ) → p ≡ (Word word, []) → length word ≡ suc (length rest)
+      → list_any (λ b. not (is_word_byte b)) (c ∷ rest) ≡ false → Kept more c rest unclosed p q
   no_tag : p ≡ (Bad_tag, []) → q ≡ (Bad_tag, []) → Kept more c rest unclosed p q
   maybe_tag : p ≡ (Bad_tag, []) → IsOfBracket q.0 → unclosed ≡ true → Kept more c rest unclosed p q
   open_comment : (left : ℕ) → p ≡ (Unclosed_comment left, []) → Kept more c rest unclosed p q
@@ -87,7 +89,8 @@ pub run_stops : (p : ℕ → Bool) (xs more : List ℕ) → (prefix_len p xs ≡
 run_stops p [] more = inl refl
 run_stops p (x ∷ xs) more = by_test (p x) refl (run_stops p xs more)
   where
-    by_test : (t : Bool) → p x ≡ t → (prefix_len p xs ≡ length xs) ⊎ Stops p xs more → (prefix_len p (x ∷ xs) ≡ suc (length xs)) ⊎ Stops p (x ∷ xs) more
+    by_test : (t : Bool) → p x ≡ t → (prefix_len p xs ≡ length xs) ⊎ Stops p xs more
+        → (prefix_len p (x ∷ xs) ≡ suc (length xs)) ⊎ Stops p (x ∷ xs) more
     by_test true e (inl all) =
         let n : 1 + prefix_len p xs ≡ suc (length xs) = omega (arith, all) in
         inl (ap (λ b. cond b (1 + prefix_len p xs) 0) e ∙ n)
@@ -107,11 +110,14 @@ run_stops p (x ∷ xs) more = by_test (p x) refl (run_stops p xs more)
           before = subst (λ n. n < suc (length xs)) (sym is) few;
         })
 
-pub drop_stops : (p : ℕ → Bool) (xs more : List ℕ) → Stops p xs more → drop (prefix_len p (xs ++ more)) (xs ++ more) ≡ drop (prefix_len p xs) xs ++ more
-drop_stops p xs more k = let few = k.before in ap (λ n. drop n (xs ++ more)) k.len ∙ drop-append-le (prefix_len p xs) xs more (omega (arith, few))
+pub drop_stops : (p : ℕ → Bool) (xs more : List ℕ) → Stops p xs more
+    → drop (prefix_len p (xs ++ more)) (xs ++ more) ≡ drop (prefix_len p xs) xs ++ more
+drop_stops p xs more k = let few = k.before in ap (λ n. drop n (xs ++ more)) k.len
+    ∙ drop-append-le (prefix_len p xs) xs more (omega (arith, few))
 
 pub take_stops : (p : ℕ → Bool) (xs more : List ℕ) → Stops p xs more → take_while p (xs ++ more) ≡ take_while p xs
-take_stops p xs more k = let few = k.before in ap (λ n. take n (xs ++ more)) k.len ∙ take-append-le (prefix_len p xs) xs more (omega (arith, few))
+take_stops p xs more k = let few = k.before in ap (λ n. take n (xs ++ more)) k.len
+    ∙ take-append-le (prefix_len p xs) xs more (omega (arith, few))
 
 pub drop_whole : (p : ℕ → Bool) (xs : List ℕ) → prefix_len p xs ≡ length xs → drop (prefix_len p xs) xs ≡ []
 drop_whole p xs e = ap (λ n. drop n xs) e ∙ drop-length xs
@@ -123,7 +129,8 @@ all_pass : (p : ℕ → Bool) (xs : List ℕ) → prefix_len p xs ≡ length xs 
 all_pass p [] e = refl
 all_pass p (x ∷ xs) e = by_test (p x) refl (all_pass p xs)
   where
-    by_test : (t : Bool) → p x ≡ t → (prefix_len p xs ≡ length xs → list_any (λ c. not (p c)) xs ≡ false) → (not (p x) || list_any (λ c. not (p c)) xs) ≡ false
+    by_test : (t : Bool) → p x ≡ t → (prefix_len p xs ≡ length xs → list_any (λ c. not (p c)) xs ≡ false)
+        → (not (p x) || list_any (λ c. not (p c)) xs) ≡ false
     by_test true f later =
         let is : 1 + prefix_len p xs ≡ suc (length xs) = sym (ap (λ b. cond b (1 + prefix_len p xs) 0) f) ∙ e in
         let fewer : prefix_len p xs ≡ length xs = omega (arith, is) in
@@ -138,7 +145,8 @@ module _ (more : List ℕ) where
   abbrev pub GapKept : List ℕ → List ℕ → Type 0
   GapKept p q = (p ≡ []) ⊎ (q ≡ p ++ more)
 
-  pub gap_kept : (skips begins : Bool) (text : List ℕ) → GapKept (behind_gap skips begins text) (behind_gap skips begins (text ++ more))
+  pub gap_kept : (skips begins : Bool) (text : List ℕ)
+      → GapKept (behind_gap skips begins text) (behind_gap skips begins (text ++ more))
   gap_kept skips begins [] = inl refl
   gap_kept true begins (c ∷ rest) = gap_kept (not (eqb c 10)) true rest
   gap_kept false begins (c ∷ rest) =
@@ -157,7 +165,8 @@ module _ (more : List ℕ) where
   abbrev pub StringKept : Option (List ℕ × List ℕ) → Option (List ℕ × List ℕ) → Type 0
   StringKept o u = IfSome o (λ (f : List ℕ × List ℕ). u ≡ Some (f.0, f.1 ++ more))
 
-  onto_kept : (front : List ℕ) (o u : Option (List ℕ × List ℕ)) → StringKept o u → StringKept (onto front o) (onto front u)
+  onto_kept : (front : List ℕ) (o u : Option (List ℕ × List ℕ)) → StringKept o u
+      → StringKept (onto front o) (onto front u)
   onto_kept front None u h = tt
   onto_kept front (Some f) u h = ap (onto front) h
 
@@ -168,7 +177,8 @@ module _ (more : List ℕ) where
   string_kept (c ∷ d ∷ rest) =
       both StringKept (eqb c 34) _ _ _ _ (λ _. refl) (λ _.
       both StringKept (eqb c 10) _ _ _ _ (λ _. tt) (λ _.
-      both StringKept (eqb c 92) _ _ _ _ (λ _. both StringKept (eqb d 10) _ _ _ _ (λ _. tt) (λ _. onto_kept (c ∷ d ∷ []) (string_at rest) _ (string_kept rest))) (λ _.
+      both StringKept (eqb c 92) _ _ _ _ (λ _. both StringKept (eqb d 10) _ _ _ _ (λ _. tt)
+      (λ _. onto_kept (c ∷ d ∷ []) (string_at rest) _ (string_kept rest))) (λ _.
       onto_kept (c ∷ []) (string_at (d ∷ rest)) _ (string_kept (d ∷ rest)))))
 
   -- one that meets the end of its line is never closed
@@ -178,7 +188,8 @@ module _ (more : List ℕ) where
   abbrev pub has_ten : List ℕ → Bool
   has_ten text = list_any (λ b. eqb b 10) text
 
-  onto_never : (front : List ℕ) (ten : Bool) (o u : Option (List ℕ × List ℕ)) → Never ten o u → Never ten (onto front o) (onto front u)
+  onto_never : (front : List ℕ) (ten : Bool) (o u : Option (List ℕ × List ℕ)) → Never ten o u
+      → Never ten (onto front o) (onto front u)
   onto_never front ten None u h = λ e t. ap (onto front) (h refl t)
   onto_never front ten (Some f) u h = λ e t. absurd (cc)
 
@@ -200,8 +211,10 @@ module _ (more : List ℕ) where
       both (Never (has_ten (c ∷ d ∷ rest))) (eqb c 10) _ _ _ _ (λ _. λ e t. refl) (λ f.
       both (Never (has_ten (c ∷ d ∷ rest))) (eqb c 92) _ _ _ _ (λ _.
       both (Never (has_ten (c ∷ d ∷ rest))) (eqb d 10) _ _ _ _ (λ _. λ e t. refl) (λ g.
-      λ e t. onto_never (c ∷ d ∷ []) (has_ten rest) (string_at rest) _ (string_never rest) e (the_second (eqb d 10) _ (the_second (eqb c 10) _ t f) g))) (λ _.
-      λ e t. onto_never (c ∷ []) (has_ten (d ∷ rest)) (string_at (d ∷ rest)) _ (string_never (d ∷ rest)) e (the_second (eqb c 10) _ t f))))
+      λ e t. onto_never (c ∷ d ∷ []) (has_ten rest) (string_at rest) _ (string_never rest) e
+      (the_second (eqb d 10) _ (the_second (eqb c 10) _ t f) g))) (λ _.
+      λ e t. onto_never (c ∷ []) (has_ten (d ∷ rest)) (string_at (d ∷ rest)) _ (string_never (d ∷ rest)) e
+      (the_second (eqb c 10) _ t f))))
 
   -- ---- tags, behind the bracket of a text that begins with c
 
@@ -225,41 +238,61 @@ module _ (more : List ℕ) where
     abbrev K : Bool → Token × List ℕ → Token × List ℕ → Type 0
     K unclosed p q = Kept more c0 rest0 unclosed p q
 
-    closed_kept : (name text : List ℕ) (left : ℕ) (g : List ℕ) → K (is_gap g) (closed name left text (behind_next 93 g)) (closed name (left + length more) text (behind_next 93 (g ++ more)))
-    closed_kept name text left g = by_gap (behind_gap false false g) (behind_gap false false (g ++ more)) (gap_kept false false g)
+    closed_kept : (name text : List ℕ) (left : ℕ) (g : List ℕ)
+        → K (is_gap g) (closed name left text (behind_next 93 g))
+        (closed name (left + length more) text (behind_next 93 (g ++ more)))
+    closed_kept name text left g = by_gap (behind_gap false false g) (behind_gap false false (g ++ more))
+        (gap_kept false false g)
       where
-        by_gap : (p q : List ℕ) → GapKept p q → K (is_over p) (closed name left text (behind_byte 93 p)) (closed name (left + length more) text (behind_byte 93 q))
+        by_gap : (p q : List ℕ) → GapKept p q → K (is_over p) (closed name left text (behind_byte 93 p))
+            (closed name (left + length more) text (behind_byte 93 q))
         by_gap [] q h = maybe_tag refl (closed_bracket name text (left + length more) (behind_byte 93 q)) refl
         by_gap (x ∷ xs) q (inl e) = absurd (cc)
         by_gap (x ∷ xs) q (inr e) =
-            subst (λ (r : List ℕ). K false (closed name left text (behind_byte 93 (x ∷ xs))) (closed name (left + length more) text (behind_byte 93 r))) (sym e)
-            (both (λ o u. K false (closed name left text o) (closed name (left + length more) text u)) (eqb x 93) (Some xs) None (Some (xs ++ more)) None (λ _. same refl) (λ _. no_tag refl refl))
+            subst (λ (r : List ℕ). K false (closed name left text (behind_byte 93 (x ∷ xs)))
+            (closed name (left + length more) text (behind_byte 93 r))) (sym e)
+            (both (λ o u. K false (closed name left text o) (closed name (left + length more) text u)) (eqb x 93)
+            (Some xs) None (Some (xs ++ more)) None (λ _. same refl) (λ _. no_tag refl refl))
 
-    text_kept : (name s : List ℕ) (left : ℕ) → K (is_open_string s) (with_text name left (string_at s)) (with_text name (left + length more) (string_at (s ++ more)))
+    text_kept : (name s : List ℕ) (left : ℕ)
+        → K (is_open_string s) (with_text name left (string_at s))
+        (with_text name (left + length more) (string_at (s ++ more)))
     text_kept name s left = by_string (string_at s) refl (string_at (s ++ more)) refl (string_kept s)
       where
-        never : (o u : Option (List ℕ × List ℕ)) → o ≡ None → string_at s ≡ o → string_at (s ++ more) ≡ u → (b : Bool) → has_ten s ≡ b → K (not b) (Bad_tag, []) (with_text name (left + length more) u)
-        never o u none is will true t = no_tag refl (ap (with_text name (left + length more)) (sym will ∙ string_never s (is ∙ none) t))
+        never : (o u : Option (List ℕ × List ℕ)) → o ≡ None → string_at s ≡ o → string_at (s ++ more) ≡ u → (b : Bool)
+            → has_ten s ≡ b → K (not b) (Bad_tag, []) (with_text name (left + length more) u)
+        never o u none is will true t = no_tag refl
+            (ap (with_text name (left + length more)) (sym will ∙ string_never s (is ∙ none) t))
         never o u none is will false t = maybe_tag refl (text_bracket name (left + length more) u) refl
 
-        by_string : (o : Option (List ℕ × List ℕ)) → string_at s ≡ o → (u : Option (List ℕ × List ℕ)) → string_at (s ++ more) ≡ u → StringKept o u → K (is_open_behind s o) (with_text name left o) (with_text name (left + length more) u)
+        by_string : (o : Option (List ℕ × List ℕ)) → string_at s ≡ o → (u : Option (List ℕ × List ℕ))
+            → string_at (s ++ more) ≡ u → StringKept o u
+            → K (is_open_behind s o) (with_text name left o) (with_text name (left + length more) u)
         by_string None is u will h = never None u refl is will (has_ten s) refl
         by_string (Some f) is u will h =
-            subst (λ (o : Option (List ℕ × List ℕ)). K (is_gap f.1) (with_text name left (Some f)) (with_text name (left + length more) o)) (sym h)
+            subst (λ (o : Option (List ℕ × List ℕ)). K (is_gap f.1) (with_text name left (Some f))
+            (with_text name (left + length more) o)) (sym h)
             (closed_kept name f.0 left f.1)
 
-    string_tag_kept : (name rest : List ℕ) → K (could_go_on 34 is_open_string rest) (with_string name (behind_next 34 rest)) (with_string name (behind_next 34 (rest ++ more)))
-    string_tag_kept name rest = by_gap (behind_gap false false rest) (behind_gap false false (rest ++ more)) (gap_kept false false rest)
+    string_tag_kept : (name rest : List ℕ) → K (could_go_on 34 is_open_string rest)
+        (with_string name (behind_next 34 rest)) (with_string name (behind_next 34 (rest ++ more)))
+    string_tag_kept name rest = by_gap (behind_gap false false rest) (behind_gap false false (rest ++ more))
+        (gap_kept false false rest)
       where
-        begun : (xs : List ℕ) → K (is_open_string xs) (with_string name (Some xs)) (with_string name (Some (xs ++ more)))
-        begun xs = subst (λ n. K (is_open_string xs) (with_string name (Some xs)) (with_text name n (string_at (xs ++ more)))) (sym (length-append xs more)) (text_kept name xs (length xs))
+        begun : (xs : List ℕ) → K (is_open_string xs) (with_string name (Some xs))
+            (with_string name (Some (xs ++ more)))
+        begun xs = subst (λ n. K (is_open_string xs) (with_string name (Some xs))
+            (with_text name n (string_at (xs ++ more)))) (sym (length-append xs more)) (text_kept name xs (length xs))
 
-        by_gap : (p q : List ℕ) → GapKept p q → K (is_over p || if_behind is_open_string (behind_byte 34 p)) (with_string name (behind_byte 34 p)) (with_string name (behind_byte 34 q))
+        by_gap : (p q : List ℕ) → GapKept p q → K (is_over p || if_behind is_open_string (behind_byte 34 p))
+            (with_string name (behind_byte 34 p)) (with_string name (behind_byte 34 q))
         by_gap [] q h = maybe_tag refl (string_bracket name (behind_byte 34 q)) refl
         by_gap (x ∷ xs) q (inl e) = absurd (cc)
         by_gap (x ∷ xs) q (inr e) =
-            subst (λ (r : List ℕ). K (if_behind is_open_string (behind_byte 34 (x ∷ xs))) (with_string name (behind_byte 34 (x ∷ xs))) (with_string name (behind_byte 34 r))) (sym e)
-            (both (λ o u. K (if_behind is_open_string o) (with_string name o) (with_string name u)) (eqb x 34) (Some xs) None (Some (xs ++ more)) None (λ _. begun xs) (λ _. no_tag refl refl))
+            subst (λ (r : List ℕ). K (if_behind is_open_string (behind_byte 34 (x ∷ xs)))
+            (with_string name (behind_byte 34 (x ∷ xs))) (with_string name (behind_byte 34 r))) (sym e)
+            (both (λ o u. K (if_behind is_open_string o) (with_string name o) (with_string name u)) (eqb x 34) (Some xs)
+            None (Some (xs ++ more)) None (λ _. begun xs) (λ _. no_tag refl refl))
 
     name_kept : (name rest : List ℕ) → K (is_open_name name rest) (with_name name rest) (with_name name (rest ++ more))
     name_kept [] rest = no_tag refl refl
@@ -269,29 +302,42 @@ module _ (more : List ℕ) where
     named inner = with_name (take_while is_name_byte inner) (drop (prefix_len is_name_byte inner) inner)
 
     abbrev is_open_inner : List ℕ → Bool
-    is_open_inner inner = is_over inner || is_open_name (take_while is_name_byte inner) (drop (prefix_len is_name_byte inner) inner)
+    is_open_inner inner = is_over inner || is_open_name (take_while is_name_byte inner)
+        (drop (prefix_len is_name_byte inner) inner)
 
     inner_kept : (p q : List ℕ) → GapKept p q → K (is_open_inner p) (named p) (named q)
-    inner_kept [] q h = maybe_tag refl (name_bracket (take_while is_name_byte q) (drop (prefix_len is_name_byte q) q)) refl
+    inner_kept [] q h = maybe_tag refl (name_bracket (take_while is_name_byte q) (drop (prefix_len is_name_byte q) q))
+        refl
     inner_kept (x ∷ xs) q (inl e) = absurd (cc)
-    inner_kept (x ∷ xs) q (inr e) = subst (λ (r : List ℕ). K (is_open_inner (x ∷ xs)) (named (x ∷ xs)) (named r)) (sym e) (by_run (run_stops is_name_byte (x ∷ xs) more))
+    inner_kept (x ∷ xs) q (inr e) = subst (λ (r : List ℕ). K (is_open_inner (x ∷ xs)) (named (x ∷ xs)) (named r))
+        (sym e) (by_run (run_stops is_name_byte (x ∷ xs) more))
       where
-        by_run : (prefix_len is_name_byte (x ∷ xs) ≡ length (x ∷ xs)) ⊎ Stops is_name_byte (x ∷ xs) more → K (is_open_inner (x ∷ xs)) (named (x ∷ xs)) (named (x ∷ xs ++ more))
+        by_run : (prefix_len is_name_byte (x ∷ xs) ≡ length (x ∷ xs)) ⊎ Stops is_name_byte (x ∷ xs) more
+            → K (is_open_inner (x ∷ xs)) (named (x ∷ xs)) (named (x ∷ xs ++ more))
         by_run (inl all) =
             let name = take_whole is_name_byte (x ∷ xs) all in
             let rest = drop_whole is_name_byte (x ∷ xs) all in
-            let bad : named (x ∷ xs) ≡ (Bad_tag, []) = ap (λ (n : List ℕ). with_name n (drop (prefix_len is_name_byte (x ∷ xs)) (x ∷ xs))) name ∙ ap (with_name (x ∷ xs)) rest in
-            let unclosed : is_open_inner (x ∷ xs) ≡ true = ap (λ (n : List ℕ). is_open_name n (drop (prefix_len is_name_byte (x ∷ xs)) (x ∷ xs))) name ∙ ap (is_open_name (x ∷ xs)) rest in
-            maybe_tag bad (name_bracket (take_while is_name_byte (x ∷ xs ++ more)) (drop (prefix_len is_name_byte (x ∷ xs ++ more)) (x ∷ xs ++ more))) unclosed
+            let bad : named (x ∷ xs) ≡ (Bad_tag, []) =
+            ap (λ (n : List ℕ). with_name n (drop (prefix_len is_name_byte (x ∷ xs)) (x ∷ xs))) name
+            ∙ ap (with_name (x ∷ xs)) rest in
+            let unclosed : is_open_inner (x ∷ xs) ≡ true =
+            ap (λ (n : List ℕ). is_open_name n (drop (prefix_len is_name_byte (x ∷ xs)) (x ∷ xs))) name
+            ∙ ap (is_open_name (x ∷ xs)) rest in
+            maybe_tag bad (name_bracket (take_while is_name_byte (x ∷ xs ++ more))
+            (drop (prefix_len is_name_byte (x ∷ xs ++ more)) (x ∷ xs ++ more))) unclosed
         by_run (inr k) =
             let text : List ℕ = x ∷ xs in
-            let is : named (text ++ more) ≡ with_name (take_while is_name_byte text) (drop (prefix_len is_name_byte text) text ++ more) =
-            ap (λ (n : List ℕ). with_name n (drop (prefix_len is_name_byte (text ++ more)) (text ++ more))) (take_stops is_name_byte text more k)
+            let is : named (text ++ more) ≡ with_name (take_while is_name_byte text)
+            (drop (prefix_len is_name_byte text) text ++ more) =
+            ap (λ (n : List ℕ). with_name n (drop (prefix_len is_name_byte (text ++ more)) (text ++ more)))
+            (take_stops is_name_byte text more k)
             ∙ ap (with_name (take_while is_name_byte text)) (drop_stops is_name_byte text more k) in
-            subst (K (is_open_inner text) (named text)) (sym is) (name_kept (take_while is_name_byte text) (drop (prefix_len is_name_byte text) text))
+            subst (K (is_open_inner text) (named text)) (sym is)
+            (name_kept (take_while is_name_byte text) (drop (prefix_len is_name_byte text) text))
 
     tag_kept : (text : List ℕ) → K (is_open_tag text) (tag_at text) (tag_at (text ++ more))
-    tag_kept text = inner_kept (behind_gap false false text) (behind_gap false false (text ++ more)) (gap_kept false false text)
+    tag_kept text = inner_kept (behind_gap false false text) (behind_gap false false (text ++ more))
+        (gap_kept false false text)
 
     -- ---- variations
 
@@ -301,82 +347,122 @@ module _ (more : List ℕ) where
     other left Line = Line
 
     module _ (unclosed : Bool) where
-      variation_kept : (inside : Inside) (left : ℕ) (begins : Bool) (depth : ℕ) (text : List ℕ) → K unclosed (variation_at inside begins (suc depth) text) (variation_at (other left inside) begins (suc depth) (text ++ more))
+      variation_kept : (inside : Inside) (left : ℕ) (begins : Bool) (depth : ℕ) (text : List ℕ)
+          → K unclosed (variation_at inside begins (suc depth) text)
+          (variation_at (other left inside) begins (suc depth) (text ++ more))
       variation_kept Plain left begins depth [] = open_variation refl
       variation_kept (Brace n) left begins depth [] = open_comment n refl
       variation_kept Line left begins depth [] = open_variation refl
       variation_kept Line left begins depth (c ∷ rest) =
-          both (K unclosed) (eqb c 10) _ _ _ _ (λ _. variation_kept Plain left true depth rest) (λ _. variation_kept Line left false depth rest)
+          both (K unclosed) (eqb c 10) _ _ _ _ (λ _. variation_kept Plain left true depth rest)
+          (λ _. variation_kept Line left false depth rest)
       variation_kept (Brace n) left begins depth (c ∷ rest) =
-          both (K unclosed) (eqb c 125) _ _ _ _ (λ _. variation_kept Plain left false depth rest) (λ _. variation_kept (Brace n) left false depth rest)
+          both (K unclosed) (eqb c 125) _ _ _ _ (λ _. variation_kept Plain left false depth rest)
+          (λ _. variation_kept (Brace n) left false depth rest)
       variation_kept Plain left begins depth (c ∷ rest) =
           both (K unclosed) (begins && eqb c 37) _ _ _ _ (λ _. variation_kept Line left false depth rest) (λ _.
-          both (K unclosed) (eqb c 123) _ _ _ _ (λ _. variation_kept (Brace (suc (length rest))) (suc (length (rest ++ more))) false depth rest) (λ _.
+          both (K unclosed) (eqb c 123) _ _ _ _ (λ _. variation_kept (Brace (suc (length rest)))
+          (suc (length (rest ++ more))) false depth rest) (λ _.
           both (K unclosed) (eqb c 59) _ _ _ _ (λ _. variation_kept Line left false depth rest) (λ _.
           both (K unclosed) (eqb c 40) _ _ _ _ (λ _. variation_kept Plain left false (suc depth) rest) (λ _.
-          both (K unclosed) (eqb c 41) _ _ _ _ (λ _. closing_kept depth (λ d. variation_kept Plain left false d rest)) (λ _.
+          both (K unclosed) (eqb c 41) _ _ _ _ (λ _. closing_kept depth (λ d. variation_kept Plain left false d rest))
+          (λ _.
           variation_kept Plain left (eqb c 10) depth rest)))))
         where
-          closing_kept : (n : ℕ) → ((d : ℕ) → K unclosed (variation_at Plain false (suc d) rest) (variation_at Plain false (suc d) (rest ++ more))) → K unclosed (variation_at Plain false n rest) (variation_at Plain false n (rest ++ more))
+          closing_kept : (n : ℕ) → ((d : ℕ) → K unclosed (variation_at Plain false (suc d) rest)
+              (variation_at Plain false (suc d) (rest ++ more)))
+              → K unclosed (variation_at Plain false n rest) (variation_at Plain false n (rest ++ more))
           closing_kept zero later = same refl
           closing_kept (suc d) later = later d
 
       -- ---- what is skipped
 
-      run_kept : (p : ℕ → Bool) (text : List ℕ) → K unclosed (Skip, drop (prefix_len p text) text) (Skip, drop (prefix_len p (text ++ more)) (text ++ more))
+      run_kept : (p : ℕ → Bool) (text : List ℕ)
+          → K unclosed (Skip, drop (prefix_len p text) text) (Skip, drop (prefix_len p (text ++ more)) (text ++ more))
       run_kept p text = by_run (run_stops p text more)
         where
-          by_run : (prefix_len p text ≡ length text) ⊎ Stops p text more → K unclosed (Skip, drop (prefix_len p text) text) (Skip, drop (prefix_len p (text ++ more)) (text ++ more))
+          by_run : (prefix_len p text ≡ length text) ⊎ Stops p text more
+              → K unclosed (Skip, drop (prefix_len p text) text)
+              (Skip, drop (prefix_len p (text ++ more)) (text ++ more))
           by_run (inl all) = skipped (ap (λ (r : List ℕ). (Skip, r)) (drop_whole p text all))
           by_run (inr k) = same (ap (λ (r : List ℕ). (Skip, r)) (drop_stops p text more k))
 
-      comment_kept : (n left : ℕ) (o u : Option (List ℕ)) → SomeKept o u → K unclosed (comment_at n o) (comment_at left u)
+      comment_kept : (n left : ℕ) (o u : Option (List ℕ)) → SomeKept o u
+          → K unclosed (comment_at n o) (comment_at left u)
       comment_kept n left None u h = open_comment n refl
       comment_kept n left (Some r) u h = same (ap (comment_at left) h)
 
   -- ---- words
 
-  word_kept : (c : ℕ) (rest : List ℕ) (unclosed : Bool) → Kept more c rest unclosed (Word (take_while is_word_byte (c ∷ rest)), drop (prefix_len is_word_byte (c ∷ rest)) (c ∷ rest))
-      (Word (take_while is_word_byte (c ∷ rest ++ more)), drop (prefix_len is_word_byte (c ∷ rest ++ more)) (c ∷ rest ++ more))
+  word_kept : (c : ℕ) (rest : List ℕ) (unclosed : Bool)
+      → Kept more c rest unclosed (
+        Word (take_while is_word_byte (c ∷ rest)),
+        drop (prefix_len is_word_byte (c ∷ rest)) (c ∷ rest),
+      ) (
+        Word (take_while is_word_byte (c ∷ rest ++ more)),
+        drop (prefix_len is_word_byte (c ∷ rest ++ more)) (c ∷ rest ++ more),
+      )
   word_kept c rest unclosed = by_run (run_stops is_word_byte (c ∷ rest) more)
     where
-      by_run : (prefix_len is_word_byte (c ∷ rest) ≡ length (c ∷ rest)) ⊎ Stops is_word_byte (c ∷ rest) more → Kept more c rest unclosed (Word (take_while is_word_byte (c ∷ rest)), drop (prefix_len is_word_byte (c ∷ rest)) (c ∷ rest))
-          (Word (take_while is_word_byte (c ∷ rest ++ more)), drop (prefix_len is_word_byte (c ∷ rest ++ more)) (c ∷ rest ++ more))
+      by_run : (prefix_len is_word_byte (c ∷ rest) ≡ length (c ∷ rest)) ⊎ Stops is_word_byte (c ∷ rest) more
+          → Kept more c rest unclosed (
+            Word (take_while is_word_byte (c ∷ rest)),
+            drop (prefix_len is_word_byte (c ∷ rest)) (c ∷ rest),
+          ) (
+            Word (take_while is_word_byte (c ∷ rest ++ more)),
+            drop (prefix_len is_word_byte (c ∷ rest ++ more)) (c ∷ rest ++ more),
+          )
       by_run (inl all) =
-          whole (take_while is_word_byte (c ∷ rest)) (ap (λ (r : List ℕ). (Word (take_while is_word_byte (c ∷ rest)), r)) (drop_whole is_word_byte (c ∷ rest) all))
+          whole (take_while is_word_byte (c ∷ rest))
+          (ap (λ (r : List ℕ). (Word (take_while is_word_byte (c ∷ rest)), r))
+          (drop_whole is_word_byte (c ∷ rest) all))
           (ap length (take_whole is_word_byte (c ∷ rest) all)) (all_pass is_word_byte (c ∷ rest) all)
       by_run (inr k) =
-          same (ap (λ (w : List ℕ). (Word w, drop (prefix_len is_word_byte (c ∷ rest ++ more)) (c ∷ rest ++ more))) (take_stops is_word_byte (c ∷ rest) more k)
-          ∙ ap (λ (r : List ℕ). (Word (take_while is_word_byte (c ∷ rest)), r)) (drop_stops is_word_byte (c ∷ rest) more k))
+          same (ap (λ (w : List ℕ). (Word w, drop (prefix_len is_word_byte (c ∷ rest ++ more)) (c ∷ rest ++ more)))
+          (take_stops is_word_byte (c ∷ rest) more k)
+          ∙ ap (λ (r : List ℕ). (Word (take_while is_word_byte (c ∷ rest)), r))
+          (drop_stops is_word_byte (c ∷ rest) more k))
 
   -- ---- tokens
 
-  pub kept : (begins : Bool) (c : ℕ) (rest : List ℕ) → Kept more c rest (is_open_tag rest) (token_at begins c rest) (token_at begins c (rest ++ more))
+  pub kept : (begins : Bool) (c : ℕ) (rest : List ℕ)
+      → Kept more c rest (is_open_tag rest) (token_at begins c rest) (token_at begins c (rest ++ more))
   unfolding token_at
   kept begins c rest =
       let unclosed : Bool = is_open_tag rest in
-      both (Kept more c rest (is_open_tag rest)) (begins && eqb c 37) _ _ _ _ (λ _. run_kept c rest unclosed (λ b. not (eqb b 10)) rest) (λ _.
+      both (Kept more c rest (is_open_tag rest)) (begins && eqb c 37) _ _ _ _
+      (λ _. run_kept c rest unclosed (λ b. not (eqb b 10)) rest) (λ _.
       both (Kept more c rest (is_open_tag rest)) (is_white_space c || eqb c 46) _ _ _ _ (λ _. same refl) (λ _.
-      both (Kept more c rest (is_open_tag rest)) (eqb c 123) _ _ _ _ (λ _. comment_kept c rest unclosed (suc (length rest)) (suc (length (rest ++ more))) (behind_brace rest) (behind_brace (rest ++ more)) (brace_kept rest)) (λ _.
-      both (Kept more c rest (is_open_tag rest)) (eqb c 59) _ _ _ _ (λ _. run_kept c rest unclosed (λ b. not (eqb b 10)) rest) (λ _.
+      both (Kept more c rest (is_open_tag rest)) (eqb c 123) _ _ _ _
+      (λ _. comment_kept c rest unclosed (suc (length rest)) (suc (length (rest ++ more))) (behind_brace rest)
+      (behind_brace (rest ++ more)) (brace_kept rest)) (λ _.
+      both (Kept more c rest (is_open_tag rest)) (eqb c 59) _ _ _ _
+      (λ _. run_kept c rest unclosed (λ b. not (eqb b 10)) rest) (λ _.
       both (Kept more c rest (is_open_tag rest)) (eqb c 36) _ _ _ _ (λ _. run_kept c rest unclosed is_digit rest) (λ _.
-      both (Kept more c rest (is_open_tag rest)) (eqb c 40) _ _ _ _ (λ _. variation_kept c rest unclosed Plain 0 false 0 rest) (λ _.
+      both (Kept more c rest (is_open_tag rest)) (eqb c 40) _ _ _ _
+      (λ _. variation_kept c rest unclosed Plain 0 false 0 rest) (λ _.
       both (Kept more c rest (is_open_tag rest)) (eqb c 91) _ _ _ _ (λ _. tag_kept c rest rest) (λ _.
       both (Kept more c rest (is_open_tag rest)) (eqb c 42) _ _ _ _ (λ _. same refl) (λ _.
-      both (Kept more c rest (is_open_tag rest)) (is_word_byte c) _ _ _ _ (λ _. word_kept c rest unclosed) (λ _. bad refl refl)))))))))
+      both (Kept more c rest (is_open_tag rest)) (is_word_byte c) _ _ _ _ (λ _. word_kept c rest unclosed)
+      (λ _. bad refl refl)))))))))
 
 -- a token leaves an end of its text
 token_suffix : (begins : Bool) (c : ℕ) (rest : List ℕ) → Suffix (c ∷ rest) (token_at begins c rest).1
 token_suffix begins c rest = by_test (eqb c 10) refl
   where
     by_left : Left (c ∷ rest) (token_at begins c rest).1 → Suffix (c ∷ rest) (token_at begins c rest).1
-    by_left (inl e) = record { front = c ∷ rest; is = sym (append-nil (c ∷ rest)) ∙ ap (λ (r : List ℕ). (c ∷ rest) ++ r) (sym e) }
+    by_left (inl e) = record {
+      front = c ∷ rest;
+      is = sym (append-nil (c ∷ rest))
+          ∙ ap (λ (r : List ℕ). (c ∷ rest) ++ r) (sym e);
+    }
     by_left (inr k) = cut_suffix (c ∷ rest) (token_at begins c rest).1 k
 
     by_test : (t : Bool) → eqb c 10 ≡ t → Suffix (c ∷ rest) (token_at begins c rest).1
     by_test true e =
         let is : c ≡ 10 = grind (arith, nat_tests) in
-        let left : (token_at begins c rest).1 ≡ rest = ap (λ b. (token_at begins b rest).1) is ∙ token_ten begins rest in
+        let left : (token_at begins c rest).1 ≡ rest =
+        ap (λ b. (token_at begins b rest).1) is ∙ token_ten begins rest in
         record { front = c ∷ []; is = ap (λ xs. c ∷ xs) (sym left) }
     by_test false e = by_left (token_left begins c rest e)
 
@@ -394,12 +480,15 @@ shift_told m v Bad = refl
 same_place : (total left m : ℕ) → (total + m) - (left + m) ≡ total - left
 same_place total left m = omega arith
 
-pub shift_step : (limit total m : ℕ) (g : SoFar) (left : ℕ) (t : Token) → step limit (total + m) g (left + m) (shift m t) ≡ step limit total g left t
+pub shift_step : (limit total m : ℕ) (g : SoFar) (left : ℕ) (t : Token)
+    → step limit (total + m) g (left + m) (shift m t) ≡ step limit total g left t
 shift_step limit total m g left Skip = refl
 shift_step limit total m g left (Tag name text string) =
-    ap (λ n. cond g.is_begun (fails g NoResult n) (tag_step g name text ((total + m) - (string + m)))) (same_place total left m)
+    ap (λ n. cond g.is_begun (fails g NoResult n) (tag_step g name text ((total + m) - (string + m))))
+    (same_place total left m)
     ∙ ap (λ n. cond g.is_begun (fails g NoResult (total - left)) (tag_step g name text n)) (same_place total string m)
-shift_step limit total m g left (Word word) = ap (λ n. word_step limit g n word (kind_of word)) (same_place total left m)
+shift_step limit total m g left (Word word) =
+    ap (λ n. word_step limit g n word (kind_of word)) (same_place total left m)
 shift_step limit total m g left Bad_tag = ap (fails g (cond g.is_begun NoResult BadTag)) (same_place total left m)
 shift_step limit total m g left (Unclosed_comment brace) = ap (fails g UnclosedComment) (same_place total brace m)
 shift_step limit total m g left Unclosed_variation = ap (fails g UnclosedVariation) (same_place total left m)
@@ -435,17 +524,22 @@ module _ (limit : ℕ) (g : SoFar) (fresh : g.is_begun ≡ false) where
   fen_open place (Err fault) = λ h. h
 
   tag_open : (name text : List ℕ) (place : ℕ) → StaysOpen (tag_step g name text place)
-  tag_open name text place = pick StaysOpen (bytes_eq name (codes "FEN")) _ _ (λ _. fen_open place (fen_reading_as g.state.start.variant text)) (λ _. fresh)
+  tag_open name text place = pick StaysOpen (bytes_eq name (codes "FEN")) _ _
+      (λ _. fen_open place (fen_reading_as g.state.start.variant text)) (λ _. fresh)
 
-  word_open : (v u : Variant) (place : ℕ) (word : List ℕ) (k : WordKind) → behind_word v k ≡ Some u → StaysOpen (word_step limit g place word k)
+  word_open : (v u : Variant) (place : ℕ) (word : List ℕ) (k : WordKind) → behind_word v k ≡ Some u
+      → StaysOpen (word_step limit g place word k)
   word_open v u place word (End o) e = absurd (cc)
   word_open v u place word Number e = absurd (cc)
   word_open v u place word Marks e = fresh
   word_open v u place word Move e = absurd (cc)
 
-  stays_open : (total left : ℕ) (v u : Variant) (t : Token) → told_by v t ≡ Some u → StaysOpen (step limit total g left t)
+  stays_open : (total left : ℕ) (v u : Variant) (t : Token) → told_by v t ≡ Some u
+      → StaysOpen (step limit total g left t)
   stays_open total left v u Skip e = fresh
-  stays_open total left v u (Tag name text string) e = pick StaysOpen g.is_begun _ _ (λ b. absurd (not_both g.is_begun b fresh)) (λ _. tag_open name text (total - string))
+  stays_open total left v u (Tag name text string) e =
+      pick StaysOpen g.is_begun _ _ (λ b. absurd (not_both g.is_begun b fresh))
+      (λ _. tag_open name text (total - string))
   stays_open total left v u (Word word) e = word_open v u (total - left) word (kind_of word) e
   stays_open total left v u Bad_tag e = absurd (cc)
   stays_open total left v u (Unclosed_comment brace) e = absurd (cc)
@@ -493,8 +587,11 @@ module _ (limit : ℕ) (front more : List ℕ) where
       by_test true h = omega (arith, h)
       by_test false h = h
 
-  none_open : (n : ℕ) (begins : Bool) (g : SoFar) → Settled (game_of limit (length front) g (tokens_of n begins [])).answer → ⊥
-  none_open n begins g h = end_open g (subst (λ (ts : List (ℕ × Token)). Settled (game_of limit (length front) g ts).answer) (none_left n begins) h)
+  none_open : (n : ℕ) (begins : Bool) (g : SoFar)
+      → Settled (game_of limit (length front) g (tokens_of n begins [])).answer → ⊥
+  none_open n begins g h =
+      end_open g (subst (λ (ts : List (ℕ × Token)). Settled (game_of limit (length front) g ts).answer)
+      (none_left n begins) h)
 
   -- ---- at a rest that begins with c
 
@@ -509,7 +606,8 @@ module _ (limit : ℕ) (front more : List ℕ) where
     at_rest =
         let all = ap length there.is in
         let sum = length-append there.front (c ∷ rest) in
-        ap (drop (length front - suc (length rest))) there.is ∙ drop_at there.front (c ∷ rest) (length front - suc (length rest)) (omega (arith, all, sum))
+        ap (drop (length front - suc (length rest))) there.is
+        ∙ drop_at there.front (c ∷ rest) (length front - suc (length rest)) (omega (arith, all, sum))
 
     behind_rest : drop (length front - suc (length rest) + 1) front ≡ rest
     behind_rest =
@@ -517,10 +615,12 @@ module _ (limit : ℕ) (front more : List ℕ) where
         let sum = length-append there.front (c ∷ rest) in
         let more_sum = length-append there.front (c ∷ []) in
         ap (drop (length front - suc (length rest) + 1)) (there.is ∙ sym (append_assoc there.front (c ∷ []) rest))
-        ∙ drop_at (there.front ++ c ∷ []) rest (length front - suc (length rest) + 1) (omega (arith, all, sum, more_sum))
+        ∙ drop_at (there.front ++ c ∷ []) rest (length front - suc (length rest) + 1)
+        (omega (arith, all, sum, more_sum))
 
     -- a word up to the text's end settles nothing
-    module _ (g : SoFar) (word : List ℕ) (all : length word ≡ suc (length rest)) (bytes : list_any (λ b. not (is_word_byte b)) (c ∷ rest) ≡ false) where
+    module _ (g : SoFar) (word : List ℕ) (all : length word ≡ suc (length rest))
+        (bytes : list_any (λ b. not (is_word_byte b)) (c ∷ rest) ≡ false) where
       abbrev place : ℕ
       place = length front - suc (length rest)
 
@@ -537,23 +637,27 @@ module _ (limit : ℕ) (front more : List ℕ) where
 
       move_open : (r : Reading) → Leads (move_step limit g (length front - suc (length rest)) r)
       move_open reads.NotAMove = no_end
-      move_open (reads.Move m) = unless_open _ (end_open (record { state = played g.state m; is_met = true; is_begun = true; termination = g.termination }))
+      move_open (reads.Move m) = unless_open _
+          (end_open (record { state = played g.state m; is_met = true; is_begun = true; termination = g.termination }))
       move_open reads.Ambiguous = unless_open _ no_end
       move_open reads.NoSuch = unless_open _ no_end
 
       kind_open : (k : WordKind) → Leads (word_step limit g (length front - suc (length rest)) word k)
       kind_open (End o) = λ h. let some = few in omega (arith, h, all, some)
-      kind_open Number = end_open (record { state = g.state; is_met = true; is_begun = true; termination = g.termination })
+      kind_open Number =
+          end_open (record { state = g.state; is_met = true; is_begun = true; termination = g.termination })
       kind_open Marks = end_open g
       kind_open Move = move_open (reading (current g.state) word)
 
     -- ---- a token, with what `later` settles behind it
 
     abbrev leads : ℕ → Bool → SoFar → Token × List ℕ → GameRead
-    leads n ends g p = go_on (step limit (length front) g (suc (length rest)) p.0) (λ h. game_of limit (length front) h (tokens_of n ends p.1))
+    leads n ends g p = go_on (step limit (length front) g (suc (length rest)) p.0)
+        (λ h. game_of limit (length front) h (tokens_of n ends p.1))
 
     abbrev leads_on : ℕ → Bool → SoFar → Token × List ℕ → GameRead
-    leads_on n ends g q = go_on (step limit (length front + length more) g (suc (length (rest ++ more))) q.0) (λ h. game_of limit (length front + length more) h (tokens_of n ends q.1))
+    leads_on n ends g q = go_on (step limit (length front + length more) g (suc (length (rest ++ more))) q.0)
+        (λ h. game_of limit (length front + length more) h (tokens_of n ends q.1))
 
     abbrev tells : ℕ → Bool → Variant → Token × List ℕ → Variant
     tells n ends v p = told_next v (told_by v p.0) (λ u. variant_told u (tokens_of n ends p.1))
@@ -565,46 +669,63 @@ module _ (limit : ℕ) (front more : List ℕ) where
 
     abbrev Later : ℕ → ℕ → Bool → List ℕ → Type 0
     Later n n' ends xs = (g : SoFar) → Settled (game_of limit (length front) g (tokens_of n ends xs)).answer
-        → (game_of limit (length front + length more) g (tokens_of n' ends (xs ++ more)) ≡ game_of limit (length front) g (tokens_of n ends xs))
-        × (g.is_begun ≡ false → NoFen (game_of limit (length front) g (tokens_of n ends xs)).answer → (v : Variant) → variant_told v (tokens_of n' ends (xs ++ more)) ≡ variant_told v (tokens_of n ends xs))
+        → (game_of limit (length front + length more) g (tokens_of n' ends (xs ++ more))
+        ≡ game_of limit (length front) g (tokens_of n ends xs))
+        × (g.is_begun ≡ false → NoFen (game_of limit (length front) g (tokens_of n ends xs)).answer → (v : Variant)
+        → variant_told v (tokens_of n' ends (xs ++ more)) ≡ variant_told v (tokens_of n ends xs))
 
     pub left_more : suc (length (rest ++ more)) ≡ suc (length rest) + length more
     left_more = let sum = length-append rest more in omega (arith, sum)
 
-    step_same : (g : SoFar) (t : Token) → step limit (length front + length more) g (suc (length (rest ++ more))) (shift (length more) t) ≡ step limit (length front) g (suc (length rest)) t
-    step_same g t = ap (λ n. step limit (length front + length more) g n (shift (length more) t)) left_more ∙ shift_step limit (length front) (length more) g (suc (length rest)) t
+    step_same : (g : SoFar) (t : Token) → step limit (length front + length more) g (suc (length (rest ++ more)))
+        (shift (length more) t) ≡ step limit (length front) g (suc (length rest)) t
+    step_same g t = ap (λ n. step limit (length front + length more) g n (shift (length more) t)) left_more
+        ∙ shift_step limit (length front) (length more) g (suc (length rest)) t
 
     module _ (n n' : ℕ) (ends : Bool) (g : SoFar) where
       -- the same token
-      same_goal : (p : Token × List ℕ) → Later n n' ends p.1 → Settled (leads n ends g p).answer → Goal n n' ends g p (shift (length more) p.0, p.1 ++ more)
+      same_goal : (p : Token × List ℕ) → Later n n' ends p.1 → Settled (leads n ends g p).answer
+          → Goal n n' ends g p (shift (length more) p.0, p.1 ++ more)
       same_goal p later h = (
-        ap (λ s. go_on s (λ k. game_of limit (length front + length more) k (tokens_of n' ends (p.1 ++ more)))) (step_same g p.0) ∙ games (step limit (length front) g (suc (length rest)) p.0) h,
+        ap (λ s. go_on s (λ k. game_of limit (length front + length more) k (tokens_of n' ends (p.1 ++ more))))
+            (step_same g p.0) ∙ games (step limit (length front) g (suc (length rest)) p.0) h,
         λ fresh no_fen v.
-            ap (λ o. told_next v o (λ u. variant_told u (tokens_of n' ends (p.1 ++ more)))) (shift_told (length more) v p.0)
+            ap (λ o. told_next v o (λ u. variant_told u (tokens_of n' ends (p.1 ++ more))))
+            (shift_told (length more) v p.0)
             ∙ variants fresh v (told_by v p.0) refl no_fen,
       )
         where
           games : (s : Step) → Settled (go_on s (λ k. game_of limit (length front) k (tokens_of n ends p.1))).answer
-              → go_on s (λ k. game_of limit (length front + length more) k (tokens_of n' ends (p.1 ++ more))) ≡ go_on s (λ k. game_of limit (length front) k (tokens_of n ends p.1))
+              → go_on s (λ k. game_of limit (length front + length more) k (tokens_of n' ends (p.1 ++ more)))
+              ≡ go_on s (λ k. game_of limit (length front) k (tokens_of n ends p.1))
           games (On k) h = (later k h).0
           games (Stop r) h = refl
 
-          stepped : (u : Variant) (s : Step) → StaysOpen s → Settled (go_on s (λ k. game_of limit (length front) k (tokens_of n ends p.1))).answer → NoFen (go_on s (λ k. game_of limit (length front) k (tokens_of n ends p.1))).answer
+          stepped : (u : Variant) (s : Step) → StaysOpen s
+              → Settled (go_on s (λ k. game_of limit (length front) k (tokens_of n ends p.1))).answer
+              → NoFen (go_on s (λ k. game_of limit (length front) k (tokens_of n ends p.1))).answer
               → variant_told u (tokens_of n' ends (p.1 ++ more)) ≡ variant_told u (tokens_of n ends p.1)
           stepped u (On k) unclosed h no_fen = (later k h).1 unclosed no_fen u
           stepped u (Stop r) unclosed h no_fen = absurd (unclosed no_fen)
 
-          variants : g.is_begun ≡ false → (v : Variant) (o : Option Variant) → told_by v p.0 ≡ o → NoFen (leads n ends g p).answer
-              → told_next v o (λ u. variant_told u (tokens_of n' ends (p.1 ++ more))) ≡ told_next v o (λ u. variant_told u (tokens_of n ends p.1))
+          variants : g.is_begun ≡ false → (v : Variant) (o : Option Variant) → told_by v p.0 ≡ o
+              → NoFen (leads n ends g p).answer
+              → told_next v o (λ u. variant_told u (tokens_of n' ends (p.1 ++ more)))
+              ≡ told_next v o (λ u. variant_told u (tokens_of n ends p.1))
           variants fresh v None e no_fen = refl
-          variants fresh v (Some u) e no_fen = stepped u (step limit (length front) g (suc (length rest)) p.0) (stays_open limit g fresh (length front) (suc (length rest)) v u p.0 e) h no_fen
+          variants fresh v (Some u) e no_fen = stepped u (step limit (length front) g (suc (length rest)) p.0)
+              (stays_open limit g fresh (length front) (suc (length rest)) v u p.0 e) h no_fen
 
-      same_fault : (kind : PgnFaultKind) → fails g kind (length front + length more - suc (length (rest ++ more))) ≡ fails g kind (length front - suc (length rest))
-      same_fault kind = ap (fails g kind) (ap (λ k. length front + length more - k) left_more ∙ same_place (length front) (suc (length rest)) (length more))
+      same_fault : (kind : PgnFaultKind) → fails g kind (length front + length more - suc (length (rest ++ more)))
+          ≡ fails g kind (length front - suc (length rest))
+      same_fault kind = ap (fails g kind) (ap (λ k. length front + length more - k) left_more
+          ∙ same_place (length front) (suc (length rest)) (length more))
 
       -- a tag that was none yet
-      bracket_step : (b : Bool) → g.is_begun ≡ b → (t : Token) → IsOfBracket t → SettledKind (cond b NoResult BadTag) (length front - suc (length rest)) → is_open_tag rest ≡ true
-          → (step limit (length front + length more) g (suc (length (rest ++ more))) t ≡ fails g (cond g.is_begun NoResult BadTag) (length front - suc (length rest))) × (g.is_begun ≡ false → ⊥)
+      bracket_step : (b : Bool) → g.is_begun ≡ b → (t : Token) → IsOfBracket t
+          → SettledKind (cond b NoResult BadTag) (length front - suc (length rest)) → is_open_tag rest ≡ true
+          → (step limit (length front + length more) g (suc (length (rest ++ more))) t
+          ≡ fails g (cond g.is_begun NoResult BadTag) (length front - suc (length rest))) × (g.is_begun ≡ false → ⊥)
       bracket_step false e t is h unclosed = absurd (not_both _ unclosed (ap is_open_tag (sym behind_rest) ∙ h))
       bracket_step true e Skip is h unclosed = absurd is
       bracket_step true e (Word word) is h unclosed = absurd is
@@ -613,92 +734,132 @@ module _ (limit : ℕ) (front more : List ℕ) where
       bracket_step true e Bad is h unclosed = absurd is
       bracket_step true e Bad_tag is h unclosed = (same_fault (cond g.is_begun NoResult BadTag), not_both g.is_begun e)
       bracket_step true e (Tag name text string) is h unclosed = (
-        ap (λ b. cond b (fails g NoResult (length front + length more - suc (length (rest ++ more)))) (tag_step g name text (length front + length more - string))) e
+        ap (λ b. cond b (fails g NoResult (length front + length more - suc (length (rest ++ more))))
+            (tag_step g name text (length front + length more - string))) e
             ∙ same_fault NoResult
             ∙ ap (λ b. fails g (cond b NoResult BadTag) (length front - suc (length rest))) (sym e),
         not_both g.is_begun e,
       )
 
-      bracket_goal : (q : Token × List ℕ) → IsOfBracket q.0 → is_open_tag rest ≡ true → SettledKind (cond g.is_begun NoResult BadTag) (length front - suc (length rest)) → Goal n n' ends g (Bad_tag, []) q
+      bracket_goal : (q : Token × List ℕ) → IsOfBracket q.0 → is_open_tag rest ≡ true
+          → SettledKind (cond g.is_begun NoResult BadTag) (length front - suc (length rest))
+          → Goal n n' ends g (Bad_tag, []) q
       bracket_goal q is unclosed h =
           let s = bracket_step g.is_begun refl q.0 is h unclosed in (
             ap (λ s. go_on s (λ k. game_of limit (length front + length more) k (tokens_of n' ends q.1))) s.0,
             λ fresh no_fen v. absurd (s.1 fresh),
           )
 
-      goal_at : (p q : Token × List ℕ) → Later n n' ends p.1 → Kept more c rest (is_open_tag rest) p q → Settled (leads n ends g p).answer → Goal n n' ends g p q
+      goal_at : (p q : Token × List ℕ) → Later n n' ends p.1 → Kept more c rest (is_open_tag rest) p q
+          → Settled (leads n ends g p).answer → Goal n n' ends g p q
       goal_at p q later (same e) h = subst (Goal n n' ends g p) (sym e) (same_goal p later h)
-      goal_at p q later (skipped e) h = absurd (none_open n ends g (subst (λ (x : Token × List ℕ). Settled (leads n ends g x).answer) e h))
+      goal_at p q later (skipped e) h = absurd
+          (none_open n ends g (subst (λ (x : Token × List ℕ). Settled (leads n ends g x).answer) e h))
       goal_at p q later (whole word e all bytes) h =
-          absurd (kind_open g word all bytes (kind_of word) (subst (λ (ts : List (ℕ × Token)). Settled (go_on (word_step limit g (length front - suc (length rest)) word (kind_of word)) (λ k. game_of limit (length front) k ts)).answer) (none_left n ends) (subst (λ (x : Token × List ℕ). Settled (leads n ends g x).answer) e h)))
+          absurd (kind_open g word all bytes (kind_of word)
+          (subst (λ (ts : List (ℕ × Token)). Settled
+          (go_on (word_step limit g (length front - suc (length rest)) word (kind_of word))
+          (λ k. game_of limit (length front) k ts)).answer) (none_left n ends)
+          (subst (λ (x : Token × List ℕ). Settled (leads n ends g x).answer) e h)))
       goal_at p q later (no_tag e f) h =
-          subst (λ (x : Token × List ℕ). Goal n n' ends g x q) (sym e) (subst (Goal n n' ends g (Bad_tag, [])) (sym f)
-          (ap (λ s. go_on s (λ k. game_of limit (length front + length more) k (tokens_of n' ends []))) (same_fault (cond g.is_begun NoResult BadTag)), λ fresh no_fen v. refl))
+          subst (λ (x : Token × List ℕ). Goal n n' ends g x q) (sym e) (subst (Goal n n' ends g (Bad_tag, [])) (sym f) (
+            ap (λ s. go_on s (λ k. game_of limit (length front + length more) k (tokens_of n' ends [])))
+                (same_fault (cond g.is_begun NoResult BadTag)),
+            λ fresh no_fen v. refl,
+          ))
       goal_at p q later (maybe_tag e is unclosed) h =
-          subst (λ (x : Token × List ℕ). Goal n n' ends g x q) (sym e) (bracket_goal q is unclosed (subst (λ (x : Token × List ℕ). Settled (leads n ends g x).answer) e h))
-      goal_at p q later (open_comment brace e) h = absurd (subst (λ (x : Token × List ℕ). Settled (leads n ends g x).answer) e h)
-      goal_at p q later (open_variation e) h = absurd (subst (λ (x : Token × List ℕ). Settled (leads n ends g x).answer) e h)
+          subst (λ (x : Token × List ℕ). Goal n n' ends g x q) (sym e)
+          (bracket_goal q is unclosed (subst (λ (x : Token × List ℕ). Settled (leads n ends g x).answer) e h))
+      goal_at p q later (open_comment brace e) h =
+          absurd (subst (λ (x : Token × List ℕ). Settled (leads n ends g x).answer) e h)
+      goal_at p q later (open_variation e) h =
+          absurd (subst (λ (x : Token × List ℕ). Settled (leads n ends g x).answer) e h)
       goal_at p q later (bad e f) h =
-          subst (λ (x : Token × List ℕ). Goal n n' ends g x q) (sym e) (subst (Goal n n' ends g (Bad, [])) (sym f)
-          (ap (λ s. go_on s (λ k. game_of limit (length front + length more) k (tokens_of n' ends []))) (same_fault BadToken), λ fresh no_fen v. refl))
+          subst (λ (x : Token × List ℕ). Goal n n' ends g x q) (sym e) (subst (Goal n n' ends g (Bad, [])) (sym f) (
+            ap (λ s. go_on s (λ k. game_of limit (length front + length more) k (tokens_of n' ends [])))
+                (same_fault BadToken),
+            λ fresh no_fen v. refl,
+          ))
 
     -- ---- the variant alone
 
     abbrev LaterTold : ℕ → ℕ → Bool → List ℕ → Type 0
-    LaterTold n n' ends xs = (v : Variant) → settles_variant front v (tokens_of n ends xs) ≡ true → variant_told v (tokens_of n' ends (xs ++ more)) ≡ variant_told v (tokens_of n ends xs)
+    LaterTold n n' ends xs = (v : Variant) → settles_variant front v (tokens_of n ends xs) ≡ true
+        → variant_told v (tokens_of n' ends (xs ++ more)) ≡ variant_told v (tokens_of n ends xs)
 
     abbrev settles : ℕ → Bool → Variant → Token × List ℕ → Bool
-    settles n ends v p = settled_by (is_firm front (suc (length rest)) p.0) (told_by v p.0) (λ u. settles_variant front u (tokens_of n ends p.1))
+    settles n ends v p = settled_by (is_firm front (suc (length rest)) p.0) (told_by v p.0)
+        (λ u. settles_variant front u (tokens_of n ends p.1))
 
     module _ (n n' : ℕ) (ends : Bool) (v : Variant) where
       pub none_told : (u : Variant) → settles_variant front u (tokens_of n ends []) ≡ true → ⊥
       none_told u h = true≢false (sym h ∙ ap (settles_variant front u) (none_left n ends))
 
-      pub word_told : (word : List ℕ) → length word ≡ suc (length rest) → (k : WordKind) → settled_by (nat_lt (length word) (suc (length rest))) (behind_word v k) (λ u. settles_variant front u (tokens_of n ends [])) ≡ true → ⊥
+      pub word_told : (word : List ℕ) → length word ≡ suc (length rest) → (k : WordKind)
+          → settled_by (nat_lt (length word) (suc (length rest))) (behind_word v k)
+          (λ u. settles_variant front u (tokens_of n ends [])) ≡ true → ⊥
       word_told word all (End o) h = let less = ltb-true (length word) (suc (length rest)) h in omega (arith, less, all)
       word_told word all Number h = let less = ltb-true (length word) (suc (length rest)) h in omega (arith, less, all)
       word_told word all Marks h = none_told v h
       word_told word all Move h = let less = ltb-true (length word) (suc (length rest)) h in omega (arith, less, all)
 
-      same_told : (p : Token × List ℕ) → LaterTold n n' ends p.1 → settles n ends v p ≡ true → tells n' ends v (shift (length more) p.0, p.1 ++ more) ≡ tells n ends v p
-      same_told p later h = ap (λ o. told_next v o (λ u. variant_told u (tokens_of n' ends (p.1 ++ more)))) (shift_told (length more) v p.0) ∙ by_told (told_by v p.0) h
+      same_told : (p : Token × List ℕ) → LaterTold n n' ends p.1 → settles n ends v p ≡ true
+          → tells n' ends v (shift (length more) p.0, p.1 ++ more) ≡ tells n ends v p
+      same_told p later h = ap (λ o. told_next v o (λ u. variant_told u (tokens_of n' ends (p.1 ++ more))))
+          (shift_told (length more) v p.0) ∙ by_told (told_by v p.0) h
         where
-          by_told : (o : Option Variant) → settled_by (is_firm front (suc (length rest)) p.0) o (λ u. settles_variant front u (tokens_of n ends p.1)) ≡ true
-              → told_next v o (λ u. variant_told u (tokens_of n' ends (p.1 ++ more))) ≡ told_next v o (λ u. variant_told u (tokens_of n ends p.1))
+          by_told : (o : Option Variant) → settled_by (is_firm front (suc (length rest)) p.0) o
+              (λ u. settles_variant front u (tokens_of n ends p.1)) ≡ true
+              → told_next v o (λ u. variant_told u (tokens_of n' ends (p.1 ++ more)))
+              ≡ told_next v o (λ u. variant_told u (tokens_of n ends p.1))
           by_told None h = refl
           by_told (Some u) h = later u h
 
-      pub is_closed : not (is_open_tag (drop (length front - suc (length rest) + 1) front)) ≡ true → is_open_tag rest ≡ true → ⊥
+      pub is_closed : not (is_open_tag (drop (length front - suc (length rest) + 1) front)) ≡ true
+          → is_open_tag rest ≡ true → ⊥
       is_closed h unclosed = true≢false (sym h ∙ ap (λ (r : List ℕ). not (is_open_tag r)) behind_rest ∙ ap not unclosed)
 
-      told_at : (p q : Token × List ℕ) → LaterTold n n' ends p.1 → Kept more c rest (is_open_tag rest) p q → settles n ends v p ≡ true → tells n' ends v q ≡ tells n ends v p
+      told_at : (p q : Token × List ℕ) → LaterTold n n' ends p.1 → Kept more c rest (is_open_tag rest) p q
+          → settles n ends v p ≡ true → tells n' ends v q ≡ tells n ends v p
       told_at p q later (same e) h = ap (tells n' ends v) e ∙ same_told p later h
-      told_at p q later (skipped e) h = absurd (none_told v (subst (λ (x : Token × List ℕ). settles n ends v x ≡ true) e h))
-      told_at p q later (whole word e all bytes) h = absurd (word_told word all (kind_of word) (subst (λ (x : Token × List ℕ). settles n ends v x ≡ true) e h))
+      told_at p q later (skipped e) h = absurd
+          (none_told v (subst (λ (x : Token × List ℕ). settles n ends v x ≡ true) e h))
+      told_at p q later (whole word e all bytes) h =
+          absurd (word_told word all (kind_of word) (subst (λ (x : Token × List ℕ). settles n ends v x ≡ true) e h))
       told_at p q later (no_tag e f) h = ap (tells n' ends v) f ∙ sym (ap (tells n ends v) e)
-      told_at p q later (maybe_tag e is unclosed) h = absurd (is_closed (subst (λ (x : Token × List ℕ). settles n ends v x ≡ true) e h) unclosed)
-      told_at p q later (open_comment brace e) h = absurd (true≢false (sym (subst (λ (x : Token × List ℕ). settles n ends v x ≡ true) e h)))
-      told_at p q later (open_variation e) h = absurd (true≢false (sym (subst (λ (x : Token × List ℕ). settles n ends v x ≡ true) e h)))
+      told_at p q later (maybe_tag e is unclosed) h =
+          absurd (is_closed (subst (λ (x : Token × List ℕ). settles n ends v x ≡ true) e h) unclosed)
+      told_at p q later (open_comment brace e) h =
+          absurd (true≢false (sym (subst (λ (x : Token × List ℕ). settles n ends v x ≡ true) e h)))
+      told_at p q later (open_variation e) h =
+          absurd (true≢false (sym (subst (λ (x : Token × List ℕ). settles n ends v x ≡ true) e h)))
       told_at p q later (bad e f) h = ap (tells n' ends v) f ∙ sym (ap (tells n ends v) e)
 
   -- ---- all tokens
 
-  pub next_there : (begins : Bool) (c : ℕ) (rest : List ℕ) → Suffix front (c ∷ rest) → Suffix front (token_at begins c rest).1
-  next_there begins c rest there = suffix_then front (c ∷ rest) (token_at begins c rest).1 there (token_suffix begins c rest)
+  pub next_there : (begins : Bool) (c : ℕ) (rest : List ℕ) → Suffix front (c ∷ rest)
+      → Suffix front (token_at begins c rest).1
+  next_there begins c rest there = suffix_then front (c ∷ rest) (token_at begins c rest).1 there
+      (token_suffix begins c rest)
 
-  pub fewer_left : (begins : Bool) (c : ℕ) (rest : List ℕ) (n : ℕ) → length (c ∷ rest) ≤ suc n → length (token_at begins c rest).1 ≤ n
+  pub fewer_left : (begins : Bool) (c : ℕ) (rest : List ℕ) (n : ℕ) → length (c ∷ rest) ≤ suc n
+      → length (token_at begins c rest).1 ≤ n
   fewer_left begins c rest n h = let less = shorter begins c rest in omega (arith, h, less)
 
-  pub fewer_more : (begins : Bool) (c : ℕ) (rest : List ℕ) (n : ℕ) → length (c ∷ rest ++ more) ≤ suc n → length ((token_at begins c rest).1 ++ more) ≤ n
+  pub fewer_more : (begins : Bool) (c : ℕ) (rest : List ℕ) (n : ℕ) → length (c ∷ rest ++ more) ≤ suc n
+      → length ((token_at begins c rest).1 ++ more) ≤ n
   fewer_more begins c rest n h =
       let less = shorter begins c rest in
       let one = length-append rest more in
       let other = length-append (token_at begins c rest).1 more in
       omega (arith, h, less, one, other)
 
-  local : (n n' : ℕ) (begins : Bool) (xs : List ℕ) → Suffix front xs → length xs ≤ n → length (xs ++ more) ≤ n' → (g : SoFar) → Settled (game_of limit (length front) g (tokens_of n begins xs)).answer
-      → (game_of limit (length front + length more) g (tokens_of n' begins (xs ++ more)) ≡ game_of limit (length front) g (tokens_of n begins xs))
-      × (g.is_begun ≡ false → NoFen (game_of limit (length front) g (tokens_of n begins xs)).answer → (v : Variant) → variant_told v (tokens_of n' begins (xs ++ more)) ≡ variant_told v (tokens_of n begins xs))
+  local : (n n' : ℕ) (begins : Bool) (xs : List ℕ) → Suffix front xs → length xs ≤ n → length (xs ++ more) ≤ n'
+      → (g : SoFar) → Settled (game_of limit (length front) g (tokens_of n begins xs)).answer
+      → (game_of limit (length front + length more) g (tokens_of n' begins (xs ++ more))
+      ≡ game_of limit (length front) g (tokens_of n begins xs))
+      × (g.is_begun ≡ false → NoFen (game_of limit (length front) g (tokens_of n begins xs)).answer → (v : Variant)
+      → variant_told v (tokens_of n' begins (xs ++ more)) ≡ variant_told v (tokens_of n begins xs))
   unfolding tokens_of
   local zero n' begins [] there h k g told = absurd (end_open g told)
   local (suc n) n' begins [] there h k g told = absurd (end_open g told)
@@ -706,10 +867,12 @@ module _ (limit : ℕ) (front more : List ℕ) where
   local (suc n) zero begins (c ∷ rest) there h k g told = absurd (omega (arith, k))
   local (suc n) (suc n') begins (c ∷ rest) there h k g told =
       goal_at c rest there n n' (eqb c 10) g (token_at begins c rest) (token_at begins c (rest ++ more))
-      (local n n' (eqb c 10) (token_at begins c rest).1 (next_there begins c rest there) (fewer_left begins c rest n h) (fewer_more begins c rest n' k))
+      (local n n' (eqb c 10) (token_at begins c rest).1 (next_there begins c rest there) (fewer_left begins c rest n h)
+      (fewer_more begins c rest n' k))
       (kept more begins c rest) told
 
-  told_local : (n n' : ℕ) (begins : Bool) (xs : List ℕ) → Suffix front xs → length xs ≤ n → length (xs ++ more) ≤ n' → (v : Variant) → settles_variant front v (tokens_of n begins xs) ≡ true
+  told_local : (n n' : ℕ) (begins : Bool) (xs : List ℕ) → Suffix front xs → length xs ≤ n → length (xs ++ more) ≤ n'
+      → (v : Variant) → settles_variant front v (tokens_of n begins xs) ≡ true
       → variant_told v (tokens_of n' begins (xs ++ more)) ≡ variant_told v (tokens_of n begins xs)
   unfolding tokens_of
   told_local zero n' begins [] there h k v told = absurd (true≢false (sym told))
@@ -718,7 +881,8 @@ module _ (limit : ℕ) (front more : List ℕ) where
   told_local (suc n) zero begins (c ∷ rest) there h k v told = absurd (omega (arith, k))
   told_local (suc n) (suc n') begins (c ∷ rest) there h k v told =
       told_at c rest there n n' (eqb c 10) v (token_at begins c rest) (token_at begins c (rest ++ more))
-      (told_local n n' (eqb c 10) (token_at begins c rest).1 (next_there begins c rest there) (fewer_left begins c rest n h) (fewer_more begins c rest n' k))
+      (told_local n n' (eqb c 10) (token_at begins c rest).1 (next_there begins c rest there)
+      (fewer_left begins c rest n h) (fewer_more begins c rest n' k))
       (kept more begins c rest) told
 
   -- ---- the text from a place on
@@ -759,7 +923,8 @@ module _ (limit : ℕ) (front more : List ℕ) where
   settled_answer at (Err f) h = settled_fault at f.place f.kind h
 
   -- where a byte order mark could stand three bytes do
-  pub place_same : (at : ℕ) → (nat_lt 0 at || nat_le 3 (length front)) ≡ true → first_place (front ++ more) at ≡ first_place front at
+  pub place_same : (at : ℕ) → (nat_lt 0 at || nat_le 3 (length front)) ≡ true
+      → first_place (front ++ more) at ≡ first_place front at
   place_same at h = by_test (eqb at 0) refl
     where
       by_test : (b : Bool) → eqb at 0 ≡ b → first_place (front ++ more) at ≡ first_place front at
@@ -788,21 +953,28 @@ module _ (limit : ℕ) (front more : List ℕ) where
 
     pub read_local_at : (g : SoFar) → Settled (game_of limit (length front) g tokens).answer
         → (game_of limit (length front + length more) g longer ≡ game_of limit (length front) g tokens)
-        × (g.is_begun ≡ false → NoFen (game_of limit (length front) g tokens).answer → (v : Variant) → variant_told v longer ≡ variant_told v tokens)
-    read_local_at = local (length front) (length (front ++ more)) (begins_line front place) (drop place front) (rest_there place within) few_here few_longer
+        × (g.is_begun ≡ false → NoFen (game_of limit (length front) g tokens).answer → (v : Variant)
+        → variant_told v longer ≡ variant_told v tokens)
+    read_local_at = local (length front) (length (front ++ more)) (begins_line front place) (drop place front)
+        (rest_there place within) few_here few_longer
 
     told_local_at : settles_variant front Normal tokens ≡ true → variant_told Normal longer ≡ variant_told Normal tokens
-    told_local_at = told_local (length front) (length (front ++ more)) (begins_line front place) (drop place front) (rest_there place within) few_here few_longer Normal
+    told_local_at = told_local (length front) (length (front ++ more)) (begins_line front place) (drop place front)
+        (rest_there place within) few_here few_longer Normal
 
-    variant_same : (at : ℕ) → tokens_from front (first_place front at) ≡ tokens → (r : Result (Option PgnEnd) PgnFault) → (tokens_read limit (length front) tokens).answer ≡ r → settles_answer front at r ≡ true
-        → (NoFen r → variant_told Normal longer ≡ variant_told Normal tokens) → variant_told Normal longer ≡ variant_told Normal tokens
+    variant_same : (at : ℕ) → tokens_from front (first_place front at) ≡ tokens → (r : Result (Option PgnEnd) PgnFault)
+        → (tokens_read limit (length front) tokens).answer ≡ r → settles_answer front at r ≡ true
+        → (NoFen r → variant_told Normal longer ≡ variant_told Normal tokens)
+        → variant_told Normal longer ≡ variant_told Normal tokens
     variant_same at are (Ok o) is h later = later tt
     variant_same at are (Err f) is h later = elim (fen_or_not f.kind) [
-      | inl e ↦ told_local_at (ap (settles_variant front Normal) (sym are) ∙ subst (λ k. settles_fault front at f.place k ≡ true) e h)
+      | inl e ↦ told_local_at (ap (settles_variant front Normal) (sym are)
+          ∙ subst (λ k. settles_fault front at f.place k ≡ true) e h)
       | inr no_fen ↦ later no_fen
     ]
 
-    settled_read : (at : ℕ) → tokens_from front (first_place front at) ≡ tokens → settles_answer front at (tokens_read limit (length front) tokens).answer ≡ true
+    settled_read : (at : ℕ) → tokens_from front (first_place front at) ≡ tokens
+        → settles_answer front at (tokens_read limit (length front) tokens).answer ≡ true
         → tokens_read limit (length (front ++ more)) longer ≡ tokens_read limit (length front) tokens
     settled_read at are h =
         let g : SoFar = nothing_read (variant_told Normal tokens) in
@@ -813,16 +985,20 @@ module _ (limit : ℕ) (front more : List ℕ) where
         ∙ ap (λ n. game_of limit n g longer) (length-append front more)
         ∙ here.0
 
-  pub read_same : (at : ℕ) → at ≤ length front → is_settled limit front at ≡ true → pgn_read limit (front ++ more) at ≡ pgn_read limit front at
+  pub read_same : (at : ℕ) → at ≤ length front → is_settled limit front at ≡ true
+      → pgn_read limit (front ++ more) at ≡ pgn_read limit front at
   unfolding pgn_read tokens_from is_settled
   read_same at inside settled =
-      let parts = and_parts (nat_lt 0 at || nat_le 3 (length front)) (settles_answer front at (pgn_read limit front at).answer) settled in
+      let parts = and_parts (nat_lt 0 at || nat_le 3 (length front))
+      (settles_answer front at (pgn_read limit front at).answer) settled in
       let place : ℕ = first_place front at in
       let within : place ≤ length front = (behind front at inside).1 in
       let all : List ℕ = front ++ more in
-      ap (λ p. tokens_read limit (length all) (tokens_of (length all) (begins_line all p) (drop p all))) (place_same at parts.0)
+      ap (λ p. tokens_read limit (length all) (tokens_of (length all) (begins_line all p) (drop p all)))
+      (place_same at parts.0)
       ∙ ap (λ b. tokens_read limit (length all) (tokens_of (length all) b (drop place all))) (line_same place within)
-      ∙ ap (λ xs. tokens_read limit (length all) (tokens_of (length all) (begins_line front place) xs)) (rest_same place within)
+      ∙ ap (λ xs. tokens_read limit (length all) (tokens_of (length all) (begins_line front place) xs))
+      (rest_same place within)
       ∙ settled_read place within at refl parts.1
 
 pub read_local : ReadingIsLocal

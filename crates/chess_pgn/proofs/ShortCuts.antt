@@ -92,7 +92,8 @@ run_few p (x ∷ xs) more e = by_test (p x) refl (run_few p xs more)
         ap (λ b. cond b (1 + prefix_len p (xs ++ more)) 0) k ∙ omega arith in
         subst (λ n. length (drop n (x ∷ xs ++ more)) ≤ length more) (sym there) (later same)
     by_test false k later =
-        let is : 0 ≡ suc (length xs) = sym (ap (λ b. cond b (1 + prefix_len p xs) 0) k) ∙ e in absurd (omega (arith, is))
+        let is : 0 ≡ suc (length xs) = sym (ap (λ b. cond b (1 + prefix_len p xs) 0) k)
+        ∙ e in absurd (omega (arith, is))
 
 -- ---- one kind of token after another
 
@@ -188,7 +189,8 @@ module _ (more : List ℕ) where
   text_told name left (Some g) (Some f) (inl few) =
       inl (text_few (length more) name (left + length more) (Some f) few)
   text_told name left (Some g) (Some f) (inr e) =
-      subst (λ (x : List ℕ × List ℕ). Told (with_text name left (Some g)) (with_text name (left + length more) (Some x)))
+      subst (λ (x : List ℕ × List ℕ). Told (with_text name left (Some g))
+      (with_text name (left + length more) (Some x)))
       (sym e)
       (closed_told name g.0 left (behind_next 93 g.1) (behind_next 93 (g.1 ++ more))
       (byte_told 93 (behind_gap false false g.1) (behind_gap false false (g.1 ++ more)) (gap_told false false g.1)))

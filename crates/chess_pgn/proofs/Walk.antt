@@ -5,7 +5,8 @@ use Rattle.std.proofs.lemmas.List.{length-append, length-drop, take-append-drop,
 use Rattle.chess_pgn.specs.Tokens.{Token, token_at, tokens_of, begins_line, tokens_from}
 use Rattle.chess_pgn.proofs.Cuts.{Left, token_left, token_ten}
 
--- what stands behind a token: nothing, or a rest before which stands a byte that is 10 exactly where the token's first is
+-- what stands behind a token: nothing, or a rest before which stands a byte that is 10 exactly where the token's first
+-- is
 record Behind (c : ℕ) (rest behind : List ℕ) : Type 0 where
   front : List ℕ
   last : ℕ

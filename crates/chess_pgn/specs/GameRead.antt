@@ -27,8 +27,8 @@ use Rattle.chess_pgn.specs.Terminations.{termination_named}
 use Rattle.chess_pgn.specs.Tokens.{Token, Skip, Tag, Word, Bad_tag, Unclosed_comment, Unclosed_variation, Bad, first_place, tokens_from}
 use Rattle.chess_pgn.specs.Words.{kind_of}
 
--- the game so far. It is met where it had a tag, number or move, and begun where it had a number or move; the termination
--- is what its tags told
+-- the game so far. It is met where it had a tag, number or move, and begun where it had a number or move; the
+-- termination is what its tags told
 pub record SoFar : Type 0 where
   pub state : State
   pub is_met : Bool
@@ -72,14 +72,16 @@ unless_full limit g place next =
 
 abbrev pub move_step : ℕ → SoFar → ℕ → Reading → Step
 move_step limit g place reads.NotAMove = fails g BadToken place
-move_step limit g place (reads.Move m) = unless_full limit g place (On (record { state = played g.state m; is_met = true; is_begun = true; termination = g.termination }))
+move_step limit g place (reads.Move m) = unless_full limit g place
+    (On (record { state = played g.state m; is_met = true; is_begun = true; termination = g.termination }))
 move_step limit g place reads.Ambiguous = unless_full limit g place (fails g AmbiguousMove place)
 move_step limit g place reads.NoSuch = unless_full limit g place (fails g IllegalMove place)
 
 -- a word at that place
 abbrev pub word_step : ℕ → SoFar → ℕ → List ℕ → WordKind → Step
 word_step limit g place word (End o) = ends g o (place + length word)
-word_step limit g place word Number = On (record { state = g.state; is_met = true; is_begun = true; termination = g.termination })
+word_step limit g place word Number =
+    On (record { state = g.state; is_met = true; is_begun = true; termination = g.termination })
 word_step limit g place word Marks = On g
 word_step limit g place word Move = move_step limit g place (reading (current g.state) word)
 
@@ -87,7 +89,8 @@ word_step limit g place word Move = move_step limit g place (reading (current g.
 
 -- a start that a FEN spells at that place
 abbrev pub fen_step : SoFar → ℕ → Result Setup FenFault → Step
-fen_step g place (Ok start) = On (record { state = from_start start; is_met = true; is_begun = g.is_begun; termination = g.termination })
+fen_step g place (Ok start) =
+    On (record { state = from_start start; is_met = true; is_begun = g.is_begun; termination = g.termination })
 fen_step g place (Err fault) = fails g BadFen place
 
 -- what is told of the game's end behind a tag: the last one counts
@@ -98,13 +101,19 @@ told_behind before name text = if bytes_eq name (codes "Termination") then termi
 abbrev pub tag_step : SoFar → List ℕ → List ℕ → ℕ → Step
 tag_step g name text place =
     if bytes_eq name (codes "FEN") then fen_step g place (fen_reading_as g.state.start.variant text)
-    else On (record { state = g.state; is_met = true; is_begun = g.is_begun; termination = told_behind g.termination name text })
+    else On (record {
+      state = g.state;
+      is_met = true;
+      is_begun = g.is_begun;
+      termination = told_behind g.termination name text;
+    })
 
 -- ---- tokens, in a text of so many bytes; each with how many bytes are left where it begins
 
 abbrev pub step : ℕ → ℕ → SoFar → ℕ → Token → Step
 step limit total g left Skip = On g
-step limit total g left (Tag name text string) = if g.is_begun then fails g NoResult (total - left) else tag_step g name text (total - string)
+step limit total g left (Tag name text string) =
+    if g.is_begun then fails g NoResult (total - left) else tag_step g name text (total - string)
 step limit total g left (Word word) = word_step limit g (total - left) word (kind_of word)
 step limit total g left Bad_tag = fails g (if g.is_begun then NoResult else BadTag) (total - left)
 step limit total g left (Unclosed_comment brace) = fails g UnclosedComment (total - brace)
@@ -113,7 +122,11 @@ step limit total g left Bad = fails g BadToken (total - left)
 
 -- at the text's end there is no game, or one without a result
 abbrev pub at_text_end : ℕ → SoFar → GameRead
-at_text_end total g = record { state = g.state; answer = if g.is_met then Err (record { kind = NoResult; place = total }) else Ok None }
+at_text_end total g = record {
+  state = g.state;
+  answer = if g.is_met then Err
+      (record { kind = NoResult; place = total }) else Ok None;
+}
 
 abbrev pub go_on : Step → (SoFar → GameRead) → GameRead
 go_on (On g) later = later g
@@ -124,14 +137,20 @@ game_of limit total g [] = at_text_end total g
 game_of limit total g (t ∷ ts) = go_on (step limit total g t.0 t.1) (λ h. game_of limit total h ts)
 
 abbrev pub nothing_read : Variant → SoFar
-nothing_read v = record { state = from_start (initial_setup_of v); is_met = false; is_begun = false; termination = None }
+nothing_read v = record {
+  state = from_start (initial_setup_of v);
+  is_met = false;
+  is_begun = false;
+  termination = None;
+}
 
 -- ---- the variant: the last that tags name before the game's first number, move or outcome, as far as these can be read
 
 -- the variant that a tag's text names, in letters of either size
 abbrev pub variant_named : List ℕ → Variant
 variant_named text =
-    if str_eq_ignore_ascii_case text (codes "fischerandom") || str_eq_ignore_ascii_case text (codes "fischerrandom") || str_eq_ignore_ascii_case text (codes "chess960") then Fischerandom
+    if str_eq_ignore_ascii_case text (codes "fischerandom") || str_eq_ignore_ascii_case text (codes "fischerrandom")
+    || str_eq_ignore_ascii_case text (codes "chess960") then Fischerandom
     else Normal
 
 abbrev pub behind_word : Variant → WordKind → Option Variant

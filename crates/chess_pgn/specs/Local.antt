@@ -44,7 +44,8 @@ is_open_name (n ∷ ns) rest = could_go_on (byte "\"") is_open_string rest
 
 abbrev pub is_open_tag : List ℕ → Bool
 is_open_tag text =
-    let inner = behind_gap false false text in is_over inner || is_open_name (take_while is_name_byte inner) (drop (prefix_len is_name_byte inner) inner)
+    let inner = behind_gap false false text in is_over inner
+    || is_open_name (take_while is_name_byte inner) (drop (prefix_len is_name_byte inner) inner)
 
 -- ---- what the beginning of a text settles
 
@@ -92,22 +93,26 @@ settles_answer text at (Err f) = settles_fault text at f.place f.kind
 -- the text settles how the game at a place is read: a game that ended has a byte behind it, and a text with a beginning
 -- where a byte order mark could stand has three bytes
 unfoldable pub is_settled : ℕ → List ℕ → ℕ → Bool
-is_settled limit text at = (nat_lt 0 at || nat_le 3 (length text)) && settles_answer text at (pgn_read limit text at).answer
+is_settled limit text at = (nat_lt 0 at || nat_le 3 (length text))
+    && settles_answer text at (pgn_read limit text at).answer
 
 -- ---- the laws
 
 -- what the beginning of a text settles is read so in the whole text
 abbrev pub ReadingIsLocal : Type 0
-ReadingIsLocal = (limit : ℕ) (front rest : List ℕ) (at : ℕ) → at ≤ length front → is_settled limit front at ≡ true → pgn_read limit (front ++ rest) at ≡ pgn_read limit front at
+ReadingIsLocal = (limit : ℕ) (front rest : List ℕ) (at : ℕ) → at ≤ length front → is_settled limit front at ≡ true
+    → pgn_read limit (front ++ rest) at ≡ pgn_read limit front at
 
 -- what the beginning of a text settles is settled by every longer one
 abbrev pub SettledStays : Type 0
-SettledStays = (limit : ℕ) (front rest : List ℕ) (at : ℕ) → at ≤ length front → is_settled limit front at ≡ true → is_settled limit (front ++ rest) at ≡ true
+SettledStays = (limit : ℕ) (front rest : List ℕ) (at : ℕ) → at ≤ length front → is_settled limit front at ≡ true
+    → is_settled limit (front ++ rest) at ≡ true
 
 -- a game read so many bytes later
 abbrev pub moved_answer : ℕ → Result (Option PgnEnd) PgnFault → Result (Option PgnEnd) PgnFault
 moved_answer n (Ok None) = Ok None
-moved_answer n (Ok (Some e)) = Ok (Some (record { outcome = e.outcome; termination = e.termination; place = n + e.place }))
+moved_answer n (Ok (Some e)) =
+    Ok (Some (record { outcome = e.outcome; termination = e.termination; place = n + e.place }))
 moved_answer n (Err f) = Err (record { kind = f.kind; place = n + f.place })
 
 abbrev pub moved : ℕ → GameRead → GameRead
@@ -115,17 +120,22 @@ moved n r = record { state = r.state; answer = moved_answer n r.answer }
 
 -- behind the byte before it a game is read the same, whatever stands before that byte
 abbrev pub ReadingIsMoved : Type 0
-ReadingIsMoved = (limit : ℕ) (before text : List ℕ) (at : ℕ) → 0 < at → at ≤ length text → pgn_read limit (before ++ text) (length before + at) ≡ moved (length before) (pgn_read limit text at)
+ReadingIsMoved = (limit : ℕ) (before text : List ℕ) (at : ℕ) → 0 < at → at ≤ length text
+    → pgn_read limit (before ++ text) (length before + at) ≡ moved (length before) (pgn_read limit text at)
 
 -- and the text settles how it is read, or leaves it open, the same
 abbrev pub SettledIsMoved : Type 0
-SettledIsMoved = (limit : ℕ) (before text : List ℕ) (at : ℕ) → 0 < at → at ≤ length text → is_settled limit (before ++ text) (length before + at) ≡ is_settled limit text at
+SettledIsMoved = (limit : ℕ) (before text : List ℕ) (at : ℕ) → 0 < at → at ≤ length text
+    → is_settled limit (before ++ text) (length before + at) ≡ is_settled limit text at
 
 -- a fault's place is in the text, and not before the place where reading began
 abbrev pub FaultsHavePlaces : Type 0
-FaultsHavePlaces = (limit : ℕ) (text : List ℕ) (at : ℕ) → at ≤ length text → IfErr (pgn_read limit text at).answer (λ f. (at ≤ f.place) × (f.place ≤ length text))
+FaultsHavePlaces = (limit : ℕ) (text : List ℕ) (at : ℕ) → at ≤ length text
+    → IfErr (pgn_read limit text at).answer (λ f. (at ≤ f.place) × (f.place ≤ length text))
 
 -- a half-move takes at least a byte of the text that a game has from the place on
 abbrev pub HalfMovesHaveBytes : Type 0
 HalfMovesHaveBytes =
-    (limit : ℕ) (text : List ℕ) (at : ℕ) → at ≤ length text → IfOk (pgn_read limit text at).answer (λ o. IfSome o (λ e. length (pgn_read limit text at).state.moves + at ≤ e.place))
+    (limit : ℕ) (text : List ℕ) (at : ℕ) → at ≤ length text
+    → IfOk (pgn_read limit text at).answer
+    (λ o. IfSome o (λ e. length (pgn_read limit text at).state.moves + at ≤ e.place))

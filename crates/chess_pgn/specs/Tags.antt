@@ -7,7 +7,15 @@ use Rattle.chess_pgn.specs.Written.{tag_line}
 
 -- nothing is known but that it was a game, which ended in the normal way
 abbrev pub default_tags : Tags
-default_tags = record { event = codes "?"; site = codes "?"; date = codes "????.??.??"; round = codes "?"; white = codes "?"; black = codes "?"; ended = Normal }
+default_tags = record {
+  event = codes "?";
+  site = codes "?";
+  date = codes "????.??.??";
+  round = codes "?";
+  white = codes "?";
+  black = codes "?";
+  ended = Normal;
+}
 
 -- the lines of tags
 abbrev pub tag_lines_of : List TagPair → List (List ℕ)

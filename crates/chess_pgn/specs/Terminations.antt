@@ -19,7 +19,8 @@ termination_text TimeForfeit = codes "time forfeit"
 termination_text Unterminated = codes "unterminated"
 
 abbrev pub all_terminations : List Termination
-all_terminations = Abandoned ∷ Adjudication ∷ Death ∷ Emergency ∷ Normal ∷ RulesInfraction ∷ TimeForfeit ∷ Unterminated ∷ []
+all_terminations = Abandoned ∷ Adjudication ∷ Death ∷ Emergency ∷ Normal ∷ RulesInfraction ∷ TimeForfeit ∷ Unterminated
+    ∷ []
 
 -- the one that a tag's text names, in letters of either size
 unfoldable pub termination_named : List ℕ → Option Termination

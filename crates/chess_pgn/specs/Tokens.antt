@@ -1,6 +1,7 @@
 -- The tokens of a game's text as it is read (PGN standard of 1994, sections 5 to 7 and 8.2): white space, dots,
--- comments, `%` lines, `$` glyphs and variations are skipped; tags and words are told; the first token that can't be read is the last.
--- This project's own: the bytes of a word, and that a `%` line is skipped also in a tag and in a variation.
+-- comments, `%` lines, `$` glyphs and variations are skipped; tags and words are told; the first token that can't be
+-- read is the last. This project's own: the bytes of a word, and that a `%` line is skipped also in a tag and in a
+-- variation.
 use Rattle.std.specs.Prelude.{ℕ, zero, suc, ◌-◌, Bool, true, false, not, ◌&&◌, ◌||◌, List, [], ◌∷◌, ◌++◌, length, take, drop, slice_index, Option, Some, None, ◌==◌, nat_le, if◌then◌else◌}
 use Rattle.chess_base.specs.Letters.{is_digit, is_letter, byte, carriage_return, new_line, space, tab}
 use Rattle.std.specs.List.{prefix_len, position_or_len, take_while}
@@ -29,7 +30,12 @@ is_name_byte c = is_letter c || (is_digit c || c == byte "_")
 
 -- these, `+`, `#`, `=`, `-`, `/`, `!`, `?` and `:`
 abbrev pub is_word_byte : ℕ → Bool
-is_word_byte c = is_name_byte c || (c == byte "+" || (c == byte "#" || (c == byte "=" || (c == byte "-" || (c == byte "/" || (c == byte "!" || (c == byte "?" || c == byte ":")))))))
+is_word_byte c =
+    is_name_byte c
+    || (c == byte "+"
+    || (c == byte "#"
+    || (c == byte "="
+    || (c == byte "-" || (c == byte "/" || (c == byte "!" || (c == byte "?" || c == byte ":")))))))
 
 -- ---- what is skipped
 
@@ -46,7 +52,9 @@ behind_brace (c ∷ rest) = if c == byte "}" then Some rest else behind_brace re
 abbrev pub behind_gap : Bool → Bool → List ℕ → List ℕ
 behind_gap skips begins [] = []
 behind_gap true begins (c ∷ rest) = behind_gap (not (c == new_line)) true rest
-behind_gap false begins (c ∷ rest) = if begins && c == byte "%" then behind_gap true false rest else (if is_white_space c then behind_gap false (c == new_line) rest else c ∷ rest)
+behind_gap false begins (c ∷ rest) = if begins
+    && c == byte "%" then behind_gap true false rest else
+    (if is_white_space c then behind_gap false (c == new_line) rest else c ∷ rest)
 
 -- ---- variations
 
@@ -70,8 +78,11 @@ variation_at Plain line_begins (suc depth) (c ∷ rest) =
     else (if c == byte "(" then variation_at Plain false (suc (suc depth)) rest
     else (if c == byte ")" then variation_at Plain false depth rest
     else variation_at Plain (c == new_line) (suc depth) rest))))
-variation_at (Brace left) line_begins (suc depth) (c ∷ rest) = if c == byte "}" then variation_at Plain false (suc depth) rest else variation_at (Brace left) false (suc depth) rest
-variation_at Line line_begins (suc depth) (c ∷ rest) = if c == new_line then variation_at Plain true (suc depth) rest else variation_at Line false (suc depth) rest
+variation_at (Brace left) line_begins (suc depth) (c ∷ rest) =
+    if c == byte "}" then variation_at Plain false (suc depth) rest else variation_at (Brace left) false (suc depth)
+    rest
+variation_at Line line_begins (suc depth) (c ∷ rest) =
+    if c == new_line then variation_at Plain true (suc depth) rest else variation_at Line false (suc depth) rest
 
 -- ---- tags
 
@@ -117,7 +128,8 @@ with_name (n ∷ ns) rest = with_string (n ∷ ns) (behind_next (byte "\"") rest
 
 -- a tag behind its opening bracket: a name, a string and the closing bracket, with gaps before each
 abbrev pub tag_at : List ℕ → Token × List ℕ
-tag_at text = let inner = behind_gap false false text in with_name (take_while is_name_byte inner) (drop (prefix_len is_name_byte inner) inner)
+tag_at text = let inner = behind_gap false false text in with_name (take_while is_name_byte inner)
+    (drop (prefix_len is_name_byte inner) inner)
 
 -- ---- tokens
 
@@ -137,14 +149,18 @@ token_at line_begins c rest =
     else (if c == byte "(" then variation_at Plain false 1 rest
     else (if c == byte "[" then tag_at rest
     else (if c == byte "*" then (Word (c ∷ []), rest)
-    else (if is_word_byte c then (Word (take_while is_word_byte (c ∷ rest)), drop (prefix_len is_word_byte (c ∷ rest)) (c ∷ rest))
+    else (if is_word_byte c then (
+      Word (take_while is_word_byte (c ∷ rest)),
+      drop (prefix_len is_word_byte (c ∷ rest)) (c ∷ rest),
+    )
     else (Bad, [])))))))))
 
 -- the tokens of a text, each with how many bytes are left where it begins; at most `most` of them
 unfoldable pub tokens_of : ℕ → Bool → List ℕ → List (ℕ × Token)
 tokens_of zero line_begins text = []
 tokens_of (suc most) line_begins [] = []
-tokens_of (suc most) line_begins (c ∷ rest) = let t = token_at line_begins c rest in (length (c ∷ rest), t.0) ∷ tokens_of most (c == new_line) t.1
+tokens_of (suc most) line_begins (c ∷ rest) = let t =
+    token_at line_begins c rest in (length (c ∷ rest), t.0) ∷ tokens_of most (c == new_line) t.1
 
 -- ---- a text from a place on
 

@@ -1,4 +1,5 @@
--- A game's text as it is written (PGN standard of 1994, sections 4.3, 8.1 and 8.2): the tags' lines and the lines of moves.
+-- A game's text as it is written (PGN standard of 1994, sections 4.3, 8.1 and 8.2): the tags' lines and the lines of
+-- moves.
 use Rattle.std.specs.Prelude.{◌≡◌, ℕ, ◌+◌, ◌<◌, ◌≤◌, ◌||◌, List, [], ◌∷◌, ◌++◌, length, map, take, codes, ◌==◌, nat_le, nat_lt, if◌then◌else◌}
 use Rattle.chess_base.specs.Letters.{byte, new_line, space}
 use Rattle.std.specs.List.{join_with_byte, flat_map, AllByRecursion}
@@ -15,7 +16,9 @@ AreFilled [] = Unit {0}
 AreFilled ([] ∷ lines) = ⊥
 AreFilled ((t ∷ ts) ∷ []) = length (line_text (t ∷ ts)) ≤ 79
 AreFilled ((t ∷ ts) ∷ [] ∷ lines) = ⊥
-AreFilled ((t ∷ ts) ∷ (next ∷ us) ∷ lines) = (length (line_text (t ∷ ts)) ≤ 79) × (79 < length (line_text (t ∷ ts)) + 1 + length next) × AreFilled ((next ∷ us) ∷ lines)
+AreFilled ((t ∷ ts) ∷ (next ∷ us) ∷ lines) =
+    (length (line_text (t ∷ ts)) ≤ 79) × (79 < length (line_text (t ∷ ts)) + 1 + length next)
+    × AreFilled ((next ∷ us) ∷ lines)
 
 -- the tokens of lines, in order
 abbrev pub tokens_in : List (List (List ℕ)) → List (List ℕ)

@@ -21,14 +21,21 @@ use Rattle.chess_text.proofs.Solid.{bare_parts}
 use Rattle.chess_text.proofs.Told.{same_square}
 
 abbrev squares_named : Move → Parts
-squares_named m = record { letter = None; file = Some (file m.from); rank = Some (rank m.from); takes = false; end = record { to = m.to; promotion = written false true m.promotion } }
+squares_named m = record {
+  letter = None;
+  file = Some (file m.from);
+  rank = Some (rank m.from);
+  takes = false;
+  end = record { to = m.to; promotion = written false true m.promotion };
+}
 
 letter_is : (o : Option Kind) → optional small_letter_text o ≡ optional promotion_text (written false true o)
 letter_is None = refl
 letter_is (Some k) = refl
 
 text_is : (m : Move) → coordinate m ≡ parts_text (squares_named m)
-text_is m = ap (λ v. (97 + file m.from) ∷ (49 + rank m.from) ∷ (97 + file m.to) ∷ (49 + rank m.to) ∷ v) (letter_is m.promotion)
+text_is m = ap (λ v. (97 + file m.from) ∷ (49 + rank m.from) ∷ (97 + file m.to) ∷ (49 + rank m.to) ∷ v)
+    (letter_is m.promotion)
 
 bare : (m : Move) → m.to < 64 → unmarked (coordinate m) ≡ parts_text (squares_named m)
 bare m h = ap unmarked (text_is m) ∙ bare_parts (squares_named m) h
@@ -68,13 +75,17 @@ record Same (m n : Move) : Type 0 where
 by_squares : (p : Setup) (m n : Move) (k : Kind) → is_by_squares (squares_named m) (told_of p n k) ≡ true → Same m n
 unfolding is_by_squares
 by_squares p m n k e =
-    let e5 = and_parts ((file m.from == file n.from) && (rank m.from == rank n.from) && true && (m.to == n.to) && not (has_equals (written false true m.promotion))) (promotes_so (written false true m.promotion) n.promotion) e in
-    let e4 = and_parts ((file m.from == file n.from) && (rank m.from == rank n.from) && true && (m.to == n.to)) (not (has_equals (written false true m.promotion))) e5.0 in
+    let e5 = and_parts ((file m.from == file n.from) && (rank m.from == rank n.from) && true && (m.to == n.to)
+    && not (has_equals (written false true m.promotion))) (promotes_so (written false true m.promotion) n.promotion)
+    e in
+    let e4 = and_parts ((file m.from == file n.from) && (rank m.from == rank n.from) && true && (m.to == n.to))
+    (not (has_equals (written false true m.promotion))) e5.0 in
     let e3 = and_parts ((file m.from == file n.from) && (rank m.from == rank n.from) && true) (m.to == n.to) e4.0 in
     let e2 = and_parts ((file m.from == file n.from) && (rank m.from == rank n.from)) true e3.0 in
     let e1 = and_parts (file m.from == file n.from) (rank m.from == rank n.from) e2.0 in
     record {
-      from = same_square m.from n.from (eqb-true (file m.from) (file n.from) e1.0) (eqb-true (rank m.from) (rank n.from) e1.1);
+      from = same_square m.from n.from (eqb-true (file m.from) (file n.from) e1.0)
+          (eqb-true (rank m.from) (rank n.from) e1.1);
       to = sym (eqb-true m.to n.to e3.1);
       promotion = promotes-same false true m.promotion n.promotion e5.1;
     }
@@ -82,13 +93,16 @@ by_squares p m n k e =
 from_file : (p : Setup) (m n : Move) (k : Kind) → is_from_file (squares_named m) (told_of p n k) ≡ true → Same m n
 unfolding is_from_file
 from_file p m n k e =
-    let e4 = and_parts ((file m.from == file n.from) && (rank m.from == rank n.from) && same_kind Pawn k && true && (m.to == n.to)) (promotes_so (written false true m.promotion) n.promotion) e in
-    let e3 = and_parts ((file m.from == file n.from) && (rank m.from == rank n.from) && same_kind Pawn k && true) (m.to == n.to) e4.0 in
+    let e4 = and_parts ((file m.from == file n.from) && (rank m.from == rank n.from) && same_kind Pawn k && true
+    && (m.to == n.to)) (promotes_so (written false true m.promotion) n.promotion) e in
+    let e3 = and_parts ((file m.from == file n.from) && (rank m.from == rank n.from) && same_kind Pawn k && true)
+    (m.to == n.to) e4.0 in
     let e2 = and_parts ((file m.from == file n.from) && (rank m.from == rank n.from) && same_kind Pawn k) true e3.0 in
     let e1 = and_parts ((file m.from == file n.from) && (rank m.from == rank n.from)) (same_kind Pawn k) e2.0 in
     let e0 = and_parts (file m.from == file n.from) (rank m.from == rank n.from) e1.0 in
     record {
-      from = same_square m.from n.from (eqb-true (file m.from) (file n.from) e0.0) (eqb-true (rank m.from) (rank n.from) e0.1);
+      from = same_square m.from n.from (eqb-true (file m.from) (file n.from) e0.0)
+          (eqb-true (rank m.from) (rank n.from) e0.1);
       to = sym (eqb-true m.to n.to e3.1);
       promotion = promotes-same false true m.promotion n.promotion e4.1;
     }
@@ -106,12 +120,16 @@ unfolding fits
 fits_alone p m n k e =
     let a = not_by_letter p m n k in
     let b = not_straight p m n k in
-    elim (or_cases (is_by_squares (squares_named m) (told_of p n k) || is_by_letter (squares_named m) (told_of p n k) || is_straight (squares_named m) (told_of p n k)) (is_from_file (squares_named m) (told_of p n k)) e) [
+    elim (or_cases (is_by_squares (squares_named m) (told_of p n k) || is_by_letter (squares_named m) (told_of p n k)
+    || is_straight (squares_named m) (told_of p n k)) (is_from_file (squares_named m) (told_of p n k)) e) [
       | inr h ↦ from_file p m n k h
-      | inl h ↦ elim (or_cases (is_by_squares (squares_named m) (told_of p n k) || is_by_letter (squares_named m) (told_of p n k)) (is_straight (squares_named m) (told_of p n k)) h) [
-        | inr g ↦ absurd cc
-        | inl g ↦ elim (or_cases (is_by_squares (squares_named m) (told_of p n k)) (is_by_letter (squares_named m) (told_of p n k)) g) [ inl f ↦ by_squares p m n k f | inr f ↦ absurd cc ]
-      ]
+      | inl h ↦ elim
+          (or_cases (is_by_squares (squares_named m) (told_of p n k) || is_by_letter (squares_named m) (told_of p n k))
+          (is_straight (squares_named m) (told_of p n k)) h) [
+            | inr g ↦ absurd cc
+            | inl g ↦ elim (or_cases (is_by_squares (squares_named m) (told_of p n k))
+                (is_by_letter (squares_named m) (told_of p n k)) g) [ inl f ↦ by_squares p m n k f | inr f ↦ absurd cc ]
+          ]
     ]
 
 pub coordinate_alone : (p : Setup) (m : Move) → IsSound p → IsTrue (is_legal p m) → SpellsAlone p (coordinate m) m
@@ -119,10 +137,14 @@ coordinate_alone p m sound legal =
     let h = legal_move p m legal in
     let at = bare m h.to_in in
     let are = are_parts p m h in (
-      spells_move p (coordinate m) m h ∙ spelled_parts (coordinate m) (squares_named m) (told_of p m h.man) at are ∙ fits_itself p m h.man,
+      spells_move p (coordinate m) m h ∙ spelled_parts (coordinate m) (squares_named m) (told_of p m h.man) at are
+          ∙ fits_itself p m h.man,
       λ n n_legal e.
           let g = legal_move p n n_legal in
-          let same = fits_alone p m n g.man (sym (spells_move p (coordinate m) n g ∙ spelled_parts (coordinate m) (squares_named m) (told_of p n g.man) at are) ∙ e) in
+          let same =
+          fits_alone p m n g.man
+          (sym (spells_move p (coordinate m) n g
+          ∙ spelled_parts (coordinate m) (squares_named m) (told_of p n g.man) at are) ∙ e) in
           move_is n m same.from same.to same.promotion,
     )
 
@@ -135,5 +157,7 @@ coordinate_shape p m sound legal =
     let h = legal_move p m legal in
     shape_parts (coordinate m) (squares_named m) (bare m h.to_in) (are_parts p m h) (form_of_squares m)
 
-pub coordinate_read : (p : Setup) (m : Move) → IsSound p → IsTrue (is_legal p m) → reading p (coordinate m) ≡ reads.Move m
-coordinate_read p m sound legal = read_alone p (coordinate m) m legal (coordinate_shape p m sound legal) (coordinate_alone p m sound legal)
+pub coordinate_read : (p : Setup) (m : Move) → IsSound p → IsTrue (is_legal p m)
+    → reading p (coordinate m) ≡ reads.Move m
+coordinate_read p m sound legal = read_alone p (coordinate m) m legal (coordinate_shape p m sound legal)
+    (coordinate_alone p m sound legal)

@@ -35,21 +35,31 @@ shape_by_parts (Some q) = by_test (is_form q)
     by_test true = refl
     by_test false = refl
 
-shape_by : (text : List ℕ) (a b : Bool) → (a || b || passes is_form (parts_at text)) ≡ is_some (form_at (cond a (Some KingSide) (cond b (Some QueenSide) None)) text)
+shape_by : (text : List ℕ) (a b : Bool) → (a || b || passes is_form (parts_at text))
+    ≡ is_some (form_at (cond a (Some KingSide) (cond b (Some QueenSide) None)) text)
 shape_by text true b = refl
 shape_by text false true = refl
 shape_by text false false = shape_by_parts (parts_at text)
 
 pub shape-form : (text : List ℕ) → shape text ≡ is_some (form_of text)
 unfolding shape form_of is_castling_text move_parts
-shape-form text = shape_by (unmarked text) (list_any (bytes_eq (unmarked text)) (castling_texts KingSide)) (list_any (bytes_eq (unmarked text)) (castling_texts QueenSide))
+shape-form text = shape_by (unmarked text) (list_any (bytes_eq (unmarked text)) (castling_texts KingSide))
+    (list_any (bytes_eq (unmarked text)) (castling_texts QueenSide))
 
 -- ---- what is spelled
 
 -- parts of no form fit no move
 no_form : (letter : Option Kind) (f r : Option ℕ) (takes : Bool) (to : ℕ) (promotion : Option Promotion) (d : Described)
-    → is_form (record { letter = letter; file = f; rank = r; takes = takes; end = record { to = to; promotion = promotion } }) ≡ false
-    → fits (record { letter = letter; file = f; rank = r; takes = takes; end = record { to = to; promotion = promotion } }) d ≡ false
+    → is_form
+    (record { letter = letter; file = f; rank = r; takes = takes; end = record { to = to; promotion = promotion } })
+    ≡ false
+    → fits (record {
+      letter = letter;
+      file = f;
+      rank = r;
+      takes = takes;
+      end = record { to = to; promotion = promotion };
+    }) d ≡ false
 unfolding is_form fits is_by_squares is_by_letter is_straight is_from_file
 no_form (Some k) f r takes to (Some x) d e = simp (and_right)
 no_form (Some k) f r takes to None d e = absurd cc
@@ -58,7 +68,8 @@ no_form None None (Some n) takes to promotion d e = refl
 no_form None None None true to promotion d e = refl
 no_form None None None false to promotion d e = absurd cc
 
-fits_by_form : (d : Described) (o : Option Parts) → passes (λ q. fits q d) o ≡ passes (λ f. form_fits f d) (form_of_parts o)
+fits_by_form : (d : Described) (o : Option Parts)
+    → passes (λ q. fits q d) o ≡ passes (λ f. form_fits f d) (form_of_parts o)
 fits_by_form d None = refl
 fits_by_form d (Some q) = by_test (is_form q) refl
   where
@@ -66,48 +77,60 @@ fits_by_form d (Some q) = by_test (is_form q) refl
     by_test true e = refl
     by_test false e = no_form q.letter q.file q.rank q.takes q.end.to q.end.promotion d e
 
-same_for : (test other : CastlingSide → Bool) → ((v : CastlingSide) → test v ≡ other v) → (o : Option CastlingSide) → passes test o ≡ passes other o
+same_for : (test other : CastlingSide → Bool) → ((v : CastlingSide) → test v ≡ other v) → (o : Option CastlingSide)
+    → passes test o ≡ passes other o
 same_for test other h None = refl
 same_for test other h (Some v) = h v
 
 -- a text of castling spells castling to its side
 pub spelled_castling : (text : List ℕ) (w : CastlingSide) (d : Described) → IsCastling text w
-    → (passes (λ v. list_any (bytes_eq text) (castling_texts v)) d.castles || passes (λ q. fits q d) (parts_at text)) ≡ passes (same_side w) d.castles
+    → (passes (λ v. list_any (bytes_eq text) (castling_texts v)) d.castles || passes (λ q. fits q d) (parts_at text))
+    ≡ passes (same_side w) d.castles
 spelled_castling text w d h =
-    rw h.no_parts (or-false _ ∙ same_for (λ v. list_any (bytes_eq text) (castling_texts v)) (same_side w) h.names d.castles)
+    rw h.no_parts (or-false _ ∙ same_for (λ v. list_any (bytes_eq text) (castling_texts v)) (same_side w) h.names
+    d.castles)
 
-not_named : (text : List ℕ) → list_any (bytes_eq text) (castling_texts KingSide) ≡ false → list_any (bytes_eq text) (castling_texts QueenSide) ≡ false
+not_named : (text : List ℕ) → list_any (bytes_eq text) (castling_texts KingSide) ≡ false
+    → list_any (bytes_eq text) (castling_texts QueenSide) ≡ false
     → (o : Option CastlingSide) → passes (λ v. list_any (bytes_eq text) (castling_texts v)) o ≡ false
 not_named text a b None = refl
 not_named text a b (Some KingSide) = a
 not_named text a b (Some QueenSide) = b
 
-spelled_by : (text : List ℕ) (d : Described) (a b : Bool) → list_any (bytes_eq text) (castling_texts KingSide) ≡ a → list_any (bytes_eq text) (castling_texts QueenSide) ≡ b
+spelled_by : (text : List ℕ) (d : Described) (a b : Bool) → list_any (bytes_eq text) (castling_texts KingSide) ≡ a
+    → list_any (bytes_eq text) (castling_texts QueenSide) ≡ b
     → (passes (λ v. list_any (bytes_eq text) (castling_texts v)) d.castles || passes (λ q. fits q d) (parts_at text))
     ≡ passes (λ f. form_fits f d) (form_at (cond a (Some KingSide) (cond b (Some QueenSide) None)) text)
 spelled_by text d true b ea eb = spelled_castling text KingSide d (castling_from_name text KingSide ea)
 spelled_by text d false true ea eb = spelled_castling text QueenSide d (castling_from_name text QueenSide eb)
-spelled_by text d false false ea eb = ap (λ t. t || passes (λ q. fits q d) (parts_at text)) (not_named text ea eb d.castles) ∙ fits_by_form d (parts_at text)
+spelled_by text d false false ea eb = ap (λ t. t || passes (λ q. fits q d) (parts_at text))
+    (not_named text ea eb d.castles) ∙ fits_by_form d (parts_at text)
 
 pub spells-form : (text : List ℕ) (d : Described) → spells_described text d ≡ passes (λ f. form_fits f d) (form_of text)
 unfolding spells_described form_of is_castling_text move_parts
-spells-form text d = spelled_by (unmarked text) d (list_any (bytes_eq (unmarked text)) (castling_texts KingSide)) (list_any (bytes_eq (unmarked text)) (castling_texts QueenSide)) refl refl
+spells-form text d = spelled_by (unmarked text) d (list_any (bytes_eq (unmarked text)) (castling_texts KingSide))
+    (list_any (bytes_eq (unmarked text)) (castling_texts QueenSide)) refl refl
 
 -- ---- the reading
 
-spelled_as : (form : Form) (text : List ℕ) → form_of text ≡ Some form → (o : Option Described) → passes (spells_described text) o ≡ passes (form_fits form) o
+spelled_as : (form : Form) (text : List ℕ) → form_of text ≡ Some form → (o : Option Described)
+    → passes (spells_described text) o ≡ passes (form_fits form) o
 spelled_as form text e None = refl
 spelled_as form text e (Some d) = spells-form text d ∙ ap (passes (λ f. form_fits f d)) e
 
-pub spells-read : (form : Form) (text : List ℕ) (p : Setup) (m : Move) → form_of text ≡ Some form → spells p text m ≡ is_spelled form p m
+pub spells-read : (form : Form) (text : List ℕ) (p : Setup) (m : Move) → form_of text ≡ Some form
+    → spells p text m ≡ is_spelled form p m
 unfolding spells is_spelled
 spells-read form text p m e = spelled_as form text e (described p m)
 
-pub reading_spelled : (p : Setup) (text : List ℕ) (form : Form) → form_of text ≡ Some form → one_of (filter (λ m. is_spelled form p m) (moves p)) ≡ reading p text
+pub reading_spelled : (p : Setup) (text : List ℕ) (form : Form) → form_of text ≡ Some form
+    → one_of (filter (λ m. is_spelled form p m) (moves p)) ≡ reading p text
 unfolding reading
 reading_spelled p text form e =
     let has : shape text ≡ true = shape-form text ∙ ap is_some e in
-    rw has (ap one_of (sym (filter_agree (λ m. spells p text m) (λ m. is_spelled form p m) (λ m. spells-read form text p m e) (moves p))))
+    rw has (ap one_of
+    (sym (filter_agree (λ m. spells p text m) (λ m. is_spelled form p m) (λ m. spells-read form text p m e)
+    (moves p))))
 
 pub reading_nothing : (p : Setup) (text : List ℕ) → form_of text ≡ None → reads.NotAMove ≡ reading p text
 unfolding reading
@@ -117,16 +140,20 @@ reading_nothing p text e =
 
 -- ---- what is read is legal
 
-first_kept : (test : Move → Bool) (ms : List Move) (m : Move) (rest : List Move) → filter test ms ≡ m ∷ rest → test m ≡ true
+first_kept : (test : Move → Bool) (ms : List Move) (m : Move) (rest : List Move) → filter test ms ≡ m ∷ rest
+    → test m ≡ true
 first_kept test [] m rest e = absurd cc
 first_kept test (n ∷ ms) m rest e = by_test (λ h. first_kept test ms m rest h) (test n) refl e
   where
-    by_test : (filter test ms ≡ m ∷ rest → test m ≡ true) → (t : Bool) → test n ≡ t → cond t (n ∷ filter test ms) (filter test ms) ≡ m ∷ rest → test m ≡ true
+    by_test : (filter test ms ≡ m ∷ rest → test m ≡ true) → (t : Bool) → test n ≡ t
+        → cond t (n ∷ filter test ms) (filter test ms) ≡ m ∷ rest → test m ≡ true
     by_test later true t e = let same : n ≡ m = cc in ap test (sym same) ∙ t
     by_test later false t e = later e
 
-filter-again : (q t : Move → Bool) (ms : List Move) (m : Move) (rest : List Move) → filter t (filter q ms) ≡ m ∷ rest → q m ≡ true
-filter-again q t ms m rest e = (and_parts (q m) (t m) (first_kept (λ x. q x && t x) ms m rest (sym (filter-both q t ms) ∙ e))).0
+filter-again : (q t : Move → Bool) (ms : List Move) (m : Move) (rest : List Move) → filter t (filter q ms) ≡ m ∷ rest
+    → q m ≡ true
+filter-again q t ms m rest e =
+    (and_parts (q m) (t m) (first_kept (λ x. q x && t x) ms m rest (sym (filter-both q t ms) ∙ e))).0
 
 one_is : (ms : List Move) (m : Move) → one_of ms ≡ reads.Move m → ms ≡ m ∷ []
 one_is [] m e = absurd cc
@@ -137,8 +164,10 @@ read_legal : (p : Setup) (text : List ℕ) (m : Move) → reading p text ≡ rea
 unfolding reading moves
 read_legal p text m e = by_shape (shape text) refl e
   where
-    by_shape : (t : Bool) → shape text ≡ t → cond t (one_of (filter (λ m. spells p text m) (moves p))) reads.NotAMove ≡ reads.Move m → is_legal p m ≡ true
-    by_shape true is e = filter-again (λ m. is_legal p m) (λ m. spells p text m) all_triples m [] (one_is (filter (λ m. spells p text m) (moves p)) m e)
+    by_shape : (t : Bool) → shape text ≡ t → cond t (one_of (filter (λ m. spells p text m) (moves p))) reads.NotAMove
+        ≡ reads.Move m → is_legal p m ≡ true
+    by_shape true is e = filter-again (λ m. is_legal p m) (λ m. spells p text m) all_triples m []
+        (one_is (filter (λ m. spells p text m) (moves p)) m e)
     by_shape false is e = absurd cc
 
 pub reads_legal : (p : Setup) (text : List ℕ) (r : Reading) → r ≡ reading p text → IsLegalReading p r

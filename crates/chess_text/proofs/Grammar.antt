@@ -12,7 +12,8 @@ use Rattle.chess_text.specs.declared.parts.End.{End}
 use Rattle.chess_text.specs.declared.parts.Promotion.{Promotion}
 use Rattle.chess_text.specs.Parts.{optional, when, kind_text, promotion_letter, promotion_text, end_text, parts_text, officers, promoted, kind_from, is_file_letter, is_rank_digit, or_else, promotion_by, promotion_at, end_at, takes_at, rank_at, with_parts, file_at, at_letter, parts_at, CanPromote, IsOfficer, AreParts}
 
-mapped : {A B : Type 0} (f : A → B) (o : Option A) (y : B) → option_map f o ≡ Some y → (x : A) × (o ≡ Some x) × (f x ≡ y)
+mapped : {A B : Type 0} (f : A → B) (o : Option A) (y : B) → option_map f o ≡ Some y
+    → (x : A) × (o ≡ Some x) × (f x ≡ y)
 mapped f None y e = absurd cc
 mapped f (Some x) y e = (x, refl, cc)
 
@@ -24,8 +25,10 @@ found : (kinds : List Kind) (c : ℕ) (k : Kind) → kind_from kinds c ≡ Some 
 found [] c k e = absurd cc
 found (j ∷ kinds) c k e = by_test (λ h. found kinds c k h) (eqb (white_letter j) c) refl e
   where
-    by_test : (kind_from kinds c ≡ Some k → white_letter k ≡ c) → (b : Bool) → eqb (white_letter j) c ≡ b → cond b (Some j) (kind_from kinds c) ≡ Some k → white_letter k ≡ c
-    by_test later true t e = let same : j ≡ k = cc in let at : white_letter j ≡ c = grind (arith, nat_tests) in ap white_letter (sym same) ∙ at
+    by_test : (kind_from kinds c ≡ Some k → white_letter k ≡ c) → (b : Bool) → eqb (white_letter j) c ≡ b
+        → cond b (Some j) (kind_from kinds c) ≡ Some k → white_letter k ≡ c
+    by_test later true t e = let same : j ≡ k = cc in let at : white_letter j ≡ c =
+        grind (arith, nat_tests) in ap white_letter (sym same) ∙ at
     by_test later false t e = later e
 
 -- ---- the promotion
@@ -49,18 +52,28 @@ small_letter c Rook e = omega arith
 small_letter c Queen e = omega arith
 small_letter c King e = omega arith
 
-promotion_is : (equals : Bool) (c : ℕ) (p : Promotion) → promotion_by equals c ≡ Some p → (p.equals ≡ equals) × (c ≡ promotion_letter p) × CanPromote p.kind
-promotion_is equals c p e = by_case (either (option_map (λ k. record { kind = k; equals = equals; small = false }) (kind_from promoted c)) (option_map (λ k. record { kind = k; equals = equals; small = true }) (kind_from promoted (c - 32))) p e)
+promotion_is : (equals : Bool) (c : ℕ) (p : Promotion) → promotion_by equals c ≡ Some p
+    → (p.equals ≡ equals) × (c ≡ promotion_letter p) × CanPromote p.kind
+promotion_is equals c p e =
+    by_case (either (option_map (λ k. record { kind = k; equals = equals; small = false }) (kind_from promoted c))
+    (option_map (λ k. record { kind = k; equals = equals; small = true }) (kind_from promoted (c - 32))) p e)
   where
-    by_case : (option_map (λ k. record { kind = k; equals = equals; small = false }) (kind_from promoted c) ≡ Some p) ⊎ (option_map (λ k. record { kind = k; equals = equals; small = true }) (kind_from promoted (c - 32)) ≡ Some p) → (p.equals ≡ equals) × (c ≡ promotion_letter p) × CanPromote p.kind
+    by_case : (option_map (λ k. record { kind = k; equals = equals; small = false }) (kind_from promoted c) ≡ Some p)
+        ⊎ (option_map (λ k. record { kind = k; equals = equals; small = true }) (kind_from promoted (c - 32)) ≡ Some p)
+        → (p.equals ≡ equals) × (c ≡ promotion_letter p) × CanPromote p.kind
     by_case (inl h) =
         let m = mapped (λ (k : Kind). record { kind = k; equals = equals; small = false }) (kind_from promoted c) p h in
-        subst (λ (r : Promotion). (r.equals ≡ equals) × (c ≡ promotion_letter r) × CanPromote r.kind) m.2 (refl, sym (found promoted c m.0 m.1), can_promote c m.0 m.1)
+        subst (λ (r : Promotion). (r.equals ≡ equals) × (c ≡ promotion_letter r) × CanPromote r.kind) m.2
+        (refl, sym (found promoted c m.0 m.1), can_promote c m.0 m.1)
     by_case (inr h) =
-        let m = mapped (λ (k : Kind). record { kind = k; equals = equals; small = true }) (kind_from promoted (c - 32)) p h in
-        subst (λ (r : Promotion). (r.equals ≡ equals) × (c ≡ promotion_letter r) × CanPromote r.kind) m.2 (refl, sym (small_letter c m.0 (found promoted (c - 32) m.0 m.1)), can_promote (c - 32) m.0 m.1)
+        let m = mapped (λ (k : Kind). record { kind = k; equals = equals; small = true }) (kind_from promoted (c - 32))
+        p h in
+        subst (λ (r : Promotion). (r.equals ≡ equals) × (c ≡ promotion_letter r) × CanPromote r.kind) m.2
+        (refl, sym (small_letter c m.0 (found promoted (c - 32) m.0 m.1)), can_promote (c - 32) m.0 m.1)
 
-promotion_read : (equals small : Bool) (k : Kind) → CanPromote k → promotion_by equals (promotion_letter (record { kind = k; equals = equals; small = small })) ≡ Some (record { kind = k; equals = equals; small = small })
+promotion_read : (equals small : Bool) (k : Kind) → CanPromote k
+    → promotion_by equals (promotion_letter (record { kind = k; equals = equals; small = small }))
+    ≡ Some (record { kind = k; equals = equals; small = small })
 promotion_read equals small Pawn h = absurd h
 promotion_read equals small King h = absurd h
 promotion_read equals true Knight h = refl
@@ -75,18 +88,22 @@ promotion_read equals false Queen h = refl
 abbrev IsPromotion : Option Promotion → Type 0
 IsPromotion o = IfSome o (λ p. CanPromote p.kind)
 
-spelled-promotion : (text : List ℕ) (o : Option Promotion) → promotion_at text ≡ Some o → (text ≡ optional promotion_text o) × IsPromotion o
-spelled-promotion [] o e = let is : None ≡ o = cc in subst (λ (r : Option Promotion). ([] ≡ optional promotion_text r) × IsPromotion r) is (refl, tt)
+spelled-promotion : (text : List ℕ) (o : Option Promotion) → promotion_at text ≡ Some o
+    → (text ≡ optional promotion_text o) × IsPromotion o
+spelled-promotion [] o e = let is : None ≡ o =
+    cc in subst (λ (r : Option Promotion). ([] ≡ optional promotion_text r) × IsPromotion r) is (refl, tt)
 spelled-promotion (c ∷ []) o e =
     let m = mapped Some (promotion_by false c) o e in
     let p = promotion_is false c m.0 m.1 in
-    subst (λ (r : Option Promotion). (c ∷ [] ≡ optional promotion_text r) × IsPromotion r) m.2 (rw p.0 (ap (λ x. x ∷ []) p.1), p.2)
+    subst (λ (r : Option Promotion). (c ∷ [] ≡ optional promotion_text r) × IsPromotion r) m.2
+    (rw p.0 (ap (λ x. x ∷ []) p.1), p.2)
 spelled-promotion (c ∷ d ∷ []) o e =
     let h = chosen (eqb c 61) (option_map Some (promotion_by true d)) o e in
     let at : c ≡ 61 = grind (arith, nat_tests, h.0) in
     let m = mapped Some (promotion_by true d) o h.1 in
     let p = promotion_is true d m.0 m.1 in
-    subst (λ (r : Option Promotion). (c ∷ d ∷ [] ≡ optional promotion_text r) × IsPromotion r) m.2 (rw p.0 (ap (λ x. x ∷ d ∷ []) at ∙ ap (λ x. 61 ∷ x ∷ []) p.1), p.2)
+    subst (λ (r : Option Promotion). (c ∷ d ∷ [] ≡ optional promotion_text r) × IsPromotion r) m.2
+    (rw p.0 (ap (λ x. x ∷ d ∷ []) at ∙ ap (λ x. 61 ∷ x ∷ []) p.1), p.2)
 spelled-promotion (c ∷ d ∷ x ∷ cs) o e = absurd cc
 
 promotion-spelled : (o : Option Promotion) → IsPromotion o → promotion_at (optional promotion_text o) ≡ Some o
@@ -99,24 +116,30 @@ promotion-spelled (Some p) h = by_equals p.equals refl
 
 -- ---- the end
 
-pub spelled-end : (text : List ℕ) (x : End) → end_at text ≡ Some x → (text ≡ end_text x) × (x.to < 64) × IsPromotion x.promotion
+pub spelled-end : (text : List ℕ) (x : End) → end_at text ≡ Some x
+    → (text ≡ end_text x) × (x.to < 64) × IsPromotion x.promotion
 spelled-end [] x e = absurd cc
 spelled-end (f ∷ []) x e = absurd cc
 spelled-end (f ∷ r ∷ rest) x e =
-    let h = chosen (is_file_letter f && is_rank_digit r) (option_map (λ p. record { to = 8 * (r - 49) + (f - 97); promotion = p }) (promotion_at rest)) x e in
+    let h = chosen (is_file_letter f && is_rank_digit r)
+    (option_map (λ p. record { to = 8 * (r - 49) + (f - 97); promotion = p }) (promotion_at rest)) x e in
     let f0 : 97 ≤ f = grind (arith, nat_tests, h.0) in
     let f1 : f ≤ 104 = grind (arith, nat_tests, h.0) in
     let r0 : 49 ≤ r = grind (arith, nat_tests, h.0) in
     let r1 : r ≤ 56 = grind (arith, nat_tests, h.0) in
-    let m = mapped (λ (p : Option Promotion). record { to = 8 * (r - 49) + (f - 97); promotion = p }) (promotion_at rest) x h.1 in
+    let m = mapped (λ (p : Option Promotion). record { to = 8 * (r - 49) + (f - 97); promotion = p })
+    (promotion_at rest) x h.1 in
     let p = spelled-promotion rest m.0 m.1 in
-    subst (λ (y : End). (f ∷ r ∷ rest ≡ end_text y) × (y.to < 64) × IsPromotion y.promotion) m.2 (squares f0 f1 r0 r1 m.0 p.0, omega arith, p.1)
+    subst (λ (y : End). (f ∷ r ∷ rest ≡ end_text y) × (y.to < 64) × IsPromotion y.promotion) m.2
+    (squares f0 f1 r0 r1 m.0 p.0, omega arith, p.1)
   where
-    squares : 97 ≤ f → f ≤ 104 → 49 ≤ r → r ≤ 56 → (o : Option Promotion) → rest ≡ optional promotion_text o → f ∷ r ∷ rest ≡ square_text (8 * (r - 49) + (f - 97)) ++ optional promotion_text o
+    squares : 97 ≤ f → f ≤ 104 → 49 ≤ r → r ≤ 56 → (o : Option Promotion) → rest ≡ optional promotion_text o
+        → f ∷ r ∷ rest ≡ square_text (8 * (r - 49) + (f - 97)) ++ optional promotion_text o
     squares f0 f1 r0 r1 o is =
         let file : f ≡ 97 + (8 * (r - 49) + (f - 97)) % 8 = omega arith in
         let rank : r ≡ 49 + (8 * (r - 49) + (f - 97)) / 8 = omega arith in
-        ap (λ x. f ∷ r ∷ x) is ∙ ap (λ x. x ∷ r ∷ optional promotion_text o) file ∙ ap (λ x. (97 + (8 * (r - 49) + (f - 97)) % 8) ∷ x ∷ optional promotion_text o) rank
+        ap (λ x. f ∷ r ∷ x) is ∙ ap (λ x. x ∷ r ∷ optional promotion_text o) file
+        ∙ ap (λ x. (97 + (8 * (r - 49) + (f - 97)) % 8) ∷ x ∷ optional promotion_text o) rank
 
 pub end-spelled : (x : End) → x.to < 64 → IsPromotion x.promotion → end_at (end_text x) ≡ Some x
 end-spelled x h p =
@@ -145,12 +168,14 @@ spelled-takes : (text : List ℕ) (b : Bool) (x : End) → takes_at text ≡ Som
 spelled-takes [] b x e = absurd cc
 spelled-takes (c ∷ rest) b x e = by_test (eqb c 120) refl e
   where
-    by_test : (t : Bool) → eqb c 120 ≡ t → cond t (option_map (with_takes true) (end_at rest)) (option_map (with_takes false) (end_at (c ∷ rest))) ≡ Some (b, x) → (c ∷ rest ≡ takes_text b x) × IsEnd x
+    by_test : (t : Bool) → eqb c 120 ≡ t → cond t (option_map (with_takes true) (end_at rest))
+        (option_map (with_takes false) (end_at (c ∷ rest))) ≡ Some (b, x) → (c ∷ rest ≡ takes_text b x) × IsEnd x
     by_test true t e =
         let m = mapped (with_takes true) (end_at rest) (b, x) e in
         let s = spelled-end rest m.0 m.1 in
         let at : c ≡ 120 = grind (arith, nat_tests) in
-        subst (λ (y : Bool × End). (c ∷ rest ≡ takes_text y.0 y.1) × IsEnd y.1) m.2 (ap (λ k. k ∷ rest) at ∙ ap (λ r. 120 ∷ r) s.0, (s.1, s.2))
+        subst (λ (y : Bool × End). (c ∷ rest ≡ takes_text y.0 y.1) × IsEnd y.1) m.2
+        (ap (λ k. k ∷ rest) at ∙ ap (λ r. 120 ∷ r) s.0, (s.1, s.2))
     by_test false t e =
         let m = mapped (with_takes false) (end_at (c ∷ rest)) (b, x) e in
         let s = spelled-end (c ∷ rest) m.0 m.1 in
@@ -168,22 +193,28 @@ tail_text o b e = optional (λ r. (49 + r) ∷ []) o ++ takes_text b e
 abbrev IsRank : Option ℕ → Type 0
 IsRank o = IfSome o (λ r. r < 8)
 
-spelled-rank : (text : List ℕ) (x : Option ℕ × Bool × End) → rank_at text ≡ Some x → (text ≡ tail_text x.0 x.1 x.2) × IsRank x.0 × IsEnd x.2
+spelled-rank : (text : List ℕ) (x : Option ℕ × Bool × End) → rank_at text ≡ Some x
+    → (text ≡ tail_text x.0 x.1 x.2) × IsRank x.0 × IsEnd x.2
 spelled-rank [] x e = absurd cc
 spelled-rank (c ∷ rest) x e = by_test (is_rank_digit c) refl e
   where
-    by_test : (t : Bool) → is_rank_digit c ≡ t → cond t (option_map (with_rank (Some (c - 49))) (takes_at rest)) (option_map (with_rank None) (takes_at (c ∷ rest))) ≡ Some x → (c ∷ rest ≡ tail_text x.0 x.1 x.2) × IsRank x.0 × IsEnd x.2
+    by_test : (t : Bool) → is_rank_digit c ≡ t
+        → cond t (option_map (with_rank (Some (c - 49))) (takes_at rest))
+        (option_map (with_rank None) (takes_at (c ∷ rest))) ≡ Some x
+        → (c ∷ rest ≡ tail_text x.0 x.1 x.2) × IsRank x.0 × IsEnd x.2
     by_test true t e =
         let m = mapped (with_rank (Some (c - 49))) (takes_at rest) x e in
         let s = spelled-takes rest m.0.0 m.0.1 m.1 in
         let low : 49 ≤ c = grind (arith, nat_tests) in
         let high : c ≤ 56 = grind (arith, nat_tests) in
         let at : c ≡ 49 + (c - 49) = omega arith in
-        subst (λ (y : Option ℕ × Bool × End). (c ∷ rest ≡ tail_text y.0 y.1 y.2) × IsRank y.0 × IsEnd y.2) m.2 (ap (λ k. k ∷ rest) at ∙ ap (λ r. (49 + (c - 49)) ∷ r) s.0, omega arith, s.1)
+        subst (λ (y : Option ℕ × Bool × End). (c ∷ rest ≡ tail_text y.0 y.1 y.2) × IsRank y.0 × IsEnd y.2) m.2
+        (ap (λ k. k ∷ rest) at ∙ ap (λ r. (49 + (c - 49)) ∷ r) s.0, omega arith, s.1)
     by_test false t e =
         let m = mapped (with_rank None) (takes_at (c ∷ rest)) x e in
         let s = spelled-takes (c ∷ rest) m.0.0 m.0.1 m.1 in
-        subst (λ (y : Option ℕ × Bool × End). (c ∷ rest ≡ tail_text y.0 y.1 y.2) × IsRank y.0 × IsEnd y.2) m.2 (s.0, tt, s.1)
+        subst (λ (y : Option ℕ × Bool × End). (c ∷ rest ≡ tail_text y.0 y.1 y.2) × IsRank y.0 × IsEnd y.2) m.2
+        (s.0, tt, s.1)
 
 rank-spelled : (o : Option ℕ) (b : Bool) (x : End) → IsRank o → IsEnd x → rank_at (tail_text o b x) ≡ Some (o, b, x)
 rank-spelled (Some r) b x k h =
@@ -211,13 +242,18 @@ record IsBody (letter : Option Kind) (text : List ℕ) (q : Parts) : Type 0 wher
 
 spelled-file : (letter : Option Kind) (text : List ℕ) (q : Parts) → file_at letter text ≡ Some q → IsBody letter text q
 spelled-file letter [] q e = absurd cc
-spelled-file letter (c ∷ rest) q e = by_case (either (option_map (with_parts letter None) (rank_at (c ∷ rest))) (cond (is_file_letter c) (option_map (with_parts letter (Some (c - 97))) (rank_at rest)) None) q e)
+spelled-file letter (c ∷ rest) q e = by_case
+    (either (option_map (with_parts letter None) (rank_at (c ∷ rest)))
+    (cond (is_file_letter c) (option_map (with_parts letter (Some (c - 97))) (rank_at rest)) None) q e)
   where
-    by_case : (option_map (with_parts letter None) (rank_at (c ∷ rest)) ≡ Some q) ⊎ (cond (is_file_letter c) (option_map (with_parts letter (Some (c - 97))) (rank_at rest)) None ≡ Some q) → IsBody letter (c ∷ rest) q
+    by_case : (option_map (with_parts letter None) (rank_at (c ∷ rest)) ≡ Some q)
+        ⊎ (cond (is_file_letter c) (option_map (with_parts letter (Some (c - 97))) (rank_at rest)) None ≡ Some q)
+        → IsBody letter (c ∷ rest) q
     by_case (inl h) =
         let m = mapped (with_parts letter None) (rank_at (c ∷ rest)) q h in
         let s = spelled-rank (c ∷ rest) m.0 m.1 in
-        subst (IsBody letter (c ∷ rest)) m.2 (record { letter_is = refl; text_is = s.0; file_is = tt; rank_is = s.1; end_is = s.2 })
+        subst (IsBody letter (c ∷ rest)) m.2
+        (record { letter_is = refl; text_is = s.0; file_is = tt; rank_is = s.1; end_is = s.2 })
     by_case (inr h) =
         let k = chosen (is_file_letter c) (option_map (with_parts letter (Some (c - 97))) (rank_at rest)) q h in
         let low : 97 ≤ c = grind (arith, nat_tests, k.0) in
@@ -225,13 +261,21 @@ spelled-file letter (c ∷ rest) q e = by_case (either (option_map (with_parts l
         let at : c ≡ 97 + (c - 97) = omega arith in
         let m = mapped (with_parts letter (Some (c - 97))) (rank_at rest) q k.1 in
         let s = spelled-rank rest m.0 m.1 in
-        subst (IsBody letter (c ∷ rest)) m.2 (record { letter_is = refl; text_is = ap (λ x. x ∷ rest) at ∙ ap (λ r. (97 + (c - 97)) ∷ r) s.0; file_is = omega arith; rank_is = s.1; end_is = s.2 })
+        subst (IsBody letter (c ∷ rest)) m.2
+        (record {
+          letter_is = refl;
+          text_is = ap (λ x. x ∷ rest) at ∙ ap (λ r. (97 + (c - 97)) ∷ r) s.0;
+          file_is = omega arith;
+          rank_is = s.1;
+          end_is = s.2;
+        })
 
 -- a file in front of the rest is not the square's own
 not_promoted : (x : End) → promotion_at (end_text x) ≡ None
 not_promoted x = by_promotion x.promotion
   where
-    by_equals : (b : Bool) (p : Promotion) → promotion_at (square_text x.to ++ (when b (61 ∷ []) ++ promotion_letter p ∷ [])) ≡ None
+    by_equals : (b : Bool) (p : Promotion) → promotion_at
+        (square_text x.to ++ (when b (61 ∷ []) ++ promotion_letter p ∷ [])) ≡ None
     by_equals true p = refl
     by_equals false p = refl
 
@@ -270,9 +314,16 @@ no_rank f o b x h k = by_parts o b k
     by_parts (Some r) false k =
         let t5 : leb 49 (49 + r) ≡ true = grind (arith, nat_tests) in
         let t6 : leb (49 + r) 56 ≡ true = grind (arith, nat_tests) in
-        rw (t0, t1, t2, t3, t4, t5, t6) (ap (λ p. option_map (with_rank None) (option_map (with_takes false) (option_map (λ (q : Option Promotion). record { to = 8 * ((49 + r) - 49) + ((97 + f) - 97); promotion = q }) p))) (not_promoted x))
+        rw (t0, t1, t2, t3, t4, t5, t6)
+        (ap (λ p. option_map (with_rank None)
+        (option_map (with_takes false)
+        (option_map
+        (λ (q : Option Promotion). record { to = 8 * ((49 + r) - 49) + ((97 + f) - 97); promotion = q })
+        p))) (not_promoted x))
 
-file-spelled : (letter : Option Kind) (file o : Option ℕ) (b : Bool) (x : End) → IfSome file (λ f. f < 8) → IsRank o → IsEnd x → file_at letter (optional (λ f. (97 + f) ∷ []) file ++ tail_text o b x) ≡ Some (record { letter = letter; file = file; rank = o; takes = b; end = x })
+file-spelled : (letter : Option Kind) (file o : Option ℕ) (b : Bool) (x : End) → IfSome file (λ f. f < 8) → IsRank o
+    → IsEnd x → file_at letter (optional (λ f. (97 + f) ∷ []) file ++ tail_text o b x)
+    ≡ Some (record { letter = letter; file = file; rank = o; takes = b; end = x })
 file-spelled letter None (Some r) b x h k e = rw (rank-spelled (Some r) b x k e) refl
 file-spelled letter None None true x h k e = rw (rank-spelled None true x k e) refl
 file-spelled letter None None false x h k e = rw (rank-spelled None false x k e) refl
@@ -280,7 +331,9 @@ file-spelled letter (Some f) o b x h k e =
     let t3 : leb 97 (97 + f) ≡ true = grind (arith, nat_tests) in
     let t4 : leb (97 + f) 104 ≡ true = grind (arith, nat_tests) in
     let at : (97 + f) - 97 ≡ f = omega arith in
-    ap (λ r. or_else (option_map (with_parts letter None) r) (cond (is_file_letter (97 + f)) (option_map (with_parts letter (Some ((97 + f) - 97))) (rank_at (tail_text o b x))) None)) (no_rank f o b x h k)
+    ap (λ r. or_else (option_map (with_parts letter None) r)
+    (cond (is_file_letter (97 + f)) (option_map (with_parts letter (Some ((97 + f) - 97)))
+    (rank_at (tail_text o b x))) None)) (no_rank f o b x h k)
     ∙ rw (t3, t4, at) (ap (option_map (with_parts letter (Some f))) (rank-spelled o b x k e))
 
 -- ---- the letter
@@ -310,28 +363,43 @@ no_officer c h =
     let t4 : eqb 78 c ≡ false = grind (arith, nat_tests) in
     rw (t0, t1, t2, t3, t4) refl
 
-parts_of : (letter : Option Kind) (text : List ℕ) (q : Parts) → IfSome letter IsOfficer → IsBody letter text q → AreParts q × (optional kind_text letter ++ text ≡ parts_text q)
+parts_of : (letter : Option Kind) (text : List ℕ) (q : Parts) → IfSome letter IsOfficer → IsBody letter text q
+    → AreParts q × (optional kind_text letter ++ text ≡ parts_text q)
 parts_of letter text q h b = (
-  record { letter_is = subst (λ (o : Option Kind). IfSome o IsOfficer) (sym b.letter_is) h; file_is = b.file_is; rank_is = b.rank_is; to_is = b.end_is.0; promotion_is = b.end_is.1 },
-  ap (λ (o : Option Kind). optional kind_text o ++ text) (sym b.letter_is) ∙ ap (λ r. optional kind_text q.letter ++ r) b.text_is,
+  record {
+    letter_is = subst (λ (o : Option Kind). IfSome o IsOfficer) (sym b.letter_is) h;
+    file_is = b.file_is;
+    rank_is = b.rank_is;
+    to_is = b.end_is.0;
+    promotion_is = b.end_is.1;
+  },
+  ap (λ (o : Option Kind). optional kind_text o ++ text) (sym b.letter_is)
+      ∙ ap (λ r. optional kind_text q.letter ++ r) b.text_is,
 )
 
 pub spelled-parts : (text : List ℕ) (q : Parts) → parts_at text ≡ Some q → AreParts q × (text ≡ parts_text q)
 spelled-parts [] q e = absurd cc
 spelled-parts (c ∷ rest) q e = by_letter (kind_from officers c) refl e
   where
-    by_letter : (o : Option Kind) → kind_from officers c ≡ o → at_letter o c rest ≡ Some q → AreParts q × (c ∷ rest ≡ parts_text q)
+    by_letter : (o : Option Kind) → kind_from officers c ≡ o → at_letter o c rest ≡ Some q
+        → AreParts q × (c ∷ rest ≡ parts_text q)
     by_letter None is e = parts_of None (c ∷ rest) q tt (spelled-file None (c ∷ rest) q e)
     by_letter (Some k) is e =
         let at = found officers c k is in
-        let p = parts_of (Some k) rest q (officer_is k (ap (kind_from officers) at ∙ is)) (spelled-file (Some k) rest q e) in
+        let p = parts_of (Some k) rest q (officer_is k (ap (kind_from officers) at ∙ is))
+        (spelled-file (Some k) rest q e) in
         (p.0, ap (λ x. x ∷ rest) (sym at) ∙ p.1)
 
-parts-body : (file o : Option ℕ) (b : Bool) (x : End) → IfSome file (λ f. f < 8) → IsRank o → parts_at (optional (λ f. (97 + f) ∷ []) file ++ tail_text o b x) ≡ file_at None (optional (λ f. (97 + f) ∷ []) file ++ tail_text o b x)
-parts-body (Some f) o b x h k = ap (λ l. at_letter l (97 + f) (tail_text o b x)) (no_officer (97 + f) (inr (omega arith)))
-parts-body None (Some r) b x h k = ap (λ l. at_letter l (49 + r) (takes_text b x)) (no_officer (49 + r) (inl (omega arith)))
+parts-body : (file o : Option ℕ) (b : Bool) (x : End) → IfSome file (λ f. f < 8) → IsRank o
+    → parts_at (optional (λ f. (97 + f) ∷ []) file ++ tail_text o b x)
+    ≡ file_at None (optional (λ f. (97 + f) ∷ []) file ++ tail_text o b x)
+parts-body (Some f) o b x h k = ap (λ l. at_letter l (97 + f) (tail_text o b x))
+    (no_officer (97 + f) (inr (omega arith)))
+parts-body None (Some r) b x h k = ap (λ l. at_letter l (49 + r) (takes_text b x))
+    (no_officer (49 + r) (inl (omega arith)))
 parts-body None None true x h k = refl
-parts-body None None false x h k = ap (λ l. at_letter l (97 + x.to % 8) ((49 + x.to / 8) ∷ optional promotion_text x.promotion)) (no_officer (97 + x.to % 8) (inr (omega arith)))
+parts-body None None false x h k = ap (λ l. at_letter l (97 + x.to % 8)
+    ((49 + x.to / 8) ∷ optional promotion_text x.promotion)) (no_officer (97 + x.to % 8) (inr (omega arith)))
 
 pub parts-spelled : (q : Parts) → AreParts q → parts_at (parts_text q) ≡ Some q
 parts-spelled q h = by_letter q.letter h.letter_is
@@ -339,6 +407,7 @@ parts-spelled q h = by_letter q.letter h.letter_is
     body : (letter : Option Kind) → file_at letter (body_text q) ≡ Some (record q { letter = letter })
     body letter = file-spelled letter q.file q.rank q.takes q.end h.file_is h.rank_is (h.to_is, h.promotion_is)
 
-    by_letter : (o : Option Kind) → IfSome o IsOfficer → parts_at (optional kind_text o ++ body_text q) ≡ Some (record q { letter = o })
+    by_letter : (o : Option Kind) → IfSome o IsOfficer
+        → parts_at (optional kind_text o ++ body_text q) ≡ Some (record q { letter = o })
     by_letter None i = parts-body q.file q.rank q.takes q.end h.file_is h.rank_is ∙ body None
     by_letter (Some k) i = ap (λ l. at_letter l (white_letter k) (body_text q)) (officer_read k i) ∙ body (Some k)

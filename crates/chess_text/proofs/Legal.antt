@@ -27,7 +27,14 @@ use Rattle.chess_text.specs.Moves.{captures, described, described_as}
 
 -- what a text can tell of a move of that man
 abbrev pub told_of : Setup → Move → Kind → Described
-told_of p m k = record { man = k; from = m.from; to = m.to; promotion = m.promotion; captures = captures p m; castles = castling p m }
+told_of p m k = record {
+  man = k;
+  from = m.from;
+  to = m.to;
+  promotion = m.promotion;
+  captures = captures p m;
+  castles = castling p m;
+}
 
 -- by the kind of man: a pawn's move, or one without a promotion
 abbrev pub MovesAs : Setup → Move → Kind → Type 0
@@ -58,17 +65,23 @@ none_promotes o e = rw e tt
 
 -- castling is the king's move between squares that name it
 pub castling_says : (p : Setup) (m : Move) (w : CastlingSide) → castling p m ≡ Some w
-    → (is_man p.side King (man_at p.men m.from) ≡ true) × (names_castling p.variant p.side m w (right_of p.rights p.side w) ≡ true)
+    → (is_man p.side King (man_at p.men m.from) ≡ true)
+    × (names_castling p.variant p.side m w (right_of p.rights p.side w) ≡ true)
 unfolding says_castling
-castling_says p m w e = and_parts (is_man p.side King (man_at p.men m.from)) (names_castling p.variant p.side m w (right_of p.rights p.side w)) (says_from_castling p m w e)
+castling_says p m w e = and_parts (is_man p.side King (man_at p.men m.from))
+    (names_castling p.variant p.side m w (right_of p.rights p.side w)) (says_from_castling p m w e)
 
 -- these end on one square
-pub names_end : (v : Variant) (c : Colour) (m : Move) (w : CastlingSide) (o : Option ℕ) → names_castling v c m w o ≡ true → m.to ≡ castling_end v c w o
+pub names_end : (v : Variant) (c : Colour) (m : Move) (w : CastlingSide) (o : Option ℕ)
+    → names_castling v c m w o ≡ true → m.to ≡ castling_end v c w o
 names_end v c m w None e = absurd cc
-names_end Normal c m w (Some rook) e = eqb-true m.to (home_square c (castled_king_file w)) (and_parts (m.from == home_square c king_home_file) (m.to == home_square c (castled_king_file w)) e).1
-names_end Fischerandom c m w (Some rook) e = eqb-true m.to rook (and_parts (rank m.from == rank rook) (m.to == rook) e).1
+names_end Normal c m w (Some rook) e = eqb-true m.to (home_square c (castled_king_file w))
+    (and_parts (m.from == home_square c king_home_file) (m.to == home_square c (castled_king_file w)) e).1
+names_end Fischerandom c m w (Some rook) e =
+    eqb-true m.to rook (and_parts (rank m.from == rank rook) (m.to == rook) e).1
 
-pawn_castles_not : (p : Setup) (m : Move) → man_at p.men m.from ≡ Some (record { colour = p.side; kind = Pawn }) → (o : Option CastlingSide) → castling p m ≡ o → castling p m ≡ None
+pawn_castles_not : (p : Setup) (m : Move) → man_at p.men m.from ≡ Some (record { colour = p.side; kind = Pawn })
+    → (o : Option CastlingSide) → castling p m ≡ o → castling p m ≡ None
 unfolding is_man
 pawn_castles_not p m at None e = e
 pawn_castles_not p m at (Some w) e =
@@ -89,7 +102,8 @@ no_promotion p m (Some k) e = castles_unpromoted p m k e
 abbrev officer_moves : Setup → Move → Bool
 officer_moves p m = castles_or_moves p m (castle_of p m)
 
-kind_moves : (p : Setup) (m : Move) (k : Kind) → man_at p.men m.from ≡ Some (record { colour = p.side; kind = k }) → cond (same_kind Pawn k) (pawn_moves p m) (officer_moves p m) ≡ true → MovesAs p m k
+kind_moves : (p : Setup) (m : Move) (k : Kind) → man_at p.men m.from ≡ Some (record { colour = p.side; kind = k })
+    → cond (same_kind Pawn k) (pawn_moves p m) (officer_moves p m) ≡ true → MovesAs p m k
 kind_moves p m Pawn at e = (e, pawn_castles_not p m at (castling p m) refl)
 kind_moves p m King at e = no_promotion p m (castle_of p m) e
 kind_moves p m Queen at e = no_promotion p m (castle_of p m) e
@@ -99,26 +113,39 @@ kind_moves p m Knight at e = no_promotion p m (castle_of p m) e
 
 kind_promotes : (p : Setup) (m : Move) (k : Kind) → MovesAs p m k → IfSome m.promotion CanPromote
 unfolding pawn_moves
-kind_promotes p m Pawn e = fits_last (rank m.to == first_rank (other p.side)) m.promotion (and_parts (promotion_fits (rank m.to == first_rank (other p.side)) m.promotion) (pawn_advances p m || pawn_captures p m) e.0).0
+kind_promotes p m Pawn e = fits_last (rank m.to == first_rank (other p.side)) m.promotion
+    (and_parts (promotion_fits (rank m.to == first_rank (other p.side)) m.promotion)
+    (pawn_advances p m || pawn_captures p m) e.0).0
 kind_promotes p m King e = none_promotes m.promotion e
 kind_promotes p m Queen e = none_promotes m.promotion e
 kind_promotes p m Rook e = none_promotes m.promotion e
 kind_promotes p m Bishop e = none_promotes m.promotion e
 kind_promotes p m Knight e = none_promotes m.promotion e
 
-move_by : (p : Setup) (m : Move) (o : Option Man) → man_at p.men m.from ≡ o → m.from < 64 → m.to < 64 → moves_as p m o ≡ true → IsMove p m
+move_by : (p : Setup) (m : Move) (o : Option Man) → man_at p.men m.from ≡ o → m.from < 64 → m.to < 64
+    → moves_as p m o ≡ true → IsMove p m
 move_by p m None at f t e = absurd cc
 move_by p m (Some x) at f t e =
-    let both = and_parts (same_colour p.side x.colour) (cond (same_kind Pawn x.kind) (pawn_moves p m) (officer_moves p m)) e in
+    let both = and_parts (same_colour p.side x.colour)
+    (cond (same_kind Pawn x.kind) (pawn_moves p m) (officer_moves p m)) e in
     let own : x.colour ≡ p.side = sym (same_colour-true p.side x.colour both.0) in
-    let at' : man_at p.men m.from ≡ Some (record { colour = p.side; kind = x.kind }) = at ∙ ap (λ (c : Colour). let man : Man = record { colour = c; kind = x.kind } in Some man) own in
+    let at' : man_at p.men m.from ≡ Some (record { colour = p.side; kind = x.kind }) =
+    at ∙ ap (λ (c : Colour). let man : Man = record { colour = c; kind = x.kind } in Some man) own in
     let goes = kind_moves p m x.kind at' both.1 in
-    record { from_in = f; to_in = t; man = x.kind; at_from = at'; moves_as = goes; promotion_is = kind_promotes p m x.kind goes }
+    record {
+      from_in = f;
+      to_in = t;
+      man = x.kind;
+      at_from = at';
+      moves_as = goes;
+      promotion_is = kind_promotes p m x.kind goes;
+    }
 
 pub legal_move : (p : Setup) (m : Move) → is_legal p m ≡ true → IsMove p m
 unfolding is_legal has_pattern
 legal_move p m e =
-    let legal = and_parts (nat_lt m.from 64 && nat_lt m.to 64 && moves_as p m (man_at p.men m.from)) (not (is_in_check (after p m).men p.side)) e in
+    let legal = and_parts (nat_lt m.from 64 && nat_lt m.to 64 && moves_as p m (man_at p.men m.from))
+    (not (is_in_check (after p m).men p.side)) e in
     let three = and_parts (nat_lt m.from 64 && nat_lt m.to 64) (moves_as p m (man_at p.men m.from)) legal.0 in
     let two = and_parts (nat_lt m.from 64) (nat_lt m.to 64) three.0 in
     move_by p m (man_at p.men m.from) refl (ltb-true m.from 64 two.0) (ltb-true m.to 64 two.1) three.1

@@ -178,7 +178,8 @@ by_castling p v to w there origins = λ m spelled legal. origins m legal (king_s
 -- ---- the list over a set
 
 pub spelled_from : (form : Form) (p : Setup) (w : ℕ) → IsStart p form w
-    → flat_map (λ a. spelled_with form p a (end_square form p) promotions) (members w) ≡ filter (λ m. is_spelled form p m)
+    → flat_map (λ a. spelled_with form p a (end_square form p) promotions) (members w)
+    ≡ filter (λ m. is_spelled form p m)
     (moves p)
 spelled_from form p w start = flat_map_members _ w (λ k low out. none_there k out) ∙ all_spelled form p
   where

@@ -57,7 +57,8 @@ same_side-true QueenSide QueenSide e = refl
 same_side-true KingSide QueenSide e = absurd cc
 same_side-true QueenSide KingSide e = absurd cc
 
-castles_plain : (p : Setup) (m : Move) (w : CastlingSide) (k : Kind) → MovesAs p m k → castling p m ≡ Some w → m.promotion ≡ None
+castles_plain : (p : Setup) (m : Move) (w : CastlingSide) (k : Kind) → MovesAs p m k → castling p m ≡ Some w
+    → m.promotion ≡ None
 castles_plain p m w Pawn h e = let none = h.1 in absurd cc
 castles_plain p m w King h e = h
 castles_plain p m w Queen h e = h
@@ -70,24 +71,34 @@ castles_so w None e = absurd cc
 castles_so w (Some v) e = ap Some (same_side-true w v e)
 
 -- two castlings to one side are one move
-same_castling : (p : Setup) (m n : Move) (w : CastlingSide) → IsSound p → IsMove p m → IsMove p n → castling p m ≡ Some w → castling p n ≡ Some w → n ≡ m
+same_castling : (p : Setup) (m n : Move) (w : CastlingSide) → IsSound p → IsMove p m → IsMove p n
+    → castling p m ≡ Some w → castling p n ≡ Some w → n ≡ m
 same_castling p m n w sound h g e f =
     let a = castling_says p m w e in
     let b = castling_says p n w f in
     let right = right_of p.rights p.side w in
     move_is n m (one_king p.men p.side n.from m.from sound.board (one_king_of p sound p.side) b.0 a.0)
-    (names_end p.variant p.side n w right b.1 ∙ sym (names_end p.variant p.side m w right a.1)) (castles_plain p n w g.man g.moves_as f ∙ sym (castles_plain p m w h.man h.moves_as e))
+    (names_end p.variant p.side n w right b.1 ∙ sym (names_end p.variant p.side m w right a.1))
+    (castles_plain p n w g.man g.moves_as f ∙ sym (castles_plain p m w h.man h.moves_as e))
 
 -- ---- pawns
 
 abbrev pawn_named : Bool → ℕ → ℕ → Option Promotion → Parts
-pawn_named c from to promotion = record { letter = None; file = if_said c (file from); rank = None; takes = c; end = record { to = to; promotion = promotion } }
+pawn_named c from to promotion = record {
+  letter = None;
+  file = if_said c (file from);
+  rank = None;
+  takes = c;
+  end = record { to = to; promotion = promotion };
+}
 
-as_written : (o : Option Kind) → option_map (λ k. record { kind = k; equals = true; small = false }) o ≡ written true false o
+as_written : (o : Option Kind) → option_map (λ k. record { kind = k; equals = true; small = false }) o
+    ≡ written true false o
 as_written None = refl
 as_written (Some k) = refl
 
-pawn_is : (p : Setup) (m : Move) (k : Kind) → pawn_parts (told_of p m k) ≡ pawn_named (captures p m) m.from m.to (written true false m.promotion)
+pawn_is : (p : Setup) (m : Move) (k : Kind)
+    → pawn_parts (told_of p m k) ≡ pawn_named (captures p m) m.from m.to (written true false m.promotion)
 pawn_is p m k = ap (pawn_named (captures p m) m.from m.to) (as_written m.promotion)
 
 said_file : (c : Bool) (s : ℕ) → IfSome (if_said c (file s)) (λ f. f < 8)
@@ -102,15 +113,23 @@ promotion_part : (o : Option Kind) → IfSome o CanPromote → IfSome (written t
 promotion_part None h = tt
 promotion_part (Some k) h = h
 
-pawn_are_parts : (c : Bool) (from to : ℕ) (o : Option Kind) → to < 64 → IfSome o CanPromote → AreParts (pawn_named c from to (written true false o))
-pawn_are_parts c from to o h k = record { letter_is = tt; file_is = said_file c from; rank_is = tt; to_is = h; promotion_is = promotion_part o k }
+pawn_are_parts : (c : Bool) (from to : ℕ) (o : Option Kind) → to < 64 → IfSome o CanPromote
+    → AreParts (pawn_named c from to (written true false o))
+pawn_are_parts c from to o h k = record {
+  letter_is = tt;
+  file_is = said_file c from;
+  rank_is = tt;
+  to_is = h;
+  promotion_is = promotion_part o k;
+}
 
 pawn_form : (c : Bool) (from to : ℕ) (o : Option Promotion) → is_form (pawn_named c from to o) ≡ true
 unfolding is_form
 pawn_form true from to o = refl
 pawn_form false from to o = refl
 
-pawn_fits : (p : Setup) (m : Move) (c : Bool) → captures p m ≡ c → (c ≡ false → file m.from ≡ file m.to) → fits (pawn_named c m.from m.to (written true false m.promotion)) (told_of p m Pawn) ≡ true
+pawn_fits : (p : Setup) (m : Move) (c : Bool) → captures p m ≡ c → (c ≡ false → file m.from ≡ file m.to)
+    → fits (pawn_named c m.from m.to (written true false m.promotion)) (told_of p m Pawn) ≡ true
 unfolding fits is_by_squares is_by_letter is_straight is_from_file
 pawn_fits p m true e on =
     let a = eq-eqb (file m.from) (file m.from) refl in
@@ -130,15 +149,24 @@ record GoesStraight (p : Setup) (m n : Move) (l : Kind) : Type 0 where
   to : n.to ≡ m.to
   promotion : n.promotion ≡ m.promotion
 
-straight_fits : (p : Setup) (m n : Move) (l : Kind) → fits (pawn_named false m.from m.to (written true false m.promotion)) (told_of p n l) ≡ true → GoesStraight p m n l
+straight_fits : (p : Setup) (m n : Move) (l : Kind)
+    → fits (pawn_named false m.from m.to (written true false m.promotion)) (told_of p n l) ≡ true → GoesStraight p m n l
 unfolding fits is_by_squares is_by_letter is_straight is_from_file
 straight_fits p m n l e =
-    let straight : (same_kind Pawn l && (file n.from == file n.to) && (m.to == n.to) && promotes_so (written true false m.promotion) n.promotion) ≡ true =
-    elim (or_cases (same_kind Pawn l && (file n.from == file n.to) && (m.to == n.to) && promotes_so (written true false m.promotion) n.promotion) false e) [ inl h ↦ h | inr h ↦ absurd cc ] in
-    let e3 = and_parts (same_kind Pawn l && (file n.from == file n.to) && (m.to == n.to)) (promotes_so (written true false m.promotion) n.promotion) straight in
+    let straight : (same_kind Pawn l && (file n.from == file n.to) && (m.to == n.to)
+    && promotes_so (written true false m.promotion) n.promotion) ≡ true =
+    elim (or_cases (same_kind Pawn l && (file n.from == file n.to) && (m.to == n.to)
+    && promotes_so (written true false m.promotion) n.promotion) false e) [ inl h ↦ h | inr h ↦ absurd cc ] in
+    let e3 = and_parts (same_kind Pawn l && (file n.from == file n.to) && (m.to == n.to))
+    (promotes_so (written true false m.promotion) n.promotion) straight in
     let e2 = and_parts (same_kind Pawn l && (file n.from == file n.to)) (m.to == n.to) e3.0 in
     let e1 = and_parts (same_kind Pawn l) (file n.from == file n.to) e2.0 in
-    record { man = sym (same_kind-true Pawn l e1.0); on = eqb-true (file n.from) (file n.to) e1.1; to = sym (eqb-true m.to n.to e2.1); promotion = promotes-same true false m.promotion n.promotion e3.1 }
+    record {
+      man = sym (same_kind-true Pawn l e1.0);
+      on = eqb-true (file n.from) (file n.to) e1.1;
+      to = sym (eqb-true m.to n.to e2.1);
+      promotion = promotes-same true false m.promotion n.promotion e3.1;
+    }
 
 record Takes (p : Setup) (m n : Move) (l : Kind) : Type 0 where
   man : l ≡ Pawn
@@ -147,10 +175,12 @@ record Takes (p : Setup) (m n : Move) (l : Kind) : Type 0 where
   to : n.to ≡ m.to
   promotion : n.promotion ≡ m.promotion
 
-takes_fits : (p : Setup) (m n : Move) (l : Kind) → fits (pawn_named true m.from m.to (written true false m.promotion)) (told_of p n l) ≡ true → Takes p m n l
+takes_fits : (p : Setup) (m n : Move) (l : Kind)
+    → fits (pawn_named true m.from m.to (written true false m.promotion)) (told_of p n l) ≡ true → Takes p m n l
 unfolding fits is_by_squares is_by_letter is_straight is_from_file
 takes_fits p m n l e =
-    let e4 = and_parts ((file m.from == file n.from) && true && same_kind Pawn l && captures p n && (m.to == n.to)) (promotes_so (written true false m.promotion) n.promotion) (by_squares e) in
+    let e4 = and_parts ((file m.from == file n.from) && true && same_kind Pawn l && captures p n && (m.to == n.to))
+    (promotes_so (written true false m.promotion) n.promotion) (by_squares e) in
     let e3 = and_parts ((file m.from == file n.from) && true && same_kind Pawn l && captures p n) (m.to == n.to) e4.0 in
     let e2 = and_parts ((file m.from == file n.from) && true && same_kind Pawn l) (captures p n) e3.0 in
     let e1 = and_parts ((file m.from == file n.from) && true) (same_kind Pawn l) e2.0 in
@@ -168,23 +198,46 @@ takes_fits p m n l e =
     no_rank false b c d e = refl
 
     by_squares : fits (pawn_named true m.from m.to (written true false m.promotion)) (told_of p n l) ≡ true
-        → ((file m.from == file n.from) && true && same_kind Pawn l && captures p n && (m.to == n.to) && promotes_so (written true false m.promotion) n.promotion) ≡ true
+        → ((file m.from == file n.from) && true && same_kind Pawn l && captures p n && (m.to == n.to)
+        && promotes_so (written true false m.promotion) n.promotion) ≡ true
     by_squares e =
-        let none = no_rank (file m.from == file n.from) false (m.to == n.to) (not (has_equals (written true false m.promotion))) (promotes_so (written true false m.promotion) n.promotion) in
-        elim (or_cases (((file m.from == file n.from) && false && false && (m.to == n.to) && not (has_equals (written true false m.promotion)) && promotes_so (written true false m.promotion) n.promotion) || false || false) ((file m.from == file n.from) && true && same_kind Pawn l && captures p n && (m.to == n.to) && promotes_so (written true false m.promotion) n.promotion) e) [
+        let none = no_rank (file m.from == file n.from) false (m.to == n.to)
+        (not (has_equals (written true false m.promotion)))
+        (promotes_so (written true false m.promotion) n.promotion) in
+        elim (or_cases
+        (((file m.from == file n.from) && false && false && (m.to == n.to)
+        && not (has_equals (written true false m.promotion))
+        && promotes_so (written true false m.promotion) n.promotion) || false || false)
+        ((file m.from == file n.from) && true && same_kind Pawn l && captures p n && (m.to == n.to)
+        && promotes_so (written true false m.promotion) n.promotion) e) [
           | inr h ↦ h
-          | inl h ↦ elim (or_cases (((file m.from == file n.from) && false && false && (m.to == n.to) && not (has_equals (written true false m.promotion)) && promotes_so (written true false m.promotion) n.promotion) || false) false h) [
-            | inr g ↦ absurd cc
-            | inl g ↦ elim (or_cases ((file m.from == file n.from) && false && false && (m.to == n.to) && not (has_equals (written true false m.promotion)) && promotes_so (written true false m.promotion) n.promotion) false g) [ inr k ↦ absurd cc | inl k ↦ absurd (both_ways ((file m.from == file n.from) && false && false && (m.to == n.to) && not (has_equals (written true false m.promotion)) && promotes_so (written true false m.promotion) n.promotion) none k) ]
-          ]
+          | inl h ↦ elim
+              (or_cases
+              (((file m.from == file n.from) && false && false && (m.to == n.to)
+              && not (has_equals (written true false m.promotion))
+              && promotes_so (written true false m.promotion) n.promotion) || false) false h) [
+                | inr g ↦ absurd cc
+                | inl g ↦ elim
+                    (or_cases ((file m.from == file n.from) && false && false && (m.to == n.to)
+                    && not (has_equals (written true false m.promotion))
+                    && promotes_so (written true false m.promotion) n.promotion) false g) [
+                      | inr k ↦ absurd cc
+                      | inl k ↦ absurd
+                          (both_ways ((file m.from == file n.from) && false && false && (m.to == n.to)
+                          && not (has_equals (written true false m.promotion))
+                          && promotes_so (written true false m.promotion) n.promotion) none k)
+                    ]
+              ]
         ]
 
-as_pawn : (p : Setup) (n : Move) (g : IsMove p n) → g.man ≡ Pawn → (man_at p.men n.from ≡ Some (pawn_of p.side)) × (pawn_moves p n ≡ true)
+as_pawn : (p : Setup) (n : Move) (g : IsMove p n) → g.man ≡ Pawn
+    → (man_at p.men n.from ≡ Some (pawn_of p.side)) × (pawn_moves p n ≡ true)
 as_pawn p n g is =
     let moves_so : MovesAs p n Pawn = subst (MovesAs p n) is g.moves_as in
     (g.at_from ∙ ap (λ (k : Kind). let man : Man = record { colour = p.side; kind = k } in Some man) is, moves_so.0)
 
-pub pawn_alone : (p : Setup) (m n : Move) (c : Bool) → IsSound p → (h : IsMove p m) → h.man ≡ Pawn → (g : IsMove p n) → captures p m ≡ c
+pub pawn_alone : (p : Setup) (m n : Move) (c : Bool) → IsSound p → (h : IsMove p m) → h.man ≡ Pawn → (g : IsMove p n)
+    → captures p m ≡ c
     → fits (pawn_named c m.from m.to (written true false m.promotion)) (told_of p n g.man) ≡ true → n ≡ m
 pawn_alone p m n true sound h is g e fit =
     let f = takes_fits p m n g.man fit in
@@ -204,7 +257,8 @@ pawn_alone p m n false sound h is g e fit =
     let goes' = advances_straight p n b.0 b.1 f.on in
     move_is n m (same_advance p m n a.0 b.0 low low' f.to goes goes') f.to f.promotion
 
-pawn_on_file : (p : Setup) (m : Move) → IsSound p → (h : IsMove p m) → h.man ≡ Pawn → captures p m ≡ false → file m.from ≡ file m.to
+pawn_on_file : (p : Setup) (m : Move) → IsSound p → (h : IsMove p m) → h.man ≡ Pawn → captures p m ≡ false
+    → file m.from ≡ file m.to
 pawn_on_file p m sound h is e =
     let a = as_pawn p m h is in
     advances_on_file p m (pawn_stands p sound p.side m.from h.from_in a.0) (advances_without p m a.0 a.1 e)
@@ -216,22 +270,46 @@ rivals p m k = rival_starts p (moves p) (told_of p m k)
 
 abbrev officer_named : Kind → ToldStart → Bool → ℕ → ℕ → Parts
 officer_named k start c from to =
-    record { letter = Some k; file = if_said start.file (file from); rank = if_said start.rank (rank from); takes = c; end = record { to = to; promotion = None } }
+    record {
+      letter = Some k;
+      file = if_said start.file (file from);
+      rank = if_said start.rank (rank from);
+      takes = c;
+      end = record { to = to; promotion = None };
+    }
 
-officer_is : (p : Setup) (m : Move) (k : Kind) (others : List ℕ) → m.promotion ≡ None → officer_parts others (told_of p m k) ≡ officer_named k (told_start m.from others) (captures p m) m.from m.to
+officer_is : (p : Setup) (m : Move) (k : Kind) (others : List ℕ) → m.promotion ≡ None
+    → officer_parts others (told_of p m k) ≡ officer_named k (told_start m.from others) (captures p m) m.from m.to
 officer_is p m k others none =
     ap (λ (o : Option Kind). let start = told_start m.from others in
-    let q : Parts = record { letter = Some k; file = if_said start.file (file m.from); rank = if_said start.rank (rank m.from); takes = captures p m; end = record { to = m.to; promotion = option_map (λ k. record { kind = k; equals = true; small = false }) o } } in
+    let q : Parts = record {
+      letter = Some k;
+      file = if_said start.file (file m.from);
+      rank = if_said start.rank (rank m.from);
+      takes = captures p m;
+      end =
+          record { to = m.to; promotion = option_map (λ k. record { kind = k; equals = true; small = false }) o };
+    } in
     q) none
 
-officer_are_parts : (k : Kind) (start : ToldStart) (c : Bool) (from to : ℕ) → IsOfficer k → from < 64 → to < 64 → AreParts (officer_named k start c from to)
-officer_are_parts k start c from to officer f t = record { letter_is = officer; file_is = said_file start.file from; rank_is = said_rank start.rank from f; to_is = t; promotion_is = tt }
+officer_are_parts : (k : Kind) (start : ToldStart) (c : Bool) (from to : ℕ) → IsOfficer k → from < 64 → to < 64
+    → AreParts (officer_named k start c from to)
+officer_are_parts k start c from to officer f t =
+    record {
+      letter_is = officer;
+      file_is = said_file start.file from;
+      rank_is = said_rank start.rank from f;
+      to_is = t;
+      promotion_is = tt;
+    }
 
-officer_form : (k : Kind) (start : ToldStart) (c : Bool) (from to : ℕ) → is_form (officer_named k start c from to) ≡ true
+officer_form : (k : Kind) (start : ToldStart) (c : Bool) (from to : ℕ)
+    → is_form (officer_named k start c from to) ≡ true
 unfolding is_form
 officer_form k start c from to = refl
 
-officer_fits : (p : Setup) (m : Move) (k : Kind) (start : ToldStart) → castling p m ≡ None → fits (officer_named k start (captures p m) m.from m.to) (told_of p m k) ≡ true
+officer_fits : (p : Setup) (m : Move) (k : Kind) (start : ToldStart) → castling p m ≡ None
+    → fits (officer_named k start (captures p m) m.from m.to) (told_of p m k) ≡ true
 unfolding fits is_by_squares is_by_letter is_straight is_from_file
 officer_fits p m k start none =
     let a = same_kind-self k in
@@ -248,38 +326,66 @@ record Goes (p : Setup) (m n : Move) (k l : Kind) (start : ToldStart) : Type 0 w
   rank_fits : admits (if_said start.rank (rank m.from)) (rank n.from) ≡ true
   to : n.to ≡ m.to
 
-officer_goes : (p : Setup) (m n : Move) (k l : Kind) (start : ToldStart) (c : Bool) → fits (officer_named k start c m.from m.to) (told_of p n l) ≡ true → Goes p m n k l start
+officer_goes : (p : Setup) (m n : Move) (k l : Kind) (start : ToldStart) (c : Bool)
+    → fits (officer_named k start c m.from m.to) (told_of p n l) ≡ true → Goes p m n k l start
 unfolding fits is_by_squares is_by_letter is_straight is_from_file
 officer_goes p m n k l start c e =
-    let by_letter : (same_kind k l && is_none (castling p n) && admits (if_said start.file (file m.from)) (file n.from) && admits (if_said start.rank (rank m.from)) (rank n.from) && (not c || captures p n) && (m.to == n.to) && true) ≡ true =
-    elim (or_cases ((same_kind k l && is_none (castling p n) && admits (if_said start.file (file m.from)) (file n.from) && admits (if_said start.rank (rank m.from)) (rank n.from) && (not c || captures p n) && (m.to == n.to) && true) || false) false e) [
+    let by_letter : (same_kind k l && is_none (castling p n) && admits (if_said start.file (file m.from)) (file n.from)
+    && admits (if_said start.rank (rank m.from)) (rank n.from) && (not c || captures p n) && (m.to == n.to) && true)
+    ≡ true =
+    elim (or_cases
+    ((same_kind k l && is_none (castling p n) && admits (if_said start.file (file m.from)) (file n.from)
+    && admits (if_said start.rank (rank m.from)) (rank n.from) && (not c || captures p n) && (m.to == n.to)
+    && true) || false) false e) [
       | inr h ↦ absurd cc
-      | inl h ↦ elim (or_cases (same_kind k l && is_none (castling p n) && admits (if_said start.file (file m.from)) (file n.from) && admits (if_said start.rank (rank m.from)) (rank n.from) && (not c || captures p n) && (m.to == n.to) && true) false h) [
-        | inr g ↦ absurd cc
-        | inl g ↦ g
-      ]
+      | inl h ↦ elim
+          (or_cases (same_kind k l && is_none (castling p n) && admits (if_said start.file (file m.from)) (file n.from)
+          && admits (if_said start.rank (rank m.from)) (rank n.from) && (not c || captures p n) && (m.to == n.to)
+          && true) false h) [
+            | inr g ↦ absurd cc
+            | inl g ↦ g
+          ]
     ] in
-    let e5 = and_parts (same_kind k l && is_none (castling p n) && admits (if_said start.file (file m.from)) (file n.from) && admits (if_said start.rank (rank m.from)) (rank n.from) && (not c || captures p n) && (m.to == n.to)) true by_letter in
-    let e4 = and_parts (same_kind k l && is_none (castling p n) && admits (if_said start.file (file m.from)) (file n.from) && admits (if_said start.rank (rank m.from)) (rank n.from) && (not c || captures p n)) (m.to == n.to) e5.0 in
-    let e3 = and_parts (same_kind k l && is_none (castling p n) && admits (if_said start.file (file m.from)) (file n.from) && admits (if_said start.rank (rank m.from)) (rank n.from)) (not c || captures p n) e4.0 in
-    let e2 = and_parts (same_kind k l && is_none (castling p n) && admits (if_said start.file (file m.from)) (file n.from)) (admits (if_said start.rank (rank m.from)) (rank n.from)) e3.0 in
-    let e1 = and_parts (same_kind k l && is_none (castling p n)) (admits (if_said start.file (file m.from)) (file n.from)) e2.0 in
+    let e5 = and_parts (same_kind k l && is_none (castling p n)
+    && admits (if_said start.file (file m.from)) (file n.from)
+    && admits (if_said start.rank (rank m.from)) (rank n.from) && (not c || captures p n) && (m.to == n.to)) true
+    by_letter in
+    let e4 = and_parts (same_kind k l && is_none (castling p n)
+    && admits (if_said start.file (file m.from)) (file n.from)
+    && admits (if_said start.rank (rank m.from)) (rank n.from) && (not c || captures p n)) (m.to == n.to) e5.0 in
+    let e3 = and_parts (same_kind k l && is_none (castling p n)
+    && admits (if_said start.file (file m.from)) (file n.from)
+    && admits (if_said start.rank (rank m.from)) (rank n.from)) (not c || captures p n) e4.0 in
+    let e2 = and_parts (same_kind k l && is_none (castling p n)
+    && admits (if_said start.file (file m.from)) (file n.from))
+    (admits (if_said start.rank (rank m.from)) (rank n.from)) e3.0 in
+    let e1 = and_parts (same_kind k l && is_none (castling p n))
+    (admits (if_said start.file (file m.from)) (file n.from)) e2.0 in
     let e0 = and_parts (same_kind k l) (is_none (castling p n)) e1.0 in
-    record { man = sym (same_kind-true k l e0.0); walks = is_none-None (castling p n) e0.1; file_fits = e1.1; rank_fits = e2.1; to = sym (eqb-true m.to n.to e4.1) }
+    record {
+      man = sym (same_kind-true k l e0.0);
+      walks = is_none-None (castling p n) e0.1;
+      file_fits = e1.1;
+      rank_fits = e2.1;
+      to = sym (eqb-true m.to n.to e4.1);
+    }
 
 any-map : {A B : Type 0} (t : B → Bool) (g : A → B) (xs : List A) → list_any t (map g xs) ≡ list_any (λ x. t (g x)) xs
 any-map t g [] = refl
 any-map t g (x ∷ xs) = ap (λ b. t (g x) || b) (any-map t g xs)
 
 -- a rival's start stands among the rivals'
-rival_stands : (p : Setup) (m n : Move) (k : Kind) (t : ℕ → Bool) → is_legal p n ≡ true → is_rival p (told_of p m k) n ≡ true → t n.from ≡ true → list_any t (rivals p m k) ≡ true
+rival_stands : (p : Setup) (m n : Move) (k : Kind) (t : ℕ → Bool) → is_legal p n ≡ true
+    → is_rival p (told_of p m k) n ≡ true → t n.from ≡ true → list_any t (rivals p m k) ≡ true
 unfolding rival_starts
 rival_stands p m n k t legal rival e =
     any-map t (λ (x : Move). x.from) (filter (λ x. is_rival p (told_of p m k) x) (moves p))
     ∙ any-filter (λ x. is_rival p (told_of p m k) x) (λ (x : Move). t x.from) (moves p)
-    ∙ any-move p (λ x. is_rival p (told_of p m k) x && t x.from) n legal (and_from (is_rival p (told_of p m k) n) (t n.from) rival e)
+    ∙ any-move p (λ x. is_rival p (told_of p m k) x && t x.from) n legal
+    (and_from (is_rival p (told_of p m k) n) (t n.from) rival e)
 
-rival_is : (p : Setup) (m n : Move) (k : Kind) (g : IsMove p n) → g.man ≡ k → n.to ≡ m.to → (n.from == m.from) ≡ false → is_rival p (told_of p m k) n ≡ true
+rival_is : (p : Setup) (m n : Move) (k : Kind) (g : IsMove p n) → g.man ≡ k → n.to ≡ m.to → (n.from == m.from) ≡ false
+    → is_rival p (told_of p m k) n ≡ true
 unfolding is_rival
 rival_is p m n k g man to apart =
     let a = eq-eqb n.to m.to to in
@@ -295,8 +401,10 @@ no_promotion p n Rook officer h = h
 no_promotion p n Bishop officer h = h
 no_promotion p n Knight officer h = h
 
-officer_alone : (p : Setup) (m n : Move) (k : Kind) → IsOfficer k → m.promotion ≡ None → is_legal p n ≡ true → (g : IsMove p n)
-    → fits (officer_named k (told_start m.from (rivals p m k)) (captures p m) m.from m.to) (told_of p n g.man) ≡ true → n ≡ m
+officer_alone : (p : Setup) (m n : Move) (k : Kind) → IsOfficer k → m.promotion ≡ None → is_legal p n ≡ true
+    → (g : IsMove p n)
+    → fits (officer_named k (told_start m.from (rivals p m k)) (captures p m) m.from m.to) (told_of p n g.man) ≡ true
+    → n ≡ m
 officer_alone p m n k officer none legal g fit = by_start (n.from == m.from) refl
   where
     goes : Goes p m n k g.man (told_start m.from (rivals p m k))
@@ -315,13 +423,15 @@ officer_alone p m n k officer none legal g fit = by_start (n.from == m.from) ref
 
 -- ---- the text
 
-pawn_word : (c : Bool) (from to : ℕ) (o : Option Kind) → IsWord (parts_text (pawn_named c from to (written true false o)))
+pawn_word : (c : Bool) (from to : ℕ) (o : Option Kind)
+    → IsWord (parts_text (pawn_named c from to (written true false o)))
 pawn_word true from to None = record { short = omega arith; long = omega arith; letter = file_letter from }
 pawn_word true from to (Some k) = record { short = omega arith; long = omega arith; letter = file_letter from }
 pawn_word false from to None = record { short = omega arith; long = omega arith; letter = file_letter to }
 pawn_word false from to (Some k) = record { short = omega arith; long = omega arith; letter = file_letter to }
 
-officer_word : (k : Kind) (start : ToldStart) (c : Bool) (from to : ℕ) → IsWord (parts_text (officer_named k start c from to))
+officer_word : (k : Kind) (start : ToldStart) (c : Bool) (from to : ℕ)
+    → IsWord (parts_text (officer_named k start c from to))
 officer_word k start c from to = by_said start.file start.rank c
   where
     by_said : (f r c : Bool) → IsWord (parts_text (officer_named k (record { file = f; rank = r }) c from to))
@@ -342,7 +452,8 @@ record HasParts (p : Setup) (m : Move) (k : Kind) (q : Parts) : Type 0 where
   fits_it : fits q (told_of p m k) ≡ true
   alone : (n : Move) → is_legal p n ≡ true → (g : IsMove p n) → fits q (told_of p n g.man) ≡ true → n ≡ m
 
-pawn_parts_of : (p : Setup) (m : Move) → IsSound p → (h : IsMove p m) → h.man ≡ Pawn → HasParts p m Pawn (pawn_named (captures p m) m.from m.to (written true false m.promotion))
+pawn_parts_of : (p : Setup) (m : Move) → IsSound p → (h : IsMove p m) → h.man ≡ Pawn
+    → HasParts p m Pawn (pawn_named (captures p m) m.from m.to (written true false m.promotion))
 pawn_parts_of p m sound h is = record {
   are = pawn_are_parts (captures p m) m.from m.to m.promotion h.to_in h.promotion_is;
   form = pawn_form (captures p m) m.from m.to (written true false m.promotion);
@@ -351,7 +462,8 @@ pawn_parts_of p m sound h is = record {
   alone = λ n legal g fit. pawn_alone p m n (captures p m) sound h is g refl fit;
 }
 
-officer_parts_of : (p : Setup) (m : Move) (k : Kind) → IsOfficer k → castling p m ≡ None → m.promotion ≡ None → m.from < 64 → m.to < 64
+officer_parts_of : (p : Setup) (m : Move) (k : Kind) → IsOfficer k → castling p m ≡ None → m.promotion ≡ None
+    → m.from < 64 → m.to < 64
     → HasParts p m k (officer_named k (told_start m.from (rivals p m k)) (captures p m) m.from m.to)
 officer_parts_of p m k officer walks none f t = record {
   are = officer_are_parts k (told_start m.from (rivals p m k)) (captures p m) m.from m.to officer f t;
@@ -364,13 +476,15 @@ officer_parts_of p m k officer walks none f t = record {
 along : (p : Setup) (m : Move) (k : Kind) (q r : Parts) → r ≡ q → HasParts p m k q → HasParts p m k r
 along p m k q r e h = rw e h
 
-officer_by : (p : Setup) (m : Move) (h : IsMove p m) → castling p m ≡ None → (k : Kind) → IsOfficer k → h.man ≡ k → HasParts p m k (officer_parts (rivals p m k) (told_of p m k))
+officer_by : (p : Setup) (m : Move) (h : IsMove p m) → castling p m ≡ None → (k : Kind) → IsOfficer k → h.man ≡ k
+    → HasParts p m k (officer_parts (rivals p m k) (told_of p m k))
 officer_by p m h walks k officer is =
     let so : MovesAs p m k = subst (MovesAs p m) is h.moves_as in
     let none = no_promotion p m k officer so in
     along p m k _ _ (officer_is p m k (rivals p m k) none) (officer_parts_of p m k officer walks none h.from_in h.to_in)
 
-walk_by : (p : Setup) (m : Move) → IsSound p → (h : IsMove p m) → castling p m ≡ None → (k : Kind) → h.man ≡ k → HasParts p m k (walk_parts (rivals p m k) (told_of p m k))
+walk_by : (p : Setup) (m : Move) → IsSound p → (h : IsMove p m) → castling p m ≡ None → (k : Kind) → h.man ≡ k
+    → HasParts p m k (walk_parts (rivals p m k) (told_of p m k))
 unfolding walk_parts
 walk_by p m sound h walks Pawn is = along p m Pawn _ _ (pawn_is p m Pawn) (pawn_parts_of p m sound h is)
 walk_by p m sound h walks King is = officer_by p m h walks King tt is
@@ -379,10 +493,12 @@ walk_by p m sound h walks Rook is = officer_by p m h walks Rook tt is
 walk_by p m sound h walks Bishop is = officer_by p m h walks Bishop tt is
 walk_by p m sound h walks Knight is = officer_by p m h walks Knight tt is
 
-walk_has_parts : (p : Setup) (m : Move) → IsSound p → (h : IsMove p m) → castling p m ≡ None → HasParts p m h.man (walk_parts (rivals p m h.man) (told_of p m h.man))
+walk_has_parts : (p : Setup) (m : Move) → IsSound p → (h : IsMove p m) → castling p m ≡ None
+    → HasParts p m h.man (walk_parts (rivals p m h.man) (told_of p m h.man))
 walk_has_parts p m sound h walks = walk_by p m sound h walks h.man refl
 
-san_text : (p : Setup) (m : Move) (h : IsMove p m) → san p m ≡ text_by_castling (castling p m) (rivals p m h.man) (told_of p m h.man) ++ check_mark (after p m)
+san_text : (p : Setup) (m : Move) (h : IsMove p m)
+    → san p m ≡ text_by_castling (castling p m) (rivals p m h.man) (told_of p m h.man) ++ check_mark (after p m)
 unfolding san
 san_text p m h = ap (san_as p m) (described_is p m h)
 
@@ -391,33 +507,41 @@ pub record Law (p : Setup) (m : Move) (text : List ℕ) : Type 0 where
   pub has_shape : shape text ≡ true
   pub alone : SpellsAlone p text m
 
-pub castling_law : (p : Setup) (m : Move) (text : List ℕ) (w : CastlingSide) → IsSound p → IsMove p m → castling p m ≡ Some w → unmarked text ≡ castling_text w → Law p m text
+pub castling_law : (p : Setup) (m : Move) (text : List ℕ) (w : CastlingSide) → IsSound p → IsMove p m
+    → castling p m ≡ Some w → unmarked text ≡ castling_text w → Law p m text
 castling_law p m text w sound h e bare =
     let is : IsCastling (unmarked text) w = rw bare (castling_is w) in
     record {
       has_shape = shape_castling text w is;
       alone = (
-        spells_move p text m h ∙ spelled_castling text w (told_of p m h.man) is ∙ ap (passes (same_side w)) e ∙ same_side-self w,
+        spells_move p text m h ∙ spelled_castling text w (told_of p m h.man) is ∙ ap (passes (same_side w)) e
+            ∙ same_side-self w,
         λ n legal s.
             let g = legal_move p n legal in
-            let to = castles_so w (castling p n) (sym (spells_move p text n g ∙ spelled_castling text w (told_of p n g.man) is) ∙ s) in
+            let to =
+            castles_so w (castling p n)
+            (sym (spells_move p text n g ∙ spelled_castling text w (told_of p n g.man) is) ∙ s) in
             same_castling p m n w sound h g e to,
       );
     }
 
-walk_law : (p : Setup) (m : Move) (text : List ℕ) (q : Parts) (h : IsMove p m) → HasParts p m h.man q → unmarked text ≡ parts_text q → Law p m text
+walk_law : (p : Setup) (m : Move) (text : List ℕ) (q : Parts) (h : IsMove p m) → HasParts p m h.man q
+    → unmarked text ≡ parts_text q → Law p m text
 walk_law p m text q h parts bare = record {
   has_shape = shape_parts text q bare parts.are parts.form;
   alone = (
     spells_move p text m h ∙ spelled_parts text q (told_of p m h.man) bare parts.are ∙ parts.fits_it,
     λ n legal s.
         let g = legal_move p n legal in
-        parts.alone n legal g (sym (spells_move p text n g ∙ spelled_parts text q (told_of p n g.man) bare parts.are) ∙ s),
+        parts.alone n legal g (sym (spells_move p text n g ∙ spelled_parts text q (told_of p n g.man) bare parts.are)
+        ∙ s),
   );
 }
 
-law_by : (p : Setup) (m : Move) (text : List ℕ) → IsSound p → (h : IsMove p m) → (o : Option CastlingSide) → castling p m ≡ o
-    → text ≡ text_by_castling o (rivals p m h.man) (told_of p m h.man) ++ check_mark (after p m) → Law p m text × Word text
+law_by : (p : Setup) (m : Move) (text : List ℕ) → IsSound p → (h : IsMove p m) → (o : Option CastlingSide)
+    → castling p m ≡ o
+    → text ≡ text_by_castling o (rivals p m h.man) (told_of p m h.man) ++ check_mark (after p m)
+    → Law p m text × Word text
 law_by p m text sound h (Some w) e is = (
   castling_law p m text w sound h e (ap unmarked is ∙ bare_marked (after p m) (castling_text w) (bare_castling w)),
   marked_word (after p m) (castling_text w) text (castling_word w) (castling_bytes w) is,
@@ -425,7 +549,8 @@ law_by p m text sound h (Some w) e is = (
 law_by p m text sound h None e is =
     let q = walk_parts (rivals p m h.man) (told_of p m h.man) in
     let parts = walk_has_parts p m sound h e in (
-      walk_law p m text q h parts (ap unmarked is ∙ bare_marked (after p m) (parts_text q) (bare_parts q parts.are.to_is)),
+      walk_law p m text q h parts (ap unmarked is ∙ bare_marked (after p m) (parts_text q)
+          (bare_parts q parts.are.to_is)),
       marked_word (after p m) (parts_text q) text parts.word (parts_bytes q parts.are) is,
     )
 
@@ -443,10 +568,12 @@ san_shape p m sound legal = (law p m sound legal).0.has_shape
 pub san_read : (p : Setup) (m : Move) → IsSound p → IsTrue (is_legal p m) → reading p (san p m) ≡ reads.Move m
 san_read p m sound legal = read_alone p (san p m) m legal (san_shape p m sound legal) (san_alone p m sound legal)
 
-pub san_short : (p : Setup) (m : Move) → IsSound p → IsTrue (is_legal p m) → (2 ≤ length (san p m)) × (length (san p m) ≤ 7)
+pub san_short : (p : Setup) (m : Move) → IsSound p → IsTrue (is_legal p m)
+    → (2 ≤ length (san p m)) × (length (san p m) ≤ 7)
 san_short p m sound legal = let w = (law p m sound legal).1 in (w.short, w.long)
 
-pub san_bytes : (p : Setup) (m : Move) → IsSound p → IsTrue (is_legal p m) → IsTrue (list_all (λ c. is_san_byte c) (san p m))
+pub san_bytes : (p : Setup) (m : Move) → IsSound p → IsTrue (is_legal p m)
+    → IsTrue (list_all (λ c. is_san_byte c) (san p m))
 san_bytes p m sound legal = (law p m sound legal).1.bytes
 
 pub san_letter : (p : Setup) (m : Move) → IsSound p → IsTrue (is_legal p m) → IsTrue (begins_with_letter (san p m))

@@ -25,7 +25,12 @@ record IsSolid (text : List ℕ) : Type 0 where
   plain : is_mark last ≡ false
 
 solid-append : (xs text : List ℕ) → IsSolid text → IsSolid (xs ++ text)
-solid-append xs text h = record { front = xs ++ h.front; last = h.last; split = ap (λ v. xs ++ v) h.split ∙ sym (append_assoc xs h.front (h.last ∷ [])); plain = h.plain }
+solid-append xs text h = record {
+  front = xs ++ h.front;
+  last = h.last;
+  split = ap (λ v. xs ++ v) h.split ∙ sym (append_assoc xs h.front (h.last ∷ []));
+  plain = h.plain;
+}
 
 bare : (text : List ℕ) → IsSolid text → unmarked text ≡ text
 bare text h = ap unmarked h.split ∙ unmarked-solid h.front h.last h.plain ∙ sym h.split
@@ -55,7 +60,13 @@ letter_no_mark false Pawn = refl
 solid_end : (s : ℕ) (o : Option Promotion) → s < 64 → IsSolid (square_text s ++ optional promotion_text o)
 solid_end s None h = record { front = (97 + file s) ∷ []; last = 49 + rank s; split = refl; plain = digit_no_mark s h }
 solid_end s (Some p) h =
-    solid-append (square_text s) (promotion_text p) (record { front = when p.equals (61 ∷ []); last = promotion_letter p; split = refl; plain = letter_no_mark p.small p.kind })
+    solid-append (square_text s) (promotion_text p)
+    (record {
+      front = when p.equals (61 ∷ []);
+      last = promotion_letter p;
+      split = refl;
+      plain = letter_no_mark p.small p.kind;
+    })
 
 pub bare_parts : (q : Parts) → q.end.to < 64 → unmarked (parts_text q) ≡ parts_text q
 bare_parts q h =
@@ -69,7 +80,8 @@ pub bare_castling : (w : CastlingSide) → unmarked (castling_text w) ≡ castli
 bare_castling KingSide = unmarked-solid (79 ∷ 45 ∷ []) 79 refl
 bare_castling QueenSide = unmarked-solid (79 ∷ 45 ∷ 79 ∷ 45 ∷ []) 79 refl
 
-marked_by : (text : List ℕ) (a b : Bool) → unmarked text ≡ text → unmarked (text ++ when a (if b then 35 ∷ [] else 43 ∷ [])) ≡ text
+marked_by : (text : List ℕ) (a b : Bool) → unmarked text ≡ text
+    → unmarked (text ++ when a (if b then 35 ∷ [] else 43 ∷ [])) ≡ text
 marked_by text false b e = ap unmarked (append-nil text) ∙ e
 marked_by text true true e = unmarked-marked text 35 refl ∙ e
 marked_by text true false e = unmarked-marked text 43 refl ∙ e

@@ -109,7 +109,8 @@ from_one form p a =
     (λ b away. none-kept (fit form p) a b (λ k. not_fit form p (triple a b k) away))
     (λ past. none-kept (fit form p) a (end_square form p) (λ k. not_legal form p (triple a (end_square form p) k) past))
 
-pub all_spelled : (form : Form) (p : Setup) → flat_map (λ a. spelled_with form p a (end_square form p) promotions) squares
+pub all_spelled : (form : Form) (p : Setup)
+    → flat_map (λ a. spelled_with form p a (end_square form p) promotions) squares
     ≡ filter (λ m. is_spelled form p m) (moves p)
 unfolding moves all_triples
 all_spelled form p =

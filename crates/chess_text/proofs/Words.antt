@@ -35,7 +35,8 @@ small_letter : (n : ℕ) → n < 8 → is_letter (97 + n) ≡ true
 small_letter n h =
     let a : nat_le 97 (97 + n) ≡ true = grind (arith, nat_tests) in
     let b : nat_le (97 + n) 122 ≡ true = grind (arith, nat_tests) in
-    or_right (nat_le 65 (97 + n) && nat_le (97 + n) 90) (nat_le 97 (97 + n) && nat_le (97 + n) 122) (and_from (nat_le 97 (97 + n)) (nat_le (97 + n) 122) a b)
+    or_right (nat_le 65 (97 + n) && nat_le (97 + n) 90) (nat_le 97 (97 + n) && nat_le (97 + n) 122)
+    (and_from (nat_le 97 (97 + n)) (nat_le (97 + n) 122) a b)
 
 pub file_letter : (s : ℕ) → is_letter (97 + file s) ≡ true
 file_letter s = small_letter (file s) (omega arith)
@@ -56,10 +57,12 @@ digit_byte n h =
     let a : nat_le 48 (49 + n) ≡ true = grind (arith, nat_tests) in
     let b : nat_le (49 + n) 57 ≡ true = grind (arith, nat_tests) in
     let digit : is_digit (49 + n) ≡ true = and_from (nat_le 48 (49 + n)) (nat_le (49 + n) 57) a b in
-    or_left (is_letter (49 + n) || is_digit (49 + n) || (49 + n == 43) || (49 + n == 35) || (49 + n == 61)) (49 + n == 45)
+    or_left (is_letter (49 + n) || is_digit (49 + n) || (49 + n == 43) || (49 + n == 35) || (49 + n == 61))
+    (49 + n == 45)
     (or_left (is_letter (49 + n) || is_digit (49 + n) || (49 + n == 43) || (49 + n == 35)) (49 + n == 61)
     (or_left (is_letter (49 + n) || is_digit (49 + n) || (49 + n == 43)) (49 + n == 35)
-    (or_left (is_letter (49 + n) || is_digit (49 + n)) (49 + n == 43) (or_right (is_letter (49 + n)) (is_digit (49 + n)) digit))))
+    (or_left (is_letter (49 + n) || is_digit (49 + n)) (49 + n == 43)
+    (or_right (is_letter (49 + n)) (is_digit (49 + n)) digit))))
 
 -- ---- the bytes of parts
 
@@ -111,11 +114,14 @@ letter_bytes false Pawn = refl
 
 promotion_bytes : (o : Option Promotion) → AreBytes (optional promotion_text o)
 promotion_bytes None = refl
-promotion_bytes (Some p) = bytes-append (when p.equals (61 ∷ [])) (promotion_letter p ∷ []) (equals_bytes p.equals) (letter_bytes p.small p.kind)
+promotion_bytes (Some p) = bytes-append (when p.equals (61 ∷ [])) (promotion_letter p ∷ []) (equals_bytes p.equals)
+    (letter_bytes p.small p.kind)
 
 square_bytes : (s : ℕ) → s < 64 → AreBytes (square_text s)
 square_bytes s h =
-    bytes-append ((97 + file s) ∷ []) ((49 + rank s) ∷ []) (one-byte (97 + file s) (letter_byte (97 + file s) (file_letter s))) (one-byte (49 + rank s) (digit_byte (rank s) (omega arith)))
+    bytes-append ((97 + file s) ∷ []) ((49 + rank s) ∷ [])
+    (one-byte (97 + file s) (letter_byte (97 + file s) (file_letter s)))
+    (one-byte (49 + rank s) (digit_byte (rank s) (omega arith)))
 
 pub parts_bytes : (q : Parts) → AreParts q → AreBytes (parts_text q)
 parts_bytes q h =
@@ -123,7 +129,8 @@ parts_bytes q h =
     (bytes-append (optional file_text q.file) _ (file_bytes q.file h.file_is)
     (bytes-append (optional rank_text q.rank) _ (rank_bytes q.rank h.rank_is)
     (bytes-append (when q.takes (120 ∷ [])) _ (takes_bytes q.takes)
-    (bytes-append (square_text q.end.to) (optional promotion_text q.end.promotion) (square_bytes q.end.to h.to_is) (promotion_bytes q.end.promotion)))))
+    (bytes-append (square_text q.end.to) (optional promotion_text q.end.promotion) (square_bytes q.end.to h.to_is)
+    (promotion_bytes q.end.promotion)))))
 
 -- ---- castling, and the mark
 
@@ -144,13 +151,20 @@ with_mark text mark few all h k =
     let len = length-append text mark in
     let a = h.short in
     let b = h.long in
-    record { short = omega arith; long = omega arith; bytes = bytes-append text mark k all; letter = begins-append text mark h.letter }
+    record {
+      short = omega arith;
+      long = omega arith;
+      bytes = bytes-append text mark k all;
+      letter = begins-append text mark h.letter;
+    }
 
-marked_by : (text : List ℕ) (a b : Bool) → IsWord text → AreBytes text → Word (text ++ when a (if b then 35 ∷ [] else 43 ∷ []))
+marked_by : (text : List ℕ) (a b : Bool) → IsWord text → AreBytes text
+    → Word (text ++ when a (if b then 35 ∷ [] else 43 ∷ []))
 marked_by text false b h k = with_mark text [] (omega arith) refl h k
 marked_by text true true h k = with_mark text (35 ∷ []) (omega arith) refl h k
 marked_by text true false h k = with_mark text (43 ∷ []) (omega arith) refl h k
 
-pub marked_word : (p : Setup) (bare text : List ℕ) → IsWord bare → AreBytes bare → text ≡ bare ++ check_mark p → Word text
+pub marked_word : (p : Setup) (bare text : List ℕ) → IsWord bare → AreBytes bare → text ≡ bare ++ check_mark p
+    → Word text
 unfolding check_mark
 marked_word p bare text h k e = rw e (marked_by bare (is_in_check p.men p.side) (length (moves p) == 0) h k)

@@ -30,7 +30,15 @@ captures p m = is_of (other p.side) (man_at p.men m.to) || is_en_passant p m
 
 abbrev pub described_as : Setup → Move → Option Man → Option Described
 described_as p m None = None
-described_as p m (Some x) = Some (record { man = x.kind; from = m.from; to = m.to; promotion = m.promotion; captures = captures p m; castles = castling p m })
+described_as p m (Some x) =
+    Some (record {
+      man = x.kind;
+      from = m.from;
+      to = m.to;
+      promotion = m.promotion;
+      captures = captures p m;
+      castles = castling p m;
+    })
 
 -- what is so of a move in a position: the man on its start square, both squares, the promotion, whether it captures,
 -- and to which side it castles; nothing where no man stands there
@@ -79,7 +87,8 @@ is_by_letter q d =
 -- a pawn that goes straight to the square
 unfoldable pub is_straight : Parts → Described → Bool
 is_straight q d =
-    is_none q.letter && is_none q.file && is_none q.rank && not q.takes && same_kind Pawn d.man && (file d.from == file d.to)
+    is_none q.letter && is_none q.file && is_none q.rank && not q.takes && same_kind Pawn d.man
+    && (file d.from == file d.to)
     && (q.end.to == d.to) && promotes_so q.end.promotion d.promotion
 
 -- a pawn from the file; with `x` only a capture

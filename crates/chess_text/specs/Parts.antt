@@ -46,7 +46,8 @@ abbrev pub end_text : End → List ℕ
 end_text e = square_text e.to ++ optional promotion_text e.promotion
 
 abbrev pub parts_text : Parts → List ℕ
-parts_text q = optional kind_text q.letter ++ (optional file_text q.file ++ (optional rank_text q.rank ++ (when q.takes (byte "x" ∷ []) ++ end_text q.end)))
+parts_text q = optional kind_text q.letter
+    ++ (optional file_text q.file ++ (optional rank_text q.rank ++ (when q.takes (byte "x" ∷ []) ++ end_text q.end)))
 
 -- the men that a letter names, and those that a pawn may become (3.7)
 abbrev pub officers : List Kind
@@ -110,7 +111,8 @@ end_at (f ∷ r ∷ rest) =
 
 abbrev pub takes_at : List ℕ → Option (Bool × End)
 takes_at [] = None
-takes_at (c ∷ rest) = if c == byte "x" then option_map (λ e. (true, e)) (end_at rest) else option_map (λ e. (false, e)) (end_at (c ∷ rest))
+takes_at (c ∷ rest) = if c == byte "x" then option_map (λ e. (true, e)) (end_at rest) else option_map (λ e. (false, e))
+    (end_at (c ∷ rest))
 
 abbrev pub rank_at : List ℕ → Option (Option ℕ × Bool × End)
 rank_at [] = None

@@ -39,8 +39,8 @@ some_on_rank r squares = list_any (λ s. rank s == r) squares
 abbrev pub said : Bool → Bool → ToldStart
 said f r = record { file = f; rank = r }
 
--- what is said of the start square beside other starts: nothing where there are none; the file where none is on it; else the
--- rank where none is on it; else both
+-- what is said of the start square beside other starts: nothing where there are none; the file where none is on it;
+-- else the rank where none is on it; else both
 abbrev pub told_start : ℕ → List ℕ → ToldStart
 told_start from [] = said false false
 told_start from (other ∷ others) =
@@ -56,17 +56,33 @@ promotes_as_a_pawn d = IsTrue (same_kind d.man Pawn || is_none d.promotion)
 
 -- the end square, and `=` with what the pawn becomes
 abbrev pub end_of : Described → End
-end_of d = record { to = d.to; promotion = option_map (λ k. record { kind = k; equals = true; small = false }) d.promotion }
+end_of d = record {
+  to = d.to;
+  promotion = option_map (λ k. record { kind = k; equals = true; small = false })
+      d.promotion;
+}
 
 -- the parts of the text of a pawn's move: for a capture its file comes first
 abbrev pub pawn_parts : Described → Parts
-pawn_parts d = record { letter = None; file = if_said d.captures (file d.from); rank = None; takes = d.captures; end = end_of d }
+pawn_parts d = record {
+  letter = None;
+  file = if_said d.captures (file d.from);
+  rank = None;
+  takes = d.captures;
+  end = end_of d;
+}
 
 -- and of another man's, where others of its kind start from these squares and go to the same
 abbrev pub officer_parts : List ℕ → Described → Parts
 officer_parts others d =
     let start = told_start d.from others in
-    record { letter = Some d.man; file = if_said start.file (file d.from); rank = if_said start.rank (rank d.from); takes = d.captures; end = end_of d }
+    record {
+      letter = Some d.man;
+      file = if_said start.file (file d.from);
+      rank = if_said start.rank (rank d.from);
+      takes = d.captures;
+      end = end_of d;
+    }
 
 unfoldable pub walk_parts : List ℕ → Described → Parts
 walk_parts others d = if same_kind d.man Pawn then pawn_parts d else officer_parts others d

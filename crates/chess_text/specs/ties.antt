@@ -1,2 +1,3 @@
--- What only joins code to the definitions: of all claims one rests on it, the law `normal_is_kept` (where a spelled castling ends).
+-- What only joins code to the definitions: of all claims one rests on it, the law `normal_is_kept` (where a spelled
+-- castling ends).
 pub mod Forms

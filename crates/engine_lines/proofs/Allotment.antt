@@ -5,6 +5,7 @@ use Rattle.std.proofs.Math.Nat.{div-mul-le_self, mul-le-mul_left}
 use Rattle.std.proofs.lemmas.Nat.{le-div}
 use Rattle.engine_lines.specs.Levels.{LevelSeen, sessions, allotted, left}
 use Rattle.engine_lines.specs.Clocks.{Spent, IsWithin, spent_more}
+use Rattle.chess_game.specs.declared.game.TheConstants.{MOST_MOVES}
 
 div_grows : (m k : ℕ) → 0 < m → k / m ≤ (k + 1) / m
 div_grows m k some = let low : k / m * m ≤ k = div-mul-le_self k m in le-div (k / m) (k + 1) m some (omega arith)
@@ -25,7 +26,8 @@ allotted_grows l k =
     let i : l.increment * k ≤ l.increment * (k + 1) = mul-le-mul_left l.increment (omega arith) in
     omega arith
 
-pub within_more : (l : LevelSeen) (s : Spent) (used : ℕ) → IsWithin l s → used ≤ left l s.moves s.used → s.moves < 20000
+pub within_more : (l : LevelSeen) (s : Spent) (used : ℕ) → IsWithin l s → used ≤ left l s.moves s.used
+    → s.moves < MOST_MOVES
     → IsWithin l (spent_more s used)
 unfolding left
 within_more l s used w in_time few =

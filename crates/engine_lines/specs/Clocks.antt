@@ -3,6 +3,7 @@ use Rattle.std.specs.Prelude.{ℕ, ◌+◌, ◌≤◌}
 use Rattle.chess_base.specs.declared.man.Colour.{Colour}
 use Rattle.chess_base.specs.declared.man.Colour.TheVariants.{White, Black}
 use Rattle.engine_lines.specs.Levels.{LevelSeen, allotted, left}
+use Rattle.chess_game.specs.declared.game.TheConstants.{MOST_MOVES}
 
 pub record Spent : Type 0 where
   pub moves : ℕ
@@ -39,5 +40,5 @@ charged clocks Black used = record clocks { black = spent_more clocks.black used
 
 -- no side used more than it was given
 pub record IsWithin (level : LevelSeen) (s : Spent) : Type 0 where
-  pub moves : s.moves ≤ 20000
+  pub moves : s.moves ≤ MOST_MOVES
   pub used : s.used ≤ allotted level s.moves

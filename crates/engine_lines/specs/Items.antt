@@ -22,14 +22,18 @@ quote_at text = run_of (λ c. not (c == byte "\"")) text
 
 -- the text before the next double quote, and what follows that
 abbrev pub quoted : List ℕ → Option (Value × List ℕ)
-quoted text = if quote_at text == length text then None else Some (Quoted (take (quote_at text) text), drop (quote_at text + 1) text)
+quoted text = if quote_at text == length text then None else Some
+    (Quoted (take (quote_at text) text), drop (quote_at text + 1) text)
 
 -- the value at the front of a text, and what follows it: digits, or a text in double quotes
 abbrev pub value_of : List ℕ → Option (Value × List ℕ)
 value_of [] = None
 value_of (c ∷ cs) =
     if c == byte "\"" then quoted cs
-    else if is_digit c then Some (Digits (take (run_of is_digit (c ∷ cs)) (c ∷ cs)), drop (run_of is_digit (c ∷ cs)) (c ∷ cs))
+    else if is_digit c then Some (
+      Digits (take (run_of is_digit (c ∷ cs)) (c ∷ cs)),
+      drop (run_of is_digit (c ∷ cs)) (c ∷ cs),
+    )
     else None
 
 -- blanks or the line's end stand here
@@ -39,7 +43,8 @@ is_apart (c ∷ cs) = is_blank c
 
 abbrev pub with_value : List ℕ → List ℕ → Option (Item × List ℕ)
 with_value name rest =
-    option_and_then (λ (p : Value × List ℕ). if is_apart p.1 then Some (record { name = name; value = p.0 }, without_front_blanks p.1) else None) (value_of rest)
+    option_and_then (λ (p : Value × List ℕ). if is_apart p.1 then Some
+    (record { name = name; value = p.0 }, without_front_blanks p.1) else None) (value_of rest)
 
 abbrev pub with_name : List ℕ → List ℕ → Option (Item × List ℕ)
 with_name [] rest = None
@@ -116,7 +121,8 @@ is_comma_or_blank c = is_blank c || (c == byte ",")
 abbrev pub has_word_behind : List ℕ → List ℕ → List ℕ → Bool
 has_word_behind word piece [] = bytes_eq piece word
 has_word_behind word piece (c ∷ cs) =
-    if is_comma_or_blank c then bytes_eq piece word || has_word_behind word [] cs else has_word_behind word (piece ++ c ∷ []) cs
+    if is_comma_or_blank c then bytes_eq piece word
+    || has_word_behind word [] cs else has_word_behind word (piece ++ c ∷ []) cs
 
 -- a text, cut at commas and blanks, has this word
 unfoldable pub has_word : List ℕ → List ℕ → Bool
@@ -135,7 +141,8 @@ abbrev pub said_again : List ℕ → Item → Bool → Bool
 said_again name i before = if bytes_eq i.name name then is_one i.value else before
 
 abbrev pub fischerandom_again : Item → Bool → Bool
-fischerandom_again i before = if bytes_eq i.name (codes "variants") then has_word (codes "fischerandom") (value_text i.value) else before
+fischerandom_again i before = if bytes_eq i.name (codes "variants") then has_word (codes "fischerandom")
+    (value_text i.value) else before
 
 -- ---- the answer to an item
 

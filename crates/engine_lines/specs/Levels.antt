@@ -22,7 +22,8 @@ pub record IsLevel (level : LevelSeen) : Type 0 where
 
 -- the number that at most n digits write, at least one
 abbrev pub short_number : ℕ → List ℕ → Option ℕ
-short_number n text = if nat_lt 0 (length text) && nat_le (length text) n && list_all is_digit text then Some (value_after 0 text) else None
+short_number n text = if nat_lt 0 (length text) && nat_le (length text) n
+    && list_all is_digit text then Some (value_after 0 text) else None
 
 -- how many bytes stand before the first colon
 abbrev pub colon_at : List ℕ → ℕ
@@ -66,10 +67,12 @@ two_digits n = (byte "0" + n / 10) ∷ (byte "0" + n % 10) ∷ []
 
 -- minutes, and where they aren't 0 seconds
 abbrev pub base_text : ℕ → List ℕ
-base_text base = if base % 60 == 0 then decimal (base / 60) else decimal (base / 60) ++ (codes ":" ++ two_digits (base % 60))
+base_text base = if base % 60 == 0 then decimal (base / 60) else decimal (base / 60)
+    ++ (codes ":" ++ two_digits (base % 60))
 
 unfoldable pub level_text : LevelSeen → List ℕ
-level_text level = decimal level.moves ++ (codes " " ++ (base_text level.base ++ (codes " " ++ decimal level.increment)))
+level_text level =
+    decimal level.moves ++ (codes " " ++ (base_text level.base ++ (codes " " ++ decimal level.increment)))
 
 -- ---- time
 

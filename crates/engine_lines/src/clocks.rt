@@ -3,6 +3,7 @@
 ghost use Rattle.std.specs.Prelude.{◌≡◌, ◌≤◌, ◌<◌};
 ghost use Rattle.engine_lines.specs.Levels.{left};
 ghost use Rattle.engine_lines.specs.Clocks.{new_clocks, spent_by, remaining, charged};
+ghost use Rattle.chess_game.specs.declared.game.TheConstants.{MOST_MOVES};
 
 use crate::level::Level;
 use chess_base::Colour;
@@ -66,7 +67,7 @@ impl Clocks {
     /// How many moves that side made.
     pub fn moves(&self, side: Colour) -> u32
         ensures value { result ≡ (spent_by self.now side).moves }
-        ensures few { result ≤ 20000 }
+        ensures few { result ≤ MOST_MOVES }
     {
         match side {
             Colour::White => self.white.moves,
@@ -88,7 +89,7 @@ impl Clocks {
     /// That side made a move that used so many milliseconds.
     pub fn charge(&mut self, side: Colour, used: u64)
         requires in_time { used ≤ remaining self.old side }
-        requires few { (spent_by self.old side).moves < 20000 }
+        requires few { (spent_by self.old side).moves < MOST_MOVES }
         ensures { self.new ≡ charged self.old side used }
     {
         match side {

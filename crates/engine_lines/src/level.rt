@@ -2,6 +2,7 @@
 
 ghost use Rattle.std.specs.Prelude.{◌≡◌, ◌≤◌, ◌<◌, ◌==◌, ◌^◌, IfSome, length};
 ghost use Rattle.engine_lines.specs.Levels.{level_of, level_in, level_behind, base_of, in_seconds, short_number, colon_at, allotted, sessions};
+ghost use Rattle.chess_game.specs.declared.game.TheConstants.{MOST_MOVES};
 
 use chess_cecp::{argument, first_word, trim_start};
 use std::marker::Model;
@@ -170,7 +171,7 @@ impl Level {
     /// The milliseconds that a side is given for so many moves and the next one.
     #[tactic(auto, unfolding(crate::specs::Levels::allotted, crate::specs::Levels::sessions))]
     pub(crate) fn allotted(self, moves: u32) -> u64
-        requires { moves ≤ 20000 }
+        requires { moves ≤ MOST_MOVES }
         ensures value { result ≡ allotted self moves }
         ensures bound { result ≤ 2 ^ 62 }
     {

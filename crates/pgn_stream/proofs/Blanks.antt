@@ -12,13 +12,16 @@ not_not false = refl
 
 no_others : (xs : List ℕ) → position_or_len (λ b. not (is_white_space b)) xs ≡ prefix_len is_white_space xs
 no_others [] = refl
-no_others (x ∷ xs) = ap (λ b. cond b (1 + position_or_len (λ b. not (is_white_space b)) xs) 0) (not_not (is_white_space x))
+no_others (x ∷ xs) = ap (λ b. cond b (1 + position_or_len (λ b. not (is_white_space b)) xs) 0)
+    (not_not (is_white_space x))
     ∙ ap (λ n. cond (is_white_space x) (1 + n) 0) (no_others xs)
 
-pub blanks_are : (xs : List ℕ) → unwrap_or (position (λ b. not (is_white_space b)) xs) (length xs) ≡ prefix_len is_white_space xs
+pub blanks_are : (xs : List ℕ) → unwrap_or (position (λ b. not (is_white_space b)) xs) (length xs)
+    ≡ prefix_len is_white_space xs
 blanks_are xs = by_place ∙ no_others xs
   where
-    by_place : unwrap_or (position (λ b. not (is_white_space b)) xs) (length xs) ≡ position_or_len (λ b. not (is_white_space b)) xs
+    by_place : unwrap_or (position (λ b. not (is_white_space b)) xs) (length xs)
+        ≡ position_or_len (λ b. not (is_white_space b)) xs
     by_place = elim (cases_lt (position_or_len (λ b. not (is_white_space b)) xs) (length xs)) [
       | inl lt ↦ grind (arith, nat_tests)
       | inr ge ↦ grind (arith, nat_tests, prefix_len-le-length (λ b. not (not (is_white_space b))) xs)

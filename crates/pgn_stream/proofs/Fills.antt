@@ -16,7 +16,8 @@ pub nothing_read : (r : InputState) → IsFront r r []
 nothing_read r = record { bytes = consumes_none r.known_bytes; failures = refl; ends = refl }
 
 -- behind a front, more is read
-pub read_more : (ended : Bool) (r r' r'' : InputState) (text more : List ℕ) → IsFront r r' text → HasRead ended r' r'' more → HasRead ended r r'' (text ++ more)
+pub read_more : (ended : Bool) (r r' r'' : InputState) (text more : List ℕ) → IsFront r r' text
+    → HasRead ended r' r'' more → HasRead ended r r'' (text ++ more)
 read_more false r r' r'' text more front h = record {
   bytes = consumes_more r.known_bytes r'.known_bytes r''.known_bytes text more front.bytes h.bytes;
   failures = h.failures ∙ front.failures;
@@ -29,7 +30,8 @@ read_more true r r' r'' text more front h = record {
   ends = h.ends ∙ ap risen front.ends;
 }
 
-pub broke_more : (r r' r'' : InputState) (text more : List ℕ) → IsFront r r' text → BrokeOff r' r'' more → BrokeOff r r'' (text ++ more)
+pub broke_more : (r r' r'' : InputState) (text more : List ℕ) → IsFront r r' text → BrokeOff r' r'' more
+    → BrokeOff r r'' (text ++ more)
 broke_more r r' r'' text more front h = record {
   bytes = consumes_more r.known_bytes r'.known_bytes r''.known_bytes text more front.bytes h.bytes;
   failures = h.failures ∙ ap risen front.failures;
@@ -37,8 +39,13 @@ broke_more r r' r'' text more front h = record {
 }
 
 -- a piece is more, or the end
-piece_read : (b : Bool) (r r' : InputState) (piece : List ℕ) → (length piece == 0) ≡ b → GavePiece r r' piece → HasRead b r r' piece
-piece_read false r r' piece h gave = record { bytes = gave.bytes; failures = gave.failures; ends = gave.ends ∙ ap (λ b. if b then risen r.end_count else r.end_count) h }
+piece_read : (b : Bool) (r r' : InputState) (piece : List ℕ) → (length piece == 0) ≡ b → GavePiece r r' piece
+    → HasRead b r r' piece
+piece_read false r r' piece h gave = record {
+  bytes = gave.bytes;
+  failures = gave.failures;
+  ends = gave.ends ∙ ap (λ b. if b then risen r.end_count else r.end_count) h;
+}
 piece_read true r r' piece h gave = record {
   bytes = gave.bytes;
   at_end = gave.at_end (is_none piece h);
@@ -50,7 +57,11 @@ piece_read true r r' piece h gave = record {
     is_none xs h = grind (arith, nat_tests, h)
 
 failed_read : (r r' : InputState) → FailedToRead r r' → BrokeOff r r' []
-failed_read r r' failed = record { bytes = consumes_kept r.known_bytes r'.known_bytes failed.bytes; failures = failed.failures; ends = failed.ends }
+failed_read r r' failed = record {
+  bytes = consumes_kept r.known_bytes r'.known_bytes failed.bytes;
+  failures = failed.failures;
+  ends = failed.ends;
+}
 
 -- ---- filling a window: what was added so far
 
@@ -61,7 +72,8 @@ pub record IsFilling (s s' : StreamState) (r r' : InputState) (more : List ℕ) 
 pub adds_none : (s : StreamState) → Adds s s []
 adds_none s = record { window = sym (append-nil s.window); before = refl; at = refl }
 
-pub adds_more : (s s' s'' : StreamState) (more piece : List ℕ) → Adds s s' more → Adds s' s'' piece → Adds s s'' (more ++ piece)
+pub adds_more : (s s' s'' : StreamState) (more piece : List ℕ) → Adds s s' more → Adds s' s'' piece
+    → Adds s s'' (more ++ piece)
 adds_more s s' s'' more piece h k = record {
   window = k.window ∙ ap (λ xs. xs ++ piece) h.window ∙ append_assoc s.window more piece;
   before = k.before ∙ h.before;
@@ -71,15 +83,20 @@ adds_more s s' s'' more piece h k = record {
 pub begin_filling : (s : StreamState) (r : InputState) → s.ended ≡ false → IsFilling s s r r []
 begin_filling s r h = record { adds = adds_none s; read = subst (λ b. HasRead b r r []) (sym h) (nothing_read r) }
 
-pub filled_more : (s s' s'' : StreamState) (r r' r'' : InputState) (more piece : List ℕ) → IsFilling s s' r r' more → s'.ended ≡ false
-    → Adds s' s'' piece → GavePiece r' r'' piece → s''.ended ≡ (length piece == 0) → IsFilling s s'' r r'' (more ++ piece)
+pub filled_more : (s s' s'' : StreamState) (r r' r'' : InputState) (more piece : List ℕ) → IsFilling s s' r r' more
+    → s'.ended ≡ false
+    → Adds s' s'' piece → GavePiece r' r'' piece → s''.ended ≡ (length piece == 0)
+    → IsFilling s s'' r r'' (more ++ piece)
 filled_more s s' s'' r r' r'' more piece h going adds gave ended = record {
   adds = adds_more s s' s'' more piece h.adds adds;
-  read = read_more s''.ended r r' r'' more piece (subst (λ b. HasRead b r r' more) going h.read) (subst (λ b. HasRead b r' r'' piece) (sym ended) (piece_read (length piece == 0) r' r'' piece refl gave));
+  read = read_more s''.ended r r' r'' more piece (subst (λ b. HasRead b r r' more) going h.read)
+      (subst (λ b. HasRead b r' r'' piece) (sym ended) (piece_read (length piece == 0) r' r'' piece refl gave));
 }
 
-pub filling_broke : {E : Type 0} (s s' s'' : StreamState) (r r' r'' : InputState) (more : List ℕ) → IsFilling s s' r r' more → s'.ended ≡ false
-    → Adds s' s'' [] × FailedToRead r' r'' × (s''.ended ≡ s'.ended) → (result : Result (Unit {0}) E) → IsErr result → Fills s s'' r r'' result
+pub filling_broke : {E : Type 0} (s s' s'' : StreamState) (r r' r'' : InputState) (more : List ℕ)
+    → IsFilling s s' r r' more → s'.ended ≡ false
+    → Adds s' s'' [] × FailedToRead r' r'' × (s''.ended ≡ s'.ended) → (result : Result (Unit {0}) E) → IsErr result
+    → Fills s s'' r r'' result
 filling_broke s s' s'' r r' r'' more h going failed (Ok _) is = cc
 filling_broke s s' s'' r r' r'' more h going failed (Err e) is = (
   more ++ [],
@@ -98,11 +115,13 @@ earlier : (ended : Bool) (text more whole : List ℕ) → IsWholeOf ended (text 
 earlier true text more whole e = (more, e)
 earlier false text more whole w = (more ++ w.0, w.1 ∙ append_assoc text more w.0)
 
-front_read : (ended : Bool) (r r' : InputState) (text : List ℕ) → ended ≡ false → HasRead ended r r' text → IsFront r r' text
+front_read : (ended : Bool) (r r' : InputState) (text : List ℕ) → ended ≡ false → HasRead ended r r' text
+    → IsFront r r' text
 front_read ended r r' text h read = subst (λ b. HasRead b r r' text) h read
 
 -- what slid, and then holds more bytes
-held_more : (gone : ℕ) (s s' s'' : StreamState) (text more : List ℕ) → IsSlid gone s s' → Adds s' s'' more → Holds s text
+held_more : (gone : ℕ) (s s' s'' : StreamState) (text more : List ℕ) → IsSlid gone s s' → Adds s' s'' more
+    → Holds s text
     → Holds s'' (text ++ more)
 held_more gone s s' s'' text more slid adds holds =
     let all = length-append text more in
@@ -113,7 +132,8 @@ held_more gone s s' s'' text more slid adds holds =
     let least : s.before + gone ≤ length text = omega (arith, rest, held, low, inside) in
     let before : s''.before ≡ s.before + gone = adds.before ∙ slid.before in record {
       before = omega (arith, before, least, all);
-      window = adds.window ∙ ap (λ xs. xs ++ more) (slid.window ∙ ap (drop gone) holds.window ∙ dropped s.before gone text)
+      window = adds.window ∙ ap (λ xs. xs ++ more)
+          (slid.window ∙ ap (drop gone) holds.window ∙ dropped s.before gone text)
           ∙ sym (drop-append-le (s.before + gone) text more least)
           ∙ ap (λ n. drop n (text ++ more)) (sym before);
     }

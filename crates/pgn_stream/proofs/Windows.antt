@@ -70,7 +70,8 @@ unfolding is_in_reach
 in_reach_by limit text at h = or_right (nat_le (length text) (at + 16777216))
     (is_settled limit (first_bytes text at) at) h
 
-pub in_reach_whole : (limit : ℕ) (text : List ℕ) (at : ℕ) → length text ≤ at + 16777216 → is_in_reach limit text at ≡ true
+pub in_reach_whole : (limit : ℕ) (text : List ℕ) (at : ℕ) → length text ≤ at + 16777216
+    → is_in_reach limit text at ≡ true
 unfolding is_in_reach
 in_reach_whole limit text at h =
     let few : nat_le (length text) (at + 16777216) ≡ true = grind (arith, nat_tests, h) in

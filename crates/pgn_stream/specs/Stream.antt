@@ -30,7 +30,8 @@ game_begin text at = at + prefix_len is_white_space (drop at (first_bytes text a
 
 -- what is told of the game from a place on: what reading there answers, or that it is too long
 unfoldable pub game_at : ℕ → List ℕ → ℕ → Result (Option PgnEnd) PgnFault
-game_at limit text at = if is_in_reach limit text at then (pgn_read limit text at).answer else Err (record { kind = TooLong; place = game_begin text at })
+game_at limit text at = if is_in_reach limit text at then (pgn_read limit text at).answer else Err
+    (record { kind = TooLong; place = game_begin text at })
 
 -- ---- where the next game begins behind a fault (PGN standard of 1994, section 8.1.1: the tag Event comes first)
 
@@ -40,7 +41,8 @@ is_event_line text place = (slice_index text (place - 1) == 10) && bytes_eq (tak
 
 -- the first such line that begins behind a place, if there is one
 abbrev pub IsNextEvent : List ℕ → ℕ → Option ℕ → Type 0
-IsNextEvent text place (Some next) = (place < next) × (is_event_line text next ≡ true) × ((q : ℕ) → place < q → q < next → is_event_line text q ≡ false)
+IsNextEvent text place (Some next) = (place < next) × (is_event_line text next ≡ true)
+    × ((q : ℕ) → place < q → q < next → is_event_line text q ≡ false)
 IsNextEvent text place None = (q : ℕ) → place < q → is_event_line text q ≡ false
 
 -- ---- what was read of an input
@@ -80,8 +82,8 @@ IsPastPlaces text = 2 ^ 64 ≤ length text + 2 ^ 25
 
 -- ---- a stream of games
 
--- what a contract sees of it: the bytes that it holds, how many came before them, at which of those held the next game is
--- read, and whether the input has ended
+-- what a contract sees of it: the bytes that it holds, how many came before them, at which of those held the next game
+-- is read, and whether the input has ended
 pub record StreamState : Type 0 where
   pub window : List ℕ
   pub before : ℕ
@@ -109,7 +111,8 @@ pub record StandsAt (s : StreamState) (r r' : InputState) (text : List ℕ) : Ty
 -- the stream holds the end of a longer text, or of the same, and of each whole text of it something is told
 abbrev pub GoesOn : StreamState → StreamState → InputState → InputState → List ℕ → (List ℕ → Type 0) → Type 0
 GoesOn s s' r r' text told =
-    (more : List ℕ) × StandsAt s' r r' (text ++ more) × ((whole : List ℕ) → IsWholeOf s'.ended (text ++ more) whole → IsWholeOf s.ended text whole × told whole)
+    (more : List ℕ) × StandsAt s' r r' (text ++ more)
+    × ((whole : List ℕ) → IsWholeOf s'.ended (text ++ more) whole → IsWholeOf s.ended text whole × told whole)
 
 -- why no more was read behind this text: a read failed, or places could pass 64 bits
 abbrev pub IsCause : InputState → InputState → List ℕ → StreamFault → Type 0
@@ -130,7 +133,8 @@ pub record IsTold (g g' : Seen) (whole : List ℕ) (from : ℕ) (answer : Result
   pub played : IfOk answer (λ o. IfSome o (λ e. g' ≡ left_at g (pgn_read g.limit whole from).state))
 
 -- a game is read where the stream stands; where it goes on no more, it stands there still
-abbrev pub ReadsGame : StreamState → StreamState → InputState → InputState → List ℕ → Seen → Seen → Result (Result (Option PgnEnd) PgnFault) StreamFault → Type 0
+abbrev pub ReadsGame : StreamState → StreamState → InputState → InputState → List ℕ → Seen → Seen
+    → Result (Result (Option PgnEnd) PgnFault) StreamFault → Type 0
 ReadsGame s s' r r' text g g' (Ok answer) = GoesOn s s' r r' text (λ whole. IsTold g g' whole (place s) answer)
 ReadsGame s s' r r' text g g' (Err e) = (more : List ℕ) × Stops s' r r' (text ++ more) e × (place s' ≡ place s)
 
@@ -141,8 +145,8 @@ StandsBehind s s' plies (Ok None) = (place s' ≡ place s) × (s'.ended ≡ true
 StandsBehind s s' plies (Ok (Some e)) = (place s' ≡ e.place) × (place s < e.place) × (plies + place s ≤ e.place)
 StandsBehind s s' plies (Err f) = (place s' ≡ f.place) × (place s ≤ f.place)
 
--- the bytes that are held tell how the game is read: no others are left, and no more than a game may have, or they settle it.
--- Nothing is read then
+-- the bytes that are held tell how the game is read: no others are left, and no more than a game may have, or they
+-- settle it. Nothing is read then
 unfoldable pub is_held : ℕ → StreamState → Bool
 is_held limit s = (s.ended && nat_le (length s.window) (s.at + 16777216)) || is_settled limit s.window s.at
 
@@ -152,12 +156,14 @@ is_held limit s = (s.ended && nat_le (length s.window) (s.at + 16777216)) || is_
 abbrev pub NoEventUpTo : List ℕ → ℕ → ℕ → Type 0
 NoEventUpTo text place last = (q : ℕ) → place < q → q ≤ last → is_event_line text q ≡ false
 
--- the stream goes on to the first such line behind its place; there is none in a text that has ended. Where it goes on no
--- more, it has passed none, however the text goes on
+-- the stream goes on to the first such line behind its place; there is none in a text that has ended. Where it goes on
+-- no more, it has passed none, however the text goes on
 abbrev pub FindsEvent : StreamState → StreamState → InputState → InputState → List ℕ → Result Bool StreamFault → Type 0
-FindsEvent s s' r r' text (Ok found) = GoesOn s s' r r' text (λ whole. IsNextEvent whole (place s) (if found then Some (place s') else None))
+FindsEvent s s' r r' text (Ok found) = GoesOn s s' r r' text
+    (λ whole. IsNextEvent whole (place s) (if found then Some (place s') else None))
 FindsEvent s s' r r' text (Err e) =
-    (more : List ℕ) × Stops s' r r' (text ++ more) e × (place s ≤ place s') × ((whole : List ℕ) → IsWholeOf false (text ++ more) whole → NoEventUpTo whole (place s) (place s'))
+    (more : List ℕ) × Stops s' r r' (text ++ more) e × (place s ≤ place s')
+    × ((whole : List ℕ) → IsWholeOf false (text ++ more) whole → NoEventUpTo whole (place s) (place s'))
 
 -- it stands further on then, or the input has ended, and it has not gone back
 abbrev pub StandsFurther : StreamState → StreamState → Bool → Type 0

@@ -23,6 +23,7 @@ use Rattle.pgn_verifier.proofs.Collections.{no_tally, game_more, fault_more, tal
 use Rattle.pgn_stream.proofs.EventLines.{NoneUpTo, none_yet, one_further, found, nowhere}
 use Rattle.pgn_stream.proofs.Fills.{nothing_read}
 use Rattle.pgn_verifier.proofs.Reports.{counted}
+use Rattle.chess_game.specs.declared.game.TheConstants.{MOST_MOVES}
 
 -- ---- behind each fault there is a next game or none
 
@@ -55,7 +56,8 @@ pub record SoFar (options : VerifyOptions) (ended : Bool) (text : List ℕ) (w w
   pub counted : IsTallyOf tally reports
   pub took : Took w w' (lines_by options.quiet 1 reports)
   pub joins : (whole : List ℕ) → IsWholeOf ended text whole → (extent : Extent) (rest : List Report)
-      → AreReportsOfAny options extent whole (Some at) rest → AreReportsOfAny options extent whole (Some 0) (reports ++ rest)
+      → AreReportsOfAny options extent whole (Some at) rest
+      → AreReportsOfAny options extent whole (Some 0) (reports ++ rest)
 
 pub start : (options : VerifyOptions) (w : OutputState) → SoFar options false [] w w 0 no_tally []
 start options w = record {
@@ -104,7 +106,7 @@ module _ (options : VerifyOptions) (s : StreamState) (r r' : InputState) (w w' :
 
 -- ---- a game was read
 
-same_answer : (limit at : ℕ) (whole : List ℕ) (answer : Result (Option PgnEnd) PgnFault) → limit ≡ 20000
+same_answer : (limit at : ℕ) (whole : List ℕ) (answer : Result (Option PgnEnd) PgnFault) → limit ≡ MOST_MOVES
     → game_at limit whole at ≡ answer → told_at whole at ≡ answer
 same_answer limit at whole answer few is = subst (λ n. game_at n whole at ≡ answer) few is
 
@@ -129,7 +131,7 @@ line_failed b w w' (Err v) line is e h = h
 -- of each whole text this is told of the game, and what was read before is a beginning of it
 module _ (options : VerifyOptions) (s s' : StreamState) (r r' : InputState) (w w' : OutputState) (text : List ℕ)
     (tally : Tally) (reports : List Report) (so : SoFar options s.ended text w w' (place s) tally reports)
-    (g g' : Seen) (few : g.limit ≡ 20000) (read : Result (Option PgnEnd) PgnFault)
+    (g g' : Seen) (few : g.limit ≡ MOST_MOVES) (read : Result (Option PgnEnd) PgnFault)
     (on : GoesOn s s' r r' text (λ whole. IsTold g g' whole (place s) read)) where
   abbrev pub text_now : List ℕ
   text_now = text ++ on.0

@@ -17,6 +17,7 @@ use Rattle.pgn_verifier.specs.declared.whole.Verified.{Verified}
 use Rattle.pgn_verifier.specs.declared.whole.Verified.TheVariants.{EachGame, FaultTold}
 use Rattle.pgn_verifier.specs.Verify.{Extent, All, First, read_at, verified}
 use Rattle.pgn_verifier.specs.Collection.{AreReportsBy, IsNext, told_line, lines_by, games_in, half_moves_in, faults_in, counts_if, text_by, IsTallyOf, CountsEach, HandedOnBy}
+use Rattle.chess_game.specs.declared.game.TheConstants.{MOST_MOVES}
 
 -- ---- one report more
 
@@ -108,7 +109,7 @@ pub record SoFar (options : VerifyOptions) (text : List ℕ) (w w' : OutputState
     (reports : List Report) : Type 0 where
   pub within : at ≤ length text
   pub few : tally.games + tally.faults ≤ at
-  pub few_moves : tally.half_moves ≤ 20000 * at
+  pub few_moves : tally.half_moves ≤ MOST_MOVES * at
   pub counted : IsTallyOf tally reports
   pub took : Took w w' (lines_by options.quiet 1 reports)
   pub joins : (extent : Extent) (rest : List Report) → AreReportsBy options extent text (Some at) rest
@@ -152,7 +153,8 @@ module _ (quiet : Bool) (w w' w'' : OutputState) (tally : Tally) (reports : List
       (breaks_more w w' w'' (lines_by quiet 1 reports) (told_line quiet (1 + length reports) r) t
       (subst (λ n. BreaksOff w' w'' (told_line quiet n r)) numbered h))
 
-module _ (options : VerifyOptions) (text : List ℕ) (w w' w'' : OutputState) (at : ℕ) (tally : Tally) (reports : List Report)
+module _ (options : VerifyOptions) (text : List ℕ) (w w' w'' : OutputState) (at : ℕ) (tally : Tally)
+    (reports : List Report)
     (s : SoFar options text w w' at tally reports) where
   -- one line more
   line_told : (r : Report) → Took w' w'' (told_line options.quiet (tally.games + tally.faults + 1) r)
@@ -161,7 +163,7 @@ module _ (options : VerifyOptions) (text : List ℕ) (w w' w'' : OutputState) (a
 
   -- a game more
   pub game_told : (plies : ℕ) (end : PgnEnd) → (read_at text at).answer ≡ Ok (Some end)
-      → plies ≡ length (read_at text at).state.moves → plies ≤ 20000 → at < end.place → end.place ≤ length text
+      → plies ≡ length (read_at text at).state.moves → plies ≤ MOST_MOVES → at < end.place → end.place ≤ length text
       → Took w' w'' (told_line options.quiet (tally.games + tally.faults + 1) (Game plies end))
       → SoFar options text w w'' end.place (game_more tally plies) (reports ++ Game plies end ∷ [])
   game_told plies end answer is limit further within took =
@@ -212,7 +214,8 @@ module _ (options : VerifyOptions) (text : List ℕ) (w w' w'' : OutputState) (a
   )
 
   -- the writer failed at a line
-  pub broken_off : {E : Type 0} (r : Report) (result : Result Tally E) → AreReportsBy options First text (Some at) (r ∷ [])
+  pub broken_off : {E : Type 0} (r : Report) (result : Result Tally E)
+      → AreReportsBy options First text (Some at) (r ∷ [])
       → BreaksOff w' w'' (told_line options.quiet (tally.games + tally.faults + 1) r) → IsErr result
       → CountsEach options text w w'' result
   broken_off r (Ok v) is h failed = cc
@@ -231,12 +234,17 @@ first_end options text (Some at) = tt
 pub all_told : (E : Type 0) (options : VerifyOptions) (text : List ℕ) (w w' : OutputState) (at : ℕ) (tally : Tally)
     (reports : List Report) → SoFar options text w w' at tally reports → (read_at text at).answer ≡ Ok None
     → CountsEach {E = E} options text w w' (Ok tally)
-all_told E options text w w' at tally reports s none =
-    (reports, subst (AreReportsBy options All text (Some 0)) (append-nil reports) (s.joins All [] none), s.counted, s.took)
+all_told E options text w w' at tally reports s none = (
+  reports,
+  subst (AreReportsBy options All text (Some 0)) (append-nil reports) (s.joins All [] none),
+  s.counted,
+  s.took,
+)
 
 -- ---- what reading a game answered
 
-pub few_plies : (plies : ℕ) (g : Seen) → IsPlayable g → g.limit ≡ 20000 → plies ≡ length g.state.moves → plies ≤ 20000
+pub few_plies : (plies : ℕ) (g : Seen) → IsPlayable g → g.limit ≡ MOST_MOVES → plies ≡ length g.state.moves
+    → plies ≤ MOST_MOVES
 few_plies plies g h few is = let most = h.limit in omega (arith, most, few, is)
 
 -- a fault is not before the place where reading began

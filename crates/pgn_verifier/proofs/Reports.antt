@@ -12,6 +12,7 @@ use Rattle.pgn_verifier.specs.declared.whole.Report.TheVariants.{Game, Faulty}
 use Rattle.pgn_verifier.specs.declared.whole.Verified.{Verified}
 use Rattle.pgn_verifier.specs.declared.whole.Verified.TheVariants.{EachGame, FaultTold}
 use Rattle.pgn_verifier.specs.Verify.{Extent, All, First, AreReports, read_at, verified, report_line, report_lines, Told, HandedOn}
+use Rattle.chess_game.specs.declared.game.TheConstants.{MOST_MOVES}
 
 -- the lines of some reports and one more
 pub lines_more : (number : ℕ) (reports : List Report) (r : Report) → report_lines number (reports ++ r ∷ [])
@@ -136,16 +137,16 @@ not_handed_on F text w w' w'' v (Err e) (reports, are, is, took) failed h = (
 
 -- ---- what reading a game answered
 
-pub answered : (limit : ℕ) (text : List ℕ) (at : ℕ) (r : Result (Option PgnEnd) PgnFault) → limit ≡ 20000
+pub answered : (limit : ℕ) (text : List ℕ) (at : ℕ) (r : Result (Option PgnEnd) PgnFault) → limit ≡ MOST_MOVES
     → r ≡ (pgn_read limit text at).answer → (read_at text at).answer ≡ r
 answered limit text at r few is = sym (is ∙ ap (λ n. (pgn_read n text at).answer) few)
 
-pub counted : (text : List ℕ) (at : ℕ) (old new : Seen) (plies : ℕ) → old.limit ≡ 20000
+pub counted : (text : List ℕ) (at : ℕ) (old new : Seen) (plies : ℕ) → old.limit ≡ MOST_MOVES
     → new ≡ left_at old (pgn_read old.limit text at).state → plies ≡ length new.state.moves
     → plies ≡ length (read_at text at).state.moves
 counted text at old new plies few is count = count ∙ ap (λ g. length g.state.moves) is
     ∙ ap (λ n. length (pgn_read n text at).state.moves) few
 
-pub same_limit : (text : List ℕ) (at : ℕ) (old new : Seen) → old.limit ≡ 20000
-    → new ≡ left_at old (pgn_read old.limit text at).state → new.limit ≡ 20000
+pub same_limit : (text : List ℕ) (at : ℕ) (old new : Seen) → old.limit ≡ MOST_MOVES
+    → new ≡ left_at old (pgn_read old.limit text at).state → new.limit ≡ MOST_MOVES
 same_limit text at old new few is = ap (λ g. g.limit) is ∙ few

@@ -16,6 +16,7 @@ use Rattle.pgn_verifier.specs.declared.whole.Report.{Report}
 use Rattle.pgn_verifier.specs.declared.whole.Report.TheVariants.{Game, Faulty}
 use Rattle.pgn_verifier.specs.declared.whole.Verified.{Verified}
 use Rattle.pgn_verifier.specs.declared.whole.Verified.TheVariants.{EachGame, FaultTold}
+use Rattle.chess_game.specs.declared.game.TheConstants.{MOST_MOVES}
 
 -- ---- the text
 
@@ -38,7 +39,7 @@ IsNotHad r r' InputTooLong = (text : List ℕ) × IsFront r r' text × (16777216
 
 -- a game of a text from a place on, of at most 20,000 half-moves
 abbrev pub read_at : List ℕ → ℕ → GameRead
-read_at = pgn_read 20000
+read_at = pgn_read MOST_MOVES
 
 -- whether reports are those on all games of a text, or on its first ones
 pub data Extent : Type 0 where
@@ -54,7 +55,9 @@ EndsTextAt First text at = Unit {0}
 -- fault is the last. A report is how many half-moves a game has and how its text ended, or its fault
 abbrev pub AreReports : Extent → List ℕ → ℕ → List Report → Type 0
 AreReports extent text at [] = EndsTextAt extent text at
-AreReports extent text at (Game plies end ∷ rest) = ((read_at text at).answer ≡ Ok (Some end)) × (plies ≡ length (read_at text at).state.moves) × AreReports extent text end.place rest
+AreReports extent text at (Game plies end ∷ rest) =
+    ((read_at text at).answer ≡ Ok (Some end)) × (plies ≡ length (read_at text at).state.moves)
+    × AreReports extent text end.place rest
 AreReports extent text at (Faulty fault ∷ rest) = ((read_at text at).answer ≡ Err fault) × (rest ≡ [])
 
 -- what they come to
@@ -83,7 +86,8 @@ told_termination None = []
 told_termination (Some t) = codes ", " ++ termination_text t
 
 abbrev pub report_text : Report → List ℕ
-report_text (Game plies end) = decimal plies ++ (codes " half-moves, " ++ (outcome_text end.outcome ++ told_termination end.termination))
+report_text (Game plies end) = decimal plies
+    ++ (codes " half-moves, " ++ (outcome_text end.outcome ++ told_termination end.termination))
 report_text (Faulty fault) = pgn_fault_name fault.kind ++ (codes " at byte " ++ decimal fault.place)
 
 -- the line of the game with that number
@@ -97,21 +101,26 @@ report_lines number (report ∷ rest) = report_line number report ++ report_line
 
 -- ---- verifying
 
--- the reports on a text were told, each on its line; where the writer failed, a beginning of the lines of the first ones
+-- the reports on a text were told, each on its line; where the writer failed, a beginning of the lines of the first
+-- ones
 abbrev pub Told : {E : Type 0} → List ℕ → OutputState → OutputState → Result Verified E → Type 0
-Told text w w' (Ok told) = (reports : List Report) × AreReports All text 0 reports × (told ≡ verified reports) × Took w w' (report_lines 1 reports)
-Told text w w' (Err e) = (reports : List Report) × AreReports First text 0 reports × BreaksOff w w' (report_lines 1 reports)
+Told text w w' (Ok told) = (reports : List Report) × AreReports All text 0 reports × (told ≡ verified reports)
+    × Took w w' (report_lines 1 reports)
+Told text w w' (Err e) = (reports : List Report) × AreReports First text 0 reports
+    × BreaksOff w w' (report_lines 1 reports)
 
 -- and then the lines were flushed
 abbrev pub HandedOn : {E : Type 0} → List ℕ → OutputState → OutputState → Result Verified E → Type 0
-HandedOn text w w' (Ok told) = (reports : List Report) × AreReports All text 0 reports × (told ≡ verified reports) × Sent w w' (report_lines 1 reports)
+HandedOn text w w' (Ok told) = (reports : List Report) × AreReports All text 0 reports × (told ≡ verified reports)
+    × Sent w w' (report_lines 1 reports)
 HandedOn text w w' (Err e) = Told text w w' (Err e)
 
 -- there was no memory for the input, or none for a game once all of it was read
 abbrev pub LacksMemory : InputState → InputState → Type 0
 LacksMemory r r' = IsNotHad r r' NoMemory ⊎ ((text : List ℕ) × IsAll r r' text)
 
--- all of the input was read, and the reports on its games were told and flushed; without all of it, or without memory, nothing was
+-- all of the input was read, and the reports on its games were told and flushed; without all of it, or without memory,
+-- nothing was
 abbrev pub Verifies : InputState → InputState → OutputState → OutputState → Result Verified VerifyFault → Type 0
 Verifies r r' w w' (Ok told) = (text : List ℕ) × IsAll r r' text × HandedOn {E = VerifyFault} text w w' (Ok told)
 Verifies r r' w w' (Err ReadFailed) = IsNotHad r r' ReadFailed × (w' ≡ w)

@@ -5,6 +5,7 @@ ghost use Rattle.pgn_stream.specs.Stream.{unread};
 ghost use Rattle.byte_devices.specs.Devices.{Sends};
 ghost use Rattle.pgn_verifier.specs.Collection.{counts_if};
 ghost use Rattle.pgn_verifier.specs.AnySize.{CountsAny, VerifiesAny, stream_fault};
+ghost use Rattle.chess_game.specs.declared.game.TheConstants.{MOST_MOVES};
 
 use crate::collection::{Tally, tell_counts, tell_line, verified_by};
 use crate::fault::VerifyFault;
@@ -35,7 +36,7 @@ fn count_any<R: Input, W: Output>(
     output: &mut W,
 ) -> Result<Tally, VerifyFault>
     requires opened { stream.old ≡ unread }
-    requires limit { game.old.limit ≡ 20000 }
+    requires limit { game.old.limit ≡ MOST_MOVES }
     ensures { CountsAny options (R.seen input.old) (R.seen input.new) (W.seen output.old) (W.seen output.new) result }
 {
     let mut tally = Tally::none();
@@ -91,7 +92,7 @@ fn tell_any<R: Input, W: Output>(
     output: &mut W,
 ) -> Result<Verified, VerifyFault>
     requires opened { stream.old ≡ unread }
-    requires limit { game.old.limit ≡ 20000 }
+    requires limit { game.old.limit ≡ MOST_MOVES }
     ensures { VerifiesAny options (R.seen input.old) (R.seen input.new) (W.seen output.old) (W.seen output.new) result }
 {
     let tally = match count_any(options, stream, game, input, output) {

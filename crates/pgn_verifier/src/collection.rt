@@ -4,6 +4,7 @@ ghost use Rattle.std.specs.Prelude.{◌≡◌, ◌≤◌, ◌<◌, ◌+◌, ◌^
 ghost use Rattle.byte_devices.specs.Devices.{Puts};
 ghost use Rattle.pgn_verifier.specs.declared.whole.Verified.TheVariants.{EachGame, FaultTold};
 ghost use Rattle.pgn_verifier.specs.Collection.{IsNext, is_told, told_line, counts_line, counts_if, CountsEach, HandedOnBy, VerifiesBy};
+ghost use Rattle.chess_game.specs.declared.game.TheConstants.{MOST_MOVES};
 
 use crate::fault::VerifyFault;
 use crate::options::VerifyOptions;
@@ -126,7 +127,7 @@ fn count_each<W: Output>(
     output: &mut W,
 ) -> Result<Tally, WriteFault>
     requires few { length text.now ≤ 16777216 }
-    requires limit { game.old.limit ≡ 20000 }
+    requires limit { game.old.limit ≡ MOST_MOVES }
     ensures { CountsEach options text.now (W.seen output.old) (W.seen output.new) result }
 {
     // The prover wants this law: a fault is not before the place where reading its game began.
@@ -191,7 +192,7 @@ fn tell_collection<W: Output>(
     output: &mut W,
 ) -> Result<Verified, WriteFault>
     requires few { length text.now ≤ 16777216 }
-    requires limit { game.old.limit ≡ 20000 }
+    requires limit { game.old.limit ≡ MOST_MOVES }
     ensures { HandedOnBy options text.now (W.seen output.old) (W.seen output.new) result }
 {
     let tally = count_each(options, text, game, output)?;

@@ -5,12 +5,13 @@ ghost use Rattle.std.specs.Prelude.{◌≡◌, ◌≤◌, ◌+◌, ◌++◌, IfO
 ghost use Rattle.arrayvec.specs.ArrayVec.{array_vec_len};
 ghost use Rattle.byte_devices.specs.Devices.{Puts};
 ghost use Rattle.pgn_verifier.specs.Verify.{IsAll, IsNotHad, pgn_fault_name, told_termination, report_text, report_line, Told, HandedOn, Verifies};
+ghost use Rattle.chess_game.specs.declared.game.TheConstants.{MOST_MOVES};
 
 use crate::fault::VerifyFault;
 use arrayvec::ArrayVec;
 use byte_devices::{Input, Output, WriteFault, put};
 use chess_bits::Bits;
-use chess_game::Game;
+use chess_game::{Game, MOST_MOVES};
 use chess_pgn::{PgnEnd, PgnFault, PgnFaultKind, Termination, read_pgn};
 use itoa::Buffer;
 use std::alloc::{AllocError, Global};
@@ -20,9 +21,6 @@ const INPUT_LIMIT: usize = 16_777_216;
 
 // The most bytes of a read.
 const PIECE_LEN: usize = 4096;
-
-// The most half-moves of a game.
-const GAME_LIMIT: u32 = 20_000;
 
 // The most bytes of a line: three numbers' and 60 more.
 const LINE_LEN: usize = 120;
@@ -169,10 +167,10 @@ pub(crate) fn tell<W: Output>(
 
 // A game with its board.
 pub(crate) fn open_game(alloc: Global) -> Result<Game<Bits>, AllocError>
-    ensures { IfOk result (λ g. g.limit ≡ 20000) }
+    ensures { IfOk result (λ g. g.limit ≡ MOST_MOVES) }
 {
     let board = Bits::open(alloc)?;
-    Game::open(alloc, board, GAME_LIMIT)
+    Game::open(alloc, board, MOST_MOVES)
 }
 
 // Reads game after game of a text and tells each.
@@ -182,7 +180,7 @@ fn tell_each<W: Output>(
     output: &mut W,
 ) -> Result<Verified, WriteFault>
     requires few { length text.now ≤ 16777216 }
-    requires limit { game.old.limit ≡ 20000 }
+    requires limit { game.old.limit ≡ MOST_MOVES }
     ensures { Told text.now (W.seen output.old) (W.seen output.new) result }
 {
     let mut at = 0;
@@ -211,7 +209,7 @@ fn tell_games<W: Output>(
     output: &mut W,
 ) -> Result<Verified, WriteFault>
     requires few { length text.now ≤ 16777216 }
-    requires limit { game.old.limit ≡ 20000 }
+    requires limit { game.old.limit ≡ MOST_MOVES }
     ensures { HandedOn text.now (W.seen output.old) (W.seen output.new) result }
 {
     let verified = tell_each(text, game, output)?;

@@ -7,7 +7,13 @@ abbrev pub no_counts : Counts
 no_counts = record { failures = 0; ends = 0; last = 0; pieces = 0; unflushed = 0 }
 
 abbrev pub one_failure_more : Counts → Counts
-one_failure_more c = record { failures = risen c.failures; ends = c.ends; last = c.last; pieces = c.pieces; unflushed = c.unflushed }
+one_failure_more c = record {
+  failures = risen c.failures;
+  ends = c.ends;
+  last = c.last;
+  pieces = c.pieces;
+  unflushed = c.unflushed;
+}
 
 -- an answer is passed on, each `Err` as this fault
 abbrev pub passed_on : {A E F : Type 0} → F → Result A E → Result A F
@@ -16,7 +22,13 @@ passed_on fault (Err e) = Err fault
 
 -- the counts after a read that answered so
 abbrev pub counts_after_read : {E : Type 0} → Counts → Result ℕ E → Counts
-counts_after_read c (Ok n) = record { failures = c.failures; ends = if n == 0 then risen c.ends else c.ends; last = n; pieces = c.pieces + 1; unflushed = c.unflushed }
+counts_after_read c (Ok n) = record {
+  failures = c.failures;
+  ends = if n == 0 then risen c.ends else c.ends;
+  last = n;
+  pieces = c.pieces + 1;
+  unflushed = c.unflushed;
+}
 counts_after_read c (Err e) = one_failure_more c
 
 -- a writer's answer to a piece of that length is passed on, but to take nothing of one that isn't empty is a failure
@@ -30,10 +42,22 @@ raised_by count n = if n == 0 then count else min (count + n) (2 ^ 64 - 1)
 
 -- the counts after a write that came to this
 abbrev pub counts_after_write : {E : Type 0} → Counts → Result ℕ E → Counts
-counts_after_write c (Ok n) = record { failures = c.failures; ends = c.ends; last = c.last; pieces = c.pieces; unflushed = raised_by c.unflushed n }
+counts_after_write c (Ok n) = record {
+  failures = c.failures;
+  ends = c.ends;
+  last = c.last;
+  pieces = c.pieces;
+  unflushed = raised_by c.unflushed n;
+}
 counts_after_write c (Err e) = one_failure_more c
 
 -- the counts after a flush that came to this
 abbrev pub counts_after_flush : {A E : Type 0} → Counts → Result A E → Counts
-counts_after_flush c (Ok value) = record { failures = c.failures; ends = c.ends; last = c.last; pieces = c.pieces; unflushed = 0 }
+counts_after_flush c (Ok value) = record {
+  failures = c.failures;
+  ends = c.ends;
+  last = c.last;
+  pieces = c.pieces;
+  unflushed = 0;
+}
 counts_after_flush c (Err e) = one_failure_more c

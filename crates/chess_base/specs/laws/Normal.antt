@@ -1,5 +1,6 @@
--- The rules as they are said for normal chess alone: what the definitions of both variants come to there. Each of these is the
--- definition of the same name without `normal_`, with castling named by the king's squares from and to the e-file.
+-- The rules as they are said for normal chess alone: what the definitions of both variants come to there. Each of these
+-- is the definition of the same name without `normal_`, with castling named by the king's squares from and to the
+-- e-file.
 use Rattle.std.specs.Prelude.{◌≡◌, ℕ, ◌==◌, nat_lt, Bool, false, true, not, ◌&&◌, Option, Some, None, is_some, if◌then◌else◌}
 use Rattle.chess_base.specs.declared.castling.Castle.{Castle}
 use Rattle.chess_base.specs.declared.steps.Steps.{Steps}
@@ -20,7 +21,8 @@ use Rattle.chess_base.specs.Moves.{pawn_moves, is_en_passant, behind, castles_or
 abbrev pub normal_right_stands_at : Men → Colour → CastlingSide → Option ℕ → Bool
 normal_right_stands_at men c w None = true
 normal_right_stands_at men c w (Some s) =
-    (s == home_square c (rook_file w)) && is_man c King (man_at men (home_square c king_home_file)) && is_man c Rook (man_at men s)
+    (s == home_square c (rook_file w)) && is_man c King (man_at men (home_square c king_home_file))
+    && is_man c Rook (man_at men s)
 
 unfoldable pub normal_says_castling : Setup → Move → CastlingSide → Bool
 normal_says_castling p m w =
@@ -30,7 +32,8 @@ normal_says_castling p m w =
     && (m.to == home_square p.side (castled_king_file w))
 
 unfoldable pub normal_castling : Setup → Move → Option CastlingSide
-normal_castling p m = if normal_says_castling p m KingSide then Some KingSide else if normal_says_castling p m QueenSide then Some QueenSide else None
+normal_castling p m = if normal_says_castling p m KingSide then Some KingSide else if normal_says_castling p m QueenSide
+    then Some QueenSide else None
 
 unfoldable pub normal_castle_of : Setup → Move → Option Castle
 normal_castle_of p m = castle_by p.side p.rights m (normal_castling p m)
@@ -38,7 +41,8 @@ normal_castle_of p m = castle_by p.side p.rights m (normal_castling p m)
 abbrev pub normal_moves_as : Setup → Move → Option Man → Bool
 normal_moves_as p m None = false
 normal_moves_as p m (Some x) =
-    same_colour p.side x.colour && (if same_kind Pawn x.kind then pawn_moves p m else castles_or_moves p m (normal_castle_of p m))
+    same_colour p.side x.colour && (if same_kind Pawn x.kind then pawn_moves p m else castles_or_moves p m
+    (normal_castle_of p m))
 
 unfoldable pub normal_has_pattern : Setup → Move → Bool
 normal_has_pattern p m = nat_lt m.from 64 && nat_lt m.to 64 && normal_moves_as p m (man_at p.men m.from)
@@ -72,6 +76,7 @@ normal_is_legal p m = normal_has_pattern p m && not (is_in_check (normal_after p
 
 -- on positions of normal chess the rules of both variants are these
 pub record NormalIsKept (p : Setup) : Type 0 where
-  pub stands : (c : Colour) (w : CastlingSide) → right_stands p c w ≡ normal_right_stands_at p.men c w (right_of p.rights c w)
+  pub stands : (c : Colour) (w : CastlingSide)
+      → right_stands p c w ≡ normal_right_stands_at p.men c w (right_of p.rights c w)
   pub legal : (m : Move) → is_legal p m ≡ normal_is_legal p m
   pub after : (m : Move) → after p m ≡ normal_after p m

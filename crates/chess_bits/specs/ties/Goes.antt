@@ -46,7 +46,8 @@ legal_or p m (Some castle) s = is_legal p m
 
 abbrev pub castling_or : Setup → CastlingSide → ℕ → ℕ → Bool → Bool
 castling_or p w a b s =
-    if names_end p.variant p.side w (right_of p.rights p.side w) b then legal_or p (triple a b None) (castle_of p (triple a b None)) s else s
+    if names_end p.variant p.side w (right_of p.rights p.side w) b then legal_or p (triple a b None)
+    (castle_of p (triple a b None)) s else s
 
 -- where a man other than a pawn goes; castling is told as it is legal
 abbrev pub man_goes : Setup → ℕ → ℕ → Bool
@@ -56,21 +57,25 @@ man_goes p a b = legal_or p (triple a b None) (castle_of p (triple a b None)) (m
 abbrev pub lifted : Men → ℕ → Men
 lifted men a = with_man men (Some a) None
 
--- taken off, the man on a opens no rank or file to k for a rook or queen of the other side; and no diagonal for a bishop or queen
+-- taken off, the man on a opens no rank or file to k for a rook or queen of the other side; and no diagonal for a
+-- bishop or queen
 abbrev pub OpensNoLine : Setup → ℕ → ℕ → Type 0
 OpensNoLine p a k =
-    (b : ℕ) → b < 64 → (is_man (other p.side) Rook (man_at p.men b) || is_man (other p.side) Queen (man_at p.men b)) ≡ true
+    (b : ℕ) → b < 64 → (is_man (other p.side) Rook (man_at p.men b) || is_man (other p.side) Queen (man_at p.men b))
+    ≡ true
     → (not (b == k) && share_rank_or_file b k) ≡ true → is_clear (lifted p.men a) b k ≡ true → is_clear p.men b k ≡ true
 
 abbrev pub OpensNoDiagonal : Setup → ℕ → ℕ → Type 0
 OpensNoDiagonal p a k =
-    (b : ℕ) → b < 64 → (is_man (other p.side) Bishop (man_at p.men b) || is_man (other p.side) Queen (man_at p.men b)) ≡ true
+    (b : ℕ) → b < 64 → (is_man (other p.side) Bishop (man_at p.men b) || is_man (other p.side) Queen (man_at p.men b))
+    ≡ true
     → (not (b == k) && share_diagonal b k) ≡ true → is_clear (lifted p.men a) b k ≡ true → is_clear p.men b k ≡ true
 
 -- what stands on a is not the king of the side on move, and he is not attacked though it be taken off
 pub record IsFree (p : Setup) (a : ℕ) : Type 0 where
   pub apart : (k : ℕ) → k < 64 → is_man p.side King (man_at p.men k) ≡ true → (a == k) ≡ false
-  pub safe : (k : ℕ) → k < 64 → is_man p.side King (man_at p.men k) ≡ true → is_attacked (lifted p.men a) k (other p.side) ≡ false
+  pub safe : (k : ℕ) → k < 64 → is_man p.side King (man_at p.men k) ≡ true
+      → is_attacked (lifted p.men a) k (other p.side) ≡ false
 
 -- on each square of the set stands a man of that kind of the side on move, and it is free
 abbrev pub AreFree : Setup → Kind → ℕ → Type 0

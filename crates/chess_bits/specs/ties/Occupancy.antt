@@ -11,5 +11,7 @@ pub record IsOccupied (w : ℕ) (men : Men) : Type 0 where
 
 -- what stands later: the squares of one set are filled, those of the other changed, and no man of colour c came
 pub record IsLater (changed filled : ℕ) (c : Colour) (men later : Men) : Type 0 where
-  pub of_all : (k : ℕ) → k < 64 → (has filled k || (not (is_none (man_at men k)) && not (has changed k))) ≡ not (is_none (man_at later k))
-  pub of_man : (kind : Kind) (k : ℕ) → k < 64 → (is_man c kind (man_at men k) && not (has changed k)) ≡ is_man c kind (man_at later k)
+  pub of_all : (k : ℕ) → k < 64 → (has filled k || (not (is_none (man_at men k)) && not (has changed k)))
+      ≡ not (is_none (man_at later k))
+  pub of_man : (kind : Kind) (k : ℕ) → k < 64
+      → (is_man c kind (man_at men k) && not (has changed k)) ≡ is_man c kind (man_at later k)

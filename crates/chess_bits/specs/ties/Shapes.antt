@@ -9,7 +9,8 @@ use Rattle.chess_bits.specs.ties.Rays.{is_on_ray}
 unfoldable pub in_shape : Shape → ℕ → ℕ → Bool
 in_shape King a b = not (a == b) && nat_le (gap (file a) (file b)) 1 && nat_le (gap (rank a) (rank b)) 1
 in_shape Knight a b =
-    ((gap (file a) (file b) == 1) && (gap (rank a) (rank b) == 2)) || ((gap (file a) (file b) == 2) && (gap (rank a) (rank b) == 1))
+    ((gap (file a) (file b) == 1) && (gap (rank a) (rank b) == 2))
+    || ((gap (file a) (file b) == 2) && (gap (rank a) (rank b) == 1))
 in_shape (Pawn c) a b = (gap (file a) (file b) == 1) && is_rank_ahead c a b
 in_shape Lines a b = not (b == a) && share_rank_or_file b a
 in_shape Diagonals a b = not (b == a) && share_diagonal b a

@@ -1,5 +1,5 @@
--- The rows of the table as they are said for normal chess alone. All others speak of positions by the rules, of which the same
--- is said (`NormalIsKept` of chess_base and chess_fen, and of texts).
+-- The rows of the table as they are said for normal chess alone. All others speak of positions by the rules, of which
+-- the same is said (`NormalIsKept` of chess_base and chess_fen, and of texts).
 use Rattle.std.specs.Prelude.{◌≡◌, ℕ, List, ◌∷◌, ◌++◌, length, codes, decimal, if◌then◌else◌}
 use Rattle.std.specs.List.{flat_map}
 use Rattle.std.specs.Str.{bytes_eq}

@@ -23,8 +23,11 @@ WrittenSpellsNoOther = (p q : Setup) → IsSound p → SpellsFenAs p.variant (fe
 abbrev pub WrittenIsReadBack : Type 0
 WrittenIsReadBack = (p : Setup) → IsSound p → fen_reading_as p.variant (fen p) ≡ Ok p
 
--- in Chess960 a text spells a sound position's rights exactly where it is a field of rights and names each right as it is
+-- in Chess960 a text spells a sound position's rights exactly where it is a field of rights and names each right as it
+-- is
 abbrev pub RightsAreNamed : Type 0
 RightsAreNamed =
     (text : List ℕ) → (p : Setup) → p.variant ≡ Fischerandom → IsSound p
-    → (SpellsRights text p ↔ (IsCastling Fischerandom text × ((c : Colour) → (w : CastlingSide) → RightIsNamed text p.men c w (right_of p.rights c w))))
+    → (SpellsRights text p ↔
+    (IsCastling Fischerandom text × ((c : Colour) → (w : CastlingSide)
+    → RightIsNamed text p.men c w (right_of p.rights c w))))

@@ -23,7 +23,8 @@ NamesRook men c w letter s = ((letter ≡ side_letter c w) × IsOutermost men c 
 -- the letter names no rook on that side of the king: it is neither the side's nor that of a file there
 pub record NamesNone (men : Men) (c : Colour) (w : CastlingSide) (letter : ℕ) : Type 0 where
   pub not_side : letter ≢ side_letter c w
-  pub not_file : (s : ℕ) → rank s ≡ first_rank c → letter ≡ first_letter c + file s → is_towards w (king_square men c) s ≡ false
+  pub not_file : (s : ℕ) → rank s ≡ first_rank c → letter ≡ first_letter c + file s
+      → is_towards w (king_square men c) s ≡ false
 
 -- where the right is held, one letter names its rook, and no other names one on that side; where it isn't, none does
 abbrev pub RightIsNamed : List ℕ → Men → Colour → CastlingSide → Option ℕ → Type 0

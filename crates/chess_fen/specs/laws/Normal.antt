@@ -10,7 +10,8 @@ letter_if None c = []
 letter_if (Some corner) c = c ∷ []
 
 abbrev pub normal_rights_text : Rights → List ℕ
-normal_rights_text r = or_dash (letter_if r.white.king_side (byte "K") ++ letter_if r.white.queen_side (byte "Q") ++ letter_if r.black.king_side (byte "k") ++ letter_if r.black.queen_side (byte "q"))
+normal_rights_text r = or_dash (letter_if r.white.king_side (byte "K") ++ letter_if r.white.queen_side (byte "Q")
+    ++ letter_if r.black.king_side (byte "k") ++ letter_if r.black.queen_side (byte "q"))
 
 -- the rights of a position are written so
 abbrev pub NormalIsKept : Setup → Type 0

@@ -13,6 +13,7 @@ use Rattle.chess_game.specs.Ends.{verdict}
 use Rattle.chess_game.specs.declared.ends.Verdict.{Verdict}
 use Rattle.chess_game.specs.declared.repetition.Known.{Known}
 use Rattle.chess_game.specs.declared.game.Place.{Place}
+use Rattle.chess_game.specs.declared.game.TheConstants.{MOST_MOVES}
 
 abbrev pub moves_of : List Place → List Move
 moves_of places = map (λ x. x.made) places
@@ -43,8 +44,8 @@ abbrev pub Follows : Setup → List Place → Type 0
 Follows p [] = Unit {0}
 Follows p (x ∷ xs) = WasMade p x.made x.saved x.reached.position × IsKnown x.reached × Follows x.reached.position xs
 
--- from this start the places follow, all with words by the board's definition, and the board is at the position at the end
--- of the line
+-- from this start the places follow, all with words by the board's definition, and the board is at the position at the
+-- end of the line
 pub record IsKept (f : Wording) (start : Known) (places : List Place) (board : Setup) : Type 0 where
   pub known : IsKnown start
   pub follows : Follows start.position places
@@ -60,4 +61,4 @@ pub record IsJudged (start : Setup) (moves : List Move) (v : Option Verdict) : T
 pub record HasRoom (taken limit capacity : ℕ) : Type 0 where
   pub few : taken ≤ limit
   pub made : limit ≤ capacity
-  pub bound : limit ≤ 20000
+  pub bound : limit ≤ MOST_MOVES

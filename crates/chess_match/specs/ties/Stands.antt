@@ -58,7 +58,8 @@ given_block r given items m S =
     ++ (if given.entered then entry r m S else []))
 
 -- from m to m' the core goes on to stand for m', and gives the blocks between them
-pub record Goes (r : Rules) (core : Core) (played : List Move) (given : Given) (items : List Item) (m m' : Match) : Type 0 where
+pub record Goes (r : Rules) (core : Core) (played : List Move) (given : Given) (items : List Item) (m m' : Match) : Type
+    0 where
   pub stands : Stands r core played m'
   pub gives : (S : Colour) → given_block r given items m' S ≡ block r m m' S
 
@@ -68,8 +69,10 @@ player core Black = core.black
 
 -- the core once S's offer stands
 abbrev pub offered_core : Core → Colour → Core
-offered_core core White = record core { white = record { features = core.white.features; name = core.white.name; offers = true } }
-offered_core core Black = record core { black = record { features = core.black.features; name = core.black.name; offers = true } }
+offered_core core White =
+    record core { white = record { features = core.white.features; name = core.white.name; offers = true } }
+offered_core core Black =
+    record core { black = record { features = core.black.features; name = core.black.name; offers = true } }
 
 -- the core once S's move stands
 abbrev pub played_core : Core → Colour → ℕ → Core

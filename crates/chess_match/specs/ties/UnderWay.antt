@@ -26,7 +26,9 @@ abbrev pub HeardSoFar : Colour → List Event → Bool → InputState → InputS
 HeardSoFar S T on r r' held = (given : List ℕ) × Heard S T r r' given × (on ≡ true → IsHearing S T r r' held given)
 
 -- core, game and devices agree with the transcript T
-pub record IsUnderWay (r : Rules) (T : List Event) (core : Core) (played : List Move) (failed : Colour → Bool) (n n' : Colour → InputState) (held : Colour → Held) (w w' : Colour → OutputState) (coming coming' : ℕ → Option ℕ) : Type 0 where
+pub record IsUnderWay (r : Rules) (T : List Event) (core : Core) (played : List Move) (failed : Colour → Bool)
+    (n n' : Colour → InputState) (held : Colour → Held) (w w' : Colour → OutputState)
+    (coming coming' : ℕ → Option ℕ) : Type 0 where
   pub fitting : fits r T ≡ true
   pub stands : Stands r core played (match_of r T)
   pub sane : IsSane r (match_of r T)

@@ -21,17 +21,24 @@ use Rattle.chess_pgn.specs.Written.{tag_line}
 
 abbrev pub normal_further_lines : Setup → Termination → List (List ℕ)
 normal_further_lines start termination =
-    (if is_initial start then [] else fen_lines start) ++ tag_line (codes "Termination") (termination_text termination) ∷ []
+    (if is_initial start then [] else fen_lines start)
+    ++ tag_line (codes "Termination") (termination_text termination) ∷ []
 
 -- ---- read
 
 abbrev pub normal_tag_step : SoFar → List ℕ → List ℕ → ℕ → Step
 normal_tag_step g name text place =
     if bytes_eq name (codes "FEN") then fen_step g place (fen_reading text)
-    else On (record { state = g.state; is_met = true; is_begun = g.is_begun; termination = told_behind g.termination name text })
+    else On (record {
+      state = g.state;
+      is_met = true;
+      is_begun = g.is_begun;
+      termination = told_behind g.termination name text;
+    })
 
 abbrev pub normal_step : ℕ → ℕ → SoFar → ℕ → Token → Step
-normal_step limit total g left (Tag name text string) = if g.is_begun then fails g NoResult (total - left) else normal_tag_step g name text (total - string)
+normal_step limit total g left (Tag name text string) =
+    if g.is_begun then fails g NoResult (total - left) else normal_tag_step g name text (total - string)
 normal_step limit total g left Skip = step limit total g left Skip
 normal_step limit total g left (Word word) = step limit total g left (Word word)
 normal_step limit total g left Bad_tag = step limit total g left Bad_tag
@@ -45,7 +52,8 @@ normal_game_of limit total g (t ∷ ts) = go_on (normal_step limit total g t.0 t
 
 -- from the initial position
 abbrev pub normal_read : ℕ → ℕ → List (ℕ × Token) → GameRead
-normal_read limit total tokens = normal_game_of limit total (record { state = from_start initial_setup; is_met = false; is_begun = false; termination = None }) tokens
+normal_read limit total tokens = normal_game_of limit total
+    (record { state = from_start initial_setup; is_met = false; is_begun = false; termination = None }) tokens
 
 -- ---- texts that name no variant
 
@@ -81,5 +89,7 @@ names_no_variant (t ∷ ts) = if ends_tags t.1 then true else not (names_variant
 
 -- ---- on starts of normal chess, and in texts that name no variant, games are written and read so
 pub record NormalIsKept : Type 0 where
-  pub written : (start : Setup) (termination : Termination) → start.variant ≡ Normal → further_lines start termination ≡ normal_further_lines start termination
-  pub read : (limit : ℕ) (text : List ℕ) (at : ℕ) → IsTrue (names_no_variant (tokens_from text (first_place text at))) → pgn_read limit text at ≡ normal_read limit (length text) (tokens_from text (first_place text at))
+  pub written : (start : Setup) (termination : Termination) → start.variant ≡ Normal
+      → further_lines start termination ≡ normal_further_lines start termination
+  pub read : (limit : ℕ) (text : List ℕ) (at : ℕ) → IsTrue (names_no_variant (tokens_from text (first_place text at)))
+      → pgn_read limit text at ≡ normal_read limit (length text) (tokens_from text (first_place text at))

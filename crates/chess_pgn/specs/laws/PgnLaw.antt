@@ -30,5 +30,7 @@ pub record IsReadBack (s : State) (termination : Termination) (text_end : ℕ) (
 -- the text of a game that the limit admits is read back at its place, whatever stands before and after it
 abbrev pub PgnIsReadBack : Type 0
 PgnIsReadBack =
-    (limit : ℕ) → (tags : Tags) → (s : State) → (before after : List ℕ) → AreTagTexts tags → IsPlayable (record { limit = limit; state = s })
-    → IsReadBack s (termination_of tags.ended (outcome_now s)) (length (before ++ pgn [] tags s)) (pgn_read limit (before ++ pgn [] tags s ++ after) (length before))
+    (limit : ℕ) → (tags : Tags) → (s : State) → (before after : List ℕ) → AreTagTexts tags
+    → IsPlayable (record { limit = limit; state = s })
+    → IsReadBack s (termination_of tags.ended (outcome_now s)) (length (before ++ pgn [] tags s))
+    (pgn_read limit (before ++ pgn [] tags s ++ after) (length before))

@@ -1,5 +1,5 @@
--- What the tokens of a game's text tell, with no reader: which are taken, the start, the moves and how the game ended; and why
--- the next one is not taken.
+-- What the tokens of a game's text tell, with no reader: which are taken, the start, the moves and how the game ended;
+-- and why the next one is not taken.
 use Rattle.std.specs.Prelude.{◌≡◌, ℕ, ◌+◌, ◌-◌, ◌<◌, nat_lt, Bool, true, false, not, ◌&&◌, ◌||◌, if◌then◌else◌, List, [], ◌∷◌, ◌++◌, length, Option, Some, None, is_some, Result, Ok, Err, codes}
 use Rattle.std.specs.List.{list_any, flat_map}
 use Rattle.std.specs.Option.{option_map}
@@ -135,19 +135,21 @@ abbrev pub termination_told : Option Termination → List (ℕ × Token) → Opt
 termination_told o [] = o
 termination_told o (t ∷ ts) = termination_told (termination_by_token o t.1) ts
 
--- behind some moves each word is read as its move, in the position reached, where no verdict holds and fewer moves stand than
--- the limit
+-- behind some moves each word is read as its move, in the position reached, where no verdict holds and fewer moves
+-- stand than the limit
 abbrev pub AreReadAs : ℕ → Setup → List Played → List (List ℕ) → List Played → Type 0
 AreReadAs limit start done [] [] = Unit {0}
 AreReadAs limit start done [] (m ∷ ms) = ⊥
 AreReadAs limit start done (w ∷ ws) [] = ⊥
 AreReadAs limit start done (w ∷ ws) (m ∷ ms) =
-    (verdict start done ≡ None) × (length done < limit) × (reading (last start done) w ≡ reads.Move m) × AreReadAs limit start (done ++ m ∷ []) ws ms
+    (verdict start done ≡ None) × (length done < limit) × (reading (last start done) w ≡ reads.Move m)
+    × AreReadAs limit start (done ++ m ∷ []) ws ms
 
 -- ---- why a token is not taken
 
 abbrev pub unless_closed : ℕ → State → Option PgnFaultKind → Option PgnFaultKind
-unless_closed limit s kind = if is_some (verdict_now s) then Some AfterEnd else (if nat_lt (length s.moves) limit then kind else Some TooLong)
+unless_closed limit s kind = if is_some (verdict_now s) then Some AfterEnd else
+    (if nat_lt (length s.moves) limit then kind else Some TooLong)
 
 -- why a word with this reading is not played, if it isn't
 abbrev pub move_fault : ℕ → State → Reading → Option PgnFaultKind
@@ -179,17 +181,21 @@ token_fault limit total v begun s left Bad = fault_at (total - left) (Some BadTo
 
 -- ---- the game
 
--- where reading stopped, in a text of so many bytes: at its end, with a game there or not; at the outcome that is told; or at
--- the token that has the fault. Only an outcome declares anything
-abbrev pub StopsAt : ℕ → ℕ → Variant → List (ℕ × Token) → List (ℕ × Token) → State → Result (Option PgnEnd) PgnFault → Type 0
+-- where reading stopped, in a text of so many bytes: at its end, with a game there or not; at the outcome that is told;
+-- or at the token that has the fault. Only an outcome declares anything
+abbrev pub StopsAt : ℕ → ℕ → Variant → List (ℕ × Token) → List (ℕ × Token) → State → Result (Option PgnEnd) PgnFault
+    → Type 0
 StopsAt limit total v taken [] s (Ok None) = (s.declared ≡ None) × (list_any (λ t. counts t.1) taken ≡ false)
 StopsAt limit total v taken [] s (Ok (Some e)) = ⊥
-StopsAt limit total v taken [] s (Err f) = (s.declared ≡ None) × (list_any (λ t. counts t.1) taken ≡ true) × (f ≡ record { kind = NoResult; place = total })
+StopsAt limit total v taken [] s (Err f) =
+    (s.declared ≡ None) × (list_any (λ t. counts t.1) taken ≡ true) × (f ≡ record { kind = NoResult; place = total })
 StopsAt limit total v taken (t ∷ ts) s (Ok None) = ⊥
 StopsAt limit total v taken (t ∷ ts) s (Ok (Some e)) =
-    (word : List ℕ) × (t.1 ≡ Word word) × (kind_of word ≡ End e.outcome) × (s.declared ≡ declared_behind (is_some (verdict_now s)) e.outcome)
+    (word : List ℕ) × (t.1 ≡ Word word) × (kind_of word ≡ End e.outcome)
+    × (s.declared ≡ declared_behind (is_some (verdict_now s)) e.outcome)
     × (e.termination ≡ termination_told None taken) × (e.place ≡ total - t.0 + length word)
-StopsAt limit total v taken (t ∷ ts) s (Err f) = (s.declared ≡ None) × (token_fault limit total v (list_any (λ u. begins u.1) taken) s t.0 t.1 ≡ Some f)
+StopsAt limit total v taken (t ∷ ts) s (Err f) =
+    (s.declared ≡ None) × (token_fault limit total v (list_any (λ u. begins u.1) taken) s t.0 t.1 ≡ Some f)
 
 -- a game is that of the first tokens: these can be taken, its start is what their last FEN tag spells, else the initial
 -- position of the variant, and its moves are those of their words
@@ -204,4 +210,6 @@ pub record IsOfTokens (limit total : ℕ) (v : Variant) (tokens : List (ℕ × T
 
 abbrev pub GamesAreOfTokens : Type 0
 GamesAreOfTokens =
-    (limit : ℕ) (text : List ℕ) (at : ℕ) → let tokens = tokens_from text (first_place text at) in IsOfTokens limit (length text) (variant_told Normal tokens) tokens (pgn_read limit text at)
+    (limit : ℕ) (text : List ℕ) (at : ℕ) → let tokens =
+    tokens_from text (first_place text at) in IsOfTokens limit (length text) (variant_told Normal tokens) tokens
+    (pgn_read limit text at)

@@ -36,4 +36,5 @@ IsWithin left Bad = Unit {0}
 
 -- whatever was read before, the rest of a game is read alike from either place on
 abbrev pub ReadsAlike : List ℕ → ℕ → ℕ → Type 0
-ReadsAlike text a b = (limit : ℕ) (g : SoFar) → game_of limit (length text) g (tokens_from text a) ≡ game_of limit (length text) g (tokens_from text b)
+ReadsAlike text a b = (limit : ℕ) (g : SoFar)
+    → game_of limit (length text) g (tokens_from text a) ≡ game_of limit (length text) g (tokens_from text b)

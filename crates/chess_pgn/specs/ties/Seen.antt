@@ -35,5 +35,6 @@ first_seen (Err f) = (fault_seen f, [])
 -- the next token of a text from a place on, and the place behind it; what can't be read is the last
 abbrev pub IsNextToken : List ℕ → ℕ → Result (Option (Token × ℕ)) TokenFault → Type 0
 IsNextToken text at (Ok None) = tokens_from text at ≡ []
-IsNextToken text at (Ok (Some r)) = (tokens_from text at ≡ (length text - at, token_seen r.0) ∷ tokens_from text r.1) × (at < r.1) × (r.1 ≤ length text)
+IsNextToken text at (Ok (Some r)) = (tokens_from text at ≡ (length text - at, token_seen r.0) ∷ tokens_from text r.1)
+    × (at < r.1) × (r.1 ≤ length text)
 IsNextToken text at (Err f) = tokens_from text at ≡ (length text - at, fault_seen f) ∷ []

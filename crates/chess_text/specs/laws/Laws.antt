@@ -16,7 +16,8 @@ use Rattle.chess_text.specs.San.{san, shown_move}
 
 -- the text spells the move, and of the legal moves no other
 abbrev pub SpellsAlone : Setup → List ℕ → Move → Type 0
-SpellsAlone p text m = IsTrue (spells p text m) × ((n : Move) → IsTrue (is_legal p n) → IsTrue (spells p text n) → n ≡ m)
+SpellsAlone p text m = IsTrue (spells p text m)
+    × ((n : Move) → IsTrue (is_legal p n) → IsTrue (spells p text n) → n ≡ m)
 
 -- what is written for a legal move spells it alone, has a move's shape, and is read as it
 abbrev pub SanSpellsItsMove : Type 0
@@ -35,16 +36,19 @@ abbrev pub begins_with_letter : List ℕ → Bool
 begins_with_letter [] = false
 begins_with_letter (c ∷ cs) = is_letter c
 
--- what is written for a legal move has two to seven bytes, each of them one of these, and begins with a letter, as no number and
--- no outcome of a game does
+-- what is written for a legal move has two to seven bytes, each of them one of these, and begins with a letter, as no
+-- number and no outcome of a game does
 abbrev pub SanIsShort : Type 0
-SanIsShort = (p : Setup) → (m : Move) → IsSound p → IsTrue (is_legal p m) → (2 ≤ length (san p m)) × (length (san p m) ≤ 7)
+SanIsShort = (p : Setup) → (m : Move) → IsSound p → IsTrue (is_legal p m)
+    → (2 ≤ length (san p m)) × (length (san p m) ≤ 7)
 
 abbrev pub SanHasBytes : Type 0
-SanHasBytes = (p : Setup) → (m : Move) → IsSound p → IsTrue (is_legal p m) → IsTrue (list_all (λ c. is_san_byte c) (san p m))
+SanHasBytes = (p : Setup) → (m : Move) → IsSound p → IsTrue (is_legal p m)
+    → IsTrue (list_all (λ c. is_san_byte c) (san p m))
 
 abbrev pub SanBeginsWithLetter : Type 0
-SanBeginsWithLetter = (p : Setup) → (m : Move) → IsSound p → IsTrue (is_legal p m) → IsTrue (begins_with_letter (san p m))
+SanBeginsWithLetter = (p : Setup) → (m : Move) → IsSound p → IsTrue (is_legal p m)
+    → IsTrue (begins_with_letter (san p m))
 
 -- a text is read as a legal move, if as any
 abbrev pub ReadMovesAreLegal : Type 0
@@ -58,7 +62,8 @@ abbrev pub CoordinateHasShape : Type 0
 CoordinateHasShape = (p : Setup) → (m : Move) → IsSound p → IsTrue (is_legal p m) → IsTrue (shape (coordinate m))
 
 abbrev pub CoordinateIsReadBack : Type 0
-CoordinateIsReadBack = (p : Setup) → (m : Move) → IsSound p → IsTrue (is_legal p m) → reading p (coordinate m) ≡ reads.Move m
+CoordinateIsReadBack = (p : Setup) → (m : Move) → IsSound p → IsTrue (is_legal p m)
+    → reading p (coordinate m) ≡ reads.Move m
 
 -- and of the text that lists and lines of moves show
 abbrev pub ShownMoveSpellsItsMove : Type 0
@@ -68,7 +73,8 @@ abbrev pub ShownMoveHasShape : Type 0
 ShownMoveHasShape = (p : Setup) → (m : Move) → IsSound p → IsTrue (is_legal p m) → IsTrue (shape (shown_move p m))
 
 abbrev pub ShownMoveIsReadBack : Type 0
-ShownMoveIsReadBack = (p : Setup) → (m : Move) → IsSound p → IsTrue (is_legal p m) → reading p (shown_move p m) ≡ reads.Move m
+ShownMoveIsReadBack = (p : Setup) → (m : Move) → IsSound p → IsTrue (is_legal p m)
+    → reading p (shown_move p m) ≡ reads.Move m
 
 -- parts are read of a text exactly where it is the text of these
 abbrev pub PartsAreTheTexts : Type 0

@@ -15,8 +15,8 @@ abbrev pub normal_end_of : Form → Colour → ℕ
 normal_end_of (Castling w) c = home_square c (castled_king_file w)
 normal_end_of (Walk q) c = q.end.to
 
--- on positions of normal chess the texts of both variants are these; what else stands in them says castling by the rules,
--- which are kept too
+-- on positions of normal chess the texts of both variants are these; what else stands in them says castling by the
+-- rules, which are kept too
 pub record NormalIsKept (p : Setup) : Type 0 where
   pub ends : (form : Form) → end_square form p ≡ normal_end_of form p.side
   pub shown : (m : Move) → shown_move p m ≡ coordinate m

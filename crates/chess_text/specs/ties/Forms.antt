@@ -55,7 +55,8 @@ form_fits (Walk q) d = fits q d
 unfoldable pub is_spelled : Form → Setup → Move → Bool
 is_spelled form p m = passes (form_fits form) (described p m)
 
--- where the move ends that names castling: in normal chess the king's end, in Chess960 the rook's square, if the right is there
+-- where the move ends that names castling: in normal chess the king's end, in Chess960 the rook's square, if the right
+-- is there
 abbrev pub castling_end : Variant → Colour → CastlingSide → Option ℕ → ℕ
 castling_end Normal c w right = home_square c (castled_king_file w)
 castling_end Fischerandom c w None = home_square c (castled_king_file w)

@@ -33,7 +33,8 @@ pub record Adds (s s' : StreamState) (piece : List ℕ) : Type 0 where
   pub at : s'.at ≡ s.at
 
 abbrev pub AddsPiece : {E : Type 0} → StreamState → StreamState → InputState → InputState → Result (Unit {0}) E → Type 0
-AddsPiece s s' r r' (Ok _) = (piece : List ℕ) × Adds s s' piece × GavePiece r r' piece × (s'.ended ≡ (length piece == 0))
+AddsPiece s s' r r' (Ok _) = (piece : List ℕ) × Adds s s' piece × GavePiece r r' piece
+    × (s'.ended ≡ (length piece == 0))
 AddsPiece s s' r r' (Err _) = Adds s s' [] × FailedToRead r r' × (s'.ended ≡ s.ended)
 
 -- no more bytes are needed for what is told of the game at the place, or none are left
@@ -44,13 +45,15 @@ abbrev pub Fills : {E : Type 0} → StreamState → StreamState → InputState �
 Fills s s' r r' (Ok _) = (more : List ℕ) × Adds s s' more × HasRead s'.ended r r' more × (is_full s' ≡ true)
 Fills s s' r r' (Err _) = (more : List ℕ) × Adds s s' more × BrokeOff r r' more × (s'.ended ≡ false)
 
-abbrev pub Refills : {A : Type 0} → StreamState → StreamState → InputState → InputState → List ℕ → Result A StreamFault → Type 0
+abbrev pub Refills : {A : Type 0} → StreamState → StreamState → InputState → InputState → List ℕ → Result A StreamFault
+    → Type 0
 Refills s s' r r' text (Ok _) = GoesOn s s' r r' text (λ whole. Unit {0})
 Refills s s' r r' text (Err e) = (more : List ℕ) × Stops s' r r' (text ++ more) e
 
 -- as `is_held`, of what was answered there
 abbrev pub is_told_by : StreamState → Result (Option PgnEnd) PgnFault → Bool
-is_told_by s answer = (s.ended && nat_le (length s.window) (s.at + 16777216)) || ((nat_lt 0 s.at || nat_le 3 (length s.window)) && settles_answer s.window s.at answer)
+is_told_by s answer = (s.ended && nat_le (length s.window) (s.at + 16777216))
+    || ((nat_lt 0 s.at || nat_le 3 (length s.window)) && settles_answer s.window s.at answer)
 
 -- how it is read in them
 abbrev pub held_answer : ℕ → StreamState → Result (Option PgnEnd) PgnFault
@@ -71,8 +74,8 @@ IsPlaced s plies (Ok None) = s.ended ≡ true
 IsPlaced s plies (Ok (Some e)) = (s.at < e.place) × (plies + s.at ≤ e.place) × (e.place ≤ length s.window)
 IsPlaced s plies (Err f) = (s.at ≤ f.place) × (f.place ≤ length s.window)
 
--- what each stream keeps: the place is in the window, which has no more bytes than are told of the game there, and the byte
--- before it, if there is one
+-- what each stream keeps: the place is in the window, which has no more bytes than are told of the game there, and the
+-- byte before it, if there is one
 pub record IsSound (s : StreamState) : Type 0 where
   pub within : s.at ≤ length s.window
   pub few : length s.window ≤ s.at + 16777217
@@ -80,17 +83,22 @@ pub record IsSound (s : StreamState) : Type 0 where
 
 -- ---- the law
 
--- what a window tells of a game is told of it in each whole text: where the window is full, and doesn't tell it, the game is
--- too long
+-- what a window tells of a game is told of it in each whole text: where the window is full, and doesn't tell it, the
+-- game is too long
 abbrev pub WindowsTell : Type 0
 WindowsTell =
-    (limit : ℕ) (s : StreamState) (text whole : List ℕ) → IsSound s → s.before ≤ length text → s.window ≡ drop s.before text → IsWholeOf s.ended text whole
-    → (is_held limit s ≡ true → (game_at limit whole (place s) ≡ moved_answer s.before (held_answer limit s)) × ((pgn_read limit whole (place s)).state ≡ (pgn_read limit s.window s.at).state))
-    × (is_held limit s ≡ false → is_full s ≡ true → game_at limit whole (place s) ≡ moved_answer s.before (Err (too_long s)))
+    (limit : ℕ) (s : StreamState) (text whole : List ℕ) → IsSound s → s.before ≤ length text
+    → s.window ≡ drop s.before text → IsWholeOf s.ended text whole
+    → (is_held limit s ≡ true → (game_at limit whole (place s) ≡ moved_answer s.before (held_answer limit s))
+    × ((pgn_read limit whole (place s)).state ≡ (pgn_read limit s.window s.at).state))
+    × (is_held limit s ≡ false → is_full s ≡ true
+    → game_at limit whole (place s) ≡ moved_answer s.before (Err (too_long s)))
 
 -- ---- lines of a tag Event
 
--- the place is at the next line of a tag Event that is held, or where none is, at the last place behind which one may yet come
+-- the place is at the next line of a tag Event that is held, or where none is, at the last place behind which one may
+-- yet come
 abbrev pub FindsHeld : StreamState → StreamState → Bool → Type 0
-FindsHeld s s' true = (s' ≡ record s { at = s'.at }) × IsNextEvent s.window s.at (Some s'.at) × (s'.at ≤ length s.window)
+FindsHeld s s' true = (s' ≡ record s { at = s'.at }) × IsNextEvent s.window s.at (Some s'.at)
+    × (s'.at ≤ length s.window)
 FindsHeld s s' false = (s' ≡ record s { at = max s.at (length s.window - 7) }) × IsNextEvent s.window s.at None

@@ -2,11 +2,12 @@ use Rattle.std.proofs.Common.{◌≡◌, ◌+◌, ◌-◌, List}
 use Rattle.chess_arbiter.specs.Games.{GameTold}
 use Rattle.chess_arbiter.proofs.GamesTold.{SoFar}
 use Rattle.chess_arbiter.proofs.games.play_each.Given as goal
+use Rattle.chess_game.specs.declared.game.TheConstants.{MOST_MOVES}
 
 -- so many games were played and told, none with a fault; the next has one number more
 abbrev pub invariant-loop-number : goal.invariant-loop-number
 invariant-loop-number g l =
-    (l.game.limit ≡ 20000) × (games : List GameTold)
+    (l.game.limit ≡ MOST_MOVES) × (games : List GameTold)
     × SoFar l.plan (g.W.Output.seen l.fn.output) (g.W.Output.seen l.output) (l.number + 1) l.score games
 
 abbrev pub decreases-loop-number : goal.decreases-loop-number

@@ -20,4 +20,5 @@ returns-then-is_empty-clause-word c = λ f h. h.start
 pub returns-else-is_empty-clause-word : goal.returns-else-is_empty-clause-word
 returns-else-is_empty-clause-word c =
     let some : 0 < length c.args.places.now = grind (arith, common_steps) in
-    λ f h. word_at f c.args.places.now (length c.args.places.now - 1) c.index-places-places.result h.behind (omega arith)
+    λ f h. word_at f c.args.places.now (length c.args.places.now - 1) c.index-places-places.result h.behind
+    (omega arith)

@@ -1,4 +1,5 @@
--- White space or a dot is a token at which nothing counts, so a game is read alike from behind it on (GameReads.passed).
+-- White space or a dot is a token at which nothing counts, so a game is read alike from behind it on
+-- (GameReads.passed).
 use Rattle.std.proofs.Common.{sym, ◌∙◌, arith}
 use Rattle.chess_pgn.proofs.GameReads.{passed}
 use Rattle.chess_pgn.proofs.read.behind_blanks.Goals as goal

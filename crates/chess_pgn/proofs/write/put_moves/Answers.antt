@@ -8,15 +8,23 @@ use Rattle.chess_pgn.proofs.write.put_moves.Goals as goal
 pub put_move-requires : goal.put_move-requires
 put_move-requires g c =
     let s = c.args.game.now.state in
-    rw c.loop-ply.invariant.position (legal_next s.start s.moves c.loop-ply.ply c.move_at.result c.position-playable.ensures.playable.line c.move_at.ensures)
+    rw c.loop-ply.invariant.position (legal_next s.start s.moves c.loop-ply.ply c.move_at.result
+    c.position-playable.ensures.playable.line c.move_at.ensures)
 
 pub returns-in_err-put_move-clause-added : goal.returns-in_err-put_move-clause-added
 returns-in_err-put_move-clause-added g c =
     let l = c.loop-ply in
     let s = c.args.game.now.state in
     adds_exit _ _ c.from_residual.result _ _ _
-    (moves_broke _ _ _ _ _ c.args.lines.now.prefix.now l.lines.prefix.now c.args.lines.now.column l.lines.column s.start (g.B.Board.position l.scratch) s.moves l.ply _ c.move_at.result
-    (record { prefix_is = l.invariant.prefix; column_is = l.invariant.column; first = refl; position = l.invariant.position; move = c.move_at.ensures })
+    (moves_broke _ _ _ _ _ c.args.lines.now.prefix.now l.lines.prefix.now c.args.lines.now.column l.lines.column s.start
+    (g.B.Board.position l.scratch) s.moves l.ply _ c.move_at.result
+    (record {
+      prefix_is = l.invariant.prefix;
+      column_is = l.invariant.column;
+      first = refl;
+      position = l.invariant.position;
+      move = c.move_at.ensures;
+    })
     l.invariant.added c.in_err-put_move.ensures.added)
     c.from_residual.ensures.0
 
@@ -24,11 +32,22 @@ pub loop-ply-preserved : goal.loop-ply-preserved
 loop-ply-preserved g c =
     let l = c.loop-ply in
     let s = c.args.game.now.state in
-    let next : IsNext c.args.lines.now.prefix.now c.args.lines.now.column s.start s.moves l.ply l.lines.prefix.now l.lines.column _ (g.B.Board.position l.scratch) c.move_at.result =
-    record { prefix_is = l.invariant.prefix; column_is = l.invariant.column; first = refl; position = l.invariant.position; move = c.move_at.ensures } in
+    let next : IsNext c.args.lines.now.prefix.now c.args.lines.now.column s.start s.moves l.ply l.lines.prefix.now
+    l.lines.column _ (g.B.Board.position l.scratch) c.move_at.result =
     record {
-      added = moves_put _ _ _ _ _ _ c.args.lines.now.prefix.now l.lines.prefix.now c.args.lines.now.column l.lines.column s.start (g.B.Board.position l.scratch) s.moves l.ply _ c.move_at.result next l.invariant.added c.in_ok-put_move.ensures.added;
-      column = columns_more c.args.lines.now.prefix.now l.lines.prefix.now c.args.lines.now.column l.lines.column _ s.start (g.B.Board.position l.scratch) s.moves l.ply _ c.move_at.result next c.in_ok-put_move.ensures.column;
+      prefix_is = l.invariant.prefix;
+      column_is = l.invariant.column;
+      first = refl;
+      position = l.invariant.position;
+      move = c.move_at.ensures;
+    } in
+    record {
+      added = moves_put _ _ _ _ _ _ c.args.lines.now.prefix.now l.lines.prefix.now c.args.lines.now.column
+          l.lines.column s.start (g.B.Board.position l.scratch) s.moves l.ply _ c.move_at.result next l.invariant.added
+          c.in_ok-put_move.ensures.added;
+      column = columns_more c.args.lines.now.prefix.now l.lines.prefix.now c.args.lines.now.column l.lines.column _
+          s.start (g.B.Board.position l.scratch) s.moves l.ply _ c.move_at.result next c.in_ok-put_move.ensures.column;
       prefix = c.in_ok-put_move.ensures.prefix ∙ l.invariant.prefix;
-      position = positions_more s.start (g.B.Board.position l.scratch) _ s.moves l.ply c.move_at.result l.invariant.position c.move_at.ensures c.in_ok-put_move.ensures.position;
+      position = positions_more s.start (g.B.Board.position l.scratch) _ s.moves l.ply c.move_at.result
+          l.invariant.position c.move_at.ensures c.in_ok-put_move.ensures.position;
     }

@@ -10,7 +10,8 @@ use Rattle.chess_text.proofs.reading.spelled.Given as goal
 abbrev pub invariant-loop-from : goal.invariant-loop-from
 invariant-loop-from g l =
     with_moves l.found (flat_map
-    (λ a. spelled_with l.form (g.B.Board.position l.board) a (end_square l.form (g.B.Board.position l.board)) promotions)
+    (λ a. spelled_with l.form (g.B.Board.position l.board) a (end_square l.form (g.B.Board.position l.board))
+    promotions)
     (members l.rest)) ≡ one_of
     (filter (λ m. is_spelled l.form (g.B.Board.position l.board) m) (moves (g.B.Board.position l.board)))
 

@@ -173,7 +173,8 @@ returns-then-not-options g c =
     (Faulty c.in-Err-read.fault)) c.is_err-in-Err-read.ensures.value c.if-is_err-2.false
     c.tell_line-in-Err-read.ensures in
     let alone = not-true c.args.options.keep_going c.if-not-options.true in
-    subst (λ (t : Tally). CountsAny c.args.options (g.R.Input.seen c.args.input.now) (g.R.Input.seen c.read_game.new.input)
+    subst (λ (t : Tally). CountsAny c.args.options (g.R.Input.seen c.args.input.now)
+    (g.R.Input.seen c.read_game.new.input)
     (g.W.Output.seen c.args.output.now) (g.W.Output.seen c.tell_line-in-Err-read.new.output) (Ok t))
     (sym c.with_fault-tally.ensures)
     (last_told c.args.options c.loop-read.stream c.read_game.new.self (g.R.Input.seen c.args.input.now)
@@ -266,7 +267,8 @@ returns-in-Err-next_event g c =
     subst (λ (f : VerifyFault). CountsAny c.args.options (g.R.Input.seen c.args.input.now)
     (g.R.Input.seen c.next_event.new.input) (g.W.Output.seen c.args.output.now)
     (g.W.Output.seen c.tell_line-in-Err-read.new.output) (Err f)) (sym c.stream_fault-in-Err-next_event.ensures)
-    (stopped c.args.options c.read_game.new.self (g.R.Input.seen c.args.input.now) (g.R.Input.seen c.next_event.new.input)
+    (stopped c.args.options c.read_game.new.self (g.R.Input.seen c.args.input.now)
+    (g.R.Input.seen c.next_event.new.input)
     (g.W.Output.seen c.args.output.now) (g.W.Output.seen c.tell_line-in-Err-read.new.output) (i.1.0 ++ on.0)
     (i.1.1 ++ Faulty c.in-Err-read.fault ∷ [])
     (fault_first c.args.options c.loop-read.stream c.read_game.new.self (g.R.Input.seen c.args.input.now)

@@ -9,7 +9,8 @@ use Rattle.pgn_verifier.proofs.collection.tell_collection.Goals as goal
 
 pub returns-in_err-tell_counts : goal.returns-in_err-tell_counts
 returns-in_err-tell_counts g c =
-    not_told c.args.options c.args.text.now (g.W.Output.seen c.args.output.now) (g.W.Output.seen c.count_each.new.output)
+    not_told c.args.options c.args.text.now (g.W.Output.seen c.args.output.now)
+    (g.W.Output.seen c.count_each.new.output)
     WriteFault (g.W.Output.seen c.tell_counts.new.output) c.in_ok-tally.tally
     c.from_residual-in_err-tell_counts.result
     c.in_ok-tally.ensures c.in_err-tell_counts.ensures c.from_residual-in_err-tell_counts.ensures.0
@@ -23,9 +24,11 @@ returns-in_err-flush g c =
 
 pub returns : goal.returns
 returns g c =
-    subst (λ (v : Verified). HandedOnBy {E = WriteFault} c.args.options c.args.text.now (g.W.Output.seen c.args.output.now)
+    subst (λ (v : Verified). HandedOnBy {E = WriteFault} c.args.options c.args.text.now
+    (g.W.Output.seen c.args.output.now)
     (g.W.Output.seen c.flush.new.self) (Ok v)) (sym c.verified_by.ensures)
-    (handed_on c.args.options c.args.text.now (g.W.Output.seen c.args.output.now) (g.W.Output.seen c.count_each.new.output)
+    (handed_on c.args.options c.args.text.now (g.W.Output.seen c.args.output.now)
+    (g.W.Output.seen c.count_each.new.output)
     WriteFault WriteFault (g.W.Output.seen c.tell_counts.new.output) (g.W.Output.seen c.flush.new.self)
     c.in_ok-tally.tally
     c.in_ok-tally.ensures c.in_ok-tell_counts.ensures c.in_ok-flush.ensures)

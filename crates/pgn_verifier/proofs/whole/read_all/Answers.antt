@@ -5,18 +5,23 @@ use Rattle.pgn_verifier.proofs.whole.read_all.Goals as goal
 use Rattle.pgn_stream.proofs.Fills.{nothing_read}
 
 pub loop-count-init : goal.loop-count-init
-loop-count-init g c = record { front = rw c.new-text.ensures.items (nothing_read (g.R.Input.seen c.args.input.now)); few = rw c.new-text.ensures.items (omega arith) }
+loop-count-init g c = record {
+  front = rw c.new-text.ensures.items (nothing_read (g.R.Input.seen c.args.input.now));
+  few = rw c.new-text.ensures.items (omega arith);
+}
 
 pub returns-then-count-len-clause-failed : goal.returns-then-count-len-clause-failed
 returns-then-count-len-clause-failed g c =
     let few = c.loop-count.invariant.few in
     let len : c.len.result ≡ length c.loop-count.text.items = omega arith in
-    too_long (g.R.Input.seen c.args.input.now) (g.R.Input.seen c.loop-count.input) (g.R.Input.seen c.read.new.self) c.loop-count.text.items c.read.new.buf c.in-Ok.count c.len.result
+    too_long (g.R.Input.seen c.args.input.now) (g.R.Input.seen c.loop-count.input) (g.R.Input.seen c.read.new.self)
+    c.loop-count.text.items c.read.new.buf c.in-Ok.count c.len.result
     c.loop-count.invariant.front c.in-Ok.ensures.1 len few c.if-count-len.true c.in-Ok.ensures.0
 
 pub returns-then-count-eq0-clause-all : goal.returns-then-count-eq0-clause-all
 returns-then-count-eq0-clause-all g c =
-    all_read (g.R.Input.seen c.args.input.now) (g.R.Input.seen c.loop-count.input) (g.R.Input.seen c.read.new.self) c.loop-count.text.items c.read.new.buf c.in-Ok.count
+    all_read (g.R.Input.seen c.args.input.now) (g.R.Input.seen c.loop-count.input) (g.R.Input.seen c.read.new.self)
+    c.loop-count.text.items c.read.new.buf c.in-Ok.count
     c.loop-count.invariant.front c.loop-count.invariant.few c.in-Ok.ensures.1 c.if-count-eq0.true
 
 pub overflow_sub-len : goal.overflow_sub-len
@@ -30,19 +35,23 @@ loop-count-preserved g c =
     let piece = take c.in-Ok.count c.read.new.buf in
     let taken : is_err c.extend_from_slice.result ≡ false = sym c.is_err.ensures.value ∙ c.if-is_err.false in
     let all : c.extend_from_slice.new.self.items ≡ c.loop-count.text.items ++ piece =
-    pushed c.extend_from_slice.result c.loop-count.text.items (c.loop-count.text.items ++ piece) c.extend_from_slice.new.self.items taken c.extend_from_slice.ensures.items in
+    pushed c.extend_from_slice.result c.loop-count.text.items (c.loop-count.text.items ++ piece)
+    c.extend_from_slice.new.self.items taken c.extend_from_slice.ensures.items in
     let few = c.loop-count.invariant.few in
     let room = c.if-count-len.false in
     let some : 0 < c.in-Ok.count = (let other = c.if-count-eq0.false in omega (arith, other)) in
     let len : c.len.result ≡ length c.loop-count.text.items = omega arith in
     record {
-      front = rw all (more_read (g.R.Input.seen c.args.input.now) (g.R.Input.seen c.loop-count.input) (g.R.Input.seen c.read.new.self) c.loop-count.text.items c.read.new.buf c.in-Ok.count
+      front = rw all (more_read (g.R.Input.seen c.args.input.now) (g.R.Input.seen c.loop-count.input)
+          (g.R.Input.seen c.read.new.self) c.loop-count.text.items c.read.new.buf c.in-Ok.count
           c.loop-count.invariant.front c.in-Ok.ensures.1 some c.in-Ok.ensures.0);
-      few = rw all (still_few c.loop-count.text.items c.read.new.buf c.in-Ok.count c.len.result len few room c.in-Ok.ensures.0);
+      few = rw all (still_few c.loop-count.text.items c.read.new.buf c.in-Ok.count c.len.result len few room
+          c.in-Ok.ensures.0);
     }
 
 pub returns-then-is_err-clause-failed : goal.returns-then-is_err-clause-failed
 returns-then-is_err-clause-failed g c =
     let some : 0 < c.in-Ok.count = (let other = c.if-count-eq0.false in omega (arith, other)) in
-    no_room (g.R.Input.seen c.args.input.now) (g.R.Input.seen c.loop-count.input) (g.R.Input.seen c.read.new.self) c.loop-count.text.items c.read.new.buf c.in-Ok.count
+    no_room (g.R.Input.seen c.args.input.now) (g.R.Input.seen c.loop-count.input) (g.R.Input.seen c.read.new.self)
+    c.loop-count.text.items c.read.new.buf c.in-Ok.count
     c.loop-count.invariant.front c.in-Ok.ensures.1 some c.in-Ok.ensures.0

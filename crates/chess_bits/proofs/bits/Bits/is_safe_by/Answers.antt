@@ -25,11 +25,19 @@ returns c =
     let changed : (k : ℕ) → k < 64 → has c.union-changed.result k ≡ is_changed p m k =
     λ k low. c.union-changed.ensures k ∙ rw (filled k low, emptied k) refl in
     let later : IsLater c.union-changed.result c.filled_by-filled.result by p.men (men_after p m) =
-    rw c.other-by.ensures (later_after p m c.union-changed.result c.filled_by-filled.result (mover_some p m pattern) (mover_own p m pattern) changed filled) in
+    rw c.other-by.ensures (later_after p m c.union-changed.result c.filled_by-filled.result (mover_some p m pattern)
+    (mover_own p m pattern) changed filled) in
     let stood = c.occupied.ensures p.men c.self.invariant.1 in
     let occupied : IsOccupied c.union-occupied.result (men_after p m) =
-    record { of_men = λ k low. c.union-occupied.ensures k ∙ rw (c.without-kept.ensures k low, stood.of_men k low) (later.of_all k low) } in
-    let kinds = c.outside-men.ensures by c.filled_by-filled.result p.men (men_after p m) (c.of.ensures p.men c.self.invariant.1) later in
+    record {
+      of_men = λ k low. c.union-occupied.ensures k
+          ∙ rw (c.without-kept.ensures k low, stood.of_men k low) (later.of_all k low);
+    } in
+    let kinds = c.outside-men.ensures by c.filled_by-filled.result p.men (men_after p m)
+    (c.of.ensures p.men c.self.invariant.1) later in
     let hit = c.attacks.ensures (men_after p m) kinds occupied in
     let there = rw (← c.self.view_is) at c.king_after-king.ensures.there in
-    rw (← c.self.view_is) (ap not (hit ∙ ap (is_attacked (men_after p m) c.king_after-king.result) c.other-by.ensures ∙ sym (check_after p m c.king_after-king.result c.self.invariant.0 pattern c.king_after-king.ensures.in_range there)) ∙ legal_is p m pattern)
+    rw (← c.self.view_is)
+    (ap not (hit ∙ ap (is_attacked (men_after p m) c.king_after-king.result) c.other-by.ensures
+    ∙ sym (check_after p m c.king_after-king.result c.self.invariant.0 pattern
+    c.king_after-king.ensures.in_range there)) ∙ legal_is p m pattern)

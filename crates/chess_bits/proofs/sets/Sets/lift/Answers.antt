@@ -17,7 +17,8 @@ returns-in-White c =
           (λ j l. c.without-self.ensures j l ∙ rw (c.single-here.ensures.value j) refl) h.all_white;
       all_black = all_theirs_lifted c.args.self.now.all_black men White c.args.square c.args.man all low
           c.in-White.is at h.all_black;
-      men_word = word_lifted men c.args.square c.args.man c.args.self.now.men_word c.man_key.result all low at h.men_word
+      men_word = word_lifted men c.args.square c.args.man c.args.self.now.men_word c.man_key.result all low at
+          h.men_word
           c.man_key.ensures;
     }
 
@@ -33,6 +34,7 @@ returns-in-Black c =
           c.in-Black.is at h.all_white;
       all_black = all_lift c.args.self.now.all_black c.without-self-in-Black.result men Black c.args.square all low
           (λ j l. c.without-self-in-Black.ensures j l ∙ rw (c.single-here.ensures.value j) refl) h.all_black;
-      men_word = word_lifted men c.args.square c.args.man c.args.self.now.men_word c.man_key.result all low at h.men_word
+      men_word = word_lifted men c.args.square c.args.man c.args.self.now.men_word c.man_key.result all low at
+          h.men_word
           c.man_key.ensures;
     }

@@ -4,7 +4,10 @@ use Rattle.chess_bits.proofs.Standing.{none_at, sets_same}
 use Rattle.chess_bits.proofs.sets.Sets.standing.Goals as goal
 
 pub loop-number-init : goal.loop-number-init
-loop-number-init c = record { sets = c.empty-sets.ensures _ (λ k low. none_at 64 k); same = λ k low. absurd (omega (arith, low)) }
+loop-number-init c = record {
+  sets = c.empty-sets.ensures _ (λ k low. none_at 64 k);
+  same = λ k low. absurd (omega (arith, low));
+}
 
 pub returns : goal.returns
 returns c =

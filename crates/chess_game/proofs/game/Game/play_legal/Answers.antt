@@ -19,23 +19,38 @@ verdict_on-self-inside-requires g c =
     let places = c.self.inside.places.items in
     let x : Place = record { made = c.args.m; saved = c.make-saved.result; reached = c.on.result } in
     let in_place : is_err c.push.result ≡ false = sym c.is_err.ensures.value ∙ c.if-is_err.false in
-    let all : c.push.new.self.items ≡ places ++ x ∷ [] = pushed c.push.result places (places ++ x ∷ []) c.push.new.self.items in_place c.push.ensures.items in
-    let more = added c.self.inside.start.position places x _ _ c.self.invariant.0.follows c.self.invariant.0.at_end c.make-saved.ensures.made c.on.ensures.position c.on.ensures.known in
+    let all : c.push.new.self.items ≡ places ++ x ∷ [] =
+    pushed c.push.result places (places ++ x ∷ []) c.push.new.self.items in_place c.push.ensures.items in
+    let more = added c.self.inside.start.position places x _ _ c.self.invariant.0.follows c.self.invariant.0.at_end
+    c.make-saved.ensures.made c.on.ensures.position c.on.ensures.known in
     let words = words_more g.B.Board.word_of c.self.inside.start places x c.self.invariant.0.words c.on.ensures.word in
-    rw (c.as_slice.ensures.value, all) (record { known = c.self.invariant.0.known; follows = more.follows; words = words; at_end = more.at_end })
+    rw (c.as_slice.ensures.value, all)
+    (record { known = c.self.invariant.0.known; follows = more.follows; words = words; at_end = more.at_end })
 
 pub invariant_of-self : goal.invariant_of-self
 invariant_of-self g c =
     let places = c.self.inside.places.items in
     let x : Place = record { made = c.args.m; saved = c.make-saved.result; reached = c.on.result } in
     let may = may_play c.args.self.now c.args.m c.requires in
-    let few : length places < c.self.inside.limit = room c.self.inside.limit c.self.inside.start.position places c.self.inside.declared c.args.self.now c.self.view_is (is_full c.args.self.now) refl may.room in
+    let few : length places < c.self.inside.limit =
+    room c.self.inside.limit c.self.inside.start.position places c.self.inside.declared c.args.self.now
+    c.self.view_is (is_full c.args.self.now) refl may.room in
     let in_place : is_err c.push.result ≡ false = sym c.is_err.ensures.value ∙ c.if-is_err.false in
-    let all : c.push.new.self.items ≡ places ++ x ∷ [] = pushed c.push.result places (places ++ x ∷ []) c.push.new.self.items in_place c.push.ensures.items in
-    let more = added c.self.inside.start.position places x _ _ c.self.invariant.0.follows c.self.invariant.0.at_end c.make-saved.ensures.made c.on.ensures.position c.on.ensures.known in
+    let all : c.push.new.self.items ≡ places ++ x ∷ [] =
+    pushed c.push.result places (places ++ x ∷ []) c.push.new.self.items in_place c.push.ensures.items in
+    let more = added c.self.inside.start.position places x _ _ c.self.invariant.0.follows c.self.invariant.0.at_end
+    c.make-saved.ensures.made c.on.ensures.position c.on.ensures.known in
     let words = words_more g.B.Board.word_of c.self.inside.start places x c.self.invariant.0.words c.on.ensures.word in
-    let none : c.self.inside.verdict ≡ None = no_verdict (record { start = c.self.inside.start.position; moves = moves_of places; declared = c.self.inside.declared }) c.self.inside.verdict (is_over c.args.self.now.state) c.self.invariant.1.now (rw (← c.self.view_is) refl) may.on in (
+    let none : c.self.inside.verdict ≡ None =
+    no_verdict
+    (record {
+      start = c.self.inside.start.position;
+      moves = moves_of places;
+      declared = c.self.inside.declared;
+    }) c.self.inside.verdict (is_over c.args.self.now.state)
+    c.self.invariant.1.now (rw (← c.self.view_is) refl) may.on in (
       rw all (record { known = c.self.invariant.0.known; follows = more.follows; words = words; at_end = more.at_end }),
-      rw all (judged_more c.self.inside.start.position places x c.self.inside.verdict c.verdict_on-self-inside.result c.self.invariant.1 none (rw (c.as_slice.ensures.value, all) at c.verdict_on-self-inside.ensures)),
+      rw all (judged_more c.self.inside.start.position places x c.self.inside.verdict c.verdict_on-self-inside.result
+          c.self.invariant.1 none (rw (c.as_slice.ensures.value, all) at c.verdict_on-self-inside.ensures)),
       record { few = omega arith; made = omega arith; bound = omega arith },
     )

@@ -21,7 +21,8 @@ returns-then-self-clause-event g c r text stands =
 
 pub returns-then-self-clause-further : goal.returns-then-self-clause-further
 returns-then-self-clause-further g c = none_further c.args.self.now c.loop-self.self c.find_held.new.self
-    c.loop-self.invariant.1 (ap (λ (s : StreamState). s.ended) (sym c.self.view_is) ∙ c.if-self.true) c.if-find_held.ensures
+    c.loop-self.invariant.1 (ap (λ (s : StreamState). s.ended) (sym c.self.view_is) ∙ c.if-self.true)
+    c.if-find_held.ensures
 
 pub loop-self-smaller : goal.loop-self-smaller
 loop-self-smaller g c =

@@ -1,6 +1,6 @@
 ghost use Rattle.std.specs.Prelude.{◌≤◌, IfOk};
 
-use crate::{
+use byte_devices::{
     Counted, GatedReader, GatedWriter, Input, Output, PieceReader, PieceWriter, ReadFault,
     WriteFault, put, put_parts,
 };
@@ -68,26 +68,25 @@ fn one_call_fails_and_the_next_goes_on(rt: HostRuntime) {
     assert_eq!(rt; output.writer().bytes.as_slice(), b"new\ne2e4".as_slice());
 }
 
-// The bytes at a time, the call that fails, the answer, and what was taken of the parts.
+const PARTS: [&[u8]; 3] = [b"pong ", b"7", b"\n"];
+
+// The bytes at a time, the call that fails, whether all parts are put, and what was taken of them.
+const BREAKS: [(usize, u64, bool, &[u8]); 6] = [
+    (16, 0, true, b"pong 7\n"),
+    (1, 0, true, b"pong 7\n"),
+    (0, 0, false, b""),
+    (16, 1, false, b""),
+    (2, 3, false, b"pong"),
+    (16, 3, false, b"pong 7"),
+];
+
 #[test]
 fn parts_break_off_where_a_write_fails(rt: HostRuntime) {
-    let parts = [b"pong ".as_slice(), b"7", b"\n"];
-    let rows: [(usize, u64, Result<(), WriteFault>, &[u8]); 6] = [
-        (16, 0, Ok(()), b"pong 7\n"),
-        (1, 0, Ok(()), b"pong 7\n"),
-        (0, 0, Err(WriteFault), b""),
-        (16, 1, Err(WriteFault), b""),
-        (2, 3, Err(WriteFault), b"pong"),
-        (16, 3, Err(WriteFault), b"pong 7"),
-    ];
-    for (cut, fails_at, answer, taken) in rows {
-        let mut output = Counted::writing(PieceWriter::new(rt.alloc(), cut, fails_at));
-        assert_eq!(rt;
-            put_parts(&mut output, &parts),
-            answer,
-            "cut {cut}, fails at {fails_at}"
-        );
-        assert_eq!(rt; output.writer().bytes.as_slice(), taken);
+    for (cut, fails_at, is_put, taken) in &BREAKS {
+        let mut output = Counted::writing(PieceWriter::new(rt.alloc(), *cut, *fails_at));
+        let answer = put_parts(&mut output, &PARTS);
+        assert_eq!(rt; answer.is_ok(), *is_put, "cut {cut}, fails at {fails_at}");
+        assert_eq!(rt; output.writer().bytes.as_slice(), *taken);
     }
 }
 
@@ -149,69 +148,98 @@ impl Write for Asked {
 
 const PIECE: [u8; 9000] = [0; 9000];
 
-// Each read is one call of the device with all of the piece, whatever came before.
-#[test]
-fn a_read_is_one_read_of_the_device(rt: HostRuntime) {
+// Reads from a device that answers all alike, which gives so much.
+fn reads(rt: &impl Abort, answer: Option<usize>, wanted: Result<usize, ReadFault>) {
     let mut buffer = PIECE;
-    let rows = [
-        (Some(9000), Ok(9000)),
-        (Some(1), Ok(1)),
-        (Some(0), Ok(0)),
-        (None, Err(ReadFault)),
-    ];
-    for (answer, wanted) in rows {
-        let mut input = Counted::reading(Asked::answering(answer));
-        for calls in 1..1500 {
-            assert_eq!(rt; input.read(&mut buffer), wanted);
-            assert_eq!(rt; input.reader().calls, calls);
-            assert_eq!(rt; input.reader().bytes, calls * 9000);
-        }
+    let mut input = Counted::reading(Asked::answering(answer));
+    for calls in 1..1500 {
+        assert_eq!(rt; input.read(&mut buffer), wanted);
+        assert_eq!(rt; input.reader().calls, calls);
+        assert_eq!(rt; input.reader().bytes, calls * 9000);
     }
 }
 
-// So is each write, and each flush one flush.
+// Each read is one call of the device with all of the piece, whatever came before.
 #[test]
-fn a_write_is_one_write_of_the_device(rt: HostRuntime) {
-    let rows = [
-        (Some(9000), Ok(9000), Ok(())),
-        (Some(1), Ok(1), Ok(())),
-        (Some(0), Err(WriteFault), Ok(())),
-        (None, Err(WriteFault), Err(WriteFault)),
-    ];
-    for (answer, wrote, flushed) in rows {
-        let mut output = Counted::writing(Asked::answering(answer));
-        for calls in 1..1500 {
-            assert_eq!(rt; output.write(&PIECE), wrote);
-            assert_eq!(rt; output.writer().calls, calls);
-            assert_eq!(rt; output.writer().bytes, calls * 9000);
-        }
-        let mut output = Counted::writing(Asked::answering(answer));
-        for calls in 1..1500 {
-            assert_eq!(rt; output.flush(), flushed);
-            assert_eq!(rt; output.writer().calls, calls);
-        }
+fn a_read_is_one_read_of_the_device(rt: HostRuntime) {
+    reads(&rt, Some(9000), Ok(9000));
+    reads(&rt, Some(1), Ok(1));
+    reads(&rt, Some(0), Ok(0));
+    reads(&rt, None, Err(ReadFault));
+}
+
+// Writes to a device that answers all alike, which takes so much.
+fn writes(rt: &impl Abort, answer: Option<usize>, wanted: Result<usize, WriteFault>) {
+    let mut output = Counted::writing(Asked::answering(answer));
+    for calls in 1..1500 {
+        assert_eq!(rt; output.write(&PIECE), wanted);
+        assert_eq!(rt; output.writer().calls, calls);
+        assert_eq!(rt; output.writer().bytes, calls * 9000);
     }
 }
+
+// So is each write.
+#[test]
+fn a_write_is_one_write_of_the_device(rt: HostRuntime) {
+    writes(&rt, Some(9000), Ok(9000));
+    writes(&rt, Some(1), Ok(1));
+    writes(&rt, Some(0), Err(WriteFault));
+    writes(&rt, None, Err(WriteFault));
+}
+
+// Flushes a device that answers all alike.
+fn flushes(rt: &impl Abort, answer: Option<usize>, wanted: Result<(), WriteFault>) {
+    let mut output = Counted::writing(Asked::answering(answer));
+    for calls in 1..1500 {
+        assert_eq!(rt; output.flush(), wanted);
+        assert_eq!(rt; output.writer().calls, calls);
+    }
+}
+
+// Each flush is one flush, whatever writes would answer.
+#[test]
+fn a_flush_is_one_flush_of_the_device(rt: HostRuntime) {
+    flushes(&rt, Some(1), Ok(()));
+    flushes(&rt, None, Err(WriteFault));
+}
+
+// A call at the gate, and what becomes of it.
+enum Step {
+    Gives(&'static [u8]),
+    IsEarly,
+    Takes(&'static [u8]),
+    Flushes,
+}
+
+// A second line needs a second flush, and that behind all that was written.
+const STEPS: [Step; 12] = [
+    Step::Gives(b"new\n"),
+    Step::IsEarly,
+    Step::Takes(b"pong 1\n"),
+    Step::IsEarly,
+    Step::Flushes,
+    Step::Gives(b"e2e4\n"),
+    Step::IsEarly,
+    Step::Flushes,
+    Step::Takes(b"x"),
+    Step::IsEarly,
+    Step::Flushes,
+    Step::Gives(b"ping 1\n"),
+];
 
 #[test]
 fn gate_opens_at_each_flush_for_one_line(rt: HostRuntime) {
     let open = Cell::new(true);
     let mut input = Counted::reading(GatedReader::new(b"new\ne2e4\nping 1\nquit\n", &open));
     let mut output = Counted::writing(GatedWriter::new(rt.alloc(), &open));
-    gives(&rt, &mut input, Ok(b"new\n"));
-    gives(&rt, &mut input, Err(ReadFault));
-    assert_eq!(rt; put(&mut output, b"pong 1\n"), Ok(()));
-    gives(&rt, &mut input, Err(ReadFault));
-    assert_eq!(rt; output.flush(), Ok(()));
-    gives(&rt, &mut input, Ok(b"e2e4\n"));
-    assert_eq!(rt; input.reader().early, 2);
-    // A second line needs a second flush, and that behind all that was written.
-    gives(&rt, &mut input, Err(ReadFault));
-    assert_eq!(rt; output.flush(), Ok(()));
-    assert_eq!(rt; put(&mut output, b"x"), Ok(()));
-    gives(&rt, &mut input, Err(ReadFault));
-    assert_eq!(rt; output.flush(), Ok(()));
-    gives(&rt, &mut input, Ok(b"ping 1\n"));
+    for step in &STEPS {
+        match step {
+            Step::Gives(line) => gives(&rt, &mut input, Ok(line)),
+            Step::IsEarly => gives(&rt, &mut input, Err(ReadFault)),
+            Step::Takes(bytes) => assert_eq!(rt; put(&mut output, bytes), Ok(())),
+            Step::Flushes => assert_eq!(rt; output.flush(), Ok(())),
+        }
+    }
     assert_eq!(rt; input.reader().early, 4);
     assert_eq!(rt; output.writer().bytes.as_slice(), b"pong 1\nx".as_slice());
 }
