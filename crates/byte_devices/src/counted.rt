@@ -128,7 +128,14 @@ impl<D> Counted<D> {
 impl<R: Read> Counted<R> {
     /// An input out of a reader. Nothing is buffered: each piece is one read.
     pub fn reading(reader: R) -> Self
-        ensures { ⟦<Counted<R> as Input>⟧.seen result ≡ record { known_bytes = R.remaining reader; failure_count = 0; end_count = 0; last_len = 0; pieces_left = 2 ^ 64 - 1 } }
+        ensures { ⟦<Counted<R> as Input>⟧.seen result
+            ≡ record {
+              known_bytes = R.remaining reader;
+              failure_count = 0;
+              end_count = 0;
+              last_len = 0;
+              pieces_left = 2 ^ 64 - 1;
+            } }
     {
         Counted::new(reader)
     }
@@ -144,7 +151,8 @@ impl<R: Read> Counted<R> {
 impl<W: Write> Counted<W> {
     /// An output out of a writer. Nothing is buffered: each write is one write.
     pub fn writing(writer: W) -> Self
-        ensures { ⟦<Counted<W> as Output>⟧.seen result ≡ record { known_bytes = W.contents writer; failure_count = 0; unflushed = 0 } }
+        ensures { ⟦<Counted<W> as Output>⟧.seen result
+            ≡ record { known_bytes = W.contents writer; failure_count = 0; unflushed = 0 } }
     {
         Counted::new(writer)
     }

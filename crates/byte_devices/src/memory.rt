@@ -110,7 +110,9 @@ impl Write for PieceWriter {
         ensures calls { self.new.calls ≡ risen self.old.calls }
         ensures fails { self.new.calls ≡ self.old.fails_at → IsErr result }
         // Another call fails only where more memory was needed.
-        ensures only { OnErr result ((self.new.calls ≡ self.old.fails_at) ⊎ (vec_capacity self.old.bytes < vec_len self.old.bytes + min self.old.cut (length buf.now))) }
+        ensures only { OnErr result
+            ((self.new.calls ≡ self.old.fails_at)
+            ⊎ (vec_capacity self.old.bytes < vec_len self.old.bytes + min self.old.cut (length buf.now))) }
         ensures len { IfOk result (λ n. n ≡ min self.old.cut (length buf.now)) }
         ensures cut { self.new.cut ≡ self.old.cut }
         ensures fails_at { self.new.fails_at ≡ self.old.fails_at }

@@ -151,7 +151,8 @@ fn verified_if<R: Input, W: Output, E: Output>(
     output: &mut W,
     errors: &mut E,
 ) -> u8
-    ensures { RanVerifyIf (has_words plan) plan (R.seen input.old) (R.seen input.new) (W.seen output.old) (W.seen output.new) result }
+    ensures { RanVerifyIf (has_words plan) plan (R.seen input.old) (R.seen input.new) (W.seen output.old)
+        (W.seen output.new) result }
 {
     if has_words(plan) {
         verified_by(alloc, plan, input, output, errors)
@@ -184,7 +185,8 @@ fn verified_at<R: Input, W: Output, E: Output>(
     output: &mut W,
     errors: &mut E,
 ) -> u8
-    ensures { RanVerifyAt plan.any_size plan (R.seen input.old) (R.seen input.new) (W.seen output.old) (W.seen output.new) result }
+    ensures { RanVerifyAt plan.any_size plan (R.seen input.old) (R.seen input.new) (W.seen output.old)
+        (W.seen output.new) result }
 {
     if plan.any_size {
         verified_any(alloc, plan, input, output, errors)
@@ -314,7 +316,8 @@ pub fn run_program<'a, P: Processes + Clock, R: Input, W: Output, E: Output>(
     output: &mut W,
     errors: &mut E,
 ) -> u8
-    ensures { RanProgram (map (λ w. w.now) words.entry.now) (R.seen input.old) (R.seen input.new) (W.seen output.old) (W.seen output.new) result }
+    ensures { RanProgram (map (λ w. w.now) words.entry.now) (R.seen input.old) (R.seen input.new) (W.seen output.old)
+        (W.seen output.new) result }
 {
     let plan = match read_words(alloc, words) {
         Ok(plan) => plan,

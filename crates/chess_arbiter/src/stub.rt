@@ -147,7 +147,8 @@ fn obey<W: Output>(
     writer: &mut W,
 ) -> Result<(Stub, Onward), WriteFault>
     requires { stub.at ≤ length words.now }
-    ensures { Gives words.now (row (state_at words.now stub) text.now (command_of text.now)) (W.seen writer.old) (W.seen writer.new) result }
+    ensures { Gives words.now (row (state_at words.now stub) text.now (command_of text.now)) (W.seen writer.old)
+        (W.seen writer.new) result }
 {
     match read_command(text) {
         Command::Protover(_) => {
@@ -200,7 +201,8 @@ fn answer<W: Output>(
     writer: &mut W,
 ) -> Result<(Stub, Onward), WriteFault>
     requires { stub.at ≤ length words.now }
-    ensures { GivesAndFlushes words.now (reply (state_at words.now stub) line.now) (W.seen writer.old) (W.seen writer.new) result }
+    ensures { GivesAndFlushes words.now (reply (state_at words.now stub) line.now) (W.seen writer.old)
+        (W.seen writer.new) result }
 {
     let given = if line.is_too_long() {
         (stub, Onward::On)
@@ -220,7 +222,8 @@ pub(crate) fn run_stub<R: Input, W: Output>(
     reader: &mut R,
     writer: &mut W,
 ) -> Result<(), StubFault>
-    ensures { StubRan (R.seen reader.old) (R.seen reader.new) (W.seen writer.old) (W.seen writer.new) (beginning words.now) result }
+    ensures { StubRan (R.seen reader.old) (R.seen reader.new) (W.seen writer.old) (W.seen writer.new)
+        (beginning words.now) result }
 {
     let mut lines: Lines<COMMAND_LEN> = Lines::new();
     let mut stub = Stub {

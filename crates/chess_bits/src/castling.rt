@@ -50,7 +50,8 @@ impl Bits {
 
     // Whether no square of these is attacked by the other side.
     fn is_safe_way(&self, way: SquareSet) -> bool
-        ensures { result ≡ each_square (λ x. not (has way x) || not (is_attacked (self.now).men x (other (self.now).side))) }
+        ensures { result ≡ each_square
+            (λ x. not (has way x) || not (is_attacked (self.now).men x (other (self.now).side))) }
     {
         let by = self.setup.side.other();
         let mut rest = way;
@@ -66,7 +67,8 @@ impl Bits {
     fn castles(&self, castle: &Castle) -> bool
         requires kings { rank castle.now.king_from ≡ rank castle.now.king_to }
         requires rooks { rank castle.now.rook_from ≡ rank castle.now.rook_to }
-        ensures { result ≡ (castling_way_is_empty (self.now).men castle.now && castling_way_is_safe (self.now).men (self.now).side castle.now) }
+        ensures { result ≡ (castling_way_is_empty (self.now).men castle.now
+            && castling_way_is_safe (self.now).men (self.now).side castle.now) }
     {
         let walk = self.way(castle.king_from, castle.king_to);
         let ride = self.way(castle.rook_from, castle.rook_to);

@@ -118,14 +118,17 @@ impl Bits {
 
     // Whether the pawn there may promote or take en passant.
     fn is_unusual_pawn(&self, from: Square) -> bool
-        ensures { result ≡ (aims_at (self.now).target (self.now).side from || (rank from == pawn_rank (other (self.now).side))) }
+        ensures { result ≡ (aims_at (self.now).target (self.now).side from
+            || (rank from == pawn_rank (other (self.now).side))) }
     {
         self.aims_at_target(from) || from.rank() == pawn_rank(self.setup.side.other())
     }
 
     // Whether a pawn of the side on move stands there that may promote or take en passant.
     pub(crate) fn is_unusual(&self, from: Square) -> bool
-        ensures { result ≡ (is_man (self.now).side Pawn (man_at (self.now).men from) && (aims_at (self.now).target (self.now).side from || (rank from == pawn_rank (other (self.now).side)))) }
+        ensures { result ≡ (is_man (self.now).side Pawn (man_at (self.now).men from)
+            && (aims_at (self.now).target (self.now).side from
+            || (rank from == pawn_rank (other (self.now).side)))) }
     {
         let side = self.setup.side;
         is_man(side, Kind::Pawn, self.setup.men[from.index()]) && self.is_unusual_pawn(from)
@@ -198,7 +201,8 @@ impl Bits {
         requires kind { same_kind King kind ≡ false }
         requires free { (k : ℕ) → k < 64 → has free k ≡ true → IsFree self.now k }
         requires few { length (flat_map (λ a. moves_from self.now a) (members men.old)) ≤ 896 }
-        ensures { result + length (flat_map (λ a. moves_from self.now a) (members men.new)) ≡ length (flat_map (λ a. moves_from self.now a) (members men.old)) }
+        ensures { result + length (flat_map (λ a. moves_from self.now a) (members men.new))
+            ≡ length (flat_map (λ a. moves_from self.now a) (members men.old)) }
     {
         let all = *men;
         let own = self.sets.of(self.setup.side);
@@ -311,7 +315,8 @@ impl Bits {
 
     // Whether one of these kings of the side on move has a legal move.
     fn has_king_move(&self, men: SquareSet) -> bool
-        requires kings { (k : ℕ) → k < 64 → has men k ≡ true → is_man (self.now).side King (man_at (self.now).men k) ≡ true }
+        requires kings { (k : ℕ) → k < 64 → has men k ≡ true
+            → is_man (self.now).side King (man_at (self.now).men k) ≡ true }
         requires few { length (flat_map (λ a. moves_from self.now a) (members men)) ≤ 896 }
         ensures { result ≡ nat_lt 0 (length (flat_map (λ a. moves_from self.now a) (members men))) }
     {

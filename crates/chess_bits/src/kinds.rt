@@ -50,7 +50,8 @@ impl Kinds {
 
     /// Puts a man on an empty square.
     pub fn put(&mut self, kind: Kind, square: Square)
-        ensures { (men : Men) → (c : Side) → length men ≡ 64 → man_at men square ≡ None → IsKinds self.old.sets c men → IsKinds self.new.sets c (slice_set men square (Some (record { colour = c; kind = kind }))) }
+        ensures { (men : Men) → (c : Side) → length men ≡ 64 → man_at men square ≡ None → IsKinds self.old.sets c men
+            → IsKinds self.new.sets c (slice_set men square (Some (record { colour = c; kind = kind }))) }
     {
         let at = number(kind);
         self.sets[at] = self.sets[at].union(SquareSet::single(square));
@@ -58,7 +59,9 @@ impl Kinds {
 
     /// Takes a man from its square.
     pub fn lift(&mut self, kind: Kind, square: Square)
-        ensures { (men : Men) → (c : Side) → length men ≡ 64 → man_at men square ≡ Some (record { colour = c; kind = kind }) → IsKinds self.old.sets c men → IsKinds self.new.sets c (slice_set men square None) }
+        ensures { (men : Men) → (c : Side) → length men ≡ 64
+            → man_at men square ≡ Some (record { colour = c; kind = kind }) → IsKinds self.old.sets c men
+            → IsKinds self.new.sets c (slice_set men square None) }
     {
         let at = number(kind);
         self.sets[at] = self.sets[at].without(SquareSet::single(square));
@@ -67,7 +70,8 @@ impl Kinds {
 
 #[tactic(auto, using(crate::proofs::Attackers::on_lines))]
 pub(crate) fn along_lines(tables: &AttackTables, square: Square, occupied: SquareSet) -> SquareSet
-    ensures { (k : ℕ) → k < 64 → has result k ≡ (not (k == square) && share_rank_or_file k square && is_open occupied square k) }
+    ensures { (k : ℕ) → k < 64
+        → has result k ≡ (not (k == square) && share_rank_or_file k square && is_open occupied square k) }
 {
     let up = tables.sweep(Line::Rank, true, square, occupied);
     let down = tables.sweep(Line::Rank, false, square, occupied);
@@ -82,7 +86,8 @@ pub(crate) fn along_diagonals(
     square: Square,
     occupied: SquareSet,
 ) -> SquareSet
-    ensures { (k : ℕ) → k < 64 → has result k ≡ (not (k == square) && share_diagonal k square && is_open occupied square k) }
+    ensures { (k : ℕ) → k < 64
+        → has result k ≡ (not (k == square) && share_diagonal k square && is_open occupied square k) }
 {
     let up = tables.sweep(Line::Diagonal, true, square, occupied);
     let down = tables.sweep(Line::Diagonal, false, square, occupied);
@@ -99,7 +104,9 @@ fn met_on_lines(
     occupied: SquareSet,
     men: SquareSet,
 ) -> SquareSet
-    ensures { (k : ℕ) → k < 64 → has result k ≡ ((not (k == square) && share_rank_or_file k square && is_open occupied square k) && has men k) }
+    ensures { (k : ℕ) → k < 64
+        → has result k ≡ ((not (k == square) && share_rank_or_file k square && is_open occupied square k)
+        && has men k) }
 {
     let near = tables.at(Shape::Lines, square).intersection(men);
     if near.is_empty() {
@@ -116,7 +123,8 @@ fn met_on_diagonals(
     occupied: SquareSet,
     men: SquareSet,
 ) -> SquareSet
-    ensures { (k : ℕ) → k < 64 → has result k ≡ ((not (k == square) && share_diagonal k square && is_open occupied square k) && has men k) }
+    ensures { (k : ℕ) → k < 64
+        → has result k ≡ ((not (k == square) && share_diagonal k square && is_open occupied square k) && has men k) }
 {
     let near = tables.at(Shape::Diagonals, square).intersection(men);
     if near.is_empty() {
@@ -141,7 +149,8 @@ impl Kinds {
         square: Square,
         occupied: SquareSet,
     ) -> SquareSet
-        ensures { (men : Men) → IsKinds self.now.sets colour men → IsOccupied occupied men → (k : ℕ) → k < 64 → has result k ≡ (is_of colour (man_at men k) && attacks men k square) }
+        ensures { (men : Men) → IsKinds self.now.sets colour men → IsOccupied occupied men → (k : ℕ) → k < 64
+            → has result k ≡ (is_of colour (man_at men k) && attacks men k square) }
     {
         let queens = self.of(Kind::Queen);
         let straight = self.of(Kind::Rook).union(queens);
@@ -172,14 +181,16 @@ impl Kinds {
         square: Square,
         occupied: SquareSet,
     ) -> bool
-        ensures { (men : Men) → IsKinds self.now.sets colour men → IsOccupied occupied men → result ≡ is_attacked men square colour }
+        ensures { (men : Men) → IsKinds self.now.sets colour men → IsOccupied occupied men
+            → result ≡ is_attacked men square colour }
     {
         !self.attackers(tables, colour, square, occupied).is_empty()
     }
 
     /// These men but for those on the squares of a set.
     pub fn outside(&self, changed: SquareSet) -> Kinds
-        ensures { (c : Side) → (filled : ℕ) → (men : Men) → (later : Men) → IsKinds self.now.sets c men → IsLater changed filled c men later → IsKinds result.sets c later }
+        ensures { (c : Side) → (filled : ℕ) → (men : Men) → (later : Men) → IsKinds self.now.sets c men
+            → IsLater changed filled c men later → IsKinds result.sets c later }
     {
         let sets = [
             self.of(Kind::King).without(changed),

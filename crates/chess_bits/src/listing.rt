@@ -38,7 +38,8 @@ impl Bits {
         list: &mut MoveList,
     )
         requires goes { goes self.now from to ≡ true }
-        requires fits { (i : ℕ) → i < length promotions.now → (d : Option ManKind) → promotion_fits (would_promote self.now from to) (get_or promotions.now i d) ≡ true }
+        requires fits { (i : ℕ) → i < length promotions.now → (d : Option ManKind)
+            → promotion_fits (would_promote self.now from to) (get_or promotions.now i d) ≡ true }
         requires room { array_vec_len list.old + length (moves_with self.now from to promotions.now) ≤ 896 }
         ensures { list.new.items ≡ list.old.items ++ moves_with self.now from to promotions.now }
     {
@@ -87,7 +88,9 @@ impl Bits {
     // Adds the legal moves of a free man, who is no pawn that may promote or take en passant: he goes as he may.
     fn add_usual_moves(&self, from: Square, list: &mut MoveList)
         requires free { IsFree self.now from }
-        requires usual { (is_man (self.now).side Pawn (man_at (self.now).men from) && (aims_at (self.now).target (self.now).side from || (rank from == pawn_rank (other (self.now).side)))) ≡ false }
+        requires usual { (is_man (self.now).side Pawn (man_at (self.now).men from)
+            && (aims_at (self.now).target (self.now).side from || (rank from == pawn_rank (other (self.now).side))))
+            ≡ false }
         requires room { array_vec_len list.old + length (moves_from self.now from) ≤ 896 }
         ensures { list.new.items ≡ list.old.items ++ moves_from self.now from }
     {

@@ -21,7 +21,8 @@ pub fn reached_from(
     kind: Kind,
     from: Square,
 ) -> SquareSet
-    ensures { (men : Men) → IsOccupied occupied men → (k : ℕ) → k < 64 → has result k ≡ could_capture men colour kind from k }
+    ensures { (men : Men) → IsOccupied occupied men → (k : ℕ) → k < 64
+        → has result k ≡ could_capture men colour kind from k }
 {
     match kind {
         Kind::King => tables.at(Shape::King, from),

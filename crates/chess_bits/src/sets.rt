@@ -67,7 +67,8 @@ impl Sets {
 
     // Takes a man from its square.
     fn lift(&mut self, square: Square, man: Man)
-        ensures { (men : Men) → length men ≡ 64 → man_at men square ≡ Some man → IsSets self.old men → IsSets self.new (slice_set men square None) }
+        ensures { (men : Men) → length men ≡ 64 → man_at men square ≡ Some man → IsSets self.old men
+            → IsSets self.new (slice_set men square None) }
     {
         let here = SquareSet::single(square);
         self.men_word ^= man_key(man, square);
@@ -85,7 +86,8 @@ impl Sets {
 
     // Puts a man on an empty square.
     fn put(&mut self, square: Square, man: Man)
-        ensures { (men : Men) → length men ≡ 64 → man_at men square ≡ None → IsSets self.old men → IsSets self.new (slice_set men square (Some man)) }
+        ensures { (men : Men) → length men ≡ 64 → man_at men square ≡ None → IsSets self.old men
+            → IsSets self.new (slice_set men square (Some man)) }
     {
         let here = SquareSet::single(square);
         self.men_word ^= man_key(man, square);
@@ -103,7 +105,8 @@ impl Sets {
 
     // Takes from a square what stands there.
     fn clear(&mut self, square: Square, old: Option<Man>)
-        ensures { (men : Men) → length men ≡ 64 → man_at men square ≡ old → IsSets self.old men → IsSets self.new (slice_set men square None) }
+        ensures { (men : Men) → length men ≡ 64 → man_at men square ≡ old → IsSets self.old men
+            → IsSets self.new (slice_set men square None) }
     {
         if let Some(man) = old {
             self.lift(square, man);
@@ -112,7 +115,8 @@ impl Sets {
 
     // Puts on an empty square what shall stand there.
     fn fill(&mut self, square: Square, new: Option<Man>)
-        ensures { (men : Men) → length men ≡ 64 → man_at men square ≡ None → IsSets self.old men → IsSets self.new (slice_set men square new) }
+        ensures { (men : Men) → length men ≡ 64 → man_at men square ≡ None → IsSets self.old men
+            → IsSets self.new (slice_set men square new) }
     {
         if let Some(man) = new {
             self.put(square, man);
@@ -121,7 +125,8 @@ impl Sets {
 
     /// Changes what stands on a square.
     pub fn write(&mut self, square: Square, old: Option<Man>, new: Option<Man>)
-        ensures { (men : Men) → length men ≡ 64 → man_at men square ≡ old → IsSets self.old men → IsSets self.new (slice_set men square new) }
+        ensures { (men : Men) → length men ≡ 64 → man_at men square ≡ old → IsSets self.old men
+            → IsSets self.new (slice_set men square new) }
     {
         // The prover wants this fact: the square's number is below 64.
         let _bound = square.number();

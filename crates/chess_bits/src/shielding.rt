@@ -16,7 +16,8 @@ impl Bits {
     // none: taking off any other man opens neither.
     #[tactic(auto, unfolding(crate::specs::ties::Shapes::in_shape))]
     fn line_shields(&self, king: Square) -> SquareSet
-        ensures { (a : ℕ) → a < 64 → is_of (self.now).side (man_at (self.now).men a) ≡ true → has result a ≡ false → OpensNoLine self.now a king }
+        ensures { (a : ℕ) → a < 64 → is_of (self.now).side (man_at (self.now).men a) ≡ true → has result a ≡ false
+            → OpensNoLine self.now a king }
     {
         let _king = king.number();
         let side = self.setup.side;
@@ -40,7 +41,8 @@ impl Bits {
     // The own men that the king sees on his diagonals, if one of them hides a bishop or queen from him, and else none.
     #[tactic(auto, unfolding(crate::specs::ties::Shapes::in_shape))]
     fn diagonal_shields(&self, king: Square) -> SquareSet
-        ensures { (a : ℕ) → a < 64 → is_of (self.now).side (man_at (self.now).men a) ≡ true → has result a ≡ false → OpensNoDiagonal self.now a king }
+        ensures { (a : ℕ) → a < 64 → is_of (self.now).side (man_at (self.now).men a) ≡ true → has result a ≡ false
+            → OpensNoDiagonal self.now a king }
     {
         // The prover wants this fact: the number of the king's square is below 64.
         let _king = king.number();

@@ -70,7 +70,9 @@ pub(crate) fn is_pawn(kind: Kind) -> bool
 impl Bits {
     // Where a man of that kind attacks from there what is no own man.
     pub(crate) fn steps(&self, kind: Kind, from: Square) -> SquareSet
-        ensures { (k : ℕ) → k < 64 → has result k ≡ (could_capture (self.now).men (self.now).side kind from k && not (is_of (self.now).side (man_at (self.now).men k))) }
+        ensures { (k : ℕ) → k < 64
+            → has result k ≡ (could_capture (self.now).men (self.now).side kind from k
+            && not (is_of (self.now).side (man_at (self.now).men k))) }
     {
         let side = self.setup.side;
         let reached = reached_from(&self.tables, self.sets.occupied(), side, kind, from);
@@ -137,7 +139,8 @@ impl Bits {
 
     // The end squares of the king's legal castlings.
     pub(crate) fn castling_ends(&self, king: Square) -> SquareSet
-        ensures { (k : ℕ) → k < 64 → has result k ≡ legal_or self.now (triple king k None) (castle_of self.now (triple king k None)) false }
+        ensures { (k : ℕ) → k < 64
+            → has result k ≡ legal_or self.now (triple king k None) (castle_of self.now (triple king k None)) false }
     {
         let none = SquareSet::empty();
         let far = self.with_castling(none, king, CastlingSide::QueenSide);
@@ -205,7 +208,9 @@ impl Bits {
     // which they attack it.
     #[tactic(auto, unfolding(crate::specs::ties::Shapes::in_shape))]
     pub(crate) fn pawn_starts(&self, to: Square) -> SquareSet
-        ensures { (k : ℕ) → k < 64 → has result k ≡ ((is_on_ray File true to k || is_on_ray File false to k) || in_shape (PawnAttack (other (self.now).side)) to k) }
+        ensures { (k : ℕ) → k < 64
+            → has result k ≡ ((is_on_ray File true to k || is_on_ray File false to k)
+            || in_shape (PawnAttack (other (self.now).side)) to k) }
     {
         let above = self.tables.at(Shape::Ray(Line::File, true), to);
         let below = self.tables.at(Shape::Ray(Line::File, false), to);
@@ -216,7 +221,9 @@ impl Bits {
     // Where the own pawn goes that stands there.
     pub(crate) fn pawn_targets(&self, from: Square) -> SquareSet
         requires { is_man (self.now).side Pawn (man_at (self.now).men from) ≡ true }
-        ensures { (k : ℕ) → k < 64 → has result k ≡ (pawn_advances self.now (triple from k None) || pawn_captures self.now (triple from k None)) }
+        ensures { (k : ℕ) → k < 64
+            → has result k ≡ (pawn_advances self.now (triple from k None)
+            || pawn_captures self.now (triple from k None)) }
     {
         let advances = self.advances(from);
         let captures = self.captures(from);

@@ -75,7 +75,8 @@ fn fen_fault_name(fault: FenFault) -> &'static [u8]
 // The refusal of a FEN, by the name of its fault.
 pub(crate) fn write_illegal_position(answer: &mut Answer, fault: FenFault)
     requires { answer.old.items ≡ [] }
-    ensures { answer.new.items ≡ joined_line (codes "tellusererror Illegal position (") (fen_fault_name fault ++ codes ")") }
+    ensures { answer.new.items
+        ≡ joined_line (codes "tellusererror Illegal position (") (fen_fault_name fault ++ codes ")") }
 {
     answer
         .try_extend_from_slice(b"tellusererror Illegal position (")

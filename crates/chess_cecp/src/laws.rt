@@ -22,11 +22,13 @@ pub fn lines_are_pieces()
 
 /// A line whose answer is a refusal leaves start, moves and declared result as they were.
 pub fn refusals_change_nothing()
-    ensures { (session : SessionSeen) (line : LineSeen) → IsRefusal (answer_to session line) → next_state session line ≡ session }
+    ensures { (session : SessionSeen) (line : LineSeen) → IsRefusal (answer_to session line)
+        → next_state session line ≡ session }
 {}
 
 /// In a game of normal chess each command has the row that the table of normal chess alone gives it.
 pub fn normal_chess_keeps_its_rows()
-    ensures { (tags : Tags) (limit : ℕ) (s : State) (text argument : List ℕ) (command : Command) → s.start.variant ≡ Normal →
-        row tags limit s text argument command ≡ normal_row_of tags limit s text argument command }
+    ensures { (tags : Tags) (limit : ℕ) (s : State) (text argument : List ℕ) (command : Command)
+        → s.start.variant ≡ Normal
+        → row tags limit s text argument command ≡ normal_row_of tags limit s text argument command }
 {}

@@ -70,7 +70,8 @@ impl<const N: usize> Model for Part<N> {
 
     ghost view = { λ p. kept_part p.bytes.items p.is_too_long };
 
-    ghost invariant = { λ p. (p.is_too_long ≡ true → length p.bytes.items ≡ N) × (length p.bytes.items ≤ N) × (64 ≤ N) };
+    ghost invariant = { λ p. (p.is_too_long ≡ true → length p.bytes.items ≡ N) × (length p.bytes.items ≤ N)
+        × (64 ≤ N) };
 }
 
 impl<const N: usize> Part<N> {

@@ -145,8 +145,10 @@ impl<B: Board> Session<B> {
     // Starts the game anew from the position that a FEN spells.
     fn set_board(&mut self, fen: &[u8], answer: &mut Answer)
         requires { answer.old.items ≡ [] }
-        ensures next { self.new ≡ stands self.old (setboard_row self.old.state (fen_reading_as self.old.state.start.variant fen.now)) }
-        ensures text { answer.new.items ≡ (setboard_row self.old.state (fen_reading_as self.old.state.start.variant fen.now)).text }
+        ensures next { self.new
+            ≡ stands self.old (setboard_row self.old.state (fen_reading_as self.old.state.start.variant fen.now)) }
+        ensures text { answer.new.items
+            ≡ (setboard_row self.old.state (fen_reading_as self.old.state.start.variant fen.now)).text }
     {
         match read_fen_as(self.game.start().variant(), fen) {
             Ok(start) => {
@@ -287,8 +289,10 @@ impl<B: Board> Session<B> {
         requires short_argument { length argument.now ≤ COMMAND_LEN }
         requires brief { shows_pgn command ≡ false }
         requires empty { answer.old.items ≡ [] }
-        ensures next { self.new ≡ stands self.old (row self.old.tags self.old.limit self.old.state text.now argument.now command) }
-        ensures text { answer.new.items ≡ (row self.old.tags self.old.limit self.old.state text.now argument.now command).text }
+        ensures next { self.new
+            ≡ stands self.old (row self.old.tags self.old.limit self.old.state text.now argument.now command) }
+        ensures text { answer.new.items
+            ≡ (row self.old.tags self.old.limit self.old.state text.now argument.now command).text }
     {
         match command {
             Command::New => self.game.restart(&Position::initial()),
@@ -322,8 +326,13 @@ impl<B: Board> Session<B> {
     fn obey_unnamed(&mut self, text: &[u8], answer: &mut Answer) -> Go
         requires short { length text.now ≤ COMMAND_LEN }
         requires empty { answer.old.items ≡ [] }
-        ensures next { self.new ≡ stands self.old (row self.old.tags self.old.limit self.old.state text.now (argument_of text.now) (unnamed_command text.now)) }
-        ensures text { answer.new.items ≡ (row self.old.tags self.old.limit self.old.state text.now (argument_of text.now) (unnamed_command text.now)).text }
+        ensures next { self.new
+            ≡ stands self.old
+            (row self.old.tags self.old.limit self.old.state text.now (argument_of text.now)
+            (unnamed_command text.now)) }
+        ensures text { answer.new.items
+            ≡ (row self.old.tags self.old.limit self.old.state text.now (argument_of text.now)
+            (unnamed_command text.now)).text }
         ensures go { result ≡ (if is_quit_command (unnamed_command text.now) then Go.Quit else Go.On) }
     {
         let read = self.read(text);
@@ -360,7 +369,8 @@ impl<B: Board> Session<B> {
     // Writes the game's text, and flushes.
     fn send_pgn<W: Output>(&mut self, writer: &mut W) -> Result<(), WriteFault>
         ensures same { self.new ≡ self.old }
-        ensures written { Sends (W.seen writer.old) (W.seen writer.new) result (pgn (codes "# ") self.old.tags self.old.state) }
+        ensures written { Sends (W.seen writer.old) (W.seen writer.new) result
+            (pgn (codes "# ") self.old.tags self.old.state) }
     {
         write_pgn(&self.game, &mut self.scratch, &self.tags, b"# ", writer)?;
         writer.flush()

@@ -103,7 +103,8 @@ pub(crate) fn right_letter(
 
 // The right that a letter of a side names: its rook stands on its corner.
 fn right_named(letters: &[u8], colour: Colour, castling_side: CastlingSide) -> Option<Square>
-    ensures { result ≡ right_named letters.now (side_letter colour castling_side) (home_square colour (rook_file castling_side)) }
+    ensures { result ≡ right_named letters.now (side_letter colour castling_side)
+        (home_square colour (rook_file castling_side)) }
 {
     if letters.contains(&side_letter(colour, castling_side)) {
         Some(home_square(colour, rook_file(castling_side)))

@@ -41,8 +41,8 @@ fn check_all(rt: &impl Abort, rows: &[(&[u8], Wanted)]) {
     }
 }
 
-// Below stand positions of well-known test suites and games, and some that each change one of them. Each table has a test of its own,
-// since a check's length grows with the square of the rows that one function names.
+// Below stand positions of well-known test suites and games, and some that each change one of them. Each table has a
+// test of its own, since a check's length grows with the square of the rows that one function names.
 
 // The usual positions of move generators.
 const USUAL: &[(&[u8], Wanted)] = &[
@@ -248,7 +248,8 @@ fn changed_positions_are_judged(rt: HostRuntime) {
     check_all(&rt, CHANGED);
 }
 
-// Below stand texts that are spelled otherwise than they are written, and texts with each fault, and of several the first.
+// Below stand texts that are spelled otherwise than they are written, and texts with each fault, and of several the
+// first.
 
 // What is read beside what is written.
 const SPELLINGS: &[(&[u8], Wanted)] = &[

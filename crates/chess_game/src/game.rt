@@ -78,7 +78,9 @@ impl<B: Board> Model for Game<B> {
       state = record { start = g.start.position; moves = moves_of g.places.items; declared = g.declared };
     } };
 
-    ghost invariant = { λ g. IsKept B.word_of g.start g.places.items (B.position g.board) × IsJudged g.start.position (moves_of g.places.items) g.verdict × HasRoom (vec_len g.places) g.limit (vec_capacity g.places) };
+    ghost invariant = { λ g. IsKept B.word_of g.start g.places.items (B.position g.board)
+        × IsJudged g.start.position (moves_of g.places.items) g.verdict
+        × HasRoom (vec_len g.places) g.limit (vec_capacity g.places) };
 }
 
 // The present position.
@@ -294,7 +296,8 @@ impl<B: Board> Game<B> {
         // The same in single facts.
         ensures refused { OnErr result (self.new ≡ self.old) }
         ensures free { IsNone (verdict_now self.old.state) → IsOk result }
-        ensures declared { OnOk result (self.new.state.declared ≡ Some (record { outcome = outcome; comment = comment })) }
+        ensures declared { OnOk result
+            (self.new.state.declared ≡ Some (record { outcome = outcome; comment = comment })) }
         ensures moves { self.new.state.moves ≡ self.old.state.moves }
         ensures kept { (self.new.limit ≡ self.old.limit) × (self.new.state.start ≡ self.old.state.start) }
     {

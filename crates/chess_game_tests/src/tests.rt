@@ -188,8 +188,8 @@ fn by_squares(squares: &[u8; 4]) -> Move {
     }
 }
 
-// The calls of a game whose contracts are big, without clauses: the facts stay in here, and tests compare values. So do the
-// loops and the comparisons below, each in a function of its own: a long body is dear to prove.
+// The calls of a game whose contracts are big, without clauses: the facts stay in here, and tests compare values. So do
+// the loops and the comparisons below, each in a function of its own: a long body is dear to prove.
 
 fn opened<B: Board + Drop>(alloc: Global, board: B) -> Result<Game<B>, Fail> {
     Ok(Game::open(alloc, board, 100)?)
@@ -489,7 +489,8 @@ const LINES: [Told; 27] = [
         halfmove: 150,
         claims: BOTH,
     },
-    // A target on which nobody may capture tells nothing: no pawn stands beside it, also after a move that set it; a pin.
+    // A target on which nobody may capture tells nothing: no pawn stands beside it, also after a move that set it; a
+    // pin.
     Told {
         start: b"rnbqkbnr/pppppppp/8/8/4P3/8/PPPP1PPP/RNBQKBNR b KQkq e3 0 1",
         moves: b"g8f6 g1f3 f6g8 f3g1",
@@ -514,8 +515,8 @@ const LINES: [Told; 27] = [
         halfmove: 4,
         claims: NONE,
     },
-    // Games on which programs differ: the third time counts the position behind a double advance that nobody could answer en
-    // passant; the capturing pawn would uncover its king along the rank.
+    // Games on which programs differ: the third time counts the position behind a double advance that nobody could
+    // answer en passant; the capturing pawn would uncover its king along the rank.
     Told {
         start: b"rnbqkbnr/pppppppp/8/8/8/8/PPPPPPPP/RNBQKBNR w KQkq - 0 1",
         moves: b"a2a4 b7b5 h2h3 g8h6 b1c3 h6g8 e2e3 g8h6 d2d4 g7g6 a4a5 e7e5 d1f3 b8a6 f3d1 a6b8 d1f3 h6f5 f3d1 f5h6",

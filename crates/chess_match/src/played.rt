@@ -70,7 +70,8 @@ pub(crate) trait Played {
     /// The line that tells the start, where it is told.
     fn add_start(&self, block: &mut Block)
         requires { array_vec_len block.old + 110 ≤ BLOCK_LEN }
-        ensures text { (r : Rules) → plays self.now r → block.new.items ≡ block.old.items ++ bytes_of (start_lines r.start_fen) }
+        ensures text { (r : Rules) → plays self.now r
+            → block.new.items ≡ block.old.items ++ bytes_of (start_lines r.start_fen) }
         ensures len { array_vec_len block.new ≤ array_vec_len block.old + 110 };
 
     /// The line that tells the last move, in SAN or by squares, with `usermove` before it or without.
@@ -83,7 +84,9 @@ pub(crate) trait Played {
     )
         requires some { 0 < length (played self.now) }
         requires room { array_vec_len block.old + 20 ≤ BLOCK_LEN }
-        ensures text { (r : Rules) → plays self.now r → block.new.items ≡ block.old.items ++ bytes_of (MoveTold prefixed (r.move_text as_san (played self.now)) ∷ []) }
+        ensures text { (r : Rules) → plays self.now r
+            → block.new.items
+            ≡ block.old.items ++ bytes_of (MoveTold prefixed (r.move_text as_san (played self.now)) ∷ []) }
         ensures len { array_vec_len block.new ≤ array_vec_len block.old + 20 };
 
     /// Whether no move was played.

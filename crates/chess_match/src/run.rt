@@ -92,8 +92,18 @@ pub fn run_match<R: Input, W: Output, M: Moments, B: Board>(
     scratch: &mut B,
 ) -> MatchEnd
     ensures { Ran setup.now.start setup.now.level game.old game.new result
-        (record { white_reader = R.seen white.old.reader; white_writer = W.seen white.old.writer; black_reader = R.seen black.old.reader; black_writer = W.seen black.old.writer })
-        (record { white_reader = R.seen white.new.reader; white_writer = W.seen white.new.writer; black_reader = R.seen black.new.reader; black_writer = W.seen black.new.writer })
+        (record {
+          white_reader = R.seen white.old.reader;
+          white_writer = W.seen white.old.writer;
+          black_reader = R.seen black.old.reader;
+          black_writer = W.seen black.old.writer;
+        })
+        (record {
+          white_reader = R.seen white.new.reader;
+          white_writer = W.seen white.new.writer;
+          black_reader = R.seen black.new.reader;
+          black_writer = W.seen black.new.writer;
+        })
         (M.coming moments.old) (M.coming moments.new) }
 {
     game.restart(&setup.start);
@@ -172,9 +182,13 @@ fn next_line<R: Input>(
     black_lines: &mut Lines<ENGINE_LINE_LEN>,
     side: Colour,
 ) -> Result<Option<Line<ENGINE_LINE_LEN>>, ReadFault>
-    ensures next { NextLine ENGINE_LINE_LEN (by_side (R.seen white.old) (R.seen black.old) side) (by_side (R.seen white.new) (R.seen black.new) side) (by_side white_lines.old black_lines.old side) (by_side white_lines.new black_lines.new side) result }
-    ensures others { by_side (R.seen white.new) (R.seen black.new) (other side) ≡ by_side (R.seen white.old) (R.seen black.old) (other side) }
-    ensures held { by_side white_lines.new black_lines.new (other side) ≡ by_side white_lines.old black_lines.old (other side) }
+    ensures next { NextLine ENGINE_LINE_LEN (by_side (R.seen white.old) (R.seen black.old) side)
+        (by_side (R.seen white.new) (R.seen black.new) side) (by_side white_lines.old black_lines.old side)
+        (by_side white_lines.new black_lines.new side) result }
+    ensures others { by_side (R.seen white.new) (R.seen black.new) (other side)
+        ≡ by_side (R.seen white.old) (R.seen black.old) (other side) }
+    ensures held { by_side white_lines.new black_lines.new (other side)
+        ≡ by_side white_lines.old black_lines.old (other side) }
 {
     match side {
         Colour::White => white_lines.next(white),
@@ -201,8 +215,10 @@ fn send_both<W: Output, G: Played, S: Board>(
 ) -> Failed
     requires { is_some core.now.untold ≡ true → 0 < length (G.played game.now) }
     ensures { (r : Rules) (m : Match) → G.plays game.now r → Stands r core.now (G.played game.now) m
-        → SendsIf result.white (W.seen white.old) (W.seen white.new) (bytes_of (given_block r given (items_of text.now) m Colour.White))
-        × SendsIf result.black (W.seen black.old) (W.seen black.new) (bytes_of (given_block r given (items_of text.now) m Colour.Black)) }
+        → SendsIf result.white (W.seen white.old) (W.seen white.new)
+        (bytes_of (given_block r given (items_of text.now) m Colour.White))
+        × SendsIf result.black (W.seen black.old) (W.seen black.new)
+        (bytes_of (given_block r given (items_of text.now) m Colour.Black)) }
 {
     let white_failed = send(white, core, game, scratch, given, text, Colour::White).is_err();
     let black_failed = send(black, core, game, scratch, given, text, Colour::Black).is_err();
@@ -225,7 +241,8 @@ fn end_for_other<W: Output, G: Played, S: Board>(
     requires on { is_on core.old.phase ≡ true }
     ensures { (r : Rules) (m : Match) → G.plays game.now r → Stands r core.old (G.played game.now) m
         → Stands r core.new (G.played game.now) (after r m (FailsToWrite side))
-        × SendsIf result (W.seen others.old) (W.seen others.new) (bytes_of (block r m (after r m (FailsToWrite side)) (other side))) }
+        × SendsIf result (W.seen others.old) (W.seen others.new)
+        (bytes_of (block r m (after r m (FailsToWrite side)) (other side))) }
 {
     let given = core.write_fails(side);
     send(others, core, game, scratch, given, b"", side.other()).is_err()
@@ -247,7 +264,8 @@ fn send_in_turn<W: Output, G: Played, S: Board>(
     requires on { is_on core.old.phase ≡ true }
     ensures { (r : Rules) (m : Match) → G.plays game.now r → Stands r core.old (G.played game.now) m
         → Delivered r core.new (G.played game.now) m (given_block r given (items_of text.now) m) side
-        (by_turn side (W.seen own.old) (W.seen others.old)) (by_turn side (W.seen own.new) (W.seen others.new)) (by_turn side result.0 result.1) }
+        (by_turn side (W.seen own.old) (W.seen others.old)) (by_turn side (W.seen own.new) (W.seen others.new))
+        (by_turn side result.0 result.1) }
 {
     if send(own, core, game, scratch, given, text, side).is_err() {
         let others_failed = end_for_other(others, core, game, scratch, side);
@@ -275,7 +293,8 @@ fn deliver<W: Output, G: Played, S: Board>(
     requires { HasLast core.old (G.played game.now) }
     ensures { (r : Rules) (m : Match) → G.plays game.now r → Stands r core.old (G.played game.now) m
         → Delivered r core.new (G.played game.now) m (given_block r given (items_of text.now) m) side
-        (by_side (W.seen white.old) (W.seen black.old)) (by_side (W.seen white.new) (W.seen black.new)) (by_side result.white result.black) }
+        (by_side (W.seen white.old) (W.seen black.old)) (by_side (W.seen white.new) (W.seen black.new))
+        (by_side result.white result.black) }
 {
     if core.is_over() {
         return send_both(white, black, core, game, scratch, given, text);
@@ -343,12 +362,15 @@ fn hear_line<'a, M: Moments, G: Played>(
     line: &'a Line<ENGINE_LINE_LEN>,
     side: Colour,
 ) -> (Given, &'a [u8])
-    requires { (r : Rules) × (m : Match) × (G.plays game.old r) × Stands r core.old (G.played game.old) m × IsSane r m × (reads m.phase side ≡ true) }
+    requires { (r : Rules) × (m : Match) × (G.plays game.old r) × Stands r core.old (G.played game.old) m × IsSane r m
+        × (reads m.phase side ≡ true) }
     ensures rules { (r : Rules) → G.plays game.old r → G.plays game.new r }
     ensures origin { G.origin game.new ≡ G.origin game.old }
     ensures heard { (moment : ℕ) × Asked (M.coming moments.old) (M.coming moments.new) (moment ∷ [])
-        × ((r : Rules) (m : Match) → G.plays game.old r → reads m.phase side ≡ true → Stands r core.old (G.played game.old) m
-        → Goes r core.new (G.played game.new) result.0 (items_of result.1.now) m (after r m (line_event side line.now moment))) }
+        × ((r : Rules) (m : Match) → G.plays game.old r → reads m.phase side ≡ true
+        → Stands r core.old (G.played game.old) m
+        → Goes r core.new (G.played game.new) result.0 (items_of result.1.now) m
+        (after r m (line_event side line.now moment))) }
 {
     let moment = moments.now();
     let said = said(line);
@@ -366,12 +388,16 @@ fn note<'a, M: Moments, G: Played>(
     heard: &'a Result<Option<Line<ENGINE_LINE_LEN>>, ReadFault>,
     side: Colour,
 ) -> (Given, &'a [u8])
-    requires { (r : Rules) × (m : Match) × (G.plays game.old r) × Stands r core.old (G.played game.old) m × IsSane r m × (reads m.phase side ≡ true) }
+    requires { (r : Rules) × (m : Match) × (G.plays game.old r) × Stands r core.old (G.played game.old) m × IsSane r m
+        × (reads m.phase side ≡ true) }
     ensures rules { (r : Rules) → G.plays game.old r → G.plays game.new r }
     ensures origin { G.origin game.new ≡ G.origin game.old }
-    ensures heard { (moment : ℕ) × Asked (M.coming moments.old) (M.coming moments.new) (moment_in (event_heard side moment heard.now))
-        × ((r : Rules) (m : Match) → G.plays game.old r → reads m.phase side ≡ true → Stands r core.old (G.played game.old) m
-        → Goes r core.new (G.played game.new) result.0 (items_of result.1.now) m (after r m (event_heard side moment heard.now))) }
+    ensures heard { (moment : ℕ)
+        × Asked (M.coming moments.old) (M.coming moments.new) (moment_in (event_heard side moment heard.now))
+        × ((r : Rules) (m : Match) → G.plays game.old r → reads m.phase side ≡ true
+        → Stands r core.old (G.played game.old) m
+        → Goes r core.new (G.played game.new) result.0 (items_of result.1.now) m
+        (after r m (event_heard side moment heard.now))) }
 {
     match heard {
         Err(_) => (core.read_fails(side), b"".as_slice()),
@@ -397,13 +423,18 @@ fn hear<W: Output, M: Moments, G: Played, S: Board>(
     heard: &Result<Option<Line<ENGINE_LINE_LEN>>, ReadFault>,
     side: Colour,
 ) -> Failed
-    requires { (r : Rules) × (m : Match) × (G.plays game.old r) × Stands r core.old (G.played game.old) m × IsSane r m × (reads m.phase side ≡ true) }
+    requires { (r : Rules) × (m : Match) × (G.plays game.old r) × Stands r core.old (G.played game.old) m × IsSane r m
+        × (reads m.phase side ≡ true) }
     ensures rules { (r : Rules) → G.plays game.old r → G.plays game.new r }
     ensures origin { G.origin game.new ≡ G.origin game.old }
-    ensures heard { (moment : ℕ) × Asked (M.coming moments.old) (M.coming moments.new) (moment_in (event_heard side moment heard.now))
-        × ((r : Rules) (m : Match) → G.plays game.old r → reads m.phase side ≡ true → Stands r core.old (G.played game.old) m
-        → Delivered r core.new (G.played game.new) (after r m (event_heard side moment heard.now)) (block r m (after r m (event_heard side moment heard.now))) side
-        (by_side (W.seen white.old) (W.seen black.old)) (by_side (W.seen white.new) (W.seen black.new)) (by_side result.white result.black)) }
+    ensures heard { (moment : ℕ)
+        × Asked (M.coming moments.old) (M.coming moments.new) (moment_in (event_heard side moment heard.now))
+        × ((r : Rules) (m : Match) → G.plays game.old r → reads m.phase side ≡ true
+        → Stands r core.old (G.played game.old) m
+        → Delivered r core.new (G.played game.new) (after r m (event_heard side moment heard.now))
+        (block r m (after r m (event_heard side moment heard.now))) side
+        (by_side (W.seen white.old) (W.seen black.old)) (by_side (W.seen white.new) (W.seen black.new))
+        (by_side result.white result.black)) }
 {
     let (given, text) = note(core, moments, game, heard, side);
     deliver(white, black, core, game, scratch, given, text, side)
@@ -426,7 +457,8 @@ fn end_of<B: Board>(core: Core, game: &mut Game<B>, reason: Reason, failed: Fail
     ensures told { IsTold reason failed result }
     ensures white_name { result.white_name ≡ core.white.name }
     ensures black_name { result.black_name ≡ core.black.name }
-    ensures game { game.new ≡ at game.old (with_declared game.old.state (declared_at (verdict_now game.old.state) reason)) }
+    ensures game { game.new
+        ≡ at game.old (with_declared game.old.state (declared_at (verdict_now game.old.state) reason)) }
 {
     declare(game, reason);
     MatchEnd {

@@ -60,7 +60,8 @@ fn add_last<G: Played, S: Board>(
 )
     requires some { 0 < length (G.played game.now) }
     requires room { array_vec_len block.old + 20 ≤ BLOCK_LEN }
-    ensures text { (r : Rules) (m : Match) → G.plays game.now r → Stands r core.now (G.played game.now) m → block.new.items ≡ block.old.items ++ bytes_of (last_move r m side ∷ []) }
+    ensures text { (r : Rules) (m : Match) → G.plays game.now r → Stands r core.now (G.played game.now) m
+        → block.new.items ≡ block.old.items ++ bytes_of (last_move r m side ∷ []) }
     ensures len { array_vec_len block.new ≤ array_vec_len block.old + 20 }
 {
     let features = core.features(side);
@@ -76,7 +77,8 @@ fn add_last_if<G: Played, S: Board>(
     side: Colour,
 )
     requires { array_vec_len block.old + 20 ≤ BLOCK_LEN }
-    ensures text { (r : Rules) (m : Match) → G.plays game.now r → Stands r core.now (G.played game.now) m → block.new.items ≡ block.old.items ++ bytes_of (last_move_lines r m side) }
+    ensures text { (r : Rules) (m : Match) → G.plays game.now r → Stands r core.now (G.played game.now) m
+        → block.new.items ≡ block.old.items ++ bytes_of (last_move_lines r m side) }
     ensures len { array_vec_len block.new ≤ array_vec_len block.old + 20 }
 {
     if game.is_unplayed() {
@@ -88,7 +90,8 @@ fn add_last_if<G: Played, S: Board>(
 // Both clocks, for an engine that takes them.
 fn add_clocks(block: &mut Block, core: &Core, side: Colour)
     requires { array_vec_len block.old + 60 ≤ BLOCK_LEN }
-    ensures text { (r : Rules) (played : List Move) (m : Match) → Stands r core.now played m → block.new.items ≡ block.old.items ++ bytes_of (clock_lines r m side) }
+    ensures text { (r : Rules) (played : List Move) (m : Match) → Stands r core.now played m
+        → block.new.items ≡ block.old.items ++ bytes_of (clock_lines r m side) }
     ensures len { array_vec_len block.new ≤ array_vec_len block.old + 60 }
 {
     if core.features(side).time {
@@ -107,7 +110,8 @@ fn add_opening<G: Played, S: Board>(
     side: Colour,
 )
     requires { array_vec_len block.old + 100 ≤ BLOCK_LEN }
-    ensures text { (r : Rules) (m : Match) → G.plays game.now r → Stands r core.now (G.played game.now) m → block.new.items ≡ block.old.items ++ bytes_of (opening_lines r m side) }
+    ensures text { (r : Rules) (m : Match) → G.plays game.now r → Stands r core.now (G.played game.now) m
+        → block.new.items ≡ block.old.items ++ bytes_of (opening_lines r m side) }
     ensures len { array_vec_len block.new ≤ array_vec_len block.old + 100 }
 {
     if core.clocks.moves(side) > 0 {
@@ -136,7 +140,8 @@ fn add_variant(block: &mut Block, variant: Variant)
 // The setup of an engine.
 fn add_setup<G: Played>(block: &mut Block, core: &Core, game: &G)
     requires { array_vec_len block.old + 300 ≤ BLOCK_LEN }
-    ensures text { (r : Rules) (m : Match) → G.plays game.now r → Stands r core.now (G.played game.now) m → block.new.items ≡ block.old.items ++ bytes_of (setup_lines r) }
+    ensures text { (r : Rules) (m : Match) → G.plays game.now r → Stands r core.now (G.played game.now) m
+        → block.new.items ≡ block.old.items ++ bytes_of (setup_lines r) }
     ensures len { array_vec_len block.new ≤ array_vec_len block.old + 300 }
 {
     add(block, b"new\n");
@@ -157,7 +162,8 @@ fn add_untold<G: Played, S: Board>(
 )
     requires untold { is_some core.now.untold ≡ true → 0 < length (G.played game.now) }
     requires room { array_vec_len block.old + 20 ≤ BLOCK_LEN }
-    ensures text { (r : Rules) (m : Match) → G.plays game.now r → Stands r core.now (G.played game.now) m → block.new.items ≡ block.old.items ++ bytes_of (untold_lines r m side m.untold) }
+    ensures text { (r : Rules) (m : Match) → G.plays game.now r → Stands r core.now (G.played game.now) m
+        → block.new.items ≡ block.old.items ++ bytes_of (untold_lines r m side m.untold) }
     ensures len { array_vec_len block.new ≤ array_vec_len block.old + 20 }
 {
     match core.untold {
@@ -181,7 +187,8 @@ fn add_end_lines<G: Played, S: Board>(
 )
     requires untold { is_some core.now.untold ≡ true → 0 < length (G.played game.now) }
     requires room { array_vec_len block.old + 120 ≤ BLOCK_LEN }
-    ensures text { (r : Rules) (m : Match) → G.plays game.now r → Stands r core.now (G.played game.now) m → block.new.items ≡ block.old.items ++ bytes_of (end_lines r m side reason) }
+    ensures text { (r : Rules) (m : Match) → G.plays game.now r → Stands r core.now (G.played game.now) m
+        → block.new.items ≡ block.old.items ++ bytes_of (end_lines r m side reason) }
     ensures len { array_vec_len block.new ≤ array_vec_len block.old + 120 }
 {
     add_untold(block, core, game, scratch, side);
@@ -227,7 +234,8 @@ fn add_entry<G: Played, S: Board>(
 )
     requires untold { is_some core.now.untold ≡ true → 0 < length (G.played game.now) }
     requires room { array_vec_len block.old + 300 ≤ BLOCK_LEN }
-    ensures { (r : Rules) (m : Match) → G.plays game.now r → Stands r core.now (G.played game.now) m → block.new.items ≡ block.old.items ++ bytes_of (entry r m side) }
+    ensures { (r : Rules) (m : Match) → G.plays game.now r → Stands r core.now (G.played game.now) m
+        → block.new.items ≡ block.old.items ++ bytes_of (entry r m side) }
 {
     match core.phase {
         Phase::Hello(on) => {
@@ -311,7 +319,8 @@ fn has_room(block: &Block, name: &[u8]) -> bool
 // and then the answer.
 fn answer<W: Output>(writer: &mut W, block: &mut Block, name: &[u8]) -> Result<(), WriteFault>
     requires { array_vec_len block.old ≤ 290 }
-    ensures adds { Adds (W.seen writer.old) (W.seen writer.new) block.old.items block.new.items result (answer_line name.now) }
+    ensures adds { Adds (W.seen writer.old) (W.seen writer.new) block.old.items block.new.items result
+        (answer_line name.now) }
     ensures len { IfOk result (λ u. array_vec_len block.new ≤ 290) }
 {
     if has_room(block, name) {
@@ -332,7 +341,8 @@ fn answer_items<W: Output>(
     text: &[u8],
 ) -> Result<bool, WriteFault>
     requires { array_vec_len block.old ≤ 290 }
-    ensures adds { Adds (W.seen writer.old) (W.seen writer.new) block.old.items block.new.items result (bytes_of (answers_to (items_of text.now))) }
+    ensures adds { Adds (W.seen writer.old) (W.seen writer.new) block.old.items block.new.items result
+        (bytes_of (answers_to (items_of text.now))) }
     ensures len { IfOk result (λ some. array_vec_len block.new ≤ 290) }
     ensures due { IsErr result → 0 < length (answers_to (items_of text.now)) }
     ensures some { IfOk result (λ some. some ≡ nat_lt 0 (length (answers_to (items_of text.now)))) }
@@ -363,10 +373,12 @@ fn answer_own_items<W: Output>(
     side: Colour,
 ) -> Result<bool, WriteFault>
     requires { array_vec_len block.old ≤ 290 }
-    ensures adds { Adds (W.seen writer.old) (W.seen writer.new) block.old.items block.new.items result (bytes_of (to given.answers side (answers_to (items_of text.now)))) }
+    ensures adds { Adds (W.seen writer.old) (W.seen writer.new) block.old.items block.new.items result
+        (bytes_of (to given.answers side (answers_to (items_of text.now)))) }
     ensures len { IfOk result (λ some. array_vec_len block.new ≤ 290) }
     ensures due { IsErr result → 0 < length (to given.answers side (answers_to (items_of text.now))) }
-    ensures some { IfOk result (λ some. some ≡ nat_lt 0 (length (to given.answers side (answers_to (items_of text.now))))) }
+    ensures some { IfOk result
+        (λ some. some ≡ nat_lt 0 (length (to given.answers side (answers_to (items_of text.now))))) }
 {
     match given.answers {
         None => Ok(false),
@@ -409,7 +421,8 @@ fn add_entered<G: Played, S: Board>(
 )
     requires untold { is_some core.now.untold ≡ true → 0 < length (G.played game.now) }
     requires room { array_vec_len block.old + 300 ≤ BLOCK_LEN }
-    ensures { (r : Rules) (m : Match) → G.plays game.now r → Stands r core.now (G.played game.now) m → block.new.items ≡ block.old.items ++ bytes_of (if given.entered then entry r m side else []) }
+    ensures { (r : Rules) (m : Match) → G.plays game.now r → Stands r core.now (G.played game.now) m
+        → block.new.items ≡ block.old.items ++ bytes_of (if given.entered then entry r m side else []) }
 {
     if given.entered {
         add_entry(block, core, game, scratch, side);
@@ -444,8 +457,11 @@ pub(crate) fn send<W: Output, G: Played, S: Board>(
     side: Colour,
 ) -> Result<(), WriteFault>
     requires { is_some core.now.untold ≡ true → 0 < length (G.played game.now) }
-    ensures sends { (r : Rules) (m : Match) → G.plays game.now r → Stands r core.now (G.played game.now) m → SendsIf (is_err result) (W.seen writer.old) (W.seen writer.new) (bytes_of (given_block r given (items_of text.now) m side)) }
-    ensures due { (r : Rules) (m : Match) → G.plays game.now r → Stands r core.now (G.played game.now) m → IsErr result → 0 < length (given_block r given (items_of text.now) m side) }
+    ensures sends { (r : Rules) (m : Match) → G.plays game.now r → Stands r core.now (G.played game.now) m
+        → SendsIf (is_err result) (W.seen writer.old) (W.seen writer.new)
+        (bytes_of (given_block r given (items_of text.now) m side)) }
+    ensures due { (r : Rules) (m : Match) → G.plays game.now r → Stands r core.now (G.played game.now) m → IsErr result
+        → 0 < length (given_block r given (items_of text.now) m side) }
 {
     let mut block = Block::new();
     let answered = match answer_own_items(writer, &mut block, given, text, side) {

@@ -74,8 +74,10 @@ impl Player {
 
     /// Takes over what the items of a text say, and answers whether they end the hello.
     pub(crate) fn hear(&mut self, text: &[u8]) -> bool
-        ensures features { (items : List told.Item) → self.old.features ≡ features_of items → self.new.features ≡ features_of (items ++ items_of text.now) }
-        ensures name { (items : List told.Item) → self.old.name ≡ name_by items → self.new.name ≡ name_by (items ++ items_of text.now) }
+        ensures features { (items : List told.Item) → self.old.features ≡ features_of items
+            → self.new.features ≡ features_of (items ++ items_of text.now) }
+        ensures name { (items : List told.Item) → self.old.name ≡ name_by items
+            → self.new.name ≡ name_by (items ++ items_of text.now) }
         ensures offers { self.new.offers ≡ self.old.offers }
         ensures done { result ≡ has_done (items_of text.now) }
     {
@@ -112,7 +114,8 @@ impl Core {
 // Takes over the name that an item says.
 #[tactic(auto, unfolding(crate::specs::ties::Stands::name_by, engine_lines::specs::Items::told))]
 fn note_name(name: &mut TagText, item: &Item<'_>)
-    ensures { (items : List told.Item) → name.old ≡ name_by items → name.new ≡ name_by (items ++ item_seen item.now ∷ []) }
+    ensures { (items : List told.Item) → name.old ≡ name_by items
+        → name.new ≡ name_by (items ++ item_seen item.now ∷ []) }
 {
     if item.name == b"myname".as_slice() {
         *name = TagText::cut(item.value.text());

@@ -121,7 +121,8 @@ impl SquareSet {
     /// Takes the lowest square out; `None` where none is left.
     #[tactic(auto, using(crate::proofs::Members::members_none, crate::proofs::Members::members_first))]
     pub fn take_first(&mut self) -> Option<Square>
-        ensures { MatchOption result ((members self.old ≡ []) × (self.new ≡ self.old)) (λ s. members self.old ≡ s ∷ members self.new) }
+        ensures { MatchOption result ((members self.old ≡ []) × (self.new ≡ self.old))
+            (λ s. members self.old ≡ s ∷ members self.new) }
     {
         let set = *self;
         if set.is_empty() {

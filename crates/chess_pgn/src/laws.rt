@@ -15,13 +15,16 @@ use chess_text::san_is_a_word;
 /// The text that tokens of 1 to 79 bytes make from left to right has them in filled lines, and no other text has: no
 /// line has more than 79 bytes behind the prefix, and none could also have taken the first token of the next.
 pub fn lines_are_filled()
-    ensures filled { (prefix : List ℕ) (tokens : List (List ℕ)) → AreShort tokens → IsMoveText prefix tokens (move_text_of prefix tokens) }
-    ensures no_other { (prefix : List ℕ) (tokens : List (List ℕ)) (text : List ℕ) → AreShort tokens → IsMoveText prefix tokens text → text ≡ move_text_of prefix tokens }
+    ensures filled { (prefix : List ℕ) (tokens : List (List ℕ)) → AreShort tokens
+        → IsMoveText prefix tokens (move_text_of prefix tokens) }
+    ensures no_other { (prefix : List ℕ) (tokens : List (List ℕ)) (text : List ℕ) → AreShort tokens
+        → IsMoveText prefix tokens text → text ≡ move_text_of prefix tokens }
 {}
 
 /// The text of every game's moves has them in filled lines.
 pub fn games_are_in_filled_lines()
-    ensures { (prefix : List ℕ) (limit : ℕ) (s : State) → IsPlayable (record { limit = limit; state = s }) → IsMoveText prefix (game_tokens s) (move_text_of prefix (game_tokens s)) }
+    ensures { (prefix : List ℕ) (limit : ℕ) (s : State) → IsPlayable (record { limit = limit; state = s })
+        → IsMoveText prefix (game_tokens s) (move_text_of prefix (game_tokens s)) }
 {
     // The prover wants these laws: each position of a game is sound, and the SAN of a legal move is short.
     after_is_sound();

@@ -45,7 +45,8 @@ impl<'a> LineWriter<'a> {
         writer: &mut W,
         line: &[u8],
     ) -> Result<(), WriteFault>
-        ensures added { Adds (W.seen writer.old) (W.seen writer.new) self.old.waiting self.new.waiting result (self.old.prefix.now ++ line.now ++ 10 ∷ []) }
+        ensures added { Adds (W.seen writer.old) (W.seen writer.new) self.old.waiting self.new.waiting result
+            (self.old.prefix.now ++ line.now ++ 10 ∷ []) }
         ensures prefix { self.new.prefix.now ≡ self.old.prefix.now }
         ensures column { self.new.column ≡ self.old.column }
     {
@@ -63,7 +64,8 @@ impl<'a> LineWriter<'a> {
     ) -> Result<(), WriteFault>
         requires some { 0 < length token.now }
         requires short { length token.now ≤ LINE_LEN }
-        ensures added { Adds (W.seen writer.old) (W.seen writer.new) self.old.waiting self.new.waiting result (placed self.old.prefix.now self.old.column token.now) }
+        ensures added { Adds (W.seen writer.old) (W.seen writer.new) self.old.waiting self.new.waiting result
+            (placed self.old.prefix.now self.old.column token.now) }
         ensures column { self.new.column ≡ column_behind self.old.column token.now }
         ensures prefix { self.new.prefix.now ≡ self.old.prefix.now }
     {
@@ -84,7 +86,8 @@ impl<'a> LineWriter<'a> {
     /// # Errors
     /// Where the writer failed; a beginning was taken.
     pub(crate) fn end_line<W: Output>(&mut self, writer: &mut W) -> Result<(), WriteFault>
-        ensures added { Adds (W.seen writer.old) (W.seen writer.new) self.old.waiting self.new.waiting result (line_close self.old.column) }
+        ensures added { Adds (W.seen writer.old) (W.seen writer.new) self.old.waiting self.new.waiting result
+            (line_close self.old.column) }
         ensures column { self.new.column ≡ 0 }
         ensures prefix { self.new.prefix.now ≡ self.old.prefix.now }
     {

@@ -103,7 +103,11 @@ impl Progress {
 
     // Behind a tag.
     fn behind_tag(self, tag: &Tag<'_>) -> Self
-        ensures { result ≡ record { is_met = true; is_begun = self.is_begun; termination = told_behind self.termination tag.now.name.now tag.now.text.now } }
+        ensures { result ≡ record {
+          is_met = true;
+          is_begun = self.is_begun;
+          termination = told_behind self.termination tag.now.name.now tag.now.text.now;
+        } }
     {
         Progress {
             is_met: true,
@@ -142,7 +146,8 @@ fn play_word<B: Board>(
     requires { game.old.state.declared ≡ None }
     ensures limit { game.new.limit ≡ game.old.limit }
     ensures ended { EndsIn 0 0 result }
-    ensures step { step_seen game.new.state result ≡ move_step game.old.limit (so_far game.old.state progress) place (reading (current game.old.state) word.now) }
+    ensures step { step_seen game.new.state result
+        ≡ move_step game.old.limit (so_far game.old.state progress) place (reading (current game.old.state) word.now) }
 {
     let kind = match read_move(game.board(), word) {
         Reading::NotAMove => PgnFaultKind::BadToken,
@@ -161,7 +166,9 @@ fn play_word<B: Board>(
 // Declares the outcome of a termination, unless the board says one or it is `*`.
 fn end_game<B: Board>(game: &mut Game<B>, outcome: Outcome)
     requires { game.old.state.declared ≡ None }
-    ensures { game.new ≡ left_at game.old (with_declared game.old.state (declared_behind (is_some (verdict_now game.old.state)) outcome)) }
+    ensures { game.new
+        ≡ left_at game.old
+        (with_declared game.old.state (declared_behind (is_some (verdict_now game.old.state)) outcome)) }
 {
     if outcome != Outcome::Unfinished
         && game.verdict().is_none()
@@ -183,7 +190,8 @@ fn read_word<B: Board>(
     requires within { place + length word.now < 2 ^ 64 }
     ensures limit { game.new.limit ≡ game.old.limit }
     ensures ended { EndsIn place (place + length word.now) result }
-    ensures step { step_seen game.new.state result ≡ word_step game.old.limit (so_far game.old.state progress) place word.now (kind_of word.now) }
+    ensures step { step_seen game.new.state result
+        ≡ word_step game.old.limit (so_far game.old.state progress) place word.now (kind_of word.now) }
 {
     match word_kind(word) {
         WordKind::End(outcome) => {
@@ -210,7 +218,8 @@ fn read_tag<B: Board>(
 ) -> Result<Step, PgnFault>
     ensures limit { game.new.limit ≡ game.old.limit }
     ensures ended { EndsIn 0 0 result }
-    ensures step { step_seen game.new.state result ≡ tag_step (so_far game.old.state progress) tag.now.name.now tag.now.text.now place }
+    ensures step { step_seen game.new.state result
+        ≡ tag_step (so_far game.old.state progress) tag.now.name.now tag.now.text.now place }
 {
     if let b"FEN" = tag.name {
         match read_fen_as(game.start().variant(), tag.text) {
@@ -239,7 +248,8 @@ fn read_token<B: Board>(
     requires place { place ≤ len }
     ensures limit { game.new.limit ≡ game.old.limit }
     ensures ended { EndsIn place len result }
-    ensures step { step_seen game.new.state result ≡ step game.old.limit len (so_far game.old.state progress) (len - place) (token_seen token.now) }
+    ensures step { step_seen game.new.state result
+        ≡ step game.old.limit len (so_far game.old.state progress) (len - place) (token_seen token.now) }
 {
     match token {
         Token::Skip => Ok(Step::On(progress)),
@@ -256,7 +266,8 @@ fn read_token<B: Board>(
 fn told_fault(fault: TokenFault, progress: Progress, len: usize, place: usize) -> PgnFault
     requires within { IsWithin (len - place) (fault_seen fault) }
     requires place { place ≤ len }
-    ensures { (limit : ℕ) (s : State) → step_seen s (Err result) ≡ step limit len (so_far s progress) (len - place) (fault_seen fault) }
+    ensures { (limit : ℕ) (s : State)
+        → step_seen s (Err result) ≡ step limit len (so_far s progress) (len - place) (fault_seen fault) }
 {
     match fault {
         TokenFault::BadTag if progress.is_begun => PgnFault {

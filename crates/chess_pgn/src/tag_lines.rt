@@ -52,7 +52,8 @@ pub(crate) fn put_tags<W: Output>(
     writer: &mut W,
     tags: &[TagPair<'_>],
 ) -> Result<(), WriteFault>
-    ensures added { Adds (W.seen writer.old) (W.seen writer.new) lines.old.waiting lines.new.waiting result (ended lines.old.prefix.now (tag_lines_of tags.now)) }
+    ensures added { Adds (W.seen writer.old) (W.seen writer.new) lines.old.waiting lines.new.waiting result
+        (ended lines.old.prefix.now (tag_lines_of tags.now)) }
     ensures prefix { lines.new.prefix.now ≡ lines.old.prefix.now }
     ensures column { lines.new.column ≡ lines.old.column }
 {

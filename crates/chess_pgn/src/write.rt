@@ -53,7 +53,8 @@ fn put_game<B: Board, W: Output>(
     tags: &Tags,
 ) -> Result<(), WriteFault>
     requires { lines.old.column ≡ 0 }
-    ensures { Adds (W.seen writer.old) (W.seen writer.new) lines.old.waiting lines.new.waiting result (pgn lines.old.prefix.now tags.now game.now.state) }
+    ensures { Adds (W.seen writer.old) (W.seen writer.new) lines.old.waiting lines.new.waiting result
+        (pgn lines.old.prefix.now tags.now game.now.state) }
 {
     put_tag_lines(lines, writer, game, tags)?;
     put_move_text(lines, writer, game, scratch)?;
@@ -67,7 +68,8 @@ fn put_tag_lines<B: Board, W: Output>(
     game: &Game<B>,
     tags: &Tags,
 ) -> Result<(), WriteFault>
-    ensures added { Adds (W.seen writer.old) (W.seen writer.new) lines.old.waiting lines.new.waiting result (ended lines.old.prefix.now (tag_lines tags.now game.now.state ++ [] ∷ [])) }
+    ensures added { Adds (W.seen writer.old) (W.seen writer.new) lines.old.waiting lines.new.waiting result
+        (ended lines.old.prefix.now (tag_lines tags.now game.now.state ++ [] ∷ [])) }
     ensures prefix { lines.new.prefix.now ≡ lines.old.prefix.now }
     ensures column { lines.new.column ≡ lines.old.column }
 {
@@ -85,7 +87,8 @@ fn put_roster<W: Output>(
     tags: &Tags,
     outcome: Outcome,
 ) -> Result<(), WriteFault>
-    ensures added { Adds (W.seen writer.old) (W.seen writer.new) lines.old.waiting lines.new.waiting result (ended lines.old.prefix.now (roster_lines tags.now outcome)) }
+    ensures added { Adds (W.seen writer.old) (W.seen writer.new) lines.old.waiting lines.new.waiting result
+        (ended lines.old.prefix.now (roster_lines tags.now outcome)) }
     ensures prefix { lines.new.prefix.now ≡ lines.old.prefix.now }
     ensures column { lines.new.column ≡ lines.old.column }
 {
@@ -129,7 +132,8 @@ fn put_further<W: Output>(
     start: &Position,
     termination: Termination,
 ) -> Result<(), WriteFault>
-    ensures added { Adds (W.seen writer.old) (W.seen writer.new) lines.old.waiting lines.new.waiting result (ended lines.old.prefix.now (further_lines start.now termination)) }
+    ensures added { Adds (W.seen writer.old) (W.seen writer.new) lines.old.waiting lines.new.waiting result
+        (ended lines.old.prefix.now (further_lines start.now termination)) }
     ensures prefix { lines.new.prefix.now ≡ lines.old.prefix.now }
     ensures column { lines.new.column ≡ lines.old.column }
 {
@@ -143,7 +147,8 @@ fn put_start<W: Output>(
     writer: &mut W,
     start: &Position,
 ) -> Result<(), WriteFault>
-    ensures added { Adds (W.seen writer.old) (W.seen writer.new) lines.old.waiting lines.new.waiting result (ended lines.old.prefix.now (start_lines_in start.now.variant start.now)) }
+    ensures added { Adds (W.seen writer.old) (W.seen writer.new) lines.old.waiting lines.new.waiting result
+        (ended lines.old.prefix.now (start_lines_in start.now.variant start.now)) }
     ensures prefix { lines.new.prefix.now ≡ lines.old.prefix.now }
     ensures column { lines.new.column ≡ lines.old.column }
 {
@@ -166,7 +171,8 @@ fn put_fen<W: Output>(
     writer: &mut W,
     start: &Position,
 ) -> Result<(), WriteFault>
-    ensures added { Adds (W.seen writer.old) (W.seen writer.new) lines.old.waiting lines.new.waiting result (ended lines.old.prefix.now (fen_lines start.now)) }
+    ensures added { Adds (W.seen writer.old) (W.seen writer.new) lines.old.waiting lines.new.waiting result
+        (ended lines.old.prefix.now (fen_lines start.now)) }
     ensures prefix { lines.new.prefix.now ≡ lines.old.prefix.now }
     ensures column { lines.new.column ≡ lines.old.column }
 {
@@ -191,7 +197,8 @@ fn put_last<W: Output>(
     variant: Variant,
     termination: Termination,
 ) -> Result<(), WriteFault>
-    ensures added { Adds (W.seen writer.old) (W.seen writer.new) lines.old.waiting lines.new.waiting result (ended lines.old.prefix.now (last_lines variant termination)) }
+    ensures added { Adds (W.seen writer.old) (W.seen writer.new) lines.old.waiting lines.new.waiting result
+        (ended lines.old.prefix.now (last_lines variant termination)) }
     ensures prefix { lines.new.prefix.now ≡ lines.old.prefix.now }
     ensures column { lines.new.column ≡ lines.old.column }
 {
@@ -219,7 +226,8 @@ fn put_move_text<B: Board, W: Output>(
     scratch: &mut B,
 ) -> Result<(), WriteFault>
     requires { lines.old.column ≡ 0 }
-    ensures added { Adds (W.seen writer.old) (W.seen writer.new) lines.old.waiting lines.new.waiting result (move_text_of lines.old.prefix.now (game_tokens game.now.state)) }
+    ensures added { Adds (W.seen writer.old) (W.seen writer.new) lines.old.waiting lines.new.waiting result
+        (move_text_of lines.old.prefix.now (game_tokens game.now.state)) }
     ensures prefix { lines.new.prefix.now ≡ lines.old.prefix.now }
 {
     put_moves(lines, writer, game, scratch)?;
@@ -234,8 +242,12 @@ fn put_moves<B: Board, W: Output>(
     game: &Game<B>,
     scratch: &mut B,
 ) -> Result<(), WriteFault>
-    ensures added { Adds (W.seen writer.old) (W.seen writer.new) lines.old.waiting lines.new.waiting result (placed_all lines.old.prefix.now lines.old.column (move_tokens true game.now.state.start game.now.state.moves)) }
-    ensures column { OnOk result (lines.new.column ≡ column_behind_all lines.old.column (move_tokens true game.now.state.start game.now.state.moves)) }
+    ensures added { Adds (W.seen writer.old) (W.seen writer.new) lines.old.waiting lines.new.waiting result
+        (placed_all lines.old.prefix.now lines.old.column
+        (move_tokens true game.now.state.start game.now.state.moves)) }
+    ensures column { OnOk result
+        (lines.new.column
+        ≡ column_behind_all lines.old.column (move_tokens true game.now.state.start game.now.state.moves)) }
     ensures prefix { lines.new.prefix.now ≡ lines.old.prefix.now }
 {
     // The prover wants this fact: each move of a game is legal in the position before it.
@@ -256,8 +268,10 @@ fn put_move<B: Board, W: Output>(
     is_first: bool,
 ) -> Result<(), WriteFault>
     requires { IsTrue (is_legal (B.position board.old) m) }
-    ensures added { Adds (W.seen writer.old) (W.seen writer.new) lines.old.waiting lines.new.waiting result (placed_all lines.old.prefix.now lines.old.column (tokens_of_move is_first (B.position board.old) m)) }
-    ensures column { OnOk result (lines.new.column ≡ column_behind_all lines.old.column (tokens_of_move is_first (B.position board.old) m)) }
+    ensures added { Adds (W.seen writer.old) (W.seen writer.new) lines.old.waiting lines.new.waiting result
+        (placed_all lines.old.prefix.now lines.old.column (tokens_of_move is_first (B.position board.old) m)) }
+    ensures column { OnOk result
+        (lines.new.column ≡ column_behind_all lines.old.column (tokens_of_move is_first (B.position board.old) m)) }
     ensures prefix { lines.new.prefix.now ≡ lines.old.prefix.now }
     ensures position { OnOk result (B.position board.new ≡ after (B.position board.old) m) }
 {
@@ -280,8 +294,10 @@ fn put_number<W: Output>(
     setup: &Setup,
     is_first: bool,
 ) -> Result<(), WriteFault>
-    ensures added { Adds (W.seen writer.old) (W.seen writer.new) lines.old.waiting lines.new.waiting result (placed_all lines.old.prefix.now lines.old.column (number_token setup.now.side is_first setup.now.fullmove)) }
-    ensures column { lines.new.column ≡ column_behind_all lines.old.column (number_token setup.now.side is_first setup.now.fullmove) }
+    ensures added { Adds (W.seen writer.old) (W.seen writer.new) lines.old.waiting lines.new.waiting result
+        (placed_all lines.old.prefix.now lines.old.column (number_token setup.now.side is_first setup.now.fullmove)) }
+    ensures column { lines.new.column
+        ≡ column_behind_all lines.old.column (number_token setup.now.side is_first setup.now.fullmove) }
     ensures prefix { lines.new.prefix.now ≡ lines.old.prefix.now }
 {
     let dots = match (setup.side, is_first) {

@@ -167,7 +167,8 @@ fn with_spelled_between<B: Board>(
 
 // What a text of that form is: of the legal moves it may spell one, several or none.
 fn spelled<B: Board>(board: &B, form: &Form) -> Reading
-    ensures { result ≡ one_of (filter (λ m. is_spelled form.now (B.position board.now) m) (moves (B.position board.now))) }
+    ensures { result ≡ one_of
+        (filter (λ m. is_spelled form.now (B.position board.now) m) (moves (B.position board.now))) }
 {
     let to = end_square(form, board.setup());
     let mut found = Reading::NoSuch;

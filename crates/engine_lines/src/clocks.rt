@@ -36,7 +36,8 @@ impl Model for Clocks {
       black = record { moves = c.black.moves; used = c.black.used };
     } };
 
-    ghost invariant = { λ c. IsWithin c.level (record { moves = c.white.moves; used = c.white.used }) × IsWithin c.level (record { moves = c.black.moves; used = c.black.used }) };
+    ghost invariant = { λ c. IsWithin c.level (record { moves = c.white.moves; used = c.white.used })
+        × IsWithin c.level (record { moves = c.black.moves; used = c.black.used }) };
 
     ghost inverse = { λ v. record {
       level = v.level;

@@ -37,7 +37,8 @@ impl Features {
 
     /// What the engine takes once it said one item more.
     pub fn heard(self, item: &Item<'_>) -> Self
-        ensures { (items : List told.Item) → self ≡ features_of items → result ≡ features_of (items ++ item_seen item.now ∷ []) }
+        ensures { (items : List told.Item) → self ≡ features_of items
+            → result ≡ features_of (items ++ item_seen item.now ∷ []) }
     {
         Features {
             ping: item.says_or(b"ping", self.ping),

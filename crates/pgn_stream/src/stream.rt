@@ -71,7 +71,8 @@ impl Model for PgnStream {
       ended = s.ended;
     } };
 
-    ghost invariant = { λ s. (vec_len s.bytes ≡ 16777218) × (length s.bytes.items ≡ 16777218) × (s.len ≤ 16777218) × (s.at ≤ s.len) × (s.len ≤ s.at + 16777217) × (0 < s.before → 0 < s.at) × (s.before + 2 ^ 25 ≤ 2 ^ 64) };
+    ghost invariant = { λ s. (vec_len s.bytes ≡ 16777218) × (length s.bytes.items ≡ 16777218) × (s.len ≤ 16777218)
+        × (s.at ≤ s.len) × (s.len ≤ s.at + 16777217) × (0 < s.before → 0 < s.at) × (s.before + 2 ^ 25 ≤ 2 ^ 64) };
 }
 
 // Whether a byte is white space.
@@ -179,7 +180,8 @@ impl PgnStream {
 
     // Has as many bytes in the window as a game from the place on may have, and one more, or all that are left.
     fn refill<R: Input>(&mut self, input: &mut R) -> Result<(), StreamFault>
-        ensures held { (r : InputState) (text : List ℕ) → StandsAt self.old r (R.seen input.old) text → Refills self.old self.new r (R.seen input.new) text result }
+        ensures held { (r : InputState) (text : List ℕ) → StandsAt self.old r (R.seen input.old) text
+            → Refills self.old self.new r (R.seen input.new) text result }
         ensures place { place self.new ≡ place self.old }
         ensures full { IfOk result (λ _. is_full self.new ≡ true) }
         ensures going { IfErr result (λ _. self.old.ended ≡ false) }
@@ -210,7 +212,8 @@ impl PgnStream {
 
     // Reads a game in the window, and answers where the window tells how it is read.
     fn read_held<B: Board>(&self, game: &mut Game<B>) -> Option<Result<Option<PgnEnd>, PgnFault>>
-        ensures answer { result ≡ (if is_held game.old.limit self.now then Some (held_answer game.old.limit self.now) else None) }
+        ensures answer { result
+            ≡ (if is_held game.old.limit self.now then Some (held_answer game.old.limit self.now) else None) }
         ensures game { game.new ≡ left_at game.old (pgn_read game.old.limit self.now.window self.now.at).state }
         ensures placed { IfSome result (λ answer. IsPlaced self.now (length game.new.state.moves) answer) }
         ensures sound { IsSound self.now }
@@ -226,7 +229,9 @@ impl PgnStream {
 
     // The same in a full window: a game that it doesn't tell is too long.
     fn read_full<B: Board>(&self, game: &mut Game<B>) -> Result<Option<PgnEnd>, PgnFault>
-        ensures answer { result ≡ (if is_held game.old.limit self.now then held_answer game.old.limit self.now else Err (too_long self.now)) }
+        ensures answer { result
+            ≡ (if is_held game.old.limit self.now then held_answer game.old.limit self.now
+            else Err (too_long self.now)) }
         ensures game { game.new ≡ left_at game.old (pgn_read game.old.limit self.now.window self.now.at).state }
         ensures placed { IsPlaced self.now (length game.new.state.moves) result }
         ensures sound { IsSound self.now }
@@ -284,7 +289,8 @@ impl PgnStream {
         input: &mut R,
         game: &mut Game<B>,
     ) -> Result<Result<Option<PgnEnd>, PgnFault>, StreamFault>
-        ensures game { (r : InputState) (text : List ℕ) → StandsAt self.old r (R.seen input.old) text → ReadsGame self.old self.new r (R.seen input.new) text game.old game.new result }
+        ensures game { (r : InputState) (text : List ℕ) → StandsAt self.old r (R.seen input.old) text
+            → ReadsGame self.old self.new r (R.seen input.new) text game.old game.new result }
         ensures behind { IfOk result (λ answer. StandsBehind self.old self.new (length game.new.state.moves) answer) }
         ensures going { IfErr result (λ _. self.old.ended ≡ false) }
         ensures held { is_held game.old.limit self.old ≡ true → R.seen input.new ≡ R.seen input.old }
@@ -324,10 +330,12 @@ impl PgnStream {
     /// Where a read failed, or places in the input could pass 64 bits. The stream then holds the end of what was read,
     /// and stands where it stood or further on; no such line was passed, however the input goes on.
     pub fn next_event<R: Input>(&mut self, input: &mut R) -> Result<bool, StreamFault>
-        ensures event { (r : InputState) (text : List ℕ) → StandsAt self.old r (R.seen input.old) text → FindsEvent self.old self.new r (R.seen input.new) text result }
+        ensures event { (r : InputState) (text : List ℕ) → StandsAt self.old r (R.seen input.old) text
+            → FindsEvent self.old self.new r (R.seen input.new) text result }
         ensures further { IfOk result (λ found. StandsFurther self.old self.new found) }
         ensures going { IfErr result (λ _. self.old.ended ≡ false) }
-        ensures held { (next : ℕ) → IsNextEvent self.old.window self.old.at (Some next) → R.seen input.new ≡ R.seen input.old }
+        ensures held { (next : ℕ) → IsNextEvent self.old.window self.old.at (Some next)
+            → R.seen input.new ≡ R.seen input.old }
     {
         loop {
             if self.find_held() {

@@ -77,7 +77,8 @@ fn count_any<R: Input, W: Output>(
 
 // Writes the line of the counts, where they are told, and hands all lines on.
 fn hand_on<W: Output>(told: bool, output: &mut W, tally: Tally) -> Result<(), WriteFault>
-    ensures { Sends (W.seen output.old) (W.seen output.new) result (counts_if told tally.games tally.half_moves tally.faults) }
+    ensures { Sends (W.seen output.old) (W.seen output.new) result
+        (counts_if told tally.games tally.half_moves tally.faults) }
 {
     tell_counts(told, output, tally)?;
     output.flush()

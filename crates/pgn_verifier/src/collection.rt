@@ -45,7 +45,8 @@ impl Tally {
     pub(crate) fn with_game(self, plies: usize) -> Self
         requires games { self.games + 1 < 2 ^ 64 }
         requires half_moves { self.half_moves + plies < 2 ^ 64 }
-        ensures { result ≡ record { games = self.games + 1; half_moves = self.half_moves + plies; faults = self.faults } }
+        ensures { result ≡ record
+            { games = self.games + 1; half_moves = self.half_moves + plies; faults = self.faults } }
     {
         Tally {
             games: self.games + 1,
@@ -165,7 +166,8 @@ pub(crate) fn tell_counts<W: Output>(
     output: &mut W,
     tally: Tally,
 ) -> Result<(), WriteFault>
-    ensures { Puts (W.seen output.old) (W.seen output.new) result (counts_if told tally.games tally.half_moves tally.faults) }
+    ensures { Puts (W.seen output.old) (W.seen output.new) result
+        (counts_if told tally.games tally.half_moves tally.faults) }
 {
     if told {
         return put(output, counts_line(tally).as_slice());
