@@ -11,12 +11,13 @@ use clap::{Arg, ArgAction, Command};
 use std::alloc::{AllocError, Global};
 
 const ABOUT: &str =
-    "An arbiter for chess programs by the Chess Engine Communication Protocol, version 2: it keeps a game by the Laws\nof Chess, verifies PGN, and plays two engines against each other";
+    "An arbiter for chess programs by the Chess Engine Communication Protocol, version 2: it keeps a game by the Laws
+of Chess, verifies PGN, and plays two engines against each other";
 
 const EXAMPLES: &str = "Examples:
   arbiter                                              a session: type e2e4, showfen, quit
   arbiter verify < games.pgn                           a line for each game, up to the first fault
-  arbiter match --white sjeng --black phalanx > a.pgn  one game between two engines
+  arbiter match --white sjeng --black phalanx > a.txt  one game between two engines
   arbiter stub e2e4 g1f3                               an engine that plays these two moves
 
 The exit status is 0 where all was done, 1 where a device, an engine, memory or a game of verify failed, and 2 for
@@ -58,10 +59,11 @@ Examples:
 
 const MATCH_EXAMPLES: &str =
     "In odd games the engine of --white has White, in even ones Black. An engine that never answers is waited for.
+Behind the last game stands the score, which is no PGN: grep -v '^score ' leaves the games.
 
 Examples:
   arbiter match --white sjeng --black phalanx
-  arbiter match --white sjeng --black phalanx --games 10 --level \"40 5 0\" --date 2026.11.23 > games.pgn
+  arbiter match --white sjeng --black phalanx --games 10 --level \"40 5 0\" --date 2026.11.23 > match.txt
   arbiter match --white ./a --black \"./b -x\" --level \"0 0:30 1\" --fen \"4k3/8/8/8/8/8/4P3/4K3 w - - 0 1\"
   arbiter match --white ./a --black ./b --variant fischerandom";
 
