@@ -5,7 +5,7 @@ use Rattle.byte_devices.specs.Devices.{OutputState, Took, BreaksOff}
 use Rattle.byte_devices.proofs.DeviceLaws.{took_none, took_more, breaks_more, breaks_longer}
 use Rattle.std.specs.Prelude.{codes}
 use Rattle.std.specs.Str.{bytes_eq}
-use Rattle.chess_arbiter.specs.Stub.{Gives, Reply, Words, SaysRemarks, before_others, behind_remarks, move_text, onward_of, remark, remarks, turn}
+use Rattle.chess_arbiter.specs.Stub.{Gives, Reply, Words, SaysRemarks, before_others, behind_remarks, played_text, onward_of, remark, remarks, turn}
 use Rattle.chess_arbiter.specs.declared.stub.Onward.{Onward}
 use Rattle.chess_arbiter.specs.declared.stub.Onward.TheVariants.{On}
 use Rattle.chess_arbiter.specs.declared.stub.Stub.{Stub}
@@ -116,7 +116,7 @@ module _ (words : Words) (at : ℕ) (d : Bor (List ℕ)) (lt : at < length words
   behind = drop (at + 1) words
 
   played : turn (drop at words) ≡ record {
-    text = move_text word ++ remarks behind;
+    text = played_text word ++ remarks behind;
     state = record { words = behind_remarks behind; plays = true };
     ends = false;
   }
@@ -127,32 +127,32 @@ module _ (words : Words) (at : ℕ) (d : Bor (List ℕ)) (lt : at < length words
         ends = true;
       }
       else record {
-        text = move_text word ++ remarks behind;
+        text = played_text word ++ remarks behind;
         state = record { words = behind_remarks behind; plays = true };
         ends = false;
       }) other
 
-  said : move_text word ++ remarks behind ≡ (turn (drop at words)).text
+  said : played_text word ++ remarks behind ≡ (turn (drop at words)).text
   said = ap (λ (r : Reply). r.text) (sym played)
 
-  pub move_broken : {E : Type 0} (w w' : OutputState) (r : Result (Stub × Onward) E) → BreaksOff w w' (move_text word)
+  pub move_broken : {E : Type 0} (w w' : OutputState) (r : Result (Stub × Onward) E) → BreaksOff w w' (played_text word)
       → IsErr r → Gives words (turn (drop at words)) w w' r
   move_broken w w' (Ok v) h failed = cc
   move_broken w w' (Err e) h failed = subst (BreaksOff w w') said
-      (breaks_longer w w' (move_text word) (remarks behind) h)
+      (breaks_longer w w' (played_text word) (remarks behind) h)
 
-  pub remarks_broken : {E : Type 0} (w w' w'' : OutputState) (r : Result (Stub × Onward) E) → Took w w' (move_text word)
+  pub remarks_broken : {E : Type 0} (w w' w'' : OutputState) (r : Result (Stub × Onward) E) → Took w w' (played_text word)
       → BreaksOff w' w'' (remarks behind) → IsErr r
       → Gives words (turn (drop at words)) w w'' r
   remarks_broken w w' w'' (Ok v) h k failed = cc
   remarks_broken w w' w'' (Err e) h k failed =
-      subst (BreaksOff w w'') said (breaks_more w w' w'' (move_text word) (remarks behind) h k)
+      subst (BreaksOff w w'') said (breaks_more w w' w'' (played_text word) (remarks behind) h k)
 
-  pub turn_taken : (E : Type 0) (w w' w'' : OutputState) (n : ℕ) → Took w w' (move_text word)
+  pub turn_taken : (E : Type 0) (w w' w'' : OutputState) (n : ℕ) → Took w w' (played_text word)
       → SaysRemarks {E = E} words (at + 1) w' w'' (Ok n)
       → Gives {E = E} words (turn (drop at words)) w w'' (Ok (record { at = n; plays = true }, On))
   turn_taken E w w' w'' n h (took, within, left) = (
-    subst (Took w w'') said (took_more w w' w'' (move_text word) (remarks behind) h took),
+    subst (Took w w'') said (took_more w w' w'' (played_text word) (remarks behind) h took),
     (
       within,
       ap (λ (v : Words). record { words = v; plays = true }) left ∙ ap (λ (r : Reply). r.state) (sym played),

@@ -56,8 +56,8 @@ behind_remarks [] = []
 behind_remarks (word ∷ words) = if is_some (remark word.now) then behind_remarks words else word ∷ words
 
 -- what a word is that is played
-abbrev pub move_text : List ℕ → List ℕ
-move_text word =
+abbrev pub played_text : List ℕ → List ℕ
+played_text word =
     if bytes_eq word (codes "resign") then codes "resign" ++ new_line ∷ []
     else codes "move " ++ (word ++ new_line ∷ [])
 
@@ -71,7 +71,7 @@ turn (word ∷ words) =
       ends = true;
     }
     else record {
-      text = move_text word.now ++ remarks words;
+      text = played_text word.now ++ remarks words;
       state = record { words = behind_remarks words; plays = true };
       ends = false;
     }

@@ -3,7 +3,7 @@
 ghost use Rattle.std.specs.Prelude.{◌≡◌, ◌≤◌, ◌++◌, ◌∷◌, [], codes, decimal, drop, false, length, option_map};
 ghost use Rattle.byte_devices.specs.Devices.{Puts};
 ghost use Rattle.chess_cecp.specs.Commands.{command_of};
-ghost use Rattle.chess_arbiter.specs.Stub.{Gives, GivesAndFlushes, SaysRemarks, StubRan, beginning, move_text, remark, reply, row, state_at, turn};
+ghost use Rattle.chess_arbiter.specs.Stub.{Gives, GivesAndFlushes, SaysRemarks, StubRan, beginning, played_text, remark, reply, row, state_at, turn};
 
 use arrayvec::ArrayVec;
 use byte_devices::{Input, Output, WriteFault, put, put_parts};
@@ -65,7 +65,7 @@ fn say_move<W: Output>(writer: &mut W, word: &str) -> Result<(), WriteFault>
 
 // Says the word that is played.
 fn say_word<W: Output>(writer: &mut W, word: &str) -> Result<(), WriteFault>
-    ensures { Puts (W.seen writer.old) (W.seen writer.new) result (move_text word.now) }
+    ensures { Puts (W.seen writer.old) (W.seen writer.new) result (played_text word.now) }
 {
     if word == "resign" {
         put(writer, b"resign\n")

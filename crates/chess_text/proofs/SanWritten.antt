@@ -9,7 +9,7 @@ use Rattle.chess_base.specs.Moves.{is_legal, after}
 use Rattle.chess_base.specs.MoveList.{moves}
 use Rattle.chess_text.specs.declared.described.Described.{Described}
 use Rattle.chess_text.specs.Moves.{described}
-use Rattle.chess_text.specs.San.{promotes_as_a_pawn, rival_starts, move_text, check_mark, san_as, san}
+use Rattle.chess_text.specs.San.{promotes_as_a_pawn, rival_starts, unmarked_san, check_mark, san_as, san}
 use Rattle.chess_text.proofs.Legal.{MovesAs, legal_move, described_is, told_of}
 
 by_kind : (p : Setup) (m : Move) (k : Kind) → MovesAs p m k → promotes_as_a_pawn (told_of p m k)
@@ -37,11 +37,11 @@ san_nothing p q m same e = ap (san_as p m) (e ∙ ap (λ v. described v m) same)
 
 pub san_written : (p q next : Setup) (m : Move) (d : Described) (ms : List Move) (unmarked text : List ℕ) → q ≡ p
     → ms ≡ moves p → next ≡ after p m → Some d ≡ described q m
-    → unmarked ≡ move_text (rival_starts q ms d) d → text ≡ unmarked ++ check_mark next → text ≡ san p m
+    → unmarked ≡ unmarked_san (rival_starts q ms d) d → text ≡ unmarked ++ check_mark next → text ≡ san p m
 unfolding san
 san_written p q next m d ms unmarked text same all left is body e =
     let of : Some d ≡ described p m = is ∙ ap (λ v. described v m) same in
-    let body' : unmarked ≡ move_text (rival_starts p (moves p) d) d = body
-    ∙ ap (λ v. move_text (rival_starts v ms d) d) same ∙ ap (λ v. move_text (rival_starts p v d) d) all in
-    e ∙ ap (λ v. v ++ check_mark next) body' ∙ ap (λ v. move_text (rival_starts p (moves p) d) d ++ check_mark v) left
+    let body' : unmarked ≡ unmarked_san (rival_starts p (moves p) d) d = body
+    ∙ ap (λ v. unmarked_san (rival_starts v ms d) d) same ∙ ap (λ v. unmarked_san (rival_starts p v d) d) all in
+    e ∙ ap (λ v. v ++ check_mark next) body' ∙ ap (λ v. unmarked_san (rival_starts p (moves p) d) d ++ check_mark v) left
     ∙ ap (san_as p m) of

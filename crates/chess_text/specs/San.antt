@@ -100,8 +100,8 @@ text_by_castling (Some w) others d = castling_text w
 text_by_castling None others d = parts_text (walk_parts others d)
 
 -- the text without a mark
-abbrev pub move_text : List ℕ → Described → List ℕ
-move_text others d = text_by_castling d.castles others d
+abbrev pub unmarked_san : List ℕ → Described → List ℕ
+unmarked_san others d = text_by_castling d.castles others d
 
 -- `#` where the position is mate (5.1.1), `+` where it is check (3.9.1)
 unfoldable pub check_mark : Setup → List ℕ
@@ -109,7 +109,7 @@ check_mark p = when (is_in_check p.men p.side) (if length (moves p) == 0 then co
 
 abbrev pub san_as : Setup → Move → Option Described → List ℕ
 san_as p m None = []
-san_as p m (Some d) = move_text (rival_starts p (moves p) d) d ++ check_mark (after p m)
+san_as p m (Some d) = unmarked_san (rival_starts p (moves p) d) d ++ check_mark (after p m)
 
 -- the text of a legal move
 unfoldable pub san : Setup → Move → List ℕ

@@ -5,7 +5,7 @@ ghost use Rattle.arrayvec.specs.ArrayVec.{array_vec_len};
 ghost use Rattle.chess_base.specs.Letters.{white_letter, square_text};
 ghost use Rattle.chess_base.specs.Moves.{is_legal};
 ghost use Rattle.chess_text.specs.Parts.{when, parts_text};
-ghost use Rattle.chess_text.specs.San.{castling_text, some_on_file, some_on_rank, said, told_start, pawn_parts, officer_parts, is_rival, rival_starts, promotes_as_a_pawn, move_text, check_mark, san};
+ghost use Rattle.chess_text.specs.San.{castling_text, some_on_file, some_on_rank, said, told_start, pawn_parts, officer_parts, is_rival, rival_starts, promotes_as_a_pawn, unmarked_san, check_mark, san};
 
 use crate::described::{Described, describe};
 use arrayvec::ArrayVec;
@@ -161,10 +161,10 @@ fn officer_text(others: &[Square], d: &Described) -> SanText
 
 // The text of a described move without a mark, beside those moves.
 #[tactic(auto, unfolding(crate::specs::San::walk_parts))]
-fn move_text(setup: &Setup, moves: &[Move], d: &Described) -> SanText
+fn unmarked_san(setup: &Setup, moves: &[Move], d: &Described) -> SanText
     requires few { length moves.now ≤ 896 }
     requires promotes { promotes_as_a_pawn d.now }
-    ensures text { result.items ≡ move_text (rival_starts setup.now moves.now d.now) d.now }
+    ensures text { result.items ≡ unmarked_san (rival_starts setup.now moves.now d.now) d.now }
     ensures len { array_vec_len result ≤ 6 }
 {
     if let Some(castling_side) = d.castles {
@@ -207,7 +207,7 @@ pub fn san<B: Board>(board: &mut B, m: Move) -> SanText
         return SanText::new();
     };
     let moves = board.legal_moves();
-    let mut text = move_text(setup, moves.as_slice(), &d);
+    let mut text = unmarked_san(setup, moves.as_slice(), &d);
     let saved = board.make(m);
     write_mark(board, &mut text);
     board.take_back(again, saved);

@@ -9,8 +9,8 @@ returns-in_default-clause-text g c =
     c.new.ensures ∙ san_nothing _ c.setup-setup.result.now c.args.m
     (c.setup-setup.ensures.value ∙ c.position-position.ensures.value) c.in_default.ensures
 
-pub move_text-text-requires-clause-promotes : goal.move_text-text-requires-clause-promotes
-move_text-text-requires-clause-promotes g c =
+pub unmarked_san-text-requires-clause-promotes : goal.unmarked_san-text-requires-clause-promotes
+unmarked_san-text-requires-clause-promotes g c =
     legal_promotes (g.B.Board.position c.args.board.now) c.setup-setup.result.now c.args.m c.in-Some.d
     (c.setup-setup.ensures.value ∙ c.position-position.ensures.value) c.requires c.in-Some.ensures
 
@@ -18,7 +18,7 @@ pub returns-clause-text : goal.returns-clause-text
 returns-clause-text g c =
     san_written (g.B.Board.position c.args.board.now) c.setup-setup.result.now
     (g.B.Board.position c.make-saved.new.self) c.args.m c.in-Some.d c.as_slice.result.now
-    c.move_text-text.result.items c.write_mark.new.text.items
+    c.unmarked_san-text.result.items c.write_mark.new.text.items
     (c.setup-setup.ensures.value ∙ c.position-position.ensures.value)
     (c.as_slice.ensures.value ∙ c.legal_moves-moves.ensures.moves) c.make-saved.ensures.position c.in-Some.ensures
-    c.move_text-text.ensures.text c.write_mark.ensures.text
+    c.unmarked_san-text.ensures.text c.write_mark.ensures.text
