@@ -141,7 +141,8 @@ module _ (words : Words) (at : ℕ) (d : Bor (List ℕ)) (lt : at < length words
   move_broken w w' (Err e) h failed = subst (BreaksOff w w') said
       (breaks_longer w w' (played_text word) (remarks behind) h)
 
-  pub remarks_broken : {E : Type 0} (w w' w'' : OutputState) (r : Result (Stub × Onward) E) → Took w w' (played_text word)
+  pub remarks_broken : {E : Type 0} (w w' w'' : OutputState) (r : Result (Stub × Onward) E)
+      → Took w w' (played_text word)
       → BreaksOff w' w'' (remarks behind) → IsErr r
       → Gives words (turn (drop at words)) w w'' r
   remarks_broken w w' w'' (Ok v) h k failed = cc

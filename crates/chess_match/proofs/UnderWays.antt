@@ -351,8 +351,8 @@ event_step r T (FailsToRead c) d core core' played played' failed failed' n n' n
 event_step r T (Line c text k) d core core' played played' failed failed' n n' n'' held held' w w' w'' coming coming'
     coming'' u is on fit sane hears asked (inr (x, s)) = (
       T ++ Line c text k ∷ FailsToWrite x ∷ [],
-      failed_step r T c text k core core' played played' failed failed' n n' n'' held held' w w' w'' coming coming' coming''
-          x u on fit sane hears asked
+      failed_step r T c text k core core' played played' failed failed' n n' n'' held held' w w' w''
+          coming coming' coming'' x u on fit sane hears asked
           (subst (λ (y : Colour). OneFailed r core' played' (after r (match_of r T) (Line c text k))
           (λ S. block r (match_of r T) (after r (match_of r T) (Line c text k)) S) y w' w'' failed' x)
           (sym (same_colour-true c d is)) s),

@@ -144,7 +144,7 @@ nothing_read v = record {
   termination = None;
 }
 
--- ---- the variant: the last that tags name before the game's first number, move or outcome, as far as these can be read
+-- ---- the variant: the last that tags name before the game's first number, move or outcome, as far as they can be read
 
 -- the variant that a tag's text names, in letters of either size
 abbrev pub variant_named : List ℕ → Variant

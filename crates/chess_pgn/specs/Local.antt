@@ -11,7 +11,7 @@ use Rattle.chess_pgn.specs.declared.read.PgnFaultKind.TheVariants.{BadTag, BadFe
 use Rattle.chess_pgn.specs.GameRead.{GameRead, told_by, pgn_read}
 use Rattle.chess_pgn.specs.Tokens.{Token, Skip, Tag, Word, Bad_tag, Unclosed_comment, Unclosed_variation, Bad, is_name_byte, is_word_byte, behind_gap, behind_next, string_at, first_place, tokens_from}
 
--- ---- bytes behind an opening bracket that more bytes could make a tag of: they end in a gap, in the name, or in a string
+-- ---- bytes behind an opening bracket that more bytes could make a tag of: they end in a gap, the name, or a string
 -- with no line's end
 
 abbrev pub is_over : List ℕ → Bool

@@ -43,5 +43,6 @@ san_written p q next m d ms unmarked text same all left is body e =
     let of : Some d ≡ described p m = is ∙ ap (λ v. described v m) same in
     let body' : unmarked ≡ unmarked_san (rival_starts p (moves p) d) d = body
     ∙ ap (λ v. unmarked_san (rival_starts v ms d) d) same ∙ ap (λ v. unmarked_san (rival_starts p v d) d) all in
-    e ∙ ap (λ v. v ++ check_mark next) body' ∙ ap (λ v. unmarked_san (rival_starts p (moves p) d) d ++ check_mark v) left
+    e ∙ ap (λ v. v ++ check_mark next) body'
+    ∙ ap (λ v. unmarked_san (rival_starts p (moves p) d) d ++ check_mark v) left
     ∙ ap (san_as p m) of
