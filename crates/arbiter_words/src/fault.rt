@@ -21,7 +21,7 @@ pub enum WordsFault {
     /// The level of a match spells none.
     #[error("bad level")]
     BadLevel,
-    /// The start of a match spells no position.
+    /// The start of a match spells no sound position.
     #[error("illegal position ({})", fen_fault_name(*.0))]
     BadFen(FenFault),
     /// The date of a match has more than 60 bytes, or one outside 32 to 126.

@@ -30,7 +30,8 @@ pub struct MatchPlan<'a> {
 /// How the games on the standard input are verified.
 #[derive(Clone, Copy, Debug, PartialEq, Eq)]
 pub struct VerifyPlan {
-    /// Whether a fault is gone on behind, at the next game, and the games are counted at the end.
+    /// Whether a fault is gone on behind, at the next line that begins with `[Event `, and the games are counted at
+    /// the end.
     pub keep_going: bool,
     /// Whether the lines of games without a fault are left out.
     pub quiet: bool,

@@ -36,7 +36,7 @@ pub record IsUntouched (r r' : InputState) (w w' : OutputState) : Type 0 where
   pub input : r' ≡ r
   pub output : w' ≡ w
 
--- a session of 20,000 half-moves, from what `new` leaves, ran to this end; or there was no memory for one
+-- a session of at most 20,000 half-moves, from what `new` leaves, ran to this end; or there was no memory for one
 abbrev pub Served : InputState → InputState → OutputState → OutputState → Result End ProgramFault → Type 0
 Served r r' w w' (Ok end) = (s : SessionSeen) × (t : Transcript)
     × Ran r r' w w' (opened_session default_tags MOST_MOVES) s t (Ok end)

@@ -69,7 +69,8 @@ moves_as p m (Some x) =
     same_colour p.side x.colour && (if same_kind Pawn x.kind then pawn_moves p m else castles_or_moves p m
     (castle_of p m))
 
--- the move has the pattern of one of the men's moves: it is pseudo-legal, legal but for what becomes of the king
+-- the move has the pattern of one of the men's moves: it is pseudo-legal, legal unless it leaves its own king in check;
+-- of castling it is asked here already that no square on the king's way is attacked
 unfoldable pub has_pattern : Setup → Move → Bool
 has_pattern p m = nat_lt m.from 64 && nat_lt m.to 64 && moves_as p m (man_at p.men m.from)
 

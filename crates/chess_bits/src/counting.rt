@@ -101,7 +101,7 @@ impl Bits {
         count
     }
 
-    // Whether a pawn of the side on move that stands there attacks the target.
+    // Whether a pawn of the side on move that stands there attacks the en passant target.
     fn aims_at_target(&self, from: Square) -> bool
         ensures { result ≡ aims_at (self.now).target (self.now).side from }
     {
@@ -240,8 +240,8 @@ impl Bits {
         count
     }
 
-    // How many legal moves there are: those of the free men kind by kind, and then those of the king and of the men
-    // that may shield him.
+    // How many legal moves there are: those of the free men kind by kind, and then those of all others: the king and the
+    // men that may shield him, or in check all men.
     pub(crate) fn count(&self) -> usize
         ensures { result ≡ length (moves self.now) }
     {

@@ -56,7 +56,7 @@ fn take_steps(men: &mut [Option<Man>; 64], sets: &mut Sets, steps: &Steps)
     place(men, sets, Some(steps.to), steps.mover);
 }
 
-// Whether the target is that square.
+// Whether the en passant target is that square.
 fn is_target(setup: &Setup, square: Square) -> bool
     ensures { result ≡ is_square (setup.now).target square }
 {

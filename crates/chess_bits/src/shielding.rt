@@ -64,7 +64,8 @@ impl Bits {
         near
     }
 
-    // The men of the side on move that may go anywhere, as far as their king is concerned.
+    // Men of the side on move that may go anywhere, as far as their king is concerned: not always all of them, and none
+    // where he is in check.
     pub(crate) fn free_men(&self) -> SquareSet
         ensures { (k : ℕ) → k < 64 → has result k ≡ true → IsFree self.now k }
     {

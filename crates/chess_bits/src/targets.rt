@@ -1,4 +1,4 @@
-//! Where men go: sets of end squares, whatever becomes of the king.
+//! Where men go: sets of end squares, whatever becomes of the king. Castling is among them only where it is legal.
 
 ghost use Rattle.std.specs.Prelude.{◌≡◌, ◌+◌, ◌≤◌, ◌<◌, ℕ, ◌&&◌, ◌||◌, not, true, false, Some, None, MatchOption};
 ghost use Rattle.chess_base.specs.Attacks.{could_capture};

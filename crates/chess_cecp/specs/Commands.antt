@@ -1,4 +1,5 @@
--- What a line commands, by its first word (Chess Engine Communication Protocol, version 2).
+-- What a line commands, by its first word (Chess Engine Communication Protocol, version 2; `claim`, `showfen`,
+-- `showmoves`, `showpgn` and `showstate` are this project's own).
 use Rattle.std.specs.Prelude.{ℕ, ◌==◌, ◌&&◌, ◌||◌, nat_lt, nat_le, if◌then◌else◌, Bool, List, [], ◌∷◌, length, drop, codes, Option, None, Some, unwrap_or}
 use Rattle.std.specs.List.{list_all, list_any}
 use Rattle.std.specs.Str.{bytes_eq}

@@ -65,7 +65,8 @@ claims_by false false = codes "none"
 abbrev pub claims_text : Claims → List ℕ
 claims_text c = claims_by c.threefold c.fifty_moves
 
--- half-moves that stand, repetitions, the halfmove clock, claims, verdict and declared result
+-- half-moves that stand, how often the position occurred (1 at its first time), the halfmove clock, claims, verdict and
+-- declared result
 unfoldable pub state_text : State → List ℕ
 state_text s =
     decimal (length s.moves)

@@ -64,7 +64,7 @@ NextLine n r r' held held' result =
     (given : List ℕ) × Consumes r.known_bytes r'.known_bytes given × Waits n r r' held given
     × Got n r r' held held' given result
 
--- the two ways to spell what has come of a line and is alike for all that follows
+-- both stand for what has come of a line: whatever follows, the lines are the same
 abbrev pub SameLines : ℕ → List ℕ → List ℕ → Type 0
 SameLines n part part' = (told : Bool) (bytes : List ℕ) → lines_from n told part bytes ≡ lines_from n told part' bytes
 

@@ -88,7 +88,7 @@ fen_fault_name Pawns = codes "pawns"
 fen_fault_name Men = codes "men"
 fen_fault_name Check = codes "check"
 
--- the game starts anew from the position that a FEN spells; a FEN that spells none is refused by its first fault
+-- the game starts anew from the sound position that a FEN spells; a FEN that spells none is refused by its first fault
 abbrev pub setboard_row : State → Result Setup FenFault → Row
 setboard_row s (Ok start) = becomes_judged (from_start start)
 setboard_row s (Err fault) = refuses s (codes "tellusererror Illegal position (") (fen_fault_name fault ++ codes ")")

@@ -122,7 +122,8 @@ fn protover(argument: &[u8]) -> Command
     }
 }
 
-// Whether the word is a command that tells how an engine is to play, which an arbiter hears in silence.
+// Whether the word is one of the first ten commands that an arbiter hears in silence: of the protocol, of how to play,
+// and that the opponent is a computer.
 #[tactic(auto, unfolding(crate::specs::Commands::is_told_of_playing))]
 fn is_told_of_playing(word: &[u8]) -> bool
     ensures { result ≡ is_told_of_playing word.now }
@@ -139,7 +140,7 @@ fn is_told_of_playing(word: &[u8]) -> bool
         || word == b"computer".as_slice()
 }
 
-// Whether the word is a command that tells of the opponent, the clocks or an offer, which an arbiter hears in silence.
+// Whether the word is one of the others: of the opponent, the clocks, the depth, an offer, and `?` (move now).
 #[tactic(auto, unfolding(crate::specs::Commands::is_told_of_clocks))]
 fn is_told_of_clocks(word: &[u8]) -> bool
     ensures { result ≡ is_told_of_clocks word.now }

@@ -51,7 +51,7 @@ pub record Description : Type 0 where
   pub halfmove : ℕ
   pub fullmove : ℕ
 
--- the letters, if they are letters of rights
+-- the field of rights, if it is a dash or letters that may name rights
 abbrev pub letters_of : Variant → List ℕ → Option (List ℕ)
 letters_of v text = if is_castling v text then Some text else None
 

@@ -44,7 +44,7 @@ abbrev pub side_text : Colour → List ℕ
 side_text White = codes "w"
 side_text Black = codes "b"
 
--- a letter where a right is held: of its side, in Chess960 of its rook's file
+-- a letter where a right is held: of its side, in Chess960 of its rook's file (Shredder-FEN)
 abbrev pub right_text : Variant → Colour → CastlingSide → Option ℕ → List ℕ
 right_text v c w None = []
 right_text v c w (Some s) = right_letter v c w s ∷ []

@@ -29,7 +29,7 @@ abbrev pub is_kind : Kind → Option Man → Bool
 is_kind k None = false
 is_kind k (Some x) = same_kind k x.kind
 
--- a man with which mate is always possible: a pawn, rook or queen
+-- a pawn, rook or queen: with one on the board, material alone tells no dead position
 abbrev pub is_heavy : Option Man → Bool
 is_heavy o = is_kind Pawn o || is_kind Rook o || is_kind Queen o
 

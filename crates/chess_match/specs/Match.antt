@@ -219,7 +219,8 @@ before_row r S (Moves text) moment m =
     moment m
 before_row r S kind moment m = either_way r S kind m
 
--- the flag is judged first
+-- the flag is judged first: a side that used more time than it had left loses, or draws if the other has its king alone
+-- (Laws of Chess 2023, article 6.9, of whose draws only this one is judged)
 unfoldable pub before_line : Rules → Colour → LineKind → ℕ → Match → Match
 before_line r S kind moment m =
     if nat_lt (clock r m S) (moment - m.opened)

@@ -32,7 +32,7 @@ pub record Rules : Type 0 where
   -- who is on move at the start
   pub first : Colour
   pub level : LevelSeen
-  -- how many moves can be played
+  -- how many half-moves can be played
   pub limit : ℕ
   -- the one legal move that a text spells behind these moves
   pub reading : List Move → List ℕ → Option Move
@@ -82,7 +82,7 @@ fen_told_in Fischerandom start = Some (fen start)
 abbrev pub fen_told : Setup → Option (List ℕ)
 fen_told start = fen_told_in start.variant start
 
--- chess from this start, at this level, of at most so many moves
+-- chess from this start, at this level, of at most so many half-moves
 unfoldable pub rules_of : Setup → LevelSeen → ℕ → Rules
 rules_of start level limit = record {
   variant = start.variant;

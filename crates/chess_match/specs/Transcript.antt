@@ -87,7 +87,8 @@ abbrev pub blocks_from : Rules → Colour → Match → List Event → List (Lis
 blocks_from r S m [] = []
 blocks_from r S m (e ∷ es) = block_at r m e es S ++ blocks_from r S (after r m e) es
 
--- the blocks that S is sent, one for each event and one before them; many are empty
+-- the blocks that S is sent: one before all events, and one for each event, empty for dropped ones and for a write to S
+-- that fails; many others are empty too
 abbrev pub blocks : Rules → Colour → List Event → List (List SentLine)
 blocks r S T = entry r start S ∷ blocks_from r S start T
 

@@ -38,7 +38,7 @@ fn has_bare_king(colour: Colour, men: &[Option<Man>; 64]) -> bool
     men.iter().all(|man| is_king_or_other(colour, *man))
 }
 
-// What the player on move may claim, if anything.
+// The draw that may be claimed of the present position, if any: the third time comes before 50 moves.
 fn claim_by(claims: Claims) -> Option<DrawClaim>
     ensures { result ≡ claim_by claims }
 {

@@ -26,21 +26,21 @@ pub(crate) trait Played {
     /// The moves so far.
     ghost played: { Self → List Move };
 
-    /// The start, and how many moves can stand: neither ever changes.
+    /// The start, and how many half-moves can stand: neither ever changes.
     ghost origin: { Self → Setup × ℕ };
 
     /// Who is on move at the start.
     fn first(&self) -> Colour
         ensures { (r : Rules) → plays self.now r → result ≡ r.first };
 
-    /// Whether the start is told, since it isn't the initial position.
+    /// Whether the start is told: it is, unless it is the initial position of normal chess.
     fn has_start(&self) -> bool
         ensures { (r : Rules) → plays self.now r → result ≡ is_some r.start_fen };
 
     fn variant(&self) -> Variant
         ensures { (r : Rules) → plays self.now r → result ≡ r.variant };
 
-    /// Whether as many moves stand as can.
+    /// Whether as many half-moves stand as can.
     fn is_full(&self) -> bool
         ensures value { (r : Rules) → plays self.now r → result ≡ nat_le r.limit (length (played self.now)) }
         ensures few { result ≡ false → length (played self.now) < MOST_MOVES };

@@ -46,16 +46,23 @@ pub enum Reason {
     Claimed(DrawClaim),
     /// Both offered a draw.
     Agreed,
+    /// By `resign`, or by `1-0` or `0-1` in which the other side wins.
     Resigns(Colour),
+    /// Its `move` spells no legal move, or more than one.
     MovesIllegally(Colour),
+    /// It sends another `move` before it answers the ping behind its move.
     MovesOutOfTurn(Colour),
+    /// It says by `1-0` or `0-1` that it has won. A claim of a draw that doesn't hold counts as an offer.
     ClaimsFalsely(Colour),
+    /// It says `Illegal move` of a move that it was sent: all of these are legal.
     RejectsLegalMove(Colour),
+    /// It used more time than it had left, and the other side has more than its king.
     Forfeits(Colour),
     /// A side forfeits on time, and the other has only its king.
     ForfeitsToBareKing,
-    /// As many moves stand as can.
+    /// As many half-moves stand as can.
     GameTooLong,
+    /// That side's engine, or a device of it, failed: the game has no outcome.
     Faulted(Colour, MatchFault),
 }
 

@@ -35,7 +35,7 @@ use chess_moves::Board;
 use chess_pgn::{HowEnded, TagText};
 use engine_lines::{EngineLine, Level, read_engine_line};
 
-/// The most bytes of an engine's line that are read; a longer one is no move.
+/// The most bytes of an engine's line that are read; a longer one says nothing, and counts as ignored.
 pub const ENGINE_LINE_LEN: usize = 8192;
 
 /// The two ends of an engine: what reads its output, and what writes its input.

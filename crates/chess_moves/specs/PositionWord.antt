@@ -1,6 +1,6 @@
--- The position word of the boards `Plain` and `Bits`: the exclusive or of keys, numbers below 2 to the 64th, one for
--- each man on its square, one for Black on move and one for each castling right. Target and counters have no part in
--- it. No claim says that two positions have different words.
+-- The position word of the boards `Plain` and `Bits`, a Zobrist hash: the exclusive or of keys, numbers below 2 to the
+-- 64th, one for each man on its square, one for Black on move and one for each castling right. Target and counters have
+-- no part in it. No claim says that two positions have different words.
 use Rattle.std.specs.Prelude.{ℕ, ◌+◌, ◌*◌, ◌/◌, ◌%◌, ◌^◌, Option, Some, None, List, [], ◌∷◌, ◌++◌, bit_xor, fold, flat_map}
 use Rattle.chess_base.specs.declared.man.Colour.{Colour}
 use Rattle.chess_base.specs.declared.man.Colour.TheVariants.{White, Black}

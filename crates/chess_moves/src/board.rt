@@ -75,7 +75,8 @@ pub trait Board {
     fn in_check(&self) -> bool
         ensures { result ≡ is_in_check (position self.now).men (position self.now).side };
 
-    /// The position's word: two positions whose words differ are not the same.
+    /// The position's word, a Zobrist hash of men, side on move and castling rights, without the en passant target: two
+    /// positions whose words differ are not the same.
     fn word(&self) -> u64
         ensures { result ≡ word_of (position self.now).men (position self.now).side (position self.now).rights };
 

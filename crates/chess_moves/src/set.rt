@@ -78,7 +78,7 @@ impl SquareSet {
         }
     }
 
-    /// The squares of both sets.
+    /// The squares that are in both sets.
     #[tactic(auto, using(crate::proofs::Words::has_and))]
     pub fn intersection(self, other: Self) -> Self
         ensures { (k : ℕ) → has result k ≡ (has self k && has other k) }

@@ -50,7 +50,7 @@ fails g kind place = Stop (record { state = g.state; answer = Err (record { kind
 
 -- ---- words
 
--- a termination declares an outcome where there is no verdict and it is not `*`
+-- the outcome told at a game's end is declared where there is no verdict and it is not `*`
 abbrev pub declared_behind : Bool → Outcome → Option Declared
 declared_behind true o = None
 declared_behind false WhiteWins = Some (record { outcome = WhiteWins; comment = [] })
@@ -146,7 +146,8 @@ nothing_read v = record {
 
 -- ---- the variant: the last that tags name before the game's first number, move or outcome, as far as they can be read
 
--- the variant that a tag's text names, in letters of either size
+-- the variant that a tag's text names, in letters of either size: Chess960 by three names. Any other text stands for
+-- normal chess, also one that names another variant
 abbrev pub variant_named : List ℕ → Variant
 variant_named text =
     if str_eq_ignore_ascii_case text (codes "fischerandom") || str_eq_ignore_ascii_case text (codes "fischerrandom")

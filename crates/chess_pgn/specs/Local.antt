@@ -128,7 +128,7 @@ abbrev pub SettledIsMoved : Type 0
 SettledIsMoved = (limit : ℕ) (before text : List ℕ) (at : ℕ) → 0 < at → at ≤ length text
     → is_settled limit (before ++ text) (length before + at) ≡ is_settled limit text at
 
--- a fault's place is in the text, and not before the place where reading began
+-- a fault's place is in the text or right behind it, and not before the place where reading began
 abbrev pub FaultsHavePlaces : Type 0
 FaultsHavePlaces = (limit : ℕ) (text : List ℕ) (at : ℕ) → at ≤ length text
     → IfErr (pgn_read limit text at).answer (λ f. (at ≤ f.place) × (f.place ≤ length text))

@@ -31,7 +31,7 @@ termination_by how.Normal = Normal
 termination_by how.TimeForfeit = TimeForfeit
 termination_by how.RulesInfraction = RulesInfraction
 
--- that of a game which has an outcome
+-- that of a game with this outcome: `unterminated` where there is none yet
 abbrev pub termination_of : HowEnded → Outcome → Termination
 termination_of ended WhiteWins = termination_by ended
 termination_of ended BlackWins = termination_by ended

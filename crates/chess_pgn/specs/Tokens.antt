@@ -1,7 +1,7 @@
 -- The tokens of a game's text as it is read (PGN standard of 1994, sections 5 to 7 and 8.2): white space, dots,
 -- comments, `%` lines, `$` glyphs and variations are skipped; tags and words are told; the first token that can't be
--- read is the last. This project's own: the bytes of a word, and that a `%` line is skipped also in a tag and in a
--- variation.
+-- read is the last. This project's own: the bytes of a word; that a `%` line is skipped also in a tag and in a
+-- variation; that a string may have tabs and more than 255 bytes; and that the bytes EF BB BF at place 0 are skipped.
 use Rattle.std.specs.Prelude.{ℕ, zero, suc, ◌-◌, Bool, true, false, not, ◌&&◌, ◌||◌, List, [], ◌∷◌, ◌++◌, length, take, drop, slice_index, Option, Some, None, ◌==◌, nat_le, if◌then◌else◌}
 use Rattle.chess_base.specs.Letters.{is_digit, is_letter, byte, carriage_return, new_line, space, tab}
 use Rattle.std.specs.List.{prefix_len, position_or_len, take_while}
@@ -90,7 +90,8 @@ abbrev pub onto : List ℕ → Option (List ℕ × List ℕ) → Option (List �
 onto front None = None
 onto front (Some found) = Some (front ++ found.0, found.1)
 
--- a string's bytes up to its closing quote, and what stands behind it. A backslash keeps the next byte from ending it
+-- a string's bytes up to its closing quote, and what stands behind it; none where a line or the text ends before. A
+-- backslash keeps the next byte from ending it
 abbrev pub string_at : List ℕ → Option (List ℕ × List ℕ)
 string_at [] = None
 string_at (c ∷ []) = if c == byte "\"" then Some ([], []) else None

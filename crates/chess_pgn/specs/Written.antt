@@ -10,7 +10,7 @@ use Rattle.std.specs.List.{join_with_byte, flat_map, AllByRecursion}
 abbrev pub line_text : List (List ℕ) → List ℕ
 line_text tokens = join_with_byte space tokens
 
--- no line has more than 79 bytes, and none could also have taken the first token of the next
+-- no line has more than 79 bytes behind its prefix, and none could also have taken the first token of the next
 abbrev pub AreFilled : List (List (List ℕ)) → Type 0
 AreFilled [] = Unit {0}
 AreFilled ([] ∷ lines) = ⊥

@@ -1,4 +1,6 @@
--- The texts of moves: which moves a text spells (PGN standard of 1994, section 8.2.3), and the coordinate text.
+-- The texts of moves: which moves a text spells (PGN standard of 1994, section 8.2.3), and the coordinate text. This
+-- project's own beside the standard: castling with the digit 0, a promotion in a small letter or without `=`, a capture
+-- without `x`, more of the start square than is needed, and any run of marks.
 use Rattle.std.specs.Prelude.{ℕ, ◌+◌, ◌==◌, Bool, true, false, not, ◌&&◌, ◌||◌, if◌then◌else◌, List, [], ◌∷◌, ◌++◌, Option, Some, None, is_some, is_none, IsTrue, codes}
 use Rattle.std.specs.List.{list_any, filter}
 use Rattle.std.specs.Str.{bytes_eq}

@@ -6,7 +6,8 @@ ghost use Rattle.engine_lines.specs.Seen.{features_of, item_seen};
 
 use crate::item::Item;
 
-/// What an engine takes, by the items that it said.
+/// What an engine takes, by the items that it said. What it didn't say is false, but `time` and `draw` are true;
+/// `fischerandom` is true unless its `variants` leave it out.
 #[derive(Clone, Copy, Debug, PartialEq, Eq)]
 pub struct Features {
     pub ping: bool,

@@ -20,7 +20,7 @@ use Rattle.pgn_stream.specs.declared.stream.StreamFault.TheVariants.{ReadFailed,
 unfoldable pub first_bytes : List ℕ → ℕ → List ℕ
 first_bytes text at = take (at + 16777217) text
 
--- no more bytes are left, or the first ones settle how the game is read
+-- no more than these bytes are left, or the first ones settle how the game is read
 unfoldable pub is_in_reach : ℕ → List ℕ → ℕ → Bool
 is_in_reach limit text at = nat_le (length text) (at + 16777216) || is_settled limit (first_bytes text at) at
 
@@ -138,8 +138,8 @@ abbrev pub ReadsGame : StreamState → StreamState → InputState → InputState
 ReadsGame s s' r r' text g g' (Ok answer) = GoesOn s s' r r' text (λ whole. IsTold g g' whole (place s) answer)
 ReadsGame s s' r r' text g g' (Err e) = (more : List ℕ) × Stops s' r r' (text ++ more) e × (place s' ≡ place s)
 
--- the stream then stands behind the game, which has a byte at least for each half-move and one more at least for its
--- termination, or at its fault, or at the end where no game is left
+-- the stream then stands behind the game, which has at least one byte, and at least one for each half-move; or at its
+-- fault, or at the end where no game is left
 abbrev pub StandsBehind : StreamState → StreamState → ℕ → Result (Option PgnEnd) PgnFault → Type 0
 StandsBehind s s' plies (Ok None) = (place s' ≡ place s) × (s'.ended ≡ true)
 StandsBehind s s' plies (Ok (Some e)) = (place s' ≡ e.place) × (place s < e.place) × (plies + place s ≤ e.place)

@@ -57,7 +57,7 @@ ToldFirst options text w w' = (reports : List Report) × AreReportsOnRead option
 abbrev pub StoppedByRead : VerifyOptions → InputState → InputState → OutputState → OutputState → Type 0
 StoppedByRead options r r' w w' = (text : List ℕ) × BrokeOff r r' text × ToldFirst options text w w'
 
--- the text has so many bytes that the next ones have no place: places are 64-bit numbers
+-- the text has so many bytes that places of a game behind it could pass 64 bits
 abbrev pub StoppedByLength : VerifyOptions → InputState → InputState → OutputState → OutputState → Type 0
 StoppedByLength options r r' w w' = (text : List ℕ) × IsFront r r' text × IsPastPlaces text
     × ToldFirst options text w w'

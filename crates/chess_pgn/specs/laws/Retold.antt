@@ -66,8 +66,8 @@ counts Bad = false
 abbrev pub is_fen : List ℕ → Bool
 is_fen name = bytes_eq name (codes "FEN")
 
--- ---- what can be taken: a tag before the first number or move, a FEN tag only if it spells a position; a word that is
--- no outcome; never a token that can't be read
+-- ---- what can be taken: a tag before the first number or move, a FEN tag only if it spells a sound position; a word
+-- that is no outcome; never a token that can't be read
 
 abbrev pub can_be_taken : Variant → Bool → Token → Bool
 can_be_taken v begun Skip = true
