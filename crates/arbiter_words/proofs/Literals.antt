@@ -1,7 +1,8 @@
 -- What the grammar makes of words that are written out.
 use Rattle.std.proofs.Common.{[], ◌∷◌, codes, refl}
 use Rattle.clap.proofs.OnLiterals.{clap_on_literals}
-use Rattle.arbiter_words.specs.Plans.{AskFor, VerifyAsBare}
+use Rattle.clap.specs.declared.error.kind.ErrorKind.TheVariants.{DisplayHelp, DisplayVersion, MissingRequiredArgument}
+use Rattle.arbiter_words.specs.Plans.{AreRefused, AskFor, VerifyAsBare}
 
 pub none_asked : AskFor [] (codes "session")
 unfolding clap_on_literals
@@ -18,3 +19,15 @@ verify_asked = record { taken = λ names. refl; named = λ names. refl; bare = �
 pub verify_bare : VerifyAsBare (codes "verify" ∷ [])
 unfolding clap_on_literals
 verify_bare names = refl
+
+pub help_refused : AreRefused (codes "--help" ∷ []) (DisplayHelp ∷ [])
+unfolding clap_on_literals
+help_refused names = refl
+
+pub version_refused : AreRefused (codes "--version" ∷ []) (DisplayVersion ∷ [])
+unfolding clap_on_literals
+version_refused names = refl
+
+pub bare_match_refused : AreRefused (codes "match" ∷ []) (MissingRequiredArgument ∷ [])
+unfolding clap_on_literals
+bare_match_refused names = refl

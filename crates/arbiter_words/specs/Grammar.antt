@@ -1,7 +1,7 @@
 -- The grammar of the command line, as `clap` sees it.
-use Rattle.std.specs.Prelude.{◌≡◌, Bool, List, codes, [], ◌∷◌, Some, map, true, unwrap_or}
+use Rattle.std.specs.Prelude.{◌≡◌, List, codes, [], ◌∷◌, Some, map, true, unwrap_or}
 use Rattle.std.specs.Borrow.{Bor}
-use Rattle.clap.specs.Words.{App, Row, Rule, Text, new_app, new_rule, subcommand_of, takes, with_rule, with_subcommand}
+use Rattle.clap.specs.Words.{App, Kinds, Row, Rule, Text, fault_of, new_app, new_rule, subcommand_of, with_rule, with_subcommand}
 use Rattle.clap.specs.declared.builder.value_parser.ValueParser.TheVariants.{Names, Unsigned}
 use Rattle.clap.specs.declared.builder.action.ArgAction.TheVariants.{Append, SetTrue}
 
@@ -74,6 +74,6 @@ GivesArbiterApp app = (names : Lent) × AreVariants names × (app ≡ arbiter_ap
 abbrev pub asked : Lent → List Text → Text × List Row
 asked names words = unwrap_or (subcommand_of (arbiter_app names) words) (codes "session", [])
 
--- `clap` promises to take the words
-abbrev pub takes_words : Lent → List Text → Bool
-takes_words names words = takes (arbiter_app names) words
+-- the kinds of fault that `clap` may tell of the words, by its meaning of the grammar; none where it takes them
+abbrev pub faults_in : Lent → List Text → Kinds
+faults_in names words = fault_of (arbiter_app names) words

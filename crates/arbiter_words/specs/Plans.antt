@@ -4,14 +4,13 @@ use Rattle.std.specs.List.{list_all, list_any}
 use Rattle.std.specs.Option.{option_map_or}
 use Rattle.std.specs.Str.{bytes_eq}
 use Rattle.std.specs.Str.Parse.{digits_value, without_leading_plus}
-use Rattle.clap.specs.Words.{Row, Text, all_of, fault_of, first_of, kind_of, subcommand_of, subcommand_rows_of}
+use Rattle.clap.specs.Words.{HasKind, IsAmong, Kinds, Row, Text, all_of, first_of, kind_of, subcommand_of, subcommand_rows_of}
 use Rattle.clap.specs.Facts.{explicit_source}
 use Rattle.clap.specs.ValueTests.{is_unsigned_in}
 use Rattle.clap.specs.declared.error.Error.{Error}
-use Rattle.clap.specs.declared.error.kind.ErrorKind.{ErrorKind}
 use Rattle.clap.specs.declared.error.kind.ErrorKind.TheVariants.{OutOfMemory}
 use Rattle.clap.specs.declared.parser.matches.ArgMatches.{ArgMatches}
-use Rattle.arbiter_words.specs.Grammar.{AreVariants, Lent, arbiter_app, asked, takes_words}
+use Rattle.arbiter_words.specs.Grammar.{AreVariants, Lent, arbiter_app, asked, faults_in}
 use Rattle.arbiter_words.specs.declared.plan.Plan.{Plan}
 use Rattle.arbiter_words.specs.declared.plan.Plan.TheVariants.{Session, Verify, Stub, Match}
 use Rattle.arbiter_words.specs.declared.plan.MatchPlan.{MatchPlan}
@@ -123,19 +122,15 @@ IsPlanOf p plan = (s : Spelled) × IsSpelledOf p s × IsPlanned s plan
 
 -- a level, FEN or date out of its form is told only where a match was asked for by it
 abbrev pub IsFaultOf : Text × List Row → WordsFault → Type 0
-IsFaultOf p (Words e) = ⊤
-IsFaultOf p NoMemory = ⊤
 IsFaultOf p f = (m : MatchWords) × (p.0 ≡ codes "match") × IsMatchOf p.1 m × IsMatchFault m f
 
-abbrev pub IsNoWordsFault : WordsFault → Type 0
-IsNoWordsFault (Words e) = ⊥
-IsNoWordsFault _ = ⊤
-
--- a plan is what the words ask for. Words that `clap` promises to take are never refused as words; and a level, FEN or
--- date out of its form is told as IsFaultOf says
+-- a plan, or a level, FEN or date out of its form, is told only of words in which `clap` finds no fault; else it is told
+-- one of the faults that it may find in them
 abbrev pub IsReadBy : Lent → List Text → Result Plan WordsFault → Type 0
-IsReadBy names words (Ok plan) = IsPlanOf (asked names words) plan
-IsReadBy names words (Err f) = (takes_words names words ≡ true → IsNoWordsFault f) × IsFaultOf (asked names words) f
+IsReadBy names words (Ok plan) = (faults_in names words ≡ []) × IsPlanOf (asked names words) plan
+IsReadBy names words (Err (Words e)) = IsAmong (kind_of e) (faults_in names words)
+IsReadBy names words (Err NoMemory) = ⊤
+IsReadBy names words (Err f) = (faults_in names words ≡ []) × IsFaultOf (asked names words) f
 
 -- the words are read by the grammar
 abbrev pub IsReading : List Text → Result Plan WordsFault → Type 0
@@ -157,9 +152,13 @@ VerifyIsAsSpelled = (p : Text × List Row) (v : VerifyPlan) → IsPlanOf p (Veri
 
 -- the words are taken, and ask for the command of that name, with no argument that a word gives
 pub record AskFor (words : List Text) (name : Text) : Type 0 where
-  pub taken : (names : Lent) → takes_words names words ≡ true
+  pub taken : (names : Lent) → faults_in names words ≡ []
   pub named : (names : Lent) → (asked names words).0 ≡ name
   pub bare : (names : Lent) → list_any (λ r. explicit_source r.source) (asked names words).1 ≡ false
+
+-- the words are refused, and by one of these kinds
+abbrev pub AreRefused : List Text → Kinds → Type 0
+AreRefused words kinds = (names : Lent) → faults_in names words ≡ kinds
 
 -- as `verify` alone verifies
 abbrev pub bare_plan : VerifyPlan
@@ -173,9 +172,9 @@ VerifyAsBare words = (names : Lent) → verify_plan_of (asked names words).1 ≡
 
 -- what `clap` gives for the words, by the grammar
 abbrev pub IsParsedBy : Lent → List Text → Result ArgMatches Error → Type 0
-IsParsedBy names words (Ok m) = (subcommand_rows_of m ≡ subcommand_of (arbiter_app names) words)
-    × (fault_of (arbiter_app names) words ≡ [])
-IsParsedBy names words (Err e) = takes_words names words ≡ true → kind_of e ≡ OutOfMemory
+IsParsedBy names words (Ok m) = (faults_in names words ≡ [])
+    × (subcommand_rows_of m ≡ subcommand_of (arbiter_app names) words)
+IsParsedBy names words (Err e) = HasKind (faults_in names words) e
 
 abbrev pub IsParsed : List Text → Result ArgMatches Error → Type 0
 IsParsed words result = (names : Lent) × AreVariants names × IsParsedBy names words result
@@ -193,7 +192,8 @@ NamesBoth p = p.0 ≡ codes "match" → (is_some (first_of (codes "white") p.1) 
 abbrev pub HasGames : List Row → Type 0
 HasGames rows = (t : Text) → first_of (codes "games") rows ≡ Some t → is_unsigned_in 1 1000 t ≡ true
 
-abbrev pub FitsKind : ErrorKind → WordsFault → Type 0
-FitsKind k (Words e) = k ≢ OutOfMemory
-FitsKind k NoMemory = k ≡ OutOfMemory
-FitsKind k _ = ⊥
+-- want of memory is told as such, and what else `clap` gave is told as it is
+abbrev pub Refuses : Error → WordsFault → Type 0
+Refuses e (Words told) = (kind_of e ≢ OutOfMemory) × (told ≡ e)
+Refuses e NoMemory = kind_of e ≡ OutOfMemory
+Refuses e _ = ⊥

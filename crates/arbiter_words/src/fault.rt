@@ -1,9 +1,8 @@
 //! Why words ask for nothing.
 
 ghost use Rattle.std.specs.Prelude.{◌≡◌};
-ghost use Rattle.clap.specs.Words.{kind_of};
 ghost use Rattle.chess_cecp.specs.Session.{fen_fault_name};
-ghost use Rattle.arbiter_words.specs.Plans.{FitsKind};
+ghost use Rattle.arbiter_words.specs.Plans.{Refuses};
 
 use chess_base::FenFault;
 use clap::Error;
@@ -49,7 +48,7 @@ fn fen_fault_name(fault: FenFault) -> &'static str
 
 // Why `clap` gave no matches.
 pub(crate) fn refusal(error: Error) -> WordsFault
-    ensures { FitsKind (kind_of error) result }
+    ensures { Refuses error result }
 {
     if error.kind() == ErrorKind::OutOfMemory {
         WordsFault::NoMemory

@@ -1,7 +1,8 @@
 //! Laws of the words. A caller learns one by calling its function, which does nothing.
 
 ghost use Rattle.std.specs.Prelude.{[], ◌∷◌, codes};
-ghost use Rattle.arbiter_words.specs.Plans.{AskFor, PlansAreNamed, VerifyAsBare, VerifyIsAsSpelled};
+ghost use Rattle.clap.specs.declared.error.kind.ErrorKind.TheVariants.{DisplayHelp, DisplayVersion, MissingRequiredArgument};
+ghost use Rattle.arbiter_words.specs.Plans.{AreRefused, AskFor, PlansAreNamed, VerifyAsBare, VerifyIsAsSpelled};
 
 /// No words, `session` alone and `verify` alone are taken, and ask for what they say; `verify` alone
 /// tells none of its words.
@@ -10,6 +11,13 @@ pub fn plain_words_are_taken()
     ensures session { AskFor (codes "session" ∷ []) (codes "session") }
     ensures verify { AskFor (codes "verify" ∷ []) (codes "verify") }
     ensures bare { VerifyAsBare (codes "verify" ∷ []) }
+{}
+
+/// `--help` and `--version` ask for what they say, and `match` alone lacks its two programs.
+pub fn plain_words_are_refused()
+    ensures help { AreRefused (codes "--help" ∷ []) (DisplayHelp ∷ []) }
+    ensures version { AreRefused (codes "--version" ∷ []) (DisplayVersion ∷ []) }
+    ensures bare_match { AreRefused (codes "match" ∷ []) (MissingRequiredArgument ∷ []) }
 {}
 
 /// A plan is that of the command that was asked for.

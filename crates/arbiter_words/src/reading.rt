@@ -1,8 +1,7 @@
 //! Reading the words.
 
 ghost use Rattle.std.specs.Prelude.{◌≡◌, [], IfErr, IfOk, map, option_map, true};
-ghost use Rattle.clap.specs.Words.{found_of, kind_of, rows_of, subcommand_of, subcommand_rows_of, fault_of};
-ghost use Rattle.arbiter_words.specs.Grammar.{AreVariants, arbiter_app, takes_words};
+ghost use Rattle.clap.specs.Words.{found_of, rows_of, subcommand_rows_of};
 ghost use Rattle.arbiter_words.specs.Plans.{IsParsed, IsReading};
 
 use crate::fault::{WordsFault, refusal};

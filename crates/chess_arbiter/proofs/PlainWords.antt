@@ -1,6 +1,6 @@
 -- What no words, `session` and `verify` do.
 use Rattle.std.proofs.Common.{◌≡◌, ◌∙◌, ◌<◌, ℕ, false, List, [], length, lit<, codes, Result, Ok, Err, refl, sym, ap, subst, inl, arith}
-use Rattle.clap.specs.Words.{Text}
+use Rattle.clap.specs.Words.{IsAmong, Text, kind_of}
 use Rattle.arbiter_words.specs.Grammar.{asked}
 use Rattle.arbiter_words.specs.Plans.{AskFor, IsReading, PlansAreNamed, VerifyAsBare, VerifyIsAsSpelled, command_name}
 use Rattle.arbiter_words.specs.declared.fault.WordsFault.{WordsFault}
@@ -22,7 +22,7 @@ shorter xs ys lt e = let same : length xs ≡ length ys = ap length e in absurd 
 -- a plan that was read of words that ask for that command
 read_word : PlansAreNamed → (words : List Text) (name : Text) (plan : Plan) → AskFor words name
     → IsReading words (Ok plan) → name ≡ command_name plan
-read_word named words name plan a (names, are, is) = sym (a.named names) ∙ named (asked names words) plan is
+read_word named words name plan a (names, are, (none, is)) = sym (a.named names) ∙ named (asked names words) plan is
 
 -- words that are taken and ask for no match are refused for want of memory alone
 abbrev IsWant : WordsFault → Type 0
@@ -31,13 +31,14 @@ IsWant _ = ⊥
 
 refused_word : (words : List Text) (name : Text) (fault : WordsFault) → AskFor words name → (name ≡ codes "match" → ⊥)
     → IsReading words (Err fault) → IsWant fault
-refused_word ws name (words.Words e) a other (names, are, (taken, is)) = absurd (taken (a.taken names))
-refused_word ws name words.NoMemory a other (names, are, (taken, is)) = tt
-refused_word ws name words.BadLevel a other (names, are, (taken, (m, named, rest, h))) =
+refused_word ws name (words.Words e) a other (names, are, among) =
+    absurd (subst (IsAmong (kind_of e)) (a.taken names) among)
+refused_word ws name words.NoMemory a other is = tt
+refused_word ws name words.BadLevel a other (names, are, (none, (m, named, rest, h))) =
     absurd (other (sym (a.named names) ∙ named))
-refused_word ws name (words.BadFen f) a other (names, are, (taken, (m, named, rest, h))) =
+refused_word ws name (words.BadFen f) a other (names, are, (none, (m, named, rest, h))) =
     absurd (other (sym (a.named names) ∙ named))
-refused_word ws name words.BadDate a other (names, are, (taken, (m, named, rest, h))) =
+refused_word ws name words.BadDate a other (names, are, (none, (m, named, rest, h))) =
     absurd (other (sym (a.named names) ∙ named))
 
 no_match_by_session : codes "session" ≡ codes "match" → ⊥
@@ -88,11 +89,11 @@ serves named ws a (Err fault) is r r' w w' status ran =
 -- `verify` alone has none of its words
 without_words : VerifyIsAsSpelled → (words : List Text) (v : VerifyPlan) → VerifyAsBare words
     → IsReading words (Ok (Verify v)) → has_words v ≡ false
-without_words spelled ws v bare (names, are, is) = ap has_words (spelled (asked names ws) v is ∙ bare names)
+without_words spelled ws v bare (names, are, (none, is)) = ap has_words (spelled (asked names ws) v is ∙ bare names)
 
 kept_whole : VerifyIsAsSpelled → (words : List Text) (v : VerifyPlan) → VerifyAsBare words
     → IsReading words (Ok (Verify v)) → v.any_size ≡ false
-kept_whole spelled ws v bare (names, are, is) =
+kept_whole spelled ws v bare (names, are, (none, is)) =
     ap (λ (u : VerifyPlan). u.any_size) (spelled (asked names ws) v is ∙ bare names)
 
 verifies : PlansAreNamed → VerifyIsAsSpelled → (words : List Text) → AskFor words (codes "verify") → VerifyAsBare words

@@ -1,9 +1,13 @@
 //! Laws of the program. A caller learns one by calling its function, which does nothing.
 
-ghost use Rattle.std.specs.Prelude.{[], ◌∷◌, codes};
-ghost use Rattle.chess_arbiter.specs.laws.Laws.{ServesSession, VerifiesGames};
+ghost use Rattle.std.specs.Prelude.{◌≡◌, [], ◌∷◌, codes};
+ghost use Rattle.chess_base.specs.declared.setup.TheConstants.{COUNTER_LIMIT};
+ghost use Rattle.chess_game.specs.declared.game.TheConstants.{MOST_MOVES};
+ghost use Rattle.chess_cecp.specs.declared.session.TheConstants.{COMMAND_LEN};
+ghost use Rattle.chess_match.specs.declared.run.TheConstants.{ENGINE_LINE_LEN};
+ghost use Rattle.chess_arbiter.specs.laws.Laws.{RefusesWords, ServesSession, ShowsHelp, VerifiesGames};
 
-use arbiter_words::{plain_words_are_taken, plans_are_named, verify_is_as_spelled};
+use arbiter_words::{plain_words_are_refused, plain_words_are_taken, plans_are_named, verify_is_as_spelled};
 
 /// No words, or `session` alone, serve a session, and `verify` alone verifies games: such words are never refused,
 /// whatever else the grammar of the words has.
@@ -17,3 +21,22 @@ pub fn plain_words_do_what_they_say()
     plans_are_named();
     verify_is_as_spelled();
 }
+
+/// `--help` and `--version` show a text of help, and `match` without its two programs is refused.
+pub fn refused_words_are_told()
+    ensures help { ShowsHelp (codes "--help" ∷ []) }
+    ensures version { ShowsHelp (codes "--version" ∷ []) }
+    ensures bare_match { RefusesWords (codes "match" ∷ []) }
+{
+    // The prover wants this law of the words: how each of them is refused.
+    plain_words_are_refused();
+}
+
+/// The limits that definitions name by their constants: 20,000 half-moves of a game, 999,999 of a FEN's counters, 1,024
+/// bytes of a session's line, and 8,192 of an engine's.
+pub fn limits_are_as_told()
+    ensures moves { MOST_MOVES ≡ 20000 }
+    ensures counters { COUNTER_LIMIT ≡ 999999 }
+    ensures commands { COMMAND_LEN ≡ 1024 }
+    ensures engine_lines { ENGINE_LINE_LEN ≡ 8192 }
+{}

@@ -19,7 +19,7 @@ mod standard;
 mod stub;
 
 pub use fault::ProgramFault;
-pub use laws::plain_words_do_what_they_say;
+pub use laws::{limits_are_as_told, plain_words_do_what_they_say, refused_words_are_told};
 pub use moments::SinceStart;
 pub use program::run_program;
 pub use standard::run;

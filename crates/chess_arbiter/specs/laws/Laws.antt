@@ -1,8 +1,8 @@
 -- What words do.
-use Rattle.std.specs.Prelude.{ℕ, List}
+use Rattle.std.specs.Prelude.{◌≡◌, ◌⊎◌, ℕ, List}
 use Rattle.clap.specs.Words.{Text}
 use Rattle.byte_devices.specs.Devices.{InputState, OutputState}
-use Rattle.chess_arbiter.specs.Program.{RanProgram, RanSession, RanVerify}
+use Rattle.chess_arbiter.specs.Program.{RanHelp, RanProgram, RanSession, RanVerify}
 
 -- a program with these words is a session
 abbrev pub ServesSession : List Text → Type 0
@@ -13,3 +13,13 @@ ServesSession words = (r r' : InputState) (w w' : OutputState) (status : ℕ) �
 abbrev pub VerifiesGames : List Text → Type 0
 VerifiesGames words = (r r' : InputState) (w w' : OutputState) (status : ℕ) → RanProgram words r r' w w' status
     → RanVerify r r' w w' status
+
+-- a program with these words shows a text of help, and leaves the input alone
+abbrev pub ShowsHelp : List Text → Type 0
+ShowsHelp words = (r r' : InputState) (w w' : OutputState) (status : ℕ) → RanProgram words r r' w w' status
+    → (r' ≡ r) × RanHelp w w' status
+
+-- a program with these words leaves input and output alone, and ends with 2, or with 1 for want of memory
+abbrev pub RefusesWords : List Text → Type 0
+RefusesWords words = (r r' : InputState) (w w' : OutputState) (status : ℕ) → RanProgram words r r' w w' status
+    → (r' ≡ r) × (w' ≡ w) × ((status ≡ 2) ⊎ (status ≡ 1))

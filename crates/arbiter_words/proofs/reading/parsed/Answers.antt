@@ -1,7 +1,7 @@
--- Of a grammar as simple as this one `clap` promises what it finds, and that it refuses no words that it takes but for
--- want of memory (parsed_by). Where there was no memory for the grammar, any names will do (without_grammar).
-use Rattle.std.proofs.Common.{rules, IsErr, ◌≡◌, ◌∙◌, ap, map, [], ◌∷◌, codes, IfOk, IfErr, List, Result, Ok, Err, Bor, refl, true, sym}
-use Rattle.clap.specs.Words.{App, FailsBy, HasMatchesOf, Text, fault_of, is_simple, is_simple_and_free, kind_of, subcommand_of, takes}
+-- Of a grammar as simple as this one `clap` promises what it finds, and which faults it tells (parsed_by). Where there
+-- was no memory for the grammar, any names will do (without_grammar).
+use Rattle.std.proofs.Common.{rules, IsErr, ◌≡◌, ◌∙◌, ap, map, [], ◌∷◌, codes, IfOk, IfErr, List, Result, Ok, Err, Bor, inl, refl, subst, true, sym}
+use Rattle.clap.specs.Words.{App, FailsBy, HasKind, HasMatchesOf, Text, fault_of, is_simple, is_simple_and_free, kind_of, subcommand_of}
 use Rattle.clap.specs.declared.error.Error.{Error}
 use Rattle.clap.specs.declared.error.kind.ErrorKind.TheVariants.{OutOfMemory}
 use Rattle.clap.specs.declared.parser.matches.ArgMatches.{ArgMatches}
@@ -23,19 +23,20 @@ abbrev some_names : Lent
 some_names = record { ref_ptr = (0, 0); now = lent (codes "normal") ∷ lent (codes "fischerandom") ∷ [] }
 
 parsed_by : (names : Lent) (a : App) (words : List Text) → a ≡ arbiter_app names → (r : Result ArgMatches Error)
-    → IfOk r (HasMatchesOf a words) → IfErr r (λ e. takes a words ≡ true → kind_of e ≡ OutOfMemory)
-    → (is_simple_and_free a ≡ true → FailsBy (fault_of a words) r) → IsParsedBy names words r
-parsed_by names a words e (Ok m) h p k = (
-  (h (ap is_simple e ∙ simple names)).1 ∙ ap (λ (b : App). subcommand_of b words) e,
+    → IfOk r (HasMatchesOf a words) → (is_simple_and_free a ≡ true → FailsBy (fault_of a words) r)
+    → IsParsedBy names words r
+parsed_by names a words e (Ok m) h k = (
   sym (ap (λ (b : App). fault_of b words) e) ∙ k (ap is_simple_and_free e ∙ free names),
+  (h (ap is_simple e ∙ simple names)).1 ∙ ap (λ (b : App). subcommand_of b words) e,
 )
-parsed_by names a words e (Err x) h p k = λ t. p (ap (λ (b : App). takes b words) e ∙ t)
+parsed_by names a words e (Err x) h k =
+    subst (λ (b : App). HasKind (fault_of b words) x) e (k (ap is_simple_and_free e ∙ free names))
 
 -- there was no memory for a grammar
 without_grammar : (words : List Text) (r : Result ArgMatches Error) → IsErr r → IfErr r (λ e. kind_of e ≡ OutOfMemory)
     → IsParsed words r
 without_grammar words (Ok m) is none = cc
-without_grammar words (Err e) is none = (some_names, refl, λ t. none)
+without_grammar words (Err e) is none = (some_names, refl, inl none)
 
 pub returns-in_err-arbiter_command : goal.returns-in_err-arbiter_command
 returns-in_err-arbiter_command c =
@@ -50,5 +51,5 @@ returns c =
       given.0,
       given.1,
       parsed_by given.0 _ (map (λ w. w.now) c.args.words.now) given.2 c.try_get_matches_from.result
-          m.matches m.passes m.kinds,
+          m.matches m.kinds,
     )

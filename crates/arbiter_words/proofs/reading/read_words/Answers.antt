@@ -51,5 +51,5 @@ returns c =
           subst (IsSpelledOf (asked parsed.0 texts)) (sym w.spelled-is)
           (subst (λ p. IsSpelledOf p w.in-Ok-spelled_in.spelled) (sym e) w.in-Ok-spelled_in.ensures)
     ] in
-    planned_reading parsed.0 texts parsed.1 c.match-entered.spelled spelled c.planned.result c.planned.ensures.plan
-    c.planned.ensures.fault
+    planned_reading parsed.0 texts parsed.1 parsed.2.0 c.match-entered.spelled spelled c.planned.result
+    c.planned.ensures.plan c.planned.ensures.fault

@@ -1,0 +1,75 @@
+-- What words do that ask for no plan.
+use Rattle.std.proofs.Common.{◌≡◌, ◌≢◌, ◌∙◌, ◌⊎◌, ℕ, List, [], ◌∷◌, Result, Ok, Err, sym, subst, inl, inr}
+use Rattle.clap.specs.Words.{IsAmong, Kinds, Text, kind_of}
+use Rattle.clap.specs.declared.error.kind.ErrorKind.{ErrorKind}
+use Rattle.clap.specs.declared.error.kind.ErrorKind.TheVariants.{DisplayHelp, DisplayVersion}
+use Rattle.arbiter_words.specs.Plans.{AreRefused, IsReading}
+use Rattle.arbiter_words.specs.declared.fault.WordsFault.{WordsFault}
+use Rattle.arbiter_words.specs.declared.fault.WordsFault.TheVariants as words
+use Rattle.arbiter_words.specs.declared.plan.Plan.{Plan}
+use Rattle.byte_devices.specs.Devices.{InputState, OutputState}
+use Rattle.chess_arbiter.specs.laws.Laws.{RefusesWords, ShowsHelp}
+use Rattle.chess_arbiter.specs.Program.{RanHelp, RanPlan, ToldWords}
+use Rattle.chess_arbiter.specs.declared.fault.ProgramFault.TheVariants.{NoMemory}
+
+no_fault : (k : ErrorKind) (kinds : Kinds) → kinds ≡ [] → kinds ≡ k ∷ [] → ⊥
+no_fault k kinds none one = absurd (cc)
+
+only_one : (k x : ErrorKind) → IsAmong x (k ∷ []) → x ≡ k
+only_one k x (inl e) = e
+only_one k x (inr none) = absurd none
+
+the_fault : (k x : ErrorKind) (kinds : Kinds) → kinds ≡ k ∷ [] → IsAmong x kinds → x ≡ k
+the_fault k x kinds one among = only_one k x (subst (IsAmong x) one among)
+
+-- they are refused by that kind, or for want of memory
+abbrev pub IsRefusal : ErrorKind → WordsFault → Type 0
+IsRefusal k (words.Words e) = kind_of e ≡ k
+IsRefusal k words.NoMemory = Unit {0}
+IsRefusal k _ = ⊥
+
+refusal : (ws : List Text) (k : ErrorKind) (fault : WordsFault) → AreRefused ws (k ∷ []) → IsReading ws (Err fault)
+    → IsRefusal k fault
+refusal ws k (words.Words e) one (names, are, among) = the_fault k (kind_of e) _ (one names) among
+refusal ws k words.NoMemory one is = tt
+refusal ws k words.BadLevel one (names, are, (none, is)) = absurd (no_fault k _ none (one names))
+refusal ws k (words.BadFen f) one (names, are, (none, is)) = absurd (no_fault k _ none (one names))
+refusal ws k words.BadDate one (names, are, (none, is)) = absurd (no_fault k _ none (one names))
+
+no_plan : (ws : List Text) (k : ErrorKind) (plan : Plan) → AreRefused ws (k ∷ []) → IsReading ws (Ok plan) → ⊥
+no_plan ws k plan one (names, are, (none, is)) = no_fault k _ none (one names)
+
+-- ---- help and the version
+
+shown : (k : ErrorKind) (fault : WordsFault) (w w' : OutputState) (status : ℕ)
+    → (k ≡ DisplayHelp) ⊎ (k ≡ DisplayVersion) → IsRefusal k fault → ToldWords fault w w' status
+    → RanHelp w w' status
+shown k (words.Words e) w w' status help is told =
+    told.1 (subst (λ x. (x ≡ DisplayHelp) ⊎ (x ≡ DisplayVersion)) (sym is) help)
+shown k words.NoMemory w w' status help is (same, ends) = (Err NoMemory, same, ends)
+shown k words.BadLevel w w' status help is told = absurd is
+shown k (words.BadFen f) w w' status help is told = absurd is
+shown k words.BadDate w w' status help is told = absurd is
+
+pub shows_help : (ws : List Text) (k : ErrorKind) → (k ≡ DisplayHelp) ⊎ (k ≡ DisplayVersion) → AreRefused ws (k ∷ [])
+    → ShowsHelp ws
+shows_help ws k help one r r' w w' status (Ok plan, is, ran) = absurd (no_plan ws k plan one is)
+shows_help ws k help one r r' w w' status (Err fault, is, (same, told)) =
+    (same, shown k fault w w' status help (refusal ws k fault one is) told)
+
+-- ---- other kinds
+
+refused : (k : ErrorKind) (fault : WordsFault) (w w' : OutputState) (status : ℕ) → k ≢ DisplayHelp → k ≢ DisplayVersion
+    → IsRefusal k fault → ToldWords fault w w' status → (w' ≡ w) × ((status ≡ 2) ⊎ (status ≡ 1))
+refused k (words.Words e) w w' status help version is told =
+    let t = told.0 (λ x. help (sym is ∙ x)) (λ x. version (sym is ∙ x)) in (t.0, inl t.1)
+refused k words.NoMemory w w' status help version is (same, ends) = (same, inr ends)
+refused k words.BadLevel w w' status help version is told = absurd is
+refused k (words.BadFen f) w w' status help version is told = absurd is
+refused k words.BadDate w w' status help version is told = absurd is
+
+pub refuses_words : (ws : List Text) (k : ErrorKind) → k ≢ DisplayHelp → k ≢ DisplayVersion → AreRefused ws (k ∷ [])
+    → RefusesWords ws
+refuses_words ws k help version one r r' w w' status (Ok plan, is, ran) = absurd (no_plan ws k plan one is)
+refuses_words ws k help version one r r' w w' status (Err fault, is, (same, told)) =
+    let t = refused k fault w w' status help version (refusal ws k fault one is) told in (same, t.0, t.1)
