@@ -10,4 +10,6 @@ mod program;
 #[cfg(test)]
 mod runs;
 #[cfg(test)]
+mod stored;
+#[cfg(test)]
 mod verify;

@@ -1,4 +1,8 @@
-[Event "A game for the arbiter's stored run"]
+//! Games that stockfish played and pgn-extract spelled, one with a fault and one behind it.
+
+use crate::runs::{SOUND, run};
+
+const GAMES: &[u8] = br#"[Event "A game for the arbiter's stored run"]
 [Site "?"]
 [Date "2026.11.22"]
 [Round "1"]
@@ -986,3 +990,81 @@ Nd4 21. Bb4+ Ke8 22. Nc7+ Kd7 23. Na6 Bxa6 24. Bd5 Be3+ 25. Kb1 Bxb5 *
 [Result "1-0"]
 
 1. e4 e5 2. Bc4 Nc6 3. Qh5 Nf6 4. Qxf7# 1-0
+"#;
+
+const TOLD: &[u8] = b"game 1: 42 half-moves, 0-1
+game 2: 89 half-moves, *
+game 3: 68 half-moves, *
+game 4: 52 half-moves, 0-1
+game 5: 83 half-moves, *
+game 6: 60 half-moves, 0-1
+game 7: 76 half-moves, *
+game 8: 35 half-moves, *
+game 9: 53 half-moves, *
+game 10: 92 half-moves, *
+game 11: 57 half-moves, *
+game 12: 73 half-moves, *
+game 13: 41 half-moves, *
+game 14: 97 half-moves, *
+game 15: 67 half-moves, 1-0
+game 16: 47 half-moves, 1-0
+game 17: 96 half-moves, *
+game 18: 50 half-moves, *
+game 19: 74 half-moves, *
+game 20: 104 half-moves, *
+game 21: 42 half-moves, *
+game 22: 22 half-moves, 0-1
+game 23: 75 half-moves, *
+game 24: 58 half-moves, *
+game 25: 49 half-moves, *
+game 26: 70 half-moves, 0-1
+game 27: 37 half-moves, 1-0
+game 28: 68 half-moves, 0-1
+game 29: 30 half-moves, *
+game 30: 66 half-moves, *
+game 31: 54 half-moves, *
+game 32: 82 half-moves, *
+game 33: 67 half-moves, 1-0
+game 34: 110 half-moves, *
+game 35: 61 half-moves, 1-0
+game 36: 55 half-moves, *
+game 37: 79 half-moves, *
+game 38: 31 half-moves, *
+game 39: 17 half-moves, 1-0
+game 40: 30 half-moves, *
+game 41: 102 half-moves, *
+game 42: 63 half-moves, 1-0
+game 43: 88 half-moves, *
+game 44: 44 half-moves, 0-1
+game 45: 35 half-moves, *
+game 46: 21 half-moves, *
+game 47: 44 half-moves, 0-1
+game 48: 48 half-moves, 0-1
+game 49: 71 half-moves, 1-0
+game 50: 54 half-moves, *
+game 51: 75 half-moves, *
+game 52: 36 half-moves, 0-1
+game 53: 66 half-moves, 0-1
+game 54: 92 half-moves, *
+game 55: 86 half-moves, 0-1
+game 56: 41 half-moves, 1-0
+game 57: 69 half-moves, *
+game 58: 22 half-moves, *
+game 59: 50 half-moves, 0-1
+game 60: 34 half-moves, *
+game 61: 80 half-moves, *
+game 62: 41 half-moves, 1-0
+game 63: 57 half-moves, *
+game 64: 50 half-moves, *
+game 65: illegal move at byte 32444
+game 66: 7 half-moves, 1-0
+games 65 half-moves 3835 faults 1
+";
+
+#[test]
+fn games_of_other_programs_are_verified(rt: HostRuntime) {
+    let outcome = run(&rt, &["verify", "--keep-going"], GAMES, SOUND);
+    assert_eq!(rt; outcome.output.as_slice(), TOLD);
+    assert_eq!(rt; outcome.errors.as_slice(), b"".as_slice());
+    assert_eq!(rt; outcome.status, 1);
+}
