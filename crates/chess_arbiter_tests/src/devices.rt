@@ -1,7 +1,8 @@
 //! The program over devices that are cut and that fail.
 
-use crate::runs::{Devices, SOUND, run};
+use crate::runs::{Devices, Outcome, SOUND, Wanted, check_in_all_pieces, run};
 use std::alloc::Global;
+use std::process::Abort;
 use std::test::Fail;
 
 /// A line to the program, and what it answers.
@@ -83,31 +84,73 @@ fn input_of(alloc: Global, lines: &[Line]) -> Result<Vec<u8>, Fail> {
     Ok(input)
 }
 
+// What the program tells of a failed input, and of a failed output.
+const READ_FAILED: &[u8] = b"arbiter: read failed\n";
+
+const WRITE_FAILED: &[u8] = b"arbiter: write failed\n";
+
 // The most calls of a device in the runs below.
 const CALLS: u64 = 400;
+
+// Runs a talk in pieces of each length.
+fn check_talk(rt: &impl Abort, host: &HostRuntime, talk: &Talk) -> Result<(), Fail> {
+    let input = input_of(host.alloc(), talk.lines)?;
+    let (answers, _) = answered(host.alloc(), talk.lines, input.len())?;
+    let wanted = Wanted {
+        output: answers.as_slice(),
+        errors: b"",
+        status: 0,
+    };
+    check_in_all_pieces(rt, host, talk.words, input.as_slice(), wanted);
+    Ok(())
+}
 
 #[test]
 fn answers_are_the_same_in_all_pieces(rt: HostRuntime) -> Result<(), Fail> {
     for talk in &TALKS {
-        let input = input_of(rt.alloc(), talk.lines)?;
-        let (answers, _) = answered(rt.alloc(), talk.lines, input.len())?;
-        for piece in [1, 2, 3, 1024] {
-            for taken in [1, 2, 1024] {
-                let outcome = run(
-                    &rt,
-                    talk.words,
-                    input.as_slice(),
-                    Devices {
-                        piece,
-                        taken,
-                        ..SOUND
-                    },
-                );
-                assert_eq!(rt; outcome.output.as_slice(), answers.as_slice());
-                assert_eq!(rt; outcome.errors.as_slice(), b"".as_slice());
-                assert_eq!(rt; outcome.status, 0);
-            }
-        }
+        check_talk(&rt, &rt, talk)?;
+    }
+    Ok(())
+}
+
+// Asserts that a run on a beginning of an input wrote these answers, and two lines more at most where a part of a line
+// is left.
+fn check_beginning(
+    rt: &impl Abort,
+    outcome: &Outcome,
+    answers: &[u8],
+    is_cut: bool,
+) -> Result<(), Fail> {
+    let behind = outcome
+        .output
+        .strip_prefix(answers)
+        .ok_or("the answers to whole lines")?;
+    let lines = behind.iter().filter(|byte| **byte == b'\n').count();
+    assert!(rt; lines <= 2 && (is_cut || behind.is_empty()));
+    assert_eq!(rt; outcome.errors.as_slice(), b"".as_slice());
+    assert_eq!(rt; outcome.status, 0);
+    Ok(())
+}
+
+// Runs a talk on the first bytes of its input.
+fn check_cut(
+    rt: &impl Abort,
+    host: &HostRuntime,
+    talk: &Talk,
+    input: &[u8],
+    given: usize,
+) -> Result<(), Fail> {
+    let (answers, read) = answered(host.alloc(), talk.lines, given)?;
+    let front = input.get(..given).ok_or("a beginning")?;
+    let outcome = run(host, talk.words, front, SOUND);
+    check_beginning(rt, &outcome, answers.as_slice(), read < given)
+}
+
+// Runs a talk on each beginning of its input.
+fn check_cuts(rt: &impl Abort, host: &HostRuntime, talk: &Talk) -> Result<(), Fail> {
+    let input = input_of(host.alloc(), talk.lines)?;
+    for given in 0..=input.len() {
+        check_cut(rt, host, talk, input.as_slice(), given)?;
     }
     Ok(())
 }
@@ -116,20 +159,40 @@ fn answers_are_the_same_in_all_pieces(rt: HostRuntime) -> Result<(), Fail> {
 #[test]
 fn inputs_cut_after_each_byte(rt: HostRuntime) -> Result<(), Fail> {
     for talk in &TALKS {
-        let input = input_of(rt.alloc(), talk.lines)?;
-        for given in 0..=input.len() {
-            let (answers, read) = answered(rt.alloc(), talk.lines, given)?;
-            let front = input.get(..given).ok_or("a beginning")?;
-            let outcome = run(&rt, talk.words, front, SOUND);
-            let behind = outcome
-                .output
-                .strip_prefix(answers.as_slice())
-                .ok_or("the answers to whole lines")?;
-            let lines = behind.iter().filter(|byte| **byte == b'\n').count();
-            assert!(rt; lines <= 2 && (read < given || behind.is_empty()));
-            assert_eq!(rt; outcome.errors.as_slice(), b"".as_slice());
-            assert_eq!(rt; outcome.status, 0);
-        }
+        check_cuts(&rt, &rt, talk)?;
+    }
+    Ok(())
+}
+
+// Runs a talk whose input fails at that call, behind so many bytes.
+fn check_failed_read(
+    rt: &impl Abort,
+    host: &HostRuntime,
+    talk: &Talk,
+    input: &[u8],
+    call: usize,
+) -> Result<(), Fail> {
+    let given = call.saturating_sub(1);
+    let (answers, _) = answered(host.alloc(), talk.lines, given)?;
+    let devices = Devices {
+        piece: 1,
+        read_fails: call as u64,
+        ..SOUND
+    };
+    let wanted = Wanted {
+        output: answers.as_slice(),
+        errors: READ_FAILED,
+        status: 1,
+    };
+    run(host, talk.words, input, devices).check(rt, wanted);
+    Ok(())
+}
+
+// Runs a talk whose input fails at each call in turn.
+fn check_failed_reads(rt: &impl Abort, host: &HostRuntime, talk: &Talk) -> Result<(), Fail> {
+    let input = input_of(host.alloc(), talk.lines)?;
+    for call in 1..=input.len() {
+        check_failed_read(rt, host, talk, input.as_slice(), call)?;
     }
     Ok(())
 }
@@ -138,24 +201,51 @@ fn inputs_cut_after_each_byte(rt: HostRuntime) -> Result<(), Fail> {
 #[test]
 fn reads_that_fail_at_each_place(rt: HostRuntime) -> Result<(), Fail> {
     for talk in &TALKS {
-        let input = input_of(rt.alloc(), talk.lines)?;
-        for call in 1..=input.len() {
-            let given = call.saturating_sub(1);
-            let (answers, _) = answered(rt.alloc(), talk.lines, given)?;
-            let devices = Devices {
-                piece: 1,
-                read_fails: call as u64,
-                ..SOUND
-            };
-            let outcome = run(&rt, talk.words, input.as_slice(), devices);
-            assert_eq!(rt; outcome.output.as_slice(), answers.as_slice());
-            assert_eq!(rt;
-                outcome.errors.as_slice(),
-                b"arbiter: read failed\n".as_slice()
-            );
-            assert_eq!(rt; outcome.status, 1);
+        check_failed_reads(&rt, &rt, talk)?;
+    }
+    Ok(())
+}
+
+// Asserts that a run wrote a beginning of the answers and told of a failed write, if its status says so.
+fn check_taken(rt: &impl Abort, outcome: &Outcome, answers: &[u8]) {
+    assert!(rt; answers.starts_with(outcome.output.as_slice()));
+    if outcome.status != 0 {
+        assert_eq!(rt; outcome.errors.as_slice(), WRITE_FAILED);
+        assert_eq!(rt; outcome.status, 1);
+    }
+}
+
+// Runs words on an input where the output fails at each call in turn, up to the first that is not made.
+fn check_each_write(
+    rt: &impl Abort,
+    host: &HostRuntime,
+    words: &[&str],
+    input: &[u8],
+    answers: &[u8],
+) {
+    let mut taken_before = 0;
+    for call in 1..=CALLS {
+        let devices = Devices {
+            taken: 1,
+            write_fails: call,
+            ..SOUND
+        };
+        let outcome = run(host, words, input, devices);
+        check_taken(rt, &outcome, answers);
+        assert!(rt; outcome.output.len() >= taken_before);
+        taken_before = outcome.output.len();
+        if outcome.status == 0 {
+            break;
         }
     }
+    assert_eq!(rt; taken_before, answers.len());
+}
+
+// Runs a talk whose output fails at each call in turn.
+fn check_failed_writes(rt: &impl Abort, host: &HostRuntime, talk: &Talk) -> Result<(), Fail> {
+    let input = input_of(host.alloc(), talk.lines)?;
+    let (answers, _) = answered(host.alloc(), talk.lines, input.len())?;
+    check_each_write(rt, host, talk.words, input.as_slice(), answers.as_slice());
     Ok(())
 }
 
@@ -163,30 +253,21 @@ fn reads_that_fail_at_each_place(rt: HostRuntime) -> Result<(), Fail> {
 #[test]
 fn writes_that_fail_at_each_place(rt: HostRuntime) -> Result<(), Fail> {
     for talk in &TALKS {
-        let input = input_of(rt.alloc(), talk.lines)?;
-        let (answers, _) = answered(rt.alloc(), talk.lines, input.len())?;
-        let mut taken_before = 0;
-        for call in 1..=CALLS {
-            let devices = Devices {
-                taken: 1,
-                write_fails: call,
-                ..SOUND
-            };
-            let outcome = run(&rt, talk.words, input.as_slice(), devices);
-            assert!(rt; answers.starts_with(outcome.output.as_slice()));
-            assert!(rt; outcome.output.len() >= taken_before);
-            taken_before = outcome.output.len();
-            if outcome.status == 0 {
-                break;
-            }
-            assert_eq!(rt;
-                outcome.errors.as_slice(),
-                b"arbiter: write failed\n".as_slice()
-            );
-            assert_eq!(rt; outcome.status, 1);
-        }
-        assert_eq!(rt; taken_before, answers.len());
+        check_failed_writes(&rt, &rt, talk)?;
     }
+    Ok(())
+}
+
+// Runs a talk whose output takes nothing.
+fn check_nothing_taken(rt: &impl Abort, host: &HostRuntime, talk: &Talk) -> Result<(), Fail> {
+    let input = input_of(host.alloc(), talk.lines)?;
+    let devices = Devices { taken: 0, ..SOUND };
+    let wanted = Wanted {
+        output: b"",
+        errors: WRITE_FAILED,
+        status: 1,
+    };
+    run(host, talk.words, input.as_slice(), devices).check(rt, wanted);
     Ok(())
 }
 
@@ -194,15 +275,7 @@ fn writes_that_fail_at_each_place(rt: HostRuntime) -> Result<(), Fail> {
 #[test]
 fn writers_that_take_nothing(rt: HostRuntime) -> Result<(), Fail> {
     for talk in &TALKS {
-        let input = input_of(rt.alloc(), talk.lines)?;
-        let devices = Devices { taken: 0, ..SOUND };
-        let outcome = run(&rt, talk.words, input.as_slice(), devices);
-        assert_eq!(rt; outcome.output.as_slice(), b"".as_slice());
-        assert_eq!(rt;
-            outcome.errors.as_slice(),
-            b"arbiter: write failed\n".as_slice()
-        );
-        assert_eq!(rt; outcome.status, 1);
+        check_nothing_taken(&rt, &rt, talk)?;
     }
     Ok(())
 }
@@ -218,75 +291,87 @@ const LINES: &[u8] = b"game 1: 1 half-moves, *\ngame 2: 4 half-moves, 0-1\n";
 
 #[test]
 fn games_in_all_pieces(rt: HostRuntime) {
-    for piece in [1, 2, 3, 1024] {
-        for taken in [1, 2, 1024] {
-            let devices = Devices {
-                piece,
-                taken,
-                ..SOUND
-            };
-            let outcome = run(&rt, &["verify"], BOTH, devices);
-            assert_eq!(rt; outcome.output.as_slice(), LINES);
-            assert_eq!(rt; outcome.errors.as_slice(), b"".as_slice());
-            assert_eq!(rt; outcome.status, 0);
-        }
+    let wanted = Wanted {
+        output: LINES,
+        errors: b"",
+        status: 0,
+    };
+    check_in_all_pieces(&rt, &rt, &["verify"], BOTH, wanted);
+}
+
+// Asserts what comes of that many bytes of both games.
+fn check_front(rt: &impl Abort, outcome: &Outcome, given: usize) {
+    let is_whole = given == 0
+        || given == FIRST.len() - 1
+        || given == FIRST.len()
+        || given >= BOTH.len() - 1;
+    assert_eq!(rt; outcome.status == 0, is_whole);
+    if given >= FIRST.len() - 1 {
+        assert!(rt; outcome.output.starts_with(FIRST_LINE));
     }
+    assert_eq!(rt; outcome.errors.as_slice(), b"".as_slice());
+}
+
+// Verifies that many bytes of both games.
+fn verify_front(rt: &impl Abort, host: &HostRuntime, given: usize) -> Result<(), Fail> {
+    let front = BOTH.get(..given).ok_or("a beginning")?;
+    check_front(rt, &run(host, &["verify"], front, SOUND), given);
+    Ok(())
 }
 
 // A text is verified where it ends behind a game, or behind the blanks after it.
 #[test]
 fn texts_cut_after_each_byte(rt: HostRuntime) -> Result<(), Fail> {
     for given in 0..=BOTH.len() {
-        let front = BOTH.get(..given).ok_or("a beginning")?;
-        let outcome = run(&rt, &["verify"], front, SOUND);
-        let is_whole = given == 0
-            || given == FIRST.len() - 1
-            || given == FIRST.len()
-            || given >= BOTH.len() - 1;
-        assert_eq!(rt; outcome.status == 0, is_whole);
-        if given >= FIRST.len() - 1 {
-            assert!(rt; outcome.output.starts_with(FIRST_LINE));
-        }
-        assert_eq!(rt; outcome.errors.as_slice(), b"".as_slice());
+        verify_front(&rt, &rt, given)?;
     }
     Ok(())
+}
+
+// Verifies both games where the input fails at that call.
+fn verify_failed_read(rt: &impl Abort, host: &HostRuntime, call: usize) {
+    let devices = Devices {
+        piece: 1,
+        read_fails: call as u64,
+        ..SOUND
+    };
+    let wanted = Wanted {
+        output: b"",
+        errors: READ_FAILED,
+        status: 1,
+    };
+    run(host, &["verify"], BOTH, devices).check(rt, wanted);
 }
 
 // Without all of its text, `verify` tells nothing.
 #[test]
 fn reads_of_games_that_fail(rt: HostRuntime) {
     for call in 1..=BOTH.len() {
-        let devices = Devices {
-            piece: 1,
-            read_fails: call as u64,
-            ..SOUND
-        };
-        let outcome = run(&rt, &["verify"], BOTH, devices);
-        assert_eq!(rt; outcome.output.as_slice(), b"".as_slice());
-        assert_eq!(rt;
-            outcome.errors.as_slice(),
-            b"arbiter: read failed\n".as_slice()
-        );
-        assert_eq!(rt; outcome.status, 1);
+        verify_failed_read(&rt, &rt, call);
     }
+}
+
+// Verifies both games where the output fails behind so many bytes.
+fn verify_failed_write(rt: &impl Abort, host: &HostRuntime, taken: usize) -> Result<(), Fail> {
+    let devices = Devices {
+        taken: 1,
+        write_fails: (taken as u64).saturating_add(1),
+        ..SOUND
+    };
+    let wanted = Wanted {
+        output: LINES.get(..taken).ok_or("a beginning")?,
+        errors: WRITE_FAILED,
+        status: 1,
+    };
+    run(host, &["verify"], BOTH, devices).check(rt, wanted);
+    Ok(())
 }
 
 // Each write in turn, and the flush behind them.
 #[test]
-fn writes_of_games_that_fail(rt: HostRuntime) {
-    for call in 1..=LINES.len().saturating_add(1) {
-        let devices = Devices {
-            taken: 1,
-            write_fails: call as u64,
-            ..SOUND
-        };
-        let outcome = run(&rt, &["verify"], BOTH, devices);
-        let taken = LINES.split_at_checked(call - 1).map(|parts| parts.0);
-        assert_eq!(rt; Some(outcome.output.as_slice()), taken);
-        assert_eq!(rt;
-            outcome.errors.as_slice(),
-            b"arbiter: write failed\n".as_slice()
-        );
-        assert_eq!(rt; outcome.status, 1);
+fn writes_of_games_that_fail(rt: HostRuntime) -> Result<(), Fail> {
+    for taken in 0..=LINES.len() {
+        verify_failed_write(&rt, &rt, taken)?;
     }
+    Ok(())
 }

@@ -1,10 +1,11 @@
 //! Matches between engines that run as processes: the program itself, as a stub.
 
-use crate::runs::{Devices, SOUND, run};
+use crate::runs::{Devices, Outcome, SOUND, Wanted, run};
 use byte_devices::Counted;
 use chess_arbiter::{SinceStart, run_program};
 use chess_match::Moments;
 use std::alloc::Global;
+use std::process::Abort;
 use std::test::Fail;
 use std::{env, fs};
 
@@ -111,43 +112,65 @@ const PLAYED: [Played; 7] = [
     },
 ];
 
-// The words of a match.
-fn words_of(rt: &HostRuntime, played: &Played) -> Result<Vec<String>, Fail> {
-    let mut words = Vec::new(rt.alloc());
-    words.push(String::from_str(rt.alloc(), "match")?)?;
-    words.push(String::from_str(rt.alloc(), "--white")?)?;
-    words.push(stub(rt, played.white)?)?;
-    words.push(String::from_str(rt.alloc(), "--black")?)?;
-    words.push(stub(rt, played.black)?)?;
-    for word in played.others {
-        words.push(String::from_str(rt.alloc(), word)?)?;
+// The words of a match between these commands.
+fn words_of<'a>(
+    alloc: Global,
+    white: &'a str,
+    black: &'a str,
+    others: &[&'static str],
+) -> Result<Vec<&'a str>, Fail> {
+    let mut words = Vec::new(alloc);
+    for word in ["match", "--white", white, "--black", black] {
+        words.push(word)?;
+    }
+    for word in others {
+        words.push(*word)?;
     }
     Ok(words)
+}
+
+// Plays a match over processes.
+fn play(
+    rt: &HostRuntime,
+    played: &Played,
+    input: &[u8],
+    devices: Devices,
+) -> Result<Outcome, Fail> {
+    let white = stub(rt, played.white)?;
+    let black = stub(rt, played.black)?;
+    let words = words_of(rt.alloc(), white.as_str(), black.as_str(), played.others)?;
+    Ok(run(rt, words.as_slice(), input, devices))
+}
+
+// Asserts that this came of a match.
+fn check_match(rt: &impl Abort, outcome: &Outcome, played: &Played) -> Result<(), Fail> {
+    assert_eq!(rt;
+        std::str::from_utf8(outcome.output.as_slice())?,
+        played.output
+    );
+    assert_eq!(rt;
+        std::str::from_utf8(outcome.errors.as_slice())?,
+        played.errors
+    );
+    assert_eq!(rt; outcome.status, played.status);
+    Ok(())
+}
+
+// Plays a match, and asserts what comes of it.
+fn play_out(rt: &impl Abort, host: &HostRuntime, played: &Played) -> Result<(), Fail> {
+    // The input is not read, so its failure is not met.
+    let devices = Devices {
+        read_fails: 1,
+        ..SOUND
+    };
+    let outcome = play(host, played, b"x", devices)?;
+    check_match(rt, &outcome, played)
 }
 
 #[test]
 fn stubs_play(rt: HostRuntime) -> Result<(), Fail> {
     for played in &PLAYED {
-        let owned = words_of(&rt, played)?;
-        let mut words = Vec::new(rt.alloc());
-        for word in &owned {
-            words.push(word.as_str())?;
-        }
-        // The input is not read, so its failure is not met.
-        let devices = Devices {
-            read_fails: 1,
-            ..SOUND
-        };
-        let outcome = run(&rt, words.as_slice(), b"x", devices);
-        assert_eq!(rt;
-            std::str::from_utf8(outcome.output.as_slice())?,
-            played.output
-        );
-        assert_eq!(rt;
-            std::str::from_utf8(outcome.errors.as_slice())?,
-            played.errors
-        );
-        assert_eq!(rt; outcome.status, played.status);
+        play_out(&rt, &rt, played)?;
     }
     Ok(())
 }
@@ -158,146 +181,138 @@ fn held(rt: &HostRuntime) -> Result<(usize, Vec<u8>), Fail> {
     Ok((open, fs::read(rt, "/proc/thread-self/children")?))
 }
 
+// Asserts that a process holds what it held.
+fn check_held(rt: &impl Abort, now: &(usize, Vec<u8>), before: &(usize, Vec<u8>)) {
+    assert_eq!(rt; now.0, before.0);
+    assert_eq!(rt; now.1.as_slice(), before.1.as_slice());
+}
+
+// Plays a match, after which this process holds what it held.
+fn play_and_leave(rt: &impl Abort, host: &HostRuntime, played: &Played) -> Result<(), Fail> {
+    let before = held(host)?;
+    let _outcome = play(host, played, b"", SOUND)?;
+    check_held(rt, &held(host)?, &before);
+    Ok(())
+}
+
 #[test]
 fn engines_leave_nothing_behind(rt: HostRuntime) -> Result<(), Fail> {
-    let (open_before, children_before) = held(&rt)?;
     for played in &PLAYED {
-        let owned = words_of(&rt, played)?;
-        let mut words = Vec::new(rt.alloc());
-        for word in &owned {
-            words.push(word.as_str())?;
-        }
-        let _outcome = run(&rt, words.as_slice(), b"", SOUND);
-        let (open, children) = held(&rt)?;
-        assert_eq!(rt; open, open_before);
-        assert_eq!(rt; children.as_slice(), children_before.as_slice());
+        play_and_leave(&rt, &rt, played)?;
     }
     Ok(())
 }
 
-// Whether a match ends before a game, with that told.
-fn ends_early(rt: &HostRuntime, words: &[&str], told: &[u8], wanted: u8) -> bool {
-    let outcome = run(rt, words, b"", SOUND);
-    outcome.output.is_empty() && outcome.errors.as_slice() == told && outcome.status == wanted
+// Asserts that a match ends before a game, with that told.
+fn check_early_end(rt: &impl Abort, host: &HostRuntime, words: &[&str], told: &[u8], status: u8) {
+    let wanted = Wanted {
+        output: b"",
+        errors: told,
+        status,
+    };
+    run(host, words, b"", SOUND).check(rt, wanted);
+}
+
+// Asserts that a match between these commands can not start, with that told.
+fn check_no_start(rt: &impl Abort, host: &HostRuntime, white: &str, black: &str, told: &[u8]) {
+    let words = ["match", "--white", white, "--black", black];
+    check_early_end(rt, host, &words, told, 1);
 }
 
 #[test]
 fn engines_that_can_not_start(rt: HostRuntime) -> Result<(), Fail> {
     let stub = stub(&rt, "e2e4")?;
-    assert!(rt;
-        ends_early(
-            &rt,
-            &[
-                "match",
-                "--white",
-                "/no/such/engine x",
-                "--black",
-                stub.as_str()
-            ],
-            b"arbiter: can not start /no/such/engine x\n",
-            1
-        )
+    check_no_start(
+        &rt,
+        &rt,
+        "/no/such/engine x",
+        stub.as_str(),
+        b"arbiter: can not start /no/such/engine x\n",
     );
-    assert!(rt;
-        ends_early(
-            &rt,
-            &[
-                "match",
-                "--white",
-                stub.as_str(),
-                "--black",
-                "/no/such/engine"
-            ],
-            b"arbiter: can not start /no/such/engine\n",
-            1
-        )
+    check_no_start(
+        &rt,
+        &rt,
+        stub.as_str(),
+        "/no/such/engine",
+        b"arbiter: can not start /no/such/engine\n",
     );
-    assert!(rt;
-        ends_early(
-            &rt,
-            &["match", "--white", stub.as_str(), "--black", " \t"],
-            b"arbiter: can not start  \t\n",
-            1
-        )
+    check_no_start(
+        &rt,
+        &rt,
+        stub.as_str(),
+        " \t",
+        b"arbiter: can not start  \t\n",
     );
     Ok(())
 }
 
+// Words of matches out of form, and what is told.
+const OUT_OF_FORM: [(&[&str], &[u8]); 4] = [
+    (
+        &["match", "--white", "x", "--black", "y", "--level", "40 5"],
+        b"arbiter: bad level\n",
+    ),
+    (
+        &[
+            "match", "--white", "x", "--black", "y", "--level", "0 0:60 0",
+        ],
+        b"arbiter: bad level\n",
+    ),
+    (
+        &[
+            "match",
+            "--white",
+            "x",
+            "--black",
+            "y",
+            "--fen",
+            "8/8/8/8/8/8/8/8 w - - 0 1",
+        ],
+        b"arbiter: illegal position (kings)\n",
+    ),
+    (
+        &["match", "--white", "x", "--black", "y", "--date", "\u{7f}"],
+        b"arbiter: bad date\n",
+    ),
+];
+
 #[test]
 fn matches_out_of_form(rt: HostRuntime) {
-    assert!(rt;
-        ends_early(
-            &rt,
-            &["match", "--white", "x", "--black", "y", "--level", "40 5"],
-            b"arbiter: bad level\n",
-            2
-        )
-    );
-    assert!(rt;
-        ends_early(
-            &rt,
-            &[
-                "match", "--white", "x", "--black", "y", "--level", "0 0:60 0"
-            ],
-            b"arbiter: bad level\n",
-            2
-        )
-    );
-    assert!(rt;
-        ends_early(
-            &rt,
-            &[
-                "match",
-                "--white",
-                "x",
-                "--black",
-                "y",
-                "--fen",
-                "8/8/8/8/8/8/8/8 w - - 0 1"
-            ],
-            b"arbiter: illegal position (kings)\n",
-            2
-        )
-    );
-    assert!(rt;
-        ends_early(
-            &rt,
-            &["match", "--white", "x", "--black", "y", "--date", "\u{7f}"],
-            b"arbiter: bad date\n",
-            2
-        )
-    );
+    for (words, told) in &OUT_OF_FORM {
+        check_early_end(&rt, &rt, words, told, 2);
+    }
 }
 
-// The output fails at the calls of a match of two games: at most this number.
-#[test]
-fn a_match_on_a_failed_output(rt: HostRuntime) -> Result<(), Fail> {
-    let (white, black) = (stub(&rt, "")?, stub(&rt, "")?);
-    let words = [
-        "match",
-        "--white",
-        white.as_str(),
-        "--black",
-        black.as_str(),
-        "--games",
-        "2",
-    ];
-    let whole = run(&rt, words.as_slice(), b"", SOUND);
-    assert_eq!(rt; whole.status, 0);
+// Asserts that a match whose whole output this is ended at a failed write.
+fn check_broken(rt: &impl Abort, broken: &Outcome, whole: &[u8]) {
+    assert!(rt; whole.starts_with(broken.output.as_slice()));
+    assert_eq!(rt;
+        broken.errors.as_slice(),
+        b"arbiter: write failed\n".as_slice()
+    );
+    assert_eq!(rt; broken.status, 1);
+}
+
+// Plays a match whose output fails at each of its calls.
+fn play_broken(rt: &impl Abort, host: &HostRuntime, words: &[&str], whole: &[u8]) {
     for write_fails in 1..=6 {
         let devices = Devices {
             taken: 4096,
             write_fails,
             ..SOUND
         };
-        let broken = run(&rt, words.as_slice(), b"", devices);
-        assert!(rt; whole.output.starts_with(broken.output.as_slice()));
-        assert_eq!(rt;
-            broken.errors.as_slice(),
-            b"arbiter: write failed\n".as_slice()
-        );
-        assert_eq!(rt; broken.status, 1);
+        check_broken(rt, &run(host, words, b"", devices), whole);
     }
+}
+
+// The output fails at the calls of a match of two games: at most this number.
+#[test]
+fn a_match_on_a_failed_output(rt: HostRuntime) -> Result<(), Fail> {
+    let stub = stub(&rt, "")?;
+    let words = words_of(rt.alloc(), stub.as_str(), stub.as_str(), &["--games", "2"])?;
+    let whole = run(&rt, words.as_slice(), b"", SOUND);
+    assert_eq!(rt; whole.status, 0);
+    play_broken(&rt, &rt, words.as_slice(), whole.output.as_slice());
     Ok(())
 }
 
@@ -425,17 +440,24 @@ const SAID: [Said; 12] = [
     },
 ];
 
+// Runs a stub, and asserts what comes of it.
+fn check_said(rt: &impl Abort, host: &HostRuntime, said: &Said) {
+    let devices = Devices {
+        read_fails: said.fails.0,
+        write_fails: said.fails.1,
+        ..SOUND
+    };
+    let wanted = Wanted {
+        output: said.output,
+        errors: said.errors,
+        status: said.status,
+    };
+    run(host, said.words, said.input, devices).check(rt, wanted);
+}
+
 #[test]
 fn stubs_say(rt: HostRuntime) {
     for said in &SAID {
-        let devices = Devices {
-            read_fails: said.fails.0,
-            write_fails: said.fails.1,
-            ..SOUND
-        };
-        let outcome = run(&rt, said.words, said.input, devices);
-        assert_eq!(rt; outcome.output.as_slice(), said.output);
-        assert_eq!(rt; outcome.errors.as_slice(), said.errors);
-        assert_eq!(rt; outcome.status, said.status);
+        check_said(&rt, &rt, said);
     }
 }

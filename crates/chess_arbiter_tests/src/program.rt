@@ -1,9 +1,9 @@
 //! The program over memory: its words, its faults and its help.
 
-use crate::runs::{Devices, SOUND, run};
+use crate::runs::{Devices, Outcome, SOUND, Wanted, run};
 use byte_devices::{Counted, PieceWriter};
 use chess_arbiter::{ProgramFault, run_program};
-use std::process::ExitCode;
+use std::process::{Abort, ExitCode};
 use std::test::Fail;
 
 /// A run of the program over memory, where a call of the input or of the output fails (0: none does).
@@ -199,19 +199,26 @@ const CASES: [Case; 22] = [
     },
 ];
 
+// Runs the program, and asserts what comes of it.
+fn check_case(rt: &impl Abort, host: &HostRuntime, case: &Case) {
+    let devices = Devices {
+        piece: 100,
+        read_fails: case.fails.0,
+        taken: 100,
+        write_fails: case.fails.1,
+    };
+    let wanted = Wanted {
+        output: case.output,
+        errors: case.errors,
+        status: case.status,
+    };
+    run(host, case.words, case.input, devices).check(rt, wanted);
+}
+
 #[test]
 fn runs_of_the_program(rt: HostRuntime) {
     for case in &CASES {
-        let devices = Devices {
-            piece: 100,
-            read_fails: case.fails.0,
-            taken: 100,
-            write_fails: case.fails.1,
-        };
-        let outcome = run(&rt, case.words, case.input, devices);
-        assert_eq!(rt; outcome.output.as_slice(), case.output);
-        assert_eq!(rt; outcome.errors.as_slice(), case.errors);
-        assert_eq!(rt; outcome.status, case.status);
+        check_case(&rt, &rt, case);
     }
 }
 
@@ -267,16 +274,21 @@ const HELP: [(&[&str], &[&str]); 3] = [
     ),
 ];
 
+// Asserts that a run told help that names each of these words, and nothing else.
+fn check_help(rt: &impl Abort, outcome: &Outcome, named: &[&str]) -> Result<(), Fail> {
+    let help = std::str::from_utf8(outcome.output.as_slice())?;
+    for name in named {
+        assert!(rt; help.contains(*name));
+    }
+    assert_eq!(rt; outcome.errors.as_slice(), b"".as_slice());
+    assert_eq!(rt; outcome.status, 0);
+    Ok(())
+}
+
 #[test]
 fn help_names_the_words(rt: HostRuntime) -> Result<(), Fail> {
     for (words, named) in &HELP {
-        let outcome = run(&rt, words, b"ping 1\n", SOUND);
-        let help = std::str::from_utf8(outcome.output.as_slice())?;
-        for name in *named {
-            assert!(rt; help.contains(*name));
-        }
-        assert_eq!(rt; outcome.errors.as_slice(), b"".as_slice());
-        assert_eq!(rt; outcome.status, 0);
+        check_help(&rt, &run(&rt, words, b"ping 1\n", SOUND), named)?;
     }
     Ok(())
 }
@@ -288,13 +300,12 @@ fn help_on_a_failed_output(rt: HostRuntime) {
         write_fails: 2,
         ..SOUND
     };
-    let outcome = run(&rt, &["--version"], b"", devices);
-    assert_eq!(rt; outcome.output.as_slice(), b"arb".as_slice());
-    assert_eq!(rt;
-        outcome.errors.as_slice(),
-        b"arbiter: write failed\n".as_slice()
-    );
-    assert_eq!(rt; outcome.status, 1);
+    let wanted = Wanted {
+        output: b"arb",
+        errors: b"arbiter: write failed\n",
+        status: 1,
+    };
+    run(&rt, &["--version"], b"", devices).check(&rt, wanted);
 }
 
 // Each fault, how it is told and the status.

@@ -2,6 +2,7 @@
 
 use byte_devices::{Counted, PieceReader, PieceWriter};
 use chess_arbiter::run_program;
+use std::process::Abort;
 
 /// How the devices of a run are cut, and at which call they fail (0: at none).
 #[derive(Clone, Copy)]
@@ -23,6 +24,14 @@ pub const SOUND: Devices = Devices {
     taken: 1024,
     write_fails: 0,
 };
+
+/// What a run is to write, and its status.
+#[derive(Clone, Copy)]
+pub struct Wanted<'a> {
+    pub output: &'a [u8],
+    pub errors: &'a [u8],
+    pub status: u8,
+}
 
 /// What a run wrote, and its status.
 #[derive(Drop)]
@@ -50,5 +59,34 @@ pub fn run(rt: &HostRuntime, words: &[&str], input: &[u8], devices: Devices) -> 
         output: output.into_writer().bytes,
         errors: errors.into_writer().bytes,
         status,
+    }
+}
+
+impl Outcome {
+    /// Asserts that it is what was wanted.
+    pub fn check(&self, rt: &impl Abort, wanted: Wanted<'_>) {
+        assert_eq!(rt; self.output.as_slice(), wanted.output);
+        assert_eq!(rt; self.errors.as_slice(), wanted.errors);
+        assert_eq!(rt; self.status, wanted.status);
+    }
+}
+
+/// Runs the program over memory that is read and written in pieces of each length, and asserts what comes of it.
+pub fn check_in_all_pieces(
+    rt: &impl Abort,
+    host: &HostRuntime,
+    words: &[&str],
+    input: &[u8],
+    wanted: Wanted<'_>,
+) {
+    for piece in [1, 2, 3, 1024] {
+        for taken in [1, 2, 1024] {
+            let devices = Devices {
+                piece,
+                taken,
+                ..SOUND
+            };
+            run(host, words, input, devices).check(rt, wanted);
+        }
     }
 }

@@ -2,11 +2,13 @@
 
 ghost use Rattle.std.specs.Prelude.{◌≤◌, length};
 
-use crate::runs::{Devices, SOUND, run};
+use crate::runs::{Devices, Outcome, SOUND, Wanted, run};
 use byte_devices::{Counted, GatedWriter};
 use chess_arbiter::run_program;
+use std::alloc::Global;
 use std::cell::Cell;
 use std::io::{self, Read};
+use std::process::Abort;
 use std::test::Fail;
 
 // Games as they are verified: the text, what is told, and the status.
@@ -66,6 +68,24 @@ const GAMES: [(&[u8], &[u8], u8); 16] = [
     (b"", b"", 0),
 ];
 
+// Verifies a text by these words: what is told, with nothing on the error output, and the status.
+fn check_verified(
+    rt: &impl Abort,
+    host: &HostRuntime,
+    words: &[&str],
+    text: &[u8],
+    devices: Devices,
+    told: &[u8],
+    status: u8,
+) {
+    let wanted = Wanted {
+        output: told,
+        errors: b"",
+        status,
+    };
+    run(host, words, text, devices).check(rt, wanted);
+}
+
 #[test]
 fn games_are_verified(rt: HostRuntime) {
     let devices = Devices {
@@ -73,11 +93,8 @@ fn games_are_verified(rt: HostRuntime) {
         taken: 5,
         ..SOUND
     };
-    for (text, told, wanted) in &GAMES {
-        let outcome = run(&rt, &["verify"], text, devices);
-        assert_eq!(rt; outcome.output.as_slice(), *told);
-        assert_eq!(rt; outcome.errors.as_slice(), b"".as_slice());
-        assert_eq!(rt; outcome.status, *wanted);
+    for (text, told, status) in &GAMES {
+        check_verified(&rt, &rt, &["verify"], text, devices, told, *status);
     }
 }
 
@@ -119,25 +136,27 @@ impl Read for Blanks {
     }
 }
 
-#[test]
-fn more_than_16_mebibytes_are_too_long(rt: HostRuntime) {
-    let mut input = Counted::reading(Blanks);
+// Runs the program on what a reader gives, with output and error output in memory.
+fn run_on<R: Read + Drop>(rt: &HostRuntime, words: &[&str], reader: R) -> Outcome {
+    let mut input = Counted::reading(reader);
     let mut output = Counted::writing(Vec::<u8>::new(rt.alloc()));
     let mut errors = Counted::writing(Vec::<u8>::new(rt.alloc()));
-    let status = run_program(
-        &rt,
-        rt.alloc(),
-        &["verify"],
-        &mut input,
-        &mut output,
-        &mut errors,
-    );
-    assert_eq!(rt; output.writer().as_slice(), b"".as_slice());
-    assert_eq!(rt;
-        errors.writer().as_slice(),
-        b"arbiter: input too long\n".as_slice()
-    );
-    assert_eq!(rt; status, 1);
+    let status = run_program(rt, rt.alloc(), words, &mut input, &mut output, &mut errors);
+    Outcome {
+        output: output.into_writer(),
+        errors: errors.into_writer(),
+        status,
+    }
+}
+
+#[test]
+fn more_than_16_mebibytes_are_too_long(rt: HostRuntime) {
+    let wanted = Wanted {
+        output: b"",
+        errors: b"arbiter: input too long\n",
+        status: 1,
+    };
+    run_on(&rt, &["verify"], Blanks).check(&rt, wanted);
 }
 
 // The second of three games has a fault, and no line's end stands behind the last.
@@ -216,31 +235,50 @@ const BY_WORDS: [(&[&str], &[u8], &[u8], u8); 11] = [
 fn games_verified_by_words(rt: HostRuntime) {
     for (words, text, told, status) in &BY_WORDS {
         for piece in [1, 7, 100] {
-            let outcome = run(&rt, words, text, Devices { piece, ..SOUND });
-            assert_eq!(rt; outcome.output.as_slice(), *told);
-            assert_eq!(rt; outcome.errors.as_slice(), b"".as_slice());
-            assert_eq!(rt; outcome.status, *status);
+            let devices = Devices { piece, ..SOUND };
+            check_verified(&rt, &rt, words, text, devices, told, *status);
         }
     }
+}
+
+// These words, with `--any-size` at that place among them.
+fn with_any_size(
+    alloc: Global,
+    words: &[&'static str],
+    place: usize,
+) -> Result<Vec<&'static str>, Fail> {
+    let (front, back) = words.split_at_checked(place).ok_or("a place")?;
+    let mut more = Vec::new(alloc);
+    more.extend_from_slice(front)?;
+    more.push("--any-size")?;
+    more.extend_from_slice(back)?;
+    Ok(more)
+}
+
+// Verifies a text by these words, with `--any-size` at each place among them.
+fn check_any_size(
+    rt: &impl Abort,
+    host: &HostRuntime,
+    words: &[&'static str],
+    text: &[u8],
+    told: &[u8],
+    status: u8,
+) -> Result<(), Fail> {
+    for place in 1..=words.len() {
+        let more = with_any_size(host.alloc(), words, place)?;
+        for piece in [1, 100] {
+            let devices = Devices { piece, ..SOUND };
+            check_verified(rt, host, more.as_slice(), text, devices, told, status);
+        }
+    }
+    Ok(())
 }
 
 // With `--any-size` the lines are the same, wherever it stands among the words.
 #[test]
 fn games_of_any_size_by_words(rt: HostRuntime) -> Result<(), Fail> {
     for (words, text, told, status) in &BY_WORDS {
-        for place in 1..=words.len() {
-            let (front, back) = words.split_at_checked(place).ok_or("a place")?;
-            let mut more = Vec::new(rt.alloc());
-            more.extend_from_slice(front)?;
-            more.push("--any-size")?;
-            more.extend_from_slice(back)?;
-            for piece in [1, 100] {
-                let outcome = run(&rt, more.as_slice(), text, Devices { piece, ..SOUND });
-                assert_eq!(rt; outcome.output.as_slice(), *told);
-                assert_eq!(rt; outcome.errors.as_slice(), b"".as_slice());
-                assert_eq!(rt; outcome.status, *status);
-            }
-        }
+        check_any_size(&rt, &rt, words, text, told, *status)?;
     }
     Ok(())
 }
@@ -253,11 +291,16 @@ fn games_of_any_size(rt: HostRuntime) {
         taken: 5,
         ..SOUND
     };
-    for (text, told, wanted) in &GAMES {
-        let outcome = run(&rt, &["verify", "--any-size"], text, devices);
-        assert_eq!(rt; outcome.output.as_slice(), *told);
-        assert_eq!(rt; outcome.errors.as_slice(), b"".as_slice());
-        assert_eq!(rt; outcome.status, *wanted);
+    for (text, told, status) in &GAMES {
+        check_verified(
+            &rt,
+            &rt,
+            &["verify", "--any-size"],
+            text,
+            devices,
+            told,
+            *status,
+        );
     }
 }
 
@@ -361,15 +404,13 @@ const LONG: [(&[&str], &[u8], usize, &[u8], &[u8], u8); 7] = [
 #[test]
 fn games_with_long_comments(rt: HostRuntime) {
     for (words, front, inner, back, told, status) in &LONG {
-        let mut input = Counted::reading(LongComment {
+        let comment = LongComment {
             front,
             inner: *inner,
             back,
-        });
-        let mut output = Counted::writing(Vec::<u8>::new(rt.alloc()));
-        let mut errors = Counted::writing(Vec::<u8>::new(rt.alloc()));
-        let ended = run_program(&rt, rt.alloc(), words, &mut input, &mut output, &mut errors);
-        assert_eq!(rt; output.writer().as_slice(), *told);
-        assert_eq!(rt; ended, *status);
+        };
+        let outcome = run_on(&rt, words, comment);
+        assert_eq!(rt; outcome.output.as_slice(), *told);
+        assert_eq!(rt; outcome.status, *status);
     }
 }
