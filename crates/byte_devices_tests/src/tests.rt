@@ -22,6 +22,21 @@ fn gives<R: Input>(rt: &impl Abort, input: &mut R, piece: Result<&[u8], ReadFaul
     }
 }
 
+// Puts a text, which is to be answered so.
+fn puts<W: Output>(rt: &impl Abort, output: &mut W, text: &[u8], wanted: Result<(), WriteFault>) {
+    assert_eq!(rt; put(output, text), wanted, "put {text:?}");
+}
+
+// Flushes an output, which is to be answered so.
+fn is_flushed<W: Output>(rt: &impl Abort, output: &mut W, wanted: Result<(), WriteFault>) {
+    assert_eq!(rt; output.flush(), wanted);
+}
+
+// The bytes that were taken are these.
+fn is_taken(rt: &impl Abort, bytes: &[u8], wanted: &[u8]) {
+    assert_eq!(rt; bytes, wanted);
+}
+
 #[test]
 fn healthy_devices_never_fail(rt: HostRuntime) -> Result<(), Fail> {
     let mut input = Counted::reading(TEXT);
@@ -29,17 +44,14 @@ fn healthy_devices_never_fail(rt: HostRuntime) -> Result<(), Fail> {
     gives(&rt, &mut input, Ok(b""));
     gives(&rt, &mut input, Ok(b""));
     let mut output = Counted::writing(Vec::new(rt.alloc()));
-    assert_eq!(rt; put(&mut output, TEXT), Ok(()));
-    assert_eq!(rt; put(&mut output, b""), Ok(()));
+    puts(&rt, &mut output, TEXT, Ok(()));
+    puts(&rt, &mut output, b"", Ok(()));
     assert_eq!(rt; output.write(b""), Ok(0));
-    assert_eq!(rt; output.flush(), Ok(()));
-    assert_eq!(rt; output.writer().as_slice(), TEXT);
+    is_flushed(&rt, &mut output, Ok(()));
+    is_taken(&rt, output.writer().as_slice(), TEXT);
     let parts = [b"pong ".as_slice(), b"7", b"", b"\n"];
     assert_eq!(rt; put_parts(&mut output, &parts), Ok(()));
-    assert_eq!(rt;
-        output.into_writer().as_slice(),
-        b"new\ne2e4\npong 7\n".as_slice()
-    );
+    is_taken(&rt, output.into_writer().as_slice(), b"new\ne2e4\npong 7\n");
     Ok(())
 }
 
@@ -61,11 +73,11 @@ fn one_call_fails_and_the_next_goes_on(rt: HostRuntime) {
     gives(&rt, &mut input, Err(ReadFault));
     gives(&rt, &mut input, Ok(b"e2e4"));
     let mut output = Counted::writing(PieceWriter::new(rt.alloc(), 16, 2));
-    assert_eq!(rt; put(&mut output, b"new\n"), Ok(()));
-    assert_eq!(rt; output.flush(), Err(WriteFault));
-    assert_eq!(rt; output.flush(), Ok(()));
-    assert_eq!(rt; put(&mut output, b"e2e4"), Ok(()));
-    assert_eq!(rt; output.writer().bytes.as_slice(), b"new\ne2e4".as_slice());
+    puts(&rt, &mut output, b"new\n", Ok(()));
+    is_flushed(&rt, &mut output, Err(WriteFault));
+    is_flushed(&rt, &mut output, Ok(()));
+    puts(&rt, &mut output, b"e2e4", Ok(()));
+    is_taken(&rt, output.writer().bytes.as_slice(), b"new\ne2e4");
 }
 
 const PARTS: [&[u8]; 3] = [b"pong ", b"7", b"\n"];
@@ -86,7 +98,7 @@ fn parts_break_off_where_a_write_fails(rt: HostRuntime) {
         let mut output = Counted::writing(PieceWriter::new(rt.alloc(), *cut, *fails_at));
         let answer = put_parts(&mut output, &PARTS);
         assert_eq!(rt; answer.is_ok(), *is_put, "cut {cut}, fails at {fails_at}");
-        assert_eq!(rt; output.writer().bytes.as_slice(), *taken);
+        is_taken(&rt, output.writer().bytes.as_slice(), taken);
     }
 }
 
@@ -236,10 +248,10 @@ fn gate_opens_at_each_flush_for_one_line(rt: HostRuntime) {
         match step {
             Step::Gives(line) => gives(&rt, &mut input, Ok(line)),
             Step::IsEarly => gives(&rt, &mut input, Err(ReadFault)),
-            Step::Takes(bytes) => assert_eq!(rt; put(&mut output, bytes), Ok(())),
-            Step::Flushes => assert_eq!(rt; output.flush(), Ok(())),
+            Step::Takes(bytes) => puts(&rt, &mut output, bytes, Ok(())),
+            Step::Flushes => is_flushed(&rt, &mut output, Ok(())),
         }
     }
     assert_eq!(rt; input.reader().early, 4);
-    assert_eq!(rt; output.writer().bytes.as_slice(), b"pong 1\nx".as_slice());
+    is_taken(&rt, output.writer().bytes.as_slice(), b"pong 1\nx");
 }

@@ -11,6 +11,7 @@ use chess_moves::{Board, Plain};
 use chess_pgn::Tags;
 use std::alloc::{AllocError, Global};
 use std::cell::Cell;
+use std::io::{Read, Write};
 use std::process::Abort;
 use std::test::Fail;
 
@@ -22,7 +23,7 @@ struct Run {
 }
 
 // The worked rows, and what stands beside them.
-const RUNS: [Run; 33] = [
+const RUNS: &[Run] = &[
     Run {
         input: b"new\ne2e4\nping 7\nundo\nshowfen\nquit\nshowfen\n",
         answers: b"pong 7\n# fen rnbqkbnr/pppppppp/8/8/8/8/PPPPPPPP/RNBQKBNR w KQkq - 0 1\n",
@@ -216,7 +217,7 @@ const RUNS: [Run; 33] = [
 ];
 
 // Moves in all forms; games to their ends: verdicts, claims, declared results.
-const GAMES: [Run; 19] = [
+const GAMES: &[Run] = &[
     // Games as PGN.
     Run {
         input: b"new\nf2f3\ne7e5\ng2g4\nd8h4\nshowpgn\nsetboard 4k3/8/8/8/1b6/2N5/8/4K1N1 w - - 0 1\ng1e2\nshowpgn now\nsetboard 4k3/8/8/8/8/8/4p3/K7 b - - 0 1\ne2e1q\nshowpgn\n",
@@ -341,6 +342,18 @@ fn open(alloc: Global, limit: u32) -> Result<Session<Plain>, AllocError>
     Session::open(alloc, Plain::new(), Plain::new(), Tags::default(), limit)
 }
 
+// Runs a session, which ends so.
+fn ends_so<R: Read, W: Write>(
+    rt: &impl Abort,
+    session: &mut Session<Plain>,
+    reader: &mut Counted<R>,
+    writer: &mut Counted<W>,
+    end: Result<End, Fault>,
+) {
+    let ended = run_session(reader, writer, session);
+    assert_eq!(rt; ended, end);
+}
+
 // Runs a session of `limit` half-moves on an input in pieces, where calls of the devices fail.
 fn check(
     rt: &impl Abort,
@@ -350,8 +363,7 @@ fn check(
     answers: &[u8],
     end: Result<End, Fault>,
 ) {
-    let ended = run_session(&mut reader, &mut writer, &mut session);
-    assert_eq!(rt; ended, end);
+    ends_so(rt, &mut session, &mut reader, &mut writer, end);
     assert_eq!(rt; writer.writer().bytes.as_slice(), answers);
 }
 
@@ -378,17 +390,29 @@ fn check_run(rt: &impl Abort, alloc: Global, run: &Run, cut: usize) -> Result<()
     Ok(())
 }
 
+// Runs a session on an input in pieces of each of these lengths.
+fn check_cuts(rt: &impl Abort, alloc: Global, run: &Run, cuts: &[usize]) -> Result<(), Fail> {
+    for cut in cuts {
+        check_run(rt, alloc, run, *cut)?;
+    }
+    Ok(())
+}
+
+// Runs a session on an input in pieces of each length from 4 up to its own.
+fn check_longer_cuts(rt: &impl Abort, alloc: Global, run: &Run) -> Result<(), Fail> {
+    for cut in 4..=run.input.len() {
+        check_run(rt, alloc, run, cut)?;
+    }
+    Ok(())
+}
+
 // Short runs in pieces of each length, long ones in pieces of some.
 #[test]
 fn runs_however_they_are_cut(rt: HostRuntime) -> Result<(), Fail> {
-    for run in &RUNS {
-        for cut in [1, 2, 3, 7, 20, 1024] {
-            check_run(&rt, rt.alloc(), run, cut)?;
-        }
+    for run in RUNS {
+        check_cuts(&rt, rt.alloc(), run, &[1, 2, 3, 7, 20, 1024])?;
         if run.input.len() <= 40 {
-            for cut in 4..=run.input.len() {
-                check_run(&rt, rt.alloc(), run, cut)?;
-            }
+            check_longer_cuts(&rt, rt.alloc(), run)?;
         }
     }
     Ok(())
@@ -396,10 +420,8 @@ fn runs_however_they_are_cut(rt: HostRuntime) -> Result<(), Fail> {
 
 #[test]
 fn games_in_pieces(rt: HostRuntime) -> Result<(), Fail> {
-    for run in &GAMES {
-        for cut in [1, 2, 3, 1024] {
-            check_run(&rt, rt.alloc(), run, cut)?;
-        }
+    for run in GAMES {
+        check_cuts(&rt, rt.alloc(), run, &[1, 2, 3, 1024])?;
     }
     Ok(())
 }
@@ -479,20 +501,42 @@ fn a_write_that_fails_at_each_place(rt: HostRuntime) -> Result<(), Fail> {
     Ok(())
 }
 
+// A position is that after 1. e4.
+fn is_after_e4(rt: &impl Abort, position: &Position) {
+    assert_eq!(rt; position.at(Square::new(12)), None);
+    assert_eq!(rt;
+        write_fen(position).as_slice(),
+        b"rnbqkbnr/pppppppp/8/8/4P3/8/PPPP1PPP/RNBQKBNR b KQkq e3 0 1".as_slice()
+    );
+}
+
 #[test]
 fn a_move_stands_where_writing_breaks_off(rt: HostRuntime) -> Result<(), Fail> {
     let mut session = open(rt.alloc(), 100)?;
     let mut reader = pieces(b"e2e4\nshowfen\n", 100, 0);
     let mut writer = taking(rt.alloc(), 3, 3);
-    let ended = run_session(&mut reader, &mut writer, &mut session);
-    assert_eq!(rt; ended, Err(Fault::Write));
-    assert_eq!(rt; writer.writer().bytes.as_slice(), b"# f".as_slice());
-    let position = session.position();
-    assert_eq!(rt; position.at(Square::new(12)), None);
-    assert_eq!(rt;
-        write_fen(&position).as_slice(),
-        b"rnbqkbnr/pppppppp/8/8/4P3/8/PPPP1PPP/RNBQKBNR b KQkq e3 0 1".as_slice()
+    ends_so(
+        &rt,
+        &mut session,
+        &mut reader,
+        &mut writer,
+        Err(Fault::Write),
     );
+    assert_eq!(rt; writer.writer().bytes.as_slice(), b"# f".as_slice());
+    is_after_e4(&rt, &session.position());
+    Ok(())
+}
+
+// Runs a session on an input that comes through a gate.
+fn check_gated(rt: &impl Abort, alloc: Global, input: &[u8], end: End) -> Result<(), Fail> {
+    let gate = Cell::new(true);
+    let mut reader = Counted::reading(GatedReader::new(input, &gate));
+    let mut writer = Counted::writing(GatedWriter::new(alloc, &gate));
+    let mut session = open(alloc, 1)?;
+    ends_so(rt, &mut session, &mut reader, &mut writer, Ok(end));
+    assert_eq!(rt; reader.reader().early, 0);
+    assert!(rt; writer.writer().bytes.ends_with(b"\npong 2\n"));
+    assert_eq!(rt; gate.get(), end == End::Quit);
     Ok(())
 }
 
@@ -500,22 +544,18 @@ fn a_move_stands_where_writing_breaks_off(rt: HostRuntime) -> Result<(), Fail> {
 // for, a silent one and that to `showpgn` too, and nothing is left unflushed.
 #[test]
 fn an_answer_is_flushed_before_more_is_read(rt: HostRuntime) -> Result<(), Fail> {
-    let ends: [(&[u8], End); 2] = [(b"quit\n", End::Quit), (b"", End::InputEnded)];
-    for (last, end) in ends {
-        let mut input = Vec::new(rt.alloc());
-        input.extend_from_slice(b"ping 1\nnew\nshowpgn\ne2e4\nx\nshowpgn\nping 2\n")?;
-        input.extend_from_slice(last)?;
-        let gate = Cell::new(true);
-        let mut reader = Counted::reading(GatedReader::new(input.as_slice(), &gate));
-        let mut writer = Counted::writing(GatedWriter::new(rt.alloc(), &gate));
-        let mut session = open(rt.alloc(), 1)?;
-        let ended = run_session(&mut reader, &mut writer, &mut session);
-        assert_eq!(rt; ended, Ok(end));
-        assert_eq!(rt; reader.reader().early, 0);
-        assert!(rt; writer.writer().bytes.ends_with(b"\npong 2\n"));
-        assert_eq!(rt; gate.get(), end == End::Quit);
-    }
-    Ok(())
+    check_gated(
+        &rt,
+        rt.alloc(),
+        b"ping 1\nnew\nshowpgn\ne2e4\nx\nshowpgn\nping 2\nquit\n",
+        End::Quit,
+    )?;
+    check_gated(
+        &rt,
+        rt.alloc(),
+        b"ping 1\nnew\nshowpgn\ne2e4\nx\nshowpgn\nping 2\n",
+        End::InputEnded,
+    )
 }
 
 // The whole text of a game is taken by one write, and then the flush fails.
@@ -524,8 +564,13 @@ fn the_flush_behind_a_game_may_fail(rt: HostRuntime) -> Result<(), Fail> {
     let mut session = open(rt.alloc(), 1)?;
     let mut reader = pieces(b"showpgn\nping 1\n", 100, 0);
     let mut writer = taking(rt.alloc(), 9000, 2);
-    let ended = run_session(&mut reader, &mut writer, &mut session);
-    assert_eq!(rt; ended, Err(Fault::Write));
+    ends_so(
+        &rt,
+        &mut session,
+        &mut reader,
+        &mut writer,
+        Err(Fault::Write),
+    );
     assert!(rt; writer.writer().bytes.ends_with(b"# *\n# \n"));
     assert_eq!(rt; writer.writer().calls, 2);
     Ok(())
@@ -568,70 +613,100 @@ fn lines_of_1024_bytes_and_more(rt: HostRuntime) -> Result<(), Fail> {
     Ok(())
 }
 
+// The next line is this one: its text, and whether a line's end stands behind it.
+fn next_is(
+    rt: &impl Abort,
+    lines: &mut Lines<64>,
+    reader: &mut Counted<PieceReader<'_>>,
+    name: &'static str,
+    text: &[u8],
+    is_ended: bool,
+) -> Result<(), Fail> {
+    let Ok(Some(line)) = lines.next(reader) else {
+        return Err(Fail::from(name));
+    };
+    assert_eq!(rt; line.text(), text);
+    assert!(rt; line.is_ended() == is_ended && !line.is_too_long());
+    Ok(())
+}
+
 #[test]
 fn what_was_read_stays_after_a_fault(rt: HostRuntime) -> Result<(), Fail> {
     let mut reader = pieces(b" ab \r\ncd", 3, 2);
     let mut lines: Lines<64> = Lines::new();
     assert!(rt; lines.next(&mut reader).is_err());
-    let Ok(Some(line)) = lines.next(&mut reader) else {
-        return Err(Fail::from("a line"));
-    };
-    assert_eq!(rt; line.text(), b"ab".as_slice());
-    assert!(rt; line.is_ended() && !line.is_too_long());
-    let Ok(Some(last)) = lines.next(&mut reader) else {
-        return Err(Fail::from("a last line"));
-    };
-    assert_eq!(rt; last.text(), b"cd".as_slice());
-    assert!(rt; !last.is_ended());
+    next_is(&rt, &mut lines, &mut reader, "a line", b"ab", true)?;
+    next_is(&rt, &mut lines, &mut reader, "a last line", b"cd", false)?;
     assert!(rt; matches!(&lines.next(&mut reader), Ok(None)));
     Ok(())
 }
 
+const COMMANDS: &[(&[u8], Command)] = &[
+    (b"", Command::Silent),
+    (b"new game", Command::New),
+    (b"usermove\te7e8q", Command::UserMove),
+    (b"e7e8q", Command::BareMove),
+    (b"undo", Command::Undo),
+    (b"ping 000000012", Command::Ping(12)),
+    (b"ping -1", Command::BadNumber),
+    (b"showfen", Command::ShowFen),
+    (b"showmoves", Command::ShowMoves),
+    (b"setboard", Command::SetBoard),
+    (b"protover 2", Command::Protover(2)),
+    (b"variant normal", Command::Variant),
+    (b"go", Command::Go),
+    (b"xboard", Command::Silent),
+    (b"?", Command::Silent),
+    (b"quit", Command::Quit),
+    (b"newgame", Command::Unknown),
+];
+
 #[test]
 fn commands_are_told_by_their_first_word(rt: HostRuntime) {
-    let commands: [(&[u8], Command); 16] = [
-        (b"", Command::Silent),
-        (b"new game", Command::New),
-        (b"usermove\te7e8q", Command::UserMove),
-        (b"e7e8q", Command::BareMove),
-        (b"undo", Command::Undo),
-        (b"ping 000000012", Command::Ping(12)),
-        (b"ping -1", Command::BadNumber),
-        (b"showfen", Command::ShowFen),
-        (b"showmoves", Command::ShowMoves),
-        (b"setboard", Command::SetBoard),
-        (b"protover 2", Command::Protover(2)),
-        (b"variant normal", Command::Variant),
-        (b"go", Command::Go),
-        (b"xboard", Command::Silent),
-        (b"?", Command::Silent),
-        (b"quit", Command::Quit),
-    ];
-    for (text, command) in commands {
-        assert_eq!(rt; read_command(text), command);
+    for (text, command) in COMMANDS {
+        assert_eq!(rt; read_command(text), *command);
     }
-    assert_eq!(rt; read_command(b"newgame"), Command::Unknown);
 }
 
-// The numbers of legal moves in four well-known test positions.
+// Four well-known test positions, and how the answer begins that counts their legal moves.
+const POSITIONS: &[(&[u8], &[u8])] = &[
+    (
+        b"setboard r3k2r/p1ppqpb1/bn2pnp1/3PN3/1p2P3/2N2Q1p/PPPBBPPP/R3K2R w KQkq - 0 1\nshowmoves\n",
+        b"# moves 48 ",
+    ),
+    (
+        b"setboard 8/2p5/3p4/KP5r/1R3p1k/8/4P1P1/8 w - - 0 1\nshowmoves\n",
+        b"# moves 14 ",
+    ),
+    (
+        b"setboard r3k2r/Pppp1ppp/1b3nbN/nP6/BBP1P3/q4N2/Pp1P2PP/R2Q1RK1 w kq - 0 1\nshowmoves\n",
+        b"# moves 6 ",
+    ),
+    (
+        b"setboard rnbq1k1r/pp1Pbppp/2p5/8/2B5/8/PPP1NnPP/RNBQK2R w KQ - 1 8\nshowmoves\n",
+        b"# moves 44 ",
+    ),
+];
+
+// Runs a session on an input, whose answers begin so.
+fn answers_begin(
+    rt: &impl Abort,
+    alloc: Global,
+    session: &mut Session<Plain>,
+    input: &[u8],
+    start: &[u8],
+) {
+    let mut reader = pieces(input, 1000, 0);
+    let mut writer = taking(alloc, 1000, 0);
+    ends_so(rt, session, &mut reader, &mut writer, Ok(End::InputEnded));
+    assert!(rt; writer.writer().bytes.starts_with(start));
+}
+
 #[test]
 fn moves_of_test_positions_are_counted(rt: HostRuntime) -> Result<(), Fail> {
-    let input =
-        b"setboard r3k2r/p1ppqpb1/bn2pnp1/3PN3/1p2P3/2N2Q1p/PPPBBPPP/R3K2R w KQkq - 0 1\nshowmoves\nsetboard 8/2p5/3p4/KP5r/1R3p1k/8/4P1P1/8 w - - 0 1\nshowmoves\nsetboard r3k2r/Pppp1ppp/1b3nbN/nP6/BBP1P3/q4N2/Pp1P2PP/R2Q1RK1 w kq - 0 1\nshowmoves\nsetboard rnbq1k1r/pp1Pbppp/2p5/8/2B5/8/PPP1NnPP/RNBQK2R w KQ - 1 8\nshowmoves\n";
     let mut session = open(rt.alloc(), 100)?;
-    let mut reader = pieces(input, 1000, 0);
-    let mut writer = taking(rt.alloc(), 1000, 0);
-    let ended = run_session(&mut reader, &mut writer, &mut session);
-    assert_eq!(rt; ended, Ok(End::InputEnded));
-    let counts: [&[u8]; 4] = [
-        b"# moves 48 ",
-        b"# moves 14 ",
-        b"# moves 6 ",
-        b"# moves 44 ",
-    ];
-    let answers = writer.writer().bytes.as_slice();
-    for (line, count) in answers.split(|byte| *byte == b'\n').zip(counts) {
-        assert!(rt; line.starts_with(count));
+    for (input, start) in POSITIONS {
+        answers_begin(&rt, rt.alloc(), &mut session, input, start);
     }
     Ok(())
 }

@@ -1,38 +1,13 @@
+use crate::plays::{Listed, is_fault, is_text, play_over, setup_of};
 use byte_devices::{Counted, PieceReader, PieceWriter};
 use chess_base::{Colour, Position};
 use chess_fen::read_fen;
-use chess_game::Game;
-use chess_match::{Ends, MatchFault, Moments, Setup, run_match};
-use chess_moves::Plain;
-use engine_lines::Level;
+use chess_match::{Ends, MatchFault, Moments};
 use std::alloc::Global;
 use std::cell::Cell;
 use std::io::{Error, ErrorKind, Read, Write};
 use std::process::Abort;
 use std::test::Fail;
-
-/// Moments in a list, and then zeros.
-#[derive(Drop)]
-struct Listed<'a> {
-    rest: &'a [u64],
-}
-
-impl Moments for Listed<'_> {
-    ghost use Rattle.std.specs.Prelude.{None};
-
-    ghost coming = { λ m n. None };
-
-    fn now(&mut self) -> u64 {
-        match self.rest {
-            [] => 0,
-            [first, behind @ ..] => {
-                let moment = *first;
-                self.rest = behind;
-                moment
-            }
-        }
-    }
-}
 
 /// A match: its level and start, what the engines say, the moments, and what the engines are sent.
 struct Row {
@@ -45,22 +20,28 @@ struct Row {
     to_black: &'static [u8],
 }
 
-const ROWS: [Row; 12] = [
-    Row {
-        level: b"0 0:10 0",
-        start: b"",
-        white: b"feature ping=1 usermove=1 done=1\npong 1\nmove f2f3\npong 2\nmove g2g4\npong 3\n",
-        black: b"feature ping=1 done=1\npong 1\nmove e7e5\npong 2\nmove d8h4\n",
-        moments: &[0, 0, 0, 0, 0, 0, 0, 0, 0, 0, 0, 0, 0, 0, 0],
-        to_white: b"xboard\nprotover 2\naccepted ping\naccepted usermove\naccepted done\nnew\nlevel 0 0:10 0\nnopost\neasy\nforce\nping 1\ntime 1000\notim 1000\ngo\nping 2\ntime 1000\notim 1000\nusermove e7e5\nping 3\nusermove d8h4\nresult 0-1 {Black mates}\nquit\n",
-        to_black: b"xboard\nprotover 2\naccepted ping\naccepted done\nnew\nlevel 0 0:10 0\nnopost\neasy\nforce\nping 1\nf2f3\ntime 1000\notim 1000\ngo\nping 2\ntime 1000\notim 1000\ng2g4\nresult 0-1 {Black mates}\nquit\n",
-    },
+// What Black is sent in the first match, and where the end lines to White fail.
+const MATE_TO_BLACK: &[u8] =
+    b"xboard\nprotover 2\naccepted ping\naccepted done\nnew\nlevel 0 0:10 0\nnopost\neasy\nforce\nping 1\nf2f3\ntime 1000\notim 1000\ngo\nping 2\ntime 1000\notim 1000\ng2g4\nresult 0-1 {Black mates}\nquit\n";
+
+const FOOLS_MATE: Row = Row {
+    level: b"0 0:10 0",
+    start: b"",
+    white: b"feature ping=1 usermove=1 done=1\npong 1\nmove f2f3\npong 2\nmove g2g4\npong 3\n",
+    black: b"feature ping=1 done=1\npong 1\nmove e7e5\npong 2\nmove d8h4\n",
+    moments: &[0; 15],
+    to_white: b"xboard\nprotover 2\naccepted ping\naccepted usermove\naccepted done\nnew\nlevel 0 0:10 0\nnopost\neasy\nforce\nping 1\ntime 1000\notim 1000\ngo\nping 2\ntime 1000\notim 1000\nusermove e7e5\nping 3\nusermove d8h4\nresult 0-1 {Black mates}\nquit\n",
+    to_black: MATE_TO_BLACK,
+};
+
+const ROWS: &[Row] = &[
+    FOOLS_MATE,
     Row {
         level: b"0 0:10 0",
         start: b"",
         white: b"feature ping=1 usermove=1 done=1\npong 1\nmove e2e5\n",
         black: b"feature ping=1 done=1\npong 1\n",
-        moments: &[0, 0, 0, 0, 0, 0],
+        moments: &[0; 6],
         to_white: b"xboard\nprotover 2\naccepted ping\naccepted usermove\naccepted done\nnew\nlevel 0 0:10 0\nnopost\neasy\nforce\nping 1\ntime 1000\notim 1000\ngo\nresult 0-1 {White makes an illegal move}\nquit\n",
         to_black: b"xboard\nprotover 2\naccepted ping\naccepted done\nnew\nlevel 0 0:10 0\nnopost\neasy\nforce\nping 1\nresult 0-1 {White makes an illegal move}\nquit\n",
     },
@@ -69,9 +50,7 @@ const ROWS: [Row; 12] = [
         start: b"",
         white: b"feature ping=1 done=1\npong 1\nmove g1f3\npong 2\nmove f3g1\npong 3\nmove g1f3\npong 4\nmove f3g1\npong 5\n",
         black: b"feature ping=1 done=1\npong 1\nmove g8f6\npong 2\nmove f6g8\n1/2-1/2 {Draw by repetition}\npong 3\nmove g8f6\npong 4\nmove f6g8\n1/2-1/2 {Draw by repetition}\n",
-        moments: &[
-            0, 0, 0, 0, 0, 0, 0, 0, 0, 0, 0, 0, 0, 0, 0, 0, 0, 0, 0, 0, 0, 0, 0, 0, 0, 0, 0, 0, 0,
-        ],
+        moments: &[0; 29],
         to_white: b"xboard\nprotover 2\naccepted ping\naccepted done\nnew\nlevel 0 0:10 0\nnopost\neasy\nforce\nping 1\ntime 1000\notim 1000\ngo\nping 2\ntime 1000\notim 1000\ng8f6\nping 3\ndraw\ntime 1000\notim 1000\nf6g8\nping 4\ntime 1000\notim 1000\ng8f6\nping 5\nf6g8\nresult 1/2-1/2 {Threefold repetition}\nquit\n",
         to_black: b"xboard\nprotover 2\naccepted ping\naccepted done\nnew\nlevel 0 0:10 0\nnopost\neasy\nforce\nping 1\ng1f3\ntime 1000\notim 1000\ngo\nping 2\ntime 1000\notim 1000\nf3g1\nping 3\ntime 1000\notim 1000\ng1f3\nping 4\ntime 1000\notim 1000\nf3g1\nping 5\nresult 1/2-1/2 {Threefold repetition}\nquit\n",
     },
@@ -118,7 +97,7 @@ const ROWS: [Row; 12] = [
         start: b"",
         white: b"feature ping=1 foo=\"a b\" sigint=x san=1\nfeature done=1\n",
         black: b"feature done=1\n",
-        moments: &[0, 0, 0],
+        moments: &[0; 3],
         to_white: b"xboard\nprotover 2\naccepted ping\nrejected foo\naccepted done\nresult * {Black has no ping}\nquit\n",
         to_black: b"xboard\nprotover 2\naccepted done\nresult * {Black has no ping}\nquit\n",
     },
@@ -127,7 +106,7 @@ const ROWS: [Row; 12] = [
         start: b"",
         white: b"feature ping=1 usermove=1 done=1\npong 1\nmove f2f3\npong 2\noffer draw\n",
         black: b"feature ping=1 done=1\npong 1\noffer draw\nmove e7e5\npong 2\n",
-        moments: &[0, 0, 0, 0, 0, 0, 0, 0, 0, 0, 0, 0, 0],
+        moments: &[0; 13],
         to_white: b"xboard\nprotover 2\naccepted ping\naccepted usermove\naccepted done\nnew\nlevel 0 0:10 0\nnopost\neasy\nforce\nping 1\ntime 1000\notim 1000\ngo\nping 2\ndraw\ntime 1000\notim 1000\nusermove e7e5\nresult 1/2-1/2 {Draw agreed}\nquit\n",
         to_black: b"xboard\nprotover 2\naccepted ping\naccepted done\nnew\nlevel 0 0:10 0\nnopost\neasy\nforce\nping 1\nf2f3\ntime 1000\notim 1000\ngo\nping 2\nresult 1/2-1/2 {Draw agreed}\nquit\n",
     },
@@ -136,7 +115,7 @@ const ROWS: [Row; 12] = [
         start: b"",
         white: b"feature ping=1 usermove=1 done=1\npong 1\nmove f2f3\nmove g2g4\n",
         black: b"feature ping=1 done=1\npong 1\n",
-        moments: &[0, 0, 0, 0, 0, 0, 0],
+        moments: &[0; 7],
         to_white: b"xboard\nprotover 2\naccepted ping\naccepted usermove\naccepted done\nnew\nlevel 0 0:10 0\nnopost\neasy\nforce\nping 1\ntime 1000\notim 1000\ngo\nping 2\nresult 0-1 {White moves out of turn}\nquit\n",
         to_black: b"xboard\nprotover 2\naccepted ping\naccepted done\nnew\nlevel 0 0:10 0\nnopost\neasy\nforce\nping 1\nf2f3\nresult 0-1 {White moves out of turn}\nquit\n",
     },
@@ -145,7 +124,7 @@ const ROWS: [Row; 12] = [
         start: b"",
         white: b"feature ping=1 usermove=1 done=1\npong 1\nmove f2f3\npong 2\n",
         black: b"feature ping=1 done=1\npong 1\n0-1 {mate}\n",
-        moments: &[0, 0, 0, 0, 0, 0, 0, 0, 0],
+        moments: &[0; 9],
         to_white: b"xboard\nprotover 2\naccepted ping\naccepted usermove\naccepted done\nnew\nlevel 0 0:10 0\nnopost\neasy\nforce\nping 1\ntime 1000\notim 1000\ngo\nping 2\nresult 1-0 {Black makes a false claim}\nquit\n",
         to_black: b"xboard\nprotover 2\naccepted ping\naccepted done\nnew\nlevel 0 0:10 0\nnopost\neasy\nforce\nping 1\nf2f3\ntime 1000\notim 1000\ngo\nresult 1-0 {Black makes a false claim}\nquit\n",
     },
@@ -170,130 +149,138 @@ fn ends(alloc: Global, bytes: &[u8], cut: usize, read: u64, write: u64) -> TestE
     }
 }
 
-// The first row over devices that may fail. The fault at the end, and what both took.
-fn broken<'a>(
+// What two engines were sent.
+fn are_sent(
     rt: &impl Abort,
-    alloc: Global,
-    mut white: TestEnds<'a>,
-    mut black: TestEnds<'a>,
-    fault: Option<(Colour, MatchFault)>,
+    white: &TestEnds<'_>,
+    black: &TestEnds<'_>,
     to_white: &[u8],
     to_black: &[u8],
-) -> Result<(), Fail> {
-    let level = match Level::read(ROWS[0].level) {
-        Some(level) => level,
-        None => panic!(rt; "level"),
-    };
-    let setup = Setup {
-        start: Position::initial(),
-        level,
-    };
-    let mut game = Game::open(alloc, Plain::new(), 100)?;
-    let mut scratch = Plain::new();
-    let mut moments = Listed { rest: &[] };
-    let end = run_match(
-        &mut white,
-        &mut black,
-        &mut moments,
-        &setup,
-        &mut game,
-        &mut scratch,
+) {
+    is_text(
+        rt,
+        "to White",
+        white.writer.writer().bytes.as_slice(),
+        to_white,
     );
-    assert_eq!(rt; end.fault, fault);
-    assert_eq!(rt; white.writer.writer().bytes.as_slice(), to_white);
-    assert_eq!(rt; black.writer.writer().bytes.as_slice(), to_black);
+    is_text(
+        rt,
+        "to Black",
+        black.writer.writer().bytes.as_slice(),
+        to_black,
+    );
+}
+
+/// Calls of the devices that fail in the first match, 0 for none: the fault, and what both engines are sent.
+struct Broken {
+    white_read: u64,
+    white_write: u64,
+    black_write: u64,
+    fault: (Colour, MatchFault),
+    to_white: &'static [u8],
+    to_black: &'static [u8],
+}
+
+const BROKEN: &[Broken] = &[
+    Broken {
+        white_read: 1,
+        white_write: 0,
+        black_write: 0,
+        fault: (Colour::White, MatchFault::Read),
+        to_white: b"xboard\nprotover 2\nresult * {White can not be read}\nquit\n",
+        to_black: b"result * {White can not be read}\nquit\n",
+    },
+    Broken {
+        white_read: 0,
+        white_write: 0,
+        black_write: 1,
+        fault: (Colour::Black, MatchFault::Write),
+        to_white: b"xboard\nprotover 2\naccepted ping\naccepted usermove\naccepted done\nresult * {Black can not be written}\nquit\n",
+        to_black: b"",
+    },
+    Broken {
+        white_read: 0,
+        white_write: 1,
+        black_write: 0,
+        fault: (Colour::White, MatchFault::Write),
+        to_white: b"",
+        to_black: b"result * {White can not be written}\nquit\n",
+    },
+    // White's fourth call is the flush of its answers: the block was taken.
+    Broken {
+        white_read: 0,
+        white_write: 4,
+        black_write: 0,
+        fault: (Colour::White, MatchFault::Write),
+        to_white: b"xboard\nprotover 2\naccepted ping\naccepted usermove\naccepted done\n",
+        to_black: b"result * {White can not be written}\nquit\n",
+    },
+    // The end lines to White fail: the outcome stands, and Black has all of its row.
+    Broken {
+        white_read: 0,
+        white_write: 15,
+        black_write: 0,
+        fault: (Colour::White, MatchFault::Write),
+        to_white: b"xboard\nprotover 2\naccepted ping\naccepted usermove\naccepted done\nnew\nlevel 0 0:10 0\nnopost\neasy\nforce\nping 1\ntime 1000\notim 1000\ngo\nping 2\ntime 1000\notim 1000\nusermove e7e5\nping 3\n",
+        to_black: MATE_TO_BLACK,
+    },
+];
+
+// Plays the first match over devices that fail so.
+fn breaks(rt: &impl Abort, alloc: Global, broken: &Broken) -> Result<(), Fail> {
+    let row = &FOOLS_MATE;
+    let setup = setup_of(rt, row.level, Position::initial());
+    let mut white = ends(
+        alloc,
+        row.white,
+        1024,
+        broken.white_read,
+        broken.white_write,
+    );
+    let mut black = ends(alloc, row.black, 1024, 0, broken.black_write);
+    let mut moments = Listed { rest: &[] };
+    let (end, _) = play_over(alloc, &mut white, &mut black, &mut moments, &setup)?;
+    is_fault(rt, end.fault, Some(broken.fault));
+    are_sent(rt, &white, &black, broken.to_white, broken.to_black);
     Ok(())
 }
 
 #[test]
 fn devices_that_fail(rt: HostRuntime) -> Result<(), Fail> {
-    let row = &ROWS[0];
-    broken(
-        &rt,
-        rt.alloc(),
-        ends(rt.alloc(), row.white, 1024, 1, 0),
-        ends(rt.alloc(), row.black, 1024, 0, 0),
-        Some((Colour::White, MatchFault::Read)),
-        b"xboard\nprotover 2\nresult * {White can not be read}\nquit\n",
-        b"result * {White can not be read}\nquit\n",
-    )?;
-    broken(
-        &rt,
-        rt.alloc(),
-        ends(rt.alloc(), row.white, 1024, 0, 0),
-        ends(rt.alloc(), row.black, 1024, 0, 1),
-        Some((Colour::Black, MatchFault::Write)),
-        b"xboard\nprotover 2\naccepted ping\naccepted usermove\naccepted done\nresult * {Black can not be written}\nquit\n",
-        b"",
-    )?;
-    broken(
-        &rt,
-        rt.alloc(),
-        ends(rt.alloc(), row.white, 1024, 0, 1),
-        ends(rt.alloc(), row.black, 1024, 0, 0),
-        Some((Colour::White, MatchFault::Write)),
-        b"",
-        b"result * {White can not be written}\nquit\n",
-    )?;
-    // White's fourth call is the flush of its answers: the block was taken.
-    broken(
-        &rt,
-        rt.alloc(),
-        ends(rt.alloc(), row.white, 1024, 0, 4),
-        ends(rt.alloc(), row.black, 1024, 0, 0),
-        Some((Colour::White, MatchFault::Write)),
-        b"xboard\nprotover 2\naccepted ping\naccepted usermove\naccepted done\n",
-        b"result * {White can not be written}\nquit\n",
-    )?;
-    // The end lines to White fail: the outcome stands, and Black has all of its row.
-    broken(
-        &rt,
-        rt.alloc(),
-        ends(rt.alloc(), row.white, 1024, 0, 15),
-        ends(rt.alloc(), row.black, 1024, 0, 0),
-        Some((Colour::White, MatchFault::Write)),
-        b"xboard\nprotover 2\naccepted ping\naccepted usermove\naccepted done\nnew\nlevel 0 0:10 0\nnopost\neasy\nforce\nping 1\ntime 1000\notim 1000\ngo\nping 2\ntime 1000\notim 1000\nusermove e7e5\nping 3\n",
-        row.to_black,
-    )
-}
-
-fn check(rt: &impl Abort, alloc: Global, row: &Row, cut: usize) -> Result<(), Fail> {
-    let level = match Level::read(row.level) {
-        Some(level) => level,
-        None => panic!(rt; "level"),
-    };
-    let start = if row.start.is_empty() {
-        Position::initial()
-    } else {
-        match read_fen(row.start) {
-            Ok(start) => start,
-            Err(_) => panic!(rt; "start"),
-        }
-    };
-    let setup = Setup { start, level };
-    let mut game = Game::open(alloc, Plain::new(), 100)?;
-    let mut scratch = Plain::new();
-    let mut white = ends(alloc, row.white, cut, 0, 0);
-    let mut black = ends(alloc, row.black, cut, 0, 0);
-    let mut moments = Listed { rest: row.moments };
-    let _end = run_match(
-        &mut white,
-        &mut black,
-        &mut moments,
-        &setup,
-        &mut game,
-        &mut scratch,
-    );
-    assert_eq!(rt; white.writer.writer().bytes.as_slice(), row.to_white);
-    assert_eq!(rt; black.writer.writer().bytes.as_slice(), row.to_black);
+    for broken in BROKEN {
+        breaks(&rt, rt.alloc(), broken)?;
+    }
     Ok(())
 }
 
+// The position of a FEN; of none, the initial one.
+fn start_of(rt: &impl Abort, fen: &[u8]) -> Position {
+    if fen.is_empty() {
+        return Position::initial();
+    }
+    match read_fen(fen) {
+        Ok(start) => start,
+        Err(_) => panic!(rt; "start"),
+    }
+}
+
+fn check(rt: &impl Abort, alloc: Global, row: &Row, cut: usize) -> Result<(), Fail> {
+    let setup = setup_of(rt, row.level, start_of(rt, row.start));
+    let mut white = ends(alloc, row.white, cut, 0, 0);
+    let mut black = ends(alloc, row.black, cut, 0, 0);
+    let mut moments = Listed { rest: row.moments };
+    let _end = play_over(alloc, &mut white, &mut black, &mut moments, &setup)?;
+    are_sent(rt, &white, &black, row.to_white, row.to_black);
+    Ok(())
+}
+
+const CUTS: &[usize] = &[1, 7, 1024];
+
 #[test]
 fn worked_matches(rt: HostRuntime) -> Result<(), Fail> {
-    for row in &ROWS {
-        for cut in [1, 7, 1024] {
-            check(&rt, rt.alloc(), row, cut)?;
+    for row in ROWS {
+        for cut in CUTS {
+            check(&rt, rt.alloc(), row, *cut)?;
         }
     }
     Ok(())
@@ -418,6 +405,29 @@ const BLACK_SAYS: [(u64, &'static [u8]); 5] = [
     (18, b"move d8h4\n"),
 ];
 
+type ScriptedEnds<'a> = Ends<Counted<Scripted<'a>>, Counted<Flushed<'a>>>;
+
+// An engine that says these lines, each in its time.
+fn scripted_ends<'a>(
+    alloc: Global,
+    lines: &'static [(u64, &'static [u8])],
+    shared: &'a Shared,
+    side: Colour,
+) -> ScriptedEnds<'a> {
+    Ends {
+        reader: Counted::reading(Scripted {
+            lines,
+            shared,
+            side,
+        }),
+        writer: Counted::writing(Flushed {
+            bytes: Vec::new(alloc),
+            shared,
+            side,
+        }),
+    }
+}
+
 #[test]
 fn blocks_are_flushed_and_moments_asked_in_time(rt: HostRuntime) -> Result<(), Fail> {
     let shared = Shared {
@@ -425,57 +435,23 @@ fn blocks_are_flushed_and_moments_asked_in_time(rt: HostRuntime) -> Result<(), F
         black: Cell::new(0),
         reads: Cell::new(0),
     };
-    let mut white = Ends {
-        reader: Counted::reading(Scripted {
-            lines: &WHITE_SAYS,
-            shared: &shared,
-            side: Colour::White,
-        }),
-        writer: Counted::writing(Flushed {
-            bytes: Vec::new(rt.alloc()),
-            shared: &shared,
-            side: Colour::White,
-        }),
-    };
-    let mut black = Ends {
-        reader: Counted::reading(Scripted {
-            lines: &BLACK_SAYS,
-            shared: &shared,
-            side: Colour::Black,
-        }),
-        writer: Counted::writing(Flushed {
-            bytes: Vec::new(rt.alloc()),
-            shared: &shared,
-            side: Colour::Black,
-        }),
-    };
-    let level = match Level::read(b"0 0:10 0") {
-        Some(level) => level,
-        None => panic!(rt; "level"),
-    };
-    let setup = Setup {
-        start: Position::initial(),
-        level,
-    };
-    let mut game = Game::open(rt.alloc(), Plain::new(), 100)?;
-    let mut scratch = Plain::new();
+    let mut white = scripted_ends(rt.alloc(), &WHITE_SAYS, &shared, Colour::White);
+    let mut black = scripted_ends(rt.alloc(), &BLACK_SAYS, &shared, Colour::Black);
+    let setup = setup_of(&rt, b"0 0:10 0", Position::initial());
     let mut moments = Ticks { shared: &shared };
-    let end = run_match(
-        &mut white,
-        &mut black,
-        &mut moments,
-        &setup,
-        &mut game,
-        &mut scratch,
-    );
-    assert_eq!(rt; end.fault, None);
-    assert_eq!(rt;
+    let (end, _) = play_over(rt.alloc(), &mut white, &mut black, &mut moments, &setup)?;
+    is_fault(&rt, end.fault, None);
+    is_text(
+        &rt,
+        "to White",
         white.writer.writer().bytes.as_slice(),
-        b"xboard\nprotover 2\naccepted ping\naccepted usermove\naccepted done\nnew\nlevel 0 0:10 0\nnopost\neasy\nforce\nping 1\ntime 1000\notim 1000\ngo\nping 2\ntime 900\notim 900\nusermove e7e5\nping 3\nusermove d8h4\nresult 0-1 {Black mates}\nquit\n".as_slice()
+        b"xboard\nprotover 2\naccepted ping\naccepted usermove\naccepted done\nnew\nlevel 0 0:10 0\nnopost\neasy\nforce\nping 1\ntime 1000\notim 1000\ngo\nping 2\ntime 900\notim 900\nusermove e7e5\nping 3\nusermove d8h4\nresult 0-1 {Black mates}\nquit\n",
     );
-    assert_eq!(rt;
+    is_text(
+        &rt,
+        "to Black",
         black.writer.writer().bytes.as_slice(),
-        b"xboard\nprotover 2\naccepted ping\naccepted done\nnew\nlevel 0 0:10 0\nnopost\neasy\nforce\nping 1\nf2f3\ntime 1000\notim 900\ngo\nping 2\ntime 900\notim 800\ng2g4\nresult 0-1 {Black mates}\nquit\n".as_slice()
+        b"xboard\nprotover 2\naccepted ping\naccepted done\nnew\nlevel 0 0:10 0\nnopost\neasy\nforce\nping 1\nf2f3\ntime 1000\notim 900\ngo\nping 2\ntime 900\notim 800\ng2g4\nresult 0-1 {Black mates}\nquit\n",
     );
     Ok(())
 }

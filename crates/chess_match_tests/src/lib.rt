@@ -5,3 +5,5 @@
 mod engines;
 #[cfg(test)]
 mod matches;
+#[cfg(test)]
+mod plays;

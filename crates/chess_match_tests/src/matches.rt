@@ -1,41 +1,17 @@
 //! Engines that flood or fail, Chess960, and what is told of an end.
 
+use crate::plays::{Listed, is_fault, is_text, play_over, setup_of};
 use byte_devices::{Counted, PieceReader, PieceWriter};
 use chess_base::{Colour, Position, Variant};
 use chess_fen::read_fen_as;
-use chess_game::{Game, Outcome};
-use chess_match::{Ends, MatchEnd, MatchFault, Moments, Setup, run_match};
-use chess_moves::Plain;
+use chess_game::Outcome;
+use chess_match::{Ends, MatchEnd, MatchFault};
 use chess_pgn::HowEnded;
-use engine_lines::Level;
 use std::alloc::Global;
 use std::cell::Cell;
 use std::io::Write;
 use std::process::Abort;
 use std::test::Fail;
-
-/// Moments in a list, and then zeros.
-#[derive(Drop)]
-struct Listed<'a> {
-    rest: &'a [u64],
-}
-
-impl Moments for Listed<'_> {
-    ghost use Rattle.std.specs.Prelude.{None};
-
-    ghost coming = { λ m n. None };
-
-    fn now(&mut self) -> u64 {
-        match self.rest {
-            [] => 0,
-            [first, behind @ ..] => {
-                let moment = *first;
-                self.rest = behind;
-                moment
-            }
-        }
-    }
-}
 
 /// What two engines say, the calls of their readers and writers that fail, 0 for none, and the moments.
 #[derive(Clone, Copy)]
@@ -73,13 +49,7 @@ struct Played {
 }
 
 fn play(rt: &impl Abort, alloc: Global, start: Position, said: &Said<'_>) -> Result<Played, Fail> {
-    let level = match Level::read(b"0 0:10 0") {
-        Some(level) => level,
-        None => panic!(rt; "level"),
-    };
-    let setup = Setup { start, level };
-    let mut game = Game::open(alloc, Plain::new(), 100)?;
-    let mut scratch = Plain::new();
+    let setup = setup_of(rt, b"0 0:10 0", start);
     let mut white = Ends {
         reader: Counted::reading(PieceReader::new(said.white, 9, said.white_read)),
         writer: Counted::writing(PieceWriter::new(alloc, 1024, said.white_write)),
@@ -89,15 +59,7 @@ fn play(rt: &impl Abort, alloc: Global, start: Position, said: &Said<'_>) -> Res
         writer: Counted::writing(PieceWriter::new(alloc, 1024, said.black_write)),
     };
     let mut moments = Listed { rest: said.moments };
-    let end = run_match(
-        &mut white,
-        &mut black,
-        &mut moments,
-        &setup,
-        &mut game,
-        &mut scratch,
-    );
-    let moves = game.ply();
+    let (end, moves) = play_over(alloc, &mut white, &mut black, &mut moments, &setup)?;
     Ok(Played {
         end,
         to_white: white.writer.into_writer().bytes,
@@ -106,33 +68,67 @@ fn play(rt: &impl Abort, alloc: Global, start: Position, said: &Said<'_>) -> Res
     })
 }
 
-fn is_end(
-    rt: &impl Abort,
-    played: &Played,
+/// How a match ends.
+struct Ending {
     outcome: Outcome,
-    comment: &[u8],
+    comment: &'static [u8],
     ended: HowEnded,
     fault: Option<(Colour, MatchFault)>,
-) {
-    assert_eq!(rt; played.end.outcome, outcome);
-    assert_eq!(rt; played.end.comment.as_bytes(), comment);
-    assert_eq!(rt; played.end.ended, ended);
-    assert_eq!(rt; played.end.fault, fault);
 }
 
-// A text, so many lines `x`, and another text.
-fn with_lines(alloc: Global, front: &[u8], count: usize, behind: &[u8]) -> Result<Vec<u8>, Fail> {
+fn is_end(rt: &impl Abort, played: &Played, ending: &Ending) {
+    assert_eq!(rt; played.end.outcome, ending.outcome);
+    is_text(rt, "comment", played.end.comment.as_bytes(), ending.comment);
+    assert_eq!(rt; played.end.ended, ending.ended);
+    is_fault(rt, played.end.fault, ending.fault);
+}
+
+// So many half-moves stand.
+fn is_number(rt: &impl Abort, moves: usize, wanted: usize) {
+    assert_eq!(rt; moves, wanted, "half-moves");
+}
+
+// Plays a match from the initial position, which ends so, with so many half-moves that stand.
+fn ends_so(
+    rt: &impl Abort,
+    alloc: Global,
+    said: &Said<'_>,
+    ending: &Ending,
+    moves: usize,
+) -> Result<(), Fail> {
+    let played = play(rt, alloc, Position::initial(), said)?;
+    is_end(rt, &played, ending);
+    is_number(rt, played.moves, moves);
+    Ok(())
+}
+
+// These texts, each so many times, one behind another.
+fn repeated(alloc: Global, parts: &[(&[u8], usize)]) -> Result<Vec<u8>, Fail> {
     let mut text = Vec::new(alloc);
-    text.extend_from_slice(front)?;
-    for _ in 0..count {
-        text.extend_from_slice(b"x\n")?;
+    for (part, count) in parts {
+        for _ in 0..*count {
+            text.extend_from_slice(part)?;
+        }
     }
-    text.extend_from_slice(behind)?;
     Ok(text)
 }
 
 const BLACK: &[u8] =
     b"feature ping=1 myname=\"second\" done=1\npong 1\nmove e7e5\npong 2\nmove d8h4\n";
+
+const BLACK_MATES: Ending = Ending {
+    outcome: Outcome::BlackWins,
+    comment: b"Black mates",
+    ended: HowEnded::Normal,
+    fault: None,
+};
+
+const WHITE_RESIGNS: Ending = Ending {
+    outcome: Outcome::BlackWins,
+    comment: b"White resigns",
+    ended: HowEnded::Normal,
+    fault: None,
+};
 
 #[test]
 fn mate_and_names(rt: HostRuntime) -> Result<(), Fail> {
@@ -141,115 +137,96 @@ fn mate_and_names(rt: HostRuntime) -> Result<(), Fail> {
         BLACK,
     );
     let played = play(&rt, rt.alloc(), Position::initial(), &said)?;
-    is_end(
-        &rt,
-        &played,
-        Outcome::BlackWins,
-        b"Black mates",
-        HowEnded::Normal,
-        None,
-    );
-    assert_eq!(rt; played.end.white_name.as_bytes(), b"first".as_slice());
-    assert_eq!(rt; played.end.black_name.as_bytes(), b"second".as_slice());
-    assert_eq!(rt; played.moves, 4);
+    is_end(&rt, &played, &BLACK_MATES);
+    is_text(&rt, "White", played.end.white_name.as_bytes(), b"first");
+    is_text(&rt, "Black", played.end.black_name.as_bytes(), b"second");
+    is_number(&rt, played.moves, 4);
     Ok(())
 }
+
+const ILLEGAL: Ending = Ending {
+    outcome: Outcome::BlackWins,
+    comment: b"White makes an illegal move",
+    ended: HowEnded::RulesInfraction,
+    fault: None,
+};
+
+const LATE: Ending = Ending {
+    outcome: Outcome::BlackWins,
+    comment: b"White forfeits on time",
+    ended: HowEnded::TimeForfeit,
+    fault: None,
+};
 
 #[test]
 fn kinds_of_ends(rt: HostRuntime) -> Result<(), Fail> {
     let illegal = Said::of(b"feature ping=1 done=1\npong 1\nmove e2e5\n", BLACK);
-    let played = play(&rt, rt.alloc(), Position::initial(), &illegal)?;
-    is_end(
-        &rt,
-        &played,
-        Outcome::BlackWins,
-        b"White makes an illegal move",
-        HowEnded::RulesInfraction,
-        None,
-    );
+    ends_so(&rt, rt.alloc(), &illegal, &ILLEGAL, 0)?;
     let mut late = Said::of(b"feature ping=1 done=1\npong 1\nmove e2e4\n", BLACK);
     late.moments = &[0, 0, 0, 0, 5000, 15001];
-    let played = play(&rt, rt.alloc(), Position::initial(), &late)?;
-    is_end(
-        &rt,
-        &played,
-        Outcome::BlackWins,
-        b"White forfeits on time",
-        HowEnded::TimeForfeit,
-        None,
-    );
-    assert_eq!(rt; played.moves, 0);
-    Ok(())
+    ends_so(&rt, rt.alloc(), &late, &LATE, 0)
+}
+
+const NO_DONE: Ending = Ending {
+    outcome: Outcome::Unfinished,
+    comment: b"White did not send done=1",
+    ended: HowEnded::Normal,
+    fault: Some((Colour::White, MatchFault::NoDone)),
+};
+
+// So many lines `x` before the hello.
+fn hello_behind(rt: &impl Abort, alloc: Global, count: usize, ending: &Ending) -> Result<(), Fail> {
+    let behind = b"feature ping=1 done=1\npong 1\nresign\n".as_slice();
+    let white = repeated(alloc, &[(b"x\n", count), (behind, 1)])?;
+    ends_so(rt, alloc, &Said::of(white.as_slice(), BLACK), ending, 0)
 }
 
 #[test]
 fn hellos_of_many_lines(rt: HostRuntime) -> Result<(), Fail> {
-    let behind = b"feature ping=1 done=1\npong 1\nresign\n".as_slice();
-    for (count, outcome, comment, fault) in [
-        (999, Outcome::BlackWins, b"White resigns".as_slice(), None),
-        (
-            1000,
-            Outcome::Unfinished,
-            b"White did not send done=1".as_slice(),
-            Some((Colour::White, MatchFault::NoDone)),
-        ),
-    ] {
-        let white = with_lines(rt.alloc(), b"", count, behind)?;
-        let said = Said::of(white.as_slice(), BLACK);
-        let played = play(&rt, rt.alloc(), Position::initial(), &said)?;
-        is_end(&rt, &played, outcome, comment, HowEnded::Normal, fault);
-    }
-    Ok(())
+    hello_behind(&rt, rt.alloc(), 999, &WHITE_RESIGNS)?;
+    hello_behind(&rt, rt.alloc(), 1000, &NO_DONE)
+}
+
+const FLOOD: Ending = Ending {
+    outcome: Outcome::Unfinished,
+    comment: b"White sent too many lines",
+    ended: HowEnded::Normal,
+    fault: Some((Colour::White, MatchFault::Flood)),
+};
+
+// A text behind 9,999 lines `x`.
+fn flood(rt: &impl Abort, alloc: Global, behind: &[u8], ending: &Ending) -> Result<(), Fail> {
+    let front = b"feature ping=1 done=1\npong 1\n".as_slice();
+    let white = repeated(alloc, &[(front, 1), (b"x\n", 9999), (behind, 1)])?;
+    ends_so(rt, alloc, &Said::of(white.as_slice(), BLACK), ending, 1)
 }
 
 #[test]
 fn floods(rt: HostRuntime) -> Result<(), Fail> {
-    let front = b"feature ping=1 done=1\npong 1\n".as_slice();
-    let flood = Some((Colour::White, MatchFault::Flood));
-    for (behind, outcome, comment, fault) in [
-        (
-            b"move f2f3\nresign\n".as_slice(),
-            Outcome::BlackWins,
-            b"White resigns".as_slice(),
-            None,
-        ),
-        (
-            b"move f2f3\nx\npong 2\n".as_slice(),
-            Outcome::Unfinished,
-            b"White sent too many lines".as_slice(),
-            flood,
-        ),
-    ] {
-        let white = with_lines(rt.alloc(), front, 9999, behind)?;
-        let said = Said::of(white.as_slice(), BLACK);
-        let played = play(&rt, rt.alloc(), Position::initial(), &said)?;
-        is_end(&rt, &played, outcome, comment, HowEnded::Normal, fault);
-        assert_eq!(rt; played.moves, 1);
-    }
-    Ok(())
+    flood(&rt, rt.alloc(), b"move f2f3\nresign\n", &WHITE_RESIGNS)?;
+    flood(&rt, rt.alloc(), b"move f2f3\nx\npong 2\n", &FLOOD)
 }
+
+// What White says, with a move of 8,193 bytes, as parts and how often each stands.
+const LONG_LINE: &[(&[u8], usize)] = &[
+    (b"feature ping=1 done=1\npong 1\nmove f2f3", 1),
+    (b" ", 8184),
+    (b"\nresign\n", 1),
+];
 
 #[test]
 fn lines_that_are_too_long(rt: HostRuntime) -> Result<(), Fail> {
-    let mut white = Vec::new(rt.alloc());
-    white.extend_from_slice(b"feature ping=1 done=1\npong 1\nmove f2f3")?;
-    for _ in 0..8184 {
-        white.extend_from_slice(b" ")?;
-    }
-    white.extend_from_slice(b"\nresign\n")?;
+    let white = repeated(rt.alloc(), LONG_LINE)?;
     let said = Said::of(white.as_slice(), BLACK);
-    let played = play(&rt, rt.alloc(), Position::initial(), &said)?;
-    is_end(
-        &rt,
-        &played,
-        Outcome::BlackWins,
-        b"White resigns",
-        HowEnded::Normal,
-        None,
-    );
-    assert_eq!(rt; played.moves, 0);
-    Ok(())
+    ends_so(&rt, rt.alloc(), &said, &WHITE_RESIGNS, 0)
 }
+
+const OUTPUT_ENDED: Ending = Ending {
+    outcome: Outcome::Unfinished,
+    comment: b"White ended its output",
+    ended: HowEnded::Normal,
+    fault: Some((Colour::White, MatchFault::Ended)),
+};
 
 #[test]
 fn outputs_that_end(rt: HostRuntime) -> Result<(), Fail> {
@@ -257,17 +234,7 @@ fn outputs_that_end(rt: HostRuntime) -> Result<(), Fail> {
         b"feature ping=1 done=1\npong 1\nmove f2f3\npong 2\nmov",
         BLACK,
     );
-    let played = play(&rt, rt.alloc(), Position::initial(), &said)?;
-    is_end(
-        &rt,
-        &played,
-        Outcome::Unfinished,
-        b"White ended its output",
-        HowEnded::Normal,
-        Some((Colour::White, MatchFault::Ended)),
-    );
-    assert_eq!(rt; played.moves, 2);
-    Ok(())
+    ends_so(&rt, rt.alloc(), &said, &OUTPUT_ENDED, 2)
 }
 
 const CASTLES: &[u8] =
@@ -280,6 +247,13 @@ fn castling_start(rt: &impl Abort) -> Position {
     }
 }
 
+const BLACK_RESIGNS: Ending = Ending {
+    outcome: Outcome::WhiteWins,
+    comment: b"Black resigns",
+    ended: HowEnded::Normal,
+    fault: None,
+};
+
 #[test]
 fn a_match_of_chess960(rt: HostRuntime) -> Result<(), Fail> {
     let said = Said::of(
@@ -287,49 +261,50 @@ fn a_match_of_chess960(rt: HostRuntime) -> Result<(), Fail> {
         b"feature ping=1 setboard=1 done=1\npong 1\nresign\n",
     );
     let played = play(&rt, rt.alloc(), castling_start(&rt), &said)?;
-    is_end(
+    is_end(&rt, &played, &BLACK_RESIGNS);
+    is_text(
         &rt,
-        &played,
-        Outcome::WhiteWins,
-        b"Black resigns",
-        HowEnded::Normal,
-        None,
-    );
-    assert_eq!(rt;
+        "to White",
         played.to_white.as_slice(),
-        b"xboard\nprotover 2\naccepted ping\naccepted setboard\naccepted usermove\naccepted variants\naccepted done\nnew\nvariant fischerandom\nlevel 0 0:10 0\nnopost\neasy\nforce\nsetboard 4k3/8/8/8/8/8/8/RK5R w HA - 0 1\nping 1\ntime 1000\notim 1000\ngo\nping 2\nresult 1-0 {Black resigns}\nquit\n".as_slice()
+        b"xboard\nprotover 2\naccepted ping\naccepted setboard\naccepted usermove\naccepted variants\naccepted done\nnew\nvariant fischerandom\nlevel 0 0:10 0\nnopost\neasy\nforce\nsetboard 4k3/8/8/8/8/8/8/RK5R w HA - 0 1\nping 1\ntime 1000\notim 1000\ngo\nping 2\nresult 1-0 {Black resigns}\nquit\n",
     );
-    assert_eq!(rt;
+    is_text(
+        &rt,
+        "to Black",
         played.to_black.as_slice(),
-        b"xboard\nprotover 2\naccepted ping\naccepted setboard\naccepted done\nnew\nvariant fischerandom\nlevel 0 0:10 0\nnopost\neasy\nforce\nsetboard 4k3/8/8/8/8/8/8/RK5R w HA - 0 1\nping 1\nO-O-O\ntime 1000\notim 1000\ngo\nresult 1-0 {Black resigns}\nquit\n".as_slice()
+        b"xboard\nprotover 2\naccepted ping\naccepted setboard\naccepted done\nnew\nvariant fischerandom\nlevel 0 0:10 0\nnopost\neasy\nforce\nsetboard 4k3/8/8/8/8/8/8/RK5R w HA - 0 1\nping 1\nO-O-O\ntime 1000\notim 1000\ngo\nresult 1-0 {Black resigns}\nquit\n",
     );
     Ok(())
 }
 
+const NO_VARIANT: Ending = Ending {
+    outcome: Outcome::Unfinished,
+    comment: b"Black has no fischerandom",
+    ended: HowEnded::Normal,
+    fault: Some((Colour::Black, MatchFault::NoVariant)),
+};
+
+const NO_SETBOARD: Ending = Ending {
+    outcome: Outcome::Unfinished,
+    comment: b"Black has no setboard",
+    ended: HowEnded::Normal,
+    fault: Some((Colour::Black, MatchFault::NoSetboard)),
+};
+
+const UNFIT: &[(&[u8], Ending)] = &[
+    (
+        b"feature ping=1 setboard=1 variants=\"normal, suicide\" done=1\n",
+        NO_VARIANT,
+    ),
+    (b"feature ping=1 variants=\"normal\" done=1\n", NO_SETBOARD),
+];
+
 #[test]
 fn engines_without_chess960(rt: HostRuntime) -> Result<(), Fail> {
-    for (black, comment, fault) in [
-        (
-            b"feature ping=1 setboard=1 variants=\"normal, suicide\" done=1\n".as_slice(),
-            b"Black has no fischerandom".as_slice(),
-            MatchFault::NoVariant,
-        ),
-        (
-            b"feature ping=1 variants=\"normal\" done=1\n".as_slice(),
-            b"Black has no setboard".as_slice(),
-            MatchFault::NoSetboard,
-        ),
-    ] {
+    for (black, ending) in UNFIT {
         let said = Said::of(CASTLES, black);
         let played = play(&rt, rt.alloc(), castling_start(&rt), &said)?;
-        is_end(
-            &rt,
-            &played,
-            Outcome::Unfinished,
-            comment,
-            HowEnded::Normal,
-            Some((Colour::Black, fault)),
-        );
+        is_end(&rt, &played, ending);
     }
     Ok(())
 }
@@ -350,93 +325,119 @@ fn is_beginning(text: &[u8], whole: &[u8]) -> bool {
     text.len() <= whole.len() && text == &whole[..text.len()]
 }
 
-#[test]
-fn reads_that_fail_in_turn(rt: HostRuntime) -> Result<(), Fail> {
-    let whole = play(
-        &rt,
-        rt.alloc(),
-        Position::initial(),
-        &Said::of(WHITE, BLACK),
-    )?;
+/// What reads an engine's output, or writes its input.
+enum Device {
+    WhiteReader,
+    BlackReader,
+    WhiteWriter,
+    BlackWriter,
+}
+
+// A game to its mate, in which this call of a device fails.
+fn failing(device: &Device, call: u64) -> Said<'static> {
+    let mut said = Said::of(WHITE, BLACK);
+    match device {
+        Device::WhiteReader => said.white_read = call,
+        Device::BlackReader => said.black_read = call,
+        Device::WhiteWriter => said.white_write = call,
+        Device::BlackWriter => said.black_write = call,
+    }
+    said
+}
+
+const WHITE_UNREAD: Ending = Ending {
+    outcome: Outcome::Unfinished,
+    comment: b"White can not be read",
+    ended: HowEnded::Normal,
+    fault: Some((Colour::White, MatchFault::Read)),
+};
+
+const BLACK_UNREAD: Ending = Ending {
+    outcome: Outcome::Unfinished,
+    comment: b"Black can not be read",
+    ended: HowEnded::Normal,
+    fault: Some((Colour::Black, MatchFault::Read)),
+};
+
+// What comes of a call of a device that failed, beside the whole match.
+fn is_broken_off(rt: &impl Abort, device: &Device, played: &Played, whole: &Played) {
+    let (white, black) = (played.to_white.as_slice(), played.to_black.as_slice());
+    match device {
+        Device::WhiteReader => {
+            is_end(rt, played, &WHITE_UNREAD);
+            assert!(rt;
+                is_cut_off(
+                    white,
+                    whole.to_white.as_slice(),
+                    b"result * {White can not be read}\nquit\n"
+                )
+            );
+        }
+        Device::BlackReader => is_end(rt, played, &BLACK_UNREAD),
+        Device::WhiteWriter => {
+            is_fault(
+                rt,
+                played.end.fault,
+                Some((Colour::White, MatchFault::Write)),
+            );
+            assert!(rt; is_beginning(white, whole.to_white.as_slice()));
+        }
+        Device::BlackWriter => {
+            is_fault(
+                rt,
+                played.end.fault,
+                Some((Colour::Black, MatchFault::Write)),
+            );
+            assert!(rt; is_beginning(black, whole.to_black.as_slice()));
+        }
+    }
+}
+
+// Each call of a device fails in turn, until the match ends without a fault: the number of the last that failed.
+fn failures(rt: &impl Abort, alloc: Global, device: &Device) -> Result<u64, Fail> {
+    let whole = play(rt, alloc, Position::initial(), &Said::of(WHITE, BLACK))?;
     let mut failures = 0;
     for call in 1..100 {
-        let mut said = Said::of(WHITE, BLACK);
-        said.white_read = call;
-        let played = play(&rt, rt.alloc(), Position::initial(), &said)?;
+        let played = play(rt, alloc, Position::initial(), &failing(device, call))?;
         if played.end.fault.is_none() {
             break;
         }
         failures = call;
-        is_end(
-            &rt,
-            &played,
-            Outcome::Unfinished,
-            b"White can not be read",
-            HowEnded::Normal,
-            Some((Colour::White, MatchFault::Read)),
-        );
-        assert!(rt;
-            is_cut_off(
-                played.to_white.as_slice(),
-                whole.to_white.as_slice(),
-                b"result * {White can not be read}\nquit\n"
-            )
-        );
+        is_broken_off(rt, device, &played, &whole);
     }
-    assert!(rt; failures > 5);
-    for call in 1..100 {
-        let mut said = Said::of(WHITE, BLACK);
-        said.black_read = call;
-        let played = play(&rt, rt.alloc(), Position::initial(), &said)?;
-        if played.end.fault.is_none() {
-            break;
-        }
-        is_end(
-            &rt,
-            &played,
-            Outcome::Unfinished,
-            b"Black can not be read",
-            HowEnded::Normal,
-            Some((Colour::Black, MatchFault::Read)),
-        );
-    }
+    Ok(failures)
+}
+
+#[test]
+fn reads_that_fail_in_turn(rt: HostRuntime) -> Result<(), Fail> {
+    let white_failures = failures(&rt, rt.alloc(), &Device::WhiteReader)?;
+    assert!(rt; white_failures > 5);
+    failures(&rt, rt.alloc(), &Device::BlackReader)?;
     Ok(())
 }
 
 #[test]
 fn writes_that_fail_in_turn(rt: HostRuntime) -> Result<(), Fail> {
-    let whole = play(
-        &rt,
-        rt.alloc(),
-        Position::initial(),
-        &Said::of(WHITE, BLACK),
-    )?;
-    let mut failures = 0;
-    for call in 1..100 {
-        let mut said = Said::of(WHITE, BLACK);
-        said.white_write = call;
-        let played = play(&rt, rt.alloc(), Position::initial(), &said)?;
-        if played.end.fault.is_none() {
-            break;
-        }
-        failures = call;
-        assert_eq!(rt; played.end.fault, Some((Colour::White, MatchFault::Write)));
-        assert!(rt; is_beginning(played.to_white.as_slice(), whole.to_white.as_slice()));
-    }
     // Eight blocks, each written by one call and flushed by another.
-    assert_eq!(rt; failures, 16);
-    for call in 1..100 {
-        let mut said = Said::of(WHITE, BLACK);
-        said.black_write = call;
-        let played = play(&rt, rt.alloc(), Position::initial(), &said)?;
-        if played.end.fault.is_none() {
-            break;
-        }
-        assert_eq!(rt; played.end.fault, Some((Colour::Black, MatchFault::Write)));
-        assert!(rt; is_beginning(played.to_black.as_slice(), whole.to_black.as_slice()));
-    }
+    let white_failures = failures(&rt, rt.alloc(), &Device::WhiteWriter)?;
+    assert_eq!(rt; white_failures, 16);
+    failures(&rt, rt.alloc(), &Device::BlackWriter)?;
     Ok(())
 }
+
+const WHITE_UNWRITTEN: Ending = Ending {
+    outcome: Outcome::Unfinished,
+    comment: b"White can not be written",
+    ended: HowEnded::Normal,
+    fault: Some((Colour::White, MatchFault::Write)),
+};
+
+const MATE_UNWRITTEN: Ending = Ending {
+    outcome: Outcome::BlackWins,
+    comment: b"Black mates",
+    ended: HowEnded::Normal,
+    fault: Some((Colour::White, MatchFault::Write)),
+};
 
 #[test]
 fn writes_that_fail_at_one_event(rt: HostRuntime) -> Result<(), Fail> {
@@ -444,29 +445,12 @@ fn writes_that_fail_at_one_event(rt: HostRuntime) -> Result<(), Fail> {
     let mut said = Said::of(WHITE, BLACK);
     said.white_write = 4;
     said.black_write = 1;
-    let played = play(&rt, rt.alloc(), Position::initial(), &said)?;
-    is_end(
-        &rt,
-        &played,
-        Outcome::Unfinished,
-        b"White can not be written",
-        HowEnded::Normal,
-        Some((Colour::White, MatchFault::Write)),
-    );
+    ends_so(&rt, rt.alloc(), &said, &WHITE_UNWRITTEN, 0)?;
     // Both end lines fail: the outcome stands, and White's failure is the first.
     let mut said = Said::of(WHITE, BLACK);
     said.white_write = 15;
     said.black_write = 13;
-    let played = play(&rt, rt.alloc(), Position::initial(), &said)?;
-    is_end(
-        &rt,
-        &played,
-        Outcome::BlackWins,
-        b"Black mates",
-        HowEnded::Normal,
-        Some((Colour::White, MatchFault::Write)),
-    );
-    Ok(())
+    ends_so(&rt, rt.alloc(), &said, &MATE_UNWRITTEN, 4)
 }
 
 /// The calls of both engines' writers: how many, and the number of each one's last.
@@ -504,6 +488,16 @@ impl Write for Numbered<'_> {
     }
 }
 
+type NumberedEnds<'a> = Ends<Counted<PieceReader<'a>>, Counted<Numbered<'a>>>;
+
+// An engine that says this, with its calls numbered.
+fn numbered_ends<'a>(bytes: &'a [u8], calls: &'a Calls, side: Colour) -> NumberedEnds<'a> {
+    Ends {
+        reader: Counted::reading(PieceReader::new(bytes, 1024, 0)),
+        writer: Counted::writing(Numbered { calls, side }),
+    }
+}
+
 #[test]
 fn end_lines_to_white_first(rt: HostRuntime) -> Result<(), Fail> {
     let calls = Calls {
@@ -511,77 +505,43 @@ fn end_lines_to_white_first(rt: HostRuntime) -> Result<(), Fail> {
         white: Cell::new(0),
         black: Cell::new(0),
     };
-    let level = match Level::read(b"0 0:10 0") {
-        Some(level) => level,
-        None => panic!(rt; "level"),
-    };
-    let setup = Setup {
-        start: Position::initial(),
-        level,
-    };
-    let mut game = Game::open(rt.alloc(), Plain::new(), 100)?;
-    let mut scratch = Plain::new();
-    let mut white = Ends {
-        reader: Counted::reading(PieceReader::new(WHITE, 1024, 0)),
-        writer: Counted::writing(Numbered {
-            calls: &calls,
-            side: Colour::White,
-        }),
-    };
-    let mut black = Ends {
-        reader: Counted::reading(PieceReader::new(BLACK, 1024, 0)),
-        writer: Counted::writing(Numbered {
-            calls: &calls,
-            side: Colour::Black,
-        }),
-    };
+    let setup = setup_of(&rt, b"0 0:10 0", Position::initial());
+    let mut white = numbered_ends(WHITE, &calls, Colour::White);
+    let mut black = numbered_ends(BLACK, &calls, Colour::Black);
     let mut moments = Listed { rest: &[] };
-    let end = run_match(
-        &mut white,
-        &mut black,
-        &mut moments,
-        &setup,
-        &mut game,
-        &mut scratch,
-    );
+    let (end, _) = play_over(rt.alloc(), &mut white, &mut black, &mut moments, &setup)?;
     assert_eq!(rt; end.outcome, Outcome::BlackWins);
     assert_eq!(rt; calls.white.get().saturating_add(1), calls.black.get());
     Ok(())
 }
 
-// A text so many times.
-fn add_times(text: &mut Vec<u8>, word: &[u8], count: usize) -> Result<(), Fail> {
-    for _ in 0..count {
-        text.extend_from_slice(word)?;
-    }
-    Ok(())
-}
+// What White says, as parts and how often each stands.
+const MANY_ITEMS: &[(&[u8], usize)] = &[
+    (b"feature ", 1),
+    (b"a=1 ", 1700),
+    (b"n", 1000),
+    (b"=1 b=\"\" ping=1 done=1\npong 1\n\0\nresign\n", 1),
+];
+
+// And what White is sent.
+const MANY_ANSWERS: &[(&[u8], usize)] = &[
+    (b"xboard\nprotover 2\n", 1),
+    (b"rejected a\n", 1700),
+    (b"rejected ", 1),
+    (b"n", 1000),
+    (
+        b"\nrejected b\naccepted ping\naccepted done\nnew\nlevel 0 0:10 0\nnopost\neasy\nforce\nping 1\ntime 1000\notim 1000\ngo\nresult 0-1 {White resigns}\nquit\n",
+        1,
+    ),
+];
 
 #[test]
 fn feature_lines_of_many_items(rt: HostRuntime) -> Result<(), Fail> {
-    let mut white = Vec::new(rt.alloc());
-    white.extend_from_slice(b"feature ")?;
-    add_times(&mut white, b"a=1 ", 1700)?;
-    add_times(&mut white, b"n", 1000)?;
-    white.extend_from_slice(b"=1 b=\"\" ping=1 done=1\npong 1\n\0\nresign\n")?;
+    let white = repeated(rt.alloc(), MANY_ITEMS)?;
+    let sent = repeated(rt.alloc(), MANY_ANSWERS)?;
     let said = Said::of(white.as_slice(), BLACK);
     let played = play(&rt, rt.alloc(), Position::initial(), &said)?;
-    is_end(
-        &rt,
-        &played,
-        Outcome::BlackWins,
-        b"White resigns",
-        HowEnded::Normal,
-        None,
-    );
-    let mut sent = Vec::new(rt.alloc());
-    sent.extend_from_slice(b"xboard\nprotover 2\n")?;
-    add_times(&mut sent, b"rejected a\n", 1700)?;
-    sent.extend_from_slice(b"rejected ")?;
-    add_times(&mut sent, b"n", 1000)?;
-    sent.extend_from_slice(
-        b"\nrejected b\naccepted ping\naccepted done\nnew\nlevel 0 0:10 0\nnopost\neasy\nforce\nping 1\ntime 1000\notim 1000\ngo\nresult 0-1 {White resigns}\nquit\n",
-    )?;
-    assert_eq!(rt; played.to_white.as_slice(), sent.as_slice());
+    is_end(&rt, &played, &WHITE_RESIGNS);
+    is_text(&rt, "to White", played.to_white.as_slice(), sent.as_slice());
     Ok(())
 }
