@@ -322,16 +322,20 @@ fn has_room<B: Board>(rt: &impl Abort, game: &Game<B>) {
     assert!(rt; !game.is_full());
 }
 
+fn has_fen(rt: &impl Abort, position: &Position, fen: &[u8]) {
+    assert_eq!(rt; write_fen(position).as_slice(), fen);
+}
+
 fn starts_at<B: Board>(rt: &impl Abort, game: &Game<B>, fen: &[u8]) {
-    assert_eq!(rt; write_fen(&game.start()).as_slice(), fen);
+    has_fen(rt, &game.start(), fen);
 }
 
 fn is_at<B: Board>(rt: &impl Abort, game: &Game<B>, fen: &[u8]) {
-    assert_eq!(rt; write_fen(&game.position()).as_slice(), fen);
+    has_fen(rt, &game.position(), fen);
 }
 
 fn board_is_at<B: Board>(rt: &impl Abort, game: &Game<B>, fen: &[u8]) {
-    assert_eq!(rt; write_fen(&game.board().position()).as_slice(), fen);
+    has_fen(rt, &game.board().position(), fen);
 }
 
 const INITIAL: &[u8] = b"rnbqkbnr/pppppppp/8/8/8/8/PPPPPPPP/RNBQKBNR w KQkq - 0 1";
@@ -670,6 +674,31 @@ fn undeclared(verdict: Option<Verdict>) -> Outcome {
     }
 }
 
+// Why a game is over, its outcome, whether it is over, and how often its position stood.
+fn ending<B: Board>(game: &Game<B>) -> (Option<Verdict>, Outcome, bool, u32) {
+    (
+        game.verdict(),
+        game.outcome(),
+        game.is_over(),
+        game.repetitions(),
+    )
+}
+
+// Compares how a game ends, with nothing declared, at a start or after moves.
+fn ends_by<B: Board>(
+    rt: &impl Abort,
+    game: &Game<B>,
+    place: &[u8],
+    verdict: Option<Verdict>,
+    repetitions: u32,
+) {
+    assert_eq!(rt;
+        ending(game),
+        (verdict, undeclared(verdict), verdict.is_some(), repetitions),
+        "at {place:?}"
+    );
+}
+
 // A start, and why the game is over there.
 fn starts_as_told<B: Board>(
     rt: &impl Abort,
@@ -677,37 +706,31 @@ fn starts_as_told<B: Board>(
     start: &[u8],
     verdict: Option<Verdict>,
 ) -> Result<(), Fail> {
-    game.restart(&read_fen(start)?);
-    assert_eq!(rt; game.verdict(), verdict, "at {start:?}");
-    assert_eq!(rt; game.outcome(), undeclared(verdict), "at {start:?}");
-    assert_eq!(rt; game.is_over(), verdict.is_some(), "at {start:?}");
-    assert_eq!(rt; game.repetitions(), 1, "at {start:?}");
+    restart(game, start)?;
+    ends_by(rt, game, start, verdict, 1);
     Ok(())
 }
 
+// Compares the clock, and what may be claimed, after moves.
+fn may_claim<B: Board>(
+    rt: &impl Abort,
+    game: &Game<B>,
+    moves: &[u8],
+    halfmove: u32,
+    claims: Claims,
+) {
+    assert_eq!(rt;
+        (game.position().setup().halfmove, game.claims()),
+        (halfmove, claims),
+        "after {moves:?}"
+    );
+}
+
 fn goes_as_told<B: Board>(rt: &impl Abort, game: &mut Game<B>, told: &Told) -> Result<(), Fail> {
-    game.restart(&read_fen(told.start)?);
+    restart(game, told.start)?;
     play_all(game, told.moves)?;
-    assert_eq!(rt; game.verdict(), told.verdict, "after {:?}", told.moves);
-    assert_eq!(rt;
-        game.outcome(),
-        undeclared(told.verdict),
-        "after {:?}",
-        told.moves
-    );
-    assert_eq!(rt;
-        game.repetitions(),
-        told.repetitions,
-        "after {:?}",
-        told.moves
-    );
-    assert_eq!(rt;
-        game.position().setup().halfmove,
-        told.halfmove,
-        "after {:?}",
-        told.moves
-    );
-    assert_eq!(rt; game.claims(), told.claims, "after {:?}", told.moves);
+    ends_by(rt, game, told.moves, told.verdict, told.repetitions);
+    may_claim(rt, game, told.moves, told.halfmove, told.claims);
     Ok(())
 }
 
@@ -911,7 +934,7 @@ fn no_more_moves_than_the_limit(rt: HostRuntime) -> Result<(), Fail> {
 
 fn is_position_at<B: Board>(rt: &impl Abort, game: &Game<B>, ply: usize, fen: &[u8]) {
     assert!(rt; ply <= game.ply());
-    assert_eq!(rt; write_fen(&game.position_at(ply)).as_slice(), fen);
+    has_fen(rt, &game.position_at(ply), fen);
 }
 
 fn are_positions<B: Board>(rt: &impl Abort, game: &Game<B>, fens: &[&[u8]]) {
@@ -1131,10 +1154,11 @@ fn each_position_is_asked_for_its_word_once(rt: HostRuntime) -> Result<(), Fail>
     was_asked(&rt, &calls, 1);
     restart(&mut game, INITIAL)?;
     was_asked(&rt, &calls, 1);
-    are_asked_for_their_words_once(&rt, &mut game, &calls, &MOVES[..8]);
+    let there_and_back = &MOVES[..8];
+    are_asked_for_their_words_once(&rt, &mut game, &calls, there_and_back);
     has_repetitions(&rt, &game, 3);
     has_claims(&rt, &game, THREEFOLD);
-    are_taken_back(&rt, &mut game, &MOVES[..8]);
+    are_taken_back(&rt, &mut game, there_and_back);
     has_repetitions(&rt, &game, 1);
     was_asked(&rt, &calls, 0);
     Ok(())

@@ -1,3 +1,4 @@
+use chess_base::Position;
 use chess_fen::write_fen;
 use chess_game::{Game, Outcome, Verdict};
 use chess_moves::Plain;
@@ -546,15 +547,25 @@ fn read(
     read_pgn(text, at, game)
 }
 
+// Reads a text from a place on, and compares the answer and how many half-moves stand then.
+fn is_read_on(
+    rt: &impl Abort,
+    text: &[u8],
+    game: &mut Game<Plain>,
+    at: usize,
+    wanted: Wanted,
+    ply: usize,
+) {
+    assert_eq!(rt;
+        (read(rt, text, at, game), game.ply()),
+        (wanted.answer(), ply),
+        "at {at} of {text:?}"
+    );
+}
+
 // Reads a row's text, and compares the answer, the half-moves that stand and what is declared.
 fn is_read(rt: &impl Abort, game: &mut Game<Plain>, row: &Row) {
-    assert_eq!(rt;
-        read(rt, row.text, 0, game),
-        row.wanted.answer(),
-        "at {:?}",
-        row.text
-    );
-    assert_eq!(rt; game.ply(), row.ply, "at {:?}", row.text);
+    is_read_on(rt, row.text, game, 0, row.wanted, row.ply);
     assert_eq!(rt; declared(rt, game), row.declared, "at {:?}", row.text);
 }
 
@@ -677,13 +688,20 @@ fn variants_and_terminations_are_read(rt: HostRuntime) -> Result<(), Fail> {
     Ok(())
 }
 
+fn has_outcome(rt: &impl Abort, game: &Game<Plain>, outcome: Outcome) {
+    assert_eq!(rt; game.outcome(), outcome);
+}
+
 fn is_too_long(rt: &impl Abort, text: &[u8], game: &mut Game<Plain>) {
-    assert_eq!(rt;
-        read(rt, text, 0, game),
-        Wanted::Fault(PgnFaultKind::TooLong, 6).answer()
+    is_read_on(
+        rt,
+        text,
+        game,
+        0,
+        Wanted::Fault(PgnFaultKind::TooLong, 6),
+        1,
     );
-    assert_eq!(rt; game.ply(), 1);
-    assert_eq!(rt; game.outcome(), Outcome::Unfinished);
+    has_outcome(rt, game, Outcome::Unfinished);
 }
 
 #[test]
@@ -691,25 +709,10 @@ fn a_game_of_one_move_is_full(rt: HostRuntime) -> Result<(), Fail> {
     let mut game = Game::open(rt.alloc(), Plain::new(), 1)?;
     is_too_long(&rt, b"1. e4 e5 *", &mut game);
     is_too_long(&rt, b"1. e4 e4 *", &mut game);
-    assert_eq!(rt;
-        read(&rt, b"1. e4 1-0", 0, &mut game),
-        Wanted::Ended(Outcome::WhiteWins, 9).answer()
-    );
-    assert_eq!(rt; game.outcome(), Outcome::WhiteWins);
+    let ended = Wanted::Ended(Outcome::WhiteWins, 9);
+    is_read_on(&rt, b"1. e4 1-0", &mut game, 0, ended, 1);
+    has_outcome(&rt, &game, Outcome::WhiteWins);
     Ok(())
-}
-
-// What is read from a place on, and how many half-moves stand then.
-fn is_read_on(
-    rt: &impl Abort,
-    text: &[u8],
-    game: &mut Game<Plain>,
-    at: usize,
-    wanted: Wanted,
-    ply: usize,
-) {
-    assert_eq!(rt; read(rt, text, at, game), wanted.answer(), "at {at}");
-    assert_eq!(rt; game.ply(), ply, "at {at}");
 }
 
 fn are_read_on(
@@ -723,40 +726,41 @@ fn are_read_on(
     }
 }
 
+// Three games in a text, with the places that they are read from, what is answered, and how many half-moves stand.
+const THREE_GAMES: &[u8] = b"* 1. d4 1/2-1/2[White \"x\"]\ne4 0-1 {end}\n";
+
+const PLACES: [(usize, Wanted, usize); 5] = [
+    (0, Wanted::Ended(Outcome::Unfinished, 1), 0),
+    (1, Wanted::Ended(Outcome::Draw, 15), 1),
+    (15, Wanted::Ended(Outcome::BlackWins, 33), 1),
+    (33, Wanted::NoGame, 0),
+    (40, Wanted::NoGame, 0),
+];
+
+fn has_fen(rt: &impl Abort, position: &Position, fen: &[u8]) {
+    assert_eq!(rt; write_fen(position).as_slice(), fen);
+}
+
 #[test]
 fn games_are_read_one_after_the_other(rt: HostRuntime) -> Result<(), Fail> {
     let mut game = Game::open(rt.alloc(), Plain::new(), 100)?;
-    let text: &[u8] = b"* 1. d4 1/2-1/2[White \"x\"]\ne4 0-1 {end}\n";
-    let rows = [
-        (0, Wanted::Ended(Outcome::Unfinished, 1), 0),
-        (1, Wanted::Ended(Outcome::Draw, 15), 1),
-        (15, Wanted::Ended(Outcome::BlackWins, 33), 1),
-        (33, Wanted::NoGame, 0),
-        (40, Wanted::NoGame, 0),
-    ];
-    are_read_on(&rt, text, &mut game, &rows);
+    are_read_on(&rt, THREE_GAMES, &mut game, &PLACES);
     // With no game left, it is the initial position with nothing declared.
     assert!(rt; game.declared().is_none());
-    let initial: &[u8] = b"rnbqkbnr/pppppppp/8/8/8/8/PPPPPPPP/RNBQKBNR w KQkq - 0 1";
-    assert_eq!(rt; write_fen(&game.position()).as_slice(), initial);
+    let initial = b"rnbqkbnr/pppppppp/8/8/8/8/PPPPPPPP/RNBQKBNR w KQkq - 0 1";
+    has_fen(&rt, &game.position(), initial);
     Ok(())
 }
 
 #[test]
 fn a_bad_fen_leaves_the_start_before_it(rt: HostRuntime) -> Result<(), Fail> {
     let mut game = Game::open(rt.alloc(), Plain::new(), 100)?;
-    let fen: &[u8] = b"4k3/8/8/8/8/8/4P3/4K3 w - - 0 1";
-    assert_eq!(rt;
-        read(
-            &rt,
-            b"[FEN \"4k3/8/8/8/8/8/4P3/4K3 w - - 0 1\"]\n[FEN \"x\"] e4 *",
-            0,
-            &mut game
-        ),
-        Wanted::Fault(PgnFaultKind::BadFen, 46).answer()
-    );
-    assert_eq!(rt; write_fen(&game.start()).as_slice(), fen);
-    assert_eq!(rt; write_fen(&game.position()).as_slice(), fen);
+    let text = b"[FEN \"4k3/8/8/8/8/8/4P3/4K3 w - - 0 1\"]\n[FEN \"x\"] e4 *";
+    let fault = Wanted::Fault(PgnFaultKind::BadFen, 46);
+    is_read_on(&rt, text, &mut game, 0, fault, 0);
+    let fen = b"4k3/8/8/8/8/8/4P3/4K3 w - - 0 1";
+    has_fen(&rt, &game.start(), fen);
+    has_fen(&rt, &game.position(), fen);
     Ok(())
 }
 
@@ -776,19 +780,22 @@ dxe5 5. Qxd8+ Kxd8 6. Nxe5) 5. Qxf3 dxe5 6. Bc4 Nf6 ; 6... Qf6 is better
 15. Bxd7+ Nxd7 16. Qb8+!! Nxb8 17. Rd8# 1-0
 ";
 
+// Compares where the opera's game ends: by mate, with nothing declared.
+fn white_mates_in_the_opera(rt: &impl Abort, game: &Game<Plain>) {
+    assert_eq!(rt; game.verdict(), Some(Verdict::WhiteMates));
+    assert!(rt; game.declared().is_none());
+    has_fen(
+        rt,
+        &game.position(),
+        b"1n1Rkb1r/p4ppp/4q3/4p1B1/4P3/8/PPP2PPP/2K5 b k - 1 17",
+    );
+}
+
 #[test]
 fn a_whole_game_is_read(rt: HostRuntime) -> Result<(), Fail> {
     let mut game = Game::open(rt.alloc(), Plain::new(), 100)?;
-    assert_eq!(rt;
-        read(&rt, OPERA, 0, &mut game),
-        Wanted::Ended(Outcome::WhiteWins, OPERA.len() - 1).answer()
-    );
-    assert_eq!(rt; game.ply(), 33);
-    assert_eq!(rt; game.verdict(), Some(Verdict::WhiteMates));
-    assert!(rt; game.declared().is_none());
-    assert_eq!(rt;
-        write_fen(&game.position()).as_slice(),
-        b"1n1Rkb1r/p4ppp/4q3/4p1B1/4P3/8/PPP2PPP/2K5 b k - 1 17".as_slice()
-    );
+    let ended = Wanted::Ended(Outcome::WhiteWins, OPERA.len() - 1);
+    is_read_on(&rt, OPERA, &mut game, 0, ended, 33);
+    white_mates_in_the_opera(&rt, &game);
     Ok(())
 }

@@ -53,6 +53,7 @@ fn written(
 }
 
 /// A game that has no tags but the seven with `?`, and its text without the first six lines, each behind `# `.
+#[derive(Drop)]
 struct GameRow {
     fen: &'static [u8],
     moves: &'static [u8],
@@ -61,6 +62,13 @@ struct GameRow {
 
 const FIRST_LINES: &[u8] =
     b"# [Event \"?\"]\n# [Site \"?\"]\n# [Date \"????.??.??\"]\n# [Round \"?\"]\n# [White \"?\"]\n# [Black \"?\"]\n";
+
+// Black moves first and promotes.
+const PROMOTION: GameRow = GameRow {
+    fen: b"4k3/8/8/8/8/8/4p3/K7 b - - 0 1",
+    moves: b"e2e1q",
+    text: b"# [Result \"*\"]\n# [FEN \"4k3/8/8/8/8/8/4p3/K7 b - - 0 1\"]\n# [SetUp \"1\"]\n# [Termination \"unterminated\"]\n# \n# 1... e1=Q+ *\n# \n",
+};
 
 const GAMES: [GameRow; 10] = [
     GameRow {
@@ -86,12 +94,7 @@ const GAMES: [GameRow; 10] = [
         moves: b"f2f3 e7e5 g2g4 d8h4",
         text: b"# [Result \"0-1\"]\n# [Termination \"normal\"]\n# \n# 1. f3 e5 2. g4 Qh4# 0-1\n# \n",
     },
-    // Black moves first and promotes.
-    GameRow {
-        fen: b"4k3/8/8/8/8/8/4p3/K7 b - - 0 1",
-        moves: b"e2e1q",
-        text: b"# [Result \"*\"]\n# [FEN \"4k3/8/8/8/8/8/4p3/K7 b - - 0 1\"]\n# [SetUp \"1\"]\n# [Termination \"unterminated\"]\n# \n# 1... e1=Q+ *\n# \n",
-    },
+    PROMOTION,
     // The number stands only before the first of Black's moves.
     GameRow {
         fen: b"4k3/8/8/8/8/8/4p3/K7 b - - 0 1",
@@ -198,39 +201,68 @@ fn each_declared_result_is_written(rt: HostRuntime) -> Result<(), Fail> {
     Ok(())
 }
 
-// However the writer fails, a beginning was taken; it is told exactly then.
-#[test]
-fn failures_leave_a_beginning(rt: HostRuntime) -> Result<(), Fail> {
-    let game = played(rt.alloc(), GAMES[4].fen, GAMES[4].moves)?;
-    let whole = written(rt.alloc(), &game, &Tags::default(), b"# ", 9000)?;
-    let calls = (whole.len() as u64).div_ceil(7);
-    for fails_at in 1..=calls + 1 {
-        let mut writer = Counted::writing(PieceWriter::new(rt.alloc(), 7, fails_at));
-        // What the scratch board was at makes no difference.
-        let mut scratch = Plain::new();
-        let result = write_pgn(&game, &mut scratch, &Tags::default(), b"# ", &mut writer);
-        let taken = writer.into_writer().bytes;
-        if fails_at <= calls {
-            assert_eq!(rt; result, Err(WriteFault));
-            assert_eq!(rt; taken.len() as u64, 7 * (fails_at - 1));
-            assert!(rt; whole.starts_with(taken.as_slice()));
-        } else {
-            assert_eq!(rt; result, Ok(()));
-            assert_eq!(rt; taken.as_slice(), whole.as_slice());
-        }
+// Writes a game by seven bytes at a time, where one call may fail: the answer, and what was taken.
+fn failing_at(
+    alloc: Global,
+    game: &Game<Plain>,
+    fails_at: u64,
+) -> (Result<(), WriteFault>, Vec<u8>) {
+    let mut writer = Counted::writing(PieceWriter::new(alloc, 7, fails_at));
+    // What the scratch board was at makes no difference.
+    let mut scratch = Plain::new();
+    let result = write_pgn(game, &mut scratch, &Tags::default(), b"# ", &mut writer);
+    (result, writer.into_writer().bytes)
+}
+
+// Compares what is answered where that call fails, and what was taken.
+fn leaves(
+    rt: &impl Abort,
+    alloc: Global,
+    game: &Game<Plain>,
+    fails_at: u64,
+    answer: Result<(), WriteFault>,
+    text: Option<&[u8]>,
+) {
+    let (result, taken) = failing_at(alloc, game, fails_at);
+    assert_eq!(rt;
+        (result, Some(taken.as_slice())),
+        (answer, text),
+        "where call {fails_at} fails"
+    );
+}
+
+// Each call fails in turn, and then one behind the last.
+fn each_call_fails(rt: &impl Abort, alloc: Global, game: &Game<Plain>) -> Result<(), Fail> {
+    let whole = written(alloc, game, &Tags::default(), b"# ", 9000)?;
+    let calls = whole.len().div_ceil(7);
+    for taken in 0..calls {
+        let beginning = whole.get(..7 * taken);
+        leaves(
+            rt,
+            alloc,
+            game,
+            taken as u64 + 1,
+            Err(WriteFault),
+            beginning,
+        );
     }
+    leaves(rt, alloc, game, calls as u64 + 1, Ok(()), Some(&whole));
     Ok(())
 }
 
+// However the writer fails, a beginning was taken; it is told exactly then.
 #[test]
-fn tag_texts_are_cut(rt: HostRuntime) {
-    let long: &[u8] = b"123456789012345678901234567890123456789012345678901234567890X";
-    assert_eq!(rt; TagText::cut(long).as_bytes(), &long[..60]);
-    assert_eq!(rt;
-        TagText::cut(b"\x1F\xC3\xA9~\x7F \n{}").as_bytes(),
-        b"???~? ?{}".as_slice()
-    );
-    let tags = Tags::default();
+fn failures_leave_a_beginning(rt: HostRuntime) -> Result<(), Fail> {
+    let game = played(rt.alloc(), PROMOTION.fen, PROMOTION.moves)?;
+    each_call_fails(&rt, rt.alloc(), &game)
+}
+
+fn is_tag_text(rt: &impl Abort, found: &TagText, text: &[u8]) {
+    assert_eq!(rt; found.as_bytes(), text);
+}
+
+// All texts of the tags by default.
+fn are_unknown(rt: &impl Abort, tags: &Tags) {
     for text in [
         &tags.event,
         &tags.site,
@@ -238,9 +270,17 @@ fn tag_texts_are_cut(rt: HostRuntime) {
         &tags.white,
         &tags.black,
     ] {
-        assert_eq!(rt; text.as_bytes(), b"?".as_slice());
+        is_tag_text(rt, text, b"?");
     }
-    assert_eq!(rt; tags.date.as_bytes(), b"????.??.??".as_slice());
+    is_tag_text(rt, &tags.date, b"????.??.??");
+}
+
+#[test]
+fn tag_texts_are_cut(rt: HostRuntime) {
+    let long = b"123456789012345678901234567890123456789012345678901234567890X";
+    is_tag_text(&rt, &TagText::cut(long), &long[..60]);
+    is_tag_text(&rt, &TagText::cut(b"\x1F\xC3\xA9~\x7F \n{}"), b"???~? ?{}");
+    are_unknown(&rt, &Tags::default());
 }
 
 #[test]

@@ -25,17 +25,20 @@ fn board_at(fen: &[u8]) -> Result<Plain, Fail> {
     Ok(board)
 }
 
-fn check(rt: &impl Abort, board: &Plain, text: &[u8], wanted: Wanted) {
-    let found = read_move(board, text);
+// Whether what came of a text was to come of it.
+fn is_wanted(found: Reading, wanted: Wanted) -> bool {
     match (found, wanted) {
-        (Reading::Move(m), Wanted::Move(name)) => {
-            assert_eq!(rt; coordinate(m).as_slice(), name, "at {text:?}");
-        }
+        (Reading::Move(m), Wanted::Move(name)) => coordinate(m).as_slice() == name,
         (Reading::Ambiguous, Wanted::Ambiguous)
         | (Reading::NoSuch, Wanted::NoSuch)
-        | (Reading::NotAMove, Wanted::NotAMove) => {}
-        _ => assert!(rt; false, "{text:?} is {found:?}"),
+        | (Reading::NotAMove, Wanted::NotAMove) => true,
+        _ => false,
     }
+}
+
+fn check(rt: &impl Abort, board: &Plain, text: &[u8], wanted: Wanted) {
+    let found = read_move(board, text);
+    assert!(rt; is_wanted(found, wanted), "{text:?} is {found:?}");
     assert_eq!(rt;
         has_move_shape(text),
         found != Reading::NotAMove,
@@ -305,6 +308,36 @@ fn long_runs_of_marks(rt: HostRuntime) -> Result<(), Fail> {
     Ok(())
 }
 
+// Compares the SAN of the move that a text spells.
+fn is_written(rt: &impl Abort, board: &mut Plain, name: &[u8], wanted: &[u8]) -> Result<(), Fail> {
+    let Reading::Move(m) = read_move(board, name) else {
+        return Err("a legal move".into());
+    };
+    assert_eq!(rt; san(board, m).as_slice(), wanted);
+    Ok(())
+}
+
+// Makes the move that a text spells.
+fn make(board: &mut Plain, text: &[u8]) -> Result<(), Fail> {
+    let Reading::Move(m) = read_move(board, text) else {
+        return Err("a legal move".into());
+    };
+    let _saved = board.make(m);
+    Ok(())
+}
+
+fn is_at(rt: &impl Abort, board: &Plain, fen: &[u8]) {
+    assert_eq!(rt; write_fen(&board.position()).as_slice(), fen);
+}
+
+// Writes a move from a position, at which the board stays.
+fn is_written_from(rt: &impl Abort, fen: &[u8], name: &[u8], wanted: &[u8]) -> Result<(), Fail> {
+    let mut board = board_at(fen)?;
+    is_written(rt, &mut board, name, wanted)?;
+    is_at(rt, &board, fen);
+    Ok(())
+}
+
 // A position, a move by coordinates, and its SAN.
 const WRITTEN: [(&[u8], &[u8], &[u8]); 24] = [
     (
@@ -360,12 +393,7 @@ const WRITTEN: [(&[u8], &[u8], &[u8]); 24] = [
 #[test]
 fn san_of_moves(rt: HostRuntime) -> Result<(), Fail> {
     for (fen, name, wanted) in &WRITTEN {
-        let mut board = board_at(fen)?;
-        let Reading::Move(m) = read_move(&board, name) else {
-            return Err("a legal move".into());
-        };
-        assert_eq!(rt; san(&mut board, m).as_slice(), *wanted);
-        assert_eq!(rt; write_fen(&board.position()).as_slice(), *fen);
+        is_written_from(&rt, fen, name, wanted)?;
     }
     Ok(())
 }
@@ -377,20 +405,22 @@ const OPERA_GAME: [&[u8]; 33] = [
     b"Rd8", b"Rxd7", b"Rxd7", b"Rd1", b"Qe6", b"Bxd7+", b"Nxd7", b"Qb8+", b"Nxb8", b"Rd8#",
 ];
 
+// Reads a move, writes it as it was read, and makes it.
+fn is_read_and_written(rt: &impl Abort, board: &mut Plain, text: &[u8]) -> Result<(), Fail> {
+    is_written(rt, board, text, text)?;
+    make(board, text)
+}
+
 #[test]
 fn a_game_is_read_and_written(rt: HostRuntime) -> Result<(), Fail> {
     let mut board = Plain::new();
     for text in &OPERA_GAME {
-        let Reading::Move(m) = read_move(&board, text) else {
-            return Err("a legal move".into());
-        };
-        let again = m;
-        assert_eq!(rt; san(&mut board, again).as_slice(), *text);
-        let _saved = board.make(m);
+        is_read_and_written(&rt, &mut board, text)?;
     }
-    assert_eq!(rt;
-        write_fen(&board.position()).as_slice(),
-        b"1n1Rkb1r/p4ppp/4q3/4p1B1/4P3/8/PPP2PPP/2K5 b k - 1 17".as_slice()
+    is_at(
+        &rt,
+        &board,
+        b"1n1Rkb1r/p4ppp/4q3/4p1B1/4P3/8/PPP2PPP/2K5 b k - 1 17",
     );
     Ok(())
 }
@@ -401,14 +431,12 @@ fn moves_from_the_initial_position(rt: HostRuntime) -> Result<(), Fail> {
     check(&rt, &board, b"bc3", Wanted::NoSuch);
     check(&rt, &board, b"O-O", Wanted::NoSuch);
     for text in [b"e4!?".as_slice(), b"e5".as_slice(), b"Nge2".as_slice()] {
-        let Reading::Move(m) = read_move(&board, text) else {
-            return Err("a legal move".into());
-        };
-        let _saved = board.make(m);
+        make(&mut board, text)?;
     }
-    assert_eq!(rt;
-        write_fen(&board.position()).as_slice(),
-        b"rnbqkbnr/pppp1ppp/8/4p3/4P3/8/PPPPNPPP/RNBQKB1R b KQkq - 1 2".as_slice()
+    is_at(
+        &rt,
+        &board,
+        b"rnbqkbnr/pppp1ppp/8/4p3/4P3/8/PPPPNPPP/RNBQKB1R b KQkq - 1 2",
     );
     Ok(())
 }
@@ -424,6 +452,15 @@ fn a_pawn_becomes_what_is_named(rt: HostRuntime) -> Result<(), Fail> {
         promotion: Some(Kind::Knight),
     };
     assert_eq!(rt; coordinate(m).as_slice(), b"e7e8n".as_slice());
+    Ok(())
+}
+
+// Compares how the move that a text spells is shown.
+fn is_shown(rt: &impl Abort, board: &Plain, name: &[u8], wanted: &[u8]) -> Result<(), Fail> {
+    let Reading::Move(m) = read_move(board, name) else {
+        return Err("a legal move".into());
+    };
+    assert_eq!(rt; move_text(&board.position(), m).as_slice(), wanted);
     Ok(())
 }
 
@@ -443,10 +480,7 @@ fn castling_in_chess960_is_shown_by_its_side(rt: HostRuntime) -> Result<(), Fail
     let mut board = Plain::new();
     board.set(&position);
     for (name, wanted) in &SHOWN {
-        let Reading::Move(m) = read_move(&board, name) else {
-            return Err("a legal move".into());
-        };
-        assert_eq!(rt; move_text(&position, m).as_slice(), *wanted);
+        is_shown(&rt, &board, name, wanted)?;
     }
     Ok(())
 }
@@ -454,14 +488,7 @@ fn castling_in_chess960_is_shown_by_its_side(rt: HostRuntime) -> Result<(), Fail
 #[test]
 fn castling_in_normal_chess_is_shown_by_the_kings_squares(rt: HostRuntime) -> Result<(), Fail> {
     let board = board_at(b"5k2/8/8/8/8/8/8/4K2R w K - 0 1")?;
-    let Reading::Move(m) = read_move(&board, b"O-O") else {
-        return Err("a legal move".into());
-    };
-    assert_eq!(rt;
-        move_text(&board.position(), m).as_slice(),
-        b"e1g1".as_slice()
-    );
-    Ok(())
+    is_shown(&rt, &board, b"O-O", b"e1g1")
 }
 
 #[test]
