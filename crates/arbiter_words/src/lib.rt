@@ -16,6 +16,8 @@ mod reading;
 mod spelled;
 
 pub use fault::WordsFault;
-pub use laws::{plain_words_are_refused, plain_words_are_taken, plans_are_named, verify_is_as_spelled};
+pub use laws::{
+    plain_words_are_refused, plain_words_are_taken, plans_are_named, verify_is_as_spelled,
+};
 pub use plan::{MatchPlan, Plan, VerifyPlan};
 pub use reading::read_words;

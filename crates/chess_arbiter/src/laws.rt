@@ -7,7 +7,9 @@ ghost use Rattle.chess_cecp.specs.declared.session.TheConstants.{COMMAND_LEN};
 ghost use Rattle.chess_match.specs.declared.run.TheConstants.{ENGINE_LINE_LEN};
 ghost use Rattle.chess_arbiter.specs.laws.Laws.{RefusesWords, ServesSession, ShowsHelp, VerifiesGames};
 
-use arbiter_words::{plain_words_are_refused, plain_words_are_taken, plans_are_named, verify_is_as_spelled};
+use arbiter_words::{
+    plain_words_are_refused, plain_words_are_taken, plans_are_named, verify_is_as_spelled,
+};
 
 /// No words, or `session` alone, serve a session, and `verify` alone verifies games: such words are never refused,
 /// whatever else the grammar of the words has.
