@@ -10,6 +10,4 @@ mod program;
 #[cfg(test)]
 mod runs;
 #[cfg(test)]
-mod stored;
-#[cfg(test)]
 mod verify;
