@@ -1,4 +1,5 @@
-//! The program `arbiter`. Its stored run is a session.
+//! The program `arbiter`. Its stored run is a match between two scripts of data/, each of which becomes the program
+//! again, as a stub, once other runs of the program came out as the files there have it.
 #![tactic(auto)]
 
 use std::process::ExitCode;

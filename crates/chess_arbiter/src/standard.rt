@@ -50,7 +50,7 @@ fn words_fault(error: &io::Error) -> ProgramFault
 
 /// Runs the program on the words behind its name and the standard streams, as `main` does, and gives its exit status,
 /// that of `run_program`; 2 where a word is no UTF-8, and 1 where there is no memory for the words. No clause says so:
-/// it is read off these lines, and stored runs show it.
+/// it is read off these lines, and the stored run shows it.
 pub fn run(rt: &HostRuntime) -> ExitCode {
     match status_of(rt) {
         Ok(status) => ExitCode::from(status),
