@@ -2,7 +2,7 @@
 
 ghost use Rattle.std.specs.Prelude.{◌≡◌, ◌≤◌, ◌∷◌, []};
 ghost use Rattle.arrayvec.specs.ArrayVec.{array_vec_len};
-ghost use Rattle.chess_text.specs.Moves.{coordinate, small_letter_text};
+ghost use Rattle.chess_base.specs.Coordinates.{small_letter_text, coordinate};
 ghost use Rattle.chess_text.specs.San.{castling_text, shown_move};
 
 use arrayvec::ArrayVec;
