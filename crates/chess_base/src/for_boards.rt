@@ -1,5 +1,4 @@
-//! What the crates above need of the rules, where they keep a board of their own or read a text. Each of these speaks of
-//! a `Setup` or of its men; whoever only uses positions wants `Position`.
+//! What the crates above that keep a board or read a text need of the rules. Users of positions want `Position`.
 
 pub use crate::after::{
     fullmove_after, halfmove_after, man_that_lands, rights_after, second_square_emptied, steps_of,

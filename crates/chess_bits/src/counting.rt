@@ -240,8 +240,8 @@ impl Bits {
         count
     }
 
-    // How many legal moves there are: those of the free men kind by kind, and then those of all others: the king and the
-    // men that may shield him, or in check all men.
+    // How many legal moves there are: those of the free men kind by kind, and then those of all others: the king and
+    // the men that may shield him, or in check all men.
     pub(crate) fn count(&self) -> usize
         ensures { result ≡ length (moves self.now) }
     {
