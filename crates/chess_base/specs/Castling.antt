@@ -48,6 +48,7 @@ abbrev pub right_on : ColourRights → CastlingSide → Option ℕ
 right_on r KingSide = r.king_side
 right_on r QueenSide = r.queen_side
 
+-- the same of a colour, from the rights of both
 abbrev pub right_of : Rights → Colour → CastlingSide → Option ℕ
 right_of r White w = right_on r.white w
 right_of r Black w = right_on r.black w
@@ -74,6 +75,7 @@ stand_for_castling Normal men c w s =
     && is_man c Rook (man_at men s)
 stand_for_castling Fischerandom men c w s = is_beside c w (king_square men c) s && is_man c Rook (man_at men s)
 
+-- king and rook stand so for a right, given by its rook's square; where there is none nothing is asked
 abbrev pub right_stands_at : Variant → Men → Colour → CastlingSide → Option ℕ → Bool
 right_stands_at v men c w None = true
 right_stands_at v men c w (Some s) = stand_for_castling v men c w s
@@ -117,6 +119,7 @@ castle_from c w k r = record {
   rook_to = home_square c (castled_rook_file w);
 }
 
+-- the same with the rook's square, if there is one
 abbrev pub castle_with : Colour → CastlingSide → ℕ → Option ℕ → Option Castle
 castle_with c w k None = None
 castle_with c w k (Some r) = Some (castle_from c w k r)

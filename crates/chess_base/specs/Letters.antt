@@ -7,6 +7,7 @@ use Rattle.chess_base.specs.declared.man.Kind.{Kind}
 use Rattle.chess_base.specs.declared.man.Kind.TheVariants.{Pawn, Knight, Bishop, Rook, Queen, King}
 use Rattle.chess_base.specs.Squares.{file, rank}
 
+-- the first number of a list, 0 where it is empty
 abbrev first_of : List ℕ → ℕ
 first_of [] = 0
 first_of (c ∷ cs) = c
@@ -30,9 +31,11 @@ space = byte " "
 
 -- ---- letters and digits
 
+-- the bytes of A to Z and of a to z
 abbrev pub is_letter : ℕ → Bool
 is_letter c = (nat_le (byte "A") c && nat_le c (byte "Z")) || (nat_le (byte "a") c && nat_le c (byte "z"))
 
+-- the bytes of 0 to 9
 abbrev pub is_digit : ℕ → Bool
 is_digit c = nat_le (byte "0") c && nat_le c (byte "9")
 

@@ -10,4 +10,5 @@ pub mod Initial
 pub mod MoveList
 pub mod Before
 pub mod Letters
+pub mod Coordinates
 pub mod laws

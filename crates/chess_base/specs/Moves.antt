@@ -50,6 +50,7 @@ pawn_advances p m =
 unfoldable pub pawn_captures : Setup → Move → Bool
 pawn_captures p m = attacks p.men m.from m.to && (is_of (other p.side) (man_at p.men m.to) || is_square p.target m.to)
 
+-- a pawn advances or captures, with a promotion exactly where it reaches its last rank (3.7)
 unfoldable pub pawn_moves : Setup → Move → Bool
 pawn_moves p m =
     promotion_fits (rank m.to == first_rank (other p.side)) m.promotion && (pawn_advances p m || pawn_captures p m)
@@ -63,6 +64,7 @@ abbrev pub castles_or_moves : Setup → Move → Option Castle → Bool
 castles_or_moves p m None = man_moves p m
 castles_or_moves p m (Some k) = castles p m k
 
+-- that man, if it is one of the side on move, goes so: a pawn as pawns do, any other man as it moves or castles
 abbrev pub moves_as : Setup → Move → Option Man → Bool
 moves_as p m None = false
 moves_as p m (Some x) =
@@ -99,6 +101,7 @@ steps_of p m = record {
   mover = man_that_lands (man_at p.men m.from) m.promotion;
 }
 
+-- the men after a move
 unfoldable pub men_after : Setup → Move → Men
 men_after p m = men_stepped p.men (steps_of p m)
 
@@ -108,12 +111,14 @@ right_after p m c None = None
 right_after p m c (Some s) =
     if is_man c King (man_at p.men m.from) || (m.from == s) || (m.to == s) then None else Some s
 
+-- the rights of colour c after a move
 abbrev pub colour_rights_after : Setup → Move → Colour → ColourRights
 colour_rights_after p m c = record {
   king_side = right_after p m c (right_of p.rights c KingSide);
   queen_side = right_after p m c (right_of p.rights c QueenSide);
 }
 
+-- the rights of both colours after a move
 unfoldable pub rights_after : Setup → Move → Rights
 rights_after p m = record { white = colour_rights_after p m White; black = colour_rights_after p m Black }
 
@@ -125,9 +130,11 @@ target_after p m = if is_double_advance p m then Some (forward p.side m.from) el
 unfoldable pub resets_clock : Setup → Move → Bool
 resets_clock p m = is_man p.side Pawn (man_at p.men m.from) || is_of (other p.side) (man_at p.men m.to)
 
+-- the halfmove clock after a move: 0, or one more, up to its limit
 unfoldable pub halfmove_after : Setup → Move → ℕ
 halfmove_after p m = if resets_clock p m then 0 else min (p.halfmove + 1) COUNTER_LIMIT
 
+-- the fullmove number after a move of that colour: one more after Black's, up to its limit
 abbrev pub fullmove_after : Colour → ℕ → ℕ
 fullmove_after White n = n
 fullmove_after Black n = min (n + 1) COUNTER_LIMIT

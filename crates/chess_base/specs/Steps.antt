@@ -15,5 +15,6 @@ man_stepped men t s =
     else if is_square t.second_from s || (t.from == s) then None
     else man_at men s
 
+-- the men on all 64 squares afterwards
 unfoldable pub men_stepped : Men → Steps → Men
 men_stepped men t = from_below 64 (man_stepped men t)

@@ -57,8 +57,8 @@ pub fn castled_king_file(castling_side: CastlingSide) -> u8
     }
 }
 
-// The file to which castling on that side takes the rook (Laws of Chess 2023, article 3.8.2).
-pub(crate) fn castled_rook_file(castling_side: CastlingSide) -> u8
+/// The file to which castling on that side takes the rook (Laws of Chess 2023, article 3.8.2).
+pub fn castled_rook_file(castling_side: CastlingSide) -> u8
     ensures value { result ≡ castled_rook_file castling_side }
     ensures in_range { result < 8 }
 {

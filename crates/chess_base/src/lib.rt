@@ -9,16 +9,17 @@
 #![tactic(auto)]
 
 mod after;
-pub mod attack;
-pub mod before;
+mod attack;
+mod before;
 mod castling;
 mod fault;
+pub mod for_boards;
 mod initial;
 mod laws;
 mod man;
 mod pawns;
 mod position;
-pub mod rules;
+mod rules;
 mod setup;
 mod sound;
 mod square;

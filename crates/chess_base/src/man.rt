@@ -1,6 +1,7 @@
 //! Colours, men, castling rights and moves.
 
 ghost use Rattle.std.specs.Prelude.{◌≡◌, Some};
+ghost use Rattle.chess_base.specs.Coordinates.{small_letter_text, coordinate};
 ghost use Rattle.chess_base.specs.Letters.{colour_word, kind_word};
 ghost use Rattle.chess_base.specs.Men.{other, is_of, is_man, same_kind, same_colour};
 
@@ -107,4 +108,30 @@ pub struct Move {
     pub from: Square,
     pub to: Square,
     pub promotion: Option<Kind>,
+}
+
+// The small letter of a kind of men.
+fn small_letter(kind: Kind) -> &'static str
+    ensures { result.now ≡ small_letter_text kind }
+{
+    match kind {
+        Kind::King => "k",
+        Kind::Queen => "q",
+        Kind::Rook => "r",
+        Kind::Bishop => "b",
+        Kind::Knight => "n",
+        Kind::Pawn => "p",
+    }
+}
+
+impl fmt::Display for Move {
+    ghost output = { λ m. Some (coordinate m) };
+
+    fn fmt<W: fmt::Write>(&self, f: &mut fmt::Formatter<W>) -> fmt::Result {
+        write!(f, "{}{}", self.from, self.to)?;
+        match self.promotion {
+            None => Ok(()),
+            Some(kind) => f.write_str(small_letter(kind)),
+        }
+    }
 }

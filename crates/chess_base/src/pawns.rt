@@ -22,7 +22,8 @@ pub(crate) fn forward(colour: Colour, number: u8) -> u8
     }
 }
 
-fn pawn_rank(colour: Colour) -> u8
+/// The rank on which that colour's pawns begin (Laws of Chess 2023, article 2.3).
+pub fn pawn_rank(colour: Colour) -> u8
     ensures { result ≡ pawn_rank colour }
 {
     match colour {
@@ -31,7 +32,9 @@ fn pawn_rank(colour: Colour) -> u8
     }
 }
 
-fn promotion_fits(last: bool, promotion: Option<Kind>) -> bool
+/// Whether a promotion stands exactly with a pawn's move to its last rank, and is to a man that a pawn may become (Laws
+/// of Chess 2023, article 3.7.3.3).
+pub fn promotion_fits(last: bool, promotion: Option<Kind>) -> bool
     ensures { result ≡ promotion_fits last promotion }
 {
     match promotion {

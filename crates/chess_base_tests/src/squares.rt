@@ -1,6 +1,6 @@
 //! Names of squares, men and faults.
 
-use chess_base::{Colour, FenFault, Kind, Position, Square};
+use chess_base::{Colour, FenFault, Kind, Move, Position, Square};
 use std::test::Fail;
 
 const NAMES: [(&[u8], u8); 6] = [
@@ -39,6 +39,29 @@ fn values_are_shown(rt: HostRuntime) -> Result<(), Fail> {
         told.as_bytes(),
         b"white knight: a colour has more than 16 men".as_slice()
     );
+    Ok(())
+}
+
+// Moves, each with its text.
+const MOVES: [(&[u8], &[u8], Option<Kind>, &[u8]); 3] = [
+    (b"e2", b"e4", None, b"e2e4"),
+    (b"e7", b"e8", Some(Kind::Queen), b"e7e8q"),
+    (b"a2", b"a1", Some(Kind::Knight), b"a2a1n"),
+];
+
+#[test]
+fn moves_are_shown_by_their_squares(rt: HostRuntime) -> Result<(), Fail> {
+    for (from, to, promotion, text) in &MOVES {
+        let from = Square::named(from).ok_or("a square")?;
+        let to = Square::named(to).ok_or("a square")?;
+        let m = Move {
+            from,
+            to,
+            promotion: *promotion,
+        };
+        let told = format!(in rt.alloc(); "{m}")?;
+        assert_eq!(rt; told.as_bytes(), *text);
+    }
     Ok(())
 }
 

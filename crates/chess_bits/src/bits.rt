@@ -7,13 +7,12 @@ ghost use Rattle.chess_base.specs.Men.{Men, man_at, is_man};
 ghost use Rattle.chess_base.specs.declared.man.Kind.TheVariants.{King};
 ghost use Rattle.chess_bits.specs.ties.Occupancy.{IsOccupied};
 
-use crate::listing::promotion_fits;
 use crate::placing::{move_back, move_on};
 use crate::reaching::reached_from;
 use crate::sets::Sets;
 use crate::tables::AttackTables;
 use crate::targets::{is_king, is_pawn};
-use chess_base::before::saved_of;
+use chess_base::for_boards::{promotion_fits, saved_of};
 use chess_base::{Colour, Kind, Move, Position, Saved, Setup, Square};
 use chess_moves::{Board, MoveList, SquareSet, word_with, would_promote};
 use std::alloc::{AllocError, Global};

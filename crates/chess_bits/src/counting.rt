@@ -14,8 +14,8 @@ ghost use Rattle.chess_moves.specs.Sets.{has, members};
 
 use crate::bits::Bits;
 use crate::table::Shape;
-use crate::targets::{is_pawn, pawn_rank};
-use chess_base::attack::is_man;
+use crate::targets::is_pawn;
+use chess_base::for_boards::{is_man, pawn_rank};
 use chess_base::{Kind, Move, Square};
 use chess_moves::{Board, SquareSet, would_promote};
 
@@ -240,8 +240,8 @@ impl Bits {
         count
     }
 
-    // How many legal moves there are: those of the free men kind by kind, and then those of all others: the king and the
-    // men that may shield him, or in check all men.
+    // How many legal moves there are: those of the free men kind by kind, and then those of all others: the king and
+    // the men that may shield him, or in check all men.
     pub(crate) fn count(&self) -> usize
         ensures { result ≡ length (moves self.now) }
     {

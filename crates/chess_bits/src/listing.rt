@@ -17,17 +17,6 @@ use crate::bits::Bits;
 use chess_base::{Kind, Move, Square};
 use chess_moves::{MoveList, SquareSet, would_promote};
 
-// Whether a promotion stands exactly with a move that promotes.
-pub(crate) fn promotion_fits(promotes: bool, promotion: Option<Kind>) -> bool
-    ensures { result ≡ promotion_fits promotes promotion }
-{
-    match promotion {
-        None => !promotes,
-        Some(Kind::King | Kind::Pawn) => false,
-        Some(_) => promotes,
-    }
-}
-
 impl Bits {
     // Adds the legal moves from there to there with one of those promotions, which fit.
     fn add_moves_with(

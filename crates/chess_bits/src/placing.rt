@@ -11,10 +11,9 @@ ghost use Rattle.chess_bits.specs.ties.BoardSets.{IsSets};
 ghost use Rattle.chess_moves.specs.Made.{IsMade};
 
 use crate::sets::Sets;
-use chess_base::attack::is_man;
-use chess_base::before::steps_back;
-use chess_base::rules::{
-    Steps, fullmove_after, halfmove_after, man_that_lands, rights_after, steps_of, target_after,
+use chess_base::for_boards::{
+    Steps, fullmove_after, halfmove_after, is_man, man_that_lands, rights_after, steps_back,
+    steps_of, target_after,
 };
 use chess_base::{Kind, Man, Move, Saved, Setup, Square};
 

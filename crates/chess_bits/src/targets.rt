@@ -19,8 +19,10 @@ use crate::king::set_of;
 use crate::line::Line;
 use crate::reaching::reached_from;
 use crate::table::Shape;
-use chess_base::attack::{is_man, is_of};
-use chess_base::rules::{Castle, castle_of, castled_king_file, home_square, right_of};
+use chess_base::for_boards::{
+    Castle, castle_of, castled_king_file, castled_rook_file, home_square, is_man, is_of, pawn_rank,
+    right_of,
+};
 use chess_base::{CastlingSide, Colour, Kind, Move, Square, Variant};
 use chess_moves::SquareSet;
 
@@ -32,26 +34,6 @@ fn ahead(colour: Colour, square: Square) -> Option<Square>
         Colour::White if square.number() >= 56 => None,
         Colour::White => Some(Square::new(square.number() + 8)),
         Colour::Black => Some(Square::new(square.number().saturating_sub(8))),
-    }
-}
-
-pub(crate) fn pawn_rank(colour: Colour) -> u8
-    ensures { result ≡ pawn_rank colour }
-{
-    match colour {
-        Colour::White => 1,
-        Colour::Black => 6,
-    }
-}
-
-// The file to which castling on that side takes the rook (Laws of Chess 2023, article 3.8.2).
-fn castled_rook_file(castling_side: CastlingSide) -> u8
-    ensures value { result ≡ castled_rook_file castling_side }
-    ensures in_range { result < 8 }
-{
-    match castling_side {
-        CastlingSide::KingSide => 5,
-        CastlingSide::QueenSide => 3,
     }
 }
 

@@ -4,11 +4,11 @@ use Rattle.std.specs.List.{flat_map}
 use Rattle.chess_base.specs.declared.man.Move.{Move}
 use Rattle.chess_base.specs.declared.man.Variant.TheVariants.{Normal}
 use Rattle.chess_base.specs.declared.setup.Setup.{Setup}
+use Rattle.chess_base.specs.Coordinates.{coordinate}
 use Rattle.chess_base.specs.Castling.{castling}
 use Rattle.chess_base.specs.Moves.{after}
 use Rattle.chess_base.specs.MoveList.{moves}
 use Rattle.chess_fen.specs.Reading.{fen_reading_as}
-use Rattle.chess_text.specs.Moves.{coordinate}
 use Rattle.chess_text.specs.San.{shown_move, shown_as}
 use Rattle.chess_game.specs.Game.{State, current}
 use Rattle.chess_game.specs.Line.{last}

@@ -16,7 +16,7 @@ use Rattle.chess_base.specs.declared.fault.FenFault.TheVariants as faults
 use Rattle.chess_fen.specs.Texts.{number_of, placement_of, is_castling, target_of, fields_of}
 use Rattle.chess_fen.specs.Reading.{◌>>=◌, Description, side_of, numbers_of, counters_of, letters_of, described_by, described_in, description_of, setup_from, unless_fault, sound_from, fen_reading_as}
 use Rattle.chess_fen.specs.Spelling.{SpellsCounters, SpellsRights, SpellsFields, SpellsFenAs}
-use Rattle.chess_fen.specs.FenFaults.{IsFieldFault, IsFieldless, IsMisspelled, IsFaultAs}
+use Rattle.chess_fen.specs.FenFaults.{IsFieldFault, HasWrongFieldCount, IsMisspelled, IsFaultAs}
 use Rattle.chess_fen.proofs.SpelledRights.{spelled-castling, castling-spelled, spelled-told, told-spelled}
 use Rattle.chess_fen.proofs.SpelledFields.{spelled-placement, placement-spelled, spelled-side, side-spelled, spelled-target, target-spelled, spelled-number, number-spelled}
 
@@ -182,7 +182,7 @@ outcome v a b c d more = by_men (placement_of a) refl
 -- what a text's description says of it
 abbrev pub TextOutcome : Variant → List ℕ → Result Description FenFault → Type 0
 TextOutcome v text (Ok described) = SpellsFenAs v text (setup_from described)
-TextOutcome v text (Err f) = IsFieldless text f ⊎ IsMisspelled v text f
+TextOutcome v text (Err f) = HasWrongFieldCount text f ⊎ IsMisspelled v text f
 
 of_fields : (v : Variant) (text : List ℕ) (a b c d : List ℕ) (more : List (List ℕ))
     → fields_of text ≡ a ∷ b ∷ c ∷ d ∷ more → (length more ≡ 0) ⊎ (length more ≡ 2) → (r : Result Description FenFault)
@@ -291,7 +291,7 @@ reading_outcome v text = by_description (description_of v text) (text_outcome v 
     by_sound p s None e = s
     by_sound p s (Some f) e = inr (inr (p, s, e))
 
-    first_two : (f : FenFault) → IsFieldless text f ⊎ IsMisspelled v text f → IsFaultAs v text f
+    first_two : (f : FenFault) → HasWrongFieldCount text f ⊎ IsMisspelled v text f → IsFaultAs v text f
     first_two f (inl h) = inl h
     first_two f (inr h) = inr (inl h)
 

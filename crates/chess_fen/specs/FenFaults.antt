@@ -13,30 +13,30 @@ use Rattle.chess_fen.specs.Texts.{fields_of}
 use Rattle.chess_fen.specs.Writing.{side_text}
 use Rattle.chess_fen.specs.Spelling.{SpellsPlacement, IsCastling, SpellsTarget, SpellsCounters, SpellsFenAs}
 
--- a field that spells something
-abbrev pub SomeMen : List ℕ → Type 0
-SomeMen text = (men : Men) × SpellsPlacement text men
+-- a field that spells men; a side; a target, or none
+abbrev pub SpellsSomeMen : List ℕ → Type 0
+SpellsSomeMen text = (men : Men) × SpellsPlacement text men
 
-abbrev pub SomeSide : List ℕ → Type 0
-SomeSide text = (colour : Colour) × (text ≡ side_text colour)
+abbrev pub SpellsSomeSide : List ℕ → Type 0
+SpellsSomeSide text = (colour : Colour) × (text ≡ side_text colour)
 
-abbrev pub SomeTarget : List ℕ → Type 0
-SomeTarget text = (target : Option ℕ) × SpellsTarget text target
+abbrev pub SpellsSomeTarget : List ℕ → Type 0
+SpellsSomeTarget text = (target : Option ℕ) × SpellsTarget text target
 
 -- the field of this fault spells nothing, and each before it does
 abbrev pub IsFieldFault : Variant → List ℕ → List ℕ → List ℕ → List ℕ → List (List ℕ) → FenFault → Type 0
 IsFieldFault v a b c d more Placement = (men : Men) → SpellsPlacement a men → ⊥
-IsFieldFault v a b c d more Side = SomeMen a × ((colour : Colour) → b ≢ side_text colour)
-IsFieldFault v a b c d more Castling = SomeMen a × SomeSide b × (IsCastling v c → ⊥)
-IsFieldFault v a b c d more EnPassant = SomeMen a × SomeSide b × IsCastling v c
+IsFieldFault v a b c d more Side = SpellsSomeMen a × ((colour : Colour) → b ≢ side_text colour)
+IsFieldFault v a b c d more Castling = SpellsSomeMen a × SpellsSomeSide b × (IsCastling v c → ⊥)
+IsFieldFault v a b c d more EnPassant = SpellsSomeMen a × SpellsSomeSide b × IsCastling v c
     × ((target : Option ℕ) → SpellsTarget d target → ⊥)
-IsFieldFault v a b c d more Counters = SomeMen a × SomeSide b × IsCastling v c × SomeTarget d
+IsFieldFault v a b c d more Counters = SpellsSomeMen a × SpellsSomeSide b × IsCastling v c × SpellsSomeTarget d
     × ((halfmove fullmove : ℕ) → SpellsCounters more halfmove fullmove → ⊥)
 IsFieldFault v a b c d more f = ⊥
 
 -- neither four nor six fields
-abbrev pub IsFieldless : List ℕ → FenFault → Type 0
-IsFieldless text f = (f ≡ Fields) × (length (fields_of text) ≢ 4) × (length (fields_of text) ≢ 6)
+abbrev pub HasWrongFieldCount : List ℕ → FenFault → Type 0
+HasWrongFieldCount text f = (f ≡ Fields) × (length (fields_of text) ≢ 4) × (length (fields_of text) ≢ 6)
 
 -- four or six, of which one spells nothing
 abbrev pub IsMisspelled : Variant → List ℕ → FenFault → Type 0
@@ -52,7 +52,7 @@ IsUnsound v text f = (p : Setup) × SpellsFenAs v text p × (setup_fault p ≡ S
 
 -- what a fault says of a text read as that variant
 abbrev pub IsFaultAs : Variant → List ℕ → FenFault → Type 0
-IsFaultAs v text f = IsFieldless text f ⊎ IsMisspelled v text f ⊎ IsUnsound v text f
+IsFaultAs v text f = HasWrongFieldCount text f ⊎ IsMisspelled v text f ⊎ IsUnsound v text f
 
 -- as normal chess
 abbrev pub IsFault : List ℕ → FenFault → Type 0

@@ -19,12 +19,15 @@ abbrev pub letter_by : Colour → Kind → ℕ
 letter_by White kind = white_letter kind
 letter_by Black kind = white_letter kind + 32
 
+-- the letter of a man
 abbrev pub letter : Man → ℕ
 letter m = letter_by m.colour m.kind
 
+-- the six kinds of men
 abbrev pub kinds : List Kind
 kinds = Pawn ∷ Knight ∷ Bishop ∷ Rook ∷ Queen ∷ King ∷ []
 
+-- the twelve men, each kind in both colours
 abbrev pub all_men : List Man
 all_men = map (λ k. record { colour = White; kind = k }) kinds ++ map (λ k. record { colour = Black; kind = k }) kinds
 

@@ -19,16 +19,19 @@ use Rattle.chess_base.specs.Letters.{byte}
 use Rattle.chess_fen.specs.RightNames.{right_told}
 use Rattle.chess_fen.specs.Texts.{placement_of, is_castling, target_of, number_of, fields_of}
 
+-- f of the value, or the first fault
 infixl 10 ◌>>=◌
 abbrev pub ◌>>=◌ : {A B E : Type 0} → Result A E → (A → Result B E) → Result B E
 (Ok x) >>= f = f x
 (Err e) >>= f = Err e
 
+-- the side that a field names
 abbrev pub side_of : List ℕ → Option Colour
 side_of [] = None
 side_of (c ∷ []) = if c == byte "w" then Some White else (if c == byte "b" then Some Black else None)
 side_of (c ∷ d ∷ cs) = None
 
+-- both counters, if both fields write numbers; a fullmove number of 0 is read as 1
 abbrev pub numbers_of : Option ℕ → Option ℕ → Option (ℕ × ℕ)
 numbers_of (Some halfmove) (Some fullmove) = Some (halfmove, max fullmove 1)
 numbers_of (Some halfmove) None = None
@@ -79,6 +82,7 @@ described_in v (a ∷ b ∷ c ∷ d ∷ []) = described_by v a b c d []
 described_in v (a ∷ b ∷ c ∷ d ∷ e ∷ f ∷ []) = described_by v a b c d (e ∷ f ∷ [])
 described_in v _ = Err faults.Fields
 
+-- what a text describes, or its first fault: of the number of its fields, or of what one spells
 abbrev pub description_of : Variant → List ℕ → Result Description FenFault
 description_of v text = described_in v (fields_of text)
 
@@ -94,6 +98,7 @@ description d = record {
   fullmove = d.fullmove;
 }
 
+-- what the code gives says this: the same description, or the same fault
 abbrev pub IsDescribed : Result Described FenFault → Result Description FenFault → Type 0
 IsDescribed (Ok d) r = r ≡ Ok (description d)
 IsDescribed (Err f) r = r ≡ Err f
@@ -113,6 +118,7 @@ rights_named d = record {
   };
 }
 
+-- the position that is described
 abbrev pub setup_from : Description → Setup
 setup_from d = record {
   variant = d.variant;
@@ -126,6 +132,7 @@ setup_from d = record {
 
 -- ---- soundness
 
+-- the position, or its fault if there is one
 abbrev pub unless_fault : Setup → Option FenFault → Result Setup FenFault
 unless_fault p None = Ok p
 unless_fault p (Some f) = Err f
@@ -134,6 +141,7 @@ unless_fault p (Some f) = Err f
 abbrev pub sound_from : Description → Result Setup FenFault
 sound_from d = unless_fault (setup_from d) (setup_fault (setup_from d))
 
+-- the position that the text spells in that variant, or its first fault
 abbrev pub fen_reading_as : Variant → List ℕ → Result Setup FenFault
 fen_reading_as v text = description_of v text >>= sound_from
 

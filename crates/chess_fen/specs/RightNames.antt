@@ -54,6 +54,7 @@ rook_among men c w (suc k) = if is_man c Rook (man_at men (home_square c (edge_f
 unfoldable pub outer_rook : Men → Colour → CastlingSide → ℕ
 outer_rook men c w = rook_among men c w 8
 
+-- s lies left of the king, if there is one
 abbrev pub is_left_of : Option ℕ → ℕ → Bool
 is_left_of None s = false
 is_left_of (Some k) s = nat_lt s k
@@ -84,6 +85,7 @@ right_after_letters men c w found (letter ∷ letters) =
 
 -- ---- both
 
+-- the right of a colour on that side that the letters name, by the square of its rook
 abbrev pub right_told : Variant → Men → List ℕ → Colour → CastlingSide → Option ℕ
 right_told Normal men letters c w = right_named letters (side_letter c w) (home_square c (rook_file w))
 right_told Fischerandom men letters c w = right_after_letters men c w None letters

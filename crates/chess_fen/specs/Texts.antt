@@ -33,6 +33,7 @@ abbrev pub rank_after : List (Option Man) → List ℕ → Option (List (Option 
 rank_after row [] = if length row == 8 then Some row else None
 rank_after row (c ∷ cs) = option_and_then (λ squares. rank_after (row ++ squares) cs) (squares_of c)
 
+-- the eight squares that a rank's text stands for
 abbrev pub rank_of : List ℕ → Option (List (Option Man))
 rank_of text = rank_after [] text
 
@@ -43,6 +44,7 @@ abbrev pub stacked : List (Option Man) → List (List ℕ) → Option (List (Opt
 stacked above [] = Some above
 stacked above (text ∷ texts) = option_and_then (λ row. stacked (row ++ above) texts) (rank_of text)
 
+-- the men of the first field: eight ranks with a stroke between
 abbrev pub placement_of : List ℕ → Option (List (Option Man))
 placement_of text = let ranks = slice_split (λ c. c == stroke) text in if length ranks == 8 then stacked [] ranks else
     None
@@ -74,6 +76,7 @@ may_name_right Fischerandom letter = occurs letter (codes "KQkq") || names_file 
 abbrev pub names_once : Variant → List ℕ → ℕ → Bool
 names_once v text c = may_name_right v c && (times c text == 1)
 
+-- one to four letters, each of which may name a right and is there once
 abbrev pub are_letters : Variant → List ℕ → Bool
 are_letters v text = nat_lt 0 (length text) && nat_le (length text) 4 && list_all (names_once v text) text
 
@@ -84,6 +87,7 @@ is_castling v (c ∷ cs) = ((c == dash) && (length cs == 0)) || are_letters v (c
 
 -- ---- target
 
+-- the field of the target: a dash for none, or the name of a square on rank 3 or 6
 abbrev pub target_of : List ℕ → Option (Option ℕ)
 target_of [] = None
 target_of (c ∷ []) = if c == dash then Some None else None

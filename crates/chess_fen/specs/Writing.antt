@@ -25,6 +25,7 @@ row_text empty [] = run_text empty
 row_text empty (None ∷ row) = row_text (suc empty) row
 row_text empty (Some man ∷ row) = run_text empty ++ letter man ∷ row_text 0 row
 
+-- the text of a rank, from file a to file h
 abbrev pub fen_rank : List (Option Man) → List ℕ
 fen_rank row = row_text 0 row
 
@@ -33,6 +34,7 @@ abbrev pub ranks_down : ℕ → List (Option Man) → List (List (Option Man))
 ranks_down zero men = []
 ranks_down (suc rank) men = take 8 (drop (8 * rank) men) ∷ ranks_down rank men
 
+-- the text of the n lowest ranks, the highest first, with a stroke between
 abbrev pub ranks_text : ℕ → List (Option Man) → List ℕ
 ranks_text n men = join_with_byte stroke (map fen_rank (ranks_down n men))
 
@@ -40,6 +42,7 @@ ranks_text n men = join_with_byte stroke (map fen_rank (ranks_down n men))
 unfoldable pub placement_text : List (Option Man) → List ℕ
 placement_text men = ranks_text 8 men
 
+-- the letter of the side on move
 abbrev pub side_text : Colour → List ℕ
 side_text White = codes "w"
 side_text Black = codes "b"
@@ -49,6 +52,7 @@ abbrev pub right_text : Variant → Colour → CastlingSide → Option ℕ → L
 right_text v c w None = []
 right_text v c w (Some s) = right_letter v c w s ∷ []
 
+-- a dash stands in place of an empty text
 abbrev pub or_dash : List ℕ → List ℕ
 or_dash [] = codes "-"
 or_dash (c ∷ cs) = c ∷ cs

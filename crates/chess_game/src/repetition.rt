@@ -7,7 +7,7 @@ ghost use Rattle.chess_base.specs.Moves.{is_en_passant};
 ghost use Rattle.chess_game.specs.Same.{captures_legally, same_man, same_men, same_square, same_colour_rights, same_rights, live_target, same};
 ghost use Rattle.chess_game.specs.ties.Places.{IsKnown, HasWord, ShareWording};
 
-use chess_base::rules::is_en_passant;
+use chess_base::for_boards::is_en_passant;
 use chess_base::{ColourRights, Kind, Man, Move, Position, Rights, Square};
 use chess_moves::Board;
 

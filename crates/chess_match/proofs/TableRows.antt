@@ -10,7 +10,7 @@ use Rattle.chess_cecp.specs.Declaring.{result_text}
 use Rattle.chess_game.specs.declared.ends.Verdict.TheVariants.{BlackMates}
 use Rattle.std.specs.Str.{bytes_eq}
 use Rattle.chess_base.specs.declared.man.Move.{Move}
-use Rattle.chess_text.specs.Moves.{coordinate}
+use Rattle.chess_base.specs.Coordinates.{coordinate}
 use Rattle.engine_lines.specs.Items.{item_of, items_of, has_done, takes, told, plays_fischerandom, is_known}
 use Rattle.engine_lines.specs.EngineLines.{kind_of}
 use Rattle.engine_lines.specs.Levels.{LevelSeen, level_text, sessions, allotted, left}

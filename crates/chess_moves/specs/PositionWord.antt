@@ -28,6 +28,7 @@ second_factor = 0x94d049bb133111eb
 abbrev pub laid_over : ℕ → ℕ → ℕ
 laid_over z k = bit_xor z (z / 2 ^ k)
 
+-- the key with index n
 unfoldable pub key : ℕ → ℕ
 key n =
     let x = (n + 1) * increment % 2 ^ 64 in
@@ -37,6 +38,7 @@ key n =
 
 -- ---- which keys: twelve times 64 for the men on squares, one for Black on move, twice 8 for the rights
 
+-- the places of colours and kinds among the keys of men
 abbrev pub colour_place : Colour → ℕ
 colour_place White = 0
 colour_place Black = 1
@@ -68,20 +70,25 @@ abbrev pub square_keys : ℕ → Option Man → List ℕ
 square_keys s None = []
 square_keys s (Some x) = man_key x s ∷ []
 
+-- of the square s of a board
 abbrev pub keys_on : Men → ℕ → List ℕ
 keys_on men s = square_keys s (man_at men s)
 
+-- of all men
 unfoldable pub men_keys : Men → List ℕ
 men_keys men = flat_map (keys_on men) squares
 
+-- of the side on move
 abbrev pub side_keys : Colour → List ℕ
 side_keys White = []
 side_keys Black = side_key ∷ []
 
+-- of a right, if it is there
 abbrev pub right_keys : Colour → Option ℕ → List ℕ
 right_keys c None = []
 right_keys c (Some r) = right_key c r ∷ []
 
+-- of all four rights
 unfoldable pub rights_keys : Rights → List ℕ
 rights_keys r =
     right_keys White r.white.king_side ++ right_keys White r.white.queen_side ++ right_keys Black r.black.king_side
@@ -93,5 +100,6 @@ rights_keys r =
 abbrev pub xor_of : List ℕ → ℕ
 xor_of ns = fold bit_xor 0 ns
 
+-- the exclusive or of all keys of a position
 unfoldable pub position_word : Men → Colour → Rights → ℕ
 position_word men side rights = xor_of (men_keys men ++ side_keys side ++ rights_keys rights)

@@ -6,6 +6,7 @@ use Rattle.chess_base.specs.declared.man.Kind.{Kind}
 use Rattle.chess_base.specs.declared.man.Kind.TheVariants.{Pawn}
 use Rattle.chess_base.specs.declared.man.Move.{Move}
 use Rattle.chess_base.specs.declared.setup.Setup.{Setup}
+use Rattle.chess_base.specs.Coordinates.{optional, small_letter_text, coordinate}
 use Rattle.chess_base.specs.Men.{same_kind}
 use Rattle.chess_base.specs.Moves.{is_legal}
 use Rattle.chess_base.specs.Sound.{IsSound}
@@ -13,8 +14,8 @@ use Rattle.chess_base.specs.Squares.{file, rank}
 use Rattle.chess_text.specs.declared.parts.Parts.{Parts}
 use Rattle.chess_text.specs.declared.reading.Reading.TheVariants as reads
 use Rattle.chess_text.specs.laws.Laws.{SpellsAlone}
-use Rattle.chess_text.specs.Parts.{AreParts, CanPromote, unmarked, optional, promotion_text, parts_text}
-use Rattle.chess_text.specs.Moves.{coordinate, small_letter_text, has_equals, promotes_so, is_form, fits, is_by_squares, is_by_letter, is_straight, is_from_file, shape, reading}
+use Rattle.chess_text.specs.Parts.{AreParts, CanPromote, unmarked, promotion_text, parts_text}
+use Rattle.chess_text.specs.Moves.{has_equals, promotes_so, is_form, fits, is_by_squares, is_by_letter, is_straight, is_from_file, shape, reading}
 use Rattle.chess_text.proofs.Alone.{read_alone, spelled_parts, shape_parts, spells_move, move_is, written, promotes-self, promotes-same}
 use Rattle.chess_text.proofs.Legal.{IsMove, legal_move, told_of}
 use Rattle.chess_text.proofs.Solid.{bare_parts}

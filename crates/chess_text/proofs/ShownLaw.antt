@@ -6,12 +6,13 @@ use Rattle.chess_base.specs.declared.man.Move.{Move}
 use Rattle.chess_base.specs.declared.man.Variant.{Variant}
 use Rattle.chess_base.specs.declared.man.Variant.TheVariants.{Normal, Fischerandom}
 use Rattle.chess_base.specs.declared.setup.Setup.{Setup}
+use Rattle.chess_base.specs.Coordinates.{coordinate}
 use Rattle.chess_base.specs.Castling.{castling}
 use Rattle.chess_base.specs.Moves.{is_legal}
 use Rattle.chess_base.specs.Sound.{IsSound}
 use Rattle.chess_text.specs.declared.reading.Reading.TheVariants as reads
 use Rattle.chess_text.specs.laws.Laws.{SpellsAlone}
-use Rattle.chess_text.specs.Moves.{coordinate, shape, reading}
+use Rattle.chess_text.specs.Moves.{shape, reading}
 use Rattle.chess_text.specs.San.{castling_text, shown_as, shown_move}
 use Rattle.chess_text.proofs.Alone.{read_alone}
 use Rattle.chess_text.proofs.CoordinateLaw.{coordinate_alone, coordinate_shape}

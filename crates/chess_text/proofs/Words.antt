@@ -10,13 +10,14 @@ use Rattle.chess_base.specs.declared.man.Kind.{Kind}
 use Rattle.chess_base.specs.declared.man.Kind.TheVariants.{King, Queen, Rook, Bishop, Knight, Pawn}
 use Rattle.chess_base.specs.declared.setup.Setup.{Setup}
 use Rattle.chess_base.specs.Attacks.{is_in_check}
+use Rattle.chess_base.specs.Coordinates.{optional}
 use Rattle.chess_base.specs.Letters.{white_letter, square_text, is_digit, is_letter}
 use Rattle.chess_base.specs.MoveList.{moves}
 use Rattle.chess_base.specs.Squares.{file, rank}
 use Rattle.chess_text.specs.declared.parts.Parts.{Parts}
 use Rattle.chess_text.specs.declared.parts.Promotion.{Promotion}
 use Rattle.chess_text.specs.laws.Laws.{is_san_byte, begins_with_letter}
-use Rattle.chess_text.specs.Parts.{AreParts, optional, when, kind_text, file_text, rank_text, promotion_letter, promotion_text, parts_text}
+use Rattle.chess_text.specs.Parts.{AreParts, when, kind_text, file_text, rank_text, promotion_letter, promotion_text, parts_text}
 use Rattle.chess_text.specs.San.{castling_text, check_mark}
 
 -- a text before its mark; with it

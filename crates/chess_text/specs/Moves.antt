@@ -1,7 +1,7 @@
--- The texts of moves: which moves a text spells (PGN standard of 1994, section 8.2.3), and the coordinate text. This
--- project's own beside the standard: castling with the digit 0, a promotion in a small letter or without `=`, a capture
--- without `x`, more of the start square than is needed, and any run of marks.
-use Rattle.std.specs.Prelude.{ℕ, ◌+◌, ◌==◌, Bool, true, false, not, ◌&&◌, ◌||◌, if◌then◌else◌, List, [], ◌∷◌, ◌++◌, Option, Some, None, is_some, is_none, IsTrue, codes}
+-- The texts of moves: which moves a text spells (PGN standard of 1994, section 8.2.3). This project's own beside the
+-- standard: castling with the digit 0, a promotion in a small letter or without `=`, a capture without `x`, more of the
+-- start square than is needed, and any run of marks.
+use Rattle.std.specs.Prelude.{ℕ, ◌==◌, Bool, true, false, not, ◌&&◌, ◌||◌, if◌then◌else◌, List, [], ◌∷◌, Option, Some, None, is_some, is_none, IsTrue, codes}
 use Rattle.std.specs.List.{list_any, filter}
 use Rattle.std.specs.Str.{bytes_eq}
 use Rattle.chess_base.specs.declared.man.CastlingSide.{CastlingSide}
@@ -11,7 +11,6 @@ use Rattle.chess_base.specs.declared.man.Kind.TheVariants.{Pawn}
 use Rattle.chess_base.specs.declared.man.Man.{Man}
 use Rattle.chess_base.specs.declared.man.Move.{Move}
 use Rattle.chess_base.specs.declared.setup.Setup.{Setup}
-use Rattle.chess_base.specs.Letters.{white_letter, square_text}
 use Rattle.chess_base.specs.Men.{man_at, is_of, other, same_kind}
 use Rattle.chess_base.specs.Moves.{is_en_passant, is_legal}
 use Rattle.chess_base.specs.Castling.{castling}
@@ -22,7 +21,7 @@ use Rattle.chess_text.specs.declared.parts.Parts.{Parts}
 use Rattle.chess_text.specs.declared.parts.Promotion.{Promotion}
 use Rattle.chess_text.specs.declared.reading.Reading.{Reading}
 use Rattle.chess_text.specs.declared.reading.Reading.TheVariants as reads
-use Rattle.chess_text.specs.Parts.{unmarked, optional, move_parts}
+use Rattle.chess_text.specs.Parts.{unmarked, move_parts}
 
 -- ---- what a text can tell of a move
 
@@ -149,12 +148,3 @@ IsLegalReading p (reads.Move m) = IsTrue (is_legal p m)
 IsLegalReading p reads.Ambiguous = Unit {0}
 IsLegalReading p reads.NoSuch = Unit {0}
 IsLegalReading p reads.NotAMove = Unit {0}
-
--- ---- the coordinate text
-
-abbrev pub small_letter_text : Kind → List ℕ
-small_letter_text k = (white_letter k + 32) ∷ []
-
--- the start square, the end square, and what the pawn becomes
-abbrev pub coordinate : Move → List ℕ
-coordinate m = square_text m.from ++ (square_text m.to ++ optional small_letter_text m.promotion)

@@ -4,6 +4,7 @@ use Rattle.std.specs.List.{suffix_len}
 use Rattle.std.specs.Option.{option_map}
 use Rattle.chess_base.specs.declared.man.Kind.{Kind}
 use Rattle.chess_base.specs.declared.man.Kind.TheVariants.{King, Queen, Rook, Bishop, Knight, Pawn}
+use Rattle.chess_base.specs.Coordinates.{optional}
 use Rattle.chess_base.specs.Letters.{byte, white_letter, square_text}
 use Rattle.chess_text.specs.declared.parts.Parts.{Parts}
 use Rattle.chess_text.specs.declared.parts.End.{End}
@@ -18,10 +19,6 @@ unfoldable pub unmarked : List ℕ → List ℕ
 unmarked text = take (length text - suffix_len is_mark text) text
 
 -- ---- the text of parts
-
-abbrev pub optional : {A : Type 0} → (A → List ℕ) → Option A → List ℕ
-optional f None = []
-optional f (Some x) = f x
 
 abbrev pub when : Bool → List ℕ → List ℕ
 when b text = if b then text else []

@@ -13,6 +13,7 @@ use Rattle.chess_base.specs.declared.man.Variant.{Variant}
 use Rattle.chess_base.specs.declared.man.Variant.TheVariants.{Normal, Fischerandom}
 use Rattle.chess_base.specs.declared.setup.Setup.{Setup}
 use Rattle.chess_base.specs.Attacks.{is_in_check}
+use Rattle.chess_base.specs.Coordinates.{coordinate}
 use Rattle.chess_base.specs.Men.{same_kind}
 use Rattle.chess_base.specs.Moves.{after}
 use Rattle.chess_base.specs.Castling.{castling}
@@ -23,7 +24,7 @@ use Rattle.chess_text.specs.declared.parts.End.{End}
 use Rattle.chess_text.specs.declared.parts.Parts.{Parts}
 use Rattle.chess_text.specs.declared.writing.ToldStart.{ToldStart}
 use Rattle.chess_text.specs.Parts.{when, parts_text}
-use Rattle.chess_text.specs.Moves.{coordinate, described, passes}
+use Rattle.chess_text.specs.Moves.{described, passes}
 
 abbrev pub castling_text : CastlingSide → List ℕ
 castling_text KingSide = codes "O-O"

@@ -9,7 +9,7 @@ ghost use Rattle.chess_text.specs.ties.Forms.{is_spelled, castling_end, end_squa
 
 use crate::form::{Form, is_spelled, read_form};
 use crate::parts::Parts;
-use chess_base::rules::{castled_king_file, home_square, right_of};
+use chess_base::for_boards::{castled_king_file, home_square, right_of};
 use chess_base::{CastlingSide, Colour, Kind, Move, Setup, Square, Variant};
 use chess_moves::{Board, SquareSet, would_promote};
 

@@ -7,6 +7,7 @@ use Rattle.chess_bits.specs.ties.KindSets.{IsKinds}
 use Rattle.chess_moves.specs.PositionWord.{men_keys, xor_of}
 use Rattle.chess_moves.specs.Sets.{has}
 
+-- the sets and the word are those of these men
 pub record IsSets (s : Sets) (men : Men) : Type 0 where
   pub of_white : IsKinds s.white.sets White men
   pub of_black : IsKinds s.black.sets Black men

@@ -44,6 +44,7 @@ abbrev pub legal_or : Setup → Move → Option Castle → Bool → Bool
 legal_or p m None s = s
 legal_or p m (Some castle) s = is_legal p m
 
+-- s, but for castling on that side, which is told as it is legal
 abbrev pub castling_or : Setup → CastlingSide → ℕ → ℕ → Bool → Bool
 castling_or p w a b s =
     if names_end p.variant p.side w (right_of p.rights p.side w) b then legal_or p (triple a b None)

@@ -12,9 +12,11 @@ line_number File s = file s
 line_number Diagonal s = rank s + 7 - file s
 line_number Antidiagonal s = rank s + file s
 
+-- a and b are on one line of that kind
 abbrev pub same_line : Line → ℕ → ℕ → Bool
 same_line l a b = line_number l a == line_number l b
 
+-- x is on a's line of that kind, above a in number or below it
 abbrev pub is_on_ray : Line → Bool → ℕ → ℕ → Bool
 is_on_ray l up a x = same_line l a x && is_past up a x
 

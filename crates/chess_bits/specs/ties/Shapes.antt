@@ -6,6 +6,7 @@ use Rattle.chess_bits.specs.declared.table.Shape.{Shape}
 use Rattle.chess_bits.specs.declared.table.Shape.TheVariants.{King, Knight, Pawn, Lines, Diagonals, Ray}
 use Rattle.chess_bits.specs.ties.Rays.{is_on_ray}
 
+-- b is in that shape on a
 unfoldable pub in_shape : Shape → ℕ → ℕ → Bool
 in_shape King a b = not (a == b) && nat_le (gap (file a) (file b)) 1 && nat_le (gap (rank a) (rank b)) 1
 in_shape Knight a b =

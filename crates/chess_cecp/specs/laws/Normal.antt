@@ -4,9 +4,9 @@ use Rattle.std.specs.Prelude.{◌≡◌, ℕ, List, ◌∷◌, ◌++◌, length,
 use Rattle.std.specs.List.{flat_map}
 use Rattle.std.specs.Str.{bytes_eq}
 use Rattle.chess_base.specs.declared.man.Move.{Move}
+use Rattle.chess_base.specs.Coordinates.{coordinate}
 use Rattle.chess_base.specs.MoveList.{moves}
 use Rattle.chess_fen.specs.Reading.{fen_reading}
-use Rattle.chess_text.specs.Moves.{coordinate}
 use Rattle.chess_game.specs.Game.{State, current}
 use Rattle.chess_pgn.specs.declared.tags.Tags.{Tags}
 use Rattle.chess_cecp.specs.declared.command.Command.{Command}

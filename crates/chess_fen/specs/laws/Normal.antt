@@ -5,10 +5,12 @@ use Rattle.chess_base.specs.declared.setup.Setup.{Setup}
 use Rattle.chess_base.specs.Letters.{byte}
 use Rattle.chess_fen.specs.Writing.{or_dash, rights_text}
 
+-- the letter, where there is a right
 abbrev pub letter_if : Option ℕ → ℕ → List ℕ
 letter_if None c = []
 letter_if (Some corner) c = c ∷ []
 
+-- the letters of the rights that are there, in the order KQkq, or a dash
 abbrev pub normal_rights_text : Rights → List ℕ
 normal_rights_text r = or_dash (letter_if r.white.king_side (byte "K") ++ letter_if r.white.queen_side (byte "Q")
     ++ letter_if r.black.king_side (byte "k") ++ letter_if r.black.queen_side (byte "q"))

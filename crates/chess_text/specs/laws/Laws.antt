@@ -1,5 +1,6 @@
 -- The laws of the texts, each as one statement.
 use Rattle.std.specs.Prelude.{◌≡◌, ℕ, ◌≤◌, ◌==◌, nat_le, Bool, false, ◌&&◌, ◌||◌, ◌⊎◌, ◌↔◌, List, [], ◌∷◌, length, Some, IsTrue}
+use Rattle.chess_base.specs.Coordinates.{coordinate}
 use Rattle.chess_base.specs.Letters.{is_digit, is_letter, byte}
 use Rattle.std.specs.List.{list_all}
 use Rattle.chess_base.specs.declared.man.CastlingSide.{CastlingSide}
@@ -11,7 +12,7 @@ use Rattle.chess_text.specs.declared.described.Described.{Described}
 use Rattle.chess_text.specs.declared.parts.Parts.{Parts}
 use Rattle.chess_text.specs.declared.reading.Reading.TheVariants as reads
 use Rattle.chess_text.specs.Parts.{AreParts, unmarked, parts_at, parts_text}
-use Rattle.chess_text.specs.Moves.{is_castling_text, is_form, fits, spells_described, spells, shape, reading, coordinate}
+use Rattle.chess_text.specs.Moves.{is_castling_text, is_form, fits, spells_described, spells, shape, reading}
 use Rattle.chess_text.specs.San.{san, shown_move}
 
 -- the text spells the move, and of the legal moves no other
