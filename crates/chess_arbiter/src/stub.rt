@@ -2,6 +2,7 @@
 
 ghost use Rattle.std.specs.Prelude.{◌≡◌, ◌≤◌, ◌++◌, ◌∷◌, [], codes, decimal, drop, false, length, option_map};
 ghost use Rattle.byte_devices.specs.Devices.{Puts};
+ghost use Rattle.chess_base.specs.Letters.{new_line};
 ghost use Rattle.chess_cecp.specs.Commands.{command_of};
 ghost use Rattle.chess_arbiter.specs.Stub.{Gives, GivesAndFlushes, SaysRemarks, StubRan, beginning, played_text, remark, reply, row, state_at, turn};
 
@@ -48,7 +49,7 @@ fn remark(word: &str) -> Option<&'static [u8]>
 
 // Says a move, by one write unless it is long.
 fn say_move<W: Output>(writer: &mut W, word: &str) -> Result<(), WriteFault>
-    ensures { Puts (W.seen writer.old) (W.seen writer.new) result (codes "move " ++ (word.now ++ 10 ∷ [])) }
+    ensures { Puts (W.seen writer.old) (W.seen writer.new) result (codes "move " ++ (word.now ++ new_line ∷ [])) }
 {
     if word.len() > 30 {
         return put_parts(
@@ -77,7 +78,7 @@ fn say_word<W: Output>(writer: &mut W, word: &str) -> Result<(), WriteFault>
 // Says the number that it was asked for.
 #[tactic(auto, using(crate::proofs::Decimals::few_digits))]
 fn say_pong<W: Output>(writer: &mut W, number: u32) -> Result<(), WriteFault>
-    ensures { Puts (W.seen writer.old) (W.seen writer.new) result (codes "pong " ++ (decimal number ++ 10 ∷ [])) }
+    ensures { Puts (W.seen writer.old) (W.seen writer.new) result (codes "pong " ++ (decimal number ++ new_line ∷ [])) }
 {
     let mut buffer = Buffer::new();
     let mut line: ArrayVec<u8, 40> = ArrayVec::new();

@@ -7,8 +7,9 @@ ghost use Rattle.chess_game.specs.Game.{at as left_at};
 ghost use Rattle.chess_pgn.specs.GameRead.{pgn_read};
 ghost use Rattle.chess_pgn.specs.Local.{moved_answer};
 ghost use Rattle.chess_pgn.specs.Tokens.{is_white_space};
+ghost use Rattle.pgn_stream.specs.declared.stream.TheConstants.{GAME_LEN};
 ghost use Rattle.pgn_stream.specs.Stream.{unread, place, StandsAt, ReadsGame, StandsBehind, is_held, FindsEvent, StandsFurther, IsNextEvent};
-ghost use Rattle.pgn_stream.specs.ties.Held.{Slides, AddsPiece, is_full, Fills, Refills, is_told_by, held_answer, too_long, place_behind, IsPlaced, IsSound, FindsHeld};
+ghost use Rattle.pgn_stream.specs.ties.Held.{Slides, AddsPiece, window_is_full, Fills, Refills, is_told_by, held_answer, too_long, place_behind, IsPlaced, HoldsPlace, FindsHeld};
 
 use crate::events::next_event;
 use crate::laws::windows_tell;
@@ -21,8 +22,8 @@ use chess_pgn::{
 use std::alloc::{AllocError, Global};
 use std::marker::Model;
 
-// The most bytes of a game, with what stands before it.
-const GAME_LEN: usize = 16_777_216;
+/// The most bytes of a game, with what stands before it.
+pub const GAME_LEN: usize = 16_777_216;
 
 // A game's bytes, one before them and one behind them.
 const WINDOW_LEN: usize = GAME_LEN + 2;
@@ -34,16 +35,18 @@ const MOST_BEFORE: usize = usize::MAX - 33_554_431;
 const EVENT_LEN: usize = 7;
 
 /// Why the games of an input are read no further.
-#[derive(Clone, Copy, Debug, PartialEq, Eq)]
+#[derive(Clone, Copy, Debug, PartialEq, Eq, thiserror::Error)]
 pub enum StreamFault {
     /// A read failed.
+    #[error("a read failed")]
     ReadFailed,
     /// Places in the input could pass 64 bits.
+    #[error("the input is too long for places of 64 bits")]
     InputTooLong,
 }
 
 /// The games of an input, read one after another through a window of 16 MiB. A game, with what stands before it, may
-/// have 16,777,216 bytes.
+/// have `GAME_LEN` bytes, which are 16,777,216.
 #[derive(Drop)]
 pub struct PgnStream {
     // The window is its front. It never grows.
@@ -60,6 +63,7 @@ pub struct PgnStream {
 
 impl Model for PgnStream {
     ghost use Rattle.std.specs.Prelude.{◌≡◌, ◌≤◌, ◌<◌, ◌+◌, ◌^◌, take, length, vec_len};
+    ghost use Rattle.pgn_stream.specs.declared.stream.TheConstants.{GAME_LEN, WINDOW_LEN};
     ghost use Rattle.pgn_stream.specs.Stream.{StreamState};
 
     ghost Value = { StreamState };
@@ -71,8 +75,8 @@ impl Model for PgnStream {
       ended = s.ended;
     } };
 
-    ghost invariant = { λ s. (vec_len s.bytes ≡ 16777218) × (length s.bytes.items ≡ 16777218) × (s.len ≤ 16777218)
-        × (s.at ≤ s.len) × (s.len ≤ s.at + 16777217) × (0 < s.before → 0 < s.at) × (s.before + 2 ^ 25 ≤ 2 ^ 64) };
+    ghost invariant = { λ s. (vec_len s.bytes ≡ WINDOW_LEN) × (length s.bytes.items ≡ WINDOW_LEN) × (s.len ≤ WINDOW_LEN)
+        × (s.at ≤ s.len) × (s.len ≤ s.at + (GAME_LEN + 1)) × (0 < s.before → 0 < s.at) × (s.before + 2 ^ 25 ≤ 2 ^ 64) };
 }
 
 // Whether a byte is white space.
@@ -132,9 +136,9 @@ impl PgnStream {
     }
 
     // Whether no more bytes are needed for what is told of the game, or none are left.
-    #[tactic(auto, unfolding(crate::specs::ties::Held::is_full))]
-    fn is_full(&self) -> bool
-        ensures { result ≡ is_full self.now }
+    #[tactic(auto, unfolding(crate::specs::ties::Held::window_is_full))]
+    fn window_is_full(&self) -> bool
+        ensures { result ≡ window_is_full self.now }
     {
         self.ended || self.len > self.at + GAME_LEN
     }
@@ -156,7 +160,7 @@ impl PgnStream {
 
     // Reads a piece behind the window.
     fn read_piece<R: Input>(&mut self, input: &mut R) -> Result<(), ReadFault>
-        requires room { is_full self.old ≡ false }
+        requires room { window_is_full self.old ≡ false }
         requires low { self.old.at ≤ 1 }
         ensures { AddsPiece self.old self.new (R.seen input.old) (R.seen input.new) result }
     {
@@ -172,7 +176,7 @@ impl PgnStream {
         requires low { self.old.at ≤ 1 }
         ensures { Fills self.old self.new (R.seen input.old) (R.seen input.new) result }
     {
-        while !self.is_full() {
+        while !self.window_is_full() {
             self.read_piece(input)?;
         }
         Ok(())
@@ -183,7 +187,7 @@ impl PgnStream {
         ensures held { (r : InputState) (text : List ℕ) → StandsAt self.old r (R.seen input.old) text
             → Refills self.old self.new r (R.seen input.new) text result }
         ensures place { place self.new ≡ place self.old }
-        ensures full { IfOk result (λ _. is_full self.new ≡ true) }
+        ensures full { IfOk result (λ _. window_is_full self.new ≡ true) }
         ensures going { IfErr result (λ _. self.old.ended ≡ false) }
     {
         if self.ended {
@@ -198,7 +202,7 @@ impl PgnStream {
 
     // Whether all of the input that is left is in the window, and no more bytes than a game may have.
     fn is_last(&self) -> bool
-        ensures { result ≡ self.now.ended && nat_le (length self.now.window) (self.now.at + 16777216) }
+        ensures { result ≡ self.now.ended && nat_le (length self.now.window) (self.now.at + GAME_LEN) }
     {
         self.ended && self.len <= self.at + GAME_LEN
     }
@@ -216,7 +220,7 @@ impl PgnStream {
             ≡ (if is_held game.old.limit self.now then Some (held_answer game.old.limit self.now) else None) }
         ensures game { game.new ≡ left_at game.old (pgn_read game.old.limit self.now.window self.now.at).state }
         ensures placed { IfSome result (λ answer. IsPlaced self.now (length game.new.state.moves) answer) }
-        ensures sound { IsSound self.now }
+        ensures sound { HoldsPlace self.now }
     {
         faults_have_places();
         half_moves_have_bytes();
@@ -234,7 +238,7 @@ impl PgnStream {
             else Err (too_long self.now)) }
         ensures game { game.new ≡ left_at game.old (pgn_read game.old.limit self.now.window self.now.at).state }
         ensures placed { IsPlaced self.now (length game.new.state.moves) result }
-        ensures sound { IsSound self.now }
+        ensures sound { HoldsPlace self.now }
     {
         match self.read_held(game) {
             Some(answer) => answer,

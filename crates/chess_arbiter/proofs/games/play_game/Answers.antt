@@ -1,3 +1,4 @@
+-- The game is the one that `run_match` played; its limit is the one that it began with (GamesTold.limit_kept).
 use Rattle.chess_arbiter.proofs.GamesTold.{limit_kept}
 use Rattle.chess_arbiter.proofs.games.play_game.Goals as goal
 

@@ -1,3 +1,5 @@
+-- The laws of the words tell that each of them is taken, and with that what is planned and done
+-- (PlainWords.serves_session, verifies_games).
 use Rattle.std.proofs.Common.{[], ◌∷◌, codes}
 use Rattle.chess_arbiter.proofs.PlainWords.{serves_session, verifies_games}
 use Rattle.chess_arbiter.proofs.laws.plain_words_do_what_they_say.Goals as goal

@@ -1,3 +1,5 @@
+-- The law of the words tells how each of them is refused, and with that what the program does
+-- (RefusedWords.shows_help, refuses_words).
 use Rattle.std.proofs.Common.{[], ◌∷◌, codes, inl, inr, refl}
 use Rattle.clap.specs.declared.error.kind.ErrorKind.TheVariants.{DisplayHelp, DisplayVersion, MissingRequiredArgument}
 use Rattle.chess_arbiter.proofs.RefusedWords.{refuses_words, shows_help}
