@@ -29,9 +29,9 @@ abbrev pub is_kind : Kind → Option Man → Bool
 is_kind k None = false
 is_kind k (Some x) = same_kind k x.kind
 
--- a pawn, rook or queen: with one on the board, material alone tells no dead position
-abbrev pub is_heavy : Option Man → Bool
-is_heavy o = is_kind Pawn o || is_kind Rook o || is_kind Queen o
+-- with a pawn, a rook or a queen on the board, material alone tells no dead position
+abbrev pub is_pawn_rook_or_queen : Option Man → Bool
+is_pawn_rook_or_queen o = is_kind Pawn o || is_kind Rook o || is_kind Queen o
 
 abbrev pub is_minor : Option Man → Bool
 is_minor o = is_kind Bishop o || is_kind Knight o
@@ -44,7 +44,7 @@ has_bishop_on c men = some_square (λ s. same_colour c (square_colour s) && is_k
 -- colour (5.2.2): the dead positions that material alone tells; others are not judged
 unfoldable pub is_bare : Men → Bool
 is_bare men =
-    not (list_any is_heavy men)
+    not (list_any is_pawn_rook_or_queen men)
     && (nat_le (count_by is_minor men) 1 || (not (list_any (is_kind Knight) men)
     && not (has_bishop_on White men && has_bishop_on Black men)))
 
