@@ -143,6 +143,11 @@ one_of (m ∷ n ∷ ms) = reads.Ambiguous
 unfoldable pub reading : Setup → List ℕ → Reading
 reading p text = if shape text then one_of (filter (λ m. spells p text m) (moves p)) else reads.NotAMove
 
+-- what was read has a move's shape
+abbrev pub has_shape : Reading → Bool
+has_shape reads.NotAMove = false
+has_shape _ = true
+
 -- a move that is read is legal
 abbrev pub IsLegalReading : Setup → Reading → Type 0
 IsLegalReading p (reads.Move m) = IsTrue (is_legal p m)
