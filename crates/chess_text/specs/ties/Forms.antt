@@ -44,8 +44,7 @@ form_of text = form_at (castling_named (unmarked text)) (unmarked text)
 abbrev pub same_side : CastlingSide → CastlingSide → Bool
 same_side KingSide KingSide = Bool.true
 same_side QueenSide QueenSide = Bool.true
-same_side KingSide QueenSide = Bool.false
-same_side QueenSide KingSide = Bool.false
+same_side _ _ = Bool.false
 
 -- the form is one of the move that is described
 abbrev pub form_fits : Form → Described → Bool
