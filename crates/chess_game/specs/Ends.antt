@@ -25,14 +25,16 @@ use Rattle.chess_game.specs.declared.ends.Claims.{Claims}
 abbrev pub square_colour : ℕ → Colour
 square_colour s = if (file s + rank s) % 2 == 0 then Black else White
 
+-- a man of this kind stands there
 abbrev pub is_kind : Kind → Option Man → Bool
 is_kind k None = false
 is_kind k (Some x) = same_kind k x.kind
 
--- a pawn, rook or queen: with one on the board, material alone tells no dead position
-abbrev pub is_heavy : Option Man → Bool
-is_heavy o = is_kind Pawn o || is_kind Rook o || is_kind Queen o
+-- with a pawn, a rook or a queen on the board, material alone tells no dead position
+abbrev pub is_pawn_rook_or_queen : Option Man → Bool
+is_pawn_rook_or_queen o = is_kind Pawn o || is_kind Rook o || is_kind Queen o
 
+-- a minor piece stands there: a bishop or a knight
 abbrev pub is_minor : Option Man → Bool
 is_minor o = is_kind Bishop o || is_kind Knight o
 
@@ -44,10 +46,11 @@ has_bishop_on c men = some_square (λ s. same_colour c (square_colour s) && is_k
 -- colour (5.2.2): the dead positions that material alone tells; others are not judged
 unfoldable pub is_bare : Men → Bool
 is_bare men =
-    not (list_any is_heavy men)
+    not (list_any is_pawn_rook_or_queen men)
     && (nat_le (count_by is_minor men) 1 || (not (list_any (is_kind Knight) men)
     && not (has_bishop_on White men && has_bishop_on Black men)))
 
+-- the verdict that the side of this colour mates
 abbrev pub mates : Colour → Verdict
 mates White = WhiteMates
 mates Black = BlackMates
@@ -63,6 +66,7 @@ verdict start ms =
     else if nat_le 150 p.halfmove then Some SeventyFiveMoves
     else None
 
+-- the outcome of a verdict
 abbrev pub verdict_outcome : Verdict → Outcome
 verdict_outcome WhiteMates = WhiteWins
 verdict_outcome BlackMates = BlackWins
@@ -71,6 +75,7 @@ verdict_outcome InsufficientMaterial = Draw
 verdict_outcome FivefoldRepetition = Draw
 verdict_outcome SeventyFiveMoves = Draw
 
+-- what is said of a verdict
 abbrev pub verdict_comment : Verdict → List ℕ
 verdict_comment WhiteMates = codes "White mates"
 verdict_comment BlackMates = codes "Black mates"

@@ -17,6 +17,7 @@ use Rattle.chess_game.specs.declared.game.PlayRefusal.TheVariants.{Over, TooLong
 use Rattle.chess_game.specs.declared.game.NoMove.{NoMove}
 use Rattle.chess_game.specs.declared.game.BoardSaysOtherwise.{BoardSaysOtherwise}
 
+-- the state of a game: its start, the moves that stand, and what was declared
 pub record State : Type 0 where
   pub start : Setup
   pub moves : List Move
@@ -31,6 +32,7 @@ pub record Seen : Type 0 where
 abbrev pub current : State → Setup
 current s = last s.start s.moves
 
+-- the verdict on the present position and its line, if there is one
 abbrev pub verdict_now : State → Option Verdict
 verdict_now s = verdict s.start s.moves
 
@@ -44,6 +46,7 @@ outcome_by (Some v) d = verdict_outcome v
 outcome_by None (Some d) = d.outcome
 outcome_by None None = Unfinished
 
+-- the outcome of a game as it stands
 abbrev pub outcome_now : State → Outcome
 outcome_now s = outcome_by (verdict_now s) s.declared
 
@@ -51,6 +54,7 @@ outcome_now s = outcome_by (verdict_now s) s.declared
 abbrev pub from_start : Setup → State
 from_start start = record { start = start; moves = []; declared = None }
 
+-- with one move more
 abbrev pub played : State → Move → State
 played s m = record s { moves = s.moves ++ m ∷ [] }
 
@@ -58,6 +62,7 @@ played s m = record s { moves = s.moves ++ m ∷ [] }
 abbrev pub taken_back : State → ℕ → State
 taken_back s n = record s { moves = take (length s.moves - n) s.moves; declared = None }
 
+-- with this declared in place of what was
 abbrev pub with_declared : State → Option Declared → State
 with_declared s d = record s { declared = d }
 
@@ -86,6 +91,7 @@ abbrev pub unless_refused : {E : Type 0} → Option E → Result (Unit {0}) E
 unless_refused None = Ok tt
 unless_refused (Some e) = Err e
 
+-- the game after a move, which is played unless there is a reason against it
 abbrev pub after_play : Seen → Move → Option PlayRefusal → Seen
 after_play g m None = at g (played g.state m)
 after_play g m (Some e) = g
@@ -107,9 +113,11 @@ abbrev pub is_other : Option Verdict → Outcome → Bool
 is_other None o = false
 is_other (Some v) o = not (same_outcome (verdict_outcome v) o)
 
+-- the game after a result was declared, unless there is a verdict with another outcome
 abbrev pub after_declare : Seen → Declared → Seen
 after_declare g d = if is_other (verdict_now g.state) d.outcome then g else at g (with_declared g.state (Some d))
 
+-- why a result is not declared, if it is not
 abbrev pub declare_refusal : Seen → Outcome → Option BoardSaysOtherwise
 declare_refusal g o = if is_other (verdict_now g.state) o then Some (record {}) else None
 

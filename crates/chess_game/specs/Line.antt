@@ -4,6 +4,7 @@ use Rattle.chess_base.specs.declared.man.Move.{Move}
 use Rattle.chess_base.specs.declared.setup.Setup.{Setup}
 use Rattle.chess_base.specs.Moves.{is_legal, after}
 
+-- the start, and the position after each move
 abbrev pub line : Setup → List Move → List Setup
 line start [] = start ∷ []
 line start (m ∷ ms) = start ∷ line (after start m) ms

@@ -15,23 +15,24 @@ use Rattle.chess_game.specs.Line.{line, last}
 -- men of the same kind and colour stand there, or none does
 abbrev pub same_man : Option Man → Option Man → Bool
 same_man None None = true
-same_man None (Some y) = false
-same_man (Some x) None = false
 same_man (Some x) (Some y) = same_colour x.colour y.colour && same_kind x.kind y.kind
+same_man _ _ = false
 
 -- on each square
 unfoldable pub same_men : Men → Men → Bool
 same_men men others = each_square (λ s. same_man (man_at men s) (man_at others s))
 
+-- it is the same square, or both are none
 abbrev pub same_square : Option ℕ → Option ℕ → Bool
 same_square None None = true
-same_square None (Some t) = false
-same_square (Some s) None = false
 same_square (Some s) (Some t) = s == t
+same_square _ _ = false
 
+-- the rights of a colour are the same
 abbrev pub same_colour_rights : ColourRights → ColourRights → Bool
 same_colour_rights r q = same_square r.king_side q.king_side && same_square r.queen_side q.queen_side
 
+-- the rights are the same
 unfoldable pub same_rights : Rights → Rights → Bool
 same_rights r q = same_colour_rights r.white q.white && same_colour_rights r.black q.black
 

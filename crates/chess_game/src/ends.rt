@@ -2,7 +2,7 @@
 
 ghost use Rattle.std.specs.Prelude.{◌≡◌, ◌≤◌, ◌<◌, Some, length, count_by};
 ghost use Rattle.std.specs.List.{list_any};
-ghost use Rattle.chess_game.specs.Ends.{is_kind, is_heavy, is_minor, has_bishop_on, is_bare, square_colour, mates, verdict_outcome, verdict_comment};
+ghost use Rattle.chess_game.specs.Ends.{is_kind, is_pawn_rook_or_queen, is_minor, has_bishop_on, is_bare, square_colour, mates, verdict_outcome, verdict_comment};
 
 use crate::results::Outcome;
 use chess_base::{Colour, Kind, Man};
@@ -101,8 +101,8 @@ fn is_kind(kind: Kind, man: Option<Man>) -> bool
     }
 }
 
-fn is_heavy(man: Option<Man>) -> bool
-    ensures { result ≡ is_heavy man }
+fn is_pawn_rook_or_queen(man: Option<Man>) -> bool
+    ensures { result ≡ is_pawn_rook_or_queen man }
 {
     is_kind(Kind::Pawn, man) || is_kind(Kind::Rook, man) || is_kind(Kind::Queen, man)
 }
@@ -136,10 +136,10 @@ fn has_bishop_on(colour: Colour, men: &[Option<Man>; 64]) -> bool
     is_found
 }
 
-fn has_heavy(men: &[Option<Man>; 64]) -> bool
-    ensures { result ≡ list_any is_heavy men.now }
+fn has_pawn_rook_or_queen(men: &[Option<Man>; 64]) -> bool
+    ensures { result ≡ list_any is_pawn_rook_or_queen men.now }
 {
-    men.iter().any(|man| is_heavy(*man))
+    men.iter().any(|man| is_pawn_rook_or_queen(*man))
 }
 
 fn has_knight(men: &[Option<Man>; 64]) -> bool
@@ -159,7 +159,7 @@ fn minor_count(men: &[Option<Man>; 64]) -> usize
 pub(crate) fn is_bare(men: &[Option<Man>; 64]) -> bool
     ensures { result ≡ is_bare men.now }
 {
-    !has_heavy(men)
+    !has_pawn_rook_or_queen(men)
         && (minor_count(men) <= 1
             || (!has_knight(men)
                 && !(has_bishop_on(Colour::White, men) && has_bishop_on(Colour::Black, men))))

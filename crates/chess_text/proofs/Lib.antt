@@ -16,4 +16,5 @@ pub mod SanLaw
 pub mod ShownLaw
 pub mod Origins
 mod Promoting
+mod Shapes
 pub mod NormalTexts

@@ -29,6 +29,7 @@ use Rattle.chess_text.specs.Parts.{unmarked, move_parts}
 unfoldable pub captures : Setup → Move → Bool
 captures p m = is_of (other p.side) (man_at p.men m.to) || is_en_passant p m
 
+-- what is so of a move of the man on its start square, if one stands there
 abbrev pub described_as : Setup → Move → Option Man → Option Described
 described_as p m None = None
 described_as p m (Some x) =
@@ -58,6 +59,7 @@ abbrev pub names : Option ℕ → ℕ → Bool
 names None n = false
 names (Some told) n = told == n
 
+-- the text names this kind of man
 abbrev pub tells_kind : Option Kind → Kind → Bool
 tells_kind None k = false
 tells_kind (Some told) k = same_kind told k
@@ -69,6 +71,7 @@ promotes_so None (Some k) = false
 promotes_so (Some told) None = false
 promotes_so (Some told) (Some k) = same_kind told.kind k
 
+-- the promotion is written with `=`
 abbrev pub has_equals : Option Promotion → Bool
 has_equals None = false
 has_equals (Some told) = told.equals
@@ -111,9 +114,11 @@ abbrev pub castling_texts : CastlingSide → List (List ℕ)
 castling_texts KingSide = codes "O-O" ∷ codes "0-0" ∷ []
 castling_texts QueenSide = codes "O-O-O" ∷ codes "0-0-0" ∷ []
 
+-- without its marks, the text spells castling to that side
 unfoldable pub is_castling_text : List ℕ → CastlingSide → Bool
 is_castling_text text w = list_any (bytes_eq (unmarked text)) (castling_texts w)
 
+-- something is there, and passes the test
 abbrev pub passes : {A : Type 0} → (A → Bool) → Option A → Bool
 passes test None = false
 passes test (Some x) = test x
@@ -132,6 +137,7 @@ spells p text m = passes (spells_described text) (described p m)
 
 -- ---- reading
 
+-- what a text is that spells these legal moves
 abbrev pub one_of : List Move → Reading
 one_of [] = reads.NoSuch
 one_of (m ∷ []) = reads.Move m
@@ -141,6 +147,11 @@ one_of (m ∷ n ∷ ms) = reads.Ambiguous
 -- such move. What has no move's shape is no move
 unfoldable pub reading : Setup → List ℕ → Reading
 reading p text = if shape text then one_of (filter (λ m. spells p text m) (moves p)) else reads.NotAMove
+
+-- what was read has a move's shape
+abbrev pub has_shape : Reading → Bool
+has_shape reads.NotAMove = false
+has_shape _ = true
 
 -- a move that is read is legal
 abbrev pub IsLegalReading : Setup → Reading → Type 0

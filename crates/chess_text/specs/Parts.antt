@@ -20,9 +20,11 @@ unmarked text = take (length text - suffix_len is_mark text) text
 
 -- ---- the text of parts
 
+-- the text where that is so, else nothing
 abbrev pub when : Bool → List ℕ → List ℕ
 when b text = if b then text else []
 
+-- the capital letter of a kind; a file's letter; a rank's digit
 abbrev pub kind_text : Kind → List ℕ
 kind_text k = white_letter k ∷ []
 
@@ -36,12 +38,15 @@ rank_text r = (byte "1" + r) ∷ []
 abbrev pub promotion_letter : Promotion → ℕ
 promotion_letter p = if p.small then white_letter p.kind + 32 else white_letter p.kind
 
+-- what the pawn becomes, behind `=` where that is written
 abbrev pub promotion_text : Promotion → List ℕ
 promotion_text p = when p.equals (byte "=" ∷ []) ++ promotion_letter p ∷ []
 
+-- the end square, and what the pawn becomes
 abbrev pub end_text : End → List ℕ
 end_text e = square_text e.to ++ optional promotion_text e.promotion
 
+-- all parts that are there, in this order
 abbrev pub parts_text : Parts → List ℕ
 parts_text q = optional kind_text q.letter
     ++ (optional file_text q.file ++ (optional rank_text q.rank ++ (when q.takes (byte "x" ∷ []) ++ end_text q.end)))
@@ -53,6 +58,7 @@ officers = King ∷ Queen ∷ Rook ∷ Bishop ∷ Knight ∷ []
 abbrev pub promoted : List Kind
 promoted = Queen ∷ Rook ∷ Bishop ∷ Knight ∷ []
 
+-- a letter names men of this kind; a pawn may become one
 abbrev pub IsOfficer : Kind → Type 0
 IsOfficer Pawn = ⊥
 IsOfficer k = Unit {0}
@@ -76,6 +82,7 @@ pub record AreParts (q : Parts) : Type 0 where
 abbrev pub kind_from : List Kind → ℕ → Option Kind
 kind_from kinds c = find (λ k. white_letter k == c) kinds
 
+-- from `a` to `h`; from `1` to `8`
 abbrev pub is_file_letter : ℕ → Bool
 is_file_letter c = nat_le (byte "a") c && nat_le c (byte "h")
 
@@ -87,17 +94,20 @@ abbrev pub or_else : {A : Type 0} → Option A → Option A → Option A
 or_else (Some x) o = Some x
 or_else None o = o
 
+-- the promotion that a letter tells, capital or small, behind `=` or not
 abbrev pub promotion_by : Bool → ℕ → Option Promotion
 promotion_by equals c =
     or_else (option_map (λ k. record { kind = k; equals = equals; small = false }) (kind_from promoted c))
     (option_map (λ k. record { kind = k; equals = equals; small = true }) (kind_from promoted (c - 32)))
 
+-- what the pawn becomes, where that is all that is left: some or none
 abbrev pub promotion_at : List ℕ → Option (Option Promotion)
 promotion_at [] = Some None
 promotion_at (c ∷ []) = option_map Some (promotion_by false c)
 promotion_at (c ∷ d ∷ []) = if c == byte "=" then option_map Some (promotion_by true d) else None
 promotion_at (c ∷ d ∷ e ∷ cs) = None
 
+-- the end square, and what the pawn becomes behind it
 abbrev pub end_at : List ℕ → Option End
 end_at [] = None
 end_at (f ∷ []) = None
@@ -106,17 +116,20 @@ end_at (f ∷ r ∷ rest) =
     then option_map (λ p. record { to = 8 * (r - byte "1") + (f - byte "a"); promotion = p }) (promotion_at rest)
     else None
 
+-- an `x` or none, and the end
 abbrev pub takes_at : List ℕ → Option (Bool × End)
 takes_at [] = None
 takes_at (c ∷ rest) = if c == byte "x" then option_map (λ e. (true, e)) (end_at rest) else option_map (λ e. (false, e))
     (end_at (c ∷ rest))
 
+-- a rank or none, and what follows
 abbrev pub rank_at : List ℕ → Option (Option ℕ × Bool × End)
 rank_at [] = None
 rank_at (c ∷ rest) =
     if is_rank_digit c then option_map (λ (x : Bool × End). (Some (c - byte "1"), x.0, x.1)) (takes_at rest)
     else option_map (λ (x : Bool × End). (None, x.0, x.1)) (takes_at (c ∷ rest))
 
+-- these parts, together
 abbrev pub with_parts : Option Kind → Option ℕ → Option ℕ × Bool × End → Parts
 with_parts letter file x = record { letter = letter; file = file; rank = x.0; takes = x.1; end = x.2 }
 
@@ -127,6 +140,7 @@ file_at letter (c ∷ rest) =
     or_else (option_map (with_parts letter None) (rank_at (c ∷ rest)))
     (if is_file_letter c then option_map (with_parts letter (Some (c - byte "a"))) (rank_at rest) else None)
 
+-- the parts behind a man's letter, or where there is none
 abbrev pub at_letter : Option Kind → ℕ → List ℕ → Option Parts
 at_letter None c rest = file_at None (c ∷ rest)
 at_letter (Some k) c rest = file_at (Some k) rest

@@ -26,6 +26,7 @@ use Rattle.chess_text.specs.declared.writing.ToldStart.{ToldStart}
 use Rattle.chess_text.specs.Parts.{when, parts_text}
 use Rattle.chess_text.specs.Moves.{described, passes}
 
+-- castling, with the letter O
 abbrev pub castling_text : CastlingSide → List ℕ
 castling_text KingSide = codes "O-O"
 castling_text QueenSide = codes "O-O-O"
@@ -37,6 +38,7 @@ some_on_file f squares = list_any (λ s. file s == f) squares
 abbrev pub some_on_rank : ℕ → List ℕ → Bool
 some_on_rank r squares = list_any (λ s. rank s == r) squares
 
+-- whether the file is told, and whether the rank is
 abbrev pub said : Bool → Bool → ToldStart
 said f r = record { file = f; rank = r }
 
@@ -48,6 +50,7 @@ told_start from (other ∷ others) =
     if not (some_on_file (file from) (other ∷ others)) then said true false
     else (if not (some_on_rank (rank from) (other ∷ others)) then said false true else said true true)
 
+-- the number, where it is told
 abbrev pub if_said : Bool → ℕ → Option ℕ
 if_said b n = if b then Some n else None
 
@@ -85,6 +88,7 @@ officer_parts others d =
       end = end_of d;
     }
 
+-- the parts of the text of a move that is not castling
 unfoldable pub walk_parts : List ℕ → Described → Parts
 walk_parts others d = if same_kind d.man Pawn then pawn_parts d else officer_parts others d
 
@@ -96,6 +100,7 @@ is_rival p d m = (m.to == d.to) && not (m.from == d.from) && passes (λ e. same_
 unfoldable pub rival_starts : Setup → List Move → Described → List ℕ
 rival_starts p ms d = map (λ m. m.from) (filter (λ m. is_rival p d m) ms)
 
+-- castling's text, or that of the parts
 abbrev pub text_by_castling : Option CastlingSide → List ℕ → Described → List ℕ
 text_by_castling (Some w) others d = castling_text w
 text_by_castling None others d = parts_text (walk_parts others d)
@@ -108,6 +113,7 @@ unmarked_san others d = text_by_castling d.castles others d
 unfoldable pub check_mark : Setup → List ℕ
 check_mark p = when (is_in_check p.men p.side) (if length (moves p) == 0 then codes "#" else codes "+")
 
+-- the text of the move that is described, with its mark
 abbrev pub san_as : Setup → Move → Option Described → List ℕ
 san_as p m None = []
 san_as p m (Some d) = unmarked_san (rival_starts p (moves p) d) d ++ check_mark (after p m)
@@ -122,5 +128,6 @@ shown_as Fischerandom (Some w) m = castling_text w
 shown_as Fischerandom None m = coordinate m
 shown_as Normal o m = coordinate m
 
+-- how such lists name a move of this position
 unfoldable pub shown_move : Setup → Move → List ℕ
 shown_move p m = shown_as p.variant (castling p m) m

@@ -3,7 +3,7 @@
 ghost use Rattle.std.specs.Prelude.{◌≡◌};
 ghost use Rattle.std.specs.List.{filter};
 ghost use Rattle.chess_base.specs.MoveList.{promotions, moves};
-ghost use Rattle.chess_text.specs.Moves.{shape, one_of, reading, IsLegalReading};
+ghost use Rattle.chess_text.specs.Moves.{shape, one_of, reading, has_shape, IsLegalReading};
 ghost use Rattle.chess_text.specs.declared.form.Form.TheVariants.{Walk};
 ghost use Rattle.chess_text.specs.ties.Forms.{is_spelled, castling_end, end_square, spelled_with, with_move, with_moves, named_square, IsStart};
 
@@ -184,6 +184,7 @@ fn spelled<B: Board>(board: &B, form: &Form) -> Reading
 pub fn read_move<B: Board>(board: &B, text: &[u8]) -> Reading
     ensures value { result ≡ reading (B.position board.now) text.now }
     ensures legal { IsLegalReading (B.position board.now) result }
+    ensures shape { has_shape result ≡ shape text.now }
 {
     let Some(form) = read_form(text) else {
         return Reading::NotAMove;

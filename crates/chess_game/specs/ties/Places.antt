@@ -15,6 +15,7 @@ use Rattle.chess_game.specs.declared.repetition.Known.{Known}
 use Rattle.chess_game.specs.declared.game.Place.{Place}
 use Rattle.chess_game.specs.declared.game.TheConstants.{MOST_MOVES}
 
+-- the moves that stand
 abbrev pub moves_of : List Place → List Move
 moves_of places = map (λ x. x.made) places
 

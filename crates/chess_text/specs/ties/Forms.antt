@@ -30,6 +30,7 @@ castling_named text =
     if list_any (bytes_eq text) (castling_texts KingSide) then Some KingSide
     else (if list_any (bytes_eq text) (castling_texts QueenSide) then Some QueenSide else None)
 
+-- the form of a text: of parts that are one; of castling or else of parts; of the text itself
 abbrev pub form_of_parts : Option Parts → Option Form
 form_of_parts None = None
 form_of_parts (Some q) = if is_form q then Some (Walk q) else None
@@ -41,17 +42,18 @@ form_at None text = form_of_parts (parts_at text)
 unfoldable pub form_of : List ℕ → Option Form
 form_of text = form_at (castling_named (unmarked text)) (unmarked text)
 
+-- it is the same side of the board
 abbrev pub same_side : CastlingSide → CastlingSide → Bool
 same_side KingSide KingSide = Bool.true
 same_side QueenSide QueenSide = Bool.true
-same_side KingSide QueenSide = Bool.false
-same_side QueenSide KingSide = Bool.false
+same_side _ _ = Bool.false
 
 -- the form is one of the move that is described
 abbrev pub form_fits : Form → Described → Bool
 form_fits (Castling w) d = passes (same_side w) d.castles
 form_fits (Walk q) d = fits q d
 
+-- the form spells this move of the position
 unfoldable pub is_spelled : Form → Setup → Move → Bool
 is_spelled form p m = passes (form_fits form) (described p m)
 

@@ -1,3 +1,5 @@
+-- Where one of the last eight places was reached by a capture or a pawn move, the position is there at most four times
+-- (ForGood.few_times).
 use Rattle.std.proofs.Common.{◌-◌, length, arith}
 use Rattle.chess_game.proofs.ForGood.{few_times}
 use Rattle.chess_game.proofs.game.is_fivefold.Goals as goal

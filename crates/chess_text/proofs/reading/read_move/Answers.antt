@@ -1,6 +1,9 @@
 -- A text spells what its form spells, and one without a form is no move (reading_spelled, reading_nothing of
--- FormFacts); what is read stands in the list of legal moves (reads_legal).
-use Rattle.std.proofs.Common.{sym, ◌∙◌}
+-- FormFacts); what is read stands in the list of legal moves (reads_legal), and tells whether the text has a move's
+-- shape (Shapes.read_shape).
+use Rattle.std.proofs.Common.{ap, sym, ◌∙◌}
+use Rattle.chess_text.specs.Moves.{has_shape}
+use Rattle.chess_text.proofs.Shapes.{read_shape}
 use Rattle.chess_text.proofs.FormFacts.{reading_spelled, reading_nothing, reads_legal}
 use Rattle.chess_text.proofs.reading.read_move.Goals as goal
 
@@ -14,3 +17,10 @@ returns-clause-value g c = c.spelled.ensures ∙ reading_spelled (g.B.Board.posi
 pub returns-clause-legal : goal.returns-clause-legal
 returns-clause-legal g c = reads_legal (g.B.Board.position c.args.board.now) c.args.text.now c.spelled.result
     (returns-clause-value g c)
+
+pub returns-in_default-clause-shape : goal.returns-in_default-clause-shape
+returns-in_default-clause-shape g c =
+    ap has_shape (returns-in_default-clause-value g c) ∙ read_shape _ c.args.text.now
+
+pub returns-clause-shape : goal.returns-clause-shape
+returns-clause-shape g c = ap has_shape (returns-clause-value g c) ∙ read_shape _ c.args.text.now

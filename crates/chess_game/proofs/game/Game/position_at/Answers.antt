@@ -1,3 +1,4 @@
+-- The position that is kept with the last of the first `ply` half-moves is the one that they reach (Kept.reached_by).
 use Rattle.std.proofs.Common.{◌<◌, ◌≤◌, length, arith}
 use Rattle.chess_game.specs.ties.Places.{moves_of}
 use Rattle.chess_game.proofs.Kept.{reached_by}

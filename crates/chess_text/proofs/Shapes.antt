@@ -1,0 +1,21 @@
+-- What is read tells whether the text has a move's shape.
+use Rattle.std.proofs.Common.{◌≡◌, ℕ, Bool, true, false, List, [], ◌∷◌, refl, if◌then◌else◌}
+use Rattle.std.specs.List.{filter}
+use Rattle.chess_base.specs.declared.man.Move.{Move}
+use Rattle.chess_base.specs.declared.setup.Setup.{Setup}
+use Rattle.chess_base.specs.MoveList.{moves}
+use Rattle.chess_text.specs.Moves.{one_of, reading, has_shape, shape, spells}
+use Rattle.chess_text.specs.declared.reading.Reading.TheVariants as reads
+
+one_has_shape : (ms : List Move) → has_shape (one_of ms) ≡ true
+one_has_shape [] = refl
+one_has_shape (m ∷ []) = refl
+one_has_shape (m ∷ n ∷ ms) = refl
+
+by_shape : (b : Bool) (ms : List Move) → has_shape (if b then one_of ms else reads.NotAMove) ≡ b
+by_shape true ms = one_has_shape ms
+by_shape false ms = refl
+
+pub read_shape : (p : Setup) (text : List ℕ) → has_shape (reading p text) ≡ shape text
+unfolding reading
+read_shape p text = by_shape (shape text) (filter (λ m. spells p text m) (moves p))
