@@ -341,7 +341,7 @@ by_quit r r' r'' w w' w'' s s' s'' held given done line f (all, told, after, at)
           done,
           line,
           after,
-          record { lines = at.lines; no_quit = f.no_quit; on_demand = (let a = at.on_demand in omega arith) },
+          record { lines = at.lines; no_quit = f.no_quit; on_demand = at.on_demand },
           on,
           quit_answered r r' w w' s s' s'' held given done line after _ f at.lines next on,
         ),
@@ -370,7 +370,7 @@ by_write r r' r'' w w' w'' s s' s'' held given done line f (all, told, after, at
           line,
           after,
           start,
-          record { lines = at.lines; no_quit = f.no_quit; on_demand = (let a = at.on_demand in omega arith) },
+          record { lines = at.lines; no_quit = f.no_quit; on_demand = at.on_demand },
           (rest, is ∙ ap (λ v. answer_to v line) f.state),
           refl,
           state_on s s' s'' done line f.state next ∙ sym (standing_last (standing s done) line)
