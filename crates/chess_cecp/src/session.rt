@@ -122,7 +122,7 @@ impl<B: Board> Session<B> {
         }
         match read {
             Reading::Move(m) => {
-                let _played = self.game.play(m);
+                self.game.play_legal(m);
                 write_verdict(answer, self.game.verdict());
             }
             Reading::Ambiguous => write_line(answer, b"Error (ambiguous move): ", text),
