@@ -6,4 +6,3 @@ pub mod RunLemmas
 pub mod Refusals
 pub mod PgnRow
 pub mod NormalRows
-pub mod Shapes

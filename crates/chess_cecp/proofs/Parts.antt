@@ -2,7 +2,8 @@
 use Rattle.std.proofs.Common.{◌≡◌, ℕ, ◌+◌, ◌<◌, ◌≤◌, ◌==◌, ◌&&◌, nat_lt, nat_eq, ◌≢◌, Some, None, Bool, true, false, List, [], ◌∷◌, ◌++◌, length, take, refl, sym, ap, ◌∙◌, arith, if◌then◌else◌}
 use Rattle.std.proofs.lemmas.List.{take-append-le}
 use Rattle.std.proofs.lemmas.Grind.{common_steps}
-use Rattle.chess_cecp.specs.Lines.{LineSeen, Held, line_of, lines_from, lines_held, trimmed, kept_part, is_blank, all_blank, without_front_blanks, without_end_blanks, without_return}
+use Rattle.chess_cecp.specs.ties.Kept.{kept_part}
+use Rattle.chess_cecp.specs.Lines.{LineSeen, Held, line_of, lines_from, lines_held, trimmed, is_blank, all_blank, without_front_blanks, without_end_blanks, without_return}
 use Rattle.chess_cecp.specs.Next.{SameLines, HeldLine}
 
 lt_true : (m n : ℕ) → m < n → nat_lt m n ≡ true

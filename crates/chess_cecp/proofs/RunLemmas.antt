@@ -254,11 +254,11 @@ reached_by false E r r' r'' w w' s s' held held' given done line f (more, bytes,
       (of_false line.ended _ _ e got),
 )
 
-pub reached : (E : Type 0) (r r' r'' : InputState) (w w' : OutputState) (s s' : SessionSeen) (held held' : Held)
-    (given : List ℕ) (done : List LineSeen) (line : LineSeen)
+pub reached : (E : Type 0) {r r' r'' : InputState} {w w' : OutputState} {s s' : SessionSeen}
+    {held : Held} (held' : Held) {given : List ℕ} {done : List LineSeen} (line : LineSeen)
     → SoFar r r' w w' s s' held given done → NextLine {E = E} COMMAND_LEN r' r'' held held' (Ok (Some line))
     → IsReached r r'' done line
-reached E r r' r'' w w' s s' held held' given done line f n =
+reached E {r} {r'} {r''} {w} {w'} {s} {s'} {held} held' {given} {done} line f n =
     reached_by line.ended E r r' r'' w w' s s' held held' given done line f n refl
 
 -- the state after a line
@@ -267,13 +267,14 @@ state_on : (s s' s'' : SessionSeen) (done : List LineSeen) (line : LineSeen) →
 state_on s s' s'' done line e n = n ∙ ap (λ v. next_state v line) e
 
 -- the next line, once it was answered
-pub go_on : (E : Type 0) (r r' r'' : InputState) (w w' w'' : OutputState) (s s' s'' : SessionSeen) (held held' : Held)
-    (given : List ℕ) (done : List LineSeen) (line : LineSeen)
+pub go_on : (E : Type 0) {r r' r'' : InputState} {w w' w'' : OutputState} {s s' s'' : SessionSeen} {held held' : Held}
+    {given : List ℕ} {done : List LineSeen} (line : LineSeen)
     → SoFar r r' w w' s s' held given done → NextLine {E = E} COMMAND_LEN r' r'' held held' (Ok (Some line))
     → line.ended ≡ true
     → Sent w' w'' (answer_to s' line) → s'' ≡ next_state s' line → is_quit line ≡ false
     → (given' : List ℕ) × SoFar r r'' w w'' s s'' held' given' (done ++ line ∷ [])
-go_on E r r' r'' w w' w'' s s' s'' held held' given done line f (more, bytes, waits, got) ended took next on =
+go_on E {r} {r'} {r''} {w} {w'} {w''} {s} {s'} {s''} {held} {held'} {given} {done} line f
+    (more, bytes, waits, got) ended took next on =
     let g : GotLine COMMAND_LEN r' r'' held held' more line = of_true line.ended _ _ ended got in
     let told_text : answers s (done ++ line ∷ []) ≡ answers s done ++ answer_to s' line =
     answers_on s done (line ∷ []) f.no_quit ∙ ap (λ v. answers s done ++ v)
@@ -326,12 +327,12 @@ known_answered r r' s s' t quit bytes end all is =
     (all, is)
 
 -- a run that ends by the line that was reached
-pub by_quit : (r r' r'' : InputState) (w w' w'' : OutputState) (s s' s'' : SessionSeen) (held : Held) (given : List ℕ)
-    (done : List LineSeen) (line : LineSeen)
+pub by_quit : {r r' r'' : InputState} {w w' w'' : OutputState} {s s' s'' : SessionSeen} {held : Held} {given : List ℕ}
+    {done : List LineSeen} (line : LineSeen)
     → SoFar r r' w w' s s' held given done → IsReached r r'' done line
     → Sent w' w'' (answer_to s' line) → s'' ≡ next_state s' line → is_quit line ≡ true
     → (t : Transcript) × Ran r r'' w w'' s s'' t (Ok Quit)
-by_quit r r' r'' w w' w'' s s' s'' held given done line f (all, told, after, at) took next on =
+by_quit {r} {r'} {w} {w'} {w''} {s} {s'} {s''} {held} {given} {done} line f (all, told, after, at) took next on =
     let both : SentAll w w'' (answers s done ++ answer_to s' line) =
     sent_more w w' w'' (answers s done) (answer_to s' line) f.took took in (
       record { given = all; told = told; taken = answers s done ++ answer_to s' line },
@@ -341,7 +342,7 @@ by_quit r r' r'' w w' w'' s s' s'' held given done line f (all, told, after, at)
           done,
           line,
           after,
-          record { lines = at.lines; no_quit = f.no_quit; on_demand = (let a = at.on_demand in omega arith) },
+          record { lines = at.lines; no_quit = f.no_quit; on_demand = at.on_demand },
           on,
           quit_answered r r' w w' s s' s'' held given done line after _ f at.lines next on,
         ),
@@ -355,12 +356,13 @@ by_quit r r' r'' w w' w'' s s' s'' held given done line f (all, told, after, at)
     )
 
 -- a run that ends at a write that failed
-pub by_write : (r r' r'' : InputState) (w w' w'' : OutputState) (s s' s'' : SessionSeen) (held : Held) (given : List ℕ)
-    (done : List LineSeen) (line : LineSeen)
+pub by_write : {r r' r'' : InputState} {w w' w'' : OutputState} {s s' s'' : SessionSeen} {held : Held} {given : List ℕ}
+    {done : List LineSeen} (line : LineSeen)
     → SoFar r r' w w' s s' held given done → IsReached r r'' done line
     → BreaksOff w' w'' (answer_to s' line) → s'' ≡ next_state s' line
     → (t : Transcript) × Ran r r'' w w'' s s'' t (Err Write)
-by_write r r' r'' w w' w'' s s' s'' held given done line f (all, told, after, at) (start, (rest, is), broke) next =
+by_write {r} {w} {w'} {w''} {s} {s'} {s''} {given} {done} line f (all, told, after, at)
+    (start, (rest, is), broke) next =
     let both : SentSome w w'' (answers s done) start = sent_some w w' w'' (answers s done) start f.took broke in (
       record { given = all; told = told; taken = answers s done ++ start },
       (
@@ -370,7 +372,7 @@ by_write r r' r'' w w' w'' s s' s'' held given done line f (all, told, after, at
           line,
           after,
           start,
-          record { lines = at.lines; no_quit = f.no_quit; on_demand = (let a = at.on_demand in omega arith) },
+          record { lines = at.lines; no_quit = f.no_quit; on_demand = at.on_demand },
           (rest, is ∙ ap (λ v. answer_to v line) f.state),
           refl,
           state_on s s' s'' done line f.state next ∙ sym (standing_last (standing s done) line)
@@ -383,13 +385,14 @@ by_write r r' r'' w w' w'' s s' s'' held given done line f (all, told, after, at
     )
 
 -- a run that ends by an unended last line
-pub by_last : (E : Type 0) (r r' r'' : InputState) (w w' w'' : OutputState) (s s' s'' : SessionSeen) (held held' : Held)
-    (given : List ℕ) (done : List LineSeen) (line : LineSeen)
+pub by_last : (E : Type 0) {r r' r'' : InputState} {w w' w'' : OutputState} {s s' s'' : SessionSeen}
+    {held : Held} (held' : Held) {given : List ℕ} {done : List LineSeen} (line : LineSeen)
     → SoFar r r' w w' s s' held given done → NextLine {E = E} COMMAND_LEN r' r'' held held' (Ok (Some line))
     → line.ended ≡ false
     → Sent w' w'' (answer_to s' line) → s'' ≡ next_state s' line → is_quit line ≡ false
     → (t : Transcript) × Ran r r'' w w'' s s'' t (Ok InputEnded)
-by_last E r r' r'' w w' w'' s s' s'' held held' given done line f (more, bytes, waits, got) ended took next on =
+by_last E {r} {r'} {r''} {w} {w'} {w''} {s} {s'} {s''} {held} held' {given} {done} line f
+    (more, bytes, waits, got) ended took next on =
     let g : GotLast COMMAND_LEN r' r'' held held' more line = of_false line.ended _ _ ended got in
     let at : Reached r r'' (given ++ more) true done line [] =
     reached_last r r' r'' w w' s s' held held' given more done line f bytes waits g in
@@ -416,11 +419,11 @@ by_last E r r' r'' w w' w'' s s' s'' held held' given done line f (more, bytes, 
     )
 
 -- a run that ends where nothing is left
-pub by_end : (E : Type 0) (r r' r'' : InputState) (w w' : OutputState) (s s' : SessionSeen) (held held' : Held)
-    (given : List ℕ) (done : List LineSeen)
+pub by_end : (E : Type 0) {r r' r'' : InputState} {w w' : OutputState} {s s' : SessionSeen} {held held' : Held}
+    {given : List ℕ} {done : List LineSeen}
     → SoFar r r' w w' s s' held given done → NextLine {E = E} COMMAND_LEN r' r'' held held' (Ok None)
     → (t : Transcript) × Ran r r'' w w' s s' t (Ok InputEnded)
-by_end E r r' r'' w w' s s' held held' given done f (more, bytes, waits, got) =
+by_end E {r} {r'} {r''} {s} {s'} {given} {done} f (more, bytes, waits, got) =
     let is : lines_heard COMMAND_LEN true (given ++ more) ≡ done =
     f.lines true more ∙ ap (λ v. done ++ v) (got.lines true) ∙ append-nil done in
     let both : Consumes r.known_bytes r''.known_bytes (given ++ more) =
@@ -445,11 +448,11 @@ by_end E r r' r'' w w' s s' held held' given done f (more, bytes, waits, got) =
     )
 
 -- a run that ends at a read that failed
-pub by_read : {E : Type 0} (e : E) (r r' r'' : InputState) (w w' : OutputState) (s s' : SessionSeen) (held held' : Held)
-    (given : List ℕ) (done : List LineSeen)
+pub by_read : {E : Type 0} (e : E) {r r' r'' : InputState} {w w' : OutputState} {s s' : SessionSeen} {held held' : Held}
+    {given : List ℕ} {done : List LineSeen}
     → SoFar r r' w w' s s' held given done → NextLine {E = E} COMMAND_LEN r' r'' held held' (Err e)
     → (t : Transcript) × Ran r r'' w w' s s' t (Err Read)
-by_read e r r' r'' w w' s s' held held' given done f (more, bytes, waits, got) =
+by_read e {r} {r'} {r''} {s} {held'} {given} {done} f (more, bytes, waits, got) =
     let is : whole COMMAND_LEN (given ++ more) ≡ done =
     f.lines false more ∙ ap (λ v. done ++ v) got.whole ∙ append-nil done in
     let both : Consumes r.known_bytes r''.known_bytes (given ++ more) =

@@ -23,6 +23,7 @@ unfoldable pub command_number : List ℕ → Option ℕ
 command_number text = if nat_lt 0 (length text) && nat_le (length text) 9
     && list_all is_digit text then Some (value_after 0 text) else None
 
+-- `ping` and `protover` with their number, if it is one
 abbrev pub ping_of : Option ℕ → Command
 ping_of (Some n) = Ping n
 ping_of None = BadNumber
@@ -35,29 +36,31 @@ protover_of None = BadNumber
 abbrev pub is_named : List ℕ → List (List ℕ) → Bool
 is_named word names = list_any (bytes_eq word) names
 
--- commands to an engine that plays, which an arbiter hears in silence: how it is to play, and of opponent, clocks and
--- offers
-abbrev pub playing_words : List (List ℕ)
-playing_words =
+-- commands to an engine that plays, which an arbiter hears in silence: of the protocol, and of how the engine is to
+-- play (`?` is: at once)
+abbrev pub engine_words : List (List ℕ)
+engine_words =
     codes "xboard" ∷ codes "accepted" ∷ codes "rejected" ∷ codes "force" ∷ codes "random" ∷ codes "hard" ∷ codes "easy"
-    ∷ codes "post" ∷ codes "nopost"
-    ∷ codes "computer" ∷ []
+    ∷ codes "post" ∷ codes "nopost" ∷ codes "?" ∷ []
 
-abbrev pub clock_words : List (List ℕ)
-clock_words =
-    codes "name" ∷ codes "rating" ∷ codes "ics" ∷ codes "level" ∷ codes "st" ∷ codes "sd" ∷ codes "time" ∷ codes "otim"
-    ∷ codes "draw" ∷ codes "?" ∷ []
+-- and of its opponent, who may offer a draw, and of the clocks and the depth
+abbrev pub opponent_and_clock_words : List (List ℕ)
+opponent_and_clock_words =
+    codes "computer" ∷ codes "name" ∷ codes "rating" ∷ codes "ics" ∷ codes "draw" ∷ codes "level" ∷ codes "st"
+    ∷ codes "sd" ∷ codes "time" ∷ codes "otim" ∷ []
 
-unfoldable pub is_told_of_playing : List ℕ → Bool
-is_told_of_playing word = is_named word playing_words
+-- it tells an engine how to play
+unfoldable pub is_told_of_engine : List ℕ → Bool
+is_told_of_engine word = is_named word engine_words
 
-unfoldable pub is_told_of_clocks : List ℕ → Bool
-is_told_of_clocks word = is_named word clock_words
+-- it tells an engine of its opponent or of the clocks
+unfoldable pub is_told_of_opponent_or_clocks : List ℕ → Bool
+is_told_of_opponent_or_clocks word = is_named word opponent_and_clock_words
 
 -- the command that a first word names, with this argument; none where it is no command's name
 unfoldable pub named_command : List ℕ → List ℕ → Option Command
 named_command word argument =
-    if bytes_eq word [] || is_told_of_playing word || is_told_of_clocks word then Some Silent
+    if bytes_eq word [] || is_told_of_engine word || is_told_of_opponent_or_clocks word then Some Silent
     else if bytes_eq word (codes "new") then Some New
     else if bytes_eq word (codes "setboard") then Some SetBoard
     else if bytes_eq word (codes "usermove") then (if length argument == 0 then Some Unknown else Some UserMove)

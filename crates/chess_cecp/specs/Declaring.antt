@@ -34,6 +34,7 @@ comment_told text =
     && (slice_index_or text (length text - 1) 0 == byte "}") then Some (inside_braces text)
     else None
 
+-- a result, where both an outcome and a comment were told
 abbrev pub declared_as : Option Outcome → Option (List ℕ) → Option Declared
 declared_as None comment = None
 declared_as (Some o) None = None
@@ -48,6 +49,7 @@ declared_by argument = declared_as (outcome_named (word_of argument)) (comment_t
 unfoldable pub result_text : Outcome → List ℕ → List ℕ
 result_text o comment = outcome_text o ++ (codes " {" ++ (comment ++ codes "}"))
 
+-- a verdict, or that there is none; what was declared, or that nothing was
 abbrev pub verdict_text : Option Verdict → List ℕ
 verdict_text None = codes "none"
 verdict_text (Some v) = result_text (verdict_outcome v) (verdict_comment v)
@@ -56,6 +58,7 @@ abbrev pub declared_text : Option Declared → List ℕ
 declared_text None = codes "none"
 declared_text (Some d) = result_text d.outcome d.comment
 
+-- what can be claimed: the threefold repetition, the 50 moves
 abbrev pub claims_by : Bool → Bool → List ℕ
 claims_by true true = codes "threefold+50"
 claims_by true false = codes "threefold"

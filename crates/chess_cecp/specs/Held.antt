@@ -6,6 +6,7 @@ use Rattle.chess_game.specs.Game as game
 use Rattle.chess_game.specs.Game.{State, from_start}
 use Rattle.chess_pgn.specs.declared.tags.Tags.{Tags}
 
+-- what a session is seen as: its tags, its limit, and the state of its game
 pub record SessionSeen : Type 0 where
   pub tags : Tags
   pub limit : ℕ

@@ -52,6 +52,7 @@ pub record GotFault (n : ℕ) (r r' : InputState) (held held' : Held) (given : L
   pub failures : r'.failure_count ≡ risen r.failure_count
   pub ends : r'.end_count ≡ r.end_count
 
+-- what the bytes that were read gave: a line, none at the end, or a fault
 abbrev pub Got : {E : Type 0} → ℕ → InputState → InputState → Held → Held → List ℕ → Result (Option LineSeen) E → Type 0
 Got n r r' held held' given (Ok (Some line)) =
     MatchBool line.ended (GotLine n r r' held held' given line) (GotLast n r r' held held' given line)

@@ -1,6 +1,6 @@
 -- What a run of a session promises, for each of its four ends: by `quit`, by the input's end, by a read that failed, by
 -- a write or a flush that failed.
-use Rattle.std.specs.Prelude.{◌≡◌, ℕ, ◌+◌, ◌<◌, Bool, true, false, List, [], ◌∷◌, ◌++◌, length, Result, Ok, Err}
+use Rattle.std.specs.Prelude.{◌≡◌, ℕ, ◌≤◌, Bool, true, false, List, [], ◌∷◌, ◌++◌, length, Result, Ok, Err}
 use Rattle.std.specs.Option.{IfSome}
 use Rattle.std.specs.Io.KnownBytes.{Consumes, Appends, IsAtEnd}
 use Rattle.byte_devices.specs.Devices.{InputState, OutputState, risen, raised, Begins}
@@ -20,6 +20,7 @@ pub record Transcript : Type 0 where
   pub told : Bool
   pub taken : List ℕ
 
+-- a count that rises where this is so
 abbrev pub risen_if : Bool → ℕ → ℕ
 risen_if true n = risen n
 risen_if false n = n
@@ -33,6 +34,16 @@ pub record FitsDevices (r r' : InputState) (w w' : OutputState) (t : Transcript)
   pub told : r'.end_count ≡ risen_if t.told r.end_count
   pub reads : r'.failure_count ≡ risen_if read_failed r.failure_count
   pub writes : w'.failure_count ≡ risen_if write_failed w.failure_count
+
+-- it is theirs, and no device failed; a read failed; a write or a flush failed
+abbrev pub FitsUnfailed : InputState → InputState → OutputState → OutputState → Transcript → Type 0
+FitsUnfailed r r' w w' t = FitsDevices r r' w w' t false false
+
+abbrev pub FitsFailedRead : InputState → InputState → OutputState → OutputState → Transcript → Type 0
+FitsFailedRead r r' w w' t = FitsDevices r r' w w' t true false
+
+abbrev pub FitsFailedWrite : InputState → InputState → OutputState → OutputState → Transcript → Type 0
+FitsFailedWrite r r' w w' t = FitsDevices r r' w w' t false true
 
 -- where nothing was unflushed before the call, just these bytes are now
 abbrev pub LeavesUnflushed : OutputState → OutputState → List ℕ → Type 0
@@ -62,12 +73,12 @@ abbrev pub FirstOfKnown : InputState → List LineSeen → Type 0
 FirstOfKnown r ls = IfSome r.known_bytes (λ xs. (behind : List LineSeen) × (lines COMMAND_LEN xs ≡ ls ++ behind))
 
 -- the line behind those before, none of them `quit`, is the one at which the call ended: nothing was read while
--- a whole line was unanswered, so before the last piece fewer lines were whole
+-- a whole line was unanswered, so before the last piece no more lines were whole than stand before
 pub record EndsAt (t : Transcript) (last_len : ℕ) (before : List LineSeen) (line : LineSeen)
     (after : List LineSeen) : Type 0 where
   pub lines : lines_given t ≡ before ++ line ∷ after
   pub no_quit : has_quit before ≡ false
-  pub on_demand : length (whole COMMAND_LEN (before_piece last_len t.given)) < length before + 1
+  pub on_demand : length (whole COMMAND_LEN (before_piece last_len t.given)) ≤ length before
 
 -- an end by the first `quit`
 abbrev pub ByQuit : SessionSeen → SessionSeen → Transcript → ℕ → Type 0
@@ -106,9 +117,9 @@ ByWrite r w w' s s' t last_len =
 -- more was read: at all ends but that by a failed write nothing is unflushed
 abbrev pub Ran : InputState → InputState → OutputState → OutputState → SessionSeen → SessionSeen → Transcript
     → Result End Fault → Type 0
-Ran r r' w w' s s' t (Ok Quit) = FitsDevices r r' w w' t false false × ByQuit s s' t r'.last_len
+Ran r r' w w' s s' t (Ok Quit) = FitsUnfailed r r' w w' t × ByQuit s s' t r'.last_len
     × AnsweredKnown r s s' t true × LeavesUnflushed w w' []
-Ran r r' w w' s s' t (Ok InputEnded) = FitsDevices r r' w w' t false false × ByEnd s s' t r'
+Ran r r' w w' s s' t (Ok InputEnded) = FitsUnfailed r r' w w' t × ByEnd s s' t r'
     × AnsweredKnown r s s' t false × LeavesUnflushed w w' []
-Ran r r' w w' s s' t (Err Read) = FitsDevices r r' w w' t true false × ByRead r s s' t × LeavesUnflushed w w' []
-Ran r r' w w' s s' t (Err Write) = FitsDevices r r' w w' t false true × ByWrite r w w' s s' t r'.last_len
+Ran r r' w w' s s' t (Err Read) = FitsFailedRead r r' w w' t × ByRead r s s' t × LeavesUnflushed w w' []
+Ran r r' w w' s s' t (Err Write) = FitsFailedWrite r r' w w' t × ByWrite r w w' s s' t r'.last_len

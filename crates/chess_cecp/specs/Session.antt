@@ -68,10 +68,11 @@ verdict_line (Some v) = result_line (verdict_outcome v) (verdict_comment v)
 abbrev pub becomes_judged : State → Row
 becomes_judged s = record { text = verdict_line (verdict_now s); next = s }
 
--- a move behind a space; the line that lists moves
+-- a move behind a space
 abbrev pub shown : Setup → Move → List ℕ
 shown p m = space ∷ shown_move p m
 
+-- the line that lists moves
 unfoldable pub moves_line : Setup → List Move → List ℕ
 moves_line p ms = joined_line (codes "# moves ") (decimal (length ms) ++ flat_map (shown p) ms)
 
@@ -112,10 +113,12 @@ move_row limit s text =
     else if nat_le limit (length s.moves) then refuses s (codes "Error (game too long): ") text
     else reading_row s text (reading (current s) text)
 
+-- the last move is taken back, if one stands
 abbrev pub undo_row : State → Row
 undo_row s = if nat_le 1 (length s.moves) then becomes (taken_back s 1) else refuses s
     (codes "Error (command not legal now): ") (codes "undo")
 
+-- the last two moves are taken back, if two stand
 abbrev pub remove_row : State → Row
 remove_row s = if nat_le 2 (length s.moves) then becomes (taken_back s 2) else refuses s
     (codes "Error (command not legal now): ") (codes "remove")
@@ -135,12 +138,14 @@ draws s comment = record {
       (Some (record { outcome = Draw; comment = comment }));
 }
 
+-- a draw is declared by the first claim that holds
 abbrev pub claimed : State → Claims → Row
 claimed s c =
     if c.threefold then draws s (codes "Threefold repetition")
     else if c.fifty_moves then draws s (codes "50-move rule")
     else refuses s (codes "Error (no claim): ") (codes "claim")
 
+-- a draw is claimed
 abbrev pub claim_row : State → Row
 claim_row s = if is_over s then refuses s (codes "Error (command not legal now): ") (codes "claim") else claimed s
     (claims s.start s.moves)
@@ -203,6 +208,7 @@ abbrev pub IsRefusal : List ℕ → Type 0
 IsRefusal text = Begins (codes "Error") text
     ⊎ (Begins (codes "Illegal move") text ⊎ Begins (codes "tellusererror") text)
 
+-- the command that ends a session
 abbrev pub is_quit_command : Command → Bool
 is_quit_command Quit = true
 is_quit_command command = false
@@ -212,9 +218,11 @@ abbrev pub shows_pgn : Command → Bool
 shows_pgn ShowPgn = true
 shows_pgn command = false
 
+-- the line asks for the game's text
 unfoldable pub asks_for_pgn : LineSeen → Bool
 asks_for_pgn line = not line.too_long && shows_pgn (command_of line.text)
 
+-- the line ends the session
 unfoldable pub is_quit : LineSeen → Bool
 is_quit line = not line.too_long && is_quit_command (command_of line.text)
 
@@ -229,6 +237,7 @@ answers seen [] = []
 answers seen (line ∷ rest) = if is_quit line then answer_to seen line else answer_to seen line
     ++ answers (next_state seen line) rest
 
+-- one of the lines ends the session
 abbrev pub has_quit : List LineSeen → Bool
 has_quit [] = false
 has_quit (line ∷ rest) = is_quit line || has_quit rest

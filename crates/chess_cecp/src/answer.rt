@@ -54,21 +54,22 @@ pub(crate) fn write_features(answer: &mut Answer)
     write_line(answer, FEATURES, b"");
 }
 
-fn fen_fault_name(fault: FenFault) -> &'static [u8]
+/// The name of a fault of a FEN, by which a refusal tells it.
+pub fn fen_fault_name(fault: FenFault) -> &'static str
     ensures value { result.now ≡ fen_fault_name fault }
     ensures short { length result.now ≤ 10 }
 {
     match fault {
-        FenFault::Fields => b"fields",
-        FenFault::Placement => b"placement",
-        FenFault::Side => b"side",
-        FenFault::Castling => b"castling",
-        FenFault::EnPassant => b"en passant",
-        FenFault::Counters => b"counters",
-        FenFault::Kings => b"kings",
-        FenFault::Pawns => b"pawns",
-        FenFault::Men => b"men",
-        FenFault::Check => b"check",
+        FenFault::Fields => "fields",
+        FenFault::Placement => "placement",
+        FenFault::Side => "side",
+        FenFault::Castling => "castling",
+        FenFault::EnPassant => "en passant",
+        FenFault::Counters => "counters",
+        FenFault::Kings => "kings",
+        FenFault::Pawns => "pawns",
+        FenFault::Men => "men",
+        FenFault::Check => "check",
     }
 }
 
@@ -81,7 +82,7 @@ pub(crate) fn write_illegal_position(answer: &mut Answer, fault: FenFault)
     answer
         .try_extend_from_slice(b"tellusererror Illegal position (")
         .unwrap();
-    write_line(answer, fen_fault_name(fault), b")");
+    write_line(answer, fen_fault_name(fault).as_bytes(), b")");
 }
 
 // The line of a verdict, if there is one.

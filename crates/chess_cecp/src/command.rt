@@ -2,7 +2,7 @@
 
 ghost use Rattle.std.specs.Prelude.{◌≡◌, ◌+◌, ◌≤◌, ◌++◌, length};
 ghost use Rattle.chess_cecp.specs.Lines.{is_blank};
-ghost use Rattle.chess_cecp.specs.Commands.{command_of, named_command, word_of, argument_of, command_number, ping_of, protover_of, is_told_of_playing, is_told_of_clocks};
+ghost use Rattle.chess_cecp.specs.Commands.{command_of, named_command, word_of, argument_of, command_number, ping_of, protover_of, is_told_of_engine, is_told_of_opponent_or_clocks};
 
 use crate::trim::is_blank;
 use chess_text::has_move_shape;
@@ -122,11 +122,11 @@ fn protover(argument: &[u8]) -> Command
     }
 }
 
-// Whether the word is one of the first ten commands that an arbiter hears in silence: of the protocol, of how to play,
-// and that the opponent is a computer.
-#[tactic(auto, unfolding(crate::specs::Commands::is_told_of_playing))]
-fn is_told_of_playing(word: &[u8]) -> bool
-    ensures { result ≡ is_told_of_playing word.now }
+// Whether the word is one that an arbiter hears in silence, of the protocol or of how an engine is to play; `?` is: at
+// once.
+#[tactic(auto, unfolding(crate::specs::Commands::is_told_of_engine))]
+fn is_told_of_engine(word: &[u8]) -> bool
+    ensures { result ≡ is_told_of_engine word.now }
 {
     word == b"xboard".as_slice()
         || word == b"accepted".as_slice()
@@ -137,24 +137,24 @@ fn is_told_of_playing(word: &[u8]) -> bool
         || word == b"easy".as_slice()
         || word == b"post".as_slice()
         || word == b"nopost".as_slice()
-        || word == b"computer".as_slice()
+        || word == b"?".as_slice()
 }
 
-// Whether the word is one of the others: of the opponent, the clocks, the depth, an offer, and `?` (move now).
-#[tactic(auto, unfolding(crate::specs::Commands::is_told_of_clocks))]
-fn is_told_of_clocks(word: &[u8]) -> bool
-    ensures { result ≡ is_told_of_clocks word.now }
+// Whether the word is one of the others: of the opponent, who may offer a draw, of the clocks and the depth.
+#[tactic(auto, unfolding(crate::specs::Commands::is_told_of_opponent_or_clocks))]
+fn is_told_of_opponent_or_clocks(word: &[u8]) -> bool
+    ensures { result ≡ is_told_of_opponent_or_clocks word.now }
 {
-    word == b"name".as_slice()
+    word == b"computer".as_slice()
+        || word == b"name".as_slice()
         || word == b"rating".as_slice()
         || word == b"ics".as_slice()
+        || word == b"draw".as_slice()
         || word == b"level".as_slice()
         || word == b"st".as_slice()
         || word == b"sd".as_slice()
         || word == b"time".as_slice()
         || word == b"otim".as_slice()
-        || word == b"draw".as_slice()
-        || word == b"?".as_slice()
 }
 
 // The command that the first word of a text names, with what follows it; none where the word is no command's name.
@@ -163,7 +163,7 @@ pub(crate) fn named_command(text: &[u8]) -> Option<Command>
     ensures { result ≡ named_command (word_of text.now) (argument_of text.now) }
 {
     let (word, argument) = split_word(text);
-    if word.is_empty() || is_told_of_playing(word) || is_told_of_clocks(word) {
+    if word.is_empty() || is_told_of_engine(word) || is_told_of_opponent_or_clocks(word) {
         Some(Command::Silent)
     } else if word == b"new".as_slice() {
         Some(Command::New)

@@ -1,6 +1,7 @@
 //! Laws of the definitions. A caller learns one by calling its function, which does nothing.
 
 ghost use Rattle.std.specs.Prelude.{◌≡◌, ◌<◌, ℕ, Bool, true, false, List, [], ◌∷◌, ◌++◌, length};
+ghost use Rattle.chess_base.specs.Letters.{new_line};
 ghost use Rattle.chess_base.specs.declared.man.Variant.TheVariants.{Normal};
 ghost use Rattle.chess_game.specs.Game.{State};
 ghost use Rattle.chess_pgn.specs.declared.tags.Tags.{Tags};
@@ -14,7 +15,7 @@ ghost use Rattle.chess_cecp.specs.Session.{row, next_state, answer_to, IsRefusal
 pub fn lines_are_pieces()
     ensures empty { (n : ℕ) (told : Bool) → lines_heard n told [] ≡ [] }
     ensures ended { (n : ℕ) (told : Bool) (piece rest : List ℕ) → HasNoEnd piece →
-        lines_heard n told (piece ++ 10 ∷ rest) ≡ line_of n true piece ∷ lines_heard n told rest }
+        lines_heard n told (piece ++ new_line ∷ rest) ≡ line_of n true piece ∷ lines_heard n told rest }
     ensures last { (n : ℕ) (piece : List ℕ) → HasNoEnd piece → 0 < length piece →
         lines_heard n true piece ≡ line_of n false piece ∷ [] }
     ensures not_told { (n : ℕ) (piece : List ℕ) → HasNoEnd piece → lines_heard n false piece ≡ [] }

@@ -64,7 +64,7 @@ struct Part<const N: usize> {
 
 impl<const N: usize> Model for Part<N> {
     ghost use Rattle.std.specs.Prelude.{◌≡◌, ◌≤◌, List, ℕ, length, true, false};
-    ghost use Rattle.chess_cecp.specs.Lines.{kept_part};
+    ghost use Rattle.chess_cecp.specs.ties.Kept.{kept_part};
 
     ghost Value = { List ℕ };
 

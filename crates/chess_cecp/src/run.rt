@@ -18,9 +18,11 @@ pub enum End {
 }
 
 /// Why a session broke off: a call of that device failed.
-#[derive(Clone, Copy, Debug, PartialEq, Eq)]
+#[derive(Clone, Copy, Debug, PartialEq, Eq, thiserror::Error)]
 pub enum Fault {
+    #[error("a read failed")]
     Read,
+    #[error("a write or a flush failed")]
     Write,
 }
 

@@ -9,10 +9,9 @@ ghost use Rattle.chess_game.specs.Game.{current, is_over, IsPlayable};
 ghost use Rattle.chess_cecp.specs.Held.{opened_session, game_held};
 ghost use Rattle.chess_pgn.specs.GameText.{pgn};
 ghost use Rattle.chess_game.specs.Results.{cut_comment};
-ghost use Rattle.chess_text.specs.Moves.{reading, shape, IsLegalReading};
+ghost use Rattle.chess_text.specs.Moves.{reading, has_shape, shape, IsLegalReading};
 ghost use Rattle.chess_cecp.specs.Commands.{argument_of, unnamed_command};
 ghost use Rattle.chess_cecp.specs.Declaring.{declared_by};
-ghost use Rattle.chess_cecp.specs.ties.Reads.{has_shape};
 ghost use Rattle.chess_cecp.specs.Session.{row, move_row, undo_row, remove_row, result_row, draws, claim_row, setboard_row, normal_row, variant_row, stands, next_state, answer_to, is_quit, is_quit_command, shows_pgn, asks_for_pgn, joined_line, moves_line, IsRefusal};
 ghost use Rattle.chess_game.specs.declared.game.TheConstants.{MOST_MOVES};
 ghost use Rattle.chess_cecp.specs.declared.session.TheConstants.{COMMAND_LEN};
@@ -123,7 +122,7 @@ impl<B: Board> Session<B> {
         }
         match read {
             Reading::Move(m) => {
-                let _played = self.game.play(m);
+                self.game.play_legal(m);
                 write_verdict(answer, self.game.verdict());
             }
             Reading::Ambiguous => write_line(answer, b"Error (ambiguous move): ", text),

@@ -1,3 +1,4 @@
+-- Of at most nine digits those before the last write less than 10 ^ 8 (Words.small_number), so no step overflows.
 use Rattle.std.proofs.Common.{arith, ◌<◌, ◌^◌, length}
 use Rattle.chess_cecp.proofs.Words.{small_number}
 use Rattle.chess_cecp.proofs.command.read_number.Goals as goal

@@ -16,31 +16,31 @@ loop-line-init g c =
 pub returns-in-Ok-None : goal.returns-in-Ok-None
 returns-in-Ok-None g c =
     let n = rw c.in-Ok-None.field-0-is at c.in-Ok-None.ensures in
-    by_end ReadFault _ _ _ _ _ _ _ _ _ _ _ c.loop-line.invariant.2 n
+    by_end ReadFault c.loop-line.invariant.2 n
 
 pub returns-in-Err : goal.returns-in-Err
-returns-in-Err g c = by_read c.in-Err.field-0 _ _ _ _ _ _ _ _ _ _ _ c.loop-line.invariant.2 c.in-Err.ensures
+returns-in-Err g c = by_read c.in-Err.field-0 c.loop-line.invariant.2 c.in-Err.ensures
 
 pub returns-in-Ok-Quit : goal.returns-in-Ok-Quit
 returns-in-Ok-Quit g c =
     let n = rw c.in-Ok-Some.field-0-is at c.in-Ok-Some.ensures in
-    by_quit _ _ _ _ _ _ _ _ _ _ _ _ c.in-Ok-Some.line c.loop-line.invariant.2
-    (reached ReadFault _ _ _ _ _ _ _ _ _ _ _ c.in-Ok-Some.line c.loop-line.invariant.2 n)
+    by_quit c.in-Ok-Some.line c.loop-line.invariant.2
+    (reached ReadFault _ c.in-Ok-Some.line c.loop-line.invariant.2 n)
     c.in-Ok-Quit.ensures.written c.in-Ok-Quit.ensures.next
     (quit_told _ c.in-Ok-Quit.field-0 c.in-Ok-Quit.ensures.go c.in-Ok-Quit.field-0-is)
 
 pub returns-in-Err-answer : goal.returns-in-Err-answer
 returns-in-Err-answer g c =
     let n = rw c.in-Ok-Some.field-0-is at c.in-Ok-Some.ensures in
-    by_write _ _ _ _ _ _ _ _ _ _ _ _ c.in-Ok-Some.line c.loop-line.invariant.2
-    (reached ReadFault _ _ _ _ _ _ _ _ _ _ _ c.in-Ok-Some.line c.loop-line.invariant.2 n)
+    by_write c.in-Ok-Some.line c.loop-line.invariant.2
+    (reached ReadFault _ c.in-Ok-Some.line c.loop-line.invariant.2 n)
     c.in-Err-answer.ensures.written c.in-Err-answer.ensures.next
 
 pub returns-then-not-is_ended : goal.returns-then-not-is_ended
 returns-then-not-is_ended g c =
     let n = rw c.in-Ok-Some.field-0-is at c.in-Ok-Some.ensures in
     let h = c.if-not-is_ended.ensures in
-    by_last ReadFault _ _ _ _ _ _ _ _ _ _ _ _ _ c.in-Ok-Some.line c.loop-line.invariant.2 n (sym h)
+    by_last ReadFault _ c.in-Ok-Some.line c.loop-line.invariant.2 n (sym h)
     c.in-Ok-On.ensures.written c.in-Ok-On.ensures.next
     (on_told _ c.in-Ok-On.field-0 c.in-Ok-On.ensures.go c.in-Ok-On.field-0-is)
 
@@ -48,7 +48,7 @@ pub loop-line-preserved : goal.loop-line-preserved
 loop-line-preserved g c =
     let n = rw c.in-Ok-Some.field-0-is at c.in-Ok-Some.ensures in
     let h = c.if-not-is_ended.ensures in
-    let on = go_on ReadFault _ _ _ _ _ _ _ _ _ _ c.next.new.self _ _ c.in-Ok-Some.line c.loop-line.invariant.2 n (sym h)
+    let on = go_on ReadFault {held' = c.next.new.self} c.in-Ok-Some.line c.loop-line.invariant.2 n (sym h)
     c.in-Ok-On.ensures.written c.in-Ok-On.ensures.next
     (on_told _ c.in-Ok-On.field-0 c.in-Ok-On.ensures.go c.in-Ok-On.field-0-is) in
     (on.0, _, on.1)
