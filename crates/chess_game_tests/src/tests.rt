@@ -3,11 +3,12 @@ ghost use Rattle.chess_moves.specs.PositionWord.{position_word};
 use chess_base::{Kind, Move, Position, Saved, Setup, Square};
 use chess_fen::{read_fen, write_fen};
 use chess_game::{
-    BoardSaysOtherwise, Claims, Comment, Game, NoMove, Outcome, PlayRefusal, Verdict,
+    BoardSaysOtherwise, Claims, Comment, Game, MOST_MOVES, NoMove, Outcome, PlayRefusal, Verdict,
 };
 use chess_moves::{Board, MoveList, Plain, SquareSet};
 use std::alloc::Global;
 use std::cell::Cell;
+use std::fmt::Debug;
 use std::process::Abort;
 use std::test::Fail;
 
@@ -114,6 +115,13 @@ impl Board for Counting<'_> {
     }
 }
 
+fn counting_board(calls: &Calls) -> Counting<'_> {
+    Counting {
+        plain: Plain::new(),
+        calls,
+    }
+}
+
 /// A board whose words are all 0, so that they tell no positions apart.
 #[derive(Drop)]
 struct Wordless {
@@ -174,6 +182,12 @@ impl Board for Wordless {
     }
 }
 
+fn wordless_board() -> Wordless {
+    Wordless {
+        plain: Plain::new(),
+    }
+}
+
 fn square(file: u8, rank: u8) -> Square {
     Square::new(rank.wrapping_sub(b'1') % 8 * 8 + file.wrapping_sub(b'a') % 8)
 }
@@ -191,8 +205,14 @@ fn by_squares(squares: &[u8; 4]) -> Move {
 // The calls of a game whose contracts are big, without clauses: the facts stay in here, and tests compare values. So do
 // the loops and the comparisons below, each in a function of its own: a long body is dear to prove.
 
-fn opened<B: Board + Drop>(alloc: Global, board: B) -> Result<Game<B>, Fail> {
-    Ok(Game::open(alloc, board, 100)?)
+fn opened<B: Board + Drop>(
+    rt: &impl Abort,
+    alloc: Global,
+    board: B,
+    limit: u32,
+) -> Result<Game<B>, Fail> {
+    assert!(rt; 0 < limit && limit <= MOST_MOVES);
+    Ok(Game::open(alloc, board, limit)?)
 }
 
 fn restart<B: Board>(game: &mut Game<B>, fen: &[u8]) -> Result<(), Fail> {
@@ -247,10 +267,20 @@ fn said<B: Board>(game: &Game<B>) -> Option<(Outcome, &[u8])> {
     Some((declared.outcome, declared.comment.as_bytes()))
 }
 
+// The comparisons are in these two, for all types: an assertion of each type's own is dear to prove.
+
+fn is_equal<T: PartialEq + Debug>(rt: &impl Abort, found: &T, wanted: &T) {
+    assert_eq!(rt; *found, *wanted);
+}
+
+fn is_equal_at<T: PartialEq + Debug>(rt: &impl Abort, place: &[u8], found: &T, wanted: &T) {
+    assert_eq!(rt; *found, *wanted, "at {place:?}");
+}
+
 // What a call of a game answers, and what is told of the game: one comparison each.
 
 fn is_played<B: Board>(rt: &impl Abort, game: &mut Game<B>, squares: &[u8; 4]) {
-    assert_eq!(rt; play(game, squares), Ok(()), "at {squares:?}");
+    is_equal_at(rt, squares, &play(game, squares), &Ok(()));
 }
 
 fn is_refused<B: Board>(
@@ -259,23 +289,23 @@ fn is_refused<B: Board>(
     squares: &[u8; 4],
     refusal: PlayRefusal,
 ) {
-    assert_eq!(rt; play(game, squares), Err(refusal), "at {squares:?}");
+    is_equal_at(rt, squares, &play(game, squares), &Err(refusal));
 }
 
 fn is_taken_back<B: Board>(rt: &impl Abort, game: &mut Game<B>, squares: &[u8; 4]) {
-    assert_eq!(rt; take_back(game), Ok(by_squares(squares)));
+    is_equal(rt, &take_back(game), &Ok(by_squares(squares)));
 }
 
 fn has_no_move<B: Board>(rt: &impl Abort, game: &mut Game<B>) {
-    assert_eq!(rt; take_back(game), Err(NoMove));
+    is_equal(rt, &take_back(game), &Err(NoMove));
 }
 
 fn is_declared<B: Board>(rt: &impl Abort, game: &mut Game<B>, outcome: Outcome, comment: &[u8]) {
-    assert_eq!(rt; declare(game, outcome, comment), Ok(()), "as {comment:?}");
+    is_equal_at(rt, comment, &declare(game, outcome, comment), &Ok(()));
 }
 
 fn says<B: Board>(rt: &impl Abort, game: &Game<B>, outcome: Outcome, comment: &[u8]) {
-    assert_eq!(rt; said(game), Some((outcome, comment)));
+    is_equal(rt, &said(game), &Some((outcome, comment)));
 }
 
 fn says_nothing<B: Board>(rt: &impl Abort, game: &Game<B>) {
@@ -283,27 +313,27 @@ fn says_nothing<B: Board>(rt: &impl Abort, game: &Game<B>) {
 }
 
 fn has_verdict<B: Board>(rt: &impl Abort, game: &Game<B>, verdict: Option<Verdict>) {
-    assert_eq!(rt; game.verdict(), verdict);
+    is_equal(rt, &game.verdict(), &verdict);
 }
 
 fn has_outcome<B: Board>(rt: &impl Abort, game: &Game<B>, outcome: Outcome) {
-    assert_eq!(rt; game.outcome(), outcome);
+    is_equal(rt, &game.outcome(), &outcome);
 }
 
 fn has_ply<B: Board>(rt: &impl Abort, game: &Game<B>, ply: usize) {
-    assert_eq!(rt; game.ply(), ply);
+    is_equal(rt, &game.ply(), &ply);
 }
 
 fn has_repetitions<B: Board>(rt: &impl Abort, game: &Game<B>, repetitions: u32) {
-    assert_eq!(rt; game.repetitions(), repetitions);
+    is_equal(rt, &game.repetitions(), &repetitions);
 }
 
 fn has_clock<B: Board>(rt: &impl Abort, game: &Game<B>, halfmove: u32) {
-    assert_eq!(rt; game.position().setup().halfmove, halfmove);
+    is_equal(rt, &game.position().setup().halfmove, &halfmove);
 }
 
 fn has_claims<B: Board>(rt: &impl Abort, game: &Game<B>, claims: Claims) {
-    assert_eq!(rt; game.claims(), claims);
+    is_equal(rt, &game.claims(), &claims);
 }
 
 fn is_over<B: Board>(rt: &impl Abort, game: &Game<B>) {
@@ -323,7 +353,7 @@ fn has_room<B: Board>(rt: &impl Abort, game: &Game<B>) {
 }
 
 fn has_fen(rt: &impl Abort, position: &Position, fen: &[u8]) {
-    assert_eq!(rt; write_fen(position).as_slice(), fen);
+    is_equal(rt, &write_fen(position).as_slice(), &fen);
 }
 
 fn starts_at<B: Board>(rt: &impl Abort, game: &Game<B>, fen: &[u8]) {
@@ -336,6 +366,129 @@ fn is_at<B: Board>(rt: &impl Abort, game: &Game<B>, fen: &[u8]) {
 
 fn board_is_at<B: Board>(rt: &impl Abort, game: &Game<B>, fen: &[u8]) {
     has_fen(rt, &game.board().position(), fen);
+}
+
+fn is_position_at<B: Board>(rt: &impl Abort, game: &Game<B>, ply: usize, fen: &[u8]) {
+    assert!(rt; ply <= game.ply());
+    has_fen(rt, &game.position_at(ply), fen);
+}
+
+fn is_move_at<B: Board>(rt: &impl Abort, game: &Game<B>, ply: usize, squares: &[u8; 4]) {
+    assert!(rt; ply < game.ply());
+    is_equal(rt, &game.move_at(ply), &by_squares(squares));
+}
+
+// The board says otherwise, and nothing is declared.
+fn is_not_declared<B: Board>(rt: &impl Abort, game: &mut Game<B>, outcome: Outcome) {
+    is_equal(rt, &declare(game, outcome, b"x"), &Err(BoardSaysOtherwise));
+    says_nothing(rt, game);
+}
+
+fn is_promoted_to_a_knight<B: Board>(rt: &impl Abort, game: &mut Game<B>, squares: &[u8; 4]) {
+    let promotion = Move {
+        promotion: Some(Kind::Knight),
+        ..by_squares(squares)
+    };
+    is_equal(rt, &game.play(promotion), &Ok(()));
+}
+
+/// What is told of a game.
+#[derive(Clone, Copy)]
+enum State {
+    Says(Outcome, &'static [u8]),
+    SaysNothing,
+    HasVerdict(Option<Verdict>),
+    HasOutcome(Outcome),
+    HasPly(usize),
+    HasRepetitions(u32),
+    HasClock(u32),
+    HasClaims(Claims),
+    IsOver,
+    GoesOn,
+    IsFull,
+    HasRoom,
+    StartsAt(&'static [u8]),
+    IsAt(&'static [u8]),
+    BoardIsAt(&'static [u8]),
+    PositionAt(usize, &'static [u8]),
+    MoveAt(usize, &'static [u8; 4]),
+}
+
+fn is_so<B: Board>(rt: &impl Abort, game: &Game<B>, state: State) {
+    match state {
+        State::Says(outcome, comment) => says(rt, game, outcome, comment),
+        State::SaysNothing => says_nothing(rt, game),
+        State::HasVerdict(verdict) => has_verdict(rt, game, verdict),
+        State::HasOutcome(outcome) => has_outcome(rt, game, outcome),
+        State::HasPly(ply) => has_ply(rt, game, ply),
+        State::HasRepetitions(repetitions) => has_repetitions(rt, game, repetitions),
+        State::HasClock(halfmove) => has_clock(rt, game, halfmove),
+        State::HasClaims(claims) => has_claims(rt, game, claims),
+        State::IsOver => is_over(rt, game),
+        State::GoesOn => goes_on(rt, game),
+        State::IsFull => is_full(rt, game),
+        State::HasRoom => has_room(rt, game),
+        State::StartsAt(fen) => starts_at(rt, game, fen),
+        State::IsAt(fen) => is_at(rt, game, fen),
+        State::BoardIsAt(fen) => board_is_at(rt, game, fen),
+        State::PositionAt(ply, fen) => is_position_at(rt, game, ply, fen),
+        State::MoveAt(ply, squares) => is_move_at(rt, game, ply, squares),
+    }
+}
+
+/// A call of a game with its answer, or what is told of the game then.
+#[derive(Clone, Copy)]
+enum Step {
+    Restarts(&'static [u8]),
+    RestartsInitial,
+    // Moves, none of which is refused.
+    PlaysAll(&'static [u8]),
+    IsPlayed(&'static [u8; 4]),
+    IsPromotedToAKnight(&'static [u8; 4]),
+    IsRefused(&'static [u8; 4], PlayRefusal),
+    IsTakenBack(&'static [u8; 4]),
+    HasNoMove,
+    IsDeclared(Outcome, &'static [u8]),
+    IsNotDeclared(Outcome),
+    ClearsDeclared,
+    Is(State),
+}
+
+fn goes<B: Board>(rt: &impl Abort, game: &mut Game<B>, step: Step) -> Result<(), Fail> {
+    match step {
+        Step::Restarts(fen) => return restart(game, fen),
+        Step::RestartsInitial => restart_initial(game),
+        Step::PlaysAll(moves) => return play_all(game, moves),
+        Step::IsPlayed(squares) => is_played(rt, game, squares),
+        Step::IsPromotedToAKnight(squares) => is_promoted_to_a_knight(rt, game, squares),
+        Step::IsRefused(squares, refusal) => is_refused(rt, game, squares, refusal),
+        Step::IsTakenBack(squares) => is_taken_back(rt, game, squares),
+        Step::HasNoMove => has_no_move(rt, game),
+        Step::IsDeclared(outcome, comment) => is_declared(rt, game, outcome, comment),
+        Step::IsNotDeclared(outcome) => is_not_declared(rt, game, outcome),
+        Step::ClearsDeclared => clear_declared(game),
+        Step::Is(state) => is_so(rt, game, state),
+    }
+    Ok(())
+}
+
+fn all_go<B: Board>(rt: &impl Abort, game: &mut Game<B>, steps: &[Step]) -> Result<(), Fail> {
+    for step in steps {
+        goes(rt, game, *step)?;
+    }
+    Ok(())
+}
+
+// Opens a game of at most so many half-moves on a board, and takes these steps.
+fn game_goes(
+    rt: &impl Abort,
+    alloc: Global,
+    board: Plain,
+    limit: u32,
+    steps: &[Step],
+) -> Result<(), Fail> {
+    let mut game = opened(rt, alloc, board, limit)?;
+    all_go(rt, &mut game, steps)
 }
 
 const INITIAL: &[u8] = b"rnbqkbnr/pppppppp/8/8/8/8/PPPPPPPP/RNBQKBNR w KQkq - 0 1";
@@ -692,10 +845,11 @@ fn ends_by<B: Board>(
     verdict: Option<Verdict>,
     repetitions: u32,
 ) {
-    assert_eq!(rt;
-        ending(game),
-        (verdict, undeclared(verdict), verdict.is_some(), repetitions),
-        "at {place:?}"
+    is_equal_at(
+        rt,
+        place,
+        &ending(game),
+        &(verdict, undeclared(verdict), verdict.is_some(), repetitions),
     );
 }
 
@@ -719,10 +873,11 @@ fn may_claim<B: Board>(
     halfmove: u32,
     claims: Claims,
 ) {
-    assert_eq!(rt;
-        (game.position().setup().halfmove, game.claims()),
-        (halfmove, claims),
-        "after {moves:?}"
+    is_equal_at(
+        rt,
+        moves,
+        &(game.position().setup().halfmove, game.claims()),
+        &(halfmove, claims),
     );
 }
 
@@ -757,272 +912,200 @@ fn all_go_as_told<B: Board>(
 }
 
 fn ends_as_told<B: Board + Drop>(rt: &impl Abort, alloc: Global, board: B) -> Result<(), Fail> {
-    let mut game = opened(alloc, board)?;
+    let mut game = opened(rt, alloc, board, 100)?;
     all_start_as_told(rt, &mut game, &STARTS)?;
-    all_go_as_told(rt, &mut game, &LINES)?;
-    Ok(())
+    all_go_as_told(rt, &mut game, &LINES)
+}
+
+fn ends_as_told_by_words(rt: &impl Abort, alloc: Global) -> Result<(), Fail> {
+    let calls = Calls::none();
+    ends_as_told(rt, alloc, counting_board(&calls))
 }
 
 #[test]
 fn ends_and_claims(rt: HostRuntime) -> Result<(), Fail> {
     ends_as_told(&rt, rt.alloc(), Plain::new())?;
-    let calls = Calls::none();
-    let board = Counting {
-        plain: Plain::new(),
-        calls: &calls,
-    };
-    ends_as_told(&rt, rt.alloc(), board)?;
-    let board = Wordless {
-        plain: Plain::new(),
-    };
-    ends_as_told(&rt, rt.alloc(), board)?;
-    Ok(())
+    ends_as_told_by_words(&rt, rt.alloc())?;
+    ends_as_told(&rt, rt.alloc(), wordless_board())
 }
 
-// The board says otherwise, and nothing is declared.
-fn is_not_declared<B: Board>(rt: &impl Abort, game: &mut Game<B>, outcome: Outcome) {
-    assert_eq!(rt; declare(game, outcome, b"x"), Err(BoardSaysOtherwise));
-    says_nothing(rt, game);
-}
-
-fn are_not_declared<B: Board>(rt: &impl Abort, game: &mut Game<B>, outcomes: &[Outcome]) {
-    for outcome in outcomes {
-        is_not_declared(rt, game, *outcome);
-    }
-}
-
-const AGAINST_BLACK: [Outcome; 3] = [Outcome::WhiteWins, Outcome::Draw, Outcome::Unfinished];
-
-fn only_the_mate_is_declared<B: Board>(rt: &impl Abort, game: &mut Game<B>) {
-    are_not_declared(rt, game, &AGAINST_BLACK);
-    is_declared(rt, game, Outcome::BlackWins, b"mate");
-    says(rt, game, Outcome::BlackWins, b"mate");
-    clear_declared(game);
-    says_nothing(rt, game);
-}
-
-fn mate_is_taken_back<B: Board>(rt: &impl Abort, game: &mut Game<B>) {
-    is_over(rt, game);
-    has_outcome(rt, game, Outcome::BlackWins);
-    has_ply(rt, game, 4);
-    is_taken_back(rt, game, b"d8h4");
-    has_verdict(rt, game, None);
-    has_outcome(rt, game, Outcome::Unfinished);
-    is_played(rt, game, b"d8e7");
-}
+const MATE: &[Step] = &[
+    Step::PlaysAll(b"f2f3 e7e5 g2g4 d8h4"),
+    Step::IsRefused(b"a2a3", PlayRefusal::Over),
+    Step::IsNotDeclared(Outcome::WhiteWins),
+    Step::IsNotDeclared(Outcome::Draw),
+    Step::IsNotDeclared(Outcome::Unfinished),
+    Step::IsDeclared(Outcome::BlackWins, b"mate"),
+    Step::Is(State::Says(Outcome::BlackWins, b"mate")),
+    Step::ClearsDeclared,
+    Step::Is(State::SaysNothing),
+    Step::Is(State::IsOver),
+    Step::Is(State::HasOutcome(Outcome::BlackWins)),
+    Step::Is(State::HasPly(4)),
+    Step::IsTakenBack(b"d8h4"),
+    Step::Is(State::HasVerdict(None)),
+    Step::Is(State::HasOutcome(Outcome::Unfinished)),
+    Step::IsPlayed(b"d8e7"),
+];
 
 // 1. f3 e5 2. g4 Qh4#. The game is over until its last move is taken back, whatever is declared.
 #[test]
 fn mate_stands_against_declared_results(rt: HostRuntime) -> Result<(), Fail> {
-    let mut game = opened(rt.alloc(), Plain::new())?;
-    play_all(&mut game, b"f2f3 e7e5 g2g4 d8h4")?;
-    is_refused(&rt, &mut game, b"a2a3", PlayRefusal::Over);
-    only_the_mate_is_declared(&rt, &mut game);
-    mate_is_taken_back(&rt, &mut game);
-    Ok(())
+    game_goes(&rt, rt.alloc(), Plain::new(), 100, MATE)
 }
 
-fn draw_ends_the_game<B: Board>(rt: &impl Abort, game: &mut Game<B>) {
-    is_declared(rt, game, Outcome::Draw, b"a{b}c");
-    says(rt, game, Outcome::Draw, b"a?b?c");
-    has_verdict(rt, game, None);
-    has_outcome(rt, game, Outcome::Draw);
-    is_refused(rt, game, b"e2e4", PlayRefusal::Over);
-}
-
-// What is declared anew takes its place. A game that was given up is over too.
-fn given_up_ends_the_game<B: Board>(rt: &impl Abort, game: &mut Game<B>) {
-    is_declared(rt, game, Outcome::Unfinished, b"");
-    says(rt, game, Outcome::Unfinished, b"");
-    has_outcome(rt, game, Outcome::Unfinished);
-    is_over(rt, game);
-    is_refused(rt, game, b"e2e4", PlayRefusal::Over);
-}
-
-// No move stands that could be taken back, so the result stays.
-fn result_stays<B: Board>(rt: &impl Abort, game: &mut Game<B>) {
-    has_no_move(rt, game);
-    assert!(rt; game.declared().is_some());
-    clear_declared(game);
-    goes_on(rt, game);
-    is_played(rt, game, b"e2e4");
-}
-
-// A move that is taken back, and a new start, clear the result.
-fn result_is_cleared<B: Board>(rt: &impl Abort, game: &mut Game<B>) {
-    is_declared(rt, game, Outcome::WhiteWins, b"Black resigns");
-    is_taken_back(rt, game, b"e2e4");
-    says_nothing(rt, game);
-    is_declared(rt, game, Outcome::BlackWins, b"White resigns");
-    restart_initial(game);
-    says_nothing(rt, game);
-    has_outcome(rt, game, Outcome::Unfinished);
-}
+const RESULTS: &[Step] = &[
+    Step::IsDeclared(Outcome::Draw, b"a{b}c"),
+    Step::Is(State::Says(Outcome::Draw, b"a?b?c")),
+    Step::Is(State::HasVerdict(None)),
+    Step::Is(State::HasOutcome(Outcome::Draw)),
+    Step::IsRefused(b"e2e4", PlayRefusal::Over),
+    // What is declared anew takes its place. A game that was given up is over too.
+    Step::IsDeclared(Outcome::Unfinished, b""),
+    Step::Is(State::Says(Outcome::Unfinished, b"")),
+    Step::Is(State::HasOutcome(Outcome::Unfinished)),
+    Step::Is(State::IsOver),
+    Step::IsRefused(b"e2e4", PlayRefusal::Over),
+    // No move stands that could be taken back, so the result stays.
+    Step::HasNoMove,
+    Step::Is(State::Says(Outcome::Unfinished, b"")),
+    Step::ClearsDeclared,
+    Step::Is(State::GoesOn),
+    Step::IsPlayed(b"e2e4"),
+    // A move that is taken back, and a new start, clear the result.
+    Step::IsDeclared(Outcome::WhiteWins, b"Black resigns"),
+    Step::IsTakenBack(b"e2e4"),
+    Step::Is(State::SaysNothing),
+    Step::IsDeclared(Outcome::BlackWins, b"White resigns"),
+    Step::RestartsInitial,
+    Step::Is(State::SaysNothing),
+    Step::Is(State::HasOutcome(Outcome::Unfinished)),
+];
 
 #[test]
 fn declared_results_end_the_game(rt: HostRuntime) -> Result<(), Fail> {
-    let mut game = opened(rt.alloc(), Plain::new())?;
-    draw_ends_the_game(&rt, &mut game);
-    given_up_ends_the_game(&rt, &mut game);
-    result_stays(&rt, &mut game);
-    result_is_cleared(&rt, &mut game);
-    Ok(())
+    game_goes(&rt, rt.alloc(), Plain::new(), 100, RESULTS)
 }
 
-fn third_time_is_claimed<B: Board>(rt: &impl Abort, game: &mut Game<B>) {
-    has_claims(rt, game, THREEFOLD);
-    is_declared(rt, game, Outcome::Draw, b"Threefold repetition");
-    is_refused(rt, game, b"g1f3", PlayRefusal::Over);
-    clear_declared(game);
-}
-
-fn fifth_time_stands<B: Board>(rt: &impl Abort, game: &mut Game<B>) {
-    has_verdict(rt, game, Some(Verdict::FivefoldRepetition));
-    is_refused(rt, game, b"e2e4", PlayRefusal::Over);
-    is_taken_back(rt, game, b"f6g8");
-    has_ply(rt, game, 15);
-}
-
-fn fourth_time_stands<B: Board>(rt: &impl Abort, game: &Game<B>) {
-    has_verdict(rt, game, None);
-    has_repetitions(rt, game, 4);
-    has_clock(rt, game, 15);
-    has_claims(rt, game, THREEFOLD);
-}
+const FIVE_TIMES: &[Step] = &[
+    Step::PlaysAll(b"g1f3 g8f6 f3g1 f6g8 g1f3 g8f6 f3g1 f6g8"),
+    Step::Is(State::HasClaims(THREEFOLD)),
+    Step::IsDeclared(Outcome::Draw, b"Threefold repetition"),
+    Step::IsRefused(b"g1f3", PlayRefusal::Over),
+    Step::ClearsDeclared,
+    Step::PlaysAll(b"g1f3 g8f6 f3g1 f6g8 g1f3 g8f6 f3g1 f6g8"),
+    Step::Is(State::HasVerdict(Some(Verdict::FivefoldRepetition))),
+    Step::IsRefused(b"e2e4", PlayRefusal::Over),
+    Step::IsTakenBack(b"f6g8"),
+    Step::Is(State::HasPly(15)),
+    Step::Is(State::HasVerdict(None)),
+    Step::Is(State::HasRepetitions(4)),
+    Step::Is(State::HasClock(15)),
+    Step::Is(State::HasClaims(THREEFOLD)),
+];
 
 // A claim at the third time ends the game; without it, the fifth time does.
 #[test]
 fn fifth_time_is_taken_back(rt: HostRuntime) -> Result<(), Fail> {
-    let mut game = opened(rt.alloc(), Plain::new())?;
-    play_all(&mut game, b"g1f3 g8f6 f3g1 f6g8 g1f3 g8f6 f3g1 f6g8")?;
-    third_time_is_claimed(&rt, &mut game);
-    play_all(&mut game, b"g1f3 g8f6 f3g1 f6g8 g1f3 g8f6 f3g1 f6g8")?;
-    fifth_time_stands(&rt, &mut game);
-    fourth_time_stands(&rt, &game);
-    Ok(())
+    game_goes(&rt, rt.alloc(), Plain::new(), 100, FIVE_TIMES)
 }
 
-fn third_move_is_the_last<B: Board>(rt: &impl Abort, game: &mut Game<B>) {
-    has_room(rt, game);
-    is_played(rt, game, b"g1f3");
-    is_full(rt, game);
-    goes_on(rt, game);
-    is_refused(rt, game, b"b8c6", PlayRefusal::TooLong);
-    is_refused(rt, game, b"a1a1", PlayRefusal::TooLong);
-}
-
-fn full_game_is_declared<B: Board>(rt: &impl Abort, game: &mut Game<B>) {
-    is_declared(rt, game, Outcome::Unfinished, b"Game too long");
-    is_refused(rt, game, b"b8c6", PlayRefusal::Over);
-    is_taken_back(rt, game, b"g1f3");
-    is_played(rt, game, b"g1e2");
-    is_refused(rt, game, b"b8c6", PlayRefusal::TooLong);
-    restart_initial(game);
-    has_room(rt, game);
-}
+const THREE_MOVES: &[Step] = &[
+    Step::IsRefused(b"e2e5", PlayRefusal::Illegal),
+    Step::PlaysAll(b"e2e4 e7e5"),
+    Step::Is(State::HasRoom),
+    Step::IsPlayed(b"g1f3"),
+    Step::Is(State::IsFull),
+    Step::Is(State::GoesOn),
+    Step::IsRefused(b"b8c6", PlayRefusal::TooLong),
+    Step::IsRefused(b"a1a1", PlayRefusal::TooLong),
+    Step::IsDeclared(Outcome::Unfinished, b"Game too long"),
+    Step::IsRefused(b"b8c6", PlayRefusal::Over),
+    Step::IsTakenBack(b"g1f3"),
+    Step::IsPlayed(b"g1e2"),
+    Step::IsRefused(b"b8c6", PlayRefusal::TooLong),
+    Step::RestartsInitial,
+    Step::Is(State::HasRoom),
+];
 
 // A game over comes before the limit, and the limit before an illegal move.
 #[test]
 fn no_more_moves_than_the_limit(rt: HostRuntime) -> Result<(), Fail> {
-    let mut game = Game::open(rt.alloc(), Plain::new(), 3)?;
-    is_refused(&rt, &mut game, b"e2e5", PlayRefusal::Illegal);
-    play_all(&mut game, b"e2e4 e7e5")?;
-    third_move_is_the_last(&rt, &mut game);
-    full_game_is_declared(&rt, &mut game);
-    Ok(())
-}
-
-fn is_position_at<B: Board>(rt: &impl Abort, game: &Game<B>, ply: usize, fen: &[u8]) {
-    assert!(rt; ply <= game.ply());
-    has_fen(rt, &game.position_at(ply), fen);
-}
-
-fn are_positions<B: Board>(rt: &impl Abort, game: &Game<B>, fens: &[&[u8]]) {
-    for (ply, fen) in fens.iter().enumerate() {
-        is_position_at(rt, game, ply, fen);
-    }
-}
-
-fn is_move_at<B: Board>(rt: &impl Abort, game: &Game<B>, ply: usize, squares: &[u8; 4]) {
-    assert!(rt; ply < game.ply());
-    assert_eq!(rt; game.move_at(ply), by_squares(squares));
+    game_goes(&rt, rt.alloc(), Plain::new(), 3, THREE_MOVES)
 }
 
 // A position, and the positions after each of four half-moves from there.
-const POSITIONS: [&[u8]; 5] = [
-    b"rnbqkbnr/pppppppp/8/8/4P3/8/PPPP1PPP/RNBQKBNR b KQkq e3 0 1",
-    b"rnbqkb1r/pppppppp/5n2/8/4P3/8/PPPP1PPP/RNBQKBNR w KQkq - 1 2",
-    b"rnbqkb1r/pppppppp/5n2/8/4P3/5N2/PPPP1PPP/RNBQKB1R b KQkq - 2 2",
-    b"rnbqkbnr/pppppppp/8/8/4P3/5N2/PPPP1PPP/RNBQKB1R w KQkq - 3 3",
-    b"rnbqkbnr/pppppppp/8/8/4P3/8/PPPP1PPP/RNBQKBNR b KQkq - 4 3",
+const AFTER_E4: &[u8] = b"rnbqkbnr/pppppppp/8/8/4P3/8/PPPP1PPP/RNBQKBNR b KQkq e3 0 1";
+
+const AFTER_NF6: &[u8] = b"rnbqkb1r/pppppppp/5n2/8/4P3/8/PPPP1PPP/RNBQKBNR w KQkq - 1 2";
+
+const AFTER_NF3: &[u8] = b"rnbqkb1r/pppppppp/5n2/8/4P3/5N2/PPPP1PPP/RNBQKB1R b KQkq - 2 2";
+
+const AFTER_NG8: &[u8] = b"rnbqkbnr/pppppppp/8/8/4P3/5N2/PPPP1PPP/RNBQKB1R w KQkq - 3 3";
+
+const AFTER_NG1: &[u8] = b"rnbqkbnr/pppppppp/8/8/4P3/8/PPPP1PPP/RNBQKBNR b KQkq - 4 3";
+
+const LINE: &[Step] = &[
+    Step::HasNoMove,
+    Step::Restarts(AFTER_E4),
+    Step::PlaysAll(b"g8f6 g1f3 f6g8 f3g1"),
+    Step::Is(State::HasPly(4)),
+    Step::Is(State::PositionAt(0, AFTER_E4)),
+    Step::Is(State::PositionAt(1, AFTER_NF6)),
+    Step::Is(State::PositionAt(2, AFTER_NF3)),
+    Step::Is(State::PositionAt(3, AFTER_NG8)),
+    Step::Is(State::PositionAt(4, AFTER_NG1)),
+    Step::Is(State::MoveAt(0, b"g8f6")),
+    Step::Is(State::MoveAt(3, b"f3g1")),
+    Step::Is(State::StartsAt(AFTER_E4)),
+    Step::Is(State::IsAt(AFTER_NG1)),
+    Step::Is(State::BoardIsAt(AFTER_NG1)),
+    Step::IsTakenBack(b"f3g1"),
+    Step::Is(State::IsAt(AFTER_NG8)),
 ];
-
-fn line_stands<B: Board>(rt: &impl Abort, game: &Game<B>) {
-    has_ply(rt, game, 4);
-    are_positions(rt, game, &POSITIONS);
-    is_move_at(rt, game, 0, b"g8f6");
-    is_move_at(rt, game, 3, b"f3g1");
-}
-
-fn present_position_is_told<B: Board>(rt: &impl Abort, game: &mut Game<B>) {
-    starts_at(rt, game, POSITIONS[0]);
-    is_at(rt, game, POSITIONS[4]);
-    board_is_at(rt, game, POSITIONS[4]);
-    is_taken_back(rt, game, b"f3g1");
-    is_at(rt, game, POSITIONS[3]);
-}
 
 // The FEN after each half-move.
 #[test]
 fn positions_of_a_line(rt: HostRuntime) -> Result<(), Fail> {
-    let mut game = opened(rt.alloc(), Plain::new())?;
-    has_no_move(&rt, &mut game);
-    restart(&mut game, POSITIONS[0])?;
-    play_all(&mut game, b"g8f6 g1f3 f6g8 f3g1")?;
-    line_stands(&rt, &game);
-    present_position_is_told(&rt, &mut game);
-    Ok(())
+    game_goes(&rt, rt.alloc(), Plain::new(), 100, LINE)
 }
 
-fn is_initial<B: Board>(rt: &impl Abort, game: &Game<B>) {
-    is_at(rt, game, INITIAL);
-    starts_at(rt, game, INITIAL);
-    has_ply(rt, game, 0);
-    has_verdict(rt, game, None);
-    says_nothing(rt, game);
-    has_room(rt, game);
+const AT_FIRST: &[Step] = &[
+    Step::Is(State::IsAt(INITIAL)),
+    Step::Is(State::StartsAt(INITIAL)),
+    Step::Is(State::HasPly(0)),
+    Step::Is(State::HasVerdict(None)),
+    Step::Is(State::SaysNothing),
+    Step::Is(State::HasRoom),
+];
+
+fn board_at(fen: &[u8]) -> Result<Plain, Fail> {
+    let mut board = Plain::new();
+    board.set(&read_fen(fen)?);
+    Ok(board)
 }
 
 // A board that was elsewhere is at the initial position once a game has it.
 #[test]
 fn game_opens_at_the_initial_position(rt: HostRuntime) -> Result<(), Fail> {
-    let mut board = Plain::new();
-    board.set(&read_fen(b"4k3/8/8/8/8/8/8/R3K3 w - - 99 80")?);
-    let game = Game::open(rt.alloc(), board, 20_000)?;
-    is_initial(&rt, &game);
-    Ok(())
+    let board = board_at(b"4k3/8/8/8/8/8/8/R3K3 w - - 99 80")?;
+    game_goes(&rt, rt.alloc(), board, 20_000, AT_FIRST)
 }
 
-fn promotion_to_a_knight_is_played<B: Board>(rt: &impl Abort, game: &mut Game<B>) {
-    let promotion = Move {
-        promotion: Some(Kind::Knight),
-        ..by_squares(b"e7e8")
-    };
-    assert_eq!(rt; game.play(promotion), Ok(()));
-}
+const PROMOTION: &[Step] = &[
+    Step::Restarts(b"8/4P3/8/8/8/2k5/8/4K3 w - - 0 1"),
+    Step::IsRefused(b"e7e8", PlayRefusal::Illegal),
+    Step::IsPromotedToAKnight(b"e7e8"),
+    Step::Is(State::HasVerdict(Some(Verdict::InsufficientMaterial))),
+];
 
 #[test]
 fn promotion_to_a_knight_leaves_too_few_men(rt: HostRuntime) -> Result<(), Fail> {
-    let mut game = opened(rt.alloc(), Plain::new())?;
-    restart(&mut game, b"8/4P3/8/8/8/2k5/8/4K3 w - - 0 1")?;
-    is_refused(&rt, &mut game, b"e7e8", PlayRefusal::Illegal);
-    promotion_to_a_knight_is_played(&rt, &mut game);
-    has_verdict(&rt, &game, Some(Verdict::InsufficientMaterial));
-    Ok(())
+    game_goes(&rt, rt.alloc(), Plain::new(), 100, PROMOTION)
 }
 
 fn were_called(rt: &impl Abort, calls: &Calls, times: (u32, u32, u32)) {
-    assert_eq!(rt; calls.since(), times);
+    is_equal(rt, &calls.since(), &times);
 }
 
 fn is_refused_again<B: Board>(rt: &impl Abort, game: &mut Game<B>, squares: &[u8; 4]) {
@@ -1070,46 +1153,48 @@ fn are_taken_back_once(
 }
 
 // What is asked of the game asks for none of the three.
-fn asked_calls_nothing(rt: &impl Abort, game: &mut Game<Counting<'_>>, calls: &Calls) {
-    has_repetitions(rt, game, 1);
-    has_ply(rt, game, 9);
-    is_position_at(
-        rt,
-        game,
+const ASKED: &[Step] = &[
+    Step::Is(State::HasRepetitions(1)),
+    Step::Is(State::HasPly(9)),
+    Step::Is(State::PositionAt(
         8,
         b"rnbqkbnr/pppppppp/8/8/8/8/PPPPPPPP/RNBQKBNR w KQkq - 8 5",
-    );
-    is_declared(rt, game, Outcome::Draw, b"x");
-    is_refused(rt, game, b"e7e5", PlayRefusal::Over);
-    were_called(rt, calls, (0, 0, 0));
-}
+    )),
+    Step::IsDeclared(Outcome::Draw, b"x"),
+    Step::IsRefused(b"e7e5", PlayRefusal::Over),
+];
 
 const MOVES: [&[u8; 4]; 9] = [
     b"g1f3", b"g8f6", b"f3g1", b"f6g8", b"g1f3", b"g8f6", b"f3g1", b"f6g8", b"e2e4",
 ];
 
+fn moves_are_made_once(
+    rt: &impl Abort,
+    game: &mut Game<Counting<'_>>,
+    calls: &Calls,
+) -> Result<(), Fail> {
+    were_called(rt, calls, (1, 0, 0));
+    restart(game, INITIAL)?;
+    were_called(rt, calls, (1, 0, 0));
+    are_made_once(rt, game, calls, &MOVES);
+    all_go(rt, game, ASKED)?;
+    were_called(rt, calls, (0, 0, 0));
+    are_taken_back_once(rt, game, calls, &MOVES);
+    has_no_move(rt, game);
+    were_called(rt, calls, (0, 0, 0));
+    Ok(())
+}
+
 // Nothing is replayed: how often `set`, `make` and `take_back` of the board are called.
 #[test]
 fn each_move_is_made_once(rt: HostRuntime) -> Result<(), Fail> {
     let calls = Calls::none();
-    let board = Counting {
-        plain: Plain::new(),
-        calls: &calls,
-    };
-    let mut game = Game::open(rt.alloc(), board, 9)?;
-    were_called(&rt, &calls, (1, 0, 0));
-    restart(&mut game, INITIAL)?;
-    were_called(&rt, &calls, (1, 0, 0));
-    are_made_once(&rt, &mut game, &calls, &MOVES);
-    asked_calls_nothing(&rt, &mut game, &calls);
-    are_taken_back_once(&rt, &mut game, &calls, &MOVES);
-    has_no_move(&rt, &mut game);
-    were_called(&rt, &calls, (0, 0, 0));
-    Ok(())
+    let mut game = opened(&rt, rt.alloc(), counting_board(&calls), 9)?;
+    moves_are_made_once(&rt, &mut game, &calls)
 }
 
 fn was_asked(rt: &impl Abort, calls: &Calls, times: u32) {
-    assert_eq!(rt; calls.words_since(), times);
+    is_equal(rt, &calls.words_since(), &times);
 }
 
 // The word is asked for where a move is played, and not where it is refused.
@@ -1142,26 +1227,30 @@ fn are_taken_back<B: Board>(rt: &impl Abort, game: &mut Game<B>, moves: &[&[u8; 
     }
 }
 
+fn positions_are_asked_once(
+    rt: &impl Abort,
+    game: &mut Game<Counting<'_>>,
+    calls: &Calls,
+) -> Result<(), Fail> {
+    was_asked(rt, calls, 1);
+    restart(game, INITIAL)?;
+    was_asked(rt, calls, 1);
+    let there_and_back = &MOVES[..8];
+    are_asked_for_their_words_once(rt, game, calls, there_and_back);
+    has_repetitions(rt, game, 3);
+    has_claims(rt, game, THREEFOLD);
+    are_taken_back(rt, game, there_and_back);
+    has_repetitions(rt, game, 1);
+    was_asked(rt, calls, 0);
+    Ok(())
+}
+
 // A game keeps the words of its positions: each is asked for once, when the position is reached.
 #[test]
 fn each_position_is_asked_for_its_word_once(rt: HostRuntime) -> Result<(), Fail> {
     let calls = Calls::none();
-    let board = Counting {
-        plain: Plain::new(),
-        calls: &calls,
-    };
-    let mut game = Game::open(rt.alloc(), board, 9)?;
-    was_asked(&rt, &calls, 1);
-    restart(&mut game, INITIAL)?;
-    was_asked(&rt, &calls, 1);
-    let there_and_back = &MOVES[..8];
-    are_asked_for_their_words_once(&rt, &mut game, &calls, there_and_back);
-    has_repetitions(&rt, &game, 3);
-    has_claims(&rt, &game, THREEFOLD);
-    are_taken_back(&rt, &mut game, there_and_back);
-    has_repetitions(&rt, &game, 1);
-    was_asked(&rt, &calls, 0);
-    Ok(())
+    let mut game = opened(&rt, rt.alloc(), counting_board(&calls), 9)?;
+    positions_are_asked_once(&rt, &mut game, &calls)
 }
 
 const OUTCOMES: [(Outcome, &[u8]); 4] = [
@@ -1189,7 +1278,7 @@ const VERDICTS: [(Verdict, &[u8], &[u8]); 6] = [
 ];
 
 fn outcome_is_written(rt: &impl Abort, outcome: Outcome, text: &[u8]) {
-    assert_eq!(rt; outcome.text(), text);
+    is_equal(rt, &outcome.text(), &text);
 }
 
 fn outcomes_are_written(rt: &impl Abort, outcomes: &[(Outcome, &[u8])]) {
@@ -1199,7 +1288,7 @@ fn outcomes_are_written(rt: &impl Abort, outcomes: &[(Outcome, &[u8])]) {
 }
 
 fn verdict_is_written(rt: &impl Abort, verdict: Verdict, comment: &[u8]) {
-    assert_eq!(rt; verdict.comment(), comment);
+    is_equal(rt, &verdict.comment(), &comment);
 }
 
 fn verdicts_are_written(rt: &impl Abort, verdicts: &[(Verdict, &[u8], &[u8])]) {
@@ -1215,36 +1304,52 @@ fn results_are_written(rt: HostRuntime) {
     verdicts_are_written(&rt, &VERDICTS);
 }
 
+fn shown_result(alloc: Global) -> Result<String, Fail> {
+    Ok(format!(in alloc; "{} {{{}}}", Outcome::WhiteWins, Verdict::WhiteMates)?)
+}
+
+fn shown_refusals(alloc: Global) -> Result<String, Fail> {
+    Ok(format!(in alloc; "{}, {}", PlayRefusal::Illegal, NoMove)?)
+}
+
 #[test]
 fn results_are_shown(rt: HostRuntime) -> Result<(), Fail> {
-    let told = format!(in rt.alloc(); "{} {{{}}}", Outcome::WhiteWins, Verdict::WhiteMates)?;
-    assert_eq!(rt; told.as_bytes(), b"1-0 {White mates}".as_slice());
-    let told = format!(in rt.alloc(); "{}, {}", PlayRefusal::Illegal, NoMove)?;
-    assert_eq!(rt;
-        told.as_bytes(),
-        b"the move is not legal, no move stands".as_slice()
+    let told = shown_result(rt.alloc())?;
+    is_equal(&rt, &told.as_str(), &"1-0 {White mates}");
+    let told = shown_refusals(rt.alloc())?;
+    is_equal(
+        &rt,
+        &told.as_str(),
+        &"the move is not legal, no move stands",
     );
     Ok(())
 }
 
+// The bytes of a comment that is too long, and those of its front.
+const LONGER: &[u8] = b"zzzzzzzzzzzzzzzzzzzzzzzzzzzzzzzzzzzzzzzzzzzzzzzzzzzzzzzzzzzzy";
+
+const SIXTY: &[u8] = b"zzzzzzzzzzzzzzzzzzzzzzzzzzzzzzzzzzzzzzzzzzzzzzzzzzzzzzzzzzzz";
+
+const CUT: [(&[u8], &[u8]); 6] = [
+    (b"", b""),
+    (b"Black resigns", b"Black resigns"),
+    (b"a{b}c", b"a?b?c"),
+    (b"\x1f ~\x7f\x80\xc8\xff\0\n", b"? ~??????"),
+    (SIXTY, SIXTY),
+    (LONGER, SIXTY),
+];
+
+fn is_cut(rt: &impl Abort, text: &[u8], cut: &[u8]) {
+    is_equal_at(rt, text, &Comment::cut(text).as_bytes(), &cut);
+}
+
 fn are_cut(rt: &impl Abort, texts: &[(&[u8], &[u8])]) {
     for text in texts {
-        assert_eq!(rt; Comment::cut(text.0).as_bytes(), text.1);
+        is_cut(rt, text.0, text.1);
     }
 }
 
 #[test]
 fn comments_are_cut(rt: HostRuntime) {
-    let sixty = [b'z'; 60];
-    let texts: [(&[u8], &[u8]); 5] = [
-        (b"", b""),
-        (b"Black resigns", b"Black resigns"),
-        (b"a{b}c", b"a?b?c"),
-        (b"\x1f ~\x7f\x80\xc8\xff\0\n", b"? ~??????"),
-        (&sixty, &sixty),
-    ];
-    are_cut(&rt, &texts);
-    let mut longer = [b'z'; 61];
-    longer[60] = b'y';
-    assert_eq!(rt; Comment::cut(&longer).as_bytes(), sixty.as_slice());
+    are_cut(&rt, &CUT);
 }

@@ -2,6 +2,8 @@
 #![tactic(auto)]
 
 #[cfg(test)]
+mod equal;
+#[cfg(test)]
 mod reading;
 #[cfg(test)]
 mod writing;

@@ -1,3 +1,4 @@
+use crate::equal::{is_equal, is_equal_at};
 use chess_base::Position;
 use chess_fen::write_fen;
 use chess_game::{Game, Outcome, Verdict};
@@ -556,23 +557,25 @@ fn is_read_on(
     wanted: Wanted,
     ply: usize,
 ) {
-    assert_eq!(rt;
-        (read(rt, text, at, game), game.ply()),
-        (wanted.answer(), ply),
-        "at {at} of {text:?}"
+    is_equal_at(
+        rt,
+        at,
+        text,
+        &(read(rt, text, at, game), game.ply()),
+        &(wanted.answer(), ply),
     );
 }
 
 // Reads a row's text, and compares the answer, the half-moves that stand and what is declared.
 fn is_read(rt: &impl Abort, game: &mut Game<Plain>, row: &Row) {
     is_read_on(rt, row.text, game, 0, row.wanted, row.ply);
-    assert_eq!(rt; declared(rt, game), row.declared, "at {:?}", row.text);
+    is_equal_at(rt, 0, row.text, &declared(rt, game), &row.declared);
 }
 
 // The outcome that is declared with an empty comment.
 fn declared(rt: &impl Abort, game: &Game<Plain>) -> Option<Outcome> {
     let declared = game.declared()?;
-    assert_eq!(rt; declared.comment.as_bytes(), b"".as_slice());
+    is_equal(rt, &declared.comment.as_bytes(), &b"".as_slice());
     Some(declared.outcome)
 }
 
@@ -689,7 +692,7 @@ fn variants_and_terminations_are_read(rt: HostRuntime) -> Result<(), Fail> {
 }
 
 fn has_outcome(rt: &impl Abort, game: &Game<Plain>, outcome: Outcome) {
-    assert_eq!(rt; game.outcome(), outcome);
+    is_equal(rt, &game.outcome(), &outcome);
 }
 
 fn is_too_long(rt: &impl Abort, text: &[u8], game: &mut Game<Plain>) {
@@ -738,7 +741,7 @@ const PLACES: [(usize, Wanted, usize); 5] = [
 ];
 
 fn has_fen(rt: &impl Abort, position: &Position, fen: &[u8]) {
-    assert_eq!(rt; write_fen(position).as_slice(), fen);
+    is_equal(rt, &write_fen(position).as_slice(), &fen);
 }
 
 #[test]
@@ -782,7 +785,7 @@ dxe5 5. Qxd8+ Kxd8 6. Nxe5) 5. Qxf3 dxe5 6. Bc4 Nf6 ; 6... Qf6 is better
 
 // Compares where the opera's game ends: by mate, with nothing declared.
 fn white_mates_in_the_opera(rt: &impl Abort, game: &Game<Plain>) {
-    assert_eq!(rt; game.verdict(), Some(Verdict::WhiteMates));
+    is_equal(rt, &game.verdict(), &Some(Verdict::WhiteMates));
     assert!(rt; game.declared().is_none());
     has_fen(
         rt,

@@ -1,3 +1,4 @@
+use crate::equal::is_equal;
 use byte_devices::{Counted, PieceWriter, WriteFault};
 use chess_base::Variant;
 use chess_fen::{read_fen, read_fen_as};
@@ -127,19 +128,44 @@ const GAMES: [GameRow; 10] = [
     },
 ];
 
-#[test]
-fn games_are_written(rt: HostRuntime) -> Result<(), Fail> {
-    for row in &GAMES {
-        let game = played(rt.alloc(), row.fen, row.moves)?;
-        let mut text = Vec::new(rt.alloc());
-        text.extend_from_slice(FIRST_LINES)?;
-        text.extend_from_slice(row.text)?;
-        for cut in [9000, 1] {
-            let found = written(rt.alloc(), &game, &Tags::default(), b"# ", cut)?;
-            assert_eq!(rt; found.as_slice(), text.as_slice());
-        }
+// Writes a game so many bytes at a time, and compares its text.
+fn is_written(
+    rt: &impl Abort,
+    alloc: Global,
+    game: &Game<Plain>,
+    cut: usize,
+    text: &[u8],
+) -> Result<(), Fail> {
+    let found = written(alloc, game, &Tags::default(), b"# ", cut)?;
+    is_equal(rt, &found.as_slice(), &text);
+    Ok(())
+}
+
+// The text of a game that has no tags but the seven with `?`.
+fn whole_text(alloc: Global, text: &[u8]) -> Result<Vec<u8>, Fail> {
+    let mut whole = Vec::new(alloc);
+    whole.extend_from_slice(FIRST_LINES)?;
+    whole.extend_from_slice(text)?;
+    Ok(whole)
+}
+
+fn game_is_written(rt: &impl Abort, alloc: Global, row: &GameRow) -> Result<(), Fail> {
+    let text = whole_text(alloc, row.text)?;
+    let game = played(alloc, row.fen, row.moves)?;
+    is_written(rt, alloc, &game, 9000, text.as_slice())?;
+    is_written(rt, alloc, &game, 1, text.as_slice())
+}
+
+fn are_written(rt: &impl Abort, alloc: Global, rows: &[GameRow]) -> Result<(), Fail> {
+    for row in rows {
+        game_is_written(rt, alloc, row)?;
     }
     Ok(())
+}
+
+#[test]
+fn games_are_written(rt: HostRuntime) -> Result<(), Fail> {
+    are_written(&rt, rt.alloc(), &GAMES)
 }
 
 #[test]
@@ -156,14 +182,28 @@ fn tags_and_declared_results_are_written(rt: HostRuntime) -> Result<(), Fail> {
         ended: HowEnded::RulesInfraction,
     };
     let text = written(rt.alloc(), &game, &tags, b"", 9000)?;
-    assert_eq!(rt;
-        text.as_slice(),
-        b"[Event \"A \\\"B\\\" \\\\\"]\n[Site \"\"]\n[Date \"2024.12.31\"]\n[Round \"3.1\"]\n[White \"]{}\"]\n[Black \"?\"]\n[Result \"1-0\"]\n[Termination \"rules infraction\"]\n\n1. e4 c5 1-0\n\n".as_slice()
+    is_equal(
+        &rt,
+        &text.as_slice(),
+        &b"[Event \"A \\\"B\\\" \\\\\"]\n[Site \"\"]\n[Date \"2024.12.31\"]\n[Round \"3.1\"]\n[White \"]{}\"]\n[Black \"?\"]\n[Result \"1-0\"]\n[Termination \"rules infraction\"]\n\n1. e4 c5 1-0\n\n".as_slice(),
     );
     Ok(())
 }
 
 // How a game ended stands behind its start's tags and before that of the variant.
+// Writes a game, whose text ends so.
+fn ends_with(
+    rt: &impl Abort,
+    alloc: Global,
+    game: &Game<Plain>,
+    tags: &Tags,
+    end: &[u8],
+) -> Result<(), Fail> {
+    let text = written(alloc, game, tags, b"", 9000)?;
+    assert!(rt; text.as_slice().ends_with(end));
+    Ok(())
+}
+
 #[test]
 fn the_end_of_a_game_of_chess960_is_written(rt: HostRuntime) -> Result<(), Fail> {
     let mut game = Game::open(rt.alloc(), Plain::new(), 100)?;
@@ -176,29 +216,47 @@ fn the_end_of_a_game_of_chess960_is_written(rt: HostRuntime) -> Result<(), Fail>
     };
     let unended: &[u8] =
         b"[FEN \"4k3/8/8/8/8/8/8/RK5R w HA - 0 1\"]\n[SetUp \"1\"]\n[Termination \"unterminated\"]\n[Variant \"fischerandom\"]\n\n1. O-O-O *\n\n";
-    let text = written(rt.alloc(), &game, &tags, b"", 9000)?;
-    assert!(rt; text.as_slice().ends_with(unended));
+    ends_with(&rt, rt.alloc(), &game, &tags, unended)?;
     declare(&mut game, Outcome::Draw, b"")?;
     let ended: &[u8] =
         b"[FEN \"4k3/8/8/8/8/8/8/RK5R w HA - 0 1\"]\n[SetUp \"1\"]\n[Termination \"time forfeit\"]\n[Variant \"fischerandom\"]\n\n1. O-O-O 1/2-1/2\n\n";
-    let text = written(rt.alloc(), &game, &tags, b"", 9000)?;
-    assert!(rt; text.as_slice().ends_with(ended));
+    ends_with(&rt, rt.alloc(), &game, &tags, ended)
+}
+
+// What is declared, and the line that is written then.
+const DECLARED: [(Outcome, &[u8]); 3] = [
+    (Outcome::BlackWins, b"\n1. e4 0-1\n\n"),
+    (Outcome::Draw, b"\n1. e4 1/2-1/2\n\n"),
+    (Outcome::Unfinished, b"\n1. e4 *\n\n"),
+];
+
+fn ends_as_declared(
+    rt: &impl Abort,
+    alloc: Global,
+    game: &mut Game<Plain>,
+    outcome: Outcome,
+    line: &[u8],
+) -> Result<(), Fail> {
+    declare(game, outcome, b"")?;
+    ends_with(rt, alloc, game, &Tags::default(), line)
+}
+
+fn all_end_as_declared(
+    rt: &impl Abort,
+    alloc: Global,
+    game: &mut Game<Plain>,
+    rows: &[(Outcome, &[u8])],
+) -> Result<(), Fail> {
+    for row in rows {
+        ends_as_declared(rt, alloc, game, row.0, row.1)?;
+    }
     Ok(())
 }
 
 #[test]
 fn each_declared_result_is_written(rt: HostRuntime) -> Result<(), Fail> {
     let mut game = played(rt.alloc(), b"", b"e4")?;
-    for (outcome, line) in [
-        (Outcome::BlackWins, b"\n1. e4 0-1\n\n".as_slice()),
-        (Outcome::Draw, b"\n1. e4 1/2-1/2\n\n".as_slice()),
-        (Outcome::Unfinished, b"\n1. e4 *\n\n".as_slice()),
-    ] {
-        declare(&mut game, outcome, b"")?;
-        let text = written(rt.alloc(), &game, &Tags::default(), b"", 9000)?;
-        assert!(rt; text.as_slice().ends_with(line));
-    }
-    Ok(())
+    all_end_as_declared(&rt, rt.alloc(), &mut game, &DECLARED)
 }
 
 // Writes a game by seven bytes at a time, where one call may fail: the answer, and what was taken.
@@ -214,7 +272,7 @@ fn failing_at(
     (result, writer.into_writer().bytes)
 }
 
-// Compares what is answered where that call fails, and what was taken.
+// Compares what is answered where that call fails, and what was taken, with the call's number.
 fn leaves(
     rt: &impl Abort,
     alloc: Global,
@@ -224,10 +282,10 @@ fn leaves(
     text: Option<&[u8]>,
 ) {
     let (result, taken) = failing_at(alloc, game, fails_at);
-    assert_eq!(rt;
-        (result, Some(taken.as_slice())),
-        (answer, text),
-        "where call {fails_at} fails"
+    is_equal(
+        rt,
+        &(fails_at, result, Some(taken.as_slice())),
+        &(fails_at, answer, text),
     );
 }
 
@@ -258,7 +316,7 @@ fn failures_leave_a_beginning(rt: HostRuntime) -> Result<(), Fail> {
 }
 
 fn is_tag_text(rt: &impl Abort, found: &TagText, text: &[u8]) {
-    assert_eq!(rt; found.as_bytes(), text);
+    is_equal(rt, &found.as_bytes(), &text);
 }
 
 // All texts of the tags by default.
@@ -283,30 +341,43 @@ fn tag_texts_are_cut(rt: HostRuntime) {
     are_unknown(&rt, &Tags::default());
 }
 
+// The lines of a game without moves.
+const NO_MOVES: [&[u8]; 11] = [
+    b"[Event \"?\"]\n",
+    b"[Site \"?\"]\n",
+    b"[Date \"????.??.??\"]\n",
+    b"[Round \"?\"]\n",
+    b"[White \"?\"]\n",
+    b"[Black \"?\"]\n",
+    b"[Result \"*\"]\n",
+    b"[Termination \"unterminated\"]\n",
+    b"\n",
+    b"*\n",
+    b"\n",
+];
+
+// Lines, each behind a prefix.
+fn prefixed(alloc: Global, prefix: &[u8], lines: &[&[u8]]) -> Result<Vec<u8>, Fail> {
+    let mut text = Vec::new(alloc);
+    for line in lines {
+        text.extend_from_slice(prefix)?;
+        text.extend_from_slice(line)?;
+    }
+    Ok(text)
+}
+
+fn is_written_behind(rt: &impl Abort, alloc: Global, prefix: &[u8]) -> Result<(), Fail> {
+    let text = prefixed(alloc, prefix, &NO_MOVES)?;
+    let game = played(alloc, b"", b"")?;
+    let found = written(alloc, &game, &Tags::default(), prefix, 9000)?;
+    is_equal(rt, &found.as_slice(), &text.as_slice());
+    Ok(())
+}
+
 #[test]
 fn a_prefix_longer_than_the_buffer_is_written(rt: HostRuntime) -> Result<(), Fail> {
     let prefix = vec![in rt.alloc(); b'p'; 5000]?;
-    let game = played(rt.alloc(), b"", b"")?;
-    let found = written(rt.alloc(), &game, &Tags::default(), prefix.as_slice(), 9000)?;
-    let mut text = Vec::new(rt.alloc());
-    for line in [
-        b"[Event \"?\"]\n".as_slice(),
-        b"[Site \"?\"]\n",
-        b"[Date \"????.??.??\"]\n",
-        b"[Round \"?\"]\n",
-        b"[White \"?\"]\n",
-        b"[Black \"?\"]\n",
-        b"[Result \"*\"]\n",
-        b"[Termination \"unterminated\"]\n",
-        b"\n",
-        b"*\n",
-        b"\n",
-    ] {
-        text.extend_from_slice(prefix.as_slice())?;
-        text.extend_from_slice(line)?;
-    }
-    assert_eq!(rt; found.as_slice(), text.as_slice());
-    Ok(())
+    is_written_behind(&rt, rt.alloc(), prefix.as_slice())
 }
 
 #[test]
