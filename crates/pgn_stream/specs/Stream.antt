@@ -13,16 +13,17 @@ use Rattle.chess_pgn.specs.Local.{is_settled}
 use Rattle.chess_pgn.specs.Tokens.{is_white_space}
 use Rattle.pgn_stream.specs.declared.stream.StreamFault.{StreamFault}
 use Rattle.pgn_stream.specs.declared.stream.StreamFault.TheVariants.{ReadFailed, InputTooLong}
+use Rattle.pgn_stream.specs.declared.stream.TheConstants.{GAME_LEN}
 
 -- ---- a game, with what stands before it, may have 16,777,216 bytes
 
 -- the text up to the byte behind these, for a game that is read from a place on
 unfoldable pub first_bytes : List ℕ → ℕ → List ℕ
-first_bytes text at = take (at + 16777217) text
+first_bytes text at = take (at + (GAME_LEN + 1)) text
 
 -- no more than these bytes are left, or the first ones settle how the game is read
 unfoldable pub is_in_reach : ℕ → List ℕ → ℕ → Bool
-is_in_reach limit text at = nat_le (length text) (at + 16777216) || is_settled limit (first_bytes text at) at
+is_in_reach limit text at = nat_le (length text) (at + GAME_LEN) || is_settled limit (first_bytes text at) at
 
 -- where the game begins: at the first of these bytes that is no white space, or behind them where there is none
 unfoldable pub game_begin : List ℕ → ℕ → ℕ
@@ -148,7 +149,7 @@ StandsBehind s s' plies (Err f) = (place s' ≡ f.place) × (place s ≤ f.place
 -- the bytes that are held tell how the game is read: no others are left, and no more than a game may have, or they
 -- settle it. Nothing is read then
 unfoldable pub is_held : ℕ → StreamState → Bool
-is_held limit s = (s.ended && nat_le (length s.window) (s.at + 16777216)) || is_settled limit s.window s.at
+is_held limit s = (s.ended && nat_le (length s.window) (s.at + GAME_LEN)) || is_settled limit s.window s.at
 
 -- ---- finding the next line of a tag Event
 

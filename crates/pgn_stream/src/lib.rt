@@ -23,4 +23,4 @@ mod stream;
 
 pub use events::next_event;
 pub use laws::{ended_games_are_told, short_texts_are_read};
-pub use stream::{PgnStream, StreamFault};
+pub use stream::{GAME_LEN, PgnStream, StreamFault};

@@ -7,6 +7,7 @@ ghost use Rattle.chess_game.specs.Game.{at as left_at};
 ghost use Rattle.chess_pgn.specs.GameRead.{pgn_read};
 ghost use Rattle.chess_pgn.specs.Local.{moved_answer};
 ghost use Rattle.chess_pgn.specs.Tokens.{is_white_space};
+ghost use Rattle.pgn_stream.specs.declared.stream.TheConstants.{GAME_LEN};
 ghost use Rattle.pgn_stream.specs.Stream.{unread, place, StandsAt, ReadsGame, StandsBehind, is_held, FindsEvent, StandsFurther, IsNextEvent};
 ghost use Rattle.pgn_stream.specs.ties.Held.{Slides, AddsPiece, is_full, Fills, Refills, is_told_by, held_answer, too_long, place_behind, IsPlaced, IsSound, FindsHeld};
 
@@ -21,8 +22,8 @@ use chess_pgn::{
 use std::alloc::{AllocError, Global};
 use std::marker::Model;
 
-// The most bytes of a game, with what stands before it.
-const GAME_LEN: usize = 16_777_216;
+/// The most bytes of a game, with what stands before it.
+pub const GAME_LEN: usize = 16_777_216;
 
 // A game's bytes, one before them and one behind them.
 const WINDOW_LEN: usize = GAME_LEN + 2;
@@ -43,7 +44,7 @@ pub enum StreamFault {
 }
 
 /// The games of an input, read one after another through a window of 16 MiB. A game, with what stands before it, may
-/// have 16,777,216 bytes.
+/// have `GAME_LEN` bytes, which are 16,777,216.
 #[derive(Drop)]
 pub struct PgnStream {
     // The window is its front. It never grows.
@@ -60,6 +61,7 @@ pub struct PgnStream {
 
 impl Model for PgnStream {
     ghost use Rattle.std.specs.Prelude.{◌≡◌, ◌≤◌, ◌<◌, ◌+◌, ◌^◌, take, length, vec_len};
+    ghost use Rattle.pgn_stream.specs.declared.stream.TheConstants.{GAME_LEN, WINDOW_LEN};
     ghost use Rattle.pgn_stream.specs.Stream.{StreamState};
 
     ghost Value = { StreamState };
@@ -71,8 +73,8 @@ impl Model for PgnStream {
       ended = s.ended;
     } };
 
-    ghost invariant = { λ s. (vec_len s.bytes ≡ 16777218) × (length s.bytes.items ≡ 16777218) × (s.len ≤ 16777218)
-        × (s.at ≤ s.len) × (s.len ≤ s.at + 16777217) × (0 < s.before → 0 < s.at) × (s.before + 2 ^ 25 ≤ 2 ^ 64) };
+    ghost invariant = { λ s. (vec_len s.bytes ≡ WINDOW_LEN) × (length s.bytes.items ≡ WINDOW_LEN) × (s.len ≤ WINDOW_LEN)
+        × (s.at ≤ s.len) × (s.len ≤ s.at + (GAME_LEN + 1)) × (0 < s.before → 0 < s.at) × (s.before + 2 ^ 25 ≤ 2 ^ 64) };
 }
 
 // Whether a byte is white space.
@@ -198,7 +200,7 @@ impl PgnStream {
 
     // Whether all of the input that is left is in the window, and no more bytes than a game may have.
     fn is_last(&self) -> bool
-        ensures { result ≡ self.now.ended && nat_le (length self.now.window) (self.now.at + 16777216) }
+        ensures { result ≡ self.now.ended && nat_le (length self.now.window) (self.now.at + GAME_LEN) }
     {
         self.ended && self.len <= self.at + GAME_LEN
     }

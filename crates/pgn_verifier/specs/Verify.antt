@@ -17,6 +17,7 @@ use Rattle.pgn_verifier.specs.declared.whole.Report.TheVariants.{Game, Faulty}
 use Rattle.pgn_verifier.specs.declared.whole.Verified.{Verified}
 use Rattle.pgn_verifier.specs.declared.whole.Verified.TheVariants.{EachGame, FaultTold}
 use Rattle.chess_game.specs.declared.game.TheConstants.{MOST_MOVES}
+use Rattle.pgn_stream.specs.declared.stream.TheConstants.{GAME_LEN}
 
 -- ---- the text
 
@@ -24,7 +25,7 @@ use Rattle.chess_game.specs.declared.game.TheConstants.{MOST_MOVES}
 pub record IsAll (r r' : InputState) (text : List ℕ) : Type 0 where
   pub bytes : Consumes r.known_bytes r'.known_bytes text
   pub at_end : IsAtEnd r'.known_bytes
-  pub few : length text ≤ 16777216
+  pub few : length text ≤ GAME_LEN
   pub failures : r'.failure_count ≡ r.failure_count
   pub ends : r'.end_count ≡ risen r.end_count
 
@@ -33,7 +34,7 @@ abbrev pub IsNotHad : InputState → InputState → VerifyFault → Type 0
 IsNotHad r r' ReadFailed = (text : List ℕ) × BrokeOff r r' text
 IsNotHad r r' WriteFailed = ⊥
 IsNotHad r r' NoMemory = (text : List ℕ) × IsFront r r' text
-IsNotHad r r' InputTooLong = (text : List ℕ) × IsFront r r' text × (16777216 < length text)
+IsNotHad r r' InputTooLong = (text : List ℕ) × IsFront r r' text × (GAME_LEN < length text)
 
 -- ---- the reports
 

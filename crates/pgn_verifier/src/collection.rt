@@ -5,6 +5,7 @@ ghost use Rattle.byte_devices.specs.Devices.{Puts};
 ghost use Rattle.pgn_verifier.specs.declared.whole.Verified.TheVariants.{EachGame, FaultTold};
 ghost use Rattle.pgn_verifier.specs.Collection.{IsNext, is_told, told_line, counts_line, counts_if, CountsEach, HandedOnBy, VerifiesBy};
 ghost use Rattle.chess_game.specs.declared.game.TheConstants.{MOST_MOVES};
+ghost use Rattle.pgn_stream.specs.declared.stream.TheConstants.{GAME_LEN};
 
 use crate::fault::VerifyFault;
 use crate::options::VerifyOptions;
@@ -127,7 +128,7 @@ fn count_each<W: Output>(
     game: &mut Game<Bits>,
     output: &mut W,
 ) -> Result<Tally, WriteFault>
-    requires few { length text.now ≤ 16777216 }
+    requires few { length text.now ≤ GAME_LEN }
     requires limit { game.old.limit ≡ MOST_MOVES }
     ensures { CountsEach options text.now (W.seen output.old) (W.seen output.new) result }
 {
@@ -193,7 +194,7 @@ fn tell_collection<W: Output>(
     game: &mut Game<Bits>,
     output: &mut W,
 ) -> Result<Verified, WriteFault>
-    requires few { length text.now ≤ 16777216 }
+    requires few { length text.now ≤ GAME_LEN }
     requires limit { game.old.limit ≡ MOST_MOVES }
     ensures { HandedOnBy options text.now (W.seen output.old) (W.seen output.new) result }
 {

@@ -6,6 +6,7 @@ ghost use Rattle.arrayvec.specs.ArrayVec.{array_vec_len};
 ghost use Rattle.byte_devices.specs.Devices.{Puts};
 ghost use Rattle.pgn_verifier.specs.Verify.{IsAll, IsNotHad, pgn_fault_name, told_termination, report_text, report_line, Told, HandedOn, Verifies};
 ghost use Rattle.chess_game.specs.declared.game.TheConstants.{MOST_MOVES};
+ghost use Rattle.pgn_stream.specs.declared.stream.TheConstants.{GAME_LEN};
 
 use crate::fault::VerifyFault;
 use arrayvec::ArrayVec;
@@ -14,10 +15,8 @@ use chess_bits::Bits;
 use chess_game::{Game, MOST_MOVES};
 use chess_pgn::{PgnEnd, PgnFault, PgnFaultKind, Termination, read_pgn};
 use itoa::Buffer;
+use pgn_stream::GAME_LEN;
 use std::alloc::{AllocError, Global};
-
-// The most bytes of a text of games.
-const INPUT_LIMIT: usize = 16_777_216;
 
 // The most bytes of a read.
 const PIECE_LEN: usize = 4096;
@@ -46,7 +45,7 @@ pub(crate) enum Report {
     Faulty(PgnFault),
 }
 
-// All bytes of the input.
+// All bytes of the input, which may have as many as a game.
 pub(crate) fn read_all<R: Input>(alloc: Global, input: &mut R) -> Result<Vec<u8>, VerifyFault>
     ensures all { IfOk result (λ text. IsAll (R.seen input.old) (R.seen input.new) text.items) }
     ensures failed { IfErr result (λ f. IsNotHad (R.seen input.old) (R.seen input.new) f) }
@@ -60,7 +59,7 @@ pub(crate) fn read_all<R: Input>(alloc: Global, input: &mut R) -> Result<Vec<u8>
         if count == 0 {
             return Ok(text);
         }
-        if count > INPUT_LIMIT - text.len() {
+        if count > GAME_LEN - text.len() {
             return Err(VerifyFault::InputTooLong);
         }
         if text.extend_from_slice(&piece[..count]).is_err() {
@@ -179,7 +178,7 @@ fn tell_each<W: Output>(
     game: &mut Game<Bits>,
     output: &mut W,
 ) -> Result<Verified, WriteFault>
-    requires few { length text.now ≤ 16777216 }
+    requires few { length text.now ≤ GAME_LEN }
     requires limit { game.old.limit ≡ MOST_MOVES }
     ensures { Told text.now (W.seen output.old) (W.seen output.new) result }
 {
@@ -208,7 +207,7 @@ fn tell_games<W: Output>(
     game: &mut Game<Bits>,
     output: &mut W,
 ) -> Result<Verified, WriteFault>
-    requires few { length text.now ≤ 16777216 }
+    requires few { length text.now ≤ GAME_LEN }
     requires limit { game.old.limit ≡ MOST_MOVES }
     ensures { HandedOn text.now (W.seen output.old) (W.seen output.new) result }
 {

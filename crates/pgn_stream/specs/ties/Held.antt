@@ -10,6 +10,7 @@ use Rattle.chess_pgn.specs.Local.{settles_answer, moved_answer}
 use Rattle.chess_pgn.specs.Tokens.{is_white_space}
 use Rattle.pgn_stream.specs.declared.stream.StreamFault.{StreamFault}
 use Rattle.pgn_stream.specs.declared.stream.StreamFault.TheVariants.{InputTooLong}
+use Rattle.pgn_stream.specs.declared.stream.TheConstants.{GAME_LEN}
 use Rattle.pgn_stream.specs.Stream.{StreamState, HasRead, BrokeOff, GoesOn, Stops, IsNextEvent, IsWholeOf, place, is_held, game_at}
 
 -- the bytes before the one before the place were let go
@@ -39,7 +40,7 @@ AddsPiece s s' r r' (Err _) = Adds s s' [] × FailedToRead r r' × (s'.ended ≡
 
 -- no more bytes are needed for what is told of the game at the place, or none are left
 unfoldable pub is_full : StreamState → Bool
-is_full s = s.ended || nat_le (s.at + 16777217) (length s.window)
+is_full s = s.ended || nat_le (s.at + (GAME_LEN + 1)) (length s.window)
 
 abbrev pub Fills : {E : Type 0} → StreamState → StreamState → InputState → InputState → Result (Unit {0}) E → Type 0
 Fills s s' r r' (Ok _) = (more : List ℕ) × Adds s s' more × HasRead s'.ended r r' more × (is_full s' ≡ true)
@@ -52,7 +53,7 @@ Refills s s' r r' text (Err e) = (more : List ℕ) × Stops s' r r' (text ++ mor
 
 -- as `is_held`, of what was answered there
 abbrev pub is_told_by : StreamState → Result (Option PgnEnd) PgnFault → Bool
-is_told_by s answer = (s.ended && nat_le (length s.window) (s.at + 16777216))
+is_told_by s answer = (s.ended && nat_le (length s.window) (s.at + GAME_LEN))
     || ((nat_lt 0 s.at || nat_le 3 (length s.window)) && settles_answer s.window s.at answer)
 
 -- how it is read in them
@@ -78,7 +79,7 @@ IsPlaced s plies (Err f) = (s.at ≤ f.place) × (f.place ≤ length s.window)
 -- byte before it, if there is one
 pub record IsSound (s : StreamState) : Type 0 where
   pub within : s.at ≤ length s.window
-  pub few : length s.window ≤ s.at + 16777217
+  pub few : length s.window ≤ s.at + (GAME_LEN + 1)
   pub behind : 0 < s.before → 0 < s.at
 
 -- ---- the law
