@@ -35,11 +35,13 @@ const MOST_BEFORE: usize = usize::MAX - 33_554_431;
 const EVENT_LEN: usize = 7;
 
 /// Why the games of an input are read no further.
-#[derive(Clone, Copy, Debug, PartialEq, Eq)]
+#[derive(Clone, Copy, Debug, PartialEq, Eq, thiserror::Error)]
 pub enum StreamFault {
     /// A read failed.
+    #[error("a read failed")]
     ReadFailed,
     /// Places in the input could pass 64 bits.
+    #[error("the input is too long for places of 64 bits")]
     InputTooLong,
 }
 
