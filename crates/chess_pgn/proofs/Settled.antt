@@ -23,7 +23,7 @@ use Rattle.chess_pgn.specs.declared.read.PgnFaultKind.TheVariants.{BadTag, BadFe
 use Rattle.chess_pgn.specs.declared.word.WordKind.{WordKind}
 use Rattle.chess_pgn.specs.declared.word.WordKind.TheVariants.{End, Number, Marks, Move}
 use Rattle.chess_pgn.specs.GameRead.{SoFar, GameRead, Step, On, Stop, fails, unless_full, move_step, word_step, fen_step, tag_step, step, go_on, game_of, at_text_end, nothing_read, behind_word, told_by, told_next, variant_told, tokens_read, pgn_read}
-use Rattle.chess_pgn.specs.Local.{is_over, is_gap, if_behind, could_go_on, is_open_behind, is_open_string, is_open_name, is_open_tag, has_word_end, is_firm, settled_by, settles_variant, settles_fault, settles_answer, is_settled, ReadingIsLocal}
+use Rattle.chess_pgn.specs.Local.{is_no_text, is_gap, if_behind, could_go_on, is_open_behind, is_open_string, is_open_name, is_open_tag, has_word_end, is_firm, settled_by, settles_variant, settles_fault, settles_answer, is_settled, ReadingIsLocal}
 use Rattle.chess_pgn.specs.Tokens.{Token, Skip, Tag, Word, Bad_tag, Unclosed_comment, Unclosed_variation, Bad, Inside, Plain, Brace, Line, is_white_space, is_name_byte, is_word_byte, behind_brace, behind_gap, behind_byte, behind_next, string_at, onto, closed, with_text, with_string, with_name, tag_at, variation_at, comment_at, token_at, tokens_of, first_place, begins_line, tokens_from}
 use Rattle.chess_base.specs.Letters.{is_digit}
 use Rattle.chess_pgn.specs.Words.{kind_of}
@@ -244,7 +244,7 @@ module _ (more : List ℕ) where
     closed_kept name text left g = by_gap (behind_gap false false g) (behind_gap false false (g ++ more))
         (gap_kept false false g)
       where
-        by_gap : (p q : List ℕ) → GapKept p q → K (is_over p) (closed name left text (behind_byte 93 p))
+        by_gap : (p q : List ℕ) → GapKept p q → K (is_no_text p) (closed name left text (behind_byte 93 p))
             (closed name (left + length more) text (behind_byte 93 q))
         by_gap [] q h = maybe_tag refl (closed_bracket name text (left + length more) (behind_byte 93 q)) refl
         by_gap (x ∷ xs) q (inl e) = absurd (cc)
@@ -284,7 +284,7 @@ module _ (more : List ℕ) where
         begun xs = subst (λ n. K (is_open_string xs) (with_string name (Some xs))
             (with_text name n (string_at (xs ++ more)))) (sym (length-append xs more)) (text_kept name xs (length xs))
 
-        by_gap : (p q : List ℕ) → GapKept p q → K (is_over p || if_behind is_open_string (behind_byte 34 p))
+        by_gap : (p q : List ℕ) → GapKept p q → K (is_no_text p || if_behind is_open_string (behind_byte 34 p))
             (with_string name (behind_byte 34 p)) (with_string name (behind_byte 34 q))
         by_gap [] q h = maybe_tag refl (string_bracket name (behind_byte 34 q)) refl
         by_gap (x ∷ xs) q (inl e) = absurd (cc)
@@ -302,7 +302,7 @@ module _ (more : List ℕ) where
     named inner = with_name (take_while is_name_byte inner) (drop (prefix_len is_name_byte inner) inner)
 
     abbrev is_open_inner : List ℕ → Bool
-    is_open_inner inner = is_over inner || is_open_name (take_while is_name_byte inner)
+    is_open_inner inner = is_no_text inner || is_open_name (take_while is_name_byte inner)
         (drop (prefix_len is_name_byte inner) inner)
 
     inner_kept : (p q : List ℕ) → GapKept p q → K (is_open_inner p) (named p) (named q)

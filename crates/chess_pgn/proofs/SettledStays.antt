@@ -13,7 +13,7 @@ use Rattle.chess_pgn.specs.declared.read.PgnFault.{PgnFault}
 use Rattle.chess_pgn.specs.declared.read.PgnFaultKind.{PgnFaultKind}
 use Rattle.chess_pgn.specs.declared.read.PgnFaultKind.TheVariants.{BadTag, BadFen, BadToken, IllegalMove, AmbiguousMove, AfterEnd, TooLong, UnclosedComment, UnclosedVariation, NoResult}
 use Rattle.chess_pgn.specs.GameRead.{told_by, pgn_read}
-use Rattle.chess_pgn.specs.Local.{is_over, is_gap, if_behind, is_open_behind, is_open_string, is_open_name, is_open_tag, has_word_end, is_firm, settled_by, settles_variant, settles_fault, settles_answer, is_settled, SettledStays}
+use Rattle.chess_pgn.specs.Local.{is_no_text, is_gap, if_behind, is_open_behind, is_open_string, is_open_name, is_open_tag, has_word_end, is_firm, settled_by, settles_variant, settles_fault, settles_answer, is_settled, SettledStays}
 use Rattle.chess_pgn.specs.Tokens.{Token, Skip, Tag, Word, Bad_tag, Unclosed_comment, Unclosed_variation, Bad, is_name_byte, is_word_byte, behind_gap, behind_byte, string_at, token_at, tokens_of, first_place, begins_line, tokens_from}
 use Rattle.chess_pgn.specs.Words.{kind_of}
 use Rattle.chess_pgn.proofs.Cuts.{Suffix}
@@ -27,10 +27,10 @@ module _ (more : List ℕ) where
   gap_closed text = by_gap (behind_gap false false text) (behind_gap false false (text ++ more))
       (gap_kept more false false text)
     where
-      by_gap : (p q : List ℕ) → (p ≡ []) ⊎ (q ≡ p ++ more) → is_over p ≡ false → is_over q ≡ false
+      by_gap : (p q : List ℕ) → (p ≡ []) ⊎ (q ≡ p ++ more) → is_no_text p ≡ false → is_no_text q ≡ false
       by_gap [] q h e = absurd (true≢false e)
       by_gap (x ∷ xs) q (inl f) e = absurd (cc)
-      by_gap (x ∷ xs) q (inr f) e = ap is_over f
+      by_gap (x ∷ xs) q (inr f) e = ap is_no_text f
 
   string_closed : (s : List ℕ) → is_open_string s ≡ false → is_open_string (s ++ more) ≡ false
   string_closed s = by_string (string_at s) refl (string_kept more s)
@@ -49,17 +49,17 @@ module _ (more : List ℕ) where
   name_closed (n ∷ ns) rest e = by_gap (behind_gap false false rest) (behind_gap false false (rest ++ more))
       (gap_kept more false false rest) e
     where
-      by_gap : (p q : List ℕ) → (p ≡ []) ⊎ (q ≡ p ++ more) → (is_over p || if_behind is_open_string (behind_byte 34 p))
-          ≡ false → (is_over q || if_behind is_open_string (behind_byte 34 q)) ≡ false
+      by_gap : (p q : List ℕ) → (p ≡ []) ⊎ (q ≡ p ++ more) → (is_no_text p || if_behind is_open_string (behind_byte 34 p))
+          ≡ false → (is_no_text q || if_behind is_open_string (behind_byte 34 q)) ≡ false
       by_gap [] q h e = absurd (true≢false e)
       by_gap (x ∷ xs) q (inl f) e = absurd (cc)
       by_gap (x ∷ xs) q (inr f) e =
-          subst (λ (r : List ℕ). (is_over r || if_behind is_open_string (behind_byte 34 r)) ≡ false) (sym f)
+          subst (λ (r : List ℕ). (is_no_text r || if_behind is_open_string (behind_byte 34 r)) ≡ false) (sym f)
           (both (λ (o u : Option (List ℕ)). if_behind is_open_string o ≡ false → if_behind is_open_string u ≡ false)
           (eqb x 34) (Some xs) None (Some (xs ++ more)) None (λ _. string_closed xs) (λ _. λ h. h) e)
 
   abbrev is_open_inner : List ℕ → Bool
-  is_open_inner inner = is_over inner
+  is_open_inner inner = is_no_text inner
       || is_open_name (take_while is_name_byte inner) (drop (prefix_len is_name_byte inner) inner)
 
   inner_closed : (p q : List ℕ) → (p ≡ []) ⊎ (q ≡ p ++ more) → is_open_inner p ≡ false → is_open_inner q ≡ false

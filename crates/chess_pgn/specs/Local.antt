@@ -14,13 +14,13 @@ use Rattle.chess_pgn.specs.Tokens.{Token, Skip, Tag, Word, Bad_tag, Unclosed_com
 -- ---- bytes behind an opening bracket that more bytes could make a tag of: they end in a gap, the name, or a string
 -- with no line's end
 
-abbrev pub is_over : List ℕ → Bool
-is_over [] = true
-is_over (c ∷ cs) = false
+abbrev pub is_no_text : List ℕ → Bool
+is_no_text [] = true
+is_no_text (c ∷ cs) = false
 
 -- nothing stands there but a gap
 abbrev pub is_gap : List ℕ → Bool
-is_gap text = is_over (behind_gap false false text)
+is_gap text = is_no_text (behind_gap false false text)
 
 abbrev pub if_behind : (List ℕ → Bool) → Option (List ℕ) → Bool
 if_behind later None = false
@@ -44,7 +44,7 @@ is_open_name (n ∷ ns) rest = could_go_on (byte "\"") is_open_string rest
 
 abbrev pub is_open_tag : List ℕ → Bool
 is_open_tag text =
-    let inner = behind_gap false false text in is_over inner
+    let inner = behind_gap false false text in is_no_text inner
     || is_open_name (take_while is_name_byte inner) (drop (prefix_len is_name_byte inner) inner)
 
 -- ---- what the beginning of a text settles

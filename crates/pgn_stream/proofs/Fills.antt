@@ -8,7 +8,7 @@ use Rattle.byte_devices.proofs.DeviceLaws.{consumes_more, consumes_none, consume
 use Rattle.pgn_stream.specs.declared.stream.StreamFault.{StreamFault}
 use Rattle.pgn_stream.specs.declared.stream.StreamFault.TheVariants.{ReadFailed, InputTooLong}
 use Rattle.pgn_stream.specs.Stream.{StreamState, IsFront, BrokeOff, HasRead, IsWholeOf, Holds, StandsAt, GoesOn, Stops}
-use Rattle.pgn_stream.specs.ties.Held.{Adds, Fills, IsSlid, Refills, is_full}
+use Rattle.pgn_stream.specs.ties.Held.{Adds, Fills, IsSlid, Refills, window_is_full}
 
 -- ---- the input
 
@@ -107,8 +107,8 @@ filling_broke s s' s'' r r' r'' more h going failed (Err e) is = (
 
 -- ---- filling anew
 
-pub ended_is_full : (s : StreamState) → s.ended ≡ true → is_full s ≡ true
-unfolding is_full
+pub ended_is_full : (s : StreamState) → s.ended ≡ true → window_is_full s ≡ true
+unfolding window_is_full
 ended_is_full s h = rw h refl
 
 earlier : (ended : Bool) (text more whole : List ℕ) → IsWholeOf ended (text ++ more) whole → IsWholeOf false text whole
@@ -142,7 +142,7 @@ held_more gone s s' s'' text more slid adds holds =
     dropped n m xs = drop-drop m n xs
 
 pub refilled : (gone : ℕ) (s s' s'' : StreamState) (i i' : InputState) → s.ended ≡ false → IsSlid gone s s'
-    → (more : List ℕ) × Adds s' s'' more × HasRead s''.ended i i' more × (is_full s'' ≡ true)
+    → (more : List ℕ) × Adds s' s'' more × HasRead s''.ended i i' more × (window_is_full s'' ≡ true)
     → (r : InputState) (text : List ℕ) → StandsAt s r i text → GoesOn s s'' r i' text (λ whole. Unit {0})
 refilled gone s s' s'' i i' going slid filled r text stands =
     let more = filled.0 in (

@@ -8,7 +8,7 @@ use Rattle.chess_pgn.specs.declared.read.PgnFault.{PgnFault}
 use Rattle.chess_pgn.specs.GameRead.{pgn_read}
 use Rattle.chess_pgn.specs.Local.{moved_answer}
 use Rattle.pgn_stream.specs.Stream.{StreamState, place, IsWholeOf, StandsAt, GoesOn, IsTold, is_held}
-use Rattle.pgn_stream.specs.ties.Held.{IsSound, is_full, held_answer, too_long, place_behind, WindowsTell}
+use Rattle.pgn_stream.specs.ties.Held.{HoldsPlace, window_is_full, held_answer, too_long, place_behind, WindowsTell}
 
 -- ---- what is told
 
@@ -19,9 +19,9 @@ if_played P n (Ok (Some e)) p = p
 if_played P n (Err f) p = tt
 
 told_by : WindowsTell → (s : StreamState) (r i : InputState) (text whole : List ℕ) (g g' : Seen)
-    (answer : Result (Option PgnEnd) PgnFault) → IsSound s → StandsAt s r i text → IsWholeOf s.ended text whole
+    (answer : Result (Option PgnEnd) PgnFault) → HoldsPlace s → StandsAt s r i text → IsWholeOf s.ended text whole
     → g' ≡ left_at g (pgn_read g.limit s.window s.at).state → (b : Bool) → is_held g.limit s ≡ b
-    → answer ≡ (if b then held_answer g.limit s else Err (too_long s)) → (b ≡ false → is_full s ≡ true)
+    → answer ≡ (if b then held_answer g.limit s else Err (too_long s)) → (b ≡ false → window_is_full s ≡ true)
     → IsTold g g' whole (place s) (moved_answer s.before answer)
 told_by law s r i text whole g g' answer sound stands w left true held is full =
     let tells = (law g.limit s text whole sound stands.holds.before stands.holds.window w).0 held in
@@ -49,10 +49,10 @@ stays s r i text stands = (
 )
 
 pub game_told : WindowsTell → (s s' s'' : StreamState) (r i i' : InputState) (text : List ℕ) (g g' : Seen)
-    (answer told : Result (Option PgnEnd) PgnFault) → place s' ≡ place s → IsSound s'
+    (answer told : Result (Option PgnEnd) PgnFault) → place s' ≡ place s → HoldsPlace s'
     → GoesOn s s' r i' text (λ whole. Unit {0}) → g' ≡ left_at g (pgn_read g.limit s'.window s'.at).state
     → answer ≡ (if is_held g.limit s' then held_answer g.limit s' else Err (too_long s'))
-    → (is_held g.limit s' ≡ false → is_full s' ≡ true)
+    → (is_held g.limit s' ≡ false → window_is_full s' ≡ true)
     → s'' ≡ record { window = s'.window; before = s'.before; at = place_behind s'.at answer; ended = s'.ended }
     → told ≡ moved_answer s'.before answer
     → GoesOn s s'' r i' text (λ whole. IsTold g g' whole (place s) told)

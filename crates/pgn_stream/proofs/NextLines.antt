@@ -11,7 +11,7 @@ use Rattle.std.proofs.Math.Seq.{drop-append-add}
 use Rattle.byte_devices.specs.Devices.{InputState}
 use Rattle.pgn_stream.specs.declared.stream.StreamFault.{StreamFault}
 use Rattle.pgn_stream.specs.Stream.{StreamState, place, IsWholeOf, StandsAt, GoesOn, Stops, FindsEvent, StandsFurther, NoEventUpTo, is_event_line, IsNextEvent}
-use Rattle.pgn_stream.specs.ties.Held.{FindsHeld, is_full}
+use Rattle.pgn_stream.specs.ties.Held.{FindsHeld, window_is_full}
 
 -- ---- lines of lists
 
@@ -277,8 +277,8 @@ never_back s₀ s s' s'' low finds same =
     omega (arith, low, at, before, same)
 
 pub falls : (s s' s'' : StreamState) → FindsHeld s s' false → s'.ended ≡ false → s'.before + length s'.window < 2 ^ 64
-    → place s'' ≡ place s' → is_full s'' ≡ true → left s'' < left s
-unfolding is_full
+    → place s'' ≡ place s' → window_is_full s'' ≡ true → left s'' < left s
+unfolding window_is_full
 falls s s' s'' finds going small same full =
     let at : s'.at ≡ max s.at (length s.window - 7) = ap (λ (t : StreamState). t.at) finds.0 in
     let before : s'.before ≡ s.before = ap (λ (t : StreamState). t.before) finds.0 in

@@ -9,7 +9,7 @@ use Rattle.chess_pgn.specs.declared.read.PgnEnd.{PgnEnd}
 use Rattle.chess_pgn.specs.declared.read.PgnFault.{PgnFault}
 use Rattle.chess_pgn.specs.Local.{is_settled}
 use Rattle.pgn_stream.specs.Stream.{StreamState, is_held}
-use Rattle.pgn_stream.specs.ties.Held.{is_full, is_told_by, held_answer}
+use Rattle.pgn_stream.specs.ties.Held.{window_is_full, is_told_by, held_answer}
 
 -- ---- a piece
 
@@ -21,12 +21,12 @@ room_left : (a b : Bool) → (a || b) ≡ false → b ≡ false
 room_left true b h = cc
 room_left false b h = h
 
-pub not_ended : (s : StreamState) → is_full s ≡ false → s.ended ≡ false
-unfolding is_full
+pub not_ended : (s : StreamState) → window_is_full s ≡ false → s.ended ≡ false
+unfolding window_is_full
 not_ended s h = going s.ended (nat_le (s.at + 16777217) (length s.window)) h
 
-pub not_full : (s : StreamState) → is_full s ≡ false → length s.window < s.at + 16777217
-unfolding is_full
+pub not_full : (s : StreamState) → window_is_full s ≡ false → length s.window < s.at + 16777217
+unfolding window_is_full
 not_full s h = let k = room_left s.ended (nat_le (s.at + 16777217) (length s.window)) h in grind (arith, nat_tests, k)
 
 pub some_room : (len to : ℕ) (bytes : List ℕ) → len < to → to ≤ length bytes

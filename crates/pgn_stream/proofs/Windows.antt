@@ -12,7 +12,7 @@ use Rattle.chess_pgn.specs.GameRead.{GameRead, pgn_read}
 use Rattle.chess_pgn.specs.Local.{is_settled, moved, moved_answer, ReadingIsLocal, SettledStays, ReadingIsMoved, SettledIsMoved}
 use Rattle.chess_pgn.specs.Tokens.{is_white_space}
 use Rattle.pgn_stream.specs.Stream.{StreamState, IsWholeOf, place, first_bytes, is_in_reach, game_begin, game_at, is_held}
-use Rattle.pgn_stream.specs.ties.Held.{IsSound, is_full, held_answer, too_long, WindowsTell}
+use Rattle.pgn_stream.specs.ties.Held.{HoldsPlace, window_is_full, held_answer, too_long, WindowsTell}
 
 answer_stays : (r : Result (Option PgnEnd) PgnFault) → moved_answer 0 r ≡ r
 answer_stays (Ok None) = refl
@@ -192,9 +192,9 @@ module _ (local : ReadingIsLocal) (stays : SettledStays) (moves : ReadingIsMoved
   neither_right false b h = h
 
   open_tells : (ended : Bool) (whole : List ℕ) → IsWholeOf ended text whole → is_held limit (stream ended) ≡ false
-      → is_full (stream ended) ≡ true
+      → window_is_full (stream ended) ≡ true
       → game_at limit whole from ≡ moved_answer (length front) (Err (too_long (stream ended)))
-  unfolding is_held is_full
+  unfolding is_held window_is_full
   open_tells ended whole w h k =
       let there = whole_of ended whole w in
       let all = full_len ended
@@ -215,15 +215,15 @@ abbrev TellsAt : ℕ → StreamState → List ℕ → ℕ → Type 0
 TellsAt limit s whole n =
     (is_held limit (with_before s n) ≡ true → (game_at limit whole (n + s.at) ≡ moved_answer n (held_answer limit s))
     × ((pgn_read limit whole (n + s.at)).state ≡ (pgn_read limit s.window s.at).state))
-    × (is_held limit (with_before s n) ≡ false → is_full (with_before s n) ≡ true
+    × (is_held limit (with_before s n) ≡ false → window_is_full (with_before s n) ≡ true
     → game_at limit whole (n + s.at) ≡ moved_answer n (Err (too_long s)))
 
 module _ (local : ReadingIsLocal) (stays : SettledStays) (moves : ReadingIsMoved) (settled : SettledIsMoved) where
-  by_parts : (limit : ℕ) (s : StreamState) (front whole : List ℕ) → IsSound s → s.before ≡ length front
+  by_parts : (limit : ℕ) (s : StreamState) (front whole : List ℕ) → HoldsPlace s → s.before ≡ length front
       → IsWholeOf s.ended (front ++ s.window) whole
       → (is_held limit s ≡ true → (game_at limit whole (place s) ≡ moved_answer s.before (held_answer limit s))
       × ((pgn_read limit whole (place s)).state ≡ (pgn_read limit s.window s.at).state))
-      × (is_held limit s ≡ false → is_full s ≡ true
+      × (is_held limit s ≡ false → window_is_full s ≡ true
       → game_at limit whole (place s) ≡ moved_answer s.before (Err (too_long s)))
   by_parts limit s front whole sound is w =
       let behind : 0 < length front → 0 < s.at = λ h. sound.behind (subst (λ n. 0 < n) (sym is) h) in

@@ -9,7 +9,7 @@ ghost use Rattle.chess_pgn.specs.Local.{moved_answer};
 ghost use Rattle.chess_pgn.specs.Tokens.{is_white_space};
 ghost use Rattle.pgn_stream.specs.declared.stream.TheConstants.{GAME_LEN};
 ghost use Rattle.pgn_stream.specs.Stream.{unread, place, StandsAt, ReadsGame, StandsBehind, is_held, FindsEvent, StandsFurther, IsNextEvent};
-ghost use Rattle.pgn_stream.specs.ties.Held.{Slides, AddsPiece, is_full, Fills, Refills, is_told_by, held_answer, too_long, place_behind, IsPlaced, IsSound, FindsHeld};
+ghost use Rattle.pgn_stream.specs.ties.Held.{Slides, AddsPiece, window_is_full, Fills, Refills, is_told_by, held_answer, too_long, place_behind, IsPlaced, HoldsPlace, FindsHeld};
 
 use crate::events::next_event;
 use crate::laws::windows_tell;
@@ -136,9 +136,9 @@ impl PgnStream {
     }
 
     // Whether no more bytes are needed for what is told of the game, or none are left.
-    #[tactic(auto, unfolding(crate::specs::ties::Held::is_full))]
-    fn is_full(&self) -> bool
-        ensures { result ≡ is_full self.now }
+    #[tactic(auto, unfolding(crate::specs::ties::Held::window_is_full))]
+    fn window_is_full(&self) -> bool
+        ensures { result ≡ window_is_full self.now }
     {
         self.ended || self.len > self.at + GAME_LEN
     }
@@ -160,7 +160,7 @@ impl PgnStream {
 
     // Reads a piece behind the window.
     fn read_piece<R: Input>(&mut self, input: &mut R) -> Result<(), ReadFault>
-        requires room { is_full self.old ≡ false }
+        requires room { window_is_full self.old ≡ false }
         requires low { self.old.at ≤ 1 }
         ensures { AddsPiece self.old self.new (R.seen input.old) (R.seen input.new) result }
     {
@@ -176,7 +176,7 @@ impl PgnStream {
         requires low { self.old.at ≤ 1 }
         ensures { Fills self.old self.new (R.seen input.old) (R.seen input.new) result }
     {
-        while !self.is_full() {
+        while !self.window_is_full() {
             self.read_piece(input)?;
         }
         Ok(())
@@ -187,7 +187,7 @@ impl PgnStream {
         ensures held { (r : InputState) (text : List ℕ) → StandsAt self.old r (R.seen input.old) text
             → Refills self.old self.new r (R.seen input.new) text result }
         ensures place { place self.new ≡ place self.old }
-        ensures full { IfOk result (λ _. is_full self.new ≡ true) }
+        ensures full { IfOk result (λ _. window_is_full self.new ≡ true) }
         ensures going { IfErr result (λ _. self.old.ended ≡ false) }
     {
         if self.ended {
@@ -220,7 +220,7 @@ impl PgnStream {
             ≡ (if is_held game.old.limit self.now then Some (held_answer game.old.limit self.now) else None) }
         ensures game { game.new ≡ left_at game.old (pgn_read game.old.limit self.now.window self.now.at).state }
         ensures placed { IfSome result (λ answer. IsPlaced self.now (length game.new.state.moves) answer) }
-        ensures sound { IsSound self.now }
+        ensures sound { HoldsPlace self.now }
     {
         faults_have_places();
         half_moves_have_bytes();
@@ -238,7 +238,7 @@ impl PgnStream {
             else Err (too_long self.now)) }
         ensures game { game.new ≡ left_at game.old (pgn_read game.old.limit self.now.window self.now.at).state }
         ensures placed { IsPlaced self.now (length game.new.state.moves) result }
-        ensures sound { IsSound self.now }
+        ensures sound { HoldsPlace self.now }
     {
         match self.read_held(game) {
             Some(answer) => answer,

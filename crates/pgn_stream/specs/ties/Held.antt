@@ -39,11 +39,11 @@ AddsPiece s s' r r' (Ok _) = (piece : List ℕ) × Adds s s' piece × GavePiece 
 AddsPiece s s' r r' (Err _) = Adds s s' [] × FailedToRead r r' × (s'.ended ≡ s.ended)
 
 -- no more bytes are needed for what is told of the game at the place, or none are left
-unfoldable pub is_full : StreamState → Bool
-is_full s = s.ended || nat_le (s.at + (GAME_LEN + 1)) (length s.window)
+unfoldable pub window_is_full : StreamState → Bool
+window_is_full s = s.ended || nat_le (s.at + (GAME_LEN + 1)) (length s.window)
 
 abbrev pub Fills : {E : Type 0} → StreamState → StreamState → InputState → InputState → Result (Unit {0}) E → Type 0
-Fills s s' r r' (Ok _) = (more : List ℕ) × Adds s s' more × HasRead s'.ended r r' more × (is_full s' ≡ true)
+Fills s s' r r' (Ok _) = (more : List ℕ) × Adds s s' more × HasRead s'.ended r r' more × (window_is_full s' ≡ true)
 Fills s s' r r' (Err _) = (more : List ℕ) × Adds s s' more × BrokeOff r r' more × (s'.ended ≡ false)
 
 abbrev pub Refills : {A : Type 0} → StreamState → StreamState → InputState → InputState → List ℕ → Result A StreamFault
@@ -77,7 +77,7 @@ IsPlaced s plies (Err f) = (s.at ≤ f.place) × (f.place ≤ length s.window)
 
 -- what each stream keeps: the place is in the window, which has no more bytes than are told of the game there, and the
 -- byte before it, if there is one
-pub record IsSound (s : StreamState) : Type 0 where
+pub record HoldsPlace (s : StreamState) : Type 0 where
   pub within : s.at ≤ length s.window
   pub few : length s.window ≤ s.at + (GAME_LEN + 1)
   pub behind : 0 < s.before → 0 < s.at
@@ -88,11 +88,11 @@ pub record IsSound (s : StreamState) : Type 0 where
 -- game is too long
 abbrev pub WindowsTell : Type 0
 WindowsTell =
-    (limit : ℕ) (s : StreamState) (text whole : List ℕ) → IsSound s → s.before ≤ length text
+    (limit : ℕ) (s : StreamState) (text whole : List ℕ) → HoldsPlace s → s.before ≤ length text
     → s.window ≡ drop s.before text → IsWholeOf s.ended text whole
     → (is_held limit s ≡ true → (game_at limit whole (place s) ≡ moved_answer s.before (held_answer limit s))
     × ((pgn_read limit whole (place s)).state ≡ (pgn_read limit s.window s.at).state))
-    × (is_held limit s ≡ false → is_full s ≡ true
+    × (is_held limit s ≡ false → window_is_full s ≡ true
     → game_at limit whole (place s) ≡ moved_answer s.before (Err (too_long s)))
 
 -- ---- lines of a tag Event
