@@ -1,3 +1,5 @@
+-- With its name and string read, a text that lacks the closing bracket is no tag in the definition too
+-- (Strings.tag_unclosed).
 use Rattle.std.proofs.Common.{sym, ap, ◌∙◌}
 use Rattle.chess_pgn.specs.ties.Seen.{tag_seen}
 use Rattle.chess_pgn.proofs.Strings.{tag_unclosed}

@@ -1,3 +1,5 @@
+-- The byte behind the places that were passed begins no line of a tag Event, so one place more was passed
+-- (EventLines.one_further).
 use Rattle.std.proofs.Common.{◌≡◌, ◌∙◌, ◌+◌, false, sym, arith}
 use Rattle.pgn_stream.specs.Stream.{is_event_line}
 use Rattle.pgn_stream.proofs.EventLines.{one_further}

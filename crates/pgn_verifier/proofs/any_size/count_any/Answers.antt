@@ -1,3 +1,6 @@
+-- The games up to the stream's place were told and counted, and reports on the rest join theirs (AnyReports.SoFar). The
+-- answers go by what was read: none, a game or a fault, with a line told or not and a next game found or not; each is
+-- one lemma of AnyReports. The counts fit, since each game has a byte of its own.
 use Rattle.std.proofs.Common.{rules, ◌≡◌, ◌∙◌, ◌+◌, ◌++◌, ◌∷◌, [], Bool, length, Option, Some, None, Result, Ok, Err, sym, subst, arith}
 use Rattle.chess_pgn.specs.declared.read.PgnEnd.{PgnEnd}
 use Rattle.chess_pgn.specs.declared.read.PgnFault.{PgnFault}

@@ -1,3 +1,5 @@
+-- Counting failed, handing on failed, or all went well: each is one lemma on what was counted (AnyReports.not_counted,
+-- not_handed_on, handed_on).
 use Rattle.std.proofs.Common.{Ok, sym, subst}
 use Rattle.pgn_verifier.specs.AnySize.{VerifiesAny}
 use Rattle.pgn_verifier.specs.declared.whole.Verified.{Verified}

@@ -1,3 +1,4 @@
+-- The parts were put one behind another, and the definition groups them to the right.
 use Rattle.std.proofs.Common.{append_assoc}
 use Rattle.pgn_verifier.proofs.whole.write_report.Goals as goal
 

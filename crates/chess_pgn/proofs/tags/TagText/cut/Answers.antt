@@ -1,3 +1,5 @@
+-- At most 60 bytes were taken over, each printable or replaced (TagTexts.tag_text_is); the lesser of 60 and the text's
+-- length cuts the same as 60.
 use Rattle.std.proofs.Common.{ap, map, arith}
 use Rattle.std.proofs.lemmas.List.{take_min}
 use Rattle.chess_pgn.specs.Written.{tag_byte}

@@ -1,3 +1,5 @@
+-- A piece more is held behind the pieces that were read so far (Fills.filled_more), and where a read failed these are
+-- all (Fills.filling_broke). A window that is not full has not ended.
 use Rattle.std.proofs.Common.{rules, ◌≡◌, ◌++◌, false}
 use Rattle.pgn_stream.specs.ties.Held.{window_is_full}
 use Rattle.pgn_stream.proofs.Steps.{not_ended}

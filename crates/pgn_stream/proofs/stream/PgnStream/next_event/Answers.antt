@@ -1,3 +1,5 @@
+-- In what was looked through no line of a tag Event begins, however the text goes on (NextLines.Looked). Looking
+-- through the window and a refill keep that; a line that is found, the end or a failed read each ends it by one lemma.
 use Rattle.std.proofs.Common.{◌<◌, ◌+◌, ◌^◌, ◌++◌, length, ap, sym, refl, subst, ◌∙◌, arith}
 use Rattle.std.proofs.lemmas.List.{length-take-le}
 use Rattle.pgn_stream.specs.Stream.{StreamState}

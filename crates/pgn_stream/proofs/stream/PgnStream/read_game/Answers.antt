@@ -1,3 +1,5 @@
+-- What the window tells, as it is or refilled, is told of each whole text (Games.game_told, by the law WindowsTell). In
+-- a refilled window the game begins anew, so that it was read once before changes nothing (Games.read_again).
 use Rattle.std.proofs.Common.{refl}
 use Rattle.std.specs.Prelude.{Err}
 use Rattle.pgn_stream.specs.Stream.{is_held}

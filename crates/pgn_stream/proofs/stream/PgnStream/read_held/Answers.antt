@@ -1,3 +1,4 @@
+-- Whether the window tells the answer is the test of the definition, by cases (Steps.told_so, left_open).
 use Rattle.std.proofs.Common.{rules}
 use Rattle.pgn_stream.proofs.Steps.{told_so, left_open}
 use Rattle.pgn_stream.proofs.stream.PgnStream.read_held.Goals as goal

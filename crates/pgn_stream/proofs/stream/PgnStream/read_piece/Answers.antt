@@ -1,3 +1,5 @@
+-- The buffer has room behind the window, since the place is at most 1; what was read into it stands there behind the
+-- bytes that were held (Steps.piece_held).
 use Rattle.std.proofs.Common.{◌≡◌, ◌≤◌, ◌<◌, ◌+◌, ◌++◌, ◌==◌, length, take, sym, ap, subst, ◌∙◌, arith}
 use Rattle.std.proofs.lemmas.List.{length-take-le}
 use Rattle.pgn_stream.specs.Stream.{StreamState}

@@ -1,3 +1,5 @@
+-- A stream that has ended is full. Else it slides and fills: all together it goes on over what was read, or stops where
+-- the read failed or places ran out (Fills.refilled, refill_broke, refill_past).
 use Rattle.std.proofs.Common.{ap, sym, ◌∙◌, ◌-◌}
 use Rattle.pgn_stream.specs.Stream.{StreamState}
 use Rattle.pgn_stream.proofs.Fills.{ended_is_full, refilled, refill_broke, refill_past}

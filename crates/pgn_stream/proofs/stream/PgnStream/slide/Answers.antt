@@ -1,3 +1,4 @@
+-- The buffer's front is the old window without the bytes that are let go (Steps.slid); the places follow by counting.
 use Rattle.std.proofs.Common.{◌+◌, ◌-◌, take, drop, refl, ap, subst, ◌∙◌, arith}
 use Rattle.std.proofs.lemmas.List.{length-take-le}
 use Rattle.pgn_stream.specs.Stream.{StreamState}
