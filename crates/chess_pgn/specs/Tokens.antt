@@ -117,7 +117,7 @@ closed name left text (Some rest) = (Tag name text left, rest)
 
 abbrev pub with_text : List ℕ → ℕ → Option (List ℕ × List ℕ) → Token × List ℕ
 with_text name left None = (Bad_tag, [])
-with_text name left (Some found) = closed name left found.0 (behind_next 93 found.1)
+with_text name left (Some found) = closed name left found.0 (behind_next (byte "]") found.1)
 
 abbrev pub with_string : List ℕ → Option (List ℕ) → Token × List ℕ
 with_string name None = (Bad_tag, [])

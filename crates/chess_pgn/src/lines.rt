@@ -3,6 +3,7 @@
 ghost use Rattle.chess_pgn.specs.declared.lines.TheConstants.{LINE_LEN};
 ghost use Rattle.std.specs.Prelude.{◌≡◌, ◌+◌, ◌≤◌, ◌<◌, [], ◌∷◌, ◌++◌, length};
 ghost use Rattle.byte_devices.specs.Devices.{Puts};
+ghost use Rattle.chess_base.specs.Letters.{new_line};
 ghost use Rattle.chess_pgn.specs.ties.Waiting.{Adds};
 ghost use Rattle.chess_pgn.specs.Written.{placed, column_behind, line_close};
 
@@ -46,7 +47,7 @@ impl<'a> LineWriter<'a> {
         line: &[u8],
     ) -> Result<(), WriteFault>
         ensures added { Adds (W.seen writer.old) (W.seen writer.new) self.old.waiting self.new.waiting result
-            (self.old.prefix.now ++ line.now ++ 10 ∷ []) }
+            (self.old.prefix.now ++ line.now ++ new_line ∷ []) }
         ensures prefix { self.new.prefix.now ≡ self.old.prefix.now }
         ensures column { self.new.column ≡ self.old.column }
     {

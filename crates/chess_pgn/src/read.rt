@@ -3,6 +3,7 @@
 ghost use Rattle.std.specs.Prelude.{◌≡◌, ℕ, ◌+◌, ◌-◌, ◌^◌, ◌≤◌, ◌<◌, ◌||◌, ◌==◌, true, length, None, IfOk, Err, is_some, IsNone, OnErr};
 ghost use Rattle.std.specs.Option.{IfSome};
 ghost use Rattle.chess_game.specs.Game.{State, at as left_at, with_declared, current, verdict_now};
+ghost use Rattle.chess_base.specs.Letters.{byte};
 ghost use Rattle.chess_base.specs.declared.man.Variant.TheVariants.{Normal};
 ghost use Rattle.chess_text.specs.Moves.{reading};
 ghost use Rattle.chess_pgn.specs.Words.{kind_of};
@@ -349,10 +350,10 @@ fn told_variant(text: &[u8], at: usize) -> Variant
 }
 
 // Whether the byte counts nothing where a token begins: white space or a dot.
-fn is_passed(byte: u8) -> bool
-    ensures { result ≡ (is_white_space byte || byte == 46) }
+fn is_passed(next: u8) -> bool
+    ensures { result ≡ (is_white_space next || next == byte ".") }
 {
-    is_white_space(byte) || byte == b'.'
+    is_white_space(next) || next == b'.'
 }
 
 // Behind the white space and dots from a place on. They are tokens too, but a game is read alike without them.

@@ -2,6 +2,7 @@
 
 ghost use Rattle.std.specs.Prelude.{◌≡◌, ◌≤◌, ◌+◌, ◌-◌, ◌||◌, ◌&&◌, ◌==◌, not, nat_lt, nat_le, length, drop};
 ghost use Rattle.std.specs.List.{list_any};
+ghost use Rattle.chess_base.specs.Letters.{new_line};
 ghost use Rattle.chess_base.specs.declared.man.Variant.TheVariants.{Normal};
 ghost use Rattle.chess_pgn.specs.Local.{is_gap, is_open_string, is_open_name, is_open_tag, has_word_end, is_firm, settles_variant, settles_fault, settles_answer};
 ghost use Rattle.chess_pgn.specs.ties.Seen.{token_seen, fault_seen};
@@ -23,7 +24,7 @@ fn is_gap(text: &[u8]) -> bool
 
 // Whether a line ends in the text.
 fn has_line_end(text: &[u8]) -> bool
-    ensures { result ≡ list_any (λ c. c == 10) text.now }
+    ensures { result ≡ list_any (λ c. c == new_line) text.now }
 {
     text.iter().any(|byte| *byte == b'\n')
 }

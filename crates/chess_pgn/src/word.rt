@@ -2,7 +2,7 @@
 
 ghost use Rattle.std.specs.Prelude.{◌≡◌, ◌||◌, ◌==◌};
 ghost use Rattle.std.specs.List.{list_all};
-ghost use Rattle.chess_base.specs.Letters.{is_digit};
+ghost use Rattle.chess_base.specs.Letters.{byte, is_digit};
 ghost use Rattle.chess_pgn.specs.Words.{outcome_of, kind_of};
 
 use crate::bytes::is_digit;
@@ -40,7 +40,7 @@ fn has_digits_alone(word: &[u8]) -> bool
 }
 
 fn has_marks_alone(word: &[u8]) -> bool
-    ensures { result ≡ list_all (λ c. c == 33 || c == 63) word.now }
+    ensures { result ≡ list_all (λ c. c == byte "!" || c == byte "?") word.now }
 {
     word.iter().all(|byte| *byte == b'!' || *byte == b'?')
 }

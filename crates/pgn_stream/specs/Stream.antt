@@ -4,6 +4,7 @@ use Rattle.std.specs.Io.KnownBytes.{Consumes, IsAtEnd}
 use Rattle.std.specs.List.{prefix_len}
 use Rattle.std.specs.Str.{bytes_eq}
 use Rattle.byte_devices.specs.Devices.{InputState, risen}
+use Rattle.chess_base.specs.Letters.{new_line}
 use Rattle.chess_game.specs.Game.{Seen, at as left_at}
 use Rattle.chess_pgn.specs.declared.read.PgnEnd.{PgnEnd}
 use Rattle.chess_pgn.specs.declared.read.PgnFault.{PgnFault}
@@ -38,7 +39,7 @@ game_at limit text at = if is_in_reach limit text at then (pgn_read limit text a
 
 -- a line begins at the place, behind a byte 10, and it begins with `[Event `
 abbrev pub is_event_line : List ℕ → ℕ → Bool
-is_event_line text place = (slice_index text (place - 1) == 10) && bytes_eq (take 7 (drop place text)) (codes "[Event ")
+is_event_line text place = (slice_index text (place - 1) == new_line) && bytes_eq (take 7 (drop place text)) (codes "[Event ")
 
 -- the first such line that begins behind a place, if there is one
 abbrev pub IsNextEvent : List ℕ → ℕ → Option ℕ → Type 0
