@@ -40,6 +40,7 @@ pub record GameRead : Type 0 where
   pub state : State
   pub answer : Result (Option PgnEnd) PgnFault
 
+-- what a token leaves: the game goes on, or reading has ended
 pub data Step : Type 0 where
   On : (game : SoFar) → Step
   Stop : (read : GameRead) → Step
@@ -58,6 +59,7 @@ declared_behind false BlackWins = Some (record { outcome = BlackWins; comment = 
 declared_behind false Draw = Some (record { outcome = Draw; comment = [] })
 declared_behind false Unfinished = None
 
+-- the game ends with this outcome, at a place behind its text
 abbrev pub ends : SoFar → Outcome → ℕ → Step
 ends g o place = Stop (record {
   state = with_declared g.state (declared_behind (is_some (verdict_now g.state)) o);
@@ -70,6 +72,7 @@ unless_full limit g place next =
     if is_some (verdict_now g.state) then fails g AfterEnd place
     else (if nat_lt (length g.state.moves) limit then next else fails g TooLong place)
 
+-- a word that is read as a move, at that place
 abbrev pub move_step : ℕ → SoFar → ℕ → Reading → Step
 move_step limit g place reads.NotAMove = fails g BadToken place
 move_step limit g place (reads.Move m) = unless_full limit g place
@@ -110,6 +113,7 @@ tag_step g name text place =
 
 -- ---- tokens, in a text of so many bytes; each with how many bytes are left where it begins
 
+-- what one token leaves
 abbrev pub step : ℕ → ℕ → SoFar → ℕ → Token → Step
 step limit total g left Skip = On g
 step limit total g left (Tag name text string) =
@@ -128,14 +132,17 @@ at_text_end total g = record {
       (record { kind = NoResult; place = total }) else Ok None;
 }
 
+-- what is read later, unless reading has ended
 abbrev pub go_on : Step → (SoFar → GameRead) → GameRead
 go_on (On g) later = later g
 go_on (Stop read) later = read
 
+-- what the tokens that are left leave of a game, one after another
 abbrev pub game_of : ℕ → ℕ → SoFar → List (ℕ × Token) → GameRead
 game_of limit total g [] = at_text_end total g
 game_of limit total g (t ∷ ts) = go_on (step limit total g t.0 t.1) (λ h. game_of limit total h ts)
 
+-- a game of a variant from its initial position, of which nothing was read
 abbrev pub nothing_read : Variant → SoFar
 nothing_read v = record {
   state = from_start (initial_setup_of v);
@@ -154,6 +161,7 @@ variant_named text =
     || str_eq_ignore_ascii_case text (codes "chess960") then Fischerandom
     else Normal
 
+-- the variant behind a word, if more tags may follow it: behind marks alone
 abbrev pub behind_word : Variant → WordKind → Option Variant
 behind_word v Marks = Some v
 behind_word v Number = None
@@ -170,10 +178,12 @@ told_by v (Unclosed_comment left) = None
 told_by v Unclosed_variation = None
 told_by v Bad = None
 
+-- the variant so far where no more tags may follow, else what `later` tells
 abbrev pub told_next : Variant → Option Variant → (Variant → Variant) → Variant
 told_next v None later = v
 told_next v (Some u) later = later u
 
+-- the variant that tokens tell
 abbrev pub variant_told : Variant → List (ℕ × Token) → Variant
 variant_told v [] = v
 variant_told v (t ∷ ts) = told_next v (told_by v t.1) (λ u. variant_told u ts)

@@ -33,6 +33,7 @@ roster_lines t o =
 abbrev pub is_initial : Setup → Bool
 is_initial start = bytes_eq (fen start) (fen initial_setup)
 
+-- the tags of a start: its FEN, and that it is set up
 abbrev pub fen_lines : Setup → List (List ℕ)
 fen_lines start = tag_line (codes "FEN") (fen start) ∷ tag_line (codes "SetUp") (codes "1") ∷ []
 
@@ -81,16 +82,19 @@ game_tokens s = move_tokens true s.start s.moves ++ outcome_text (outcome_now s)
 
 -- ---- tokens put into lines that go on: their text, and how many bytes the line has behind them
 
+-- what the tokens put into the text
 abbrev pub placed_all : List ℕ → ℕ → List (List ℕ) → List ℕ
 placed_all prefix column [] = []
 placed_all prefix column (t ∷ ts) = placed prefix column t ++ placed_all prefix (column_behind column t) ts
 
+-- how many bytes the last line has behind them
 abbrev pub column_behind_all : ℕ → List (List ℕ) → ℕ
 column_behind_all column [] = column
 column_behind_all column (t ∷ ts) = column_behind_all (column_behind column t) ts
 
 -- ---- the whole text: tags, an empty line, the moves in filled lines, an empty line; each line behind a prefix
 
+-- a game's text
 unfoldable pub pgn : List ℕ → Tags → State → List ℕ
 pgn prefix t s = ended prefix (tag_lines t s ++ [] ∷ []) ++ move_text_of prefix (game_tokens s)
     ++ ended prefix ([] ∷ [])

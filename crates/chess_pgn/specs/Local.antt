@@ -14,6 +14,7 @@ use Rattle.chess_pgn.specs.Tokens.{Token, Skip, Tag, Word, Bad_tag, Unclosed_com
 -- ---- bytes behind an opening bracket that more bytes could make a tag of: they end in a gap, the name, or a string
 -- with no line's end
 
+-- nothing stands there
 abbrev pub is_no_text : List ℕ → Bool
 is_no_text [] = true
 is_no_text (c ∷ cs) = false
@@ -22,6 +23,7 @@ is_no_text (c ∷ cs) = false
 abbrev pub is_gap : List ℕ → Bool
 is_gap text = is_no_text (behind_gap false false text)
 
+-- what `later` tells of the bytes behind, if there are such
 abbrev pub if_behind : (List ℕ → Bool) → Option (List ℕ) → Bool
 if_behind later None = false
 if_behind later (Some rest) = later rest
@@ -35,13 +37,16 @@ abbrev pub is_open_behind : List ℕ → Option (List ℕ × List ℕ) → Bool
 is_open_behind text None = not (list_any (λ c. c == new_line) text)
 is_open_behind text (Some found) = is_gap found.1
 
+-- behind the opening quote
 abbrev pub is_open_string : List ℕ → Bool
 is_open_string text = is_open_behind text (string_at text)
 
+-- behind the name, which has a byte at least
 abbrev pub is_open_name : List ℕ → List ℕ → Bool
 is_open_name [] rest = false
 is_open_name (n ∷ ns) rest = could_go_on (byte "\"") is_open_string rest
 
+-- behind the opening bracket
 abbrev pub is_open_tag : List ℕ → Bool
 is_open_tag text =
     let inner = behind_gap false false text in is_no_text inner
@@ -63,6 +68,7 @@ is_firm text left Unclosed_variation = false
 is_firm text left Skip = false
 is_firm text left (Tag name string quote) = false
 
+-- where no more tags may follow, whether the token is firm; else what `later` tells of the variant
 abbrev pub settled_by : Bool → Option Variant → (Variant → Bool) → Bool
 settled_by firm None later = firm
 settled_by firm (Some v) later = later v
@@ -85,6 +91,7 @@ settles_fault text at place UnclosedComment = false
 settles_fault text at place UnclosedVariation = false
 settles_fault text at place NoResult = nat_lt place (length text)
 
+-- an answer of reading at a place: a game that ended has a byte behind it, and that no game is left is never settled
 abbrev pub settles_answer : List ℕ → ℕ → Result (Option PgnEnd) PgnFault → Bool
 settles_answer text at (Ok None) = false
 settles_answer text at (Ok (Some e)) = nat_lt e.place (length text)
@@ -115,6 +122,7 @@ moved_answer n (Ok (Some e)) =
     Ok (Some (record { outcome = e.outcome; termination = e.termination; place = n + e.place }))
 moved_answer n (Err f) = Err (record { kind = f.kind; place = n + f.place })
 
+-- the same, with the game that is left
 abbrev pub moved : ℕ → GameRead → GameRead
 moved n r = record { state = r.state; answer = moved_answer n r.answer }
 

@@ -8,6 +8,7 @@ use Rattle.chess_pgn.specs.declared.tags.HowEnded.TheVariants as how
 use Rattle.chess_pgn.specs.declared.termination.Termination.{Termination}
 use Rattle.chess_pgn.specs.declared.termination.Termination.TheVariants.{Abandoned, Adjudication, Death, Emergency, Normal, RulesInfraction, TimeForfeit, Unterminated}
 
+-- the words of the tag
 abbrev pub termination_text : Termination → List ℕ
 termination_text Abandoned = codes "abandoned"
 termination_text Adjudication = codes "adjudication"
@@ -18,6 +19,7 @@ termination_text RulesInfraction = codes "rules infraction"
 termination_text TimeForfeit = codes "time forfeit"
 termination_text Unterminated = codes "unterminated"
 
+-- all of them
 abbrev pub all_terminations : List Termination
 all_terminations = Abandoned ∷ Adjudication ∷ Death ∷ Emergency ∷ Normal ∷ RulesInfraction ∷ TimeForfeit ∷ Unterminated
     ∷ []
@@ -26,6 +28,7 @@ all_terminations = Abandoned ∷ Adjudication ∷ Death ∷ Emergency ∷ Normal
 unfoldable pub termination_named : List ℕ → Option Termination
 termination_named text = find (λ t. str_eq_ignore_ascii_case text (termination_text t)) all_terminations
 
+-- that of a game which ended so
 abbrev pub termination_by : HowEnded → Termination
 termination_by how.Normal = Normal
 termination_by how.TimeForfeit = TimeForfeit

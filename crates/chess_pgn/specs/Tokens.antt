@@ -21,6 +21,7 @@ pub data Token : Type 0 where
 
 -- ---- bytes
 
+-- a space, a tab, or the end of a line
 abbrev pub is_white_space : ℕ → Bool
 is_white_space c = c == space || (c == tab || (c == new_line || c == carriage_return))
 
@@ -86,6 +87,7 @@ variation_at Line line_begins (suc depth) (c ∷ rest) =
 
 -- ---- tags
 
+-- a string that goes on behind these bytes
 abbrev pub onto : List ℕ → Option (List ℕ × List ℕ) → Option (List ℕ × List ℕ)
 onto front None = None
 onto front (Some found) = Some (front ++ found.0, found.1)
@@ -115,14 +117,17 @@ abbrev pub closed : List ℕ → ℕ → List ℕ → Option (List ℕ) → Toke
 closed name left text None = (Bad_tag, [])
 closed name left text (Some rest) = (Tag name text left, rest)
 
+-- a tag with its string, if that is closed; its closing bracket stands behind a gap
 abbrev pub with_text : List ℕ → ℕ → Option (List ℕ × List ℕ) → Token × List ℕ
 with_text name left None = (Bad_tag, [])
 with_text name left (Some found) = closed name left found.0 (behind_next (byte "]") found.1)
 
+-- a tag with what stands behind its opening quote, if there is one
 abbrev pub with_string : List ℕ → Option (List ℕ) → Token × List ℕ
 with_string name None = (Bad_tag, [])
 with_string name (Some string) = with_text name (length string) (string_at string)
 
+-- a tag with its name, which has a byte at least, and what stands behind that
 abbrev pub with_name : List ℕ → List ℕ → Token × List ℕ
 with_name [] rest = (Bad_tag, [])
 with_name (n ∷ ns) rest = with_string (n ∷ ns) (behind_next (byte "\"") rest)
@@ -134,6 +139,7 @@ tag_at text = let inner = behind_gap false false text in with_name (take_while i
 
 -- ---- tokens
 
+-- a comment in braces, with what stands behind it, if it is closed
 abbrev pub comment_at : ℕ → Option (List ℕ) → Token × List ℕ
 comment_at left None = (Unclosed_comment left, [])
 comment_at left (Some rest) = (Skip, rest)

@@ -21,5 +21,6 @@ kind_by word None =
     else (if list_all (λ c. c == byte "!" || c == byte "?") word then Marks
     else Move)
 
+-- what a word is
 abbrev pub kind_of : List ℕ → WordKind
 kind_of word = kind_by word (outcome_of word)

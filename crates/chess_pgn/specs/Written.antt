@@ -55,6 +55,7 @@ column_behind column token =
 abbrev pub line_close : ℕ → List ℕ
 line_close column = if column == 0 then [] else new_line ∷ []
 
+-- the text of tokens behind a line of so many bytes
 abbrev pub filled_from : List ℕ → ℕ → List (List ℕ) → List ℕ
 filled_from prefix column [] = line_close column
 filled_from prefix column (t ∷ ts) = placed prefix column t ++ filled_from prefix (column_behind column t) ts
@@ -82,6 +83,7 @@ cut_tag text = map tag_byte (take 60 text)
 abbrev pub escaped : List ℕ → List ℕ
 escaped text = flat_map (λ c. if c == byte "\"" || c == byte "\\" then byte "\\" ∷ c ∷ [] else c ∷ []) text
 
+-- a tag's line: its name and its text in quotes, in brackets
 abbrev pub tag_line : List ℕ → List ℕ → List ℕ
 tag_line name text = codes "[" ++ name ++ codes " \"" ++ escaped text ++ codes "\"]"
 
