@@ -49,8 +49,9 @@ module _ (more : List ℕ) where
   name_closed (n ∷ ns) rest e = by_gap (behind_gap false false rest) (behind_gap false false (rest ++ more))
       (gap_kept more false false rest) e
     where
-      by_gap : (p q : List ℕ) → (p ≡ []) ⊎ (q ≡ p ++ more) → (is_no_text p || if_behind is_open_string (behind_byte 34 p))
-          ≡ false → (is_no_text q || if_behind is_open_string (behind_byte 34 q)) ≡ false
+      by_gap : (p q : List ℕ) → (p ≡ []) ⊎ (q ≡ p ++ more)
+          → (is_no_text p || if_behind is_open_string (behind_byte 34 p)) ≡ false
+          → (is_no_text q || if_behind is_open_string (behind_byte 34 q)) ≡ false
       by_gap [] q h e = absurd (true≢false e)
       by_gap (x ∷ xs) q (inl f) e = absurd (cc)
       by_gap (x ∷ xs) q (inr f) e =

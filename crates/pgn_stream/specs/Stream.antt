@@ -39,7 +39,8 @@ game_at limit text at = if is_in_reach limit text at then (pgn_read limit text a
 
 -- a line begins at the place, behind a byte 10, and it begins with `[Event `
 abbrev pub is_event_line : List ℕ → ℕ → Bool
-is_event_line text place = (slice_index text (place - 1) == new_line) && bytes_eq (take 7 (drop place text)) (codes "[Event ")
+is_event_line text place = (slice_index text (place - 1) == new_line)
+    && bytes_eq (take 7 (drop place text)) (codes "[Event ")
 
 -- the first such line that begins behind a place, if there is one
 abbrev pub IsNextEvent : List ℕ → ℕ → Option ℕ → Type 0
