@@ -20,7 +20,7 @@ use Rattle.chess_match.specs.Run.{Ports, reader_at, writer_at, Heard, Written, g
 use Rattle.chess_match.specs.ties.Stands.{name_by}
 use Rattle.chess_match.specs.ties.Told.{IsTold}
 use Rattle.chess_match.specs.Transcript.{match_of, ending_in, name_of, blocks}
-use Rattle.chess_match.specs.ties.UnderWay.{IsUnderWay}
+use Rattle.chess_match.proofs.UnderWay.{IsUnderWay}
 use Rattle.chess_match.specs.declared.phase.Phase.TheVariants.{Over}
 use Rattle.chess_match.specs.declared.reason.Reason.{Reason}
 use Rattle.chess_match.specs.declared.run.Failed.{Failed}

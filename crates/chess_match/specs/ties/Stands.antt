@@ -89,11 +89,6 @@ played_core core Black used = record core {
   white = record { features = core.white.features; name = core.white.name; offers = false };
 }
 
--- the core once S said more
-abbrev pub heard_core : Core → Colour → Player → Core
-heard_core core White p = record core { white = p }
-heard_core core Black p = record core { black = p }
-
 -- the items that a line tells: those of a hello alone
 abbrev pub items_in : Phase → LineKind → List Item
 items_in (Hello c) kind = items_heard kind
