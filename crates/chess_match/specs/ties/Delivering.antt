@@ -60,6 +60,8 @@ pub record OneFailed (r : Rules) (core : Core) (played : List Move) (m : Match) 
       (bytes_of (if same_colour c first then [] else due (other c)))
       × SendsIf (failed (other c)) v (w' (other c)) (bytes_of (block r m (after r m (FailsToWrite c)) (other c)))
 
+-- the blocks that are due were sent, first to that side, and no write failed before the end, or the first that failed
+-- ended the match
 abbrev pub Delivered : Rules → Core → List Move → Match → (Colour → List SentLine) → Colour → (Colour → OutputState)
     → (Colour → OutputState) → (Colour → Bool) → Type 0
 Delivered r core played m due first w w' failed =
