@@ -1,5 +1,5 @@
 -- A run whose match is over keeps the whole promise.
-use Rattle.std.proofs.Common.{◌≡◌, ℕ, List, ap, sym, ◌∙◌, Option}
+use Rattle.std.proofs.Common.{◌≡◌, ℕ, List, ap, sym, ◌∙◌, subst, Option, None, Some}
 use Rattle.chess_base.specs.declared.man.Colour.{Colour}
 use Rattle.chess_base.specs.declared.man.Colour.TheVariants.{White, Black}
 use Rattle.chess_base.specs.declared.man.Move.{Move}
@@ -8,17 +8,19 @@ use Rattle.byte_devices.specs.Devices.{InputState, OutputState}
 use Rattle.chess_cecp.specs.Lines.{Held}
 use Rattle.chess_game.specs.Ends.{verdict}
 use Rattle.chess_game.specs.Game as game
-use Rattle.chess_game.specs.Game.{with_declared, verdict_now}
+use Rattle.chess_game.specs.Game.{outcome_by, outcome_now, with_declared, verdict_now}
+use Rattle.chess_game.specs.declared.ends.Verdict.{Verdict}
+use Rattle.chess_game.specs.declared.results.Outcome.{Outcome}
 use Rattle.chess_match.specs.ties.Delivering.{by_side}
 use Rattle.engine_lines.specs.Levels.{LevelSeen}
 use Rattle.chess_match.specs.Match.{Event, seat}
-use Rattle.chess_match.specs.Reasons.{declared_at}
+use Rattle.chess_match.specs.Reasons.{declared_at, outcome_of}
 use Rattle.chess_match.specs.Rules.{Rules, rules_of}
 use Rattle.chess_match.specs.Run.{Ports, reader_at, writer_at, Heard, Written, game_after, Ran}
 use Rattle.chess_match.specs.ties.Stands.{name_by}
 use Rattle.chess_match.specs.ties.Told.{IsTold}
 use Rattle.chess_match.specs.Transcript.{match_of, ending_in, name_of, blocks}
-use Rattle.chess_match.specs.ties.UnderWay.{IsUnderWay}
+use Rattle.chess_match.proofs.UnderWay.{IsUnderWay}
 use Rattle.chess_match.specs.declared.phase.Phase.TheVariants.{Over}
 use Rattle.chess_match.specs.declared.reason.Reason.{Reason}
 use Rattle.chess_match.specs.declared.run.Failed.{Failed}
@@ -50,6 +52,18 @@ game_kept g h h' start level T reason s l m e =
     ∙ ap (λ (n : ℕ). ended n h.state.start h.state.moves reason) l
     ∙ ap (λ (a : Setup). ended g.limit a h.state.moves reason) s
     ∙ ap (λ (ms : List Move). ended g.limit start ms reason) m
+
+-- where the game has no verdict, its outcome is the one that is told
+pub told_outcome : (h h' : game.Seen) (reason : Reason) (outcome : Outcome)
+    → h' ≡ game.at h (with_declared h.state (declared_at (verdict_now h.state) reason)) → outcome ≡ outcome_of reason
+    → verdict_now h'.state ≡ None → outcome_now h'.state ≡ outcome
+told_outcome h h' reason outcome e o none =
+    subst (λ (x : game.Seen). verdict_now x.state ≡ None → outcome_now x.state ≡ outcome) (sym e)
+    (undecided (verdict_now h.state)) none
+  where
+    undecided : (v : Option Verdict) → v ≡ None → outcome_by v (declared_at v reason) ≡ outcome
+    undecided None is = sym o
+    undecided (Some v) is = cc
 
 pub ran : (g h h' : game.Seen) (start : Setup) (level : LevelSeen) (T : List Event) (core : Core) (reason : Reason)
     (failed : Failed) (end : MatchEnd) (nw nb nw' nb' : InputState) (held : Colour → Held) (ow ob ow' ob' : OutputState)

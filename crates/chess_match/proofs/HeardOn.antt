@@ -6,12 +6,11 @@ use Rattle.chess_base.specs.declared.man.Colour.{Colour}
 use Rattle.byte_devices.specs.Devices.{InputState, risen}
 use Rattle.chess_cecp.specs.Lines.{LineSeen, Held, lines_heard, lines_held}
 use Rattle.chess_cecp.specs.Run.{risen_if}
-use Rattle.chess_match.specs.ties.Delivering.{is_heard_of, Tells, HearsAt}
-use Rattle.chess_match.specs.ties.Hearing.{Hearing, HeardAll}
+use Rattle.chess_match.proofs.Hearing.{Hearing, HeardAll, is_heard_of, Tells, HearsAt}
 use Rattle.chess_match.specs.Match.{Event, Line, Opened, OutputEnds, FailsToRead, FailsToWrite}
 use Rattle.chess_match.specs.Run.{text_heard, engine_lines, Heard}
 use Rattle.chess_match.specs.Transcript.{if_line_of, line_in, lines_of, is_end_of, has_end, is_read_failure_of, has_read_failure}
-use Rattle.chess_match.specs.ties.UnderWay.{IsHearing, HeardSoFar}
+use Rattle.chess_match.proofs.UnderWay.{IsHearing, HeardSoFar}
 use Rattle.chess_match.proofs.Hears.{hearing_more, heard_last, heard_none, heard_fault}
 use Rattle.chess_match.proofs.Runs.{IsTail, lines_more, end_more, failure_more}
 use Rattle.chess_match.specs.declared.run.TheConstants.{ENGINE_LINE_LEN}

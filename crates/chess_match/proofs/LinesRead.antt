@@ -11,14 +11,15 @@ use Rattle.chess_base.specs.Men.{other}
 use Rattle.chess_base.proofs.MenFacts.{same_colour-self}
 use Rattle.chess_cecp.specs.Lines.{LineSeen, Held}
 use Rattle.chess_cecp.specs.Next.{NextLine, GotLine, GotLast, work}
-use Rattle.chess_match.specs.ties.Delivering.{event_heard, is_heard_of, Tells, HearsAt, Delivered}
+use Rattle.chess_match.specs.ties.Delivering.{event_heard, Delivered}
+use Rattle.chess_match.proofs.Hearing.{is_heard_of, Tells, HearsAt}
 use Rattle.chess_match.specs.Match.{Match, Event, Line, OutputEnds, FailsToRead, after}
 use Rattle.chess_match.specs.Rules.{Rules}
 use Rattle.chess_match.specs.Run.{text_heard}
 use Rattle.chess_match.specs.Sent.{SentLine}
 use Rattle.chess_match.specs.ties.Steps.{IsSane}
 use Rattle.chess_match.specs.Transcript.{reads, opens, is_on, fits_next}
-use Rattle.chess_match.specs.ties.UnderWay.{steps_left}
+use Rattle.chess_match.proofs.UnderWay.{steps_left}
 use Rattle.chess_match.specs.declared.phase.Phase.{Phase}
 use Rattle.chess_match.specs.declared.phase.Phase.TheVariants.{Hello, Setup, Opening, Before, After, Over}
 use Rattle.chess_match.specs.declared.state.Core.{Core}

@@ -11,7 +11,8 @@ use Rattle.chess_cecp.specs.Next.{NextLine}
 use Rattle.chess_game.specs.Game as game
 use Rattle.chess_game.specs.Game.{from_start}
 use Rattle.chess_match.specs.ties.Chess.{Plays}
-use Rattle.chess_match.specs.ties.Delivering.{HearsAt, Delivered, event_heard}
+use Rattle.chess_match.specs.ties.Delivering.{Delivered, event_heard}
+use Rattle.chess_match.proofs.Hearing.{HearsAt}
 use Rattle.engine_lines.specs.Levels.{LevelSeen}
 use Rattle.chess_match.specs.Match.{Match, Event, start, after}
 use Rattle.chess_match.specs.Rules.{Rules, rules_of}
@@ -20,7 +21,7 @@ use Rattle.chess_match.specs.Sent.{block, entry}
 use Rattle.engine_lines.specs.Items.{Item}
 use Rattle.chess_match.specs.ties.Stands.{given_block}
 use Rattle.chess_match.specs.Transcript.{match_of, reads, opens, moment_in}
-use Rattle.chess_match.specs.ties.UnderWay.{IsUnderWay, steps_left}
+use Rattle.chess_match.proofs.UnderWay.{IsUnderWay, steps_left}
 use Rattle.chess_match.specs.declared.phase.Phase.{Phase}
 use Rattle.chess_match.specs.declared.phase.Phase.TheVariants.{Before}
 use Rattle.chess_match.specs.declared.state.Core.{Core}

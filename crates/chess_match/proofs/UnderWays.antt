@@ -8,8 +8,8 @@ use Rattle.byte_devices.specs.Devices.{InputState, OutputState, BreaksOff}
 use Rattle.chess_base.specs.Men.{other, same_colour}
 use Rattle.chess_base.proofs.MenFacts.{same_colour-true}
 use Rattle.chess_cecp.specs.Lines.{Held, nothing_held}
-use Rattle.chess_match.specs.ties.Delivering.{HearsAt, is_heard_of, AllSent, OneFailed, Delivered}
-use Rattle.chess_match.specs.ties.Hearing.{Hearing}
+use Rattle.chess_match.specs.ties.Delivering.{AllSent, OneFailed, Delivered}
+use Rattle.chess_match.proofs.Hearing.{Hearing, HearsAt, is_heard_of}
 use Rattle.chess_match.specs.Match.{Match, Event, Line, Opened, OutputEnds, FailsToRead, FailsToWrite, start, after}
 use Rattle.chess_match.specs.Rules.{Rules}
 use Rattle.chess_match.specs.Run.{Flushed, Written, Asked}
@@ -18,7 +18,7 @@ use Rattle.chess_match.specs.ties.Stands.{Stands, Goes, given_block}
 use Rattle.chess_match.specs.ties.Steps.{IsSane}
 use Rattle.chess_match.specs.ties.Told.{SendsIf}
 use Rattle.chess_match.specs.Transcript.{match_of, fits_next, is_on, opens, blocks, blocks_from, joined_blocks, lines_of, moments_of, moment_in, has_end, has_read_failure, has_write_failure, fails_at}
-use Rattle.chess_match.specs.ties.UnderWay.{IsHearing, HeardSoFar, IsUnderWay}
+use Rattle.chess_match.proofs.UnderWay.{IsHearing, HeardSoFar, IsUnderWay}
 use Rattle.chess_match.specs.declared.phase.Phase.{Phase}
 use Rattle.chess_match.specs.declared.phase.Phase.TheVariants.{Hello, Setup, Opening, Before, After, Over}
 use Rattle.chess_match.specs.declared.state.Core.{Core}

@@ -53,14 +53,17 @@ pub record Match : Type 0 where
   -- the moment at the end of the turn's opening
   pub opened : ℕ
 
+-- what is known of S's engine
 abbrev pub seat : Match → Colour → Seat
 seat m White = m.white
 seat m Black = m.black
 
+-- the match with this known of S's engine, and all else as before
 abbrev pub with_seat : Match → Colour → Seat → Match
 with_seat m White s = record m { white = s }
 with_seat m Black s = record m { black = s }
 
+-- nothing is known of an engine yet
 abbrev pub new_seat : Seat
 new_seat = record { items = []; used = []; offers = false }
 
@@ -78,6 +81,7 @@ start = record {
 
 -- ---- ways to go on
 
+-- the match is over for that reason
 abbrev pub over : Reason → Match → Match
 over reason m = record m { phase = Over reason }
 
@@ -95,10 +99,12 @@ ignore S m = if nat_le 10000 (m.count + 1) then over (over_by.Faulted S Flood) m
 
 -- ---- hello
 
+-- the items that a line tells: those of a `feature` line alone
 abbrev pub items_heard : LineKind → List Item
 items_heard (Features text) = items_of text
 items_heard _ = []
 
+-- S's engine said these items more
 abbrev pub hear : Colour → List Item → Match → Match
 hear S items m =
     with_seat m S (record { items = (seat m S).items ++ items; used = (seat m S).used; offers = (seat m S).offers })
@@ -115,6 +121,7 @@ lacking has_start v ping setboard fischerandom =
     lacking_variant Fischerandom true = None
     lacking_variant Fischerandom false = Some NoVariant
 
+-- what an engine lacks by the items that it said, if anything
 abbrev pub lack : Rules → List Item → Option MatchFault
 lack r items = lacking (is_some r.start_fen) r.variant (takes (codes "ping") items) (takes (codes "setboard") items)
     (plays_fischerandom items)
@@ -125,6 +132,7 @@ judged (Some f) _ m = enter (Over (over_by.Faulted White f)) m
 judged None (Some f) m = enter (Over (over_by.Faulted Black f)) m
 judged None None m = enter (Setup White) m
 
+-- S's hello ended: after White's comes Black's, and after Black's both are judged
 abbrev pub greeted : Rules → Colour → Match → Match
 greeted r White m = enter (Hello Black) m
 greeted r Black m = judged (lack r m.white.items) (lack r m.black.items) m
@@ -143,14 +151,17 @@ abbrev pub begun : Option Verdict → Colour → Match → Match
 begun (Some v) first m = over (over_by.Decided v) m
 begun None first m = open_turn first m
 
+-- S answered its first ping: after White's setup comes Black's, and after Black's the game begins
 abbrev pub ready : Rules → Colour → Match → Match
 ready r White m = enter (Setup Black) m
 ready r Black m = begun (r.verdict m.played) r.first m
 
+-- the line answers ping n
 abbrev pub is_pong : ℕ → LineKind → Bool
 is_pong n (Answers k) = k == n
 is_pong n _ = false
 
+-- the answer to ping 1 ends a setup; any other line counts as ignored
 unfoldable pub setup_line : Rules → Colour → LineKind → Match → Match
 setup_line r S kind m = if is_pong 1 kind then ready r S m else ignore S m
 
@@ -160,6 +171,7 @@ setup_line r S kind m = if is_pong 1 kind then ready r S m else ignore S m
 abbrev pub clock : Rules → Match → Colour → ℕ
 clock r m S = left r.level (length (seat m S).used) (sum (seat m S).used)
 
+-- a verdict ends the match
 abbrev pub decide : Option Verdict → Match → Match
 decide (Some v) m = over (over_by.Decided v) m
 decide None m = m
@@ -185,16 +197,20 @@ played_by Black move used m = record {
   opened = m.opened;
 }
 
+-- a text that doesn't spell one legal move loses; a legal move stands, and the verdict behind it, if there is one, ends
+-- the match
 abbrev pub move_row : Rules → Colour → Option Move → ℕ → Match → Match
 move_row r S None moment m = over (over_by.MovesIllegally S) m
 move_row r S (Some move) moment m = decide (r.verdict (m.played ++ move ∷ [])) (played_by S move (moment - m.opened) m)
 
+-- where the other's offer stands the draw is agreed; where S's own does the line counts as ignored; else S's stands
 abbrev pub offer_row : Colour → Match → Match
 offer_row S m =
     if (seat m (other S)).offers then over over_by.Agreed m
     else if (seat m S).offers then ignore S m
     else with_seat m S (record { items = (seat m S).items; used = (seat m S).used; offers = true })
 
+-- a draw that may be claimed ends the match; else the claim is an offer
 abbrev pub draw_row : Option DrawClaim → Colour → Match → Match
 draw_row (Some c) S m = over (over_by.Claimed c) m
 draw_row None S m = offer_row S m
@@ -213,6 +229,7 @@ either_way r S (ClaimsWin c) m = if same_colour c S then over (over_by.ClaimsFal
 either_way r S Rejects m = if was_told m S then over (over_by.RejectsLegalMove S) m else ignore S m
 either_way r S _ m = ignore S m
 
+-- a line before the move, in time: where no more half-moves can stand a move ends the match
 abbrev pub before_row : Rules → Colour → LineKind → ℕ → Match → Match
 before_row r S (Moves text) moment m =
     if nat_le r.limit (length m.played) then over over_by.GameTooLong m else move_row r S (r.reading m.played text)
@@ -231,6 +248,7 @@ before_line r S kind moment m =
 abbrev pub ping_number : Match → Colour → ℕ
 ping_number m S = length (seat m S).used + 1
 
+-- a line after the move: another move loses, and the answer to the last ping gives the other side its turn
 unfoldable pub after_line : Rules → Colour → LineKind → Match → Match
 after_line r S (Moves _) m = over (over_by.MovesOutOfTurn S) m
 after_line r S (Answers n) m = if n == ping_number m S then open_turn (other S) m else ignore S m
@@ -238,6 +256,7 @@ after_line r S kind m = either_way r S kind m
 
 -- ---- one event
 
+-- the match after a line of that kind, by its phase; in an opening or at the end nothing is read
 abbrev pub after_kind : Rules → Phase → LineKind → ℕ → Match → Match
 after_kind r (Hello S) kind moment m = hello_line r S (items_heard kind) m
 after_kind r (Setup S) kind moment m = setup_line r S kind m
@@ -246,6 +265,7 @@ after_kind r (After S) kind moment m = after_line r S kind m
 after_kind r (Opening S) kind moment m = m
 after_kind r (Over reason) kind moment m = m
 
+-- the match after an event
 abbrev pub after : Rules → Match → Event → Match
 after r m (Line S text moment) = after_kind r m.phase (kind_heard text) moment m
 after r m (Opened S moment) = record m { phase = Before S; opened = moment }

@@ -17,14 +17,17 @@ use Rattle.chess_match.specs.declared.reason.MatchFault.TheVariants.{Ended, Read
 use Rattle.chess_match.specs.declared.reason.Reason.{Reason}
 use Rattle.chess_match.specs.declared.reason.Reason.TheVariants.{Decided, Claimed, Agreed, Resigns, MovesIllegally, MovesOutOfTurn, ClaimsFalsely, RejectsLegalMove, Forfeits, ForfeitsToBareKing, GameTooLong, Faulted}
 
+-- a side, as a comment names it
 abbrev pub colour_name : Colour → List ℕ
 colour_name White = codes "White"
 colour_name Black = codes "Black"
 
+-- the outcome where that side wins
 abbrev pub win_of : Colour → Outcome
 win_of White = WhiteWins
 win_of Black = BlackWins
 
+-- the outcome that a reason gives: unfinished where an engine failed or the game is too long
 abbrev pub outcome_of : Reason → Outcome
 outcome_of (Decided v) = verdict_outcome v
 outcome_of (Claimed c) = Draw
@@ -39,6 +42,7 @@ outcome_of ForfeitsToBareKing = Draw
 outcome_of GameTooLong = Unfinished
 outcome_of (Faulted c f) = Unfinished
 
+-- what is said of a draw that was claimed
 abbrev pub claim_comment : DrawClaim → List ℕ
 claim_comment Threefold = codes "Threefold repetition"
 claim_comment FiftyMoves = codes "50-move rule"
@@ -54,6 +58,7 @@ fault_words NoSetboard = codes " has no setboard"
 fault_words Flood = codes " sent too many lines"
 fault_words NoVariant = codes " has no fischerandom"
 
+-- what is said of the end, as it stands in braces behind `result` and its outcome
 abbrev pub comment_of : Reason → List ℕ
 comment_of (Decided v) = verdict_comment v
 comment_of (Claimed c) = claim_comment c
@@ -83,6 +88,7 @@ ended_by ForfeitsToBareKing = TimeForfeit
 ended_by GameTooLong = Normal
 ended_by (Faulted c f) = Normal
 
+-- the fault that ended the match, if one did, and the side that has it
 abbrev pub fault_of : Reason → Option (Colour × MatchFault)
 fault_of (Faulted c f) = Some (c, f)
 fault_of _ = None

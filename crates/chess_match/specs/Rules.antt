@@ -45,6 +45,7 @@ pub record Rules : Type 0 where
 
 -- ---- chess
 
+-- the move that a text is read as, if it spells exactly one
 abbrev pub move_read : Reading → Option Move
 move_read (reads.Move m) = Some m
 move_read reads.Ambiguous = None
@@ -79,6 +80,7 @@ abbrev pub fen_told_in : Variant → Setup → Option (List ℕ)
 fen_told_in Normal start = if is_initial start then None else Some (fen start)
 fen_told_in Fischerandom start = Some (fen start)
 
+-- a start as it is told, if it is: its FEN
 abbrev pub fen_told : Setup → Option (List ℕ)
 fen_told start = fen_told_in start.variant start
 

@@ -45,9 +45,11 @@ pub data SentLine : Type 0 where
 abbrev pub answer_words : List ℕ → List ℕ
 answer_words name = (if is_known name then codes "accepted " else codes "rejected ") ++ name
 
+-- the line that answers an item of that name
 abbrev pub answer_line : List ℕ → List ℕ
 answer_line name = answer_words name ++ new_line ∷ []
 
+-- the text of a line, without the byte 10 at its end
 abbrev pub words_of : SentLine → List ℕ
 words_of Xboard = codes "xboard"
 words_of Protover = codes "protover 2"
@@ -76,17 +78,22 @@ bytes_of (l ∷ ls) = words_of l ++ new_line ∷ bytes_of ls
 
 -- ---- what a phase gives
 
+-- an answer to each item, in their order
 abbrev pub answers_to : List Item → List SentLine
 answers_to items = map Answered items
 
+-- the start, where it is told
 abbrev pub start_lines : Option (List ℕ) → List SentLine
 start_lines None = []
 start_lines (Some fen) = StartSet fen ∷ []
 
+-- the variant, where it isn't normal chess
 abbrev pub variant_lines : Variant → List SentLine
 variant_lines Normal = []
 variant_lines Fischerandom = VariantSet ∷ []
 
+-- the setup of an engine: a new game, its variant where it isn't normal chess, its level, `nopost`, `easy`, `force`,
+-- the start where it is told, and `ping 1`
 unfoldable pub setup_lines : Rules → List SentLine
 setup_lines r =
     New ∷ (variant_lines r.variant ++ (LevelSet r.level ∷ Nopost ∷ Easy ∷ Force ∷
@@ -97,6 +104,7 @@ unfoldable pub last_move : Rules → Match → Colour → SentLine
 last_move r m S = MoveTold (takes (codes "usermove") (seat m S).items)
     (r.move_text (takes (codes "san") (seat m S).items) m.played)
 
+-- the last move, as S takes it, if there is one
 abbrev pub last_move_lines : Rules → Match → Colour → List SentLine
 last_move_lines r m S = if nat_lt 0 (length m.played) then last_move r m S ∷ [] else []
 
@@ -117,6 +125,7 @@ abbrev pub untold_lines : Rules → Match → Colour → Option Colour → List 
 untold_lines r m S None = []
 untold_lines r m S (Some c) = if same_colour c S then last_move r m S ∷ [] else []
 
+-- the last move, if S wasn't told it, and then the result and `quit`
 unfoldable pub end_lines : Rules → Match → Colour → Reason → List SentLine
 end_lines r m S reason = untold_lines r m S m.untold ++ (Result (outcome_of reason) (comment_of reason) ∷ Quit ∷ [])
 
@@ -129,6 +138,7 @@ is_unwritten _ S = false
 abbrev pub end_block : Rules → Match → Colour → Reason → Option (Colour × MatchFault) → List SentLine
 end_block r m S reason fault = if is_unwritten fault S then [] else end_lines r m S reason
 
+-- a text that c alone is sent
 abbrev pub for : Colour → Colour → List SentLine → List SentLine
 for c S text = if same_colour c S then text else []
 
@@ -141,6 +151,7 @@ entry_to r m S (Before c) = []
 entry_to r m S (After c) = for c S (Ping (ping_number m S) ∷ [])
 entry_to r m S (Over reason) = end_block r m S reason (fault_of reason)
 
+-- what S is sent where the match comes into the phase that it is in
 abbrev pub entry : Rules → Match → Colour → List SentLine
 entry r m S = entry_to r m S m.phase
 

@@ -17,9 +17,11 @@ abbrev pub match_from : Rules → Match → List Event → Match
 match_from r m [] = m
 match_from r m (e ∷ es) = match_from r (after r m e) es
 
+-- the match after a whole transcript
 abbrev pub match_of : Rules → List Event → Match
 match_of r T = match_from r start T
 
+-- why a match in this phase ended, if it did
 abbrev pub ending_in : Phase → Option Reason
 ending_in (Over reason) = Some reason
 ending_in _ = None
@@ -43,10 +45,12 @@ reads (After c) S = same_colour c S
 reads (Opening c) S = false
 reads (Over reason) S = false
 
+-- that side's turn opens in this phase
 abbrev pub opens : Phase → Colour → Bool
 opens (Opening c) S = same_colour c S
 opens _ S = false
 
+-- a match in this phase isn't over
 abbrev pub is_on : Phase → Bool
 is_on (Over reason) = false
 is_on _ = true
@@ -59,10 +63,12 @@ fits_next due m (OutputEnds S) = reads m.phase S
 fits_next due m (FailsToRead S) = reads m.phase S
 fits_next due m (FailsToWrite S) = is_on m.phase && nat_lt 0 (length (due S))
 
+-- each of these events fits, from the match m on, where these blocks are due
 abbrev pub fits_from : Rules → (Colour → List SentLine) → Match → List Event → Bool
 fits_from r due m [] = true
 fits_from r due m (e ∷ es) = fits_next due m e && fits_from r (block r m (after r m e)) (after r m e) es
 
+-- each event of a transcript fits, from the start on, where White's first lines are due
 abbrev pub fits : Rules → List Event → Bool
 fits r T = fits_from r (entry r start) start T
 
@@ -83,6 +89,7 @@ fails_at _ S = false
 abbrev pub block_at : Rules → Match → Event → List Event → Colour → List (List SentLine)
 block_at r m e es S = if is_dropped e es S || fails_at e S then [] else block r m (after r m e) S ∷ []
 
+-- the blocks that S is sent at these events, from the match m on
 abbrev pub blocks_from : Rules → Colour → Match → List Event → List (List SentLine)
 blocks_from r S m [] = []
 blocks_from r S m (e ∷ es) = block_at r m e es S ++ blocks_from r S (after r m e) es
@@ -92,10 +99,12 @@ blocks_from r S m (e ∷ es) = block_at r m e es S ++ blocks_from r S (after r m
 abbrev pub blocks : Rules → Colour → List Event → List (List SentLine)
 blocks r S T = entry r start S ∷ blocks_from r S start T
 
+-- the lines of blocks, one after another
 abbrev pub joined_blocks : List (List SentLine) → List SentLine
 joined_blocks [] = []
 joined_blocks (b ∷ bs) = b ++ joined_blocks bs
 
+-- all lines that S is sent
 abbrev pub sent : Rules → Colour → List Event → List SentLine
 sent r S T = joined_blocks (blocks r S T)
 
@@ -105,6 +114,7 @@ last_block [] = []
 last_block (b ∷ []) = b
 last_block (b ∷ c ∷ bs) = last_block (c ∷ bs)
 
+-- the lines of all blocks but the last
 abbrev pub before_last : List (List SentLine) → List SentLine
 before_last [] = []
 before_last (b ∷ []) = []
@@ -112,10 +122,12 @@ before_last (b ∷ c ∷ bs) = b ++ before_last (c ∷ bs)
 
 -- ---- what passed at the devices
 
+-- a line's text where it is of the side in question, else nothing
 abbrev pub if_line_of : Bool → Option (List ℕ) → List (Option (List ℕ))
 if_line_of true text = text ∷ []
 if_line_of false text = []
 
+-- the line of S that an event is, if it is one
 abbrev pub line_in : Colour → Event → List (Option (List ℕ))
 line_in S (Line c text moment) = if_line_of (same_colour c S) text
 line_in S _ = []
@@ -125,6 +137,7 @@ abbrev pub lines_of : Colour → List Event → List (Option (List ℕ))
 lines_of S [] = []
 lines_of S (e ∷ es) = line_in S e ++ lines_of S es
 
+-- the moment that was asked for at an event, if one was
 abbrev pub moment_in : Event → List ℕ
 moment_in (Line c text moment) = moment ∷ []
 moment_in (Opened c moment) = moment ∷ []
@@ -135,6 +148,7 @@ abbrev pub moments_of : List Event → List ℕ
 moments_of [] = []
 moments_of (e ∷ es) = moment_in e ++ moments_of es
 
+-- the event is the end of S's output
 abbrev pub is_end_of : Colour → Event → Bool
 is_end_of S (OutputEnds c) = same_colour c S
 is_end_of S _ = false
@@ -144,6 +158,7 @@ abbrev pub has_end : Colour → List Event → Bool
 has_end S [] = false
 has_end S (e ∷ es) = is_end_of S e || has_end S es
 
+-- the event is a read of S that fails
 abbrev pub is_read_failure_of : Colour → Event → Bool
 is_read_failure_of S (FailsToRead c) = same_colour c S
 is_read_failure_of S _ = false

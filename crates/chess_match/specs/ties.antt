@@ -2,8 +2,6 @@
 pub mod Stands
 pub mod Chess
 pub mod Steps
-pub mod Hearing
 pub mod Told
 pub mod Awaits
 pub mod Delivering
-pub mod UnderWay

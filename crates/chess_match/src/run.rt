@@ -4,7 +4,7 @@ ghost use Rattle.std.specs.Prelude.{◌≡◌, ◌<◌, List, [], ◌∷◌, ℕ
 ghost use Rattle.chess_base.specs.Men.{other};
 ghost use Rattle.chess_base.specs.declared.man.Colour.{Colour};
 ghost use Rattle.chess_cecp.specs.Next.{NextLine};
-ghost use Rattle.chess_game.specs.Game.{at, with_declared, verdict_now};
+ghost use Rattle.chess_game.specs.Game.{at, outcome_now, with_declared, verdict_now};
 ghost use Rattle.chess_match.specs.ties.Awaits.{IsAwaited};
 ghost use Rattle.chess_match.specs.ties.Delivering.{by_side, by_turn, event_heard, line_event, Delivered, HasLast};
 ghost use Rattle.engine_lines.specs.EngineLines.{kind_heard};
@@ -91,7 +91,7 @@ pub fn run_match<R: Input, W: Output, M: Moments, B: Board>(
     game: &mut Game<B>,
     scratch: &mut B,
 ) -> MatchEnd
-    ensures { Ran setup.now.start setup.now.level game.old game.new result
+    ensures ran { Ran setup.now.start setup.now.level game.old game.new result
         (record {
           white_reader = R.seen white.old.reader;
           white_writer = W.seen white.old.writer;
@@ -105,6 +105,11 @@ pub fn run_match<R: Input, W: Output, M: Moments, B: Board>(
           black_writer = W.seen black.new.writer;
         })
         (M.coming moments.old) (M.coming moments.new) }
+
+    // The same in single facts.
+    ensures start { game.new.state.start ≡ setup.now.start }
+    ensures limit { game.new.limit ≡ game.old.limit }
+    ensures outcome { verdict_now game.new.state ≡ None → outcome_now game.new.state ≡ result.outcome }
 {
     game.restart(&setup.start);
     let mut core = Core::new(setup.level);

@@ -10,7 +10,6 @@ ghost use Rattle.engine_lines.specs.Items.{items_of};
 ghost use Rattle.chess_pgn.specs.ties.Waiting.{Adds};
 ghost use Rattle.chess_match.specs.Match.{Match};
 ghost use Rattle.chess_match.specs.Rules.{Rules};
-ghost use Rattle.chess_base.specs.Men.{same_colour};
 ghost use Rattle.chess_base.specs.declared.man.Move.{Move};
 ghost use Rattle.chess_match.specs.Sent.{SentLine, DrawOffered, answer_line, bytes_of, answers_to, last_move, last_move_lines, clock_lines, opening_lines, setup_lines, end_lines, end_block, entry, untold_lines, variant_lines, is_unwritten};
 ghost use Rattle.chess_match.specs.Reasons.{fault_of};
@@ -20,23 +19,11 @@ use crate::block::{Block, add, add_end, add_level, add_ping, add_times};
 use crate::phase::Phase;
 use crate::played::Played;
 use crate::reason::{MatchFault, Reason};
-use crate::state::{Core, Given};
+use crate::state::{Core, Given, is_side};
 use byte_devices::{Output, WriteFault, put, put_parts};
 use chess_base::{Colour, Variant};
 use chess_moves::Board;
 use engine_lines::{Features, is_known, next_item};
-
-// Whether two sides are the same.
-fn is_side(side: Colour, other: Colour) -> bool
-    ensures { result ≡ same_colour side other }
-{
-    match (side, other) {
-        (Colour::White, Colour::White) => true,
-        (Colour::Black, Colour::Black) => true,
-        (Colour::White, Colour::Black) => false,
-        (Colour::Black, Colour::White) => false,
-    }
-}
 
 impl Core {
     // What that side's engine takes.

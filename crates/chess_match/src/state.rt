@@ -1,6 +1,7 @@
 //! The core of a match, without devices.
 
 ghost use Rattle.std.specs.Prelude.{◌≡◌, ◌++◌, ◌∷◌, [], List, false};
+ghost use Rattle.chess_base.specs.Men.{same_colour};
 ghost use Rattle.engine_lines.specs.Seen.{item_seen, features_of};
 ghost use Rattle.engine_lines.specs.Items as told;
 ghost use Rattle.engine_lines.specs.Items.{items_of, has_done};
@@ -108,6 +109,18 @@ impl Core {
             count: 0,
             opened: 0,
         }
+    }
+}
+
+/// Whether two sides are the same.
+pub(crate) fn is_side(side: Colour, other: Colour) -> bool
+    ensures { result ≡ same_colour side other }
+{
+    match (side, other) {
+        (Colour::White, Colour::White) => true,
+        (Colour::Black, Colour::Black) => true,
+        (Colour::White, Colour::Black) => false,
+        (Colour::Black, Colour::White) => false,
     }
 }
 

@@ -5,16 +5,19 @@ use Rattle.chess_base.specs.declared.man.Colour.TheVariants.{White, Black}
 use Rattle.engine_lines.specs.Levels.{LevelSeen, allotted, left}
 use Rattle.chess_game.specs.declared.game.TheConstants.{MOST_MOVES}
 
+-- what a side spent: how many moves it made, and the time that they used
 pub record Spent : Type 0 where
   pub moves : ℕ
   -- in milliseconds
   pub used : ℕ
 
+-- what clocks are seen as: their level, and what each side spent
 pub record ClocksSeen : Type 0 where
   pub level : LevelSeen
   pub white : Spent
   pub black : Spent
 
+-- no move, and no time
 abbrev pub nothing_spent : Spent
 nothing_spent = record { moves = 0; used = 0 }
 
@@ -22,6 +25,7 @@ nothing_spent = record { moves = 0; used = 0 }
 abbrev pub new_clocks : LevelSeen → ClocksSeen
 new_clocks level = record { level = level; white = nothing_spent; black = nothing_spent }
 
+-- what that side spent
 abbrev pub spent_by : ClocksSeen → Colour → Spent
 spent_by clocks White = clocks.white
 spent_by clocks Black = clocks.black
@@ -34,6 +38,7 @@ remaining clocks c = left clocks.level (spent_by clocks c).moves (spent_by clock
 abbrev pub spent_more : Spent → ℕ → Spent
 spent_more s used = record { moves = s.moves + 1; used = s.used + used }
 
+-- the clocks once that side made a move more, which used so many milliseconds
 abbrev pub charged : ClocksSeen → Colour → ℕ → ClocksSeen
 charged clocks White used = record clocks { white = spent_more clocks.white used }
 charged clocks Black used = record clocks { black = spent_more clocks.black used }

@@ -8,10 +8,12 @@ use Rattle.engine_lines.specs.Words.{is_name_byte, run_of}
 
 -- ---- one item, `NAME=VALUE`
 
+-- a value: digits, or the text between double quotes
 pub data Value : Type 0 where
   Digits : List ℕ → Value
   Quoted : List ℕ → Value
 
+-- an item: a feature's name, and its value
 pub record Item : Type 0 where
   pub name : List ℕ
   pub value : Value
@@ -41,11 +43,13 @@ abbrev pub is_apart : List ℕ → Bool
 is_apart [] = true
 is_apart (c ∷ cs) = is_blank c
 
+-- the item of this name with the value at the front of a text, if blanks or the end stand behind that; and what follows
 abbrev pub with_value : List ℕ → List ℕ → Option (Item × List ℕ)
 with_value name rest =
     option_and_then (λ (p : Value × List ℕ). if is_apart p.1 then Some
     (record { name = name; value = p.0 }, without_front_blanks p.1) else None) (value_of rest)
 
+-- the item of this name, if it isn't empty and an equals sign and a value stand behind it; and what follows
 abbrev pub with_name : List ℕ → List ℕ → Option (Item × List ℕ)
 with_name [] rest = None
 with_name (n ∷ ns) [] = None
@@ -79,6 +83,7 @@ first_items (suc n) text =
 unfoldable pub items_of : List ℕ → List Item
 items_of text = first_items (length text) text
 
+-- one of the items ends the hello
 unfoldable pub has_done : List Item → Bool
 has_done items = list_any ends_hello items
 
@@ -102,10 +107,12 @@ said_or default (Some v) = is_one v
 unfoldable pub takes : List ℕ → List Item → Bool
 takes name items = said_or (bytes_eq name (codes "time") || bytes_eq name (codes "draw")) (last_value name items)
 
+-- the text of a value, without quotes
 abbrev pub value_text : Value → List ℕ
 value_text (Digits ds) = ds
 value_text (Quoted cs) = cs
 
+-- the text of a value, else a default
 abbrev pub text_or : List ℕ → Option Value → List ℕ
 text_or default None = default
 text_or default (Some v) = value_text v
@@ -114,6 +121,7 @@ text_or default (Some v) = value_text v
 unfoldable pub told : List ℕ → List Item → List ℕ
 told name items = text_or [] (last_value name items)
 
+-- a comma or a blank: the words of a value stand between these
 abbrev pub is_comma_or_blank : ℕ → Bool
 is_comma_or_blank c = is_blank c || (c == byte ",")
 
@@ -128,6 +136,7 @@ has_word_behind word piece (c ∷ cs) =
 unfoldable pub has_word : List ℕ → List ℕ → Bool
 has_word word text = has_word_behind word [] text
 
+-- the value of `variants` names fischerandom; an engine that doesn't say its variants is taken to play it
 abbrev pub has_fischerandom : Option Value → Bool
 has_fischerandom None = true
 has_fischerandom (Some v) = has_word (codes "fischerandom") (value_text v)
@@ -140,17 +149,20 @@ plays_fischerandom items = has_fischerandom (last_value (codes "variants") items
 abbrev pub said_again : List ℕ → Item → Bool → Bool
 said_again name i before = if bytes_eq i.name name then is_one i.value else before
 
+-- whether an engine plays fischerandom once it says an item more, and before whether it did
 abbrev pub fischerandom_again : Item → Bool → Bool
 fischerandom_again i before = if bytes_eq i.name (codes "variants") then has_word (codes "fischerandom")
     (value_text i.value) else before
 
 -- ---- the answer to an item
 
+-- the names of features that are accepted
 abbrev pub known_names : List (List ℕ)
 known_names =
     codes "ping" ∷ codes "setboard" ∷ codes "playother" ∷ codes "san" ∷ codes "usermove" ∷ codes "time" ∷ codes "draw"
     ∷ codes "sigint" ∷ codes "sigterm" ∷ codes "reuse" ∷ codes "analyze" ∷ codes "myname" ∷ codes "variants"
     ∷ codes "colors" ∷ codes "debug" ∷ codes "done" ∷ []
 
+-- a feature of that name is accepted
 unfoldable pub is_known : List ℕ → Bool
 is_known name = list_any (bytes_eq name) known_names

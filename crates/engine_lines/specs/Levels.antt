@@ -13,6 +13,7 @@ pub record LevelSeen : Type 0 where
   pub base : ℕ
   pub increment : ℕ
 
+-- no number of a level is greater than can be spelled
 pub record IsLevel (level : LevelSeen) : Type 0 where
   pub moves : level.moves ≤ 999
   pub base : level.base ≤ 59999
@@ -29,6 +30,7 @@ short_number n text = if nat_lt 0 (length text) && nat_le (length text) n
 abbrev pub colon_at : List ℕ → ℕ
 colon_at text = run_of (λ c. not (c == byte ":")) text
 
+-- minutes and seconds, both there and with fewer than 60 seconds, in seconds
 abbrev pub in_seconds : Option ℕ → Option ℕ → Option ℕ
 in_seconds None seconds = None
 in_seconds (Some m) None = None
@@ -40,6 +42,7 @@ base_of text =
     if colon_at text == length text then option_map (λ m. 60 * m) (short_number 3 text)
     else in_seconds (short_number 3 (take (colon_at text) text)) (short_number 2 (drop (colon_at text + 1) text))
 
+-- the level of these three numbers, if each is there
 abbrev pub level_by : Option ℕ → Option ℕ → Option ℕ → Option LevelSeen
 level_by None base increment = None
 level_by (Some m) None increment = None
@@ -51,6 +54,7 @@ abbrev pub level_in : List ℕ → List ℕ → List ℕ → List ℕ → Option
 level_in moves base increment [] = level_by (short_number 3 moves) (base_of base) (short_number 3 increment)
 level_in moves base increment (c ∷ cs) = None
 
+-- the level of two words and of the next word of a text, behind which nothing may follow
 abbrev pub level_behind : List ℕ → List ℕ → List ℕ → Option LevelSeen
 level_behind moves base rest = level_in moves base (word_of rest) (argument_of rest)
 
@@ -62,6 +66,7 @@ level_of text =
 
 -- ---- writing
 
+-- a number below 100 as two digits
 abbrev pub two_digits : ℕ → List ℕ
 two_digits n = (byte "0" + n / 10) ∷ (byte "0" + n % 10) ∷ []
 
@@ -70,6 +75,7 @@ abbrev pub base_text : ℕ → List ℕ
 base_text base = if base % 60 == 0 then decimal (base / 60) else decimal (base / 60)
     ++ (codes ":" ++ two_digits (base % 60))
 
+-- a level as it is written: moves, base and increment, with blanks between
 unfoldable pub level_text : LevelSeen → List ℕ
 level_text level =
     decimal level.moves ++ (codes " " ++ (base_text level.base ++ (codes " " ++ decimal level.increment)))

@@ -12,6 +12,7 @@ use Rattle.engine_lines.specs.declared.features.Features.{Features as Taken}
 use Rattle.engine_lines.specs.declared.engine_line.EngineLine.{EngineLine}
 use Rattle.engine_lines.specs.declared.engine_line.EngineLine.TheVariants.{Features, Move, Resign, Offer, Draw, Win, Rejection, Pong, Other}
 
+-- the kind of line that an engine line is
 abbrev pub seen : EngineLine → LineKind
 seen (Features text) = kinds.Features text.now
 seen (Move text) = kinds.Moves text.now
@@ -23,10 +24,12 @@ seen Rejection = kinds.Rejects
 seen (Pong n) = kinds.Answers n
 seen Other = kinds.SaysElse
 
+-- a value of the program, as a value of these definitions
 abbrev pub value_seen : Value → items.Value
 value_seen (Digits text) = items.Digits text.now
 value_seen (Quoted text) = items.Quoted text.now
 
+-- an item of the program, as an item of these definitions
 abbrev pub item_seen : Item → items.Item
 item_seen i = record { name = i.name.now; value = value_seen i.value }
 

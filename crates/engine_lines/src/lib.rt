@@ -2,10 +2,23 @@
 //! of its lines, the items of a `feature` line with what it takes by them, levels of time, and the clocks of a game. It
 //! knows nothing of a match.
 //!
-//! `read_engine_line(b"feature ping=1 done=1")` is `EngineLine::Features(b"ping=1 done=1")`. `next_item` of that text
-//! is the item `ping=1` with `b"done=1"` behind it; `Features::new().heard(&item)` then has `ping`, and the next item
-//! `ends_hello()`. `Level::read(b"40 5 0")` is forty moves in five minutes, and `Clocks::new(level).remaining(side)`
-//! the milliseconds that a side has at its start.
+//! What an engine takes by a `feature` line, and the milliseconds that a side has at its start:
+//!
+//! ```
+//! let mut features = Features::new();
+//! if let EngineLine::Features(text) = read_engine_line(b"feature ping=1 done=1") {
+//!     let mut rest = text;
+//!     while let Some((item, behind)) = next_item(rest) {
+//!         features = features.heard(&item);
+//!         rest = behind;
+//!     }
+//! }
+//! let level = Level::read(b"40 5 0").ok_or("a level")?;
+//! let left = Clocks::new(level).remaining(Colour::White);
+//! ```
+//!
+//! Then `features.ping` is true, and `left` is 300,000. A hello ends with the item of which `ends_hello()` is true,
+//! here `done=1`.
 #![tactic(auto)]
 
 mod clocks;

@@ -1,15 +1,12 @@
--- What comes of an engine in one event, and how the blocks of the event are sent.
+-- Which event a call for a line is, and how the blocks of an event are sent.
 use Rattle.std.specs.Prelude.{◌≡◌, ℕ, ◌<◌, ◌⊎◌, Bool, true, false, List, [], length, if◌then◌else◌, Option, None, Some, is_some, Result, Ok, Err}
-use Rattle.std.specs.Bool.{MatchBool}
-use Rattle.std.specs.Io.KnownBytes.{Consumes}
 use Rattle.chess_base.specs.declared.man.Colour.{Colour}
 use Rattle.chess_base.specs.declared.man.Colour.TheVariants.{White, Black}
 use Rattle.chess_base.specs.declared.man.Move.{Move}
-use Rattle.byte_devices.specs.Devices.{InputState, OutputState, BreaksOff}
+use Rattle.byte_devices.specs.Devices.{OutputState, BreaksOff}
 use Rattle.chess_base.specs.Men.{other, same_colour}
-use Rattle.chess_cecp.specs.Lines.{LineSeen, Held}
-use Rattle.chess_cecp.specs.Next.{GotLine, GotLast, GotNone, GotFault}
-use Rattle.chess_match.specs.Match.{Match, Event, Line, Opened, OutputEnds, FailsToRead, FailsToWrite, after}
+use Rattle.chess_cecp.specs.Lines.{LineSeen}
+use Rattle.chess_match.specs.Match.{Match, Event, Line, OutputEnds, FailsToRead, FailsToWrite, after}
 use Rattle.chess_match.specs.Rules.{Rules}
 use Rattle.chess_match.specs.Run.{text_heard, Flushed}
 use Rattle.chess_match.specs.Sent.{SentLine, block, bytes_of}
@@ -17,7 +14,6 @@ use Rattle.chess_match.specs.ties.Stands.{Stands}
 use Rattle.chess_match.specs.ties.Told.{SendsIf}
 use Rattle.chess_match.specs.Transcript.{is_on}
 use Rattle.chess_match.specs.declared.state.Core.{Core}
-use Rattle.chess_match.specs.declared.run.TheConstants.{ENGINE_LINE_LEN}
 
 -- what is White's, and what is Black's
 abbrev pub by_side : {A : Type 0} → A → A → Colour → A
@@ -40,31 +36,6 @@ event_heard S moment (Err e) = FailsToRead S
 -- a line of S that byte 10 ended
 abbrev pub line_event : Colour → LineSeen → ℕ → Event
 line_event S line moment = Line S (text_heard line) moment
-
--- the event is one of S's output
-abbrev pub is_heard_of : Colour → Event → Bool
-is_heard_of S (Line c text moment) = same_colour c S
-is_heard_of S (OutputEnds c) = same_colour c S
-is_heard_of S (FailsToRead c) = same_colour c S
-is_heard_of S (Opened c moment) = false
-is_heard_of S (FailsToWrite c) = false
-
--- the bytes that came with an event, and what it was told by
-abbrev pub Tells : Event → InputState → InputState → Held → Held → List ℕ → Type 0
-Tells (Line c text moment) r r' held held' more =
-    (line : LineSeen) × GotLine ENGINE_LINE_LEN r r' held held' more line × (text ≡ text_heard line)
-Tells (OutputEnds c) r r' held held' more =
-    ((line : LineSeen) × GotLast ENGINE_LINE_LEN r r' held held' more line)
-    ⊎ GotNone ENGINE_LINE_LEN r r' held held' more
-Tells (FailsToRead c) r r' held held' more = GotFault ENGINE_LINE_LEN r r' held held' more
-Tells (Opened c moment) r r' held held' more = more ≡ []
-Tells (FailsToWrite c) r r' held held' more = more ≡ []
-
--- what an event does to S's output: nothing, where it is none of it
-abbrev pub HearsAt : Colour → Event → InputState → InputState → Held → Held → Type 0
-HearsAt S e r r' held held' =
-    MatchBool (is_heard_of S e) ((more : List ℕ) × Consumes r.known_bytes r'.known_bytes more
-    × Tells e r r' held held' more) ((r' ≡ r) × (held' ≡ held))
 
 -- ---- what is sent
 
@@ -89,6 +60,8 @@ pub record OneFailed (r : Rules) (core : Core) (played : List Move) (m : Match) 
       (bytes_of (if same_colour c first then [] else due (other c)))
       × SendsIf (failed (other c)) v (w' (other c)) (bytes_of (block r m (after r m (FailsToWrite c)) (other c)))
 
+-- the blocks that are due were sent, first to that side, and no write failed before the end, or the first that failed
+-- ended the match
 abbrev pub Delivered : Rules → Core → List Move → Match → (Colour → List SentLine) → Colour → (Colour → OutputState)
     → (Colour → OutputState) → (Colour → Bool) → Type 0
 Delivered r core played m due first w w' failed =

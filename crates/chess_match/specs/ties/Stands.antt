@@ -29,6 +29,7 @@ pub record Keeps (kept : Player) (known : Seat) : Type 0 where
   pub name : kept.name ≡ name_by known.items
   pub offers : kept.offers ≡ known.offers
 
+-- what a side spent, by its moves' times
 abbrev pub spent_of : Seat → Spent
 spent_of s = record { moves = length s.used; used = sum s.used }
 
@@ -36,6 +37,7 @@ spent_of s = record { moves = length s.used; used = sum s.used }
 abbrev pub clocks_of : LevelSeen → Match → ClocksSeen
 clocks_of level m = record { level = level; white = spent_of m.white; black = spent_of m.black }
 
+-- the core, and the moves that were played, stand for the match m
 pub record Stands (r : Rules) (core : Core) (played : List Move) (m : Match) : Type 0 where
   pub phase : core.phase ≡ m.phase
   pub white : Keeps core.white m.white
@@ -46,6 +48,7 @@ pub record Stands (r : Rules) (core : Core) (played : List Move) (m : Match) : T
   pub count : core.count ≡ m.count
   pub opened : core.opened ≡ m.opened
 
+-- a text for one side, if there is one: S is sent it where S is that side
 abbrev pub to : Option Colour → Colour → List SentLine → List SentLine
 to None S text = []
 to (Some c) S text = if same_colour c S then text else []
@@ -63,6 +66,7 @@ pub record Goes (r : Rules) (core : Core) (played : List Move) (given : Given) (
   pub stands : Stands r core played m'
   pub gives : (S : Colour) → given_block r given items m' S ≡ block r m m' S
 
+-- what the core keeps of that side's engine
 abbrev pub player : Core → Colour → Player
 player core White = core.white
 player core Black = core.black
@@ -88,11 +92,6 @@ played_core core Black used = record core {
   clocks = charged core.clocks Black used;
   white = record { features = core.white.features; name = core.white.name; offers = false };
 }
-
--- the core once S said more
-abbrev pub heard_core : Core → Colour → Player → Core
-heard_core core White p = record core { white = p }
-heard_core core Black p = record core { black = p }
 
 -- the items that a line tells: those of a hello alone
 abbrev pub items_in : Phase → LineKind → List Item

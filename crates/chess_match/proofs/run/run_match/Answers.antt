@@ -12,7 +12,7 @@ use Rattle.chess_match.specs.ties.Stands.{Stands}
 use Rattle.chess_match.specs.Transcript.{match_of, reads, opens}
 use Rattle.chess_match.specs.declared.phase.Phase.{Phase}
 use Rattle.chess_match.proofs.Delivers.{both_sides}
-use Rattle.chess_match.proofs.Finished.{ran}
+use Rattle.chess_match.proofs.Finished.{ran, told_outcome}
 use Rattle.chess_match.proofs.LinesRead.{heard_less}
 use Rattle.chess_match.proofs.RunSteps.{rules_level, plays_anew, plays_on, begun, heard_on, opened_left}
 use Rattle.chess_match.proofs.Runs.{asked_one}
@@ -53,8 +53,8 @@ events-init g c =
       ap (λ (x : game.Seen). x.state.declared) c.restart.ensures,
     )
 
-pub returns-in-Nothing : goal.returns-in-Nothing
-returns-in-Nothing g c =
+pub returns-in-Nothing-clause-ran : goal.returns-in-Nothing-clause-ran
+returns-in-Nothing-clause-ran g c =
     let i = c.events.invariant in
     ran c.args.game.now c.events.game c.end_of.new.game c.args.setup.now.start c.args.setup.now.level i.0 c.events.core
     c.in-Nothing.reason c.events.failed c.end_of.result
@@ -65,6 +65,19 @@ returns-in-Nothing g c =
     (g.W.Output.seen c.events.white.writer) (g.W.Output.seen c.events.black.writer) _ _
     i.1 c.in-Nothing.ensures c.end_of.ensures.told c.end_of.ensures.white_name c.end_of.ensures.black_name i.2 i.3
     c.end_of.ensures.game
+
+pub returns-in-Nothing-clause-start : goal.returns-in-Nothing-clause-start
+returns-in-Nothing-clause-start g c =
+    ap (λ (x : game.Seen). x.state.start) c.end_of.ensures.game ∙ c.events.invariant.2
+
+pub returns-in-Nothing-clause-limit : goal.returns-in-Nothing-clause-limit
+returns-in-Nothing-clause-limit g c =
+    ap (λ (x : game.Seen). x.limit) c.end_of.ensures.game ∙ c.events.invariant.3
+
+pub returns-in-Nothing-clause-outcome : goal.returns-in-Nothing-clause-outcome
+returns-in-Nothing-clause-outcome g c =
+    told_outcome c.events.game c.end_of.new.game c.in-Nothing.reason c.end_of.result.outcome c.end_of.ensures.game
+    c.end_of.ensures.told.outcome
 
 pub events-smaller-in-Moment : goal.events-smaller-in-Moment
 events-smaller-in-Moment g c =

@@ -3,7 +3,7 @@ use Rattle.chess_cecp.specs.Next.{work}
 use Rattle.chess_match.specs.ties.Delivering.{by_side}
 use Rattle.chess_match.specs.Match.{Event}
 use Rattle.chess_match.specs.Rules.{rules_of}
-use Rattle.chess_match.specs.ties.UnderWay.{IsUnderWay, steps_left}
+use Rattle.chess_match.proofs.UnderWay.{IsUnderWay, steps_left}
 use Rattle.chess_match.proofs.run.run_match.Given as goal
 
 abbrev pub invariant-events : goal.invariant-events

@@ -1,3 +1,5 @@
+-- Each feature is told by its name and the item alone, so what it is behind one item more follows from what it was
+-- (ItemRuns.features-snoc).
 use Rattle.engine_lines.specs.Seen.{item_seen}
 use Rattle.engine_lines.proofs.ItemRuns.{features-snoc}
 use Rattle.engine_lines.proofs.features.Features.heard.Goals as goal

@@ -4,7 +4,7 @@ use Rattle.chess_base.specs.declared.man.Colour.{Colour}
 use Rattle.chess_base.specs.declared.man.Move.{Move}
 use Rattle.byte_devices.specs.Devices.{InputState, OutputState}
 use Rattle.chess_cecp.specs.Lines.{Held}
-use Rattle.chess_match.specs.ties.Hearing.{Hearing}
+use Rattle.chess_match.proofs.Hearing.{Hearing}
 use Rattle.chess_match.specs.Match.{Event}
 use Rattle.chess_match.specs.Rules.{Rules}
 use Rattle.chess_match.specs.Run.{Heard, Written, Asked}

@@ -1,0 +1,54 @@
+-- What came of an engine so far, and what is held of it.
+use Rattle.std.specs.Prelude.{◌≡◌, ◌⊎◌, ℕ, Bool, false, List, [], ◌++◌, map, Option}
+use Rattle.std.specs.Bool.{MatchBool}
+use Rattle.std.specs.Io.KnownBytes.{Consumes}
+use Rattle.byte_devices.specs.Devices.{InputState}
+use Rattle.chess_base.specs.declared.man.Colour.{Colour}
+use Rattle.chess_base.specs.Men.{same_colour}
+use Rattle.chess_cecp.specs.Lines.{LineSeen, Held, lines_heard, lines_held}
+use Rattle.chess_cecp.specs.Next.{GotLine, GotLast, GotNone, GotFault}
+use Rattle.chess_match.specs.Match.{Event, Line, Opened, OutputEnds, FailsToRead, FailsToWrite}
+use Rattle.chess_match.specs.Run.{text_heard}
+use Rattle.chess_match.specs.declared.run.TheConstants.{ENGINE_LINE_LEN}
+
+-- these bytes came, of them these lines were handed out, and the rest is held; no end was told, and no read failed
+pub record Hearing (old new : InputState) (held : Held) (given : List ℕ) (texts : List (Option (List ℕ))) : Type 0 where
+  pub bytes : Consumes old.known_bytes new.known_bytes given
+  pub lines : (heard : List LineSeen) × (map text_heard heard ≡ texts)
+      × ((told : Bool) (rest : List ℕ) → lines_heard ENGINE_LINE_LEN told (given ++ rest) ≡ heard
+      ++ lines_held ENGINE_LINE_LEN told held rest)
+  pub ends : new.end_count ≡ old.end_count
+  pub failures : new.failure_count ≡ old.failure_count
+
+-- the end was told, and all lines were handed out
+pub record HeardAll (old new : InputState) (given : List ℕ) (texts : List (Option (List ℕ))) : Type 0 where
+  pub bytes : Consumes old.known_bytes new.known_bytes given
+  pub lines : (heard : List LineSeen) × (map text_heard heard ≡ texts)
+      × (lines_heard ENGINE_LINE_LEN false given ≡ heard)
+
+-- ---- one event more
+
+-- the event is one of S's output
+abbrev pub is_heard_of : Colour → Event → Bool
+is_heard_of S (Line c text moment) = same_colour c S
+is_heard_of S (OutputEnds c) = same_colour c S
+is_heard_of S (FailsToRead c) = same_colour c S
+is_heard_of S (Opened c moment) = false
+is_heard_of S (FailsToWrite c) = false
+
+-- the bytes that came with an event, and what it was told by
+abbrev pub Tells : Event → InputState → InputState → Held → Held → List ℕ → Type 0
+Tells (Line c text moment) r r' held held' more =
+    (line : LineSeen) × GotLine ENGINE_LINE_LEN r r' held held' more line × (text ≡ text_heard line)
+Tells (OutputEnds c) r r' held held' more =
+    ((line : LineSeen) × GotLast ENGINE_LINE_LEN r r' held held' more line)
+    ⊎ GotNone ENGINE_LINE_LEN r r' held held' more
+Tells (FailsToRead c) r r' held held' more = GotFault ENGINE_LINE_LEN r r' held held' more
+Tells (Opened c moment) r r' held held' more = more ≡ []
+Tells (FailsToWrite c) r r' held held' more = more ≡ []
+
+-- what an event does to S's output: nothing, where it is none of it
+abbrev pub HearsAt : Colour → Event → InputState → InputState → Held → Held → Type 0
+HearsAt S e r r' held held' =
+    MatchBool (is_heard_of S e) ((more : List ℕ) × Consumes r.known_bytes r'.known_bytes more
+    × Tells e r r' held held' more) ((r' ≡ r) × (held' ≡ held))
