@@ -21,7 +21,8 @@ IsRefusalBy kinds _ = ⊥
 
 refusal_by : (kinds : Kinds) (e : Error) (f : WordsFault) → HasKind kinds e → Refuses e f → IsRefusalBy kinds f
 refusal_by kinds e (Words x) (inl none) (other, same) = absurd (other none)
-refusal_by kinds e (Words x) (inr among) (other, same) = subst (λ (y : Error). IsAmong (kind_of y) kinds) (sym same) among
+refusal_by kinds e (Words x) (inr among) (other, same) =
+    subst (λ (y : Error). IsAmong (kind_of y) kinds) (sym same) among
 refusal_by kinds e NoMemory h fits = tt
 refusal_by kinds e BadLevel h fits = absurd fits
 refusal_by kinds e (BadFen x) h fits = absurd fits

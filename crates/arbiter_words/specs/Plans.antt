@@ -124,8 +124,8 @@ IsPlanOf p plan = (s : Spelled) × IsSpelledOf p s × IsPlanned s plan
 abbrev pub IsFaultOf : Text × List Row → WordsFault → Type 0
 IsFaultOf p f = (m : MatchWords) × (p.0 ≡ codes "match") × IsMatchOf p.1 m × IsMatchFault m f
 
--- a plan, or a level, FEN or date out of its form, is told only of words in which `clap` finds no fault; of others, one of
--- the faults that it may find in them. Want of memory may be told of any words
+-- a plan, or a level, FEN or date out of its form, is told only of words in which `clap` finds no fault; of others, one
+-- of the faults that it may find in them. Want of memory may be told of any words
 abbrev pub IsReadBy : Lent → List Text → Result Plan WordsFault → Type 0
 IsReadBy names words (Ok plan) = (faults_in names words ≡ []) × IsPlanOf (asked names words) plan
 IsReadBy names words (Err (Words e)) = IsAmong (kind_of e) (faults_in names words)

@@ -1,10 +1,9 @@
 //! Why words ask for nothing.
 
-ghost use Rattle.std.specs.Prelude.{◌≡◌};
-ghost use Rattle.chess_cecp.specs.Session.{fen_fault_name};
 ghost use Rattle.arbiter_words.specs.Plans.{Refuses};
 
 use chess_base::FenFault;
+use chess_cecp::fen_fault_name;
 use clap::Error;
 use clap::error::ErrorKind;
 
@@ -26,24 +25,6 @@ pub enum WordsFault {
     /// The date of a match has more than 60 bytes, or one outside 32 to 126.
     #[error("bad date")]
     BadDate,
-}
-
-// The name of a fault of a FEN, as a session tells it.
-fn fen_fault_name(fault: FenFault) -> &'static str
-    ensures { result.now ≡ fen_fault_name fault }
-{
-    match fault {
-        FenFault::Placement => "placement",
-        FenFault::Side => "side",
-        FenFault::Castling => "castling",
-        FenFault::EnPassant => "en passant",
-        FenFault::Counters => "counters",
-        FenFault::Kings => "kings",
-        FenFault::Pawns => "pawns",
-        FenFault::Men => "men",
-        FenFault::Check => "check",
-        FenFault::Fields => "fields",
-    }
 }
 
 // Why `clap` gave no matches.
