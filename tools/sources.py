@@ -329,7 +329,9 @@ class Sources:
             elif not kind:
                 signature.append(line)
             at_margin = len(line) - len(line.lstrip()) == indent
-            ends_here = line.rstrip().endswith(";") and (kind or ")" in line)
+            # (a line of a record in a clause ends in `;` too)
+            is_whole = not kind or clauses[-1][2].count("{") < clauses[-1][2].count("}")
+            ends_here = line.rstrip().endswith(";") and (kind or ")" in line) and is_whole
             if at_margin and line.strip() in ("{", "{}"):
                 break
             if not kind and line.rstrip().endswith("{") or ends_here:
