@@ -182,12 +182,6 @@ impl Board for Wordless {
     }
 }
 
-fn wordless_board() -> Wordless {
-    Wordless {
-        plain: Plain::new(),
-    }
-}
-
 fn square(file: u8, rank: u8) -> Square {
     Square::new(rank.wrapping_sub(b'1') % 8 * 8 + file.wrapping_sub(b'a') % 8)
 }
@@ -917,16 +911,15 @@ fn ends_as_told<B: Board + Drop>(rt: &impl Abort, alloc: Global, board: B) -> Re
     all_go_as_told(rt, &mut game, &LINES)
 }
 
-fn ends_as_told_by_words(rt: &impl Abort, alloc: Global) -> Result<(), Fail> {
-    let calls = Calls::none();
-    ends_as_told(rt, alloc, counting_board(&calls))
-}
-
 #[test]
 fn ends_and_claims(rt: HostRuntime) -> Result<(), Fail> {
     ends_as_told(&rt, rt.alloc(), Plain::new())?;
-    ends_as_told_by_words(&rt, rt.alloc())?;
-    ends_as_told(&rt, rt.alloc(), wordless_board())
+    let calls = Calls::none();
+    ends_as_told(&rt, rt.alloc(), counting_board(&calls))?;
+    let board = Wordless {
+        plain: Plain::new(),
+    };
+    ends_as_told(&rt, rt.alloc(), board)
 }
 
 const MATE: &[Step] = &[
@@ -1168,29 +1161,21 @@ const MOVES: [&[u8; 4]; 9] = [
     b"g1f3", b"g8f6", b"f3g1", b"f6g8", b"g1f3", b"g8f6", b"f3g1", b"f6g8", b"e2e4",
 ];
 
-fn moves_are_made_once(
-    rt: &impl Abort,
-    game: &mut Game<Counting<'_>>,
-    calls: &Calls,
-) -> Result<(), Fail> {
-    were_called(rt, calls, (1, 0, 0));
-    restart(game, INITIAL)?;
-    were_called(rt, calls, (1, 0, 0));
-    are_made_once(rt, game, calls, &MOVES);
-    all_go(rt, game, ASKED)?;
-    were_called(rt, calls, (0, 0, 0));
-    are_taken_back_once(rt, game, calls, &MOVES);
-    has_no_move(rt, game);
-    were_called(rt, calls, (0, 0, 0));
-    Ok(())
-}
-
 // Nothing is replayed: how often `set`, `make` and `take_back` of the board are called.
 #[test]
 fn each_move_is_made_once(rt: HostRuntime) -> Result<(), Fail> {
     let calls = Calls::none();
     let mut game = opened(&rt, rt.alloc(), counting_board(&calls), 9)?;
-    moves_are_made_once(&rt, &mut game, &calls)
+    were_called(&rt, &calls, (1, 0, 0));
+    restart(&mut game, INITIAL)?;
+    were_called(&rt, &calls, (1, 0, 0));
+    are_made_once(&rt, &mut game, &calls, &MOVES);
+    all_go(&rt, &mut game, ASKED)?;
+    were_called(&rt, &calls, (0, 0, 0));
+    are_taken_back_once(&rt, &mut game, &calls, &MOVES);
+    has_no_move(&rt, &mut game);
+    were_called(&rt, &calls, (0, 0, 0));
+    Ok(())
 }
 
 fn was_asked(rt: &impl Abort, calls: &Calls, times: u32) {
@@ -1227,30 +1212,22 @@ fn are_taken_back<B: Board>(rt: &impl Abort, game: &mut Game<B>, moves: &[&[u8; 
     }
 }
 
-fn positions_are_asked_once(
-    rt: &impl Abort,
-    game: &mut Game<Counting<'_>>,
-    calls: &Calls,
-) -> Result<(), Fail> {
-    was_asked(rt, calls, 1);
-    restart(game, INITIAL)?;
-    was_asked(rt, calls, 1);
-    let there_and_back = &MOVES[..8];
-    are_asked_for_their_words_once(rt, game, calls, there_and_back);
-    has_repetitions(rt, game, 3);
-    has_claims(rt, game, THREEFOLD);
-    are_taken_back(rt, game, there_and_back);
-    has_repetitions(rt, game, 1);
-    was_asked(rt, calls, 0);
-    Ok(())
-}
-
 // A game keeps the words of its positions: each is asked for once, when the position is reached.
 #[test]
 fn each_position_is_asked_for_its_word_once(rt: HostRuntime) -> Result<(), Fail> {
     let calls = Calls::none();
     let mut game = opened(&rt, rt.alloc(), counting_board(&calls), 9)?;
-    positions_are_asked_once(&rt, &mut game, &calls)
+    was_asked(&rt, &calls, 1);
+    restart(&mut game, INITIAL)?;
+    was_asked(&rt, &calls, 1);
+    let there_and_back = &MOVES[..8];
+    are_asked_for_their_words_once(&rt, &mut game, &calls, there_and_back);
+    has_repetitions(&rt, &game, 3);
+    has_claims(&rt, &game, THREEFOLD);
+    are_taken_back(&rt, &mut game, there_and_back);
+    has_repetitions(&rt, &game, 1);
+    was_asked(&rt, &calls, 0);
+    Ok(())
 }
 
 const OUTCOMES: [(Outcome, &[u8]); 4] = [
