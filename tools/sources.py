@@ -20,7 +20,7 @@ SHORT = {
     "game": "chess_game",
     "text": "chess_text",
     "pgn": "chess_pgn",
-    "stream": "pgn_stream",
+    "pieces": "pgn_pieces",
     "verifier": "pgn_verifier",
     "cecp": "chess_cecp",
     "lines": "engine_lines",

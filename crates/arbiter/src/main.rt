@@ -1,5 +1,4 @@
-//! The program `arbiter`. Its stored run is a match between two scripts of data/, each of which becomes the program
-//! again, as a stub, once other runs of the program came out as the files there have it.
+//! The program `arbiter`. Its stored run is a session.
 #![tactic(auto)]
 
 use std::process::ExitCode;

@@ -47,7 +47,7 @@ verify_app = with_rule (with_rule (with_rule
     (new_app (codes "verify"))
     (flag_rule (codes "keep-going")))
     (flag_rule (codes "quiet")))
-    (flag_rule (codes "any-size"))
+    (flag_rule (codes "strict"))
 
 abbrev pub stub_app : App
 stub_app = with_rule (new_app (codes "stub")) (record (new_rule (codes "words")) {

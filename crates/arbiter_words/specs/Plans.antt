@@ -45,16 +45,16 @@ variant_named name = if bytes_eq name (codes "fischerandom") then Fischerandom e
 abbrev pub variant_in : List Row → Variant
 variant_in rows = variant_named (text_or (codes "variant") rows (codes "normal"))
 
--- a word that takes no text was given
+-- a flag was given
 abbrev pub is_set : Text → List Row → Bool
 is_set name rows = bytes_eq (text_or name rows (codes "false")) (codes "true")
 
--- how the words of `verify` tell to verify
+-- what the flags of `verify` ask for
 abbrev pub verify_plan_of : List Row → VerifyPlan
 verify_plan_of rows = record {
   keep_going = is_set (codes "keep-going") rows;
   quiet = is_set (codes "quiet") rows;
-  any_size = is_set (codes "any-size") rows;
+  strict = is_set (codes "strict") rows;
 }
 
 pub record IsMatchOf (rows : List Row) (m : MatchWords) : Type 0 where
@@ -146,7 +146,7 @@ command_name (Match plan) = codes "match"
 abbrev pub PlansAreNamed : Type 0
 PlansAreNamed = (p : Text × List Row) (plan : Plan) → IsPlanOf p plan → p.0 ≡ command_name plan
 
--- a plan to verify is told by the words of `verify`
+-- a plan to verify has the flags that the words set
 abbrev pub VerifyIsAsSpelled : Type 0
 VerifyIsAsSpelled = (p : Text × List Row) (v : VerifyPlan) → IsPlanOf p (Verify v) → v ≡ verify_plan_of p.1
 
@@ -162,9 +162,9 @@ AreRefused words kinds = (names : Lent) → faults_in names words ≡ kinds
 
 -- as `verify` alone verifies
 abbrev pub bare_plan : VerifyPlan
-bare_plan = record { keep_going = false; quiet = false; any_size = false }
+bare_plan = record { keep_going = false; quiet = false; strict = false }
 
--- the words tell to verify so
+-- the words ask for this
 abbrev pub VerifyAsBare : List Text → Type 0
 VerifyAsBare words = (names : Lent) → verify_plan_of (asked names words).1 ≡ bare_plan
 

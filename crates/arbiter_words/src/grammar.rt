@@ -1,4 +1,4 @@
-//! The grammar of the words, and its texts of help.
+//! The grammar of the command line, and its texts of help.
 
 ghost use Rattle.std.specs.Prelude.{◌≡◌, IfOk, Some, false};
 ghost use Rattle.clap.specs.Words.{app_of, new_app, rule_of};
@@ -11,55 +11,60 @@ use clap::{Arg, ArgAction, Command};
 use std::alloc::{AllocError, Global};
 
 const ABOUT: &str =
-    "An arbiter for chess programs by the Chess Engine Communication Protocol, version 2: it keeps a game by the Laws
-of Chess, verifies PGN, and plays two engines against each other";
+    "Checks games between chess engines by the Laws of Chess: answers the XBoard protocol (CECP, version 2), verifies
+PGN, and plays matches between two engines";
 
 const EXAMPLES: &str = "Examples:
   arbiter                                              a session: type e2e4, showfen, quit
-  arbiter verify < games.pgn                           a line for each game, up to the first fault
+  arbiter verify < games.pgn                           one line per game, up to the first fault
   arbiter match --white sjeng --black phalanx > a.txt  one game between two engines
   arbiter stub e2e4 g1f3                               an engine that plays these two moves
 
-The exit status is 0 where all was done, 1 where a device, an engine, memory or a game of verify failed, and 2 for
-wrong words.";
+Exit status: 0 on success; 1 after an I/O error, out of memory, a failed engine or a fault found by verify; 2 for
+invalid arguments.";
 
-const SESSION_EXAMPLES: &str = "Commands of a session, one a line:
-  new                                the initial position of normal chess
-  variant fischerandom               Chess960, from its initial position
-  setboard 7k/8/6K1/7P/8/8/8/8 w - - 0 1
-  e2e4, Nf3, O-O, usermove e7e8q     a move
-  undo, remove                       takes one half-move back, or two
-  claim                              a draw by threefold repetition or the 50-move rule
-  result 1-0 {Black resigns}         declares how the game ended
-  showfen, showmoves, showstate, showpgn
-  ping 7, protover 2, quit
+const SESSION_EXAMPLES: &str = "Commands, one per line:
+  new                                start from the initial position of normal chess
+  variant fischerandom               start from the initial position of Chess960
+  setboard FEN                       start from a position
+  e2e4, Nf3, O-O, usermove e7e8q     play a move
+  undo, remove                       take back one half-move, or two
+  claim                              claim a draw by threefold repetition or the 50-move rule
+  result 1-0 {Black resigns}         declare the result
+  showfen, showmoves                 print the position, or all legal moves
+  showstate, showpgn                 print the state of the game, or its PGN
+  ping 7, protover 2, quit           the XBoard protocol
+
+A legal move is answered by nothing, or by the result if it ends the game.
 
 Example:
   printf 'e2e4\\nshowfen\\n' | arbiter session";
 
 const VERIFY_EXAMPLES: &str =
-    "A game's line is `game 1: 40 half-moves, 1-0`, or where it has a fault, which ends it, `game 1: illegal move at byte 6`.
+    "Prints one line per game: `game 1: 40 half-moves, 1-0`, or its first fault: `game 1: illegal move at byte 6`. Bytes
+are counted from 0. Without --keep-going the first fault ends the run, and the file may have 16,777,216 bytes. With it
+the file may have any size, and the text from one `[Event ` line to the next 16,777,216 bytes. The exit status is 1 if
+a game has a fault.
 
 Examples:
   arbiter verify < games.pgn
   arbiter verify --keep-going --quiet < games.pgn
-  zcat games.pgn.gz | arbiter verify --any-size --keep-going
+  zcat games.pgn.gz | arbiter verify --keep-going --strict
 
-The second writes a line for each game with a fault, which it goes on behind, and last
-`games 2 half-moves 91 faults 1`: how many games have none, and how many half-moves these have.
-The third takes a text of any length, each game of it in 16,777,216 bytes; else all of the text may have as many.";
+The totals are `games 2 half-moves 91 faults 1`: games without a fault, their half-moves, and games with one.";
 
 const STUB_EXAMPLES: &str =
-    "Each time that the stub is to move it plays the next word: a move, `resign`, or `end`, with which it ends its output;
-behind a move the words `offer` and `claim` offer or claim a draw. With no word left it resigns.
+    "On each turn the stub plays the next argument: a move; `resign`; or `end`, which closes its output in the middle of
+a line. After a move, `offer` offers a draw and `claim` claims one. When no arguments are left, it resigns.
 
 Examples:
   arbiter stub e2e4 g1f3 offer resign
   arbiter match --white \"arbiter stub f2f3 g2g4\" --black \"arbiter stub e7e5 d8h4\"";
 
 const MATCH_EXAMPLES: &str =
-    "In odd games the engine of --white has White, in even ones Black. An engine that never answers is waited for.
-Behind the last game stands the score, which is no PGN: grep -v '^score ' leaves the games.
+    "The first engine plays White in odd games and Black in even ones. Both must send `feature ping=1` and `done=1`.
+There are no time-outs: an engine that never answers is waited for. After the last game comes the score, which is not
+PGN: grep -v '^score ' removes it.
 
 Examples:
   arbiter match --white sjeng --black phalanx
@@ -123,7 +128,7 @@ fn games_option<'a>(alloc: Global) -> Arg<'a>
         alloc,
         "games",
         "N",
-        "How many games, from 1 to 1000, with colours changed after each [default: 1]",
+        "Number of games, 1 to 1000, changing colours after each [default: 1]",
     )
     .value_parser(ValueParser::unsigned(1, 1000))
 }
@@ -136,7 +141,7 @@ fn variant_option<'a>(alloc: Global) -> Arg<'a>
         alloc,
         "variant",
         "NAME",
-        "Normal chess, or Chess960 [default: normal]",
+        "Normal chess or Chess960 [default: normal]",
     )
     .value_parser(VARIANTS.as_slice())
 }
@@ -148,34 +153,34 @@ fn match_command<'a>(alloc: Global) -> Result<Command<'a>, AllocError>
     command(
         alloc,
         "match",
-        "Plays games between two engines, and writes each as PGN and then the score",
+        "Play games between two engines, and write them as PGN",
         MATCH_EXAMPLES,
     )
     .arg(needed_option(
         alloc,
         "white",
         "CMD",
-        "The first engine: a program and its words, cut at blanks",
+        "The first engine: a program and its arguments, split at spaces and tabs",
     ))?
     .arg(needed_option(alloc, "black", "CMD", "The second engine"))?
     .arg(option(
         alloc,
         "level",
         "LEVEL",
-        "Moves a session, minutes or M:SS, seconds a move [default: 40 5 0]",
+        "Moves per session, minutes or M:SS, seconds per move [default: 40 5 0]",
     ))?
     .arg(option(
         alloc,
         "fen",
         "FEN",
-        "The position in which each game starts",
+        "Start of every game [default: the initial position]",
     ))?
     .arg(games_option(alloc))?
     .arg(option(
         alloc,
         "date",
         "TEXT",
-        "The date that each game tells [default: ????.??.??]",
+        "Date tag of every game [default: ????.??.??]",
     ))?
     .arg(variant_option(alloc))
 }
@@ -187,23 +192,19 @@ fn verify_command<'a>(alloc: Global) -> Result<Command<'a>, AllocError>
     command(
         alloc,
         "verify",
-        "Verifies the games of a PGN text on standard input",
+        "Check the games of a PGN file on standard input",
         VERIFY_EXAMPLES,
     )
     .arg(flag(
         alloc,
         "keep-going",
-        "Goes on behind a fault, at the next line that begins with `[Event `, and counts at the end",
+        "Continue after a fault, with the next line that begins with `[Event `, and print totals at the end",
     ))?
+    .arg(flag(alloc, "quiet", "Print only games with a fault"))?
     .arg(flag(
         alloc,
-        "quiet",
-        "Leaves out the lines of games without a fault",
-    ))?
-    .arg(flag(
-        alloc,
-        "any-size",
-        "Takes a text of any length; a game of it may have 16,777,216 bytes",
+        "strict",
+        "Also check the result against the Result tag and the final position",
     ))
 }
 
@@ -217,7 +218,7 @@ fn stub_command<'a>(alloc: Global) -> Result<Command<'a>, AllocError>
     command(
         alloc,
         "stub",
-        "Is an engine that plays the words that it is given",
+        "Play given moves, as an engine for tests",
         STUB_EXAMPLES,
     )
     .arg(words)
@@ -230,7 +231,7 @@ pub(crate) fn arbiter_command<'a>(alloc: Global) -> Result<Command<'a>, AllocErr
     let session = command(
         alloc,
         "session",
-        "Serves a session on standard input and output, as no words do",
+        "Answer commands on standard input (the default)",
         SESSION_EXAMPLES,
     );
     let verify = verify_command(alloc)?;

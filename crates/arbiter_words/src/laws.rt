@@ -4,8 +4,8 @@ ghost use Rattle.std.specs.Prelude.{[], ◌∷◌, codes};
 ghost use Rattle.clap.specs.declared.error.kind.ErrorKind.TheVariants.{DisplayHelp, DisplayVersion, MissingRequiredArgument};
 ghost use Rattle.arbiter_words.specs.Plans.{AreRefused, AskFor, PlansAreNamed, VerifyAsBare, VerifyIsAsSpelled};
 
-/// No words, `session` alone and `verify` alone are taken, and ask for what they say; `verify` alone
-/// tells none of its words.
+/// No words, `session` alone and `verify` alone are taken, and ask for what they say; `verify` alone sets none of its
+/// flags.
 pub fn plain_words_are_taken()
     ensures none { AskFor [] (codes "session") }
     ensures session { AskFor (codes "session" ∷ []) (codes "session") }
@@ -25,7 +25,7 @@ pub fn plans_are_named()
     ensures { PlansAreNamed }
 {}
 
-/// A plan to verify is told by the words behind `verify`.
+/// A plan to verify has the flags that the words after `verify` set.
 pub fn verify_is_as_spelled()
     ensures { VerifyIsAsSpelled }
 {}

@@ -30,13 +30,13 @@ pub struct MatchPlan<'a> {
 /// How the games on the standard input are verified.
 #[derive(Clone, Copy, Debug, PartialEq, Eq)]
 pub struct VerifyPlan {
-    /// Whether a fault is gone on behind, at the next line that begins with `[Event `, and the games are counted at
-    /// the end.
+    /// Whether verifying continues after a fault, with the next line that begins with `[Event `, and writes totals
+    /// at the end.
     pub keep_going: bool,
-    /// Whether the lines of games without a fault are left out.
+    /// Whether only games with a fault are written.
     pub quiet: bool,
-    /// Whether the text may have any length, with each game of it in 16,777,216 bytes.
-    pub any_size: bool,
+    /// Whether the result is also checked against the tag Result and the final position.
+    pub strict: bool,
 }
 
 /// What the words ask for.

@@ -40,21 +40,21 @@ fn text_or<'a>(found: &ArgMatches<'a>, name: &str, default: &'a str) -> &'a str
     }
 }
 
-// Whether a word that takes no text was given.
+// Whether a flag was given.
 fn is_set(found: &ArgMatches<'_>, name: &str) -> bool
     ensures { result ≡ is_set name.now (rows_of (found_of found.now)) }
 {
     text_or(found, name, "false") == "true"
 }
 
-// How to verify.
+// What the flags of `verify` ask for.
 fn verify_plan(found: &ArgMatches<'_>) -> VerifyPlan
     ensures { result ≡ verify_plan_of (rows_of (found_of found.now)) }
 {
     VerifyPlan {
         keep_going: is_set(found, "keep-going"),
         quiet: is_set(found, "quiet"),
-        any_size: is_set(found, "any-size"),
+        strict: is_set(found, "strict"),
     }
 }
 

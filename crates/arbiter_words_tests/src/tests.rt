@@ -18,48 +18,48 @@ fn plans_without_arguments(rt: HostRuntime) -> Result<(), Fail> {
     Ok(())
 }
 
-// Words of `verify`, and whether it goes on, is quiet, and takes any size.
+// Words of `verify`, and the flags that they set: keep-going, quiet, strict.
 const VERIFY: [(&[&str], bool, bool, bool); 14] = [
     (&["verify"], false, false, false),
     (&["verify", "--keep-going"], true, false, false),
     (&["verify", "--quiet"], false, true, false),
-    (&["verify", "--any-size"], false, false, true),
+    (&["verify", "--strict"], false, false, true),
     (&["verify", "--keep-going", "--quiet"], true, true, false),
     (&["verify", "--quiet", "--keep-going"], true, true, false),
-    (&["verify", "--any-size", "--quiet"], false, true, true),
-    (&["verify", "--keep-going", "--any-size"], true, false, true),
+    (&["verify", "--strict", "--quiet"], false, true, true),
+    (&["verify", "--keep-going", "--strict"], true, false, true),
     (
-        &["verify", "--any-size", "--keep-going", "--quiet"],
+        &["verify", "--strict", "--keep-going", "--quiet"],
         true,
         true,
         true,
     ),
     (
-        &["verify", "--any-size", "--quiet", "--keep-going"],
+        &["verify", "--strict", "--quiet", "--keep-going"],
         true,
         true,
         true,
     ),
     (
-        &["verify", "--keep-going", "--any-size", "--quiet"],
+        &["verify", "--keep-going", "--strict", "--quiet"],
         true,
         true,
         true,
     ),
     (
-        &["verify", "--quiet", "--any-size", "--keep-going"],
+        &["verify", "--quiet", "--strict", "--keep-going"],
         true,
         true,
         true,
     ),
     (
-        &["verify", "--keep-going", "--quiet", "--any-size"],
+        &["verify", "--keep-going", "--quiet", "--strict"],
         true,
         true,
         true,
     ),
     (
-        &["verify", "--quiet", "--keep-going", "--any-size"],
+        &["verify", "--quiet", "--keep-going", "--strict"],
         true,
         true,
         true,
@@ -69,7 +69,7 @@ const VERIFY: [(&[&str], bool, bool, bool); 14] = [
 // The words of `verify` go together in any order.
 #[test]
 fn verify_by_its_words(rt: HostRuntime) -> Result<(), Fail> {
-    for (words, keep_going, quiet, any_size) in &VERIFY {
+    for (words, keep_going, quiet, strict) in &VERIFY {
         let Plan::Verify(plan) = read_words(rt.alloc(), words)? else {
             return Err(Fail::new("another plan"));
         };
@@ -78,7 +78,7 @@ fn verify_by_its_words(rt: HostRuntime) -> Result<(), Fail> {
             VerifyPlan {
                 keep_going: *keep_going,
                 quiet: *quiet,
-                any_size: *any_size,
+                strict: *strict,
             }
         );
     }
@@ -265,7 +265,7 @@ fn faults_are_told(rt: HostRuntime) -> Result<(), Fail> {
     Ok(())
 }
 
-const OTHERS: [(&[&str], i32); 33] = [
+const OTHERS: [(&[&str], i32); 34] = [
     (&["match", "--white", "x"], 2),
     (
         &["match", "--white", "x", "--white", "y", "--black", "z"],
@@ -319,11 +319,12 @@ const OTHERS: [(&[&str], i32); 33] = [
     (&["verify", "--keep"], 2),
     (&["verify", "--quiet=true"], 2),
     (&["verify", "--quiet", "--quiet"], 2),
-    (&["verify", "--any"], 2),
-    (&["verify", "--any-size=true"], 2),
-    (&["verify", "--any-size", "--any-size"], 2),
-    (&["verify", "--any-size", "16"], 2),
-    (&["session", "--any-size"], 2),
+    (&["verify", "--stric"], 2),
+    (&["verify", "--strict=true"], 2),
+    (&["verify", "--strict", "--strict"], 2),
+    (&["verify", "--strict", "16"], 2),
+    (&["verify", "--any-size"], 2),
+    (&["session", "--strict"], 2),
     (&["session", "--quiet"], 2),
     (&["verify", "--quiet", "--help"], 0),
     (&["--white", "x"], 2),

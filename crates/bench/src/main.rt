@@ -9,7 +9,7 @@ mod lines;
 mod relay;
 
 use chess_base::Position;
-use chess_bits::Bits;
+use chess_bits::{AttackTables, Bits};
 use chess_fen::read_fen;
 use chess_game::{Game, MOST_MOVES};
 use chess_moves::Board;
@@ -67,7 +67,8 @@ fn measure_lines(rt: &HostRuntime, depth: u8, fen: &[u8]) -> io::Result<ExitCode
     let Some(start) = start_of(fen) else {
         return misused(rt);
     };
-    let mut board = Bits::open(rt.alloc())?;
+    let tables = AttackTables::open(rt.alloc())?;
+    let mut board = Bits::new(&tables);
     board.set(&start);
     let begun = Instant::now(rt)?;
     let count = count_lines(&mut board, depth);
@@ -77,18 +78,19 @@ fn measure_lines(rt: &HostRuntime, depth: u8, fen: &[u8]) -> io::Result<ExitCode
     Ok(ExitCode::SUCCESS)
 }
 
-fn open_game(alloc: Global) -> Result<Game<Bits>, AllocError> {
-    Game::open(alloc, Bits::open(alloc)?, MOST_MOVES)
+fn open_game<'t>(alloc: Global, tables: &'t AttackTables) -> Result<Game<Bits<'t>>, AllocError> {
+    Game::open(alloc, Bits::new(tables), MOST_MOVES)
 }
 
 // Reads the games of a text.
 fn measure_games(rt: &HostRuntime, text: &[u8]) -> io::Result<ExitCode> {
-    let mut game = open_game(rt.alloc())?;
+    let tables = AttackTables::open(rt.alloc())?;
+    let mut game = open_game(rt.alloc(), &tables)?;
     time_games(rt, text, &mut game)
 }
 
 // The same on a game that is open.
-fn time_games(rt: &HostRuntime, text: &[u8], game: &mut Game<Bits>) -> io::Result<ExitCode> {
+fn time_games(rt: &HostRuntime, text: &[u8], game: &mut Game<Bits<'_>>) -> io::Result<ExitCode> {
     let begun = Instant::now(rt)?;
     match read_games(text, game) {
         Ok(tally) => {
@@ -109,19 +111,20 @@ const MATCH_LEN: usize = 500;
 
 // Plays a match between two engines in memory so many times.
 fn measure_matches(rt: &HostRuntime, times: u32) -> io::Result<ExitCode> {
-    let mut game = open_game(rt.alloc())?;
-    let mut scratch = Bits::open(rt.alloc())?;
+    let tables = AttackTables::open(rt.alloc())?;
+    let mut game = open_game(rt.alloc(), &tables)?;
+    let mut scratch = Bits::new(&tables);
     let script = write_script(rt.alloc(), &mut game, MATCH_LEN)?;
     time_matches(rt, times, &script, &mut game, &mut scratch)
 }
 
 // The same with all that it takes.
-fn time_matches(
+fn time_matches<'t>(
     rt: &HostRuntime,
     times: u32,
     script: &Script,
-    game: &mut Game<Bits>,
-    scratch: &mut Bits,
+    game: &mut Game<Bits<'t>>,
+    scratch: &mut Bits<'t>,
 ) -> io::Result<ExitCode> {
     let Some(level) = Level::read(b"0 60 0") else {
         return misused(rt);
@@ -135,13 +138,13 @@ fn time_matches(
 }
 
 // The half-moves of so many matches.
-fn play_matches(
+fn play_matches<'t>(
     alloc: Global,
     times: u32,
     script: &Script,
     level: Level,
-    game: &mut Game<Bits>,
-    scratch: &mut Bits,
+    game: &mut Game<Bits<'t>>,
+    scratch: &mut Bits<'t>,
 ) -> u64 {
     let mut half_moves: u64 = 0;
     for _ in 0..times {

@@ -1,7 +1,7 @@
 ghost use Rattle.std.specs.Prelude.{◌≡◌, OnOk};
 
 use chess_base::{Move, Position, Square, Variant};
-use chess_bits::Bits;
+use chess_bits::{AttackTables, Bits};
 use chess_fen::{read_fen, read_fen_as};
 use chess_moves::{Board, Plain, make_then_take_back};
 use std::process::Abort;
@@ -119,14 +119,16 @@ fn plain_counts_lines_of_chess960(rt: HostRuntime) -> Result<(), Fail> {
 
 #[test]
 fn bits_count_lines_of_normal_chess(rt: HostRuntime) -> Result<(), Fail> {
-    let mut board = Bits::open(rt.alloc()).ok().ok_or("memory")?;
+    let tables = AttackTables::open(rt.alloc()).ok().ok_or("memory")?;
+    let mut board = Bits::new(&tables);
     assert!(rt; board.position() == Position::initial());
     count(&rt, &mut board, Variant::Normal, NORMAL.as_slice(), 4)
 }
 
 #[test]
 fn bits_count_lines_of_chess960(rt: HostRuntime) -> Result<(), Fail> {
-    let mut board = Bits::open(rt.alloc()).ok().ok_or("memory")?;
+    let tables = AttackTables::open(rt.alloc()).ok().ok_or("memory")?;
+    let mut board = Bits::new(&tables);
     count(
         &rt,
         &mut board,
@@ -203,7 +205,8 @@ fn tells_words_on_the_way<B: Board>(rt: &impl Abort, board: &mut B) -> Result<()
 fn words_are_those_counted_apart(rt: HostRuntime) -> Result<(), Fail> {
     tells_words(&rt, &mut Plain::new())?;
     tells_words_on_the_way(&rt, &mut Plain::new())?;
-    let mut bits = Bits::open(rt.alloc()).ok().ok_or("memory")?;
+    let tables = AttackTables::open(rt.alloc()).ok().ok_or("memory")?;
+    let mut bits = Bits::new(&tables);
     tells_words(&rt, &mut bits)?;
     tells_words_on_the_way(&rt, &mut bits)
 }

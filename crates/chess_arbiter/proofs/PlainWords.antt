@@ -1,8 +1,8 @@
 -- What no words, `session` and `verify` do.
-use Rattle.std.proofs.Common.{◌≡◌, ◌∙◌, ◌<◌, ℕ, false, List, [], length, lit<, codes, Result, Ok, Err, refl, sym, ap, subst, inl, arith}
+use Rattle.std.proofs.Common.{◌≡◌, ◌∙◌, ◌<◌, ℕ, List, [], length, lit<, codes, Result, Ok, Err, refl, sym, ap, subst, inl, arith}
 use Rattle.clap.specs.Words.{IsAmong, Text, kind_of}
 use Rattle.arbiter_words.specs.Grammar.{asked}
-use Rattle.arbiter_words.specs.Plans.{AskFor, IsReading, PlansAreNamed, VerifyAsBare, VerifyIsAsSpelled, command_name}
+use Rattle.arbiter_words.specs.Plans.{AskFor, IsReading, PlansAreNamed, VerifyAsBare, VerifyIsAsSpelled, bare_plan, command_name}
 use Rattle.arbiter_words.specs.declared.fault.WordsFault.{WordsFault}
 use Rattle.arbiter_words.specs.declared.fault.WordsFault.TheVariants as words
 use Rattle.arbiter_words.specs.declared.plan.Plan.{Plan}
@@ -11,7 +11,7 @@ use Rattle.arbiter_words.specs.declared.plan.Plan.TheVariants.{Session, Verify, 
 use Rattle.byte_devices.specs.Devices.{InputState, OutputState}
 use Rattle.byte_devices.proofs.DeviceLaws.{consumes_none}
 use Rattle.chess_arbiter.specs.laws.Laws.{ServesSession, VerifiesGames}
-use Rattle.chess_arbiter.specs.Program.{RanPlan, RanSession, RanVerify, RanVerifyAt, RanVerifyIf, has_words}
+use Rattle.chess_arbiter.specs.Program.{RanPlan, RanSession, RanVerify}
 use Rattle.pgn_verifier.specs.Verify.{LacksMemory}
 use Rattle.pgn_verifier.specs.declared.fault.VerifyFault.TheVariants as verifying
 use Rattle.chess_arbiter.specs.declared.fault.ProgramFault.TheVariants.{NoMemory}
@@ -62,7 +62,7 @@ nothing_read r r' same =
     (inl ([], record { bytes = consumes_none r.known_bytes; failures = refl; ends = refl }))
 
 verify_or_want : (fault : WordsFault) (r r' : InputState) (w w' : OutputState) (status : ℕ) → IsWant fault
-    → RanPlan (Err fault) r r' w w' status → RanVerify r r' w w' status
+    → RanPlan (Err fault) r r' w w' status → RanVerify bare_plan r r' w w' status
 verify_or_want words.NoMemory r r' w w' status want (same, (kept, is)) =
     (Err verifying.NoMemory, (nothing_read r r' same, kept), is)
 verify_or_want (words.Words e) r r' w w' status want ran = absurd want
@@ -86,24 +86,19 @@ serves named ws a (Ok (Match m)) is r r' w w' status ran =
 serves named ws a (Err fault) is r r' w w' status ran =
     session_or_want fault r r' w w' status (refused_word ws (codes "session") fault a no_match_by_session is) ran
 
--- `verify` alone has none of its words
-without_words : VerifyIsAsSpelled → (words : List Text) (v : VerifyPlan) → VerifyAsBare words
-    → IsReading words (Ok (Verify v)) → has_words v ≡ false
-without_words spelled ws v bare (names, are, (none, is)) = ap has_words (spelled (asked names ws) v is ∙ bare names)
-
-kept_whole : VerifyIsAsSpelled → (words : List Text) (v : VerifyPlan) → VerifyAsBare words
-    → IsReading words (Ok (Verify v)) → v.any_size ≡ false
-kept_whole spelled ws v bare (names, are, (none, is)) =
-    ap (λ (u : VerifyPlan). u.any_size) (spelled (asked names ws) v is ∙ bare names)
+-- `verify` alone sets none of its flags
+without_flags : VerifyIsAsSpelled → (words : List Text) (v : VerifyPlan) → VerifyAsBare words
+    → IsReading words (Ok (Verify v)) → v ≡ bare_plan
+without_flags spelled ws v bare (names, are, (none, is)) = spelled (asked names ws) v is ∙ bare names
 
 verifies : PlansAreNamed → VerifyIsAsSpelled → (words : List Text) → AskFor words (codes "verify") → VerifyAsBare words
     → (read : Result Plan WordsFault) → IsReading words read
-    → (r r' : InputState) (w w' : OutputState) (status : ℕ) → RanPlan read r r' w w' status → RanVerify r r' w w' status
+    → (r r' : InputState) (w w' : OutputState) (status : ℕ) → RanPlan read r r' w w' status
+    → RanVerify bare_plan r r' w w' status
 verifies named spelled ws a bare (Ok Session) is r r' w w' status ran =
     absurd (shorter (codes "verify") (codes "session") (lit< tt) (read_word named ws (codes "verify") Session a is))
 verifies named spelled ws a bare (Ok (Verify v)) is r r' w w' status ran =
-    subst (λ b. RanVerifyIf b v r r' w w' status) (without_words spelled ws v bare is)
-    (subst (λ b. RanVerifyAt b v r r' w w' status) (kept_whole spelled ws v bare is) ran)
+    subst (λ (plan : VerifyPlan). RanVerify plan r r' w w' status) (without_flags spelled ws v bare is) ran
 verifies named spelled ws a bare (Ok (Stub s)) is r r' w w' status ran =
     absurd (shorter (codes "stub") (codes "verify") (lit< tt) (sym (read_word named ws (codes "verify") (Stub s) a is)))
 verifies named spelled ws a bare (Ok (Match m)) is r r' w w' status ran =

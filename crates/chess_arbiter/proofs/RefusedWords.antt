@@ -1,5 +1,5 @@
 -- What words do that ask for no plan.
-use Rattle.std.proofs.Common.{◌≡◌, ◌≢◌, ◌∙◌, ◌⊎◌, ℕ, List, [], ◌∷◌, Result, Ok, Err, sym, subst, inl, inr}
+use Rattle.std.proofs.Common.{◌≡◌, ◌≢◌, ◌∙◌, ◌⊎◌, ℕ, List, [], ◌∷◌, Ok, Err, sym, subst, inl, inr}
 use Rattle.clap.specs.Words.{IsAmong, Kinds, Text, kind_of}
 use Rattle.clap.specs.declared.error.kind.ErrorKind.{ErrorKind}
 use Rattle.clap.specs.declared.error.kind.ErrorKind.TheVariants.{DisplayHelp, DisplayVersion}
@@ -7,9 +7,9 @@ use Rattle.arbiter_words.specs.Plans.{AreRefused, IsReading}
 use Rattle.arbiter_words.specs.declared.fault.WordsFault.{WordsFault}
 use Rattle.arbiter_words.specs.declared.fault.WordsFault.TheVariants as words
 use Rattle.arbiter_words.specs.declared.plan.Plan.{Plan}
-use Rattle.byte_devices.specs.Devices.{InputState, OutputState}
+use Rattle.byte_devices.specs.Devices.{OutputState}
 use Rattle.chess_arbiter.specs.laws.Laws.{RefusesWords, ShowsHelp}
-use Rattle.chess_arbiter.specs.Program.{RanHelp, RanPlan, ToldWords}
+use Rattle.chess_arbiter.specs.Program.{RanHelp, ToldWords}
 use Rattle.chess_arbiter.specs.declared.fault.ProgramFault.TheVariants.{NoMemory}
 
 no_fault : (k : ErrorKind) (kinds : Kinds) → kinds ≡ [] → kinds ≡ k ∷ [] → ⊥

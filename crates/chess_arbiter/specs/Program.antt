@@ -1,5 +1,5 @@
 -- What the program does with its words and its devices.
-use Rattle.std.specs.Prelude.{◌≡◌, ◌≢◌, ◌⊎◌, ◌||◌, ℕ, Bool, true, false, List, Result, Ok, Err}
+use Rattle.std.specs.Prelude.{◌≡◌, ◌≢◌, ◌⊎◌, ℕ, Bool, true, false, List, Result, Ok, Err}
 use Rattle.clap.specs.Words.{Text, kind_of}
 use Rattle.clap.specs.declared.error.kind.ErrorKind.TheVariants.{DisplayHelp, DisplayVersion}
 use Rattle.arbiter_words.specs.Plans.{IsReading}
@@ -19,10 +19,9 @@ use Rattle.arbiter_words.specs.declared.plan.VerifyPlan.{VerifyPlan}
 use Rattle.pgn_verifier.specs.declared.fault.VerifyFault.{VerifyFault}
 use Rattle.pgn_verifier.specs.declared.fault.VerifyFault.TheVariants as verifying
 use Rattle.pgn_verifier.specs.declared.options.VerifyOptions.{VerifyOptions}
-use Rattle.pgn_verifier.specs.declared.whole.Verified.{Verified}
-use Rattle.pgn_verifier.specs.declared.whole.Verified.TheVariants.{EachGame, FaultTold}
-use Rattle.pgn_verifier.specs.AnySize.{VerifiesAny}
-use Rattle.pgn_verifier.specs.Collection.{VerifiesBy}
+use Rattle.pgn_verifier.specs.declared.tally.Verified.{Verified}
+use Rattle.pgn_verifier.specs.declared.tally.Verified.TheVariants.{EachGame, FaultTold}
+use Rattle.pgn_verifier.specs.Collection.{VerifiesCollection}
 use Rattle.pgn_verifier.specs.Verify.{Verifies}
 use Rattle.chess_arbiter.specs.Games.{RanGames}
 use Rattle.chess_arbiter.specs.declared.games.GamesFault.{GamesFault}
@@ -77,38 +76,20 @@ abbrev pub RanSession : InputState → InputState → OutputState → OutputStat
 RanSession r r' w w' status = (outcome : Result End ProgramFault) × Served r r' w w' outcome
     × (status ≡ status_of outcome)
 
--- the games of the input were verified, and the status tells whether there was a fault
-abbrev pub RanVerify : InputState → InputState → OutputState → OutputState → ℕ → Type 0
-RanVerify r r' w w' status = (outcome : Result Verified VerifyFault) × Verifies r r' w w' outcome
-    × (status ≡ verify_status outcome)
-
--- the options that the words of `verify` ask for
+-- what the flags of `verify` ask for
 abbrev pub options_of : VerifyPlan → VerifyOptions
-options_of plan = record { keep_going = plan.keep_going; quiet = plan.quiet }
+options_of plan = record { quiet = plan.quiet; strict = plan.strict }
 
--- they were verified by words of `verify`
-abbrev pub RanVerifyBy : VerifyPlan → InputState → InputState → OutputState → OutputState → ℕ → Type 0
-RanVerifyBy plan r r' w w' status = (outcome : Result Verified VerifyFault)
-    × VerifiesBy (options_of plan) r r' w w' outcome × (status ≡ verify_status outcome)
+-- the games of the input were verified: piece by piece, or as one text up to its first fault
+abbrev pub VerifiesAs : Bool → VerifyOptions → InputState → InputState → OutputState → OutputState
+    → Result Verified VerifyFault → Type 0
+VerifiesAs true options r r' w w' outcome = VerifiesCollection options r r' w w' outcome
+VerifiesAs false options r r' w w' outcome = Verifies options r r' w w' outcome
 
--- `verify` has any of its words on what is told
-abbrev pub has_words : VerifyPlan → Bool
-has_words plan = plan.keep_going || plan.quiet
-
--- with words or with none
-abbrev pub RanVerifyIf : Bool → VerifyPlan → InputState → InputState → OutputState → OutputState → ℕ → Type 0
-RanVerifyIf true plan r r' w w' status = RanVerifyBy plan r r' w w' status
-RanVerifyIf false plan r r' w w' status = RanVerify r r' w w' status
-
--- they were verified at any size
-abbrev pub RanVerifyAny : VerifyPlan → InputState → InputState → OutputState → OutputState → ℕ → Type 0
-RanVerifyAny plan r r' w w' status = (outcome : Result Verified VerifyFault)
-    × VerifiesAny (options_of plan) r r' w w' outcome × (status ≡ verify_status outcome)
-
--- at any size, or with as many bytes as are kept as a whole
-abbrev pub RanVerifyAt : Bool → VerifyPlan → InputState → InputState → OutputState → OutputState → ℕ → Type 0
-RanVerifyAt true plan r r' w w' status = RanVerifyAny plan r r' w w' status
-RanVerifyAt false plan r r' w w' status = RanVerifyIf (has_words plan) plan r r' w w' status
+-- they were, and the status tells whether there was a fault
+abbrev pub RanVerify : VerifyPlan → InputState → InputState → OutputState → OutputState → ℕ → Type 0
+RanVerify plan r r' w w' status = (outcome : Result Verified VerifyFault)
+    × VerifiesAs plan.keep_going (options_of plan) r r' w w' outcome × (status ≡ verify_status outcome)
 
 -- a text of help was written and flushed, or a beginning of it was written, or there was no memory for it
 abbrev pub Shown : {A : Type 0} → OutputState → OutputState → Result A ProgramFault → Type 0
@@ -156,7 +137,7 @@ RanMatch plan w w' status = (outcome : Result (Unit {0}) GamesFault) × RanGames
 -- what the words ask for was done, or was told why they ask for nothing
 abbrev pub RanPlan : Result Plan WordsFault → InputState → InputState → OutputState → OutputState → ℕ → Type 0
 RanPlan (Ok Session) r r' w w' status = RanSession r r' w w' status
-RanPlan (Ok (Verify plan)) r r' w w' status = RanVerifyAt plan.any_size plan r r' w w' status
+RanPlan (Ok (Verify plan)) r r' w w' status = RanVerify plan r r' w w' status
 RanPlan (Ok (Stub words)) r r' w w' status = RanStub words.items r r' w w' status
 RanPlan (Ok (Match plan)) r r' w w' status = (r' ≡ r) × RanMatch plan w w' status
 RanPlan (Err fault) r r' w w' status = (r' ≡ r) × ToldWords fault w w' status

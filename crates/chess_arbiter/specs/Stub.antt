@@ -10,7 +10,7 @@ use Rattle.chess_cecp.specs.Lines.{LineSeen, whole}
 use Rattle.chess_cecp.specs.Next.{before_piece}
 use Rattle.chess_cecp.specs.Run.{FitsDevices, LeavesUnflushed, Transcript, lines_given}
 use Rattle.chess_cecp.specs.declared.command.Command.{Command}
-use Rattle.chess_cecp.specs.declared.command.Command.TheVariants.{New, UserMove, Ping, Protover, Go, Quit, Silent}
+use Rattle.chess_cecp.specs.declared.command.Command.TheVariants.{New, UserMove, Ping, Protover, Go, Quit, Silent, Unknown}
 use Rattle.chess_arbiter.specs.declared.stub.Stub.{Stub}
 use Rattle.chess_arbiter.specs.declared.stub.Onward.{Onward}
 use Rattle.chess_arbiter.specs.declared.stub.Onward.TheVariants.{On, Over}
@@ -87,13 +87,18 @@ stopped s = record { words = s.words; plays = false }
 abbrev pub features : List ℕ
 features = codes "feature ping=1 setboard=1 usermove=1 myname=\"stub\" done=1" ++ new_line ∷ []
 
--- one row for each command; of all others it says nothing
+-- a move of the other side: while it plays, it is its turn
+abbrev pub moved : StubState → Reply
+moved s = if s.plays then turn s.words else says s []
+
+-- one row for each command, `usermove` without a move among them; at all others it says nothing
 abbrev pub row : StubState → List ℕ → Command → Reply
 row s text (Protover n) = says s features
 row s text (Ping n) = says s (codes "pong " ++ (decimal n ++ new_line ∷ []))
 row s text New = says (stopped s) []
 row s text Go = turn s.words
-row s text UserMove = if s.plays then turn s.words else says s []
+row s text UserMove = moved s
+row s text Unknown = if bytes_eq (word_of text) (codes "usermove") then moved s else says s []
 row s text Quit = record { text = []; state = s; ends = true }
 row s text Silent = if bytes_eq (word_of text) (codes "force") then says (stopped s) [] else says s []
 row s text _ = says s []

@@ -20,8 +20,7 @@ pub enum ProgramFault {
     /// There was no memory.
     #[error("no memory")]
     NoMemory,
-    /// The text of games is longer than 16,777,216 bytes, or where any size is taken, so long that places in it could
-    /// pass 64 bits.
+    /// The text of games is longer than 16,777,216 bytes, or a collection of nearly 2^63.
     #[error("input too long")]
     InputTooLong,
     /// The program's words could not be had, as where one of them is no UTF-8.

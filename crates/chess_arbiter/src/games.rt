@@ -15,7 +15,7 @@ use crate::score::Score;
 use arbiter_words::MatchPlan;
 use byte_devices::{Counted, Input, Output, WriteFault, put};
 use chess_base::Colour;
-use chess_bits::Bits;
+use chess_bits::{AttackTables, Bits};
 use chess_game::{Game, MOST_MOVES};
 use chess_match::{Ends, MatchEnd, MatchFault, Moments, Reason, Setup, run_match};
 use chess_pgn::{TagText, Tags, write_pgn};
@@ -110,14 +110,14 @@ fn tags_of(plan: &MatchPlan<'_>, number: u32, end: &MatchEnd) -> Tags
 }
 
 // One game between two engines that run; both are ended.
-fn play_game<C: Clock, P: OpenProcess + Drop, M: Moments>(
+fn play_game<'t, C: Clock, P: OpenProcess + Drop, M: Moments>(
     rt: &C,
     white: Engine<P>,
     black: Engine<P>,
     moments: &mut M,
     setup: &Setup,
-    game: &mut Game<Bits>,
-    scratch: &mut Bits,
+    game: &mut Game<Bits<'t>>,
+    scratch: &mut Bits<'t>,
 ) -> MatchEnd
     ensures played { IsMatchEnd setup.now.start setup.now.level game.old game.new result }
     ensures sides { IsMatchEndOf setup.now.start setup.now.level game.old game.new result
@@ -163,9 +163,9 @@ fn play_game<C: Clock, P: OpenProcess + Drop, M: Moments>(
 }
 
 // Writes a game's text and hands it on.
-fn write_game<W: Output>(
-    game: &Game<Bits>,
-    scratch: &mut Bits,
+fn write_game<'t, W: Output>(
+    game: &Game<Bits<'t>>,
+    scratch: &mut Bits<'t>,
     tags: &Tags,
     output: &mut W,
 ) -> Result<(), WriteFault>
@@ -217,14 +217,14 @@ fn start_both<'a, P: Processes + Clock>(
 }
 
 // Plays the game with that number, writes its text and hands it on.
-fn play_one<'a, P: Processes + Clock, M: Moments, W: Output>(
+fn play_one<'a, 't, P: Processes + Clock, M: Moments, W: Output>(
     rt: &P,
     alloc: Global,
     plan: &MatchPlan<'a>,
     number: u32,
     moments: &mut M,
-    game: &mut Game<Bits>,
-    scratch: &mut Bits,
+    game: &mut Game<Bits<'t>>,
+    scratch: &mut Bits<'t>,
     output: &mut W,
 ) -> Result<MatchEnd, GamesFault<'a>>
     requires limit { game.old.limit ≡ MOST_MOVES }
@@ -260,13 +260,13 @@ struct Played {
 }
 
 // Plays game after game, up to the first with a fault.
-fn play_each<'a, P: Processes + Clock, M: Moments, W: Output>(
+fn play_each<'a, 't, P: Processes + Clock, M: Moments, W: Output>(
     rt: &P,
     alloc: Global,
     plan: &MatchPlan<'a>,
     moments: &mut M,
-    game: &mut Game<Bits>,
-    scratch: &mut Bits,
+    game: &mut Game<Bits<'t>>,
+    scratch: &mut Bits<'t>,
     output: &mut W,
 ) -> Result<Played, GamesFault<'a>>
     requires { game.old.limit ≡ MOST_MOVES }
@@ -291,12 +291,11 @@ fn play_each<'a, P: Processes + Clock, M: Moments, W: Output>(
     Ok(Played { score, fault: None })
 }
 
-// A game with its board.
-fn open_game(alloc: Global) -> Result<Game<Bits>, AllocError>
+// A game with its board, over those tables.
+fn open_game<'t>(alloc: Global, tables: &'t AttackTables) -> Result<Game<Bits<'t>>, AllocError>
     ensures { IfOk result (λ g. g.limit ≡ MOST_MOVES) }
 {
-    let board = Bits::open(alloc)?;
-    Game::open(alloc, board, MOST_MOVES)
+    Game::open(alloc, Bits::new(tables), MOST_MOVES)
 }
 
 /// Plays the games of a match, with colours changed after each, and writes each game's text and then the score.
@@ -312,12 +311,13 @@ pub(crate) fn play_games<'a, P: Processes + Clock, W: Output>(
 ) -> Result<(), GamesFault<'a>>
     ensures { RanGames plan.now (W.seen output.old) (W.seen output.new) result }
 {
-    let Ok(mut scratch) = Bits::open(alloc) else {
+    let Ok(tables) = AttackTables::open(alloc) else {
         return Err(GamesFault::NoMemory);
     };
-    let Ok(mut game) = open_game(alloc) else {
+    let Ok(mut game) = open_game(alloc, &tables) else {
         return Err(GamesFault::NoMemory);
     };
+    let mut scratch = Bits::new(&tables);
     let mut moments = SinceStart::new(rt);
     let played = match play_each(
         rt,

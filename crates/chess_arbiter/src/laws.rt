@@ -5,7 +5,7 @@ ghost use Rattle.chess_base.specs.declared.setup.TheConstants.{COUNTER_LIMIT};
 ghost use Rattle.chess_game.specs.declared.game.TheConstants.{MOST_MOVES};
 ghost use Rattle.chess_cecp.specs.declared.session.TheConstants.{COMMAND_LEN};
 ghost use Rattle.chess_match.specs.declared.run.TheConstants.{ENGINE_LINE_LEN};
-ghost use Rattle.pgn_stream.specs.declared.stream.TheConstants.{GAME_LEN};
+ghost use Rattle.pgn_pieces.specs.declared.pieces.TheConstants.{PIECE_LEN};
 ghost use Rattle.chess_arbiter.specs.laws.Laws.{RefusesWords, ServesSession, ShowsHelp, VerifiesGames};
 
 use arbiter_words::{
@@ -36,11 +36,11 @@ pub fn refused_words_are_told()
 }
 
 /// The limits that definitions name by their constants: 20,000 half-moves of a game, 999,999 of a FEN's counters, 1,024
-/// bytes of a session's line, 8,192 of an engine's, and 16,777,216 of a game with what stands before it.
+/// bytes of a session's line, 8,192 of an engine's, and 16,777,216 of a piece of a collection.
 pub fn limits_are_as_told()
     ensures moves { MOST_MOVES ≡ 20000 }
     ensures counters { COUNTER_LIMIT ≡ 999999 }
     ensures commands { COMMAND_LEN ≡ 1024 }
     ensures engine_lines { ENGINE_LINE_LEN ≡ 8192 }
-    ensures games { GAME_LEN ≡ 16777216 }
+    ensures pieces { PIECE_LEN ≡ 16777216 }
 {}

@@ -4,7 +4,7 @@ ghost use Rattle.std.specs.Prelude.{◌≡◌, IfOk, Ok, Err, map};
 ghost use Rattle.byte_devices.specs.Devices.{Sends};
 ghost use Rattle.chess_cecp.specs.Held.{opened_session};
 ghost use Rattle.chess_pgn.specs.Tags.{default_tags};
-ghost use Rattle.chess_arbiter.specs.Program.{Served, Shown, RanHelp, RanMatch, RanProgram, RanSession, RanStub, RanVerify, RanVerifyAny, RanVerifyAt, RanVerifyBy, RanVerifyIf, ToldWords, has_words, options_of, program_fault, verify_status};
+ghost use Rattle.chess_arbiter.specs.Program.{Served, Shown, RanHelp, RanMatch, RanProgram, RanSession, RanStub, RanVerify, ToldWords, VerifiesAs, options_of, program_fault, verify_status};
 ghost use Rattle.chess_game.specs.declared.game.TheConstants.{MOST_MOVES};
 
 use crate::fault::{ProgramFault, tell_text, told};
@@ -12,22 +12,25 @@ use crate::games::play_games;
 use crate::stub::{StubFault, run_stub};
 use arbiter_words::{MatchPlan, Plan, VerifyPlan, WordsFault, read_words};
 use byte_devices::{Input, Output, WriteFault, put};
-use chess_bits::Bits;
+use chess_bits::{AttackTables, Bits};
 use chess_cecp::{End, Fault, Session, run_session};
 use chess_game::MOST_MOVES;
 use chess_pgn::Tags;
-use pgn_verifier::{Verified, VerifyFault, VerifyOptions, verify, verify_any_size, verify_by};
+use pgn_verifier::{Verified, VerifyFault, VerifyOptions, verify, verify_collection};
 use std::alloc::{AllocError, Global};
 use std::fmt::Display;
 use std::process::Processes;
 use std::rt::Clock;
 
-// A session as `new` leaves it, with its boards.
-fn open_session(alloc: Global) -> Result<Session<Bits>, AllocError>
+// A session as `new` leaves it, with its boards, which share those tables.
+fn open_session<'t>(
+    alloc: Global,
+    tables: &'t AttackTables,
+) -> Result<Session<Bits<'t>>, AllocError>
     ensures { IfOk result (λ s. s ≡ opened_session default_tags MOST_MOVES) }
 {
-    let board = Bits::open(alloc)?;
-    let scratch = Bits::open(alloc)?;
+    let board = Bits::new(tables);
+    let scratch = Bits::new(tables);
     Session::open(alloc, board, scratch, Tags::default(), MOST_MOVES)
 }
 
@@ -39,7 +42,10 @@ fn serve<R: Input, W: Output>(
 ) -> Result<End, ProgramFault>
     ensures { Served (R.seen input.old) (R.seen input.new) (W.seen output.old) (W.seen output.new) result }
 {
-    let Ok(mut session) = open_session(alloc) else {
+    let Ok(tables) = AttackTables::open(alloc) else {
+        return Err(ProgramFault::NoMemory);
+    };
+    let Ok(mut session) = open_session(alloc, &tables) else {
         return Err(ProgramFault::NoMemory);
     };
     match run_session(input, output, &mut session) {
@@ -76,7 +82,7 @@ fn program_fault(fault: VerifyFault) -> ProgramFault
     }
 }
 
-// Tells why games were not verified, with the status.
+// Reports why games were not verified, and returns the status.
 fn not_verified<E: Output>(errors: &mut E, fault: VerifyFault) -> u8
     ensures { result ≡ verify_status (Err fault) }
 {
@@ -84,23 +90,7 @@ fn not_verified<E: Output>(errors: &mut E, fault: VerifyFault) -> u8
     told(errors, &fault, fault.status())
 }
 
-// The games of the input verified, with the status.
-fn verified<R: Input, W: Output, E: Output>(
-    alloc: Global,
-    input: &mut R,
-    output: &mut W,
-    errors: &mut E,
-) -> u8
-    ensures { RanVerify (R.seen input.old) (R.seen input.new) (W.seen output.old) (W.seen output.new) result }
-{
-    match verify(alloc, input, output) {
-        Ok(Verified::EachGame) => 0,
-        Ok(Verified::FaultTold) => 1,
-        Err(fault) => not_verified(errors, fault),
-    }
-}
-
-// The status of games that were verified.
+// The status after games were verified.
 fn verified_status(verified: Verified) -> u8
     ensures { result ≡ verify_status (Ok verified) }
 {
@@ -110,88 +100,47 @@ fn verified_status(verified: Verified) -> u8
     }
 }
 
-// The options that the words of `verify` ask for.
+// The options that the flags of `verify` ask for.
 fn options_of(plan: VerifyPlan) -> VerifyOptions
     ensures { result ≡ options_of plan }
 {
     VerifyOptions {
-        keep_going: plan.keep_going,
         quiet: plan.quiet,
+        strict: plan.strict,
     }
 }
 
-// The games of the input verified by words of `verify`, with the status.
-fn verified_by<R: Input, W: Output, E: Output>(
+// Verifies the games of the input: of each piece, or of one text up to its first fault.
+fn verify_as<R: Input, W: Output>(
     alloc: Global,
     plan: VerifyPlan,
     input: &mut R,
     output: &mut W,
-    errors: &mut E,
-) -> u8
-    ensures { RanVerifyBy plan (R.seen input.old) (R.seen input.new) (W.seen output.old) (W.seen output.new) result }
-{
-    match verify_by(alloc, options_of(plan), input, output) {
-        Ok(verified) => verified_status(verified),
-        Err(fault) => not_verified(errors, fault),
-    }
-}
-
-// Whether `verify` has any of its words on what is told.
-fn has_words(plan: VerifyPlan) -> bool
-    ensures { result ≡ has_words plan }
-{
-    plan.keep_going || plan.quiet
-}
-
-// The games of the input verified, by words or by none.
-fn verified_if<R: Input, W: Output, E: Output>(
-    alloc: Global,
-    plan: VerifyPlan,
-    input: &mut R,
-    output: &mut W,
-    errors: &mut E,
-) -> u8
-    ensures { RanVerifyIf (has_words plan) plan (R.seen input.old) (R.seen input.new) (W.seen output.old)
+) -> Result<Verified, VerifyFault>
+    ensures { VerifiesAs plan.keep_going (options_of plan) (R.seen input.old) (R.seen input.new) (W.seen output.old)
         (W.seen output.new) result }
 {
-    if has_words(plan) {
-        verified_by(alloc, plan, input, output, errors)
+    let options = options_of(plan);
+    if plan.keep_going {
+        verify_collection(alloc, options, input, output)
     } else {
-        verified(alloc, input, output, errors)
+        verify(alloc, options, input, output)
     }
 }
 
-// The games of an input of any size verified, with the status.
-fn verified_any<R: Input, W: Output, E: Output>(
+// Verifies the games of the input, and returns the status.
+fn verified<R: Input, W: Output, E: Output>(
     alloc: Global,
     plan: VerifyPlan,
     input: &mut R,
     output: &mut W,
     errors: &mut E,
 ) -> u8
-    ensures { RanVerifyAny plan (R.seen input.old) (R.seen input.new) (W.seen output.old) (W.seen output.new) result }
+    ensures { RanVerify plan (R.seen input.old) (R.seen input.new) (W.seen output.old) (W.seen output.new) result }
 {
-    match verify_any_size(alloc, options_of(plan), input, output) {
+    match verify_as(alloc, plan, input, output) {
         Ok(verified) => verified_status(verified),
         Err(fault) => not_verified(errors, fault),
-    }
-}
-
-// The games of the input verified, of any size or kept as a whole.
-fn verified_at<R: Input, W: Output, E: Output>(
-    alloc: Global,
-    plan: VerifyPlan,
-    input: &mut R,
-    output: &mut W,
-    errors: &mut E,
-) -> u8
-    ensures { RanVerifyAt plan.any_size plan (R.seen input.old) (R.seen input.new) (W.seen output.old)
-        (W.seen output.new) result }
-{
-    if plan.any_size {
-        verified_any(alloc, plan, input, output, errors)
-    } else {
-        verified_if(alloc, plan, input, output, errors)
     }
 }
 
@@ -291,9 +240,10 @@ fn matched<P: Processes + Clock, W: Output, E: Output>(
 /// Runs the program on its words, read as `arbiter_words` reads them, and gives its exit status.
 ///
 /// - No words, or `session`: a session of at most 20,000 half-moves.
-/// - `verify`: the games of the input, told one by one up to the first fault. With `--keep-going` the games
-///   behind a fault too, and counts at the end; with `--quiet` only games with a fault; with `--any-size` an
-///   input of any length.
+/// - `verify`: the games of the input, one line for each up to the first fault. With `--keep-going` an input of any
+///   length, cut into pieces where a line begins with `[Event `: a fault ends its piece alone, and totals come at the
+///   end. With `--quiet` only games with a fault; with `--strict` a result that contradicts the tag Result or the final
+///   position is a fault too.
 /// - `match` with `--white`, `--black` and perhaps `--games`, `--level`, `--fen`, `--variant` and `--date`:
 ///   games between two engines that are started as processes, the text of each game, and then the score. The
 ///   input is left alone.
@@ -325,7 +275,7 @@ pub fn run_program<'a, P: Processes + Clock, R: Input, W: Output, E: Output>(
     };
     match plan {
         Plan::Session => session(alloc, input, output, errors),
-        Plan::Verify(plan) => verified_at(alloc, plan, input, output, errors),
+        Plan::Verify(plan) => verified(alloc, plan, input, output, errors),
         Plan::Stub(words) => stubbed(words.as_slice(), input, output, errors),
         Plan::Match(plan) => matched(rt, alloc, &plan, output, errors),
     }

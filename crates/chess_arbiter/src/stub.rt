@@ -4,7 +4,7 @@ ghost use Rattle.std.specs.Prelude.{◌≡◌, ◌≤◌, ◌++◌, ◌∷◌, [
 ghost use Rattle.byte_devices.specs.Devices.{Puts};
 ghost use Rattle.chess_base.specs.Letters.{new_line};
 ghost use Rattle.chess_cecp.specs.Commands.{command_of};
-ghost use Rattle.chess_arbiter.specs.Stub.{Gives, GivesAndFlushes, SaysRemarks, StubRan, beginning, played_text, remark, reply, row, state_at, turn};
+ghost use Rattle.chess_arbiter.specs.Stub.{Gives, GivesAndFlushes, SaysRemarks, StubRan, beginning, moved, played_text, remark, reply, row, state_at, turn};
 
 use arrayvec::ArrayVec;
 use byte_devices::{Input, Output, WriteFault, put, put_parts};
@@ -140,6 +140,22 @@ fn stopped(stub: Stub) -> Stub
     }
 }
 
+// A move of the other side: while it plays, it is its turn.
+fn moved<W: Output>(
+    words: &[&str],
+    stub: Stub,
+    writer: &mut W,
+) -> Result<(Stub, Onward), WriteFault>
+    requires { stub.at ≤ length words.now }
+    ensures { Gives words.now (moved (state_at words.now stub)) (W.seen writer.old) (W.seen writer.new) result }
+{
+    if stub.plays {
+        play(words, stub.at, writer)
+    } else {
+        Ok((stub, Onward::On))
+    }
+}
+
 // What it says to a line's text.
 fn obey<W: Output>(
     words: &[&str],
@@ -162,9 +178,10 @@ fn obey<W: Output>(
         }
         Command::New => Ok((stopped(stub), Onward::On)),
         Command::Go => play(words, stub.at, writer),
-        Command::UserMove => {
-            if stub.plays {
-                play(words, stub.at, writer)
+        Command::UserMove => moved(words, stub, writer),
+        Command::Unknown => {
+            if first_word(text) == b"usermove".as_slice() {
+                moved(words, stub, writer)
             } else {
                 Ok((stub, Onward::On))
             }
@@ -188,8 +205,7 @@ fn obey<W: Output>(
         | Command::ShowMoves
         | Command::ShowState
         | Command::ShowPgn
-        | Command::BadNumber
-        | Command::Unknown => Ok((stub, Onward::On)),
+        | Command::BadNumber => Ok((stub, Onward::On)),
     }
 }
 

@@ -293,15 +293,26 @@ fn check_broken(rt: &impl Abort, broken: &Outcome, whole: &[u8]) {
     assert_eq!(rt; broken.status, 1);
 }
 
+// Plays a match whose output fails at that call.
+fn play_failed(
+    rt: &impl Abort,
+    host: &HostRuntime,
+    words: &[&str],
+    whole: &[u8],
+    write_fails: u64,
+) {
+    let devices = Devices {
+        taken: 4096,
+        write_fails,
+        ..SOUND
+    };
+    check_broken(rt, &run(host, words, b"", devices), whole);
+}
+
 // Plays a match whose output fails at each of its calls.
 fn play_broken(rt: &impl Abort, host: &HostRuntime, words: &[&str], whole: &[u8]) {
     for write_fails in 1..=6 {
-        let devices = Devices {
-            taken: 4096,
-            write_fails,
-            ..SOUND
-        };
-        check_broken(rt, &run(host, words, b"", devices), whole);
+        play_failed(rt, host, words, whole, write_fails);
     }
 }
 
@@ -313,6 +324,62 @@ fn a_match_on_a_failed_output(rt: HostRuntime) -> Result<(), Fail> {
     let whole = run(&rt, words.as_slice(), b"", SOUND);
     assert_eq!(rt; whole.status, 0);
     play_broken(&rt, &rt, words.as_slice(), whole.output.as_slice());
+    Ok(())
+}
+
+// A game's fault is not reported where the output fails in that game.
+#[test]
+fn a_failed_output_after_a_fault(rt: HostRuntime) -> Result<(), Fail> {
+    let white = stub(&rt, "end")?;
+    let black = stub(&rt, "")?;
+    let words = words_of(rt.alloc(), white.as_str(), black.as_str(), &[])?;
+    let whole = run(&rt, words.as_slice(), b"", SOUND);
+    for write_fails in 1..=4 {
+        play_failed(
+            &rt,
+            &rt,
+            words.as_slice(),
+            whole.output.as_slice(),
+            write_fails,
+        );
+    }
+    Ok(())
+}
+
+// An engine that has no name, says something on its standard error, and answers pings alone.
+const NAMELESS: &str =
+    "sh -c N=é;echo${IFS}feature${IFS}ping=1${IFS}done=1;echo${IFS}noise>&2;exec${IFS}sed${IFS}-un${IFS}s/ping/pong/p";
+
+// The name is the first 60 bytes of the command, those outside 32 to 126 as `?`; what the engine writes to its standard
+// error is not on the error output.
+const BY_NAMELESS: &str =
+    "[Event \"CECP match\"]\n[Site \"?\"]\n[Date \"????.??.??\"]\n[Round \"1\"]\n[White \"stub\"]\n[Black \"sh -c N=??;echo${IFS}feature${IFS}ping=1${IFS}done=1;echo${I\"]\n[Result \"0-1\"]\n[Termination \"normal\"]\n\n0-1\n\nscore first 0 second 1 drawn 0 unfinished 0\n";
+
+#[test]
+fn an_engine_without_a_name(rt: HostRuntime) -> Result<(), Fail> {
+    let white = stub(&rt, "")?;
+    let words = words_of(rt.alloc(), white.as_str(), NAMELESS, &[])?;
+    let wanted = Wanted {
+        output: BY_NAMELESS.as_bytes(),
+        errors: b"",
+        status: 0,
+    };
+    run(&rt, words.as_slice(), b"", SOUND).check(&rt, wanted);
+    Ok(())
+}
+
+// White takes its time to end once its input is closed; its end is waited for where Black can't be started.
+#[test]
+fn white_is_ended_where_black_can_not_start(rt: HostRuntime) -> Result<(), Fail> {
+    let before = held(&rt)?;
+    check_no_start(
+        &rt,
+        &rt,
+        "sh -c cat>/dev/null;sleep${IFS}0.2",
+        "/no/such/engine",
+        b"arbiter: can not start /no/such/engine\n",
+    );
+    check_held(&rt, &held(&rt)?, &before);
     Ok(())
 }
 
@@ -337,7 +404,7 @@ struct Said {
     status: u8,
 }
 
-const SAID: [Said; 12] = [
+const SAID: [Said; 13] = [
     Said {
         words: &["stub", "e2e4", "offer"],
         input: b"protover 2\nping 3\ngo\nusermove e7e5\n",
@@ -360,6 +427,15 @@ const SAID: [Said; 12] = [
         input: b"usermove x\ngo\nusermove x\nforce\nusermove x\ngo\nnew\nusermove x\ngo\n",
         fails: (0, 0),
         output: b"move a\nmove b\nmove c\nresign\n",
+        errors: b"",
+        status: 0,
+    },
+    // `usermove` without a move is one of the other side too.
+    Said {
+        words: &["stub", "a", "b"],
+        input: b"usermove\ngo\nusermove\n usermove \nusermoves\nforce\nusermove\n",
+        fails: (0, 0),
+        output: b"move a\nmove b\nresign\n",
         errors: b"",
         status: 0,
     },

@@ -2,12 +2,18 @@
 #![tactic(auto)]
 
 #[cfg(test)]
+mod collection;
+#[cfg(test)]
 mod devices;
 #[cfg(test)]
 mod engines;
 #[cfg(test)]
 mod program;
 #[cfg(test)]
+mod readers;
+#[cfg(test)]
 mod runs;
+#[cfg(test)]
+mod strict;
 #[cfg(test)]
 mod verify;

@@ -16,7 +16,7 @@ struct Case {
     status: u8,
 }
 
-const CASES: [Case; 22] = [
+const CASES: [Case; 21] = [
     Case {
         words: &[],
         input: b"new\ne2e4\nping 7\nundo\nshowfen\nquit\nshowfen\n",
@@ -156,15 +156,7 @@ const CASES: [Case; 22] = [
         status: 1,
     },
     Case {
-        words: &["verify", "--any-size"],
-        input: b"1. e4 *",
-        fails: (2, 0),
-        output: b"",
-        errors: b"arbiter: read failed\n",
-        status: 1,
-    },
-    Case {
-        words: &["verify", "--any-size"],
+        words: &["verify", "--strict"],
         input: b"* *",
         fails: (0, 2),
         output: b"game 1: 0 half-moves, *\n",
@@ -173,7 +165,7 @@ const CASES: [Case; 22] = [
     },
     // The line of a fault, and the flush behind the counts.
     Case {
-        words: &["verify", "--any-size", "--quiet"],
+        words: &["verify", "--strict", "--quiet"],
         input: b"1. e5 *",
         fails: (0, 1),
         output: b"",
@@ -181,7 +173,7 @@ const CASES: [Case; 22] = [
         status: 1,
     },
     Case {
-        words: &["verify", "--any-size", "--keep-going"],
+        words: &["verify", "--strict", "--keep-going"],
         input: b"1. e4 *",
         fails: (0, 3),
         output: b"game 1: 1 half-moves, *\ngames 1 half-moves 1 faults 0\n",
@@ -239,6 +231,29 @@ fn a_failed_error_output_changes_no_status(rt: HostRuntime) {
     assert_eq!(rt; status, 2);
 }
 
+// Asserts that a run was refused for want of this argument, with nothing on the output.
+fn check_lacking(rt: &impl Abort, outcome: &Outcome, argument: &str) -> Result<(), Fail> {
+    let errors = std::str::from_utf8(outcome.errors.as_slice())?;
+    assert!(rt; errors.starts_with("error: the following required arguments were not provided:\n"));
+    assert!(rt; errors.contains(argument));
+    assert!(rt; outcome.output.is_empty() && outcome.status == 2);
+    Ok(())
+}
+
+#[test]
+fn a_match_needs_both_engines(rt: HostRuntime) -> Result<(), Fail> {
+    check_lacking(
+        &rt,
+        &run(&rt, &["match", "--white", "x"], b"ping 1\n", SOUND),
+        "  --black <CMD>\n",
+    )?;
+    check_lacking(
+        &rt,
+        &run(&rt, &["match", "--black", "x"], b"ping 1\n", SOUND),
+        "  --white <CMD>\n",
+    )
+}
+
 // Words that ask for help, and what their help must name.
 const HELP: [(&[&str], &[&str]); 3] = [
     (&["--help"], &["session", "verify", "--help", "--version"]),
@@ -268,7 +283,7 @@ const HELP: [(&[&str], &[&str]); 3] = [
             "at byte",
             "--keep-going --quiet",
             "faults 1",
-            "--any-size",
+            "--strict",
             "16,777,216 bytes",
         ],
     ),

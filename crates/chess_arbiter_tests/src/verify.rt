@@ -1,15 +1,11 @@
 //! Games as `verify` reads them, by its words.
 
-ghost use Rattle.std.specs.Prelude.{◌≤◌, length};
-
-use crate::runs::{Devices, Outcome, SOUND, Wanted, run};
+use crate::readers::{Parts, Spaces, run_on};
+use crate::runs::{Devices, SOUND, Wanted, run};
 use byte_devices::{Counted, GatedWriter};
 use chess_arbiter::run_program;
-use std::alloc::Global;
 use std::cell::Cell;
-use std::io::{self, Read};
 use std::process::Abort;
-use std::test::Fail;
 
 // Games as they are verified: the text, what is told, and the status.
 const GAMES: [(&[u8], &[u8], u8); 16] = [
@@ -121,34 +117,6 @@ fn lines_on_games_are_flushed(rt: HostRuntime) {
     assert!(rt; open.get());
 }
 
-// Blanks without an end.
-#[derive(Drop)]
-struct Blanks;
-
-impl Read for Blanks {
-    ghost use Rattle.std.specs.Prelude.{None};
-
-    ghost remaining = { λ b. None };
-
-    fn read(&mut self, buf: &mut [u8]) -> io::Result<usize> {
-        buf.fill(b' ');
-        Ok(buf.len())
-    }
-}
-
-// Runs the program on what a reader gives, with output and error output in memory.
-fn run_on<R: Read + Drop>(rt: &HostRuntime, words: &[&str], reader: R) -> Outcome {
-    let mut input = Counted::reading(reader);
-    let mut output = Counted::writing(Vec::<u8>::new(rt.alloc()));
-    let mut errors = Counted::writing(Vec::<u8>::new(rt.alloc()));
-    let status = run_program(rt, rt.alloc(), words, &mut input, &mut output, &mut errors);
-    Outcome {
-        output: output.into_writer(),
-        errors: errors.into_writer(),
-        status,
-    }
-}
-
 #[test]
 fn more_than_16_mebibytes_are_too_long(rt: HostRuntime) {
     let wanted = Wanted {
@@ -156,7 +124,7 @@ fn more_than_16_mebibytes_are_too_long(rt: HostRuntime) {
         errors: b"arbiter: input too long\n",
         status: 1,
     };
-    run_on(&rt, &["verify"], Blanks).check(&rt, wanted);
+    run_on(&rt, &["verify"], Spaces).check(&rt, wanted);
 }
 
 // The second of three games has a fault, and no line's end stands behind the last.
@@ -209,18 +177,18 @@ const BY_WORDS: [(&[&str], &[u8], &[u8], u8); 11] = [
         b"game 1: illegal move at byte 6\ngames 0 half-moves 0 faults 1\n",
         1,
     ),
-    // The fault stands at a line of a tag Event: the next one is behind it.
+    // The second piece has a tag and no game.
     (
         &["verify", "--keep-going"],
         b"1. e4\n[Event \"x\"]\n[Event \"y\"] 1. e4 *",
-        b"game 1: no result at byte 6\ngame 2: 1 half-moves, *\ngames 1 half-moves 1 faults 1\n",
+        b"game 1: no result at byte 6\ngame 2: no result at byte 18\ngame 3: 1 half-moves, *\ngames 1 half-moves 1 faults 2\n",
         1,
     ),
-    // The last fault may be at the text's end.
+    // The last piece is no whole tag.
     (
         &["verify", "--keep-going"],
         b"1. e4\n[Event ",
-        b"game 1: no result at byte 6\ngames 0 half-moves 0 faults 1\n",
+        b"game 1: no result at byte 6\ngame 2: bad tag at byte 6\ngames 0 half-moves 0 faults 2\n",
         1,
     ),
     (
@@ -241,176 +209,79 @@ fn games_verified_by_words(rt: HostRuntime) {
     }
 }
 
-// These words, with `--any-size` at that place among them.
-fn with_any_size(
-    alloc: Global,
-    words: &[&'static str],
-    place: usize,
-) -> Result<Vec<&'static str>, Fail> {
-    let (front, back) = words.split_at_checked(place).ok_or("a place")?;
-    let mut more = Vec::new(alloc);
-    more.extend_from_slice(front)?;
-    more.push("--any-size")?;
-    more.extend_from_slice(back)?;
-    Ok(more)
-}
-
-// Verifies a text by these words, with `--any-size` at each place among them.
-fn check_any_size(
-    rt: &impl Abort,
-    host: &HostRuntime,
-    words: &[&'static str],
-    text: &[u8],
-    told: &[u8],
-    status: u8,
-) -> Result<(), Fail> {
-    for place in 1..=words.len() {
-        let more = with_any_size(host.alloc(), words, place)?;
-        for piece in [1, 100] {
-            let devices = Devices { piece, ..SOUND };
-            check_verified(rt, host, more.as_slice(), text, devices, told, status);
-        }
-    }
-    Ok(())
-}
-
-// With `--any-size` the lines are the same, wherever it stands among the words.
-#[test]
-fn games_of_any_size_by_words(rt: HostRuntime) -> Result<(), Fail> {
-    for (words, text, told, status) in &BY_WORDS {
-        check_any_size(&rt, &rt, words, text, told, *status)?;
-    }
-    Ok(())
-}
-
-// And so they are where no other word stands beside it.
-#[test]
-fn games_of_any_size(rt: HostRuntime) {
-    let devices = Devices {
-        piece: 1,
-        taken: 5,
-        ..SOUND
-    };
-    for (text, told, status) in &GAMES {
-        check_verified(
-            &rt,
-            &rt,
-            &["verify", "--any-size"],
-            text,
-            devices,
-            told,
-            *status,
-        );
-    }
-}
-
-// A comment of many bytes `a` between two texts.
-#[derive(Drop)]
-struct LongComment {
-    front: &'static [u8],
-    inner: usize,
-    back: &'static [u8],
-}
-
-// Puts the beginning of a text into the front of `buf`, as much as has room there, and takes it off the text.
-fn give(text: &mut &'static [u8], buf: &mut [u8]) -> usize
-    ensures { result ≤ length buf.old }
-{
-    let count = text.len().min(buf.len());
-    let (piece, rest) = text.split_at(count);
-    buf[..count].copy_from_slice(piece);
-    *text = rest;
-    count
-}
-
-impl Read for LongComment {
-    ghost use Rattle.std.specs.Prelude.{None};
-
-    ghost remaining = { λ b. None };
-
-    fn read(&mut self, buf: &mut [u8]) -> io::Result<usize> {
-        if !self.front.is_empty() {
-            return Ok(give(&mut self.front, buf));
-        }
-        let count = self.inner.min(buf.len());
-        if count == 0 {
-            return Ok(give(&mut self.back, buf));
-        }
-        buf[..count].fill(b'a');
-        self.inner -= count;
-        Ok(count)
-    }
-}
-
-// Games with a long comment: words, the text before it, its bytes, the text behind it, what is told, and the status.
-const LONG: [(&[&str], &[u8], usize, &[u8], &[u8], u8); 7] = [
-    // The first game has 16,777,216 bytes.
+// Texts with a long comment: arguments, the text before it, its bytes, the text after it, what is written, and the
+// status.
+const LONG: [(&[&str], &[u8], usize, &[u8], &[u8], u8); 6] = [
+    // The text has 16,777,216 bytes.
     (
-        &["verify", "--any-size"],
-        b"{",
-        16_777_212,
-        b"} *\n1. e4 *",
-        b"game 1: 0 half-moves, *\ngame 2: 1 half-moves, *\n",
-        0,
-    ),
-    // It has one more.
-    (
-        &["verify", "--any-size"],
-        b"{",
-        16_777_213,
-        b"} *\n1. e4 *",
-        b"game 1: too long at byte 0\n",
-        1,
-    ),
-    // Nothing stands behind its last byte.
-    (
-        &["verify", "--any-size"],
+        &["verify"],
         b"{",
         16_777_212,
         b"} *",
         b"game 1: 0 half-moves, *\n",
         0,
     ),
+    // It has one more.
+    (&["verify"], b"{", 16_777_213, b"} *", b"", 1),
+    // The first piece has 16,777,216 bytes, the one before the second's `[` among them.
     (
-        &["verify", "--any-size"],
+        &["verify", "--keep-going"],
         b"{",
-        16_777_213,
-        b"} *",
-        b"game 1: too long at byte 0\n",
+        16_777_211,
+        b"} *\n[Event \"y\"]\n1. d4 d5 *",
+        b"game 1: 0 half-moves, *\ngame 2: 2 half-moves, *\ngames 2 half-moves 2 faults 0\n",
+        0,
+    ),
+    // It has one more.
+    (
+        &["verify", "--keep-going"],
+        b"{",
+        16_777_212,
+        b"} *\n[Event \"y\"]\n1. d4 d5 *",
+        b"game 1: too long at byte 0\ngame 2: 2 half-moves, *\ngames 1 half-moves 2 faults 1\n",
         1,
     ),
-    // Its bytes and the white space before it are counted from where the game before it ended; its place
-    // is its own first byte.
+    // The last piece is too long, and offsets count from the input's first byte.
     (
-        &["verify", "--any-size", "--keep-going"],
-        b"1. e4 *\n\n[Event \"x\"]\n{",
-        16_777_210,
-        b"} *\n\n[Event \"y\"]\n1. d4 d5 *",
-        b"game 1: 1 half-moves, *\ngame 2: too long at byte 9\ngame 3: 2 half-moves, *\ngames 2 half-moves 3 faults 1\n",
+        &["verify", "--keep-going", "--quiet"],
+        b"1. e4 *\n[Event \"x\"]\n{",
+        16_777_216,
+        b"",
+        b"game 2: too long at byte 8\ngames 1 half-moves 1 faults 1\n",
         1,
     ),
-    // The second game's place is behind the window's bytes.
+    // An offset of more than 16,777,216.
     (
-        &["verify", "--any-size"],
-        b"1. e4 * {",
+        &["verify", "--keep-going", "--quiet"],
+        b"{",
         16_777_200,
-        b"} * 1. e4 e4 *",
-        b"game 1: 1 half-moves, *\ngame 2: 0 half-moves, *\ngame 3: illegal move at byte 16777219\n",
+        b"} *\n[Event \"y\"]\n1. e4 e4 *",
+        b"game 2: illegal move at byte 16777223\ngames 1 half-moves 0 faults 1\n",
         1,
     ),
-    (&["verify"], b"{", 16_777_212, b"} *\n1. e4 *", b"", 1),
 ];
 
+// Verifies a text with a long comment.
+fn check_long(
+    rt: &impl Abort,
+    host: &HostRuntime,
+    words: &[&str],
+    text: Parts,
+    lines: &[u8],
+    status: u8,
+) {
+    let outcome = run_on(host, words, text);
+    assert!(rt; outcome.output.as_slice() == lines && outcome.status == status);
+}
+
 #[test]
-fn games_with_long_comments(rt: HostRuntime) {
-    for (words, front, inner, back, told, status) in &LONG {
-        let comment = LongComment {
+fn texts_with_long_comments(rt: HostRuntime) {
+    for (words, front, inner, back, lines, status) in &LONG {
+        let text = Parts {
             front,
             inner: *inner,
             back,
         };
-        let outcome = run_on(&rt, words, comment);
-        assert_eq!(rt; outcome.output.as_slice(), *told);
-        assert_eq!(rt; outcome.status, *status);
+        check_long(&rt, &rt, words, text, lines, *status);
     }
 }

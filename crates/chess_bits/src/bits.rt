@@ -1,6 +1,6 @@
 //! A board with sets of squares beside its men.
 
-ghost use Rattle.std.specs.Prelude.{◌≡◌, ℕ, ◌<◌, ◌==◌, IfOk};
+ghost use Rattle.std.specs.Prelude.{◌≡◌, ℕ, ◌<◌, ◌==◌};
 ghost use Rattle.chess_base.specs.Attacks.{is_attacked};
 ghost use Rattle.chess_base.specs.Initial.{initial_setup};
 ghost use Rattle.chess_base.specs.Men.{Men, man_at, is_man};
@@ -15,19 +15,19 @@ use crate::targets::{is_king, is_pawn};
 use chess_base::for_boards::{promotion_fits, saved_of};
 use chess_base::{Colour, Kind, Move, Position, Saved, Setup, Square};
 use chess_moves::{Board, MoveList, SquareSet, word_with, would_promote};
-use std::alloc::{AllocError, Global};
 use std::marker::Model;
 
-/// A board that keeps, beside the man of each square, sets of the squares of the men by colour and kind, and tables of
-/// attacks. In contracts it is the `Setup` of its position.
+/// A board that keeps, beside the man of each square, sets of the squares of the men by colour and kind. The tables of
+/// attacks are lent to it, so one set of tables serves any number of boards. In contracts it is the `Setup` of its
+/// position.
 #[derive(Drop)]
-pub struct Bits {
+pub struct Bits<'t> {
     pub(crate) setup: Setup,
     pub(crate) sets: Sets,
-    pub(crate) tables: AttackTables,
+    pub(crate) tables: &'t AttackTables,
 }
 
-impl Model for Bits {
+impl<'t> Model for Bits<'t> {
     ghost use Rattle.chess_base.specs.declared.setup.Setup.{Setup};
 
     ghost Value = { Setup };
@@ -40,23 +40,19 @@ impl Model for Bits {
     ghost invariant = { λ b. IsSound b.setup × IsSets b.sets b.setup.men };
 }
 
-impl Bits {
-    /// A board at the initial position, with its tables.
-    ///
-    /// # Errors
-    /// Where there is no memory for the tables.
-    pub fn open(alloc: Global) -> Result<Self, AllocError>
-        ensures { IfOk result (λ b. b ≡ initial_setup) }
+impl<'t> Bits<'t> {
+    /// A board at the initial position, which looks attacks up in those tables.
+    pub fn new(tables: &'t AttackTables) -> Self
+        ensures { result ≡ initial_setup }
     {
-        let tables = AttackTables::open(alloc)?;
         let position = Position::initial();
         let setup = *position.setup();
         let sets = Sets::standing(&setup.men);
-        Ok(Bits {
+        Bits {
             setup,
             sets,
             tables,
-        })
+        }
     }
 
     pub(crate) fn occupied(&self) -> SquareSet
@@ -80,11 +76,11 @@ impl Bits {
         ensures { result ≡ is_attacked self.now.men square by }
     {
         let occupied = self.occupied();
-        self.sets.of(by).attacks(&self.tables, by, square, occupied)
+        self.sets.of(by).attacks(self.tables, by, square, occupied)
     }
 }
 
-impl Board for Bits {
+impl Board for Bits<'_> {
     ghost use Rattle.chess_moves.specs.PositionWord.{position_word};
 
     ghost position = { λ b. b };
@@ -140,7 +136,7 @@ impl Board for Bits {
         if is_pawn(kind) {
             return own.intersection(self.pawn_starts(to));
         }
-        let reached = reached_from(&self.tables, self.sets.occupied(), side, kind, to);
+        let reached = reached_from(self.tables, self.sets.occupied(), side, kind, to);
         own.intersection(reached)
     }
 

@@ -17,7 +17,7 @@ use chess_base::for_boards::{Castle, Steps};
 use chess_base::{Kind, Man, Move, Square, Variant};
 use chess_moves::{Board, SquareSet};
 
-impl Bits {
+impl Bits<'_> {
     // The squares of a rank above one square and below another.
     #[tactic(auto, unfolding(crate::specs::ties::Shapes::in_shape))]
     fn above_and_below(&self, low: Square, high: Square) -> SquareSet

@@ -19,7 +19,7 @@ use chess_base::for_boards::{is_man, pawn_rank};
 use chess_base::{Kind, Move, Square};
 use chess_moves::{Board, SquareSet, would_promote};
 
-impl Bits {
+impl Bits<'_> {
     // How often a move with a man's pattern is legal: once or never.
     fn times_legal(&self, m: &Move) -> usize
         requires { IsTrue (has_pattern self.now m.now) }

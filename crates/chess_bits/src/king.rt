@@ -42,7 +42,7 @@ fn emptied_by(steps: &Steps) -> SquareSet
     second.union(set_of(Some(steps.from)))
 }
 
-impl Bits {
+impl Bits<'_> {
     // Where the king of the side on move stands after a move with a man's pattern, whose steps these are.
     fn king_after(&self, m: &Move, steps: &Steps) -> Square
         requires pattern { IsTrue (has_pattern self.now m.now) }
@@ -70,7 +70,7 @@ impl Bits {
         let _end = to.number();
         let by = self.setup.side.other();
         let left = self.sets.occupied().without(SquareSet::single(king));
-        !self.sets.of(by).attacks(&self.tables, by, to, left)
+        !self.sets.of(by).attacks(self.tables, by, to, left)
     }
 
     // Whether a move with a man's pattern is legal: the king of the side on move is safe after it.
@@ -95,6 +95,6 @@ impl Bits {
         let occupied = filled.union(kept);
         let by = self.setup.side.other();
         let men = self.sets.of(by).outside(changed);
-        !men.attacks(&self.tables, by, king, occupied)
+        !men.attacks(self.tables, by, king, occupied)
     }
 }

@@ -3,7 +3,8 @@
 //! Wherever a board is wanted, it stands for `Plain`:
 //!
 //! ```
-//! let mut game = Game::open(alloc, Bits::open(alloc)?, 300)?;
+//! let tables = AttackTables::open(alloc)?;
+//! let mut game = Game::open(alloc, Bits::new(&tables), 300)?;
 //! ```
 #![tactic(auto)]
 
@@ -23,3 +24,4 @@ mod tables;
 mod targets;
 
 pub use bits::Bits;
+pub use tables::AttackTables;

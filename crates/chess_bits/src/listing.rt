@@ -1,9 +1,9 @@
 //! The list of legal moves: man by man, and end square by end square.
 
-ghost use Rattle.std.specs.Prelude.{◌≡◌, ◌+◌, ◌≤◌, ◌<◌, ◌==◌, ◌&&◌, ◌||◌, ◌++◌, ℕ, length, get_or, true, false, Option};
+ghost use Rattle.std.specs.Prelude.{◌≡◌, ◌+◌, ◌≤◌, ◌<◌, ◌==◌, ◌&&◌, ◌||◌, ◌++◌, ℕ, length, get_or, true, false, Option, None, ◌∷◌};
 ghost use Rattle.arrayvec.specs.ArrayVec.{array_vec_len};
 ghost use Rattle.chess_base.specs.Men.{man_at, other, is_man, pawn_rank};
-ghost use Rattle.chess_base.specs.MoveList.{moves};
+ghost use Rattle.chess_base.specs.MoveList.{moves, promotions};
 ghost use Rattle.chess_base.specs.Moves.{promotion_fits};
 ghost use Rattle.chess_base.specs.Squares.{rank};
 ghost use Rattle.chess_base.specs.declared.man.Kind.{Kind as ManKind};
@@ -17,7 +17,19 @@ use crate::bits::Bits;
 use chess_base::{Kind, Move, Square};
 use chess_moves::{MoveList, SquareSet, would_promote};
 
-impl Bits {
+// What a pawn may promote to, in the order in which its moves are listed.
+fn each_promotion() -> [Option<Kind>; 4]
+    ensures { None ∷ result ≡ promotions }
+{
+    [
+        Some(Kind::Queen),
+        Some(Kind::Rook),
+        Some(Kind::Bishop),
+        Some(Kind::Knight),
+    ]
+}
+
+impl Bits<'_> {
     // Adds the legal moves from there to there with one of those promotions, which fit.
     fn add_moves_with(
         &self,
@@ -51,13 +63,7 @@ impl Bits {
         ensures { list.new.items ≡ list.old.items ++ moves_between self.now from to }
     {
         if would_promote(&self.setup, from, to) {
-            let promotions = [
-                Some(Kind::Queen),
-                Some(Kind::Rook),
-                Some(Kind::Bishop),
-                Some(Kind::Knight),
-            ];
-            self.add_moves_with(from, to, &promotions, list);
+            self.add_moves_with(from, to, &each_promotion(), list);
         } else {
             self.add_moves_with(from, to, &[None], list);
         }

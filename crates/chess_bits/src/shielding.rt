@@ -11,7 +11,7 @@ use crate::table::Shape;
 use chess_base::{Kind, Square};
 use chess_moves::{Board, SquareSet};
 
-impl Bits {
+impl Bits<'_> {
     // The own men that the king sees on his rank and file, if one of them hides a rook or queen from him, and else
     // none: taking off any other man opens neither.
     #[tactic(auto, unfolding(crate::specs::ties::Shapes::in_shape))]
@@ -28,9 +28,9 @@ impl Bits {
             return aimed;
         }
         let occupied = self.sets.occupied();
-        let seen = along_lines(&self.tables, king, occupied);
+        let seen = along_lines(self.tables, king, occupied);
         let near = seen.intersection(self.sets.all(side));
-        let opened = along_lines(&self.tables, king, occupied.without(near));
+        let opened = along_lines(self.tables, king, occupied.without(near));
         let hidden = aimed.intersection(opened);
         if hidden.is_empty() {
             return hidden;
@@ -54,9 +54,9 @@ impl Bits {
             return aimed;
         }
         let occupied = self.sets.occupied();
-        let seen = along_diagonals(&self.tables, king, occupied);
+        let seen = along_diagonals(self.tables, king, occupied);
         let near = seen.intersection(self.sets.all(side));
-        let opened = along_diagonals(&self.tables, king, occupied.without(near));
+        let opened = along_diagonals(self.tables, king, occupied.without(near));
         let hidden = aimed.intersection(opened);
         if hidden.is_empty() {
             return hidden;

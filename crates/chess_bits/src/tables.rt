@@ -46,13 +46,18 @@ struct Tables {
     ghost of_antidiagonal_down: { antidiagonal_down ≡ Ray Antidiagonal false },
 }
 
-/// What the men attack on an empty board, and the rays.
+/// What the men attack on an empty board, and the rays: fourteen times 64 sets of squares, in one box. They never
+/// change, and are lent to the boards that look attacks up.
 #[derive(Drop)]
 pub struct AttackTables {
     tables: Box<Tables>,
 }
 
 impl AttackTables {
+    /// The tables, filled.
+    ///
+    /// # Errors
+    /// Where there is no memory for them.
     pub fn open(alloc: Global) -> Result<Self, AllocError> {
         let tables = Tables {
             king: Table::new(Shape::King),
@@ -97,7 +102,7 @@ impl AttackTables {
         }
     }
 
-    pub fn at(&self, shape: Shape, square: Square) -> SquareSet
+    pub(crate) fn at(&self, shape: Shape, square: Square) -> SquareSet
         ensures { (k : ℕ) → k < 64 → has result k ≡ in_shape shape square k }
     {
         self.table(shape).at(square)
@@ -105,7 +110,7 @@ impl AttackTables {
 
     /// The squares of a ray up to and with its first square in occupied.
     #[tactic(auto, using(crate::proofs::Blockers::swept), unfolding(crate::specs::ties::Shapes::in_shape))]
-    pub fn sweep(&self, line: Line, up: bool, from: Square, occupied: SquareSet) -> SquareSet
+    pub(crate) fn sweep(&self, line: Line, up: bool, from: Square, occupied: SquareSet) -> SquareSet
         ensures { (k : ℕ) → k < 64 → has result k ≡ (is_on_ray line up from k && is_open occupied from k) }
     {
         let ray = self.table(Shape::Ray(line, up));

@@ -49,7 +49,7 @@ pub(crate) fn is_pawn(kind: Kind) -> bool
     kind == Kind::Pawn
 }
 
-impl Bits {
+impl Bits<'_> {
     // Where a man of that kind attacks from there what is no own man.
     pub(crate) fn steps(&self, kind: Kind, from: Square) -> SquareSet
         ensures { (k : ℕ) → k < 64
@@ -57,7 +57,7 @@ impl Bits {
             && not (is_of (self.now).side (man_at (self.now).men k))) }
     {
         let side = self.setup.side;
-        let reached = reached_from(&self.tables, self.sets.occupied(), side, kind, from);
+        let reached = reached_from(self.tables, self.sets.occupied(), side, kind, from);
         reached.without(self.sets.all(side))
     }
 

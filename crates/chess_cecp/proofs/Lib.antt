@@ -5,4 +5,5 @@ pub mod Words
 pub mod RunLemmas
 pub mod Refusals
 pub mod PgnRow
+pub mod NormalGames
 pub mod NormalRows

@@ -1,6 +1,7 @@
 -- What has come of a line.
-use Rattle.std.proofs.Common.{◌≡◌, ℕ, ◌+◌, ◌<◌, ◌≤◌, ◌==◌, ◌&&◌, nat_lt, nat_eq, ◌≢◌, Some, None, Bool, true, false, List, [], ◌∷◌, ◌++◌, length, take, refl, sym, ap, ◌∙◌, arith, if◌then◌else◌}
-use Rattle.std.proofs.lemmas.List.{take-append-le}
+use Rattle.std.proofs.Common.{◌≡◌, ℕ, ◌+◌, ◌<◌, ◌≤◌, ◌==◌, ◌&&◌, nat_lt, nat_eq, min, ◌≢◌, Some, None, Bool, true, false, List, [], ◌∷◌, ◌++◌, length, take, refl, sym, ap, ◌∙◌, arith, if◌then◌else◌}
+use Rattle.std.proofs.lemmas.List.{take-append-le, take_min, take_all, length-take}
+use Rattle.std.proofs.Math.Nat.{min-le_left, min-le_right}
 use Rattle.std.proofs.lemmas.Grind.{common_steps}
 use Rattle.chess_cecp.specs.ties.Kept.{kept_part}
 use Rattle.chess_cecp.specs.Lines.{LineSeen, Held, line_of, lines_from, lines_held, trimmed, is_blank, all_blank, without_front_blanks, without_end_blanks, without_return}
@@ -9,40 +10,71 @@ use Rattle.chess_cecp.specs.Next.{SameLines, HeldLine}
 lt_true : (m n : ℕ) → m < n → nat_lt m n ≡ true
 lt_true m n h = grind arith
 
-line_long : (n : ℕ) (e : Bool) (x y : List ℕ) → n < length x → n < length y → take 64 x ≡ take 64 y
-    → line_of n e x ≡ line_of n e y
-unfolding line_of
+-- a text of no more than 64 bytes is its first 64; these are no more than the text has
+pub all_taken : (xs : List ℕ) → length xs ≤ 64 → xs ≡ take 64 xs
+all_taken xs h = sym (take_all 64 xs h)
+
+pub beginning_short : (xs : List ℕ) → length (take 64 xs) ≤ length xs
+beginning_short xs =
+    let is : length (take 64 xs) ≡ min 64 (length xs) = length-take 64 xs in
+    let le : min 64 (length xs) ≤ length xs = min-le_right 64 (length xs) in
+    omega (arith, is, le)
+
+-- of a part of more bytes than are kept some are there
+pub long_has_bytes : (items part : List ℕ) (long : Bool) → kept_part items long ≡ part → long ≡ true
+    → false ≡ (length part == 0)
+long_has_bytes items part true is h =
+    let len : length (items ++ 0 ∷ []) ≡ length items + 1 = grind (arith, common_steps) in
+    let some : nat_eq (length (items ++ 0 ∷ [])) 0 ≡ false = grind arith in
+    sym some ∙ ap (λ (xs : List ℕ). length xs == 0) is
+long_has_bytes items part false is h = absurd (cc)
+
+-- so many bytes show of a line that is too long
+shown_len : ℕ → ℕ
+shown_len n = min 64 n
+
+shown_le : (n : ℕ) → shown_len n ≤ n
+unfolding shown_len
+shown_le n = min-le_right 64 n
+
+line_long : (n : ℕ) (e : Bool) (x y : List ℕ) → n < length x → n < length y
+    → take (shown_len n) x ≡ take (shown_len n) y → line_of n e x ≡ line_of n e y
+unfolding line_of shown_len
 line_long n e x y h k t = rw (lt_true n (length x) h, lt_true n (length y) k, t) refl
 
--- lines that are too long are alike where their first 64 bytes are
-pub long_same : (n : ℕ) (x y : List ℕ) → n < length x → n < length y → 64 ≤ length x → 64 ≤ length y
-    → take 64 x ≡ take 64 y → SameLines n x y
+-- lines that are too long are alike where the bytes are that show
+long_same : (n : ℕ) (x y : List ℕ) → n < length x → n < length y → take (shown_len n) x ≡ take (shown_len n) y
+    → SameLines n x y
 unfolding lines_from
-long_same n x y h k h' k' t told [] =
+long_same n x y h k t told [] =
     rw (lt_true 0 (length x) (omega arith), lt_true 0 (length y) (omega arith), line_long n false x y h k t) refl
-long_same n x y h k h' k' t told (c ∷ cs) =
+long_same n x y h k t told (c ∷ cs) =
     let len_x : length (x ++ c ∷ []) ≡ length x + 1 = grind (arith, common_steps) in
     let len_y : length (y ++ c ∷ []) ≡ length y + 1 = grind (arith, common_steps) in
+    let few : shown_len n ≤ n = shown_le n in
     rw (
       line_long n true x y h k t,
-      long_same n (x ++ c ∷ []) (y ++ c ∷ []) (omega arith) (omega arith) (omega arith) (omega arith)
-          (take-append-le 64 x (c ∷ []) h' ∙ t ∙ sym (take-append-le 64 y (c ∷ []) k')) told cs,
+      long_same n (x ++ c ∷ []) (y ++ c ∷ []) (omega arith) (omega arith)
+          (take-append-le (shown_len n) x (c ∷ []) (omega arith) ∙ t
+          ∙ sym (take-append-le (shown_len n) y (c ∷ []) (omega arith))) told cs,
     ) refl
 
 -- a byte past the last that is kept
-pub overflow_same : (n : ℕ) (items : List ℕ) (long : Bool) (byte : ℕ) → 64 ≤ n → length items ≡ n
+pub overflow_same : (n : ℕ) (items : List ℕ) (long : Bool) (byte : ℕ) → length items ≡ n
     → SameLines n (kept_part items long ++ byte ∷ []) (items ++ 0 ∷ [])
-overflow_same n items true byte h e =
+overflow_same n items true byte e =
     let l1 : length ((items ++ 0 ∷ []) ++ byte ∷ []) ≡ length items + 2 = grind (arith, common_steps) in
     let l2 : length (items ++ 0 ∷ []) ≡ length items + 1 = grind (arith, common_steps) in
-    long_same n ((items ++ 0 ∷ []) ++ byte ∷ []) (items ++ 0 ∷ []) (omega arith) (omega arith) (omega arith)
-    (omega arith)
-    (take-append-le 64 (items ++ 0 ∷ []) (byte ∷ []) (omega arith))
-overflow_same n items false byte h e =
+    let few : shown_len n ≤ n = shown_le n in
+    long_same n ((items ++ 0 ∷ []) ++ byte ∷ []) (items ++ 0 ∷ []) (omega arith) (omega arith)
+    (take-append-le (shown_len n) (items ++ 0 ∷ []) (byte ∷ []) (omega arith))
+overflow_same n items false byte e =
     let l1 : length (items ++ byte ∷ []) ≡ length items + 1 = grind (arith, common_steps) in
     let l2 : length (items ++ 0 ∷ []) ≡ length items + 1 = grind (arith, common_steps) in
-    long_same n (items ++ byte ∷ []) (items ++ 0 ∷ []) (omega arith) (omega arith) (omega arith) (omega arith)
-    (take-append-le 64 items (byte ∷ []) (omega arith) ∙ sym (take-append-le 64 items (0 ∷ []) (omega arith)))
+    let few : shown_len n ≤ n = shown_le n in
+    long_same n (items ++ byte ∷ []) (items ++ 0 ∷ []) (omega arith) (omega arith)
+    (take-append-le (shown_len n) items (byte ∷ []) (omega arith)
+    ∙ sym (take-append-le (shown_len n) items (0 ∷ []) (omega arith)))
 
 le-ltb_false : (n m : ℕ) → m ≤ n → nat_lt n m ≡ false
 le-ltb_false n m h = grind arith
@@ -73,22 +105,28 @@ unfolding line_of
 line_short n e x h = rw (le-ltb_false n (length x) h) refl
 
 line_over : (n : ℕ) (e : Bool) (x : List ℕ) → n < length x
-    → line_of n e x ≡ record { text = take 64 x; too_long = true; ended = e }
-unfolding line_of
+    → line_of n e x ≡ record { text = take (shown_len n) x; too_long = true; ended = e }
+unfolding line_of shown_len
 line_over n e x h = rw (lt_true n (length x) h) refl
 
+-- of n bytes that are kept the first 64 are those that show
+shown_kept : (n : ℕ) (items : List ℕ) → length items ≡ n → take (shown_len n) items ≡ take 64 items
+unfolding shown_len
+shown_kept n items e = ap (λ k. take (min 64 k) items) (sym e) ∙ take_min 64 items
+
 -- the line of a part that is kept
-pub line_kept : (n : ℕ) (e long : Bool) (items text whole : List ℕ) → 64 ≤ n → (long ≡ true → length items ≡ n)
+pub line_kept : (n : ℕ) (e long : Bool) (items text whole : List ℕ) → (long ≡ true → length items ≡ n)
     → length items ≤ n → kept_part items long ≡ whole
     → (long ≡ true → text ≡ take 64 items) → (long ≡ false → text ≡ trimmed items)
     → record { text = text; too_long = long; ended = e } ≡ line_of n e whole
-line_kept n e true items text whole h full short is t f =
+line_kept n e true items text whole full short is t f =
     let len : length (items ++ 0 ∷ []) ≡ length items + 1 = grind (arith, common_steps) in
     let at : length items ≡ n = full refl in
+    let few : shown_len n ≤ n = shown_le n in
     ap (λ v. record { text = v; too_long = true; ended = e })
-    (t refl ∙ sym (take-append-le 64 items (0 ∷ []) (omega arith)))
+    (t refl ∙ sym (shown_kept n items at) ∙ sym (take-append-le (shown_len n) items (0 ∷ []) (omega arith)))
     ∙ sym (line_over n e (items ++ 0 ∷ []) (omega arith)) ∙ ap (line_of n e) is
-line_kept n e false items text whole h full short is t f =
+line_kept n e false items text whole full short is t f =
     ap (λ v. record { text = v; too_long = false; ended = e }) (f refl) ∙ sym (line_short n e items short)
     ∙ ap (line_of n e) is
 
@@ -142,7 +180,7 @@ none_from n part = refl
 
 pub line_ended : (n : ℕ) (e : Bool) (piece : List ℕ) → (line_of n e piece).ended ≡ e
 unfolding line_of
-line_ended n e piece = ended_cond (nat_lt n (length piece)) (take 64 piece) (trimmed piece) e
+line_ended n e piece = ended_cond (nat_lt n (length piece)) (take (min 64 n) piece) (trimmed piece) e
 
 pub found_line : (n : ℕ) (held : Held) (part part' window window' : List ℕ) (b : ℕ) (line : LineSeen)
     → Spelled n held part window → length window ≤ length held.coming

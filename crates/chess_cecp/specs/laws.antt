@@ -1,2 +1,4 @@
 -- Claims beside the definitions: each is the contract of a function that does nothing.
+pub mod NormalGame
+pub mod NormalPgn
 pub mod Normal

@@ -8,7 +8,7 @@ ghost use Rattle.chess_pgn.specs.declared.tags.Tags.{Tags};
 ghost use Rattle.chess_cecp.specs.declared.command.Command.{Command};
 ghost use Rattle.chess_cecp.specs.Held.{SessionSeen};
 ghost use Rattle.chess_cecp.specs.Lines.{LineSeen, lines_heard, line_of, HasNoEnd};
-ghost use Rattle.chess_cecp.specs.laws.Normal.{normal_row_of};
+ghost use Rattle.chess_cecp.specs.laws.Normal.{normal_row_of, keeps_its_row};
 ghost use Rattle.chess_cecp.specs.Session.{row, next_state, answer_to, IsRefusal};
 
 /// The lines are the pieces that byte 10 ends, and what follows the last one, if it isn't empty and the end was told.
@@ -27,9 +27,10 @@ pub fn refusals_change_nothing()
         → next_state session line ≡ session }
 {}
 
-/// In a game of normal chess each command has the row that the table of normal chess alone gives it.
+/// In a game of normal chess each command but `variant` and `protover` has the row that the table of normal chess alone
+/// gives it.
 pub fn normal_chess_keeps_its_rows()
     ensures { (tags : Tags) (limit : ℕ) (s : State) (text argument : List ℕ) (command : Command)
-        → s.start.variant ≡ Normal
+        → s.start.variant ≡ Normal → keeps_its_row command ≡ true
         → row tags limit s text argument command ≡ normal_row_of tags limit s text argument command }
 {}

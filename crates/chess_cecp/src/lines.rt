@@ -10,7 +10,7 @@ use arrayvec::ArrayVec;
 use byte_devices::{Input, ReadFault};
 use std::marker::Model;
 
-/// A line: its text, or of one that is too long its first 64 bytes; and whether byte 10 ended it.
+/// A line: its text, or of one that is too long its first 64 bytes (or N, where N is less); and whether byte 10 ended it.
 #[derive(Drop)]
 pub struct Line<const N: usize> {
     text: ArrayVec<u8, N>,
@@ -32,7 +32,7 @@ impl<const N: usize> Model for Line<N> {
 
 impl<const N: usize> Line<N> {
     /// Its text: without its end, one byte 13 before that, and blanks at both ends. Of a line that is too long, its
-    /// first 64 bytes as they came.
+    /// first 64 bytes as they came, or N where N is less.
     pub fn text(&self) -> &[u8]
         ensures value { result.now ≡ self.now.text }
         ensures short { length result.now ≤ N }
@@ -70,13 +70,11 @@ impl<const N: usize> Model for Part<N> {
 
     ghost view = { λ p. kept_part p.bytes.items p.is_too_long };
 
-    ghost invariant = { λ p. (p.is_too_long ≡ true → length p.bytes.items ≡ N) × (length p.bytes.items ≤ N)
-        × (64 ≤ N) };
+    ghost invariant = { λ p. (p.is_too_long ≡ true → length p.bytes.items ≡ N) × (length p.bytes.items ≤ N) };
 }
 
 impl<const N: usize> Part<N> {
     fn new() -> Self
-        requires { 64 ≤ N }
         ensures { result ≡ [] }
     {
         Part {
@@ -88,6 +86,9 @@ impl<const N: usize> Part<N> {
     fn is_empty(&self) -> bool
         ensures { result ≡ (length self.now == 0) }
     {
+        if self.is_too_long {
+            return false;
+        }
         self.bytes.is_empty()
     }
 
@@ -117,14 +118,22 @@ impl<const N: usize> Part<N> {
     }
 }
 
+// The first 64 bytes of a text, or all where it has no more.
+#[tactic(auto, using(crate::proofs::Parts::all_taken, crate::proofs::Parts::beginning_short))]
+fn beginning(text: &[u8]) -> &[u8]
+    ensures value { result.now ≡ take 64 text.now }
+    ensures short { length result.now ≤ length text.now }
+{
+    if text.len() > 64 { &text[..64] } else { text }
+}
+
 // What a line says whose first bytes are kept.
 fn kept_text<const N: usize>(bytes: &ArrayVec<u8, N>, is_too_long: bool) -> ArrayVec<u8, N>
-    requires { is_too_long ≡ true → 64 ≤ length bytes.now.items }
     ensures long { is_too_long ≡ true → result.items ≡ take 64 bytes.now.items }
     ensures short { is_too_long ≡ false → result.items ≡ trimmed bytes.now.items }
 {
     let kept = if is_too_long {
-        &bytes.as_slice()[..64]
+        beginning(bytes.as_slice())
     } else {
         trim(bytes.as_slice())
     };
@@ -210,7 +219,6 @@ impl<const N: usize> Model for Lines<N> {
 impl<const N: usize> Lines<N> {
     /// Nothing was read yet.
     pub fn new() -> Self
-        requires { 64 ≤ N }
         ensures { result ≡ nothing_held }
     {
         Lines {

@@ -2,4 +2,12 @@
 #![tactic(auto)]
 
 #[cfg(test)]
+mod hostile;
+#[cfg(test)]
+mod rows;
+#[cfg(test)]
+mod running;
+#[cfg(test)]
 mod tests;
+#[cfg(test)]
+mod transcript;

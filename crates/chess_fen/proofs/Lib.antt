@@ -13,4 +13,5 @@ pub mod RoundTrip
 pub mod SpelledFields
 pub mod SpelledFen
 pub mod NormalWritten
+pub mod NormalRead
 pub mod WrittenFen

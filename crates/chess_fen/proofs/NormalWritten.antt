@@ -1,5 +1,7 @@
--- On positions of normal chess the rights are written as for normal chess alone.
-use Rattle.std.proofs.Common.{◌≡◌, ℕ, Option, Some, None, refl, ap, ◌∙◌}
+-- On positions of normal chess a FEN is written as for normal chess alone.
+use Rattle.std.proofs.Common.{◌≡◌, ℕ, List, [], ◌∷◌, Option, Some, None, decimal, refl, ap, ◌∙◌}
+use Rattle.std.specs.List.{join_with_byte}
+use Rattle.chess_base.specs.Letters.{space}
 use Rattle.chess_base.specs.declared.man.Colour.{Colour}
 use Rattle.chess_base.specs.declared.man.Colour.TheVariants.{White, Black}
 use Rattle.chess_base.specs.declared.man.CastlingSide.{CastlingSide}
@@ -8,8 +10,8 @@ use Rattle.chess_base.specs.declared.man.Rights.{Rights}
 use Rattle.chess_base.specs.declared.man.Variant.TheVariants.{Normal}
 use Rattle.chess_base.specs.declared.setup.Setup.{Setup}
 use Rattle.chess_fen.specs.RightNames.{side_letter}
-use Rattle.chess_fen.specs.Writing.{rights_text, right_text}
-use Rattle.chess_fen.specs.laws.Normal.{letter_if, normal_rights_text, NormalIsKept}
+use Rattle.chess_fen.specs.Writing.{fen, placement_text, side_text, rights_text, right_text, target_text}
+use Rattle.chess_fen.specs.laws.Normal.{letter_if, normal_rights_text, normal_fen}
 
 one_written : (c : Colour) (w : CastlingSide) (o : Option ℕ) → right_text Normal c w o ≡ letter_if o (side_letter c w)
 one_written c w None = refl
@@ -24,5 +26,11 @@ written_by r =
       one_written Black QueenSide r.black.queen_side,
     ) refl
 
-pub normal_kept : (p : Setup) → p.variant ≡ Normal → NormalIsKept p
-normal_kept p e = ap (λ v. rights_text v p.rights) e ∙ written_by p.rights
+rights_kept : (p : Setup) → p.variant ≡ Normal → rights_text p.variant p.rights ≡ normal_rights_text p.rights
+rights_kept p e = ap (λ v. rights_text v p.rights) e ∙ written_by p.rights
+
+pub fen_kept : (p : Setup) → p.variant ≡ Normal → fen p ≡ normal_fen p
+fen_kept p e =
+    ap (λ rights. join_with_byte space (placement_text p.men ∷ side_text p.side ∷ rights ∷ target_text p.target
+    ∷ decimal p.halfmove ∷ decimal p.fullmove ∷ []))
+    (rights_kept p e)

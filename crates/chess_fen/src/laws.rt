@@ -1,9 +1,11 @@
 //! Laws of FEN. A caller learns one by calling its function, which does nothing.
 
-ghost use Rattle.std.specs.Prelude.{◌≡◌};
+ghost use Rattle.std.specs.Prelude.{◌≡◌, ℕ, List};
 ghost use Rattle.chess_base.specs.declared.man.Variant.TheVariants.{Normal};
 ghost use Rattle.chess_base.specs.declared.setup.Setup.{Setup};
-ghost use Rattle.chess_fen.specs.laws.Normal.{NormalIsKept};
+ghost use Rattle.chess_fen.specs.Reading.{fen_reading_as};
+ghost use Rattle.chess_fen.specs.Writing.{fen};
+ghost use Rattle.chess_fen.specs.laws.Normal.{normal_fen, normal_fen_reading};
 ghost use Rattle.chess_fen.specs.laws.Laws.{WrittenIsSpelled, WrittenSpellsNoOther, WrittenIsReadBack, RightsAreNamed};
 
 /// The FEN that is written for a sound position spells it, and no other position, and is read as it.
@@ -19,7 +21,9 @@ pub fn rights_are_named()
     ensures { RightsAreNamed }
 {}
 
-/// The rights of a position of normal chess are written as they are said to be for normal chess alone.
+/// FEN of normal chess is what it is said to be for normal chess alone: each text is read so, and each position written
+/// so.
 pub fn normal_is_kept()
-    ensures { (p : Setup) → p.variant ≡ Normal → NormalIsKept p }
+    ensures read { (text : List ℕ) → fen_reading_as Normal text ≡ normal_fen_reading text }
+    ensures written { (p : Setup) → p.variant ≡ Normal → fen p ≡ normal_fen p }
 {}

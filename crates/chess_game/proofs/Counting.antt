@@ -1,6 +1,6 @@
 -- How often a position occurred, counted over the places of a game.
-use Rattle.std.proofs.Common.{◌≡◌, ◌∙◌, ℕ, ◌+◌, ◌<◌, ◌≤◌, Bool, List, [], ◌∷◌, length, take, get_or, count_by, cond, sym, ap, subst, arith}
-use Rattle.std.proofs.lemmas.List.Sums.{sum_by-cons, sum_by_more, count_by-le-length}
+use Rattle.std.proofs.Common.{◌≡◌, ◌∙◌, ℕ, ◌+◌, Bool, List, [], ◌∷◌, count_by, cond, sym, ap, subst}
+use Rattle.std.proofs.lemmas.List.Sums.{sum_by-cons}
 use Rattle.chess_base.specs.declared.setup.Setup.{Setup}
 use Rattle.chess_base.specs.Moves.{after}
 use Rattle.chess_game.specs.Line.{line, last}
@@ -24,19 +24,6 @@ seen-line p (x ∷ xs) q f =
     (seen-line x.reached.position xs q f.2) in
     sum_by-cons (λ r. one_if (same r q)) p (line (after p x.made) (moves_of xs))
     ∙ ap (λ n. one_if (same p q) + n) (behind ∙ sym (sum_by-cons (λ y. one_if (same y.reached.position q)) x xs))
-
--- one place more
-pub seen-more : (p : Setup) (xs : List Place) (q : Setup) (k : ℕ) (d : Place) → k < length xs
-    → seen p (take (k + 1) xs) q ≡ seen p (take k xs) q + one_if (same (get_or xs k d).reached.position q)
-seen-more p xs q k d h = let e = sum_by_more (λ x. one_if (same x.reached.position q)) xs k d h in omega (arith, e)
-
--- no more than the positions that there are
-pub seen-few : (p : Setup) (xs : List Place) (q : Setup) → seen p xs q ≤ length xs + 1
-seen-few p xs q = by_bit (same p q)
-  where
-    by_bit : (b : Bool) → one_if b + count_by (λ x. same x.reached.position q) xs ≤ length xs + 1
-    by_bit Bool.true = let h = count_by-le-length (λ x. same x.reached.position q) xs in omega arith
-    by_bit Bool.false = let h = count_by-le-length (λ x. same x.reached.position q) xs in omega arith
 
 pub counted : (p : Setup) (xs : List Place) (q : Setup) → Follows p xs → q ≡ last p (moves_of xs)
     → seen p xs q ≡ rep p (moves_of xs)

@@ -1,5 +1,5 @@
 -- Positions that are the same have the same men, side and rights, so their words by one definition are equal.
-use Rattle.std.proofs.Common.{◌≡◌, ℕ, ◌<◌, Bool, true, false, not, ◌&&◌, ◌==◌, List, [], ◌∷◌, length, get_or, Option, None, Some, refl, sym, ◌∙◌, ap, arith, true≢false}
+use Rattle.std.proofs.Common.{◌≡◌, ℕ, ◌<◌, true, false, not, ◌&&◌, ◌==◌, [], ◌∷◌, length, get_or, Option, None, Some, refl, sym, ◌∙◌, ap, arith, true≢false}
 use Rattle.std.proofs.lemmas.Bool.{and_parts, eqb-true, eq-eqb, false_from_ne_true}
 use Rattle.std.proofs.lemmas.List.{ext_get_or}
 use Rattle.chess_base.specs.declared.man.ColourRights.{ColourRights}
@@ -77,7 +77,7 @@ rights_equal r q e =
 
 -- ---- words
 
-equal_words : (f : Wording) (p q : Setup) → IsSound p → IsSound q → same p q ≡ true
+pub equal_words : (f : Wording) (p q : Setup) → IsSound p → IsSound q → same p q ≡ true
     → f p.men p.side p.rights ≡ f q.men q.side q.rights
 unfolding same
 equal_words f p q this that e =
@@ -91,6 +91,23 @@ equal_words f p q this that e =
     let b = same_colour-true p.side q.side first.0 in
     let c = rights_equal p.rights q.rights most.1 in
     (λ i. f (a i) (b i) (c i))
+
+-- what is the same as one of two positions that are the same is the same as the other
+pub same_alike : (p q r : Setup) → IsSound q → IsSound r → same q r ≡ true → same p q ≡ same p r
+unfolding same
+same_alike p q r this that e =
+    let sides = same_colour q.side r.side in
+    let men = same_men q.men r.men in
+    let rights = same_rights q.rights r.rights in
+    let all = and_parts (sides && men && rights) (same_square (live_target q) (live_target r)) e in
+    let most = and_parts (sides && men) rights all.0 in
+    let first = and_parts sides men most.0 in
+    let a = men_equal q.men r.men this.board that.board first.1 in
+    let b = same_colour-true q.side r.side first.0 in
+    let c = rights_equal q.rights r.rights most.1 in
+    let d = squares_equal (live_target q) (live_target r) all.1 in
+    (λ i. same_colour p.side (b i) && same_men p.men (a i) && same_rights p.rights (c i)
+    && same_square (live_target p) (d i))
 
 -- so words that differ tell positions apart
 pub told_apart : (f : Wording) (x y : Known) → IsSound x.position → IsSound y.position → HasWord f x → HasWord f y

@@ -1,14 +1,15 @@
 -- No position before a capture or a pawn move is the same as one after it.
-use Rattle.std.proofs.Common.{◌≡◌, ◌∙◌, inl, inr, ℕ, zero, suc, ◌+◌, ◌<◌, ◌≤◌, Bool, true, false, List, [], ◌∷◌, length, take, get_or, count_by, Option, None, Some, refl, sym, ap, subst, arith}
-use Rattle.std.specs.Prelude.{◌==◌, ◌&&◌, nat_le, sum, if◌then◌else◌}
-use Rattle.std.proofs.lemmas.Bool.Decides.{nat_tests}
+use Rattle.std.proofs.Common.{◌≡◌, ◌∙◌, inl, inr, ℕ, zero, suc, ◌+◌, ◌<◌, ◌≤◌, Bool, true, false, List, [], ◌∷◌, ◌++◌, length, get_or, Option, None, Some, refl, sym, ap, subst, arith}
+use Rattle.std.proofs.Math.Seq.{get_or-append_seam}
+use Rattle.std.proofs.lemmas.List.{length-append, get_or_append_left}
+use Rattle.std.specs.Prelude.{◌==◌, ◌&&◌, sum, if◌then◌else◌}
 use Rattle.chess_base.specs.declared.man.Move.{Move}
 use Rattle.std.proofs.lemmas.Bool.{cases_Bool, and_parts, eqb-true}
-use Rattle.std.proofs.lemmas.List.Sums.{sum_by-cons}
 use Rattle.chess_base.specs.declared.man.Kind.TheVariants.{Pawn}
 use Rattle.chess_base.specs.declared.man.Man.{Man}
+use Rattle.chess_base.specs.declared.setup.Saved.{Saved}
 use Rattle.chess_base.specs.declared.setup.Setup.{Setup}
-use Rattle.chess_base.specs.Men.{Men, man_at, other, same_colour, same_kind}
+use Rattle.chess_base.specs.Men.{Men, man_at, same_colour, same_kind}
 use Rattle.chess_base.specs.Moves.{after}
 use Rattle.chess_base.specs.Squares.{from_below}
 use Rattle.chess_base.specs.Squares.{each_square}
@@ -16,12 +17,15 @@ use Rattle.chess_base.specs.laws.Reserve.{reserve, weight, ranks_to_go}
 use Rattle.chess_base.specs.laws.Laws.{ReserveNeverGrows, ReserveFallsForGood}
 use Rattle.chess_base.proofs.OverSquares.{each_below-at}
 use Rattle.chess_base.proofs.MenFacts.{same_colour-true}
-use Rattle.chess_base.proofs.Changes.{not_same_other}
+use Rattle.chess_moves.specs.Made.{WasMade}
 use Rattle.chess_game.specs.Line.{last}
-use Rattle.chess_game.specs.Same.{same, rep, same_man, same_men, same_rights, same_square, live_target}
-use Rattle.chess_game.specs.ties.Places.{moves_of, Follows}
+use Rattle.chess_game.specs.Same.{same, same_man, same_men, same_rights, same_square, live_target}
+use Rattle.chess_game.specs.ties.Places.{moves_of, IsKnown, Follows}
+use Rattle.chess_game.specs.ties.Buckets.{known_at, is_same_at}
 use Rattle.chess_game.specs.declared.game.Place.{Place}
-use Rattle.chess_game.proofs.Counting.{seen, seen-more, counted, one_if}
+use Rattle.chess_game.specs.declared.repetition.Known.{Known}
+use Rattle.chess_game.proofs.Kept.{follows_more, last-more}
+use Rattle.chess_game.proofs.Positions.{known_before}
 
 -- ---- the same men have the same reserve
 
@@ -82,144 +86,78 @@ never_grows law p (x ∷ xs) f =
     (never_grows law x.reached.position xs f.2) in
     omega arith
 
--- where the place k was reached by a capture or a pawn move, no position before it is the same as the one at the end
-pub record NoneBefore (p : Setup) (xs : List Place) (k : ℕ) : Type 0 where
-  pub falls : reserve (last p (moves_of xs)).men < reserve p.men
-  pub none : seen p (take k xs) (last p (moves_of xs)) ≡ 0
-
-pub none_before : ReserveNeverGrows → ReserveFallsForGood → (p : Setup) (xs : List Place) (k : ℕ) (d : Place)
-    → Follows p xs → k < length xs → (get_or xs k d).reached.position.halfmove ≡ 0 → NoneBefore p xs k
-none_before grows falls p [] k d f h zeroed = absurd (omega arith)
-none_before grows falls p (y ∷ ys) zero d f h zeroed =
+-- where the place k was reached by a capture or a pawn move, each position before it has more in reserve than the last
+fallen : ReserveNeverGrows → ReserveFallsForGood → (start : Known) (xs : List Place) (k j : ℕ) (d : Place)
+    → Follows start.position xs → k < length xs → (get_or xs k d).reached.position.halfmove ≡ 0 → j ≤ k
+    → reserve (last start.position (moves_of xs)).men < reserve (known_at start xs j).position.men
+unfolding known_at
+fallen grows falls start [] k j d f h zeroed before = absurd (omega (arith, h))
+fallen grows falls start (y ∷ ys) zero zero d f h zeroed before =
+    let p = start.position in
     let lower : reserve (after p y.made).men < reserve p.men =
     falls p y.made f.0.sound f.0.legal (subst (λ v. v.halfmove ≡ 0) f.0.left zeroed) in
     let behind : reserve (last (after p y.made) (moves_of ys)).men ≤ reserve (after p y.made).men =
     subst (λ v. reserve (last v (moves_of ys)).men ≤ reserve v.men) f.0.left
     (never_grows grows y.reached.position ys f.2) in
-    let all : reserve (last p (moves_of (y ∷ ys))).men < reserve p.men = omega arith in
-    record { falls = all; none = rw (other_by_reserve p (last p (moves_of (y ∷ ys))) all) refl }
-none_before grows falls p (y ∷ ys) (suc k) d f h zeroed =
-    let behind = none_before grows falls y.reached.position ys k d f.2 (omega arith) zeroed in
-    let end : last y.reached.position (moves_of ys) ≡ last p (moves_of (y ∷ ys)) =
-    ap (λ v. last v (moves_of ys)) f.0.left in
+    omega (arith, lower, behind)
+fallen grows falls start (y ∷ ys) (suc k) zero d f h zeroed before =
+    let p = start.position in
     let one : reserve y.reached.position.men ≤ reserve p.men = subst (λ v. reserve v.men ≤ reserve p.men) (sym f.0.left)
     (grows p y.made f.0.sound f.0.legal) in
-    let lower : reserve (last p (moves_of (y ∷ ys))).men < reserve y.reached.position.men =
-    subst (λ v. reserve v.men < reserve y.reached.position.men) end behind.falls in
-    let all : reserve (last p (moves_of (y ∷ ys))).men < reserve p.men = omega arith in
-    let others : seen y.reached.position (take k ys) (last p (moves_of (y ∷ ys))) ≡ 0 =
-    subst (λ v. seen y.reached.position (take k ys) v ≡ 0) end behind.none in
-    let here : one_if (same p (last p (moves_of (y ∷ ys)))) ≡ 0 =
-    rw (other_by_reserve p (last p (moves_of (y ∷ ys))) all) refl in
-    let cons : count_by (λ z. same z.reached.position (last p (moves_of (y ∷ ys)))) (take (suc k) (y ∷ ys))
-    ≡ seen y.reached.position (take k ys) (last p (moves_of (y ∷ ys))) =
-    sum_by-cons (λ z. one_if (same z.reached.position (last p (moves_of (y ∷ ys))))) y (take k ys) in
-    record { falls = all; none = omega (arith, here, cons, others) }
+    let rest : reserve (last (after p y.made) (moves_of ys)).men < reserve y.reached.position.men =
+    subst (λ v. reserve (last v (moves_of ys)).men < reserve y.reached.position.men) f.0.left
+    (fallen grows falls y.reached ys k 0 d f.2 (omega (arith, h)) zeroed (omega arith)) in
+    omega (arith, one, rest)
+fallen grows falls start (y ∷ ys) zero (suc j) d f h zeroed before = absurd (omega (arith, before))
+fallen grows falls start (y ∷ ys) (suc k) (suc j) d f h zeroed before =
+    subst (λ v. reserve (last v (moves_of ys)).men < reserve (known_at y.reached ys j).position.men) f.0.left
+    (fallen grows falls y.reached ys k j d f.2 (omega (arith, h)) zeroed (omega (arith, before)))
 
--- ---- the count
+-- ---- a position that a move behind those of a game reached
 
--- at the start the count is whole
-pub all_counted : (p : Setup) (xs : List Place) (q : Setup) (count left : ℕ) → Follows p xs → q ≡ last p (moves_of xs)
-    → count + seen p (take left xs) q ≡ seen p xs q → left ≤ 0
-    → count + one_if (same p q) ≡ rep p (moves_of xs)
-all_counted p xs q count left f at e h =
-    let none_left : left ≡ 0 = omega arith in
-    let e' : count + seen p (take 0 xs) q ≡ seen p xs q = subst (λ n. count + seen p (take n xs) q ≡ seen p xs q)
-    none_left e in
-    let whole = counted p xs q f at in
-    omega (arith, e', whole)
+-- the place of that move
+place_of : Move → Saved → Known → Place
+place_of m s now = record { made = m; saved = s; reached = now; entry = record { earlier = 0; count = 0 } }
 
--- behind a capture or a pawn move it is whole too
-pub rest_counted : ReserveNeverGrows → ReserveFallsForGood
-    → (p : Setup) (xs : List Place) (q : Setup) (count k left : ℕ) (d : Place) → Follows p xs → q ≡ last p (moves_of xs)
-    → k < length xs → left ≡ k + 1 → count + seen p (take left xs) q ≡ seen p xs q
-    → (get_or xs k d).reached.position.halfmove ≡ 0
-    → count + one_if (same (get_or xs k d).reached.position q) ≡ rep p (moves_of xs)
-rest_counted grows falls p xs q count k left d f at h one_more e zeroed =
-    let before : seen p (take k xs) q ≡ 0 = subst (λ v. seen p (take k xs) v ≡ 0) (sym at)
-    (none_before grows falls p xs k d f h zeroed).none in
-    let more = seen-more p xs q k d h in
-    let e' : count + seen p (take (k + 1) xs) q ≡ seen p xs q = subst (λ n. count + seen p (take n xs) q ≡ seen p xs q)
-    one_more e in
-    let whole = counted p xs q f at in
-    omega (arith, e', more, before, whole)
+none_before : ReserveNeverGrows → ReserveFallsForGood → (start : Known) (xs : List Place) (now : Known)
+    (m : Move) (s : Saved) → IsKnown now → Follows start.position xs
+    → WasMade (last start.position (moves_of xs)) m s now.position
+    → (k : ℕ) (d : Place) → k < suc (length xs)
+    → (get_or (xs ++ place_of m s now ∷ []) k d).reached.position.halfmove ≡ 0 → (j : ℕ) → j ≤ k
+    → is_same_at start xs now.position j ≡ false
+unfolding place_of
+none_before grows falls start xs now m s known follows made k d h zeroed j before =
+    let x = place_of m s now in
+    let len = length-append xs (x ∷ []) in
+    let low : reserve (last start.position (moves_of (xs ++ x ∷ []))).men
+    < reserve (known_at start (xs ++ x ∷ []) j).position.men =
+    fallen grows falls start (xs ++ x ∷ []) k j d (follows_more start.position xs x follows made known)
+    (omega (arith, len, h)) zeroed before in
+    let end : reserve now.position.men < reserve (known_at start (xs ++ x ∷ []) j).position.men =
+    subst (λ v. reserve v.men < reserve (known_at start (xs ++ x ∷ []) j).position.men)
+    (sym (last-more start.position xs x made)) low in
+    ap (λ v. same v.position now.position) (sym (known_before start xs x j (omega (arith, h, before))))
+    ∙ other_by_reserve (known_at start (xs ++ x ∷ []) j).position now.position end
 
--- ---- sides take turns
+-- where that was a capture or a pawn move, it is the same as none of theirs
+pub none_is_same : ReserveNeverGrows → ReserveFallsForGood → (start : Known) (xs : List Place) (now : Known)
+    (m : Move) (s : Saved) → IsKnown now → Follows start.position xs
+    → WasMade (last start.position (moves_of xs)) m s now.position
+    → now.position.halfmove ≡ 0 → (j : ℕ) → j < length xs + 1 → is_same_at start xs now.position j ≡ false
+unfolding place_of
+none_is_same grows falls start xs now m s known follows made zeroed j h =
+    let x = place_of m s now in
+    none_before grows falls start xs now m s known follows made (length xs) x (omega arith)
+    (ap (λ (v : Place). v.reached.position.halfmove) (get_or-append_seam xs x [] x) ∙ zeroed) j (omega (arith, h))
 
-at_most_one : (b : Bool) → one_if b ≤ 1
-at_most_one true = omega arith
-at_most_one false = omega arith
-
-first_holds : (a b c d : Bool) → (a && b && c && d) ≡ true → a ≡ true
-first_holds true b c d e = refl
-first_holds false b c d e = e
-
-off_first : (a b c d : Bool) → a ≡ false → (a && b && c && d) ≡ false
-off_first a b c d e = rw e refl
-
--- of two positions with other sides on move not both are the same as a third
-not_both : (p q r : Setup) → r.side ≡ other p.side → one_if (same p q) + one_if (same r q) ≤ 1
-unfolding same
-not_both p q r turn =
-    elim (cases_Bool (same p q)) [
-      | inr off ↦
-          let none : one_if (same p q) ≡ 0 = ap one_if off in
-          let few = at_most_one (same r q) in
-          omega (arith, none, few)
-      | inl on ↦
-          let alike : p.side ≡ q.side =
-          same_colour-true p.side q.side
-          (first_holds (same_colour p.side q.side) (same_men p.men q.men) (same_rights p.rights q.rights)
-          (same_square (live_target p) (live_target q)) on) in
-          let turned : same_colour r.side q.side ≡ false = ap (λ c. same_colour c q.side) (turn ∙ ap other alike)
-          ∙ not_same_other q.side in
-          let none : one_if (same r q) ≡ 0 =
-          ap one_if (off_first (same_colour r.side q.side) (same_men r.men q.men) (same_rights r.rights q.rights)
-          (same_square (live_target r) (live_target q)) turned) in
-          let few = at_most_one (same p q) in
-          omega (arith, none, few)
-    ]
-
-side_after : (p : Setup) (m : Move) → (after p m).side ≡ other p.side
-unfolding after
-side_after p m = refl
-
-pairs : (p : Setup) (xs : List Place) (q : Setup) → Follows p xs
-    → count_by (λ x. same x.reached.position q) xs + count_by (λ x. same x.reached.position q) xs ≤ length xs + 1
-pairs p [] q f = omega arith
-pairs p (x ∷ []) q f =
-    let all = sum_by-cons (λ z. one_if (same z.reached.position q)) x [] in
-    let few = at_most_one (same x.reached.position q) in
-    omega (arith, all, few)
-pairs p (x ∷ y ∷ zs) q f =
-    let all = sum_by-cons (λ z. one_if (same z.reached.position q)) x (y ∷ zs) in
-    let others = sum_by-cons (λ z. one_if (same z.reached.position q)) y zs in
-    let turn : y.reached.position.side ≡ other x.reached.position.side = ap (λ v. v.side) f.2.0.left
-    ∙ side_after x.reached.position y.made in
-    let both = not_both x.reached.position q y.reached.position turn in
-    let rest = pairs y.reached.position zs q f.2.2 in
-    omega (arith, all, others, both, rest)
-
-pairs_behind : (p : Setup) (xs : List Place) (q : Setup) (k : ℕ) → Follows p xs → k ≤ length xs
-    → count_by (λ x. same x.reached.position q) xs + count_by (λ x. same x.reached.position q) xs + k ≤ count_by
-    (λ x. same x.reached.position q) (take k xs) + count_by (λ x. same x.reached.position q) (take k xs) + length xs
-    + 1
-pairs_behind p xs q zero f h = let all = pairs p xs q f in omega (arith, all)
-pairs_behind p [] q (suc k) f h = absurd (omega (arith, h))
-pairs_behind p (y ∷ ys) q (suc k) f h =
-    let rest = pairs_behind y.reached.position ys q k f.2 (omega (arith, h)) in
-    let all = sum_by-cons (λ z. one_if (same z.reached.position q)) y ys in
-    let front = sum_by-cons (λ z. one_if (same z.reached.position q)) y (take k ys) in
-    omega (arith, rest, all, front)
-
--- where one of the last eight places was reached by a capture or a pawn move, the position is there at most four times
-pub few_times : ReserveNeverGrows → ReserveFallsForGood → (p : Setup) (xs : List Place) (k : ℕ) (d : Place)
-    → Follows p xs → k < length xs → length xs ≤ k + 8
-    → (get_or xs k d).reached.position.halfmove ≡ 0 → false ≡ nat_le 5 (rep p (moves_of xs))
-few_times grows falls p xs k d f h near zeroed =
-    let before = (none_before grows falls p xs k d f h zeroed).none in
-    let all = counted p xs (last p (moves_of xs)) f refl in
-    let behind = pairs_behind p xs (last p (moves_of xs)) k f (omega (arith, h)) in
-    let few : rep p (moves_of xs) ≤ 4 = omega (arith, before, all, behind, near, h) in
-    let off : nat_le 5 (rep p (moves_of xs)) ≡ false = grind (arith, nat_tests, few) in
-    sym off
+-- where the place k was reached by one, it is the same as none before that
+pub none_is_same_before : ReserveNeverGrows → ReserveFallsForGood → (start : Known) (xs : List Place) (now : Known)
+    (m : Move) (s : Saved) → IsKnown now → Follows start.position xs
+    → WasMade (last start.position (moves_of xs)) m s now.position
+    → (k : ℕ) (d : Place) → k < length xs → (get_or xs k d).reached.position.halfmove ≡ 0
+    → (j : ℕ) → j < k + 1 → is_same_at start xs now.position j ≡ false
+none_is_same_before grows falls start xs now m s known follows made k d low zeroed j h =
+    let x = place_of m s now in
+    none_before grows falls start xs now m s known follows made k d (omega (arith, low))
+    (ap (λ (v : Place). v.reached.position.halfmove) (get_or_append_left xs (x ∷ []) d k low) ∙ zeroed) j
+    (omega (arith, h))

@@ -4,6 +4,8 @@ use Rattle.std.proofs.Math.Seq.{take-length}
 use Rattle.std.proofs.lemmas.Bool.Decides.{nat_tests}
 use Rattle.std.proofs.lemmas.List.{length-map}
 use Rattle.std.specs.List.{AllByRecursion}
+use Rattle.chess_base.specs.declared.man.Move.{Move}
+use Rattle.chess_base.specs.declared.setup.Saved.{Saved}
 use Rattle.chess_base.specs.declared.setup.Setup.{Setup}
 use Rattle.chess_base.specs.Moves.{after}
 use Rattle.chess_moves.specs.Made.{WasMade}
@@ -63,7 +65,7 @@ kept_line p [] f = tt
 kept_line p (x ∷ xs) f = (f.0.legal, subst (λ v. IsLine v (moves_of xs)) f.0.left (kept_line x.reached.position xs f.2))
 
 -- one more move
-follows_more : (p : Setup) (xs : List Place) (x : Place) → Follows p xs
+pub follows_more : (p : Setup) (xs : List Place) (x : Place) → Follows p xs
     → WasMade (last p (moves_of xs)) x.made x.saved x.reached.position → IsKnown x.reached → Follows p (xs ++ x ∷ [])
 follows_more p [] x f made known = (made, known, tt)
 follows_more p (y ∷ ys) x f made known =
@@ -75,7 +77,8 @@ follows_more p (y ∷ ys) x f made known =
           (subst (λ v. WasMade v x.made x.saved x.reached.position) at made) known,
     )
 
-last-more : (p : Setup) (xs : List Place) (x : Place) → WasMade (last p (moves_of xs)) x.made x.saved x.reached.position
+pub last-more : (p : Setup) (xs : List Place) (x : Place)
+    → WasMade (last p (moves_of xs)) x.made x.saved x.reached.position
     → x.reached.position ≡ last p (moves_of (xs ++ x ∷ []))
 last-more p [] x made = made.left
 last-more p (y ∷ ys) x made = last-more (after p y.made) ys x made
@@ -94,6 +97,13 @@ added p xs x before after f at made reached known =
     subst (λ v. WasMade v x.made x.saved x.reached.position) at
     (subst (WasMade before x.made x.saved) (sym reached) made) in
     record { follows = follows_more p xs x f here known; at_end = sym reached ∙ last-more p xs x here }
+
+-- the position of a move that was made at the end of the line
+pub made_at_end : (p : Setup) (xs ys : List Place) (m : Move) (s : Saved) (before after q : Setup) → ys ≡ xs
+    → before ≡ last p (moves_of xs) → WasMade before m s after → q ≡ after → WasMade (last p (moves_of ys)) m s q
+made_at_end p xs ys m s before after q list at made reached =
+    subst (λ (zs : List Place). WasMade (last p (moves_of zs)) m s q) (sym list)
+    (subst (λ v. WasMade v m s q) at (subst (WasMade before m s) (sym reached) made))
 
 -- one fewer
 follows_fewer : (p : Setup) (xs : List Place) (x : Place) → Follows p (xs ++ x ∷ []) → Follows p xs
@@ -121,12 +131,6 @@ fewer p xs ys x f is = follows_fewer p ys x (subst (Follows p) is f)
 -- each place has its word
 abbrev pub AllHave : Wording → List Place → Type 0
 AllHave f xs = AllByRecursion (λ (x : Place). HasWord f x.reached) xs
-
-pub word_at : (f : Wording) (xs : List Place) (k : ℕ) (d : Place) → AllHave f xs → k < length xs
-    → HasWord f (get_or xs k d).reached
-word_at f [] k d all h = absurd (omega arith)
-word_at f (x ∷ xs) zero d all h = all.0
-word_at f (x ∷ xs) (suc k) d all h = word_at f xs k d all.1 (omega arith)
 
 all_more : (f : Wording) (xs : List Place) (x : Place) → AllHave f xs → HasWord f x.reached → AllHave f (xs ++ x ∷ [])
 all_more f [] x all here = (here, tt)

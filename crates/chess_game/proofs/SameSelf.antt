@@ -1,5 +1,5 @@
 -- A position is the same as itself.
-use Rattle.std.proofs.Common.{◌≡◌, ℕ, zero, suc, Bool, true, Option, None, Some, cond, refl}
+use Rattle.std.proofs.Common.{◌≡◌, ℕ, zero, suc, Bool, true, Option, None, Some, refl}
 use Rattle.std.proofs.lemmas.Bool.{and_from, eq-eqb}
 use Rattle.chess_base.specs.declared.man.Man.{Man}
 use Rattle.chess_base.specs.declared.man.Rights.{Rights}
@@ -38,6 +38,3 @@ unfolding same
 same_self p =
     and_from _ _ (and_from _ _ (and_from _ _ (same_colour-self p.side) (men_self p.men)) (rights_self p.rights))
     (square_self (live_target p))
-
-pub met : (p q : Setup) → p ≡ q → ◌≡◌ {A = ℕ} 1 (cond (same p q) 1 0)
-met p q e = rw (← e, same_self p) refl

@@ -8,12 +8,15 @@ ghost use Rattle.chess_game.specs.Line.{last};
 ghost use Rattle.chess_game.specs.Same.{rep};
 ghost use Rattle.chess_game.specs.Ends.{verdict, claims};
 ghost use Rattle.chess_game.specs.Game.{at, from_start, with_declared, current, verdict_now, outcome_now, opened, is_over, is_full, play_refusal, unless_refused, after_play, last_move, after_take_back, declare_refusal, after_declare, IsPlayable};
-ghost use Rattle.chess_game.specs.ties.Places.{moves_of, IsKnown, Wording, HasWord, HaveWords, Follows, IsKept};
+ghost use Rattle.chess_game.specs.ties.Places.{moves_of, Follows, IsKept};
+ghost use Rattle.chess_game.specs.ties.Buckets.{HaveEntries};
+ghost use Rattle.chess_game.specs.declared.repetition.Known.{Known};
 
 use crate::ends::{Claims, Verdict, is_bare, mates};
+use crate::index::{Entry, Index};
 use crate::repetition::Known;
 use crate::results::{Comment, Declared, Outcome};
-use chess_base::{Move, Position, Saved, reserve_never_grows};
+use chess_base::{Move, Position, Saved};
 use chess_moves::Board;
 use std::alloc::{AllocError, Global};
 use std::marker::Model;
@@ -45,12 +48,13 @@ pub struct NoMove;
 #[error("the verdict on the game has another outcome")]
 pub struct BoardSaysOtherwise;
 
-// A move that was played: what it did not keep, and the position that it gave.
+// A move that was played: what it did not keep, the position that it gave, and the entry of that in the index.
 #[derive(Clone, Copy, PartialEq, Eq)]
 pub(crate) struct Place {
     pub(crate) made: Move,
     pub(crate) saved: Saved,
     pub(crate) reached: Known,
+    pub(crate) entry: Entry,
 }
 
 /// A game of at most `limit` half-moves on a board. In contracts it is its limit and its state: the start, the moves
@@ -60,6 +64,7 @@ pub struct Game<B: Board> {
     board: B,
     start: Known,
     places: Vec<Place>,
+    index: Index,
     verdict: Option<Verdict>,
     declared: Option<Declared>,
     limit: u32,
@@ -72,6 +77,7 @@ impl<B: Board> Model for Game<B> {
 
     ghost use Rattle.std.specs.Prelude.{vec_len, vec_capacity};
     ghost use Rattle.chess_game.specs.ties.Places.{moves_of, IsKept, IsJudged, HasRoom};
+    ghost use Rattle.chess_game.specs.ties.Buckets.{IsIndexed};
 
     ghost view = { λ g. record {
       limit = g.limit;
@@ -80,74 +86,27 @@ impl<B: Board> Model for Game<B> {
 
     ghost invariant = { λ g. IsKept B.word_of g.start g.places.items (B.position g.board)
         × IsJudged g.start.position (moves_of g.places.items) g.verdict
-        × HasRoom (vec_len g.places) g.limit (vec_capacity g.places) };
+        × HasRoom (vec_len g.places) g.limit (vec_capacity g.places)
+        × IsIndexed g.index.heads.items g.start g.places.items };
 }
 
-// The present position.
-fn present<'a>(start: &'a Known, places: &'a [Place]) -> &'a Known
-    requires start { IsKnown start.now }
-    requires follows { Follows start.now.position places.now }
-    ensures known { IsKnown result.now }
-    ensures word { (f : Wording) → HaveWords f start.now places.now → HasWord f result.now }
-    ensures position { result.now.position ≡ last start.now.position (moves_of places.now) }
+// How many positions from the start on are the same as the present one: the count of the last place.
+fn repetitions(places: &[Place]) -> u32
+    ensures { (start : Known) → Follows start.position places.now → HaveEntries start places.now
+        → result ≡ rep start.position (moves_of places.now) }
 {
     if places.is_empty() {
-        start
+        1
     } else {
-        &places[places.len() - 1].reached
+        places[places.len() - 1].entry.count
     }
 }
 
-// How many positions from the start on are the same as the present one. It looks back to the last capture or pawn move,
-// since no position before one comes back after it.
-#[tactic(auto, unfolding(crate::specs::Same::rep))]
-fn repetitions(start: &Known, places: &[Place]) -> usize
-    requires start { IsKnown start.now }
-    requires follows { Follows start.now.position places.now }
-    requires words { (f : Wording) × HaveWords f start.now places.now }
-    ensures value { result ≡ rep start.now.position (moves_of places.now) }
-    ensures few { result ≤ length places.now + 1 }
-{
-    // The prover wants this law: the reserve of the men falls with each capture and pawn move, and never grows.
-    reserve_never_grows();
-    let now = present(start, places);
-    let mut count = 0;
-    let mut left = places.len();
-    while left > 0 {
-        left -= 1;
-        let reached = &places[left].reached;
-        count += reached.times_met(left + 1 == places.len(), now);
-        if reached.position.setup().halfmove == 0 {
-            return count;
-        }
-    }
-    count + start.times_same(now)
-}
-
-// Whether the present position, of that clock, is there for at least the fifth time. Sides take turns, so that needs
-// more than eight positions since the last capture or pawn move.
-fn is_fivefold(start: &Known, places: &[Place], halfmove: u32) -> bool
-    requires start { IsKnown start.now }
-    requires follows { Follows start.now.position places.now }
-    requires words { (f : Wording) × HaveWords f start.now places.now }
-    ensures { result ≡ nat_le 5 (rep start.now.position (moves_of places.now)) }
-{
-    reserve_never_grows();
-    let ago = halfmove as usize;
-    if ago < 8 && ago < places.len() {
-        let first = &places[places.len() - 1 - ago].reached;
-        if first.position.setup().halfmove == 0 {
-            return false;
-        }
-    }
-    repetitions(start, places) >= 5
-}
-
-// The verdict on a game that is kept so.
+// The verdict on the game of that board and those places.
 #[tactic(auto, unfolding(crate::specs::Ends::verdict))]
-fn verdict_on<B: Board>(board: &B, start: &Known, places: &[Place]) -> Option<Verdict>
-    requires { IsKept B.word_of start.now places.now (B.position board.now) }
-    ensures { result ≡ verdict start.now.position (moves_of places.now) }
+fn verdict_on<B: Board>(board: &B, places: &[Place]) -> Option<Verdict>
+    ensures { (start : Known) → IsKept B.word_of start places.now (B.position board.now)
+        → HaveEntries start places.now → result ≡ verdict start.position (moves_of places.now) }
 {
     let setup = board.setup();
     if !board.has_legal_move() {
@@ -158,7 +117,7 @@ fn verdict_on<B: Board>(board: &B, start: &Known, places: &[Place]) -> Option<Ve
         }
     } else if is_bare(&setup.men) {
         Some(Verdict::InsufficientMaterial)
-    } else if is_fivefold(start, places, setup.halfmove) {
+    } else if repetitions(places) >= 5 {
         Some(Verdict::FivefoldRepetition)
     } else if setup.halfmove >= 150 {
         Some(Verdict::SeventyFiveMoves)
@@ -180,11 +139,14 @@ impl<B: Board + Drop> Game<B> {
         board.set(&Position::initial());
         let start = Known::on(&board);
         let places = Vec::with_capacity(alloc, limit as usize)?;
-        let verdict = verdict_on(&board, &start, places.as_slice());
+        let mut index = Index::open(alloc)?;
+        index.begin(&start);
+        let verdict = verdict_on(&board, places.as_slice());
         Ok(Game {
             board,
             start,
             places,
+            index,
             verdict,
             declared: None,
             limit,
@@ -198,10 +160,12 @@ impl<B: Board> Game<B> {
         ensures { self.new ≡ at self.old (from_start start.now) }
     {
         self.board.set(start);
+        self.index.clear(&self.start, self.places.as_slice());
         self.start = Known::on(&self.board);
+        self.index.begin(&self.start);
         self.places.clear();
         self.declared = None;
-        self.verdict = verdict_on(&self.board, &self.start, self.places.as_slice());
+        self.verdict = verdict_on(&self.board, self.places.as_slice());
     }
 
     /// Plays a move.
@@ -245,16 +209,25 @@ impl<B: Board> Game<B> {
         // The prover wants two variables here: one move is given to the board, and one is kept.
         let made = m;
         let saved = self.board.make(made);
-        let place = Place {
+        // The entry is put in last, where the place already is: a half-move then copies its position once less.
+        let mut place = Place {
             made: m,
             saved,
             reached: Known::on(&self.board),
+            entry: Entry {
+                earlier: 0,
+                count: 1,
+            },
         };
+        let entry = self
+            .index
+            .push(&self.start, self.places.as_slice(), &place.reached);
+        place.entry = entry;
         // There is room: `open` took a place for each half-move that can stand.
         if self.places.push(place).is_err() {
             unreachable!();
         }
-        self.verdict = verdict_on(&self.board, &self.start, self.places.as_slice());
+        self.verdict = verdict_on(&self.board, self.places.as_slice());
     }
 
     /// Takes the last move back and clears what was declared; gives the move.
@@ -275,6 +248,7 @@ impl<B: Board> Game<B> {
         match self.places.pop() {
             None => Err(NoMove),
             Some(place) => {
+                self.index.pop(&place);
                 // The prover wants two variables here: one move is given to the board, and one is told.
                 let made = place.made;
                 self.board.take_back(made, place.saved);
@@ -373,7 +347,7 @@ impl<B: Board> Game<B> {
     pub fn repetitions(&self) -> u32
         ensures { result ≡ rep self.now.state.start self.now.state.moves }
     {
-        repetitions(&self.start, self.places.as_slice()) as u32
+        repetitions(self.places.as_slice())
     }
 
     /// What the player on move may claim a draw by.

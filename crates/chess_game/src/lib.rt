@@ -13,6 +13,7 @@
 
 mod ends;
 mod game;
+mod index;
 mod repetition;
 mod results;
 

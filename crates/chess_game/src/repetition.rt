@@ -64,27 +64,13 @@ impl Known {
     }
 
     // 1 where the two positions are the same, else 0.
-    pub(crate) fn times_same(&self, other: &Known) -> usize
+    pub(crate) fn times_same(&self, other: &Known) -> u32
         requires this { IsKnown self.now }
         requires other { IsKnown other.now }
         requires words { ShareWording self.now other.now }
         ensures { result ≡ cond (same self.now.position other.now.position) 1 0 }
     {
         if self.is_same(other) { 1 } else { 0 }
-    }
-
-    // The same; where they are known to be one position nothing is compared.
-    pub(crate) fn times_met(&self, is_one: bool, other: &Known) -> usize
-        requires this { IsKnown self.now }
-        requires other { IsKnown other.now }
-        requires words { ShareWording self.now other.now }
-        requires one { is_one ≡ true → self.now.position ≡ other.now.position }
-        ensures { result ≡ cond (same self.now.position other.now.position) 1 0 }
-    {
-        if is_one {
-            return 1;
-        }
-        self.times_same(other)
     }
 }
 

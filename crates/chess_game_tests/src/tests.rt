@@ -1,6 +1,7 @@
 ghost use Rattle.chess_moves.specs.PositionWord.{position_word};
 
 use chess_base::{Kind, Move, Position, Saved, Setup, Square};
+use chess_bits::{AttackTables, Bits};
 use chess_fen::{read_fen, write_fen};
 use chess_game::{
     BoardSaysOtherwise, Claims, Comment, Game, MOST_MOVES, NoMove, Outcome, PlayRefusal, Verdict,
@@ -473,16 +474,30 @@ fn all_go<B: Board>(rt: &impl Abort, game: &mut Game<B>, steps: &[Step]) -> Resu
     Ok(())
 }
 
+fn wordless_board() -> Wordless {
+    Wordless {
+        plain: Plain::new(),
+    }
+}
+
 // Opens a game of at most so many half-moves on a board, and takes these steps.
-fn game_goes(
+fn game_goes_on<B: Board + Drop>(
     rt: &impl Abort,
     alloc: Global,
-    board: Plain,
+    board: B,
     limit: u32,
     steps: &[Step],
 ) -> Result<(), Fail> {
     let mut game = opened(rt, alloc, board, limit)?;
     all_go(rt, &mut game, steps)
+}
+
+// The same on both boards, and on the one whose words are all 0.
+fn game_goes(rt: &impl Abort, alloc: Global, limit: u32, steps: &[Step]) -> Result<(), Fail> {
+    game_goes_on(rt, alloc, Plain::new(), limit, steps)?;
+    let tables = AttackTables::open(alloc)?;
+    game_goes_on(rt, alloc, Bits::new(&tables), limit, steps)?;
+    game_goes_on(rt, alloc, wordless_board(), limit, steps)
 }
 
 const INITIAL: &[u8] = b"rnbqkbnr/pppppppp/8/8/8/8/PPPPPPPP/RNBQKBNR w KQkq - 0 1";
@@ -914,12 +929,9 @@ fn ends_as_told<B: Board + Drop>(rt: &impl Abort, alloc: Global, board: B) -> Re
 #[test]
 fn ends_and_claims(rt: HostRuntime) -> Result<(), Fail> {
     ends_as_told(&rt, rt.alloc(), Plain::new())?;
-    let calls = Calls::none();
-    ends_as_told(&rt, rt.alloc(), counting_board(&calls))?;
-    let board = Wordless {
-        plain: Plain::new(),
-    };
-    ends_as_told(&rt, rt.alloc(), board)
+    let tables = AttackTables::open(rt.alloc())?;
+    ends_as_told(&rt, rt.alloc(), Bits::new(&tables))?;
+    ends_as_told(&rt, rt.alloc(), wordless_board())
 }
 
 const MATE: &[Step] = &[
@@ -944,7 +956,7 @@ const MATE: &[Step] = &[
 // 1. f3 e5 2. g4 Qh4#. The game is over until its last move is taken back, whatever is declared.
 #[test]
 fn mate_stands_against_declared_results(rt: HostRuntime) -> Result<(), Fail> {
-    game_goes(&rt, rt.alloc(), Plain::new(), 100, MATE)
+    game_goes(&rt, rt.alloc(), 100, MATE)
 }
 
 const RESULTS: &[Step] = &[
@@ -977,7 +989,7 @@ const RESULTS: &[Step] = &[
 
 #[test]
 fn declared_results_end_the_game(rt: HostRuntime) -> Result<(), Fail> {
-    game_goes(&rt, rt.alloc(), Plain::new(), 100, RESULTS)
+    game_goes(&rt, rt.alloc(), 100, RESULTS)
 }
 
 const FIVE_TIMES: &[Step] = &[
@@ -1000,7 +1012,43 @@ const FIVE_TIMES: &[Step] = &[
 // A claim at the third time ends the game; without it, the fifth time does.
 #[test]
 fn fifth_time_is_taken_back(rt: HostRuntime) -> Result<(), Fail> {
-    game_goes(&rt, rt.alloc(), Plain::new(), 100, FIVE_TIMES)
+    game_goes(&rt, rt.alloc(), 100, FIVE_TIMES)
+}
+
+// On a board whose words are all 0, all positions are in one bucket.
+const RESTARTED: &[Step] = &[
+    Step::PlaysAll(b"g1f3 g8f6 f3g1 f6g8 g1f3 g8f6 f3g1 f6g8"),
+    Step::Is(State::HasRepetitions(3)),
+    // Nothing is left of the positions of a game that begins anew, at the same start or at another.
+    Step::RestartsInitial,
+    Step::Is(State::HasRepetitions(1)),
+    Step::PlaysAll(b"g1f3 g8f6"),
+    Step::Is(State::HasRepetitions(1)),
+    Step::PlaysAll(b"f3g1 f6g8"),
+    Step::Is(State::HasRepetitions(2)),
+    Step::Restarts(AFTER_NG1),
+    Step::Is(State::HasRepetitions(1)),
+    Step::PlaysAll(b"g8f6 g1f3 f6g8"),
+    Step::Is(State::HasRepetitions(1)),
+    // What is taken back is counted no more.
+    Step::PlaysAll(b"f3g1"),
+    Step::Is(State::HasRepetitions(2)),
+    Step::IsTakenBack(b"f3g1"),
+    Step::Is(State::HasRepetitions(1)),
+    Step::PlaysAll(b"f3g1 g8f6"),
+    Step::Is(State::HasRepetitions(2)),
+    Step::IsTakenBack(b"g8f6"),
+    Step::IsTakenBack(b"f3g1"),
+    Step::IsTakenBack(b"f6g8"),
+    Step::IsTakenBack(b"g1f3"),
+    Step::Is(State::HasRepetitions(1)),
+    Step::PlaysAll(b"g1f3 f6g8 f3g1"),
+    Step::Is(State::HasRepetitions(2)),
+];
+
+#[test]
+fn a_game_that_begins_anew_counts_anew(rt: HostRuntime) -> Result<(), Fail> {
+    game_goes(&rt, rt.alloc(), 100, RESTARTED)
 }
 
 const THREE_MOVES: &[Step] = &[
@@ -1024,7 +1072,7 @@ const THREE_MOVES: &[Step] = &[
 // A game over comes before the limit, and the limit before an illegal move.
 #[test]
 fn no_more_moves_than_the_limit(rt: HostRuntime) -> Result<(), Fail> {
-    game_goes(&rt, rt.alloc(), Plain::new(), 3, THREE_MOVES)
+    game_goes(&rt, rt.alloc(), 3, THREE_MOVES)
 }
 
 // A position, and the positions after each of four half-moves from there.
@@ -1060,7 +1108,7 @@ const LINE: &[Step] = &[
 // The FEN after each half-move.
 #[test]
 fn positions_of_a_line(rt: HostRuntime) -> Result<(), Fail> {
-    game_goes(&rt, rt.alloc(), Plain::new(), 100, LINE)
+    game_goes(&rt, rt.alloc(), 100, LINE)
 }
 
 const AT_FIRST: &[Step] = &[
@@ -1072,17 +1120,18 @@ const AT_FIRST: &[Step] = &[
     Step::Is(State::HasRoom),
 ];
 
-fn board_at(fen: &[u8]) -> Result<Plain, Fail> {
-    let mut board = Plain::new();
-    board.set(&read_fen(fen)?);
-    Ok(board)
+// Opens a game on a board that is elsewhere.
+fn game_opens<B: Board + Drop>(rt: &impl Abort, alloc: Global, mut board: B) -> Result<(), Fail> {
+    board.set(&read_fen(b"4k3/8/8/8/8/8/8/R3K3 w - - 99 80")?);
+    game_goes_on(rt, alloc, board, 20_000, AT_FIRST)
 }
 
 // A board that was elsewhere is at the initial position once a game has it.
 #[test]
 fn game_opens_at_the_initial_position(rt: HostRuntime) -> Result<(), Fail> {
-    let board = board_at(b"4k3/8/8/8/8/8/8/R3K3 w - - 99 80")?;
-    game_goes(&rt, rt.alloc(), board, 20_000, AT_FIRST)
+    game_opens(&rt, rt.alloc(), Plain::new())?;
+    let tables = AttackTables::open(rt.alloc())?;
+    game_opens(&rt, rt.alloc(), Bits::new(&tables))
 }
 
 const PROMOTION: &[Step] = &[
@@ -1094,7 +1143,7 @@ const PROMOTION: &[Step] = &[
 
 #[test]
 fn promotion_to_a_knight_leaves_too_few_men(rt: HostRuntime) -> Result<(), Fail> {
-    game_goes(&rt, rt.alloc(), Plain::new(), 100, PROMOTION)
+    game_goes(&rt, rt.alloc(), 100, PROMOTION)
 }
 
 fn were_called(rt: &impl Abort, calls: &Calls, times: (u32, u32, u32)) {
@@ -1212,6 +1261,14 @@ fn are_taken_back<B: Board>(rt: &impl Abort, game: &mut Game<B>, moves: &[&[u8; 
     }
 }
 
+// None of these asks for a word.
+const NOT_ASKED: &[Step] = &[
+    Step::Is(State::HasRepetitions(3)),
+    Step::Is(State::HasClaims(THREEFOLD)),
+    Step::Is(State::HasVerdict(None)),
+    Step::Is(State::GoesOn),
+];
+
 // A game keeps the words of its positions: each is asked for once, when the position is reached.
 #[test]
 fn each_position_is_asked_for_its_word_once(rt: HostRuntime) -> Result<(), Fail> {
@@ -1222,8 +1279,7 @@ fn each_position_is_asked_for_its_word_once(rt: HostRuntime) -> Result<(), Fail>
     was_asked(&rt, &calls, 1);
     let there_and_back = &MOVES[..8];
     are_asked_for_their_words_once(&rt, &mut game, &calls, there_and_back);
-    has_repetitions(&rt, &game, 3);
-    has_claims(&rt, &game, THREEFOLD);
+    all_go(&rt, &mut game, NOT_ASKED)?;
     are_taken_back(&rt, &mut game, there_and_back);
     has_repetitions(&rt, &game, 1);
     was_asked(&rt, &calls, 0);

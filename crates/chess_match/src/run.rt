@@ -347,6 +347,13 @@ fn items_text(phase: Phase, said: EngineLine<'_>) -> &[u8]
     }
 }
 
+// Whether a line is heard: byte 10 ends it. What comes after the last byte 10 is the end of the output.
+fn is_heard(line: &Line<ENGINE_LINE_LEN>) -> bool
+    ensures { result ≡ line.now.ended }
+{
+    line.is_ended()
+}
+
 // What a line says; of one that is too long nothing.
 fn said(line: &Line<ENGINE_LINE_LEN>) -> EngineLine<'_>
     ensures { seen result ≡ kind_heard (text_heard line.now) }
@@ -408,7 +415,7 @@ fn note<'a, M: Moments, G: Played>(
         Err(_) => (core.read_fails(side), b"".as_slice()),
         Ok(None) => (core.output_ends(side), b"".as_slice()),
         Ok(Some(line)) => {
-            if line.is_ended() {
+            if is_heard(line) {
                 hear_line(core, moments, game, line, side)
             } else {
                 (core.output_ends(side), b"".as_slice())

@@ -88,6 +88,23 @@ fn add_clocks(block: &mut Block, core: &Core, side: Colour)
     }
 }
 
+// The opening of a later turn: both clocks, and then the last move.
+fn add_later_opening<G: Played, S: Board>(
+    block: &mut Block,
+    core: &Core,
+    game: &G,
+    scratch: &mut S,
+    mover: Colour,
+)
+    requires { array_vec_len block.old + 100 ≤ BLOCK_LEN }
+    ensures text { (r : Rules) (m : Match) → G.plays game.now r → Stands r core.now (G.played game.now) m
+        → block.new.items ≡ block.old.items ++ bytes_of (clock_lines r m mover ++ last_move_lines r m mover) }
+    ensures len { array_vec_len block.new ≤ array_vec_len block.old + 100 }
+{
+    add_clocks(block, core, mover);
+    add_last_if(block, core, game, scratch, mover);
+}
+
 // The opening of a side's turn.
 fn add_opening<G: Played, S: Board>(
     block: &mut Block,
@@ -102,8 +119,7 @@ fn add_opening<G: Played, S: Board>(
     ensures len { array_vec_len block.new ≤ array_vec_len block.old + 100 }
 {
     if core.clocks.moves(side) > 0 {
-        add_clocks(block, core, side);
-        add_last_if(block, core, game, scratch, side);
+        add_later_opening(block, core, game, scratch, side);
     } else {
         add_last_if(block, core, game, scratch, side);
         add_clocks(block, core, side);

@@ -1,7 +1,8 @@
-use crate::plays::{Listed, is_fault, is_text, play_over, setup_of};
+use crate::plays::{BOARDS, Listed, On, is_text, is_told, play_over, setup_of};
 use byte_devices::{Counted, PieceReader, PieceWriter};
 use chess_base::{Colour, Position};
 use chess_fen::read_fen;
+use chess_game::Outcome;
 use chess_match::{Ends, MatchFault, Moments};
 use std::alloc::Global;
 use std::cell::Cell;
@@ -9,28 +10,34 @@ use std::io::{Error, ErrorKind, Read, Write};
 use std::process::Abort;
 use std::test::Fail;
 
-/// A match: its level and start, what the engines say, the moments, and what the engines are sent.
-struct Row {
-    level: &'static [u8],
-    start: &'static [u8],
-    white: &'static [u8],
-    black: &'static [u8],
-    moments: &'static [u64],
-    to_white: &'static [u8],
-    to_black: &'static [u8],
+/// A match: its level and start, how many half-moves can stand, what the engines say, the moments, and what the engines
+/// are sent.
+pub struct Row {
+    pub level: &'static [u8],
+    pub start: &'static [u8],
+    pub limit: u32,
+    pub white: &'static [u8],
+    pub black: &'static [u8],
+    pub moments: &'static [u64],
+    pub to_white: &'static [u8],
+    pub to_black: &'static [u8],
 }
 
-// What Black is sent in the first match, and where the end lines to White fail.
+// What both are sent in the first match; Black also where the end lines to White fail.
+const MATE_TO_WHITE: &[u8] =
+    b"xboard\nprotover 2\naccepted ping\naccepted usermove\naccepted done\nnew\nlevel 0 0:10 0\nnopost\neasy\nforce\nping 1\ntime 1000\notim 1000\ngo\nping 2\ntime 1000\notim 1000\nusermove e7e5\nping 3\nusermove d8h4\nresult 0-1 {Black mates}\nquit\n";
+
 const MATE_TO_BLACK: &[u8] =
     b"xboard\nprotover 2\naccepted ping\naccepted done\nnew\nlevel 0 0:10 0\nnopost\neasy\nforce\nping 1\nf2f3\ntime 1000\notim 1000\ngo\nping 2\ntime 1000\notim 1000\ng2g4\nresult 0-1 {Black mates}\nquit\n";
 
 const FOOLS_MATE: Row = Row {
     level: b"0 0:10 0",
     start: b"",
+    limit: 100,
     white: b"feature ping=1 usermove=1 done=1\npong 1\nmove f2f3\npong 2\nmove g2g4\npong 3\n",
     black: b"feature ping=1 done=1\npong 1\nmove e7e5\npong 2\nmove d8h4\n",
     moments: &[0; 15],
-    to_white: b"xboard\nprotover 2\naccepted ping\naccepted usermove\naccepted done\nnew\nlevel 0 0:10 0\nnopost\neasy\nforce\nping 1\ntime 1000\notim 1000\ngo\nping 2\ntime 1000\notim 1000\nusermove e7e5\nping 3\nusermove d8h4\nresult 0-1 {Black mates}\nquit\n",
+    to_white: MATE_TO_WHITE,
     to_black: MATE_TO_BLACK,
 };
 
@@ -39,6 +46,7 @@ const ROWS: &[Row] = &[
     Row {
         level: b"0 0:10 0",
         start: b"",
+        limit: 100,
         white: b"feature ping=1 usermove=1 done=1\npong 1\nmove e2e5\n",
         black: b"feature ping=1 done=1\npong 1\n",
         moments: &[0; 6],
@@ -48,6 +56,7 @@ const ROWS: &[Row] = &[
     Row {
         level: b"0 0:10 0",
         start: b"",
+        limit: 100,
         white: b"feature ping=1 done=1\npong 1\nmove g1f3\npong 2\nmove f3g1\npong 3\nmove g1f3\npong 4\nmove f3g1\npong 5\n",
         black: b"feature ping=1 done=1\npong 1\nmove g8f6\npong 2\nmove f6g8\n1/2-1/2 {Draw by repetition}\npong 3\nmove g8f6\npong 4\nmove f6g8\n1/2-1/2 {Draw by repetition}\n",
         moments: &[0; 29],
@@ -57,6 +66,7 @@ const ROWS: &[Row] = &[
     Row {
         level: b"0 0:10 2",
         start: b"",
+        limit: 100,
         white: b"feature ping=1 usermove=1 done=1\npong 1\nmove e2e4\npong 2\n",
         black: b"feature ping=1 done=1\npong 1\nmove e7e5\npong 2\n",
         moments: &[0, 0, 0, 0, 5000, 15000, 16000, 16000, 16000, 16000, 16000],
@@ -66,6 +76,7 @@ const ROWS: &[Row] = &[
     Row {
         level: b"0 0:10 2",
         start: b"",
+        limit: 100,
         white: b"feature ping=1 usermove=1 done=1\npong 1\nmove e2e4\n",
         black: b"feature ping=1 done=1\npong 1\n",
         moments: &[0, 0, 0, 0, 5000, 15001],
@@ -75,6 +86,7 @@ const ROWS: &[Row] = &[
     Row {
         level: b"0 0:10 2",
         start: b"4k3/8/8/8/8/8/8/R3K3 w - - 0 1",
+        limit: 100,
         white: b"feature ping=1 setboard=1 done=1\npong 1\nx\n",
         black: b"feature ping=1 setboard=1 done=1\npong 1\n",
         moments: &[0, 0, 0, 0, 5000, 15001],
@@ -84,6 +96,7 @@ const ROWS: &[Row] = &[
     Row {
         level: b"2 1 3",
         start: b"",
+        limit: 100,
         white: b"feature ping=1 usermove=1 done=1\npong 1\nmove f2f3\npong 2\nmove g2g4\npong 3\n",
         black: b"feature ping=1 done=1\npong 1\nmove e7e5\npong 2\nmove d8h4\n",
         moments: &[
@@ -95,6 +108,7 @@ const ROWS: &[Row] = &[
     Row {
         level: b"0 0:10 0",
         start: b"",
+        limit: 100,
         white: b"feature ping=1 foo=\"a b\" sigint=x san=1\nfeature done=1\n",
         black: b"feature done=1\n",
         moments: &[0; 3],
@@ -104,6 +118,7 @@ const ROWS: &[Row] = &[
     Row {
         level: b"0 0:10 0",
         start: b"",
+        limit: 100,
         white: b"feature ping=1 usermove=1 done=1\npong 1\nmove f2f3\npong 2\noffer draw\n",
         black: b"feature ping=1 done=1\npong 1\noffer draw\nmove e7e5\npong 2\n",
         moments: &[0; 13],
@@ -113,6 +128,7 @@ const ROWS: &[Row] = &[
     Row {
         level: b"0 0:10 0",
         start: b"",
+        limit: 100,
         white: b"feature ping=1 usermove=1 done=1\npong 1\nmove f2f3\nmove g2g4\n",
         black: b"feature ping=1 done=1\npong 1\n",
         moments: &[0; 7],
@@ -122,20 +138,25 @@ const ROWS: &[Row] = &[
     Row {
         level: b"0 0:10 0",
         start: b"",
+        limit: 100,
         white: b"feature ping=1 usermove=1 done=1\npong 1\nmove f2f3\npong 2\n",
         black: b"feature ping=1 done=1\npong 1\n0-1 {mate}\n",
         moments: &[0; 9],
         to_white: b"xboard\nprotover 2\naccepted ping\naccepted usermove\naccepted done\nnew\nlevel 0 0:10 0\nnopost\neasy\nforce\nping 1\ntime 1000\notim 1000\ngo\nping 2\nresult 1-0 {Black makes a false claim}\nquit\n",
         to_black: b"xboard\nprotover 2\naccepted ping\naccepted done\nnew\nlevel 0 0:10 0\nnopost\neasy\nforce\nping 1\nf2f3\ntime 1000\notim 1000\ngo\nresult 1-0 {Black makes a false claim}\nquit\n",
     },
+    // A move that comes before its opening ends uses no time.
     Row {
         level: b"0 0:10 0",
         start: b"",
-        white: b"feature ping=1 usermove=1 done=1\npong 1\nmove f2f3\npong 2\n",
-        black: b"feature ping=1 done=1\npong 1\nresign\n",
-        moments: &[0, 0, 0, 0, 5000, 4000, 4000, 4000, 4000],
-        to_white: b"xboard\nprotover 2\naccepted ping\naccepted usermove\naccepted done\nnew\nlevel 0 0:10 0\nnopost\neasy\nforce\nping 1\ntime 1000\notim 1000\ngo\nping 2\nresult 1-0 {Black resigns}\nquit\n",
-        to_black: b"xboard\nprotover 2\naccepted ping\naccepted done\nnew\nlevel 0 0:10 0\nnopost\neasy\nforce\nping 1\nf2f3\ntime 1000\notim 1000\ngo\nresult 1-0 {Black resigns}\nquit\n",
+        limit: 100,
+        white: b"feature ping=1 usermove=1 done=1\npong 1\nmove f2f3\npong 2\nmove g2g4\npong 3\n",
+        black: b"feature ping=1 done=1\npong 1\nmove e7e5\npong 2\nmove d8h4\n",
+        moments: &[
+            0, 0, 0, 0, 5000, 4000, 4000, 4000, 4000, 4000, 4000, 4000, 4000, 4000, 4000,
+        ],
+        to_white: MATE_TO_WHITE,
+        to_black: MATE_TO_BLACK,
     },
 ];
 
@@ -171,11 +192,13 @@ fn are_sent(
     );
 }
 
-/// Calls of the devices that fail in the first match, 0 for none: the fault, and what both engines are sent.
+/// Calls of the devices that fail in the first match, 0 for none: the end, and what both engines are sent.
 struct Broken {
     white_read: u64,
     white_write: u64,
     black_write: u64,
+    outcome: Outcome,
+    comment: &'static [u8],
     fault: (Colour, MatchFault),
     to_white: &'static [u8],
     to_black: &'static [u8],
@@ -186,6 +209,8 @@ const BROKEN: &[Broken] = &[
         white_read: 1,
         white_write: 0,
         black_write: 0,
+        outcome: Outcome::Unfinished,
+        comment: b"White can not be read",
         fault: (Colour::White, MatchFault::Read),
         to_white: b"xboard\nprotover 2\nresult * {White can not be read}\nquit\n",
         to_black: b"result * {White can not be read}\nquit\n",
@@ -194,6 +219,8 @@ const BROKEN: &[Broken] = &[
         white_read: 0,
         white_write: 0,
         black_write: 1,
+        outcome: Outcome::Unfinished,
+        comment: b"Black can not be written",
         fault: (Colour::Black, MatchFault::Write),
         to_white: b"xboard\nprotover 2\naccepted ping\naccepted usermove\naccepted done\nresult * {Black can not be written}\nquit\n",
         to_black: b"",
@@ -202,6 +229,8 @@ const BROKEN: &[Broken] = &[
         white_read: 0,
         white_write: 1,
         black_write: 0,
+        outcome: Outcome::Unfinished,
+        comment: b"White can not be written",
         fault: (Colour::White, MatchFault::Write),
         to_white: b"",
         to_black: b"result * {White can not be written}\nquit\n",
@@ -211,6 +240,8 @@ const BROKEN: &[Broken] = &[
         white_read: 0,
         white_write: 4,
         black_write: 0,
+        outcome: Outcome::Unfinished,
+        comment: b"White can not be written",
         fault: (Colour::White, MatchFault::Write),
         to_white: b"xboard\nprotover 2\naccepted ping\naccepted usermove\naccepted done\n",
         to_black: b"result * {White can not be written}\nquit\n",
@@ -220,6 +251,8 @@ const BROKEN: &[Broken] = &[
         white_read: 0,
         white_write: 15,
         black_write: 0,
+        outcome: Outcome::BlackWins,
+        comment: b"Black mates",
         fault: (Colour::White, MatchFault::Write),
         to_white: b"xboard\nprotover 2\naccepted ping\naccepted usermove\naccepted done\nnew\nlevel 0 0:10 0\nnopost\neasy\nforce\nping 1\ntime 1000\notim 1000\ngo\nping 2\ntime 1000\notim 1000\nusermove e7e5\nping 3\n",
         to_black: MATE_TO_BLACK,
@@ -227,7 +260,7 @@ const BROKEN: &[Broken] = &[
 ];
 
 // Plays the first match over devices that fail so.
-fn breaks(rt: &impl Abort, alloc: Global, broken: &Broken) -> Result<(), Fail> {
+fn breaks(rt: &impl Abort, alloc: Global, on: On, broken: &Broken) -> Result<(), Fail> {
     let row = &FOOLS_MATE;
     let setup = setup_of(rt, row.level, Position::initial());
     let mut white = ends(
@@ -239,8 +272,16 @@ fn breaks(rt: &impl Abort, alloc: Global, broken: &Broken) -> Result<(), Fail> {
     );
     let mut black = ends(alloc, row.black, 1024, 0, broken.black_write);
     let mut moments = Listed { rest: &[] };
-    let (end, _) = play_over(alloc, &mut white, &mut black, &mut moments, &setup)?;
-    is_fault(rt, end.fault, Some(broken.fault));
+    let (end, _) = play_over(
+        alloc,
+        on,
+        row.limit,
+        &mut white,
+        &mut black,
+        &mut moments,
+        &setup,
+    )?;
+    is_told(rt, &end, broken.outcome, broken.comment, Some(broken.fault));
     are_sent(rt, &white, &black, broken.to_white, broken.to_black);
     Ok(())
 }
@@ -248,7 +289,9 @@ fn breaks(rt: &impl Abort, alloc: Global, broken: &Broken) -> Result<(), Fail> {
 #[test]
 fn devices_that_fail(rt: HostRuntime) -> Result<(), Fail> {
     for broken in BROKEN {
-        breaks(&rt, rt.alloc(), broken)?;
+        for on in BOARDS {
+            breaks(&rt, rt.alloc(), *on, broken)?;
+        }
     }
     Ok(())
 }
@@ -264,24 +307,42 @@ fn start_of(rt: &impl Abort, fen: &[u8]) -> Position {
     }
 }
 
-fn check(rt: &impl Abort, alloc: Global, row: &Row, cut: usize) -> Result<(), Fail> {
+// Plays the match of a row on such a board, where the lines of the engines come in pieces of so many bytes: both are
+// sent what the row says.
+fn check(rt: &impl Abort, alloc: Global, on: On, row: &Row, cut: usize) -> Result<(), Fail> {
     let setup = setup_of(rt, row.level, start_of(rt, row.start));
     let mut white = ends(alloc, row.white, cut, 0, 0);
     let mut black = ends(alloc, row.black, cut, 0, 0);
     let mut moments = Listed { rest: row.moments };
-    let _end = play_over(alloc, &mut white, &mut black, &mut moments, &setup)?;
+    let _end = play_over(
+        alloc,
+        on,
+        row.limit,
+        &mut white,
+        &mut black,
+        &mut moments,
+        &setup,
+    )?;
     are_sent(rt, &white, &black, row.to_white, row.to_black);
     Ok(())
 }
 
 const CUTS: &[usize] = &[1, 7, 1024];
 
+/// The same on both boards, in pieces of each of some lengths.
+pub fn check_cuts(rt: &impl Abort, alloc: Global, row: &Row) -> Result<(), Fail> {
+    for cut in CUTS {
+        for on in BOARDS {
+            check(rt, alloc, *on, row, *cut)?;
+        }
+    }
+    Ok(())
+}
+
 #[test]
 fn worked_matches(rt: HostRuntime) -> Result<(), Fail> {
     for row in ROWS {
-        for cut in CUTS {
-            check(&rt, rt.alloc(), row, *cut)?;
-        }
+        check_cuts(&rt, rt.alloc(), row)?;
     }
     Ok(())
 }
@@ -372,7 +433,8 @@ impl Write for Flushed<'_> {
     }
 }
 
-/// A second for each read.
+/// A second for each read of a line, and for each line that was flushed: so a moment that is asked for before the line
+/// that it follows is read, or before its opening is flushed, is an earlier one.
 #[derive(Drop)]
 struct Ticks<'a> {
     shared: &'a Shared,
@@ -384,7 +446,13 @@ impl Moments for Ticks<'_> {
     ghost coming = { λ m n. None };
 
     fn now(&mut self) -> u64 {
-        self.shared.reads.get().saturating_mul(1000)
+        let Shared {
+            white,
+            black,
+            reads,
+        } = self.shared;
+        let count = reads.get().saturating_add(white.get());
+        count.saturating_add(black.get()).saturating_mul(1000)
     }
 }
 
@@ -439,8 +507,16 @@ fn blocks_are_flushed_and_moments_asked_in_time(rt: HostRuntime) -> Result<(), F
     let mut black = scripted_ends(rt.alloc(), &BLACK_SAYS, &shared, Colour::Black);
     let setup = setup_of(&rt, b"0 0:10 0", Position::initial());
     let mut moments = Ticks { shared: &shared };
-    let (end, _) = play_over(rt.alloc(), &mut white, &mut black, &mut moments, &setup)?;
-    is_fault(&rt, end.fault, None);
+    let (end, _) = play_over(
+        rt.alloc(),
+        On::Plain,
+        100,
+        &mut white,
+        &mut black,
+        &mut moments,
+        &setup,
+    )?;
+    is_told(&rt, &end, Outcome::BlackWins, b"Black mates", None);
     is_text(
         &rt,
         "to White",

@@ -4,6 +4,10 @@
 #[cfg(test)]
 mod engines;
 #[cfg(test)]
+mod features;
+#[cfg(test)]
 mod matches;
+#[cfg(test)]
+mod pgn;
 #[cfg(test)]
 mod plays;

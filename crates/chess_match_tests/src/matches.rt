@@ -1,6 +1,6 @@
 //! Engines that flood or fail, Chess960, and what is told of an end.
 
-use crate::plays::{Listed, is_fault, is_text, play_over, setup_of};
+use crate::plays::{BOARDS, Listed, On, is_text, is_told, play_over, setup_of};
 use byte_devices::{Counted, PieceReader, PieceWriter};
 use chess_base::{Colour, Position, Variant};
 use chess_fen::read_fen_as;
@@ -48,7 +48,13 @@ struct Played {
     moves: usize,
 }
 
-fn play(rt: &impl Abort, alloc: Global, start: Position, said: &Said<'_>) -> Result<Played, Fail> {
+fn play(
+    rt: &impl Abort,
+    alloc: Global,
+    on: On,
+    start: Position,
+    said: &Said<'_>,
+) -> Result<Played, Fail> {
     let setup = setup_of(rt, b"0 0:10 0", start);
     let mut white = Ends {
         reader: Counted::reading(PieceReader::new(said.white, 9, said.white_read)),
@@ -59,7 +65,7 @@ fn play(rt: &impl Abort, alloc: Global, start: Position, said: &Said<'_>) -> Res
         writer: Counted::writing(PieceWriter::new(alloc, 1024, said.black_write)),
     };
     let mut moments = Listed { rest: said.moments };
-    let (end, moves) = play_over(alloc, &mut white, &mut black, &mut moments, &setup)?;
+    let (end, moves) = play_over(alloc, on, 100, &mut white, &mut black, &mut moments, &setup)?;
     Ok(Played {
         end,
         to_white: white.writer.into_writer().bytes,
@@ -77,10 +83,14 @@ struct Ending {
 }
 
 fn is_end(rt: &impl Abort, played: &Played, ending: &Ending) {
-    assert_eq!(rt; played.end.outcome, ending.outcome);
-    is_text(rt, "comment", played.end.comment.as_bytes(), ending.comment);
+    is_told(
+        rt,
+        &played.end,
+        ending.outcome,
+        ending.comment,
+        ending.fault,
+    );
     assert_eq!(rt; played.end.ended, ending.ended);
-    is_fault(rt, played.end.fault, ending.fault);
 }
 
 // So many half-moves stand.
@@ -88,7 +98,22 @@ fn is_number(rt: &impl Abort, moves: usize, wanted: usize) {
     assert_eq!(rt; moves, wanted, "half-moves");
 }
 
-// Plays a match from the initial position, which ends so, with so many half-moves that stand.
+// Plays a match from the initial position on such a board, which ends so, with so many half-moves that stand.
+fn ends_so_on(
+    rt: &impl Abort,
+    alloc: Global,
+    on: On,
+    said: &Said<'_>,
+    ending: &Ending,
+    moves: usize,
+) -> Result<(), Fail> {
+    let played = play(rt, alloc, on, Position::initial(), said)?;
+    is_end(rt, &played, ending);
+    is_number(rt, played.moves, moves);
+    Ok(())
+}
+
+// The same on each board.
 fn ends_so(
     rt: &impl Abort,
     alloc: Global,
@@ -96,9 +121,9 @@ fn ends_so(
     ending: &Ending,
     moves: usize,
 ) -> Result<(), Fail> {
-    let played = play(rt, alloc, Position::initial(), said)?;
-    is_end(rt, &played, ending);
-    is_number(rt, played.moves, moves);
+    for on in BOARDS {
+        ends_so_on(rt, alloc, *on, said, ending, moves)?;
+    }
     Ok(())
 }
 
@@ -130,17 +155,24 @@ const WHITE_RESIGNS: Ending = Ending {
     fault: None,
 };
 
-#[test]
-fn mate_and_names(rt: HostRuntime) -> Result<(), Fail> {
+fn mates_with_names(rt: &impl Abort, alloc: Global, on: On) -> Result<(), Fail> {
     let said = Said::of(
         b"feature ping=1 usermove=1 myname=\"first\" done=1\npong 1\nmove f2f3\npong 2\nmove g2g4\npong 3\n",
         BLACK,
     );
-    let played = play(&rt, rt.alloc(), Position::initial(), &said)?;
-    is_end(&rt, &played, &BLACK_MATES);
-    is_text(&rt, "White", played.end.white_name.as_bytes(), b"first");
-    is_text(&rt, "Black", played.end.black_name.as_bytes(), b"second");
-    is_number(&rt, played.moves, 4);
+    let played = play(rt, alloc, on, Position::initial(), &said)?;
+    is_end(rt, &played, &BLACK_MATES);
+    is_text(rt, "White", played.end.white_name.as_bytes(), b"first");
+    is_text(rt, "Black", played.end.black_name.as_bytes(), b"second");
+    is_number(rt, played.moves, 4);
+    Ok(())
+}
+
+#[test]
+fn mate_and_names(rt: HostRuntime) -> Result<(), Fail> {
+    for on in BOARDS {
+        mates_with_names(&rt, rt.alloc(), *on)?;
+    }
     Ok(())
 }
 
@@ -195,16 +227,33 @@ const FLOOD: Ending = Ending {
 };
 
 // A text behind 9,999 lines `x`.
-fn flood(rt: &impl Abort, alloc: Global, behind: &[u8], ending: &Ending) -> Result<(), Fail> {
+fn flood(
+    rt: &impl Abort,
+    alloc: Global,
+    on: On,
+    behind: &[u8],
+    ending: &Ending,
+) -> Result<(), Fail> {
     let front = b"feature ping=1 done=1\npong 1\n".as_slice();
     let white = repeated(alloc, &[(front, 1), (b"x\n", 9999), (behind, 1)])?;
-    ends_so(rt, alloc, &Said::of(white.as_slice(), BLACK), ending, 1)
+    let said = Said::of(white.as_slice(), BLACK);
+    ends_so_on(rt, alloc, on, &said, ending, 1)
+}
+
+// The move behind them stands; with one more line there are too many.
+fn floods_on(rt: &impl Abort, alloc: Global, on: On) -> Result<(), Fail> {
+    flood(rt, alloc, on, b"move f2f3\nresign\n", &WHITE_RESIGNS)?;
+    flood(rt, alloc, on, b"move f2f3\nx\npong 2\n", &FLOOD)
 }
 
 #[test]
 fn floods(rt: HostRuntime) -> Result<(), Fail> {
-    flood(&rt, rt.alloc(), b"move f2f3\nresign\n", &WHITE_RESIGNS)?;
-    flood(&rt, rt.alloc(), b"move f2f3\nx\npong 2\n", &FLOOD)
+    floods_on(&rt, rt.alloc(), On::Plain)
+}
+
+#[test]
+fn floods_on_sets_of_squares(rt: HostRuntime) -> Result<(), Fail> {
+    floods_on(&rt, rt.alloc(), On::Bits)
 }
 
 // What White says, with a move of 8,193 bytes, as parts and how often each stands.
@@ -254,26 +303,33 @@ const BLACK_RESIGNS: Ending = Ending {
     fault: None,
 };
 
-#[test]
-fn a_match_of_chess960(rt: HostRuntime) -> Result<(), Fail> {
+fn castles(rt: &impl Abort, alloc: Global, on: On) -> Result<(), Fail> {
     let said = Said::of(
         CASTLES,
         b"feature ping=1 setboard=1 done=1\npong 1\nresign\n",
     );
-    let played = play(&rt, rt.alloc(), castling_start(&rt), &said)?;
-    is_end(&rt, &played, &BLACK_RESIGNS);
+    let played = play(rt, alloc, on, castling_start(rt), &said)?;
+    is_end(rt, &played, &BLACK_RESIGNS);
     is_text(
-        &rt,
+        rt,
         "to White",
         played.to_white.as_slice(),
         b"xboard\nprotover 2\naccepted ping\naccepted setboard\naccepted usermove\naccepted variants\naccepted done\nnew\nvariant fischerandom\nlevel 0 0:10 0\nnopost\neasy\nforce\nsetboard 4k3/8/8/8/8/8/8/RK5R w HA - 0 1\nping 1\ntime 1000\notim 1000\ngo\nping 2\nresult 1-0 {Black resigns}\nquit\n",
     );
     is_text(
-        &rt,
+        rt,
         "to Black",
         played.to_black.as_slice(),
         b"xboard\nprotover 2\naccepted ping\naccepted setboard\naccepted done\nnew\nvariant fischerandom\nlevel 0 0:10 0\nnopost\neasy\nforce\nsetboard 4k3/8/8/8/8/8/8/RK5R w HA - 0 1\nping 1\nO-O-O\ntime 1000\notim 1000\ngo\nresult 1-0 {Black resigns}\nquit\n",
     );
+    Ok(())
+}
+
+#[test]
+fn a_match_of_chess960(rt: HostRuntime) -> Result<(), Fail> {
+    for on in BOARDS {
+        castles(&rt, rt.alloc(), *on)?;
+    }
     Ok(())
 }
 
@@ -299,12 +355,26 @@ const UNFIT: &[(&[u8], Ending)] = &[
     (b"feature ping=1 variants=\"normal\" done=1\n", NO_SETBOARD),
 ];
 
+// In a match of Chess960 on such a board, Black's hello ends it so.
+fn is_unfit(
+    rt: &impl Abort,
+    alloc: Global,
+    on: On,
+    black: &[u8],
+    ending: &Ending,
+) -> Result<(), Fail> {
+    let said = Said::of(CASTLES, black);
+    let played = play(rt, alloc, on, castling_start(rt), &said)?;
+    is_end(rt, &played, ending);
+    Ok(())
+}
+
 #[test]
 fn engines_without_chess960(rt: HostRuntime) -> Result<(), Fail> {
     for (black, ending) in UNFIT {
-        let said = Said::of(CASTLES, black);
-        let played = play(&rt, rt.alloc(), castling_start(&rt), &said)?;
-        is_end(&rt, &played, ending);
+        for on in BOARDS {
+            is_unfit(&rt, rt.alloc(), *on, black, ending)?;
+        }
     }
     Ok(())
 }
@@ -325,26 +395,6 @@ fn is_beginning(text: &[u8], whole: &[u8]) -> bool {
     text.len() <= whole.len() && text == &whole[..text.len()]
 }
 
-/// What reads an engine's output, or writes its input.
-enum Device {
-    WhiteReader,
-    BlackReader,
-    WhiteWriter,
-    BlackWriter,
-}
-
-// A game to its mate, in which this call of a device fails.
-fn failing(device: &Device, call: u64) -> Said<'static> {
-    let mut said = Said::of(WHITE, BLACK);
-    match device {
-        Device::WhiteReader => said.white_read = call,
-        Device::BlackReader => said.black_read = call,
-        Device::WhiteWriter => said.white_write = call,
-        Device::BlackWriter => said.black_write = call,
-    }
-    said
-}
-
 const WHITE_UNREAD: Ending = Ending {
     outcome: Outcome::Unfinished,
     comment: b"White can not be read",
@@ -359,69 +409,55 @@ const BLACK_UNREAD: Ending = Ending {
     fault: Some((Colour::Black, MatchFault::Read)),
 };
 
-// What comes of a call of a device that failed, beside the whole match.
-fn is_broken_off(rt: &impl Abort, device: &Device, played: &Played, whole: &Played) {
-    let (white, black) = (played.to_white.as_slice(), played.to_black.as_slice());
-    match device {
-        Device::WhiteReader => {
+// A game to its mate, in which this call of that side's reader fails.
+fn unread(side: Colour, call: u64) -> Said<'static> {
+    let mut said = Said::of(WHITE, BLACK);
+    match side {
+        Colour::White => said.white_read = call,
+        Colour::Black => said.black_read = call,
+    }
+    said
+}
+
+// What comes of a read that failed: its end, and White is sent a beginning of the whole match and the end lines.
+fn is_unread(rt: &impl Abort, side: Colour, played: &Played, whole: &Played) {
+    match side {
+        Colour::White => {
             is_end(rt, played, &WHITE_UNREAD);
             assert!(rt;
                 is_cut_off(
-                    white,
+                    played.to_white.as_slice(),
                     whole.to_white.as_slice(),
                     b"result * {White can not be read}\nquit\n"
                 )
             );
         }
-        Device::BlackReader => is_end(rt, played, &BLACK_UNREAD),
-        Device::WhiteWriter => {
-            is_fault(
-                rt,
-                played.end.fault,
-                Some((Colour::White, MatchFault::Write)),
-            );
-            assert!(rt; is_beginning(white, whole.to_white.as_slice()));
-        }
-        Device::BlackWriter => {
-            is_fault(
-                rt,
-                played.end.fault,
-                Some((Colour::Black, MatchFault::Write)),
-            );
-            assert!(rt; is_beginning(black, whole.to_black.as_slice()));
-        }
+        Colour::Black => is_end(rt, played, &BLACK_UNREAD),
     }
 }
 
-// Each call of a device fails in turn, until the match ends without a fault: the number of the last that failed.
-fn failures(rt: &impl Abort, alloc: Global, device: &Device) -> Result<u64, Fail> {
-    let whole = play(rt, alloc, Position::initial(), &Said::of(WHITE, BLACK))?;
+// Each read of a side fails in turn, until the match ends without a fault: the number of the last that failed.
+fn unread_calls(rt: &impl Abort, alloc: Global, on: On, side: Colour) -> Result<u64, Fail> {
+    let whole = play(rt, alloc, on, Position::initial(), &Said::of(WHITE, BLACK))?;
     let mut failures = 0;
     for call in 1..100 {
-        let played = play(rt, alloc, Position::initial(), &failing(device, call))?;
+        let played = play(rt, alloc, on, Position::initial(), &unread(side, call))?;
         if played.end.fault.is_none() {
             break;
         }
         failures = call;
-        is_broken_off(rt, device, &played, &whole);
+        is_unread(rt, side, &played, &whole);
     }
     Ok(failures)
 }
 
 #[test]
 fn reads_that_fail_in_turn(rt: HostRuntime) -> Result<(), Fail> {
-    let white_failures = failures(&rt, rt.alloc(), &Device::WhiteReader)?;
-    assert!(rt; white_failures > 5);
-    failures(&rt, rt.alloc(), &Device::BlackReader)?;
-    Ok(())
-}
-
-#[test]
-fn writes_that_fail_in_turn(rt: HostRuntime) -> Result<(), Fail> {
-    // Eight blocks, each written by one call and flushed by another.
-    let white_failures = failures(&rt, rt.alloc(), &Device::WhiteWriter)?;
-    assert_eq!(rt; white_failures, 16);
-    failures(&rt, rt.alloc(), &Device::BlackWriter)?;
+    for on in BOARDS {
+        let white = unread_calls(&rt, rt.alloc(), *on, Colour::White)?;
+        let black = unread_calls(&rt, rt.alloc(), *on, Colour::Black)?;
+        assert!(rt; white > 5 && black > 5);
+    }
     Ok(())
 }
 
@@ -438,6 +474,206 @@ const MATE_UNWRITTEN: Ending = Ending {
     ended: HowEnded::Normal,
     fault: Some((Colour::White, MatchFault::Write)),
 };
+
+const BLACK_UNWRITTEN: Ending = Ending {
+    outcome: Outcome::Unfinished,
+    comment: b"Black can not be written",
+    ended: HowEnded::Normal,
+    fault: Some((Colour::Black, MatchFault::Write)),
+};
+
+const MATE_UNWRITTEN_TO_BLACK: Ending = Ending {
+    outcome: Outcome::BlackWins,
+    comment: b"Black mates",
+    ended: HowEnded::Normal,
+    fault: Some((Colour::Black, MatchFault::Write)),
+};
+
+// What White is sent in the match to its mate, block by block.
+const BLOCKS_TO_WHITE: &[&[u8]] = &[
+    b"xboard\nprotover 2\n",
+    b"accepted ping\naccepted usermove\naccepted done\n",
+    b"new\nlevel 0 0:10 0\nnopost\neasy\nforce\nping 1\n",
+    b"time 1000\notim 1000\ngo\n",
+    b"ping 2\n",
+    b"time 1000\notim 1000\nusermove e7e5\n",
+    b"ping 3\n",
+    b"usermove d8h4\nresult 0-1 {Black mates}\nquit\n",
+];
+
+// And what Black is sent.
+const BLOCKS_TO_BLACK: &[&[u8]] = &[
+    b"xboard\nprotover 2\n",
+    b"accepted ping\naccepted myname\naccepted done\n",
+    b"new\nlevel 0 0:10 0\nnopost\neasy\nforce\nping 1\n",
+    b"f2f3\ntime 1000\notim 1000\ngo\n",
+    b"ping 2\n",
+    b"time 1000\notim 1000\ng2g4\n",
+    b"result 0-1 {Black mates}\nquit\n",
+];
+
+const TO_WHITE_AT_THE_END: &[u8] = b"result * {Black can not be written}\nquit\n";
+
+const TO_BLACK_AT_THE_END: &[u8] = b"result * {White can not be written}\nquit\n";
+
+// Where each of White's blocks fails: how many blocks Black is sent, and then what. A block that is due to it after
+// White's isn't sent; a move that it wasn't told is.
+const BESIDE_WHITE: &[(usize, &[u8], &[u8])] = &[
+    (0, b"", TO_BLACK_AT_THE_END),
+    (0, b"", TO_BLACK_AT_THE_END),
+    (2, b"", TO_BLACK_AT_THE_END),
+    (3, b"", TO_BLACK_AT_THE_END),
+    (3, b"f2f3\n", TO_BLACK_AT_THE_END),
+    (5, b"", TO_BLACK_AT_THE_END),
+    (5, b"g2g4\n", TO_BLACK_AT_THE_END),
+    (7, b"", b""),
+];
+
+// Where each of Black's blocks fails: the same of White.
+const BESIDE_BLACK: &[(usize, &[u8], &[u8])] = &[
+    (2, b"", TO_WHITE_AT_THE_END),
+    (2, b"", TO_WHITE_AT_THE_END),
+    (3, b"", TO_WHITE_AT_THE_END),
+    (5, b"", TO_WHITE_AT_THE_END),
+    (5, b"usermove e7e5\n", TO_WHITE_AT_THE_END),
+    (7, b"", TO_WHITE_AT_THE_END),
+    (8, b"", b""),
+];
+
+// A text is so many of these blocks, and then two more texts.
+fn is_blocks(
+    rt: &impl Abort,
+    name: &str,
+    text: &[u8],
+    blocks: &[&[u8]],
+    count: usize,
+    more: &[u8],
+    end: &[u8],
+) {
+    let mut rest = text;
+    for block in blocks.iter().take(count) {
+        rest = behind(rt, name, rest, block);
+    }
+    let rest = behind(rt, name, rest, more);
+    is_text(rt, name, rest, end);
+}
+
+// What stands behind that front.
+fn behind<'a>(rt: &impl Abort, name: &str, text: &'a [u8], front: &[u8]) -> &'a [u8] {
+    match text.strip_prefix(front) {
+        Some(rest) => rest,
+        None => panic!(rt; "{name}"),
+    }
+}
+
+// White's block with that number, from 0 on, fails: at its write, or at its flush, by which all of it was taken.
+fn is_unwritten_to_white(
+    rt: &impl Abort,
+    alloc: Global,
+    on: On,
+    number: usize,
+    flush: bool,
+    beside: &(usize, &[u8], &[u8]),
+) -> Result<(), Fail> {
+    let mut said = Said::of(WHITE, BLACK);
+    said.white_write = call_of(number, flush);
+    let played = play(rt, alloc, on, Position::initial(), &said)?;
+    let ending = if number == 7 {
+        &MATE_UNWRITTEN
+    } else {
+        &WHITE_UNWRITTEN
+    };
+    is_end(rt, &played, ending);
+    let taken = blocks_taken(number, flush);
+    is_blocks(
+        rt,
+        "to White",
+        played.to_white.as_slice(),
+        BLOCKS_TO_WHITE,
+        taken,
+        b"",
+        b"",
+    );
+    is_blocks(
+        rt,
+        "to Black",
+        played.to_black.as_slice(),
+        BLOCKS_TO_BLACK,
+        beside.0,
+        beside.1,
+        beside.2,
+    );
+    Ok(())
+}
+
+// The same of Black's block.
+fn is_unwritten_to_black(
+    rt: &impl Abort,
+    alloc: Global,
+    on: On,
+    number: usize,
+    flush: bool,
+    beside: &(usize, &[u8], &[u8]),
+) -> Result<(), Fail> {
+    let mut said = Said::of(WHITE, BLACK);
+    said.black_write = call_of(number, flush);
+    let played = play(rt, alloc, on, Position::initial(), &said)?;
+    let ending = if number == 6 {
+        &MATE_UNWRITTEN_TO_BLACK
+    } else {
+        &BLACK_UNWRITTEN
+    };
+    is_end(rt, &played, ending);
+    let taken = blocks_taken(number, flush);
+    is_blocks(
+        rt,
+        "to Black",
+        played.to_black.as_slice(),
+        BLOCKS_TO_BLACK,
+        taken,
+        b"",
+        b"",
+    );
+    is_blocks(
+        rt,
+        "to White",
+        played.to_white.as_slice(),
+        BLOCKS_TO_WHITE,
+        beside.0,
+        beside.1,
+        beside.2,
+    );
+    Ok(())
+}
+
+// The number of the call by which that block is written, or flushed: each block is one of both.
+fn call_of(number: usize, flush: bool) -> u64 {
+    (2 * number.min(100) + 1) as u64 + u64::from(flush)
+}
+
+// How many blocks were taken where that one fails.
+fn blocks_taken(number: usize, flush: bool) -> usize {
+    number.min(100) + usize::from(flush)
+}
+
+fn all_unwritten(rt: &impl Abort, alloc: Global, on: On, flush: bool) -> Result<(), Fail> {
+    for (number, beside) in BESIDE_WHITE.iter().enumerate() {
+        is_unwritten_to_white(rt, alloc, on, number, flush, beside)?;
+    }
+    for (number, beside) in BESIDE_BLACK.iter().enumerate() {
+        is_unwritten_to_black(rt, alloc, on, number, flush, beside)?;
+    }
+    Ok(())
+}
+
+#[test]
+fn writes_that_fail_in_turn(rt: HostRuntime) -> Result<(), Fail> {
+    for on in BOARDS {
+        all_unwritten(&rt, rt.alloc(), *on, false)?;
+        all_unwritten(&rt, rt.alloc(), *on, true)?;
+    }
+    Ok(())
+}
 
 #[test]
 fn writes_that_fail_at_one_event(rt: HostRuntime) -> Result<(), Fail> {
@@ -509,7 +745,15 @@ fn end_lines_to_white_first(rt: HostRuntime) -> Result<(), Fail> {
     let mut white = numbered_ends(WHITE, &calls, Colour::White);
     let mut black = numbered_ends(BLACK, &calls, Colour::Black);
     let mut moments = Listed { rest: &[] };
-    let (end, _) = play_over(rt.alloc(), &mut white, &mut black, &mut moments, &setup)?;
+    let (end, _) = play_over(
+        rt.alloc(),
+        On::Plain,
+        100,
+        &mut white,
+        &mut black,
+        &mut moments,
+        &setup,
+    )?;
     assert_eq!(rt; end.outcome, Outcome::BlackWins);
     assert_eq!(rt; calls.white.get().saturating_add(1), calls.black.get());
     Ok(())
@@ -540,7 +784,7 @@ fn feature_lines_of_many_items(rt: HostRuntime) -> Result<(), Fail> {
     let white = repeated(rt.alloc(), MANY_ITEMS)?;
     let sent = repeated(rt.alloc(), MANY_ANSWERS)?;
     let said = Said::of(white.as_slice(), BLACK);
-    let played = play(&rt, rt.alloc(), Position::initial(), &said)?;
+    let played = play(&rt, rt.alloc(), On::Plain, Position::initial(), &said)?;
     is_end(&rt, &played, &WHITE_RESIGNS);
     is_text(&rt, "to White", played.to_white.as_slice(), sent.as_slice());
     Ok(())

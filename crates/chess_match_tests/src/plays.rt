@@ -1,10 +1,12 @@
-//! Matches on plain boards, for tests.
+//! Matches on both boards, for tests.
 
-use byte_devices::{Input, Output};
+use byte_devices::{Counted, Input, Output, PieceWriter};
 use chess_base::{Colour, Position};
-use chess_game::Game;
+use chess_bits::{AttackTables, Bits};
+use chess_game::{Game, Outcome};
 use chess_match::{Ends, MatchEnd, MatchFault, Moments, Setup, run_match};
-use chess_moves::Plain;
+use chess_moves::{Board, Plain};
+use chess_pgn::{Tags, write_pgn};
 use engine_lines::Level;
 use std::alloc::Global;
 use std::process::Abort;
@@ -41,18 +43,103 @@ pub fn setup_of(rt: &impl Abort, level: &[u8], start: Position) -> Setup {
     }
 }
 
-/// Plays a match: its end, and how many half-moves stand. Its contract stays in here: tests compare values.
-pub fn play_over<R: Input, W: Output, M: Moments>(
+/// The board on which a match is played.
+#[derive(Clone, Copy)]
+pub enum On {
+    /// 64 squares.
+    Plain,
+    /// Sets of squares.
+    Bits,
+}
+
+/// Each of the boards.
+pub const BOARDS: &[On] = &[On::Plain, On::Bits];
+
+// Plays a match of at most so many half-moves, at least 1 and at most 100, on such a board.
+fn play_with<R: Input, W: Output, M: Moments, B: Board + Drop>(
     alloc: Global,
+    board: B,
+    mut scratch: B,
+    limit: u32,
     white: &mut Ends<R, W>,
     black: &mut Ends<R, W>,
     moments: &mut M,
     setup: &Setup,
 ) -> Result<(MatchEnd, usize), Fail> {
-    let mut game = Game::open(alloc, Plain::new(), 100)?;
-    let mut scratch = Plain::new();
+    let mut game = Game::open(alloc, board, limit.max(1).min(100))?;
     let end = run_match(white, black, moments, setup, &mut game, &mut scratch);
     Ok((end, game.ply()))
+}
+
+// The same on sets of squares.
+fn play_with_bits<R: Input, W: Output, M: Moments>(
+    alloc: Global,
+    limit: u32,
+    white: &mut Ends<R, W>,
+    black: &mut Ends<R, W>,
+    moments: &mut M,
+    setup: &Setup,
+) -> Result<(MatchEnd, usize), Fail> {
+    let tables = AttackTables::open(alloc)?;
+    let (board, scratch) = (Bits::new(&tables), Bits::new(&tables));
+    play_with(alloc, board, scratch, limit, white, black, moments, setup)
+}
+
+/// Plays a match of at most so many half-moves: its end, and how many half-moves stand. Its contract stays in here:
+/// tests compare values.
+pub fn play_over<R: Input, W: Output, M: Moments>(
+    alloc: Global,
+    on: On,
+    limit: u32,
+    white: &mut Ends<R, W>,
+    black: &mut Ends<R, W>,
+    moments: &mut M,
+    setup: &Setup,
+) -> Result<(MatchEnd, usize), Fail> {
+    match on {
+        On::Plain => {
+            let (board, scratch) = (Plain::new(), Plain::new());
+            play_with(alloc, board, scratch, limit, white, black, moments, setup)
+        }
+        On::Bits => play_with_bits(alloc, limit, white, black, moments, setup),
+    }
+}
+
+// The PGN of a game behind its match, with all tags but that of its end as they are by default.
+fn pgn_with<R: Input, W: Output, B: Board + Drop>(
+    alloc: Global,
+    board: B,
+    mut scratch: B,
+    white: &mut Ends<R, W>,
+    black: &mut Ends<R, W>,
+    setup: &Setup,
+) -> Result<Vec<u8>, Fail> {
+    let mut game = Game::open(alloc, board, 100)?;
+    let mut moments = Listed { rest: &[] };
+    let end = run_match(white, black, &mut moments, setup, &mut game, &mut scratch);
+    let mut tags = Tags::default();
+    tags.ended = end.ended;
+    let mut writer = Counted::writing(PieceWriter::new(alloc, 1024, 0));
+    write_pgn(&game, &mut scratch, &tags, b"", &mut writer).or(Err("written"))?;
+    Ok(writer.into_writer().bytes)
+}
+
+/// The PGN of a game behind its match, on such a board.
+pub fn pgn_over<R: Input, W: Output>(
+    alloc: Global,
+    on: On,
+    white: &mut Ends<R, W>,
+    black: &mut Ends<R, W>,
+    setup: &Setup,
+) -> Result<Vec<u8>, Fail> {
+    match on {
+        On::Plain => pgn_with(alloc, Plain::new(), Plain::new(), white, black, setup),
+        On::Bits => {
+            let tables = AttackTables::open(alloc)?;
+            let (board, scratch) = (Bits::new(&tables), Bits::new(&tables));
+            pgn_with(alloc, board, scratch, white, black, setup)
+        }
+    }
 }
 
 /// A text with such a name is this one.
@@ -60,11 +147,18 @@ pub fn is_text(rt: &impl Abort, name: &str, text: &[u8], wanted: &[u8]) {
     assert_eq!(rt; text, wanted, "{name}");
 }
 
-/// A fault is this one, or there is none.
-pub fn is_fault(
+/// An end has this outcome and comment, and this fault or none.
+pub fn is_told(
     rt: &impl Abort,
+    end: &MatchEnd,
+    outcome: Outcome,
+    comment: &[u8],
     fault: Option<(Colour, MatchFault)>,
-    wanted: Option<(Colour, MatchFault)>,
 ) {
-    assert_eq!(rt; fault, wanted, "fault");
+    is_text(rt, "comment", end.comment.as_bytes(), comment);
+    assert_eq!(rt;
+        (end.outcome, end.fault),
+        (outcome, fault),
+        "outcome and fault"
+    );
 }

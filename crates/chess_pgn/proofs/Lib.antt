@@ -22,11 +22,5 @@ pub mod FenVariants
 pub mod OfTokens
 pub mod NormalGames
 pub mod FaultPlaces
-pub mod Settled
-pub mod MovedReads
-pub mod SettledTold
-pub mod SettledStays
+pub mod ResultTagged
 pub mod MoveBytes
-pub mod SettledMoved
-pub mod ShortCuts
-pub mod EndedSettled

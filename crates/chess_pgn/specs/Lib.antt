@@ -5,6 +5,6 @@ pub mod Tags
 pub mod Terminations
 pub mod GameRead
 pub mod GameText
-pub mod Local
+pub mod ResultTags
 pub mod laws
 pub mod ties

@@ -1,5 +1,5 @@
 -- Claims beside the definitions: each is the contract of a function that does nothing.
 pub mod PgnLaw
+pub mod Places
 pub mod Retold
 pub mod Normal
-pub mod Ended

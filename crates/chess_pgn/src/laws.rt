@@ -5,6 +5,7 @@ ghost use Rattle.chess_game.specs.Game.{State, IsPlayable};
 ghost use Rattle.chess_pgn.specs.GameText.{game_tokens};
 ghost use Rattle.chess_pgn.specs.laws.Retold.{GamesAreOfTokens};
 ghost use Rattle.chess_pgn.specs.laws.Normal.{NormalIsKept};
+ghost use Rattle.chess_pgn.specs.laws.Places.{FaultsHavePlaces, HalfMovesHaveBytes};
 ghost use Rattle.chess_pgn.specs.laws.PgnLaw.{PgnIsReadBack};
 ghost use Rattle.chess_pgn.specs.Written.{AreShort, IsMoveText, move_text_of};
 
@@ -57,4 +58,14 @@ pub fn pgn_is_read_back()
 /// outcome are read, as is said for normal chess alone: from its initial position, and each FEN as one of normal chess.
 pub fn normal_is_kept()
     ensures { NormalIsKept }
+{}
+
+/// A fault's place is in the text, and not before the place where reading began.
+pub fn faults_have_places()
+    ensures { FaultsHavePlaces }
+{}
+
+/// A half-move takes at least a byte of its game's text, so that a game has no more half-moves than bytes.
+pub fn half_moves_have_bytes()
+    ensures { HalfMovesHaveBytes }
 {}

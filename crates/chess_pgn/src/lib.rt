@@ -15,9 +15,8 @@ mod buffer;
 mod bytes;
 mod laws;
 mod lines;
-mod local_laws;
 mod read;
-mod settling;
+mod results;
 mod skips;
 mod tag;
 mod tag_lines;
@@ -29,15 +28,11 @@ mod word;
 mod write;
 
 pub use laws::{
-    games_are_in_filled_lines, games_are_of_tokens, lines_are_filled, normal_is_kept,
-    pgn_is_read_back,
-};
-pub use local_laws::{
-    ended_is_settled, faults_have_places, half_moves_have_bytes, reading_is_local,
-    reading_is_moved, settled_is_moved,
+    faults_have_places, games_are_in_filled_lines, games_are_of_tokens, half_moves_have_bytes,
+    lines_are_filled, normal_is_kept, pgn_is_read_back,
 };
 pub use read::{PgnEnd, PgnFault, PgnFaultKind, read_pgn};
-pub use settling::settles;
+pub use results::{ResultTag, result_tag};
 pub use tags::{HowEnded, TagText, Tags};
 pub use termination::Termination;
 pub use write::write_pgn;

@@ -137,7 +137,14 @@ enum Step {
     Ended(PgnEnd),
 }
 
-// Plays the move that stands at a place.
+// Whether the board has a verdict, after which no move is played.
+fn is_decided<B: Board>(game: &Game<B>) -> bool
+    ensures { result ≡ is_some (verdict_now game.now.state) }
+{
+    game.verdict().is_some()
+}
+
+// Plays the move that is written at a place.
 fn play_word<B: Board>(
     game: &mut Game<B>,
     progress: Progress,
@@ -152,7 +159,7 @@ fn play_word<B: Board>(
 {
     let kind = match read_move(game.board(), word) {
         Reading::NotAMove => PgnFaultKind::BadToken,
-        _ if game.verdict().is_some() => PgnFaultKind::AfterEnd,
+        _ if is_decided(game) => PgnFaultKind::AfterEnd,
         _ if game.is_full() => PgnFaultKind::TooLong,
         Reading::Ambiguous => PgnFaultKind::AmbiguousMove,
         Reading::NoSuch => PgnFaultKind::IllegalMove,

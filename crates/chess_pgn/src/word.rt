@@ -21,7 +21,7 @@ pub(crate) enum WordKind {
     Move,
 }
 
-fn outcome_of(word: &[u8]) -> Option<Outcome>
+pub(crate) fn outcome_of(word: &[u8]) -> Option<Outcome>
     ensures { result ≡ outcome_of word.now }
 {
     match word {

@@ -2,6 +2,7 @@
 #![tactic(auto)]
 
 #[cfg(test)]
+#[cfg(test)]
 mod equal;
 #[cfg(test)]
 mod reading;

@@ -1,9 +1,11 @@
 use crate::equal::{is_equal, is_equal_at};
 use chess_base::Position;
+use chess_bits::{AttackTables, Bits};
 use chess_fen::write_fen;
 use chess_game::{Game, Outcome, Verdict};
-use chess_moves::Plain;
+use chess_moves::{Board, Plain};
 use chess_pgn::{PgnEnd, PgnFault, PgnFaultKind, Termination, read_pgn};
+use std::alloc::Global;
 use std::process::Abort;
 use std::test::Fail;
 
@@ -538,21 +540,21 @@ const ROWS: [Row; 77] = [
 
 // Reads a game, without clauses: what its contract says stays in here, and tests compare values. So does what a loop
 // below does in each round: a loop in a long body is dear to prove.
-fn read(
+fn read<B: Board>(
     rt: &impl Abort,
     text: &[u8],
     at: usize,
-    game: &mut Game<Plain>,
+    game: &mut Game<B>,
 ) -> Result<Option<PgnEnd>, PgnFault> {
     assert!(rt; at <= text.len());
     read_pgn(text, at, game)
 }
 
 // Reads a text from a place on, and compares the answer and how many half-moves stand then.
-fn is_read_on(
+fn is_read_on<B: Board>(
     rt: &impl Abort,
     text: &[u8],
-    game: &mut Game<Plain>,
+    game: &mut Game<B>,
     at: usize,
     wanted: Wanted,
     ply: usize,
@@ -567,29 +569,41 @@ fn is_read_on(
 }
 
 // Reads a row's text, and compares the answer, the half-moves that stand and what is declared.
-fn is_read(rt: &impl Abort, game: &mut Game<Plain>, row: &Row) {
+fn is_read<B: Board>(rt: &impl Abort, game: &mut Game<B>, row: &Row) {
     is_read_on(rt, row.text, game, 0, row.wanted, row.ply);
     is_equal_at(rt, 0, row.text, &declared(rt, game), &row.declared);
 }
 
 // The outcome that is declared with an empty comment.
-fn declared(rt: &impl Abort, game: &Game<Plain>) -> Option<Outcome> {
+fn declared<B: Board>(rt: &impl Abort, game: &Game<B>) -> Option<Outcome> {
     let declared = game.declared()?;
     is_equal(rt, &declared.comment.as_bytes(), &b"".as_slice());
     Some(declared.outcome)
 }
 
-fn are_read(rt: &impl Abort, game: &mut Game<Plain>, rows: &[Row]) {
+fn are_read<B: Board>(rt: &impl Abort, game: &mut Game<B>, rows: &[Row]) {
     for row in rows {
         is_read(rt, game, row);
     }
 }
 
+// Reads all rows in one game on a board.
+fn rows_are_read<B: Board + Drop>(
+    rt: &impl Abort,
+    alloc: Global,
+    board: B,
+    rows: &[Row],
+) -> Result<(), Fail> {
+    let mut game = Game::open(alloc, board, 100)?;
+    are_read(rt, &mut game, rows);
+    Ok(())
+}
+
 #[test]
 fn games_are_read(rt: HostRuntime) -> Result<(), Fail> {
-    let mut game = Game::open(rt.alloc(), Plain::new(), 100)?;
-    are_read(&rt, &mut game, &ROWS);
-    Ok(())
+    rows_are_read(&rt, rt.alloc(), Plain::new(), &ROWS)?;
+    let tables = AttackTables::open(rt.alloc())?;
+    rows_are_read(&rt, rt.alloc(), Bits::new(&tables), &ROWS)
 }
 
 // Texts of both variants, and what is read of them.
@@ -686,16 +700,16 @@ const VARIANTS: [Row; 14] = [
 
 #[test]
 fn variants_and_terminations_are_read(rt: HostRuntime) -> Result<(), Fail> {
-    let mut game = Game::open(rt.alloc(), Plain::new(), 100)?;
-    are_read(&rt, &mut game, &VARIANTS);
-    Ok(())
+    rows_are_read(&rt, rt.alloc(), Plain::new(), &VARIANTS)?;
+    let tables = AttackTables::open(rt.alloc())?;
+    rows_are_read(&rt, rt.alloc(), Bits::new(&tables), &VARIANTS)
 }
 
-fn has_outcome(rt: &impl Abort, game: &Game<Plain>, outcome: Outcome) {
+fn has_outcome<B: Board>(rt: &impl Abort, game: &Game<B>, outcome: Outcome) {
     is_equal(rt, &game.outcome(), &outcome);
 }
 
-fn is_too_long(rt: &impl Abort, text: &[u8], game: &mut Game<Plain>) {
+fn is_too_long<B: Board>(rt: &impl Abort, text: &[u8], game: &mut Game<B>) {
     is_read_on(
         rt,
         text,
@@ -707,21 +721,27 @@ fn is_too_long(rt: &impl Abort, text: &[u8], game: &mut Game<Plain>) {
     has_outcome(rt, game, Outcome::Unfinished);
 }
 
-#[test]
-fn a_game_of_one_move_is_full(rt: HostRuntime) -> Result<(), Fail> {
-    let mut game = Game::open(rt.alloc(), Plain::new(), 1)?;
-    is_too_long(&rt, b"1. e4 e5 *", &mut game);
-    is_too_long(&rt, b"1. e4 e4 *", &mut game);
+fn one_move_is_read<B: Board + Drop>(rt: &impl Abort, alloc: Global, board: B) -> Result<(), Fail> {
+    let mut game = Game::open(alloc, board, 1)?;
+    is_too_long(rt, b"1. e4 e5 *", &mut game);
+    is_too_long(rt, b"1. e4 e4 *", &mut game);
     let ended = Wanted::Ended(Outcome::WhiteWins, 9);
-    is_read_on(&rt, b"1. e4 1-0", &mut game, 0, ended, 1);
-    has_outcome(&rt, &game, Outcome::WhiteWins);
+    is_read_on(rt, b"1. e4 1-0", &mut game, 0, ended, 1);
+    has_outcome(rt, &game, Outcome::WhiteWins);
     Ok(())
 }
 
-fn are_read_on(
+#[test]
+fn a_game_of_one_move_is_full(rt: HostRuntime) -> Result<(), Fail> {
+    one_move_is_read(&rt, rt.alloc(), Plain::new())?;
+    let tables = AttackTables::open(rt.alloc())?;
+    one_move_is_read(&rt, rt.alloc(), Bits::new(&tables))
+}
+
+fn are_read_on<B: Board>(
     rt: &impl Abort,
     text: &[u8],
-    game: &mut Game<Plain>,
+    game: &mut Game<B>,
     rows: &[(usize, Wanted, usize)],
 ) {
     for row in rows {
@@ -744,27 +764,43 @@ fn has_fen(rt: &impl Abort, position: &Position, fen: &[u8]) {
     is_equal(rt, &write_fen(position).as_slice(), &fen);
 }
 
-#[test]
-fn games_are_read_one_after_the_other(rt: HostRuntime) -> Result<(), Fail> {
-    let mut game = Game::open(rt.alloc(), Plain::new(), 100)?;
-    are_read_on(&rt, THREE_GAMES, &mut game, &PLACES);
+fn three_games_are_read<B: Board + Drop>(
+    rt: &impl Abort,
+    alloc: Global,
+    board: B,
+) -> Result<(), Fail> {
+    let mut game = Game::open(alloc, board, 100)?;
+    are_read_on(rt, THREE_GAMES, &mut game, &PLACES);
     // With no game left, it is the initial position with nothing declared.
     assert!(rt; game.declared().is_none());
     let initial = b"rnbqkbnr/pppppppp/8/8/8/8/PPPPPPPP/RNBQKBNR w KQkq - 0 1";
-    has_fen(&rt, &game.position(), initial);
+    has_fen(rt, &game.position(), initial);
+    Ok(())
+}
+
+#[test]
+fn games_are_read_one_after_the_other(rt: HostRuntime) -> Result<(), Fail> {
+    three_games_are_read(&rt, rt.alloc(), Plain::new())?;
+    let tables = AttackTables::open(rt.alloc())?;
+    three_games_are_read(&rt, rt.alloc(), Bits::new(&tables))
+}
+
+fn bad_fen_is_read<B: Board + Drop>(rt: &impl Abort, alloc: Global, board: B) -> Result<(), Fail> {
+    let mut game = Game::open(alloc, board, 100)?;
+    let text = b"[FEN \"4k3/8/8/8/8/8/4P3/4K3 w - - 0 1\"]\n[FEN \"x\"] e4 *";
+    let fault = Wanted::Fault(PgnFaultKind::BadFen, 46);
+    is_read_on(rt, text, &mut game, 0, fault, 0);
+    let fen = b"4k3/8/8/8/8/8/4P3/4K3 w - - 0 1";
+    has_fen(rt, &game.start(), fen);
+    has_fen(rt, &game.position(), fen);
     Ok(())
 }
 
 #[test]
 fn a_bad_fen_leaves_the_start_before_it(rt: HostRuntime) -> Result<(), Fail> {
-    let mut game = Game::open(rt.alloc(), Plain::new(), 100)?;
-    let text = b"[FEN \"4k3/8/8/8/8/8/4P3/4K3 w - - 0 1\"]\n[FEN \"x\"] e4 *";
-    let fault = Wanted::Fault(PgnFaultKind::BadFen, 46);
-    is_read_on(&rt, text, &mut game, 0, fault, 0);
-    let fen = b"4k3/8/8/8/8/8/4P3/4K3 w - - 0 1";
-    has_fen(&rt, &game.start(), fen);
-    has_fen(&rt, &game.position(), fen);
-    Ok(())
+    bad_fen_is_read(&rt, rt.alloc(), Plain::new())?;
+    let tables = AttackTables::open(rt.alloc())?;
+    bad_fen_is_read(&rt, rt.alloc(), Bits::new(&tables))
 }
 
 // Morphy against the Duke of Brunswick and Count Isouard, Paris 1858.
@@ -784,7 +820,7 @@ dxe5 5. Qxd8+ Kxd8 6. Nxe5) 5. Qxf3 dxe5 6. Bc4 Nf6 ; 6... Qf6 is better
 ";
 
 // Compares where the opera's game ends: by mate, with nothing declared.
-fn white_mates_in_the_opera(rt: &impl Abort, game: &Game<Plain>) {
+fn white_mates_in_the_opera<B: Board>(rt: &impl Abort, game: &Game<B>) {
     is_equal(rt, &game.verdict(), &Some(Verdict::WhiteMates));
     assert!(rt; game.declared().is_none());
     has_fen(
@@ -794,11 +830,21 @@ fn white_mates_in_the_opera(rt: &impl Abort, game: &Game<Plain>) {
     );
 }
 
+fn the_opera_is_read<B: Board + Drop>(
+    rt: &impl Abort,
+    alloc: Global,
+    board: B,
+) -> Result<(), Fail> {
+    let mut game = Game::open(alloc, board, 100)?;
+    let ended = Wanted::Ended(Outcome::WhiteWins, OPERA.len() - 1);
+    is_read_on(rt, OPERA, &mut game, 0, ended, 33);
+    white_mates_in_the_opera(rt, &game);
+    Ok(())
+}
+
 #[test]
 fn a_whole_game_is_read(rt: HostRuntime) -> Result<(), Fail> {
-    let mut game = Game::open(rt.alloc(), Plain::new(), 100)?;
-    let ended = Wanted::Ended(Outcome::WhiteWins, OPERA.len() - 1);
-    is_read_on(&rt, OPERA, &mut game, 0, ended, 33);
-    white_mates_in_the_opera(&rt, &game);
-    Ok(())
+    the_opera_is_read(&rt, rt.alloc(), Plain::new())?;
+    let tables = AttackTables::open(rt.alloc())?;
+    the_opera_is_read(&rt, rt.alloc(), Bits::new(&tables))
 }

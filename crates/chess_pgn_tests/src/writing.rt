@@ -1,9 +1,10 @@
 use crate::equal::is_equal;
 use byte_devices::{Counted, PieceWriter, WriteFault};
 use chess_base::Variant;
+use chess_bits::{AttackTables, Bits};
 use chess_fen::{read_fen, read_fen_as};
 use chess_game::{Comment, Game, Outcome};
-use chess_moves::Plain;
+use chess_moves::{Board, Plain};
 use chess_pgn::{
     HowEnded, TagText, Tags, games_are_in_filled_lines, games_are_of_tokens, lines_are_filled,
     normal_is_kept, pgn_is_read_back, write_pgn,
@@ -14,22 +15,27 @@ use std::process::Abort;
 use std::test::Fail;
 
 // Plays a move, where the word is one. Without clauses: what the contracts say stays in here.
-fn play(game: &mut Game<Plain>, word: &[u8]) -> Result<(), Fail> {
+fn play<B: Board>(game: &mut Game<B>, word: &[u8]) -> Result<(), Fail> {
     if let Reading::Move(m) = read_move(game.board(), word) {
         game.play(m).or(Err("played"))?;
     }
     Ok(())
 }
 
-fn declare(game: &mut Game<Plain>, outcome: Outcome, comment: &[u8]) -> Result<(), Fail> {
+fn declare<B: Board>(game: &mut Game<B>, outcome: Outcome, comment: &[u8]) -> Result<(), Fail> {
     game.declare(outcome, Comment::cut(comment))
         .or(Err("declared"))?;
     Ok(())
 }
 
 // A game from a position, or from the initial one, with the moves between spaces.
-fn played(alloc: Global, fen: &[u8], moves: &[u8]) -> Result<Game<Plain>, Fail> {
-    let mut game = Game::open(alloc, Plain::new(), 100)?;
+fn played<B: Board + Drop>(
+    alloc: Global,
+    board: B,
+    fen: &[u8],
+    moves: &[u8],
+) -> Result<Game<B>, Fail> {
+    let mut game = Game::open(alloc, board, 100)?;
     if !fen.is_empty() {
         game.restart(&read_fen(fen).ok().ok_or("sound")?);
     }
@@ -40,16 +46,16 @@ fn played(alloc: Global, fen: &[u8], moves: &[u8]) -> Result<Game<Plain>, Fail> 
 }
 
 // Its text, by a writer that takes so many bytes at a time.
-fn written(
+fn written<B: Board>(
     alloc: Global,
-    game: &Game<Plain>,
+    game: &Game<B>,
+    scratch: &mut B,
     tags: &Tags,
     prefix: &[u8],
     cut: usize,
 ) -> Result<Vec<u8>, Fail> {
     let mut writer = Counted::writing(PieceWriter::new(alloc, cut, 0));
-    let mut scratch = Plain::new();
-    write_pgn(game, &mut scratch, tags, prefix, &mut writer).or(Err("written"))?;
+    write_pgn(game, scratch, tags, prefix, &mut writer).or(Err("written"))?;
     Ok(writer.into_writer().bytes)
 }
 
@@ -129,14 +135,15 @@ const GAMES: [GameRow; 10] = [
 ];
 
 // Writes a game so many bytes at a time, and compares its text.
-fn is_written(
+fn is_written<B: Board>(
     rt: &impl Abort,
     alloc: Global,
-    game: &Game<Plain>,
+    game: &Game<B>,
+    scratch: &mut B,
     cut: usize,
     text: &[u8],
 ) -> Result<(), Fail> {
-    let found = written(alloc, game, &Tags::default(), b"# ", cut)?;
+    let found = written(alloc, game, scratch, &Tags::default(), b"# ", cut)?;
     is_equal(rt, &found.as_slice(), &text);
     Ok(())
 }
@@ -149,16 +156,29 @@ fn whole_text(alloc: Global, text: &[u8]) -> Result<Vec<u8>, Fail> {
     Ok(whole)
 }
 
-fn game_is_written(rt: &impl Abort, alloc: Global, row: &GameRow) -> Result<(), Fail> {
+fn game_is_written<B: Board + Drop>(
+    rt: &impl Abort,
+    alloc: Global,
+    board: B,
+    scratch: &mut B,
+    row: &GameRow,
+) -> Result<(), Fail> {
     let text = whole_text(alloc, row.text)?;
-    let game = played(alloc, row.fen, row.moves)?;
-    is_written(rt, alloc, &game, 9000, text.as_slice())?;
-    is_written(rt, alloc, &game, 1, text.as_slice())
+    let game = played(alloc, board, row.fen, row.moves)?;
+    is_written(rt, alloc, &game, scratch, 9000, text.as_slice())?;
+    is_written(rt, alloc, &game, scratch, 1, text.as_slice())
+}
+
+// Writes a game of each board.
+fn is_written_on_both(rt: &impl Abort, alloc: Global, row: &GameRow) -> Result<(), Fail> {
+    game_is_written(rt, alloc, Plain::new(), &mut Plain::new(), row)?;
+    let tables = AttackTables::open(alloc)?;
+    game_is_written(rt, alloc, Bits::new(&tables), &mut Bits::new(&tables), row)
 }
 
 fn are_written(rt: &impl Abort, alloc: Global, rows: &[GameRow]) -> Result<(), Fail> {
     for row in rows {
-        game_is_written(rt, alloc, row)?;
+        is_written_on_both(rt, alloc, row)?;
     }
     Ok(())
 }
@@ -168,9 +188,13 @@ fn games_are_written(rt: HostRuntime) -> Result<(), Fail> {
     are_written(&rt, rt.alloc(), &GAMES)
 }
 
-#[test]
-fn tags_and_declared_results_are_written(rt: HostRuntime) -> Result<(), Fail> {
-    let mut game = played(rt.alloc(), b"", b"e4 c5")?;
+fn tags_are_written<B: Board + Drop>(
+    rt: &impl Abort,
+    alloc: Global,
+    board: B,
+    scratch: &mut B,
+) -> Result<(), Fail> {
+    let mut game = played(alloc, board, b"", b"e4 c5")?;
     declare(&mut game, Outcome::WhiteWins, b"Black resigns")?;
     let tags = Tags {
         event: TagText::cut(b"A \"B\" \\"),
@@ -181,32 +205,44 @@ fn tags_and_declared_results_are_written(rt: HostRuntime) -> Result<(), Fail> {
         black: TagText::cut(b"\n"),
         ended: HowEnded::RulesInfraction,
     };
-    let text = written(rt.alloc(), &game, &tags, b"", 9000)?;
+    let text = written(alloc, &game, scratch, &tags, b"", 9000)?;
     is_equal(
-        &rt,
+        rt,
         &text.as_slice(),
         &b"[Event \"A \\\"B\\\" \\\\\"]\n[Site \"\"]\n[Date \"2024.12.31\"]\n[Round \"3.1\"]\n[White \"]{}\"]\n[Black \"?\"]\n[Result \"1-0\"]\n[Termination \"rules infraction\"]\n\n1. e4 c5 1-0\n\n".as_slice(),
     );
     Ok(())
 }
 
-// How a game ended stands behind its start's tags and before that of the variant.
+#[test]
+fn tags_and_declared_results_are_written(rt: HostRuntime) -> Result<(), Fail> {
+    tags_are_written(&rt, rt.alloc(), Plain::new(), &mut Plain::new())?;
+    let tables = AttackTables::open(rt.alloc())?;
+    tags_are_written(&rt, rt.alloc(), Bits::new(&tables), &mut Bits::new(&tables))
+}
+
 // Writes a game, whose text ends so.
-fn ends_with(
+fn ends_with<B: Board>(
     rt: &impl Abort,
     alloc: Global,
-    game: &Game<Plain>,
+    game: &Game<B>,
+    scratch: &mut B,
     tags: &Tags,
     end: &[u8],
 ) -> Result<(), Fail> {
-    let text = written(alloc, game, tags, b"", 9000)?;
+    let text = written(alloc, game, scratch, tags, b"", 9000)?;
     assert!(rt; text.as_slice().ends_with(end));
     Ok(())
 }
 
-#[test]
-fn the_end_of_a_game_of_chess960_is_written(rt: HostRuntime) -> Result<(), Fail> {
-    let mut game = Game::open(rt.alloc(), Plain::new(), 100)?;
+// The tag of how a game ended comes after those of its start and before that of its variant.
+fn chess960_is_written<B: Board + Drop>(
+    rt: &impl Abort,
+    alloc: Global,
+    board: B,
+    scratch: &mut B,
+) -> Result<(), Fail> {
+    let mut game = Game::open(alloc, board, 100)?;
     let start = read_fen_as(Variant::Fischerandom, b"4k3/8/8/8/8/8/8/RK5R w HA - 0 1");
     game.restart(&start.ok().ok_or("sound")?);
     play(&mut game, b"O-O-O")?;
@@ -216,11 +252,18 @@ fn the_end_of_a_game_of_chess960_is_written(rt: HostRuntime) -> Result<(), Fail>
     };
     let unended: &[u8] =
         b"[FEN \"4k3/8/8/8/8/8/8/RK5R w HA - 0 1\"]\n[SetUp \"1\"]\n[Termination \"unterminated\"]\n[Variant \"fischerandom\"]\n\n1. O-O-O *\n\n";
-    ends_with(&rt, rt.alloc(), &game, &tags, unended)?;
+    ends_with(rt, alloc, &game, scratch, &tags, unended)?;
     declare(&mut game, Outcome::Draw, b"")?;
     let ended: &[u8] =
         b"[FEN \"4k3/8/8/8/8/8/8/RK5R w HA - 0 1\"]\n[SetUp \"1\"]\n[Termination \"time forfeit\"]\n[Variant \"fischerandom\"]\n\n1. O-O-O 1/2-1/2\n\n";
-    ends_with(&rt, rt.alloc(), &game, &tags, ended)
+    ends_with(rt, alloc, &game, scratch, &tags, ended)
+}
+
+#[test]
+fn the_end_of_a_game_of_chess960_is_written(rt: HostRuntime) -> Result<(), Fail> {
+    chess960_is_written(&rt, rt.alloc(), Plain::new(), &mut Plain::new())?;
+    let tables = AttackTables::open(rt.alloc())?;
+    chess960_is_written(&rt, rt.alloc(), Bits::new(&tables), &mut Bits::new(&tables))
 }
 
 // What is declared, and the line that is written then.
@@ -230,58 +273,64 @@ const DECLARED: [(Outcome, &[u8]); 3] = [
     (Outcome::Unfinished, b"\n1. e4 *\n\n"),
 ];
 
-fn ends_as_declared(
+fn ends_as_declared<B: Board>(
     rt: &impl Abort,
     alloc: Global,
-    game: &mut Game<Plain>,
+    game: &mut Game<B>,
+    scratch: &mut B,
     outcome: Outcome,
     line: &[u8],
 ) -> Result<(), Fail> {
     declare(game, outcome, b"")?;
-    ends_with(rt, alloc, game, &Tags::default(), line)
+    ends_with(rt, alloc, game, scratch, &Tags::default(), line)
 }
 
-fn all_end_as_declared(
+fn all_end_as_declared<B: Board + Drop>(
     rt: &impl Abort,
     alloc: Global,
-    game: &mut Game<Plain>,
+    board: B,
+    scratch: &mut B,
     rows: &[(Outcome, &[u8])],
 ) -> Result<(), Fail> {
+    let mut game = played(alloc, board, b"", b"e4")?;
     for row in rows {
-        ends_as_declared(rt, alloc, game, row.0, row.1)?;
+        ends_as_declared(rt, alloc, &mut game, scratch, row.0, row.1)?;
     }
     Ok(())
 }
 
 #[test]
 fn each_declared_result_is_written(rt: HostRuntime) -> Result<(), Fail> {
-    let mut game = played(rt.alloc(), b"", b"e4")?;
-    all_end_as_declared(&rt, rt.alloc(), &mut game, &DECLARED)
+    all_end_as_declared(&rt, rt.alloc(), Plain::new(), &mut Plain::new(), &DECLARED)?;
+    let tables = AttackTables::open(rt.alloc())?;
+    let board = Bits::new(&tables);
+    all_end_as_declared(&rt, rt.alloc(), board, &mut Bits::new(&tables), &DECLARED)
 }
 
 // Writes a game by seven bytes at a time, where one call may fail: the answer, and what was taken.
-fn failing_at(
+fn failing_at<B: Board>(
     alloc: Global,
-    game: &Game<Plain>,
+    game: &Game<B>,
+    scratch: &mut B,
     fails_at: u64,
 ) -> (Result<(), WriteFault>, Vec<u8>) {
     let mut writer = Counted::writing(PieceWriter::new(alloc, 7, fails_at));
-    // What the scratch board was at makes no difference.
-    let mut scratch = Plain::new();
-    let result = write_pgn(game, &mut scratch, &Tags::default(), b"# ", &mut writer);
+    // Where the scratch board was makes no difference.
+    let result = write_pgn(game, scratch, &Tags::default(), b"# ", &mut writer);
     (result, writer.into_writer().bytes)
 }
 
 // Compares what is answered where that call fails, and what was taken, with the call's number.
-fn leaves(
+fn leaves<B: Board>(
     rt: &impl Abort,
     alloc: Global,
-    game: &Game<Plain>,
+    game: &Game<B>,
+    scratch: &mut B,
     fails_at: u64,
     answer: Result<(), WriteFault>,
     text: Option<&[u8]>,
 ) {
-    let (result, taken) = failing_at(alloc, game, fails_at);
+    let (result, taken) = failing_at(alloc, game, scratch, fails_at);
     is_equal(
         rt,
         &(fails_at, result, Some(taken.as_slice())),
@@ -290,8 +339,13 @@ fn leaves(
 }
 
 // Each call fails in turn, and then one behind the last.
-fn each_call_fails(rt: &impl Abort, alloc: Global, game: &Game<Plain>) -> Result<(), Fail> {
-    let whole = written(alloc, game, &Tags::default(), b"# ", 9000)?;
+fn each_call_fails<B: Board>(
+    rt: &impl Abort,
+    alloc: Global,
+    game: &Game<B>,
+    scratch: &mut B,
+) -> Result<(), Fail> {
+    let whole = written(alloc, game, scratch, &Tags::default(), b"# ", 9000)?;
     let calls = whole.len().div_ceil(7);
     for taken in 0..calls {
         let beginning = whole.get(..7 * taken);
@@ -299,20 +353,40 @@ fn each_call_fails(rt: &impl Abort, alloc: Global, game: &Game<Plain>) -> Result
             rt,
             alloc,
             game,
+            scratch,
             taken as u64 + 1,
             Err(WriteFault),
             beginning,
         );
     }
-    leaves(rt, alloc, game, calls as u64 + 1, Ok(()), Some(&whole));
+    leaves(
+        rt,
+        alloc,
+        game,
+        scratch,
+        calls as u64 + 1,
+        Ok(()),
+        Some(&whole),
+    );
     Ok(())
 }
 
-// However the writer fails, a beginning was taken; it is told exactly then.
+fn failures_leave_one<B: Board + Drop>(
+    rt: &impl Abort,
+    alloc: Global,
+    board: B,
+    scratch: &mut B,
+) -> Result<(), Fail> {
+    let game = played(alloc, board, PROMOTION.fen, PROMOTION.moves)?;
+    each_call_fails(rt, alloc, &game, scratch)
+}
+
+// However the writer fails, a beginning was taken, and the fault is returned exactly then.
 #[test]
 fn failures_leave_a_beginning(rt: HostRuntime) -> Result<(), Fail> {
-    let game = played(rt.alloc(), PROMOTION.fen, PROMOTION.moves)?;
-    each_call_fails(&rt, rt.alloc(), &game)
+    failures_leave_one(&rt, rt.alloc(), Plain::new(), &mut Plain::new())?;
+    let tables = AttackTables::open(rt.alloc())?;
+    failures_leave_one(&rt, rt.alloc(), Bits::new(&tables), &mut Bits::new(&tables))
 }
 
 fn is_tag_text(rt: &impl Abort, found: &TagText, text: &[u8]) {
@@ -366,18 +440,36 @@ fn prefixed(alloc: Global, prefix: &[u8], lines: &[&[u8]]) -> Result<Vec<u8>, Fa
     Ok(text)
 }
 
-fn is_written_behind(rt: &impl Abort, alloc: Global, prefix: &[u8]) -> Result<(), Fail> {
+fn is_written_after<B: Board + Drop>(
+    rt: &impl Abort,
+    alloc: Global,
+    board: B,
+    scratch: &mut B,
+    prefix: &[u8],
+) -> Result<(), Fail> {
     let text = prefixed(alloc, prefix, &NO_MOVES)?;
-    let game = played(alloc, b"", b"")?;
-    let found = written(alloc, &game, &Tags::default(), prefix, 9000)?;
+    let game = played(alloc, board, b"", b"")?;
+    let found = written(alloc, &game, scratch, &Tags::default(), prefix, 9000)?;
     is_equal(rt, &found.as_slice(), &text.as_slice());
     Ok(())
+}
+
+fn is_written_after_on_both(rt: &impl Abort, alloc: Global, prefix: &[u8]) -> Result<(), Fail> {
+    is_written_after(rt, alloc, Plain::new(), &mut Plain::new(), prefix)?;
+    let tables = AttackTables::open(alloc)?;
+    is_written_after(
+        rt,
+        alloc,
+        Bits::new(&tables),
+        &mut Bits::new(&tables),
+        prefix,
+    )
 }
 
 #[test]
 fn a_prefix_longer_than_the_buffer_is_written(rt: HostRuntime) -> Result<(), Fail> {
     let prefix = vec![in rt.alloc(); b'p'; 5000]?;
-    is_written_behind(&rt, rt.alloc(), prefix.as_slice())
+    is_written_after_on_both(&rt, rt.alloc(), prefix.as_slice())
 }
 
 #[test]

@@ -1,18 +1,141 @@
 -- On positions of normal chess the texts are those of normal chess.
-use Rattle.std.proofs.Common.{◌≡◌, refl, ap}
+use Rattle.std.proofs.Common.{◌≡◌, ℕ, Bool, true, false, not, ◌&&◌, ◌==◌, List, [], ◌++◌, length, map, filter, codes, Option, Some, None, is_some, refl, ap, ◌∙◌, if◌then◌else◌}
+use Rattle.std.proofs.Math.Path.{fun_ext}
+use Rattle.chess_base.specs.declared.man.CastlingSide.{CastlingSide}
+use Rattle.chess_base.specs.declared.man.CastlingSide.TheVariants.{KingSide, QueenSide}
+use Rattle.chess_base.specs.declared.man.Colour.{Colour}
+use Rattle.chess_base.specs.declared.man.Kind.TheVariants.{King}
+use Rattle.chess_base.specs.declared.man.Man.{Man}
+use Rattle.chess_base.specs.declared.man.Move.{Move}
 use Rattle.chess_base.specs.declared.man.Variant.TheVariants.{Normal}
 use Rattle.chess_base.specs.declared.setup.Setup.{Setup}
-use Rattle.chess_base.specs.Castling.{castling, right_of}
-use Rattle.chess_text.specs.declared.form.Form.{Form}
-use Rattle.chess_text.specs.declared.form.Form.TheVariants.{Castling, Walk}
-use Rattle.chess_text.specs.ties.Forms.{castling_end, end_square}
-use Rattle.chess_text.specs.laws.Normal.{NormalIsKept, normal_end_of}
-use Rattle.chess_text.specs.San.{shown_as, shown_move}
+use Rattle.chess_base.specs.Attacks.{is_in_check}
+use Rattle.chess_base.specs.Coordinates.{coordinate}
+use Rattle.chess_base.specs.Castling.{castling, says_castling, names_castling, right_of, home_square, king_home_file, castled_king_file}
+use Rattle.chess_base.specs.Men.{man_at, is_man, same_kind}
+use Rattle.chess_base.specs.Moves.{after}
+use Rattle.chess_base.specs.MoveList.{all_triples, moves}
+use Rattle.chess_base.specs.laws.Normal.{normal_is_legal, normal_says_castling, normal_castling, normal_after}
+use Rattle.chess_base.proofs.NormalKept.{normal_kept as rules_kept}
+use Rattle.chess_text.specs.declared.described.Described.{Described}
+use Rattle.chess_text.specs.declared.reading.Reading.TheVariants.{NotAMove}
+use Rattle.chess_text.specs.Moves.{described, described_as, captures, passes, shape, spells, spells_described, one_of, reading}
+use Rattle.chess_text.specs.Parts.{when}
+use Rattle.chess_text.specs.San.{is_rival, rival_starts, check_mark, san, san_as, unmarked_san, shown_as, shown_move}
+use Rattle.chess_text.specs.laws.Normal.{NormalIsKept, normal_moves, normal_described, normal_described_as, normal_spells, normal_reading, normal_is_rival, normal_rival_starts, normal_check_mark, normal_san, normal_san_as}
 
-ends : (p : Setup) → p.variant ≡ Normal → (form : Form) → end_square form p ≡ normal_end_of form p.side
-ends p is (Castling w) = ap (λ v. castling_end v p.side w (right_of p.rights p.side w)) is
-ends p is (Walk q) = refl
+pub moves_kept : (p : Setup) → p.variant ≡ Normal → moves p ≡ normal_moves p
+unfolding moves normal_moves
+moves_kept p e = ap (λ (test : Move → Bool). filter test all_triples) (fun_ext (rules_kept p e).legal)
+
+-- ---- castling
+
+in_turn : (a b c : Bool) → (a && (b && c)) ≡ (true && a && b && c)
+in_turn true true c = refl
+in_turn true false c = refl
+in_turn false b c = refl
+
+never : (a b c : Bool) → (a && false) ≡ (false && a && b && c)
+never true b c = refl
+never false b c = refl
+
+says_by : (c : Colour) (m : Move) (w : CastlingSide) (king : Bool) (o : Option ℕ)
+    → (king && names_castling Normal c m w o)
+    ≡ (is_some o && king && (m.from == home_square c king_home_file)
+    && (m.to == home_square c (castled_king_file w)))
+says_by c m w king None = never king (m.from == home_square c king_home_file)
+    (m.to == home_square c (castled_king_file w))
+says_by c m w king (Some rook) = in_turn king (m.from == home_square c king_home_file)
+    (m.to == home_square c (castled_king_file w))
+
+says_kept : (p : Setup) → p.variant ≡ Normal → (m : Move) (w : CastlingSide)
+    → says_castling p m w ≡ normal_says_castling p m w
+unfolding says_castling normal_says_castling
+says_kept p e m w = rw e (says_by p.side m w (is_man p.side King (man_at p.men m.from)) (right_of p.rights p.side w))
+
+castling_kept : (p : Setup) → p.variant ≡ Normal → (m : Move) → castling p m ≡ normal_castling p m
+unfolding castling normal_castling
+castling_kept p e m = rw (says_kept p e m KingSide, says_kept p e m QueenSide) refl
+
+-- ---- read
+
+described_by : (p : Setup) → p.variant ≡ Normal → (m : Move) (o : Option Man)
+    → described_as p m o ≡ normal_described_as p m o
+described_by p e m None = refl
+described_by p e m (Some x) =
+    ap (λ o. Some (record {
+      man = x.kind;
+      from = m.from;
+      to = m.to;
+      promotion = m.promotion;
+      captures = captures p m;
+      castles = o;
+    }))
+    (castling_kept p e m)
+
+described_kept : (p : Setup) → p.variant ≡ Normal → (m : Move) → described p m ≡ normal_described p m
+unfolding described normal_described
+described_kept p e m = described_by p e m (man_at p.men m.from)
+
+spells_kept : (p : Setup) → p.variant ≡ Normal → (text : List ℕ) (m : Move) → spells p text m ≡ normal_spells p text m
+unfolding spells normal_spells
+spells_kept p e text m = ap (passes (spells_described text)) (described_kept p e m)
+
+reading_kept : (p : Setup) → p.variant ≡ Normal → (text : List ℕ) → reading p text ≡ normal_reading p text
+unfolding reading normal_reading
+reading_kept p e text =
+    ap (λ (test : Move → Bool). if shape text then one_of (filter test (moves p)) else NotAMove)
+    (fun_ext (spells_kept p e text))
+    ∙ ap (λ ms. if shape text then one_of (filter (λ m. normal_spells p text m) ms) else NotAMove) (moves_kept p e)
+
+-- ---- written
+
+rival_kept : (p : Setup) → p.variant ≡ Normal → (d : Described) (m : Move) → is_rival p d m ≡ normal_is_rival p d m
+unfolding is_rival normal_is_rival
+rival_kept p e d m =
+    ap (λ o. (m.to == d.to) && not (m.from == d.from) && passes (λ (x : Described). same_kind x.man d.man) o)
+    (described_kept p e m)
+
+rivals_kept : (p : Setup) → p.variant ≡ Normal → (d : Described)
+    → rival_starts p (moves p) d ≡ normal_rival_starts p d
+unfolding rival_starts normal_rival_starts
+rivals_kept p e d =
+    ap (λ (test : Move → Bool). map (λ (m : Move). m.from) (filter test (moves p))) (fun_ext (rival_kept p e d))
+    ∙ ap (λ ms. map (λ (m : Move). m.from) (filter (λ m. normal_is_rival p d m) ms)) (moves_kept p e)
+
+mark_kept : (p : Setup) → p.variant ≡ Normal → check_mark p ≡ normal_check_mark p
+unfolding check_mark normal_check_mark
+mark_kept p e =
+    ap (λ (ms : List Move). when (is_in_check p.men p.side) (if length ms == 0 then codes "#" else codes "+"))
+    (moves_kept p e)
+
+-- what a move leaves is of the variant of the position before it
+stays : (p : Setup) (m : Move) → (after p m).variant ≡ p.variant
+unfolding after
+stays p m = refl
+
+mark_after : (p : Setup) → p.variant ≡ Normal → (m : Move)
+    → check_mark (after p m) ≡ normal_check_mark (normal_after p m)
+mark_after p e m = mark_kept (after p m) (stays p m ∙ e) ∙ ap normal_check_mark ((rules_kept p e).after m)
+
+san_by : (p : Setup) → p.variant ≡ Normal → (m : Move) (o : Option Described) → san_as p m o ≡ normal_san_as p m o
+san_by p e m None = refl
+san_by p e m (Some d) =
+    ap (λ starts. unmarked_san starts d ++ check_mark (after p m)) (rivals_kept p e d)
+    ∙ ap (λ mark. unmarked_san (normal_rival_starts p d) d ++ mark) (mark_after p e m)
+
+san_kept : (p : Setup) → p.variant ≡ Normal → (m : Move) → san p m ≡ normal_san p m
+unfolding san normal_san
+san_kept p e m = san_by p e m (described p m) ∙ ap (normal_san_as p m) (described_kept p e m)
+
+shown_kept : (p : Setup) → p.variant ≡ Normal → (m : Move) → shown_move p m ≡ coordinate m
+unfolding shown_move
+shown_kept p e m = ap (λ v. shown_as v (castling p m) m) e
 
 pub normal_kept : (p : Setup) → p.variant ≡ Normal → NormalIsKept p
-unfolding shown_move
-normal_kept p is = record { ends = ends p is; shown = λ m. ap (λ v. shown_as v (castling p m) m) is }
+normal_kept p e = record {
+  moves = moves_kept p e;
+  reading = reading_kept p e;
+  san = san_kept p e;
+  shown = shown_kept p e;
+}

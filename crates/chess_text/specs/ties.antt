@@ -1,3 +1,2 @@
--- What only joins code to the definitions: of all claims one rests on it, the law `normal_is_kept` (where a spelled
--- castling ends).
+-- What only joins code to the definitions: no claim rests on it.
 pub mod Forms

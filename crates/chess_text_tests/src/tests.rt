@@ -1,15 +1,17 @@
-use chess_base::{Kind, Move, Square, Variant};
-use chess_fen::{read_fen, read_fen_as, write_fen};
+use chess_base::{Kind, Move, Position, Square, Variant};
+use chess_bits::{AttackTables, Bits};
+use chess_fen::{read_fen_as, write_fen};
 use chess_moves::{Board, Plain};
 use chess_text::{
     Reading, coordinate, coordinate_spells_its_move, has_move_shape, move_text,
     move_text_spells_its_move, normal_is_kept, read_move, read_moves_are_legal, san, san_is_a_word,
     san_spells_its_move, texts_have_parts,
 };
+use std::alloc::Global;
 use std::process::Abort;
 use std::test::Fail;
 
-// What is to come of a text: the move with this coordinate text, or none.
+// What a text denotes: the move with this coordinate text, or none.
 #[derive(Clone, Copy)]
 enum Wanted {
     Move(&'static [u8]),
@@ -18,14 +20,12 @@ enum Wanted {
     NotAMove,
 }
 
-fn board_at(fen: &[u8]) -> Result<Plain, Fail> {
-    let position = read_fen(fen).ok().ok_or("sound")?;
-    let mut board = Plain::new();
-    board.set(&position);
-    Ok(board)
+fn set<B: Board>(board: &mut B, variant: Variant, fen: &[u8]) -> Result<(), Fail> {
+    board.set(&read_fen_as(variant, fen).ok().ok_or("sound")?);
+    Ok(())
 }
 
-// Whether what came of a text was to come of it.
+// Whether a text was read as it should be.
 fn is_wanted(found: Reading, wanted: Wanted) -> bool {
     match (found, wanted) {
         (Reading::Move(m), Wanted::Move(name)) => coordinate(m).as_slice() == name,
@@ -36,7 +36,7 @@ fn is_wanted(found: Reading, wanted: Wanted) -> bool {
     }
 }
 
-fn check(rt: &impl Abort, board: &Plain, text: &[u8], wanted: Wanted) {
+fn check<B: Board>(rt: &impl Abort, board: &B, text: &[u8], wanted: Wanted) {
     let found = read_move(board, text);
     assert!(rt; is_wanted(found, wanted), "{text:?} is {found:?}");
     assert_eq!(rt;
@@ -46,12 +46,29 @@ fn check(rt: &impl Abort, board: &Plain, text: &[u8], wanted: Wanted) {
     );
 }
 
-fn check_all(rt: &impl Abort, fen: &[u8], rows: &[(&[u8], Wanted)]) -> Result<(), Fail> {
-    let board = board_at(fen)?;
+fn check_on<B: Board>(
+    rt: &impl Abort,
+    board: &mut B,
+    fen: &[u8],
+    rows: &[(&[u8], Wanted)],
+) -> Result<(), Fail> {
+    set(board, Variant::Normal, fen)?;
     for (text, wanted) in rows {
-        check(rt, &board, text, *wanted);
+        check(rt, board, text, *wanted);
     }
     Ok(())
+}
+
+// Reads texts in a position, on both boards.
+fn check_all(
+    rt: &impl Abort,
+    alloc: Global,
+    fen: &[u8],
+    rows: &[(&[u8], Wanted)],
+) -> Result<(), Fail> {
+    check_on(rt, &mut Plain::new(), fen, rows)?;
+    let tables = AttackTables::open(alloc)?;
+    check_on(rt, &mut Bits::new(&tables), fen, rows)
 }
 
 // Both castlings, a capture en passant, a pinned knight on c3 and one that may move.
@@ -88,7 +105,7 @@ const PAWN_TEXTS: &[(&[u8], Wanted)] = &[
 
 #[test]
 fn pawn_moves_in_a_middle_game(rt: HostRuntime) -> Result<(), Fail> {
-    check_all(&rt, MIDDLE_GAME, PAWN_TEXTS)
+    check_all(&rt, rt.alloc(), MIDDLE_GAME, PAWN_TEXTS)
 }
 
 const KING_TEXTS: &[(&[u8], Wanted)] = &[
@@ -119,7 +136,7 @@ const KING_TEXTS: &[(&[u8], Wanted)] = &[
 
 #[test]
 fn king_moves_in_a_middle_game(rt: HostRuntime) -> Result<(), Fail> {
-    check_all(&rt, MIDDLE_GAME, KING_TEXTS)
+    check_all(&rt, rt.alloc(), MIDDLE_GAME, KING_TEXTS)
 }
 
 const KNIGHT_TEXTS: &[(&[u8], Wanted)] = &[
@@ -147,7 +164,7 @@ const KNIGHT_TEXTS: &[(&[u8], Wanted)] = &[
 
 #[test]
 fn knight_moves_in_a_middle_game(rt: HostRuntime) -> Result<(), Fail> {
-    check_all(&rt, MIDDLE_GAME, KNIGHT_TEXTS)
+    check_all(&rt, rt.alloc(), MIDDLE_GAME, KNIGHT_TEXTS)
 }
 
 const OTHER_TEXTS: &[(&[u8], Wanted)] = &[
@@ -173,7 +190,7 @@ const OTHER_TEXTS: &[(&[u8], Wanted)] = &[
 
 #[test]
 fn other_moves_in_a_middle_game(rt: HostRuntime) -> Result<(), Fail> {
-    check_all(&rt, MIDDLE_GAME, OTHER_TEXTS)
+    check_all(&rt, rt.alloc(), MIDDLE_GAME, OTHER_TEXTS)
 }
 
 const BROKEN_TEXTS: &[(&[u8], Wanted)] = &[
@@ -197,7 +214,7 @@ const BROKEN_TEXTS: &[(&[u8], Wanted)] = &[
 
 #[test]
 fn broken_texts_in_a_middle_game(rt: HostRuntime) -> Result<(), Fail> {
-    check_all(&rt, MIDDLE_GAME, BROKEN_TEXTS)
+    check_all(&rt, rt.alloc(), MIDDLE_GAME, BROKEN_TEXTS)
 }
 
 // A pawn on e7 may go on or capture on either side.
@@ -229,7 +246,7 @@ const PROMOTION_TEXTS: &[(&[u8], Wanted)] = &[
 
 #[test]
 fn texts_of_promotions(rt: HostRuntime) -> Result<(), Fail> {
-    check_all(&rt, PROMOTION, PROMOTION_TEXTS)
+    check_all(&rt, rt.alloc(), PROMOTION, PROMOTION_TEXTS)
 }
 
 const PROMOTING_CAPTURE_TEXTS: &[(&[u8], Wanted)] = &[
@@ -258,7 +275,7 @@ const PROMOTING_CAPTURE_TEXTS: &[(&[u8], Wanted)] = &[
 
 #[test]
 fn texts_of_promoting_captures(rt: HostRuntime) -> Result<(), Fail> {
-    check_all(&rt, PROMOTION, PROMOTING_CAPTURE_TEXTS)
+    check_all(&rt, rt.alloc(), PROMOTION, PROMOTING_CAPTURE_TEXTS)
 }
 
 // Three queens attack e1.
@@ -292,24 +309,35 @@ const QUEENS_TEXTS: &[(&[u8], Wanted)] = &[
 
 #[test]
 fn texts_of_three_queens(rt: HostRuntime) -> Result<(), Fail> {
-    check_all(&rt, QUEENS, QUEENS_TEXTS)
+    check_all(&rt, rt.alloc(), QUEENS, QUEENS_TEXTS)
+}
+
+// A text of marks, the same after a move, and that with a digit as its last byte.
+fn check_runs<B: Board>(rt: &impl Abort, board: &B) {
+    let mut text = [b'+'; 1024];
+    check(rt, board, &text, Wanted::NotAMove);
+    text[0] = b'e';
+    text[1] = b'4';
+    check(rt, board, &text, Wanted::Move(b"e2e4"));
+    text[1023] = b'4';
+    check(rt, board, &text, Wanted::NotAMove);
 }
 
 #[test]
 fn long_runs_of_marks(rt: HostRuntime) -> Result<(), Fail> {
-    let board = Plain::new();
-    let mut text = [b'+'; 1024];
-    check(&rt, &board, &text, Wanted::NotAMove);
-    text[0] = b'e';
-    text[1] = b'4';
-    check(&rt, &board, &text, Wanted::Move(b"e2e4"));
-    text[1023] = b'4';
-    check(&rt, &board, &text, Wanted::NotAMove);
+    check_runs(&rt, &Plain::new());
+    let tables = AttackTables::open(rt.alloc())?;
+    check_runs(&rt, &Bits::new(&tables));
     Ok(())
 }
 
-// Compares the SAN of the move that a text spells.
-fn is_written(rt: &impl Abort, board: &mut Plain, name: &[u8], wanted: &[u8]) -> Result<(), Fail> {
+// Compares the SAN of the move that a text denotes.
+fn is_written<B: Board>(
+    rt: &impl Abort,
+    board: &mut B,
+    name: &[u8],
+    wanted: &[u8],
+) -> Result<(), Fail> {
     let Reading::Move(m) = read_move(board, name) else {
         return Err("a legal move".into());
     };
@@ -317,8 +345,8 @@ fn is_written(rt: &impl Abort, board: &mut Plain, name: &[u8], wanted: &[u8]) ->
     Ok(())
 }
 
-// Makes the move that a text spells.
-fn make(board: &mut Plain, text: &[u8]) -> Result<(), Fail> {
+// Makes the move that a text denotes.
+fn make<B: Board>(board: &mut B, text: &[u8]) -> Result<(), Fail> {
     let Reading::Move(m) = read_move(board, text) else {
         return Err("a legal move".into());
     };
@@ -326,15 +354,21 @@ fn make(board: &mut Plain, text: &[u8]) -> Result<(), Fail> {
     Ok(())
 }
 
-fn is_at(rt: &impl Abort, board: &Plain, fen: &[u8]) {
+fn is_at<B: Board>(rt: &impl Abort, board: &B, fen: &[u8]) {
     assert_eq!(rt; write_fen(&board.position()).as_slice(), fen);
 }
 
 // Writes a move from a position, at which the board stays.
-fn is_written_from(rt: &impl Abort, fen: &[u8], name: &[u8], wanted: &[u8]) -> Result<(), Fail> {
-    let mut board = board_at(fen)?;
-    is_written(rt, &mut board, name, wanted)?;
-    is_at(rt, &board, fen);
+fn is_written_from<B: Board>(
+    rt: &impl Abort,
+    board: &mut B,
+    fen: &[u8],
+    name: &[u8],
+    wanted: &[u8],
+) -> Result<(), Fail> {
+    set(board, Variant::Normal, fen)?;
+    is_written(rt, board, name, wanted)?;
+    is_at(rt, board, fen);
     Ok(())
 }
 
@@ -390,12 +424,22 @@ const WRITTEN: [(&[u8], &[u8], &[u8]); 24] = [
     (b"7k/8/6K1/8/8/8/8/5Q2 w - - 0 1", b"f1f7", b"Qf7"),
 ];
 
-#[test]
-fn san_of_moves(rt: HostRuntime) -> Result<(), Fail> {
-    for (fen, name, wanted) in &WRITTEN {
-        is_written_from(&rt, fen, name, wanted)?;
+fn are_written<B: Board>(
+    rt: &impl Abort,
+    board: &mut B,
+    rows: &[(&[u8], &[u8], &[u8])],
+) -> Result<(), Fail> {
+    for (fen, name, wanted) in rows {
+        is_written_from(rt, board, fen, name, wanted)?;
     }
     Ok(())
+}
+
+#[test]
+fn san_of_moves(rt: HostRuntime) -> Result<(), Fail> {
+    are_written(&rt, &mut Plain::new(), &WRITTEN)?;
+    let tables = AttackTables::open(rt.alloc())?;
+    are_written(&rt, &mut Bits::new(&tables), &WRITTEN)
 }
 
 // Morphy against the Duke of Brunswick and Count Isouard, Paris 1858.
@@ -406,46 +450,76 @@ const OPERA_GAME: [&[u8]; 33] = [
 ];
 
 // Reads a move, writes it as it was read, and makes it.
-fn is_read_and_written(rt: &impl Abort, board: &mut Plain, text: &[u8]) -> Result<(), Fail> {
+fn is_read_and_written<B: Board>(rt: &impl Abort, board: &mut B, text: &[u8]) -> Result<(), Fail> {
     is_written(rt, board, text, text)?;
     make(board, text)
 }
 
-#[test]
-fn a_game_is_read_and_written(rt: HostRuntime) -> Result<(), Fail> {
-    let mut board = Plain::new();
-    for text in &OPERA_GAME {
-        is_read_and_written(&rt, &mut board, text)?;
+// Reads, writes and makes moves, after which the board is there.
+fn are_read_and_written<B: Board>(
+    rt: &impl Abort,
+    board: &mut B,
+    moves: &[&[u8]],
+    fen: &[u8],
+) -> Result<(), Fail> {
+    for text in moves {
+        is_read_and_written(rt, board, text)?;
     }
-    is_at(
-        &rt,
-        &board,
-        b"1n1Rkb1r/p4ppp/4q3/4p1B1/4P3/8/PPP2PPP/2K5 b k - 1 17",
-    );
+    is_at(rt, board, fen);
     Ok(())
 }
+
+const AFTER_THE_OPERA: &[u8] = b"1n1Rkb1r/p4ppp/4q3/4p1B1/4P3/8/PPP2PPP/2K5 b k - 1 17";
+
+#[test]
+fn a_game_is_read_and_written(rt: HostRuntime) -> Result<(), Fail> {
+    are_read_and_written(&rt, &mut Plain::new(), &OPERA_GAME, AFTER_THE_OPERA)?;
+    let tables = AttackTables::open(rt.alloc())?;
+    are_read_and_written(&rt, &mut Bits::new(&tables), &OPERA_GAME, AFTER_THE_OPERA)
+}
+
+const INITIAL_TEXTS: &[(&[u8], Wanted)] = &[(b"bc3", Wanted::NoSuch), (b"O-O", Wanted::NoSuch)];
+
+const FIRST_MOVES: [&[u8]; 3] = [b"e4!?", b"e5", b"Nge2"];
+
+// Makes moves, after which the board is there.
+fn make_all<B: Board>(
+    rt: &impl Abort,
+    board: &mut B,
+    moves: &[&[u8]],
+    fen: &[u8],
+) -> Result<(), Fail> {
+    for text in moves {
+        make(board, text)?;
+    }
+    is_at(rt, board, fen);
+    Ok(())
+}
+
+const AFTER_NGE2: &[u8] = b"rnbqkbnr/pppp1ppp/8/4p3/4P3/8/PPPPNPPP/RNBQKB1R b KQkq - 1 2";
 
 #[test]
 fn moves_from_the_initial_position(rt: HostRuntime) -> Result<(), Fail> {
-    let mut board = Plain::new();
-    check(&rt, &board, b"bc3", Wanted::NoSuch);
-    check(&rt, &board, b"O-O", Wanted::NoSuch);
-    for text in [b"e4!?".as_slice(), b"e5".as_slice(), b"Nge2".as_slice()] {
-        make(&mut board, text)?;
-    }
-    is_at(
-        &rt,
-        &board,
-        b"rnbqkbnr/pppp1ppp/8/4p3/4P3/8/PPPPNPPP/RNBQKB1R b KQkq - 1 2",
-    );
-    Ok(())
+    let initial = write_fen(&Position::initial());
+    check_all(&rt, rt.alloc(), initial.as_slice(), INITIAL_TEXTS)?;
+    make_all(&rt, &mut Plain::new(), &FIRST_MOVES, AFTER_NGE2)?;
+    let tables = AttackTables::open(rt.alloc())?;
+    make_all(&rt, &mut Bits::new(&tables), &FIRST_MOVES, AFTER_NGE2)
 }
+
+const PAWN_ON_E7: &[(&[u8], Wanted)] = &[
+    (b"e8", Wanted::NoSuch),
+    (b"e8=N!?", Wanted::Move(b"e7e8n")),
+];
 
 #[test]
 fn a_pawn_becomes_what_is_named(rt: HostRuntime) -> Result<(), Fail> {
-    let board = board_at(b"8/4P3/8/8/8/2k5/8/4K3 w - - 0 1")?;
-    check(&rt, &board, b"e8", Wanted::NoSuch);
-    check(&rt, &board, b"e8=N!?", Wanted::Move(b"e7e8n"));
+    check_all(
+        &rt,
+        rt.alloc(),
+        b"8/4P3/8/8/8/2k5/8/4K3 w - - 0 1",
+        PAWN_ON_E7,
+    )?;
     let m = Move {
         from: Square::new(52),
         to: Square::new(60),
@@ -455,8 +529,8 @@ fn a_pawn_becomes_what_is_named(rt: HostRuntime) -> Result<(), Fail> {
     Ok(())
 }
 
-// Compares how the move that a text spells is shown.
-fn is_shown(rt: &impl Abort, board: &Plain, name: &[u8], wanted: &[u8]) -> Result<(), Fail> {
+// Compares how the move that a text denotes is shown.
+fn is_shown<B: Board>(rt: &impl Abort, board: &B, name: &[u8], wanted: &[u8]) -> Result<(), Fail> {
     let Reading::Move(m) = read_move(board, name) else {
         return Err("a legal move".into());
     };
@@ -473,22 +547,36 @@ const SHOWN: [(&[u8], &[u8]); 5] = [
     (b"h1g1", b"h1g1"),
 ];
 
-#[test]
-fn castling_in_chess960_is_shown_by_its_side(rt: HostRuntime) -> Result<(), Fail> {
-    let fen = b"4k3/8/8/8/8/8/8/RK5R w KQ - 0 1";
-    let position = read_fen_as(Variant::Fischerandom, fen).ok().ok_or("sound")?;
-    let mut board = Plain::new();
-    board.set(&position);
-    for (name, wanted) in &SHOWN {
-        is_shown(&rt, &board, name, wanted)?;
+// In normal chess castling is shown by the king's squares.
+const SHOWN_IN_NORMAL_CHESS: [(&[u8], &[u8]); 1] = [(b"O-O", b"e1g1")];
+
+// Shows moves from a position.
+fn are_shown<B: Board>(
+    rt: &impl Abort,
+    board: &mut B,
+    variant: Variant,
+    fen: &[u8],
+    rows: &[(&[u8], &[u8])],
+) -> Result<(), Fail> {
+    set(board, variant, fen)?;
+    for (name, wanted) in rows {
+        is_shown(rt, board, name, wanted)?;
     }
     Ok(())
 }
 
+fn castlings_are_shown<B: Board>(rt: &impl Abort, board: &mut B) -> Result<(), Fail> {
+    let fen = b"4k3/8/8/8/8/8/8/RK5R w KQ - 0 1";
+    are_shown(rt, board, Variant::Fischerandom, fen, &SHOWN)?;
+    let fen = b"5k2/8/8/8/8/8/8/4K2R w K - 0 1";
+    are_shown(rt, board, Variant::Normal, fen, &SHOWN_IN_NORMAL_CHESS)
+}
+
 #[test]
-fn castling_in_normal_chess_is_shown_by_the_kings_squares(rt: HostRuntime) -> Result<(), Fail> {
-    let board = board_at(b"5k2/8/8/8/8/8/8/4K2R w K - 0 1")?;
-    is_shown(&rt, &board, b"O-O", b"e1g1")
+fn castling_is_shown_by_its_variant(rt: HostRuntime) -> Result<(), Fail> {
+    castlings_are_shown(&rt, &mut Plain::new())?;
+    let tables = AttackTables::open(rt.alloc())?;
+    castlings_are_shown(&rt, &mut Bits::new(&tables))
 }
 
 #[test]

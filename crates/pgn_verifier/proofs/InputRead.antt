@@ -5,8 +5,8 @@ use Rattle.std.specs.Io.KnownBytes.{Consumes}
 use Rattle.byte_devices.specs.Devices.{InputState, GavePiece, FailedToRead, risen}
 use Rattle.byte_devices.proofs.DeviceLaws.{consumes_more, consumes_kept}
 use Rattle.pgn_verifier.specs.declared.fault.VerifyFault.TheVariants.{ReadFailed, NoMemory, InputTooLong}
-use Rattle.pgn_stream.specs.Stream.{IsFront}
-use Rattle.pgn_verifier.specs.Verify.{IsAll, IsNotHad}
+use Rattle.pgn_pieces.specs.Pieces.{IsFront}
+use Rattle.pgn_verifier.specs.Verify.{IsAll, IsNotAll}
 
 -- the end was told
 pub all_read : (r r' r'' : InputState) (text buf : List ℕ) (n : ℕ) → IsFront r r' text → length text ≤ 16777216
@@ -24,7 +24,7 @@ all_read r r' r'' text buf n front few gave is =
 
 -- a read failed
 pub read_failed : (r r' r'' : InputState) (text : List ℕ) → IsFront r r' text → FailedToRead r' r''
-    → IsNotHad r r'' ReadFailed
+    → IsNotAll r r'' ReadFailed
 read_failed r r' r'' text front failed = (
   text,
   record {
@@ -55,14 +55,14 @@ more_read r r' r'' text buf n front gave some within = record {
 
 -- there was no memory for a piece more
 pub no_room : (r r' r'' : InputState) (text buf : List ℕ) (n : ℕ) → IsFront r r' text → GavePiece r' r'' (take n buf)
-    → 0 < n → n ≤ length buf → IsNotHad r r'' NoMemory
+    → 0 < n → n ≤ length buf → IsNotAll r r'' NoMemory
 no_room r r' r'' text buf n front gave some within =
     (text ++ take n buf, more_read r r' r'' text buf n front gave some within)
 
 -- there are too many bytes
 pub too_long : (r r' r'' : InputState) (text buf : List ℕ) (n len : ℕ) → IsFront r r' text
     → GavePiece r' r'' (take n buf) → len ≡ length text
-    → length text ≤ 16777216 → 16777216 - len < n → n ≤ length buf → IsNotHad r r'' InputTooLong
+    → length text ≤ 16777216 → 16777216 - len < n → n ≤ length buf → IsNotAll r r'' InputTooLong
 too_long r r' r'' text buf n len front gave is few past within =
     let all = length-append text (take n buf) in
     let some = length-take-le n buf within in (

@@ -1,4 +1,6 @@
+pub mod CollectionVerified
+pub mod Finished
+pub mod GamesJudged
 pub mod InputRead
-pub mod Reports
-pub mod Collections
-pub mod AnyReports
+pub mod LinesWritten
+pub mod TextVerified

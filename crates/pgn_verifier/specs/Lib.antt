@@ -1,3 +1,5 @@
-pub mod AnySize
 pub mod Collection
+pub mod GameFaults
+pub mod Reports
 pub mod Verify
+pub mod ties

@@ -1,230 +1,161 @@
-//! Verifying by options: games behind a fault too, or those with a fault alone.
+//! A collection of any length verified: each of its pieces is read as a text of its own.
 
-ghost use Rattle.std.specs.Prelude.{◌≡◌, ◌≤◌, ◌<◌, ◌+◌, ◌^◌, ◌==◌, if◌then◌else◌, IfSome, length};
-ghost use Rattle.byte_devices.specs.Devices.{Puts};
-ghost use Rattle.pgn_verifier.specs.declared.whole.Verified.TheVariants.{EachGame, FaultTold};
-ghost use Rattle.pgn_verifier.specs.Collection.{IsNext, is_told, told_line, counts_line, counts_if, CountsEach, HandedOnBy, VerifiesBy};
+ghost use Rattle.std.specs.Prelude.{◌≡◌, ◌≤◌, ◌<◌, ◌+◌, ◌*◌, ◌^◌, length, IfOk};
+ghost use Rattle.byte_devices.specs.Devices.{Sends};
+ghost use Rattle.pgn_pieces.specs.Stream.{unread, current};
+ghost use Rattle.pgn_verifier.specs.Reports.{reports_in, counts_line, Writes, GrowsBy};
+ghost use Rattle.pgn_verifier.specs.Collection.{WritesCollection, VerifiesCollection};
+ghost use Rattle.pgn_verifier.specs.ties.Faults.{piece_fault};
 ghost use Rattle.chess_game.specs.declared.game.TheConstants.{MOST_MOVES};
-ghost use Rattle.pgn_stream.specs.declared.stream.TheConstants.{GAME_LEN};
 
 use crate::fault::VerifyFault;
+use crate::game_fault::{FaultKind, GameFault};
+use crate::games::{open_game, verify_text};
 use crate::options::VerifyOptions;
-use crate::whole::{
-    Report, ReportLine, Verified, open_game, read_all, tell, write_number, write_text,
-};
-use byte_devices::{Input, Output, WriteFault, put};
-use chess_bits::Bits;
+use crate::report::{Report, write_counts, write_line};
+use crate::tally::{Tally, Verified};
+use byte_devices::{Input, Output, WriteFault};
+use chess_bits::{AttackTables, Bits};
 use chess_game::Game;
-use chess_pgn::{faults_have_places, read_pgn};
-use pgn_stream::next_event;
+use chess_pgn::PgnFaultKind;
+use pgn_pieces::{PgnPieces, PieceFault, pieces_are_cut};
 use std::alloc::Global;
 
-/// What was counted.
-#[derive(Clone, Copy)]
-pub(crate) struct Tally {
-    /// How many games have no fault.
-    pub games: usize,
-    /// How many half-moves these have.
-    pub half_moves: usize,
-    /// How many games have a fault.
-    pub faults: usize,
-}
-
-impl Tally {
-    // Nothing yet.
-    pub(crate) fn none() -> Self
-        ensures { result ≡ record { games = 0; half_moves = 0; faults = 0 } }
-    {
-        Tally {
-            games: 0,
-            half_moves: 0,
-            faults: 0,
-        }
-    }
-
-    // And a game with so many half-moves.
-    pub(crate) fn with_game(self, plies: usize) -> Self
-        requires games { self.games + 1 < 2 ^ 64 }
-        requires half_moves { self.half_moves + plies < 2 ^ 64 }
-        ensures { result ≡ record
-            { games = self.games + 1; half_moves = self.half_moves + plies; faults = self.faults } }
-    {
-        Tally {
-            games: self.games + 1,
-            half_moves: self.half_moves + plies,
-            ..self
-        }
-    }
-
-    // And a fault.
-    pub(crate) fn with_fault(self) -> Self
-        requires { self.faults + 1 < 2 ^ 64 }
-        ensures { result ≡ record { games = self.games; half_moves = self.half_moves; faults = self.faults + 1 } }
-    {
-        Tally {
-            faults: self.faults + 1,
-            ..self
-        }
-    }
-}
-
-// Where the next game begins behind a fault at a place.
-fn next_game(keep_going: bool, text: &[u8], place: usize) -> Option<usize>
-    ensures next { IsNext keep_going text.now place result }
-    ensures within { IfSome result (λ next. next ≤ length text.now) }
+// The fault where a fault ends the pieces.
+fn piece_fault(fault: PieceFault) -> VerifyFault
+    ensures { result ≡ piece_fault fault }
 {
-    if keep_going {
-        next_event(text, place)
-    } else {
-        None
+    match fault {
+        PieceFault::ReadFailed => VerifyFault::ReadFailed,
+        PieceFault::NoMemory => VerifyFault::NoMemory,
+        PieceFault::InputTooLong => VerifyFault::InputTooLong,
     }
 }
 
-// Whether a line is told of a report.
-fn is_told(quiet: bool, report: &Report) -> bool
-    ensures { result ≡ is_told quiet report.now }
-{
-    match report {
-        Report::Game { .. } => !quiet,
-        Report::Faulty(_) => true,
-    }
-}
-
-// Writes the line of the game with that number, if it is told.
-pub(crate) fn tell_line<W: Output>(
-    quiet: bool,
-    output: &mut W,
-    number: usize,
-    report: &Report,
-) -> Result<(), WriteFault>
-    ensures { Puts (W.seen output.old) (W.seen output.new) result (told_line quiet number report.now) }
-{
-    if is_told(quiet, report) {
-        return tell(output, number, report);
-    }
-    Ok(())
-}
-
-// The line of the counts.
-#[tactic(auto, unfolding(crate::specs::Collection::counts_line))]
-fn counts_line(tally: Tally) -> ReportLine
-    ensures { result.items ≡ counts_line tally.games tally.half_moves tally.faults }
-{
-    let mut line = ReportLine::new();
-    write_text(&mut line, b"games ");
-    write_number(&mut line, tally.games);
-    write_text(&mut line, b" half-moves ");
-    write_number(&mut line, tally.half_moves);
-    write_text(&mut line, b" faults ");
-    write_number(&mut line, tally.faults);
-    line.push(b'\n');
-    line
-}
-
-// Reads game after game of a text, tells and counts them.
-fn count_each<W: Output>(
+// Reports the games of a piece, or that it is too long.
+fn verify_piece<W: Output>(
     options: VerifyOptions,
-    text: &[u8],
-    game: &mut Game<Bits>,
+    pieces: &PgnPieces,
+    game: &mut Game<Bits<'_>>,
     output: &mut W,
+    before: Tally,
 ) -> Result<Tally, WriteFault>
-    requires few { length text.now ≤ GAME_LEN }
+    requires reports { before.games + before.faults + length pieces.now.part + 1 < 2 ^ 64 }
+    requires half_moves { before.half_moves + length pieces.now.part < 2 ^ 64 }
     requires limit { game.old.limit ≡ MOST_MOVES }
-    ensures { CountsEach options text.now (W.seen output.old) (W.seen output.new) result }
+    ensures written { Writes options.quiet before (W.seen output.old) (W.seen output.new) result
+        (reports_in options.strict (current pieces.now)) }
+    ensures grown { IfOk result (λ after. GrowsBy (length pieces.now.part) before after) }
+    ensures limit { game.new.limit ≡ MOST_MOVES }
 {
-    // The prover wants this law: a fault is not before the place where reading its game began.
-    faults_have_places();
-    let mut at = 0;
+    let start = pieces.place();
+    match pieces.text() {
+        Some(text) => verify_text(options, start, text, game, output, before),
+        None => {
+            let report = Report::Faulty(GameFault {
+                kind: FaultKind::Pgn(PgnFaultKind::TooLong),
+                offset: start,
+            });
+            match write_line(options.quiet, output, before.next_number(), &report) {
+                Ok(()) => Ok(before.with_fault()),
+                Err(fault) => Err(fault),
+            }
+        }
+    }
+}
+
+// Reports and counts the games of all pieces.
+fn verify_pieces<R: Input, W: Output>(
+    options: VerifyOptions,
+    pieces: &mut PgnPieces,
+    game: &mut Game<Bits<'_>>,
+    input: &mut R,
+    output: &mut W,
+) -> Result<Tally, VerifyFault>
+    requires opened { pieces.old ≡ unread }
+    requires limit { game.old.limit ≡ MOST_MOVES }
+    ensures { WritesCollection options (R.seen input.old) (R.seen input.new) (W.seen output.old) (W.seen output.new)
+        result }
+{
+    // The prover wants this law: the pieces of a text are those that are handed out.
+    pieces_are_cut();
     let mut tally = Tally::none();
     loop {
-        let number = tally.games + tally.faults + 1;
-        match read_pgn(text, at, game) {
-            Ok(None) => return Ok(tally),
-            Ok(Some(end)) => {
-                // The prover wants this fact: a game has no more half-moves than its limit.
-                let _playable = game.position();
-                let plies = game.ply();
-                tell_line(options.quiet, output, number, &Report::Game { plies, end })?;
-                tally = tally.with_game(plies);
-                at = end.place;
-            }
-            Err(fault) => {
-                let next = next_game(options.keep_going, text, fault.place);
-                tell_line(options.quiet, output, number, &Report::Faulty(fault))?;
-                tally = tally.with_fault();
-                match next {
-                    None => return Ok(tally),
-                    Some(next) => at = next,
-                }
-            }
+        match pieces.next(input) {
+            Ok(true) => {}
+            Ok(false) => return Ok(tally),
+            Err(fault) => return Err(piece_fault(fault)),
+        }
+        let _place = pieces.place();
+        match verify_piece(options, pieces, game, output, tally) {
+            Ok(after) => tally = after,
+            Err(_) => return Err(VerifyFault::WriteFailed),
         }
     }
 }
 
-// Writes the line of the counts, where they are told.
-pub(crate) fn tell_counts<W: Output>(
-    told: bool,
-    output: &mut W,
-    tally: Tally,
-) -> Result<(), WriteFault>
-    ensures { Puts (W.seen output.old) (W.seen output.new) result
-        (counts_if told tally.games tally.half_moves tally.faults) }
+// Writes the line of the counts, and flushes all lines.
+fn finish<W: Output>(output: &mut W, tally: Tally) -> Result<(), WriteFault>
+    ensures { Sends (W.seen output.old) (W.seen output.new) result
+        (counts_line tally.games tally.half_moves tally.faults) }
 {
-    if told {
-        return put(output, counts_line(tally).as_slice());
-    }
-    Ok(())
+    write_counts(output, tally)?;
+    output.flush()
 }
 
-// What the counts come to.
-pub(crate) fn verified_by(tally: Tally) -> Verified
-    ensures { result ≡ (if tally.faults == 0 then EachGame else FaultTold) }
-{
-    if tally.faults == 0 {
-        Verified::EachGame
-    } else {
-        Verified::FaultTold
-    }
-}
-
-// Tells the games of a text, and their counts where faults are gone on behind, and hands the lines on.
-fn tell_collection<W: Output>(
+// Reports the games of all pieces and the counts, and flushes the lines.
+fn verify_all<R: Input, W: Output>(
     options: VerifyOptions,
-    text: &[u8],
-    game: &mut Game<Bits>,
+    pieces: &mut PgnPieces,
+    game: &mut Game<Bits<'_>>,
+    input: &mut R,
     output: &mut W,
-) -> Result<Verified, WriteFault>
-    requires few { length text.now ≤ GAME_LEN }
+) -> Result<Verified, VerifyFault>
+    requires opened { pieces.old ≡ unread }
     requires limit { game.old.limit ≡ MOST_MOVES }
-    ensures { HandedOnBy options text.now (W.seen output.old) (W.seen output.new) result }
+    ensures { VerifiesCollection options (R.seen input.old) (R.seen input.new) (W.seen output.old) (W.seen output.new)
+        result }
 {
-    let tally = count_each(options, text, game, output)?;
-    tell_counts(options.keep_going, output, tally)?;
-    output.flush()?;
-    Ok(verified_by(tally))
+    let tally = match verify_pieces(options, pieces, game, input, output) {
+        Ok(tally) => tally,
+        Err(fault) => return Err(fault),
+    };
+    match finish(output, tally) {
+        Ok(()) => Ok(tally.verified()),
+        Err(_) => Err(VerifyFault::WriteFailed),
+    }
 }
 
-/// Reads the games of the input and writes a line for each, as `verify` does. With `keep_going` the next game begins at
-/// the next line behind the fault's place that begins with `[Event `, and last comes the line
-/// `games G half-moves H faults F`: how many games have no fault, how many half-moves these have, and how many games
-/// have a fault. With `quiet` the lines of games without a fault are left out.
+/// Reads the games of an input of any length and writes a line for each, as `verify` does. The input is cut into
+/// pieces, each from its first byte or a line that begins with `[Event ` up to the next such line, and each is read as
+/// a text of its own: a fault ends its piece alone. A piece with more than 16,777,216 bytes is one fault, `too long` at
+/// its first byte. Offsets count from the input's first byte. Last comes the line `games G half-moves H faults F`: how
+/// many games have no fault, how many half-moves these have, and how many faults there are. However the input is cut
+/// into reads, the lines are those of its pieces.
+///
+/// No clause says when a line is written, nor how much memory is used. By the code what is held is a piece and the
+/// bytes of one read, and a piece's lines are written before more is read than shows its end.
 ///
 /// # Errors
-/// As of `verify`; what a failed writer leaves behind is a beginning of what is told.
-pub fn verify_by<R: Input, W: Output>(
+/// Where a read failed, we ran out of memory, or nearly 2^63 bytes were read: the lines of the pieces whose end was
+/// read were written. Where a write or the flush failed: a beginning of the lines was written.
+pub fn verify_collection<R: Input, W: Output>(
     alloc: Global,
     options: VerifyOptions,
     input: &mut R,
     output: &mut W,
 ) -> Result<Verified, VerifyFault>
-    ensures { VerifiesBy options (R.seen input.old) (R.seen input.new) (W.seen output.old) (W.seen output.new) result }
+    ensures { VerifiesCollection options (R.seen input.old) (R.seen input.new) (W.seen output.old) (W.seen output.new)
+        result }
 {
-    let text = read_all(alloc, input)?;
-    let Ok(mut game) = open_game(alloc) else {
+    let Ok(tables) = AttackTables::open(alloc) else {
         return Err(VerifyFault::NoMemory);
     };
-    match tell_collection(options, text.as_slice(), &mut game, output) {
-        Ok(verified) => Ok(verified),
-        Err(_) => Err(VerifyFault::WriteFailed),
-    }
+    let Ok(mut game) = open_game(alloc, &tables) else {
+        return Err(VerifyFault::NoMemory);
+    };
+    let Ok(mut pieces) = PgnPieces::open(alloc) else {
+        return Err(VerifyFault::NoMemory);
+    };
+    verify_all(options, &mut pieces, &mut game, input, output)
 }

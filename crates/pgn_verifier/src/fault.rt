@@ -2,7 +2,7 @@
 
 use thiserror::Error;
 
-/// Why games were not verified to the end, or what was told of them was not handed on.
+/// Why games were not verified to the end, or their lines were not written.
 #[derive(Clone, Copy, Debug, PartialEq, Eq, Error)]
 pub enum VerifyFault {
     /// A read of the input failed.
@@ -14,8 +14,7 @@ pub enum VerifyFault {
     /// There was no memory.
     #[error("no memory")]
     NoMemory,
-    /// The text of games is longer than 16,777,216 bytes, or where any size is taken, so long that places in it could
-    /// pass 64 bits.
+    /// The text of games is longer than 16,777,216 bytes, or a collection of nearly 2^63.
     #[error("input too long")]
     InputTooLong,
 }

@@ -1,11 +1,11 @@
 //! How games are verified.
 
-/// What is told of games, and whether faults are gone on behind.
+/// How games are verified. By default each game has its line, and results are not compared.
 #[derive(Clone, Copy, Debug, PartialEq, Eq)]
 pub struct VerifyOptions {
-    /// Whether a fault is gone on behind, at the next line that begins with `[Event `, and the games
-    /// are counted at the end.
-    pub keep_going: bool,
-    /// Whether the lines of games without a fault are left out.
+    /// Leaves out the lines of games without a fault.
     pub quiet: bool,
+    /// Takes a contradiction about the result for a fault: a tag `Result` with another text than the termination, or a
+    /// verdict of the board with another outcome.
+    pub strict: bool,
 }

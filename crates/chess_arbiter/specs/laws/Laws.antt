@@ -1,6 +1,7 @@
 -- What words do.
 use Rattle.std.specs.Prelude.{◌≡◌, ◌⊎◌, ℕ, List}
 use Rattle.clap.specs.Words.{Text}
+use Rattle.arbiter_words.specs.Plans.{bare_plan}
 use Rattle.byte_devices.specs.Devices.{InputState, OutputState}
 use Rattle.chess_arbiter.specs.Program.{RanHelp, RanProgram, RanSession, RanVerify}
 
@@ -9,10 +10,10 @@ abbrev pub ServesSession : List Text → Type 0
 ServesSession words = (r r' : InputState) (w w' : OutputState) (status : ℕ) → RanProgram words r r' w w' status
     → RanSession r r' w w' status
 
--- a program with these words verifies games
+-- a program with these words verifies games, with no flag set
 abbrev pub VerifiesGames : List Text → Type 0
 VerifiesGames words = (r r' : InputState) (w w' : OutputState) (status : ℕ) → RanProgram words r r' w w' status
-    → RanVerify r r' w w' status
+    → RanVerify bare_plan r r' w w' status
 
 -- a program with these words shows a text of help, and leaves the input alone
 abbrev pub ShowsHelp : List Text → Type 0

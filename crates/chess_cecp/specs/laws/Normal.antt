@@ -1,24 +1,117 @@
--- The rows of the table as they are said for normal chess alone. All others speak of positions by the rules, of which
--- the same is said (`NormalIsKept` of chess_base and chess_fen, and of texts).
-use Rattle.std.specs.Prelude.{◌≡◌, ℕ, List, ◌∷◌, ◌++◌, length, codes, decimal, if◌then◌else◌}
+-- The table of commands as it is said for normal chess alone. Nothing here takes a variant: positions, their FEN, the
+-- texts of moves and of games are those of normal chess alone (laws/Normal of chess_base, chess_fen and chess_text;
+-- NormalGame and NormalPgn). Without Chess960 `variant` and `protover` have other rows than with it; all others have
+-- the same.
+use Rattle.std.specs.Prelude.{ℕ, nat_le, nat_lt, Bool, true, false, if◌then◌else◌, List, [], ◌∷◌, ◌++◌, length, codes, decimal, Option, None, Some, Result, Ok, Err}
 use Rattle.std.specs.List.{flat_map}
 use Rattle.std.specs.Str.{bytes_eq}
+use Rattle.chess_base.specs.declared.fault.FenFault.{FenFault}
 use Rattle.chess_base.specs.declared.man.Move.{Move}
+use Rattle.chess_base.specs.declared.setup.Setup.{Setup}
 use Rattle.chess_base.specs.Coordinates.{coordinate}
-use Rattle.chess_base.specs.MoveList.{moves}
-use Rattle.chess_fen.specs.Reading.{fen_reading}
-use Rattle.chess_game.specs.Game.{State, current}
+use Rattle.chess_base.specs.Letters.{space}
+use Rattle.chess_fen.specs.laws.Normal.{normal_fen, normal_fen_reading}
+use Rattle.chess_text.specs.declared.reading.Reading.{Reading}
+use Rattle.chess_text.specs.declared.reading.Reading.TheVariants as reads
+use Rattle.chess_text.specs.laws.Normal.{normal_moves, normal_reading}
+use Rattle.chess_game.specs.declared.ends.Claims.{Claims}
+use Rattle.chess_game.specs.declared.results.Declared.{Declared}
+use Rattle.chess_game.specs.Game.{State, from_start, played, with_declared, is_other}
 use Rattle.chess_pgn.specs.declared.tags.Tags.{Tags}
 use Rattle.chess_cecp.specs.declared.command.Command.{Command}
-use Rattle.chess_cecp.specs.declared.command.Command.TheVariants.{SetBoard, ShowMoves}
-use Rattle.chess_cecp.specs.Session.{Row, row, says, setboard_row, joined_line}
+use Rattle.chess_cecp.specs.declared.command.Command.TheVariants.{New, SetBoard, UserMove, BareMove, Undo, Remove, Declare, Claim, Ping, Protover, Variant, Go, ShowFen, ShowMoves, ShowState, ShowPgn, Quit, Silent, BadNumber, Unknown}
+use Rattle.chess_cecp.specs.Declaring.{declared_by, claims_text, verdict_text, declared_text}
+use Rattle.chess_cecp.specs.Session.{Row, says, refuses, becomes, verdict_line, fen_fault_name, claimed, joined_line, undo_row, remove_row}
+use Rattle.chess_cecp.specs.laws.NormalGame.{normal_initial, normal_current, normal_rep, normal_claims, normal_verdict_now, normal_is_over}
+use Rattle.chess_cecp.specs.laws.NormalPgn.{normal_pgn}
 
--- all moves by their squares
+-- the game changes, and the verdict on it is answered
+abbrev pub normal_becomes_judged : State → Row
+normal_becomes_judged s = record { text = verdict_line (normal_verdict_now s); next = s }
+
+-- the game starts anew from the sound position that a FEN spells
+abbrev pub normal_setboard_row : State → Result Setup FenFault → Row
+normal_setboard_row s (Ok start) = normal_becomes_judged (from_start start)
+normal_setboard_row s (Err fault) =
+    refuses s (codes "tellusererror Illegal position (") (fen_fault_name fault ++ codes ")")
+
+-- the one legal move that a text spells is played
+abbrev pub normal_reading_row : State → List ℕ → Reading → Row
+normal_reading_row s text (reads.Move m) = normal_becomes_judged (played s m)
+normal_reading_row s text reads.Ambiguous = refuses s (codes "Error (ambiguous move): ") text
+normal_reading_row s text reads.NoSuch = refuses s (codes "Illegal move: ") text
+normal_reading_row s text reads.NotAMove = refuses s (codes "Illegal move: ") text
+
+-- a move with this text is asked for
+abbrev pub normal_move_row : ℕ → State → List ℕ → Row
+normal_move_row limit s text =
+    if normal_is_over s then refuses s (codes "Illegal move (game over): ") text
+    else if nat_le limit (length s.moves) then refuses s (codes "Error (game too long): ") text
+    else normal_reading_row s text (normal_reading (normal_current s) text)
+
+-- a result is declared, unless the text declares none or there is a verdict with another outcome
+abbrev pub normal_result_row : State → List ℕ → Option Declared → Row
+normal_result_row s text None = refuses s (codes "Error (bad result): ") text
+normal_result_row s text (Some d) =
+    if is_other (normal_verdict_now s) d.outcome then refuses s (codes "Error (the board says otherwise): ") text
+    else becomes (with_declared s (Some d))
+
+-- a draw is claimed
+abbrev pub normal_claim_row : State → Row
+normal_claim_row s =
+    if normal_is_over s then refuses s (codes "Error (command not legal now): ") (codes "claim")
+    else claimed s (normal_claims s.start s.moves)
+
+-- normal chess is the one variant that can be asked for
+abbrev pub normal_variant_row : State → List ℕ → List ℕ → Row
+normal_variant_row s text argument =
+    if bytes_eq argument (codes "normal") then says s [] else refuses s (codes "Error (unsupported variant): ") text
+
+-- and the one that is offered
+unfoldable pub normal_feature_text : List ℕ
+normal_feature_text =
+    codes "feature ping=1 setboard=1 playother=0 san=0 usermove=1 time=1 draw=1 sigint=0 sigterm=0 reuse=1 analyze=0 colors=0 debug=1 myname=\"CECP arbiter\" variants=\"normal\" done=1"
+
+-- the line that lists moves, all by their squares
 abbrev pub normal_moves_line : List Move → List ℕ
-normal_moves_line ms = joined_line (codes "# moves ") (decimal (length ms) ++ flat_map (λ m. 32 ∷ coordinate m) ms)
+normal_moves_line ms =
+    joined_line (codes "# moves ") (decimal (length ms) ++ flat_map (λ m. space ∷ coordinate m) ms)
 
--- the table: a FEN is one of normal chess, and moves are listed by their squares
+-- what `showstate` tells of a game
+unfoldable pub normal_state_text : State → List ℕ
+normal_state_text s =
+    decimal (length s.moves)
+    ++ (codes " rep " ++ (decimal (normal_rep s.start s.moves) ++ (codes " clock "
+    ++ (decimal (normal_current s).halfmove ++ (codes " claims " ++ (claims_text (normal_claims s.start s.moves)
+    ++ (codes " verdict " ++ (verdict_text (normal_verdict_now s)
+    ++ (codes " declared " ++ declared_text s.declared)))))))))
+
+-- the table
 abbrev pub normal_row_of : Tags → ℕ → State → List ℕ → List ℕ → Command → Row
-normal_row_of tags limit s text argument SetBoard = setboard_row s (fen_reading argument)
-normal_row_of tags limit s text argument ShowMoves = says s (normal_moves_line (moves (current s)))
-normal_row_of tags limit s text argument command = row tags limit s text argument command
+normal_row_of tags limit s text argument New = becomes (from_start normal_initial)
+normal_row_of tags limit s text argument SetBoard = normal_setboard_row s (normal_fen_reading argument)
+normal_row_of tags limit s text argument UserMove = normal_move_row limit s argument
+normal_row_of tags limit s text argument BareMove = normal_move_row limit s text
+normal_row_of tags limit s text argument Undo = undo_row s
+normal_row_of tags limit s text argument Remove = remove_row s
+normal_row_of tags limit s text argument Declare = normal_result_row s text (declared_by argument)
+normal_row_of tags limit s text argument Claim = normal_claim_row s
+normal_row_of tags limit s text argument (Ping n) = says s (joined_line (codes "pong ") (decimal n))
+normal_row_of tags limit s text argument (Protover n) = if nat_lt n 2 then says s [] else says s
+    (joined_line normal_feature_text [])
+normal_row_of tags limit s text argument Variant = normal_variant_row s text argument
+normal_row_of tags limit s text argument Go = refuses s (codes "Error (the arbiter plays no side): ") (codes "go")
+normal_row_of tags limit s text argument ShowFen = says s (joined_line (codes "# fen ") (normal_fen (normal_current s)))
+normal_row_of tags limit s text argument ShowMoves = says s (normal_moves_line (normal_moves (normal_current s)))
+normal_row_of tags limit s text argument ShowState = says s (joined_line (codes "# state ply ") (normal_state_text s))
+normal_row_of tags limit s text argument ShowPgn = says s (normal_pgn (codes "# ") tags s)
+normal_row_of tags limit s text argument Quit = says s []
+normal_row_of tags limit s text argument Silent = says s []
+normal_row_of tags limit s text argument BadNumber = refuses s (codes "Error (bad number): ") text
+normal_row_of tags limit s text argument Unknown = refuses s (codes "Error (unknown command): ") text
+
+-- the command's row is the same without Chess960
+abbrev pub keeps_its_row : Command → Bool
+keeps_its_row Variant = false
+keeps_its_row (Protover n) = false
+keeps_its_row command = true

@@ -1,9 +1,29 @@
--- How rights are written for normal chess alone: what the definition of both variants comes to there.
-use Rattle.std.specs.Prelude.{◌≡◌, ℕ, Option, Some, None, ◌++◌, List, [], ◌∷◌}
+-- FEN as it is said for normal chess alone (PGN standard of 1994, section 16.1): rights are told by the letters K, Q, k
+-- and q, and king and rook of each stand at home. Nothing here takes a variant; what FEN says of men, side, target and
+-- counters is shared.
+use Rattle.std.specs.Prelude.{ℕ, ◌==◌, nat_lt, nat_le, Bool, false, not, ◌&&◌, ◌||◌, List, [], ◌∷◌, ◌++◌, length, decimal, codes, Option, Some, None, Result, Ok, Err, if◌then◌else◌}
+use Rattle.std.specs.List.{list_all, join_with_byte}
+use Rattle.std.specs.Option.{ok_or}
+use Rattle.chess_base.specs.declared.fault.FenFault.{FenFault}
+use Rattle.chess_base.specs.declared.fault.FenFault.TheVariants as faults
+use Rattle.chess_base.specs.declared.man.Colour.TheVariants.{White, Black}
+use Rattle.chess_base.specs.declared.man.CastlingSide.TheVariants.{KingSide, QueenSide}
 use Rattle.chess_base.specs.declared.man.Rights.{Rights}
+use Rattle.chess_base.specs.declared.man.Variant.TheVariants.{Normal}
 use Rattle.chess_base.specs.declared.setup.Setup.{Setup}
-use Rattle.chess_base.specs.Letters.{byte}
-use Rattle.chess_fen.specs.Writing.{or_dash, rights_text}
+use Rattle.chess_base.specs.Attacks.{is_in_check}
+use Rattle.chess_base.specs.Faults.{counters_fit, first_failing}
+use Rattle.chess_base.specs.Letters.{byte, space}
+use Rattle.chess_base.specs.Men.{other}
+use Rattle.chess_base.specs.Sound.{has_one_king, no_pawn_on_end_ranks, has_at_most_16, target_is_behind_double_advance}
+use Rattle.chess_base.specs.laws.Normal.{normal_right_stands_at}
+use Rattle.chess_fen.specs.ManLetters.{dash}
+use Rattle.chess_fen.specs.Reading.{◌>>=◌, side_of, counters_of, unless_fault}
+use Rattle.chess_fen.specs.RightNames.{right_named}
+use Rattle.chess_fen.specs.Texts.{placement_of, target_of, fields_of, occurs, times}
+use Rattle.chess_fen.specs.Writing.{placement_text, side_text, target_text, or_dash}
+
+-- ---- written
 
 -- the letter, where there is a right
 abbrev pub letter_if : Option ℕ → ℕ → List ℕ
@@ -15,6 +35,90 @@ abbrev pub normal_rights_text : Rights → List ℕ
 normal_rights_text r = or_dash (letter_if r.white.king_side (byte "K") ++ letter_if r.white.queen_side (byte "Q")
     ++ letter_if r.black.king_side (byte "k") ++ letter_if r.black.queen_side (byte "q"))
 
--- the rights of a position are written so
-abbrev pub NormalIsKept : Setup → Type 0
-NormalIsKept p = rights_text p.variant p.rights ≡ normal_rights_text p.rights
+-- six fields, with one space between
+abbrev pub normal_fen : Setup → List ℕ
+normal_fen p = join_with_byte space (placement_text p.men ∷ side_text p.side ∷ normal_rights_text p.rights ∷ target_text
+    p.target ∷ decimal p.halfmove ∷ decimal p.fullmove ∷ [])
+
+-- ---- read
+
+-- K, Q, k or q, and there once
+abbrev pub normal_names_once : List ℕ → ℕ → Bool
+normal_names_once text c = occurs c (codes "KQkq") && (times c text == 1)
+
+-- a dash, or one to four of these letters, none twice
+abbrev pub normal_is_castling : List ℕ → Bool
+normal_is_castling [] = false
+normal_is_castling (c ∷ cs) =
+    ((c == dash) && (length cs == 0))
+    || (nat_lt 0 (length (c ∷ cs)) && nat_le (length (c ∷ cs)) 4 && list_all (normal_names_once (c ∷ cs)) (c ∷ cs))
+
+-- the field of rights, if it is one
+abbrev pub normal_letters_of : List ℕ → Option (List ℕ)
+normal_letters_of text = if normal_is_castling text then Some text else None
+
+-- the rights that letters name: the rooks stand on h1 and a1, h8 and a8
+abbrev pub normal_rights_named : List ℕ → Rights
+normal_rights_named letters = record {
+  white = record {
+    king_side = right_named letters (byte "K") 7;
+    queen_side = right_named letters (byte "Q") 0;
+  };
+  black = record {
+    king_side = right_named letters (byte "k") 63;
+    queen_side = right_named letters (byte "q") 56;
+  };
+}
+
+-- the position that the fields spell; the first field that is wrong is the fault
+abbrev pub normal_setup_by : List ℕ → List ℕ → List ℕ → List ℕ → List (List ℕ) → Result Setup FenFault
+normal_setup_by placement side castling target counters = do
+  men ← ok_or (placement_of placement) faults.Placement
+  colour ← ok_or (side_of side) faults.Side
+  letters ← ok_or (normal_letters_of castling) faults.Castling
+  passed ← ok_or (target_of target) faults.EnPassant
+  numbers ← ok_or (counters_of counters) faults.Counters
+  Ok (record {
+    variant = Normal;
+    men = men;
+    side = colour;
+    rights = normal_rights_named letters;
+    target = passed;
+    halfmove = numbers.0;
+    fullmove = numbers.1;
+  })
+
+-- four fields, or six
+abbrev pub normal_setup_in : List (List ℕ) → Result Setup FenFault
+normal_setup_in (a ∷ b ∷ c ∷ d ∷ []) = normal_setup_by a b c d []
+normal_setup_in (a ∷ b ∷ c ∷ d ∷ e ∷ f ∷ []) = normal_setup_by a b c d (e ∷ f ∷ [])
+normal_setup_in _ = Err faults.Fields
+
+-- each right that is there has king and rook at home
+abbrev pub normal_rights_stand : Setup → Bool
+normal_rights_stand p =
+    normal_right_stands_at p.men White KingSide p.rights.white.king_side
+    && normal_right_stands_at p.men White QueenSide p.rights.white.queen_side
+    && normal_right_stands_at p.men Black KingSide p.rights.black.king_side
+    && normal_right_stands_at p.men Black QueenSide p.rights.black.queen_side
+
+-- the first condition of soundness that the position fails
+unfoldable pub normal_fault : Setup → Option FenFault
+normal_fault p =
+    first_failing
+    ((faults.Counters, counters_fit p)
+    ∷ (faults.Kings, has_one_king p.men White && has_one_king p.men Black)
+    ∷ (faults.Pawns, no_pawn_on_end_ranks p.men)
+    ∷ (faults.Men, has_at_most_16 p.men White && has_at_most_16 p.men Black)
+    ∷ (faults.Castling, normal_rights_stand p)
+    ∷ (faults.EnPassant, target_is_behind_double_advance p)
+    ∷ (faults.Check, not (is_in_check p.men (other p.side)))
+    ∷ [])
+
+-- the position, if it is sound
+abbrev pub normal_sound : Setup → Result Setup FenFault
+normal_sound p = unless_fault p (normal_fault p)
+
+-- the position that the text spells, or its first fault
+abbrev pub normal_fen_reading : List ℕ → Result Setup FenFault
+normal_fen_reading text = normal_setup_in (fields_of text) >>= normal_sound

@@ -1,22 +1,80 @@
--- The definitions that Chess960 widened, as they are for normal chess alone.
-use Rattle.std.specs.Prelude.{◌≡◌, ℕ, List}
-use Rattle.chess_base.specs.declared.man.Colour.{Colour}
+-- The texts of moves as they are said for normal chess alone: each of these is the definition of the same name without
+-- `normal_`, over the rules of normal chess alone (laws/Normal of chess_base). Nothing here takes a variant. What a
+-- text is, and which described moves it spells, is shared.
+use Rattle.std.specs.Prelude.{◌≡◌, ℕ, ◌==◌, Bool, not, ◌&&◌, List, [], ◌++◌, length, map, filter, codes, Option, Some, None, if◌then◌else◌}
+use Rattle.chess_base.specs.declared.man.Man.{Man}
 use Rattle.chess_base.specs.declared.man.Move.{Move}
 use Rattle.chess_base.specs.declared.setup.Setup.{Setup}
+use Rattle.chess_base.specs.Attacks.{is_in_check}
 use Rattle.chess_base.specs.Coordinates.{coordinate}
-use Rattle.chess_base.specs.Castling.{castled_king_file, home_square}
-use Rattle.chess_text.specs.declared.form.Form.{Form}
-use Rattle.chess_text.specs.declared.form.Form.TheVariants.{Castling, Walk}
-use Rattle.chess_text.specs.ties.Forms.{end_square}
-use Rattle.chess_text.specs.San.{shown_move}
+use Rattle.chess_base.specs.Men.{man_at, same_kind}
+use Rattle.chess_base.specs.MoveList.{all_triples, moves}
+use Rattle.chess_base.specs.laws.Normal.{normal_is_legal, normal_castling, normal_after}
+use Rattle.chess_text.specs.declared.described.Described.{Described}
+use Rattle.chess_text.specs.declared.reading.Reading.{Reading}
+use Rattle.chess_text.specs.declared.reading.Reading.TheVariants.{NotAMove}
+use Rattle.chess_text.specs.Moves.{captures, passes, shape, spells_described, one_of, reading}
+use Rattle.chess_text.specs.Parts.{when}
+use Rattle.chess_text.specs.San.{unmarked_san, san, shown_move}
 
--- where every move ends that the form spells
-abbrev pub normal_end_of : Form → Colour → ℕ
-normal_end_of (Castling w) c = home_square c (castled_king_file w)
-normal_end_of (Walk q) c = q.end.to
+-- all legal moves, in their order
+unfoldable pub normal_moves : Setup → List Move
+normal_moves p = filter (λ m. normal_is_legal p m) all_triples
 
--- on positions of normal chess the texts of both variants are these; what else stands in them says castling by the
--- rules, which are kept too
+-- ---- read
+
+-- what is so of a move of the man on its start square, if one stands there: castling is the king's move of two squares
+abbrev pub normal_described_as : Setup → Move → Option Man → Option Described
+normal_described_as p m None = None
+normal_described_as p m (Some x) =
+    Some (record {
+      man = x.kind;
+      from = m.from;
+      to = m.to;
+      promotion = m.promotion;
+      captures = captures p m;
+      castles = normal_castling p m;
+    })
+
+unfoldable pub normal_described : Setup → Move → Option Described
+normal_described p m = normal_described_as p m (man_at p.men m.from)
+
+-- the text spells this move of the position
+unfoldable pub normal_spells : Setup → List ℕ → Move → Bool
+normal_spells p text m = passes (spells_described text) (normal_described p m)
+
+-- what a text is in a position, by the legal moves that it spells
+unfoldable pub normal_reading : Setup → List ℕ → Reading
+normal_reading p text = if shape text then one_of (filter (λ m. normal_spells p text m) (normal_moves p)) else NotAMove
+
+-- ---- written
+
+-- a move of a man of the same kind to the same square from another one
+unfoldable pub normal_is_rival : Setup → Described → Move → Bool
+normal_is_rival p d m =
+    (m.to == d.to) && not (m.from == d.from) && passes (λ e. same_kind e.man d.man) (normal_described p m)
+
+-- where such moves start
+unfoldable pub normal_rival_starts : Setup → Described → List ℕ
+normal_rival_starts p d = map (λ m. m.from) (filter (λ m. normal_is_rival p d m) (normal_moves p))
+
+-- `#` where the position is mate, `+` where it is check
+unfoldable pub normal_check_mark : Setup → List ℕ
+normal_check_mark p =
+    when (is_in_check p.men p.side) (if length (normal_moves p) == 0 then codes "#" else codes "+")
+
+-- the text of the move that is described, with its mark
+abbrev pub normal_san_as : Setup → Move → Option Described → List ℕ
+normal_san_as p m None = []
+normal_san_as p m (Some d) = unmarked_san (normal_rival_starts p d) d ++ normal_check_mark (normal_after p m)
+
+unfoldable pub normal_san : Setup → Move → List ℕ
+normal_san p m = normal_san_as p m (normal_described p m)
+
+-- on positions of normal chess what is said of both variants is this; lists and lines of moves show all by their
+-- squares
 pub record NormalIsKept (p : Setup) : Type 0 where
-  pub ends : (form : Form) → end_square form p ≡ normal_end_of form p.side
+  pub moves : moves p ≡ normal_moves p
+  pub reading : (text : List ℕ) → reading p text ≡ normal_reading p text
+  pub san : (m : Move) → san p m ≡ normal_san p m
   pub shown : (m : Move) → shown_move p m ≡ coordinate m

@@ -10,10 +10,10 @@ pub returns-clause-app : goal.returns-clause-app
 returns-clause-app c =
     let keep : rule_of c.flag.result ≡ flag_rule (codes "keep-going") = search rules in
     let quiet : rule_of c.flag-2.result ≡ flag_rule (codes "quiet") = search rules in
-    let any : rule_of c.flag-3.result ≡ flag_rule (codes "any-size") = search rules in
+    let strict : rule_of c.flag-3.result ≡ flag_rule (codes "strict") = search rules in
     let e1 = c.in_ok-arg.ensures.shape c.flag.ensures.local ∙ ap₂ with_rule c.command.ensures.app keep in
     let e2 = c.in_ok-arg-2.ensures.shape c.flag-2.ensures.local ∙ ap₂ with_rule e1 quiet in
-    IfOk-weaker c.arg-3.result _ _ (λ r h. h.shape c.flag-3.ensures.local ∙ ap₂ with_rule e2 any) c.arg-3.ensures
+    IfOk-weaker c.arg-3.result _ _ (λ r h. h.shape c.flag-3.ensures.local ∙ ap₂ with_rule e2 strict) c.arg-3.ensures
 
 pub returns-clause-local : goal.returns-clause-local
 returns-clause-local c =

@@ -1,5 +1,9 @@
-use Rattle.chess_fen.proofs.NormalWritten.{normal_kept}
+use Rattle.chess_fen.proofs.NormalRead.{reading_kept}
+use Rattle.chess_fen.proofs.NormalWritten.{fen_kept}
 use Rattle.chess_fen.proofs.laws.normal_is_kept.Goals as goal
 
-pub returns : goal.returns
-returns c = normal_kept
+pub returns-clause-read : goal.returns-clause-read
+returns-clause-read c = reading_kept
+
+pub returns-clause-written : goal.returns-clause-written
+returns-clause-written c = fen_kept

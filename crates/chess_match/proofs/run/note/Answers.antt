@@ -29,17 +29,17 @@ returns-in-Ok-None-clause-heard g c =
     ) in
     (0, n.0, n.1)
 
-pub returns-else-is_ended-clause-heard : goal.returns-else-is_ended-clause-heard
-returns-else-is_ended-clause-heard g c =
+pub returns-else-is_heard-clause-heard : goal.returns-else-is_heard-clause-heard
+returns-else-is_heard-clause-heard g c =
     let n = heard_last (IsNoted (g.G.Played.plays c.args.game.now) c.args.core.now (g.G.Played.played c.args.game.now)
-    c.output_ends-else-is_ended.new.self (g.G.Played.played c.args.game.now) c.output_ends-else-is_ended.result
-    c.as_slice-else-is_ended.result.now c.args.side (g.M.Moments.coming c.args.moments.now)
+    c.output_ends-else-is_heard.new.self (g.G.Played.played c.args.game.now) c.output_ends-else-is_heard.result
+    c.as_slice-else-is_heard.result.now c.args.side (g.M.Moments.coming c.args.moments.now)
     (g.M.Moments.coming c.args.moments.now))
     c.args.side 0 c.args.heard.now c.in-Ok-Some.line
     (c.in-Ok-Some.is ∙ ap (λ o. Ok o) (rw c.in-Ok-Some.is at c.in-Ok-Some.field-0-is))
-    (sym c.is_ended.ensures ∙ c.if-is_ended.false) (
+    (sym c.is_heard.ensures ∙ c.if-is_heard.false) (
       asked_none _,
-      λ r m p h s. goes_bare r _ _ _ _ m _ c.as_slice-else-is_ended.ensures
-          (c.output_ends-else-is_ended.ensures r _ m (reads_on m.phase c.args.side h) s),
+      λ r m p h s. goes_bare r _ _ _ _ m _ c.as_slice-else-is_heard.ensures
+          (c.output_ends-else-is_heard.ensures r _ m (reads_on m.phase c.args.side h) s),
     ) in
     (0, n.0, n.1)

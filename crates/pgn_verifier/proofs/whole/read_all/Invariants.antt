@@ -1,13 +1,13 @@
 use Rattle.std.proofs.Common.{◌≤◌, length}
-use Rattle.pgn_stream.specs.Stream.{IsFront}
-use Rattle.pgn_stream.specs.declared.stream.TheConstants.{GAME_LEN}
+use Rattle.pgn_pieces.specs.Pieces.{IsFront}
+use Rattle.pgn_pieces.specs.declared.pieces.TheConstants.{PIECE_LEN}
 use Rattle.pgn_verifier.proofs.whole.read_all.Given as goal
 
 -- the text is what was read so far
 abbrev pub invariant-loop-count : goal.invariant-loop-count
 invariant-loop-count g l = record {
   front : IsFront (g.R.Input.seen l.fn.input) (g.R.Input.seen l.input) l.text.items;
-  few : length l.text.items ≤ GAME_LEN;
+  few : length l.text.items ≤ PIECE_LEN;
 }
 
 abbrev pub decreases-loop-count : goal.decreases-loop-count

@@ -9,4 +9,4 @@ returns-then-is_full g c =
     let full : length c.self.inside.bytes.items ≡ g.row.N = grind (arith, c.if-is_full.ensures.value) in
     let P : List ℕ → Type 0 = λ v. SameLines g.row.N (v ++ c.args.byte ∷ []) (c.self.inside.bytes.items ++ 0 ∷ []) in
     subst P c.self.view_is
-    (overflow_same g.row.N c.self.inside.bytes.items c.self.inside.is_too_long c.args.byte c.self.invariant.2 full)
+    (overflow_same g.row.N c.self.inside.bytes.items c.self.inside.is_too_long c.args.byte full)

@@ -2,9 +2,10 @@
 -- verdict came before this one (judged_more of Judged), nor was it full, so there is room (room of Kept).
 use Rattle.std.proofs.Common.{◌≡◌, ◌<◌, ◌++◌, ◌∷◌, [], None, false, is_err, length, refl, sym, ◌∙◌, arith}
 use Rattle.chess_game.specs.Game.{is_over, is_full}
-use Rattle.chess_game.specs.ties.Places.{moves_of}
+use Rattle.chess_game.specs.ties.Buckets.{IsIndexed}
+use Rattle.chess_game.specs.ties.Places.{moves_of, IsKept}
 use Rattle.chess_game.specs.declared.game.Place.{Place}
-use Rattle.chess_game.proofs.Kept.{added, words_more, pushed, room}
+use Rattle.chess_game.proofs.Kept.{added, made_at_end, words_more, pushed, room}
 use Rattle.chess_game.proofs.Judged.{judged_more, no_verdict}
 use Rattle.chess_game.proofs.Playable.{may_play}
 use Rattle.chess_game.proofs.game.Game.play_legal.Goals as goal
@@ -14,23 +15,24 @@ make-saved-requires g c =
     let legal = (may_play c.args.self.now c.args.m c.requires).legal in
     rw c.self.invariant.0.at_end (rw (← c.self.view_is) at legal)
 
-pub verdict_on-self-inside-requires : goal.verdict_on-self-inside-requires
-verdict_on-self-inside-requires g c =
-    let places = c.self.inside.places.items in
-    let x : Place = record { made = c.args.m; saved = c.make-saved.result; reached = c.on.result } in
-    let in_place : is_err c.push.result ≡ false = sym c.is_err.ensures.value ∙ c.if-is_err.false in
-    let all : c.push.new.self.items ≡ places ++ x ∷ [] =
-    pushed c.push.result places (places ++ x ∷ []) c.push.new.self.items in_place c.push.ensures.items in
-    let more = added c.self.inside.start.position places x _ _ c.self.invariant.0.follows c.self.invariant.0.at_end
-    c.make-saved.ensures.made c.on.ensures.position c.on.ensures.known in
-    let words = words_more g.B.Board.word_of c.self.inside.start places x c.self.invariant.0.words c.on.ensures.word in
-    rw (c.as_slice.ensures.value, all)
-    (record { known = c.self.invariant.0.known; follows = more.follows; words = words; at_end = more.at_end })
+pub push-entry-requires-clause-made : goal.push-entry-requires-clause-made
+push-entry-requires-clause-made g c = (
+  c.args.m,
+  c.make-saved.result,
+  made_at_end c.self.inside.start.position c.self.inside.places.items c.as_slice.result.now c.args.m
+      c.make-saved.result _ _ c.on.result.position c.as_slice.ensures.value c.self.invariant.0.at_end
+      c.make-saved.ensures.made c.on.ensures.position,
+)
 
 pub invariant_of-self : goal.invariant_of-self
 invariant_of-self g c =
     let places = c.self.inside.places.items in
-    let x : Place = record { made = c.args.m; saved = c.make-saved.result; reached = c.on.result } in
+    let x : Place = record {
+      made = c.args.m;
+      saved = c.make-saved.result;
+      reached = c.on.result;
+      entry = c.push-entry.result;
+    } in
     let may = may_play c.args.self.now c.args.m c.requires in
     let few : length places < c.self.inside.limit =
     room c.self.inside.limit c.self.inside.start.position places c.self.inside.declared c.args.self.now
@@ -40,7 +42,8 @@ invariant_of-self g c =
     pushed c.push.result places (places ++ x ∷ []) c.push.new.self.items in_place c.push.ensures.items in
     let more = added c.self.inside.start.position places x _ _ c.self.invariant.0.follows c.self.invariant.0.at_end
     c.make-saved.ensures.made c.on.ensures.position c.on.ensures.known in
-    let words = words_more g.B.Board.word_of c.self.inside.start places x c.self.invariant.0.words c.on.ensures.word in
+    let words = words_more g.B.Board.word_of c.self.inside.start places x c.self.invariant.0.words
+    c.on.ensures.word in
     let none : c.self.inside.verdict ≡ None =
     no_verdict
     (record {
@@ -48,9 +51,17 @@ invariant_of-self g c =
       moves = moves_of places;
       declared = c.self.inside.declared;
     }) c.self.inside.verdict (is_over c.args.self.now.state)
-    c.self.invariant.1.now (rw (← c.self.view_is) refl) may.on in (
-      rw all (record { known = c.self.invariant.0.known; follows = more.follows; words = words; at_end = more.at_end }),
+    c.self.invariant.1.now (rw (← c.self.view_is) refl) may.on in
+    let index : IsIndexed c.push-entry.new.self.heads.items c.self.inside.start (places ++ x ∷ []) =
+    rw c.as_slice.ensures.value at (c.push-entry.ensures x refl refl) in
+    let kept : IsKept g.B.Board.word_of c.self.inside.start (places ++ x ∷ [])
+    (g.B.Board.position c.make-saved.new.self) =
+    record { known = c.self.invariant.0.known; follows = more.follows; words = words; at_end = more.at_end } in
+    let judged = (rw (c.as_slice-2.ensures.value, all) at c.verdict_on-self-inside.ensures) c.self.inside.start kept
+    index.entries in (
+      rw all kept,
       rw all (judged_more c.self.inside.start.position places x c.self.inside.verdict c.verdict_on-self-inside.result
-          c.self.invariant.1 none (rw (c.as_slice.ensures.value, all) at c.verdict_on-self-inside.ensures)),
+          c.self.invariant.1 none judged),
       record { few = omega arith; made = omega arith; bound = omega arith },
+      rw all index,
     )

@@ -1,7 +1,8 @@
 -- The last place tells which position its move left, so the board goes back to that one (taken of Kept). No verdict
 -- came before the last move, so there is none now (judged_fewer of Judged).
-use Rattle.std.proofs.Common.{arith}
+use Rattle.std.proofs.Common.{subst, arith}
 use Rattle.chess_game.specs.Line.{last}
+use Rattle.chess_game.specs.ties.Buckets.{IsIndexed}
 use Rattle.chess_game.specs.ties.Places.{moves_of}
 use Rattle.chess_game.proofs.Kept.{taken, fewer, words_fewer}
 use Rattle.chess_game.proofs.Judged.{judged_fewer, last_is}
@@ -29,6 +30,17 @@ invariant_of-self-in-Some g c = (
   judged_fewer c.self.inside.start.position c.self.inside.places.items c.pop.new.self.items c.in-Some.place
       c.self.inside.verdict c.self.invariant.1 c.in-Some.ensures.items,
   record { few = omega arith; made = omega arith; bound = omega arith },
+  c.pop-in-Some.ensures c.self.inside.start c.pop.new.self.items
+      (subst (IsIndexed c.self.inside.index.heads.items c.self.inside.start) c.in-Some.ensures.items
+      c.self.invariant.3),
+)
+
+pub pop-requires-in-Some : goal.pop-requires-in-Some
+pop-requires-in-Some g c = (
+  c.self.inside.start,
+  c.pop.new.self.items,
+  subst (IsIndexed c.self.inside.index.heads.items c.self.inside.start) c.in-Some.ensures.items
+      c.self.invariant.3,
 )
 
 pub returns-in-Some-clause-answer : goal.returns-in-Some-clause-answer

@@ -1,0 +1,53 @@
+# Runs the program with less and less memory: memory.sh PROGRAM. Each run is complete and right, or ends by
+# `arbiter: no memory`, status 1, after a beginning of the right output. Limits under which the system's loader gives
+# up before the program begins are counted and passed over. There is a run of each kind.
+program=$1
+
+# Whether a file is a beginning of another.
+begins() {
+    head -c "$(wc -c < "$1")" "$2" | cmp -s "$1" -
+}
+
+# A run with so many KiB: run_with KIB STATUS INPUT OUTPUT WORDS..
+run_with() {
+    kib=$1 wanted=$2 input=$3 output=$4
+    shift 4
+    (ulimit -v "$kib" && exec "$program" "$@") < "$input" > written 2> complaint
+    status=$?
+    if [ "$status" -eq "$wanted" ] && cmp -s written "$output" && [ ! -s complaint ]; then
+        complete=$((complete + 1))
+    elif [ "$status" -eq 1 ] && [ "$(cat complaint)" = 'arbiter: no memory' ] && begins written "$output"; then
+        refused=$((refused + 1))
+    elif [ "$status" -ge 126 ] && [ ! -s written ] && ! grep -q '^arbiter: ' complaint; then
+        unstarted=$((unstarted + 1))
+    else
+        echo "$* with $kib KiB: status $status, $(wc -c < written) bytes written, $(cat complaint)" >&2
+        exit 1
+    fi
+}
+
+# Runs with smaller and smaller limits: runs STATUS INPUT OUTPUT WORDS..
+runs() {
+    complete=0 refused=0 unstarted=0 limit=32768
+    while [ "$limit" -gt 2048 ]; do
+        run_with "$limit" "$@"
+        if [ "$limit" -gt 8192 ]; then
+            limit=$((limit - 1024))
+        elif [ "$limit" -gt 3072 ]; then
+            limit=$((limit - 256))
+        else
+            limit=$((limit - 16))
+        fi
+    done
+    counted="$*: $complete complete, $refused without memory, $unstarted not started"
+    echo "$counted" >> counts
+    if [ "$complete" -eq 0 ] || [ "$refused" -eq 0 ] || [ "$unstarted" -eq 0 ]; then
+        echo "$counted" >&2
+        exit 1
+    fi
+}
+
+runs 0 session.txt answers.txt session
+runs 1 games.pgn plain.txt verify
+runs 1 games.pgn verified.txt verify --keep-going
+runs 0 stubbed.txt stub.txt stub e2e4 offer

@@ -1,0 +1,221 @@
+//! Collections: `verify --keep-going` reads them piece by piece.
+
+use crate::readers::{Parts, run_on};
+use crate::runs::{Devices, SOUND, Wanted, check_in_all_pieces, run};
+use std::process::Abort;
+use std::test::Fail;
+
+const KEEP_GOING: &[&str] = &["verify", "--keep-going"];
+
+// Collections, what is written of them, and the status.
+const PIECES: [(&[u8], &[u8], u8); 15] = [
+    // Tags without a game.
+    (
+        b"[Event \"a\"]\n[Site \"b\"]\n",
+        b"game 1: no result at byte 23\ngames 0 half-moves 0 faults 1\n",
+        1,
+    ),
+    // A game without a result hides no other.
+    (
+        b"[Event \"a\"]\n\n1. e4\n\n[Event \"b\"]\n\n1. d4 *\n",
+        b"game 1: no result at byte 20\ngame 2: 1 half-moves, *\ngames 1 half-moves 1 faults 1\n",
+        1,
+    ),
+    // Text before the first `[Event `: a game, or none.
+    (
+        b"1. e4 *\n\n[Event \"a\"]\n1. d4 *",
+        b"game 1: 1 half-moves, *\ngame 2: 1 half-moves, *\ngames 2 half-moves 2 faults 0\n",
+        0,
+    ),
+    (
+        b"& text\n[Event \"a\"]\n1. d4 *",
+        b"game 1: bad token at byte 0\ngame 2: 1 half-moves, *\ngames 1 half-moves 1 faults 1\n",
+        1,
+    ),
+    (
+        b"\n\n[Event \"a\"]\n1. d4 *",
+        b"game 1: 1 half-moves, *\ngames 1 half-moves 1 faults 0\n",
+        0,
+    ),
+    // A comment, a variation and a tag end with their piece.
+    (
+        b"1. e4 {x\n[Event \"b\"]\n1. d4 *",
+        b"game 1: unclosed comment at byte 6\ngame 2: 1 half-moves, *\ngames 1 half-moves 1 faults 1\n",
+        1,
+    ),
+    (
+        b"1. e4 (1. d4\n[Event \"b\"]\n1. d4 *",
+        b"game 1: unclosed variation at byte 6\ngame 2: 1 half-moves, *\ngames 1 half-moves 1 faults 1\n",
+        1,
+    ),
+    (
+        b"[Site \"x\n[Event \"b\"]\n1. d4 *",
+        b"game 1: bad tag at byte 0\ngame 2: 1 half-moves, *\ngames 1 half-moves 1 faults 1\n",
+        1,
+    ),
+    // In the middle of a line no piece begins.
+    (
+        b"1. e4 {x [Event \"b\"]} (1. d4 {[Event \"c\"]}) * [Event \"d\"] e4 e4 *",
+        b"game 1: 1 half-moves, *\ngame 2: illegal move at byte 61\ngames 1 half-moves 1 faults 1\n",
+        1,
+    ),
+    // Nor where the line begins with other bytes.
+    (
+        b"1. e4 e4 *\n [Event \"b\"] *\n[Events \"c\"] *\n[event \"d\"] *",
+        b"game 1: illegal move at byte 6\ngames 0 half-moves 0 faults 1\n",
+        1,
+    ),
+    // Lines that end with bytes 13 and 10, and with 13 alone.
+    (
+        b"[Event \"a\"]\r\n\r\n1. e4 *\r\n\r\n[Event \"b\"]\r\n\r\n1. d4 d5 1-0\r\n",
+        b"game 1: 1 half-moves, *\ngame 2: 2 half-moves, 1-0\ngames 2 half-moves 3 faults 0\n",
+        0,
+    ),
+    (
+        b"1. e4 e4 *\r[Event \"b\"]\r1. d4 *",
+        b"game 1: illegal move at byte 6\ngames 0 half-moves 0 faults 1\n",
+        1,
+    ),
+    // A fault ends its piece, whatever games it has left.
+    (
+        b"[Event \"a\"]\n1. e4 * e5 * *\n[Event \"b\"]\n* 1. d4 *",
+        b"game 1: 1 half-moves, *\ngame 2: illegal move at byte 20\ngame 3: 0 half-moves, *\ngame 4: 1 half-moves, *\ngames 3 half-moves 2 faults 1\n",
+        1,
+    ),
+    // A byte order mark at the front, and in the middle.
+    (
+        b"\xef\xbb\xbf[Event \"a\"]\n1. e4 *\n[Event \"b\"]\n\xef\xbb\xbf1. e4 *",
+        b"game 1: 1 half-moves, *\ngame 2: bad token at byte 35\ngames 1 half-moves 1 faults 1\n",
+        1,
+    ),
+    (b"", b"games 0 half-moves 0 faults 0\n", 0),
+];
+
+// What is wanted of a collection, with nothing on the error output.
+fn wanted<'a>(output: &'a [u8], status: u8) -> Wanted<'a> {
+    Wanted {
+        output,
+        errors: b"",
+        status,
+    }
+}
+
+#[test]
+fn collections_in_all_pieces(rt: HostRuntime) {
+    for (text, lines, status) in &PIECES {
+        check_in_all_pieces(&rt, &rt, KEEP_GOING, text, wanted(lines, *status));
+    }
+}
+
+// Verifies a collection that comes in two reads.
+fn check_two_reads(
+    rt: &impl Abort,
+    host: &HostRuntime,
+    text: &'static [u8],
+    at: usize,
+    wanted: Wanted<'_>,
+) -> Result<(), Fail> {
+    let (front, back) = text.split_at_checked(at).ok_or("an offset")?;
+    let parts = Parts {
+        front,
+        inner: 0,
+        back,
+    };
+    run_on(host, KEEP_GOING, parts).check(rt, wanted);
+    Ok(())
+}
+
+// Verifies a collection that comes in two reads, cut after each byte.
+fn check_each_cut(
+    rt: &impl Abort,
+    host: &HostRuntime,
+    text: &'static [u8],
+    wanted: Wanted<'_>,
+) -> Result<(), Fail> {
+    for at in 0..=text.len() {
+        check_two_reads(rt, host, text, at, wanted)?;
+    }
+    Ok(())
+}
+
+// Three pieces, the second with a fault. The end of the first is known after 32 bytes, that of the second after 57.
+const COLLECTION: &[u8] =
+    b"[Event \"a\"]\n\n1. e4 e5 *\n\n[Event \"b\"]\n\n1. e4 e4 *\n\n[Event \"c\"]\n\n1. d4 1-0";
+
+const FIRST_LINE: &[u8] = b"game 1: 2 half-moves, *\n";
+
+const TWO_LINES: &[u8] = b"game 1: 2 half-moves, *\ngame 2: illegal move at byte 44\n";
+
+const ALL_LINES: &[u8] =
+    b"game 1: 2 half-moves, *\ngame 2: illegal move at byte 44\ngame 3: 1 half-moves, 1-0\ngames 2 half-moves 3 faults 1\n";
+
+// Five pieces, two of which end in the middle of a comment or a variation.
+const MIXED: &[u8] =
+    b"\xef\xbb\xbf1. e4 {x\n[Event \"b\"]\r\n1. d4 *\r\n\r\n[Event \"c\"] {[Event \"d\"]} *\n[Event \"e\"]\n1. e4 (\n[Event \"f\"]\n*";
+
+const MIXED_LINES: &[u8] =
+    b"game 1: unclosed comment at byte 9\ngame 2: 1 half-moves, *\ngame 3: 0 half-moves, *\ngame 4: unclosed variation at byte 82\ngame 5: 0 half-moves, *\ngames 3 half-moves 1 faults 2\n";
+
+#[test]
+fn collections_cut_at_each_byte(rt: HostRuntime) -> Result<(), Fail> {
+    check_each_cut(&rt, &rt, COLLECTION, wanted(ALL_LINES, 1))?;
+    check_each_cut(&rt, &rt, MIXED, wanted(MIXED_LINES, 1))
+}
+
+// The lines of the pieces whose end is among so many bytes.
+fn lines_known(given: usize) -> &'static [u8] {
+    if given < 32 {
+        b""
+    } else if given < 57 {
+        FIRST_LINE
+    } else {
+        TWO_LINES
+    }
+}
+
+// Verifies the collection where a read fails after so many bytes.
+fn check_failed_read(rt: &impl Abort, host: &HostRuntime, given: usize) {
+    let devices = Devices {
+        piece: 1,
+        read_fails: (given as u64).saturating_add(1),
+        ..SOUND
+    };
+    let wanted = Wanted {
+        output: lines_known(given),
+        errors: b"arbiter: read failed\n",
+        status: 1,
+    };
+    run(host, KEEP_GOING, COLLECTION, devices).check(rt, wanted);
+}
+
+// Exactly the lines of the pieces whose end was read are written, also where the read of the input's end fails.
+#[test]
+fn collections_whose_reads_fail(rt: HostRuntime) {
+    for given in 0..=COLLECTION.len() {
+        check_failed_read(&rt, &rt, given);
+    }
+}
+
+// Verifies the collection where a write, or the flush after all of them, fails after so many bytes.
+fn check_failed_write(rt: &impl Abort, host: &HostRuntime, taken: usize) -> Result<(), Fail> {
+    let devices = Devices {
+        taken: 1,
+        write_fails: (taken as u64).saturating_add(1),
+        ..SOUND
+    };
+    let wanted = Wanted {
+        output: ALL_LINES.get(..taken).ok_or("a beginning")?,
+        errors: b"arbiter: write failed\n",
+        status: 1,
+    };
+    run(host, KEEP_GOING, COLLECTION, devices).check(rt, wanted);
+    Ok(())
+}
+
+#[test]
+fn collections_whose_writes_fail(rt: HostRuntime) -> Result<(), Fail> {
+    for taken in 0..=ALL_LINES.len() {
+        check_failed_write(&rt, &rt, taken)?;
+    }
+    Ok(())
+}

@@ -1,0 +1,74 @@
+//! Readers that make their bytes, for tests.
+
+ghost use Rattle.std.specs.Prelude.{◌≤◌, length};
+
+use crate::runs::Outcome;
+use byte_devices::Counted;
+use chess_arbiter::run_program;
+use std::io::{self, Read};
+
+/// Spaces without an end.
+#[derive(Drop)]
+pub struct Spaces;
+
+impl Read for Spaces {
+    ghost use Rattle.std.specs.Prelude.{None};
+
+    ghost remaining = { λ b. None };
+
+    fn read(&mut self, buf: &mut [u8]) -> io::Result<usize> {
+        buf.fill(b' ');
+        Ok(buf.len())
+    }
+}
+
+/// A text in three parts, none of which shares a read with another: the middle one has so many bytes `a`.
+#[derive(Drop)]
+pub struct Parts {
+    pub front: &'static [u8],
+    pub inner: usize,
+    pub back: &'static [u8],
+}
+
+// Puts the beginning of a text into the front of `buf`, as much as has room there, and takes it off the text.
+fn give(text: &mut &'static [u8], buf: &mut [u8]) -> usize
+    ensures { result ≤ length buf.old }
+{
+    let count = text.len().min(buf.len());
+    let (piece, rest) = text.split_at(count);
+    buf[..count].copy_from_slice(piece);
+    *text = rest;
+    count
+}
+
+impl Read for Parts {
+    ghost use Rattle.std.specs.Prelude.{None};
+
+    ghost remaining = { λ b. None };
+
+    fn read(&mut self, buf: &mut [u8]) -> io::Result<usize> {
+        if !self.front.is_empty() {
+            return Ok(give(&mut self.front, buf));
+        }
+        let count = self.inner.min(buf.len());
+        if count == 0 {
+            return Ok(give(&mut self.back, buf));
+        }
+        buf[..count].fill(b'a');
+        self.inner -= count;
+        Ok(count)
+    }
+}
+
+/// Runs the program on what a reader gives, with output and error output in memory.
+pub fn run_on<R: Read + Drop>(rt: &HostRuntime, words: &[&str], reader: R) -> Outcome {
+    let mut input = Counted::reading(reader);
+    let mut output = Counted::writing(Vec::<u8>::new(rt.alloc()));
+    let mut errors = Counted::writing(Vec::<u8>::new(rt.alloc()));
+    let status = run_program(rt, rt.alloc(), words, &mut input, &mut output, &mut errors);
+    Outcome {
+        output: output.into_writer(),
+        errors: errors.into_writer(),
+        status,
+    }
+}

@@ -1,0 +1,223 @@
+//! `verify --strict`: the result beside the tag Result and the final position.
+
+use crate::runs::{SOUND, Wanted, run};
+use std::process::Abort;
+use std::test::Fail;
+
+// Games that end by a verdict, mate, stalemate, bare material, fivefold repetition and 75 moves: the text before the
+// termination, its half-moves, and the verdict's outcome.
+const VERDICTS: [(&str, usize, &str); 5] = [
+    ("1. f3 e5 2. g4 Qh4 ", 4, "0-1"),
+    (
+        "[FEN \"7k/8/6K1/8/8/8/5Q2/8 w - - 0 1\"] Qf7 ",
+        1,
+        "1/2-1/2",
+    ),
+    (
+        "[FEN \"4k3/8/8/8/8/8/4p3/4K3 w - - 0 1\"] Kxe2 ",
+        1,
+        "1/2-1/2",
+    ),
+    (
+        "Nf3 Nf6 Ng1 Ng8 Nf3 Nf6 Ng1 Ng8 Nf3 Nf6 Ng1 Ng8 Nf3 Nf6 Ng1 Ng8 ",
+        16,
+        "1/2-1/2",
+    ),
+    (
+        "[FEN \"4k3/8/8/8/8/8/8/R3K3 w - - 149 100\"] Ra2 ",
+        1,
+        "1/2-1/2",
+    ),
+];
+
+const TERMINATIONS: [&str; 4] = ["1-0", "0-1", "1/2-1/2", "*"];
+
+// Runs `verify` and asserts what comes of it, with nothing on the error output.
+fn check(
+    rt: &impl Abort,
+    host: &HostRuntime,
+    words: &[&str],
+    text: &[u8],
+    output: &[u8],
+    status: u8,
+) {
+    let wanted = Wanted {
+        output,
+        errors: b"",
+        status,
+    };
+    run(host, words, text, SOUND).check(rt, wanted);
+}
+
+// Verifies a game with this termination, which contradicts the verdict unless the outcome is the same; without
+// `--strict` there is no fault.
+fn check_verdict(
+    rt: &impl Abort,
+    host: &HostRuntime,
+    verdict: &(&str, usize, &str),
+    termination: &str,
+) -> Result<(), Fail> {
+    let (front, plies, outcome) = verdict;
+    let offset = front.len();
+    let text = format!(in host.alloc(); "{front}{termination}")?;
+    let game = format!(in host.alloc(); "game 1: {plies} half-moves, {termination}\n")?;
+    let fault = format!(in host.alloc(); "game 1: board says otherwise at byte {offset}\n")?;
+    let bytes = text.as_bytes();
+    check(rt, host, &["verify"], bytes, game.as_bytes(), 0);
+    if termination == *outcome {
+        check(rt, host, &["verify", "--strict"], bytes, game.as_bytes(), 0);
+    } else {
+        check(
+            rt,
+            host,
+            &["verify", "--strict"],
+            bytes,
+            fault.as_bytes(),
+            1,
+        );
+    }
+    Ok(())
+}
+
+#[test]
+fn verdicts_beside_terminations(rt: HostRuntime) -> Result<(), Fail> {
+    for verdict in &VERDICTS {
+        for termination in &TERMINATIONS {
+            check_verdict(&rt, &rt, verdict, termination)?;
+        }
+    }
+    Ok(())
+}
+
+// Texts with tags Result: what is written of them, and the status.
+const RESULT_TAGS: [(&[u8], &[u8], u8); 18] = [
+    // The tag has another text than the termination.
+    (
+        b"[Result \"1-0\"] 1. e4 0-1",
+        b"game 1: result differs at byte 9\n",
+        1,
+    ),
+    (
+        b"[Result \"*\"] 1. e4 1/2-1/2",
+        b"game 1: result differs at byte 9\n",
+        1,
+    ),
+    (
+        b"[Result \"?\"] 1. e4 1-0",
+        b"game 1: result differs at byte 9\n",
+        1,
+    ),
+    (
+        b"[Result \"\"] 1. e4 *",
+        b"game 1: result differs at byte 9\n",
+        1,
+    ),
+    (
+        b"[Result \"1/2\"] 1/2-1/2",
+        b"game 1: result differs at byte 9\n",
+        1,
+    ),
+    // It has the same.
+    (
+        b"[Result \"1-0\"] 1. e4 1-0",
+        b"game 1: 1 half-moves, 1-0\n",
+        0,
+    ),
+    (b"[Result \"*\"] *", b"game 1: 0 half-moves, *\n", 0),
+    // There is none.
+    (b"1. e4 1-0", b"game 1: 1 half-moves, 1-0\n", 0),
+    // The last of two counts.
+    (
+        b"[Result \"1-0\"] [Result \"0-1\"] 1. e4 0-1",
+        b"game 1: 1 half-moves, 0-1\n",
+        0,
+    ),
+    (
+        b"[Result \"0-1\"] [Result \"1-0\"] 1. e4 0-1",
+        b"game 1: result differs at byte 24\n",
+        1,
+    ),
+    // A tag after a move, or in a comment, is none.
+    (
+        b"1. e4 [Result \"0-1\"] 1-0",
+        b"game 1: no result at byte 6\n",
+        1,
+    ),
+    (
+        b"[Result \"1-0\"] 1. e4 {[Result \"0-1\"]} 1-0",
+        b"game 1: 1 half-moves, 1-0\n",
+        0,
+    ),
+    // Each game has its own.
+    (
+        b"[Result \"1-0\"] 1. e4 1-0 1. d4 0-1",
+        b"game 1: 1 half-moves, 1-0\ngame 2: 1 half-moves, 0-1\n",
+        0,
+    ),
+    (
+        b"1. e4 0-1 [Result \"1-0\"] 1. d4 0-1 *",
+        b"game 1: 1 half-moves, 0-1\ngame 2: result differs at byte 19\n",
+        1,
+    ),
+    // Both differ: the tag comes first.
+    (
+        b"[Result \"1-0\"] 1. f3 e5 2. g4 Qh4 1/2-1/2",
+        b"game 1: result differs at byte 9\n",
+        1,
+    ),
+    // The tag agrees, and the board does not.
+    (
+        b"[Result \"1-0\"] 1. f3 e5 2. g4 Qh4 1-0",
+        b"game 1: board says otherwise at byte 34\n",
+        1,
+    ),
+    (
+        b"[Result \"0-1\"] 1. f3 e5 2. g4 Qh4 0-1",
+        b"game 1: 4 half-moves, 0-1\n",
+        0,
+    ),
+    // Another fault comes first.
+    (
+        b"[Result \"1-0\"] 1. e4 e4 0-1",
+        b"game 1: illegal move at byte 21\n",
+        1,
+    ),
+];
+
+#[test]
+fn result_tags_beside_terminations(rt: HostRuntime) {
+    for (text, lines, status) in &RESULT_TAGS {
+        check(&rt, &rt, &["verify", "--strict"], text, lines, *status);
+    }
+}
+
+// Three pieces: each of the first two has a contradiction and then one more game.
+const COLLECTION: &[u8] =
+    b"[Event \"a\"]\n[Result \"1-0\"]\n1. e4 0-1 1. d4 *\n[Event \"b\"]\n1. f3 e5 2. g4 Qh4 * 1. d4 *\n[Event \"c\"]\n1. d4 *\n";
+
+// Arguments, and what is written of the collection.
+const BY_WORDS: [(&[&str], &[u8]); 4] = [
+    (
+        &["verify", "--strict", "--keep-going"],
+        b"game 1: result differs at byte 21\ngame 2: board says otherwise at byte 76\ngame 3: 1 half-moves, *\ngames 1 half-moves 1 faults 2\n",
+    ),
+    (
+        &["verify", "--keep-going", "--quiet", "--strict"],
+        b"game 1: result differs at byte 21\ngame 2: board says otherwise at byte 76\ngames 1 half-moves 1 faults 2\n",
+    ),
+    (
+        &["verify", "--quiet", "--strict"],
+        b"game 1: result differs at byte 21\n",
+    ),
+    (
+        &["verify", "--strict"],
+        b"game 1: result differs at byte 21\n",
+    ),
+];
+
+#[test]
+fn contradictions_end_their_piece(rt: HostRuntime) {
+    for (words, lines) in &BY_WORDS {
+        check(&rt, &rt, words, COLLECTION, lines, 1);
+    }
+}

@@ -1,0 +1,180 @@
+-- In a game of normal chess each position is of normal chess, so what is said of the game and its text is what is said
+-- for normal chess alone.
+use Rattle.std.proofs.Common.{◌≡◌, ℕ, ◌+◌, ◌==◌, cond, nat_le, Bool, true, false, ◌&&◌, ◌||◌, List, [], ◌∷◌, ◌++◌, length, codes, Option, None, Some, is_some, refl, sym, ap, ◌∙◌, if◌then◌else◌}
+use Rattle.std.specs.Prelude.{count_by}
+use Rattle.std.specs.List.{list_any}
+use Rattle.std.specs.Str.{bytes_eq}
+use Rattle.std.proofs.lemmas.List.Sums.{sum_by-cons}
+use Rattle.chess_base.specs.declared.man.Move.{Move}
+use Rattle.chess_base.specs.declared.man.Variant.TheVariants.{Normal}
+use Rattle.chess_base.specs.declared.setup.Setup.{Setup}
+use Rattle.chess_base.specs.Attacks.{is_in_check}
+use Rattle.chess_base.specs.Initial.{initial_setup, initial_setup_of}
+use Rattle.chess_base.specs.Men.{other, same_colour}
+use Rattle.chess_base.specs.Moves.{after, is_en_passant}
+use Rattle.chess_base.specs.MoveList.{moves}
+use Rattle.chess_base.specs.laws.Normal.{normal_after}
+use Rattle.chess_base.proofs.NormalKept.{normal_kept as rules_kept}
+use Rattle.chess_fen.specs.Writing.{fen}
+use Rattle.chess_fen.specs.laws.Normal.{normal_fen}
+use Rattle.chess_fen.proofs.NormalWritten.{fen_kept}
+use Rattle.chess_text.specs.San.{san}
+use Rattle.chess_text.specs.laws.Normal.{normal_moves, normal_san}
+use Rattle.chess_text.proofs.NormalTexts.{normal_kept as texts_kept}
+use Rattle.chess_game.specs.declared.ends.Claims.{Claims}
+use Rattle.chess_game.specs.declared.ends.Verdict.{Verdict}
+use Rattle.chess_game.specs.declared.ends.Verdict.TheVariants.{Stalemate, InsufficientMaterial, FivefoldRepetition, SeventyFiveMoves}
+use Rattle.chess_game.specs.Ends.{is_bare, mates, verdict, claims}
+use Rattle.chess_game.specs.Game.{State, current, verdict_now, is_over, outcome_by, outcome_now}
+use Rattle.chess_game.specs.Line.{line, last}
+use Rattle.chess_game.specs.Results.{outcome_text}
+use Rattle.chess_game.specs.Same.{live_target, same, same_men, same_rights, same_square, rep}
+use Rattle.chess_pgn.specs.declared.tags.Tags.{Tags}
+use Rattle.chess_pgn.specs.declared.termination.Termination.{Termination}
+use Rattle.chess_pgn.specs.GameText.{is_initial, start_lines_in, last_lines, further_lines, roster_lines, tag_lines, number_token, move_tokens, game_tokens, pgn}
+use Rattle.chess_pgn.specs.Terminations.{termination_text, termination_of}
+use Rattle.chess_pgn.specs.Written.{tag_line, ended, move_text_of}
+use Rattle.chess_cecp.specs.laws.NormalGame.{normal_initial, normal_line, normal_last, normal_current, normal_live_target, normal_same, normal_rep, normal_verdict, normal_claims, normal_verdict_now, normal_is_over, normal_outcome_now}
+use Rattle.chess_cecp.specs.laws.NormalPgn.{normal_is_initial, normal_start_lines, normal_further_lines, normal_tag_lines, normal_move_tokens, normal_game_tokens, normal_pgn}
+
+pub initial_kept : initial_setup ≡ normal_initial
+unfolding initial_setup initial_setup_of normal_initial
+initial_kept = refl
+
+-- ---- the line
+
+-- what a move leaves is of the variant of the position before it
+stays : (p : Setup) (m : Move) → (after p m).variant ≡ p.variant
+unfolding after
+stays p m = refl
+
+pub last_stays : (p : Setup) (ms : List Move) → (last p ms).variant ≡ p.variant
+last_stays p [] = refl
+last_stays p (m ∷ ms) = last_stays (after p m) ms ∙ stays p m
+
+pub last_kept : (p : Setup) → p.variant ≡ Normal → (ms : List Move) → last p ms ≡ normal_last p ms
+last_kept p e [] = refl
+last_kept p e (m ∷ ms) = last_kept (after p m) (stays p m ∙ e) ms
+    ∙ ap (λ q. normal_last q ms) ((rules_kept p e).after m)
+
+-- ---- repetition
+
+target_kept : (p : Setup) → p.variant ≡ Normal → live_target p ≡ normal_live_target p
+unfolding live_target normal_live_target
+target_kept p e = ap (λ ms. if list_any (λ m. is_en_passant p m) ms then p.target else None) (texts_kept p e).moves
+
+same_kept : (p q : Setup) → p.variant ≡ Normal → q.variant ≡ Normal → same p q ≡ normal_same p q
+unfolding same normal_same
+same_kept p q e h =
+    ap (λ t. same_colour p.side q.side && same_men p.men q.men && same_rights p.rights q.rights
+    && same_square t (live_target q)) (target_kept p e)
+    ∙ ap (λ t. same_colour p.side q.side && same_men p.men q.men && same_rights p.rights q.rights
+    && same_square (normal_live_target p) t) (target_kept q h)
+
+-- one more, where the first is the same
+counted_one : (f g : Setup → Bool) (p : Setup) (ps qs : List Setup) → f p ≡ g p → count_by f ps ≡ count_by g qs
+    → count_by f (p ∷ ps) ≡ count_by g (p ∷ qs)
+counted_one f g p ps qs e h =
+    sum_by-cons (λ x. cond (f x) 1 0) p ps
+    ∙ ap (λ b. cond b 1 0 + count_by f ps) e
+    ∙ ap (λ (n : ℕ). cond (g p) 1 0 + n) h
+    ∙ sym (sum_by-cons (λ x. cond (g x) 1 0) p qs)
+
+counted : (q : Setup) → q.variant ≡ Normal → (p : Setup) → p.variant ≡ Normal → (ms : List Move)
+    → count_by (λ x. same x q) (line p ms) ≡ count_by (λ x. normal_same x q) (normal_line p ms)
+counted q h p e [] =
+    counted_one (λ x. same x q) (λ x. normal_same x q) p [] [] (same_kept p q e h) refl
+counted q h p e (m ∷ ms) =
+    counted_one (λ x. same x q) (λ x. normal_same x q) p (line (after p m) ms) (normal_line (normal_after p m) ms)
+    (same_kept p q e h)
+    (counted q h (after p m) (stays p m ∙ e) ms
+    ∙ ap (λ r. count_by (λ x. normal_same x q) (normal_line r ms)) ((rules_kept p e).after m))
+
+pub rep_kept : (p : Setup) → p.variant ≡ Normal → (ms : List Move) → rep p ms ≡ normal_rep p ms
+unfolding rep normal_rep
+rep_kept p e ms =
+    counted (last p ms) (last_stays p ms ∙ e) p e ms
+    ∙ ap (λ q. count_by (λ x. normal_same x q) (normal_line p ms)) (last_kept p e ms)
+
+-- ---- ends
+
+-- the verdict, by what it is judged of
+judged : Setup → List Move → ℕ → Option Verdict
+judged p ms n =
+    if length ms == 0 then (if is_in_check p.men p.side then Some (mates (other p.side)) else Some Stalemate)
+    else if is_bare p.men then Some InsufficientMaterial
+    else if nat_le 5 n then Some FivefoldRepetition
+    else if nat_le 150 p.halfmove then Some SeventyFiveMoves
+    else None
+
+pub verdict_kept : (p : Setup) → p.variant ≡ Normal → (ms : List Move) → verdict p ms ≡ normal_verdict p ms
+unfolding verdict normal_verdict judged
+verdict_kept p e ms =
+    ap (λ all. judged (last p ms) all (rep p ms)) (texts_kept (last p ms) (last_stays p ms ∙ e)).moves
+    ∙ ap (λ q. judged q (normal_moves q) (rep p ms)) (last_kept p e ms)
+    ∙ ap (judged (normal_last p ms) (normal_moves (normal_last p ms))) (rep_kept p e ms)
+
+pub claims_kept : (p : Setup) → p.variant ≡ Normal → (ms : List Move) → claims p ms ≡ normal_claims p ms
+claims_kept p e ms =
+    ap (λ (n : ℕ). record { threefold = nat_le 3 n; fifty_moves = nat_le 100 (last p ms).halfmove }) (rep_kept p e ms)
+    ∙ ap (λ (q : Setup). record { threefold = nat_le 3 (normal_rep p ms); fifty_moves = nat_le 100 q.halfmove })
+    (last_kept p e ms)
+
+pub over_kept : (s : State) → s.start.variant ≡ Normal → is_over s ≡ normal_is_over s
+over_kept s e = ap (λ v. is_some v || is_some s.declared) (verdict_kept s.start e s.moves)
+
+pub outcome_kept : (s : State) → s.start.variant ≡ Normal → outcome_now s ≡ normal_outcome_now s
+outcome_kept s e = ap (λ v. outcome_by v s.declared) (verdict_kept s.start e s.moves)
+
+-- ---- the text
+
+initial_is_normal : initial_setup.variant ≡ Normal
+unfolding initial_setup initial_setup_of
+initial_is_normal = refl
+
+is_initial_kept : (p : Setup) → p.variant ≡ Normal → is_initial p ≡ normal_is_initial p
+is_initial_kept p e =
+    ap (λ text. bytes_eq text (fen initial_setup)) (fen_kept p e)
+    ∙ ap (bytes_eq (normal_fen p)) (fen_kept initial_setup initial_is_normal ∙ ap normal_fen initial_kept)
+
+start_kept : (p : Setup) → p.variant ≡ Normal → start_lines_in Normal p ≡ normal_start_lines p
+start_kept p e =
+    ap (λ (b : Bool). if b then [] else tag_line (codes "FEN") (fen p) ∷ tag_line (codes "SetUp") (codes "1") ∷ [])
+    (is_initial_kept p e)
+    ∙ ap (λ text. if normal_is_initial p then [] else tag_line (codes "FEN") text ∷ tag_line (codes "SetUp") (codes "1")
+    ∷ []) (fen_kept p e)
+
+further_kept : (p : Setup) → p.variant ≡ Normal → (t : Termination) → further_lines p t ≡ normal_further_lines p t
+further_kept p e t =
+    ap (λ v. start_lines_in v p ++ last_lines v t) e
+    ∙ ap (λ front. front ++ tag_line (codes "Termination") (termination_text t) ∷ []) (start_kept p e)
+
+tags_kept : (t : Tags) (s : State) → s.start.variant ≡ Normal → tag_lines t s ≡ normal_tag_lines t s
+tags_kept t s e =
+    ap (λ o. roster_lines t o ++ further_lines s.start (termination_of t.ended o)) (outcome_kept s e)
+    ∙ ap (λ lines. roster_lines t (normal_outcome_now s) ++ lines)
+    (further_kept s.start e (termination_of t.ended (normal_outcome_now s)))
+
+moves_kept : (is_first : Bool) (p : Setup) → p.variant ≡ Normal → (ms : List Move)
+    → move_tokens is_first p ms ≡ normal_move_tokens is_first p ms
+moves_kept is_first p e [] = refl
+moves_kept is_first p e (m ∷ ms) =
+    ap (λ text. (number_token p.side is_first p.fullmove ++ text ∷ []) ++ move_tokens false (after p m) ms)
+    ((texts_kept p e).san m)
+    ∙ ap (λ tokens. (number_token p.side is_first p.fullmove ++ normal_san p m ∷ []) ++ tokens)
+    (moves_kept false (after p m) (stays p m ∙ e) ms
+    ∙ ap (λ q. normal_move_tokens false q ms) ((rules_kept p e).after m))
+
+tokens_kept : (s : State) → s.start.variant ≡ Normal → game_tokens s ≡ normal_game_tokens s
+tokens_kept s e =
+    ap (λ tokens. tokens ++ outcome_text (outcome_now s) ∷ []) (moves_kept true s.start e s.moves)
+    ∙ ap (λ o. normal_move_tokens true s.start s.moves ++ outcome_text o ∷ []) (outcome_kept s e)
+
+pub pgn_kept : (prefix : List ℕ) (t : Tags) (s : State) → s.start.variant ≡ Normal
+    → pgn prefix t s ≡ normal_pgn prefix t s
+unfolding pgn normal_pgn
+pgn_kept prefix t s e =
+    ap (λ tags. ended prefix (tags ++ [] ∷ []) ++ move_text_of prefix (game_tokens s) ++ ended prefix ([] ∷ []))
+    (tags_kept t s e)
+    ∙ ap (λ tokens. ended prefix (normal_tag_lines t s ++ [] ∷ []) ++ move_text_of prefix tokens
+    ++ ended prefix ([] ∷ [])) (tokens_kept s e)

@@ -1,0 +1,98 @@
+-- A game as it is said for normal chess alone: each of these is the definition of the same name without `normal_`, over
+-- the rules of normal chess alone (laws/Normal of chess_base and of chess_text). Nothing here takes a variant.
+use Rattle.std.specs.Prelude.{ℕ, ◌==◌, nat_le, Bool, ◌&&◌, ◌||◌, if◌then◌else◌, List, [], ◌∷◌, length, count_by, Option, None, Some, is_some}
+use Rattle.std.specs.List.{list_any}
+use Rattle.chess_base.specs.declared.man.Colour.TheVariants.{White}
+use Rattle.chess_base.specs.declared.man.Move.{Move}
+use Rattle.chess_base.specs.declared.man.Variant.TheVariants.{Normal}
+use Rattle.chess_base.specs.declared.setup.Setup.{Setup}
+use Rattle.chess_base.specs.Attacks.{is_in_check}
+use Rattle.chess_base.specs.Initial.{initial_men}
+use Rattle.chess_base.specs.Men.{other, same_colour}
+use Rattle.chess_base.specs.Moves.{is_en_passant}
+use Rattle.chess_base.specs.laws.Normal.{normal_after}
+use Rattle.chess_text.specs.laws.Normal.{normal_moves}
+use Rattle.chess_game.specs.declared.ends.Claims.{Claims}
+use Rattle.chess_game.specs.declared.ends.Verdict.{Verdict}
+use Rattle.chess_game.specs.declared.ends.Verdict.TheVariants.{Stalemate, InsufficientMaterial, FivefoldRepetition, SeventyFiveMoves}
+use Rattle.chess_game.specs.declared.results.Outcome.{Outcome}
+use Rattle.chess_game.specs.Ends.{is_bare, mates}
+use Rattle.chess_game.specs.Game.{State, outcome_by}
+use Rattle.chess_game.specs.Same.{same_men, same_rights, same_square}
+
+-- the initial position: each king may castle with the rooks of files h and a
+unfoldable pub normal_initial : Setup
+normal_initial = record {
+  variant = Normal;
+  men = initial_men;
+  side = White;
+  rights = record {
+    white = record { king_side = Some 7; queen_side = Some 0 };
+    black = record { king_side = Some 63; queen_side = Some 56 };
+  };
+  target = None;
+  halfmove = 0;
+  fullmove = 1;
+}
+
+-- ---- the line
+
+-- the start, and the position after each move
+abbrev pub normal_line : Setup → List Move → List Setup
+normal_line start [] = start ∷ []
+normal_line start (m ∷ ms) = start ∷ normal_line (normal_after start m) ms
+
+-- the position at the end of the line
+abbrev pub normal_last : Setup → List Move → Setup
+normal_last start [] = start
+normal_last start (m ∷ ms) = normal_last (normal_after start m) ms
+
+-- the present position of a game
+abbrev pub normal_current : State → Setup
+normal_current s = normal_last s.start s.moves
+
+-- ---- repetition
+
+-- the target, where some legal move captures en passant on it
+unfoldable pub normal_live_target : Setup → Option ℕ
+normal_live_target p = if list_any (λ m. is_en_passant p m) (normal_moves p) then p.target else None
+
+-- the same side on move, the same men on the same squares, the same rights, and the same pawn to capture en passant
+unfoldable pub normal_same : Setup → Setup → Bool
+normal_same p q =
+    same_colour p.side q.side && same_men p.men q.men && same_rights p.rights q.rights
+    && same_square (normal_live_target p) (normal_live_target q)
+
+-- how many positions of the game are the same as the present one
+unfoldable pub normal_rep : Setup → List Move → ℕ
+normal_rep start ms = count_by (λ p. normal_same p (normal_last start ms)) (normal_line start ms)
+
+-- ---- ends
+
+-- the first end that holds at the end of the line
+unfoldable pub normal_verdict : Setup → List Move → Option Verdict
+normal_verdict start ms =
+    let p = normal_last start ms in
+    if length (normal_moves p) == 0
+    then (if is_in_check p.men p.side then Some (mates (other p.side)) else Some Stalemate)
+    else if is_bare p.men then Some InsufficientMaterial
+    else if nat_le 5 (normal_rep start ms) then Some FivefoldRepetition
+    else if nat_le 150 p.halfmove then Some SeventyFiveMoves
+    else None
+
+-- what can be claimed at the end of the line
+abbrev pub normal_claims : Setup → List Move → Claims
+normal_claims start ms = record {
+  threefold = nat_le 3 (normal_rep start ms);
+  fifty_moves = nat_le 100 (normal_last start ms).halfmove;
+}
+
+-- the verdict on a game, whether it is over, and its outcome
+abbrev pub normal_verdict_now : State → Option Verdict
+normal_verdict_now s = normal_verdict s.start s.moves
+
+abbrev pub normal_is_over : State → Bool
+normal_is_over s = is_some (normal_verdict_now s) || is_some s.declared
+
+abbrev pub normal_outcome_now : State → Outcome
+normal_outcome_now s = outcome_by (normal_verdict_now s) s.declared

@@ -1,0 +1,280 @@
+//! What the rows come to, however their inputs are cut and wherever a device fails: each row on both boards.
+
+ghost use Rattle.std.specs.Prelude.{◌≤◌};
+
+use crate::running::{came_to, ended_line, front, is_equal, run, run_gated};
+use crate::transcript::Transcript;
+use byte_devices::{PieceReader, PieceWriter};
+use chess_bits::{AttackTables, Bits};
+use chess_cecp::{Fault, Session};
+use chess_moves::{Board, Plain};
+use chess_pgn::Tags;
+use std::alloc::Global;
+use std::process::Abort;
+use std::test::Fail;
+
+/// How a row is run.
+#[derive(Clone, Copy)]
+pub enum Way {
+    /// Read and written in pieces of 1, 2, 3, 7 and 1,024 bytes.
+    Pieces,
+    /// Cut after each byte.
+    Cut,
+    /// With a read that fails after each byte, and after the last.
+    FailingReads,
+    /// By a writer that takes one byte at a time, and of which each call fails in turn, write or flush.
+    FailingWrites,
+    /// By a writer that takes nothing.
+    FullWriter,
+    /// With a line that is given once the answer before it was flushed.
+    Gated,
+    /// Whole; the row has a beginning of what is written.
+    Begun,
+}
+
+impl Way {
+    /// A gate gives no line that needs several reads.
+    pub fn takes_long_lines(self) -> bool {
+        !matches!(self, Way::Gated)
+    }
+}
+
+/// Runs each row in that way on both boards, in sessions of so many half-moves.
+pub fn check(
+    rt: &impl Abort,
+    alloc: Global,
+    way: Way,
+    rows: &[&[u8]],
+    limit: u32,
+) -> Result<(), Fail>
+    requires some { 1 ≤ limit }
+    requires few { limit ≤ 20000 }
+{
+    let mut plain = Session::open(alloc, Plain::new(), Plain::new(), Tags::default(), limit)?;
+    check_rows(rt, alloc, way, &mut plain, rows)?;
+    let tables = AttackTables::open(alloc)?;
+    let board = Bits::new(&tables);
+    let scratch = Bits::new(&tables);
+    let mut bits = Session::open(alloc, board, scratch, Tags::default(), limit)?;
+    check_rows(rt, alloc, way, &mut bits, rows)
+}
+
+fn check_rows<B: Board>(
+    rt: &impl Abort,
+    alloc: Global,
+    way: Way,
+    session: &mut Session<B>,
+    rows: &[&[u8]],
+) -> Result<(), Fail> {
+    for text in rows {
+        let row = Transcript::read(alloc, text)?;
+        check_row(rt, alloc, way, session, &row)?;
+    }
+    Ok(())
+}
+
+fn check_row<B: Board>(
+    rt: &impl Abort,
+    alloc: Global,
+    way: Way,
+    session: &mut Session<B>,
+    row: &Transcript,
+) -> Result<(), Fail> {
+    match way {
+        Way::Pieces => in_pieces(rt, alloc, session, row),
+        Way::Cut => cut_after_each_byte(rt, alloc, session, row)?,
+        Way::FailingReads => failing_reads(rt, alloc, session, row),
+        Way::FailingWrites => failing_writes(rt, alloc, session, row),
+        Way::FullWriter => full_writer(rt, alloc, session, row),
+        Way::Gated => gated(rt, alloc, session, row),
+        Way::Begun => begun(rt, alloc, session, row),
+    }
+    Ok(())
+}
+
+fn in_pieces<B: Board>(rt: &impl Abort, alloc: Global, session: &mut Session<B>, row: &Transcript) {
+    for cut in [1, 2, 3, 7, 1024] {
+        in_pieces_of(rt, alloc, session, row, cut);
+    }
+}
+
+fn in_pieces_of<B: Board>(
+    rt: &impl Abort,
+    alloc: Global,
+    session: &mut Session<B>,
+    row: &Transcript,
+    cut: usize,
+) {
+    let reader = PieceReader::new(row.input.as_slice(), cut.max(1), 0);
+    let outcome = run(alloc, session, reader, PieceWriter::new(alloc, cut, 0));
+    let end = Ok(row.end_at(row.input.len()));
+    came_to(rt, &outcome, end, row.answers.as_slice());
+}
+
+fn cut_after_each_byte<B: Board>(
+    rt: &impl Abort,
+    alloc: Global,
+    session: &mut Session<B>,
+    row: &Transcript,
+) -> Result<(), Fail> {
+    for read in 0..row.input.len() {
+        cut_after(rt, alloc, session, row, read)?;
+    }
+    Ok(())
+}
+
+// A last line is answered as with the byte 10 that it lacks, after the answers to the whole lines. Where it lacks that
+// byte alone, or is empty, the row has its answer.
+fn cut_after<B: Board>(
+    rt: &impl Abort,
+    alloc: Global,
+    session: &mut Session<B>,
+    row: &Transcript,
+    read: usize,
+) -> Result<(), Fail> {
+    let input = front(row.input.as_slice(), read);
+    let outcome = run(
+        alloc,
+        session,
+        PieceReader::new(input, 1024, 0),
+        PieceWriter::new(alloc, 1024, 0),
+    );
+    let line = ended_line(alloc, input)?;
+    let ended = run(
+        alloc,
+        session,
+        PieceReader::new(line.as_slice(), 1024, 0),
+        PieceWriter::new(alloc, 1024, 0),
+    );
+    came_to(rt, &outcome, Ok(row.end_at(read)), ended.written.as_slice());
+    let begun = row.at_byte(read);
+    let whole = front(row.answers.as_slice(), begun.written);
+    is_equal(rt, &front(ended.written.as_slice(), begun.written), &whole);
+    if begun.read == read || row.input.get(read) == Some(&b'\n') {
+        let next = row.at_byte(read.saturating_add(1));
+        is_equal(
+            rt,
+            &ended.written.as_slice(),
+            &front(row.answers.as_slice(), next.written),
+        );
+    }
+    Ok(())
+}
+
+fn failing_reads<B: Board>(
+    rt: &impl Abort,
+    alloc: Global,
+    session: &mut Session<B>,
+    row: &Transcript,
+) {
+    let input = row.input.as_slice();
+    for read in 0..input.len() {
+        let reader = PieceReader::new(input, 1, (read as u64).saturating_add(1));
+        failing_read(rt, alloc, session, row, reader, read);
+    }
+    let at_end = (input.len() as u64).saturating_add(1);
+    failing_read(
+        rt,
+        alloc,
+        session,
+        row,
+        PieceReader::new(input, 1, at_end),
+        input.len(),
+    );
+}
+
+// The lines that are whole were answered.
+fn failing_read<B: Board>(
+    rt: &impl Abort,
+    alloc: Global,
+    session: &mut Session<B>,
+    row: &Transcript,
+    reader: PieceReader<'_>,
+    read: usize,
+) {
+    let outcome = run(alloc, session, reader, PieceWriter::new(alloc, 1024, 0));
+    let answers = front(row.answers.as_slice(), row.at_byte(read).written);
+    came_to(rt, &outcome, row.fault_at(read), answers);
+}
+
+// Each line's answer takes a call for each byte, and then a flush.
+fn failing_writes<B: Board>(
+    rt: &impl Abort,
+    alloc: Global,
+    session: &mut Session<B>,
+    row: &Transcript,
+) {
+    let calls = row.at_byte(row.input.len()).calls;
+    for call in 0..calls {
+        failing_write(rt, alloc, session, row, call);
+    }
+    let end = row.end_at(row.input.len());
+    let reader = PieceReader::new(row.input.as_slice(), 1024, 0);
+    let outcome = run(
+        alloc,
+        session,
+        reader,
+        PieceWriter::new(alloc, 1, (calls as u64).saturating_add(1)),
+    );
+    came_to(rt, &outcome, Ok(end), row.answers.as_slice());
+    is_equal(rt, &outcome.calls, &(calls as u64));
+}
+
+fn failing_write<B: Board>(
+    rt: &impl Abort,
+    alloc: Global,
+    session: &mut Session<B>,
+    row: &Transcript,
+    call: usize,
+) {
+    let reader = PieceReader::new(row.input.as_slice(), 1024, 0);
+    let writer = PieceWriter::new(alloc, 1, (call as u64).saturating_add(1));
+    let outcome = run(alloc, session, reader, writer);
+    let line = row.at_call(call);
+    let taken = line.written.saturating_add(call.saturating_sub(line.calls));
+    came_to(
+        rt,
+        &outcome,
+        Err(Fault::Write),
+        front(row.answers.as_slice(), taken),
+    );
+}
+
+// The first answer fails; where all lines are silent none does.
+fn full_writer<B: Board>(
+    rt: &impl Abort,
+    alloc: Global,
+    session: &mut Session<B>,
+    row: &Transcript,
+) {
+    let reader = PieceReader::new(row.input.as_slice(), 1024, 0);
+    let outcome = run(alloc, session, reader, PieceWriter::new(alloc, 0, 0));
+    let end = if row.answers.is_empty() {
+        Ok(row.end_at(row.input.len()))
+    } else {
+        Err(Fault::Write)
+    };
+    came_to(rt, &outcome, end, b"");
+}
+
+fn gated<B: Board>(rt: &impl Abort, alloc: Global, session: &mut Session<B>, row: &Transcript) {
+    let outcome = run_gated(alloc, session, row.input.as_slice());
+    came_to(
+        rt,
+        &outcome,
+        Ok(row.end_at(row.input.len())),
+        row.answers.as_slice(),
+    );
+    is_equal(rt, &outcome.calls, &0);
+}
+
+fn begun<B: Board>(rt: &impl Abort, alloc: Global, session: &mut Session<B>, row: &Transcript) {
+    let reader = PieceReader::new(row.input.as_slice(), 1024, 0);
+    let outcome = run(alloc, session, reader, PieceWriter::new(alloc, 1024, 0));
+    let answers = row.answers.as_slice();
+    is_equal(
+        rt,
+        &front(outcome.written.as_slice(), answers.len()),
+        &answers,
+    );
+}

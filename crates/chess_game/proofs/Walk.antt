@@ -1,0 +1,209 @@
+-- A walk along the links of a bucket, and what the places keep.
+use Rattle.std.proofs.Common.{◌≡◌, ◌∙◌, ℕ, suc, ◌+◌, ◌-◌, ◌%◌, ◌<◌, ◌≤◌, true, false, cond, List, [], ◌∷◌, length, get_or, count_by, refl, sym, ap, subst, arith}
+use Rattle.std.proofs.lemmas.Bool.{eq-eqb, eqb-true}
+use Rattle.std.proofs.lemmas.List.{nil_from_length}
+use Rattle.std.proofs.lemmas.List.Sums.{sum_by-cons}
+use Rattle.chess_base.specs.declared.setup.Setup.{Setup}
+use Rattle.chess_base.specs.Sound.{IsSound}
+use Rattle.chess_game.specs.Line.{last}
+use Rattle.chess_game.specs.Same.{same, rep}
+use Rattle.chess_game.specs.ties.Places.{moves_of, Wording, HasWord, HaveWords, Follows}
+use Rattle.chess_game.specs.ties.Buckets.{bucket, known_at, is_in, is_same_at, latest_below, count_below, HasEntry, HaveEntries}
+use Rattle.chess_game.specs.declared.game.Place.{Place}
+use Rattle.chess_game.specs.declared.index.TheConstants.{BUCKETS}
+use Rattle.chess_game.specs.declared.repetition.Known.{Known}
+use Rattle.chess_game.proofs.Counting.{seen, counted, one_if}
+use Rattle.chess_game.proofs.EqualWords.{equal_words, same_alike}
+use Rattle.chess_game.proofs.Kept.{at_end}
+use Rattle.chess_game.proofs.Latest.{latest_low, latest_passes, count_low, count_alike, count_here, count_fails, count_first, count_none, skipped}
+use Rattle.chess_game.proofs.Positions.{known_place, word_of_known, sound_is}
+use Rattle.chess_game.proofs.SameSelf.{same_self}
+
+-- what a walk stands on: the positions of a game, and one that is looked for
+pub record IsSought (start : Known) (xs : List Place) (now : Known) : Type 0 where
+  pub follows : Follows start.position xs
+  pub words : (f : Wording) × HaveWords f start xs × HasWord f now
+  pub sound : IsSound (last start.position (moves_of xs))
+  pub sound_now : IsSound now.position
+
+-- what is the same is in the same bucket
+met_there : (start : Known) (xs : List Place) (now : Known) (k : ℕ) → IsSought start xs now → k < suc (length xs)
+    → is_same_at start xs now.position k ≡ true → is_in start xs (bucket now) k ≡ true
+met_there start xs now k s h met =
+    let f = s.words.0 in
+    let words : (known_at start xs k).word ≡ now.word =
+    word_of_known f start xs k s.words.1
+    ∙ equal_words f (known_at start xs k).position now.position (sound_is start xs k s.follows s.sound h) s.sound_now
+    met
+    ∙ sym s.words.2 in
+    eq-eqb (bucket (known_at start xs k)) (bucket now) (ap (λ w. w % BUCKETS) words)
+
+-- a walk is at a position of the bucket, and none behind it is the same
+pub record IsAlong (start : Known) (xs : List Place) (now : Known) (at : ℕ) : Type 0 where
+  pub low : at ≤ suc (length xs)
+  pub there : (k : ℕ) → at ≡ suc k → is_in start xs (bucket now) k ≡ true
+  pub rest : count_below (is_same_at start xs now.position) (suc (length xs)) ≡ count_below (is_same_at start xs now.position) at
+
+-- at the latest position of the bucket below n, where none from n on is the same
+along : (start : Known) (xs : List Place) (now : Known) (at n : ℕ) → IsSought start xs now → n ≤ suc (length xs)
+    → at ≡ latest_below (is_in start xs (bucket now)) n
+    → count_below (is_same_at start xs now.position) (suc (length xs)) ≡ count_below (is_same_at start xs now.position) n
+    → IsAlong start xs now at
+along start xs now at n s h is rest =
+    let t = is_in start xs (bucket now) in
+    let low = latest_low t n in
+    record {
+      low = omega (arith, is, low, h);
+      there = λ k e. latest_passes t n k (sym is ∙ e);
+      rest = rest
+          ∙ skipped (is_same_at start xs now.position) t n (λ k l. met_there start xs now k s (omega (arith, l, h)))
+          ∙ ap (count_below (is_same_at start xs now.position)) (sym is);
+    }
+
+pub walk_begins : (start : Known) (xs : List Place) (now : Known) (head : ℕ) → IsSought start xs now
+    → head ≡ latest_below (is_in start xs (bucket now)) (suc (length xs)) → IsAlong start xs now head
+walk_begins start xs now head s is = along start xs now head (suc (length xs)) s (omega arith) is refl
+
+-- where the walk is, by the place
+pub record IsPlace (start : Known) (xs : List Place) (at : ℕ) (x : Place) : Type 0 where
+  pub next : at ≡ suc (suc (at - 2))
+  pub known : known_at start xs (suc (at - 2)) ≡ x.reached
+  pub entry : HasEntry start xs (at - 2) x
+  pub low : at - 2 < length xs
+
+is_place : (start : Known) (xs : List Place) (now : Known) (at : ℕ) (x : Place) → HaveEntries start xs
+    → IsAlong start xs now at → 1 < at → x ≡ get_or xs (at - 2) x → IsPlace start xs at x
+is_place start xs now at x entries a some is =
+    let few = a.low in
+    record {
+      next = omega (arith, some);
+      known = known_place start xs (at - 2) x (omega (arith, some, few)) ∙ ap (λ v. v.reached) (sym is);
+      entry = subst (HasEntry start xs (at - 2)) (sym is) (entries (at - 2) x (omega (arith, some, few)));
+      low = omega (arith, some, few);
+    }
+
+pub walk_goes_on : (start : Known) (xs : List Place) (now : Known) (at : ℕ) (x : Place) → IsSought start xs now
+    → HaveEntries start xs → IsAlong start xs now at → 1 < at → x ≡ get_or xs (at - 2) x
+    → same x.reached.position now.position ≡ false
+    → IsAlong start xs now x.entry.earlier
+walk_goes_on start xs now at x s entries a some is other =
+    let p = is_place start xs now at x entries a some is in
+    let there : bucket (known_at start xs (suc (at - 2))) ≡ bucket now =
+    eqb-true (bucket (known_at start xs (suc (at - 2)))) (bucket now) (a.there (suc (at - 2)) p.next) in
+    let link : x.entry.earlier ≡ latest_below (is_in start xs (bucket now)) (suc (at - 2)) = p.entry.earlier
+    ∙ ap (λ v. latest_below (is_in start xs v) (suc (at - 2))) (sym (ap bucket p.known) ∙ there) in
+    let off : is_same_at start xs now.position (suc (at - 2)) ≡ false = ap (λ v. same v.position now.position) p.known
+    ∙ other in
+    let low = p.low in
+    along start xs now x.entry.earlier (suc (at - 2)) s (omega (arith, low)) link
+    (a.rest ∙ ap (count_below (is_same_at start xs now.position)) p.next
+    ∙ count_fails (is_same_at start xs now.position) (suc (at - 2)) off)
+
+pub walk_smaller : (start : Known) (xs : List Place) (now : Known) (at : ℕ) (x : Place)
+    → HaveEntries start xs → IsAlong start xs now at → 1 < at → x ≡ get_or xs (at - 2) x → x.entry.earlier < at
+walk_smaller start xs now at x entries a some is =
+    let p = is_place start xs now at x entries a some is in
+    let link = p.entry.earlier in
+    let low = latest_low (is_in start xs (bucket x.reached)) (suc (at - 2)) in
+    omega (arith, link, low, some)
+
+pub walk_found : (start : Known) (xs : List Place) (now : Known) (at : ℕ) (x : Place) → IsSought start xs now
+    → HaveEntries start xs → IsAlong start xs now at → 1 < at → x ≡ get_or xs (at - 2) x
+    → same x.reached.position now.position ≡ true
+    → x.entry.count + 1 ≡ suc (count_below (is_same_at start xs now.position) (suc (length xs)))
+walk_found start xs now at x s entries a some is met =
+    let p = is_place start xs now at x entries a some is in
+    let low = p.low in
+    let sound : IsSound x.reached.position = subst (λ v. IsSound v.position) p.known
+    (sound_is start xs (suc (at - 2)) s.follows s.sound (omega (arith, low))) in
+    let here : is_same_at start xs now.position (suc (at - 2)) ≡ true = ap (λ v. same v.position now.position) p.known
+    ∙ met in
+    let all : count_below (is_same_at start xs now.position) (suc (length xs))
+    ≡ suc (count_below (is_same_at start xs now.position) (suc (at - 2))) = a.rest
+    ∙ ap (count_below (is_same_at start xs now.position)) p.next
+    ∙ count_here (is_same_at start xs now.position) (suc (at - 2)) here in
+    let alike : count_below (is_same_at start xs x.reached.position) (suc (at - 2))
+    ≡ count_below (is_same_at start xs now.position) (suc (at - 2)) =
+    count_alike (is_same_at start xs x.reached.position) (is_same_at start xs now.position) (suc (at - 2))
+    (λ k l. same_alike (known_at start xs k).position x.reached.position now.position sound s.sound_now met) in
+    let kept = p.entry.count in
+    omega (arith, kept, alike, all)
+
+-- no more than there are
+pub walk_few : (start : Known) (xs : List Place) (now : Known) (at : ℕ) (x : Place)
+    → HaveEntries start xs → IsAlong start xs now at → 1 < at → x ≡ get_or xs (at - 2) x → x.entry.count ≤ length xs + 1
+walk_few start xs now at x entries a some is =
+    let p = is_place start xs now at x entries a some is in
+    let kept = p.entry.count in
+    let few = count_low (is_same_at start xs x.reached.position) (suc (at - 2)) in
+    let low = p.low in
+    omega (arith, kept, few, low)
+
+pub walk_ends : (start : Known) (xs : List Place) (now : Known) (at : ℕ) → IsAlong start xs now at → at ≡ 0
+    → 1 ≡ suc (count_below (is_same_at start xs now.position) (suc (length xs)))
+unfolding count_below
+walk_ends start xs now at a none = ap suc (sym (a.rest ∙ ap (count_below (is_same_at start xs now.position)) none))
+
+pub walk_ends_at_start : (start : Known) (xs : List Place) (now : Known) (at : ℕ) → IsAlong start xs now at → at ≡ 1
+    → 1 + cond (same start.position now.position) 1 0
+    ≡ suc (count_below (is_same_at start xs now.position) (suc (length xs)))
+unfolding count_below known_at
+walk_ends_at_start start xs now at a one =
+    let all : count_below (is_same_at start xs now.position) (suc (length xs)) ≡ count_below (is_same_at start xs now.position) 1 = a.rest
+    ∙ ap (count_below (is_same_at start xs now.position)) one in
+    omega (arith, all)
+
+-- a walk ends early where none of the older positions is the same
+pub walk_stops : (start : Known) (xs : List Place) (now : Known) (at oldest : ℕ) → IsAlong start xs now at
+    → at ≤ oldest → ((k : ℕ) → k < oldest → is_same_at start xs now.position k ≡ false)
+    → 1 ≡ suc (count_below (is_same_at start xs now.position) (suc (length xs)))
+walk_stops start xs now at oldest a h none =
+    ap suc (sym (a.rest ∙ count_none (is_same_at start xs now.position) at (λ k l. none k (omega (arith, l, h)))))
+
+-- ---- what is kept is the number of repetitions
+
+seen-count_below : (start : Known) (xs : List Place) (q : Setup)
+    → seen start.position xs q ≡ count_below (is_same_at start xs q) (suc (length xs))
+unfolding count_below known_at
+seen-count_below start [] q = omega arith
+seen-count_below start (x ∷ xs) q =
+    let behind = seen-count_below x.reached xs q in
+    let cons : count_by (λ z. same z.reached.position q) (x ∷ xs) ≡ seen x.reached.position xs q =
+    sum_by-cons (λ z. one_if (same z.reached.position q)) x xs in
+    let first : count_below (is_same_at start (x ∷ xs) q) (suc (suc (length xs)))
+    ≡ one_if (same start.position q) + count_below (is_same_at x.reached xs q) (suc (length xs)) =
+    count_first (is_same_at start (x ∷ xs) q) (suc (length xs)) in
+    omega (arith, behind, cons, first)
+
+rep_is : (start : Known) (xs : List Place) → Follows start.position xs
+    → count_below (is_same_at start xs (last start.position (moves_of xs))) (suc (length xs)) ≡ rep start.position (moves_of xs)
+rep_is start xs f =
+    sym (seen-count_below start xs (last start.position (moves_of xs)))
+    ∙ counted start.position xs (last start.position (moves_of xs)) f refl
+
+pub rep_alone : (start : Known) (xs : List Place) → Follows start.position xs → length xs ≡ 0
+    → 1 ≡ rep start.position (moves_of xs)
+unfolding count_below known_at
+rep_alone start xs f none =
+    let nil = nil_from_length xs none in
+    subst (λ ys. 1 ≡ rep start.position (moves_of ys)) (sym nil)
+    (let one : count_below (is_same_at start [] start.position) 1 ≡ 1 =
+    count_here (is_same_at start [] start.position) 0 (same_self start.position) in
+    sym one ∙ rep_is start [] tt)
+
+pub rep_kept : (start : Known) (xs : List Place) (d : Place) → Follows start.position xs → HaveEntries start xs
+    → 0 < length xs
+    → (get_or xs (length xs - 1) d).entry.count ≡ rep start.position (moves_of xs)
+rep_kept start xs d f entries some =
+    let x = get_or xs (length xs - 1) d in
+    let end = last start.position (moves_of xs) in
+    let at : x.reached.position ≡ end = (at_end start.position xs d f some).reached in
+    let low : length xs - 1 < length xs = omega (arith, some) in
+    let next : suc (length xs - 1) ≡ length xs = omega (arith, some) in
+    let kept : x.entry.count ≡ suc (count_below (is_same_at start xs end) (suc (length xs - 1))) =
+    (entries (length xs - 1) d low).count
+    ∙ ap (λ v. suc (count_below (is_same_at start xs v) (suc (length xs - 1)))) at in
+    let here : is_same_at start xs end (suc (length xs - 1)) ≡ true = ap (λ v. same v.position end)
+    (known_place start xs (length xs - 1) d low) ∙ ap (λ v. same v end) at ∙ same_self end in
+    kept ∙ sym (count_here (is_same_at start xs end) (suc (length xs - 1)) here)
+    ∙ ap (λ n. count_below (is_same_at start xs end) (suc n)) next ∙ rep_is start xs f

@@ -1,0 +1,13 @@
+-- Each head is 0.
+use Rattle.std.proofs.Common.{ℕ, subst, sym}
+use Rattle.std.proofs.lemmas.List.{get_or-replicate, length-replicate}
+use Rattle.chess_game.specs.ties.Buckets.{IsEmpty}
+use Rattle.chess_game.proofs.index.Index.open.Goals as goal
+
+pub returns : goal.returns
+returns c =
+    let all = c.in_ok-vec.ensures.items_if_clones_equal (λ y e. e) in
+    subst IsEmpty (sym all) (record {
+      buckets = length-replicate {A = ℕ} 32768 0;
+      none = λ b h. get_or-replicate {A = ℕ} 32768 b 0 0 h;
+    })

@@ -1,0 +1,12 @@
+-- With the place's link as its bucket's head, the heads are those of the positions before (popped_index of Indexed).
+use Rattle.std.proofs.Common.{refl}
+use Rattle.chess_game.specs.ties.Buckets.{bucket, IsIndexed}
+use Rattle.chess_game.proofs.Indexed.{popped_index}
+use Rattle.chess_game.proofs.index.Index.pop.Goals as goal
+
+pub remove-requires : goal.remove-requires
+remove-requires c = c.requires.2.buckets
+
+pub returns : goal.returns
+returns c = λ start xs index. rw c.remove.ensures
+    (popped_index c.args.self.now.heads.items start xs c.args.place.now (bucket c.args.place.now.reached) index refl)

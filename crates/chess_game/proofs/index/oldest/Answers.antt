@@ -1,0 +1,21 @@
+-- No position before a capture or a pawn move is the same as one behind it (ForGood).
+use Rattle.std.proofs.Common.{◌-◌, ◌<◌, length, arith}
+use Rattle.std.proofs.lemmas.Bool.Decides.{nat_tests}
+use Rattle.chess_game.proofs.ForGood.{none_is_same, none_is_same_before}
+use Rattle.chess_game.proofs.index.oldest.Goals as goal
+
+pub returns-then-ago-eq0 : goal.returns-then-ago-eq0
+returns-then-ago-eq0 c = λ start follows next. none_is_same c.reserve_never_grows.ensures.never_grows
+    c.reserve_never_grows.ensures.falls_for_good start c.args.places.now c.args.now.now next.0 next.1 c.requires follows
+    next.2 (rw c.setup.ensures.value at c.if-ago-eq0.true)
+
+pub returns-then-setup-eq0 : goal.returns-then-setup-eq0
+returns-then-setup-eq0 c =
+    let some = c.if-ago-eq0.false in
+    let within = c.if-ago-places.false in
+    let k = length c.args.places.now - c.setup.result.now.halfmove in
+    let low : k < length c.args.places.now = grind (arith, nat_tests, some, within) in
+    λ start follows next. none_is_same_before c.reserve_never_grows.ensures.never_grows
+    c.reserve_never_grows.ensures.falls_for_good start c.args.places.now c.args.now.now next.0 next.1 c.requires follows
+    next.2 k c.index-places-first.result low
+    (rw c.setup-2.ensures.value at c.if-setup-eq0.true)

@@ -1,0 +1,177 @@
+//! The index of a game's positions, which tells how often a position occurred with few comparisons.
+//!
+//! A position's word puts it in one of 32,768 buckets. A bucket's head is the latest position in it. Each place has an
+//! entry: a link to the latest earlier position in the bucket of its own, and the count of its own. Positions are
+//! numbered from 0, the start, on; a head or a link is a number plus one, or 0 where there is no such position.
+
+ghost use Rattle.std.specs.Prelude.{◌≡◌, ◌≤◌, ◌<◌, ◌+◌, ℕ, suc, false, [], ◌∷◌, ◌++◌, List, length, set, IfOk, cond};
+ghost use Rattle.chess_game.specs.declared.game.Place.{Place};
+ghost use Rattle.chess_game.specs.declared.game.TheConstants.{MOST_MOVES};
+ghost use Rattle.chess_game.specs.declared.index.TheConstants.{BUCKETS};
+ghost use Rattle.chess_game.specs.declared.repetition.Known.{Known};
+ghost use Rattle.chess_game.specs.ties.Places.{IsKnown, Wording, HasWord, HaveWords, Follows};
+ghost use Rattle.chess_game.specs.ties.Buckets.{bucket, is_in, is_same_at, latest_below, count_below, IsNext, IsEmpty, HaveEntries, IsIndexed};
+
+use crate::game::Place;
+use crate::repetition::Known;
+use chess_base::reserve_never_grows;
+use std::alloc::{AllocError, Global};
+
+// How many buckets there are.
+const BUCKETS: usize = 32_768;
+
+// What the index keeps of a place.
+#[derive(Clone, Copy, PartialEq, Eq)]
+pub(crate) struct Entry {
+    // The latest earlier position in the bucket of this one.
+    pub(crate) earlier: u16,
+    // How many of the positions up to this one, itself among them, are the same.
+    pub(crate) count: u32,
+}
+
+// The heads of the buckets.
+#[derive(Drop)]
+pub(crate) struct Index {
+    heads: Vec<u16>,
+}
+
+// The number of a position's bucket.
+fn bucket(known: &Known) -> usize
+    ensures value { result ≡ bucket known.now }
+    ensures low { result < BUCKETS }
+{
+    (known.word % BUCKETS as u64) as usize
+}
+
+// The number of the first position of a game that can be the same as the one that a further move gave: no position from
+// before the last capture or pawn move can.
+fn oldest(places: &[Place], now: &Known) -> usize
+    requires { IsKnown now.now }
+    ensures { (start : Known) → Follows start.position places.now → IsNext start places.now now.now → (k : ℕ)
+        → k < result → is_same_at start places.now now.now.position k ≡ false }
+{
+    // The prover wants this law: the reserve of the men falls with each capture and pawn move, and never grows.
+    reserve_never_grows();
+    let ago = now.position.setup().halfmove as usize;
+    if ago == 0 {
+        return places.len() + 1;
+    }
+    if ago > places.len() {
+        return 0;
+    }
+    let first = places.len() - ago;
+    let reached = &places[first].reached;
+    if reached.position.setup().halfmove == 0 {
+        first + 1
+    } else {
+        0
+    }
+}
+
+// How many positions are the same as the one that a further move of a game gave, itself among them. The search follows
+// the links from the head of its bucket to the latest position that is the same, whose place has the count up to it.
+fn count_same(head: u16, start: &Known, places: &[Place], now: &Known) -> u32
+    requires start { IsKnown start.now }
+    requires now { IsKnown now.now }
+    requires follows { Follows start.now.position places.now }
+    requires made { IsNext start.now places.now now.now }
+    requires words { (f : Wording) × HaveWords f start.now places.now × HasWord f now.now }
+    requires few { length places.now < MOST_MOVES }
+    requires entries { HaveEntries start.now places.now }
+    requires head { head ≡ latest_below (is_in start.now places.now (bucket now.now)) (suc (length places.now)) }
+    ensures { result ≡ suc (count_below (is_same_at start.now places.now now.now.position) (suc (length places.now))) }
+{
+    // The prover wants this fact: a position is sound, so it has a place for each of the 64 squares.
+    let _sound = now.position.setup();
+    if head == 0 {
+        return 1;
+    }
+    let oldest = oldest(places, now);
+    let mut at = head as usize;
+    while at > 1 {
+        if at <= oldest {
+            return 1;
+        }
+        let place = &places[at - 2];
+        if place.reached.is_same(now) {
+            return place.entry.count + 1;
+        }
+        at = place.entry.earlier as usize;
+    }
+    if at == 0 {
+        1
+    } else {
+        1 + start.times_same(now)
+    }
+}
+
+impl Index {
+    // The index of no positions. Its heads are all the memory that it takes.
+    pub(crate) fn open(alloc: Global) -> Result<Self, AllocError>
+        ensures { IfOk result (λ x. IsEmpty x.heads.items) }
+    {
+        Ok(Index {
+            heads: vec![in alloc; 0; BUCKETS]?,
+        })
+    }
+
+    // Adds the start of a game to an empty index.
+    pub(crate) fn begin(&mut self, start: &Known)
+        requires { IsEmpty self.old.heads.items }
+        ensures { IsIndexed self.new.heads.items start.now [] }
+    {
+        self.heads[bucket(start)] = 1;
+    }
+
+    // Adds the position that a further move of a game gave, and returns the entry of its place.
+    pub(crate) fn push(&mut self, start: &Known, places: &[Place], reached: &Known) -> Entry
+        requires start { IsKnown start.now }
+        requires known { IsKnown reached.now }
+        requires follows { Follows start.now.position places.now }
+        requires made { IsNext start.now places.now reached.now }
+        requires words { (f : Wording) × HaveWords f start.now places.now × HasWord f reached.now }
+        requires few { length places.now < MOST_MOVES }
+        requires indexed { IsIndexed self.old.heads.items start.now places.now }
+        ensures { (x : Place) → x.reached ≡ reached.now → x.entry ≡ result
+            → IsIndexed self.new.heads.items start.now (places.now ++ x ∷ []) }
+    {
+        let number = bucket(reached);
+        let head = self.heads[number];
+        let count = count_same(head, start, places, reached);
+        self.heads[number] = places.len() as u16 + 2;
+        Entry {
+            earlier: head,
+            count,
+        }
+    }
+
+    // Removes the latest position from its bucket, whose head is then the one before it there.
+    fn remove(&mut self, place: &Place)
+        requires { length self.old.heads.items ≡ BUCKETS }
+        ensures { self.new.heads.items ≡ set self.old.heads.items (bucket place.now.reached) place.now.entry.earlier }
+    {
+        self.heads[bucket(&place.reached)] = place.entry.earlier;
+    }
+
+    // Removes the last position of a game, which that place reached.
+    pub(crate) fn pop(&mut self, place: &Place)
+        requires { (start : Known) × (xs : List Place) × IsIndexed self.old.heads.items start (xs ++ place.now ∷ []) }
+        ensures { (start : Known) (xs : List Place) → IsIndexed self.old.heads.items start (xs ++ place.now ∷ [])
+            → IsIndexed self.new.heads.items start xs }
+    {
+        self.remove(place);
+    }
+
+    // Removes all positions of a game: a step for each, however many buckets there are.
+    pub(crate) fn clear(&mut self, start: &Known, places: &[Place])
+        requires { IsIndexed self.old.heads.items start.now places.now }
+        ensures { IsEmpty self.new.heads.items }
+    {
+        let mut left = places.len();
+        while left > 0 {
+            left -= 1;
+            self.remove(&places[left]);
+        }
+        self.heads[bucket(start)] = 0;
+    }
+}

@@ -1,0 +1,43 @@
+//! The PGN of a game behind its match.
+
+use crate::plays::{BOARDS, On, is_text, pgn_over, setup_of};
+use byte_devices::{Counted, PieceReader, PieceWriter};
+use chess_base::Position;
+use chess_match::Ends;
+use std::alloc::Global;
+use std::process::Abort;
+use std::test::Fail;
+
+const SAYS: [&[u8]; 2] = [
+    b"feature ping=1 usermove=1 done=1\npong 1\nmove e2e5\n",
+    b"feature ping=1 done=1\npong 1\n",
+];
+
+const WRITTEN: &[u8] =
+    b"[Event \"?\"]\n[Site \"?\"]\n[Date \"????.??.??\"]\n[Round \"?\"]\n[White \"?\"]\n[Black \"?\"]\n[Result \"0-1\"]\n[Termination \"rules infraction\"]\n\n0-1\n\n";
+
+type TestEnds<'a> = Ends<Counted<PieceReader<'a>>, Counted<PieceWriter>>;
+
+fn ends(alloc: Global, bytes: &[u8]) -> TestEnds<'_> {
+    Ends {
+        reader: Counted::reading(PieceReader::new(bytes, 1024, 0)),
+        writer: Counted::writing(PieceWriter::new(alloc, 1024, 0)),
+    }
+}
+
+fn writes(rt: &impl Abort, alloc: Global, on: On) -> Result<(), Fail> {
+    let setup = setup_of(rt, b"0 0:10 0", Position::initial());
+    let mut white = ends(alloc, SAYS[0]);
+    let mut black = ends(alloc, SAYS[1]);
+    let text = pgn_over(alloc, on, &mut white, &mut black, &setup)?;
+    is_text(rt, "PGN", text.as_slice(), WRITTEN);
+    Ok(())
+}
+
+#[test]
+fn an_illegal_move_in_pgn(rt: HostRuntime) -> Result<(), Fail> {
+    for on in BOARDS {
+        writes(&rt, rt.alloc(), *on)?;
+    }
+    Ok(())
+}

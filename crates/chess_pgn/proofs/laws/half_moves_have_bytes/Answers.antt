@@ -1,0 +1,5 @@
+use Rattle.chess_pgn.proofs.MoveBytes.{half_moves_have_bytes}
+use Rattle.chess_pgn.proofs.laws.half_moves_have_bytes.Goals as goal
+
+pub returns : goal.returns
+returns c = half_moves_have_bytes

@@ -1,5 +1,0 @@
-use Rattle.chess_pgn.proofs.MoveBytes.{half_moves_have_bytes}
-use Rattle.chess_pgn.proofs.local_laws.half_moves_have_bytes.Goals as goal
-
-pub returns : goal.returns
-returns c = half_moves_have_bytes

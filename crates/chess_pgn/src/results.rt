@@ -1,0 +1,84 @@
+//! The tag Result of a game.
+
+ghost use Rattle.std.specs.Prelude.{◌≡◌, ◌≤◌, ◌-◌, length};
+ghost use Rattle.std.specs.Option.{IfSome};
+ghost use Rattle.chess_pgn.specs.ties.Seen.{token_seen};
+ghost use Rattle.chess_pgn.specs.ties.GameSteps.{IsWithin};
+ghost use Rattle.chess_pgn.specs.ResultTags.{may_precede_tags, result_after_tag, result_after, result_tag_of};
+
+use crate::tag::Tag;
+use crate::token::{Token, first_place, next_token};
+use crate::word::{WordKind, outcome_of, word_kind};
+use chess_game::Outcome;
+
+/// The last tag `Result` of a game before its moves.
+#[derive(Clone, Copy, Debug, PartialEq, Eq)]
+pub struct ResultTag {
+    /// The outcome that its text denotes; `None` where it denotes none.
+    pub outcome: Option<Outcome>,
+    /// The first byte of its string, from the text's first byte on.
+    pub place: usize,
+}
+
+// Whether more tags of a game may follow a token.
+fn may_precede_tags(token: &Token<'_>) -> bool
+    ensures { result ≡ may_precede_tags (token_seen token.now) }
+{
+    match token {
+        Token::Skip | Token::Tag(_) => true,
+        Token::Word(word) => match word_kind(word) {
+            WordKind::Marks => true,
+            _ => false,
+        },
+    }
+}
+
+// A tag Result of a text of so many bytes; a tag with another name leaves the one before it.
+fn result_after_tag(before: Option<ResultTag>, len: usize, tag: &Tag<'_>) -> Option<ResultTag>
+    requires within { tag.now.left ≤ len }
+    ensures { result ≡ result_after_tag len before tag.now.name.now tag.now.text.now tag.now.left }
+{
+    if tag.name == b"Result".as_slice() {
+        let outcome = outcome_of(tag.text);
+        Some(ResultTag {
+            outcome,
+            place: len - tag.left,
+        })
+    } else {
+        before
+    }
+}
+
+// The last tag Result after a token of a text of so many bytes.
+fn result_after(before: Option<ResultTag>, len: usize, token: &Token<'_>) -> Option<ResultTag>
+    requires within { IsWithin len (token_seen token.now) }
+    ensures { result ≡ result_after len before (token_seen token.now) }
+{
+    match token {
+        Token::Tag(tag) => result_after_tag(before, len, tag),
+        Token::Skip | Token::Word(_) => before,
+    }
+}
+
+/// The last tag `Result` of the game that is read from a place on; `None` where it has none before its first number,
+/// move or termination.
+pub fn result_tag(text: &[u8], at: usize) -> Option<ResultTag>
+    requires { at ≤ length text.now }
+    ensures tag { result ≡ result_tag_of text.now at }
+    ensures within { IfSome result (λ tag. tag.place ≤ length text.now) }
+{
+    let mut place = first_place(text, at);
+    let mut last = None;
+    loop {
+        match next_token(text, place) {
+            Ok(Some((token, behind))) => {
+                if !may_precede_tags(&token) {
+                    return last;
+                }
+                last = result_after(last, text.len(), &token);
+                place = behind;
+            }
+            Ok(None) | Err(_) => return last,
+        }
+    }
+}

@@ -1,0 +1,72 @@
+-- The pieces of a text, byte by byte, and however it goes on.
+use Rattle.std.proofs.Common.{◌≡◌, ◌≤◌, ◌<◌, ℕ, ◌+◌, Bool, true, false, List, [], ◌∷◌, ◌++◌, length, take, drop, get_or, sym, ap, ◌∙◌, append_assoc, add-one, take-suc, length-append, length-drop, drop-cons, arith}
+use Rattle.std.specs.Prelude.{if◌then◌else◌, ◌&&◌, ◌==◌, codes}
+use Rattle.std.specs.Str.{bytes_eq}
+use Rattle.std.proofs.lemmas.List.{take-append-le}
+use Rattle.pgn_pieces.specs.Pieces.{piece_at, ends_piece}
+use Rattle.pgn_pieces.specs.Stream.{pieces_from}
+
+-- ---- one byte
+
+pub goes_on : (ended : Bool) (place : ℕ) (part : List ℕ) (c : ℕ) (cs : List ℕ) → ends_piece c cs ≡ false
+    → pieces_from ended place part (c ∷ cs) ≡ pieces_from ended place (part ++ c ∷ []) cs
+unfolding pieces_from
+goes_on ended place part c cs h =
+    ap (λ b. if b then piece_at place (part ++ c ∷ []) ∷ pieces_from ended (place + (length part + 1)) [] cs
+    else pieces_from ended place (part ++ c ∷ []) cs) h
+
+pub ends_here : (ended : Bool) (place : ℕ) (part : List ℕ) (c : ℕ) (cs : List ℕ) → ends_piece c cs ≡ true
+    → pieces_from ended place part (c ∷ cs)
+    ≡ piece_at place (part ++ c ∷ []) ∷ pieces_from ended (place + (length part + 1)) [] cs
+unfolding pieces_from
+ends_here ended place part c cs h =
+    ap (λ b. if b then piece_at place (part ++ c ∷ []) ∷ pieces_from ended (place + (length part + 1)) [] cs
+    else pieces_from ended place (part ++ c ∷ []) cs) h
+
+-- ---- a byte with seven behind it
+
+pub same_end : (c : ℕ) (cs rest : List ℕ) → 7 ≤ length cs → ends_piece c (cs ++ rest) ≡ ends_piece c cs
+same_end c cs rest h = ap (λ (xs : List ℕ). (c == 10) && bytes_eq xs (codes "[Event ")) (take-append-le 7 cs rest h)
+
+seven : (text : List ℕ) (k : ℕ) → k + 7 < length text → 7 ≤ length (drop (k + 1) text)
+seven text k h = omega (arith, length-drop (k + 1) text)
+
+one_more : (text part : List ℕ) (k : ℕ) → k < length text
+    → (part ++ take k text) ++ get_or text k 0 ∷ [] ≡ part ++ take (k + 1) text
+one_more text part k h =
+    append_assoc part (take k text) (get_or text k 0 ∷ [])
+    ∙ ap (λ xs. part ++ xs) (sym (ap (λ n. take n text) (add-one k) ∙ take-suc text k 0 h))
+
+byte_at : (text rest : List ℕ) (k : ℕ) → k < length text
+    → drop k text ++ rest ≡ get_or text k 0 ∷ (drop (k + 1) text ++ rest)
+byte_at text rest k h = ap (λ xs. xs ++ rest) (drop-cons text k 0 h)
+    ∙ ap (λ n. get_or text k 0 ∷ (drop n text ++ rest)) (sym (add-one k))
+
+pub passes : (text : List ℕ) (k : ℕ) → k + 7 < length text
+    → ends_piece (get_or text k 0) (drop (k + 1) text) ≡ false
+    → (ended : Bool) (place : ℕ) (part rest : List ℕ)
+    → pieces_from ended place (part ++ take k text) (drop k text ++ rest)
+    ≡ pieces_from ended place (part ++ take (k + 1) text) (drop (k + 1) text ++ rest)
+passes text k h none ended place part rest =
+    let few : k < length text = omega (arith, h) in
+    ap (pieces_from ended place (part ++ take k text)) (byte_at text rest k few)
+    ∙ goes_on ended place (part ++ take k text) (get_or text k 0) (drop (k + 1) text ++ rest)
+    (same_end (get_or text k 0) (drop (k + 1) text) rest (seven text k h) ∙ none)
+    ∙ ap (λ xs. pieces_from ended place xs (drop (k + 1) text ++ rest)) (one_more text part k few)
+
+pub ends : (text : List ℕ) (k : ℕ) → k + 7 < length text
+    → ends_piece (get_or text k 0) (drop (k + 1) text) ≡ true
+    → (ended : Bool) (place : ℕ) (part rest : List ℕ)
+    → pieces_from ended place (part ++ take k text) (drop k text ++ rest)
+    ≡ piece_at place (part ++ take (k + 1) text)
+    ∷ pieces_from ended (place + length (part ++ take (k + 1) text)) [] (drop (k + 1) text ++ rest)
+ends text k h is ended place part rest =
+    let few : k < length text = omega (arith, h) in
+    let front = part ++ take k text in
+    let more = one_more text part k few in
+    ap (pieces_from ended place front) (byte_at text rest k few)
+    ∙ ends_here ended place front (get_or text k 0) (drop (k + 1) text ++ rest)
+    (same_end (get_or text k 0) (drop (k + 1) text) rest (seven text k h) ∙ is)
+    ∙ ap (λ n. piece_at place (front ++ get_or text k 0 ∷ [])
+    ∷ pieces_from ended (place + n) [] (drop (k + 1) text ++ rest)) (sym (length-append front (get_or text k 0 ∷ [])))
+    ∙ ap (λ xs. piece_at place xs ∷ pieces_from ended (place + length xs) [] (drop (k + 1) text ++ rest)) more

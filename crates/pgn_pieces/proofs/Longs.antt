@@ -1,0 +1,70 @@
+-- Of a piece with too many bytes only their number matters.
+use Rattle.std.proofs.Common.{◌≡◌, ◌≤◌, ◌<◌, ℕ, ◌+◌, Bool, false, List, [], ◌∷◌, ◌++◌, length, take, drop, Some, None, sym, ap, ◌∙◌, length-append, length-drop, arith}
+use Rattle.std.specs.Prelude.{if◌then◌else◌, ◌&&◌, nat_lt, nat_le, replicate}
+use Rattle.std.proofs.lemmas.Bool.Decides.{nat_tests}
+use Rattle.std.proofs.lemmas.List.{length-take-le, length-replicate}
+use Rattle.pgn_pieces.specs.Pieces.{piece_at, ends_piece}
+use Rattle.pgn_pieces.specs.Stream.{pieces_from, pieces_held}
+
+too_long : (xs : List ℕ) → 16777216 < length xs → nat_le (length xs) 16777216 ≡ false
+too_long xs h = grind (arith, nat_tests, h)
+
+untold : (place : ℕ) (xs : List ℕ) → 16777216 < length xs → piece_at place xs ≡ record { place = place; bytes = None }
+untold place xs h = ap (λ b. record { place = place; bytes = if b then Some xs else None }) (too_long xs h)
+
+same_piece : (place : ℕ) (p q : List ℕ) → length p ≡ length q → 16777216 < length p → piece_at place p ≡ piece_at place q
+same_piece place p q h k = untold place p k ∙ sym (untold place q (omega (arith, h, k)))
+
+both : {A : Type 0} (b : Bool) (x x' y y' : A) → x ≡ x' → y ≡ y' → (if b then x else y) ≡ (if b then x' else y')
+both b x x' y y' h k = cc (h, k)
+
+pub same_long : (ended : Bool) (place : ℕ) (p q rest : List ℕ) → length p ≡ length q → 16777216 < length p
+    → pieces_from ended place p rest ≡ pieces_from ended place q rest
+unfolding pieces_from
+same_long ended place p q [] h k =
+    ap (λ n. if ended && nat_lt 0 n then piece_at place p ∷ [] else []) h
+    ∙ ap (λ x. if ended && nat_lt 0 (length q) then x ∷ [] else []) (same_piece place p q h k)
+same_long ended place p q (c ∷ cs) h k =
+    let lp = length-append p (c ∷ []) in
+    let lq = length-append q (c ∷ []) in
+    both (ends_piece c cs)
+    (piece_at place (p ++ c ∷ []) ∷ pieces_from ended (place + (length p + 1)) [] cs)
+    (piece_at place (q ++ c ∷ []) ∷ pieces_from ended (place + (length q + 1)) [] cs)
+    (pieces_from ended place (p ++ c ∷ []) cs) (pieces_from ended place (q ++ c ∷ []) cs)
+    (ap (λ x. x ∷ pieces_from ended (place + (length p + 1)) [] cs)
+    (same_piece place (p ++ c ∷ []) (q ++ c ∷ []) (omega (arith, lp, lq, h)) (omega (arith, lp, k)))
+    ∙ ap (λ n. piece_at place (q ++ c ∷ []) ∷ pieces_from ended (place + (n + 1)) [] cs) h)
+    (same_long ended place (p ++ c ∷ []) (q ++ c ∷ []) cs (omega (arith, lp, lq, h)) (omega (arith, lp, k)))
+
+part_len : (gone at len : ℕ) (held : List ℕ) → at + len ≤ length held
+    → length (replicate gone 0 ++ take len (drop at held)) ≡ gone + len
+part_len gone at len held h =
+    let all = length-append (replicate gone 0) (take len (drop at held)) in
+    let zeros = length-replicate {A = ℕ} gone 0 in
+    let rest = length-drop at held in
+    let some = length-take-le len (drop at held) (omega (arith, rest, h)) in
+    omega (arith, all, zeros, some)
+
+pub let_gone : (held : List ℕ) (at len gone place : ℕ) (over ended : Bool) (rest : List ℕ) → at + len ≤ length held
+    → 16777216 < gone + len
+    → pieces_held ended (record {
+      place = place;
+      part = replicate gone 0 ++ take len (drop at held);
+      coming = drop (at + len) held;
+      ended = over;
+    }) rest
+    ≡ pieces_held ended (record {
+      place = place;
+      part = replicate (gone + len) 0 ++ take 0 (drop (at + len) held);
+      coming = drop (at + len + 0) held;
+      ended = over;
+    }) rest
+let_gone held at len gone place over ended rest h k =
+    let old = part_len gone at len held h in
+    let new = part_len (gone + len) (at + len) 0 held (omega (arith, h)) in
+    let same : at + len + 0 ≡ at + len = omega arith in
+    same_long ended place (replicate gone 0 ++ take len (drop at held))
+    (replicate (gone + len) 0 ++ take 0 (drop (at + len) held)) (drop (at + len) held ++ rest)
+    (omega (arith, old, new)) (omega (arith, old, k))
+    ∙ ap (λ n. pieces_from ended place (replicate (gone + len) 0 ++ take 0 (drop (at + len) held)) (drop n held ++ rest))
+    (sym same)

@@ -1,0 +1,29 @@
+-- What is held, as the bytes come to the piece.
+use Rattle.std.proofs.Common.{◌≡◌, ℕ, ◌+◌, Bool, List, ◌++◌, take, drop, sym, ap, ◌∙◌, append_assoc, arith}
+use Rattle.std.specs.Prelude.{replicate}
+use Rattle.std.proofs.Math.Seq.{take-add}
+use Rattle.std.proofs.lemmas.List.{drop-drop}
+use Rattle.pgn_pieces.specs.Stream.{State}
+use Rattle.pgn_pieces.specs.ties.Held.{passed}
+
+abbrev pub viewed : List ℕ → ℕ → ℕ → ℕ → ℕ → Bool → State
+viewed held at len gone place ended = record {
+  place = place;
+  part = replicate gone 0 ++ take len (drop at held);
+  coming = drop (at + len) held;
+  ended = ended;
+}
+
+pub passed_on : (held : List ℕ) (at len n gone place : ℕ) (ended : Bool)
+    → viewed held at (len + n) gone place ended ≡ passed n (viewed held at len gone place ended)
+passed_on held at len n gone place ended =
+    ap (λ xs. record { place = place; part = replicate gone 0 ++ xs; coming = drop (at + (len + n)) held; ended = ended })
+    (take-add len n (drop at held) ∙ ap (λ xs. take len (drop at held) ++ take n xs) (drop-drop len at held))
+    ∙ ap (λ xs. record { place = place; part = xs; coming = drop (at + (len + n)) held; ended = ended })
+    (sym (append_assoc (replicate gone 0) (take len (drop at held)) (take n (drop (at + len) held))))
+    ∙ ap (λ xs. record {
+      place = place;
+      part = (replicate gone 0 ++ take len (drop at held)) ++ take n (drop (at + len) held);
+      coming = xs;
+      ended = ended;
+    }) (ap (λ k. drop k held) (omega arith) ∙ sym (drop-drop n (at + len) held))

@@ -1,0 +1,4 @@
+pub mod Pieces
+pub mod Stream
+pub mod laws
+pub mod ties

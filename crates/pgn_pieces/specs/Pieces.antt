@@ -1,0 +1,85 @@
+-- A collection of games is cut into pieces: each is read as a text of its own.
+use Rattle.std.specs.Prelude.{◌≡◌, ◌≤◌, ◌^◌, ℕ, ◌+◌, Bool, true, false, ◌&&◌, ◌==◌, nat_le, if◌then◌else◌, List, [], ◌∷◌, length, take, codes, Option, Some, None}
+use Rattle.std.specs.Io.KnownBytes.{Consumes, IsAtEnd}
+use Rattle.std.specs.Str.{bytes_eq}
+use Rattle.byte_devices.specs.Devices.{InputState, risen}
+use Rattle.pgn_pieces.specs.declared.pieces.PieceFault.{PieceFault}
+use Rattle.pgn_pieces.specs.declared.pieces.PieceFault.TheVariants.{ReadFailed, NoMemory, InputTooLong}
+use Rattle.pgn_pieces.specs.declared.pieces.TheConstants.{PIECE_LEN}
+
+-- ---- the pieces of a text (PGN standard of 1994, section 8.1.1: the tag Event comes first)
+
+-- a text begins as the line of a tag Event
+abbrev pub begins_event : List ℕ → Bool
+begins_event text = bytes_eq (take 7 text) (codes "[Event ")
+
+-- a piece ends with this byte, before these bytes: with a byte 10 that `[Event ` follows
+abbrev pub ends_piece : ℕ → List ℕ → Bool
+ends_piece c rest = (c == 10) && begins_event rest
+
+-- this byte is put before those of the first piece
+abbrev pub with_byte : ℕ → List (List ℕ) → List (List ℕ)
+with_byte c [] = (c ∷ []) ∷ []
+with_byte c (piece ∷ rest) = (c ∷ piece) ∷ rest
+
+-- the pieces of a text, from its first byte on
+abbrev pub cut : List ℕ → List (List ℕ)
+cut [] = []
+cut (c ∷ cs) = if ends_piece c cs then (c ∷ []) ∷ cut cs else with_byte c (cut cs)
+
+-- all pieces but the last
+abbrev pub without_last : List (List ℕ) → List (List ℕ)
+without_last [] = []
+without_last (piece ∷ []) = []
+without_last (piece ∷ next ∷ rest) = piece ∷ without_last (next ∷ rest)
+
+-- a piece: the offset at which it begins in the text, and its bytes, unless it has more than 16,777,216
+pub record Piece : Type 0 where
+  pub place : ℕ
+  pub bytes : Option (List ℕ)
+
+-- the piece of these bytes that begins there
+abbrev pub piece_at : ℕ → List ℕ → Piece
+piece_at place bytes =
+    record { place = place; bytes = if nat_le (length bytes) PIECE_LEN then Some bytes else None }
+
+-- the pieces of these bytes, one after another, of which the first begins there
+abbrev pub placed : ℕ → List (List ℕ) → List Piece
+placed place [] = []
+placed place (bytes ∷ rest) = piece_at place bytes ∷ placed (place + length bytes) rest
+
+-- the pieces of a text of which this was read: how the last one goes on is known only once the text has ended
+unfoldable pub pieces : Bool → List ℕ → List Piece
+pieces ended text = placed 0 (if ended then cut text else without_last (cut text))
+
+-- ---- what was read of an input
+
+-- this is what was read of the input: no read failed, and its end was not reported
+pub record IsFront (r r' : InputState) (text : List ℕ) : Type 0 where
+  pub bytes : Consumes r.known_bytes r'.known_bytes text
+  pub failures : r'.failure_count ≡ r.failure_count
+  pub ends : r'.end_count ≡ r.end_count
+
+-- these are all bytes that the input still had to give; its end was reported once
+pub record IsWhole (r r' : InputState) (text : List ℕ) : Type 0 where
+  pub bytes : Consumes r.known_bytes r'.known_bytes text
+  pub at_end : IsAtEnd r'.known_bytes
+  pub failures : r'.failure_count ≡ r.failure_count
+  pub ends : r'.end_count ≡ risen r.end_count
+
+-- this was read of the input, then a read failed, and there was no other
+pub record BrokeOff (r r' : InputState) (text : List ℕ) : Type 0 where
+  pub bytes : Consumes r.known_bytes r'.known_bytes text
+  pub failures : r'.failure_count ≡ risen r.failure_count
+  pub ends : r'.end_count ≡ r.end_count
+
+-- this was read of the input, and it is all of it where it has ended
+abbrev pub HasRead : Bool → InputState → InputState → List ℕ → Type 0
+HasRead false r r' text = IsFront r r' text
+HasRead true r r' text = IsWhole r r' text
+
+-- why no more than this text was read: a read failed, we ran out of memory, or it has nearly 2^63 bytes
+abbrev pub IsCause : InputState → InputState → List ℕ → PieceFault → Type 0
+IsCause r r' text ReadFailed = BrokeOff r r' text
+IsCause r r' text NoMemory = IsFront r r' text
+IsCause r r' text InputTooLong = IsFront r r' text × (2 ^ 63 ≤ length text + 2 ^ 16)

@@ -1,0 +1,40 @@
+//! Where a piece ends.
+
+ghost use Rattle.std.specs.Prelude.{◌≡◌, ◌<◌, ◌≤◌, length, slice_index, take, drop, codes, ◌-◌};
+ghost use Rattle.std.specs.Str.{bytes_eq};
+ghost use Rattle.pgn_pieces.specs.Pieces.{ends_piece};
+ghost use Rattle.pgn_pieces.specs.ties.Held.{EndsAfter};
+
+// The bytes of `[Event `.
+pub(crate) const EVENT_LEN: usize = 7;
+
+// Whether a text begins as the line of a tag Event.
+fn begins_event(text: &[u8]) -> bool
+    ensures { result ≡ bytes_eq (take 7 text.now) (codes "[Event ") }
+{
+    text.starts_with(b"[Event ")
+}
+
+// Whether a piece ends with the byte before the place.
+fn ends_before(text: &[u8], place: usize) -> bool
+    requires some { 0 < place }
+    requires within { place ≤ length text.now }
+    ensures { result ≡ ends_piece (slice_index text.now (place - 1)) (drop place text.now) }
+{
+    text[place - 1] == b'\n' && begins_event(&text[place..])
+}
+
+// How many bytes of a text belong to its first piece, if that ends there: after the last seven it can't be seen.
+pub(crate) fn first_end(text: &[u8]) -> Option<usize>
+    ensures { EndsAfter text.now result }
+{
+    let last = text.len().saturating_sub(EVENT_LEN);
+    let mut place = 0;
+    while place < last {
+        place += 1;
+        if ends_before(text, place) {
+            return Some(place);
+        }
+    }
+    None
+}

@@ -1,0 +1,20 @@
+//! The pieces of a collection of games of any length, one after another: each begins at the first byte or at a line
+//! that begins with `[Event `, and ends where the next one begins.
+//!
+//! ```
+//! let mut pieces = PgnPieces::open(alloc)?;
+//! while pieces.next(&mut input)? {
+//!     match pieces.text() {
+//!         Some(text) => println!(rt; "{} bytes from byte {} on", text.len(), pieces.place())?,
+//!         None => println!(rt; "too long, from byte {} on", pieces.place())?,
+//!     }
+//! }
+//! ```
+#![tactic(auto)]
+
+mod ends;
+mod laws;
+mod pieces;
+
+pub use laws::{pieces_are_cut, shards_are_cut};
+pub use pieces::{PIECE_LEN, PgnPieces, PieceFault};

@@ -1,0 +1,225 @@
+//! A text's pieces, through what is held of it.
+
+ghost use Rattle.std.specs.Prelude.{◌≡◌, ℕ, ◌≤◌, ◌<◌, ◌+◌, ◌^◌, ◌++◌, List, [], length, nat_lt, IfOk, false, true, Ok};
+ghost use Rattle.std.specs.Option.{option_map};
+ghost use Rattle.byte_devices.specs.Devices.{InputState};
+ghost use Rattle.pgn_pieces.specs.declared.pieces.TheConstants.{PIECE_LEN};
+ghost use Rattle.pgn_pieces.specs.Stream.{State, unread, past_piece, current, IsStateOf, Next};
+ghost use Rattle.pgn_pieces.specs.ties.Held.{passed, SamePieces, Keeps, FindsEnd, Adds};
+
+use crate::ends::{EVENT_LEN, first_end};
+use byte_devices::Input;
+use std::alloc::{AllocError, Global};
+use std::marker::Model;
+
+/// The most bytes of a piece that is handed out.
+pub const PIECE_LEN: usize = 16_777_216;
+
+// The most bytes of a read.
+const CHUNK_LEN: usize = 65_536;
+
+// The most bytes after which one more read is tried: fewer than 2^63 less those of a read.
+const MOST_READ: usize = 9_223_372_036_854_710_271;
+
+/// Why there are no more pieces.
+#[derive(Clone, Copy, Debug, PartialEq, Eq, thiserror::Error)]
+pub enum PieceFault {
+    /// A read failed.
+    #[error("a read failed")]
+    ReadFailed,
+    /// We ran out of memory for a piece.
+    #[error("there is no memory for a piece")]
+    NoMemory,
+    /// The input has nearly 2^63 bytes or more.
+    #[error("the input is too long")]
+    InputTooLong,
+}
+
+/// The pieces of an input, one after another. What is held of it is a piece of at most `PIECE_LEN` bytes, which are
+/// 16,777,216, and what was read after it.
+#[derive(Drop)]
+pub struct PgnPieces {
+    // What is held of the input. What stands before `at` is done with.
+    held: Vec<u8>,
+    // Where a read puts its bytes.
+    chunk: Vec<u8>,
+    // Where in what is held the piece begins, or what is held of it.
+    at: usize,
+    // How many bytes are held of it.
+    len: usize,
+    // How many bytes of it were let go: none, unless it is too long.
+    gone: usize,
+    // Where in the input it begins.
+    place: usize,
+    // Whether the input has ended.
+    ended: bool,
+}
+
+impl Model for PgnPieces {
+    ghost use Rattle.std.specs.Prelude.{◌≡◌, ◌≤◌, ◌<◌, ◌+◌, ◌^◌, ◌++◌, take, drop, length, vec_len, replicate};
+    ghost use Rattle.pgn_pieces.specs.declared.pieces.TheConstants.{PIECE_LEN, CHUNK_LEN};
+    ghost use Rattle.pgn_pieces.specs.Stream.{State};
+
+    ghost Value = { State };
+
+    ghost view = { λ s. record {
+      place = s.place;
+      part = replicate s.gone 0 ++ take s.len (drop s.at s.held.items);
+      coming = drop (s.at + s.len) s.held.items;
+      ended = s.ended;
+    } };
+
+    ghost invariant = { λ s. (length s.chunk.items ≡ CHUNK_LEN) × (vec_len s.chunk ≡ CHUNK_LEN)
+        × (vec_len s.held ≡ length s.held.items)
+        × (s.at + s.len ≤ length s.held.items) × (0 < s.gone → PIECE_LEN < s.gone)
+        × (s.place + s.gone + length s.held.items < s.at + 2 ^ 63) };
+}
+
+impl PgnPieces {
+    /// The pieces of an input of which nothing was read.
+    ///
+    /// # Errors
+    /// Where there is no memory.
+    pub fn open(alloc: Global) -> Result<Self, AllocError>
+        ensures { IfOk result (λ s. s ≡ unread) }
+    {
+        let chunk = vec![in alloc; 0; CHUNK_LEN]?;
+        Ok(PgnPieces {
+            held: Vec::new(alloc),
+            chunk,
+            at: 0,
+            len: 0,
+            gone: 0,
+            place: 0,
+            ended: false,
+        })
+    }
+
+    /// Where in the input the piece begins.
+    pub fn place(&self) -> usize
+        ensures value { result ≡ self.now.place }
+        ensures small { result + length self.now.part < 2 ^ 63 }
+    {
+        self.place
+    }
+
+    /// The piece; `None` where it is too long.
+    pub fn text(&self) -> Option<&[u8]>
+        ensures { option_map (λ text. text.now) result ≡ (current self.now).bytes }
+    {
+        if self.len > PIECE_LEN || self.gone > 0 {
+            return None;
+        }
+        Some(&self.held[self.at..self.at + self.len])
+    }
+
+    // Goes past the piece.
+    fn pass_piece(&mut self)
+        ensures { self.new ≡ past_piece self.old }
+    {
+        self.place += self.gone + self.len;
+        self.at += self.len;
+        self.gone = 0;
+        self.len = 0;
+    }
+
+    // Looks in what is held for the piece's end.
+    fn find_end(&mut self) -> bool
+        ensures { FindsEnd self.old self.new result }
+    {
+        let coming = &self.held[self.at + self.len..];
+        match first_end(coming) {
+            Some(count) => {
+                self.len += count;
+                true
+            }
+            None => {
+                self.len += coming.len().saturating_sub(EVENT_LEN);
+                false
+            }
+        }
+    }
+
+    // The piece takes all that is held, and answers whether it has a byte.
+    fn take_rest(&mut self) -> bool
+        ensures state { self.new ≡ passed (length self.old.coming) self.old }
+        ensures some { result ≡ nat_lt 0 (length self.new.part) }
+    {
+        self.len = self.held.len() - self.at;
+        self.len > 0 || self.gone > 0
+    }
+
+    // Lets go of what was looked through of a piece that is too long.
+    fn let_go(&mut self)
+        ensures same { SamePieces self.old self.new }
+        ensures keeps { Keeps self.old self.new }
+        ensures coming { self.new.coming ≡ self.old.coming }
+    {
+        if self.gone > 0 || self.len > PIECE_LEN {
+            self.gone += self.len;
+            self.at += self.len;
+            self.len = 0;
+        }
+    }
+
+    // Lets go of what is done with.
+    fn slide(&mut self)
+        ensures { self.new ≡ self.old }
+    {
+        let at = self.at;
+        if at > 0 {
+            let rest = self.held.len() - at;
+            self.held.copy_within(at.., 0);
+            self.held.truncate(rest);
+            self.at = 0;
+        }
+    }
+
+    // Reads more, and holds it after what is held.
+    fn read_more<R: Input>(&mut self, input: &mut R) -> Result<(), PieceFault>
+        ensures { Adds self.old self.new (R.seen input.old) (R.seen input.new) result }
+    {
+        if self.place + self.gone + (self.held.len() - self.at) > MOST_READ {
+            return Err(PieceFault::InputTooLong);
+        }
+        if self.held.reserve(CHUNK_LEN).is_err() {
+            return Err(PieceFault::NoMemory);
+        }
+        let Ok(count) = input.read(&mut self.chunk) else {
+            return Err(PieceFault::ReadFailed);
+        };
+        if self.held.extend_from_slice(&self.chunk[..count]).is_err() {
+            unreachable!();
+        }
+        self.ended = count == 0;
+        Ok(())
+    }
+
+    /// Goes on to the next piece, and answers whether there is one. Nothing is read where its end is held.
+    ///
+    /// # Errors
+    /// Where a read failed, we ran out of memory, or nearly 2^63 bytes or more were read. There is no next piece then, as
+    /// far as the input was read: its end was not seen. What later calls answer, no clause says.
+    pub fn next<R: Input>(&mut self, input: &mut R) -> Result<bool, PieceFault>
+        ensures next { (r : InputState) (text : List ℕ) → IsStateOf self.old r (R.seen input.old) text
+            → Next self.old self.new r (R.seen input.new) text result }
+        ensures place { IfOk result (λ _. self.new.place ≡ self.old.place + length self.old.part) }
+        ensures some { IfOk result (λ more. more ≡ true → 0 < length self.new.part) }
+    {
+        self.pass_piece();
+        loop {
+            if self.find_end() {
+                return Ok(true);
+            }
+            if self.ended {
+                return Ok(self.take_rest());
+            }
+            self.let_go();
+            self.slide();
+            match self.read_more(input) {
+                Ok(()) => {}
+                Err(fault) => return Err(fault),
+            }
+        }
+    }
+}

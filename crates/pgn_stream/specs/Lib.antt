@@ -1,3 +1,0 @@
-pub mod Stream
-pub mod laws
-pub mod ties

@@ -1,2 +1,0 @@
--- Claims beside the definitions: each is the contract of a function that does nothing.
-pub mod InReach

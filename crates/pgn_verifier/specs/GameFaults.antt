@@ -1,0 +1,94 @@
+-- The faults of a game, and when its result contradicts its text or the board.
+use Rattle.std.specs.Prelude.{ℕ, ◌+◌, ◌-◌, Bool, true, false, if◌then◌else◌, List, length, codes, Option, Some, None, Result, Ok, Err}
+use Rattle.chess_game.specs.Ends.{verdict_outcome}
+use Rattle.chess_game.specs.Game.{is_other, verdict_now}
+use Rattle.chess_game.specs.Results.{outcome_text, same_outcome}
+use Rattle.chess_game.specs.declared.ends.Verdict.{Verdict}
+use Rattle.chess_game.specs.declared.game.TheConstants.{MOST_MOVES}
+use Rattle.chess_game.specs.declared.results.Outcome.{Outcome}
+use Rattle.chess_pgn.specs.GameRead.{GameRead, pgn_read}
+use Rattle.chess_pgn.specs.ResultTags.{result_tag_of}
+use Rattle.chess_pgn.specs.declared.read.PgnEnd.{PgnEnd}
+use Rattle.chess_pgn.specs.declared.read.PgnFault.{PgnFault}
+use Rattle.chess_pgn.specs.declared.read.PgnFaultKind.{PgnFaultKind}
+use Rattle.chess_pgn.specs.declared.read.PgnFaultKind.TheVariants.{BadTag, BadFen, BadToken, IllegalMove, AmbiguousMove, AfterEnd, TooLong, UnclosedComment, UnclosedVariation, NoResult}
+use Rattle.chess_pgn.specs.declared.results.ResultTag.{ResultTag}
+use Rattle.pgn_verifier.specs.declared.game_fault.FaultKind.{FaultKind}
+use Rattle.pgn_verifier.specs.declared.game_fault.FaultKind.TheVariants.{Pgn, ResultDiffers, BoardSaysOtherwise}
+use Rattle.pgn_verifier.specs.declared.game_fault.GameFault.{GameFault}
+
+-- ---- contradictions
+
+-- the tag's text is that of this outcome: each outcome has one text
+abbrev pub is_text_of : Outcome → Option Outcome → Bool
+is_text_of outcome None = false
+is_text_of outcome (Some denoted) = same_outcome denoted outcome
+
+-- the tag Result has another text than the termination; the offset is the first byte of its string
+abbrev pub result_differs : Option ResultTag → PgnEnd → Option GameFault
+result_differs None end = None
+result_differs (Some tag) end = if is_text_of end.outcome tag.outcome then None
+    else Some (record { kind = ResultDiffers; offset = tag.place })
+
+-- the board has a verdict with another outcome than the termination; the offset is the termination's first byte
+abbrev pub board_says_otherwise : Option Verdict → PgnEnd → Option GameFault
+board_says_otherwise verdict end = if is_other verdict end.outcome
+    then Some (record { kind = BoardSaysOtherwise; offset = end.place - length (outcome_text end.outcome) }) else None
+
+-- the first of two faults, if there is one
+abbrev pub first_fault : Option GameFault → Option GameFault → Option GameFault
+first_fault (Some fault) second = Some fault
+first_fault None second = second
+
+-- the contradiction of a game that was read to its termination; without `strict` none is looked for
+abbrev pub contradiction : Bool → Option ResultTag → Option Verdict → PgnEnd → Option GameFault
+contradiction strict tag verdict end =
+    if strict then first_fault (result_differs tag end) (board_says_otherwise verdict end) else None
+
+-- ---- a game
+
+-- a fault of a game's text
+abbrev pub pgn_fault : PgnFault → GameFault
+pgn_fault fault = record { kind = Pgn fault.kind; offset = fault.place }
+
+-- the fault, if there is one, else the game's end
+abbrev pub unless_fault : Option GameFault → PgnEnd → Result (Option PgnEnd) GameFault
+unless_fault None end = Ok (Some end)
+unless_fault (Some fault) end = Err fault
+
+-- how a game with that tag Result and that verdict is judged, by how its text was read
+abbrev pub judged : Bool → Option ResultTag → Option Verdict → Result (Option PgnEnd) PgnFault
+    → Result (Option PgnEnd) GameFault
+judged strict tag verdict (Ok None) = Ok None
+judged strict tag verdict (Ok (Some end)) = unless_fault (contradiction strict tag verdict end) end
+judged strict tag verdict (Err fault) = Err (pgn_fault fault)
+
+-- a game of a text from an offset on, of at most 20,000 half-moves
+abbrev pub read_at : List ℕ → ℕ → GameRead
+read_at = pgn_read MOST_MOVES
+
+-- how it is judged: its end, or its fault; nothing where no game is left
+abbrev pub judged_at : Bool → List ℕ → ℕ → Result (Option PgnEnd) GameFault
+judged_at strict text at =
+    let read = read_at text at in judged strict (result_tag_of text at) (verdict_now read.state) read.answer
+
+-- ---- names
+
+-- the name of a fault of a game's text
+abbrev pub pgn_fault_name : PgnFaultKind → List ℕ
+pgn_fault_name BadTag = codes "bad tag"
+pgn_fault_name BadFen = codes "bad FEN"
+pgn_fault_name BadToken = codes "bad token"
+pgn_fault_name IllegalMove = codes "illegal move"
+pgn_fault_name AmbiguousMove = codes "ambiguous move"
+pgn_fault_name AfterEnd = codes "move after the end"
+pgn_fault_name TooLong = codes "too long"
+pgn_fault_name UnclosedComment = codes "unclosed comment"
+pgn_fault_name UnclosedVariation = codes "unclosed variation"
+pgn_fault_name NoResult = codes "no result"
+
+-- the name of a fault
+abbrev pub fault_name : FaultKind → List ℕ
+fault_name (Pgn kind) = pgn_fault_name kind
+fault_name ResultDiffers = codes "result differs"
+fault_name BoardSaysOtherwise = codes "board says otherwise"

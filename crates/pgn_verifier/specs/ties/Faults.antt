@@ -1,0 +1,10 @@
+-- What becomes of the fault where no more pieces are told.
+use Rattle.pgn_pieces.specs.declared.pieces.PieceFault.{PieceFault}
+use Rattle.pgn_pieces.specs.declared.pieces.PieceFault.TheVariants as pieces
+use Rattle.pgn_verifier.specs.declared.fault.VerifyFault.{VerifyFault}
+use Rattle.pgn_verifier.specs.declared.fault.VerifyFault.TheVariants.{ReadFailed, NoMemory, InputTooLong}
+
+abbrev pub piece_fault : PieceFault → VerifyFault
+piece_fault pieces.ReadFailed = ReadFailed
+piece_fault pieces.NoMemory = NoMemory
+piece_fault pieces.InputTooLong = InputTooLong

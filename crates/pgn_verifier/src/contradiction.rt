@@ -1,0 +1,90 @@
+//! Whether a game's result contradicts its text or the board.
+
+ghost use Rattle.std.specs.Prelude.{◌≡◌, ◌≤◌, length};
+ghost use Rattle.std.specs.Option.{IfSome};
+ghost use Rattle.chess_game.specs.Game.{is_other};
+ghost use Rattle.chess_pgn.specs.ResultTags.{result_tag_of};
+ghost use Rattle.pgn_verifier.specs.GameFaults.{is_text_of, result_differs, board_says_otherwise, first_fault, contradiction};
+
+use crate::game_fault::{FaultKind, GameFault};
+use chess_game::{Outcome, Verdict};
+use chess_pgn::{PgnEnd, ResultTag, result_tag};
+
+// Whether a tag's text, which denotes this outcome, is that of the termination.
+fn is_text_of(outcome: Outcome, denoted: Option<Outcome>) -> bool
+    ensures { result ≡ is_text_of outcome denoted }
+{
+    match denoted {
+        Some(denoted) => denoted == outcome,
+        None => false,
+    }
+}
+
+// The fault of a tag Result with another text than the termination.
+fn result_differs(tag: Option<ResultTag>, end: PgnEnd) -> Option<GameFault>
+    ensures { result ≡ result_differs tag end }
+{
+    let tag = tag?;
+    if is_text_of(end.outcome, tag.outcome) {
+        return None;
+    }
+    Some(GameFault {
+        kind: FaultKind::ResultDiffers,
+        offset: tag.place,
+    })
+}
+
+// Whether there is a verdict with another outcome.
+fn is_other(verdict: Option<Verdict>, outcome: Outcome) -> bool
+    ensures { result ≡ is_other verdict outcome }
+{
+    match verdict {
+        Some(verdict) => verdict.outcome() != outcome,
+        None => false,
+    }
+}
+
+// The fault of a termination with another outcome than the verdict.
+fn board_says_otherwise(verdict: Option<Verdict>, end: PgnEnd) -> Option<GameFault>
+    ensures { result ≡ board_says_otherwise verdict end }
+{
+    if !is_other(verdict, end.outcome) {
+        return None;
+    }
+    Some(GameFault {
+        kind: FaultKind::BoardSaysOtherwise,
+        offset: end.place.saturating_sub(end.outcome.text().len()),
+    })
+}
+
+// The first of two faults, if there is one.
+fn first_fault(first: Option<GameFault>, second: Option<GameFault>) -> Option<GameFault>
+    ensures { result ≡ first_fault first second }
+{
+    match first {
+        Some(fault) => Some(fault),
+        None => second,
+    }
+}
+
+// The contradiction of the game that is read from an offset on and has this end; without `strict` none is looked for.
+pub(crate) fn contradiction(
+    strict: bool,
+    text: &[u8],
+    at: usize,
+    verdict: Option<Verdict>,
+    end: PgnEnd,
+) -> Option<GameFault>
+    requires at { at ≤ length text.now }
+    requires end { end.place ≤ length text.now }
+    ensures fault { result ≡ contradiction strict (result_tag_of text.now at) verdict end }
+    ensures within { IfSome result (λ fault. fault.offset ≤ length text.now) }
+{
+    if !strict {
+        return None;
+    }
+    first_fault(
+        result_differs(result_tag(text, at), end),
+        board_says_otherwise(verdict, end),
+    )
+}

@@ -1,0 +1,81 @@
+//! What is wrong with a game.
+
+ghost use Rattle.std.specs.Prelude.{◌≡◌, ◌≤◌, ◌<◌, ◌+◌, ◌^◌, length};
+ghost use Rattle.pgn_verifier.specs.GameFaults.{pgn_fault, pgn_fault_name, fault_name};
+ghost use Rattle.pgn_verifier.specs.Reports.{moved};
+
+use chess_pgn::{PgnFault, PgnFaultKind};
+
+/// What is wrong with a game.
+#[derive(Clone, Copy, Debug, PartialEq, Eq)]
+pub(crate) enum FaultKind {
+    /// Its text can't be read or played.
+    Pgn(PgnFaultKind),
+    /// Its tag `Result` has another text than its termination.
+    ResultDiffers,
+    /// The board has a verdict with another outcome than its termination.
+    BoardSaysOtherwise,
+}
+
+/// A fault of a game, and its byte.
+#[derive(Clone, Copy, Debug, PartialEq, Eq)]
+pub(crate) struct GameFault {
+    /// What is wrong.
+    pub kind: FaultKind,
+    /// The byte at which it is, from the text's first byte on.
+    pub offset: usize,
+}
+
+impl GameFault {
+    // A fault of a game's text.
+    pub(crate) fn of_pgn(fault: PgnFault) -> Self
+        ensures { result ≡ pgn_fault fault }
+    {
+        GameFault {
+            kind: FaultKind::Pgn(fault.kind),
+            offset: fault.place,
+        }
+    }
+
+    // The same fault, counted from the first byte of an input in which the text begins at an offset.
+    pub(crate) fn moved(self, start: usize) -> Self
+        requires { start + self.offset < 2 ^ 64 }
+        ensures { result ≡ moved start self }
+    {
+        GameFault {
+            kind: self.kind,
+            offset: start + self.offset,
+        }
+    }
+}
+
+// The name of a fault of a game's text.
+fn pgn_fault_name(kind: PgnFaultKind) -> &'static [u8]
+    ensures value { result.now ≡ pgn_fault_name kind }
+    ensures short { length result.now ≤ 18 }
+{
+    match kind {
+        PgnFaultKind::BadTag => b"bad tag",
+        PgnFaultKind::BadFen => b"bad FEN",
+        PgnFaultKind::BadToken => b"bad token",
+        PgnFaultKind::IllegalMove => b"illegal move",
+        PgnFaultKind::AmbiguousMove => b"ambiguous move",
+        PgnFaultKind::AfterEnd => b"move after the end",
+        PgnFaultKind::TooLong => b"too long",
+        PgnFaultKind::UnclosedComment => b"unclosed comment",
+        PgnFaultKind::UnclosedVariation => b"unclosed variation",
+        PgnFaultKind::NoResult => b"no result",
+    }
+}
+
+// The name of a fault.
+pub(crate) fn fault_name(kind: FaultKind) -> &'static [u8]
+    ensures value { result.now ≡ fault_name kind }
+    ensures short { length result.now ≤ 20 }
+{
+    match kind {
+        FaultKind::Pgn(kind) => pgn_fault_name(kind),
+        FaultKind::ResultDiffers => b"result differs",
+        FaultKind::BoardSaysOtherwise => b"board says otherwise",
+    }
+}

@@ -1,0 +1,107 @@
+//! The games of a text, one after another, up to the first fault.
+
+ghost use Rattle.std.specs.Prelude.{◌≡◌, ◌≤◌, ◌<◌, ◌+◌, ◌^◌, length, IfOk, IfErr};
+ghost use Rattle.std.specs.Option.{IfSome};
+ghost use Rattle.chess_game.specs.declared.game.TheConstants.{MOST_MOVES};
+ghost use Rattle.pgn_verifier.specs.GameFaults.{read_at, judged_at};
+ghost use Rattle.pgn_verifier.specs.Reports.{reports_at, Writes, GrowsBy};
+
+use crate::contradiction::contradiction;
+use crate::game_fault::GameFault;
+use crate::options::VerifyOptions;
+use crate::report::{Report, write_line};
+use crate::tally::Tally;
+use byte_devices::{Output, WriteFault};
+use chess_bits::{AttackTables, Bits};
+use chess_game::{Game, MOST_MOVES};
+use chess_pgn::{PgnEnd, faults_have_places, half_moves_have_bytes, read_pgn};
+use std::alloc::{AllocError, Global};
+
+// A game with its board, over those tables.
+pub(crate) fn open_game<'t>(
+    alloc: Global,
+    tables: &'t AttackTables,
+) -> Result<Game<Bits<'t>>, AllocError>
+    ensures { IfOk result (λ g. g.limit ≡ MOST_MOVES) }
+{
+    Game::open(alloc, Bits::new(tables), MOST_MOVES)
+}
+
+// Reads the game of a text from an offset on, and judges it: its end, or its fault; `None` where no game is left.
+fn judge_game(
+    strict: bool,
+    text: &[u8],
+    at: usize,
+    game: &mut Game<Bits<'_>>,
+) -> Result<Option<PgnEnd>, GameFault>
+    requires at { at ≤ length text.now }
+    requires limit { game.old.limit ≡ MOST_MOVES }
+    ensures judged { result ≡ judged_at strict text.now at }
+    ensures moves { length game.new.state.moves ≡ length (read_at text.now at).state.moves }
+    ensures further { IfOk result (λ end. IfSome end (λ e. at < e.place)) }
+    ensures within { IfOk result (λ end. IfSome end (λ e. e.place ≤ length text.now)) }
+    ensures few { IfOk result (λ end. IfSome end (λ e. length game.new.state.moves + at ≤ e.place)) }
+    ensures fault { IfErr result (λ fault. fault.offset ≤ length text.now) }
+    ensures limit { game.new.limit ≡ MOST_MOVES }
+{
+    // The prover wants these laws: where faults are, and that a half-move has a byte.
+    faults_have_places();
+    half_moves_have_bytes();
+    match read_pgn(text, at, game) {
+        Ok(None) => Ok(None),
+        Ok(Some(end)) => match contradiction(strict, text, at, game.verdict(), end) {
+            Some(fault) => Err(fault),
+            None => Ok(Some(end)),
+        },
+        Err(fault) => Err(GameFault::of_pgn(fault)),
+    }
+}
+
+// Reads game after game of a text that begins at an offset of the input, writes their lines and counts them.
+pub(crate) fn verify_text<W: Output>(
+    options: VerifyOptions,
+    start: usize,
+    text: &[u8],
+    game: &mut Game<Bits<'_>>,
+    output: &mut W,
+    before: Tally,
+) -> Result<Tally, WriteFault>
+    requires few { start + length text.now ≤ 2 ^ 63 }
+    requires reports { before.games + before.faults + length text.now + 1 < 2 ^ 64 }
+    requires half_moves { before.half_moves + length text.now < 2 ^ 64 }
+    requires limit { game.old.limit ≡ MOST_MOVES }
+    ensures written { Writes options.quiet before (W.seen output.old) (W.seen output.new) result
+        (reports_at options.strict start text.now) }
+    ensures grown { IfOk result (λ after. GrowsBy (length text.now) before after) }
+    ensures limit { game.new.limit ≡ MOST_MOVES }
+{
+    let mut at = 0;
+    let mut tally = before;
+    loop {
+        let number = tally.next_number();
+        match judge_game(options.strict, text, at, game) {
+            Ok(None) => return Ok(tally),
+            Ok(Some(end)) => {
+                let plies = game.ply();
+                let report = Report::Game {
+                    plies,
+                    outcome: end.outcome,
+                    termination: end.termination,
+                };
+                match write_line(options.quiet, output, number, &report) {
+                    Ok(()) => {}
+                    Err(fault) => return Err(fault),
+                }
+                tally = tally.with_game(plies);
+                at = end.place;
+            }
+            Err(fault) => {
+                let report = Report::Faulty(fault.moved(start));
+                return match write_line(options.quiet, output, number, &report) {
+                    Ok(()) => Ok(tally.with_fault()),
+                    Err(fault) => Err(fault),
+                };
+            }
+        }
+    }
+}

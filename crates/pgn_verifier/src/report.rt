@@ -1,0 +1,153 @@
+//! The report on a game, and its line.
+
+ghost use Rattle.pgn_verifier.specs.declared.report.TheConstants.{LINE_LEN};
+ghost use Rattle.std.specs.Prelude.{◌≡◌, ◌≤◌, ◌+◌, ◌++◌, length, decimal};
+ghost use Rattle.arrayvec.specs.ArrayVec.{array_vec_len};
+ghost use Rattle.byte_devices.specs.Devices.{Puts};
+ghost use Rattle.pgn_verifier.specs.Reports.{termination_part, report_text, report_line, is_written, written_line, counts_line};
+
+use crate::game_fault::{GameFault, fault_name};
+use crate::tally::Tally;
+use arrayvec::ArrayVec;
+use byte_devices::{Output, WriteFault, put};
+use chess_game::Outcome;
+use chess_pgn::Termination;
+use itoa::Buffer;
+
+// The most bytes of a line: three numbers' and 60 more.
+const LINE_LEN: usize = 120;
+
+// A line on a game.
+type ReportLine = ArrayVec<u8, LINE_LEN>;
+
+/// A report on a game.
+#[derive(Clone, Copy, Debug, PartialEq, Eq)]
+pub(crate) enum Report {
+    /// It was read: how many half-moves it has, and how its text says that it ended.
+    Game {
+        plies: usize,
+        outcome: Outcome,
+        termination: Option<Termination>,
+    },
+    /// It has a fault.
+    Faulty(GameFault),
+}
+
+// A text at the end of a line.
+fn write_text(line: &mut ReportLine, text: &[u8])
+    requires { array_vec_len line.old + length text.now ≤ LINE_LEN }
+    ensures text { line.new.items ≡ line.old.items ++ text.now }
+    ensures len { array_vec_len line.new ≡ array_vec_len line.old + length text.now }
+{
+    line.try_extend_from_slice(text).unwrap();
+}
+
+// A number at the end of a line.
+fn write_number(line: &mut ReportLine, number: usize)
+    requires { array_vec_len line.old + 20 ≤ LINE_LEN }
+    ensures text { line.new.items ≡ line.old.items ++ decimal number }
+    ensures len { array_vec_len line.new ≤ array_vec_len line.old + 20 }
+{
+    let mut buffer = Buffer::new();
+    write_text(line, buffer.format(number as u64).as_bytes());
+}
+
+// How a game ended, if its text says so, at the end of a line.
+fn write_termination(line: &mut ReportLine, termination: Option<Termination>)
+    requires { array_vec_len line.old + 18 ≤ LINE_LEN }
+    ensures text { line.new.items ≡ line.old.items ++ termination_part termination }
+    ensures len { array_vec_len line.new ≤ array_vec_len line.old + 18 }
+{
+    if let Some(termination) = termination {
+        write_text(line, b", ");
+        write_text(line, termination.text());
+    }
+}
+
+// The text of a report at the end of a line.
+fn write_report(line: &mut ReportLine, report: &Report)
+    requires { array_vec_len line.old + 60 ≤ LINE_LEN }
+    ensures text { line.new.items ≡ line.old.items ++ report_text report.now }
+    ensures len { array_vec_len line.new ≤ array_vec_len line.old + 60 }
+{
+    match report {
+        Report::Game {
+            plies,
+            outcome,
+            termination,
+        } => {
+            write_number(line, *plies);
+            write_text(line, b" half-moves, ");
+            write_text(line, outcome.text());
+            write_termination(line, *termination);
+        }
+        Report::Faulty(fault) => {
+            write_text(line, fault_name(fault.kind));
+            write_text(line, b" at byte ");
+            write_number(line, fault.offset);
+        }
+    }
+}
+
+// The line of the game with that number.
+#[tactic(auto, unfolding(crate::specs::Reports::report_line))]
+fn report_line(number: usize, report: &Report) -> ReportLine
+    ensures { result.items ≡ report_line number report.now }
+{
+    let mut line = ReportLine::new();
+    write_text(&mut line, b"game ");
+    write_number(&mut line, number);
+    write_text(&mut line, b": ");
+    write_report(&mut line, report);
+    line.push(b'\n');
+    line
+}
+
+// With `quiet` only the lines of faults are written.
+fn is_written(quiet: bool, report: &Report) -> bool
+    ensures { result ≡ is_written quiet report.now }
+{
+    match report {
+        Report::Game { .. } => !quiet,
+        Report::Faulty(_) => true,
+    }
+}
+
+// Writes the line of the game with that number, unless it is left out.
+pub(crate) fn write_line<W: Output>(
+    quiet: bool,
+    output: &mut W,
+    number: usize,
+    report: &Report,
+) -> Result<(), WriteFault>
+    ensures { Puts (W.seen output.old) (W.seen output.new) result (written_line quiet number report.now) }
+{
+    if is_written(quiet, report) {
+        return put(output, report_line(number, report).as_slice());
+    }
+    Ok(())
+}
+
+// The line of the counts.
+#[tactic(auto, unfolding(crate::specs::Reports::counts_line))]
+fn counts_line(tally: Tally) -> ReportLine
+    ensures { result.items ≡ counts_line tally.games tally.half_moves tally.faults }
+{
+    let mut line = ReportLine::new();
+    write_text(&mut line, b"games ");
+    write_number(&mut line, tally.games);
+    write_text(&mut line, b" half-moves ");
+    write_number(&mut line, tally.half_moves);
+    write_text(&mut line, b" faults ");
+    write_number(&mut line, tally.faults);
+    line.push(b'\n');
+    line
+}
+
+// Writes the line of the counts.
+pub(crate) fn write_counts<W: Output>(output: &mut W, tally: Tally) -> Result<(), WriteFault>
+    ensures { Puts (W.seen output.old) (W.seen output.new) result
+        (counts_line tally.games tally.half_moves tally.faults) }
+{
+    put(output, counts_line(tally).as_slice())
+}

@@ -1,0 +1,81 @@
+//! Counts of games.
+
+ghost use Rattle.std.specs.Prelude.{◌≡◌, ◌<◌, ◌+◌, ◌^◌, ◌==◌, if◌then◌else◌};
+ghost use Rattle.pgn_verifier.specs.declared.tally.Verified.TheVariants.{EachGame, FaultTold};
+
+/// How verifying ended.
+#[derive(Clone, Copy, Debug, PartialEq, Eq)]
+pub enum Verified {
+    /// No game that was read has a fault.
+    EachGame,
+    /// A game has a fault, which was reported.
+    FaultTold,
+}
+
+/// What was counted.
+#[derive(Clone, Copy)]
+pub(crate) struct Tally {
+    /// How many games have no fault.
+    pub games: usize,
+    /// How many half-moves these have.
+    pub half_moves: usize,
+    /// How many games have a fault.
+    pub faults: usize,
+}
+
+impl Tally {
+    // Nothing yet.
+    pub(crate) fn none() -> Self
+        ensures { result ≡ record { games = 0; half_moves = 0; faults = 0 } }
+    {
+        Tally {
+            games: 0,
+            half_moves: 0,
+            faults: 0,
+        }
+    }
+
+    // And a game with so many half-moves.
+    pub(crate) fn with_game(self, plies: usize) -> Self
+        requires games { self.games + 1 < 2 ^ 64 }
+        requires half_moves { self.half_moves + plies < 2 ^ 64 }
+        ensures { result ≡ record
+            { games = self.games + 1; half_moves = self.half_moves + plies; faults = self.faults } }
+    {
+        Tally {
+            games: self.games + 1,
+            half_moves: self.half_moves + plies,
+            ..self
+        }
+    }
+
+    // And a fault.
+    pub(crate) fn with_fault(self) -> Self
+        requires { self.faults + 1 < 2 ^ 64 }
+        ensures { result ≡ record { games = self.games; half_moves = self.half_moves; faults = self.faults + 1 } }
+    {
+        Tally {
+            faults: self.faults + 1,
+            ..self
+        }
+    }
+
+    // The number of the next game.
+    pub(crate) fn next_number(self) -> usize
+        requires { self.games + self.faults + 1 < 2 ^ 64 }
+        ensures { result ≡ self.games + self.faults + 1 }
+    {
+        self.games + self.faults + 1
+    }
+
+    // What the counts come to.
+    pub(crate) fn verified(self) -> Verified
+        ensures { result ≡ (if self.faults == 0 then EachGame else FaultTold) }
+    {
+        if self.faults == 0 {
+            Verified::EachGame
+        } else {
+            Verified::FaultTold
+        }
+    }
+}
