@@ -33,7 +33,7 @@ runs() {
         run_with "$limit" "$@"
         if [ "$limit" -gt 8192 ]; then
             limit=$((limit - 1024))
-        elif [ "$limit" -gt 3072 ]; then
+        elif [ "$limit" -gt 4096 ]; then
             limit=$((limit - 256))
         else
             limit=$((limit - 16))
