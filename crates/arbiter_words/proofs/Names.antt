@@ -3,7 +3,7 @@ use Rattle.std.proofs.Common.{◌≡◌, ◌∙◌, List, sym, ap}
 use Rattle.clap.specs.Words.{Row, Text}
 use Rattle.arbiter_words.specs.Plans.{IsPlanned, IsSpelledOf, PlansAreNamed, VerifyIsAsSpelled, command_name, verify_plan_of}
 use Rattle.arbiter_words.specs.declared.plan.Plan.{Plan}
-use Rattle.arbiter_words.specs.declared.plan.Plan.TheVariants.{Session, Verify, Stub, Match}
+use Rattle.arbiter_words.specs.declared.plan.Plan.TheVariants.{Verify, Match}
 use Rattle.arbiter_words.specs.declared.plan.MatchPlan.{MatchPlan}
 use Rattle.arbiter_words.specs.declared.plan.VerifyPlan.{VerifyPlan}
 use Rattle.arbiter_words.specs.declared.spelled.Spelled.{Spelled}

@@ -32,7 +32,7 @@ abbrev pub variant_rule : Lent → Rule
 variant_rule names = record (option_rule (codes "variant")) { parser = Some (Names names) }
 
 abbrev pub match_app : Lent → App
-match_app names = with_rule (with_rule (with_rule (with_rule (with_rule (with_rule (with_rule
+match_app names = with_rule (with_rule (with_rule (with_rule (with_rule (with_rule (with_rule (with_rule
     (new_app (codes "match"))
     (needed (option_rule (codes "white"))))
     (needed (option_rule (codes "black"))))
@@ -40,7 +40,8 @@ match_app names = with_rule (with_rule (with_rule (with_rule (with_rule (with_ru
     (option_rule (codes "fen")))
     games_rule)
     (option_rule (codes "date")))
-    (variant_rule names)
+    (variant_rule names))
+    (flag_rule (codes "log"))
 
 abbrev pub verify_app : App
 verify_app = with_rule (with_rule (with_rule

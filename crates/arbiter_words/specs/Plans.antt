@@ -66,6 +66,7 @@ pub record IsMatchOf (rows : List Row) (m : MatchWords) : Type 0 where
   pub games_range : (1 ≤ m.games) × (m.games ≤ 1000)
   pub date : m.date.now ≡ text_or (codes "date") rows (codes "????.??.??")
   pub variant : m.variant ≡ variant_in rows
+  pub log : m.log ≡ is_set (codes "log") rows
 
 -- what the words ask for, as it is spelled
 abbrev pub IsSpelledOf : Text × List Row → Spelled → Type 0
@@ -94,6 +95,7 @@ pub record IsMatchPlan (m : MatchWords) (plan : MatchPlan) : Type 0 where
   pub start : start_of m.variant (option_map (λ t. t.now) m.fen) ≡ Ok plan.start
   pub games : plan.games ≡ m.games
   pub date : plan.date ≡ m.date
+  pub log : plan.log ≡ m.log
   pub good_date : is_date m.date.now ≡ true
 
 -- the fault is that of the first of level, FEN and date that isn't in its form

@@ -70,7 +70,12 @@ Examples:
   arbiter match --white sjeng --black phalanx
   arbiter match --white sjeng --black phalanx --games 10 --level \"40 5 0\" --date 2026.11.23 > match.txt
   arbiter match --white ./a --black \"./b -x\" --level \"0 0:30 1\" --fen \"4k3/8/8/8/8/8/4P3/4K3 w - - 0 1\"
-  arbiter match --white ./a --black ./b --variant fischerandom";
+  arbiter match --white ./a --black ./b --variant fischerandom
+  arbiter match --white ./a --black ./b --log 2> match.debug
+
+With --log a line of the error output is `312 <first : move e2e4` or `312 >second: e2e4`: the milliseconds of the match
+at the last event, `<` for what the engine of --white says and `>` for what it is sent, or `second` for that of --black;
+with `!` an end of its output, a read or write that failed, or a line of more than 8,192 bytes, which is left out.";
 
 // What `--variant` takes.
 static VARIANTS: [&str; 2] = ["normal", "fischerandom"];
@@ -182,7 +187,12 @@ fn match_command<'a>(alloc: Global) -> Result<Command<'a>, AllocError>
         "TEXT",
         "Date tag of every game [default: ????.??.??]",
     ))?
-    .arg(variant_option(alloc))
+    .arg(variant_option(alloc))?
+    .arg(flag(
+        alloc,
+        "log",
+        "Write each line that an engine says or is sent to standard error, in the form of XBoard's debug file",
+    ))
 }
 
 fn verify_command<'a>(alloc: Global) -> Result<Command<'a>, AllocError>

@@ -25,6 +25,8 @@ pub struct MatchPlan<'a> {
     pub games: u16,
     /// The date that each game tells.
     pub date: &'a str,
+    /// Whether what the engines say and are sent is written to the error output.
+    pub log: bool,
 }
 
 /// How the games on the standard input are verified.
@@ -98,6 +100,7 @@ fn judged<'a>(words: &MatchWords<'a>) -> Result<MatchPlan<'a>, WordsFault>
         start,
         games: words.games,
         date: words.date,
+        log: words.log,
     })
 }
 

@@ -19,6 +19,7 @@ pub(crate) struct MatchWords<'a> {
     pub games: u16,
     pub date: &'a str,
     pub variant: Variant,
+    pub log: bool,
 }
 
 /// What the words ask for, as it is spelled.
@@ -118,6 +119,7 @@ fn match_words<'a>(found: &ArgMatches<'a>) -> Option<MatchWords<'a>>
         games: games_of(found),
         date: text_or(found, "date", "????.??.??"),
         variant: variant_of(found),
+        log: is_set(found, "log"),
     })
 }
 

@@ -38,7 +38,7 @@ pub limit_kept : (start : Setup) (level : LevelSeen) (g g' : Seen) (end : MatchE
 limit_kept start level g g' end (w, w', coming, coming', ran) = kept ran
   where
     kept : Ran start level g g' end w w' coming coming' → g'.limit ≡ g.limit
-    kept (T, reason, failed, transcript, told, is) = ap (λ (v : Seen). v.limit) is
+    kept (T, by) = ap (λ (v : Seen). v.limit) by.4
 
 -- ---- one game more
 

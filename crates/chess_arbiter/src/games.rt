@@ -3,6 +3,7 @@
 ghost use Rattle.std.specs.Prelude.{◌≡◌, ◌⊎◌, [], IfErr, IfOk};
 ghost use Rattle.byte_devices.specs.Devices.{Sends};
 ghost use Rattle.chess_match.specs.Reasons.{comment_of};
+ghost use Rattle.chess_match.specs.Run.{Ports, Ran};
 ghost use Rattle.chess_match.specs.declared.reason.Reason.TheVariants.{Faulted};
 ghost use Rattle.chess_pgn.specs.GameText.{pgn};
 ghost use Rattle.chess_arbiter.specs.Games.{FailsToStart, HasPlayed, IsMatchEnd, IsMatchEndOf, PlayedOne, RanGames, TellsStart, black_command, is_odd, name_of, score_line, tags_of, white_command};
@@ -10,6 +11,7 @@ ghost use Rattle.chess_game.specs.declared.game.TheConstants.{MOST_MOVES};
 
 use crate::engine::{Engine, StartFault, finish, start};
 use crate::fault::ProgramFault;
+use crate::log::{Log, run_match_logged};
 use crate::moments::SinceStart;
 use crate::score::Score;
 use arbiter_words::MatchPlan;
@@ -109,11 +111,55 @@ fn tags_of(plan: &MatchPlan<'_>, number: u32, end: &MatchEnd) -> Tags
     }
 }
 
+// The side of the first engine.
+fn first_side(number: u32) -> Colour {
+    if is_odd(number) {
+        Colour::White
+    } else {
+        Colour::Black
+    }
+}
+
+// One game between two engines, and its log where one is wanted: `log` is then the side of the first engine.
+fn relay<'t, R: Input, W: Output, M: Moments, E: Output>(
+    white: &mut Ends<R, W>,
+    black: &mut Ends<R, W>,
+    moments: &mut M,
+    setup: &Setup,
+    game: &mut Game<Bits<'t>>,
+    scratch: &mut Bits<'t>,
+    log: Option<Colour>,
+    errors: &mut E,
+) -> MatchEnd
+    ensures ran { Ran setup.now.start setup.now.level game.old game.new result
+        (record {
+          white_reader = R.seen white.old.reader;
+          white_writer = W.seen white.old.writer;
+          black_reader = R.seen black.old.reader;
+          black_writer = W.seen black.old.writer;
+        })
+        (record {
+          white_reader = R.seen white.new.reader;
+          white_writer = W.seen white.new.writer;
+          black_reader = R.seen black.new.reader;
+          black_writer = W.seen black.new.writer;
+        })
+        (M.coming moments.old) (M.coming moments.new) }
+{
+    let Some(first) = log else {
+        return run_match(white, black, moments, setup, game, scratch);
+    };
+    let mut log = Log::new(errors, first);
+    run_match_logged(white, black, moments, setup, game, scratch, &mut log)
+}
+
 // One game between two engines that run; both are ended.
-fn play_game<'t, C: Clock, P: OpenProcess + Drop, M: Moments>(
+fn play_game<'t, C: Clock, P: OpenProcess + Drop, M: Moments, E: Output>(
     rt: &C,
     white: Engine<P>,
     black: Engine<P>,
+    log: Option<Colour>,
+    errors: &mut E,
     moments: &mut M,
     setup: &Setup,
     game: &mut Game<Bits<'t>>,
@@ -137,13 +183,15 @@ fn play_game<'t, C: Clock, P: OpenProcess + Drop, M: Moments>(
         child: black_child,
         ends: mut black_ends,
     } = black;
-    let end = run_match(
+    let end = relay(
         &mut white_ends,
         &mut black_ends,
         moments,
         setup,
         game,
         scratch,
+        log,
+        errors,
     );
     finish(
         rt,
@@ -217,7 +265,7 @@ fn start_both<'a, P: Processes + Clock>(
 }
 
 // Plays the game with that number, writes its text and hands it on.
-fn play_one<'a, 't, P: Processes + Clock, M: Moments, W: Output>(
+fn play_one<'a, 't, P: Processes + Clock, M: Moments, W: Output, E: Output>(
     rt: &P,
     alloc: Global,
     plan: &MatchPlan<'a>,
@@ -226,6 +274,7 @@ fn play_one<'a, 't, P: Processes + Clock, M: Moments, W: Output>(
     game: &mut Game<Bits<'t>>,
     scratch: &mut Bits<'t>,
     output: &mut W,
+    errors: &mut E,
 ) -> Result<MatchEnd, GamesFault<'a>>
     requires limit { game.old.limit ≡ MOST_MOVES }
     ensures limit { game.new.limit ≡ MOST_MOVES }
@@ -244,7 +293,14 @@ fn play_one<'a, 't, P: Processes + Clock, M: Moments, W: Output>(
         start: plan.start,
         level: plan.level,
     };
-    let end = play_game(rt, white, black, moments, &setup, game, scratch);
+    let log = if plan.log {
+        Some(first_side(number))
+    } else {
+        None
+    };
+    let end = play_game(
+        rt, white, black, log, errors, moments, &setup, game, scratch,
+    );
     let tags = tags_of(plan, number, &end);
     match write_game(game, scratch, &tags, output) {
         Ok(()) => Ok(end),
@@ -260,7 +316,7 @@ struct Played {
 }
 
 // Plays game after game, up to the first with a fault.
-fn play_each<'a, 't, P: Processes + Clock, M: Moments, W: Output>(
+fn play_each<'a, 't, P: Processes + Clock, M: Moments, W: Output, E: Output>(
     rt: &P,
     alloc: Global,
     plan: &MatchPlan<'a>,
@@ -268,6 +324,7 @@ fn play_each<'a, 't, P: Processes + Clock, M: Moments, W: Output>(
     game: &mut Game<Bits<'t>>,
     scratch: &mut Bits<'t>,
     output: &mut W,
+    errors: &mut E,
 ) -> Result<Played, GamesFault<'a>>
     requires { game.old.limit ≡ MOST_MOVES }
     ensures { HasPlayed plan.now (W.seen output.old) (W.seen output.new) result }
@@ -276,7 +333,9 @@ fn play_each<'a, 't, P: Processes + Clock, M: Moments, W: Output>(
     let mut number: u32 = 0;
     while number < u32::from(plan.games) {
         number += 1;
-        let end = match play_one(rt, alloc, plan, number, moments, game, scratch, output) {
+        let end = match play_one(
+            rt, alloc, plan, number, moments, game, scratch, output, errors,
+        ) {
             Ok(end) => end,
             Err(fault) => return Err(fault),
         };
@@ -298,16 +357,18 @@ fn open_game<'t>(alloc: Global, tables: &'t AttackTables) -> Result<Game<Bits<'t
     Game::open(alloc, Bits::new(tables), MOST_MOVES)
 }
 
-/// Plays the games of a match, with colours changed after each, and writes each game's text and then the score.
+/// Plays the games of a match, with colours changed after each, and writes each game's text and then the score; where
+/// the plan asks for a log, what the engines say and are sent is written to the error output.
 ///
 /// # Errors
 /// Where an engine can't be started, there is no memory, the output failed, or an engine failed in a game,
 /// which is then the last.
-pub(crate) fn play_games<'a, P: Processes + Clock, W: Output>(
+pub(crate) fn play_games<'a, P: Processes + Clock, W: Output, E: Output>(
     rt: &P,
     alloc: Global,
     plan: &MatchPlan<'a>,
     output: &mut W,
+    errors: &mut E,
 ) -> Result<(), GamesFault<'a>>
     ensures { RanGames plan.now (W.seen output.old) (W.seen output.new) result }
 {
@@ -327,6 +388,7 @@ pub(crate) fn play_games<'a, P: Processes + Clock, W: Output>(
         &mut game,
         &mut scratch,
         output,
+        errors,
     ) {
         Ok(played) => played,
         Err(fault) => return Err(fault),

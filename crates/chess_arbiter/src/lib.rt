@@ -12,6 +12,7 @@ mod engine;
 mod fault;
 mod games;
 mod laws;
+mod log;
 mod moments;
 mod program;
 mod score;
@@ -20,6 +21,7 @@ mod stub;
 
 pub use fault::ProgramFault;
 pub use laws::{limits_are_as_told, plain_words_do_what_they_say, refused_words_are_told};
+pub use log::{Log, run_match_logged};
 pub use moments::SinceStart;
 pub use program::run_program;
 pub use standard::run;

@@ -231,7 +231,7 @@ fn matched<P: Processes + Clock, W: Output, E: Output>(
 ) -> u8
     ensures { RanMatch plan.now (W.seen output.old) (W.seen output.new) result }
 {
-    match play_games(rt, alloc, plan, output) {
+    match play_games(rt, alloc, plan, output, errors) {
         Ok(()) => 0,
         Err(fault) => told(errors, &fault, 1),
     }
@@ -244,7 +244,7 @@ fn matched<P: Processes + Clock, W: Output, E: Output>(
 ///   length, cut into pieces where a line begins with `[Event `: a fault ends its piece alone, and totals come at the
 ///   end. With `--quiet` only games with a fault; with `--strict` a result that contradicts the tag Result or the final
 ///   position is a fault too.
-/// - `match` with `--white`, `--black` and perhaps `--games`, `--level`, `--fen`, `--variant` and `--date`:
+/// - `match` with `--white`, `--black` and perhaps `--games`, `--level`, `--fen`, `--variant`, `--date` and `--log`:
 ///   games between two engines that are started as processes, the text of each game, and then the score. The
 ///   input is left alone.
 /// - `stub`, and words to play: an engine that plays these on the input and the output.

@@ -1,5 +1,5 @@
 -- The blocks of an event, sent one after the other.
-use Rattle.std.proofs.Common.{◌≡◌, ℕ, ◌<◌, ◌≤◌, Bool, true, false, not, inl, inr, List, [], length, refl, ap, sym, ◌∙◌, subst, arith, Option, Some, None, Result, Ok, Err}
+use Rattle.std.proofs.Common.{◌≡◌, ℕ, ◌<◌, ◌≤◌, Bool, true, false, not, inl, inr, List, [], ◌∷◌, length, refl, ap, sym, ◌∙◌, subst, arith, Option, Some, None, Result, Ok, Err}
 use Rattle.std.specs.Prelude.{if◌then◌else◌, is_some}
 use Rattle.chess_base.specs.declared.man.Colour.{Colour}
 use Rattle.chess_base.specs.declared.man.Colour.TheVariants.{White, Black}
@@ -8,9 +8,10 @@ use Rattle.byte_devices.specs.Devices.{OutputState}
 use Rattle.chess_base.specs.Men.{other}
 use Rattle.engine_lines.specs.Clocks.{ClocksSeen, spent_by}
 use Rattle.chess_cecp.specs.Lines.{LineSeen}
-use Rattle.chess_match.specs.ties.Delivering.{Delivered, by_side, by_turn, event_heard}
+use Rattle.chess_match.specs.ties.Delivering.{Delivered, given_broken, by_side, by_turn, event_heard}
 use Rattle.engine_lines.specs.Items.{Item, items_of}
 use Rattle.chess_match.specs.Match.{Match, Event, Line, OutputEnds, FailsToRead, FailsToWrite, after}
+use Rattle.chess_match.specs.Notes.{Knowing, WasTold}
 use Rattle.chess_match.specs.Rules.{Rules}
 use Rattle.chess_match.specs.Sent.{SentLine, block, bytes_of}
 use Rattle.chess_match.specs.ties.Stands.{Stands, Goes, clocks_of}
@@ -46,45 +47,92 @@ sends_if o o' b b' text text' e t p = subst (λ (x : List ℕ). SendsIf b' o o' 
 -- ---- two calls, in turn
 
 pub first_failed : (r : Rules) (core : Core) (played : List Move) (m : Match) (due : Colour → List SentLine)
-    (S : Colour) (o o' x x' : OutputState) (f : Bool) → is_on m.phase ≡ true → 0 < length (due S)
+    (S : Colour) (o o' x x' : OutputState) (f : Bool) (notes notes' : Knowing) → is_on m.phase ≡ true
+    → 0 < length (due S)
     → Stands r core played (after r m (FailsToWrite S))
     → SendsIf true o o' (bytes_of (due S))
     → SendsIf f x x' (bytes_of (block r m (after r m (FailsToWrite S)) (other S)))
-    → Delivered r core played m due S (by_turn S o x) (by_turn S o' x') (by_turn S true f)
+    → WasTold notes notes' (FailsToWrite S ∷ []) (given_broken r m due S S)
+    → Delivered r core played m due S (by_turn S o x) (by_turn S o' x') (by_turn S true f) notes notes'
 unfolding bytes_of
-first_failed r core played m due White o o' x x' f on some s b p =
-    inr (White, record { on = on; some = some; stands = s; fails = refl; broke = b; others = (x, flushed_none x, p) })
-first_failed r core played m due Black o o' x x' f on some s b p =
-    inr (Black, record { on = on; some = some; stands = s; fails = refl; broke = b; others = (x, flushed_none x, p) })
+first_failed r core played m due White o o' x x' f notes notes' on some s b p t = inr (
+  White,
+  record {
+    on = on;
+    some = some;
+    stands = s;
+    fails = refl;
+    broke = b;
+    others = (x, flushed_none x, p);
+    told = t;
+  },
+)
+first_failed r core played m due Black o o' x x' f notes notes' on some s b p t = inr (
+  Black,
+  record {
+    on = on;
+    some = some;
+    stands = s;
+    fails = refl;
+    broke = b;
+    others = (x, flushed_none x, p);
+    told = t;
+  },
+)
 
 pub second_failed : (r : Rules) (core : Core) (played : List Move) (m : Match) (due : Colour → List SentLine)
-    (S : Colour) (o v o' x x' : OutputState) (f : Bool) → is_on m.phase ≡ true → 0 < length (due (other S))
+    (S : Colour) (o v o' x x' : OutputState) (f : Bool) (notes notes' : Knowing) → is_on m.phase ≡ true
+    → 0 < length (due (other S))
     → Stands r core played (after r m (FailsToWrite (other S)))
     → SendsIf false o v (bytes_of (due S)) → SendsIf true x x' (bytes_of (due (other S)))
     → SendsIf f v o' (bytes_of (block r m (after r m (FailsToWrite (other S))) (other (other S))))
-    → Delivered r core played m due S (by_turn S o x) (by_turn S o' x') (by_turn S f true)
-second_failed r core played m due White o v o' x x' f on some s t b p =
-    inr (Black, record { on = on; some = some; stands = s; fails = refl; broke = b; others = (v, t, p) })
-second_failed r core played m due Black o v o' x x' f on some s t b p =
-    inr (White, record { on = on; some = some; stands = s; fails = refl; broke = b; others = (v, t, p) })
+    → WasTold notes notes' (FailsToWrite (other S) ∷ []) (given_broken r m due S (other S))
+    → Delivered r core played m due S (by_turn S o x) (by_turn S o' x') (by_turn S f true) notes notes'
+second_failed r core played m due White o v o' x x' f notes notes' on some s t b p told = inr (
+  Black,
+  record {
+    on = on;
+    some = some;
+    stands = s;
+    fails = refl;
+    broke = b;
+    others = (v, t, p);
+    told = told;
+  },
+)
+second_failed r core played m due Black o v o' x x' f notes notes' on some s t b p told = inr (
+  White,
+  record {
+    on = on;
+    some = some;
+    stands = s;
+    fails = refl;
+    broke = b;
+    others = (v, t, p);
+    told = told;
+  },
+)
 
 pub both_sides : (P : Colour → Type 0) → P White → P Black → (S : Colour) → P S
 both_sides P w b White = w
 both_sides P w b Black = b
 
 pub none_failed : (r : Rules) (core : Core) (played : List Move) (m : Match) (due : Colour → List SentLine) (S : Colour)
-    (o o' x x' : OutputState) → Stands r core played m
+    (o o' x x' : OutputState) (notes notes' : Knowing) → Stands r core played m
     → SendsIf false o o' (bytes_of (due S)) → SendsIf false x x' (bytes_of (due (other S)))
-    → Delivered r core played m due S (by_turn S o x) (by_turn S o' x') (by_turn S false false)
-none_failed r core played m due White o o' x x' s a b = inl (record {
+    → WasTold notes notes' [] due
+    → Delivered r core played m due S (by_turn S o x) (by_turn S o' x') (by_turn S false false) notes notes'
+none_failed r core played m due White o o' x x' notes notes' s a b t = inl (record {
   stands = s;
   puts = both_sides (λ X. SendsIf (by_side false false X) (by_side o x X) (by_side o' x' X) (bytes_of (due X))) a b;
   fine = λ h X. both_sides (λ Y. by_side false false Y ≡ false) refl refl X;
+  told = t;
 })
-none_failed r core played m due Black o o' x x' s a b = inl (record {
+none_failed r core played m due Black o o' x x' notes notes' s a b t = inl (record {
   stands = s;
   puts = both_sides (λ X. SendsIf (by_side false false X) (by_side x o X) (by_side x' o' X) (bytes_of (due X))) b a;
   fine = λ h X. both_sides (λ Y. by_side false false Y ≡ false) refl refl X;
+  told = t;
 })
 
 never : (b : Bool) {P : Type 0} → true ≡ not b → b ≡ true → P
@@ -93,30 +141,32 @@ never false e h = absurd cc
 
 -- at the end each engine is sent its block, whatever became of the other's
 pub both_sent : (r : Rules) (core : Core) (played : List Move) (m : Match) (due : Colour → List SentLine) (S : Colour)
-    (w w' b b' : OutputState) (f g : Bool) → Stands r core played m → true ≡ not (is_on core.phase)
-    → SendsIf f w w' (bytes_of (due White)) → SendsIf g b b' (bytes_of (due Black))
-    → Delivered r core played m due S (by_side w b) (by_side w' b') (by_side f g)
-both_sent r core played m due S w w' b b' f g s o x y = inl (record {
+    (w w' b b' : OutputState) (f g : Bool) (notes notes' : Knowing) → Stands r core played m
+    → true ≡ not (is_on core.phase)
+    → SendsIf f w w' (bytes_of (due White)) → SendsIf g b b' (bytes_of (due Black)) → WasTold notes notes' [] due
+    → Delivered r core played m due S (by_side w b) (by_side w' b') (by_side f g) notes notes'
+both_sent r core played m due S w w' b b' f g notes notes' s o x y t = inl (record {
   stands = s;
   puts = both_sides (λ X. SendsIf (by_side f g X) (by_side w b X) (by_side w' b' X) (bytes_of (due X))) x y;
   fine = λ h X. never (is_on core.phase) o (ap is_on s.phase ∙ h);
+  told = t;
 })
 
 -- ---- which writer is whose
 
 pub turn_white : (r : Rules) (core : Core) (played : List Move) (m : Match) (due : Colour → List SentLine) (S : Colour)
-    (o o' x x' : OutputState) (f g : Bool) → S ≡ White
-    → Delivered r core played m due S (by_turn S o x) (by_turn S o' x') (by_turn S f g)
-    → Delivered r core played m due S (by_side o x) (by_side o' x') (by_side f g)
-turn_white r core played m due White o o' x x' f g e d = d
-turn_white r core played m due Black o o' x x' f g e d = absurd cc
+    (o o' x x' : OutputState) (f g : Bool) (notes notes' : Knowing) → S ≡ White
+    → Delivered r core played m due S (by_turn S o x) (by_turn S o' x') (by_turn S f g) notes notes'
+    → Delivered r core played m due S (by_side o x) (by_side o' x') (by_side f g) notes notes'
+turn_white r core played m due White o o' x x' f g notes notes' e d = d
+turn_white r core played m due Black o o' x x' f g notes notes' e d = absurd cc
 
 pub turn_black : (r : Rules) (core : Core) (played : List Move) (m : Match) (due : Colour → List SentLine) (S : Colour)
-    (o o' x x' : OutputState) (f g : Bool) → S ≡ Black
-    → Delivered r core played m due S (by_turn S o x) (by_turn S o' x') (by_turn S f g)
-    → Delivered r core played m due S (by_side x o) (by_side x' o') (by_side g f)
-turn_black r core played m due Black o o' x x' f g e d = d
-turn_black r core played m due White o o' x x' f g e d = absurd cc
+    (o o' x x' : OutputState) (f g : Bool) (notes notes' : Knowing) → S ≡ Black
+    → Delivered r core played m due S (by_turn S o x) (by_turn S o' x') (by_turn S f g) notes notes'
+    → Delivered r core played m due S (by_side x o) (by_side x' o') (by_side g f) notes notes'
+turn_black r core played m due Black o o' x x' f g notes notes' e d = d
+turn_black r core played m due White o o' x x' f g notes notes' e d = absurd cc
 
 -- ---- what a line asks of the core
 
@@ -150,9 +200,10 @@ goes_with r core played given items items' m m' e g = subst (λ (is : List Item)
 
 -- an event is noted: its moment was asked for, and the core goes on by it
 abbrev pub IsNoted : (Rules → Type 0) → Core → List Move → Core → List Move → Given → List ℕ → Colour → (ℕ → Option ℕ)
-    → (ℕ → Option ℕ) → Event → Type 0
-IsNoted plays core played core' played' given text S coming coming' e =
+    → (ℕ → Option ℕ) → Knowing → Knowing → Event → Type 0
+IsNoted plays core played core' played' given text S coming coming' notes notes' e =
     Asked coming coming' (moment_in e)
+    × WasTold notes notes' (e ∷ []) (λ X. [])
     × ((r : Rules) (m : Match) → plays r → reads m.phase S ≡ true → Stands r core played m
     → Goes r core' played' given (items_of text) m (after r m e))
 

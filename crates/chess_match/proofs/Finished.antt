@@ -15,8 +15,9 @@ use Rattle.chess_match.specs.ties.Delivering.{by_side}
 use Rattle.engine_lines.specs.Levels.{LevelSeen}
 use Rattle.chess_match.specs.Match.{Event, seat}
 use Rattle.chess_match.specs.Reasons.{declared_at, outcome_of}
+use Rattle.chess_match.specs.Notes.{Knowing}
 use Rattle.chess_match.specs.Rules.{Rules, rules_of}
-use Rattle.chess_match.specs.Run.{Ports, reader_at, writer_at, Heard, Written, game_after, Ran}
+use Rattle.chess_match.specs.Run.{Ports, reader_at, writer_at, Heard, Written, game_after, RanBefore}
 use Rattle.chess_match.specs.ties.Stands.{name_by}
 use Rattle.chess_match.specs.ties.Told.{IsTold}
 use Rattle.chess_match.specs.Transcript.{match_of, ending_in, name_of, blocks}
@@ -67,40 +68,43 @@ told_outcome h h' reason outcome e o none =
 
 pub ran : (g h h' : game.Seen) (start : Setup) (level : LevelSeen) (T : List Event) (core : Core) (reason : Reason)
     (failed : Failed) (end : MatchEnd) (nw nb nw' nb' : InputState) (held : Colour → Held) (ow ob ow' ob' : OutputState)
-    (coming coming' : ℕ → Option ℕ)
+    (coming coming' : ℕ → Option ℕ) (notes notes' : Knowing)
     → IsUnderWay (rules_of start level g.limit) T core h.state.moves (by_side failed.white failed.black) (by_side nw nb)
-    (by_side nw' nb') held (by_side ow ob) (by_side ow' ob') coming coming'
+    (by_side nw' nb') held (by_side ow ob) (by_side ow' ob') coming coming' notes notes'
     → core.phase ≡ Over reason → IsTold reason failed end → end.white_name ≡ core.white.name
     → end.black_name ≡ core.black.name
     → h.state.start ≡ start → h.limit ≡ g.limit
     → h' ≡ game.at h (with_declared h.state (declared_at (verdict_now h.state) reason))
-    → Ran start level g h' end (record { white_reader = nw; white_writer = ow; black_reader = nb; black_writer = ob })
+    → RanBefore notes notes' start level g h' end (record { white_reader = nw; white_writer = ow; black_reader = nb; black_writer = ob })
     (record { white_reader = nw'; white_writer = ow'; black_reader = nb'; black_writer = ob' }) coming coming'
-ran g h h' start level T core reason failed end nw nb nw' nb' held ow ob ow' ob' coming coming' u over told wn bn s l
-    e =
+ran g h h' start level T core reason failed end nw nb nw' nb' held ow ob ow' ob' coming coming' notes notes' u over
+    told wn bn s l e =
     let r : Rules = rules_of start level g.limit in
     let w : Ports = record { white_reader = nw; white_writer = ow; black_reader = nb; black_writer = ob } in
     let w' : Ports = record { white_reader = nw'; white_writer = ow'; black_reader = nb'; black_writer = ob' } in (
       T,
-      reason,
-      by_side failed.white failed.black,
-      record {
-        fitting = u.fitting;
-        ending = ap ending_in (sym u.stands.phase ∙ over);
-        heard = both_sides (λ S. (given : List ℕ) × Heard S T (reader_at w S) (reader_at w' S) given)
-            ((u.heard White).0, (u.heard White).1) ((u.heard Black).0, (u.heard Black).1);
-        written = both_sides (λ S. Written (by_side failed.white failed.black S) (writer_at w S) (writer_at w' S)
-            (blocks r S T)) (u.written White) (u.written Black);
-        failing = u.failing;
-        moments = u.moments;
-      },
-      record {
-        outcome = told.outcome;
-        comment = told.comment;
-        ended = told.ended;
-        white_name = name_kept r T White end.white_name (wn ∙ u.stands.white.name);
-        black_name = name_kept r T Black end.black_name (bn ∙ u.stands.black.name);
-        fault = told.fault;
-      },
-      game_kept g h h' start level T reason s l u.stands.moves e,
+      u.told,
+      (
+        reason,
+        by_side failed.white failed.black,
+        record {
+          fitting = u.fitting;
+          ending = ap ending_in (sym u.stands.phase ∙ over);
+          heard = both_sides (λ S. (given : List ℕ) × Heard S T (reader_at w S) (reader_at w' S) given)
+              ((u.heard White).0, (u.heard White).1) ((u.heard Black).0, (u.heard Black).1);
+          written = both_sides (λ S. Written (by_side failed.white failed.black S) (writer_at w S) (writer_at w' S)
+              (blocks r S T)) (u.written White) (u.written Black);
+          failing = u.failing;
+          moments = u.moments;
+        },
+        record {
+          outcome = told.outcome;
+          comment = told.comment;
+          ended = told.ended;
+          white_name = name_kept r T White end.white_name (wn ∙ u.stands.white.name);
+          black_name = name_kept r T Black end.black_name (bn ∙ u.stands.black.name);
+          fault = told.fault;
+        },
+        game_kept g h h' start level T reason s l u.stands.moves e,
+      ),
     )

@@ -14,6 +14,7 @@ use Rattle.chess_cecp.specs.Next.{NextLine, GotLine, GotLast, work}
 use Rattle.chess_match.specs.ties.Delivering.{event_heard, Delivered}
 use Rattle.chess_match.proofs.Hearing.{is_heard_of, Tells, HearsAt}
 use Rattle.chess_match.specs.Match.{Match, Event, Line, OutputEnds, FailsToRead, after}
+use Rattle.chess_match.specs.Notes.{Knowing}
 use Rattle.chess_match.specs.Rules.{Rules}
 use Rattle.chess_match.specs.Run.{text_heard}
 use Rattle.chess_match.specs.Sent.{SentLine}
@@ -149,24 +150,26 @@ one_less White f f' l e = omega (arith, l, e)
 one_less Black f f' l e = omega (arith, l, e)
 
 over_after : (r : Rules) (core : Core) (played : List Move) (m : Match) (due : Colour → List SentLine) (first : Colour)
-    (w w' : Colour → OutputState) (failed : Colour → Bool) → is_on m.phase ≡ false
-    → Delivered r core played m due first w w' failed → is_on core.phase ≡ false
-over_after r core played m due first w w' failed o (inl s) = ap is_on s.stands.phase ∙ o
-over_after r core played m due first w w' failed o (inr (c, s)) = ap is_on s.stands.phase
+    (w w' : Colour → OutputState) (failed : Colour → Bool) (notes notes' : Knowing) → is_on m.phase ≡ false
+    → Delivered r core played m due first w w' failed notes notes' → is_on core.phase ≡ false
+over_after r core played m due first w w' failed notes notes' o (inl s) = ap is_on s.stands.phase ∙ o
+over_after r core played m due first w w' failed notes notes' o (inr (c, s)) = ap is_on s.stands.phase
 
 pub heard_less : {E : Type 0} (r : Rules) (p : Phase) (core : Core) (played : List Move) (m : Match) (S : Colour)
     (moment : ℕ) (result : Result (Option LineSeen) E) (due : Colour → List SentLine) (n n' : Colour → InputState)
     (h h' : Colour → Held) (w w' : Colour → OutputState) (failed : Colour → Bool)
+    (notes notes' : Knowing)
     → reads p S ≡ true → NextLine ENGINE_LINE_LEN (n S) (n' S) (h S) (h' S) result → n' (other S) ≡ n (other S)
     → h' (other S) ≡ h (other S)
     → Delivered r core played (after r m (event_heard S moment result)) due S w w' failed
+    notes notes'
     → steps_left core.phase (work (n' White) (h' White) + work (n' Black) (h' Black)) < steps_left p
     (work (n White) (h White) + work (n Black) (h Black))
-heard_less r p core played m S moment (Err x) due n n' h h' w w' failed reading (more, b, waits, got) same kept d =
-    over_less p core.phase S _ _ reading (over_after r core played _ due S w w' failed refl d)
-heard_less r p core played m S moment (Ok None) due n n' h h' w w' failed reading (more, b, waits, got) same kept d =
-    over_less p core.phase S _ _ reading (over_after r core played _ due S w w' failed refl d)
-heard_less r p core played m S moment (Ok (Some line)) due n n' h h' w w' failed reading (more, b, waits, got) same kept
+heard_less r p core played m S moment (Err x) due n n' h h' w w' failed notes notes' reading (more, b, waits, got) same kept d =
+    over_less p core.phase S _ _ reading (over_after r core played _ due S w w' failed notes notes' refl d)
+heard_less r p core played m S moment (Ok None) due n n' h h' w w' failed notes notes' reading (more, b, waits, got) same kept d =
+    over_less p core.phase S _ _ reading (over_after r core played _ due S w w' failed notes notes' refl d)
+heard_less r p core played m S moment (Ok (Some line)) due n n' h h' w w' failed notes notes' reading (more, b, waits, got) same kept
     d = by_whether line.ended refl got
   where
     by_whether : (x : Bool) → line.ended ≡ x → MatchBool x (GotLine ENGINE_LINE_LEN (n S) (n' S) (h S) (h' S) more line)
@@ -179,7 +182,7 @@ heard_less r p core played m S moment (Ok (Some line)) due n n' h h' w w' failed
         (ap (λ (v : InputState). work v (h' (other S))) same ∙ ap (λ (v : Held). work (n (other S)) v) kept))
     by_whether false e g =
         over_less p core.phase S _ _ reading
-        (over_after r core played _ due S w w' failed refl
+        (over_after r core played _ due S w w' failed notes notes' refl
         (subst (λ (v : Bool).
         Delivered r core played (after r m (if v then Line S (text_heard line) moment else OutputEnds S)) due S w w'
-        failed) e d))
+        failed notes notes') e d))

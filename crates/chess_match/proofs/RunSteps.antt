@@ -1,5 +1,5 @@
 -- The steps of the driver's loop, as the loop keeps them.
-use Rattle.std.proofs.Common.{◌≡◌, ℕ, ◌<◌, Bool, true, List, refl, ap, sym, ◌∙◌, subst, Option, None, Result}
+use Rattle.std.proofs.Common.{◌≡◌, ℕ, ◌<◌, Bool, true, List, [], ◌∷◌, refl, ap, sym, ◌∙◌, subst, Option, None, Result}
 use Rattle.chess_base.specs.declared.man.Colour.{Colour}
 use Rattle.chess_base.specs.declared.man.Colour.TheVariants.{White}
 use Rattle.chess_base.specs.declared.man.Move.{Move}
@@ -15,6 +15,7 @@ use Rattle.chess_match.specs.ties.Delivering.{Delivered, event_heard}
 use Rattle.chess_match.proofs.Hearing.{HearsAt}
 use Rattle.engine_lines.specs.Levels.{LevelSeen}
 use Rattle.chess_match.specs.Match.{Match, Event, start, after}
+use Rattle.chess_match.specs.Notes.{Knowing, WasTold}
 use Rattle.chess_match.specs.Rules.{Rules, rules_of}
 use Rattle.chess_match.specs.Run.{Asked}
 use Rattle.chess_match.specs.Sent.{block, entry}
@@ -57,14 +58,15 @@ entry_given r items S = refl
 
 pub begun : (r : Rules) (core : Core) (played : List Move) (items : List Item) (failed : Colour → Bool)
     (n : Colour → InputState) (held : Colour → Held) (w w' : Colour → OutputState) (coming : ℕ → Option ℕ)
-    → ((S : Colour) → held S ≡ nothing_held)
+    (notes notes' : Knowing) → ((S : Colour) → held S ≡ nothing_held)
     → Delivered r core played start (given_block r (record { answers = None; draw = None; entered = true }) items start)
-    White w w' failed → (T : List Event) × IsUnderWay r T core played failed n n held w w' coming coming
-begun r core played items failed n held w w' coming none d =
-    started r core played failed n held w w' coming none
+    White w w' failed notes notes'
+    → (T : List Event) × IsUnderWay r T core played failed n n held w w' coming coming notes notes'
+begun r core played items failed n held w w' coming notes notes' none d =
+    started r core played failed n held w w' coming notes notes' none
     (delivered_by r core played start
     (given_block r (record { answers = None; draw = None; entered = true }) items start) (λ S. entry r start S)
-    White w w' failed (entry_given r items) d)
+    White w w' failed notes notes' (entry_given r items) d)
 
 -- ---- a line, an end, or a read that failed
 
@@ -72,19 +74,23 @@ pub heard_on : {E : Type 0} (r : Rules) (T : List Event) (S : Colour) (moment : 
     (core core' : Core) (played played' : List Move) (failed failed' : Colour → Bool) (n n' n'' : Colour → InputState)
     (held held' : Colour → Held)
     (w w' w'' : Colour → OutputState) (coming coming' coming'' : ℕ → Option ℕ)
-    → IsUnderWay r T core played failed n n' held w w' coming coming' → reads core.phase S ≡ true
+    (notes notes' between notes'' : Knowing)
+    → IsUnderWay r T core played failed n n' held w w' coming coming' notes notes' → reads core.phase S ≡ true
     → NextLine ENGINE_LINE_LEN (n' S) (n'' S) (held S) (held' S) result → n'' (other S) ≡ n' (other S)
     → held' (other S) ≡ held (other S)
     → Asked coming' coming'' (moment_in (event_heard S moment result))
+    → WasTold notes' between (event_heard S moment result ∷ []) (λ X. [])
     → Delivered r core' played' (after r (match_of r T) (event_heard S moment result))
     (block r (match_of r T) (after r (match_of r T) (event_heard S moment result))) S w' w'' failed'
-    → (T' : List Event) × IsUnderWay r T' core' played' failed' n n'' held' w w'' coming coming''
+    between notes''
+    → (T' : List Event) × IsUnderWay r T' core' played' failed' n n'' held' w w'' coming coming'' notes notes''
 heard_on r T S moment result core core' played played' failed failed' n n' n'' held held' w w' w'' coming coming'
-    coming'' u reading next same kept asked d =
+    coming'' notes notes' between notes'' u reading next same kept asked line d =
     let e : Event = event_heard S moment result in
     let m : Match = match_of r T in
     let reading' : reads m.phase S ≡ true = ap (λ (p : Phase). reads p S) (sym u.stands.phase) ∙ reading in
-    event_step r T e S core core' played played' failed failed' n n' n'' held held' w w' w'' coming coming' coming'' u
+    event_step r T e S core core' played played' failed failed' n n' n'' held held' w w' w'' coming coming' coming''
+    notes notes' between notes'' u line
     (heard_of S moment result) (reads_on m.phase S reading')
     (heard_fits m S moment result reading') (heard_sane r m S moment result u.sane)
     (by_either (λ X. HearsAt X e (n' X) (n'' X) (held X) (held' X)) S

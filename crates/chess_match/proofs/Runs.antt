@@ -195,7 +195,7 @@ block_alone r S m (FailsToWrite c) h = cc
 
 -- ---- what is written
 
-joined_snoc : (bs : List (List SentLine)) (b : List SentLine) → joined_blocks (bs ++ b ∷ []) ≡ joined_blocks bs ++ b
+pub joined_snoc : (bs : List (List SentLine)) (b : List SentLine) → joined_blocks (bs ++ b ∷ []) ≡ joined_blocks bs ++ b
 joined_snoc [] b = append-nil b
 joined_snoc (x ∷ bs) b = ap (λ (ls : List SentLine). x ++ ls) (joined_snoc bs b)
     ∙ sym (append_assoc x (joined_blocks bs) b)

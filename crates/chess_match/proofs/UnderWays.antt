@@ -8,16 +8,17 @@ use Rattle.byte_devices.specs.Devices.{InputState, OutputState, BreaksOff}
 use Rattle.chess_base.specs.Men.{other, same_colour}
 use Rattle.chess_base.proofs.MenFacts.{same_colour-true}
 use Rattle.chess_cecp.specs.Lines.{Held, nothing_held}
-use Rattle.chess_match.specs.ties.Delivering.{AllSent, OneFailed, Delivered}
+use Rattle.chess_match.specs.ties.Delivering.{AllSent, OneFailed, Delivered, given_broken}
 use Rattle.chess_match.proofs.Hearing.{Hearing, HearsAt, is_heard_of}
 use Rattle.chess_match.specs.Match.{Match, Event, Line, Opened, OutputEnds, FailsToRead, FailsToWrite, start, after}
+use Rattle.chess_match.specs.Notes.{Knowing, WasTold}
 use Rattle.chess_match.specs.Rules.{Rules}
 use Rattle.chess_match.specs.Run.{Flushed, Written, Asked}
 use Rattle.chess_match.specs.Sent.{SentLine, block, entry, bytes_of}
 use Rattle.chess_match.specs.ties.Stands.{Stands, Goes, given_block}
 use Rattle.chess_match.specs.ties.Steps.{IsSane}
 use Rattle.chess_match.specs.ties.Told.{SendsIf}
-use Rattle.chess_match.specs.Transcript.{match_of, fits_next, is_on, opens, blocks, blocks_from, joined_blocks, lines_of, moments_of, moment_in, has_end, has_read_failure, has_write_failure, fails_at}
+use Rattle.chess_match.specs.Transcript.{match_of, fits_next, is_on, opens, blocks, blocks_from, joined_blocks, sent, lines_of, moments_of, moment_in, has_end, has_read_failure, has_write_failure, fails_at}
 use Rattle.chess_match.proofs.UnderWay.{IsHearing, HeardSoFar, IsUnderWay}
 use Rattle.chess_match.specs.declared.phase.Phase.{Phase}
 use Rattle.chess_match.specs.declared.phase.Phase.TheVariants.{Hello, Setup, Opening, Before, After, Over}
@@ -26,6 +27,7 @@ use Rattle.chess_match.proofs.Flushes.{flushed_none, flushed_more}
 use Rattle.chess_match.proofs.HeardOn.{is_stop, heard_still, heard_more, not_both}
 use Rattle.chess_match.proofs.Hears.{hearing_start}
 use Rattle.chess_match.proofs.Runs.{is_sound, match_of-append, IsTail, no_tail, failed_tail, moments_more, has_write_failure-append, fits-append, nothing_due, blocks-append, block_alone, sent_more, written_more, all_sent, asked_none, asked_more}
+use Rattle.chess_match.proofs.Notings.{told_none, told_more, told_as, sent_on, sent_broken, sent_start, sent_start_broken}
 use Rattle.chess_match.proofs.Sane.{sane_start, sane_over, sane_opened}
 
 -- the match is over behind what stops it
@@ -65,19 +67,21 @@ no_failure_yet S T U failed failed' none old new h =
 pub all_step : (r : Rules) (T : List Event) (e : Event) (core core' : Core) (played played' : List Move)
     (failed failed' : Colour → Bool) (n n' n'' : Colour → InputState) (held held' : Colour → Held)
     (w w' w'' : Colour → OutputState) (coming coming' coming'' : ℕ → Option ℕ)
-    → IsUnderWay r T core played failed n n' held w w' coming coming'
+    (notes notes' between notes'' : Knowing)
+    → IsUnderWay r T core played failed n n' held w w' coming coming' notes notes'
+    → WasTold notes' between (e ∷ []) (λ S. [])
     → is_on (match_of r T).phase ≡ true → is_sound e ≡ true → fits_next nothing_due (match_of r T) e ≡ true
     → IsSane r (after r (match_of r T) e)
     → ((S : Colour) → HearsAt S e (n' S) (n'' S) (held S) (held' S)) → Asked coming' coming'' (moment_in e)
     → AllSent r core' played' (after r (match_of r T) e) (λ S. block r (match_of r T) (after r (match_of r T) e) S) w'
-    w'' failed'
-    → IsUnderWay r (T ++ e ∷ []) core' played' failed' n n'' held' w w'' coming coming''
-all_step r T e core core' played played' failed failed' n n' n'' held held' w w' w'' coming coming' coming'' u on sound
-    fit sane hears asked sent =
+    w'' failed' between notes''
+    → IsUnderWay r (T ++ e ∷ []) core' played' failed' n n'' held' w w'' coming coming'' notes notes''
+all_step r T e core core' played played' failed failed' n n' n'' held held' w w' w'' coming coming' coming'' notes
+    notes' between notes'' u line on sound fit sane hears asked all =
     let now : match_of r (T ++ e ∷ []) ≡ after r (match_of r T) e = match_of-append r T (e ∷ []) in
     record {
       fitting = fits-append r T e [] sound u.fitting (ap (λ b. b && true) fit);
-      stands = subst (λ (x : Match). Stands r core' played' x) (sym now) sent.stands;
+      stands = subst (λ (x : Match). Stands r core' played' x) (sym now) all.stands;
       sane = subst (λ (x : Match). IsSane r x) (sym now) sane;
       heard = λ S. subst (λ (x : Match). HeardSoFar S (T ++ e ∷ []) (is_on x.phase) (n S) (n'' S) (held' S)) (sym now)
           (so_far_on S T e [] (is_on (match_of r T).phase) (is_on (after r (match_of r T) e).phase) (n S) (n' S) (n'' S)
@@ -87,13 +91,16 @@ all_step r T e core core' played played' failed failed' n n' n'' held held' w w'
           (block_alone r S (match_of r T) e sound)))
           (written_more (failed' S) (w S) (w' S) (w'' S) (blocks r S T)
           (block r (match_of r T) (after r (match_of r T) e) S)
-          (all_sent (failed S) (w S) (w' S) (blocks r S T) (u.fine on S) (u.written S)) (sent.puts S));
-      fine = λ h. sent.fine (subst (λ (x : Match). is_on x.phase ≡ true) now h);
+          (all_sent (failed S) (w S) (w' S) (blocks r S T) (u.fine on S) (u.written S)) (all.puts S));
+      fine = λ h. all.fine (subst (λ (x : Match). is_on x.phase ≡ true) now h);
       failing = λ S. no_failure_yet S T (e ∷ []) (failed S) (failed' S) (u.fine on S) (u.failing S)
           (λ h. let no : fails_at e S || false ≡ false = ap (λ b. b || false) (sound_write S e sound) in not_both _ no
           h);
       moments = subst (λ (ms : List ℕ). Asked coming coming'' ms) (sym (moments_more T e [] no_tail))
           (asked_more coming coming' coming'' (moments_of T) (moment_in e) u.moments asked);
+      told = told_as notes notes'' (T ++ e ∷ []) _ _ (λ S. sent_on r S T e sound)
+          (told_more notes notes' notes'' T (e ∷ []) (λ S. sent r S T) _ u.told
+          (told_more notes' between notes'' (e ∷ []) [] (λ S. []) _ line all.told));
     }
 
 -- ---- a write that fails
@@ -168,16 +175,19 @@ own_fails Black failed h White e = absurd cc
 pub failed_step : (r : Rules) (T : List Event) (d : Colour) (text : Option (List ℕ)) (k : ℕ) (core core' : Core)
     (played played' : List Move) (failed failed' : Colour → Bool) (n n' n'' : Colour → InputState)
     (held held' : Colour → Held)
-    (w w' w'' : Colour → OutputState) (coming coming' coming'' : ℕ → Option ℕ) (c : Colour)
-    → IsUnderWay r T core played failed n n' held w w' coming coming'
+    (w w' w'' : Colour → OutputState) (coming coming' coming'' : ℕ → Option ℕ)
+    (notes notes' between notes'' : Knowing) (c : Colour)
+    → IsUnderWay r T core played failed n n' held w w' coming coming' notes notes'
+    → WasTold notes' between (Line d text k ∷ []) (λ S. [])
     → is_on (match_of r T).phase ≡ true → fits_next nothing_due (match_of r T) (Line d text k) ≡ true
     → IsSane r (after r (match_of r T) (Line d text k))
     → ((S : Colour) → HearsAt S (Line d text k) (n' S) (n'' S) (held S) (held' S)) → Asked coming' coming'' (k ∷ [])
     → OneFailed r core' played' (after r (match_of r T) (Line d text k))
-    (λ S. block r (match_of r T) (after r (match_of r T) (Line d text k)) S) d w' w'' failed' c
+    (λ S. block r (match_of r T) (after r (match_of r T) (Line d text k)) S) d w' w'' failed' between notes'' c
     → IsUnderWay r (T ++ Line d text k ∷ FailsToWrite c ∷ []) core' played' failed' n n'' held' w w'' coming coming''
-failed_step r T d text k core core' played played' failed failed' n n' n'' held held' w w' w'' coming coming' coming'' c
-    u on fit sane hears asked sent =
+    notes notes''
+failed_step r T d text k core core' played played' failed failed' n n' n'' held held' w w' w'' coming coming' coming''
+    notes notes' between notes'' c u line on fit sane hears asked one =
     let e : Event = Line d text k in
     let m : Match = match_of r T in
     let U : List Event = FailsToWrite c ∷ [] in
@@ -185,9 +195,9 @@ failed_step r T d text k core core' played played' failed failed' n n' n'' held 
     record {
       fitting = fits-append r T e U refl u.fitting (
           ap (λ b. b && ((is_on (after r m e).phase && nat_lt 0 (length (block r m (after r m e) c))) && true)) fit
-          ∙ ap (λ b. (b && nat_lt 0 (length (block r m (after r m e) c))) && true) sent.on
-          ∙ ap (λ b. b && true) (lt-ltb 0 (length (block r m (after r m e) c)) sent.some));
-      stands = subst (λ (x : Match). Stands r core' played' x) (sym now) sent.stands;
+          ∙ ap (λ b. (b && nat_lt 0 (length (block r m (after r m e) c))) && true) one.on
+          ∙ ap (λ b. b && true) (lt-ltb 0 (length (block r m (after r m e) c)) one.some));
+      stands = subst (λ (x : Match). Stands r core' played' x) (sym now) one.stands;
       sane = subst (λ (x : Match). IsSane r x) (sym now) (sane_over r (after r m e) _ sane);
       heard = λ S. subst (λ (x : Match). HeardSoFar S (T ++ e ∷ U) (is_on x.phase) (n S) (n'' S) (held' S)) (sym now)
           (so_far_on S T e U (is_on m.phase) false (n S) (n' S) (n'' S) (held S) (held' S) (failed_tail c) on
@@ -195,34 +205,47 @@ failed_step r T d text k core core' played played' failed failed' n n' n'' held 
       written = λ S. subst (λ (bs : List (List SentLine)). Written (failed' S) (w S) (w'' S) bs)
           (sym (blocks-append r S T e U refl))
           (by_either (λ X. Written (failed' X) (w X) (w'' X) (blocks r X T ++ blocks_from r X m (e ∷ U))) c
-          (broken_block r m d c text k (failed' c) (w c) (w' c) (w'' c) (blocks r c T) sent.fails
-          (all_sent (failed c) (w c) (w' c) (blocks r c T) (u.fine on c) (u.written c)) sent.broke)
+          (broken_block r m d c text k (failed' c) (w c) (w' c) (w'' c) (blocks r c T) one.fails
+          (all_sent (failed c) (w c) (w' c) (blocks r c T) (u.fine on c) (u.written c)) one.broke)
           (two_blocks r m d c text k d refl (failed' (other c)) (w (other c)) (w' (other c)) (w'' (other c))
           (blocks r (other c) T) (all_sent (failed (other c)) (w (other c)) (w' (other c)) (blocks r (other c) T)
-          (u.fine on (other c)) (u.written (other c))) sent.others)
+          (u.fine on (other c)) (u.written (other c))) one.others)
           S);
       fine = λ h. let no : false ≡ true = subst (λ (x : Match). is_on x.phase ≡ true) now h in absurd cc;
       failing = λ S. no_failure_yet S T (e ∷ U) (failed S) (failed' S) (u.fine on S) (u.failing S)
-          (own_fails c failed' sent.fails S);
+          (own_fails c failed' one.fails S);
       moments = subst (λ (ms : List ℕ). Asked coming coming'' ms) (sym (moments_more T e U (failed_tail c)))
           (asked_more coming coming' coming'' (moments_of T) (k ∷ []) u.moments asked);
+      told = told_as notes notes'' (T ++ e ∷ U) _ _ (λ S. sent_broken r S T d c text k)
+          (told_more notes notes' notes'' T (e ∷ U) (λ S. sent r S T) _ u.told
+          (told_more notes' between notes'' (e ∷ []) U (λ S. []) _ line one.told));
     }
 
 -- ---- the blocks that are due
 
 all_by : (r : Rules) (core : Core) (played : List Move) (m : Match) (due due' : Colour → List SentLine)
-    (w w' : Colour → OutputState) (failed : Colour → Bool) → ((S : Colour) → due S ≡ due' S)
-    → AllSent r core played m due w w' failed → AllSent r core played m due' w w' failed
-all_by r core played m due due' w w' failed e s = record {
+    (w w' : Colour → OutputState) (failed : Colour → Bool) (notes notes' : Knowing)
+    → ((S : Colour) → due S ≡ due' S)
+    → AllSent r core played m due w w' failed notes notes' → AllSent r core played m due' w w' failed notes notes'
+all_by r core played m due due' w w' failed notes notes' e s = record {
   stands = s.stands;
   puts = λ S. subst (λ (b : List SentLine). SendsIf (failed S) (w S) (w' S) (bytes_of b)) (e S) (s.puts S);
   fine = s.fine;
+  told = told_as notes notes' [] due due' e s.told;
 }
 
+broken_by : (r : Rules) (m : Match) (due due' : Colour → List SentLine) (first c S : Colour)
+    → ((X : Colour) → due X ≡ due' X) → given_broken r m due first c S ≡ given_broken r m due' first c S
+broken_by r m due due' first c S e =
+    ap (λ (x : List SentLine). if same_colour c S then x
+    else ((if same_colour c first then [] else x) ++ block r m (after r m (FailsToWrite c)) S)) (e S)
+
 one_by : (r : Rules) (core : Core) (played : List Move) (m : Match) (due due' : Colour → List SentLine) (first : Colour)
-    (w w' : Colour → OutputState) (failed : Colour → Bool) (c : Colour) → ((S : Colour) → due S ≡ due' S)
-    → OneFailed r core played m due first w w' failed c → OneFailed r core played m due' first w w' failed c
-one_by r core played m due due' first w w' failed c e s = record {
+    (w w' : Colour → OutputState) (failed : Colour → Bool) (notes notes' : Knowing) (c : Colour)
+    → ((S : Colour) → due S ≡ due' S)
+    → OneFailed r core played m due first w w' failed notes notes' c
+    → OneFailed r core played m due' first w w' failed notes notes' c
+one_by r core played m due due' first w w' failed notes notes' c e s = record {
   on = s.on;
   some = subst (λ (b : List SentLine). 0 < length b) (e c) s.some;
   stands = s.stands;
@@ -234,15 +257,17 @@ one_by r core played m due due' first w w' failed c e s = record {
         (bytes_of (if same_colour c first then [] else b))) (e (other c)) s.others.1,
     s.others.2,
   );
+  told = told_as notes notes' (FailsToWrite c ∷ []) _ _ (λ S. broken_by r m due due' first c S e) s.told;
 }
 
 pub delivered_by : (r : Rules) (core : Core) (played : List Move) (m : Match) (due due' : Colour → List SentLine)
-    (first : Colour) (w w' : Colour → OutputState) (failed : Colour → Bool) → ((S : Colour) → due S ≡ due' S)
-    → Delivered r core played m due first w w' failed → Delivered r core played m due' first w w' failed
-delivered_by r core played m due due' first w w' failed e (inl s) =
-    inl (all_by r core played m due due' w w' failed e s)
-delivered_by r core played m due due' first w w' failed e (inr (c, s)) =
-    inr (c, one_by r core played m due due' first w w' failed c e s)
+    (first : Colour) (w w' : Colour → OutputState) (failed : Colour → Bool) (notes notes' : Knowing)
+    → ((S : Colour) → due S ≡ due' S) → Delivered r core played m due first w w' failed notes notes'
+    → Delivered r core played m due' first w w' failed notes notes'
+delivered_by r core played m due due' first w w' failed notes notes' e (inl s) =
+    inl (all_by r core played m due due' w w' failed notes notes' e s)
+delivered_by r core played m due due' first w w' failed notes notes' e (inr (c, s)) =
+    inr (c, one_by r core played m due due' first w w' failed notes notes' c e s)
 
 -- ---- the start
 
@@ -264,11 +289,11 @@ unfolding bytes_of
 first_block f w w' b p = written_more f w w w' [] b (flushed_none w) p
 
 all_started : (r : Rules) (core : Core) (played : List Move) (failed : Colour → Bool) (n : Colour → InputState)
-    (held : Colour → Held) (w w' : Colour → OutputState) (coming : ℕ → Option ℕ)
+    (held : Colour → Held) (w w' : Colour → OutputState) (coming : ℕ → Option ℕ) (notes notes' : Knowing)
     → ((S : Colour) → held S ≡ nothing_held)
-    → AllSent r core played start (λ S. entry r start S) w w' failed
-    → IsUnderWay r [] core played failed n n held w w' coming coming
-all_started r core played failed n held w w' coming none s = record {
+    → AllSent r core played start (λ S. entry r start S) w w' failed notes notes'
+    → IsUnderWay r [] core played failed n n held w w' coming coming notes notes'
+all_started r core played failed n held w w' coming notes notes' none s = record {
   fitting = refl;
   stands = s.stands;
   sane = sane_start r;
@@ -277,6 +302,7 @@ all_started r core played failed n held w w' coming none s = record {
   fine = s.fine;
   failing = λ S h. absurd cc;
   moments = asked_none coming;
+  told = told_as notes notes' [] _ _ (λ S. sent_start r S) s.told;
 }
 
 broken_start : (f : Bool) (w w' : OutputState) (b : List SentLine) → f ≡ true → BreaksOff w w' (bytes_of b)
@@ -289,12 +315,12 @@ other_start : (r : Rules) (f : Bool) (w w' : OutputState) (b : List SentLine)
 other_start r f w w' b (v, t, p) = written_more f w v w' ([] ∷ []) b t p
 
 one_started : (r : Rules) (core : Core) (played : List Move) (failed : Colour → Bool) (n : Colour → InputState)
-    (held : Colour → Held) (w w' : Colour → OutputState) (coming : ℕ → Option ℕ) (c : Colour)
-    → ((S : Colour) → held S ≡ nothing_held)
-    → OneFailed r core played start (λ S. entry r start S) White w w' failed c
-    → IsUnderWay r (FailsToWrite c ∷ []) core played failed n n held w w' coming coming
-one_started r core played failed n held w w' coming Black none s = let no : 0 < 0 = s.some in absurd (omega (arith, no))
-one_started r core played failed n held w w' coming White none s = record {
+    (held : Colour → Held) (w w' : Colour → OutputState) (coming : ℕ → Option ℕ) (notes notes' : Knowing)
+    (c : Colour) → ((S : Colour) → held S ≡ nothing_held)
+    → OneFailed r core played start (λ S. entry r start S) White w w' failed notes notes' c
+    → IsUnderWay r (FailsToWrite c ∷ []) core played failed n n held w w' coming coming notes notes'
+one_started r core played failed n held w w' coming notes notes' Black none s = let no : 0 < 0 = s.some in absurd (omega (arith, no))
+one_started r core played failed n held w w' coming notes notes' White none s = record {
   fitting = ap (λ b. b && true) (lt-ltb 0 (length (entry r start White)) s.some);
   stands = s.stands;
   sane = sane_over r start _ (sane_start r);
@@ -305,66 +331,69 @@ one_started r core played failed n held w w' coming White none s = record {
   fine = λ h. absurd cc;
   failing = λ S. own_fails White failed s.fails S;
   moments = asked_none coming;
+  told = told_as notes notes' (FailsToWrite White ∷ []) _ _ (λ S. sent_start_broken r S) s.told;
 }
 
 -- the first lines of White's hello were sent
 pub started : (r : Rules) (core : Core) (played : List Move) (failed : Colour → Bool) (n : Colour → InputState)
-    (held : Colour → Held) (w w' : Colour → OutputState) (coming : ℕ → Option ℕ)
+    (held : Colour → Held) (w w' : Colour → OutputState) (coming : ℕ → Option ℕ) (notes notes' : Knowing)
     → ((S : Colour) → held S ≡ nothing_held)
-    → Delivered r core played start (λ S. entry r start S) White w w' failed
-    → (T : List Event) × IsUnderWay r T core played failed n n held w w' coming coming
-started r core played failed n held w w' coming none (inl s) =
-    ([], all_started r core played failed n held w w' coming none s)
-started r core played failed n held w w' coming none (inr (c, s)) =
-    (FailsToWrite c ∷ [], one_started r core played failed n held w w' coming c none s)
+    → Delivered r core played start (λ S. entry r start S) White w w' failed notes notes'
+    → (T : List Event) × IsUnderWay r T core played failed n n held w w' coming coming notes notes'
+started r core played failed n held w w' coming notes notes' none (inl s) =
+    ([], all_started r core played failed n held w w' coming notes notes' none s)
+started r core played failed n held w w' coming notes notes' none (inr (c, s)) =
+    (FailsToWrite c ∷ [], one_started r core played failed n held w w' coming notes notes' c none s)
 
 -- ---- one event of d's output
 
 pub event_step : (r : Rules) (T : List Event) (e : Event) (d : Colour) (core core' : Core) (played played' : List Move)
     (failed failed' : Colour → Bool) (n n' n'' : Colour → InputState) (held held' : Colour → Held)
     (w w' w'' : Colour → OutputState) (coming coming' coming'' : ℕ → Option ℕ)
-    → IsUnderWay r T core played failed n n' held w w' coming coming'
+    (notes notes' between notes'' : Knowing)
+    → IsUnderWay r T core played failed n n' held w w' coming coming' notes notes'
+    → WasTold notes' between (e ∷ []) (λ S. [])
     → is_heard_of d e ≡ true → is_on (match_of r T).phase ≡ true → fits_next nothing_due (match_of r T) e ≡ true
     → IsSane r (after r (match_of r T) e)
     → ((S : Colour) → HearsAt S e (n' S) (n'' S) (held S) (held' S)) → Asked coming' coming'' (moment_in e)
     → Delivered r core' played' (after r (match_of r T) e) (λ S. block r (match_of r T) (after r (match_of r T) e) S) d
-    w' w'' failed'
-    → (T' : List Event) × IsUnderWay r T' core' played' failed' n n'' held' w w'' coming coming''
+    w' w'' failed' between notes''
+    → (T' : List Event) × IsUnderWay r T' core' played' failed' n n'' held' w w'' coming coming'' notes notes''
 event_step r T (Line c text k) d core core' played played' failed failed' n n' n'' held held' w w' w'' coming coming'
-    coming'' u is on fit sane hears asked (inl s) = (
+    coming'' notes notes' between notes'' u line is on fit sane hears asked (inl s) = (
       T ++ Line c text k ∷ [],
       all_step r T (Line c text k) core core' played played' failed failed' n n' n'' held held'
-          w w' w'' coming coming' coming'' u on refl fit sane hears asked s,
+          w w' w'' coming coming' coming'' notes notes' between notes'' u line on refl fit sane hears asked s,
     )
 event_step r T (OutputEnds c) d core core' played played' failed failed' n n' n'' held held' w w' w'' coming coming'
-    coming'' u is on fit sane hears asked (inl s) = (
+    coming'' notes notes' between notes'' u line is on fit sane hears asked (inl s) = (
       T ++ OutputEnds c ∷ [],
       all_step r T (OutputEnds c) core core' played played' failed failed' n n' n'' held held' w
-          w' w'' coming coming' coming'' u on refl fit sane hears asked s,
+          w' w'' coming coming' coming'' notes notes' between notes'' u line on refl fit sane hears asked s,
     )
 event_step r T (FailsToRead c) d core core' played played' failed failed' n n' n'' held held' w w' w'' coming coming'
-    coming'' u is on fit sane hears asked (inl s) = (
+    coming'' notes notes' between notes'' u line is on fit sane hears asked (inl s) = (
       T ++ FailsToRead c ∷ [],
       all_step r T (FailsToRead c) core core' played played' failed failed' n n' n'' held held'
-          w w' w'' coming coming' coming'' u on refl fit sane hears asked s,
+          w w' w'' coming coming' coming'' notes notes' between notes'' u line on refl fit sane hears asked s,
     )
 event_step r T (Line c text k) d core core' played played' failed failed' n n' n'' held held' w w' w'' coming coming'
-    coming'' u is on fit sane hears asked (inr (x, s)) = (
+    coming'' notes notes' between notes'' u line is on fit sane hears asked (inr (x, s)) = (
       T ++ Line c text k ∷ FailsToWrite x ∷ [],
       failed_step r T c text k core core' played played' failed failed' n n' n'' held held' w w' w''
-          coming coming' coming'' x u on fit sane hears asked
+          coming coming' coming'' notes notes' between notes'' x u line on fit sane hears asked
           (subst (λ (y : Colour). OneFailed r core' played' (after r (match_of r T) (Line c text k))
-          (λ S. block r (match_of r T) (after r (match_of r T) (Line c text k)) S) y w' w'' failed' x)
+          (λ S. block r (match_of r T) (after r (match_of r T) (Line c text k)) S) y w' w'' failed' between notes'' x)
           (sym (same_colour-true c d is)) s),
     )
 event_step r T (OutputEnds c) d core core' played played' failed failed' n n' n'' held held' w w' w'' coming coming'
-    coming'' u is on fit sane hears asked (inr (x, s)) = let no : false ≡ true = s.on in absurd cc
+    coming'' notes notes' between notes'' u line is on fit sane hears asked (inr (x, s)) = let no : false ≡ true = s.on in absurd cc
 event_step r T (FailsToRead c) d core core' played played' failed failed' n n' n'' held held' w w' w'' coming coming'
-    coming'' u is on fit sane hears asked (inr (x, s)) = let no : false ≡ true = s.on in absurd cc
+    coming'' notes notes' between notes'' u line is on fit sane hears asked (inr (x, s)) = let no : false ≡ true = s.on in absurd cc
 event_step r T (Opened c k) d core core' played played' failed failed' n n' n'' held held' w w' w'' coming coming'
-    coming'' u is on fit sane hears asked s = absurd cc
+    coming'' notes notes' between notes'' u line is on fit sane hears asked s = absurd cc
 event_step r T (FailsToWrite c) d core core' played played' failed failed' n n' n'' held held' w w' w'' coming coming'
-    coming'' u is on fit sane hears asked s = absurd cc
+    coming'' notes notes' between notes'' u line is on fit sane hears asked s = absurd cc
 
 -- ---- the moment at the end of an opening
 
@@ -388,19 +417,23 @@ none_given r m S = refl
 
 pub opened_step : (r : Rules) (T : List Event) (d : Colour) (k : ℕ) (core core' : Core) (played : List Move)
     (failed : Colour → Bool) (n n' : Colour → InputState) (held : Colour → Held) (w w' : Colour → OutputState)
-    (coming coming' coming'' : ℕ → Option ℕ)
-    → IsUnderWay r T core played failed n n' held w w' coming coming' → opens (match_of r T).phase d ≡ true
+    (coming coming' coming'' : ℕ → Option ℕ) (notes notes' notes'' : Knowing)
+    → IsUnderWay r T core played failed n n' held w w' coming coming' notes notes'
+    → WasTold notes' notes'' (Opened d k ∷ []) (λ S. []) → opens (match_of r T).phase d ≡ true
     → Asked coming' coming'' (k ∷ [])
     → Goes r core' played (record { answers = None; draw = None; entered = false }) [] (match_of r T)
     (after r (match_of r T) (Opened d k))
-    → IsUnderWay r (T ++ Opened d k ∷ []) core' played failed n n' held w w' coming coming''
-opened_step r T d k core core' played failed n n' held w w' coming coming' coming'' u opening asked goes =
+    → IsUnderWay r (T ++ Opened d k ∷ []) core' played failed n n' held w w' coming coming'' notes notes''
+opened_step r T d k core core' played failed n n' held w w' coming coming' coming'' notes notes' notes'' u line opening
+    asked goes =
     let on : is_on (match_of r T).phase ≡ true = opens_on (match_of r T).phase d opening in
-    all_step r T (Opened d k) core core' played played failed failed n n' n' held held w w' w' coming coming' coming'' u
-    on refl opening (sane_opened r (match_of r T) d k opening u.sane) (λ S. (refl, refl)) asked
+    all_step r T (Opened d k) core core' played played failed failed n n' n' held held w w' w' coming coming' coming''
+    notes notes' notes'' notes'' u line on refl opening (sane_opened r (match_of r T) d k opening u.sane) (λ S. (refl, refl)) asked
     (record {
       stands = goes.stands;
       puts = λ S. nothing_put (failed S) (w' S) _ (u.fine on S)
           (none_given r (after r (match_of r T) (Opened d k)) S ∙ goes.gives S);
       fine = λ h S. u.fine on S;
+      told = told_as notes'' notes'' [] (λ S. []) _
+          (λ S. none_given r (after r (match_of r T) (Opened d k)) S ∙ goes.gives S) (told_none notes'');
     })

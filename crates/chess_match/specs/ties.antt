@@ -3,5 +3,6 @@ pub mod Stands
 pub mod Chess
 pub mod Steps
 pub mod Told
+pub mod Noting
 pub mod Awaits
 pub mod Delivering

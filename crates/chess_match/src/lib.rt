@@ -15,6 +15,7 @@
 
 mod block;
 mod chess;
+mod giving;
 mod hello;
 mod laws;
 mod moments;
@@ -27,6 +28,7 @@ mod state;
 mod step;
 mod table;
 mod turn;
+mod witness;
 
 pub use laws::{
     clocks_do_not_underflow, each_is_told_the_others, lines_are_few, moves_are_read,
@@ -36,4 +38,5 @@ pub use laws::{
 pub use moments::Moments;
 pub use phase::Phase;
 pub use reason::{DrawClaim, MatchFault, Reason};
-pub use run::{ENGINE_LINE_LEN, Ends, MatchEnd, Setup, run_match};
+pub use run::{ENGINE_LINE_LEN, Ends, MatchEnd, Setup, run_match, run_match_watched};
+pub use witness::Witness;

@@ -10,23 +10,25 @@ ghost use Rattle.chess_match.specs.ties.Delivering.{by_side, by_turn, event_hear
 ghost use Rattle.engine_lines.specs.EngineLines.{kind_heard};
 ghost use Rattle.engine_lines.specs.Items.{items_of};
 ghost use Rattle.chess_match.specs.Match.{Match, FailsToWrite, after};
+ghost use Rattle.chess_match.specs.Notes.{WasTold};
 ghost use Rattle.chess_match.specs.Reasons.{declared_at};
 ghost use Rattle.chess_match.specs.Rules.{Rules};
-ghost use Rattle.chess_match.specs.Run.{Ports, Ran, Asked, text_heard};
+ghost use Rattle.chess_match.specs.Run.{Ports, Ran, RanBefore, Asked, text_heard};
 ghost use Rattle.engine_lines.specs.Seen.{seen};
-ghost use Rattle.chess_match.specs.Sent.{block, bytes_of};
+ghost use Rattle.chess_match.specs.Sent.{block, bytes_of, for};
 ghost use Rattle.chess_match.specs.ties.Stands.{Stands, Goes, given_block, items_in};
 ghost use Rattle.chess_match.specs.ties.Steps.{IsSane};
 ghost use Rattle.chess_match.specs.ties.Told.{SendsIf, IsTold};
 ghost use Rattle.chess_match.specs.Transcript.{is_on, reads, moment_in};
 ghost use Rattle.chess_match.specs.declared.run.TheConstants.{ENGINE_LINE_LEN};
 
+use crate::giving::tell_and_send;
 use crate::moments::Moments;
 use crate::phase::Phase;
 use crate::played::Played;
 use crate::reason::{MatchFault, Reason, first_fault};
-use crate::sending::send;
 use crate::state::{Core, ENTRY, Given};
+use crate::witness::{Silent, Witness};
 use byte_devices::{Input, Output, ReadFault};
 use chess_base::{Colour, Position};
 use chess_cecp::{Line, Lines};
@@ -111,6 +113,43 @@ pub fn run_match<R: Input, W: Output, M: Moments, B: Board>(
     ensures limit { game.new.limit ≡ game.old.limit }
     ensures outcome { verdict_now game.new.state ≡ None → outcome_now game.new.state ≡ result.outcome }
 {
+    run_match_watched(white, black, moments, setup, game, scratch, &mut Silent)
+}
+
+/// Plays one game as [`run_match`] does, and tells a witness of it as it goes.
+///
+/// In the contract the transcript is no longer any that there is: it is what the witness was told, in its order. It was
+/// also told all lines that each engine is sent. Each line is told before it is heard, and each block before it is
+/// written; that is only tested.
+pub fn run_match_watched<R: Input, W: Output, M: Moments, B: Board, L: Witness>(
+    white: &mut Ends<R, W>,
+    black: &mut Ends<R, W>,
+    moments: &mut M,
+    setup: &Setup,
+    game: &mut Game<B>,
+    scratch: &mut B,
+    witness: &mut L,
+) -> MatchEnd
+    ensures ran { RanBefore (L.told witness.old) (L.told witness.new) setup.now.start setup.now.level game.old game.new result
+        (record {
+          white_reader = R.seen white.old.reader;
+          white_writer = W.seen white.old.writer;
+          black_reader = R.seen black.old.reader;
+          black_writer = W.seen black.old.writer;
+        })
+        (record {
+          white_reader = R.seen white.new.reader;
+          white_writer = W.seen white.new.writer;
+          black_reader = R.seen black.new.reader;
+          black_writer = W.seen black.new.writer;
+        })
+        (M.coming moments.old) (M.coming moments.new) }
+
+    // The same in single facts.
+    ensures start { game.new.state.start ≡ setup.now.start }
+    ensures limit { game.new.limit ≡ game.old.limit }
+    ensures outcome { verdict_now game.new.state ≡ None → outcome_now game.new.state ≡ result.outcome }
+{
     game.restart(&setup.start);
     let mut core = Core::new(setup.level);
     let mut white_lines: Lines<ENGINE_LINE_LEN> = Lines::new();
@@ -118,6 +157,7 @@ pub fn run_match<R: Input, W: Output, M: Moments, B: Board>(
     let mut failed = deliver(
         &mut white.writer,
         &mut black.writer,
+        witness,
         &mut core,
         game,
         scratch,
@@ -130,6 +170,7 @@ pub fn run_match<R: Input, W: Output, M: Moments, B: Board>(
             Awaited::Nothing(reason) => return end_of(core, game, reason, failed),
             Awaited::Moment(side) => {
                 let moment = moments.now();
+                witness.opened(side, moment);
                 core.open(side, moment);
             }
             Awaited::Line(side) => {
@@ -140,14 +181,16 @@ pub fn run_match<R: Input, W: Output, M: Moments, B: Board>(
                     &mut black_lines,
                     side,
                 );
-                failed = hear(
+                let (given, text) = note(&mut core, moments, witness, game, &heard, side);
+                failed = deliver(
                     &mut white.writer,
                     &mut black.writer,
-                    moments,
+                    witness,
                     &mut core,
                     game,
                     scratch,
-                    &heard,
+                    given,
+                    text,
                     side,
                 );
             }
@@ -209,9 +252,10 @@ pub(crate) struct Failed {
 }
 
 // Sends each side its block of an end, White first.
-fn send_both<W: Output, G: Played, S: Board>(
+fn send_both<W: Output, L: Witness, G: Played, S: Board>(
     white: &mut W,
     black: &mut W,
+    witness: &mut L,
     core: &Core,
     game: &G,
     scratch: &mut S,
@@ -223,10 +267,31 @@ fn send_both<W: Output, G: Played, S: Board>(
         → SendsIf result.white (W.seen white.old) (W.seen white.new)
         (bytes_of (given_block r given (items_of text.now) m Colour.White))
         × SendsIf result.black (W.seen black.old) (W.seen black.new)
-        (bytes_of (given_block r given (items_of text.now) m Colour.Black)) }
+        (bytes_of (given_block r given (items_of text.now) m Colour.Black))
+        × WasTold (L.told witness.old) (L.told witness.new) [] (given_block r given (items_of text.now) m) }
 {
-    let white_failed = send(white, core, game, scratch, given, text, Colour::White).is_err();
-    let black_failed = send(black, core, game, scratch, given, text, Colour::Black).is_err();
+    let white_failed = tell_and_send(
+        white,
+        witness,
+        core,
+        game,
+        scratch,
+        given,
+        text,
+        Colour::White,
+    )
+    .is_err();
+    let black_failed = tell_and_send(
+        black,
+        witness,
+        core,
+        game,
+        scratch,
+        given,
+        text,
+        Colour::Black,
+    )
+    .is_err();
     Failed {
         white: white_failed,
         black: black_failed,
@@ -235,8 +300,9 @@ fn send_both<W: Output, G: Played, S: Board>(
 
 // A write to a side's engine failed, which ends the match: the other is sent its end lines. Whether a
 // write to it fails too.
-fn end_for_other<W: Output, G: Played, S: Board>(
+fn end_for_other<W: Output, L: Witness, G: Played, S: Board>(
     others: &mut W,
+    witness: &mut L,
     core: &mut Core,
     game: &G,
     scratch: &mut S,
@@ -247,17 +313,31 @@ fn end_for_other<W: Output, G: Played, S: Board>(
     ensures { (r : Rules) (m : Match) → G.plays game.now r → Stands r core.old (G.played game.now) m
         → Stands r core.new (G.played game.now) (after r m (FailsToWrite side))
         × SendsIf result (W.seen others.old) (W.seen others.new)
-        (bytes_of (block r m (after r m (FailsToWrite side)) (other side))) }
+        (bytes_of (block r m (after r m (FailsToWrite side)) (other side)))
+        × WasTold (L.told witness.old) (L.told witness.new) (FailsToWrite side ∷ [])
+        (λ X. for (other side) X (block r m (after r m (FailsToWrite side)) (other side))) }
 {
+    witness.write_fails(side);
     let given = core.write_fails(side);
-    send(others, core, game, scratch, given, b"", side.other()).is_err()
+    tell_and_send(
+        others,
+        witness,
+        core,
+        game,
+        scratch,
+        given,
+        b"",
+        side.other(),
+    )
+    .is_err()
 }
 
 // Sends the blocks of an event in a match that is on, first to the side of which it came. Whether a write to that side
 // failed, and whether one to the other.
-fn send_in_turn<W: Output, G: Played, S: Board>(
+fn send_in_turn<W: Output, L: Witness, G: Played, S: Board>(
     own: &mut W,
     others: &mut W,
+    witness: &mut L,
     core: &mut Core,
     game: &G,
     scratch: &mut S,
@@ -270,14 +350,25 @@ fn send_in_turn<W: Output, G: Played, S: Board>(
     ensures { (r : Rules) (m : Match) → G.plays game.now r → Stands r core.old (G.played game.now) m
         → Delivered r core.new (G.played game.now) m (given_block r given (items_of text.now) m) side
         (by_turn side (W.seen own.old) (W.seen others.old)) (by_turn side (W.seen own.new) (W.seen others.new))
-        (by_turn side result.0 result.1) }
+        (by_turn side result.0 result.1) (L.told witness.old) (L.told witness.new) }
 {
-    if send(own, core, game, scratch, given, text, side).is_err() {
-        let others_failed = end_for_other(others, core, game, scratch, side);
+    if tell_and_send(own, witness, core, game, scratch, given, text, side).is_err() {
+        let others_failed = end_for_other(others, witness, core, game, scratch, side);
         return (true, others_failed);
     }
-    if send(others, core, game, scratch, given, text, side.other()).is_err() {
-        let own_failed = end_for_other(own, core, game, scratch, side.other());
+    if tell_and_send(
+        others,
+        witness,
+        core,
+        game,
+        scratch,
+        given,
+        text,
+        side.other(),
+    )
+    .is_err()
+    {
+        let own_failed = end_for_other(own, witness, core, game, scratch, side.other());
         return (own_failed, true);
     }
     (false, false)
@@ -285,9 +376,10 @@ fn send_in_turn<W: Output, G: Played, S: Board>(
 
 // Sends the blocks of an event: first to the side of which it came, and at the end to White and then to Black. A write
 // that fails ends the match.
-fn deliver<W: Output, G: Played, S: Board>(
+fn deliver<W: Output, L: Witness, G: Played, S: Board>(
     white: &mut W,
     black: &mut W,
+    witness: &mut L,
     core: &mut Core,
     game: &G,
     scratch: &mut S,
@@ -299,21 +391,25 @@ fn deliver<W: Output, G: Played, S: Board>(
     ensures { (r : Rules) (m : Match) → G.plays game.now r → Stands r core.old (G.played game.now) m
         → Delivered r core.new (G.played game.now) m (given_block r given (items_of text.now) m) side
         (by_side (W.seen white.old) (W.seen black.old)) (by_side (W.seen white.new) (W.seen black.new))
-        (by_side result.white result.black) }
+        (by_side result.white result.black) (L.told witness.old) (L.told witness.new) }
 {
     if core.is_over() {
-        return send_both(white, black, core, game, scratch, given, text);
+        return send_both(white, black, witness, core, game, scratch, given, text);
     }
     match side {
         Colour::White => {
-            let (own, others) = send_in_turn(white, black, core, game, scratch, given, text, side);
+            let (own, others) = send_in_turn(
+                white, black, witness, core, game, scratch, given, text, side,
+            );
             Failed {
                 white: own,
                 black: others,
             }
         }
         Colour::Black => {
-            let (own, others) = send_in_turn(black, white, core, game, scratch, given, text, side);
+            let (own, others) = send_in_turn(
+                black, white, witness, core, game, scratch, given, text, side,
+            );
             Failed {
                 white: others,
                 black: own,
@@ -367,9 +463,10 @@ fn said(line: &Line<ENGINE_LINE_LEN>) -> EngineLine<'_>
 
 // Hears a line of a side's engine, and then asks for the moment. What is to be sent, and the text of the
 // items to be answered.
-fn hear_line<'a, M: Moments, G: Played>(
+fn hear_line<'a, M: Moments, L: Witness, G: Played>(
     core: &mut Core,
     moments: &mut M,
+    witness: &mut L,
     game: &mut G,
     line: &'a Line<ENGINE_LINE_LEN>,
     side: Colour,
@@ -379,12 +476,14 @@ fn hear_line<'a, M: Moments, G: Played>(
     ensures rules { (r : Rules) → G.plays game.old r → G.plays game.new r }
     ensures origin { G.origin game.new ≡ G.origin game.old }
     ensures heard { (moment : ℕ) × Asked (M.coming moments.old) (M.coming moments.new) (moment ∷ [])
+        × WasTold (L.told witness.old) (L.told witness.new) (line_event side line.now moment ∷ []) (λ X. [])
         × ((r : Rules) (m : Match) → G.plays game.old r → reads m.phase side ≡ true
         → Stands r core.old (G.played game.old) m
         → Goes r core.new (G.played game.new) result.0 (items_of result.1.now) m
         (after r m (line_event side line.now moment))) }
 {
     let moment = moments.now();
+    witness.line(side, line, moment);
     let said = said(line);
     let text = items_text(core.phase, said);
     let given = core.line(game, said, moment);
@@ -393,9 +492,10 @@ fn hear_line<'a, M: Moments, G: Played>(
 
 // Hears what a call for the next line of a side's engine gave. What is to be sent, and the text of the
 // items to be answered.
-fn note<'a, M: Moments, G: Played>(
+fn note<'a, M: Moments, L: Witness, G: Played>(
     core: &mut Core,
     moments: &mut M,
+    witness: &mut L,
     game: &mut G,
     heard: &'a Result<Option<Line<ENGINE_LINE_LEN>>, ReadFault>,
     side: Colour,
@@ -406,50 +506,30 @@ fn note<'a, M: Moments, G: Played>(
     ensures origin { G.origin game.new ≡ G.origin game.old }
     ensures heard { (moment : ℕ)
         × Asked (M.coming moments.old) (M.coming moments.new) (moment_in (event_heard side moment heard.now))
+        × WasTold (L.told witness.old) (L.told witness.new) (event_heard side moment heard.now ∷ []) (λ X. [])
         × ((r : Rules) (m : Match) → G.plays game.old r → reads m.phase side ≡ true
         → Stands r core.old (G.played game.old) m
         → Goes r core.new (G.played game.new) result.0 (items_of result.1.now) m
         (after r m (event_heard side moment heard.now))) }
 {
     match heard {
-        Err(_) => (core.read_fails(side), b"".as_slice()),
-        Ok(None) => (core.output_ends(side), b"".as_slice()),
+        Err(_) => {
+            witness.read_fails(side);
+            (core.read_fails(side), b"".as_slice())
+        }
+        Ok(None) => {
+            witness.output_ends(side);
+            (core.output_ends(side), b"".as_slice())
+        }
         Ok(Some(line)) => {
             if is_heard(line) {
-                hear_line(core, moments, game, line, side)
+                hear_line(core, moments, witness, game, line, side)
             } else {
+                witness.output_ends(side);
                 (core.output_ends(side), b"".as_slice())
             }
         }
     }
-}
-
-// Hears what a call for the next line of a side's engine gave, and sends what that gives.
-fn hear<W: Output, M: Moments, G: Played, S: Board>(
-    white: &mut W,
-    black: &mut W,
-    moments: &mut M,
-    core: &mut Core,
-    game: &mut G,
-    scratch: &mut S,
-    heard: &Result<Option<Line<ENGINE_LINE_LEN>>, ReadFault>,
-    side: Colour,
-) -> Failed
-    requires { (r : Rules) × (m : Match) × (G.plays game.old r) × Stands r core.old (G.played game.old) m × IsSane r m
-        × (reads m.phase side ≡ true) }
-    ensures rules { (r : Rules) → G.plays game.old r → G.plays game.new r }
-    ensures origin { G.origin game.new ≡ G.origin game.old }
-    ensures heard { (moment : ℕ)
-        × Asked (M.coming moments.old) (M.coming moments.new) (moment_in (event_heard side moment heard.now))
-        × ((r : Rules) (m : Match) → G.plays game.old r → reads m.phase side ≡ true
-        → Stands r core.old (G.played game.old) m
-        → Delivered r core.new (G.played game.new) (after r m (event_heard side moment heard.now))
-        (block r m (after r m (event_heard side moment heard.now))) side
-        (by_side (W.seen white.old) (W.seen black.old)) (by_side (W.seen white.new) (W.seen black.new))
-        (by_side result.white result.black)) }
-{
-    let (given, text) = note(core, moments, game, heard, side);
-    deliver(white, black, core, game, scratch, given, text, side)
 }
 
 // Declares the end where the game has no verdict.

@@ -397,7 +397,7 @@ fn answer_own_items<W: Output>(
 
 // The offer of a draw, if that side is told one.
 #[tactic(auto, unfolding(crate::specs::Sent::bytes_of))]
-fn add_offer(block: &mut Block, given: Given, side: Colour)
+pub(crate) fn add_offer(block: &mut Block, given: Given, side: Colour)
     requires { array_vec_len block.old + 10 ≤ BLOCK_LEN }
     ensures text { block.new.items ≡ block.old.items ++ bytes_of (to given.draw side (DrawOffered ∷ [])) }
     ensures len { array_vec_len block.new ≤ array_vec_len block.old + 10 }
@@ -414,7 +414,7 @@ fn add_offer(block: &mut Block, given: Given, side: Colour)
 
 // What the phase gives, if it was entered.
 #[tactic(auto, using(crate::proofs::Sends::same_end))]
-fn add_entered<G: Played, S: Board>(
+pub(crate) fn add_entered<G: Played, S: Board>(
     block: &mut Block,
     core: &Core,
     game: &G,

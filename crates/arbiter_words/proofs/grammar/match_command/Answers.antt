@@ -3,7 +3,7 @@
 use Rattle.std.proofs.Common.{rules, ◌≡◌, ◌∙◌, ap₂, codes, Bool, ◌||◌}
 use Rattle.std.proofs.lemmas.Result.{IfOk-weaker}
 use Rattle.clap.specs.Words.{rule_of, with_rule}
-use Rattle.arbiter_words.specs.Grammar.{option_rule, needed}
+use Rattle.arbiter_words.specs.Grammar.{option_rule, flag_rule, needed}
 use Rattle.arbiter_words.proofs.grammar.match_command.Goals as goal
 
 pub returns-clause-app : goal.returns-clause-app
@@ -20,9 +20,11 @@ returns-clause-app c =
     let e4 = c.in_ok-arg-4.ensures.shape c.option-2.ensures.local ∙ ap₂ with_rule e3 fen in
     let e5 = c.in_ok-arg-5.ensures.shape c.games_option.ensures.local ∙ ap₂ with_rule e4 c.games_option.ensures.rule in
     let e6 = c.in_ok-arg-6.ensures.shape c.option-3.ensures.local ∙ ap₂ with_rule e5 date in
-    IfOk-weaker c.arg-7.result _ _
-    (λ r h. (variant.0, variant.1, h.shape c.variant_option.ensures.local ∙ ap₂ with_rule e6 variant.2))
-    c.arg-7.ensures
+    let e7 = c.in_ok-arg-7.ensures.shape c.variant_option.ensures.local ∙ ap₂ with_rule e6 variant.2 in
+    let log : rule_of c.flag.result ≡ flag_rule (codes "log") = search rules in
+    IfOk-weaker c.arg-8.result _ _
+    (λ r h. (variant.0, variant.1, h.shape c.flag.ensures.local ∙ ap₂ with_rule e7 log))
+    c.arg-8.ensures
 
 pub returns-clause-local : goal.returns-clause-local
 returns-clause-local c =
@@ -33,4 +35,5 @@ returns-clause-local c =
     let e4 = c.in_ok-arg-4.ensures.globals ∙ ap₂ or e3 c.option-2.ensures.local in
     let e5 = c.in_ok-arg-5.ensures.globals ∙ ap₂ or e4 c.games_option.ensures.local in
     let e6 = c.in_ok-arg-6.ensures.globals ∙ ap₂ or e5 c.option-3.ensures.local in
-    IfOk-weaker c.arg-7.result _ _ (λ r h. h.globals ∙ ap₂ or e6 c.variant_option.ensures.local) c.arg-7.ensures
+    let e7 = c.in_ok-arg-7.ensures.globals ∙ ap₂ or e6 c.variant_option.ensures.local in
+    IfOk-weaker c.arg-8.result _ _ (λ r h. h.globals ∙ ap₂ or e7 c.flag.ensures.local) c.arg-8.ensures

@@ -40,4 +40,5 @@ returns-clause-given c =
       games_range = search rules;
       date = search rules;
       variant = search rules;
+      log = search rules;
     }

@@ -2,44 +2,53 @@
 use Rattle.std.proofs.Common.{ap, sym, ◌∙◌, Ok}
 use Rattle.chess_match.proofs.Delivers.{IsNoted, heard_failed, heard_none, heard_last, goes_bare}
 use Rattle.chess_match.proofs.Going.{reads_on}
+use Rattle.chess_match.proofs.Notings.{told_event}
 use Rattle.chess_match.proofs.Runs.{asked_none}
+use Rattle.chess_match.specs.Match.{FailsToRead, OutputEnds}
 use Rattle.chess_match.proofs.run.note.Goals as goal
 
 pub returns-in-Err-clause-heard : goal.returns-in-Err-clause-heard
 returns-in-Err-clause-heard g c =
     let n = heard_failed (IsNoted (g.G.Played.plays c.args.game.now) c.args.core.now (g.G.Played.played c.args.game.now)
-    c.read_fails.new.self (g.G.Played.played c.args.game.now) c.read_fails.result c.as_slice.result.now c.args.side
-    (g.M.Moments.coming c.args.moments.now) (g.M.Moments.coming c.args.moments.now))
+    c.read_fails-in-Err.new.self (g.G.Played.played c.args.game.now) c.read_fails-in-Err.result c.as_slice.result.now c.args.side
+    (g.M.Moments.coming c.args.moments.now) (g.M.Moments.coming c.args.moments.now)
+    (g.L.Witness.told c.args.witness.now) (g.L.Witness.told c.read_fails.new.self))
     c.args.side 0 c.args.heard.now c.in-Err.field-0 c.in-Err.is (
       asked_none _,
+      told_event _ _ (FailsToRead c.args.side) c.read_fails.ensures,
       λ r m p h s. goes_bare r _ _ _ _ m _ c.as_slice.ensures
-          (c.read_fails.ensures r _ m (reads_on m.phase c.args.side h) s),
+          (c.read_fails-in-Err.ensures r _ m (reads_on m.phase c.args.side h) s),
     ) in
-    (0, n.0, n.1)
+    (0, n.0, n.1, n.2)
 
 pub returns-in-Ok-None-clause-heard : goal.returns-in-Ok-None-clause-heard
 returns-in-Ok-None-clause-heard g c =
     let n = heard_none (IsNoted (g.G.Played.plays c.args.game.now) c.args.core.now (g.G.Played.played c.args.game.now)
-    c.output_ends.new.self (g.G.Played.played c.args.game.now) c.output_ends.result c.as_slice-in-Ok-None.result.now
-    c.args.side (g.M.Moments.coming c.args.moments.now) (g.M.Moments.coming c.args.moments.now))
+    c.output_ends-in-Ok-None.new.self (g.G.Played.played c.args.game.now) c.output_ends-in-Ok-None.result
+    c.as_slice-in-Ok-None.result.now
+    c.args.side (g.M.Moments.coming c.args.moments.now) (g.M.Moments.coming c.args.moments.now)
+    (g.L.Witness.told c.args.witness.now) (g.L.Witness.told c.output_ends.new.self))
     c.args.side 0 c.args.heard.now (c.in-Ok-None.is ∙ ap (λ o. Ok o) (rw c.in-Ok-None.is at c.in-Ok-None.field-0-is)) (
       asked_none _,
+      told_event _ _ (OutputEnds c.args.side) c.output_ends.ensures,
       λ r m p h s. goes_bare r _ _ _ _ m _ c.as_slice-in-Ok-None.ensures
-          (c.output_ends.ensures r _ m (reads_on m.phase c.args.side h) s),
+          (c.output_ends-in-Ok-None.ensures r _ m (reads_on m.phase c.args.side h) s),
     ) in
-    (0, n.0, n.1)
+    (0, n.0, n.1, n.2)
 
 pub returns-else-is_heard-clause-heard : goal.returns-else-is_heard-clause-heard
 returns-else-is_heard-clause-heard g c =
     let n = heard_last (IsNoted (g.G.Played.plays c.args.game.now) c.args.core.now (g.G.Played.played c.args.game.now)
-    c.output_ends-else-is_heard.new.self (g.G.Played.played c.args.game.now) c.output_ends-else-is_heard.result
+    c.output_ends-else-is_heard-2.new.self (g.G.Played.played c.args.game.now) c.output_ends-else-is_heard-2.result
     c.as_slice-else-is_heard.result.now c.args.side (g.M.Moments.coming c.args.moments.now)
-    (g.M.Moments.coming c.args.moments.now))
+    (g.M.Moments.coming c.args.moments.now) (g.L.Witness.told c.args.witness.now)
+    (g.L.Witness.told c.output_ends-else-is_heard.new.self))
     c.args.side 0 c.args.heard.now c.in-Ok-Some.line
     (c.in-Ok-Some.is ∙ ap (λ o. Ok o) (rw c.in-Ok-Some.is at c.in-Ok-Some.field-0-is))
     (sym c.is_heard.ensures ∙ c.if-is_heard.false) (
       asked_none _,
+      told_event _ _ (OutputEnds c.args.side) c.output_ends-else-is_heard.ensures,
       λ r m p h s. goes_bare r _ _ _ _ m _ c.as_slice-else-is_heard.ensures
-          (c.output_ends-else-is_heard.ensures r _ m (reads_on m.phase c.args.side h) s),
+          (c.output_ends-else-is_heard-2.ensures r _ m (reads_on m.phase c.args.side h) s),
     ) in
-    (0, n.0, n.1)
+    (0, n.0, n.1, n.2)

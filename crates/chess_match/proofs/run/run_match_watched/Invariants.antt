@@ -4,7 +4,7 @@ use Rattle.chess_match.specs.ties.Delivering.{by_side}
 use Rattle.chess_match.specs.Match.{Event}
 use Rattle.chess_match.specs.Rules.{rules_of}
 use Rattle.chess_match.proofs.UnderWay.{IsUnderWay, steps_left}
-use Rattle.chess_match.proofs.run.run_match.Given as goal
+use Rattle.chess_match.proofs.run.run_match_watched.Given as goal
 
 abbrev pub invariant-events : goal.invariant-events
 invariant-events g l =
@@ -16,6 +16,7 @@ invariant-events g l =
     (by_side (g.W.Output.seen l.fn.white.writer) (g.W.Output.seen l.fn.black.writer))
     (by_side (g.W.Output.seen l.white.writer) (g.W.Output.seen l.black.writer))
     (g.M.Moments.coming l.fn.moments) (g.M.Moments.coming l.moments)
+    (g.L.Witness.told l.fn.witness) (g.L.Witness.told l.witness)
     × (l.game.state.start ≡ l.fn.setup.start) × (l.game.limit ≡ l.fn.game.limit) × (l.game.state.declared ≡ None)
 
 abbrev pub decreases-events : goal.decreases-events

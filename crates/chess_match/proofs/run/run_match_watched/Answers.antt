@@ -5,19 +5,21 @@ use Rattle.chess_base.specs.declared.man.Move.{Move}
 use Rattle.chess_base.specs.declared.setup.Setup.{Setup}
 use Rattle.chess_cecp.specs.Lines.{nothing_held}
 use Rattle.chess_game.specs.Game as game
-use Rattle.chess_match.specs.ties.Delivering.{by_side}
-use Rattle.chess_match.specs.Match.{Match, Opened, start}
+use Rattle.chess_match.specs.ties.Delivering.{by_side, event_heard}
+use Rattle.chess_match.specs.Match.{Match, Opened, start, after}
 use Rattle.chess_match.specs.Rules.{Rules, rules_of}
+use Rattle.chess_match.specs.Sent.{block}
 use Rattle.chess_match.specs.ties.Stands.{Stands}
 use Rattle.chess_match.specs.Transcript.{match_of, reads, opens}
 use Rattle.chess_match.specs.declared.phase.Phase.{Phase}
 use Rattle.chess_match.proofs.Delivers.{both_sides}
 use Rattle.chess_match.proofs.Finished.{ran, told_outcome}
-use Rattle.chess_match.proofs.LinesRead.{heard_less}
+use Rattle.chess_match.proofs.LinesRead.{heard_less, heard_sane}
 use Rattle.chess_match.proofs.RunSteps.{rules_level, plays_anew, plays_on, begun, heard_on, opened_left}
+use Rattle.chess_match.proofs.Notings.{told_event}
 use Rattle.chess_match.proofs.Runs.{asked_one}
-use Rattle.chess_match.proofs.UnderWays.{opened_step}
-use Rattle.chess_match.proofs.run.run_match.Goals as goal
+use Rattle.chess_match.proofs.UnderWays.{opened_step, delivered_by}
+use Rattle.chess_match.proofs.run.run_match_watched.Goals as goal
 
 pub deliver-failed-requires : goal.deliver-failed-requires
 deliver-failed-requires g c =
@@ -42,7 +44,7 @@ events-init g c =
     let b = begun r _ _ _ (by_side c.deliver-failed.result.white c.deliver-failed.result.black)
     (by_side (g.R.Input.seen c.args.white.now.reader) (g.R.Input.seen c.args.black.now.reader))
     (by_side c.new-white_lines.result c.new-black_lines.result)
-    _ _ (g.M.Moments.coming c.args.moments.now)
+    _ _ (g.M.Moments.coming c.args.moments.now) _ _
     (both_sides (λ S. by_side c.new-white_lines.result c.new-black_lines.result S ≡ nothing_held)
     c.new-white_lines.ensures c.new-black_lines.ensures) d in (
       b.0,
@@ -62,7 +64,7 @@ returns-in-Nothing-clause-ran g c =
     (g.R.Input.seen c.events.white.reader) (g.R.Input.seen c.events.black.reader)
     (by_side c.events.white_lines c.events.black_lines)
     (g.W.Output.seen c.args.white.now.writer) (g.W.Output.seen c.args.black.now.writer)
-    (g.W.Output.seen c.events.white.writer) (g.W.Output.seen c.events.black.writer) _ _
+    (g.W.Output.seen c.events.white.writer) (g.W.Output.seen c.events.black.writer) _ _ _ _
     i.1 c.in-Nothing.ensures c.end_of.ensures.told c.end_of.ensures.white_name c.end_of.ensures.black_name i.2 i.3
     c.end_of.ensures.game
 
@@ -96,11 +98,27 @@ events-preserved-in-Moment g c =
     (sym i.1.stands.phase) ∙ c.in-Moment.ensures in
     let goes = c.open.ensures r _ (match_of r i.0) opening i.1.stands in (
       i.0 ++ Opened c.in-Moment.side c.now-moment.result ∷ [],
-      opened_step r i.0 c.in-Moment.side c.now-moment.result _ _ _ _ _ _ _ _ _ _ _ _ i.1 opening
+      opened_step r i.0 c.in-Moment.side c.now-moment.result _ _ _ _ _ _ _ _ _ _ _ _ _ _ _ i.1
+          (told_event _ _ (Opened c.in-Moment.side c.now-moment.result) c.opened.ensures) opening
           (asked_one _ _ c.now-moment.result c.now-moment.ensures.moment c.now-moment.ensures.rest) goes,
       i.2,
       i.3,
       i.4,
+    )
+
+pub deliver-failed-requires-in-Line : goal.deliver-failed-requires-in-Line
+deliver-failed-requires-in-Line g c =
+    let i = c.events.invariant in
+    let r : Rules = rules_of c.args.setup.now.start c.args.setup.now.level c.args.game.now.limit in
+    let m : Match = match_of r i.0 in
+    let S : Colour = c.in-Line.side in
+    let reading : reads m.phase S ≡ true = ap (λ (p : Phase). reads p S) (sym i.1.stands.phase) ∙ c.in-Line.ensures in
+    let plays = plays_on c.args.game.now c.events.game c.args.setup.now.start c.args.setup.now.level i.2 i.3 i.4 in
+    let h = c.note.ensures.heard in (
+      r,
+      after r m (event_heard S h.0 c.next_line-heard.result),
+      (h.3 r m plays reading i.1.stands).stands,
+      (heard_sane r m S h.0 c.next_line-heard.result i.1.sane).untold,
     )
 
 pub events-smaller : goal.events-smaller
@@ -110,14 +128,16 @@ events-smaller g c =
     let m : Match = match_of r i.0 in
     let S : Colour = c.in-Line.side in
     let reading : reads m.phase S ≡ true = ap (λ (p : Phase). reads p S) (sym i.1.stands.phase) ∙ c.in-Line.ensures in
-    let h = c.hear-failed.ensures.heard in
-    let d = h.2 r m (plays_on c.args.game.now c.events.game c.args.setup.now.start c.args.setup.now.level i.2 i.3 i.4)
-    reading i.1.stands in
-    heard_less r c.events.core.phase c.hear-failed.new.core _ m S h.0 c.next_line-heard.result _
+    let plays = plays_on c.args.game.now c.events.game c.args.setup.now.start c.args.setup.now.level i.2 i.3 i.4 in
+    let h = c.note.ensures.heard in
+    let goes = h.3 r m plays reading i.1.stands in
+    let d = delivered_by r _ _ _ _ (block r m (after r m (event_heard S h.0 c.next_line-heard.result))) S _ _ _ _ _
+    goes.gives (c.deliver-failed-in-Line.ensures r _ (c.note.ensures.rules r plays) goes.stands) in
+    heard_less r c.events.core.phase c.deliver-failed-in-Line.new.core _ m S h.0 c.next_line-heard.result _
     (by_side (g.R.Input.seen c.events.white.reader) (g.R.Input.seen c.events.black.reader))
     (by_side (g.R.Input.seen c.next_line-heard.new.white) (g.R.Input.seen c.next_line-heard.new.black))
     (by_side c.events.white_lines c.events.black_lines)
-    (by_side c.next_line-heard.new.white_lines c.next_line-heard.new.black_lines) _ _ _
+    (by_side c.next_line-heard.new.white_lines c.next_line-heard.new.black_lines) _ _ _ _ _
     c.in-Line.ensures c.next_line-heard.ensures.next c.next_line-heard.ensures.others c.next_line-heard.ensures.held d
 
 pub events-preserved : goal.events-preserved
@@ -128,23 +148,25 @@ events-preserved g c =
     let S : Colour = c.in-Line.side in
     let reading : reads m.phase S ≡ true = ap (λ (p : Phase). reads p S) (sym i.1.stands.phase) ∙ c.in-Line.ensures in
     let plays = plays_on c.args.game.now c.events.game c.args.setup.now.start c.args.setup.now.level i.2 i.3 i.4 in
-    let h = c.hear-failed.ensures.heard in
-    let d = h.2 r m plays reading i.1.stands in
-    let u = heard_on r i.0 S h.0 c.next_line-heard.result c.events.core c.hear-failed.new.core _ _
+    let h = c.note.ensures.heard in
+    let goes = h.3 r m plays reading i.1.stands in
+    let d = delivered_by r _ _ _ _ (block r m (after r m (event_heard S h.0 c.next_line-heard.result))) S _ _ _ _ _
+    goes.gives (c.deliver-failed-in-Line.ensures r _ (c.note.ensures.rules r plays) goes.stands) in
+    let u = heard_on r i.0 S h.0 c.next_line-heard.result c.events.core c.deliver-failed-in-Line.new.core _ _
     (by_side c.events.failed.white c.events.failed.black)
-    (by_side c.hear-failed.result.white c.hear-failed.result.black)
+    (by_side c.deliver-failed-in-Line.result.white c.deliver-failed-in-Line.result.black)
     (by_side (g.R.Input.seen c.args.white.now.reader) (g.R.Input.seen c.args.black.now.reader))
     (by_side (g.R.Input.seen c.events.white.reader) (g.R.Input.seen c.events.black.reader))
     (by_side (g.R.Input.seen c.next_line-heard.new.white) (g.R.Input.seen c.next_line-heard.new.black))
     (by_side c.events.white_lines c.events.black_lines)
     (by_side c.next_line-heard.new.white_lines c.next_line-heard.new.black_lines)
-    (by_side (g.W.Output.seen c.args.white.now.writer) (g.W.Output.seen c.args.black.now.writer)) _ _ _ _ _
+    (by_side (g.W.Output.seen c.args.white.now.writer) (g.W.Output.seen c.args.black.now.writer)) _ _ _ _ _ _ _ _ _
     i.1 c.in-Line.ensures c.next_line-heard.ensures.next c.next_line-heard.ensures.others c.next_line-heard.ensures.held
-    h.1 d in (
+    h.1 h.2 d in (
       u.0,
       u.1,
-      ap (λ (x : Setup × ℕ). x.0) c.hear-failed.ensures.origin
+      ap (λ (x : Setup × ℕ). x.0) c.note.ensures.origin
           ∙ i.2,
-      ap (λ (x : Setup × ℕ). x.1) c.hear-failed.ensures.origin ∙ i.3,
-      (c.hear-failed.ensures.rules r plays).2,
+      ap (λ (x : Setup × ℕ). x.1) c.note.ensures.origin ∙ i.3,
+      (c.note.ensures.rules r plays).2,
     )

@@ -1,0 +1,11 @@
+use Rattle.std.proofs.Common.{◌≡◌, ℕ, List, ◌++◌, drop}
+use Rattle.chess_arbiter.specs.Log.{Adds, ends_line, given_text, head}
+use Rattle.chess_arbiter.proofs.log.Pending.add_given.Given as goal
+
+-- what was written, with what is left, is all of it
+abbrev pub invariant-loop-byte : goal.invariant-loop-byte
+invariant-loop-byte g l =
+    (done : List ℕ) × Adds (g.E.Output.seen l.fn.output) (g.E.Output.seen l.output) l.fn.self l.self done
+    × (done ++ given_text (head l.place.moment 62 l.is_first) l.at_start (drop l.byte-index l.text)
+    ≡ given_text (head l.place.moment 62 l.is_first) l.place.at_start l.text)
+    × (ends_line l.at_start (drop l.byte-index l.text) ≡ ends_line l.place.at_start l.text)

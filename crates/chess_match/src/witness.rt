@@ -1,0 +1,65 @@
+//! What is told of a match as it goes.
+
+ghost use Rattle.std.specs.Prelude.{◌∷◌, []};
+ghost use Rattle.chess_match.specs.Match as events;
+ghost use Rattle.chess_match.specs.Notes.{Happened, Gives, WasNoted};
+ghost use Rattle.chess_match.specs.Run.{text_heard};
+
+use crate::run::ENGINE_LINE_LEN;
+use chess_base::Colour;
+use chess_cecp::Line;
+
+/// What is told of a match as it goes: each event of its transcript, and what each engine is given.
+pub trait Witness {
+    ghost use Rattle.std.specs.Prelude.{List, ℕ};
+    ghost use Rattle.chess_match.specs.Notes.{Note};
+
+    /// What contracts see of it: whether it may have been told these notes, in their order, behind a text that it held
+    /// before.
+    ghost told: { Self → List ℕ → List Note → Type 0 };
+
+    /// A side's engine sent a line; the moment was asked for behind it.
+    fn line(&mut self, side: Colour, line: &Line<ENGINE_LINE_LEN>, moment: u64)
+        ensures { WasNoted (told self.old) (told self.new)
+            (Happened (events.Line side (text_heard line.now) moment) ∷ []) };
+
+    /// The opening of that side's turn was sent; the moment at its end.
+    fn opened(&mut self, side: Colour, moment: u64)
+        ensures { WasNoted (told self.old) (told self.new) (Happened (events.Opened side moment) ∷ []) };
+
+    /// A side's engine ended its output.
+    fn output_ends(&mut self, side: Colour)
+        ensures { WasNoted (told self.old) (told self.new) (Happened (events.OutputEnds side) ∷ []) };
+
+    /// A read of a side's engine failed.
+    fn read_fails(&mut self, side: Colour)
+        ensures { WasNoted (told self.old) (told self.new) (Happened (events.FailsToRead side) ∷ []) };
+
+    /// A write to a side's engine failed, which ended the match.
+    fn write_fails(&mut self, side: Colour)
+        ensures { WasNoted (told self.old) (told self.new) (Happened (events.FailsToWrite side) ∷ []) };
+
+    /// These bytes more of its lines are now written to a side's engine.
+    fn gives(&mut self, side: Colour, text: &[u8])
+        ensures { WasNoted (told self.old) (told self.new) (Gives side text.now ∷ []) };
+}
+
+/// A witness that keeps nothing.
+#[derive(Drop)]
+pub(crate) struct Silent;
+
+impl Witness for Silent {
+    ghost told = { λ w before notes. Unit {0} };
+
+    fn line(&mut self, _side: Colour, _line: &Line<ENGINE_LINE_LEN>, _moment: u64) {}
+
+    fn opened(&mut self, _side: Colour, _moment: u64) {}
+
+    fn output_ends(&mut self, _side: Colour) {}
+
+    fn read_fails(&mut self, _side: Colour) {}
+
+    fn write_fails(&mut self, _side: Colour) {}
+
+    fn gives(&mut self, _side: Colour, _text: &[u8]) {}
+}
