@@ -120,6 +120,7 @@ fn a_match_by_default(rt: HostRuntime) -> Result<(), Fail> {
     );
     assert_eq!(rt; plan.games, 1);
     assert!(rt; plan.date == "????.??.??");
+    assert!(rt; !plan.log);
     Ok(())
 }
 
@@ -136,6 +137,7 @@ fn a_match_with_all_options(rt: HostRuntime) -> Result<(), Fail> {
         "--level=0 0:30 1",
         "--variant",
         "fischerandom",
+        "--log",
         "--black",
         "y",
         "--white=-x",
@@ -152,6 +154,7 @@ fn a_match_with_all_options(rt: HostRuntime) -> Result<(), Fail> {
     );
     assert_eq!(rt; plan.games, 1000);
     assert!(rt; plan.date == "2026.11.23");
+    assert!(rt; plan.log);
     Ok(())
 }
 
@@ -265,7 +268,7 @@ fn faults_are_told(rt: HostRuntime) -> Result<(), Fail> {
     Ok(())
 }
 
-const OTHERS: [(&[&str], i32); 34] = [
+const OTHERS: [(&[&str], i32); 39] = [
     (&["match", "--white", "x"], 2),
     (
         &["match", "--white", "x", "--white", "y", "--black", "z"],
@@ -326,6 +329,11 @@ const OTHERS: [(&[&str], i32); 34] = [
     (&["verify", "--any-size"], 2),
     (&["session", "--strict"], 2),
     (&["session", "--quiet"], 2),
+    (&["--log"], 2),
+    (&["session", "--log"], 2),
+    (&["verify", "--log"], 2),
+    (&["stub", "--log"], 2),
+    (&["match", "--white", "x", "--black", "y", "--log=x"], 2),
     (&["verify", "--quiet", "--help"], 0),
     (&["--white", "x"], 2),
     (&["--help"], 0),

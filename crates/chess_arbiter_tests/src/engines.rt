@@ -175,6 +175,71 @@ fn stubs_play(rt: HostRuntime) -> Result<(), Fail> {
     Ok(())
 }
 
+// Plays a match with a log on an error output that fails at that call, 0 for none.
+fn play_logged(
+    rt: &HostRuntime,
+    played: &Played,
+    others: &'static [&'static str],
+    errors_fail: u64,
+) -> Result<Outcome, Fail> {
+    let logged = Played {
+        white: played.white,
+        black: played.black,
+        others,
+        output: played.output,
+        errors: played.errors,
+        status: played.status,
+    };
+    let devices = Devices {
+        errors_fail,
+        ..SOUND
+    };
+    play(rt, &logged, b"", devices)
+}
+
+// What two games and a fault after them show in a log, whatever the moments are.
+const LOGGED: [&str; 8] = [
+    "0 >first : xboard\n0 >first : protover 2\n",
+    " <first : feature ping=1 setboard=1 usermove=1 myname=\"stub\" done=1\n",
+    " <second: feature ping=1 setboard=1 usermove=1 myname=\"stub\" done=1\n",
+    " <first : move f2f3\n",
+    " >second: usermove f2f3\n",
+    " <second: move d8h4\n",
+    " >first : result 0-1 {Black mates}\n",
+    // The first engine has Black in the second game.
+    " >second: result 0-1 {White makes an illegal move}\n",
+];
+
+fn is_in_log(rt: &impl Abort, log: &[u8], text: &str) -> Result<(), Fail> {
+    assert!(rt; std::str::from_utf8(log)?.contains(text));
+    Ok(())
+}
+
+#[test]
+fn a_log_over_processes(rt: HostRuntime) -> Result<(), Fail> {
+    let played = &PLAYED[1];
+    let others = &["--games", "2", "--date", "2026.11.23", "--log"];
+    let outcome = play_logged(&rt, played, others, 0)?;
+    assert_eq!(rt; std::str::from_utf8(outcome.output.as_slice())?, played.output);
+    assert_eq!(rt; outcome.status, 0);
+    for text in LOGGED {
+        is_in_log(&rt, outcome.errors.as_slice(), text)?;
+    }
+    Ok(())
+}
+
+// A match is played, and has its status, whatever becomes of its log.
+#[test]
+fn a_log_on_a_failed_error_output(rt: HostRuntime) -> Result<(), Fail> {
+    let played = &PLAYED[3];
+    for errors_fail in [1, 2, 9] {
+        let outcome = play_logged(&rt, played, &["--log"], errors_fail)?;
+        assert_eq!(rt; std::str::from_utf8(outcome.output.as_slice())?, played.output);
+        assert_eq!(rt; outcome.status, 1);
+    }
+    Ok(())
+}
+
 // How many descriptors this process holds open, and which processes it started that still stand.
 fn held(rt: &HostRuntime) -> Result<(usize, Vec<u8>), Fail> {
     let open = fs::read_dir(rt, "/proc/self/fd")?.count();

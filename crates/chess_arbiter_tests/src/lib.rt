@@ -8,6 +8,8 @@ mod devices;
 #[cfg(test)]
 mod engines;
 #[cfg(test)]
+mod log;
+#[cfg(test)]
 mod program;
 #[cfg(test)]
 mod readers;

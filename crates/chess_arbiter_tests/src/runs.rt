@@ -15,6 +15,8 @@ pub struct Devices {
     pub taken: usize,
     /// The call of the output that fails.
     pub write_fails: u64,
+    /// The call of the error output that fails.
+    pub errors_fail: u64,
 }
 
 /// Nothing fails.
@@ -23,6 +25,7 @@ pub const SOUND: Devices = Devices {
     read_fails: 0,
     taken: 1024,
     write_fails: 0,
+    errors_fail: 0,
 };
 
 /// What a run is to write, and its status.
@@ -53,7 +56,7 @@ pub fn run(rt: &HostRuntime, words: &[&str], input: &[u8], devices: Devices) -> 
         devices.taken,
         devices.write_fails,
     ));
-    let mut errors = Counted::writing(PieceWriter::new(rt.alloc(), 1024, 0));
+    let mut errors = Counted::writing(PieceWriter::new(rt.alloc(), 1024, devices.errors_fail));
     let status = run_program(rt, rt.alloc(), words, &mut reader, &mut output, &mut errors);
     Outcome {
         output: output.into_writer().bytes,
