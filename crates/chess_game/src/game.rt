@@ -115,7 +115,7 @@ fn verdict_on<B: Board>(board: &B, places: &[Place]) -> Option<Verdict>
         } else {
             Some(Verdict::Stalemate)
         }
-    } else if is_bare(&setup.men) {
+    } else if is_bare(board) {
         Some(Verdict::InsufficientMaterial)
     } else if repetitions(places) >= 5 {
         Some(Verdict::FivefoldRepetition)
