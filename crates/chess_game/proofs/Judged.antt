@@ -1,4 +1,4 @@
--- The verdict on a game, and that none came before its last move.
+-- No verdict came before the last move of a game.
 use Rattle.std.proofs.Common.{◌≡◌, ◌∙◌, ◌⊎◌, inl, inr, ℕ, ◌+◌, ◌-◌, ◌<◌, List, [], ◌∷◌, ◌++◌, length, take, slice_get, Option, None, Some, is_some, Ok, Bool, false, ◌||◌, refl, sym, ap, subst, arith}
 use Rattle.std.proofs.Math.Seq.{take-length}
 use Rattle.std.proofs.lemmas.List.{map-append, length-append, take-append-le}
@@ -6,7 +6,7 @@ use Rattle.chess_base.specs.declared.setup.Setup.{Setup}
 use Rattle.chess_base.specs.declared.man.Move.{Move}
 use Rattle.chess_game.specs.Ends.{verdict}
 use Rattle.chess_game.specs.Game.{State, last_move, is_over}
-use Rattle.chess_game.specs.ties.Places.{moves_of, IsJudged}
+use Rattle.chess_game.specs.ties.Places.{moves_of, IsUnended}
 use Rattle.chess_game.specs.declared.ends.Verdict.{Verdict}
 use Rattle.chess_game.specs.declared.game.Place.{Place}
 
@@ -25,14 +25,13 @@ more p ms m before now k h =
       | inr less ↦ ap (verdict p) (take-append-le k ms (m ∷ []) (omega arith)) ∙ before k less
     ]
 
-pub judged_more : (p : Setup) (xs : List Place) (x : Place) (v v' : Option Verdict) → IsJudged p (moves_of xs) v
-    → v ≡ None → v' ≡ verdict p (moves_of (xs ++ x ∷ []))
-    → IsJudged p (moves_of (xs ++ x ∷ [])) v'
-judged_more p xs x v v' judged none is = record {
-  now = is;
-  unended = subst (λ ms. (k : ℕ) → k < length ms → verdict p (take k ms) ≡ None)
+pub unended_more : (p : Setup) (xs : List Place) (x : Place) → IsUnended p (moves_of xs)
+    → verdict p (moves_of xs) ≡ None
+    → IsUnended p (moves_of (xs ++ x ∷ []))
+unended_more p xs x unended none = record {
+  before = subst (λ ms. (k : ℕ) → k < length ms → verdict p (take k ms) ≡ None)
       (sym (map-append (λ (y : Place). y.made) xs (x ∷ [])))
-      (more p (moves_of xs) x.made judged.unended (sym judged.now ∙ none));
+      (more p (moves_of xs) x.made unended.before none);
 }
 
 fewer : (p : Setup) (ms : List Move) (m : Move)
@@ -42,17 +41,14 @@ fewer p ms m before k h =
     let len : length (ms ++ m ∷ []) ≡ length ms + 1 = length-append ms (m ∷ []) in
     ap (verdict p) (sym (take-append-le k ms (m ∷ []) (omega arith))) ∙ before k (omega (arith, len))
 
-pub judged_fewer : (p : Setup) (xs ys : List Place) (x : Place) (v : Option Verdict) → IsJudged p (moves_of xs) v
-    → xs ≡ ys ++ x ∷ [] → IsJudged p (moves_of ys) None
-judged_fewer p xs ys x v judged is =
+pub unended_fewer : (p : Setup) (xs ys : List Place) (x : Place) → IsUnended p (moves_of xs)
+    → xs ≡ ys ++ x ∷ [] → IsUnended p (moves_of ys)
+unended_fewer p xs ys x unended is =
     let all : moves_of xs ≡ moves_of ys ++ x.made ∷ [] = ap moves_of is
     ∙ map-append (λ (y : Place). y.made) ys (x ∷ []) in
     let behind = fewer p (moves_of ys) x.made
-    (subst (λ ms. (k : ℕ) → k < length ms → verdict p (take k ms) ≡ None) all judged.unended) in
-    record {
-      now = sym (ap (verdict p) (sym (take-length (moves_of ys))) ∙ behind (length (moves_of ys)) (omega arith));
-      unended = λ k h. behind k (omega arith);
-    }
+    (subst (λ ms. (k : ℕ) → k < length ms → verdict p (take k ms) ≡ None) all unended.before) in
+    record { before = λ k h. behind k (omega arith) }
 
 at_the_end : (ms : List Move) (m : Move) → slice_get (ms ++ m ∷ []) (length ms) ≡ Some m
 at_the_end [] m = refl
@@ -70,10 +66,8 @@ last_is xs ys x is =
     subst (λ ms. Ok x.made ≡ last_move ms) (sym all) (rw found refl)
 
 -- a game that is not over has no verdict
-pub no_verdict : (s : State) (v : Option Verdict) (over : Bool) → v ≡ verdict s.start s.moves → over ≡ is_over s
-    → over ≡ false → v ≡ None
-no_verdict s v over is told not_over =
-    by_verdict v (sym not_over ∙ told ∙ ap (λ w. is_some w || is_some s.declared) (sym is))
+pub no_verdict : (s : State) (over : Bool) → over ≡ is_over s → over ≡ false → verdict s.start s.moves ≡ None
+no_verdict s over told not_over = by_verdict (verdict s.start s.moves) (sym not_over ∙ told)
   where
     by_verdict : (w : Option Verdict) → false ≡ (is_some w || is_some s.declared) → w ≡ None
     by_verdict None h = refl

@@ -2,10 +2,12 @@
 
 ghost use Rattle.std.specs.Prelude.{◌≡◌, ◌≤◌, ◌<◌, Some, length, count_by};
 ghost use Rattle.std.specs.List.{list_any};
+ghost use Rattle.chess_base.specs.Sound.{IsSound};
 ghost use Rattle.chess_game.specs.Ends.{is_kind, is_pawn_rook_or_queen, is_minor, has_bishop_on, is_bare, square_colour, mates, verdict_outcome, verdict_comment};
 
 use crate::results::Outcome;
 use chess_base::{Colour, Kind, Man};
+use chess_moves::Board;
 use std::fmt;
 
 /// Why a game is over by what stands on the board and by its line, the first that holds in this order.
@@ -101,12 +103,6 @@ fn is_kind(kind: Kind, man: Option<Man>) -> bool
     }
 }
 
-fn is_pawn_rook_or_queen(man: Option<Man>) -> bool
-    ensures { result ≡ is_pawn_rook_or_queen man }
-{
-    is_kind(Kind::Pawn, man) || is_kind(Kind::Rook, man) || is_kind(Kind::Queen, man)
-}
-
 fn is_minor(man: Option<Man>) -> bool
     ensures { result ≡ is_minor man }
 {
@@ -136,10 +132,22 @@ fn has_bishop_on(colour: Colour, men: &[Option<Man>; 64]) -> bool
     is_found
 }
 
-fn has_pawn_rook_or_queen(men: &[Option<Man>; 64]) -> bool
-    ensures { result ≡ list_any is_pawn_rook_or_queen men.now }
+// Whether a man of that kind stands on the board, of either colour.
+fn has_kind<B: Board>(board: &B, kind: Kind) -> bool
+    requires { IsSound (B.position board.now) }
+    ensures { result ≡ list_any (is_kind kind) (B.position board.now).men }
 {
-    men.iter().any(|man| is_pawn_rook_or_queen(*man))
+    let white = board.men_of(Colour::White, kind);
+    let black = board.men_of(Colour::Black, kind);
+    !white.union(black).is_empty()
+}
+
+#[tactic(auto, using(crate::proofs::SomeKind::by_kinds))]
+fn has_pawn_rook_or_queen<B: Board>(board: &B) -> bool
+    requires { IsSound (B.position board.now) }
+    ensures { result ≡ list_any is_pawn_rook_or_queen (B.position board.now).men }
+{
+    has_kind(board, Kind::Pawn) || has_kind(board, Kind::Rook) || has_kind(board, Kind::Queen)
 }
 
 fn has_knight(men: &[Option<Man>; 64]) -> bool
@@ -156,10 +164,11 @@ fn minor_count(men: &[Option<Man>; 64]) -> usize
 
 // Whether the men are too few to mate with.
 #[tactic(auto, unfolding(crate::specs::Ends::is_bare))]
-pub(crate) fn is_bare(men: &[Option<Man>; 64]) -> bool
-    ensures { result ≡ is_bare men.now }
+pub(crate) fn is_bare<B: Board>(board: &B) -> bool
+    ensures { result ≡ is_bare (B.position board.now).men }
 {
-    !has_pawn_rook_or_queen(men)
+    let men = &board.setup().men;
+    !has_pawn_rook_or_queen(board)
         && (minor_count(men) <= 1
             || (!has_knight(men)
                 && !(has_bishop_on(Colour::White, men) && has_bishop_on(Colour::Black, men))))

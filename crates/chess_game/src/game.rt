@@ -1,6 +1,7 @@
 //! One game: the moves that stand, and the positions that they gave.
 
-ghost use Rattle.std.specs.Prelude.{false, ◌≡◌, ◌≤◌, ◌<◌, ◌+◌, ◌↔◌, IsTrue, IsFalse, IsNone, IsOk, IsErr, IfOk, OnOk, OnErr, Err, None, Some, [], ◌∷◌, ◌++◌, length, take, slice_get, nat_le};
+ghost use Rattle.std.specs.Prelude.{false, ◌≡◌, ◌≤◌, ◌<◌, ◌+◌, ◌↔◌, IsTrue, IsFalse, IsNone, IsOk, IsErr, IfOk, OnOk, OnErr, Err, None, Some, [], ◌∷◌, ◌++◌, length, take, slice_get, nat_le, nat_lt};
+ghost use Rattle.chess_base.specs.MoveList.{moves};
 ghost use Rattle.chess_base.specs.Moves.{is_legal};
 ghost use Rattle.chess_game.specs.declared.game.TheConstants.{MOST_MOVES};
 ghost use Rattle.std.specs.Option.{option_map};
@@ -65,7 +66,6 @@ pub struct Game<B: Board> {
     start: Known,
     places: Vec<Place>,
     index: Index,
-    verdict: Option<Verdict>,
     declared: Option<Declared>,
     limit: u32,
 }
@@ -76,7 +76,7 @@ impl<B: Board> Model for Game<B> {
     ghost Value = { Seen };
 
     ghost use Rattle.std.specs.Prelude.{vec_len, vec_capacity};
-    ghost use Rattle.chess_game.specs.ties.Places.{moves_of, IsKept, IsJudged, HasRoom};
+    ghost use Rattle.chess_game.specs.ties.Places.{moves_of, IsKept, IsUnended, HasRoom};
     ghost use Rattle.chess_game.specs.ties.Buckets.{IsIndexed};
 
     ghost view = { λ g. record {
@@ -85,7 +85,7 @@ impl<B: Board> Model for Game<B> {
     } };
 
     ghost invariant = { λ g. IsKept B.word_of g.start g.places.items (B.position g.board)
-        × IsJudged g.start.position (moves_of g.places.items) g.verdict
+        × IsUnended g.start.position (moves_of g.places.items)
         × HasRoom (vec_len g.places) g.limit (vec_capacity g.places)
         × IsIndexed g.index.heads.items g.start g.places.items };
 }
@@ -102,27 +102,36 @@ fn repetitions(places: &[Place]) -> u32
     }
 }
 
+// The verdict on the game of that board and those places, where there is a legal move.
+#[tactic(auto, unfolding(crate::specs::Ends::verdict))]
+fn verdict_of_moving<B: Board>(board: &B, places: &[Place]) -> Option<Verdict>
+    requires { IsTrue (nat_lt 0 (length (moves (B.position board.now)))) }
+    ensures { (start : Known) → IsKept B.word_of start places.now (B.position board.now)
+        → HaveEntries start places.now → result ≡ verdict start.position (moves_of places.now) }
+{
+    if is_bare(board) {
+        Some(Verdict::InsufficientMaterial)
+    } else if repetitions(places) >= 5 {
+        Some(Verdict::FivefoldRepetition)
+    } else if board.setup().halfmove >= 150 {
+        Some(Verdict::SeventyFiveMoves)
+    } else {
+        None
+    }
+}
+
 // The verdict on the game of that board and those places.
 #[tactic(auto, unfolding(crate::specs::Ends::verdict))]
 fn verdict_on<B: Board>(board: &B, places: &[Place]) -> Option<Verdict>
     ensures { (start : Known) → IsKept B.word_of start places.now (B.position board.now)
         → HaveEntries start places.now → result ≡ verdict start.position (moves_of places.now) }
 {
-    let setup = board.setup();
-    if !board.has_legal_move() {
-        if board.in_check() {
-            Some(mates(setup.side.other()))
-        } else {
-            Some(Verdict::Stalemate)
-        }
-    } else if is_bare(&setup.men) {
-        Some(Verdict::InsufficientMaterial)
-    } else if repetitions(places) >= 5 {
-        Some(Verdict::FivefoldRepetition)
-    } else if setup.halfmove >= 150 {
-        Some(Verdict::SeventyFiveMoves)
+    if board.has_legal_move() {
+        verdict_of_moving(board, places)
+    } else if board.in_check() {
+        Some(mates(board.setup().side.other()))
     } else {
-        None
+        Some(Verdict::Stalemate)
     }
 }
 
@@ -141,13 +150,11 @@ impl<B: Board + Drop> Game<B> {
         let places = Vec::with_capacity(alloc, limit as usize)?;
         let mut index = Index::open(alloc)?;
         index.begin(&start);
-        let verdict = verdict_on(&board, places.as_slice());
         Ok(Game {
             board,
             start,
             places,
             index,
-            verdict,
             declared: None,
             limit,
         })
@@ -165,7 +172,6 @@ impl<B: Board> Game<B> {
         self.index.begin(&self.start);
         self.places.clear();
         self.declared = None;
-        self.verdict = verdict_on(&self.board, self.places.as_slice());
     }
 
     /// Plays a move.
@@ -227,7 +233,6 @@ impl<B: Board> Game<B> {
         if self.places.push(place).is_err() {
             unreachable!();
         }
-        self.verdict = verdict_on(&self.board, self.places.as_slice());
     }
 
     /// Takes the last move back and clears what was declared; gives the move.
@@ -252,7 +257,6 @@ impl<B: Board> Game<B> {
                 // The prover wants two variables here: one move is given to the board, and one is told.
                 let made = place.made;
                 self.board.take_back(made, place.saved);
-                self.verdict = None;
                 self.declared = None;
                 Ok(place.made)
             }
@@ -275,7 +279,7 @@ impl<B: Board> Game<B> {
         ensures moves { self.new.state.moves ≡ self.old.state.moves }
         ensures kept { (self.new.limit ≡ self.old.limit) × (self.new.state.start ≡ self.old.state.start) }
     {
-        if let Some(verdict) = self.verdict
+        if let Some(verdict) = self.verdict()
             && !verdict.outcome().is(outcome)
         {
             return Err(BoardSaysOtherwise);
@@ -364,7 +368,15 @@ impl<B: Board> Game<B> {
     pub fn verdict(&self) -> Option<Verdict>
         ensures { result ≡ verdict_now self.now.state }
     {
-        self.verdict
+        verdict_on(&self.board, self.places.as_slice())
+    }
+
+    /// The verdict, found with the help of a legal move: where there is one, there is neither mate nor stalemate.
+    pub fn verdict_of_moving(&self, m: &Move) -> Option<Verdict>
+        requires { IsTrue (is_legal (current self.now.state) m.now) }
+        ensures { result ≡ verdict_now self.now.state }
+    {
+        verdict_of_moving(&self.board, self.places.as_slice())
     }
 
     /// What was declared, if it still stands.
@@ -378,7 +390,7 @@ impl<B: Board> Game<B> {
     pub fn outcome(&self) -> Outcome
         ensures { result ≡ outcome_now self.now.state }
     {
-        match (self.verdict, &self.declared) {
+        match (self.verdict(), &self.declared) {
             (Some(verdict), _) => verdict.outcome(),
             (None, Some(declared)) => declared.outcome,
             (None, None) => Outcome::Unfinished,
@@ -389,7 +401,7 @@ impl<B: Board> Game<B> {
     pub fn is_over(&self) -> bool
         ensures { result ≡ is_over self.now.state }
     {
-        self.verdict.is_some() || self.declared.is_some()
+        self.verdict().is_some() || self.declared.is_some()
     }
 
     /// Whether as many half-moves stand as can.

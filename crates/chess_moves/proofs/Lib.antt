@@ -10,3 +10,4 @@ pub mod Origins
 pub mod SomeMember
 pub mod Counting
 pub mod Xored
+pub mod SomeLegal

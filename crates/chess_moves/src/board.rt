@@ -1,18 +1,19 @@
 //! What a board is.
 
-ghost use Rattle.std.specs.Prelude.{◌≡◌, IsTrue, nat_lt, length};
+ghost use Rattle.std.specs.Prelude.{◌≡◌, ◌<◌, IsTrue, nat_lt, length};
 ghost use Rattle.std.specs.List.{All};
 ghost use Rattle.chess_base.specs.Attacks.{is_in_check};
 ghost use Rattle.chess_base.specs.Before.{before, saved_of};
 ghost use Rattle.chess_base.specs.MoveList.{moves};
+ghost use Rattle.chess_base.specs.Men.{is_man, man_at};
 ghost use Rattle.chess_base.specs.Moves.{after, is_legal};
 ghost use Rattle.chess_base.specs.Sound.{IsSound};
 ghost use Rattle.chess_moves.specs.Made.{WasMade, IsMade};
-ghost use Rattle.chess_moves.specs.Sets.{HasOrigins};
+ghost use Rattle.chess_moves.specs.Sets.{HasLegalStarts, HasOrigins, has};
 
 use crate::set::SquareSet;
 use arrayvec::ArrayVec;
-use chess_base::{Kind, Move, Position, Saved, Setup, Square};
+use chess_base::{Colour, Kind, Move, Position, Saved, Setup, Square};
 
 /// Moves in a list: at most 16 men move, and each has at most 56 moves.
 pub type MoveList = ArrayVec<Move, 896>;
@@ -70,6 +71,14 @@ pub trait Board {
     /// to it is among them, others may be.
     fn origins(&self, kind: Kind, to: Square) -> SquareSet
         ensures { HasOrigins (position self.now) kind to result };
+
+    /// The squares of a colour's men of a kind.
+    fn men_of(&self, colour: Colour, kind: Kind) -> SquareSet
+        ensures { (k : ℕ) → k < 64 → has result k ≡ is_man colour kind (man_at (position self.now).men k) };
+
+    /// The squares from which a man of a kind, of the side on move, has the legal move to a square without a promotion.
+    fn legal_starts(&self, kind: Kind, to: Square) -> SquareSet
+        ensures { HasLegalStarts (position self.now) kind to result };
 
     /// Whether the side on move is in check (Laws of Chess 2023, article 3.9.1).
     fn in_check(&self) -> bool

@@ -1,5 +1,5 @@
 -- What a game keeps of its start and of each move that stands.
-use Rattle.std.specs.Prelude.{◌≡◌, ◌≤◌, ◌<◌, ℕ, List, [], ◌∷◌, length, take, map, Option, None}
+use Rattle.std.specs.Prelude.{◌≡◌, ◌≤◌, ◌<◌, ℕ, List, [], ◌∷◌, length, take, map, None}
 use Rattle.std.specs.List.{AllByRecursion}
 use Rattle.chess_base.specs.declared.man.Colour.{Colour}
 use Rattle.chess_base.specs.declared.man.Move.{Move}
@@ -10,7 +10,6 @@ use Rattle.chess_moves.specs.Made.{WasMade}
 use Rattle.chess_game.specs.Line.{last}
 use Rattle.chess_game.specs.Same.{live_target}
 use Rattle.chess_game.specs.Ends.{verdict}
-use Rattle.chess_game.specs.declared.ends.Verdict.{Verdict}
 use Rattle.chess_game.specs.declared.repetition.Known.{Known}
 use Rattle.chess_game.specs.declared.game.Place.{Place}
 use Rattle.chess_game.specs.declared.game.TheConstants.{MOST_MOVES}
@@ -53,10 +52,9 @@ pub record IsKept (f : Wording) (start : Known) (places : List Place) (board : S
   pub words : HaveWords f start places
   pub at_end : board ≡ last start.position (moves_of places)
 
--- this is the verdict, and none came before the last move
-pub record IsJudged (start : Setup) (moves : List Move) (v : Option Verdict) : Type 0 where
-  pub now : v ≡ verdict start moves
-  pub unended : (k : ℕ) → k < length moves → verdict start (take k moves) ≡ None
+-- no verdict came before the last move
+pub record IsUnended (start : Setup) (moves : List Move) : Type 0 where
+  pub before : (k : ℕ) → k < length moves → verdict start (take k moves) ≡ None
 
 -- no more places are taken than the limit, and there is memory for as many
 pub record HasRoom (taken limit capacity : ℕ) : Type 0 where

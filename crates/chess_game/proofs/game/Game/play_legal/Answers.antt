@@ -1,12 +1,12 @@
 -- The move was made at the end of the line, so its place follows there (added of Kept). The game was not over, so no
--- verdict came before this one (judged_more of Judged), nor was it full, so there is room (room of Kept).
-use Rattle.std.proofs.Common.{◌≡◌, ◌<◌, ◌++◌, ◌∷◌, [], None, false, is_err, length, refl, sym, ◌∙◌, arith}
+-- verdict came before this one (unended_more of Judged), nor was it full, so there is room (room of Kept).
+use Rattle.std.proofs.Common.{◌≡◌, ◌<◌, ◌++◌, ◌∷◌, [], false, is_err, length, refl, sym, ◌∙◌, arith}
 use Rattle.chess_game.specs.Game.{is_over, is_full}
 use Rattle.chess_game.specs.ties.Buckets.{IsIndexed}
 use Rattle.chess_game.specs.ties.Places.{moves_of, IsKept}
 use Rattle.chess_game.specs.declared.game.Place.{Place}
 use Rattle.chess_game.proofs.Kept.{added, made_at_end, words_more, pushed, room}
-use Rattle.chess_game.proofs.Judged.{judged_more, no_verdict}
+use Rattle.chess_game.proofs.Judged.{unended_more, no_verdict}
 use Rattle.chess_game.proofs.Playable.{may_play}
 use Rattle.chess_game.proofs.game.Game.play_legal.Goals as goal
 
@@ -44,24 +44,20 @@ invariant_of-self g c =
     c.make-saved.ensures.made c.on.ensures.position c.on.ensures.known in
     let words = words_more g.B.Board.word_of c.self.inside.start places x c.self.invariant.0.words
     c.on.ensures.word in
-    let none : c.self.inside.verdict ≡ None =
+    let none =
     no_verdict
     (record {
       start = c.self.inside.start.position;
       moves = moves_of places;
       declared = c.self.inside.declared;
-    }) c.self.inside.verdict (is_over c.args.self.now.state)
-    c.self.invariant.1.now (rw (← c.self.view_is) refl) may.on in
+    }) (is_over c.args.self.now.state) (rw (← c.self.view_is) refl) may.on in
     let index : IsIndexed c.push-entry.new.self.heads.items c.self.inside.start (places ++ x ∷ []) =
     rw c.as_slice.ensures.value at (c.push-entry.ensures x refl refl) in
     let kept : IsKept g.B.Board.word_of c.self.inside.start (places ++ x ∷ [])
     (g.B.Board.position c.make-saved.new.self) =
-    record { known = c.self.invariant.0.known; follows = more.follows; words = words; at_end = more.at_end } in
-    let judged = (rw (c.as_slice-2.ensures.value, all) at c.verdict_on-self-inside.ensures) c.self.inside.start kept
-    index.entries in (
+    record { known = c.self.invariant.0.known; follows = more.follows; words = words; at_end = more.at_end } in (
       rw all kept,
-      rw all (judged_more c.self.inside.start.position places x c.self.inside.verdict c.verdict_on-self-inside.result
-          c.self.invariant.1 none judged),
+      rw all (unended_more c.self.inside.start.position places x c.self.invariant.1 none),
       record { few = omega arith; made = omega arith; bound = omega arith },
       rw all index,
     )

@@ -14,5 +14,5 @@ returns-clause-playable g c =
       line = kept_line c.self.inside.start.position c.self.inside.places.items c.self.invariant.0.follows;
       limit = (let e : length (moves_of c.self.inside.places.items) ≡ length c.self.inside.places.items =
           length-map c.self.inside.places.items (λ (x : Place). x.made) in omega arith);
-      unended = c.self.invariant.1.unended;
+      unended = c.self.invariant.1.before;
     })

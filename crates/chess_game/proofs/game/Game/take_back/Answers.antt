@@ -1,11 +1,11 @@
 -- The last place tells which position its move left, so the board goes back to that one (taken of Kept). No verdict
--- came before the last move, so there is none now (judged_fewer of Judged).
+-- came before the last move, so none before the one that is now the last (unended_fewer of Judged).
 use Rattle.std.proofs.Common.{subst, arith}
 use Rattle.chess_game.specs.Line.{last}
 use Rattle.chess_game.specs.ties.Buckets.{IsIndexed}
 use Rattle.chess_game.specs.ties.Places.{moves_of}
 use Rattle.chess_game.proofs.Kept.{taken, fewer, words_fewer}
-use Rattle.chess_game.proofs.Judged.{judged_fewer, last_is}
+use Rattle.chess_game.proofs.Judged.{unended_fewer, last_is}
 use Rattle.chess_game.proofs.game.Game.take_back.Goals as goal
 
 pub take_back-requires : goal.take_back-requires
@@ -27,8 +27,8 @@ invariant_of-self-in-Some g c = (
         (taken c.self.inside.start.position c.self.inside.places.items c.pop.new.self.items c.in-Some.place _
         c.self.invariant.0.follows c.in-Some.ensures.items c.self.invariant.0.at_end);
   },
-  judged_fewer c.self.inside.start.position c.self.inside.places.items c.pop.new.self.items c.in-Some.place
-      c.self.inside.verdict c.self.invariant.1 c.in-Some.ensures.items,
+  unended_fewer c.self.inside.start.position c.self.inside.places.items c.pop.new.self.items c.in-Some.place
+      c.self.invariant.1 c.in-Some.ensures.items,
   record { few = omega arith; made = omega arith; bound = omega arith },
   c.pop-in-Some.ensures c.self.inside.start c.pop.new.self.items
       (subst (IsIndexed c.self.inside.index.heads.items c.self.inside.start) c.in-Some.ensures.items

@@ -1,6 +1,6 @@
 -- With the place's link as its bucket's head, the heads are those of the positions before (popped_index of Indexed).
 use Rattle.std.proofs.Common.{refl}
-use Rattle.chess_game.specs.ties.Buckets.{bucket, IsIndexed}
+use Rattle.chess_game.specs.ties.Buckets.{bucket}
 use Rattle.chess_game.proofs.Indexed.{popped_index}
 use Rattle.chess_game.proofs.index.Index.pop.Goals as goal
 

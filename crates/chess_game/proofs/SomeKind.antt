@@ -1,0 +1,84 @@
+-- Whether a man of a kind is there, by the sets of its squares.
+use Rattle.std.proofs.Common.{◌≡◌, ℕ, zero, suc, ◌+◌, ◌<◌, ◌≤◌, Bool, true, false, not, ◌&&◌, ◌||◌, Option, Some, None, List, [], ◌∷◌, length, take, refl, sym, ◌∙◌, ap, arith}
+use Rattle.std.proofs.Math.Seq.{take-length}
+use Rattle.std.proofs.lemmas.List.Folds.{list_any_more}
+use Rattle.std.specs.List.{list_any}
+use Rattle.chess_base.specs.declared.man.Colour.{Colour}
+use Rattle.chess_base.specs.declared.man.Colour.TheVariants.{White, Black}
+use Rattle.chess_base.specs.declared.man.Kind.{Kind}
+use Rattle.chess_base.specs.declared.man.Kind.TheVariants.{Queen, Rook, Pawn}
+use Rattle.chess_base.specs.declared.man.Man.{Man}
+use Rattle.chess_base.specs.declared.setup.Setup.{Setup}
+use Rattle.chess_base.specs.Men.{Men, man_at, is_man, same_colour, same_kind}
+use Rattle.chess_base.specs.Sound.{IsSound}
+use Rattle.chess_base.specs.Squares.{some_below, some_square}
+use Rattle.chess_moves.specs.Sets.{has}
+use Rattle.chess_game.specs.Ends.{is_kind, is_pawn_rook_or_queen}
+
+-- ---- over lists
+
+either_parts : (a b c d : Bool) → ((a || b) || (c || d)) ≡ ((a || c) || (b || d))
+either_parts true b c d = refl
+either_parts false true true d = refl
+either_parts false true false d = refl
+either_parts false false c d = refl
+
+any_either : {A : Type 0} (f g : A → Bool) (xs : List A) → list_any (λ x. f x || g x) xs ≡ (list_any f xs || list_any g xs)
+any_either f g [] = refl
+any_either f g (x ∷ xs) = ap (λ b. (f x || g x) || b) (any_either f g xs)
+    ∙ either_parts (f x) (g x) (list_any f xs) (list_any g xs)
+
+next : (n : ℕ) → suc n ≡ n + 1
+next n = omega arith
+
+-- a list's test by its numbers
+any_below : (f : Option Man → Bool) (men : Men) (n : ℕ) → n ≤ length men
+    → list_any f (take n men) ≡ some_below n (λ k. f (man_at men k))
+any_below f men zero h = refl
+any_below f men (suc n) h = ap (λ m. list_any f (take m men)) (next n) ∙ list_any_more f men n None (omega arith)
+    ∙ ap (λ b. b || f (man_at men n)) (any_below f men n (omega arith))
+
+any_square : (f : Option Man → Bool) (men : Men) → length men ≡ 64 → list_any f men ≡ some_square (λ k. f (man_at men k))
+unfolding some_square
+any_square f men whole = ap (list_any f) (sym (take-length men)) ∙ ap (λ n. list_any f (take n men)) whole
+    ∙ any_below f men 64 (omega (arith, whole))
+
+-- ---- by colours
+
+by_colour : (c : Colour) (s : Bool) → s ≡ ((same_colour White c && s) || (same_colour Black c && s))
+by_colour White true = refl
+by_colour White false = refl
+by_colour Black s = refl
+
+of_colours : (kind : Kind) (o : Option Man) → is_kind kind o ≡ (is_man White kind o || is_man Black kind o)
+unfolding is_man
+of_colours wanted None = refl
+of_colours wanted (Some x) = by_colour x.colour (same_kind wanted x.kind)
+
+same_below : (n : ℕ) (f g : ℕ → Bool) → ((k : ℕ) → k < n → f k ≡ g k) → some_below n f ≡ some_below n g
+same_below zero f g e = refl
+same_below (suc n) f g e = rw (same_below n f g (λ k l. e k (omega arith)), e n (omega arith)) refl
+
+not_none : (a : Bool) → not (not a) ≡ a
+not_none true = refl
+not_none false = refl
+
+-- a man of the kind is there where the squares of both colours' men are some
+pub some_of_kind : (p : Setup) (kind : Kind) (w b u : ℕ) → IsSound p
+    → ((k : ℕ) → k < 64 → has w k ≡ is_man White kind (man_at p.men k))
+    → ((k : ℕ) → k < 64 → has b k ≡ is_man Black kind (man_at p.men k))
+    → ((k : ℕ) → has u k ≡ (has w k || has b k))
+    → not (not (some_square (λ k. has u k))) ≡ list_any (is_kind kind) p.men
+unfolding some_square
+some_of_kind p kind w b u sound white black both =
+    not_none (some_square (λ k. has u k))
+    ∙ sym (any_square (is_kind kind) p.men sound.board
+    ∙ same_below 64 (λ k. is_kind kind (man_at p.men k)) (λ k. has u k)
+    (λ k l. of_colours kind (man_at p.men k) ∙ rw (both k, white k l, black k l) refl))
+
+-- the three kinds together
+pub by_kinds : (men : Men) → list_any is_pawn_rook_or_queen men
+    ≡ (list_any (is_kind Pawn) men || list_any (is_kind Rook) men || list_any (is_kind Queen) men)
+by_kinds men =
+    any_either (λ o. is_kind Pawn o || is_kind Rook o) (is_kind Queen) men
+    ∙ ap (λ b. b || list_any (is_kind Queen) men) (any_either (is_kind Pawn) (is_kind Rook) men)

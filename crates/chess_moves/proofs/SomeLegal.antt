@@ -1,0 +1,74 @@
+-- Where a move is legal, there are legal moves.
+use Rattle.std.proofs.Common.{◌≡◌, ℕ, suc, ◌<◌, inl, inr, Bool, true, false, Option, Some, None, List, [], ◌∷◌, length, map, refl, ◌∙◌, arith, ◌==◌, nat_lt}
+use Rattle.std.proofs.lemmas.Bool.{cases_Bool, both_ways, lt-ltb}
+use Rattle.std.proofs.lemmas.List.Folds.{list_any_at}
+use Rattle.std.specs.List.{filter, flat_map, list_any}
+use Rattle.chess_base.specs.declared.man.Kind.{Kind}
+use Rattle.chess_base.specs.declared.man.Kind.TheVariants.{King, Queen, Rook, Bishop, Knight, Pawn}
+use Rattle.chess_base.specs.declared.man.Move.{Move}
+use Rattle.chess_base.specs.declared.setup.Setup.{Setup}
+use Rattle.chess_base.specs.Castling.{castle_from}
+use Rattle.chess_base.specs.Men.{other, first_rank}
+use Rattle.chess_base.specs.MoveList.{promotions, triple, squares, all_triples, moves}
+use Rattle.chess_base.specs.Moves.{is_legal, promotion_fits}
+use Rattle.chess_base.specs.Squares.{rank}
+use Rattle.chess_base.proofs.MoveKinds.{MoveKind, ManMoves, Castles, PawnMoves}
+use Rattle.chess_base.proofs.TakesBack.{promoted_by_kind, castles_unpromoted}
+use Rattle.chess_moves.proofs.Reach.{moves_of}
+use Rattle.chess_moves.proofs.SomeMember.{any-flat_map, any-square}
+
+-- its promotion fits, on its last rank or elsewhere
+abbrev Fits : Option Kind → Type 0
+Fits o = (last : Bool) × (promotion_fits last o ≡ true)
+
+unpromoted : (o : Option Kind) → o ≡ None → Fits o
+unpromoted o e = (false, rw e refl)
+
+only_none : (o : Option Kind) → ((k : Kind) → o ≡ Some k → ⊥) → o ≡ None
+only_none None h = refl
+only_none (Some k) h = absurd (h k refl)
+
+fits_by_kind : (p : Setup) (m : Move) → MoveKind p m → Fits m.promotion
+fits_by_kind p m (PawnMoves man fits kind) = (rank m.to == first_rank (other p.side), fits)
+fits_by_kind p m (ManMoves n c e) =
+    unpromoted m.promotion
+    (only_none m.promotion (λ k at. both_ways _ n (promoted_by_kind p m k (ManMoves n c e) at)))
+fits_by_kind p m (Castles w r c right e) =
+    unpromoted m.promotion (castles_unpromoted p m (castle_from p.side w m.from r) e)
+
+any-promotion : (t : Move → Bool) (a b : ℕ) (o : Option Kind) → Fits o → t (triple a b o) ≡ true
+    → list_any t (map (triple a b) promotions) ≡ true
+any-promotion t a b None h e = list_any_at t (map (triple a b) promotions) 0 (triple a b None) (omega arith) e
+any-promotion t a b (Some Queen) h e = list_any_at t (map (triple a b) promotions) 1 (triple a b None) (omega arith) e
+any-promotion t a b (Some Rook) h e = list_any_at t (map (triple a b) promotions) 2 (triple a b None) (omega arith) e
+any-promotion t a b (Some Bishop) h e = list_any_at t (map (triple a b) promotions) 3 (triple a b None) (omega arith) e
+any-promotion t a b (Some Knight) h e = list_any_at t (map (triple a b) promotions) 4 (triple a b None) (omega arith) e
+any-promotion t a b (Some King) h e = let never = h.1 in cc
+any-promotion t a b (Some Pawn) h e = let never = h.1 in cc
+
+any-triple : (t : Move → Bool) (m : Move) → m.from < 64 → m.to < 64 → Fits m.promotion → t m ≡ true
+    → list_any t all_triples ≡ true
+unfolding all_triples
+any-triple t m f b k e =
+    let here : list_any t (map (triple m.from m.to) promotions) ≡ true =
+    any-promotion t m.from m.to m.promotion k e in
+    let from : list_any t (flat_map (λ b. map (triple m.from b) promotions) squares) ≡ true =
+    any-flat_map t (λ b. map (triple m.from b) promotions) squares
+    ∙ any-square (λ b. list_any t (map (triple m.from b) promotions)) m.to b here in
+    any-flat_map t (λ a. flat_map (λ b. map (triple a b) promotions) squares) squares
+    ∙ any-square (λ a. list_any t (flat_map (λ b. map (triple a b) promotions) squares)) m.from f from
+
+some_kept : {A : Type 0} (q : A → Bool) (xs : List A) → list_any q xs ≡ true → nat_lt 0 (length (filter q xs)) ≡ true
+some_kept q [] h = cc
+some_kept q (x ∷ xs) h =
+    elim (cases_Bool (q x)) [
+      | inl on ↦ rw on (lt-ltb 0 (suc (length (filter q xs))) (omega arith))
+      | inr off ↦ rw off (some_kept q xs (rw off at h))
+    ]
+
+pub some_legal : (p : Setup) (m : Move) → is_legal p m ≡ true → nat_lt 0 (length (moves p)) ≡ true
+unfolding moves
+some_legal p m legal =
+    let h = moves_of p m legal in
+    some_kept (λ x. is_legal p x) all_triples
+    (any-triple (λ x. is_legal p x) m h.from_in h.to_in (fits_by_kind p m h.kind) legal)
