@@ -1,10 +1,12 @@
 -- A ray up to its first blocker.
-use Rattle.std.proofs.Common.{◌≡◌, ℕ, ◌<◌, inl, inr, Bool, true, false, not, ◌&&◌, nat_lt, refl, sym, ◌∙◌, arith}
+use mathlib.Core.Bool.{and-true}
+use Rattle.std.proofs.Common.{◌≡◌, ◌==◌, ℕ, zero, suc, ◌<◌, inl, inr, Bool, true, false, not, ◌&&◌, ◌||◌, nat_lt, refl, sym, ap, ◌∙◌, arith}
 use Rattle.std.proofs.lemmas.Bool.Decides.{nat_tests}
-use Rattle.std.proofs.lemmas.Bool.{and_parts, cases_Bool}
+use Rattle.std.proofs.lemmas.Bool.{and_parts, and_right, both_ways, cases_Bool, eq-eqb, or_right}
 use Rattle.chess_base.specs.Squares.{is_between}
 use Rattle.chess_bits.specs.declared.line.Line.{Line}
 use Rattle.chess_moves.specs.Sets.{has, is_past}
+use Rattle.chess_moves.proofs.Words.{has_zero}
 use Rattle.chess_bits.specs.ties.Rays.{same_line, is_on_ray, is_open}
 use Rattle.chess_bits.proofs.Geometry.{between_on_line}
 use Rattle.chess_base.proofs.OverSquares.{each_square-all, each_square-fails}
@@ -94,4 +96,43 @@ swept_all l up a b w none =
     elim (cases_Bool (is_on_ray l up a b)) [
       | inl e ↦ rw e (sym (open_ray l up a b w none e))
       | inr n ↦ rw n refl
+    ]
+
+-- ---- where a ray without blockers ends with the board
+
+pub positive : (w s : ℕ) → has w s ≡ true → 0 < w
+positive zero s h = absurd (both_ways (has 0 s) (has_zero s) h)
+positive (suc w) s h = omega arith
+
+-- one square more is in the set
+pub with_end : (w u v e s : ℕ) → ((k : ℕ) → has u k ≡ (has w k || has v k)) → ((k : ℕ) → has v k ≡ (k == s)) → e ≡ s
+    → 0 < u
+with_end w u v e s joined one same =
+    positive u e (joined e ∙ or_right (has w e) (has v e) (one e ∙ eq-eqb e s same))
+
+not_past : (up : Bool) (k f : ℕ) → is_past up k f ≡ false → is_past up f k ≡ false → k ≡ f
+not_past true k f a b = grind (arith, nat_tests, a, b)
+not_past false k f a b = grind (arith, nat_tests, a, b)
+
+-- a ray up to its first blocker, or all of it
+pub swept_to : (l : Line) (up : Bool) (a b w v f : ℕ) → f < 64 → b < 64
+    → ((k : ℕ) → k < 64 → has v k ≡ (is_on_ray l up a k && has w k))
+    → ((k : ℕ) → is_past up k f ≡ true → has v k ≡ false)
+    → (has v f ≡ false → (k : ℕ) → k < 64 → is_past up f k ≡ false)
+    → (is_on_ray l up a b && not (is_on_ray l up f b)) ≡ (is_on_ray l up a b && is_open w a b)
+swept_to l up a b w v f low high blocked nearer beyond =
+    elim (cases_Bool (has v f)) [
+      | inl here ↦
+          let both = and_parts (is_on_ray l up a f) (has w f) (sym (blocked f low) ∙ here) in
+          swept l up a b w f low both.0 both.1 (λ x k past. sym (blocked x k) ∙ nearer x past)
+      | inr none ↦
+          let short : is_on_ray l up f b ≡ false = and_right (same_line l f b) (is_past up f b) (beyond none b high) in
+          ap (λ t. is_on_ray l up a b && not t) short
+          ∙ and-true (is_on_ray l up a b)
+          ∙ swept_all l up a b w
+          (λ x k. sym (blocked x k)
+          ∙ elim (cases_Bool (is_past up x f)) [
+            | inl past ↦ nearer x past
+            | inr away ↦ ap (has v) (not_past up x f away (beyond none x k)) ∙ none
+          ])
     ]

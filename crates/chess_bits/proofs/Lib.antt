@@ -19,6 +19,7 @@ pub mod Freely
 pub mod Lifted
 pub mod KingSteps
 pub mod AnyMember
+pub mod Starts
 pub mod Shields
 pub mod KindsCounted
 pub mod CastlingAtHome

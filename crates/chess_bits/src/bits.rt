@@ -1,11 +1,14 @@
 //! A board with sets of squares beside its men.
 
-ghost use Rattle.std.specs.Prelude.{◌≡◌, ℕ, ◌<◌, ◌==◌};
+ghost use Rattle.std.specs.Prelude.{◌≡◌, ℕ, ◌<◌, ◌==◌, ◌&&◌, None};
 ghost use Rattle.chess_base.specs.Attacks.{is_attacked};
 ghost use Rattle.chess_base.specs.Initial.{initial_setup};
 ghost use Rattle.chess_base.specs.Men.{Men, man_at, is_man};
+ghost use Rattle.chess_base.specs.MoveList.{triple};
+ghost use Rattle.chess_base.specs.Moves.{is_legal};
 ghost use Rattle.chess_base.specs.declared.man.Kind.TheVariants.{King};
 ghost use Rattle.chess_bits.specs.ties.Occupancy.{IsOccupied};
+ghost use Rattle.chess_moves.specs.Sets.{has};
 
 use crate::placing::{move_back, move_on};
 use crate::reaching::reached_from;
@@ -78,6 +81,25 @@ impl<'t> Bits<'t> {
         let occupied = self.occupied();
         self.sets.of(by).attacks(self.tables, by, square, occupied)
     }
+
+    // Those of these squares from which the move to a square without a promotion is legal.
+    fn starts_among(&self, men: SquareSet, to: Square) -> SquareSet
+        ensures { (k : ℕ) → k < 64 → has result k ≡ (has men k && is_legal self.now (triple k to None)) }
+    {
+        let mut starts = SquareSet::empty();
+        let mut rest = men;
+        while let Some(from) = rest.take_first() {
+            let m = Move {
+                from,
+                to,
+                promotion: None,
+            };
+            if self.is_legal(&m) {
+                starts = starts.union(SquareSet::single(from));
+            }
+        }
+        starts
+    }
 }
 
 impl Board for Bits<'_> {
@@ -138,6 +160,15 @@ impl Board for Bits<'_> {
         }
         let reached = reached_from(self.tables, self.sets.occupied(), side, kind, to);
         own.intersection(reached)
+    }
+
+    fn men_of(&self, colour: Colour, kind: Kind) -> SquareSet {
+        self.sets.of(colour).of(kind)
+    }
+
+    fn legal_starts(&self, kind: Kind, to: Square) -> SquareSet {
+        let own = self.men_of(self.setup.side, kind);
+        self.starts_among(own.intersection(self.origins(kind, to)), to)
     }
 
     #[tactic(auto, using(crate::proofs::AfterSets::check_is))]

@@ -1,7 +1,7 @@
 //! All tables together, and sweeps: the squares of a ray up to and with the first one of a set.
 
 ghost use Rattle.std.specs.Prelude.{◌≡◌, ℕ, ◌<◌, ◌&&◌, ◌||◌, true, false};
-ghost use Rattle.chess_moves.specs.Sets.{has, IsNearest};
+ghost use Rattle.chess_moves.specs.Sets.{has, is_past};
 ghost use Rattle.chess_bits.specs.ties.Shapes.{in_shape};
 ghost use Rattle.chess_bits.specs.ties.Rays.{is_on_ray, is_open};
 ghost use Rattle.chess_bits.specs.declared.table.Shape.TheVariants.{King, Knight, Pawn, Lines, Diagonals, Ray};
@@ -51,6 +51,20 @@ struct Tables {
 #[derive(Drop)]
 pub struct AttackTables {
     tables: Box<Tables>,
+}
+
+// The first of these squares on the way up or down; where there is none, the last square of the board.
+#[inline(always)]
+fn nearest(squares: SquareSet, up: bool) -> Square
+    ensures in_range { result < 64 }
+    ensures nearer { (k : ℕ) → is_past up k result ≡ true → has squares k ≡ false }
+    ensures beyond { has squares result ≡ false → (k : ℕ) → k < 64 → is_past up result k ≡ false }
+{
+    if up {
+        squares.union(SquareSet::single(Square::new(63))).first()
+    } else {
+        squares.union(SquareSet::single(Square::new(0))).last()
+    }
 }
 
 impl AttackTables {
@@ -108,22 +122,16 @@ impl AttackTables {
         self.table(shape).at(square)
     }
 
-    /// The squares of a ray up to and with its first square in occupied.
-    #[tactic(auto, using(crate::proofs::Blockers::swept), unfolding(crate::specs::ties::Shapes::in_shape))]
+    /// The squares of a ray up to and with its first square in occupied. A ray that has none ends with the board, where
+    /// no ray in its direction goes on, so no branch is needed.
+    #[inline(always)]
+    #[tactic(auto, unfolding(crate::specs::ties::Shapes::in_shape))]
     pub(crate) fn sweep(&self, line: Line, up: bool, from: Square, occupied: SquareSet) -> SquareSet
         ensures { (k : ℕ) → k < 64 → has result k ≡ (is_on_ray line up from k && is_open occupied from k) }
     {
         let ray = self.table(Shape::Ray(line, up));
         let all = ray.at(from);
         let blockers = all.intersection(occupied);
-        if blockers.is_empty() {
-            return all;
-        }
-        let nearest = if up {
-            blockers.first()
-        } else {
-            blockers.last()
-        };
-        all.without(ray.at(nearest))
+        all.without(ray.at(nearest(blockers, up)))
     }
 }

@@ -1,0 +1,103 @@
+-- The members of a set that pass a test, gathered one after another.
+use Rattle.std.proofs.Common.{◌≡◌, ◌⊎◌, ℕ, zero, suc, ◌<◌, ◌≤◌, ◌+◌, inl, inr, Bool, true, false, ◌&&◌, ◌||◌, ◌==◌, List, [], ◌∷◌, None, refl, sym, ap, ◌∙◌, arith}
+use Rattle.std.specs.List.{filter, range_with_len}
+use Rattle.std.proofs.lemmas.Bool.{cases_Bool, cases_lt, eq-eqb, ne_eqb, eqb-true}
+use Rattle.chess_base.specs.declared.man.Kind.{Kind}
+use Rattle.chess_base.specs.declared.setup.Setup.{Setup}
+use Rattle.chess_base.specs.Men.{man_at, is_man}
+use Rattle.chess_base.specs.MoveList.{squares, triple}
+use Rattle.chess_base.specs.Moves.{is_legal}
+use Rattle.chess_moves.specs.Sets.{has, members, HasOrigins}
+use Rattle.chess_bits.proofs.AnyMember.{any_of}
+
+-- k is in the list and passes
+abbrev pub passes : (ℕ → Bool) → ℕ → List ℕ → Bool
+passes q k ms = any_of (λ x. (x == k) && q x) ms
+
+none_below : (p q : ℕ → Bool) (k n a : ℕ) → k < a → passes q k (filter p (range_with_len a n)) ≡ false
+none_below p q k zero a h = refl
+none_below p q k (suc n) a h =
+    let rest = none_below p q k n (a + 1) (omega (arith, h)) in
+    elim (cases_Bool (p a)) [
+      | inl here ↦ rw (here, ne_eqb a k (omega (arith, h))) rest
+      | inr away ↦ rw away rest
+    ]
+
+within : (p q : ℕ → Bool) (k n a : ℕ) → a ≤ k → k < a + n → passes q k (filter p (range_with_len a n)) ≡ (p k && q k)
+within p q k zero a low high = absurd (omega (arith, low, high))
+within p q k (suc n) a low high =
+    elim (cases_lt a k) [
+      | inl before ↦
+          let rest = within p q k n (a + 1) (omega (arith, before)) (omega (arith, high)) in
+          elim (cases_Bool (p a)) [
+            | inl here ↦ rw (here, ne_eqb a k (omega (arith, before))) rest
+            | inr away ↦ rw away rest
+          ]
+      | inr on ↦
+          let same : a ≡ k = omega (arith, low, on) in
+          let rest : passes q k (filter p (range_with_len (k + 1) n)) ≡ false = none_below p q k n (k + 1) (omega arith) in
+          rw same
+          (elim (cases_Bool (p k)) [
+            | inl here ↦ rw (here, eq-eqb k k refl, rest) (last (q k))
+            | inr away ↦ rw away rest
+          ])
+    ]
+  where
+    last : (x : Bool) → (x || false) ≡ x
+    last true = refl
+    last false = refl
+
+pub passes_is : (w : ℕ) (q : ℕ → Bool) (k : ℕ) → k < 64 → passes q k (members w) ≡ (has w k && q k)
+unfolding members squares
+passes_is w q k low = within (λ x. has w x) q k 64 0 (omega arith) (omega (arith, low))
+
+clash : (b : Bool) → b ≡ false → b ≡ true → ⊥
+clash true h g = cc
+clash false h g = cc
+
+-- the one square that a member is
+turned : (q : ℕ → Bool) (k s : ℕ) → q s ≡ true → (k == s) ≡ ((s == k) && q s)
+turned q k s on =
+    elim (cases_Bool (s == k)) [
+      | inl same ↦ let at : s ≡ k = eqb-true s k same in rw (on, same, eq-eqb k s (sym at)) refl
+      | inr apart ↦ rw apart (apart_back (cases_Bool (k == s)) apart)
+    ]
+  where
+    apart_back : ((k == s) ≡ true) ⊎ ((k == s) ≡ false) → (s == k) ≡ false → (k == s) ≡ false
+    apart_back (inr h) n = h
+    apart_back (inl h) n = absurd (clash (s == k) n (eq-eqb s k (sym (eqb-true k s h))))
+
+-- one member more that passes, or not
+pub added : (q : ℕ → Bool) (k : ℕ) (ms : List ℕ) (s : ℕ) (ns : List ℕ) (now next t : Bool) → ms ≡ s ∷ ns → q s ≡ true
+    → next ≡ (now || (k == s)) → (now || passes q k ms) ≡ t → (next || passes q k ns) ≡ t
+added q k ms s ns now next t e on made h =
+    ap (λ v. v || passes q k ns) (made ∙ ap (λ v. now || v) (turned q k s on))
+    ∙ joined now ((s == k) && q s) (passes q k ns) ∙ ap (λ v. now || passes q k v) (sym e) ∙ h
+  where
+    joined : (x y z : Bool) → ((x || y) || z) ≡ (x || (y || z))
+    joined true y z = refl
+    joined false y z = refl
+
+pub passed_over : (q : ℕ → Bool) (k : ℕ) (ms : List ℕ) (s : ℕ) (ns : List ℕ) (now t : Bool) → ms ≡ s ∷ ns → q s ≡ false
+    → (now || passes q k ms) ≡ t → (now || passes q k ns) ≡ t
+passed_over q k ms s ns now t e off h =
+    ap (λ v. now || v) (sym (out (s == k) (q s) off)) ∙ ap (λ v. now || passes q k v) (sym e) ∙ h
+  where
+    out : (x y : Bool) → y ≡ false → ((x && y) || passes q k ns) ≡ passes q k ns
+    out true true g = cc
+    out true false g = refl
+    out false y g = refl
+
+-- squares outside a set of origins have no legal move to the square
+pub starts_are : (p : Setup) (kind : Kind) (to k u : ℕ) → HasOrigins p kind to u
+    → ((is_man p.side kind (man_at p.men k) && has u k) && is_legal p (triple k to None))
+    ≡ (is_man p.side kind (man_at p.men k) && is_legal p (triple k to None))
+starts_are p kind to k u all =
+    both (is_man p.side kind (man_at p.men k)) (has u k) (is_legal p (triple k to None))
+    (λ man legal. all (triple k to None) legal man refl)
+  where
+    both : (x y z : Bool) → (x ≡ true → z ≡ true → y ≡ true) → ((x && y) && z) ≡ (x && z)
+    both true y true h = rw (h refl refl) refl
+    both true true false h = refl
+    both true false false h = refl
+    both false y z h = refl
