@@ -15,6 +15,7 @@ pub mod Words
 pub mod SanLaw
 pub mod ShownLaw
 pub mod Origins
+pub mod Starts
 mod Promoting
 mod Shapes
 pub mod NormalTexts

@@ -1,12 +1,13 @@
 -- What a text is read as, before any position is looked at: castling, or parts of a form. Then, in a position, the one
 -- square on which each move ends that it spells.
-use Rattle.std.specs.Prelude.{Bool, ◌≡◌, ◌&&◌, ◌+◌, ◌*◌, nat_lt, if◌then◌else◌, List, [], ◌∷◌, ℕ, map, Option, Some, None}
+use Rattle.std.specs.Prelude.{Bool, is_some, ◌≡◌, ◌&&◌, ◌+◌, ◌*◌, nat_lt, if◌then◌else◌, List, [], ◌∷◌, ℕ, map, Option, Some, None}
 use Rattle.std.specs.List.{list_any, filter}
 use Rattle.std.specs.Str.{bytes_eq}
 use Rattle.chess_base.specs.declared.man.CastlingSide.{CastlingSide}
 use Rattle.chess_base.specs.declared.man.CastlingSide.TheVariants.{KingSide, QueenSide}
 use Rattle.chess_base.specs.declared.man.Colour.{Colour}
 use Rattle.chess_base.specs.declared.man.Kind.{Kind}
+use Rattle.chess_base.specs.declared.man.Kind.TheVariants.{Pawn}
 use Rattle.chess_base.specs.declared.man.Move.{Move}
 use Rattle.chess_base.specs.declared.man.Variant.{Variant}
 use Rattle.chess_base.specs.declared.man.Variant.TheVariants.{Normal, Fischerandom}
@@ -94,3 +95,19 @@ named_square (Some f) (Some r) = if nat_lt f 8 && nat_lt r 8 then Some (8 * r + 
 -- each legal move that the form spells begins on a square of the set
 abbrev pub IsStart : Setup → Form → ℕ → Type 0
 IsStart p form w = (m : Move) → is_spelled form p m ≡ Bool.true → is_legal p m ≡ Bool.true → has w m.from ≡ Bool.true
+
+-- the kind of all men whose moves are spelled by that letter, and by that square where both its file and its rank are
+-- named, if it is one kind: a letter's, or without letter and square a pawn. No letter names a pawn
+abbrev pub kind_by : Option Kind → Option ℕ → Option Kind
+kind_by (Some Pawn) square = None
+kind_by (Some kind) square = Some kind
+kind_by None (Some square) = None
+kind_by None None = Some Pawn
+
+-- the kind of all men whose moves the parts spell, if it is one kind and none of these moves promotes
+abbrev pub one_kind : Parts → Option Kind
+one_kind q = if is_some q.end.promotion then None else kind_by q.letter (named_square q.file q.rank)
+
+-- the move from that square that the parts spell, with no promotion, if they spell it
+abbrev pub spelled_start : Parts → Setup → ℕ → List Move
+spelled_start q p a = if is_spelled (Walk q) p (triple a q.end.to None) then triple a q.end.to None ∷ [] else []
