@@ -53,7 +53,7 @@ fits_told p q m h e = rw (described_is p m h) at e
 square_by : (s : ℕ) → 8 * (s / 8) + s % 8 ≡ s
 square_by s = omega arith
 
-named_is : (f r : Option ℕ) (s : ℕ) → s < 64 → names f (file s) ≡ true → names r (rank s) ≡ true
+pub named_is : (f r : Option ℕ) (s : ℕ) → s < 64 → names f (file s) ≡ true → names r (rank s) ≡ true
     → named_square f r ≡ Some s
 named_is None r s h e g = cc
 named_is (Some f) None s h e g = cc

@@ -1,10 +1,10 @@
 -- Where the parts spell moves of one kind of men alone, none of which promotes, these are the moves from the squares
 -- where a man of that kind has the legal move to the end square.
-use Rattle.std.proofs.Common.{◌≡◌, ℕ, zero, suc, ◌+◌, ◌<◌, inl, inr, Bool, true, false, ◌&&◌, ◌||◌, cond, Option, Some, None, List, [], ◌∷◌, refl, sym, ap, subst, ◌∙◌, arith}
+use Rattle.std.proofs.Common.{◌≡◌, ℕ, zero, suc, ◌+◌, ◌<◌, inl, inr, Bool, true, false, ◌&&◌, cond, Option, Some, None, List, [], ◌∷◌, refl, sym, ap, subst, ◌∙◌, arith}
 use Rattle.std.specs.Prelude.{is_some}
 use Rattle.std.specs.List.{filter, flat_map, range_with_len}
 use Rattle.std.proofs.lemmas.Bool.Decides.{nat_tests}
-use Rattle.std.proofs.lemmas.Bool.{cases_Bool, and_parts, and_from, false_from_ne_true, or_cases}
+use Rattle.std.proofs.lemmas.Bool.{cases_Bool, and_parts, and_from, false_from_ne_true}
 use Rattle.chess_base.specs.declared.man.Kind.{Kind}
 use Rattle.chess_base.specs.declared.man.Kind.TheVariants.{King, Queen, Rook, Bishop, Knight, Pawn}
 use Rattle.chess_base.specs.declared.man.Move.{Move}
@@ -15,16 +15,16 @@ use Rattle.chess_base.specs.MoveList.{promotions, triple, moves}
 use Rattle.chess_moves.specs.Sets.{has, members, HasLegalStarts}
 use Rattle.chess_moves.proofs.Members.{of_range}
 use Rattle.chess_text.specs.declared.described.Described.{Described}
-use Rattle.chess_text.specs.declared.form.Form.{Form}
 use Rattle.chess_text.specs.declared.form.Form.TheVariants.{Walk}
 use Rattle.chess_text.specs.declared.parts.Parts.{Parts}
 use Rattle.chess_text.specs.declared.parts.Promotion.{Promotion}
 use Rattle.chess_text.specs.declared.reading.Reading.{Reading}
 use Rattle.chess_text.specs.Moves.{one_of, promotes_so, is_by_squares, is_by_letter, is_straight, is_from_file, fits}
-use Rattle.chess_text.specs.ties.Forms.{is_spelled, spelled_with, named_square, kind_by, one_kind, spelled_start, IsStart}
-use Rattle.chess_text.proofs.Legal.{legal_move, IsMove, MovesAs, told_of}
+use Rattle.chess_text.specs.ties.Forms.{is_spelled, spelled_with, named_square, kind_by, one_kind, is_spelled_of, spelled_start, IsStart}
+use Rattle.chess_text.proofs.Legal.{legal_move, MovesAs, told_of}
 use Rattle.chess_text.proofs.Origins.{man_is, fits_told, letter_fits, pawn_named, spelled_from}
 use Rattle.chess_text.proofs.SpelledMoves.{spelled_ends}
+use Rattle.chess_text.proofs.SpelledStart.{spelled_of}
 
 -- ---- no promotion
 
@@ -68,9 +68,10 @@ of_pawn : (p : Setup) (q : Parts) (m : Move) → q.letter ≡ None → named_squ
     → q.end.promotion ≡ None → is_spelled (Walk q) p m ≡ true → is_legal p m ≡ true → OfKind p Pawn m
 of_pawn p q m at square plain spelled legal =
     let h = legal_move p m legal in
-    let told : fits q (told_of p m h.man) ≡ true = fits_told p q m h spelled in
-    (man_is p m h Pawn (pawn_named q (told_of p m h.man) h.from_in at square told),
-    none_told m.promotion (rw plain at (promotes_as q (told_of p m h.man) at told)))
+    let told : fits q (told_of p m h.man) ≡ true = fits_told p q m h spelled in (
+      man_is p m h Pawn (pawn_named q (told_of p m h.man) h.from_in at square told),
+      none_told m.promotion (rw plain at (promotes_as q (told_of p m h.man) at told)),
+    )
 
 by_kind : (p : Setup) (q : Parts) (letter : Option Kind) (square : Option ℕ) (promotion : Option Promotion) (k : Kind)
     → q.letter ≡ letter → named_square q.file q.rank ≡ square → q.end.promotion ≡ promotion
@@ -135,13 +136,13 @@ legal_one true l e = e
 legal_one false l e = refl
 
 one_start : (p : Setup) (q : Parts) (k : Kind) (w a : ℕ) → one_kind q ≡ Some k → HasLegalStarts p k q.end.to w
-    → a < 64 → has w a ≡ true → spelled_with (Walk q) p a q.end.to promotions ≡ spelled_start q p a
+    → a < 64 → has w a ≡ true → spelled_with (Walk q) p a q.end.to promotions ≡ spelled_start q p k a
 one_start p q k w a e legal_starts low there =
-    let legal : is_legal p (triple a q.end.to None) ≡ true =
-    (and_parts (is_man p.side k (man_at p.men a)) (is_legal p (triple a q.end.to None))
-    (sym (legal_starts a low) ∙ there)).1 in
-    one_kept (fit q p) a q.end.to (is_spelled (Walk q) p (triple a q.end.to None))
-    (legal_one (is_spelled (Walk q) p (triple a q.end.to None)) (is_legal p (triple a q.end.to None)) legal)
+    let both = and_parts (is_man p.side k (man_at p.men a)) (is_legal p (triple a q.end.to None))
+    (sym (legal_starts a low) ∙ there) in
+    one_kept (fit q p) a q.end.to (is_spelled_of q p k (triple a q.end.to None))
+    (legal_one (is_spelled (Walk q) p (triple a q.end.to None)) (is_legal p (triple a q.end.to None)) both.1
+    ∙ spelled_of q p k (triple a q.end.to None) e both.1 refl refl both.0)
     (no_other p q k a Queen e) (no_other p q k a Rook e) (no_other p q k a Bishop e) (no_other p q k a Knight e)
 
 flat_map-kept : {B : Type 0} (f g : ℕ → List B) (t : ℕ → Bool) (n a : ℕ)
@@ -163,9 +164,9 @@ flat_map-members f g w h = rw (of_range w) (flat_map-kept f g (λ k. has w k) 64
 -- ---- the reading
 
 pub by_starts : (p : Setup) (q : Parts) (k : Kind) (w : ℕ) (r : Reading) → one_kind q ≡ Some k
-    → HasLegalStarts p k q.end.to w → r ≡ one_of (flat_map (spelled_start q p) (members w))
+    → HasLegalStarts p k q.end.to w → r ≡ one_of (flat_map (spelled_start q p k) (members w))
     → r ≡ one_of (filter (λ m. is_spelled (Walk q) p m) (moves p))
 by_starts p q k w r e legal_starts is =
-    is ∙ ap one_of (sym (flat_map-members (λ a. spelled_with (Walk q) p a q.end.to promotions) (spelled_start q p) w
+    is ∙ ap one_of (sym (flat_map-members (λ a. spelled_with (Walk q) p a q.end.to promotions) (spelled_start q p k) w
     (λ a low there. one_start p q k w a e legal_starts low there))
     ∙ spelled_from (Walk q) p w (starts p q k w e legal_starts))

@@ -5,12 +5,13 @@ ghost use Rattle.std.specs.List.{filter, flat_map};
 ghost use Rattle.chess_base.specs.MoveList.{promotions, moves};
 ghost use Rattle.chess_text.specs.Moves.{shape, one_of, reading, has_shape, IsLegalReading};
 ghost use Rattle.chess_text.specs.declared.form.Form.TheVariants.{Walk};
-ghost use Rattle.chess_text.specs.ties.Forms.{is_spelled, castling_end, end_square, spelled_with, with_move, with_moves, named_square, one_kind, spelled_start, IsStart};
+ghost use Rattle.chess_text.specs.ties.Forms.{is_spelled, castling_end, end_square, spelled_with, with_move, with_moves, named_square, one_kind, is_spelled_by_letter, is_spelled_by_pawn, is_spelled_of, spelled_start, IsStart};
 ghost use Rattle.chess_moves.specs.Sets.{members};
 
+use crate::described::{admits, captures, names};
 use crate::form::{Form, is_spelled, read_form};
 use crate::parts::Parts;
-use chess_base::for_boards::{castled_king_file, home_square, right_of};
+use chess_base::for_boards::{castled_king_file, castling, home_square, right_of};
 use chess_base::{CastlingSide, Colour, Kind, Move, Setup, Square, Variant};
 use chess_moves::{Board, SquareSet, would_promote};
 
@@ -180,11 +181,44 @@ fn one_kind(parts: &Parts) -> Option<Kind>
     }
 }
 
-// What a text of these parts is whose legal moves begin on those squares and have no promotion.
-fn spelled_among(setup: &Setup, parts: &Parts, starts: SquareSet) -> Reading
-    ensures { result ≡ one_of (flat_map (spelled_start parts.now setup.now) (members starts)) }
+// Whether the letter spells a legal move of a man of that kind, with no promotion, to the end square.
+fn is_spelled_by_letter(parts: &Parts, setup: &Setup, kind: Kind, m: &Move) -> bool
+    ensures { result ≡ is_spelled_by_letter parts.now setup.now kind m.now }
 {
-    let form = Form::Walk(*parts);
+    admits(parts.file, m.from.file())
+        && admits(parts.rank, m.from.rank())
+        && (!parts.takes || captures(setup, m))
+        && !(kind == Kind::King && castling(setup, m).is_some())
+}
+
+// Whether the parts, with no letter, spell a legal move of a pawn, with no promotion, to the end square.
+fn is_spelled_by_pawn(parts: &Parts, setup: &Setup, m: &Move) -> bool
+    ensures { result ≡ is_spelled_by_pawn parts.now setup.now m.now }
+{
+    if parts.file.is_none() {
+        parts.rank.is_none() && !parts.takes && m.from.file() == m.to.file()
+    } else {
+        names(parts.file, m.from.file())
+            && admits(parts.rank, m.from.rank())
+            && (!parts.takes || captures(setup, m))
+    }
+}
+
+// Whether the parts spell a legal move of a man of that one kind, with no promotion, to the end square.
+fn is_spelled_of(parts: &Parts, setup: &Setup, kind: Kind, m: &Move) -> bool
+    ensures { result ≡ is_spelled_of parts.now setup.now kind m.now }
+{
+    if parts.letter.is_some() {
+        is_spelled_by_letter(parts, setup, kind, m)
+    } else {
+        is_spelled_by_pawn(parts, setup, m)
+    }
+}
+
+// What a text of these parts is, whose legal moves are of men of that kind, and begin on those squares.
+fn spelled_among(setup: &Setup, parts: &Parts, kind: Kind, starts: SquareSet) -> Reading
+    ensures { result ≡ one_of (flat_map (spelled_start parts.now setup.now kind) (members starts)) }
+{
     let mut found = Reading::NoSuch;
     let mut rest = starts;
     while let Some(from) = rest.take_first() {
@@ -193,7 +227,7 @@ fn spelled_among(setup: &Setup, parts: &Parts, starts: SquareSet) -> Reading
             to: parts.end.to,
             promotion: None,
         };
-        if is_spelled(&form, setup, &m) {
+        if is_spelled_of(parts, setup, kind, &m) {
             found = with_move(found, m);
         }
     }
@@ -206,7 +240,12 @@ fn spelled_by_kind<B: Board>(board: &B, parts: &Parts, kind: Kind) -> Reading
     ensures { result ≡ one_of
         (filter (λ m. is_spelled (Walk parts.now) (B.position board.now) m) (moves (B.position board.now))) }
 {
-    spelled_among(board.setup(), parts, board.legal_starts(kind, parts.end.to))
+    spelled_among(
+        board.setup(),
+        parts,
+        kind,
+        board.legal_starts(kind, parts.end.to),
+    )
 }
 
 // What a text of that form is, by the moves from all squares where one may begin that it spells.

@@ -13,5 +13,5 @@ returns g c =
     by_starts (g.B.Board.position c.args.board.now) c.args.parts.now c.args.kind c.legal_starts.result
     c.spelled_among.result c.requires c.legal_starts.ensures
     (c.spelled_among.ensures
-    ∙ ap (λ s. one_of (flat_map (spelled_start c.args.parts.now s) (members c.legal_starts.result)))
+    ∙ ap (λ s. one_of (flat_map (spelled_start c.args.parts.now s c.args.kind) (members c.legal_starts.result)))
     c.setup.ensures.value)
