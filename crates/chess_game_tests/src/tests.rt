@@ -1,6 +1,6 @@
 ghost use Rattle.chess_moves.specs.PositionWord.{position_word};
 
-use chess_base::{Kind, Move, Position, Saved, Setup, Square};
+use chess_base::{Colour, Kind, Move, Position, Saved, Setup, Square};
 use chess_bits::{AttackTables, Bits};
 use chess_fen::{read_fen, write_fen};
 use chess_game::{
@@ -96,6 +96,14 @@ impl Board for Counting<'_> {
         self.plain.origins(kind, to)
     }
 
+    fn men_of(&self, colour: Colour, kind: Kind) -> SquareSet {
+        self.plain.men_of(colour, kind)
+    }
+
+    fn legal_starts(&self, kind: Kind, to: Square) -> SquareSet {
+        self.plain.legal_starts(kind, to)
+    }
+
     fn in_check(&self) -> bool {
         self.plain.in_check()
     }
@@ -164,6 +172,14 @@ impl Board for Wordless {
 
     fn origins(&self, kind: Kind, to: Square) -> SquareSet {
         self.plain.origins(kind, to)
+    }
+
+    fn men_of(&self, colour: Colour, kind: Kind) -> SquareSet {
+        self.plain.men_of(colour, kind)
+    }
+
+    fn legal_starts(&self, kind: Kind, to: Square) -> SquareSet {
+        self.plain.legal_starts(kind, to)
     }
 
     fn in_check(&self) -> bool {

@@ -1,9 +1,12 @@
 //! The plain board: the men by their squares.
 
-ghost use Rattle.std.specs.Prelude.{◌≡◌, ℕ, ◌<◌};
+ghost use Rattle.std.specs.Prelude.{◌≡◌, ℕ, ◌<◌, ◌&&◌, None};
 ghost use Rattle.chess_base.specs.Initial.{initial_setup};
 ghost use Rattle.chess_base.specs.Men.{man_at, is_man};
-ghost use Rattle.chess_moves.specs.Sets.{has};
+ghost use Rattle.chess_base.specs.MoveList.{triple};
+ghost use Rattle.chess_base.specs.Moves.{is_legal};
+ghost use Rattle.chess_base.specs.Sound.{IsSound};
+ghost use Rattle.chess_moves.specs.Sets.{HasLegalStarts, has};
 
 use crate::board::{Board, MoveList};
 use crate::listing::{has_legal_move, legal_moves};
@@ -44,6 +47,35 @@ fn men_of(men: &[Option<Man>; 64], colour: Colour, kind: Kind) -> SquareSet
         let square = Square::new(number);
         if is_man(colour, kind, men[square.index()]) {
             set = set.union(SquareSet::single(square));
+        }
+    }
+    set
+}
+
+// Whether a man of a kind, of the side on move, has the legal move from there to there without a promotion.
+fn is_legal_start(setup: &Setup, kind: Kind, from: Square, to: Square) -> bool
+    requires { IsSound setup.now }
+    ensures { result ≡ (is_man setup.now.side kind (man_at setup.now.men from)
+        && is_legal setup.now (triple from to None)) }
+{
+    let m = Move {
+        from,
+        to,
+        promotion: None,
+    };
+    is_man(setup.side, kind, setup.men[from.index()]) && is_legal(setup, &m)
+}
+
+// The squares from which a man of a kind, of the side on move, has the legal move to a square without a promotion.
+fn legal_starts(setup: &Setup, kind: Kind, to: Square) -> SquareSet
+    requires { IsSound setup.now }
+    ensures { HasLegalStarts setup.now kind to result }
+{
+    let mut set = SquareSet::empty();
+    for number in 0..64 {
+        let from = Square::new(number);
+        if is_legal_start(setup, kind, from, to) {
+            set = set.union(SquareSet::single(from));
         }
     }
     set
@@ -100,6 +132,14 @@ impl Board for Plain {
     #[tactic(auto, using(crate::proofs::Origins::all_men))]
     fn origins(&self, kind: Kind, _to: Square) -> SquareSet {
         men_of(&self.setup.men, self.setup.side, kind)
+    }
+
+    fn men_of(&self, colour: Colour, kind: Kind) -> SquareSet {
+        men_of(&self.setup.men, colour, kind)
+    }
+
+    fn legal_starts(&self, kind: Kind, to: Square) -> SquareSet {
+        legal_starts(&self.setup, kind, to)
     }
 
     fn in_check(&self) -> bool {
