@@ -15,6 +15,8 @@ pub mod Words
 pub mod SanLaw
 pub mod ShownLaw
 pub mod Origins
+mod SpelledStart
+pub mod Starts
 mod Promoting
 mod Shapes
 pub mod NormalTexts

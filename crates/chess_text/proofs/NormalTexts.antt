@@ -1,5 +1,5 @@
 -- On positions of normal chess the texts are those of normal chess.
-use Rattle.std.proofs.Common.{◌≡◌, ℕ, Bool, true, false, not, ◌&&◌, ◌==◌, List, [], ◌++◌, length, map, filter, codes, Option, Some, None, is_some, refl, ap, ◌∙◌, if◌then◌else◌}
+use Rattle.std.proofs.Common.{◌≡◌, ℕ, Bool, true, false, not, ◌&&◌, ◌==◌, List, ◌++◌, length, map, filter, codes, Option, Some, None, is_some, refl, ap, ◌∙◌, if◌then◌else◌}
 use Rattle.std.proofs.Math.Path.{fun_ext}
 use Rattle.chess_base.specs.declared.man.CastlingSide.{CastlingSide}
 use Rattle.chess_base.specs.declared.man.CastlingSide.TheVariants.{KingSide, QueenSide}
@@ -15,7 +15,7 @@ use Rattle.chess_base.specs.Castling.{castling, says_castling, names_castling, r
 use Rattle.chess_base.specs.Men.{man_at, is_man, same_kind}
 use Rattle.chess_base.specs.Moves.{after}
 use Rattle.chess_base.specs.MoveList.{all_triples, moves}
-use Rattle.chess_base.specs.laws.Normal.{normal_is_legal, normal_says_castling, normal_castling, normal_after}
+use Rattle.chess_base.specs.laws.Normal.{normal_says_castling, normal_castling, normal_after}
 use Rattle.chess_base.proofs.NormalKept.{normal_kept as rules_kept}
 use Rattle.chess_text.specs.declared.described.Described.{Described}
 use Rattle.chess_text.specs.declared.reading.Reading.TheVariants.{NotAMove}

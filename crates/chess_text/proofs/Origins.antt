@@ -53,7 +53,7 @@ fits_told p q m h e = rw (described_is p m h) at e
 square_by : (s : ℕ) → 8 * (s / 8) + s % 8 ≡ s
 square_by s = omega arith
 
-named_is : (f r : Option ℕ) (s : ℕ) → s < 64 → names f (file s) ≡ true → names r (rank s) ≡ true
+pub named_is : (f r : Option ℕ) (s : ℕ) → s < 64 → names f (file s) ≡ true → names r (rank s) ≡ true
     → named_square f r ≡ Some s
 named_is None r s h e g = cc
 named_is (Some f) None s h e g = cc
@@ -65,7 +65,7 @@ named_is (Some f) (Some r) s h e g =
     rw (low, low') (ap Some (rw (f', r') (square_by s)))
 
 -- what the parts say where they name a letter, a square, or neither
-letter_fits : (q : Parts) (d : Described) (k : Kind) → q.letter ≡ Some k → fits q d ≡ true → same_kind k d.man ≡ true
+pub letter_fits : (q : Parts) (d : Described) (k : Kind) → q.letter ≡ Some k → fits q d ≡ true → same_kind k d.man ≡ true
 unfolding fits is_by_squares is_by_letter is_straight is_from_file
 letter_fits q d k at h = grind (arith, nat_tests, at, h)
 
@@ -147,18 +147,23 @@ by_squares p q s w at square single = λ m spelled legal.
         (named_is q.file q.rank a low (rw e at f) (rank_named q.file q.rank s (rank a) square (rw e at r))) square
     from_square a low d e (Straight n k) = file_there q.file q.rank s square n (a ≡ s)
 
+-- with no letter and no square in full it is a pawn
+pub pawn_named : (q : Parts) (d : Described) → d.from < 64 → q.letter ≡ None → named_square q.file q.rank ≡ None
+    → fits q d ≡ true → same_kind Pawn d.man ≡ true
+pawn_named q d low at square told = by_form (no_letter q d at told)
+  where
+    by_form : NoLetter q d → same_kind Pawn d.man ≡ true
+    by_form (BySquares f r) = let there = named_is q.file q.rank d.from low f r in absurd cc
+    by_form (ByFile f r k) = k
+    by_form (Straight n k) = k
+
 pub by_pawn : (p : Setup) (q : Parts) (w : ℕ) → q.letter ≡ None → named_square q.file q.rank ≡ None
     → HasOrigins p Pawn q.end.to w → IsStart p (Walk q) w
 by_pawn p q w at square origins = λ m spelled legal.
     let h = legal_move p m legal in
     origins m legal (man_is p m h Pawn
-    (is_pawn m.from h.from_in (told_of p m h.man) refl
-    (no_letter q (told_of p m h.man) at (fits_told p q m h spelled)))) (spelled_ends (Walk q) p m spelled)
-  where
-    is_pawn : (a : ℕ) → a < 64 → (d : Described) → d.from ≡ a → NoLetter q d → same_kind Pawn d.man ≡ true
-    is_pawn a low d e (BySquares f r) = let there = named_is q.file q.rank a low (rw e at f) (rw e at r) in absurd cc
-    is_pawn a low d e (ByFile f r k) = k
-    is_pawn a low d e (Straight n k) = k
+    (pawn_named q (told_of p m h.man) h.from_in at square (fits_told p q m h spelled)))
+    (spelled_ends (Walk q) p m spelled)
 
 king_by : (v : CastlingSide) (p : Setup) (m : Move) (o : Option Man)
     → passes (form_fits (Castling v)) (described_as p m o) ≡ true → is_man p.side King (man_at p.men m.from) ≡ true

@@ -19,8 +19,9 @@ pub struct Described {
     pub castles: Option<CastlingSide>,
 }
 
+// Whether the legal move takes a man.
 #[tactic(auto, unfolding(crate::specs::Moves::captures))]
-fn captures(setup: &Setup, m: &Move) -> bool
+pub(crate) fn captures(setup: &Setup, m: &Move) -> bool
     ensures { result ≡ captures setup.now m.now }
 {
     is_of(setup.side.other(), setup.men[m.to.index()]) || is_en_passant(setup, m)
@@ -43,7 +44,7 @@ pub(crate) fn describe(setup: &Setup, m: &Move) -> Option<Described>
 }
 
 // Whether a file or rank is the one that a text names, if it names one.
-fn admits(told: Option<u8>, number: u8) -> bool
+pub(crate) fn admits(told: Option<u8>, number: u8) -> bool
     ensures { result ≡ admits told number }
 {
     match told {
@@ -52,7 +53,8 @@ fn admits(told: Option<u8>, number: u8) -> bool
     }
 }
 
-fn names(told: Option<u8>, number: u8) -> bool
+// Whether a text names that file or rank.
+pub(crate) fn names(told: Option<u8>, number: u8) -> bool
     ensures { result ≡ names told number }
 {
     match told {

@@ -1,15 +1,17 @@
 //! Reading the text of a move.
 
-ghost use Rattle.std.specs.Prelude.{◌≡◌};
-ghost use Rattle.std.specs.List.{filter};
+ghost use Rattle.std.specs.Prelude.{◌≡◌, Some};
+ghost use Rattle.std.specs.List.{filter, flat_map};
 ghost use Rattle.chess_base.specs.MoveList.{promotions, moves};
 ghost use Rattle.chess_text.specs.Moves.{shape, one_of, reading, has_shape, IsLegalReading};
 ghost use Rattle.chess_text.specs.declared.form.Form.TheVariants.{Walk};
-ghost use Rattle.chess_text.specs.ties.Forms.{is_spelled, castling_end, end_square, spelled_with, with_move, with_moves, named_square, IsStart};
+ghost use Rattle.chess_text.specs.ties.Forms.{is_spelled, castling_end, end_square, spelled_with, with_move, with_moves, named_square, one_kind, is_spelled_by_letter, is_spelled_by_pawn, is_spelled_of, spelled_start, IsStart};
+ghost use Rattle.chess_moves.specs.Sets.{members};
 
+use crate::described::{admits, captures, names};
 use crate::form::{Form, is_spelled, read_form};
 use crate::parts::Parts;
-use chess_base::for_boards::{castled_king_file, home_square, right_of};
+use chess_base::for_boards::{castled_king_file, castling, home_square, right_of};
 use chess_base::{CastlingSide, Colour, Kind, Move, Setup, Square, Variant};
 use chess_moves::{Board, SquareSet, would_promote};
 
@@ -165,8 +167,89 @@ fn with_spelled_between<B: Board>(
     }
 }
 
-// What a text of that form is: of the legal moves it may spell one, several or none.
-fn spelled<B: Board>(board: &B, form: &Form) -> Reading
+// The kind of all men whose moves the parts spell, if it is one kind and none of these moves promotes.
+fn one_kind(parts: &Parts) -> Option<Kind>
+    ensures { result ≡ one_kind parts.now }
+{
+    if parts.end.promotion.is_some() {
+        return None;
+    }
+    match (parts.letter, named_square(parts.file, parts.rank)) {
+        (Some(Kind::Pawn), _) | (None, Some(_)) => None,
+        (Some(kind), _) => Some(kind),
+        (None, None) => Some(Kind::Pawn),
+    }
+}
+
+// Whether the letter spells a legal move of a man of that kind, with no promotion, to the end square.
+fn is_spelled_by_letter(parts: &Parts, setup: &Setup, kind: Kind, m: &Move) -> bool
+    ensures { result ≡ is_spelled_by_letter parts.now setup.now kind m.now }
+{
+    admits(parts.file, m.from.file())
+        && admits(parts.rank, m.from.rank())
+        && (!parts.takes || captures(setup, m))
+        && !(kind == Kind::King && castling(setup, m).is_some())
+}
+
+// Whether the parts, with no letter, spell a legal move of a pawn, with no promotion, to the end square.
+fn is_spelled_by_pawn(parts: &Parts, setup: &Setup, m: &Move) -> bool
+    ensures { result ≡ is_spelled_by_pawn parts.now setup.now m.now }
+{
+    if parts.file.is_none() {
+        parts.rank.is_none() && !parts.takes && m.from.file() == m.to.file()
+    } else {
+        names(parts.file, m.from.file())
+            && admits(parts.rank, m.from.rank())
+            && (!parts.takes || captures(setup, m))
+    }
+}
+
+// Whether the parts spell a legal move of a man of that one kind, with no promotion, to the end square.
+fn is_spelled_of(parts: &Parts, setup: &Setup, kind: Kind, m: &Move) -> bool
+    ensures { result ≡ is_spelled_of parts.now setup.now kind m.now }
+{
+    if parts.letter.is_some() {
+        is_spelled_by_letter(parts, setup, kind, m)
+    } else {
+        is_spelled_by_pawn(parts, setup, m)
+    }
+}
+
+// What a text of these parts is, whose legal moves are of men of that kind, and begin on those squares.
+fn spelled_among(setup: &Setup, parts: &Parts, kind: Kind, starts: SquareSet) -> Reading
+    ensures { result ≡ one_of (flat_map (spelled_start parts.now setup.now kind) (members starts)) }
+{
+    let mut found = Reading::NoSuch;
+    let mut rest = starts;
+    while let Some(from) = rest.take_first() {
+        let m = Move {
+            from,
+            to: parts.end.to,
+            promotion: None,
+        };
+        if is_spelled_of(parts, setup, kind, &m) {
+            found = with_move(found, m);
+        }
+    }
+    found
+}
+
+// What a text of these parts is, that spells moves of men of that kind alone and none that promotes.
+fn spelled_by_kind<B: Board>(board: &B, parts: &Parts, kind: Kind) -> Reading
+    requires { one_kind parts.now ≡ Some kind }
+    ensures { result ≡ one_of
+        (filter (λ m. is_spelled (Walk parts.now) (B.position board.now) m) (moves (B.position board.now))) }
+{
+    spelled_among(
+        board.setup(),
+        parts,
+        kind,
+        board.legal_starts(kind, parts.end.to),
+    )
+}
+
+// What a text of that form is, by the moves from all squares where one may begin that it spells.
+fn spelled_from_origins<B: Board>(board: &B, form: &Form) -> Reading
     ensures { result ≡ one_of
         (filter (λ m. is_spelled form.now (B.position board.now) m) (moves (B.position board.now))) }
 {
@@ -177,6 +260,19 @@ fn spelled<B: Board>(board: &B, form: &Form) -> Reading
         found = with_spelled_between(board, form, from, to, found);
     }
     found
+}
+
+// What a text of that form is: of the legal moves it may spell one, several or none.
+fn spelled<B: Board>(board: &B, form: &Form) -> Reading
+    ensures { result ≡ one_of
+        (filter (λ m. is_spelled form.now (B.position board.now) m) (moves (B.position board.now))) }
+{
+    if let Form::Walk(parts) = form {
+        if let Some(kind) = one_kind(parts) {
+            return spelled_by_kind(board, parts, kind);
+        }
+    }
+    spelled_from_origins(board, form)
 }
 
 /// What a text is in the board's position: of the legal moves it may spell one, several or none. Whether a mark `+` or

@@ -1,5 +1,5 @@
 -- The laws of the texts, each as one statement.
-use Rattle.std.specs.Prelude.{◌≡◌, ℕ, ◌≤◌, ◌==◌, nat_le, Bool, false, ◌&&◌, ◌||◌, ◌⊎◌, ◌↔◌, List, [], ◌∷◌, length, Some, IsTrue}
+use Rattle.std.specs.Prelude.{◌≡◌, ℕ, ◌≤◌, ◌==◌, Bool, false, ◌||◌, ◌⊎◌, ◌↔◌, List, [], ◌∷◌, length, Some, IsTrue}
 use Rattle.chess_base.specs.Coordinates.{coordinate}
 use Rattle.chess_base.specs.Letters.{is_digit, is_letter, byte}
 use Rattle.std.specs.List.{list_all}

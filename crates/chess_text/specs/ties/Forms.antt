@@ -1,18 +1,21 @@
 -- What a text is read as, before any position is looked at: castling, or parts of a form. Then, in a position, the one
 -- square on which each move ends that it spells.
-use Rattle.std.specs.Prelude.{Bool, ◌≡◌, ◌&&◌, ◌+◌, ◌*◌, nat_lt, if◌then◌else◌, List, [], ◌∷◌, ℕ, map, Option, Some, None}
+use Rattle.std.specs.Prelude.{Bool, is_some, is_none, not, ◌||◌, ◌==◌, ◌≡◌, ◌&&◌, ◌+◌, ◌*◌, nat_lt, if◌then◌else◌, List, [], ◌∷◌, ℕ, map, Option, Some, None}
 use Rattle.std.specs.List.{list_any, filter}
 use Rattle.std.specs.Str.{bytes_eq}
 use Rattle.chess_base.specs.declared.man.CastlingSide.{CastlingSide}
 use Rattle.chess_base.specs.declared.man.CastlingSide.TheVariants.{KingSide, QueenSide}
 use Rattle.chess_base.specs.declared.man.Colour.{Colour}
 use Rattle.chess_base.specs.declared.man.Kind.{Kind}
+use Rattle.chess_base.specs.declared.man.Kind.TheVariants.{King, Pawn}
 use Rattle.chess_base.specs.declared.man.Move.{Move}
 use Rattle.chess_base.specs.declared.man.Variant.{Variant}
 use Rattle.chess_base.specs.declared.man.Variant.TheVariants.{Normal, Fischerandom}
 use Rattle.chess_base.specs.declared.setup.Setup.{Setup}
 use Rattle.chess_base.specs.Moves.{is_legal}
-use Rattle.chess_base.specs.Castling.{castled_king_file, home_square, right_of}
+use Rattle.chess_base.specs.Castling.{castled_king_file, castling, home_square, right_of}
+use Rattle.chess_base.specs.Men.{same_kind}
+use Rattle.chess_base.specs.Squares.{file, rank}
 use Rattle.chess_base.specs.MoveList.{triple}
 use Rattle.chess_text.specs.declared.described.Described.{Described}
 use Rattle.chess_text.specs.declared.form.Form.{Form}
@@ -22,7 +25,7 @@ use Rattle.chess_text.specs.Parts.{unmarked, parts_at}
 use Rattle.chess_moves.specs.Sets.{has}
 use Rattle.chess_text.specs.declared.reading.Reading.{Reading}
 use Rattle.chess_text.specs.declared.reading.Reading.TheVariants as reads
-use Rattle.chess_text.specs.Moves.{castling_texts, described, fits, is_form, passes}
+use Rattle.chess_text.specs.Moves.{admits, captures, castling_texts, described, fits, is_form, names, passes}
 
 -- the side of the castling that a text without marks names
 abbrev pub castling_named : List ℕ → Option CastlingSide
@@ -94,3 +97,34 @@ named_square (Some f) (Some r) = if nat_lt f 8 && nat_lt r 8 then Some (8 * r + 
 -- each legal move that the form spells begins on a square of the set
 abbrev pub IsStart : Setup → Form → ℕ → Type 0
 IsStart p form w = (m : Move) → is_spelled form p m ≡ Bool.true → is_legal p m ≡ Bool.true → has w m.from ≡ Bool.true
+
+-- the kind of all men whose moves are spelled by that letter, and by that square where both its file and its rank are
+-- named, if it is one kind: a letter's, or without letter and square a pawn. No letter names a pawn
+abbrev pub kind_by : Option Kind → Option ℕ → Option Kind
+kind_by (Some Pawn) square = None
+kind_by (Some kind) square = Some kind
+kind_by None (Some square) = None
+kind_by None None = Some Pawn
+
+-- the kind of all men whose moves the parts spell, if it is one kind and none of these moves promotes
+abbrev pub one_kind : Parts → Option Kind
+one_kind q = if is_some q.end.promotion then None else kind_by q.letter (named_square q.file q.rank)
+
+-- a letter spells the legal move of such a man, with no promotion, to the end square
+abbrev pub is_spelled_by_letter : Parts → Setup → Kind → Move → Bool
+is_spelled_by_letter q p k m = admits q.file (file m.from) && admits q.rank (rank m.from)
+    && (not q.takes || captures p m) && not (same_kind King k && is_some (castling p m))
+
+-- without a letter the parts spell the legal move of a pawn, with no promotion, to the end square
+abbrev pub is_spelled_by_pawn : Parts → Setup → Move → Bool
+is_spelled_by_pawn q p m =
+    if is_none q.file then is_none q.rank && not q.takes && (file m.from == file m.to)
+    else names q.file (file m.from) && admits q.rank (rank m.from) && (not q.takes || captures p m)
+
+-- the parts spell the legal move of a man of that one kind, with no promotion, to the end square
+abbrev pub is_spelled_of : Parts → Setup → Kind → Move → Bool
+is_spelled_of q p k m = if is_some q.letter then is_spelled_by_letter q p k m else is_spelled_by_pawn q p m
+
+-- the move of a man of that one kind from that square that the parts spell, if they spell it
+abbrev pub spelled_start : Parts → Setup → Kind → ℕ → List Move
+spelled_start q p k a = if is_spelled_of q p k (triple a q.end.to None) then triple a q.end.to None ∷ [] else []

@@ -4,7 +4,7 @@ use Rattle.chess_base.specs.MoveList.{promotions, moves}
 use Rattle.chess_moves.specs.Sets.{members}
 use Rattle.chess_text.specs.Moves.{one_of}
 use Rattle.chess_text.specs.ties.Forms.{is_spelled, end_square, spelled_with, with_moves}
-use Rattle.chess_text.proofs.reading.spelled.Given as goal
+use Rattle.chess_text.proofs.reading.spelled_from_origins.Given as goal
 
 -- the squares that are left give the whole
 abbrev pub invariant-loop-from : goal.invariant-loop-from

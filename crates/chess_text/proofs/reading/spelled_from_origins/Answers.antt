@@ -5,7 +5,7 @@ use Rattle.chess_base.specs.MoveList.{promotions}
 use Rattle.chess_text.specs.ties.Forms.{end_square, spelled_with, with_moves}
 use Rattle.chess_text.specs.declared.reading.Reading.TheVariants as reads
 use Rattle.chess_text.proofs.Origins.{spelled_from, one_found, more_found}
-use Rattle.chess_text.proofs.reading.spelled.Goals as goal
+use Rattle.chess_text.proofs.reading.spelled_from_origins.Goals as goal
 
 pub loop-from-init : goal.loop-from-init
 loop-from-init g c =

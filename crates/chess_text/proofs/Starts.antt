@@ -1,0 +1,172 @@
+-- Where the parts spell moves of one kind of men alone, none of which promotes, these are the moves from the squares
+-- where a man of that kind has the legal move to the end square.
+use Rattle.std.proofs.Common.{◌≡◌, ℕ, zero, suc, ◌+◌, ◌<◌, inl, inr, Bool, true, false, ◌&&◌, cond, Option, Some, None, List, [], ◌∷◌, refl, sym, ap, subst, ◌∙◌, arith}
+use Rattle.std.specs.Prelude.{is_some}
+use Rattle.std.specs.List.{filter, flat_map, range_with_len}
+use Rattle.std.proofs.lemmas.Bool.Decides.{nat_tests}
+use Rattle.std.proofs.lemmas.Bool.{cases_Bool, and_parts, and_from, false_from_ne_true}
+use Rattle.chess_base.specs.declared.man.Kind.{Kind}
+use Rattle.chess_base.specs.declared.man.Kind.TheVariants.{King, Queen, Rook, Bishop, Knight, Pawn}
+use Rattle.chess_base.specs.declared.man.Move.{Move}
+use Rattle.chess_base.specs.declared.setup.Setup.{Setup}
+use Rattle.chess_base.specs.Men.{man_at, is_man, same_kind}
+use Rattle.chess_base.specs.Moves.{is_legal}
+use Rattle.chess_base.specs.MoveList.{promotions, triple, moves}
+use Rattle.chess_moves.specs.Sets.{has, members, HasLegalStarts}
+use Rattle.chess_moves.proofs.Members.{of_range}
+use Rattle.chess_text.specs.declared.described.Described.{Described}
+use Rattle.chess_text.specs.declared.form.Form.TheVariants.{Walk}
+use Rattle.chess_text.specs.declared.parts.Parts.{Parts}
+use Rattle.chess_text.specs.declared.parts.Promotion.{Promotion}
+use Rattle.chess_text.specs.declared.reading.Reading.{Reading}
+use Rattle.chess_text.specs.Moves.{one_of, promotes_so, is_by_squares, is_by_letter, is_straight, is_from_file, fits}
+use Rattle.chess_text.specs.ties.Forms.{is_spelled, spelled_with, named_square, kind_by, one_kind, is_spelled_of, spelled_start, IsStart}
+use Rattle.chess_text.proofs.Legal.{legal_move, MovesAs, told_of}
+use Rattle.chess_text.proofs.Origins.{man_is, fits_told, letter_fits, pawn_named, spelled_from}
+use Rattle.chess_text.proofs.SpelledMoves.{spelled_ends}
+use Rattle.chess_text.proofs.SpelledStart.{spelled_of}
+
+-- ---- no promotion
+
+unpromoted : (p : Setup) (m : Move) (k j : Kind) → MovesAs p m j → same_kind k j ≡ true → same_kind Pawn k ≡ false
+    → m.promotion ≡ None
+unpromoted p m k King e same other = e
+unpromoted p m k Queen e same other = e
+unpromoted p m k Rook e same other = e
+unpromoted p m k Bishop e same other = e
+unpromoted p m k Knight e same other = e
+unpromoted p m King Pawn e same other = absurd cc
+unpromoted p m Queen Pawn e same other = absurd cc
+unpromoted p m Rook Pawn e same other = absurd cc
+unpromoted p m Bishop Pawn e same other = absurd cc
+unpromoted p m Knight Pawn e same other = absurd cc
+unpromoted p m Pawn Pawn e same other = absurd cc
+
+none_told : (o : Option Kind) → promotes_so None o ≡ true → o ≡ None
+none_told None e = refl
+none_told (Some k) e = absurd cc
+
+promotes_as : (q : Parts) (d : Described) → q.letter ≡ None → fits q d ≡ true
+    → promotes_so q.end.promotion d.promotion ≡ true
+unfolding fits is_by_squares is_by_letter is_straight is_from_file
+promotes_as q d at h = grind (arith, nat_tests, at, h)
+
+-- ---- one kind
+
+-- a spelled legal move is of such a man, and has no promotion
+abbrev OfKind : Setup → Kind → Move → Type 0
+OfKind p k m = (is_man p.side k (man_at p.men m.from) ≡ true) × (m.promotion ≡ None)
+
+lettered : (p : Setup) (q : Parts) (k : Kind) (m : Move) → q.letter ≡ Some k → same_kind Pawn k ≡ false
+    → is_spelled (Walk q) p m ≡ true → is_legal p m ≡ true → OfKind p k m
+lettered p q k m at other spelled legal =
+    let h = legal_move p m legal in
+    let same : same_kind k h.man ≡ true = letter_fits q (told_of p m h.man) k at (fits_told p q m h spelled) in
+    (man_is p m h k same, unpromoted p m k h.man h.moves_as same other)
+
+of_pawn : (p : Setup) (q : Parts) (m : Move) → q.letter ≡ None → named_square q.file q.rank ≡ None
+    → q.end.promotion ≡ None → is_spelled (Walk q) p m ≡ true → is_legal p m ≡ true → OfKind p Pawn m
+of_pawn p q m at square plain spelled legal =
+    let h = legal_move p m legal in
+    let told : fits q (told_of p m h.man) ≡ true = fits_told p q m h spelled in (
+      man_is p m h Pawn (pawn_named q (told_of p m h.man) h.from_in at square told),
+      none_told m.promotion (rw plain at (promotes_as q (told_of p m h.man) at told)),
+    )
+
+by_kind : (p : Setup) (q : Parts) (letter : Option Kind) (square : Option ℕ) (promotion : Option Promotion) (k : Kind)
+    → q.letter ≡ letter → named_square q.file q.rank ≡ square → q.end.promotion ≡ promotion
+    → cond (is_some promotion) None (kind_by letter square) ≡ Some k
+    → (m : Move) → is_spelled (Walk q) p m ≡ true → is_legal p m ≡ true → OfKind p k m
+by_kind p q letter square (Some x) k l s n e m spelled legal = absurd cc
+by_kind p q None (Some s') None k l s n e m spelled legal = absurd cc
+by_kind p q None None None k l s n e m spelled legal =
+    let pawn : Pawn ≡ k = cc in subst (λ k. OfKind p k m) pawn (of_pawn p q m l s n spelled legal)
+by_kind p q (Some Pawn) square None k l s n e m spelled legal = absurd cc
+by_kind p q (Some King) square None k l s n e m spelled legal = let is : King ≡ k = cc in
+    subst (λ k. OfKind p k m) is (lettered p q King m l refl spelled legal)
+by_kind p q (Some Queen) square None k l s n e m spelled legal = let is : Queen ≡ k = cc in
+    subst (λ k. OfKind p k m) is (lettered p q Queen m l refl spelled legal)
+by_kind p q (Some Rook) square None k l s n e m spelled legal = let is : Rook ≡ k = cc in
+    subst (λ k. OfKind p k m) is (lettered p q Rook m l refl spelled legal)
+by_kind p q (Some Bishop) square None k l s n e m spelled legal = let is : Bishop ≡ k = cc in
+    subst (λ k. OfKind p k m) is (lettered p q Bishop m l refl spelled legal)
+by_kind p q (Some Knight) square None k l s n e m spelled legal = let is : Knight ≡ k = cc in
+    subst (λ k. OfKind p k m) is (lettered p q Knight m l refl spelled legal)
+
+pub of_kind : (p : Setup) (q : Parts) (k : Kind) → one_kind q ≡ Some k
+    → (m : Move) → is_spelled (Walk q) p m ≡ true → is_legal p m ≡ true → OfKind p k m
+of_kind p q k e = by_kind p q q.letter (named_square q.file q.rank) q.end.promotion k refl refl refl e
+
+-- ---- each such move begins on a square of the set
+
+same_move : (m : Move) (b : ℕ) → m.to ≡ b → m.promotion ≡ None → m ≡ triple m.from b None
+same_move m b t n = rw (sym t, sym n) refl
+
+starts : (p : Setup) (q : Parts) (k : Kind) (w : ℕ) → one_kind q ≡ Some k → HasLegalStarts p k q.end.to w
+    → IsStart p (Walk q) w
+starts p q k w e legal_starts = λ m spelled legal.
+    let of = of_kind p q k e m spelled legal in
+    let is : m ≡ triple m.from q.end.to None = same_move m q.end.to (spelled_ends (Walk q) p m spelled) of.1 in
+    legal_starts m.from (legal_move p m legal).from_in
+    ∙ and_from (is_man p.side k (man_at p.men m.from)) (is_legal p (triple m.from q.end.to None)) of.0
+    (sym (ap (is_legal p) is) ∙ legal)
+
+-- ---- one move from each of them
+
+one_kept : (t : Move → Bool) (a b : ℕ) (s : Bool) → t (triple a b None) ≡ s → t (triple a b (Some Queen)) ≡ false
+    → t (triple a b (Some Rook)) ≡ false → t (triple a b (Some Bishop)) ≡ false → t (triple a b (Some Knight)) ≡ false
+    → filter t (triple a b None ∷ triple a b (Some Queen) ∷ triple a b (Some Rook) ∷ triple a b (Some Bishop)
+    ∷ triple a b (Some Knight) ∷ []) ≡ cond s (triple a b None ∷ []) []
+one_kept t a b true n x y z u = rw (n, x, y, z, u) refl
+one_kept t a b false n x y z u = rw (n, x, y, z, u) refl
+
+abbrev fit : Parts → Setup → Move → Bool
+fit q p m = is_spelled (Walk q) p m && is_legal p m
+
+no_other : (p : Setup) (q : Parts) (k : Kind) (a : ℕ) (x : Kind) → one_kind q ≡ Some k
+    → fit q p (triple a q.end.to (Some x)) ≡ false
+no_other p q k a x e = false_from_ne_true (fit q p (triple a q.end.to (Some x))) (λ h.
+    let both = and_parts (is_spelled (Walk q) p (triple a q.end.to (Some x)))
+    (is_legal p (triple a q.end.to (Some x))) h in
+    let none : Some x ≡ None = (of_kind p q k e (triple a q.end.to (Some x)) both.0 both.1).1 in
+    cc)
+
+legal_one : (s l : Bool) → l ≡ true → (s && l) ≡ s
+legal_one true l e = e
+legal_one false l e = refl
+
+one_start : (p : Setup) (q : Parts) (k : Kind) (w a : ℕ) → one_kind q ≡ Some k → HasLegalStarts p k q.end.to w
+    → a < 64 → has w a ≡ true → spelled_with (Walk q) p a q.end.to promotions ≡ spelled_start q p k a
+one_start p q k w a e legal_starts low there =
+    let both = and_parts (is_man p.side k (man_at p.men a)) (is_legal p (triple a q.end.to None))
+    (sym (legal_starts a low) ∙ there) in
+    one_kept (fit q p) a q.end.to (is_spelled_of q p k (triple a q.end.to None))
+    (legal_one (is_spelled (Walk q) p (triple a q.end.to None)) (is_legal p (triple a q.end.to None)) both.1
+    ∙ spelled_of q p k (triple a q.end.to None) e both.1 refl refl both.0)
+    (no_other p q k a Queen e) (no_other p q k a Rook e) (no_other p q k a Bishop e) (no_other p q k a Knight e)
+
+flat_map-kept : {B : Type 0} (f g : ℕ → List B) (t : ℕ → Bool) (n a : ℕ)
+    → ((k : ℕ) → k < a + n → t k ≡ true → f k ≡ g k)
+    → flat_map f (filter t (range_with_len a n)) ≡ flat_map g (filter t (range_with_len a n))
+flat_map-kept f g t zero a h = refl
+flat_map-kept f g t (suc n) a h =
+    let rest : flat_map f (filter t (range_with_len (a + 1) n)) ≡ flat_map g (filter t (range_with_len (a + 1) n)) =
+    flat_map-kept f g t n (a + 1) (λ k l e. h k (omega arith) e) in
+    elim (cases_Bool (t a)) [
+      | inl on ↦ rw (on, rest, h a (omega arith) on) refl
+      | inr off ↦ rw off rest
+    ]
+
+flat_map-members : {B : Type 0} (f g : ℕ → List B) (w : ℕ) → ((k : ℕ) → k < 64 → has w k ≡ true → f k ≡ g k)
+    → flat_map f (members w) ≡ flat_map g (members w)
+flat_map-members f g w h = rw (of_range w) (flat_map-kept f g (λ k. has w k) 64 0 (λ k l e. h k (omega arith) e))
+
+-- ---- the reading
+
+pub by_starts : (p : Setup) (q : Parts) (k : Kind) (w : ℕ) (r : Reading) → one_kind q ≡ Some k
+    → HasLegalStarts p k q.end.to w → r ≡ one_of (flat_map (spelled_start q p k) (members w))
+    → r ≡ one_of (filter (λ m. is_spelled (Walk q) p m) (moves p))
+by_starts p q k w r e legal_starts is =
+    is ∙ ap one_of (sym (flat_map-members (λ a. spelled_with (Walk q) p a q.end.to promotions) (spelled_start q p k) w
+    (λ a low there. one_start p q k w a e legal_starts low there))
+    ∙ spelled_from (Walk q) p w (starts p q k w e legal_starts))
