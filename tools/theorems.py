@@ -312,9 +312,9 @@ def main(words):
     check_all_are_told(text, reached.sources)
     counts = check_wrong_bodies(text)
     check_wrong_bodies_fit()
-    for number in re.findall(r"(\d+) wrong bodies", (TOP / "README.md").read_text(encoding="utf-8")):
+    for number in re.findall(r"(\d+) mutations", (TOP / "README.md").read_text(encoding="utf-8")):
         if int(number) != counts["Refused"]:
-            fault("README.md", f"{number} wrong bodies are told, but there are {counts['Refused']}")
+            fault("README.md", f"{number} mutations are named, but there are {counts['Refused']}")
     for path in documents():
         check_links(path)
     for told in FAULTS:
