@@ -1,7 +1,7 @@
 #!/usr/bin/env python3
 """What a theorem rests on: counts, from the sources, which definitions of specs/ the contract of a function reaches.
 
-    tools/reach.py              the table of docs/claims/reach.md
+    tools/reach.py              the table of docs/claims/README.md
     tools/reach.py NAME..       what these functions reach, file by file in reading order (`run_match`, `Game::play`)
     tools/reach.py --rooms      for each file of specs/ which of its definitions serve the program, other calls, laws, or only ties
     tools/reach.py --rooms NAME the definitions of one room: program, calls, laws, ties, proofs, nothing
@@ -96,7 +96,7 @@ class Reach:
 
 
 def table(reach):
-    """The table of docs/claims/reach.md."""
+    """The table of docs/claims/README.md."""
     everything = reach.specs.count(reach.specs.definitions)
     rows = ["| theorem | definitions | lines | files |", "|---|---:|---:|---:|"]
     for name in HEADLINES:

@@ -21,7 +21,7 @@ from sources import SHORT, TOP, mutations, reading_order, target_of
 
 PAGE = "docs/THEOREMS.md"
 LISTS = "docs/claims"
-FIGURES = f"{LISTS}/reach.md"
+FIGURES = f"{LISTS}/README.md"
 ORDER = "docs/DEFINITIONS.md"
 
 FAULTS = []
