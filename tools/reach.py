@@ -110,7 +110,7 @@ def table(reach):
     rows.append(f"| all laws | {d} | {l} | {f} |")
     rows.append(f"| all that specs/ holds | {everything[0]} | {everything[1]} | {len(reach.specs.files)} |")
     rooms = reach.rooms()
-    rows += ["", "Each definition is counted in the first of these rooms that it serves; `--rooms` tells them file by file:", ""]
+    rows += ["", "Each definition is counted in the first of these rooms that it serves; `--rooms` lists them file by file:", ""]
     rows += ["| room | definitions | lines | which |", "|---|---:|---:|---|"]
     for room, meaning in ROOMS.items():
         keys = [k for k, r in rooms.items() if r == room]
