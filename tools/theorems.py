@@ -96,6 +96,7 @@ class Section:
             heading = part.split("\n")[0]
             theorem = re.search(r"^- Theorem(?:, within the crate)?: (.*)$", part, re.M)
             self.claims.append(Claim(heading, theorem.group(1) if theorem else "", lists.pop(slug(heading), [])))
+        self.left = list(lists)
         for left in lists:
             fault(self.page, f"no claim of {PAGE} has the heading {left}")
 
@@ -334,7 +335,7 @@ def main(words):
         claim.lists = with_tried(claim.lists)
     with_reading(claims, reached, place)
     for section in sections:
-        settle(section.page, section.shown(), is_to_fill)
+        settle(section.page, section.shown(), is_to_fill and not section.left)
         for claim in section.claims:
             check_theorem(f"{PAGE}: {claim.heading}", claim.theorem, reached.sources)
             for line in claim.lists:
