@@ -1,67 +1,94 @@
 #!/usr/bin/env python3
 """Runs the examples of the documents and compares what they print.
 
-An example is an indented block whose first line begins with `$ `: the command, up to the next such line, is followed by
-what it prints on standard output. Each is run by bash at the top of the repository, so `./arbiter` is the launcher.
+    python3 tools/examples.py [--arbiter PROGRAM] [FILE..]      README.md and docs/*.md if no file is named
 
-    python3 tools/examples.py [FILE..]      README.md and docs/*.md where no file is named
-"""
+An example is an indented block whose first line begins with `$ `: a command, continued on lines that begin with `> `, and
+then what it prints on standard output. The examples of a document are run by bash, in their order, in one new temporary
+folder; `arbiter` is PROGRAM there, or else the launcher. An example is skipped if it names a program of NEEDED that isn't
+installed. The exit status is 1 if an example prints something else."""
 
+import os
 import re
+import shutil
 import subprocess
 import sys
+import tempfile
 from pathlib import Path
 
 TOP = Path(__file__).resolve().parent.parent
+FIRST = re.compile(r"^( {4,})\$ (.*)$")
+NEEDED = ["parallel"]
 
 
 def examples(text):
-    """Yields (line number, command, expected output) for each example of a Markdown text."""
+    """Yields (line number, command, expected lines) for each example of a Markdown text."""
     lines = text.split("\n")
     number = 0
     while number < len(lines):
-        if not lines[number].startswith("    $ "):
+        begin = FIRST.match(lines[number])
+        if not begin:
             number += 1
             continue
-        first, command = number + 1, lines[number][6:]
+        margin, command, first = begin.group(1), begin.group(2), number + 1
         number += 1
+        while number < len(lines) and lines[number].startswith(f"{margin}> "):
+            command += "\n" + lines[number][len(margin) + 2 :]
+            number += 1
         expected = []
-        while number < len(lines) and not lines[number].startswith("    $ "):
-            line = lines[number]
-            if line.startswith("    "):
-                expected.append(line[4:])
-            elif line == "" and any(later.startswith("    ") for later in lines[number + 1 : number + 2]):
+        while number < len(lines) and not FIRST.match(lines[number]):
+            if lines[number].startswith(margin):
+                expected.append(lines[number][len(margin) :])
+            elif lines[number] == "" and lines[number + 1 : number + 2] and lines[number + 1].startswith(margin):
                 expected.append("")
             else:
                 break
             number += 1
-        while expected and expected[-1] == "":
-            expected.pop()
-        yield first, command, expected
+        yield first, command, without_empty_end(expected)
 
 
-def printed(command):
-    """Returns the lines that a command prints on standard output, without empty ones at the end."""
-    run = subprocess.run(["bash", "-c", command], cwd=TOP, stdin=subprocess.DEVNULL, capture_output=True, timeout=120)
-    lines = run.stdout.decode(errors="replace").split("\n")
+def without_empty_end(lines):
     while lines and lines[-1] == "":
-        lines.pop()
+        lines = lines[:-1]
     return lines
 
 
-def main():
-    names = sys.argv[1:] or ["README.md"] + sorted(str(path.relative_to(TOP)) for path in TOP.glob("docs/*.md"))
-    tried = wrong = 0
-    for name in names:
-        for line, command, expected in examples((TOP / name).read_text()):
-            tried += 1
-            found = printed(command)
-            if found != expected:
-                wrong += 1
-                print(f"{name}:{line}: {command}\n  expected {expected}\n  printed  {found}")
-    print(f"{tried} examples, {wrong} wrong")
+def printed(command, folder, programs):
+    """Returns the lines that a command prints on standard output."""
+    run = subprocess.run(
+        ["bash", "-c", command],
+        cwd=folder,
+        env={**os.environ, "PATH": f"{programs}:{os.environ['PATH']}"},
+        stdin=subprocess.DEVNULL,
+        stdout=subprocess.PIPE,
+        timeout=3600,
+    )
+    return without_empty_end(run.stdout.decode(errors="replace").split("\n"))
+
+
+def main(arguments):
+    program = TOP / "arbiter"
+    if arguments[:1] == ["--arbiter"]:
+        program, arguments = Path(arguments[1]).resolve(), arguments[2:]
+    names = arguments or ["README.md"] + sorted(str(path.relative_to(TOP)) for path in TOP.glob("docs/*.md"))
+    missing = [name for name in NEEDED if not shutil.which(name)]
+    tried = wrong = skipped = 0
+    with tempfile.TemporaryDirectory() as programs:
+        (Path(programs) / "arbiter").symlink_to(program)
+        for name in names:
+            with tempfile.TemporaryDirectory() as folder:
+                for line, command, expected in examples((TOP / name).read_text(encoding="utf-8")):
+                    if any(re.search(rf"\b{needed}\b", command) for needed in missing):
+                        skipped += 1
+                        continue
+                    tried += 1
+                    found = printed(command, folder, programs)
+                    if found != expected:
+                        wrong += 1
+                        print(f"{name}:{line}: {command}\n  expected {expected}\n  printed  {found}")
+    print(f"{tried} examples, {wrong} wrong, {skipped} skipped")
     return 1 if wrong else 0
 
 
 if __name__ == "__main__":
-    sys.exit(main())
+    sys.exit(main(sys.argv[1:]))

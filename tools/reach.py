@@ -1,7 +1,7 @@
 #!/usr/bin/env python3
 """What a theorem rests on: counts, from the sources, which definitions of specs/ the contract of a function reaches.
 
-    tools/reach.py              the table of docs/THEOREMS.md
+    tools/reach.py              the table of docs/claims/README.md
     tools/reach.py NAME..       what these functions reach, file by file in reading order (`run_match`, `Game::play`)
     tools/reach.py --rooms      for each file of specs/ which of its definitions serve the program, other calls, laws, or only ties
     tools/reach.py --rooms NAME the definitions of one room: program, calls, laws, ties, proofs, nothing
@@ -96,7 +96,7 @@ class Reach:
 
 
 def table(reach):
-    """The table of docs/THEOREMS.md."""
+    """The table of docs/claims/README.md."""
     everything = reach.specs.count(reach.specs.definitions)
     rows = ["| theorem | definitions | lines | files |", "|---|---:|---:|---:|"]
     for name in HEADLINES:
@@ -110,7 +110,7 @@ def table(reach):
     rows.append(f"| all laws | {d} | {l} | {f} |")
     rows.append(f"| all that specs/ holds | {everything[0]} | {everything[1]} | {len(reach.specs.files)} |")
     rooms = reach.rooms()
-    rows += ["", "Each definition is counted in the first of these rooms that it serves; `--rooms` tells them file by file:", ""]
+    rows += ["", "Each definition is counted in the first of these rooms that it serves; `--rooms` lists them file by file:", ""]
     rows += ["| room | definitions | lines | which |", "|---|---:|---:|---|"]
     for room, meaning in ROOMS.items():
         keys = [k for k, r in rooms.items() if r == room]

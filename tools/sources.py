@@ -1,5 +1,5 @@
 """The sources, as far as the documents speak of them: the definitions in specs/, the public functions with their clauses, and the
-wrong bodies in must-fail/. Told by their shape, as the formatter leaves it; no prover is asked."""
+mutations in must-fail/. Found by their shape, as the formatter leaves it; no prover is asked."""
 
 import re
 from dataclasses import dataclass, field
@@ -253,7 +253,7 @@ def equations(definition):
 
 
 def bound_in(equation, name):
-    """Names that stand for values in it: small letters left of `=`, behind λ, in binders and behind `let`."""
+    """Names that stand for values in it: small letters left of `=`, after λ, in binders and after `let`."""
     bound = set()
     m = re.match(r"^(.*?) =(\s|$)", equation.split("\n")[0] + " ")
     if m and not re.match(r"^(abbrev|unfoldable)", equation):
@@ -392,8 +392,8 @@ class Sources:
         return found
 
 
-def wrong_bodies(ending="edit"):
-    """The names of the wrong bodies by crate: those that the gate tries, or, by the ending `md`, those tried apart from it."""
+def mutations(ending="edit"):
+    """The names of the mutations by crate: those that the gate tries, or, by the ending `md`, those tried apart from it."""
     found = {}
     for path in sorted(TOP.glob(f"crates/*/must-fail/*.{ending}")):
         found.setdefault(path.parent.parent.name, []).append(path.stem)

@@ -1,15 +1,15 @@
 #!/usr/bin/env python3
 """Checks the documents against the sources.
 
-    tools/theorems.py           tells where docs/THEOREMS.md names a function, clause, definition or test that is not in its file;
-                                where it leaves out a clause of a public function; which wrong body does not stand there just
-                                once; whether its figures and its files to read are old; which file of specs/ does not stand in
-                                docs/DEFINITIONS.md just once, behind those on which it rests; and which link of a document leads
-                                to no file or to no heading
-    tools/theorems.py --fill    writes the figures, the files to read and the short links anew, moves wrong bodies that are tried
+    tools/theorems.py           reports where docs/THEOREMS.md or its lists in docs/claims/ name a function, clause, definition or
+                                test that is not in its file; which clause of a public function is missing; which mutation is not
+                                listed exactly once; which headings of the lists differ from the claims; whether figures, files to
+                                read or links are old; which file of specs/ is not in docs/DEFINITIONS.md exactly once, after
+                                those on which it rests; and which link of a document leads to no file or to no heading
+    tools/theorems.py --fill    writes headings, figures, files to read and short links anew, moves mutations that the gate tries
                                 by now to the refused ones, and then checks
 
-The exit status is 0 where all is as it says."""
+The exit status is 0 if there is no fault."""
 
 import re
 import sys
@@ -17,9 +17,11 @@ import sys
 sys.dont_write_bytecode = True
 
 import reach
-from sources import SHORT, TOP, reading_order, target_of, wrong_bodies
+from sources import SHORT, TOP, mutations, reading_order, target_of
 
 PAGE = "docs/THEOREMS.md"
+LISTS = "docs/claims"
+FIGURES = f"{LISTS}/README.md"
 ORDER = "docs/DEFINITIONS.md"
 
 FAULTS = []
@@ -30,7 +32,11 @@ def fault(where, what):
 
 
 def documents():
-    return sorted(TOP.glob("*.md")) + sorted(TOP.glob("docs/*.md"))
+    return [path for folder in ("", "docs/", "docs/claims/") for path in sorted(TOP.glob(f"{folder}*.md"))]
+
+
+def read(page):
+    return (TOP / page).read_text(encoding="utf-8")
 
 
 # ---- short links: `[base/Moves]`, `[base/position.rt]`
@@ -38,26 +44,82 @@ def documents():
 SHORT_LINK = re.compile(r"\[([a-z_]+/[\w.]+)\](?!\(|:)")
 
 
-def links_of(text):
+def links_of(page, text):
+    up = "../" * page.count("/")
     labels = sorted({m.group(1) for m in SHORT_LINK.finditer(text)})
-    return "\n".join(f"[{label}]: ../{target_of(label)}" for label in labels if target_of(label))
+    return "\n".join(f"[{label}]: {up}{target_of(label)}" for label in labels if target_of(label))
 
 
 def between(text, mark, inner=None):
-    """What stands between the two comments of a mark; or the text with something else there."""
+    """What is between the two comments of a mark; or the text with something else there."""
     pattern = re.compile(rf"(<!-- {mark} -->\n)(.*?)(<!-- /{mark} -->)", re.S)
     if inner is None:
         return pattern.search(text).group(2).strip()
-    return pattern.sub(lambda m: f"{m.group(1)}{inner}\n{m.group(3)}", text)
+    return pattern.sub(lambda m: f"{m.group(1)}{inner}{chr(10) if inner else ''}{m.group(3)}", text)
 
 
-# ---- what a line of the page names
+# ---- the claims, and their lists
+
+def slug(heading):
+    text = re.sub(r"[^\w\- ]", "", heading.replace("`", "").strip().lower())
+    return text.replace(" ", "-")
+
+
+READ = re.compile(r"\[([a-z_]+/\w+)\](?: \(([^)]*)\))?")
+
+
+class Claim:
+    """A claim of the page with its lists: `Read`, `Within the crate`, `Tests`, `Refused` and `Tried apart`."""
+
+    def __init__(self, heading, theorem, lists):
+        self.heading = heading
+        self.slug = slug(heading)
+        self.theorem = theorem
+        self.lists = lists
+        read_line = next((line[len("- Read: "):] for line in lists if line.startswith("- Read: ")), "")
+        self.links = re.findall(r"\]\((?:\w+\.md)?#([^)]+)\)", read_line)
+        self.begins = read_line.split(";")[0] if self.links else ""
+        self.names = {target_of(m.group(1)): clauses_in(m.group(2)) for m in READ.finditer(read_line)}
+
+
+class Section:
+    """A section of the page, and its file of lists, which has the name of the section's first crate."""
+
+    def __init__(self, text):
+        self.title = text.split("\n")[0]
+        crate = re.search(r"\((\w+)", self.title).group(1)
+        self.page = f"{LISTS}/{crate}.md"
+        old = re.split(r"^## ", read(self.page).split("<!-- links -->")[0], flags=re.M)[1:] if (TOP / self.page).exists() else []
+        lists = {slug(part.split("\n")[0]): [line for line in part.split("\n") if line.startswith("- ")] for part in old}
+        self.claims = []
+        for part in re.split(r"^### ", text, flags=re.M)[1:]:
+            heading = part.split("\n")[0]
+            theorem = re.search(r"^- Theorem(?:, within the crate)?: (.*)$", part, re.M)
+            self.claims.append(Claim(heading, theorem.group(1) if theorem else "", lists.pop(slug(heading), [])))
+        self.left = list(lists)
+        for left in lists:
+            fault(self.page, f"no claim of {PAGE} has the heading {left}")
+
+    def shown(self):
+        text = f"# {self.title}\n\nLists of the claims in [THEOREMS](../THEOREMS.md#{slug(self.title)}).\n\n"
+        for claim in self.claims:
+            text += f"## {claim.heading}\n\n" + ("\n".join(claim.lists) + "\n\n" if claim.lists else "")
+        text += "<!-- links -->\n<!-- /links -->\n"
+        return between(text, "links", links_of(self.page, text))
+
+
+def sections_of(text):
+    body = text.split("<!-- links -->")[0]
+    return [Section(part) for part in re.split(r"^## ", body, flags=re.M) if "\n### " in part]
+
+
+# ---- what a line names
 
 NAMES = re.compile(r"`([^`]+)`(?: \(([^)]*)\))?")
 
 
 def items(line):
-    """The names of a line with what stands in brackets behind each, and the short link behind `in`."""
+    """The names of a line, with the text in brackets after each, and the short link after `in`."""
     start = 0
     for m in re.finditer(r" in \[([a-z_]+/[\w.]+)\]", line):
         for name in NAMES.finditer(line[start:m.start()]):
@@ -66,7 +128,8 @@ def items(line):
 
 
 def clauses_in(brackets):
-    return [] if brackets is None or brackets == "its clause" else re.findall(r"`(\w+)`", brackets)
+    """The names in brackets; none for a function with its one clause."""
+    return re.findall(r"`(\w+)`", brackets or "")
 
 
 def check_theorem(where, line, sources):
@@ -78,9 +141,6 @@ def check_theorem(where, line, sources):
         if not found:
             fault(where, f"{name} is not in {path}")
             continue
-        if brackets is None:
-            fault(where, f"{name}: no clause is named")
-            continue
         clauses = {n for f in found for kind, n, _ in f.clauses if kind == "ensures"}
         clauses |= sources.members.get((found[0].crate, found[0].owner), set())
         for clause in clauses_in(brackets) or [""]:
@@ -88,20 +148,20 @@ def check_theorem(where, line, sources):
                 fault(where, f"{name} has no clause {clause or 'without a name'}, but {sorted(clauses)}")
 
 
-def check_all_are_told(text, sources):
+def check_all_are_named(claims, sources):
     """Each clause of a function that a user of the crates can call is named at some claim."""
-    told = set()
-    for line in re.findall(r"^- Theorem: (.*)$", text, re.M):
-        for name, brackets, label in items(line):
-            told |= {(target_of(label), name, clause) for clause in clauses_in(brackets) or [""]}
+    named = set()
+    for claim in claims:
+        for name, brackets, label in items(claim.theorem):
+            named |= {(target_of(label), name, clause) for clause in clauses_in(brackets) or [""]}
     for f in sources.functions:
         for kind, clause, _ in f.clauses if sources.is_public(f) else []:
-            if kind == "ensures" and (f.path, f.full_name, clause) not in told:
-                fault(PAGE, f"{f.full_name} of {f.path} is not told{f' by its clause {clause}' if clause else ''}")
+            if kind == "ensures" and (f.path, f.full_name, clause) not in named:
+                fault(PAGE, f"{f.full_name} of {f.path} is missing{f', clause {clause}' if clause else ''}")
 
 
 def check_read(where, line, specs):
-    for m in re.finditer(r"\[([a-z_]+/\w+)\](?: \(([^)]*)\))?", line):
+    for m in READ.finditer(line):
         path = target_of(m.group(1))
         names = {k.name for k in specs.definitions if k.path == path}
         for name in clauses_in(m.group(2)):
@@ -117,43 +177,49 @@ def check_tests(where, line, sources):
                 fault(where, f"the test {name} is not in {path}")
 
 
-def with_tried(text):
-    """The page with wrong bodies that are tried by now moved, at their claim, from those tried apart to those that the gate tries."""
-    tried = wrong_bodies()
-    parts = re.split(r"^(?=### )", text, flags=re.M)
-    for i, part in enumerate(parts):
-        for crate, names in re.findall(r"^- Tried apart \((\w+)\): (.*)$", part, re.M):
-            names = re.findall(r"`(\w+)`", names)
-            moved = [n for n in names if n in tried.get(crate, [])]
-            refused = re.search(rf"^- Refused \({crate}\): (.*)\n", part, re.M)
-            all_refused = sorted(moved + (re.findall(r"`(\w+)`", refused.group(1)) if refused else []))
-            lines = [("Refused", all_refused), ("Tried apart", [n for n in names if n not in moved])]
-            shown = "".join(f"- {kind} ({crate}): {', '.join(f'`{n}`' for n in ns)}\n" for kind, ns in lines if ns)
-            part = part.replace(refused.group(0), "") if refused else part
-            part = re.sub(rf"^- Tried apart \({crate}\): .*\n", lambda m: shown, part, flags=re.M)
-        parts[i] = part
-    return "".join(parts)
+# ---- mutations
+
+MUTATIONS = re.compile(r"- (Refused|Tried apart) \((\w+)\): (.*)")
 
 
-def check_wrong_bodies(text):
-    """Each wrong body stands on the page just once, under its crate."""
-    told = {"Refused": {}, "Tried apart": {}}
-    for kind, crate, names in re.findall(r"^- (Refused|Tried apart) \((\w+)\): (.*)$", text, re.M):
-        told[kind].setdefault(crate, []).extend(re.findall(r"`(\w+)`", names))
-    for kind, there in (("Refused", wrong_bodies()), ("Tried apart", wrong_bodies("md"))):
-        for crate in sorted(set(there) | set(told[kind])):
-            named, real = told[kind].get(crate, []), there.get(crate, [])
+def with_tried(lists):
+    """A claim's lists with mutations that the gate tries by now moved from those tried apart to the refused ones."""
+    tried = mutations()
+    found = {m.group(1, 2): re.findall(r"`(\w+)`", m.group(3)) for line in lists if (m := MUTATIONS.fullmatch(line))}
+    moved = {crate: [n for n in names if n in tried.get(crate, [])] for (kind, crate), names in found.items() if kind == "Tried apart"}
+    if not any(moved.values()):
+        return lists
+    kept = [line for line in lists if not MUTATIONS.fullmatch(line)]
+    for crate in dict.fromkeys(crate for _, crate in found):
+        refused = sorted(found.get(("Refused", crate), []) + moved.get(crate, []))
+        apart = [n for n in found.get(("Tried apart", crate), []) if n not in moved.get(crate, [])]
+        for kind, names in (("Refused", refused), ("Tried apart", apart)):
+            if names:
+                kept.append(f"- {kind} ({crate}): {', '.join(f'`{n}`' for n in names)}")
+    return kept
+
+
+def check_mutations(claims):
+    """Each mutation is listed exactly once, under its crate."""
+    listed = {"Refused": {}, "Tried apart": {}}
+    for claim in claims:
+        for line in claim.lists:
+            if m := MUTATIONS.fullmatch(line):
+                listed[m.group(1)].setdefault(m.group(2), []).extend(re.findall(r"`(\w+)`", m.group(3)))
+    for kind, there in (("Refused", mutations()), ("Tried apart", mutations("md"))):
+        for crate in sorted(set(there) | set(listed[kind])):
+            named, real = listed[kind].get(crate, []), there.get(crate, [])
             for name in sorted(set(real) - set(named)):
-                fault(PAGE, f"the wrong body {name} of {crate} is missing under {kind}")
+                fault(LISTS, f"the mutation {name} of {crate} is missing under {kind}")
             for name in sorted(set(named) - set(real)):
-                fault(PAGE, f"{crate} has no wrong body {name} to be {kind.lower()}")
+                fault(LISTS, f"{crate} has no mutation {name} to be {kind.lower()}")
             for name in sorted({n for n in named if named.count(n) > 1}):
-                fault(PAGE, f"the wrong body {name} of {crate} stands there more than once")
-    return {kind: sum(len(names) for names in crates.values()) for kind, crates in told.items()}
+                fault(LISTS, f"the mutation {name} of {crate} is listed more than once")
+    return {kind: sum(len(names) for names in crates.values()) for kind, crates in listed.items()}
 
 
-def check_wrong_bodies_fit():
-    """Each old text of a wrong body stands just once in its file, also where no run of the gate would tell."""
+def check_mutations_fit():
+    """Each old text of a mutation is in its file exactly once, also of those that the gate does not try."""
     for edit in sorted(TOP.glob("crates/*/must-fail/*")):
         file, texts = None, {}
         for line in edit.read_text(encoding="utf-8").split("\n"):
@@ -162,7 +228,7 @@ def check_wrong_bodies_fit():
                 file = edit.parent.parent / rest.strip()
                 texts.setdefault(file, file.read_text(encoding="utf-8") if file.is_file() else "")
             elif kind == "old" and texts.get(file, "").count(rest) != 1:
-                fault(edit.relative_to(TOP), f"this text does not stand just once in its file: {rest.strip()}")
+                fault(edit.relative_to(TOP), f"this text is not in its file exactly once: {rest.strip()}")
             elif kind == "old":
                 old = rest
             elif line.startswith("new:") and file:
@@ -170,11 +236,6 @@ def check_wrong_bodies_fit():
 
 
 # ---- links
-
-def slug(heading):
-    text = re.sub(r"[^\w\- ]", "", heading.replace("`", "").strip().lower())
-    return text.replace(" ", "-")
-
 
 def headings_of(path):
     return {slug(h) for h in re.findall(r"^#+ (.*)$", path.read_text(encoding="utf-8"), re.M)}
@@ -193,63 +254,40 @@ def check_links(path):
             fault(where, f"the link {target} leads to no file")
         elif part and there.suffix == ".md" and part not in headings_of(there):
             fault(where, f"the link {target} leads to no heading")
-    if where in (PAGE, ORDER):
+    if "<!-- links -->" in text:
         for label in {m.group(1) for m in SHORT_LINK.finditer(text)}:
             if not target_of(label):
                 fault(where, f"the link [{label}] leads to no file")
 
 
 def check_order(text, specs):
-    """Each file of specs/ stands in the order of reading just once, behind those on which it rests; the order."""
+    """Each file of specs/ is in the order of reading exactly once, after those on which it rests. Returns the order."""
     order = reading_order(text)
     place = {path: i for i, path in enumerate(order)}
     for path in specs.files:
         if order.count(path) != 1:
-            fault(ORDER, f"{path} stands there {order.count(path)} times")
+            fault(ORDER, f"{path} is there {order.count(path)} times")
     for key in specs.definitions:
         for other in specs.references(key):
             if place.get(other.path, -1) > place.get(key.path, len(order)):
-                fault(ORDER, f"{key.path} stands before {other.path}, of which it names {other.name}")
+                fault(ORDER, f"{key.path} comes before {other.path}, of which it names {other.name}")
     return place
 
 
 # ---- what a claim says is to be read
-
-class Claim:
-    """A heading of the page with the lines below it."""
-
-    def __init__(self, text):
-        self.text = text
-        self.slug = slug(text.split("\n")[0])
-        self.theorem = self.line("Theorem")
-        read = self.line("Read")
-        self.links = re.findall(r"\]\(#([^)]+)\)", read)
-        self.begins = read.split(";")[0] if self.links else ""
-        self.names = {target_of(m.group(1)): clauses_in(m.group(2)) for m in READ.finditer(read)}
-
-    def line(self, kind):
-        found = re.search(rf"^- {kind}: (.*)$", self.text, re.M)
-        return found.group(1) if found else ""
-
-
-READ = re.compile(r"\[([a-z_]+/\w+)\](?: \(([^)]*)\))?")
-
 
 def label_of(path):
     crate, _, file = path[len("crates/"):].partition("/specs/")
     return f"{next(short for short, whole in SHORT.items() if whole == crate)}/{file[: -len('.antt')].split('/')[-1]}"
 
 
-def with_reading(text, reached, place):
-    """The page with each claim's files in the order of reading: those that it names, and those that its clauses and the
-    definitions that it names reach, less those of the claims that it stands on. A clause counts at the first claim that has it."""
-    head, *parts = re.split(r"^(?=### )", text, flags=re.M)
-    claims = [Claim(part[len("### "):]) for part in parts]
+def with_reading(claims, reached, place):
+    """Writes each claim's files in the order of reading: those that it names, and those that its clauses and the definitions
+    that it names reach, less those of the claims that it names. A clause counts at the first claim that has it."""
     by_slug = {c.slug: c for c in claims}
-    for claim in claims:
-        claim.below = [by_slug[link] for link in claim.links if link in by_slug]
     seen = set()
     for claim in claims:
+        claim.below = [by_slug[link] for link in claim.links if link in by_slug]
         roots = {k for k in reached.specs.definitions if k.name in claim.names.get(k.path, [])}
         for name, brackets, label in items(claim.theorem):
             wanted = {c for c in clauses_in(brackets) or [""] if (label, name, c) not in seen}
@@ -258,69 +296,68 @@ def with_reading(text, reached, place):
                 if wanted and f.full_name == name and f.path == target_of(label):
                     roots |= reached.sources.names_in(reached.specs, f, wanted)
         claim.reached = {k.path for k in reached.specs.reached(roots)}
-    told = {}
+    found = {}
 
-    def told_by(claim):
-        if claim.slug not in told:
-            told[claim.slug] = set(claim.reached)
+    def files_of(claim):
+        if claim.slug not in found:
+            found[claim.slug] = set(claim.reached)
             for other in claim.below:
-                told[claim.slug] |= told_by(other)
-        return told[claim.slug]
+                found[claim.slug] |= files_of(other)
+        return found[claim.slug]
 
-    for i, claim in enumerate(claims):
-        below = set().union(*map(told_by, claim.below))
+    for claim in claims:
+        below = set().union(*map(files_of, claim.below))
         files = sorted((claim.reached - below) | {p for p, names in claim.names.items() if names}, key=lambda p: place.get(p, 0))
         shown = [f"[{label_of(p)}]" + (f" ({', '.join(f'`{n}`' for n in claim.names[p])})" if claim.names.get(p) else "") for p in files]
         line = "- Read: " + "; ".join(([claim.begins] if claim.begins else []) + shown)
-        parts[i] = re.sub(r"^- Read: .*$", lambda m: line, parts[i], flags=re.M)
-    return head + "".join(parts)
+        claim.lists = [line if old.startswith("- Read: ") else old for old in claim.lists]
 
 
-def filled(page, is_to_fill, figures, reading):
-    """The text of a page, with figures, files to read and short links as they are now, or as they stand there."""
-    path = TOP / page
-    text = path.read_text(encoding="utf-8")
-    if reading and (now := reading(text)) != text:
-        if not is_to_fill:
-            fault(page, "files to read are others, or wrong bodies that were tried apart are tried; --fill writes them anew")
-        text = now if is_to_fill else text
-    for mark, now in (("reach", figures), ("links", links_of(text))):
-        if now is None or between(text, mark) == now:
-            continue
+def settle(page, now, is_to_fill):
+    """Writes a page as it should be, or reports that it isn't so."""
+    if not (TOP / page).exists() or read(page) != now:
         if is_to_fill:
-            text = between(text, mark, now)
+            (TOP / page).write_text(now, encoding="utf-8")
         else:
-            fault(page, f"its {'figures' if mark == 'reach' else 'links'} are old; --fill writes them anew")
-    if is_to_fill:
-        path.write_text(text, encoding="utf-8")
-    return text
+            fault(page, "it is old; --fill writes it anew")
 
 
 def main(words):
     is_to_fill = words[:1] == ["--fill"]
     reached = reach.Reach()
-    place = check_order(filled(ORDER, is_to_fill, None, None), reached.specs)
-    text = filled(PAGE, is_to_fill, reach.table(reached), lambda t: with_reading(with_tried(t), reached, place))
-    for number, line in enumerate(text.split("\n"), 1):
-        where = f"{PAGE}:{number}"
-        if line.startswith("- Theorem: "):
-            check_theorem(where, line, reached.sources)
-        elif line.startswith("- Read: "):
-            check_read(where, line, reached.specs)
-        elif line.startswith("- Tests: "):
-            check_tests(where, line, reached.sources)
-    check_all_are_told(text, reached.sources)
-    counts = check_wrong_bodies(text)
-    check_wrong_bodies_fit()
-    for number in re.findall(r"(\d+) wrong bodies", (TOP / "README.md").read_text(encoding="utf-8")):
+    for page in (ORDER, PAGE):
+        settle(page, between(read(page), "links", links_of(page, read(page).split("<!-- links -->")[0])), is_to_fill)
+    settle(FIGURES, between(read(FIGURES), "reach", reach.table(reached)), is_to_fill)
+    place = check_order(read(ORDER), reached.specs)
+    sections = sections_of(read(PAGE))
+    claims = [claim for section in sections for claim in section.claims]
+    for claim in claims:
+        claim.lists = with_tried(claim.lists)
+    with_reading(claims, reached, place)
+    for section in sections:
+        settle(section.page, section.shown(), is_to_fill and not section.left)
+        for claim in section.claims:
+            check_theorem(f"{PAGE}: {claim.heading}", claim.theorem, reached.sources)
+            for line in claim.lists:
+                if line.startswith(("- Read: ", "- Within the crate: ")):
+                    check_read(f"{section.page}: {claim.heading}", line, reached.specs)
+                elif line.startswith("- Tests: "):
+                    check_tests(f"{section.page}: {claim.heading}", line, reached.sources)
+    lists = {section.page for section in sections} | {FIGURES}
+    for path in TOP.glob(f"{LISTS}/*"):
+        if path.relative_to(TOP).as_posix() not in lists:
+            fault(path.relative_to(TOP), f"no section of {PAGE} has this file")
+    check_all_are_named(claims, reached.sources)
+    counts = check_mutations(claims)
+    check_mutations_fit()
+    for number in re.findall(r"(\d+) mutations", read("README.md")):
         if int(number) != counts["Refused"]:
-            fault("README.md", f"{number} wrong bodies are told, but there are {counts['Refused']}")
+            fault("README.md", f"{number} mutations are named, but there are {counts['Refused']}")
     for path in documents():
         check_links(path)
-    for told in FAULTS:
-        print(told)
-    theorems = len(re.findall(r"^- Theorem: ", text, re.M))
-    print(f"{theorems} claims, {counts['Refused']} wrong bodies refused, {counts['Tried apart']} tried apart, {len(FAULTS)} faults")
+    for found in FAULTS:
+        print(found)
+    print(f"{len(claims)} claims, {counts['Refused']} mutations refused, {counts['Tried apart']} tried apart, {len(FAULTS)} faults")
     return 1 if FAULTS else 0
 
 
