@@ -323,8 +323,22 @@ fn says_nothing<B: Board>(rt: &impl Abort, game: &Game<B>) {
     assert!(rt; game.declared().is_none());
 }
 
+// The verdict, found with the help of a legal move where there is one.
+fn verdict_of_moving<B: Board>(game: &Game<B>) -> Option<Verdict> {
+    let board = game.board();
+    let moves = board.legal_moves();
+    let Some(m) = moves.as_slice().first() else {
+        return game.verdict();
+    };
+    if !board.is_legal(m) {
+        return game.verdict();
+    }
+    game.verdict_of_moving(m)
+}
+
 fn has_verdict<B: Board>(rt: &impl Abort, game: &Game<B>, verdict: Option<Verdict>) {
     is_equal(rt, &game.verdict(), &verdict);
+    is_equal(rt, &verdict_of_moving(game), &verdict);
 }
 
 fn has_outcome<B: Board>(rt: &impl Abort, game: &Game<B>, outcome: Outcome) {
@@ -870,6 +884,7 @@ fn ends_by<B: Board>(
     verdict: Option<Verdict>,
     repetitions: u32,
 ) {
+    is_equal_at(rt, place, &verdict_of_moving(game), &verdict);
     is_equal_at(
         rt,
         place,
