@@ -33,15 +33,11 @@ use Rattle.chess_moves.proofs.Parts.{none_promotes}
 use Rattle.chess_bits.proofs.Listed.{Each, each_member, room_for, from_targets, pattern_of}
 use Rattle.chess_bits.proofs.OriginsOf.{off_lowest}
 use Rattle.chess_bits.proofs.Patterns.{pawn_goes}
-use Rattle.chess_bits.proofs.Quiet.{IsPlain, stays_safe}
+use Rattle.chess_bits.proofs.Quiet.{IsPlain, lands_same, stays_safe}
 use Rattle.chess_bits.proofs.Reached.{pawn_from}
 use Rattle.chess_bits.proofs.TargetsOf.{man_told, no_king_says, none_castles}
 
 -- ---- the king stays safe
-
-pub lands_same : (o : Option Man) → man_that_lands o None ≡ o
-lands_same None = refl
-lands_same (Some x) = refl
 
 free_is_legal : (p : Setup) (a b king : ℕ) → IsSound p → IsFree p a → a < 64 → king < 64
     → ((k : ℕ) → k < 64 → is_man p.side King (man_at p.men k) ≡ (k == king))
