@@ -34,7 +34,7 @@ unfolding is_clear
 clear_back men a b = each_square_same _ _ (λ x l. rw (between_back a b x) refl)
 
 -- a man other than a pawn attacks as it is attacked
-back : (men : Men) (c : Colour) (kind : Kind) (a b : ℕ) → same_kind Pawn kind ≡ false
+pub back : (men : Men) (c : Colour) (kind : Kind) (a b : ℕ) → same_kind Pawn kind ≡ false
     → could_capture men c kind a b ≡ could_capture men c kind b a
 unfolding could_capture
 back men c King a b h = rw (eq_back a b, gap_back (file a) (file b), gap_back (rank a) (rank b)) refl
@@ -44,7 +44,7 @@ back men c Bishop a b h = rw (eq_back a b, diagonal_back a b, clear_back men a b
 back men c Knight a b h = rw (gap_back (file a) (file b), gap_back (rank a) (rank b)) refl
 back men c Pawn a b h = cc
 
-officer_attacks : (p : Setup) (kind : Kind) (m : Move) → same_kind Pawn kind ≡ false → same_kind King kind ≡ false
+pub officer_attacks : (p : Setup) (kind : Kind) (m : Move) → same_kind Pawn kind ≡ false → same_kind King kind ≡ false
     → is_legal p m ≡ true → is_man p.side kind (man_at p.men m.from) ≡ true
     → could_capture p.men p.side kind m.to m.from ≡ true
 officer_attacks p kind m no_pawn no_king legal man =
