@@ -1,12 +1,13 @@
 -- Which moves are legal, by the kind of the man that goes.
 use mathlib.Core.Bool.{and-true}
-use Rattle.std.proofs.Common.{◌≡◌, ℕ, ◌<◌, inl, inr, Bool, true, false, not, ◌&&◌, ◌||◌, Option, Some, None, refl, sym, ap, ◌∙◌}
+use Rattle.std.proofs.Common.{◌≡◌, ℕ, ◌<◌, inl, inr, Bool, true, false, not, ◌&&◌, ◌||◌, ◌==◌, Option, Some, None, refl, sym, ap, ◌∙◌}
 use Rattle.std.specs.Option.{is_some}
-use Rattle.std.proofs.lemmas.Bool.{and_parts, and_from, and_left, and_right, cases_Bool, eq-eqb, not-true, or_parts}
+use Rattle.std.proofs.lemmas.Bool.{and_parts, and_from, and_left, and_right, cases_Bool, eq-eqb, eqb-true, not-true, or_parts}
+use Rattle.chess_base.specs.declared.castling.Castle.{Castle}
 use Rattle.chess_base.specs.declared.man.CastlingSide.TheVariants.{KingSide, QueenSide}
 use Rattle.chess_base.specs.declared.man.Colour.{Colour}
 use Rattle.chess_base.specs.declared.man.Kind.{Kind}
-use Rattle.chess_base.specs.declared.man.Kind.TheVariants.{King, Pawn}
+use Rattle.chess_base.specs.declared.man.Kind.TheVariants.{King, Queen, Rook, Bishop, Knight, Pawn}
 use Rattle.chess_base.specs.declared.man.Man.{Man}
 use Rattle.chess_base.specs.declared.man.Move.{Move}
 use Rattle.chess_base.specs.declared.setup.Setup.{Setup}
@@ -14,13 +15,13 @@ use Rattle.chess_base.specs.Attacks.{could_capture, is_in_check}
 use Rattle.chess_base.specs.Castling.{castle_of}
 use Rattle.chess_base.specs.Men.{man_at, is_of, is_man, kind_number, same_colour, same_kind}
 use Rattle.chess_base.specs.MoveList.{triple}
-use Rattle.chess_base.specs.Moves.{has_pattern, is_legal, after, castles_or_moves, promotion_fits}
+use Rattle.chess_base.specs.Moves.{has_pattern, is_legal, after, castles_or_moves, man_moves, promotion_fits}
 use Rattle.chess_base.specs.Squares.{is_square}
 use Rattle.chess_base.proofs.MenFacts.{is_man-kind}
 use Rattle.chess_moves.specs.Sets.{has, HasOrigins}
 use Rattle.chess_moves.proofs.Origins.{begins_below}
 use Rattle.chess_bits.specs.ties.Changes.{StepsPlainly}
-use Rattle.chess_bits.specs.ties.Goes.{goes, IsOfficer}
+use Rattle.chess_bits.specs.ties.Goes.{goes, legal_or, IsOfficer}
 use Rattle.chess_bits.proofs.OriginsOf.{back, officer_attacks}
 use Rattle.chess_bits.proofs.Patterns.{fits_low, not_fitting, not_promoting, officer_goes, pattern_by}
 use Rattle.chess_bits.proofs.Starts.{starts_are}
@@ -153,3 +154,51 @@ officer_told c x o at own usual =
           (eq-eqb (kind_number x.kind) (kind_number x.kind) refl));
       usual = not-true (same_kind King x.kind || same_kind Pawn x.kind) usual;
     }
+
+-- ---- the king
+
+pub king_from_same : (kind : Kind) → same_kind King kind ≡ true → kind ≡ King
+king_from_same King h = refl
+king_from_same Queen h = cc
+king_from_same Rook h = cc
+king_from_same Bishop h = cc
+king_from_same Knight h = cc
+king_from_same Pawn h = cc
+
+-- where he has no step to a square he goes there by castling alone
+pub king_otherwise : (p : Setup) (a b : ℕ) → is_man p.side King (man_at p.men a) ≡ true → a < 64 → b < 64
+    → man_moves p (triple a b None) ≡ false
+    → legal_or p (triple a b None) (castle_of p (triple a b None)) false ≡ is_legal p (triple a b None)
+king_otherwise p a b king low high still = by (castle_of p (triple a b None)) refl
+  where
+    by : (o : Option Castle) → castle_of p (triple a b None) ≡ o
+        → legal_or p (triple a b None) o false ≡ is_legal p (triple a b None)
+    by None e =
+        sym (no_pattern p (triple a b None)
+        (sym (man_pattern p King a b king refl low high) ∙ ap (castles_or_moves p (triple a b None)) e ∙ still))
+    by (Some castle) e = refl
+
+-- he is the only start, or none is
+pub king_start : (p : Setup) (to king k : ℕ) → is_man p.side King (man_at p.men k) ≡ (k == king)
+    → is_legal p (triple king to None) ≡ true
+    → (k == king) ≡ (is_man p.side King (man_at p.men k) && is_legal p (triple k to None))
+king_start p to king k one legal =
+    elim (cases_Bool (k == king)) [
+      | inl same ↦
+          same ∙ sym (and_from (is_man p.side King (man_at p.men k)) (is_legal p (triple k to None)) (one ∙ same)
+          (ap (λ a. is_legal p (triple a to None)) (eqb-true k king same) ∙ legal))
+      | inr apart ↦
+          apart ∙ sym (and_left (is_man p.side King (man_at p.men k)) (is_legal p (triple k to None)) (one ∙ apart))
+    ]
+
+pub no_king_start : (p : Setup) (to king k : ℕ) → is_man p.side King (man_at p.men k) ≡ (k == king)
+    → is_legal p (triple king to None) ≡ false
+    → false ≡ (is_man p.side King (man_at p.men k) && is_legal p (triple k to None))
+no_king_start p to king k one off =
+    elim (cases_Bool (k == king)) [
+      | inl same ↦
+          sym (and_right (is_man p.side King (man_at p.men k)) (is_legal p (triple k to None))
+          (ap (λ a. is_legal p (triple a to None)) (eqb-true k king same) ∙ off))
+      | inr apart ↦
+          sym (and_left (is_man p.side King (man_at p.men k)) (is_legal p (triple k to None)) (one ∙ apart))
+    ]

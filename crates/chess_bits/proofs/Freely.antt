@@ -14,7 +14,7 @@ use Rattle.chess_base.specs.Attacks.{attacks, is_clear, is_in_check, is_attacked
 use Rattle.chess_base.specs.Castling.{castle_of, castling_rook_to}
 use Rattle.chess_base.specs.Men.{Men, man_at, same_kind, other, is_of, is_man, forward, first_rank, pawn_rank}
 use Rattle.chess_base.specs.MoveList.{triple}
-use Rattle.chess_base.specs.Moves.{has_pattern, is_legal, is_en_passant, man_that_lands, men_after, second_square_emptied, pawn_advances, pawn_captures}
+use Rattle.chess_base.specs.Moves.{has_pattern, is_legal, is_en_passant, men_after, second_square_emptied, pawn_advances, pawn_captures}
 use Rattle.chess_base.specs.Sound.{IsSound, no_pawn_on_end_ranks}
 use Rattle.chess_base.specs.Squares.{rank, some_square, is_square, share_rank_or_file, share_diagonal}
 use Rattle.chess_base.proofs.Changes.{advance_goes, pawn_attack}

@@ -1,6 +1,6 @@
 -- A man put on an empty square, or taken from its square.
 use mathlib.Core.Bool.{and-true, and-false, or-true, or-false}
-use Rattle.std.proofs.Common.{◌≡◌, ℕ, ◌<◌, inl, inr, Bool, true, false, not, ◌&&◌, ◌||◌, ◌==◌, refl, sym, ap, ◌∙◌, arith, Option, Some, None, List, [], ◌∷◌, length, get_or, set, get_or-set_same, get_or-set_other}
+use Rattle.std.proofs.Common.{◌≡◌, ℕ, ◌<◌, inl, inr, Bool, true, false, not, ◌&&◌, ◌||◌, ◌==◌, refl, sym, ap, ◌∙◌, arith, Option, Some, None, List, length, get_or, set, get_or-set_same, get_or-set_other}
 use Rattle.std.proofs.lemmas.Bool.{and_left, and_right, cases_Bool, eq-eqb, ne_eqb, cases_eq}
 use Rattle.std.proofs.lemmas.List.{get_or_default}
 use Rattle.chess_base.specs.declared.man.Colour.{Colour}
@@ -11,7 +11,6 @@ use Rattle.chess_base.specs.Attacks.{attacks}
 use Rattle.chess_base.specs.Men.{Men, man_at, is_man, is_of, same_colour, same_kind, kind_number}
 use Rattle.chess_base.proofs.MenFacts.{same_colour-self, is_man-none}
 use Rattle.chess_moves.specs.Sets.{has}
-use Rattle.std.specs.Prelude.{slice_index}
 use Rattle.chess_bits.specs.ties.Occupancy.{IsLater}
 use Rattle.chess_bits.specs.ties.KindSets.{AreKindsAt, IsKinds}
 

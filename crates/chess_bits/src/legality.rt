@@ -146,7 +146,33 @@ impl Bits<'_> {
         self.safe_starts(men, to)
     }
 
-    // From where kings or pawns go legally to a square.
+    // Whether the king there goes legally to that square: by a step, or by castling.
+    fn king_goes_legally(&self, king: Square, to: Square) -> bool
+        requires { is_man (self.now).side King (man_at (self.now).men king) ≡ true }
+        ensures { result ≡ is_legal self.now (triple king to None) }
+    {
+        // The prover wants these facts: the numbers of both squares are below 64.
+        let _start = king.number();
+        let _end = to.number();
+        if self.steps(Kind::King, king).contains(to) {
+            return self.is_safe_step(king, to);
+        }
+        self.castling_ends(king).contains(to)
+    }
+
+    // From where a king goes legally to a square.
+    fn king_starts(&self, to: Square) -> SquareSet
+        ensures { HasLegalStarts self.now King to result }
+    {
+        let king = self.king(self.setup.side);
+        if self.king_goes_legally(king, to) {
+            SquareSet::single(king)
+        } else {
+            SquareSet::empty()
+        }
+    }
+
+    // From where men of any kind go legally to a square: those of the origins that do.
     fn other_starts(&self, kind: Kind, to: Square) -> SquareSet
         ensures { HasLegalStarts self.now kind to result }
     {
@@ -160,9 +186,11 @@ impl Bits<'_> {
         ensures { HasLegalStarts self.now kind to result }
     {
         if is_officer(kind) {
-            self.officer_starts(kind, to)
-        } else {
-            self.other_starts(kind, to)
+            return self.officer_starts(kind, to);
         }
+        if is_king(kind) {
+            return self.king_starts(to);
+        }
+        self.other_starts(kind, to)
     }
 }

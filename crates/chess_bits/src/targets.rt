@@ -51,6 +51,7 @@ pub(crate) fn is_pawn(kind: Kind) -> bool
 
 impl Bits<'_> {
     // Where a man of that kind attacks from there what is no own man.
+    #[inline(always)]
     pub(crate) fn steps(&self, kind: Kind, from: Square) -> SquareSet
         ensures { (k : ℕ) → k < 64
             → has result k ≡ (could_capture (self.now).men (self.now).side kind from k

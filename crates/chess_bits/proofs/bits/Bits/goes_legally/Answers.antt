@@ -1,5 +1,5 @@
 -- An officer has the pattern of a move where it steps (officer_pattern of ByKind), and then only the king's safety is left.
-use Rattle.std.proofs.Common.{◌≡◌, ◌<◌, true, false, sym, subst, ◌∙◌}
+use Rattle.std.proofs.Common.{◌≡◌, ◌<◌, false, sym, subst, ◌∙◌}
 use Rattle.chess_base.specs.MoveList.{triple}
 use Rattle.chess_base.specs.Moves.{has_pattern}
 use Rattle.std.proofs.Common.{None}

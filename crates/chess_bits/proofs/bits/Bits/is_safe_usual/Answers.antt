@@ -1,10 +1,9 @@
 -- Such a move fills its end and changes its two squares (plain_filled and plain_changed of Quiet), and the king stays
 -- (king_stays of KingAfter).
-use Rattle.std.proofs.Common.{◌≡◌, ◌==◌, ◌||◌, ℕ, ◌<◌, None, true, false, ap, ◌∙◌}
+use Rattle.std.proofs.Common.{◌≡◌, ◌==◌, ◌||◌, ℕ, ◌<◌, None, ap, ◌∙◌}
 use Rattle.chess_base.specs.declared.man.Kind.TheVariants.{King}
 use Rattle.chess_base.specs.Men.{man_at, is_man}
 use Rattle.chess_base.specs.MoveList.{triple}
-use Rattle.chess_base.specs.Moves.{man_that_lands}
 use Rattle.chess_moves.specs.Sets.{has}
 use Rattle.chess_bits.specs.ties.Changes.{StepsPlainly, is_changed, is_filled}
 use Rattle.chess_bits.proofs.KingAfter.{king_stays}

@@ -1,6 +1,6 @@
 -- An officer reaches the square from where it is reached from there, if no own man stands on it (starts_plain,
 -- own_on_end of ByKind).
-use Rattle.std.proofs.Common.{◌≡◌, ◌<◌, ℕ, true, false, sym, ap, subst, ◌∙◌}
+use Rattle.std.proofs.Common.{◌≡◌, ◌<◌, true, false, sym, ap, subst, ◌∙◌}
 use Rattle.chess_base.specs.Men.{man_at, is_of}
 use Rattle.chess_moves.specs.Sets.{has}
 use Rattle.chess_bits.proofs.ByKind.{own_on_end, starts_plain, officer_starts_are}
