@@ -122,7 +122,8 @@ unfolding no_pawn_on_end_ranks
 pawn_start p m sound pawn legal =
     let low = begins_below p m legal in
     let high = ends_below p m legal in
-    let straight = not (is_some (man_at p.men m.to)) && (is_on_ray File true m.to m.from || is_on_ray File false m.to m.from) in
+    let straight = not (is_some (man_at p.men m.to))
+    && (is_on_ray File true m.to m.from || is_on_ray File false m.to m.from) in
     let aside = (is_of (other p.side) (man_at p.men m.to) || is_square p.target m.to)
     && in_shape (shape.Pawn (other p.side)) m.to m.from in
     let goes : (pawn_advances p (triple m.from m.to None) || pawn_captures p (triple m.from m.to None)) ≡ true =
@@ -131,7 +132,8 @@ pawn_start p m sound pawn legal =
     elim (or_cases (pawn_advances p (triple m.from m.to None)) (pawn_captures p (triple m.from m.to None)) goes) [
       | inl ahead ↦
           or_left straight aside
-          (and_from (not (is_some (man_at p.men m.to))) (is_on_ray File true m.to m.from || is_on_ray File false m.to m.from)
+          (and_from (not (is_some (man_at p.men m.to)))
+          (is_on_ray File true m.to m.from || is_on_ray File false m.to m.from)
           (no_some (man_at p.men m.to) (end_is_empty p m.from m.to ahead))
           (file_steps p.side m.from m.to (off_lowest p.men p.side m.from pawn (each_square-at _ sound.pawns m.from low))
           (advance_goes p (triple m.from m.to None) ahead)))

@@ -188,8 +188,8 @@ impl Kinds {
         !self.attackers(tables, colour, square, occupied).is_empty()
     }
 
-    /// Whether one of these men, of that colour, attacks the square where those squares are occupied, but for the men on
-    /// the squares of a set.
+    /// Whether one of these men, of that colour, attacks the square where those squares are occupied: the men on the
+    /// squares of a set are left out.
     #[inline(always)]
     #[tactic(auto, unfolding(chess_base::specs::Attacks::is_attacked))]
     pub fn attacks_outside(
