@@ -18,15 +18,8 @@ use Rattle.chess_base.proofs.MenAfter.{man_after, man_at-men_after}
 use Rattle.chess_base.proofs.MenFacts.{not_is_man}
 use Rattle.chess_base.proofs.OverSquares.{some_square-at, some_square-none}
 use Rattle.chess_moves.specs.Sets.{has}
+use Rattle.chess_bits.specs.ties.Changes.{is_changed, is_filled}
 use Rattle.chess_bits.specs.ties.Occupancy.{IsLater}
-
--- the squares that a move changes, and those that it fills
-abbrev pub is_changed : Setup → Move → ℕ → Bool
-is_changed p m k = (lands_on p m == k) || is_square (castling_rook_to p m) k
-    || (is_square (second_square_emptied p m) k || (m.from == k))
-
-abbrev pub is_filled : Setup → Move → ℕ → Bool
-is_filled p m k = (lands_on p m == k) || is_square (castling_rook_to p m) k
 
 filled_by : (t r l : Bool) (a k : Option Man) (c : Colour) → is_none a ≡ false
     → ((t || r) || (not (is_none k) && not (t || r || l)))

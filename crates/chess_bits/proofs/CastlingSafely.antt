@@ -26,10 +26,9 @@ use Rattle.chess_base.proofs.MenAfter.{man_after, man_at-men_after}
 use Rattle.chess_base.proofs.MenFacts.{is_man-kind}
 use Rattle.chess_base.proofs.OverSquares.{each_square-all, each_square-at, some_square-at, some_square-none}
 use Rattle.chess_bits.proofs.CastlingBySets.{king_goes, castle_pattern}
-use Rattle.chess_bits.proofs.Freely.{lands_same}
 use Rattle.chess_bits.proofs.KingAfter.{mover_own, king_lands, check_after, legal_is}
 use Rattle.chess_bits.proofs.KingSteps.{not_between_end}
-use Rattle.chess_bits.proofs.Quiet.{could_capture_as_clear}
+use Rattle.chess_bits.proofs.Quiet.{could_capture_as_clear, lands_same}
 
 -- ---- squares at home
 

@@ -14,7 +14,7 @@ use Rattle.chess_base.specs.Attacks.{attacks, is_clear, is_in_check, is_attacked
 use Rattle.chess_base.specs.Castling.{castle_of, castling_rook_to}
 use Rattle.chess_base.specs.Men.{Men, man_at, same_kind, other, is_of, is_man, forward, first_rank, pawn_rank}
 use Rattle.chess_base.specs.MoveList.{triple}
-use Rattle.chess_base.specs.Moves.{has_pattern, is_legal, is_en_passant, man_that_lands, men_after, second_square_emptied, pawn_advances, pawn_captures}
+use Rattle.chess_base.specs.Moves.{has_pattern, is_legal, is_en_passant, men_after, second_square_emptied, pawn_advances, pawn_captures}
 use Rattle.chess_base.specs.Sound.{IsSound, no_pawn_on_end_ranks}
 use Rattle.chess_base.specs.Squares.{rank, some_square, is_square, share_rank_or_file, share_diagonal}
 use Rattle.chess_base.proofs.Changes.{advance_goes, pawn_attack}
@@ -33,15 +33,11 @@ use Rattle.chess_moves.proofs.Parts.{none_promotes}
 use Rattle.chess_bits.proofs.Listed.{Each, each_member, room_for, from_targets, pattern_of}
 use Rattle.chess_bits.proofs.OriginsOf.{off_lowest}
 use Rattle.chess_bits.proofs.Patterns.{pawn_goes}
-use Rattle.chess_bits.proofs.Quiet.{IsPlain, stays_safe}
+use Rattle.chess_bits.proofs.Quiet.{IsPlain, lands_same, stays_safe}
 use Rattle.chess_bits.proofs.Reached.{pawn_from}
 use Rattle.chess_bits.proofs.TargetsOf.{man_told, no_king_says, none_castles}
 
 -- ---- the king stays safe
-
-pub lands_same : (o : Option Man) → man_that_lands o None ≡ o
-lands_same None = refl
-lands_same (Some x) = refl
 
 free_is_legal : (p : Setup) (a b king : ℕ) → IsSound p → IsFree p a → a < 64 → king < 64
     → ((k : ℕ) → k < 64 → is_man p.side King (man_at p.men k) ≡ (k == king))

@@ -1,17 +1,18 @@
 -- A man put on an empty square, or taken from its square.
 use mathlib.Core.Bool.{and-true, and-false, or-true, or-false}
-use Rattle.std.proofs.Common.{◌≡◌, ℕ, ◌<◌, inl, inr, not, ◌&&◌, ◌||◌, ◌==◌, refl, ◌∙◌, arith, Some, None, List, [], ◌∷◌, length, get_or, set, get_or-set_same, get_or-set_other}
-use Rattle.std.proofs.lemmas.Bool.{eq-eqb, ne_eqb, cases_eq}
+use Rattle.std.proofs.Common.{◌≡◌, ℕ, ◌<◌, inl, inr, Bool, true, false, not, ◌&&◌, ◌||◌, ◌==◌, refl, sym, ap, ◌∙◌, arith, Option, Some, None, List, length, get_or, set, get_or-set_same, get_or-set_other}
+use Rattle.std.proofs.lemmas.Bool.{and_left, and_right, cases_Bool, eq-eqb, ne_eqb, cases_eq}
 use Rattle.std.proofs.lemmas.List.{get_or_default}
 use Rattle.chess_base.specs.declared.man.Colour.{Colour}
 use Rattle.chess_base.specs.declared.man.Kind.{Kind}
 use Rattle.chess_base.specs.declared.man.Kind.TheVariants.{King, Queen, Rook, Bishop, Knight, Pawn}
-use Rattle.chess_base.specs.Men.{Men, man_at, is_man, kind_number}
+use Rattle.chess_base.specs.declared.man.Man.{Man}
+use Rattle.chess_base.specs.Attacks.{attacks}
+use Rattle.chess_base.specs.Men.{Men, man_at, is_man, is_of, same_colour, same_kind, kind_number}
 use Rattle.chess_base.proofs.MenFacts.{same_colour-self, is_man-none}
 use Rattle.chess_moves.specs.Sets.{has}
-use Rattle.std.specs.Prelude.{slice_index}
 use Rattle.chess_bits.specs.ties.Occupancy.{IsLater}
-use Rattle.chess_bits.specs.ties.KindSets.{IsKinds}
+use Rattle.chess_bits.specs.ties.KindSets.{AreKindsAt, IsKinds}
 
 kind_below : (x : Kind) → kind_number x < 6
 kind_below King = omega arith
@@ -120,23 +121,38 @@ lift_kinds sets men c x s w d six all ls there h made =
     get_or_default sets (kind_number x) d 0 in_sets in
     record { of_kind = λ y k lk. lift_at sets men c x y s k w six all ls lk there h (λ j l. made j l ∙ rw read refl) }
 
--- but for those on some squares
-pub outside_kinds : (sets : List ℕ) (a b d e f g changed filled : ℕ) (c : Colour) (men later : Men) → IsKinds sets c men
-    → IsLater changed filled c men later
-    → ((k : ℕ) → k < 64 → has a k ≡ (has (slice_index sets 0) k && not (has changed k)))
-    → ((k : ℕ) → k < 64 → has b k ≡ (has (slice_index sets 1) k && not (has changed k)))
-    → ((k : ℕ) → k < 64 → has d k ≡ (has (slice_index sets 2) k && not (has changed k)))
-    → ((k : ℕ) → k < 64 → has e k ≡ (has (slice_index sets 3) k && not (has changed k)))
-    → ((k : ℕ) → k < 64 → has f k ≡ (has (slice_index sets 4) k && not (has changed k)))
-    → ((k : ℕ) → k < 64 → has g k ≡ (has (slice_index sets 5) k && not (has changed k)))
-    → IsKinds (a ∷ b ∷ d ∷ e ∷ f ∷ g ∷ []) c later
-outside_kinds sets a b d e f g changed filled c men later h after ha hb hd he hf hg = record { of_kind = by_kind }
+-- ---- the men left out on some squares
+
+nobody_there : (c : Colour) (o : Option Man) → ((kind : Kind) → is_man c kind o ≡ false) → is_of c o ≡ false
+unfolding is_of is_man
+nobody_there c None h = refl
+nobody_there c (Some x) h = other_colour (same_colour c x.colour) (same_kind x.kind x.kind)
+    (eq-eqb (kind_number x.kind) (kind_number x.kind) refl) (h x.kind)
   where
-    by_kind : (kind : Kind) (k : ℕ) → k < 64 → has (slice_index (a ∷ b ∷ d ∷ e ∷ f ∷ g ∷ []) (kind_number kind)) k
-        ≡ is_man c kind (man_at later k)
-    by_kind King k l = ha k l ∙ rw (h.of_kind King k l) (after.of_man King k l)
-    by_kind Queen k l = hb k l ∙ rw (h.of_kind Queen k l) (after.of_man Queen k l)
-    by_kind Rook k l = hd k l ∙ rw (h.of_kind Rook k l) (after.of_man Rook k l)
-    by_kind Bishop k l = he k l ∙ rw (h.of_kind Bishop k l) (after.of_man Bishop k l)
-    by_kind Knight k l = hf k l ∙ rw (h.of_kind Knight k l) (after.of_man Knight k l)
-    by_kind Pawn k l = hg k l ∙ rw (h.of_kind Pawn k l) (after.of_man Pawn k l)
+    other_colour : (s t : Bool) → t ≡ true → (s && t) ≡ false → s ≡ false
+    other_colour true true e f = f
+    other_colour true false e f = cc
+    other_colour false t e f = refl
+
+-- those who attack a square later are those who would attack it now, but for the squares that change
+pub left_out : (sets : List ℕ) (changed filled a w : ℕ) (c : Colour) (men later : Men) (square : ℕ)
+    → IsKinds sets c men → IsLater changed filled c men later
+    → ((k : ℕ) → k < 64 → AreKindsAt sets c later k → has a k ≡ (is_of c (man_at later k) && attacks later k square))
+    → ((k : ℕ) → k < 64 → has w k ≡ (has a k && not (has changed k)))
+    → (k : ℕ) → k < 64 → has w k ≡ (is_of c (man_at later k) && attacks later k square)
+left_out sets changed filled a w c men later square h after attackers without k low =
+    elim (cases_Bool (has changed k)) [
+      | inl gone ↦
+          let none : is_of c (man_at later k) ≡ false =
+          nobody_there c (man_at later k)
+          (λ kind. sym (after.of_man kind k low)
+          ∙ and_right (is_man c kind (man_at men k)) (not (has changed k)) (ap not gone)) in
+          without k low ∙ and_right (has a k) (not (has changed k)) (ap not gone)
+          ∙ sym (and_left (is_of c (man_at later k)) (attacks later k square) none)
+      | inr stays ↦
+          without k low ∙ ap (λ t. has a k && not t) stays ∙ and-true (has a k)
+          ∙ attackers k low
+          (λ kind. h.of_kind kind k low ∙ sym (and-true (is_man c kind (man_at men k)))
+          ∙ ap (λ t. is_man c kind (man_at men k) && not t) (sym stays)
+          ∙ after.of_man kind k low)
+    ]

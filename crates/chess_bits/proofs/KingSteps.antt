@@ -30,12 +30,12 @@ use Rattle.chess_moves.specs.Sets.{has, members}
 use Rattle.chess_bits.specs.ties.Goes.{goes, legal_or, lifted}
 use Rattle.chess_bits.proofs.Attackers.{each_square_same, some_square_same, eq_back}
 use Rattle.chess_bits.proofs.Counted.{one_counted}
-use Rattle.chess_bits.proofs.Freely.{lands_same, all_once}
+use Rattle.chess_bits.proofs.Freely.{all_once}
 use Rattle.chess_bits.proofs.KingAfter.{mover_some, mover_own, king_lands, check_after, legal_is}
 use Rattle.chess_bits.proofs.Lifted.{lifted_at}
 use Rattle.chess_bits.proofs.Listed.{each_member, none_there, pattern_of}
 use Rattle.chess_bits.proofs.Patterns.{man_sound, man_complete, not_promoting}
-use Rattle.chess_bits.proofs.Quiet.{IsPlain, plain_after, not_passing}
+use Rattle.chess_bits.proofs.Quiet.{IsPlain, lands_same, plain_after, not_passing}
 use Rattle.chess_bits.proofs.TargetsOf.{man_told, none_castles, steps_of_man}
 
 -- ---- a square is attacked from elsewhere: what stands on it doesn't count

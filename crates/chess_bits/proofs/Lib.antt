@@ -20,6 +20,7 @@ pub mod Lifted
 pub mod KingSteps
 pub mod AnyMember
 pub mod Starts
+pub mod ByKind
 pub mod Shields
 pub mod KindsCounted
 pub mod CastlingAtHome

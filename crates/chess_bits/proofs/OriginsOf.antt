@@ -1,11 +1,13 @@
 -- From where pawns go to a square, and officers: from where they are attacked that stand there.
-use Rattle.std.proofs.Common.{◌≡◌, ℕ, ◌<◌, ◌≤◌, ◌⊎◌, inl, inr, Bool, true, false, not, ◌&&◌, ◌||◌, ◌==◌, nat_lt, None, refl, sym, ap, ◌∙◌, arith}
+use Rattle.std.proofs.Common.{◌≡◌, ℕ, ◌<◌, ◌≤◌, ◌⊎◌, inl, inr, Bool, true, false, not, ◌&&◌, ◌||◌, ◌==◌, nat_lt, Option, Some, None, is_none, refl, sym, ap, ◌∙◌, arith}
+use Rattle.std.specs.Option.{is_some}
 use Rattle.std.proofs.lemmas.Bool.{and_parts, and_from, or_left, or_right, or_cases, eq-eqb, lt-ltb, not-true}
 use Rattle.std.proofs.lemmas.Bool.Decides.{nat_tests}
 use Rattle.chess_base.specs.declared.man.Colour.{Colour}
 use Rattle.chess_base.specs.declared.man.Colour.TheVariants.{White, Black}
 use Rattle.chess_base.specs.declared.man.Kind.{Kind}
 use Rattle.chess_base.specs.declared.man.Kind.TheVariants.{King, Queen, Rook, Bishop, Knight, Pawn}
+use Rattle.chess_base.specs.declared.man.Man.{Man}
 use Rattle.chess_base.specs.declared.man.Move.{Move}
 use Rattle.chess_base.specs.declared.setup.Setup.{Setup}
 use Rattle.chess_base.specs.Attacks.{is_clear, could_capture}
@@ -34,7 +36,7 @@ unfolding is_clear
 clear_back men a b = each_square_same _ _ (λ x l. rw (between_back a b x) refl)
 
 -- a man other than a pawn attacks as it is attacked
-back : (men : Men) (c : Colour) (kind : Kind) (a b : ℕ) → same_kind Pawn kind ≡ false
+pub back : (men : Men) (c : Colour) (kind : Kind) (a b : ℕ) → same_kind Pawn kind ≡ false
     → could_capture men c kind a b ≡ could_capture men c kind b a
 unfolding could_capture
 back men c King a b h = rw (eq_back a b, gap_back (file a) (file b), gap_back (rank a) (rank b)) refl
@@ -44,7 +46,7 @@ back men c Bishop a b h = rw (eq_back a b, diagonal_back a b, clear_back men a b
 back men c Knight a b h = rw (gap_back (file a) (file b), gap_back (rank a) (rank b)) refl
 back men c Pawn a b h = cc
 
-officer_attacks : (p : Setup) (kind : Kind) (m : Move) → same_kind Pawn kind ≡ false → same_kind King kind ≡ false
+pub officer_attacks : (p : Setup) (kind : Kind) (m : Move) → same_kind Pawn kind ≡ false → same_kind King kind ≡ false
     → is_legal p m ≡ true → is_man p.side kind (man_at p.men m.from) ≡ true
     → could_capture p.men p.side kind m.to m.from ≡ true
 officer_attacks p kind m no_pawn no_king legal man =
@@ -100,41 +102,59 @@ file_steps Black a b high (inl e) = or_left (is_on_ray File true b a) (is_on_ray
 file_steps Black a b high (inr e) = or_left (is_on_ray File true b a) (is_on_ray File false b a)
     (ray_above a b (omega (arith, e.0, e.1)) (omega (arith, e.0, e.1)))
 
+-- a pawn may go so from a to b
+abbrev pub may_start : Setup → ℕ → ℕ → Bool
+may_start p b a =
+    (not (is_some (man_at p.men b)) && (is_on_ray File true b a || is_on_ray File false b a))
+    || ((is_of (other p.side) (man_at p.men b) || is_square p.target b) && in_shape (shape.Pawn (other p.side)) b a)
+
+no_some : (o : Option Man) → is_none o ≡ true → not (is_some o) ≡ true
+no_some None h = refl
+no_some (Some x) h = cc
+
+end_is_empty : (p : Setup) (a b : ℕ) → pawn_advances p (triple a b None) ≡ true → is_none (man_at p.men b) ≡ true
+unfolding pawn_advances
+end_is_empty p a b h = (and_parts (is_none (man_at p.men b)) _ h).0
+
 pawn_start : (p : Setup) (m : Move) → IsSound p → is_man p.side Pawn (man_at p.men m.from) ≡ true → is_legal p m ≡ true
-    → ((is_on_ray File true m.to m.from || is_on_ray File false m.to m.from)
-    || in_shape (shape.Pawn (other p.side)) m.to m.from) ≡ true
+    → may_start p m.to m.from ≡ true
 unfolding no_pawn_on_end_ranks
 pawn_start p m sound pawn legal =
     let low = begins_below p m legal in
     let high = ends_below p m legal in
+    let straight = not (is_some (man_at p.men m.to))
+    && (is_on_ray File true m.to m.from || is_on_ray File false m.to m.from) in
+    let aside = (is_of (other p.side) (man_at p.men m.to) || is_square p.target m.to)
+    && in_shape (shape.Pawn (other p.side)) m.to m.from in
     let goes : (pawn_advances p (triple m.from m.to None) || pawn_captures p (triple m.from m.to None)) ≡ true =
     sym (pawn_goes p m.from m.to _ (man_told p.side Pawn (man_at p.men m.from) pawn) refl refl low high)
     ∙ (legal_goes p m legal).0 in
     elim (or_cases (pawn_advances p (triple m.from m.to None)) (pawn_captures p (triple m.from m.to None)) goes) [
       | inl ahead ↦
-          or_left (is_on_ray File true m.to m.from || is_on_ray File false m.to m.from)
-          (in_shape (shape.Pawn (other p.side)) m.to m.from)
+          or_left straight aside
+          (and_from (not (is_some (man_at p.men m.to)))
+          (is_on_ray File true m.to m.from || is_on_ray File false m.to m.from)
+          (no_some (man_at p.men m.to) (end_is_empty p m.from m.to ahead))
           (file_steps p.side m.from m.to (off_lowest p.men p.side m.from pawn (each_square-at _ sound.pawns m.from low))
-          (advance_goes p (triple m.from m.to None) ahead))
+          (advance_goes p (triple m.from m.to None) ahead)))
       | inr takes ↦
-          or_right (is_on_ray File true m.to m.from || is_on_ray File false m.to m.from)
-          (in_shape (shape.Pawn (other p.side)) m.to m.from)
-          (pawn_back p.men p.side m.from m.to
-          ∙ (and_parts (could_capture p.men p.side Pawn m.from m.to)
+          let both = and_parts (could_capture p.men p.side Pawn m.from m.to)
           (is_of (other p.side) (man_at p.men m.to) || is_square p.target m.to)
-          (captures_is p m.from m.to pawn ∙ takes)).0)
+          (captures_is p m.from m.to pawn ∙ takes) in
+          or_right straight aside
+          (and_from (is_of (other p.side) (man_at p.men m.to) || is_square p.target m.to)
+          (in_shape (shape.Pawn (other p.side)) m.to m.from) both.1
+          (pawn_back p.men p.side m.from m.to ∙ both.0))
     ]
 
 pub pawn_origins : (p : Setup) (kind : Kind) (to w u v : ℕ) → IsSound p → same_kind Pawn kind ≡ true
     → ((k : ℕ) → has w k ≡ (has u k && has v k))
     → ((k : ℕ) → k < 64 → has u k ≡ is_man p.side kind (man_at p.men k))
-    → ((k : ℕ) → k < 64 → has v k
-    ≡ ((is_on_ray File true to k || is_on_ray File false to k) || in_shape (shape.Pawn (other p.side)) to k))
+    → ((k : ℕ) → k < 64 → has v k ≡ may_start p to k)
     → HasOrigins p kind to w
 pawn_origins p kind to w u v sound is all men starts = λ m legal man there.
     let low = begins_below p m legal in
     let pawn : is_man p.side Pawn (man_at p.men m.from) ≡ true = ap (λ k. is_man p.side k (man_at p.men m.from))
     (sym (pawn_from_same kind is)) ∙ man in
     all m.from ∙ and_from (has u m.from) (has v m.from) (men m.from low ∙ man)
-    (starts m.from low ∙ ap (λ t. (is_on_ray File true t m.from || is_on_ray File false t m.from)
-    || in_shape (shape.Pawn (other p.side)) t m.from) (sym there) ∙ pawn_start p m sound pawn legal)
+    (starts m.from low ∙ ap (λ t. may_start p t m.from) (sym there) ∙ pawn_start p m sound pawn legal)

@@ -20,7 +20,7 @@ use Rattle.chess_moves.specs.Promoting.{would_promote}
 use Rattle.chess_moves.specs.Sets.{has}
 use Rattle.chess_bits.specs.ties.Goes.{usual_promotion, goes, legal_or, man_goes}
 
-fits_low : (kind : Kind) → promotion_fits false (Some kind) ≡ false
+pub fits_low : (kind : Kind) → promotion_fits false (Some kind) ≡ false
 fits_low King = refl
 fits_low Queen = refl
 fits_low Rook = refl

@@ -1,4 +1,5 @@
 -- A move that changes only its two squares leaves the king as safe as he was with the mover taken off.
+use mathlib.Core.Bool.{or-false}
 use Rattle.std.proofs.Common.{◌≡◌, ℕ, ◌<◌, inl, inr, Bool, true, false, not, ◌&&◌, ◌||◌, ◌==◌, cond, length, refl, sym, ap, ◌∙◌, Option, Some, None, is_none}
 use Rattle.std.proofs.lemmas.Bool.{and_parts, and_from, cases_Bool, both_ways, false_from_ne_true}
 use Rattle.chess_base.specs.declared.man.CastlingSide.TheVariants.{KingSide, QueenSide}
@@ -15,6 +16,9 @@ use Rattle.chess_base.specs.Moves.{is_en_passant, man_that_lands, men_after, sec
 use Rattle.chess_base.specs.Castling.{castle_of, lands_on, castling_rook_to}
 use Rattle.chess_base.proofs.MenAfter.{man_after, man_at-men_after}
 use Rattle.chess_base.proofs.OverSquares.{some_square-at, some_square-none, each_square-all, each_square-at}
+use Rattle.chess_base.specs.declared.steps.Steps.{Steps}
+use Rattle.chess_base.specs.MoveList.{triple}
+use Rattle.chess_bits.specs.ties.Changes.{StepsPlainly, is_changed, is_filled}
 use Rattle.chess_bits.specs.ties.Goes.{lifted}
 use Rattle.chess_bits.proofs.Attackers.{eq_back}
 use Rattle.chess_bits.proofs.Lifted.{lifted_at}
@@ -147,3 +151,22 @@ plain_steps p m no_king no_passing =
     let no_castle : castle_of p m ≡ None = none_castles p m (no_king_says p m KingSide no_king)
     (no_king_says p m QueenSide no_king) in
     rw (still, no_castle) refl
+
+pub lands_same : (o : Option Man) → man_that_lands o None ≡ o
+lands_same None = refl
+lands_same (Some x) = refl
+
+-- such a move fills its end square, and changes that and its start
+pub plain_filled : (p : Setup) (a b k : ℕ) → StepsPlainly p a b → (k == b) ≡ is_filled p (triple a b None) k
+plain_filled p a b k h =
+    eq_back k b ∙ sym (or-false (b == k))
+    ∙ ap (λ (t : Steps). (t.to == k) || is_square t.second_to k) (plain_steps p (triple a b None) h.no_king h.no_passing)
+
+pub plain_changed : (p : Setup) (a b k : ℕ) → StepsPlainly p a b
+    → ((k == b) || (k == a)) ≡ is_changed p (triple a b None) k
+plain_changed p a b k h =
+    ap (λ f. f || (k == a)) (plain_filled p a b k h)
+    ∙ ap (λ e. is_filled p (triple a b None) k || e)
+    (eq_back k a
+    ∙ ap (λ (t : Steps). is_square t.second_from k || (t.from == k))
+    (plain_steps p (triple a b None) h.no_king h.no_passing))

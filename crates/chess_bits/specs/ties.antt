@@ -5,4 +5,5 @@ pub mod Shapes
 pub mod Occupancy
 pub mod KindSets
 pub mod BoardSets
+pub mod Changes
 pub mod Goes

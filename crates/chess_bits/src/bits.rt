@@ -1,23 +1,20 @@
 //! A board with sets of squares beside its men.
 
-ghost use Rattle.std.specs.Prelude.{◌≡◌, ℕ, ◌<◌, ◌==◌, ◌&&◌, None};
+ghost use Rattle.std.specs.Prelude.{◌≡◌, ℕ, ◌<◌, ◌==◌};
 ghost use Rattle.chess_base.specs.Attacks.{is_attacked};
 ghost use Rattle.chess_base.specs.Initial.{initial_setup};
 ghost use Rattle.chess_base.specs.Men.{Men, man_at, is_man};
-ghost use Rattle.chess_base.specs.MoveList.{triple};
-ghost use Rattle.chess_base.specs.Moves.{is_legal};
 ghost use Rattle.chess_base.specs.declared.man.Kind.TheVariants.{King};
 ghost use Rattle.chess_bits.specs.ties.Occupancy.{IsOccupied};
-ghost use Rattle.chess_moves.specs.Sets.{has};
 
 use crate::placing::{move_back, move_on};
 use crate::reaching::reached_from;
 use crate::sets::Sets;
 use crate::tables::AttackTables;
 use crate::targets::{is_king, is_pawn};
-use chess_base::for_boards::{promotion_fits, saved_of};
+use chess_base::for_boards::saved_of;
 use chess_base::{Colour, Kind, Move, Position, Saved, Setup, Square};
-use chess_moves::{Board, MoveList, SquareSet, word_with, would_promote};
+use chess_moves::{Board, MoveList, SquareSet, word_with};
 use std::marker::Model;
 
 /// A board that keeps, beside the man of each square, sets of the squares of the men by colour and kind. The tables of
@@ -81,25 +78,6 @@ impl<'t> Bits<'t> {
         let occupied = self.occupied();
         self.sets.of(by).attacks(self.tables, by, square, occupied)
     }
-
-    // Those of these squares from which the move to a square without a promotion is legal.
-    fn starts_among(&self, men: SquareSet, to: Square) -> SquareSet
-        ensures { (k : ℕ) → k < 64 → has result k ≡ (has men k && is_legal self.now (triple k to None)) }
-    {
-        let mut starts = SquareSet::empty();
-        let mut rest = men;
-        while let Some(from) = rest.take_first() {
-            let m = Move {
-                from,
-                to,
-                promotion: None,
-            };
-            if self.is_legal(&m) {
-                starts = starts.union(SquareSet::single(from));
-            }
-        }
-        starts
-    }
 }
 
 impl Board for Bits<'_> {
@@ -136,15 +114,7 @@ impl Board for Bits<'_> {
     }
 
     fn is_legal(&self, m: &Move) -> bool {
-        // The prover wants this fact: the number of the end is below 64.
-        let _end = m.to.number();
-        if !self.targets(m.from).contains(m.to) {
-            return false;
-        }
-        if !promotion_fits(would_promote(&self.setup, m.from, m.to), m.promotion) {
-            return false;
-        }
-        self.is_safe_after(m)
+        self.is_legal_by_kind(m)
     }
 
     // The king, the pawns of the square's file and those that attack it, and the other men that attack it.
@@ -167,8 +137,7 @@ impl Board for Bits<'_> {
     }
 
     fn legal_starts(&self, kind: Kind, to: Square) -> SquareSet {
-        let own = self.men_of(self.setup.side, kind);
-        self.starts_among(own.intersection(self.origins(kind, to)), to)
+        self.starts_of(kind, to)
     }
 
     #[tactic(auto, using(crate::proofs::AfterSets::check_is))]

@@ -8,7 +8,7 @@ ghost use Rattle.chess_base.specs.Attacks.{attacks, is_attacked};
 ghost use Rattle.chess_moves.specs.Sets.{has};
 ghost use Rattle.chess_bits.specs.ties.Rays.{is_open};
 ghost use Rattle.chess_bits.specs.ties.Occupancy.{IsOccupied, IsLater};
-ghost use Rattle.chess_bits.specs.ties.KindSets.{IsKinds};
+ghost use Rattle.chess_bits.specs.ties.KindSets.{AreKindsAt, IsKinds};
 
 use crate::line::Line;
 use crate::table::Shape;
@@ -142,6 +142,7 @@ impl Kinds {
     }
 
     /// These men, of that colour, that attack the square where those squares are occupied.
+    #[inline(always)]
     pub fn attackers(
         &self,
         tables: &AttackTables,
@@ -149,7 +150,7 @@ impl Kinds {
         square: Square,
         occupied: SquareSet,
     ) -> SquareSet
-        ensures { (men : Men) → IsKinds self.now.sets colour men → IsOccupied occupied men → (k : ℕ) → k < 64
+        ensures { (men : Men) → IsOccupied occupied men → (k : ℕ) → k < 64 → AreKindsAt self.now.sets colour men k
             → has result k ≡ (is_of colour (man_at men k) && attacks men k square) }
     {
         let queens = self.of(Kind::Queen);
@@ -187,19 +188,23 @@ impl Kinds {
         !self.attackers(tables, colour, square, occupied).is_empty()
     }
 
-    /// These men but for those on the squares of a set.
-    pub fn outside(&self, changed: SquareSet) -> Kinds
-        ensures { (c : Side) → (filled : ℕ) → (men : Men) → (later : Men) → IsKinds self.now.sets c men
-            → IsLater changed filled c men later → IsKinds result.sets c later }
+    /// Whether one of these men, of that colour, attacks the square where those squares are occupied: the men on the
+    /// squares of a set are left out.
+    #[inline(always)]
+    #[tactic(auto, unfolding(chess_base::specs::Attacks::is_attacked))]
+    pub fn attacks_outside(
+        &self,
+        tables: &AttackTables,
+        colour: Colour,
+        square: Square,
+        occupied: SquareSet,
+        changed: SquareSet,
+    ) -> bool
+        ensures { (men : Men) → (later : Men) → (filled : ℕ) → IsKinds self.now.sets colour men
+            → IsLater changed filled colour men later → IsOccupied occupied later
+            → result ≡ is_attacked later square colour }
     {
-        let sets = [
-            self.of(Kind::King).without(changed),
-            self.of(Kind::Queen).without(changed),
-            self.of(Kind::Rook).without(changed),
-            self.of(Kind::Bishop).without(changed),
-            self.of(Kind::Knight).without(changed),
-            self.of(Kind::Pawn).without(changed),
-        ];
-        Kinds { sets }
+        let attackers = self.attackers(tables, colour, square, occupied);
+        !attackers.without(changed).is_empty()
     }
 }

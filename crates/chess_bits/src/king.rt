@@ -6,6 +6,7 @@ ghost use Rattle.chess_base.specs.MoveList.{triple};
 ghost use Rattle.chess_base.specs.Moves.{has_pattern, is_legal, man_moves, men_after, steps_of};
 ghost use Rattle.chess_base.specs.Squares.{is_square};
 ghost use Rattle.chess_base.specs.declared.man.Kind.TheVariants.{King};
+ghost use Rattle.chess_bits.specs.ties.Changes.{StepsPlainly, is_changed, is_filled};
 ghost use Rattle.chess_moves.specs.Sets.{has};
 
 use crate::bits::Bits;
@@ -59,6 +60,23 @@ impl Bits<'_> {
         }
     }
 
+    // Whether a move with a man's pattern is legal, after which the king stands there: these squares are filled by it, and
+    // these changed.
+    #[inline(always)]
+    fn is_safe_at(&self, king: Square, filled: SquareSet, changed: SquareSet) -> bool
+        ensures { (m : Move) → has_pattern self.now m ≡ true → king < 64
+            → is_man (self.now).side King (man_at (men_after self.now m) king) ≡ true
+            → ((k : ℕ) → k < 64 → has filled k ≡ is_filled self.now m k)
+            → ((k : ℕ) → k < 64 → has changed k ≡ is_changed self.now m k)
+            → result ≡ is_legal self.now m }
+    {
+        let kept = self.sets.occupied().without(changed);
+        let occupied = filled.union(kept);
+        let by = self.setup.side.other();
+        let men = self.sets.of(by);
+        !men.attacks_outside(self.tables, by, king, occupied, changed)
+    }
+
     // Whether a step of the king is legal: nothing attacks its end square once he has left his own.
     pub(crate) fn is_safe_step(&self, king: Square, to: Square) -> bool
         requires king { is_man (self.now).side King (man_at (self.now).men king) ≡ true }
@@ -91,10 +109,20 @@ impl Bits<'_> {
         let king = self.king_after(m, steps);
         let filled = filled_by(steps);
         let changed = filled.union(emptied_by(steps));
-        let kept = self.sets.occupied().without(changed);
-        let occupied = filled.union(kept);
-        let by = self.setup.side.other();
-        let men = self.sets.of(by).outside(changed);
-        !men.attacks(self.tables, by, king, occupied)
+        self.is_safe_at(king, filled, changed)
+    }
+
+    // The same for a move that changes its two squares alone and is not the king's.
+    #[inline(always)]
+    pub(crate) fn is_safe_usual(&self, from: Square, to: Square) -> bool
+        requires { StepsPlainly self.now from to }
+        ensures { result ≡ is_legal self.now (triple from to None) }
+    {
+        // The prover wants this fact: the start's number is below 64.
+        let _start = from.number();
+        let filled = SquareSet::single(to);
+        let changed = filled.union(SquareSet::single(from));
+        let king = self.king(self.setup.side);
+        self.is_safe_at(king, filled, changed)
     }
 }

@@ -13,6 +13,7 @@ mod castling;
 mod counting;
 mod kinds;
 mod king;
+mod legality;
 mod line;
 mod listing;
 mod placing;

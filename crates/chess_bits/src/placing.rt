@@ -18,6 +18,7 @@ use chess_base::for_boards::{
 use chess_base::{Kind, Man, Move, Saved, Setup, Square};
 
 // Changes what stands on a square, if there is one.
+#[inline(always)]
 fn place(men: &mut [Option<Man>; 64], sets: &mut Sets, square: Option<Square>, man: Option<Man>)
     ensures men { men.new ≡ with_man men.old square man }
     ensures sets { IsSets sets.old men.old → IsSets sets.new men.new }

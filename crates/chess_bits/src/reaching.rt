@@ -13,6 +13,7 @@ use chess_base::{Colour, Kind, Square};
 use chess_moves::SquareSet;
 
 /// The squares on which such a man could capture from a square, where those squares are occupied.
+#[inline(always)]
 #[tactic(auto, using(crate::proofs::Reached::king_from, crate::proofs::Reached::queen_from, crate::proofs::Reached::rook_from, crate::proofs::Reached::bishop_from, crate::proofs::Reached::knight_from, crate::proofs::Reached::pawn_from))]
 pub fn reached_from(
     tables: &AttackTables,

@@ -1,7 +1,9 @@
 //! Where men go: sets of end squares, whatever becomes of the king. Castling is among them only where it is legal.
 
 ghost use Rattle.std.specs.Prelude.{◌≡◌, ◌+◌, ◌≤◌, ◌<◌, ℕ, ◌&&◌, ◌||◌, not, true, false, Some, None, MatchOption};
+ghost use Rattle.std.specs.Option.{is_some};
 ghost use Rattle.chess_base.specs.Attacks.{could_capture};
+ghost use Rattle.chess_base.specs.Squares.{is_square};
 ghost use Rattle.chess_base.specs.Men.{man_at, other, is_of, is_man, same_kind, forward, pawn_rank};
 ghost use Rattle.chess_base.specs.MoveList.{triple};
 ghost use Rattle.chess_base.specs.Moves.{is_legal, pawn_advances, pawn_captures};
@@ -51,6 +53,7 @@ pub(crate) fn is_pawn(kind: Kind) -> bool
 
 impl Bits<'_> {
     // Where a man of that kind attacks from there what is no own man.
+    #[inline(always)]
     pub(crate) fn steps(&self, kind: Kind, from: Square) -> SquareSet
         ensures { (k : ℕ) → k < 64
             → has result k ≡ (could_capture (self.now).men (self.now).side kind from k
@@ -186,18 +189,49 @@ impl Bits<'_> {
         reached.intersection(aims)
     }
 
-    // The squares from which pawns of the side on move may go to one: those of its file, and those from
-    // which they attack it.
+    // The squares from which pawns may go straight to one: those of its file, if it is empty.
+    #[inline(always)]
     #[tactic(auto, unfolding(crate::specs::ties::Shapes::in_shape))]
-    pub(crate) fn pawn_starts(&self, to: Square) -> SquareSet
+    fn straight_starts(&self, to: Square) -> SquareSet
         ensures { (k : ℕ) → k < 64
-            → has result k ≡ ((is_on_ray File true to k || is_on_ray File false to k)
-            || in_shape (PawnAttack (other (self.now).side)) to k) }
+            → has result k ≡ (not (is_some (man_at (self.now).men to))
+            && (is_on_ray File true to k || is_on_ray File false to k)) }
     {
+        if self.setup.men[to.index()].is_some() {
+            return SquareSet::empty();
+        }
         let above = self.tables.at(Shape::Ray(Line::File, true), to);
         let below = self.tables.at(Shape::Ray(Line::File, false), to);
-        let aside = self.tables.at(Shape::Pawn(self.setup.side.other()), to);
-        above.union(below).union(aside)
+        above.union(below)
+    }
+
+    // The squares from which pawns of the side on move attack one, if they may capture there.
+    #[inline(always)]
+    fn capture_starts(&self, to: Square) -> SquareSet
+        ensures { (k : ℕ) → k < 64
+            → has result k ≡ ((is_of (other (self.now).side) (man_at (self.now).men to)
+            || is_square (self.now).target to) && in_shape (PawnAttack (other (self.now).side)) to k) }
+    {
+        // The prover wants this fact: the number of the end is below 64.
+        let _end = to.number();
+        let theirs = self.setup.side.other();
+        let aims = self.sets.all(theirs).union(set_of(self.setup.target));
+        if !aims.contains(to) {
+            return SquareSet::empty();
+        }
+        self.tables.at(Shape::Pawn(theirs), to)
+    }
+
+    // The squares from which pawns of the side on move may go to one.
+    pub(crate) fn pawn_starts(&self, to: Square) -> SquareSet
+        ensures { (k : ℕ) → k < 64
+            → has result k ≡ ((not (is_some (man_at (self.now).men to))
+            && (is_on_ray File true to k || is_on_ray File false to k))
+            || ((is_of (other (self.now).side) (man_at (self.now).men to) || is_square (self.now).target to)
+            && in_shape (PawnAttack (other (self.now).side)) to k)) }
+    {
+        let straight = self.straight_starts(to);
+        straight.union(self.capture_starts(to))
     }
 
     // Where the own pawn goes that stands there.

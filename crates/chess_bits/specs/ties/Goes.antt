@@ -4,14 +4,15 @@ use Rattle.chess_base.specs.declared.castling.Castle.{Castle}
 use Rattle.chess_base.specs.declared.man.CastlingSide.{CastlingSide}
 use Rattle.chess_base.specs.declared.man.Colour.{Colour}
 use Rattle.chess_base.specs.declared.man.Kind.{Kind}
-use Rattle.chess_base.specs.declared.man.Kind.TheVariants.{King, Queen, Rook, Bishop}
+use Rattle.chess_base.specs.declared.man.Kind.TheVariants.{King, Queen, Rook, Bishop, Pawn}
+use Rattle.chess_base.specs.declared.man.Man.{Man}
 use Rattle.chess_base.specs.declared.man.Move.{Move}
 use Rattle.chess_base.specs.declared.man.Variant.{Variant}
 use Rattle.chess_base.specs.declared.man.Variant.TheVariants.{Normal, Fischerandom}
 use Rattle.chess_base.specs.declared.setup.Setup.{Setup}
 use Rattle.chess_base.specs.Attacks.{is_clear, is_attacked}
 use Rattle.chess_base.specs.Castling.{home_square, castled_king_file, right_of, castle_of}
-use Rattle.chess_base.specs.Men.{Men, man_at, with_man, other, is_man}
+use Rattle.chess_base.specs.Men.{Men, man_at, with_man, other, is_man, same_kind}
 use Rattle.chess_base.specs.MoveList.{triple}
 use Rattle.chess_base.specs.Moves.{has_pattern, is_legal, man_moves}
 use Rattle.chess_base.specs.Squares.{share_rank_or_file, share_diagonal}
@@ -81,6 +82,11 @@ pub record IsFree (p : Setup) (a : ℕ) : Type 0 where
 -- on each square of the set stands a man of that kind of the side on move, and it is free
 abbrev pub AreFree : Setup → Kind → ℕ → Type 0
 AreFree p kind w = (k : ℕ) → k < 64 → has w k ≡ true → (is_man p.side kind (man_at p.men k) ≡ true) × IsFree p k
+
+-- a man of colour c and that kind stands there, which is neither king nor pawn
+pub record IsOfficer (c : Colour) (kind : Kind) (o : Option Man) : Type 0 where
+  pub man : is_man c kind o ≡ true
+  pub usual : (same_kind King kind || same_kind Pawn kind) ≡ false
 
 -- a pawn of colour c on a attacks that square, if there is one
 abbrev pub aims_at : Option ℕ → Colour → ℕ → Bool

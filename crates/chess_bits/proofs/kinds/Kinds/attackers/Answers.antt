@@ -9,7 +9,7 @@ use Rattle.chess_bits.proofs.kinds.Kinds.attackers.Goals as goal
 pub returns : goal.returns
 unfolding attacks
 returns c =
-    λ men army all k h.
+    λ men all k h army.
     rw (
       c.union-4.ensures k,
       c.union-3.ensures k,
@@ -33,11 +33,11 @@ returns c =
       c.of-3.ensures,
       c.of-4.ensures,
       c.of-5.ensures,
-      army.of_kind King k h,
-      army.of_kind Queen k h,
-      army.of_kind Rook k h,
-      army.of_kind Bishop k h,
-      army.of_kind Knight k h,
-      army.of_kind Pawn k h,
+      army King,
+      army Queen,
+      army Rook,
+      army Bishop,
+      army Knight,
+      army Pawn,
     )
     (attackers_are men c.args.colour k c.args.square (man_at men k))

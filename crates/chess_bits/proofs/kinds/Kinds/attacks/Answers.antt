@@ -5,4 +5,5 @@ pub returns : goal.returns
 returns c =
     λ men army all.
     rw c.is_empty.ensures.none
-    (attacked_is c.attackers.result men c.args.square c.args.colour (λ k h. c.attackers.ensures men army all k h))
+    (attacked_is c.attackers.result men c.args.square c.args.colour
+    (λ k h. c.attackers.ensures men all k h (λ kind. army.of_kind kind k h)))

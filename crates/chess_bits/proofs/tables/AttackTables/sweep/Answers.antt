@@ -1,6 +1,6 @@
 -- A ray is open up to and with its first blocker; where none is on it, no ray goes on from the board's last square
 -- (swept_to of Blockers).
-use Rattle.std.proofs.Common.{◌≡◌, ℕ, ◌<◌, ◌&&◌, not, ap, ◌∙◌}
+use Rattle.std.proofs.Common.{◌≡◌, ℕ, ◌<◌, ◌&&◌, ap, ◌∙◌}
 use Rattle.chess_moves.specs.Sets.{has}
 use Rattle.chess_bits.specs.ties.Shapes.{in_shape}
 use Rattle.chess_bits.specs.ties.Rays.{is_on_ray}

@@ -4,7 +4,7 @@ use Rattle.chess_base.specs.MoveList.{triple}
 use Rattle.chess_base.specs.Moves.{is_legal}
 use Rattle.chess_moves.specs.Sets.{has}
 use Rattle.chess_bits.proofs.Starts.{starts_are}
-use Rattle.chess_bits.proofs.bits.BitsBoard.legal_starts.Goals as goal
+use Rattle.chess_bits.proofs.bits.Bits.other_starts.Goals as goal
 
 pub returns : goal.returns
 returns c = λ k low.

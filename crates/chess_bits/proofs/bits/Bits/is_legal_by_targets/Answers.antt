@@ -4,7 +4,7 @@ use Rattle.std.proofs.Common.{◌≡◌, ◌<◌, true, false, sym, subst, ◌�
 use Rattle.chess_base.specs.Moves.{promotion_fits}
 use Rattle.chess_moves.specs.Promoting.{would_promote}
 use Rattle.chess_bits.proofs.Patterns.{not_target, not_fitting, pattern_from}
-use Rattle.chess_bits.proofs.bits.BitsBoard.is_legal.Goals as goal
+use Rattle.chess_bits.proofs.bits.Bits.is_legal_by_targets.Goals as goal
 
 pub returns-then-not-contains : goal.returns-then-not-contains
 returns-then-not-contains c =

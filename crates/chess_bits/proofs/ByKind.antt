@@ -1,0 +1,204 @@
+-- Which moves are legal, by the kind of the man that goes.
+use mathlib.Core.Bool.{and-true}
+use Rattle.std.proofs.Common.{◌≡◌, ℕ, ◌<◌, inl, inr, Bool, true, false, not, ◌&&◌, ◌||◌, ◌==◌, Option, Some, None, refl, sym, ap, ◌∙◌}
+use Rattle.std.specs.Option.{is_some}
+use Rattle.std.proofs.lemmas.Bool.{and_parts, and_from, and_left, and_right, cases_Bool, eq-eqb, eqb-true, not-true, or_parts}
+use Rattle.chess_base.specs.declared.castling.Castle.{Castle}
+use Rattle.chess_base.specs.declared.man.CastlingSide.TheVariants.{KingSide, QueenSide}
+use Rattle.chess_base.specs.declared.man.Colour.{Colour}
+use Rattle.chess_base.specs.declared.man.Kind.{Kind}
+use Rattle.chess_base.specs.declared.man.Kind.TheVariants.{King, Queen, Rook, Bishop, Knight, Pawn}
+use Rattle.chess_base.specs.declared.man.Man.{Man}
+use Rattle.chess_base.specs.declared.man.Move.{Move}
+use Rattle.chess_base.specs.declared.setup.Setup.{Setup}
+use Rattle.chess_base.specs.Attacks.{could_capture, is_in_check}
+use Rattle.chess_base.specs.Castling.{castle_of}
+use Rattle.chess_base.specs.Men.{man_at, is_of, is_man, kind_number, same_colour, same_kind}
+use Rattle.chess_base.specs.MoveList.{triple}
+use Rattle.chess_base.specs.Moves.{has_pattern, is_legal, after, castles_or_moves, man_moves, promotion_fits}
+use Rattle.chess_base.specs.Squares.{is_square}
+use Rattle.chess_base.proofs.MenFacts.{is_man-kind}
+use Rattle.chess_moves.specs.Sets.{has, HasOrigins}
+use Rattle.chess_moves.proofs.Origins.{begins_below}
+use Rattle.chess_bits.specs.ties.Changes.{StepsPlainly}
+use Rattle.chess_bits.specs.ties.Goes.{goes, legal_or, IsOfficer}
+use Rattle.chess_bits.proofs.OriginsOf.{back, officer_attacks}
+use Rattle.chess_bits.proofs.Patterns.{fits_low, not_fitting, not_promoting, officer_goes, pattern_by}
+use Rattle.chess_bits.proofs.Starts.{starts_are}
+use Rattle.chess_bits.proofs.TargetsOf.{man_told, no_king_says, none_castles, steps_of_man}
+
+-- a man other than a pawn has the pattern of a move where it moves or castles
+pub man_pattern : (p : Setup) (kind : Kind) (a b : ℕ) → is_man p.side kind (man_at p.men a) ≡ true
+    → same_kind Pawn kind ≡ false → a < 64 → b < 64
+    → castles_or_moves p (triple a b None) (castle_of p (triple a b None)) ≡ has_pattern p (triple a b None)
+man_pattern p kind a b man no_pawn low high =
+    let at = man_told p.side kind (man_at p.men a) man in
+    sym (officer_goes p a b _ at refl no_pawn low high)
+    ∙ sym (pattern_by p a b None
+    ∙ ap (λ w. goes p a b && promotion_fits w None) (not_promoting p a b _ at no_pawn)
+    ∙ and-true (goes p a b))
+
+-- and an officer where it attacks what is no own man
+pub officer_pattern : (p : Setup) (kind : Kind) (a b : ℕ) → IsOfficer p.side kind (man_at p.men a) → a < 64 → b < 64
+    → (could_capture p.men p.side kind a b && not (is_of p.side (man_at p.men b))) ≡ has_pattern p (triple a b None)
+officer_pattern p kind a b h low high =
+    let at = man_told p.side kind (man_at p.men a) h.man in
+    let parts = or_parts (same_kind King kind) (same_kind Pawn kind) h.usual in
+    let off : is_man p.side King (man_at p.men a) ≡ false =
+    is_man-kind p.side p.side kind King (man_at p.men a) parts.0 h.man in
+    let none : castle_of p (triple a b None) ≡ None = none_castles p (triple a b None)
+    (no_king_says p (triple a b None) KingSide off) (no_king_says p (triple a b None) QueenSide off) in
+    sym (steps_of_man p a b _ at refl)
+    ∙ sym (ap (castles_or_moves p (triple a b None)) none)
+    ∙ man_pattern p kind a b h.man parts.1 low high
+
+pub no_pattern : (p : Setup) (m : Move) → has_pattern p m ≡ false → is_legal p m ≡ false
+unfolding is_legal
+no_pattern p m h = and_left (has_pattern p m) (not (is_in_check (after p m).men p.side)) h
+
+pub officer_plain : (p : Setup) (kind : Kind) (a b : ℕ) → IsOfficer p.side kind (man_at p.men a)
+    → has_pattern p (triple a b None) ≡ true → StepsPlainly p a b
+officer_plain p kind a b h goes_so =
+    let parts = or_parts (same_kind King kind) (same_kind Pawn kind) h.usual in
+    record {
+      pattern = goes_so;
+      no_king = is_man-kind p.side p.side kind King (man_at p.men a) parts.0 h.man;
+      no_passing = and_left (is_man p.side Pawn (man_at p.men a)) (is_square p.target b)
+          (is_man-kind p.side p.side kind Pawn (man_at p.men a) parts.1 h.man);
+    }
+
+-- an officer promotes to nothing
+pub promotes_not : (p : Setup) (m : Move) (kind : Kind) → IsOfficer p.side kind (man_at p.men m.from)
+    → is_some m.promotion ≡ true → false ≡ is_legal p m
+promotes_not p m kind h some =
+    let parts = or_parts (same_kind King kind) (same_kind Pawn kind) h.usual in
+    not_fitting p m
+    (ap (λ w. promotion_fits w m.promotion)
+    (not_promoting p m.from m.to _ (man_told p.side kind (man_at p.men m.from) h.man) parts.1)
+    ∙ unfit m.promotion some)
+  where
+    unfit : (o : Option Kind) → is_some o ≡ true → promotion_fits false o ≡ false
+    unfit None e = cc
+    unfit (Some k) e = fits_low k
+
+pub as_triple : (p : Setup) (m : Move) → is_some m.promotion ≡ false
+    → is_legal p (triple m.from m.to None) ≡ is_legal p m
+as_triple p m none = ap (λ k. is_legal p (triple m.from m.to k)) (sym (nothing m.promotion none))
+  where
+    nothing : (o : Option Kind) → is_some o ≡ false → o ≡ None
+    nothing None e = refl
+    nothing (Some k) e = cc
+
+-- ---- starts
+
+-- no officer goes to a square of an own man
+pub own_on_end : (p : Setup) (kind : Kind) (to k : ℕ) → (same_kind King kind || same_kind Pawn kind) ≡ false
+    → is_of p.side (man_at p.men to) ≡ true → to < 64 → k < 64
+    → false ≡ (is_man p.side kind (man_at p.men k) && is_legal p (triple k to None))
+own_on_end p kind to k usual own high low =
+    elim (cases_Bool (is_man p.side kind (man_at p.men k))) [
+      | inl man ↦
+          sym (and_right (is_man p.side kind (man_at p.men k)) (is_legal p (triple k to None))
+          (no_pattern p (triple k to None)
+          (sym (officer_pattern p kind k to (record { man = man; usual = usual }) low high)
+          ∙ and_right (could_capture p.men p.side kind k to) (not (is_of p.side (man_at p.men to))) (ap not own))))
+      | inr off ↦ sym (and_left (is_man p.side kind (man_at p.men k)) (is_legal p (triple k to None)) off)
+    ]
+
+-- those on squares reached from there go there
+pub starts_plain : (p : Setup) (kind : Kind) (to u v w : ℕ) → (same_kind King kind || same_kind Pawn kind) ≡ false
+    → is_of p.side (man_at p.men to) ≡ false → to < 64
+    → ((k : ℕ) → has w k ≡ (has u k && has v k))
+    → ((k : ℕ) → k < 64 → has u k ≡ is_man p.side kind (man_at p.men k))
+    → ((k : ℕ) → k < 64 → has v k ≡ could_capture p.men p.side kind to k)
+    → (k : ℕ) → k < 64 → has w k ≡ true → StepsPlainly p k to
+starts_plain p kind to u v w usual free high both men reached k low on =
+    let parts = and_parts (has u k) (has v k) (sym (both k) ∙ on) in
+    let kinds = or_parts (same_kind King kind) (same_kind Pawn kind) usual in
+    let officer : IsOfficer p.side kind (man_at p.men k) = record { man = sym (men k low) ∙ parts.0; usual = usual } in
+    officer_plain p kind k to officer
+    (sym (officer_pattern p kind k to officer low high)
+    ∙ and_from (could_capture p.men p.side kind k to) (not (is_of p.side (man_at p.men to)))
+    (back p.men p.side kind k to kinds.1 ∙ sym (reached k low) ∙ parts.1) (ap not free))
+
+reached_origins : (p : Setup) (kind : Kind) (to v : ℕ) → (same_kind King kind || same_kind Pawn kind) ≡ false
+    → ((k : ℕ) → k < 64 → has v k ≡ could_capture p.men p.side kind to k)
+    → HasOrigins p kind to v
+reached_origins p kind to v usual reached = λ m legal man there.
+    let kinds = or_parts (same_kind King kind) (same_kind Pawn kind) usual in
+    reached m.from (begins_below p m legal) ∙ ap (λ t. could_capture p.men p.side kind t m.from) (sym there)
+    ∙ officer_attacks p kind m kinds.1 kinds.0 legal man
+
+-- so these are the starts
+pub officer_starts_are : (p : Setup) (kind : Kind) (to u v w k : ℕ) (s : Bool)
+    → (same_kind King kind || same_kind Pawn kind) ≡ false
+    → ((j : ℕ) → has w j ≡ (has u j && has v j))
+    → ((j : ℕ) → j < 64 → has u j ≡ is_man p.side kind (man_at p.men j))
+    → ((j : ℕ) → j < 64 → has v j ≡ could_capture p.men p.side kind to j)
+    → k < 64 → s ≡ (has w k && is_legal p (triple k to None))
+    → s ≡ (is_man p.side kind (man_at p.men k) && is_legal p (triple k to None))
+officer_starts_are p kind to u v w k s usual both men reached low made =
+    made
+    ∙ ap (λ t. t && is_legal p (triple k to None)) (both k ∙ ap (λ t. t && has v k) (men k low))
+    ∙ starts_are p kind to k v (reached_origins p kind to v usual reached)
+
+-- ---- officers
+
+pub officer_told : (c : Colour) (x : Man) (o : Option Man) → o ≡ Some x → is_of c o ≡ true
+    → not (same_kind King x.kind || same_kind Pawn x.kind) ≡ true → IsOfficer c x.kind o
+unfolding is_of is_man
+officer_told c x o at own usual =
+    let same : same_colour c x.colour ≡ true = rw at at own in
+    record {
+      man = rw at (and_from (same_colour c x.colour) (same_kind x.kind x.kind) same
+          (eq-eqb (kind_number x.kind) (kind_number x.kind) refl));
+      usual = not-true (same_kind King x.kind || same_kind Pawn x.kind) usual;
+    }
+
+-- ---- the king
+
+pub king_from_same : (kind : Kind) → same_kind King kind ≡ true → kind ≡ King
+king_from_same King h = refl
+king_from_same Queen h = cc
+king_from_same Rook h = cc
+king_from_same Bishop h = cc
+king_from_same Knight h = cc
+king_from_same Pawn h = cc
+
+-- where he has no step to a square he goes there by castling alone
+pub king_otherwise : (p : Setup) (a b : ℕ) → is_man p.side King (man_at p.men a) ≡ true → a < 64 → b < 64
+    → man_moves p (triple a b None) ≡ false
+    → legal_or p (triple a b None) (castle_of p (triple a b None)) false ≡ is_legal p (triple a b None)
+king_otherwise p a b king low high still = by (castle_of p (triple a b None)) refl
+  where
+    by : (o : Option Castle) → castle_of p (triple a b None) ≡ o
+        → legal_or p (triple a b None) o false ≡ is_legal p (triple a b None)
+    by None e =
+        sym (no_pattern p (triple a b None)
+        (sym (man_pattern p King a b king refl low high) ∙ ap (castles_or_moves p (triple a b None)) e ∙ still))
+    by (Some castle) e = refl
+
+-- he is the only start, or none is
+pub king_start : (p : Setup) (to king k : ℕ) → is_man p.side King (man_at p.men k) ≡ (k == king)
+    → is_legal p (triple king to None) ≡ true
+    → (k == king) ≡ (is_man p.side King (man_at p.men k) && is_legal p (triple k to None))
+king_start p to king k one legal =
+    elim (cases_Bool (k == king)) [
+      | inl same ↦
+          same ∙ sym (and_from (is_man p.side King (man_at p.men k)) (is_legal p (triple k to None)) (one ∙ same)
+          (ap (λ a. is_legal p (triple a to None)) (eqb-true k king same) ∙ legal))
+      | inr apart ↦
+          apart ∙ sym (and_left (is_man p.side King (man_at p.men k)) (is_legal p (triple k to None)) (one ∙ apart))
+    ]
+
+pub no_king_start : (p : Setup) (to king k : ℕ) → is_man p.side King (man_at p.men k) ≡ (k == king)
+    → is_legal p (triple king to None) ≡ false
+    → false ≡ (is_man p.side King (man_at p.men k) && is_legal p (triple k to None))
+no_king_start p to king k one off =
+    elim (cases_Bool (k == king)) [
+      | inl same ↦
+          sym (and_right (is_man p.side King (man_at p.men k)) (is_legal p (triple k to None))
+          (ap (λ a. is_legal p (triple a to None)) (eqb-true k king same) ∙ off))
+      | inr apart ↦
+          sym (and_left (is_man p.side King (man_at p.men k)) (is_legal p (triple k to None)) (one ∙ apart))
+    ]

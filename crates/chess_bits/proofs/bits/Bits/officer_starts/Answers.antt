@@ -1,0 +1,39 @@
+-- An officer reaches the square from where it is reached from there, if no own man stands on it (starts_plain,
+-- own_on_end of ByKind).
+use Rattle.std.proofs.Common.{◌≡◌, ◌<◌, true, false, sym, ap, subst, ◌∙◌}
+use Rattle.chess_base.specs.Men.{man_at, is_of}
+use Rattle.chess_moves.specs.Sets.{has}
+use Rattle.chess_bits.proofs.ByKind.{own_on_end, starts_plain, officer_starts_are}
+use Rattle.chess_bits.proofs.bits.Bits.officer_starts.Goals as goal
+
+pub returns-then-contains : goal.returns-then-contains
+returns-then-contains c = λ k low.
+    let p = c.self.inside.setup in
+    let high : c.args.to < 64 = subst (λ n. n < 64) c.number-end.ensures.value c.number-end.ensures.in_range in
+    let own : is_of p.side (man_at p.men c.args.to) ≡ true =
+    sym (c.all.ensures p.men c.self.invariant.1 c.args.to high) ∙ sym c.contains.ensures ∙ c.if-contains.true in
+    rw (← c.self.view_is) (c.empty.ensures k ∙ own_on_end p c.args.kind c.args.to k c.requires own high low)
+
+pub safe_starts-requires : goal.safe_starts-requires
+safe_starts-requires c =
+    let p = c.self.inside.setup in
+    let high : c.args.to < 64 = subst (λ n. n < 64) c.number-end.ensures.value c.number-end.ensures.in_range in
+    let free : is_of p.side (man_at p.men c.args.to) ≡ false =
+    sym (c.all.ensures p.men c.self.invariant.1 c.args.to high) ∙ sym c.contains.ensures ∙ c.if-contains.false in
+    let kinds = c.of.ensures p.men c.self.invariant.1 in
+    rw (← c.self.view_is)
+    (starts_plain p c.args.kind c.args.to c.of-2.result c.reached_from-reached.result c.intersection-men.result
+    c.requires free high c.intersection-men.ensures
+    (λ k low. ap (λ w. has w k) c.of-2.ensures ∙ kinds.of_kind c.args.kind k low)
+    (c.reached_from-reached.ensures p.men (c.occupied.ensures p.men c.self.invariant.1)))
+
+pub returns : goal.returns
+returns c = λ k low.
+    let p = c.self.inside.setup in
+    let kinds = c.of.ensures p.men c.self.invariant.1 in
+    let made = rw (← c.self.view_is) at (c.safe_starts.ensures k low) in
+    rw (← c.self.view_is)
+    (officer_starts_are p c.args.kind c.args.to c.of-2.result c.reached_from-reached.result c.intersection-men.result k
+    (has c.safe_starts.result k) c.requires c.intersection-men.ensures
+    (λ j l. ap (λ w. has w j) c.of-2.ensures ∙ kinds.of_kind c.args.kind j l)
+    (c.reached_from-reached.ensures p.men (c.occupied.ensures p.men c.self.invariant.1)) low made)

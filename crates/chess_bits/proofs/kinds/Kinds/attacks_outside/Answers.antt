@@ -1,0 +1,13 @@
+-- On a square that doesn't change the sets tell who stands there later, and on one that does no such man stands
+-- (left_out of KindSets).
+use Rattle.chess_bits.proofs.Attackers.{attacked_is}
+use Rattle.chess_bits.proofs.KindSets.{left_out}
+use Rattle.chess_bits.proofs.kinds.Kinds.attacks_outside.Goals as goal
+
+pub returns : goal.returns
+returns c =
+    λ men later filled army after all.
+    rw c.is_empty.ensures.none
+    (attacked_is c.without.result later c.args.square c.args.colour
+    (left_out c.args.self.now.sets c.args.changed filled c.attackers-attackers.result c.without.result c.args.colour men
+    later c.args.square army after (c.attackers-attackers.ensures later all) c.without.ensures))

@@ -1,0 +1,24 @@
+-- The squares that a move changes and fills, and moves that change their two squares alone.
+use Rattle.std.specs.Prelude.{◌≡◌, ℕ, ◌==◌, ◌&&◌, ◌||◌, Bool, true, false, None}
+use Rattle.chess_base.specs.declared.man.Kind.TheVariants.{King, Pawn}
+use Rattle.chess_base.specs.declared.man.Move.{Move}
+use Rattle.chess_base.specs.declared.setup.Setup.{Setup}
+use Rattle.chess_base.specs.Castling.{lands_on, castling_rook_to}
+use Rattle.chess_base.specs.Men.{man_at, is_man}
+use Rattle.chess_base.specs.MoveList.{triple}
+use Rattle.chess_base.specs.Moves.{has_pattern, second_square_emptied}
+use Rattle.chess_base.specs.Squares.{is_square}
+
+-- the squares that a move changes, and those that it fills
+abbrev pub is_changed : Setup → Move → ℕ → Bool
+is_changed p m k = (lands_on p m == k) || is_square (castling_rook_to p m) k
+    || (is_square (second_square_emptied p m) k || (m.from == k))
+
+abbrev pub is_filled : Setup → Move → ℕ → Bool
+is_filled p m k = (lands_on p m == k) || is_square (castling_rook_to p m) k
+
+-- the man on a, other than the king, has the pattern of a move to b without a promotion and not en passant
+pub record StepsPlainly (p : Setup) (a b : ℕ) : Type 0 where
+  pub pattern : has_pattern p (triple a b None) ≡ true
+  pub no_king : is_man p.side King (man_at p.men a) ≡ false
+  pub no_passing : (is_man p.side Pawn (man_at p.men a) && is_square p.target b) ≡ false

@@ -1,0 +1,196 @@
+//! Which moves are legal, by the kind of the man that goes, and from where men go legally to a square.
+
+ghost use Rattle.std.specs.Prelude.{◌≡◌, ℕ, ◌<◌, ◌&&◌, ◌||◌, not, true, false, None, MatchOption};
+ghost use Rattle.chess_base.specs.Men.{man_at, is_man, same_kind};
+ghost use Rattle.chess_base.specs.MoveList.{triple};
+ghost use Rattle.chess_base.specs.Moves.{is_legal};
+ghost use Rattle.chess_base.specs.declared.man.Kind.TheVariants.{King, Pawn};
+ghost use Rattle.chess_bits.specs.ties.Changes.{StepsPlainly};
+ghost use Rattle.chess_bits.specs.ties.Goes.{IsOfficer};
+ghost use Rattle.chess_moves.specs.Sets.{has, HasLegalStarts};
+
+use crate::bits::Bits;
+use crate::reaching::reached_from;
+use crate::targets::{is_king, is_pawn};
+use chess_base::for_boards::{is_of, promotion_fits};
+use chess_base::{Colour, Kind, Man, Move, Square};
+use chess_moves::{Board, SquareSet, would_promote};
+
+// Whether it is neither a king nor a pawn.
+#[inline(always)]
+fn is_officer(kind: Kind) -> bool
+    ensures { result ≡ not (same_kind King kind || same_kind Pawn kind) }
+{
+    !(is_king(kind) || is_pawn(kind))
+}
+
+// The kind of the man there, if it is of that colour and neither king nor pawn.
+#[inline(always)]
+fn officer_of(colour: Colour, man: Option<Man>) -> Option<Kind>
+    ensures { MatchOption result (true ≡ true) (λ kind. IsOfficer colour kind man) }
+{
+    if !is_of(colour, man) {
+        return None;
+    }
+    let Some(man) = man else {
+        return None;
+    };
+    if !is_officer(man.kind) {
+        return None;
+    }
+    Some(man.kind)
+}
+
+impl Bits<'_> {
+    // Whether the officer there, of that kind, goes legally to that square.
+    #[inline(always)]
+    fn goes_legally(&self, kind: Kind, from: Square, to: Square) -> bool
+        requires { IsOfficer (self.now).side kind (man_at (self.now).men from) }
+        ensures { result ≡ is_legal self.now (triple from to None) }
+    {
+        // The prover wants these facts: the numbers of both squares are below 64.
+        let _start = from.number();
+        let _end = to.number();
+        if !self.steps(kind, from).contains(to) {
+            return false;
+        }
+        self.is_safe_usual(from, to)
+    }
+
+    // Whether a move of the officer there, of that kind, is legal.
+    #[inline(always)]
+    fn is_officer_legal(&self, kind: Kind, m: &Move) -> bool
+        requires { IsOfficer (self.now).side kind (man_at (self.now).men m.now.from) }
+        ensures { result ≡ is_legal self.now m.now }
+    {
+        if m.promotion.is_some() {
+            return false;
+        }
+        self.goes_legally(kind, m.from, m.to)
+    }
+
+    // Whether a move is legal, by the end squares of the man at its start.
+    fn is_legal_by_targets(&self, m: &Move) -> bool
+        ensures { result ≡ is_legal self.now m.now }
+    {
+        // The prover wants this fact: the number of the end is below 64.
+        let _end = m.to.number();
+        if !self.targets(m.from).contains(m.to) {
+            return false;
+        }
+        if !promotion_fits(would_promote(&self.setup, m.from, m.to), m.promotion) {
+            return false;
+        }
+        self.is_safe_after(m)
+    }
+
+    // Whether a move is legal: of an officer by what it reaches, of any other man by its end squares.
+    #[inline(always)]
+    pub(crate) fn is_legal_by_kind(&self, m: &Move) -> bool
+        ensures { result ≡ is_legal self.now m.now }
+    {
+        match officer_of(self.setup.side, self.setup.men[m.from.index()]) {
+            Some(kind) => self.is_officer_legal(kind, m),
+            None => self.is_legal_by_targets(m),
+        }
+    }
+
+    // Those of these squares from which the move to a square without a promotion is legal.
+    fn starts_among(&self, men: SquareSet, to: Square) -> SquareSet
+        ensures { (k : ℕ) → k < 64 → has result k ≡ (has men k && is_legal self.now (triple k to None)) }
+    {
+        let mut starts = SquareSet::empty();
+        let mut rest = men;
+        while let Some(from) = rest.take_first() {
+            let m = Move {
+                from,
+                to,
+                promotion: None,
+            };
+            if self.is_legal_by_kind(&m) {
+                starts = starts.union(SquareSet::single(from));
+            }
+        }
+        starts
+    }
+
+    // The same, where all go to that square as far as their king is concerned.
+    #[inline(always)]
+    fn safe_starts(&self, men: SquareSet, to: Square) -> SquareSet
+        requires { (k : ℕ) → k < 64 → has men k ≡ true → StepsPlainly self.now k to }
+        ensures { (k : ℕ) → k < 64 → has result k ≡ (has men k && is_legal self.now (triple k to None)) }
+    {
+        let mut starts = SquareSet::empty();
+        let mut rest = men;
+        while let Some(from) = rest.take_first() {
+            if self.is_safe_usual(from, to) {
+                starts = starts.union(SquareSet::single(from));
+            }
+        }
+        starts
+    }
+
+    // From where officers of a kind go legally to a square: where they are reached from there.
+    fn officer_starts(&self, kind: Kind, to: Square) -> SquareSet
+        requires { (same_kind King kind || same_kind Pawn kind) ≡ false }
+        ensures { HasLegalStarts self.now kind to result }
+    {
+        // The prover wants this fact: the number of the end is below 64.
+        let _end = to.number();
+        let side = self.setup.side;
+        if self.sets.all(side).contains(to) {
+            return SquareSet::empty();
+        }
+        let reached = reached_from(self.tables, self.sets.occupied(), side, kind, to);
+        let men = self.sets.of(side).of(kind).intersection(reached);
+        self.safe_starts(men, to)
+    }
+
+    // Whether the king there goes legally to that square: by a step, or by castling.
+    fn king_goes_legally(&self, king: Square, to: Square) -> bool
+        requires { is_man (self.now).side King (man_at (self.now).men king) ≡ true }
+        ensures { result ≡ is_legal self.now (triple king to None) }
+    {
+        // The prover wants these facts: the numbers of both squares are below 64.
+        let _start = king.number();
+        let _end = to.number();
+        if self.steps(Kind::King, king).contains(to) {
+            return self.is_safe_step(king, to);
+        }
+        self.castling_ends(king).contains(to)
+    }
+
+    // From where a king goes legally to a square.
+    fn king_starts(&self, to: Square) -> SquareSet
+        ensures { HasLegalStarts self.now King to result }
+    {
+        let king = self.king(self.setup.side);
+        if self.king_goes_legally(king, to) {
+            SquareSet::single(king)
+        } else {
+            SquareSet::empty()
+        }
+    }
+
+    // From where men of any kind go legally to a square: those of the origins that do.
+    fn other_starts(&self, kind: Kind, to: Square) -> SquareSet
+        ensures { HasLegalStarts self.now kind to result }
+    {
+        let own = self.men_of(self.setup.side, kind);
+        self.starts_among(own.intersection(self.origins(kind, to)), to)
+    }
+
+    // From where men of a kind go legally to a square.
+    #[inline(always)]
+    pub(crate) fn starts_of(&self, kind: Kind, to: Square) -> SquareSet
+        ensures { HasLegalStarts self.now kind to result }
+    {
+        if is_officer(kind) {
+            return self.officer_starts(kind, to);
+        }
+        if is_king(kind) {
+            return self.king_starts(to);
+        }
+        self.other_starts(kind, to)
+    }
+}
