@@ -19,7 +19,7 @@ pub struct Described {
     pub castles: Option<CastlingSide>,
 }
 
-// Whether the legal move takes a man.
+// Whether the move takes an enemy man, en passant too.
 #[tactic(auto, unfolding(crate::specs::Moves::captures))]
 pub(crate) fn captures(setup: &Setup, m: &Move) -> bool
     ensures { result ≡ captures setup.now m.now }

@@ -38,6 +38,7 @@ fn is_mark(byte: u8) -> bool
 }
 
 // The text without the run of marks at its end.
+#[inline(always)]
 #[tactic(auto, unfolding(crate::specs::Parts::unmarked))]
 pub(crate) fn unmarked(text: &[u8]) -> &[u8]
     ensures { result.now ≡ unmarked text.now }
@@ -71,6 +72,7 @@ fn promotion_by(equals: bool, letter: u8) -> Option<Promotion>
 }
 
 // What stands behind the end square: nothing, or a promotion.
+#[inline(always)]
 fn read_promotion(text: &[u8]) -> Option<Option<Promotion>>
     ensures { result ≡ promotion_at text.now }
 {
@@ -82,6 +84,7 @@ fn read_promotion(text: &[u8]) -> Option<Option<Promotion>>
     }
 }
 
+#[inline(always)]
 fn read_end(text: &[u8]) -> Option<End>
     ensures { result ≡ end_at text.now }
 {
@@ -97,6 +100,7 @@ fn read_end(text: &[u8]) -> Option<End>
     }
 }
 
+#[inline(always)]
 fn read_takes(text: &[u8]) -> Option<(bool, End)>
     ensures { result ≡ takes_at text.now }
 {
@@ -106,6 +110,7 @@ fn read_takes(text: &[u8]) -> Option<(bool, End)>
     }
 }
 
+#[inline(always)]
 fn read_rank(text: &[u8]) -> Option<(Option<u8>, bool, End)>
     ensures { result ≡ rank_at text.now }
 {
@@ -122,6 +127,7 @@ fn read_rank(text: &[u8]) -> Option<(Option<u8>, bool, End)>
 }
 
 // The first file's letter is the end square's where no square follows it.
+#[inline(always)]
 fn read_file(letter: Option<Kind>, text: &[u8]) -> Option<Parts>
     ensures { result ≡ file_at letter text.now }
 {
@@ -150,6 +156,7 @@ fn read_file(letter: Option<Kind>, text: &[u8]) -> Option<Parts>
 }
 
 // The parts of a text without marks.
+#[inline(always)]
 pub(crate) fn read_parts(text: &[u8]) -> Option<Parts>
     ensures { result ≡ parts_at text.now }
 {

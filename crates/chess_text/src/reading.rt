@@ -69,6 +69,7 @@ fn end_square(form: &Form, setup: &Setup) -> Square
 }
 
 // The square of a file and a rank, if both are named and are on the board.
+#[inline(always)]
 fn named_square(file: Option<u8>, rank: Option<u8>) -> Option<Square>
     ensures { result ≡ named_square file rank }
 {
@@ -168,6 +169,7 @@ fn with_spelled_between<B: Board>(
 }
 
 // The kind of all men whose moves the parts spell, if it is one kind and none of these moves promotes.
+#[inline(always)]
 fn one_kind(parts: &Parts) -> Option<Kind>
     ensures { result ≡ one_kind parts.now }
 {
@@ -182,6 +184,7 @@ fn one_kind(parts: &Parts) -> Option<Kind>
 }
 
 // Whether the letter spells a legal move of a man of that kind, with no promotion, to the end square.
+#[inline(always)]
 fn is_spelled_by_letter(parts: &Parts, setup: &Setup, kind: Kind, m: &Move) -> bool
     ensures { result ≡ is_spelled_by_letter parts.now setup.now kind m.now }
 {
@@ -192,6 +195,7 @@ fn is_spelled_by_letter(parts: &Parts, setup: &Setup, kind: Kind, m: &Move) -> b
 }
 
 // Whether the parts, with no letter, spell a legal move of a pawn, with no promotion, to the end square.
+#[inline(always)]
 fn is_spelled_by_pawn(parts: &Parts, setup: &Setup, m: &Move) -> bool
     ensures { result ≡ is_spelled_by_pawn parts.now setup.now m.now }
 {
@@ -205,6 +209,7 @@ fn is_spelled_by_pawn(parts: &Parts, setup: &Setup, m: &Move) -> bool
 }
 
 // Whether the parts spell a legal move of a man of that one kind, with no promotion, to the end square.
+#[inline(always)]
 fn is_spelled_of(parts: &Parts, setup: &Setup, kind: Kind, m: &Move) -> bool
     ensures { result ≡ is_spelled_of parts.now setup.now kind m.now }
 {
@@ -216,6 +221,7 @@ fn is_spelled_of(parts: &Parts, setup: &Setup, kind: Kind, m: &Move) -> bool
 }
 
 // What a text of these parts is, whose legal moves are of men of that kind, and begin on those squares.
+#[inline(always)]
 fn spelled_among(setup: &Setup, parts: &Parts, kind: Kind, starts: SquareSet) -> Reading
     ensures { result ≡ one_of (flat_map (spelled_start parts.now setup.now kind) (members starts)) }
 {
@@ -235,6 +241,7 @@ fn spelled_among(setup: &Setup, parts: &Parts, kind: Kind, starts: SquareSet) ->
 }
 
 // What a text of these parts is, that spells moves of men of that kind alone and none that promotes.
+#[inline(always)]
 fn spelled_by_kind<B: Board>(board: &B, parts: &Parts, kind: Kind) -> Reading
     requires { one_kind parts.now ≡ Some kind }
     ensures { result ≡ one_of
