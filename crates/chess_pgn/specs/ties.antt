@@ -3,3 +3,4 @@ pub mod Seen
 pub mod VariationParts
 pub mod Waiting
 pub mod GameSteps
+pub mod Begins
