@@ -24,3 +24,4 @@ pub mod NormalGames
 pub mod FaultPlaces
 pub mod ResultTagged
 pub mod MoveBytes
+pub mod ByteClasses

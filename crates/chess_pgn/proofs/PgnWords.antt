@@ -18,6 +18,7 @@ use Rattle.chess_game.specs.declared.results.Outcome.TheVariants.{WhiteWins, Bla
 use Rattle.chess_pgn.specs.declared.word.WordKind.TheVariants.{End, Number, Move}
 use Rattle.chess_text.specs.laws.Laws.{is_san_byte, begins_with_letter}
 use Rattle.chess_pgn.specs.Tokens.{Word, is_word_byte, token_at}
+use Rattle.chess_pgn.specs.ties.Begins.{begins_from_a}
 use Rattle.chess_base.specs.Letters.{is_digit, is_letter}
 use Rattle.chess_pgn.specs.Words.{outcome_of, kind_by, kind_of}
 
@@ -84,6 +85,12 @@ first_byte c rest h =
       h,
     )
     refl
+
+-- a byte of a word begins one, wherever it is
+pub begins_word : (begins : Bool) (c : ℕ) (rest : List ℕ) → is_word_byte c ≡ true
+    → token_at begins c rest
+    ≡ (Word (take_while is_word_byte (c ∷ rest)), drop (prefix_len is_word_byte (c ∷ rest)) (c ∷ rest))
+begins_word begins c rest h = no_percent begins c rest (not_byte is_word_byte 37 c refl h) ∙ first_byte c rest h
 
 pub word_token : (begins : Bool) (c : ℕ) (cs : List ℕ) (d : ℕ) (rest : List ℕ) → list_all is_word_byte (c ∷ cs) ≡ true
     → is_word_byte d ≡ false → token_at begins c (cs ++ d ∷ rest) ≡ (Word (c ∷ cs), d ∷ rest)
@@ -170,6 +177,28 @@ move_kind (c ∷ cs) h =
     let digit = letter_fails is_digit c digit_no_letter h in
     let mark = letter_fails (λ k. eqb k 33 || eqb k 63) c mark_no_letter h in
     ap (kind_by (c ∷ cs)) (no_outcome begins_with_letter (c ∷ cs) no_letter h) ∙ rw (digit, mark) refl
+
+-- ---- words that begin with `A` or a byte behind it
+
+from_a_no_outcome : (o : Outcome) → begins_from_a (outcome_text o) ≡ false
+from_a_no_outcome WhiteWins = refl
+from_a_no_outcome BlackWins = refl
+from_a_no_outcome Draw = refl
+from_a_no_outcome Unfinished = refl
+
+pub from_a_kind : (word : List ℕ) → begins_from_a word ≡ true → kind_of word ≡ Move
+from_a_kind [] h = absurd (cc)
+from_a_kind (c ∷ cs) h =
+    let first : 65 ≤ c = grind (arith, nat_tests) in
+    let digit : nat_le c 57 ≡ false = grind (arith, nat_tests) in
+    let stroke : eqb c 33 ≡ false = grind (arith, nat_tests) in
+    let query : eqb c 63 ≡ false = grind (arith, nat_tests) in
+    let low : nat_le 48 c ≡ true = grind (arith, nat_tests) in
+    ap (kind_by (c ∷ cs)) (no_outcome begins_from_a (c ∷ cs) from_a_no_outcome h) ∙ rw (low, digit, stroke, query) refl
+
+-- digits alone are no outcome
+pub digits_no_outcome : (word : List ℕ) → list_all is_digit word ≡ true → outcome_of word ≡ None
+digits_no_outcome word h = no_outcome (list_all is_digit) word no_digits h
 
 -- ---- numbers and SAN are words
 

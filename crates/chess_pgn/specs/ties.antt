@@ -3,3 +3,5 @@ pub mod Seen
 pub mod VariationParts
 pub mod Waiting
 pub mod GameSteps
+pub mod Begins
+pub mod Braces

@@ -1,18 +1,17 @@
 //! Reading a game.
 
-ghost use Rattle.std.specs.Prelude.{◌≡◌, ℕ, ◌+◌, ◌-◌, ◌^◌, ◌≤◌, ◌<◌, ◌||◌, ◌==◌, true, length, None, IfOk, Err, is_some, IsNone, OnErr};
+ghost use Rattle.std.specs.Prelude.{◌≡◌, ℕ, ◌+◌, ◌-◌, ◌^◌, ◌≤◌, ◌<◌, true, length, None, IfOk, Err, is_some, IsNone, OnErr};
 ghost use Rattle.std.specs.Option.{IfSome};
 ghost use Rattle.chess_game.specs.Game.{State, at as left_at, with_declared, current, verdict_now};
-ghost use Rattle.chess_base.specs.Letters.{byte};
 ghost use Rattle.chess_base.specs.declared.man.Variant.TheVariants.{Normal};
 ghost use Rattle.chess_text.specs.Moves.{reading};
 ghost use Rattle.chess_pgn.specs.Words.{kind_of};
 ghost use Rattle.chess_pgn.specs.ties.Seen.{token_seen, fault_seen};
 ghost use Rattle.chess_pgn.specs.GameRead.{declared_behind, told_behind, move_step, word_step, tag_step, step, variant_named, told_by, variant_told, pgn_read};
-ghost use Rattle.chess_pgn.specs.Tokens.{is_white_space, tokens_from};
+ghost use Rattle.chess_pgn.specs.Tokens.{tokens_from};
 ghost use Rattle.chess_pgn.specs.ties.GameSteps.{EndsIn, so_far, step_seen, IsWithin, ReadsAlike};
 
-use crate::bytes::is_white_space;
+use crate::bytes::is_passed;
 use crate::tag::Tag;
 use crate::termination::Termination;
 use crate::token::{Token, TokenFault, first_place, next_token};
@@ -354,13 +353,6 @@ fn told_variant(text: &[u8], at: usize) -> Variant
             Ok(None) | Err(_) => return variant,
         }
     }
-}
-
-// Whether the byte counts nothing where a token begins: white space or a dot.
-fn is_passed(next: u8) -> bool
-    ensures { result ≡ (is_white_space next || next == byte ".") }
-{
-    is_white_space(next) || next == b'.'
 }
 
 // Behind the white space and dots from a place on. They are tokens too, but a game is read alike without them.

@@ -3,6 +3,7 @@
 ghost use Rattle.std.specs.Prelude.{◌≡◌, ◌≤◌, ◌<◌, length, false, Option, IfSome};
 ghost use Rattle.std.specs.Option.{option_map};
 ghost use Rattle.chess_pgn.specs.Tokens.{line_end, behind_brace, behind_gap};
+ghost use Rattle.chess_pgn.specs.ties.Braces.{has_brace};
 
 use crate::bytes::is_white_space;
 
@@ -21,12 +22,40 @@ pub(crate) fn line_end(text: &[u8]) -> &[u8]
     rest
 }
 
+// Whether a closing brace is among these bytes. All of them are looked at, so that the compiler may take them at once.
+#[inline(always)]
+fn has_brace(piece: &[u8]) -> bool
+    ensures { result ≡ has_brace piece.now }
+{
+    let mut any = false;
+    for byte in piece {
+        any |= *byte == b'}';
+    }
+    any
+}
+
+// From the first of the pieces of 16 bytes that has a closing brace, else from the last bytes, which are fewer.
+fn near_brace(text: &[u8]) -> &[u8]
+    ensures rest { behind_brace result.now ≡ behind_brace text.now }
+    ensures shorter { length result.now ≤ length text.now }
+{
+    let mut rest = text;
+    while rest.len() >= 16 {
+        let (piece, others) = rest.split_at(16);
+        if has_brace(piece) {
+            break;
+        }
+        rest = others;
+    }
+    rest
+}
+
 // Behind the first closing brace.
 pub(crate) fn behind_brace(text: &[u8]) -> Option<&[u8]>
     ensures rest { option_map (λ r. r.now) result ≡ behind_brace text.now }
     ensures shorter { IfSome result (λ r. length r.now < length text.now) }
 {
-    let mut rest = text;
+    let mut rest = near_brace(text);
     while let [byte, others @ ..] = rest {
         if *byte == b'}' {
             return Some(others);

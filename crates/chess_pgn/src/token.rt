@@ -6,7 +6,7 @@ ghost use Rattle.chess_pgn.specs.Tokens.{is_word_byte, token_at, comment_at, beh
 ghost use Rattle.chess_base.specs.Letters.{is_digit};
 ghost use Rattle.chess_pgn.specs.ties.Seen.{first_seen, IsNextToken};
 
-use crate::bytes::{is_digit, is_white_space, is_word_byte};
+use crate::bytes::{is_digit, is_passed, is_word_byte};
 use crate::skips::{behind_brace, line_end};
 use crate::tag::{Tag, read_tag};
 use crate::variation::behind_variation;
@@ -46,6 +46,7 @@ fn behind_digits(text: &[u8]) -> &[u8]
 }
 
 // A word, and what stands behind it.
+#[inline(always)]
 fn split_word(text: &[u8]) -> (&[u8], &[u8])
     ensures word { result.0.now ≡ take_while is_word_byte text.now }
     ensures rest { result.1.now ≡ drop (prefix_len is_word_byte text.now) text.now }
@@ -58,6 +59,7 @@ fn split_word(text: &[u8]) -> (&[u8], &[u8])
 }
 
 // A comment behind its brace, where so many bytes are left at that.
+#[inline(never)]
 fn read_comment(left: usize, text: &[u8]) -> Result<(Token<'_>, &[u8]), TokenFault>
     ensures { first_seen result ≡ comment_at left (behind_brace text.now) }
 {
@@ -68,6 +70,7 @@ fn read_comment(left: usize, text: &[u8]) -> Result<(Token<'_>, &[u8]), TokenFau
 }
 
 // A variation behind its bracket.
+#[inline(never)]
 fn read_variation(text: &[u8]) -> Result<(Token<'_>, &[u8]), TokenFault>
     ensures { first_seen result ≡ variation_at Plain false 1 text.now }
 {
@@ -78,6 +81,7 @@ fn read_variation(text: &[u8]) -> Result<(Token<'_>, &[u8]), TokenFault>
 }
 
 // A tag behind its bracket.
+#[inline(never)]
 fn read_bracket(text: &[u8]) -> Result<(Token<'_>, &[u8]), TokenFault>
     ensures { first_seen result ≡ tag_at text.now }
 {
@@ -88,7 +92,8 @@ fn read_bracket(text: &[u8]) -> Result<(Token<'_>, &[u8]), TokenFault>
 }
 
 // The first token of a text that begins with this byte, where a line begins or not, and what stands behind it.
-#[tactic(auto, unfolding(crate::specs::Tokens::token_at))]
+#[tactic(auto, using(crate::proofs::PgnWords::begins_word), unfolding(crate::specs::Tokens::token_at))]
+#[inline(always)]
 fn read_token<'a>(
     line_begins: bool,
     first: u8,
@@ -98,19 +103,19 @@ fn read_token<'a>(
     requires { text.now ≡ first ∷ rest.now }
     ensures { first_seen result ≡ token_at line_begins first rest.now }
 {
+    if is_word_byte(first) {
+        let (word, behind) = split_word(text);
+        return Ok((Token::Word(word), behind));
+    }
     match first {
         b'%' if line_begins => Ok((Token::Skip, line_end(rest))),
-        _ if is_white_space(first) || first == b'.' => Ok((Token::Skip, rest)),
+        _ if is_passed(first) => Ok((Token::Skip, rest)),
         b'{' => read_comment(text.len(), rest),
         b';' => Ok((Token::Skip, line_end(rest))),
         b'$' => Ok((Token::Skip, behind_digits(rest))),
         b'(' => read_variation(rest),
         b'[' => read_bracket(rest),
         b'*' => Ok((Token::Word(&text[..1]), rest)),
-        _ if is_word_byte(first) => {
-            let (word, behind) = split_word(text);
-            Ok((Token::Word(word), behind))
-        }
         _ => Err(TokenFault::BadByte),
     }
 }
@@ -127,6 +132,7 @@ fn begins_line(text: &[u8], at: usize) -> bool
 ///
 /// # Errors
 /// Where no token can be read at the first byte from there on.
+#[inline(always)]
 pub(crate) fn next_token(text: &[u8], at: usize) -> Result<Option<(Token<'_>, usize)>, TokenFault>
     requires { at ≤ length text.now }
     ensures { IsNextToken text.now at result }

@@ -4,6 +4,7 @@ ghost use Rattle.std.specs.Prelude.{◌≡◌, ◌||◌, ◌==◌};
 ghost use Rattle.std.specs.List.{list_all};
 ghost use Rattle.chess_base.specs.Letters.{byte, is_digit};
 ghost use Rattle.chess_pgn.specs.Words.{outcome_of, kind_of};
+ghost use Rattle.chess_pgn.specs.ties.Begins.{begins_from_a};
 
 use crate::bytes::is_digit;
 use chess_game::Outcome;
@@ -45,14 +46,27 @@ fn has_marks_alone(word: &[u8]) -> bool
     word.iter().all(|byte| *byte == b'!' || *byte == b'?')
 }
 
+// Whether a word begins with a letter or `_`, or with any other byte from `A` on. No outcome, number or mark does.
+fn begins_from_a(word: &[u8]) -> bool
+    ensures { result ≡ begins_from_a word.now }
+{
+    match word {
+        [first, ..] => *first >= b'A',
+        [] => false,
+    }
+}
+
 /// What a word is.
+#[tactic(auto, using(crate::proofs::PgnWords::from_a_kind, crate::proofs::PgnWords::number_kind))]
 pub(crate) fn word_kind(word: &[u8]) -> WordKind
     ensures { result ≡ kind_of word.now }
 {
-    if let Some(outcome) = outcome_of(word) {
-        WordKind::End(outcome)
+    if begins_from_a(word) {
+        WordKind::Move
     } else if has_digits_alone(word) {
         WordKind::Number
+    } else if let Some(outcome) = outcome_of(word) {
+        WordKind::End(outcome)
     } else if has_marks_alone(word) {
         WordKind::Marks
     } else {
