@@ -4,9 +4,10 @@
     python3 tools/examples.py [--arbiter PROGRAM] [FILE..]      README.md and docs/*.md if no file is named
 
 An example is an indented block whose first line begins with `$ `: a command, continued on lines that begin with `> `, and
-then what it prints on standard output. The examples of a document are run by bash, in their order, in one new temporary
-folder; `arbiter` is PROGRAM there, or else the launcher. An example is skipped if it names a program of NEEDED that isn't
-installed. The exit status is 1 if an example prints something else."""
+then what it prints on standard output. An indented block after the line `<!-- runs -->` is an example too: all of it is one
+command, which must end with status 0. The examples of a document are run by bash, in their order, in one new temporary
+folder; `arbiter` is PROGRAM there, or else the launcher, and the engines of ENGINES are stubs that resign. An example is
+skipped if it names a program of NEEDED that isn't installed. The exit status is 1 if an example goes otherwise."""
 
 import os
 import re
@@ -19,13 +20,23 @@ from pathlib import Path
 TOP = Path(__file__).resolve().parent.parent
 FIRST = re.compile(r"^( {4,})\$ (.*)$")
 NEEDED = ["parallel"]
+ENGINES = ["sjeng", "phalanx", "hoichess"]
+RUNS = "<!-- runs -->"
 
 
 def examples(text):
-    """Yields (line number, command, expected lines) for each example of a Markdown text."""
+    """Yields (line number, command, expected lines) for each example of a Markdown text; None where only the status counts."""
     lines = text.split("\n")
     number = 0
     while number < len(lines):
+        if lines[number] == RUNS:
+            number += 1
+            first, command = number + 1, []
+            while number < len(lines) and (lines[number] == "" or lines[number].startswith("    ")):
+                command.append(lines[number][4:])
+                number += 1
+            yield first, "\n".join(command), None
+            continue
         begin = FIRST.match(lines[number])
         if not begin:
             number += 1
@@ -53,8 +64,8 @@ def without_empty_end(lines):
     return lines
 
 
-def printed(command, folder, programs):
-    """Returns the lines that a command prints on standard output."""
+def outcome(command, folder, programs):
+    """Returns the exit status of a command and the lines that it prints on standard output."""
     run = subprocess.run(
         ["bash", "-c", command],
         cwd=folder,
@@ -63,7 +74,7 @@ def printed(command, folder, programs):
         stdout=subprocess.PIPE,
         timeout=3600,
     )
-    return without_empty_end(run.stdout.decode(errors="replace").split("\n"))
+    return run.returncode, without_empty_end(run.stdout.decode(errors="replace").split("\n"))
 
 
 def main(arguments):
@@ -75,6 +86,9 @@ def main(arguments):
     tried = wrong = skipped = 0
     with tempfile.TemporaryDirectory() as programs:
         (Path(programs) / "arbiter").symlink_to(program)
+        for engine in ENGINES:
+            (Path(programs) / engine).write_text("#!/bin/sh\nexec arbiter stub\n")
+            (Path(programs) / engine).chmod(0o755)
         for name in names:
             with tempfile.TemporaryDirectory() as folder:
                 for line, command, expected in examples((TOP / name).read_text(encoding="utf-8")):
@@ -82,10 +96,10 @@ def main(arguments):
                         skipped += 1
                         continue
                     tried += 1
-                    found = printed(command, folder, programs)
-                    if found != expected:
+                    status, found = outcome(command, folder, programs)
+                    if status != 0 if expected is None else found != expected:
                         wrong += 1
-                        print(f"{name}:{line}: {command}\n  expected {expected}\n  printed  {found}")
+                        print(f"{name}:{line}: {command}\n  expected {expected or 'status 0'}\n  found    {status}, {found}")
     print(f"{tried} examples, {wrong} wrong, {skipped} skipped")
     return 1 if wrong else 0
 
