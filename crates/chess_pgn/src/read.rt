@@ -1,10 +1,12 @@
 //! Reading a game.
 
-ghost use Rattle.std.specs.Prelude.{◌≡◌, ℕ, ◌+◌, ◌-◌, ◌^◌, ◌≤◌, ◌<◌, true, length, None, IfOk, Err, is_some, IsNone, OnErr};
+ghost use Rattle.std.specs.Prelude.{◌≡◌, ℕ, ◌+◌, ◌-◌, ◌^◌, ◌≤◌, ◌<◌, true, length, None, IfOk, Err, is_some, IsNone, IsTrue, OnErr};
 ghost use Rattle.std.specs.Option.{IfSome};
 ghost use Rattle.chess_game.specs.Game.{State, at as left_at, with_declared, current, verdict_now};
 ghost use Rattle.chess_base.specs.declared.man.Variant.TheVariants.{Normal};
+ghost use Rattle.chess_base.specs.Moves.{is_legal};
 ghost use Rattle.chess_text.specs.Moves.{reading};
+ghost use Rattle.chess_text.specs.declared.reading.Reading.TheVariants as reads;
 ghost use Rattle.chess_pgn.specs.Words.{kind_of};
 ghost use Rattle.chess_pgn.specs.ties.Seen.{token_seen, fault_seen};
 ghost use Rattle.chess_pgn.specs.GameRead.{declared_behind, told_behind, move_step, word_step, tag_step, step, variant_named, told_by, variant_told, pgn_read};
@@ -16,7 +18,7 @@ use crate::tag::Tag;
 use crate::termination::Termination;
 use crate::token::{Token, TokenFault, first_place, next_token};
 use crate::word::{WordKind, word_kind};
-use chess_base::{Position, Variant};
+use chess_base::{Move, Position, Variant};
 use chess_fen::read_fen_as;
 use chess_game::{Comment, Game, Outcome};
 use chess_moves::Board;
@@ -143,7 +145,33 @@ fn is_decided<B: Board>(game: &Game<B>) -> bool
     game.verdict().is_some()
 }
 
-// Plays the move that is written at a place.
+// Plays a legal move that is written at a place. The verdict is asked with the help of that move, which costs less than
+// to look for one.
+fn play_move<B: Board>(
+    game: &mut Game<B>,
+    progress: Progress,
+    place: usize,
+    m: &Move,
+) -> Result<Step, PgnFault>
+    requires undeclared { game.old.state.declared ≡ None }
+    requires legal { IsTrue (is_legal (current game.old.state) m.now) }
+    ensures limit { game.new.limit ≡ game.old.limit }
+    ensures ended { EndsIn 0 0 result }
+    ensures step { step_seen game.new.state result
+        ≡ move_step game.old.limit (so_far game.old.state progress) place (reads.Move m.now) }
+{
+    let kind = if game.verdict_of_moving(m).is_some() {
+        PgnFaultKind::AfterEnd
+    } else if game.is_full() {
+        PgnFaultKind::TooLong
+    } else {
+        game.play_legal(*m);
+        return Ok(Step::On(progress.begun()));
+    };
+    Err(PgnFault { kind, place })
+}
+
+// Plays the move that a word at a place is read as.
 fn play_word<B: Board>(
     game: &mut Game<B>,
     progress: Progress,
@@ -158,14 +186,11 @@ fn play_word<B: Board>(
 {
     let kind = match read_move(game.board(), word) {
         Reading::NotAMove => PgnFaultKind::BadToken,
+        Reading::Move(m) => return play_move(game, progress, place, &m),
         _ if is_decided(game) => PgnFaultKind::AfterEnd,
         _ if game.is_full() => PgnFaultKind::TooLong,
         Reading::Ambiguous => PgnFaultKind::AmbiguousMove,
         Reading::NoSuch => PgnFaultKind::IllegalMove,
-        Reading::Move(m) => {
-            game.play_legal(m);
-            return Ok(Step::On(progress.begun()));
-        }
     };
     Err(PgnFault { kind, place })
 }
