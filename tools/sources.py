@@ -334,7 +334,7 @@ class Sources:
             ends_here = line.rstrip().endswith(";") and (kind or ")" in line) and is_whole
             if at_margin and line.strip() in ("{", "{}"):
                 break
-            if not kind and line.rstrip().endswith("{") or ends_here:
+            if not kind and line.rstrip().endswith(("{", "{}")) or ends_here:
                 break
             i += 1
         self.functions.append(Function(crate, path, owner, name, is_pub, "\n".join(signature), [tuple(c) for c in clauses], lines[i].strip() == "{}"))
