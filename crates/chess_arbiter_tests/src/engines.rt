@@ -197,7 +197,7 @@ fn play_logged(
     play(rt, &logged, b"", devices)
 }
 
-// What two games and a fault after them show in a log, whatever the moments are.
+// Texts that the log of both games contains, whatever the moments are.
 const LOGGED: [&str; 8] = [
     "0 >first : xboard\n0 >first : protover 2\n",
     " <first : feature ping=1 setboard=1 usermove=1 myname=\"stub\" done=1\n",

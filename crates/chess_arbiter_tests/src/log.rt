@@ -34,7 +34,7 @@ impl Moments for Listed<'_> {
     }
 }
 
-/// What two engines say, the side of the first engine, the calls of the devices that fail, 0 for none, and the moments.
+/// What two engines send, the side of the first engine, the calls of the devices that fail, 0 for none, and the moments.
 #[derive(Clone, Copy)]
 struct Said<'a> {
     white: &'a [u8],
@@ -142,12 +142,12 @@ fn the_first_engine_has_black(rt: HostRuntime) -> Result<(), Fail> {
     is_text(&rt, logged.log.as_slice(), WITH_BLACK_FIRST)
 }
 
-// What both engines of most matches below say first, and the log of it at moment 0.
+// What both engines of most matches below send first, and the log of it at moment 0.
 const HANDSHAKE: &str = "feature ping=1 done=1\npong 1\n";
 
 const HANDSHAKE_LOG: &str = "0 >first : xboard\n0 >first : protover 2\n0 <first : feature ping=1 done=1\n0 >first : accepted ping\n0 >first : accepted done\n0 >second: xboard\n0 >second: protover 2\n0 <second: feature ping=1 done=1\n0 >second: accepted ping\n0 >second: accepted done\n0 >first : new\n0 >first : level 0 0:10 0\n0 >first : nopost\n0 >first : easy\n0 >first : force\n0 >first : ping 1\n0 <first : pong 1\n0 >second: new\n0 >second: level 0 0:10 0\n0 >second: nopost\n0 >second: easy\n0 >second: force\n0 >second: ping 1\n0 <second: pong 1\n0 >first : time 1000\n0 >first : otim 1000\n0 >first : go\n";
 
-/// A match after the handshake: what the engines say, the moments, the call of White's reader that fails, and the log.
+/// A match after the handshake: what the engines send, the moments, and what the log then adds.
 struct After {
     white: &'static str,
     black: &'static str,
@@ -307,7 +307,7 @@ fn a_failed_read_is_logged(rt: HostRuntime) -> Result<(), Fail> {
     is_text(
         &rt,
         logged.log.as_slice(),
-        "0 >first : xboard\n0 >first : protover 2\n0 !first : read failed\n0 >first : result * {White can not be read}\n0 >first : quit\n",
+        "0 >first : xboard\n0 >first : protover 2\n0 !first : read failed\n0 >first : result * {White can not be read}\n0 >first : quit\n0 >second: result * {White can not be read}\n0 >second: quit\n",
     )
 }
 
