@@ -220,7 +220,10 @@ fn a_log_over_processes(rt: HostRuntime) -> Result<(), Fail> {
     let played = &PLAYED[1];
     let others = &["--games", "2", "--date", "2026.11.23", "--log"];
     let outcome = play_logged(&rt, played, others, 0)?;
-    assert_eq!(rt; std::str::from_utf8(outcome.output.as_slice())?, played.output);
+    assert_eq!(rt;
+        std::str::from_utf8(outcome.output.as_slice())?,
+        played.output
+    );
     assert_eq!(rt; outcome.status, 0);
     for text in LOGGED {
         is_in_log(&rt, outcome.errors.as_slice(), text)?;
@@ -234,7 +237,10 @@ fn a_log_on_a_failed_error_output(rt: HostRuntime) -> Result<(), Fail> {
     let played = &PLAYED[3];
     for errors_fail in [1, 2, 9] {
         let outcome = play_logged(&rt, played, &["--log"], errors_fail)?;
-        assert_eq!(rt; std::str::from_utf8(outcome.output.as_slice())?, played.output);
+        assert_eq!(rt;
+            std::str::from_utf8(outcome.output.as_slice())?,
+            played.output
+        );
         assert_eq!(rt; outcome.status, 1);
     }
     Ok(())

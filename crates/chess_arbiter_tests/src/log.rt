@@ -113,9 +113,12 @@ const WHITE: &[u8] =
 const BLACK: &[u8] = b"feature ping=1 done=1\npong 1\nmove e7e5\npong 2\nmove d8h4\n";
 
 // A moment each 10 milliseconds: at each line of an engine, and at the end of each block that gives the turn to one.
-const EACH_10: &[u64] = &[10, 20, 30, 40, 50, 60, 70, 80, 90, 100, 110, 120, 130, 140, 150];
+const EACH_10: &[u64] = &[
+    10, 20, 30, 40, 50, 60, 70, 80, 90, 100, 110, 120, 130, 140, 150,
+];
 
-const FOOLS_MATE: &str = "0 >first : xboard\n0 >first : protover 2\n10 <first : feature ping=1 usermove=1 done=1\n10 >first : accepted ping\n10 >first : accepted usermove\n10 >first : accepted done\n10 >second: xboard\n10 >second: protover 2\n20 <second: feature ping=1 done=1\n20 >second: accepted ping\n20 >second: accepted done\n20 >first : new\n20 >first : level 0 0:10 0\n20 >first : nopost\n20 >first : easy\n20 >first : force\n20 >first : ping 1\n30 <first : pong 1\n30 >second: new\n30 >second: level 0 0:10 0\n30 >second: nopost\n30 >second: easy\n30 >second: force\n30 >second: ping 1\n40 <second: pong 1\n40 >first : time 1000\n40 >first : otim 1000\n40 >first : go\n60 <first : move f2f3\n60 >first : ping 2\n70 <first : pong 2\n70 >second: f2f3\n70 >second: time 1000\n70 >second: otim 999\n70 >second: go\n90 <second: move e7e5\n90 >second: ping 2\n100 <second: pong 2\n100 >first : time 999\n100 >first : otim 999\n100 >first : usermove e7e5\n120 <first : move g2g4\n120 >first : ping 3\n130 <first : pong 3\n130 >second: time 999\n130 >second: otim 998\n130 >second: g2g4\n150 <second: move d8h4\n150 >first : usermove d8h4\n150 >first : result 0-1 {Black mates}\n150 >first : quit\n150 >second: result 0-1 {Black mates}\n150 >second: quit\n";
+const FOOLS_MATE: &str =
+    "0 >first : xboard\n0 >first : protover 2\n10 <first : feature ping=1 usermove=1 done=1\n10 >first : accepted ping\n10 >first : accepted usermove\n10 >first : accepted done\n10 >second: xboard\n10 >second: protover 2\n20 <second: feature ping=1 done=1\n20 >second: accepted ping\n20 >second: accepted done\n20 >first : new\n20 >first : level 0 0:10 0\n20 >first : nopost\n20 >first : easy\n20 >first : force\n20 >first : ping 1\n30 <first : pong 1\n30 >second: new\n30 >second: level 0 0:10 0\n30 >second: nopost\n30 >second: easy\n30 >second: force\n30 >second: ping 1\n40 <second: pong 1\n40 >first : time 1000\n40 >first : otim 1000\n40 >first : go\n60 <first : move f2f3\n60 >first : ping 2\n70 <first : pong 2\n70 >second: f2f3\n70 >second: time 1000\n70 >second: otim 999\n70 >second: go\n90 <second: move e7e5\n90 >second: ping 2\n100 <second: pong 2\n100 >first : time 999\n100 >first : otim 999\n100 >first : usermove e7e5\n120 <first : move g2g4\n120 >first : ping 3\n130 <first : pong 3\n130 >second: time 999\n130 >second: otim 998\n130 >second: g2g4\n150 <second: move d8h4\n150 >first : usermove d8h4\n150 >first : result 0-1 {Black mates}\n150 >first : quit\n150 >second: result 0-1 {Black mates}\n150 >second: quit\n";
 
 fn is_text(rt: &impl Abort, text: &[u8], wanted: &str) -> Result<(), Fail> {
     assert_eq!(rt; std::str::from_utf8(text)?, wanted);
@@ -131,7 +134,8 @@ fn a_whole_log(rt: HostRuntime) -> Result<(), Fail> {
 }
 
 // The same where the engine that has Black is the first.
-const WITH_BLACK_FIRST: &str = "0 >second: xboard\n0 >second: protover 2\n10 <second: feature ping=1 usermove=1 done=1\n10 >second: accepted ping\n10 >second: accepted usermove\n10 >second: accepted done\n10 >first : xboard\n10 >first : protover 2\n20 <first : feature ping=1 done=1\n20 >first : accepted ping\n20 >first : accepted done\n20 >second: new\n20 >second: level 0 0:10 0\n20 >second: nopost\n20 >second: easy\n20 >second: force\n20 >second: ping 1\n30 <second: pong 1\n30 >first : new\n30 >first : level 0 0:10 0\n30 >first : nopost\n30 >first : easy\n30 >first : force\n30 >first : ping 1\n40 <first : pong 1\n40 >second: time 1000\n40 >second: otim 1000\n40 >second: go\n60 <second: move f2f3\n60 >second: ping 2\n70 <second: pong 2\n70 >first : f2f3\n70 >first : time 1000\n70 >first : otim 999\n70 >first : go\n90 <first : move e7e5\n90 >first : ping 2\n100 <first : pong 2\n100 >second: time 999\n100 >second: otim 999\n100 >second: usermove e7e5\n120 <second: move g2g4\n120 >second: ping 3\n130 <second: pong 3\n130 >first : time 999\n130 >first : otim 998\n130 >first : g2g4\n150 <first : move d8h4\n150 >second: usermove d8h4\n150 >second: result 0-1 {Black mates}\n150 >second: quit\n150 >first : result 0-1 {Black mates}\n150 >first : quit\n";
+const WITH_BLACK_FIRST: &str =
+    "0 >second: xboard\n0 >second: protover 2\n10 <second: feature ping=1 usermove=1 done=1\n10 >second: accepted ping\n10 >second: accepted usermove\n10 >second: accepted done\n10 >first : xboard\n10 >first : protover 2\n20 <first : feature ping=1 done=1\n20 >first : accepted ping\n20 >first : accepted done\n20 >second: new\n20 >second: level 0 0:10 0\n20 >second: nopost\n20 >second: easy\n20 >second: force\n20 >second: ping 1\n30 <second: pong 1\n30 >first : new\n30 >first : level 0 0:10 0\n30 >first : nopost\n30 >first : easy\n30 >first : force\n30 >first : ping 1\n40 <first : pong 1\n40 >second: time 1000\n40 >second: otim 1000\n40 >second: go\n60 <second: move f2f3\n60 >second: ping 2\n70 <second: pong 2\n70 >first : f2f3\n70 >first : time 1000\n70 >first : otim 999\n70 >first : go\n90 <first : move e7e5\n90 >first : ping 2\n100 <first : pong 2\n100 >second: time 999\n100 >second: otim 999\n100 >second: usermove e7e5\n120 <second: move g2g4\n120 >second: ping 3\n130 <second: pong 3\n130 >first : time 999\n130 >first : otim 998\n130 >first : g2g4\n150 <first : move d8h4\n150 >second: usermove d8h4\n150 >second: result 0-1 {Black mates}\n150 >second: quit\n150 >first : result 0-1 {Black mates}\n150 >first : quit\n";
 
 #[test]
 fn the_first_engine_has_black(rt: HostRuntime) -> Result<(), Fail> {
@@ -145,7 +149,8 @@ fn the_first_engine_has_black(rt: HostRuntime) -> Result<(), Fail> {
 // What both engines of most matches below send first, and the log of it at moment 0.
 const HANDSHAKE: &str = "feature ping=1 done=1\npong 1\n";
 
-const HANDSHAKE_LOG: &str = "0 >first : xboard\n0 >first : protover 2\n0 <first : feature ping=1 done=1\n0 >first : accepted ping\n0 >first : accepted done\n0 >second: xboard\n0 >second: protover 2\n0 <second: feature ping=1 done=1\n0 >second: accepted ping\n0 >second: accepted done\n0 >first : new\n0 >first : level 0 0:10 0\n0 >first : nopost\n0 >first : easy\n0 >first : force\n0 >first : ping 1\n0 <first : pong 1\n0 >second: new\n0 >second: level 0 0:10 0\n0 >second: nopost\n0 >second: easy\n0 >second: force\n0 >second: ping 1\n0 <second: pong 1\n0 >first : time 1000\n0 >first : otim 1000\n0 >first : go\n";
+const HANDSHAKE_LOG: &str =
+    "0 >first : xboard\n0 >first : protover 2\n0 <first : feature ping=1 done=1\n0 >first : accepted ping\n0 >first : accepted done\n0 >second: xboard\n0 >second: protover 2\n0 <second: feature ping=1 done=1\n0 >second: accepted ping\n0 >second: accepted done\n0 >first : new\n0 >first : level 0 0:10 0\n0 >first : nopost\n0 >first : easy\n0 >first : force\n0 >first : ping 1\n0 <first : pong 1\n0 >second: new\n0 >second: level 0 0:10 0\n0 >second: nopost\n0 >second: easy\n0 >second: force\n0 >second: ping 1\n0 <second: pong 1\n0 >first : time 1000\n0 >first : otim 1000\n0 >first : go\n";
 
 /// A match after the handshake: what the engines send, the moments, and what the log then adds.
 struct After {
@@ -227,7 +232,13 @@ fn joined(alloc: Global, parts: &[&[u8]]) -> Result<Vec<u8>, Fail> {
 }
 
 // Plays a match in which both engines begin with the handshake.
-fn play_after(rt: &impl Abort, alloc: Global, white: &[u8], black: &[u8], said: &Said<'_>) -> Result<Logged, Fail> {
+fn play_after(
+    rt: &impl Abort,
+    alloc: Global,
+    white: &[u8],
+    black: &[u8],
+    said: &Said<'_>,
+) -> Result<Logged, Fail> {
     let white = joined(alloc, &[HANDSHAKE.as_bytes(), white])?;
     let black = joined(alloc, &[HANDSHAKE.as_bytes(), black])?;
     let said = Said {
@@ -251,7 +262,13 @@ fn is_log(rt: &impl Abort, alloc: Global, log: &[u8], after: &str) -> Result<(),
 fn is_logged(rt: &impl Abort, alloc: Global, after: &After) -> Result<(), Fail> {
     let mut said = Said::of(b"", b"");
     said.moments = after.moments;
-    let logged = play_after(rt, alloc, after.white.as_bytes(), after.black.as_bytes(), &said)?;
+    let logged = play_after(
+        rt,
+        alloc,
+        after.white.as_bytes(),
+        after.black.as_bytes(),
+        &said,
+    )?;
     is_log(rt, alloc, logged.log.as_slice(), after.log)
 }
 
@@ -263,7 +280,8 @@ fn ends_are_logged(rt: HostRuntime) -> Result<(), Fail> {
     Ok(())
 }
 
-const TOO_LONG: &str = "0 !first : line too long\n0 <first : resign\n0 >first : result 0-1 {White resigns}\n0 >first : quit\n0 >second: result 0-1 {White resigns}\n0 >second: quit\n";
+const TOO_LONG: &str =
+    "0 !first : line too long\n0 <first : resign\n0 >first : result 0-1 {White resigns}\n0 >first : quit\n0 >second: result 0-1 {White resigns}\n0 >second: quit\n";
 
 #[test]
 fn a_line_that_is_too_long(rt: HostRuntime) -> Result<(), Fail> {
@@ -282,7 +300,9 @@ fn flooded(alloc: Global) -> Result<Vec<u8>, Fail> {
     for _ in 0..10_000 {
         log.extend_from_slice(b"0 <first : x\n")?;
     }
-    log.extend_from_slice(b"0 >first : result * {White sent too many lines}\n0 >first : quit\n0 >second: result * {White sent too many lines}\n0 >second: quit\n")?;
+    log.extend_from_slice(
+        b"0 >first : result * {White sent too many lines}\n0 >first : quit\n0 >second: result * {White sent too many lines}\n0 >second: quit\n",
+    )?;
     Ok(log)
 }
 
