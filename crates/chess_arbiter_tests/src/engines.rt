@@ -129,6 +129,21 @@ fn words_of<'a>(
     Ok(words)
 }
 
+// Plays a match over processes between stubs that play these words.
+fn play_stubs(
+    rt: &HostRuntime,
+    white: &str,
+    black: &str,
+    others: &[&'static str],
+    input: &[u8],
+    devices: Devices,
+) -> Result<Outcome, Fail> {
+    let white = stub(rt, white)?;
+    let black = stub(rt, black)?;
+    let words = words_of(rt.alloc(), white.as_str(), black.as_str(), others)?;
+    Ok(run(rt, words.as_slice(), input, devices))
+}
+
 // Plays a match over processes.
 fn play(
     rt: &HostRuntime,
@@ -136,10 +151,14 @@ fn play(
     input: &[u8],
     devices: Devices,
 ) -> Result<Outcome, Fail> {
-    let white = stub(rt, played.white)?;
-    let black = stub(rt, played.black)?;
-    let words = words_of(rt.alloc(), white.as_str(), black.as_str(), played.others)?;
-    Ok(run(rt, words.as_slice(), input, devices))
+    play_stubs(
+        rt,
+        played.white,
+        played.black,
+        played.others,
+        input,
+        devices,
+    )
 }
 
 // Asserts that this came of a match.
@@ -179,22 +198,14 @@ fn stubs_play(rt: HostRuntime) -> Result<(), Fail> {
 fn play_logged(
     rt: &HostRuntime,
     played: &Played,
-    others: &'static [&'static str],
+    others: &[&'static str],
     errors_fail: u64,
 ) -> Result<Outcome, Fail> {
-    let logged = Played {
-        white: played.white,
-        black: played.black,
-        others,
-        output: played.output,
-        errors: played.errors,
-        status: played.status,
-    };
     let devices = Devices {
         errors_fail,
         ..SOUND
     };
-    play(rt, &logged, b"", devices)
+    play_stubs(rt, played.white, played.black, others, b"", devices)
 }
 
 // Texts that the log of both games contains, whatever the moments are.

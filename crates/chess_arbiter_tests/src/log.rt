@@ -89,16 +89,18 @@ fn play(rt: &impl Abort, alloc: Global, said: &Said<'_>) -> Result<Logged, Fail>
     let mut game = Game::open(alloc, Plain::new(), 100)?;
     let mut scratch = Plain::new();
     let mut output = Counted::writing(PieceWriter::new(alloc, 1024, said.log_write));
-    let mut log = Log::new(&mut output, said.first);
-    let end = run_match_logged(
-        &mut white,
-        &mut black,
-        &mut moments,
-        &setup,
-        &mut game,
-        &mut scratch,
-        &mut log,
-    );
+    let end = {
+        let mut log = Log::new(&mut output, said.first);
+        run_match_logged(
+            &mut white,
+            &mut black,
+            &mut moments,
+            &setup,
+            &mut game,
+            &mut scratch,
+            &mut log,
+        )
+    };
     Ok(Logged {
         fault: end.fault,
         to_white: white.writer.into_writer().bytes,

@@ -198,6 +198,7 @@ fn check_case(rt: &impl Abort, host: &HostRuntime, case: &Case) {
         read_fails: case.fails.0,
         taken: 100,
         write_fails: case.fails.1,
+        errors_fail: 0,
     };
     let wanted = Wanted {
         output: case.output,
