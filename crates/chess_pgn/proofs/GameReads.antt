@@ -9,7 +9,7 @@ use Rattle.chess_base.specs.declared.fault.FenFault.{FenFault}
 use Rattle.chess_base.specs.declared.man.Variant.{Variant}
 use Rattle.chess_base.specs.declared.man.Variant.TheVariants.{Normal}
 use Rattle.chess_base.specs.declared.setup.Setup.{Setup}
-use Rattle.chess_base.specs.Initial.{initial_setup_of}
+use Rattle.chess_base.specs.Initial.{initial_setup, initial_setup_of}
 use Rattle.chess_fen.specs.Reading.{fen_reading_as}
 use Rattle.chess_game.specs.Game.{State, Seen, from_start, current, verdict_now}
 use Rattle.chess_game.specs.Game.{at as left_at}
@@ -25,7 +25,7 @@ use Rattle.chess_text.specs.Moves.{reading}
 use Rattle.chess_pgn.specs.Words.{kind_of}
 use Rattle.chess_pgn.specs.Tokens.{Token, Skip, Tag, Word, Bad_tag, Unclosed_comment, Unclosed_variation, Bad, first_place, is_white_space, token_at, begins_line, tokens_from}
 use Rattle.chess_pgn.specs.GameRead.{SoFar, Step, On, Stop, unless_full, move_step, word_step, fen_step, tag_step, step, go_on, game_of, nothing_read, told_by, told_next, variant_told, tokens_read, pgn_read}
-use Rattle.chess_pgn.specs.ties.GameSteps.{so_far, ReadsAlike, step_seen}
+use Rattle.chess_pgn.specs.ties.GameSteps.{so_far, IsReadOn, ReadsAlike, step_seen}
 use Rattle.chess_pgn.proofs.Cuts.{pick}
 use Rattle.chess_pgn.proofs.Walk.{token_more}
 
@@ -104,24 +104,38 @@ pub record Reads (limit : ℕ) (text : List ℕ) (from : ℕ) (game : Seen) (pro
   pub whole : game_of limit (length text) (so_far game.state progress) (tokens_from text here) ≡ pgn_read limit text
       from
 
-pub first : (old game : Seen) (start : Setup) (v : Variant) (text : List ℕ) (from here : ℕ)
-    → game ≡ left_at old (from_start start) → start ≡ initial_setup_of v
-    → v ≡ variant_told Normal (tokens_from text here) → here ≡ first_place text from → from ≤ here → here ≤ length text
-    → Reads old.limit text from game (record { is_met = false; is_begun = false; termination = None }) here
+pub read_from : (limit : ℕ) (game : Seen) (p : Progress) (text : List ℕ) (from begin here : ℕ)
+    → IsReadOn limit text begin game p here → game.limit ≡ limit → begin ≡ first_place text from → from ≤ begin
+    → Reads limit text from game p here
 unfolding pgn_read
-first old game start v text from here restarted initial variant is behind h =
+read_from limit game p text from begin here r same is behind = record {
+  behind = (let before = r.behind in omega (arith, before, behind));
+  place = r.place;
+  undeclared = r.undeclared;
+  same_limit = same;
+  whole = r.whole ∙ ap (λ n. tokens_read limit (length text) (tokens_from text n)) is;
+}
+
+-- what was read of a game before its first token
+nothing_met : Progress
+nothing_met = record { is_met = false; is_begun = false; termination = None }
+
+pub first : (old game : Seen) (start : Setup) (v : Variant) (p : Progress) (text : List ℕ) (here : ℕ)
+    → game ≡ left_at old (from_start start) → start ≡ initial_setup_of v
+    → v ≡ variant_told Normal (tokens_from text here)
+    → p ≡ record { is_met = false; is_begun = false; termination = None } → here ≤ length text
+    → IsReadOn old.limit text here game p here
+unfolding nothing_met
+first old game start v p text here restarted initial variant none h =
     let state : game.state ≡ from_start (initial_setup_of v) = ap (λ g. g.state) restarted ∙ ap from_start initial in
     record {
-      behind = behind;
+      behind = omega arith;
       place = h;
       undeclared = ap (λ s. s.declared) state;
-      same_limit = ap (λ g. g.limit) restarted;
       whole =
-          ap (λ s. game_of old.limit (length text)
-          (so_far s (record { is_met = false; is_begun = false; termination = None })) (tokens_from text here))
-          state
-          ∙ ap (λ u. game_of old.limit (length text) (nothing_read u) (tokens_from text here)) variant
-          ∙ ap (λ n. tokens_read old.limit (length text) (tokens_from text n)) is;
+          ap (λ q. game_of old.limit (length text) (so_far game.state q) (tokens_from text here)) none
+          ∙ ap (λ s. game_of old.limit (length text) (so_far s nothing_met) (tokens_from text here)) state
+          ∙ ap (λ u. game_of old.limit (length text) (nothing_read u) (tokens_from text here)) variant;
     }
 
 -- ---- the loop over tags: what is left gives the whole
@@ -168,6 +182,67 @@ more limit text from game new p q here behind t r is later h same step_is = reco
       (keeps game.limit (length text) (so_far game.state p) (length text - here) t r.undeclared);
   same_limit = same ∙ r.same_limit;
   whole = stepped limit text from game p here t (tokens_from text behind) (On (so_far new.state q)) r is step_is;
+}
+
+-- ---- the tags of a game of normal chess
+
+pub record ReadsNormal (limit : ℕ) (text : List ℕ) (from : ℕ) (game : Seen) (progress : Progress) (here : ℕ)
+    : Type 0 where
+  pub behind : from ≤ here
+  pub tells : Tells text from Normal here
+  pub undeclared : game.state.declared ≡ None
+  pub same_limit : game.limit ≡ limit
+  pub whole : game_of limit (length text) (so_far game.state progress) (tokens_from text here)
+      ≡ game_of limit (length text) (nothing_read Normal) (tokens_from text from)
+
+pub first_normal : (old game : Seen) (start : Setup) (p : Progress) (text : List ℕ) (here : ℕ)
+    → game ≡ left_at old (from_start start) → start ≡ initial_setup
+    → p ≡ record { is_met = false; is_begun = false; termination = None } → here ≤ length text
+    → ReadsNormal old.limit text here game p here
+unfolding nothing_met initial_setup initial_setup_of
+first_normal old game start p text here restarted initial none h =
+    let state : game.state ≡ from_start (initial_setup_of Normal) = ap (λ g. g.state) restarted ∙ ap from_start initial
+    in
+    record {
+      behind = omega arith;
+      tells = record { place = h; whole = refl };
+      undeclared = ap (λ s. s.declared) state;
+      same_limit = ap (λ g. g.limit) restarted;
+      whole =
+          ap (λ q. game_of old.limit (length text) (so_far game.state q) (tokens_from text here)) none
+          ∙ ap (λ s. game_of old.limit (length text) (so_far s nothing_met) (tokens_from text here)) state;
+    }
+
+-- one more tag, or what is passed over
+pub more_normal : (limit : ℕ) (text : List ℕ) (from : ℕ) (game new : Seen) (p q : Progress) (here behind : ℕ)
+    (t : Token) → ReadsNormal limit text from game p here
+    → tokens_from text here ≡ (length text - here, t) ∷ tokens_from text behind → here < behind
+    → behind ≤ length text → Some Normal ≡ told_by Normal t → new.limit ≡ game.limit
+    → On (so_far new.state q) ≡ step game.limit (length text) (so_far game.state p) (length text - here) t
+    → ReadsNormal limit text from new q behind
+more_normal limit text from game new p q here behind t r is later h told same step_is = record {
+  behind = (let before = r.behind in omega (arith, before, later));
+  tells = told_more text from Normal Normal here behind t r.tells is h told;
+  undeclared = subst Undeclared (sym step_is)
+      (keeps game.limit (length text) (so_far game.state p) (length text - here) t r.undeclared);
+  same_limit = same ∙ r.same_limit;
+  whole =
+      ap (λ s. go_on s (λ g. game_of limit (length text) g (tokens_from text behind)))
+      (step_is ∙ ap (λ n. step n (length text) (so_far game.state p) (length text - here) t) r.same_limit)
+      ∙ ap (game_of limit (length text) (so_far game.state p)) (sym is) ∙ r.whole;
+}
+
+-- no more tags
+pub normal_begun : (limit : ℕ) (text : List ℕ) (from : ℕ) (game : Seen) (p : Progress) (here : ℕ) (t : Token)
+    (ts : List (ℕ × Token)) → ReadsNormal limit text from game p here
+    → tokens_from text here ≡ (length text - here, t) ∷ ts → None ≡ told_by Normal t
+    → IsReadOn limit text from game p here
+normal_begun limit text from game p here t ts r is told = record {
+  behind = r.behind;
+  place = r.tells.place;
+  undeclared = r.undeclared;
+  whole = r.whole ∙ ap (λ u. game_of limit (length text) (nothing_read u) (tokens_from text from))
+      (told_last text from Normal here t ts r.tells is told);
 }
 
 -- ---- white space and dots, at which nothing counts

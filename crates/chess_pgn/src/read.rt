@@ -1,6 +1,6 @@
 //! Reading a game.
 
-ghost use Rattle.std.specs.Prelude.{◌≡◌, ℕ, ◌+◌, ◌-◌, ◌^◌, ◌≤◌, ◌<◌, true, length, None, IfOk, Err, is_some, IsNone, IsTrue, OnErr};
+ghost use Rattle.std.specs.Prelude.{◌≡◌, ℕ, ◌+◌, ◌-◌, ◌^◌, ◌≤◌, ◌<◌, true, false, length, None, IfOk, Err, is_some, IsNone, IsTrue, OnErr};
 ghost use Rattle.std.specs.Option.{IfSome};
 ghost use Rattle.chess_game.specs.Game.{State, at as left_at, with_declared, current, verdict_now};
 ghost use Rattle.chess_base.specs.declared.man.Variant.TheVariants.{Normal};
@@ -11,7 +11,7 @@ ghost use Rattle.chess_pgn.specs.Words.{kind_of};
 ghost use Rattle.chess_pgn.specs.ties.Seen.{token_seen, fault_seen};
 ghost use Rattle.chess_pgn.specs.GameRead.{declared_behind, told_behind, move_step, word_step, tag_step, step, variant_named, told_by, variant_told, pgn_read};
 ghost use Rattle.chess_pgn.specs.Tokens.{tokens_from};
-ghost use Rattle.chess_pgn.specs.ties.GameSteps.{EndsIn, so_far, step_seen, IsWithin, ReadsAlike};
+ghost use Rattle.chess_pgn.specs.ties.GameSteps.{EndsIn, so_far, step_seen, IsWithin, IsReadOn, ReadsAlike};
 
 use crate::bytes::is_passed;
 use crate::tag::Tag;
@@ -92,6 +92,17 @@ struct Progress {
 }
 
 impl Progress {
+    // Before the first token.
+    fn none() -> Self
+        ensures { result ≡ record { is_met = false; is_begun = false; termination = None } }
+    {
+        Progress {
+            is_met: false,
+            is_begun: false,
+            termination: None,
+        }
+    }
+
     // Behind a number or move.
     fn begun(self) -> Self
         ensures { result ≡ record { is_met = true; is_begun = true; termination = self.termination } }
@@ -394,6 +405,53 @@ fn behind_blanks(text: &[u8], at: usize) -> usize
     place
 }
 
+// Reads the tags from a place on as those of a game of normal chess, and returns the place of the first number, move or
+// termination. `None` where a tag names another variant, or where a fault or the text's end comes first.
+fn read_normal_tags<B: Board>(
+    text: &[u8],
+    at: usize,
+    game: &mut Game<B>,
+) -> Option<(Progress, usize)>
+    requires { at ≤ length text.now }
+    ensures limit { game.new.limit ≡ game.old.limit }
+    ensures read { IfSome result (λ r. IsReadOn game.old.limit text.now at game.new r.0 r.1) }
+{
+    game.restart(&Position::initial());
+    let mut progress = Progress::none();
+    let mut place = at;
+    loop {
+        let Ok(Some((token, behind))) = next_token(text, place) else {
+            return None;
+        };
+        match told_by(Variant::Normal, &token) {
+            None => return Some((progress, place)),
+            Some(Variant::Fischerandom) => return None,
+            Some(Variant::Normal) => {}
+        }
+        match read_token(game, progress, text.len(), place, &token) {
+            Ok(Step::On(further)) => progress = further,
+            Ok(Step::Ended(_)) => return None,
+            Err(_) => return None,
+        }
+        place = behind;
+    }
+}
+
+// Begins a game whose text begins at a place, and returns how far it was read. Most games are of normal chess: so their
+// tags are read, and only where they are not is the variant looked for first.
+#[tactic(auto, using(crate::proofs::GameReads::first))]
+fn begin_game<B: Board>(text: &[u8], at: usize, game: &mut Game<B>) -> (Progress, usize)
+    requires { at ≤ length text.now }
+    ensures limit { game.new.limit ≡ game.old.limit }
+    ensures read { IsReadOn game.old.limit text.now at game.new result.0 result.1 }
+{
+    if let Some(read) = read_normal_tags(text, at, game) {
+        return read;
+    }
+    game.restart(&Position::initial_of(told_variant(text, at)));
+    (Progress::none(), at)
+}
+
 /// Reads the first game of a text from a place on (PGN standard of 1994; which words are taken is this project's own).
 /// The game begins anew from the initial position or from the last FEN tag's, of the variant that the last tag
 /// `Variant` names; its moves are played as they are met, and the termination's outcome is declared unless there is a
@@ -402,7 +460,7 @@ fn behind_blanks(text: &[u8], at: usize) -> usize
 ///
 /// # Errors
 /// The first place that can't be read or played. The game holds the moves before it, and nothing is declared.
-#[tactic(auto, using(crate::proofs::GameReads::first))]
+#[tactic(auto, using(crate::proofs::GameReads::read_from))]
 pub fn read_pgn<B: Board>(
     text: &[u8],
     at: usize,
@@ -416,13 +474,7 @@ pub fn read_pgn<B: Board>(
     ensures undeclared { OnErr result (IsNone game.new.state.declared) }
     ensures limit { game.new.limit ≡ game.old.limit }
 {
-    let mut place = first_place(text, at);
-    game.restart(&Position::initial_of(told_variant(text, place)));
-    let mut progress = Progress {
-        is_met: false,
-        is_begun: false,
-        termination: None,
-    };
+    let (mut progress, mut place) = begin_game(text, first_place(text, at), game);
     loop {
         match next_token(text, place) {
             Ok(Some((token, behind))) => {

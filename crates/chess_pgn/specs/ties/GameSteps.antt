@@ -1,12 +1,12 @@
 -- What the reader of a game answers, step by step, in the words of the definitions.
-use Rattle.std.specs.Prelude.{◌≡◌, ℕ, ◌<◌, ◌≤◌, List, length, Result, Ok, Err, Some}
-use Rattle.chess_game.specs.Game.{State}
+use Rattle.std.specs.Prelude.{◌≡◌, ℕ, ◌<◌, ◌≤◌, List, length, Result, Ok, Err, None, Some}
+use Rattle.chess_game.specs.Game.{Seen, State}
 use Rattle.chess_pgn.specs.declared.read.PgnFault.{PgnFault}
 use Rattle.chess_pgn.specs.declared.read.Progress.{Progress}
 use Rattle.chess_pgn.specs.declared.read.Step as code
 use Rattle.chess_pgn.specs.declared.read.Step.TheVariants as does
 use Rattle.chess_pgn.specs.Tokens.{Token, Skip, Tag, Word, Bad_tag, Unclosed_comment, Unclosed_variation, Bad, tokens_from}
-use Rattle.chess_pgn.specs.GameRead.{SoFar, Step, On, Stop, game_of}
+use Rattle.chess_pgn.specs.GameRead.{SoFar, Step, On, Stop, game_of, tokens_read}
 
 -- the game so far
 abbrev pub so_far : State → Progress → SoFar
@@ -38,3 +38,12 @@ IsWithin left Bad = Unit {0}
 abbrev pub ReadsAlike : List ℕ → ℕ → ℕ → Type 0
 ReadsAlike text a b = (limit : ℕ) (g : SoFar)
     → game_of limit (length text) g (tokens_from text a) ≡ game_of limit (length text) g (tokens_from text b)
+
+-- the game of a text from a place on was read up to another, and the rest with what was read gives the whole
+pub record IsReadOn (limit : ℕ) (text : List ℕ) (from : ℕ) (game : Seen) (progress : Progress) (here : ℕ)
+    : Type 0 where
+  pub behind : from ≤ here
+  pub place : here ≤ length text
+  pub undeclared : game.state.declared ≡ None
+  pub whole : game_of limit (length text) (so_far game.state progress) (tokens_from text here)
+      ≡ tokens_read limit (length text) (tokens_from text from)

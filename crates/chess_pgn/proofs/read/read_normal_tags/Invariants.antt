@@ -1,0 +1,9 @@
+use Rattle.std.proofs.Common.{length, ◌-◌}
+use Rattle.chess_pgn.proofs.GameReads.{ReadsNormal}
+use Rattle.chess_pgn.proofs.read.read_normal_tags.Given as goal
+
+abbrev pub invariant-loop-token : goal.invariant-loop-token
+invariant-loop-token g l = ReadsNormal l.fn.game.limit l.text l.at l.game l.progress l.place
+
+abbrev pub decreases-loop-token : goal.decreases-loop-token
+decreases-loop-token g l = length l.text - l.place
