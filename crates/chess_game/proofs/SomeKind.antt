@@ -50,7 +50,7 @@ by_colour White true = refl
 by_colour White false = refl
 by_colour Black s = refl
 
-of_colours : (kind : Kind) (o : Option Man) → is_kind kind o ≡ (is_man White kind o || is_man Black kind o)
+pub of_colours : (kind : Kind) (o : Option Man) → is_kind kind o ≡ (is_man White kind o || is_man Black kind o)
 unfolding is_man
 of_colours wanted None = refl
 of_colours wanted (Some x) = by_colour x.colour (same_kind wanted x.kind)
