@@ -37,7 +37,7 @@ kinds_equal k l e =
 man_of_equal : (x y : Man) → x.colour ≡ y.colour → x.kind ≡ y.kind → x ≡ y
 man_of_equal x y colours kinds = (λ i. record { colour = colours i; kind = kinds i })
 
-places_equal : (o r : Option Man) → same_man o r ≡ true → o ≡ r
+pub places_equal : (o r : Option Man) → same_man o r ≡ true → o ≡ r
 places_equal None None e = refl
 places_equal None (Some y) e = cc
 places_equal (Some x) None e = cc

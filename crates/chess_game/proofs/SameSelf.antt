@@ -10,7 +10,7 @@ use Rattle.chess_base.specs.Squares.{each_below, each_square}
 use Rattle.chess_base.proofs.MenFacts.{same_colour-self}
 use Rattle.chess_game.specs.Same.{same, same_man, same_men, same_square, same_colour_rights, same_rights, live_target}
 
-man_self : (o : Option Man) → same_man o o ≡ true
+pub man_self : (o : Option Man) → same_man o o ≡ true
 man_self None = refl
 man_self (Some x) = and_from _ _ (same_colour-self x.colour) (eq-eqb (kind_number x.kind) (kind_number x.kind) refl)
 

@@ -50,7 +50,7 @@ by_colour White true = refl
 by_colour White false = refl
 by_colour Black s = refl
 
-of_colours : (kind : Kind) (o : Option Man) → is_kind kind o ≡ (is_man White kind o || is_man Black kind o)
+pub of_colours : (kind : Kind) (o : Option Man) → is_kind kind o ≡ (is_man White kind o || is_man Black kind o)
 unfolding is_man
 of_colours wanted None = refl
 of_colours wanted (Some x) = by_colour x.colour (same_kind wanted x.kind)
@@ -63,18 +63,15 @@ not_none : (a : Bool) → not (not a) ≡ a
 not_none true = refl
 not_none false = refl
 
--- a man of the kind is there where the squares of both colours' men are some
-pub some_of_kind : (p : Setup) (kind : Kind) (w b u : ℕ) → IsSound p
-    → ((k : ℕ) → k < 64 → has w k ≡ is_man White kind (man_at p.men k))
-    → ((k : ℕ) → k < 64 → has b k ≡ is_man Black kind (man_at p.men k))
-    → ((k : ℕ) → has u k ≡ (has w k || has b k))
-    → not (not (some_square (λ k. has u k))) ≡ list_any (is_kind kind) p.men
+-- a man of the kind is there where the squares of the kind's men are some
+pub some_of_kind : (p : Setup) (kind : Kind) (w : ℕ) → IsSound p
+    → ((k : ℕ) → k < 64 → has w k ≡ is_kind kind (man_at p.men k))
+    → not (not (some_square (λ k. has w k))) ≡ list_any (is_kind kind) p.men
 unfolding some_square
-some_of_kind p kind w b u sound white black both =
-    not_none (some_square (λ k. has u k))
+some_of_kind p kind w sound is =
+    not_none (some_square (λ k. has w k))
     ∙ sym (any_square (is_kind kind) p.men sound.board
-    ∙ same_below 64 (λ k. is_kind kind (man_at p.men k)) (λ k. has u k)
-    (λ k l. of_colours kind (man_at p.men k) ∙ rw (both k, white k l, black k l) refl))
+    ∙ same_below 64 (λ k. is_kind kind (man_at p.men k)) (λ k. has w k) (λ k l. sym (is k l)))
 
 -- the three kinds together
 pub by_kinds : (men : Men) → list_any is_pawn_rook_or_queen men

@@ -5,6 +5,7 @@ ghost use Rattle.std.specs.List.{list_any};
 ghost use Rattle.chess_base.specs.Sound.{IsSound};
 ghost use Rattle.chess_game.specs.Ends.{is_kind, is_pawn_rook_or_queen, is_minor, has_bishop_on, is_bare, square_colour, mates, verdict_outcome, verdict_comment};
 
+use crate::packed::squares_of;
 use crate::results::Outcome;
 use chess_base::{Colour, Kind, Man};
 use chess_moves::Board;
@@ -137,9 +138,7 @@ fn has_kind<B: Board>(board: &B, kind: Kind) -> bool
     requires { IsSound (B.position board.now) }
     ensures { result ≡ list_any (is_kind kind) (B.position board.now).men }
 {
-    let white = board.men_of(Colour::White, kind);
-    let black = board.men_of(Colour::Black, kind);
-    !white.union(black).is_empty()
+    !squares_of(board, kind).is_empty()
 }
 
 #[tactic(auto, using(crate::proofs::SomeKind::by_kinds))]

@@ -50,7 +50,7 @@ pub struct NoMove;
 pub struct BoardSaysOtherwise;
 
 // A move that was played: what it did not keep, the position that it gave, and the entry of that in the index.
-#[derive(Clone, Copy, PartialEq, Eq)]
+#[derive(Drop)]
 pub(crate) struct Place {
     pub(crate) made: Move,
     pub(crate) saved: Saved,
@@ -299,7 +299,7 @@ impl<B: Board> Game<B> {
     pub fn start(&self) -> Position
         ensures { result ≡ self.now.state.start }
     {
-        self.start.position
+        self.start.position.unpacked()
     }
 
     /// The present position: the one that the start and the moves that stand give.
@@ -308,7 +308,7 @@ impl<B: Board> Game<B> {
         ensures playable { IsPlayable self.now }
     {
         // The prover wants this fact: the start is sound, as the start of a playable game is.
-        let _sound = self.start.position.setup();
+        let _sound = self.start.position.halfmove();
         self.board.position()
     }
 
@@ -318,9 +318,9 @@ impl<B: Board> Game<B> {
         ensures { result ≡ last self.now.state.start (take ply self.now.state.moves) }
     {
         if ply == 0 {
-            self.start.position
+            self.start.position.unpacked()
         } else {
-            self.places[ply - 1].reached.position
+            self.places[ply - 1].reached.position.unpacked()
         }
     }
 

@@ -52,7 +52,7 @@ fn oldest(places: &[Place], now: &Known) -> usize
 {
     // The prover wants this law: the reserve of the men falls with each capture and pawn move, and never grows.
     reserve_never_grows();
-    let ago = now.position.setup().halfmove as usize;
+    let ago = now.position.halfmove() as usize;
     if ago == 0 {
         return places.len() + 1;
     }
@@ -61,7 +61,7 @@ fn oldest(places: &[Place], now: &Known) -> usize
     }
     let first = places.len() - ago;
     let reached = &places[first].reached;
-    if reached.position.setup().halfmove == 0 {
+    if reached.position.halfmove() == 0 {
         first + 1
     } else {
         0
@@ -82,7 +82,7 @@ fn count_same(head: u16, start: &Known, places: &[Place], now: &Known) -> u32
     ensures { result ≡ suc (count_below (is_same_at start.now places.now now.now.position) (suc (length places.now))) }
 {
     // The prover wants this fact: a position is sound, so it has a place for each of the 64 squares.
-    let _sound = now.position.setup();
+    let _sound = now.position.halfmove();
     if head == 0 {
         return 1;
     }

@@ -14,6 +14,7 @@
 mod ends;
 mod game;
 mod index;
+mod packed;
 mod repetition;
 mod results;
 

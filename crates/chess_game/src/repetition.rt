@@ -4,17 +4,18 @@ ghost use Rattle.std.specs.Prelude.{◌≡◌, cond, true, false, Some};
 ghost use Rattle.std.specs.List.{list_any};
 ghost use Rattle.chess_base.specs.MoveList.{moves};
 ghost use Rattle.chess_base.specs.Moves.{is_en_passant};
-ghost use Rattle.chess_game.specs.Same.{captures_legally, same_man, same_men, same_square, same_colour_rights, same_rights, live_target, same};
+ghost use Rattle.chess_game.specs.Same.{captures_legally, same_square, same_colour_rights, same_rights, live_target, same};
 ghost use Rattle.chess_game.specs.ties.Places.{IsKnown, HasWord, ShareWording};
 
+use crate::packed::PackedPosition;
 use chess_base::for_boards::is_en_passant;
-use chess_base::{ColourRights, Kind, Man, Move, Position, Rights, Square};
+use chess_base::{ColourRights, Kind, Move, Rights, Square};
 use chess_moves::Board;
 
-// A position with its live target and its word, which are told once.
-#[derive(Clone, Copy, PartialEq, Eq)]
+// A position, packed, with its live target and its word, which are told once.
+#[derive(Drop)]
 pub(crate) struct Known {
-    pub(crate) position: Position,
+    pub(crate) position: PackedPosition,
     pub(crate) live_target: Option<Square>,
     pub(crate) word: u64,
 }
@@ -27,7 +28,7 @@ impl Known {
         ensures word { HasWord B.word_of result }
     {
         Known {
-            position: board.position(),
+            position: PackedPosition::of(board),
             live_target: live_target(board),
             word: board.word(),
         }
@@ -39,8 +40,8 @@ impl Known {
         ensures { result ≡ true → same self.now.position other.now.position ≡ false }
     {
         // The prover wants this fact of both: a position is sound, so it has a place for each of the 64 squares.
-        let _this = self.position.setup();
-        let _that = other.position.setup();
+        let _this = self.position.halfmove();
+        let _that = other.position.halfmove();
         self.word != other.word
     }
 
@@ -56,10 +57,10 @@ impl Known {
         if self.is_told_apart(other) {
             return false;
         }
-        let (this, that) = (self.position.setup(), other.position.setup());
-        this.side == that.side
-            && same_men(&this.men, &that.men)
-            && same_rights(&this.rights, &that.rights)
+        let (this, that) = (&self.position, &other.position);
+        this.side() == that.side()
+            && this.same_men(that)
+            && same_rights(this.rights(), that.rights())
             && same_square(self.live_target, other.live_target)
     }
 
@@ -113,28 +114,6 @@ fn captures_from<B: Board>(board: &B, from: Square, to: Square) -> bool
         promotion: None,
     };
     is_en_passant(board.setup(), &m) && board.is_legal(&m)
-}
-
-fn same_man(this: Option<Man>, that: Option<Man>) -> bool
-    ensures { result ≡ same_man this that }
-{
-    match (this, that) {
-        (None, None) => true,
-        (Some(x), Some(y)) => x.colour == y.colour && x.kind == y.kind,
-        _ => false,
-    }
-}
-
-#[tactic(auto, unfolding(crate::specs::Same::same_men))]
-fn same_men(this: &[Option<Man>; 64], that: &[Option<Man>; 64]) -> bool
-    ensures { result ≡ same_men this.now that.now }
-{
-    for number in 0..64 {
-        if !same_man(this[number], that[number]) {
-            return false;
-        }
-    }
-    true
 }
 
 fn same_square(this: Option<Square>, that: Option<Square>) -> bool

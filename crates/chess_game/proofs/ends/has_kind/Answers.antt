@@ -1,9 +1,8 @@
--- Where the squares of both colours' men of the kind are some, there is such a man (some_of_kind of SomeKind).
+-- Where the squares of the kind's men are some, there is such a man (some_of_kind of SomeKind).
 use Rattle.chess_game.proofs.SomeKind.{some_of_kind}
 use Rattle.chess_game.proofs.ends.has_kind.Goals as goal
 
 pub returns : goal.returns
 returns g c =
     rw c.is_empty.ensures.none
-    (some_of_kind (g.B.Board.position c.args.board.now) c.args.kind c.men_of-white.result c.men_of-black.result
-    c.union.result c.requires c.men_of-white.ensures c.men_of-black.ensures c.union.ensures)
+    (some_of_kind (g.B.Board.position c.args.board.now) c.args.kind c.squares_of.result c.requires c.squares_of.ensures)

@@ -2,7 +2,6 @@
 -- missed, and the first that is found keeps how many there are up to it (Walk).
 use Rattle.std.proofs.Common.{◌≡◌, ◌∙◌, ◌+◌, ◌-◌, ap, sym, subst, arith}
 use Rattle.std.proofs.lemmas.Bool.Decides.{nat_tests}
-use Rattle.chess_base.specs.Sound.{IsSound}
 use Rattle.chess_game.specs.ties.Places.{IsKnown}
 use Rattle.chess_game.specs.declared.game.Place.{Place}
 use Rattle.chess_game.proofs.Kept.{at_place}
@@ -17,7 +16,7 @@ loop-at-init c =
       follows = c.requires.follows;
       words = c.requires.words;
       sound = c.requires.made.2.sound;
-      sound_now = subst (λ v. IsSound v) c.setup-sound.ensures.value c.setup-sound.ensures.sound;
+      sound_now = c.halfmove-sound.ensures.sound;
     }) c.requires.head
 
 pub returns-then-head-eq0 : goal.returns-then-head-eq0
@@ -29,7 +28,7 @@ returns-then-head-eq0 c =
       follows = c.requires.follows;
       words = c.requires.words;
       sound = c.requires.made.2.sound;
-      sound_now = subst (λ v. IsSound v) c.setup-sound.ensures.value c.setup-sound.ensures.sound;
+      sound_now = c.halfmove-sound.ensures.sound;
     }) c.requires.head) none
 
 pub returns-then-at-oldest : goal.returns-then-at-oldest
@@ -59,7 +58,7 @@ returns-then-is_same c =
       follows = c.requires.follows;
       words = c.requires.words;
       sound = c.requires.made.2.sound;
-      sound_now = subst (λ v. IsSound v) c.setup-sound.ensures.value c.setup-sound.ensures.sound;
+      sound_now = c.halfmove-sound.ensures.sound;
     }) c.requires.entries c.loop-at.invariant c.loop-at-test.true c.index-places-at.is
     (sym c.is_same.ensures ∙ c.if-is_same.true)
 
@@ -75,7 +74,7 @@ loop-at-preserved c =
       follows = c.requires.follows;
       words = c.requires.words;
       sound = c.requires.made.2.sound;
-      sound_now = subst (λ v. IsSound v) c.setup-sound.ensures.value c.setup-sound.ensures.sound;
+      sound_now = c.halfmove-sound.ensures.sound;
     }) c.requires.entries c.loop-at.invariant c.loop-at-test.true c.index-places-at.is
     (sym c.is_same.ensures ∙ c.if-is_same.false)
 

@@ -10,7 +10,7 @@ use Rattle.chess_game.proofs.game.Game.position.Goals as goal
 pub returns-clause-playable : goal.returns-clause-playable
 returns-clause-playable g c =
     rw (← c.self.view_is) (record {
-      start = rw c.setup-sound.ensures.value at c.setup-sound.ensures.sound;
+      start = c.halfmove-sound.ensures.sound;
       line = kept_line c.self.inside.start.position c.self.inside.places.items c.self.invariant.0.follows;
       limit = (let e : length (moves_of c.self.inside.places.items) ≡ length c.self.inside.places.items =
           length-map c.self.inside.places.items (λ (x : Place). x.made) in omega arith);

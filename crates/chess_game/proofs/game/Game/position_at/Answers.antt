@@ -8,6 +8,6 @@ pub returns-else-ply-eq0 : goal.returns-else-ply-eq0
 returns-else-ply-eq0 g c =
     let some : 0 < c.args.ply = grind arith in
     let in_range : c.args.ply ≤ length (moves_of c.self.inside.places.items) = rw (← c.self.view_is) at c.requires in
-    rw (c.index.ensures, ← c.self.view_is)
+    rw (c.unpacked-else-ply-eq0.ensures, c.index.ensures, ← c.self.view_is)
     (reached_by c.self.inside.start.position c.self.inside.places.items c.args.ply c.index.result.now
     c.self.invariant.0.follows some in_range)

@@ -4,5 +4,5 @@ use Rattle.chess_game.proofs.repetition.Known.is_told_apart.Goals as goal
 
 pub returns : goal.returns
 returns c = λ differ. told_apart c.requires.0 c.args.self.now c.args.other.now
-    (rw c.setup-this.ensures.value at c.setup-this.ensures.sound)
-    (rw c.setup-that.ensures.value at c.setup-that.ensures.sound) c.requires.1 c.requires.2 differ
+    c.halfmove-this.ensures.sound
+    c.halfmove-that.ensures.sound c.requires.1 c.requires.2 differ

@@ -1,0 +1,221 @@
+-- Men as sets of squares, and back.
+use Rattle.std.proofs.Common.{◌≡◌, ℕ, zero, suc, ◌<◌, inl, inr, Bool, true, false, not, ◌&&◌, ◌||◌, if◌then◌else◌, refl, sym, ◌∙◌, ap, subst, arith, Option, Some, None, length, set, get_or-set_same, get_or-set_other, length-set, ◌+◌, true≢false}
+use Rattle.std.proofs.lemmas.Bool.{or_from, or_parts, cases_Bool, cases_eq}
+use Rattle.std.proofs.lemmas.List.{ext_get_or}
+use Rattle.chess_base.specs.declared.man.Colour.{Colour}
+use Rattle.chess_base.specs.declared.man.Colour.TheVariants.{White, Black}
+use Rattle.chess_base.specs.declared.man.Kind.{Kind}
+use Rattle.chess_base.specs.declared.man.Kind.TheVariants.{King, Queen, Rook, Bishop, Knight, Pawn}
+use Rattle.chess_base.specs.declared.man.Man.{Man}
+use Rattle.chess_base.specs.Men.{Men, man_at, is_of, is_man, same_colour, same_kind}
+use Rattle.chess_base.specs.Squares.{some_below, each_below, some_square, each_square, from_below}
+use Rattle.chess_base.proofs.MenAfter.{length-from_below, get_or-from_below}
+use Rattle.chess_moves.specs.Sets.{has}
+use Rattle.chess_game.specs.Ends.{is_kind}
+use Rattle.chess_game.specs.Same.{same_man, same_men}
+use Rattle.chess_game.specs.ties.Packed.{man_of, man_in, men_in, IsPackedAt, ArePacked}
+use Rattle.chess_game.specs.declared.packed.PackedMen.{PackedMen}
+use Rattle.chess_game.proofs.EqualWords.{places_equal}
+use Rattle.chess_game.proofs.SameSelf.{man_self}
+
+-- ---- White's men
+
+by_kind : (b : Bool) (x : Kind)
+    → ((b && same_kind King x) || (b && same_kind Queen x) || (b && same_kind Rook x) || (b && same_kind Bishop x)
+    || (b && same_kind Knight x) || (b && same_kind Pawn x))
+    ≡ b
+by_kind true King = refl
+by_kind true Queen = refl
+by_kind true Rook = refl
+by_kind true Bishop = refl
+by_kind true Knight = refl
+by_kind true Pawn = refl
+by_kind false x = refl
+
+-- they are those of its six kinds
+pub white_kinds : (o : Option Man)
+    → (is_man White King o || is_man White Queen o || is_man White Rook o || is_man White Bishop o
+    || is_man White Knight o || is_man White Pawn o)
+    ≡ is_of White o
+unfolding is_man is_of
+white_kinds None = refl
+white_kinds (Some x) = by_kind (same_colour White x.colour) x.kind
+
+-- ---- back
+
+-- the man that seven tests report
+abbrev reported : (white king queen rook bishop knight pawn : Bool) → Option Man
+reported white king queen rook bishop knight pawn =
+    man_of (if white then White else Black)
+    (if king then Some King
+    else if queen then Some Queen
+    else if rook then Some Rook
+    else if bishop then Some Bishop
+    else if knight then Some Knight
+    else if pawn then Some Pawn
+    else None)
+
+reported_of : (c : Colour) (kind : Kind)
+    → reported (same_colour White c) (same_kind King kind) (same_kind Queen kind) (same_kind Rook kind)
+    (same_kind Bishop kind) (same_kind Knight kind) (same_kind Pawn kind)
+    ≡ Some (record { colour = c; kind = kind })
+reported_of White King = refl
+reported_of White Queen = refl
+reported_of White Rook = refl
+reported_of White Bishop = refl
+reported_of White Knight = refl
+reported_of White Pawn = refl
+reported_of Black King = refl
+reported_of Black Queen = refl
+reported_of Black Rook = refl
+reported_of Black Bishop = refl
+reported_of Black Knight = refl
+reported_of Black Pawn = refl
+
+reported_is : (o : Option Man)
+    → reported (is_of White o) (is_kind King o) (is_kind Queen o) (is_kind Rook o) (is_kind Bishop o) (is_kind Knight o)
+    (is_kind Pawn o)
+    ≡ o
+unfolding is_of
+reported_is None = refl
+reported_is (Some x) = reported_of x.colour x.kind
+
+man_back : (p : PackedMen) (s : ℕ) (o : Option Man) → IsPackedAt p s o → man_in p s ≡ o
+unfolding man_in
+man_back p s o h =
+    (λ i. reported (h.white i) (h.kings i) (h.queens i) (h.rooks i) (h.bishops i) (h.knights i) (h.pawns i))
+    ∙ reported_is o
+
+-- the men whose sets they are
+pub men_back : (p : PackedMen) (men : Men) → length men ≡ 64 → ArePacked p men → men_in p ≡ men
+unfolding men_in
+men_back p men all h =
+    let len = length-from_below 64 (man_in p) in
+    ext_get_or None (from_below 64 (man_in p)) men (len ∙ sym all)
+    (λ k l. let low : k < 64 = omega (arith, l, len) in
+    get_or-from_below 64 (man_in p) k None low ∙ man_back p k (man_at men k) (h k low))
+
+pub packed_back : (p : PackedMen) (men : Men) → length men ≡ 64 → ArePacked p men → ArePacked p (men_in p)
+packed_back p men all h = subst (ArePacked p) (sym (men_back p men all h)) h
+
+-- ---- square by square
+
+-- the first n squares have their men
+pub record HasMen (p : PackedMen) (men : Men) (n : ℕ) : Type 0 where
+  pub board : length men ≡ 64
+  pub below : (k : ℕ) → k < n → man_at men k ≡ man_in p k
+
+-- one square more
+pub men_more : (p : PackedMen) (men : Men) (n s : ℕ) (o : Option Man) → n < 64 → s ≡ n → o ≡ man_in p s
+    → HasMen p men n
+    → HasMen p (set men s o) (n + 1)
+men_more p men n s o low here man h = record { board = length-set men s o ∙ h.board; below = below }
+  where
+    below : (k : ℕ) → k < n + 1 → man_at (set men s o) k ≡ man_in p k
+    below k l =
+        let inside : s < length men = omega (arith, h.board) in
+        elim (cases_eq k s) [
+          | inl same ↦ rw (same, get_or-set_same men s o None inside) man
+          | inr other ↦ rw (get_or-set_other men s k o None other) (h.below k (grind (arith, other, here)))
+        ]
+
+-- at the end all
+pub men_all : (p : PackedMen) (men : Men) (n : ℕ) → n ≡ 64 → HasMen p men n → men ≡ men_in p
+unfolding men_in
+men_all p men n whole h =
+    ext_get_or None men (from_below 64 (man_in p)) (h.board ∙ sym (length-from_below 64 (man_in p)))
+    (λ k l. let low : k < 64 = omega (arith, l, h.board) in
+    h.below k (omega arith) ∙ sym (get_or-from_below 64 (man_in p) k None low))
+
+-- ---- where men differ
+
+abbrev pub differ : Bool → Bool → Bool
+differ a b = (a && not b) || (b && not a)
+
+equal : (a b c : Bool) → a ≡ c → b ≡ c → differ a b ≡ false
+equal a b true e f = rw (e, f) refl
+equal a b false e f = rw (e, f) refl
+
+alike : (a b : Bool) → differ a b ≡ false → a ≡ b
+alike true true e = refl
+alike true false e = cc
+alike false true e = cc
+alike false false e = refl
+
+-- some of the seven sets differ on s
+abbrev pub some_differ : PackedMen → PackedMen → ℕ → Bool
+some_differ p q s =
+    differ (has p.white s) (has q.white s) || differ (has p.kings s) (has q.kings s)
+    || differ (has p.queens s) (has q.queens s)
+    || differ (has p.rooks s) (has q.rooks s)
+    || differ (has p.bishops s) (has q.bishops s)
+    || differ (has p.knights s) (has q.knights s)
+    || differ (has p.pawns s) (has q.pawns s)
+
+none_differs : (p q : PackedMen) (s : ℕ) (o : Option Man) → IsPackedAt p s o → IsPackedAt q s o
+    → some_differ p q s ≡ false
+none_differs p q s o h t =
+    or_from _ _
+    (or_from _ _
+    (or_from _ _
+    (or_from _ _
+    (or_from _ _ (or_from _ _ (equal _ _ _ h.white t.white) (equal _ _ _ h.kings t.kings))
+    (equal _ _ _ h.queens t.queens))
+    (equal _ _ _ h.rooks t.rooks))
+    (equal _ _ _ h.bishops t.bishops))
+    (equal _ _ _ h.knights t.knights))
+    (equal _ _ _ h.pawns t.pawns)
+
+same_man_in : (p q : PackedMen) (s : ℕ) → some_differ p q s ≡ false → man_in p s ≡ man_in q s
+unfolding man_in
+same_man_in p q s e =
+    let six = or_parts _ _ e in
+    let five = or_parts _ _ six.0 in
+    let four = or_parts _ _ five.0 in
+    let three = or_parts _ _ four.0 in
+    let two = or_parts _ _ three.0 in
+    let one = or_parts _ _ two.0 in
+    let white = alike (has p.white s) (has q.white s) one.0 in
+    let kings = alike (has p.kings s) (has q.kings s) one.1 in
+    let queens = alike (has p.queens s) (has q.queens s) two.1 in
+    let rooks = alike (has p.rooks s) (has q.rooks s) three.1 in
+    let bishops = alike (has p.bishops s) (has q.bishops s) four.1 in
+    let knights = alike (has p.knights s) (has q.knights s) five.1 in
+    let pawns = alike (has p.pawns s) (has q.pawns s) six.1 in
+    (λ i. reported (white i) (kings i) (queens i) (rooks i) (bishops i) (knights i) (pawns i))
+
+-- the men on s differ where one of the sets does
+pub differ_at : (p q : PackedMen) (s : ℕ) (o r : Option Man) → IsPackedAt p s o → IsPackedAt q s r
+    → some_differ p q s ≡ not (same_man o r)
+differ_at p q s o r h t = by_test (same_man o r) refl
+  where
+    by_test : (c : Bool) → same_man o r ≡ c → some_differ p q s ≡ not (same_man o r)
+    by_test true e = none_differs p q s o h (subst (IsPackedAt q s) (sym (places_equal o r e)) t) ∙ ap not (sym e)
+    by_test false e =
+        elim (cases_Bool (some_differ p q s)) [
+          | inl some ↦ some ∙ ap not (sym e)
+          | inr none ↦
+              let one : o ≡ r = sym (man_back p s o h) ∙ same_man_in p q s none ∙ man_back q s r t in
+              absurd (true≢false (sym (subst (λ v. same_man o v ≡ true) one (man_self o)) ∙ e))
+        ]
+
+-- ---- on all squares
+
+not_either : (a b : Bool) → not (a || not b) ≡ (not a && b)
+not_either true b = refl
+not_either false true = refl
+not_either false false = refl
+
+not_some : (n : ℕ) (f g : ℕ → Bool) → ((k : ℕ) → k < n → f k ≡ not (g k)) → not (some_below n f) ≡ each_below n g
+not_some zero f g h = refl
+not_some (suc n) f g h =
+    ap (λ v. not (some_below n f || v)) (h n (omega arith)) ∙ not_either (some_below n f) (g n)
+    ∙ ap (λ v. v && g n) (not_some n f g (λ k l. h k (omega arith)))
+
+-- where they differ on no square they are the same
+pub same_where_none : (w : ℕ) (men others : Men)
+    → ((k : ℕ) → k < 64 → has w k ≡ not (same_man (man_at men k) (man_at others k)))
+    → not (some_square (λ k. has w k)) ≡ same_men men others
+unfolding some_square same_men each_square
+same_where_none w men others h =
+    not_some 64 (λ k. has w k) (λ s. same_man (man_at men s) (man_at others s)) h

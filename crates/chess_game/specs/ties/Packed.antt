@@ -1,0 +1,54 @@
+-- The men of a position as sets of squares: White's men, and the men of each kind, of both colours.
+use Rattle.std.specs.Prelude.{◌≡◌, ◌<◌, ℕ, Option, Some, None, if◌then◌else◌}
+use Rattle.chess_base.specs.declared.man.Colour.{Colour}
+use Rattle.chess_base.specs.declared.man.Colour.TheVariants.{White, Black}
+use Rattle.chess_base.specs.declared.man.Kind.{Kind}
+use Rattle.chess_base.specs.declared.man.Kind.TheVariants.{King, Queen, Rook, Bishop, Knight, Pawn}
+use Rattle.chess_base.specs.declared.man.Man.{Man}
+use Rattle.chess_base.specs.Men.{Men, man_at, is_of}
+use Rattle.chess_base.specs.Squares.{from_below}
+use Rattle.chess_moves.specs.Sets.{has}
+use Rattle.chess_game.specs.Ends.{is_kind}
+use Rattle.chess_game.specs.declared.packed.PackedMen.{PackedMen}
+
+-- the kind of the man on a square, if one is there
+abbrev pub kind_in : PackedMen → ℕ → Option Kind
+kind_in p s =
+    if has p.kings s then Some King
+    else if has p.queens s then Some Queen
+    else if has p.rooks s then Some Rook
+    else if has p.bishops s then Some Bishop
+    else if has p.knights s then Some Knight
+    else if has p.pawns s then Some Pawn
+    else None
+
+-- the colour of the man on a square, where one is there
+abbrev pub colour_in : PackedMen → ℕ → Colour
+colour_in p s = if has p.white s then White else Black
+
+-- a man of that colour and kind, if there is a kind
+abbrev pub man_of : Colour → Option Kind → Option Man
+man_of c None = None
+man_of c (Some kind) = Some (record { colour = c; kind = kind })
+
+-- the man on a square, if there is one
+unfoldable pub man_in : PackedMen → ℕ → Option Man
+man_in p s = man_of (colour_in p s) (kind_in p s)
+
+-- the men on all 64 squares
+unfoldable pub men_in : PackedMen → Men
+men_in p = from_below 64 (man_in p)
+
+-- the sets report of square s that this man, or none, is there
+pub record IsPackedAt (p : PackedMen) (s : ℕ) (o : Option Man) : Type 0 where
+  pub white : has p.white s ≡ is_of White o
+  pub kings : has p.kings s ≡ is_kind King o
+  pub queens : has p.queens s ≡ is_kind Queen o
+  pub rooks : has p.rooks s ≡ is_kind Rook o
+  pub bishops : has p.bishops s ≡ is_kind Bishop o
+  pub knights : has p.knights s ≡ is_kind Knight o
+  pub pawns : has p.pawns s ≡ is_kind Pawn o
+
+-- the sets are those of these men
+abbrev pub ArePacked : PackedMen → Men → Type 0
+ArePacked p men = (s : ℕ) → s < 64 → IsPackedAt p s (man_at men s)

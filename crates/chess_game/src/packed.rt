@@ -1,0 +1,265 @@
+//! Positions whose men are packed into sets of squares: seven words in place of 64 squares.
+
+ghost use Rattle.std.specs.Prelude.{◌≡◌, ℕ, ◌<◌, ◌&&◌, ◌||◌, not};
+ghost use Rattle.chess_base.specs.Men.{is_of, man_at, same_colour};
+ghost use Rattle.chess_base.specs.Sound.{IsSound};
+ghost use Rattle.chess_base.specs.declared.man.Colour.TheVariants.{White};
+ghost use Rattle.chess_moves.specs.Sets.{has};
+ghost use Rattle.chess_game.specs.Ends.{is_kind};
+ghost use Rattle.chess_game.specs.Same.{same_man, same_men};
+ghost use Rattle.chess_game.specs.ties.Packed.{ArePacked, colour_in, kind_in, man_in, men_in};
+
+use chess_base::{Colour, Kind, Man, Position, Rights, Setup, Square, Variant};
+use chess_moves::{Board, SquareSet};
+use std::marker::Model;
+
+// The men as sets of squares: White's, and those of each kind, of both colours.
+#[derive(Clone, Copy)]
+pub(crate) struct PackedMen {
+    white: SquareSet,
+    kings: SquareSet,
+    queens: SquareSet,
+    rooks: SquareSet,
+    bishops: SquareSet,
+    knights: SquareSet,
+    pawns: SquareSet,
+}
+
+// The squares of both colours' men of a kind.
+#[tactic(auto, using(crate::proofs::SomeKind::of_colours))]
+pub(crate) fn squares_of<B: Board>(board: &B, kind: Kind) -> SquareSet
+    ensures { (k : ℕ) → k < 64 → has result k ≡ is_kind kind (man_at (B.position board.now).men k) }
+{
+    let white = board.men_of(Colour::White, kind);
+    let black = board.men_of(Colour::Black, kind);
+    white.union(black)
+}
+
+// The squares of White's men.
+#[tactic(auto, using(crate::proofs::AsSets::white_kinds))]
+fn white_squares<B: Board>(board: &B) -> SquareSet
+    ensures { (k : ℕ) → k < 64 → has result k ≡ is_of White (man_at (B.position board.now).men k) }
+{
+    let kings = board.men_of(Colour::White, Kind::King);
+    let queens = board.men_of(Colour::White, Kind::Queen);
+    let rooks = board.men_of(Colour::White, Kind::Rook);
+    let bishops = board.men_of(Colour::White, Kind::Bishop);
+    let knights = board.men_of(Colour::White, Kind::Knight);
+    let pawns = board.men_of(Colour::White, Kind::Pawn);
+    kings
+        .union(queens)
+        .union(rooks)
+        .union(bishops)
+        .union(knights)
+        .union(pawns)
+}
+
+// The squares that are in one of two sets alone.
+fn difference(these: SquareSet, those: SquareSet) -> SquareSet
+    ensures { (k : ℕ) → k < 64
+        → has result k ≡ ((has these k && not (has those k)) || (has those k && not (has these k))) }
+{
+    these.without(those).union(those.without(these))
+}
+
+impl PackedMen {
+    // The men of a board's position.
+    fn of<B: Board>(board: &B) -> Self
+        ensures { ArePacked result (B.position board.now).men }
+    {
+        PackedMen {
+            white: white_squares(board),
+            kings: squares_of(board, Kind::King),
+            queens: squares_of(board, Kind::Queen),
+            rooks: squares_of(board, Kind::Rook),
+            bishops: squares_of(board, Kind::Bishop),
+            knights: squares_of(board, Kind::Knight),
+            pawns: squares_of(board, Kind::Pawn),
+        }
+    }
+
+    // The kind of the man on a square, if one is there.
+    fn kind_at(&self, square: Square) -> Option<Kind>
+        ensures { result ≡ kind_in self.now square }
+    {
+        if self.kings.contains(square) {
+            Some(Kind::King)
+        } else if self.queens.contains(square) {
+            Some(Kind::Queen)
+        } else if self.rooks.contains(square) {
+            Some(Kind::Rook)
+        } else if self.bishops.contains(square) {
+            Some(Kind::Bishop)
+        } else if self.knights.contains(square) {
+            Some(Kind::Knight)
+        } else if self.pawns.contains(square) {
+            Some(Kind::Pawn)
+        } else {
+            None
+        }
+    }
+
+    // The colour of the man on a square, where one is there.
+    fn colour_at(&self, square: Square) -> Colour
+        ensures { result ≡ colour_in self.now square }
+    {
+        if self.white.contains(square) {
+            Colour::White
+        } else {
+            Colour::Black
+        }
+    }
+
+    // The man on a square, if there is one.
+    #[tactic(auto, unfolding(crate::specs::ties::Packed::man_in))]
+    fn man_at(&self, square: Square) -> Option<Man>
+        ensures { result ≡ man_in self.now square }
+    {
+        let kind = self.kind_at(square)?;
+        let colour = self.colour_at(square);
+        Some(Man { colour, kind })
+    }
+
+    // The men on all squares.
+    fn unpacked(&self) -> [Option<Man>; 64]
+        ensures { result ≡ men_in self.now }
+    {
+        let mut men = [None; 64];
+        for number in 0..64 {
+            let square = Square::new(number);
+            men[square.index()] = self.man_at(square);
+        }
+        men
+    }
+
+    // The squares on which the men differ from others.
+    #[tactic(auto, using(crate::proofs::AsSets::differ_at))]
+    fn differing(&self, other: &PackedMen) -> SquareSet
+        requires this { ArePacked self.now (men_in self.now) }
+        requires other { ArePacked other.now (men_in other.now) }
+        ensures { (k : ℕ) → k < 64
+            → has result k ≡ not (same_man (man_at (men_in self.now) k) (man_at (men_in other.now) k)) }
+    {
+        let white = difference(self.white, other.white);
+        let kings = difference(self.kings, other.kings);
+        let queens = difference(self.queens, other.queens);
+        let rooks = difference(self.rooks, other.rooks);
+        let bishops = difference(self.bishops, other.bishops);
+        let knights = difference(self.knights, other.knights);
+        let pawns = difference(self.pawns, other.pawns);
+        white
+            .union(kings)
+            .union(queens)
+            .union(rooks)
+            .union(bishops)
+            .union(knights)
+            .union(pawns)
+    }
+}
+
+/// A position, always sound, its men packed into sets of squares. In contracts it is its `Setup`.
+#[derive(Drop)]
+pub(crate) struct PackedPosition {
+    men: PackedMen,
+    variant: Variant,
+    side: Colour,
+    rights: Rights,
+    target: Option<Square>,
+    halfmove: u32,
+    fullmove: u32,
+}
+
+impl Model for PackedPosition {
+    ghost use Rattle.std.specs.Prelude.{◌≡◌};
+    ghost use Rattle.chess_base.specs.declared.setup.Setup.{Setup};
+
+    ghost Value = { Setup };
+
+    ghost use Rattle.chess_base.specs.Sound.{IsSound};
+    ghost use Rattle.chess_game.specs.ties.Packed.{ArePacked, men_in};
+
+    ghost view = { λ p. record {
+      variant = p.variant;
+      men = men_in p.men;
+      side = p.side;
+      rights = p.rights;
+      target = p.target;
+      halfmove = p.halfmove;
+      fullmove = p.fullmove;
+    } };
+
+    ghost invariant = { λ p. ArePacked p.men (men_in p.men) × IsSound (record {
+      variant = p.variant;
+      men = men_in p.men;
+      side = p.side;
+      rights = p.rights;
+      target = p.target;
+      halfmove = p.halfmove;
+      fullmove = p.fullmove;
+    }) };
+}
+
+impl PackedPosition {
+    /// The position of a board.
+    #[tactic(auto, using(crate::proofs::AsSets::men_back, crate::proofs::AsSets::packed_back))]
+    pub(crate) fn of<B: Board>(board: &B) -> Self
+        ensures { result ≡ B.position board.now }
+    {
+        let men = PackedMen::of(board);
+        let setup = board.setup();
+        PackedPosition {
+            men,
+            variant: setup.variant,
+            side: setup.side,
+            rights: setup.rights,
+            target: setup.target,
+            halfmove: setup.halfmove,
+            fullmove: setup.fullmove,
+        }
+    }
+
+    /// The position itself.
+    pub(crate) fn unpacked(&self) -> Position
+        ensures { result ≡ self.now }
+    {
+        Position::from_sound(Setup {
+            variant: self.variant,
+            men: self.men.unpacked(),
+            side: self.side,
+            rights: self.rights,
+            target: self.target,
+            halfmove: self.halfmove,
+            fullmove: self.fullmove,
+        })
+    }
+
+    /// The colour on move.
+    pub(crate) fn side(&self) -> Colour
+        ensures { result ≡ self.now.side }
+    {
+        self.side
+    }
+
+    /// The castling rights.
+    pub(crate) fn rights(&self) -> &Rights
+        ensures { result.now ≡ self.now.rights }
+    {
+        &self.rights
+    }
+
+    /// The halfmove clock.
+    pub(crate) fn halfmove(&self) -> u32
+        ensures value { result ≡ self.now.halfmove }
+        ensures sound { IsSound self.now }
+    {
+        self.halfmove
+    }
+
+    /// Whether the same men are on the same squares.
+    #[tactic(auto, using(crate::proofs::AsSets::same_where_none))]
+    pub(crate) fn same_men(&self, other: &PackedPosition) -> bool
+        ensures { result ≡ same_men self.now.men other.now.men }
+    {
+        self.men.differing(&other.men).is_empty()
+    }
+}
