@@ -5,6 +5,7 @@ pub mod KindSets
 pub mod BoardSets
 pub mod AfterSets
 pub mod Quiet
+pub mod Making
 pub mod Reached
 pub mod OneKing
 pub mod Standing

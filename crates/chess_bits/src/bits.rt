@@ -7,12 +7,11 @@ ghost use Rattle.chess_base.specs.Men.{Men, man_at, is_man};
 ghost use Rattle.chess_base.specs.declared.man.Kind.TheVariants.{King};
 ghost use Rattle.chess_bits.specs.ties.Occupancy.{IsOccupied};
 
-use crate::placing::{move_back, move_on};
+use crate::placing::{move_back, move_on, saved_by};
 use crate::reaching::reached_from;
 use crate::sets::Sets;
 use crate::tables::AttackTables;
 use crate::targets::{is_king, is_pawn};
-use chess_base::for_boards::saved_of;
 use chess_base::{Colour, Kind, Move, Position, Saved, Setup, Square};
 use chess_moves::{Board, MoveList, SquareSet, word_with};
 use std::marker::Model;
@@ -152,7 +151,7 @@ impl Board for Bits<'_> {
     }
 
     fn make(&mut self, m: Move) -> Saved {
-        let saved = saved_of(&self.setup, &m);
+        let saved = saved_by(&self.setup, &m);
         move_on(&mut self.setup, &mut self.sets, &m);
         saved
     }
