@@ -6,6 +6,7 @@ pub mod BoardSets
 pub mod AfterSets
 pub mod Quiet
 pub mod Making
+mod Keyed
 pub mod Reached
 pub mod OneKing
 pub mod Standing

@@ -46,7 +46,7 @@ impl<'t> Bits<'t> {
     {
         let position = Position::initial();
         let setup = *position.setup();
-        let sets = Sets::standing(&setup.men);
+        let sets = Sets::standing(tables.keys(), &setup.men);
         Bits {
             setup,
             sets,
@@ -88,7 +88,7 @@ impl Board for Bits<'_> {
 
     fn set(&mut self, to: &Position) {
         let setup = to.setup();
-        self.sets = Sets::standing(&setup.men);
+        self.sets = Sets::standing(self.tables.keys(), &setup.men);
         self.setup = *setup;
     }
 
@@ -147,16 +147,18 @@ impl Board for Bits<'_> {
     }
 
     fn word(&self) -> u64 {
-        word_with(self.sets.men_word, &self.setup)
+        word_with(self.tables.keys(), self.sets.men_word, &self.setup)
     }
 
     fn make(&mut self, m: Move) -> Saved {
+        let keys = self.tables.keys();
         let saved = saved_by(&self.setup, &m);
-        move_on(&mut self.setup, &mut self.sets, &m);
+        move_on(&mut self.setup, &mut self.sets, keys, &m);
         saved
     }
 
     fn take_back(&mut self, m: Move, saved: Saved) {
-        move_back(&mut self.setup, &mut self.sets, &m, &saved);
+        let keys = self.tables.keys();
+        move_back(&mut self.setup, &mut self.sets, keys, &m, &saved);
     }
 }

@@ -12,6 +12,7 @@ ghost use Rattle.chess_bits.specs.ties.BoardSets.{IsSets};
 ghost use Rattle.chess_bits.specs.ties.Changes.{has_no_right, IsPlainly};
 ghost use Rattle.chess_moves.specs.Made.{IsMade};
 
+use crate::keys::KeyTable;
 use crate::sets::Sets;
 use chess_base::for_boards::{
     Steps, fullmove_after, halfmove_after, is_man, is_of, man_that_lands, rights_after, saved_of,
@@ -21,41 +22,53 @@ use chess_base::{Colour, Kind, Man, Move, Rights, Saved, Setup, Square};
 
 // Changes what stands on a square, if there is one.
 #[inline(always)]
-fn place(men: &mut [Option<Man>; 64], sets: &mut Sets, square: Option<Square>, man: Option<Man>)
+fn place(
+    men: &mut [Option<Man>; 64],
+    sets: &mut Sets,
+    keys: &KeyTable,
+    square: Option<Square>,
+    man: Option<Man>,
+)
     ensures men { men.new ≡ with_man men.old square man }
     ensures sets { IsSets sets.old men.old → IsSets sets.new men.new }
 {
     if let Some(square) = square {
         let old = men[square.index()];
-        sets.write(square, old, man);
+        sets.write(keys, square, old, man);
         men[square.index()] = man;
     }
 }
 
 impl Sets {
     /// The sets of the men that stand so.
-    pub fn standing(men: &[Option<Man>; 64]) -> Sets
+    pub fn standing(keys: &KeyTable, men: &[Option<Man>; 64]) -> Sets
         ensures { IsSets result men.now }
     {
         let mut placed = [None; 64];
         let mut sets = Sets::empty();
         for number in 0..64 {
             let square = Square::new(number);
-            place(&mut placed, &mut sets, Some(square), men[square.index()]);
+            place(
+                &mut placed,
+                &mut sets,
+                keys,
+                Some(square),
+                men[square.index()],
+            );
         }
         sets
     }
 }
 
 // Changes the men by these steps, and their sets.
-fn take_steps(men: &mut [Option<Man>; 64], sets: &mut Sets, steps: &Steps)
+fn take_steps(men: &mut [Option<Man>; 64], sets: &mut Sets, keys: &KeyTable, steps: &Steps)
     ensures men { men.new ≡ men_stepped men.old steps.now }
     ensures sets { IsSets sets.old men.old → IsSets sets.new men.new }
 {
-    place(men, sets, Some(steps.from), None);
-    place(men, sets, steps.second_from, None);
-    place(men, sets, steps.second_to, steps.second);
-    place(men, sets, Some(steps.to), steps.mover);
+    place(men, sets, keys, Some(steps.from), None);
+    place(men, sets, keys, steps.second_from, None);
+    place(men, sets, keys, steps.second_to, steps.second);
+    place(men, sets, keys, Some(steps.to), steps.mover);
 }
 
 // Whether the en passant target is that square.
@@ -179,33 +192,39 @@ fn is_plain(setup: &Setup, m: &Move) -> bool
 
 // What is on one square goes to another, and is there what is given.
 #[inline(always)]
-fn take_step(men: &mut [Option<Man>; 64], sets: &mut Sets, m: &Move, mover: Option<Man>)
+fn take_step(
+    men: &mut [Option<Man>; 64],
+    sets: &mut Sets,
+    keys: &KeyTable,
+    m: &Move,
+    mover: Option<Man>,
+)
     ensures men { men.new ≡ with_man (with_man men.old (Some m.now.from) None) (Some m.now.to) mover }
     ensures sets { IsSets sets.old men.old → IsSets sets.new men.new }
 {
-    place(men, sets, Some(m.from), None);
-    place(men, sets, Some(m.to), mover);
+    place(men, sets, keys, Some(m.from), None);
+    place(men, sets, keys, Some(m.to), mover);
 }
 
 // Moves the men, and changes their sets.
 #[tactic(auto, unfolding(chess_base::specs::Moves::men_after), using(crate::proofs::Making::plainly_written))]
-fn move_men(setup: &mut Setup, sets: &mut Sets, m: &Move)
+fn move_men(setup: &mut Setup, sets: &mut Sets, keys: &KeyTable, m: &Move)
     requires { IsSound setup.old }
     ensures setup { setup.new ≡ record setup.old { men = men_after setup.old m.now } }
     ensures sets { IsSets sets.old setup.old.men → IsSets sets.new setup.new.men }
 {
     if is_plain(setup, m) {
         let mover = man_that_lands(setup.men[m.from.index()], m.promotion);
-        take_step(&mut setup.men, sets, m, mover);
+        take_step(&mut setup.men, sets, keys, m, mover);
         return;
     }
     let steps = steps_of(setup, m);
-    take_steps(&mut setup.men, sets, &steps);
+    take_steps(&mut setup.men, sets, keys, &steps);
 }
 
 // Makes the legal move.
 #[tactic(auto, unfolding(chess_base::specs::Moves::after))]
-pub(crate) fn move_on(setup: &mut Setup, sets: &mut Sets, m: &Move)
+pub(crate) fn move_on(setup: &mut Setup, sets: &mut Sets, keys: &KeyTable, m: &Move)
     requires sound { IsSound setup.old }
     requires legal { IsTrue (is_legal setup.old m.now) }
     ensures setup { setup.new ≡ after setup.old m.now }
@@ -214,7 +233,7 @@ pub(crate) fn move_on(setup: &mut Setup, sets: &mut Sets, m: &Move)
     let rights = rights_left(setup, m);
     let target = target_after(setup, m);
     let halfmove = halfmove_after(setup, m);
-    move_men(setup, sets, m);
+    move_men(setup, sets, keys, m);
     setup.fullmove = fullmove_after(setup.side, setup.fullmove);
     setup.side = setup.side.other();
     setup.rights = rights;
@@ -224,13 +243,19 @@ pub(crate) fn move_on(setup: &mut Setup, sets: &mut Sets, m: &Move)
 
 // Takes the move back.
 #[tactic(auto, unfolding(chess_base::specs::Before::before, chess_base::specs::Before::men_before))]
-pub(crate) fn move_back(setup: &mut Setup, sets: &mut Sets, m: &Move, saved: &Saved)
+pub(crate) fn move_back(
+    setup: &mut Setup,
+    sets: &mut Sets,
+    keys: &KeyTable,
+    m: &Move,
+    saved: &Saved,
+)
     requires { IsMade setup.old m.now saved.now }
     ensures setup { setup.new ≡ before setup.old m.now saved.now }
     ensures sets { IsSets sets.old setup.old.men → IsSets sets.new setup.new.men }
 {
     let steps = steps_back(setup, m, saved);
-    take_steps(&mut setup.men, sets, &steps);
+    take_steps(&mut setup.men, sets, keys, &steps);
     setup.side = setup.side.other();
     setup.rights = saved.rights;
     setup.target = saved.target;
