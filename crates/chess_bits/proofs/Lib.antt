@@ -5,6 +5,8 @@ pub mod KindSets
 pub mod BoardSets
 pub mod AfterSets
 pub mod Quiet
+pub mod Making
+mod Keyed
 pub mod Reached
 pub mod OneKing
 pub mod Standing

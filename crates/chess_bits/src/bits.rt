@@ -7,12 +7,11 @@ ghost use Rattle.chess_base.specs.Men.{Men, man_at, is_man};
 ghost use Rattle.chess_base.specs.declared.man.Kind.TheVariants.{King};
 ghost use Rattle.chess_bits.specs.ties.Occupancy.{IsOccupied};
 
-use crate::placing::{move_back, move_on};
+use crate::placing::{move_back, move_on, saved_by};
 use crate::reaching::reached_from;
 use crate::sets::Sets;
 use crate::tables::AttackTables;
 use crate::targets::{is_king, is_pawn};
-use chess_base::for_boards::saved_of;
 use chess_base::{Colour, Kind, Move, Position, Saved, Setup, Square};
 use chess_moves::{Board, MoveList, SquareSet, word_with};
 use std::marker::Model;
@@ -47,7 +46,7 @@ impl<'t> Bits<'t> {
     {
         let position = Position::initial();
         let setup = *position.setup();
-        let sets = Sets::standing(&setup.men);
+        let sets = Sets::standing(tables.keys(), &setup.men);
         Bits {
             setup,
             sets,
@@ -89,7 +88,7 @@ impl Board for Bits<'_> {
 
     fn set(&mut self, to: &Position) {
         let setup = to.setup();
-        self.sets = Sets::standing(&setup.men);
+        self.sets = Sets::standing(self.tables.keys(), &setup.men);
         self.setup = *setup;
     }
 
@@ -148,16 +147,18 @@ impl Board for Bits<'_> {
     }
 
     fn word(&self) -> u64 {
-        word_with(self.sets.men_word, &self.setup)
+        word_with(self.tables.keys(), self.sets.men_word, &self.setup)
     }
 
     fn make(&mut self, m: Move) -> Saved {
-        let saved = saved_of(&self.setup, &m);
-        move_on(&mut self.setup, &mut self.sets, &m);
+        let keys = self.tables.keys();
+        let saved = saved_by(&self.setup, &m);
+        move_on(&mut self.setup, &mut self.sets, keys, &m);
         saved
     }
 
     fn take_back(&mut self, m: Move, saved: Saved) {
-        move_back(&mut self.setup, &mut self.sets, &m, &saved);
+        let keys = self.tables.keys();
+        move_back(&mut self.setup, &mut self.sets, keys, &m, &saved);
     }
 }

@@ -11,6 +11,7 @@
 mod bits;
 mod castling;
 mod counting;
+mod keys;
 mod kinds;
 mod king;
 mod legality;

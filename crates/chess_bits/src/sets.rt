@@ -8,6 +8,7 @@ ghost use Rattle.chess_bits.specs.ties.KindSets.{IsKinds};
 ghost use Rattle.chess_bits.specs.ties.Occupancy.{IsOccupied};
 ghost use Rattle.chess_moves.specs.Sets.{has};
 
+use crate::keys::KeyTable;
 use crate::kinds::Kinds;
 use chess_base::{Colour, Man, Square};
 use chess_moves::{SquareSet, man_key};
@@ -66,12 +67,12 @@ impl Sets {
     }
 
     // Takes a man from its square.
-    fn lift(&mut self, square: Square, man: Man)
+    fn lift(&mut self, keys: &KeyTable, square: Square, man: Man)
         ensures { (men : Men) → length men ≡ 64 → man_at men square ≡ Some man → IsSets self.old men
             → IsSets self.new (slice_set men square None) }
     {
         let here = SquareSet::single(square);
-        self.men_word ^= man_key(man, square);
+        self.men_word ^= man_key(keys, man, square);
         match man.colour {
             Colour::White => {
                 self.white.lift(man.kind, square);
@@ -85,12 +86,12 @@ impl Sets {
     }
 
     // Puts a man on an empty square.
-    fn put(&mut self, square: Square, man: Man)
+    fn put(&mut self, keys: &KeyTable, square: Square, man: Man)
         ensures { (men : Men) → length men ≡ 64 → man_at men square ≡ None → IsSets self.old men
             → IsSets self.new (slice_set men square (Some man)) }
     {
         let here = SquareSet::single(square);
-        self.men_word ^= man_key(man, square);
+        self.men_word ^= man_key(keys, man, square);
         match man.colour {
             Colour::White => {
                 self.white.put(man.kind, square);
@@ -104,33 +105,33 @@ impl Sets {
     }
 
     // Takes from a square what stands there.
-    fn clear(&mut self, square: Square, old: Option<Man>)
+    fn clear(&mut self, keys: &KeyTable, square: Square, old: Option<Man>)
         ensures { (men : Men) → length men ≡ 64 → man_at men square ≡ old → IsSets self.old men
             → IsSets self.new (slice_set men square None) }
     {
         if let Some(man) = old {
-            self.lift(square, man);
+            self.lift(keys, square, man);
         }
     }
 
     // Puts on an empty square what shall stand there.
-    fn fill(&mut self, square: Square, new: Option<Man>)
+    fn fill(&mut self, keys: &KeyTable, square: Square, new: Option<Man>)
         ensures { (men : Men) → length men ≡ 64 → man_at men square ≡ None → IsSets self.old men
             → IsSets self.new (slice_set men square new) }
     {
         if let Some(man) = new {
-            self.put(square, man);
+            self.put(keys, square, man);
         }
     }
 
     /// Changes what stands on a square.
-    pub fn write(&mut self, square: Square, old: Option<Man>, new: Option<Man>)
+    pub fn write(&mut self, keys: &KeyTable, square: Square, old: Option<Man>, new: Option<Man>)
         ensures { (men : Men) → length men ≡ 64 → man_at men square ≡ old → IsSets self.old men
             → IsSets self.new (slice_set men square new) }
     {
         // The prover wants this fact: the square's number is below 64.
         let _bound = square.number();
-        self.clear(square, old);
-        self.fill(square, new);
+        self.clear(keys, square, old);
+        self.fill(keys, square, new);
     }
 }

@@ -8,6 +8,7 @@ ghost use Rattle.chess_bits.specs.declared.table.Shape.TheVariants.{King, Knight
 ghost use Rattle.chess_bits.specs.declared.line.Line.TheVariants.{Rank, File, Diagonal, Antidiagonal};
 ghost use Rattle.chess_base.specs.declared.man.Colour.TheVariants.{White, Black};
 
+use crate::keys::KeyTable;
 use crate::line::Line;
 use crate::table::{Shape, Table};
 use chess_base::{Colour, Square};
@@ -30,6 +31,7 @@ struct Tables {
     diagonal_down: Table,
     antidiagonal_up: Table,
     antidiagonal_down: Table,
+    keys: KeyTable,
     ghost of_king: { king ≡ King },
     ghost of_knight: { knight ≡ Knight },
     ghost of_white_pawn: { white_pawn ≡ Pawn White },
@@ -46,8 +48,8 @@ struct Tables {
     ghost of_antidiagonal_down: { antidiagonal_down ≡ Ray Antidiagonal false },
 }
 
-/// What the men attack on an empty board, and the rays: fourteen times 64 sets of squares, in one box. They never
-/// change, and are lent to the boards that look attacks up.
+/// What the men attack on an empty board, and the rays: fourteen times 64 sets of squares, and the keys of position
+/// words, in one box. They never change, and are lent to the boards that look them up.
 #[derive(Drop)]
 pub struct AttackTables {
     tables: Box<Tables>,
@@ -88,10 +90,16 @@ impl AttackTables {
             diagonal_down: Table::new(Shape::Ray(Line::Diagonal, false)),
             antidiagonal_up: Table::new(Shape::Ray(Line::Antidiagonal, true)),
             antidiagonal_down: Table::new(Shape::Ray(Line::Antidiagonal, false)),
+            keys: KeyTable::new(),
         };
         Ok(AttackTables {
             tables: Box::new(alloc, tables)?,
         })
+    }
+
+    #[inline(always)]
+    pub(crate) fn keys(&self) -> &KeyTable {
+        &self.tables.keys
     }
 
     fn table(&self, shape: Shape) -> &Table

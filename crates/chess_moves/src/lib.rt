@@ -24,4 +24,4 @@ pub use board::{Board, MoveList, make_then_take_back};
 pub use listing::would_promote;
 pub use plain::Plain;
 pub use set::SquareSet;
-pub use word::{man_key, position_word, word_with};
+pub use word::{ComputedKeys, Keys, man_key, position_word, word_with};

@@ -12,15 +12,25 @@ const FIRST_FACTOR: u64 = 0xBF58_476D_1CE4_E5B9;
 
 const SECOND_FACTOR: u64 = 0x94D0_49BB_1331_11EB;
 
-// The key of that number.
-#[tactic(auto, unfolding(crate::specs::PositionWord::key))]
-fn key(number: u16) -> u64
-    ensures { result ≡ key number }
-{
-    let mut z = (number as u64 + 1).wrapping_mul(INCREMENT);
-    z = (z ^ (z >> 30)).wrapping_mul(FIRST_FACTOR);
-    z = (z ^ (z >> 27)).wrapping_mul(SECOND_FACTOR);
-    z ^ (z >> 31)
+/// The keys that position words are made of: 768 for the men on squares, one for Black on move, and 16 for the rights.
+pub trait Keys {
+    /// The key with that number.
+    fn key(&self, number: u16) -> u64
+        requires { number < 785 }
+        ensures { result ≡ key number };
+}
+
+/// Keys that are computed each time, by three products.
+pub struct ComputedKeys;
+
+impl Keys for ComputedKeys {
+    #[tactic(auto, unfolding(crate::specs::PositionWord::key))]
+    fn key(&self, number: u16) -> u64 {
+        let mut z = (number as u64 + 1).wrapping_mul(INCREMENT);
+        z = (z ^ (z >> 30)).wrapping_mul(FIRST_FACTOR);
+        z = (z ^ (z >> 27)).wrapping_mul(SECOND_FACTOR);
+        z ^ (z >> 31)
+    }
 }
 
 fn colour_place(colour: Colour) -> u16
@@ -48,11 +58,12 @@ fn kind_place(kind: Kind) -> u16
 }
 
 /// The key of a man on a square.
-pub fn man_key(man: Man, square: Square) -> u64
+#[inline(always)]
+pub fn man_key<K: Keys>(keys: &K, man: Man, square: Square) -> u64
     ensures { result ≡ man_key man square }
 {
     let place = 6 * colour_place(man.colour) + kind_place(man.kind);
-    key(64 * place + square.number() as u16)
+    keys.key(64 * place + square.number() as u16)
 }
 
 // The word of what stands on a square.
@@ -61,7 +72,7 @@ fn square_word(square: Square, man: Option<Man>) -> u64
 {
     match man {
         None => 0,
-        Some(x) => man_key(x, square),
+        Some(x) => man_key(&ComputedKeys, x, square),
     }
 }
 
@@ -78,47 +89,47 @@ fn men_word(men: &[Option<Man>; 64]) -> u64
 }
 
 // The word of the side on move alone.
-fn side_word(side: Colour) -> u64
+fn side_word<K: Keys>(keys: &K, side: Colour) -> u64
     ensures { result ≡ xor_of (side_keys side) }
 {
     match side {
         Colour::White => 0,
-        Colour::Black => key(768),
+        Colour::Black => keys.key(768),
     }
 }
 
 // The word of a right, by the square of its rook, if it is there.
-fn right_word(colour: Colour, rook: Option<Square>) -> u64
+fn right_word<K: Keys>(keys: &K, colour: Colour, rook: Option<Square>) -> u64
     ensures { result ≡ xor_of (right_keys colour rook) }
 {
     match rook {
         None => 0,
-        Some(square) => key(769 + 8 * colour_place(colour) + square.file() as u16),
+        Some(square) => keys.key(769 + 8 * colour_place(colour) + square.file() as u16),
     }
 }
 
 // The word of the castling rights alone.
-fn rights_word(rights: &Rights) -> u64
+fn rights_word<K: Keys>(keys: &K, rights: &Rights) -> u64
     ensures { result ≡ xor_of (rights_keys rights.now) }
 {
-    let white_king_side = right_word(Colour::White, rights.white.king_side);
-    let white_queen_side = right_word(Colour::White, rights.white.queen_side);
-    let black_king_side = right_word(Colour::Black, rights.black.king_side);
-    let black_queen_side = right_word(Colour::Black, rights.black.queen_side);
+    let white_king_side = right_word(keys, Colour::White, rights.white.king_side);
+    let white_queen_side = right_word(keys, Colour::White, rights.white.queen_side);
+    let black_king_side = right_word(keys, Colour::Black, rights.black.king_side);
+    let black_queen_side = right_word(keys, Colour::Black, rights.black.queen_side);
     white_king_side ^ white_queen_side ^ black_king_side ^ black_queen_side
 }
 
 /// The position word of a setup, where that of its men is known.
-pub fn word_with(of_men: u64, setup: &Setup) -> u64
+pub fn word_with<K: Keys>(keys: &K, of_men: u64, setup: &Setup) -> u64
     requires { of_men ≡ xor_of (men_keys setup.now.men) }
     ensures { result ≡ position_word setup.now.men setup.now.side setup.now.rights }
 {
-    of_men ^ side_word(setup.side) ^ rights_word(&setup.rights)
+    of_men ^ side_word(keys, setup.side) ^ rights_word(keys, &setup.rights)
 }
 
 /// The position word of a setup.
 pub fn position_word(setup: &Setup) -> u64
     ensures { result ≡ position_word setup.now.men setup.now.side setup.now.rights }
 {
-    word_with(men_word(&setup.men), setup)
+    word_with(&ComputedKeys, men_word(&setup.men), setup)
 }

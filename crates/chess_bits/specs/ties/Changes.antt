@@ -1,12 +1,13 @@
 -- The squares that a move changes and fills, and moves that change their two squares alone.
-use Rattle.std.specs.Prelude.{◌≡◌, ℕ, ◌==◌, ◌&&◌, ◌||◌, Bool, true, false, None}
+use Rattle.std.specs.Prelude.{◌≡◌, ℕ, ◌==◌, ◌&&◌, ◌||◌, Bool, true, false, None, is_none}
 use Rattle.chess_base.specs.declared.man.Kind.TheVariants.{King, Pawn}
 use Rattle.chess_base.specs.declared.man.Move.{Move}
+use Rattle.chess_base.specs.declared.man.Rights.{Rights}
 use Rattle.chess_base.specs.declared.setup.Setup.{Setup}
-use Rattle.chess_base.specs.Castling.{lands_on, castling_rook_to}
+use Rattle.chess_base.specs.Castling.{castle_of, lands_on, castling_rook_to}
 use Rattle.chess_base.specs.Men.{man_at, is_man}
 use Rattle.chess_base.specs.MoveList.{triple}
-use Rattle.chess_base.specs.Moves.{has_pattern, second_square_emptied}
+use Rattle.chess_base.specs.Moves.{has_pattern, is_en_passant, second_square_emptied}
 use Rattle.chess_base.specs.Squares.{is_square}
 
 -- the squares that a move changes, and those that it fills
@@ -22,3 +23,13 @@ pub record StepsPlainly (p : Setup) (a b : ℕ) : Type 0 where
   pub pattern : has_pattern p (triple a b None) ≡ true
   pub no_king : is_man p.side King (man_at p.men a) ≡ false
   pub no_passing : (is_man p.side Pawn (man_at p.men a) && is_square p.target b) ≡ false
+
+-- neither colour may castle any more
+abbrev pub has_no_right : Rights → Bool
+has_no_right r = is_none r.white.king_side && is_none r.white.queen_side && is_none r.black.king_side
+    && is_none r.black.queen_side
+
+-- the move is neither castling nor a capture en passant
+pub record IsPlainly (p : Setup) (m : Move) : Type 0 where
+  pub no_castle : castle_of p m ≡ None
+  pub no_passing : is_en_passant p m ≡ false

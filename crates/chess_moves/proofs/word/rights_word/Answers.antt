@@ -4,7 +4,7 @@ use Rattle.chess_moves.proofs.Xored.{rights_apart}
 use Rattle.chess_moves.proofs.word.rights_word.Goals as goal
 
 pub returns : goal.returns
-returns c =
+returns g c =
     rw (
       c.right_word-white_king_side.ensures,
       c.right_word-white_queen_side.ensures,

@@ -4,6 +4,6 @@ use Rattle.chess_moves.proofs.Xored.{word_apart}
 use Rattle.chess_moves.proofs.word.word_with.Goals as goal
 
 pub returns : goal.returns
-returns c =
+returns g c =
     let p = c.args.setup.now in
     rw (c.requires, c.side_word.ensures, c.rights_word.ensures) (sym (word_apart p.men p.side p.rights))

@@ -1,0 +1,10 @@
+use Rattle.std.proofs.Common.{◌≡◌, ℕ, ◌<◌, length, get_or}
+use Rattle.chess_moves.specs.PositionWord.{key}
+use Rattle.chess_bits.proofs.keys.KeyTable.new.Given as goal
+
+-- the keys so far are those of their numbers
+abbrev pub invariant-loop-number : goal.invariant-loop-number
+invariant-loop-number l = record {
+  long : length l.keys ≡ 785;
+  so_far : (n : ℕ) → n < l.number → get_or l.keys n 0 ≡ key n;
+}

@@ -1,0 +1,30 @@
+//! The keys of position words, computed once.
+
+ghost use Rattle.std.specs.Prelude.{◌≡◌, ℕ, ◌<◌, slice_index};
+ghost use Rattle.chess_moves.specs.PositionWord.{key};
+
+use chess_moves::{ComputedKeys, Keys};
+
+/// All keys by their numbers.
+#[derive(Drop)]
+pub struct KeyTable {
+    keys: [u64; 785],
+    ghost of_numbers: { (n : ℕ) → n < 785 → slice_index keys n ≡ key n },
+}
+
+impl KeyTable {
+    pub fn new() -> Self {
+        let mut keys = [0; 785];
+        for number in 0..785 {
+            keys[number as usize] = ComputedKeys.key(number);
+        }
+        KeyTable { keys }
+    }
+}
+
+impl Keys for KeyTable {
+    #[inline(always)]
+    fn key(&self, number: u16) -> u64 {
+        self.keys[number as usize]
+    }
+}
