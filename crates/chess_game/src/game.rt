@@ -288,6 +288,16 @@ impl<B: Board> Game<B> {
         Ok(())
     }
 
+    /// Declares a result in a game without a verdict, in place of what was declared before.
+    pub fn declare_open(&mut self, outcome: Outcome, comment: Comment)
+        requires { verdict_now self.old.state ≡ None }
+        ensures { self.new
+            ≡ at self.old (with_declared self.old.state (Some (record { outcome = outcome; comment = comment }))) }
+    {
+        let declared = Declared { outcome, comment };
+        self.declared = Some(declared);
+    }
+
     /// Forgets what was declared.
     pub fn clear_declared(&mut self)
         ensures { self.new ≡ at self.old (with_declared self.old.state None) }
@@ -401,7 +411,7 @@ impl<B: Board> Game<B> {
     pub fn is_over(&self) -> bool
         ensures { result ≡ is_over self.now.state }
     {
-        self.verdict().is_some() || self.declared.is_some()
+        self.declared.is_some() || self.verdict().is_some()
     }
 
     /// Whether as many half-moves stand as can.

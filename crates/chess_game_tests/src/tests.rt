@@ -255,6 +255,13 @@ fn declare<B: Board>(
     game.declare(outcome, Comment::cut(comment))
 }
 
+// Declares a result where the game has no verdict.
+fn declare_open<B: Board>(game: &mut Game<B>, outcome: Outcome, comment: &[u8]) {
+    if game.verdict().is_none() {
+        game.declare_open(outcome, Comment::cut(comment));
+    }
+}
+
 // Plays one move, behind which more may stand.
 fn play_first<B: Board>(game: &mut Game<B>, moves: &[u8]) -> Result<(), Fail> {
     let [from_file, from_rank, to_file, to_rank, ..] = *moves else {
@@ -475,6 +482,7 @@ enum Step {
     HasNoMove,
     IsDeclared(Outcome, &'static [u8]),
     IsNotDeclared(Outcome),
+    DeclaresOpen(Outcome, &'static [u8]),
     ClearsDeclared,
     Is(State),
 }
@@ -491,6 +499,7 @@ fn goes<B: Board>(rt: &impl Abort, game: &mut Game<B>, step: Step) -> Result<(),
         Step::HasNoMove => has_no_move(rt, game),
         Step::IsDeclared(outcome, comment) => is_declared(rt, game, outcome, comment),
         Step::IsNotDeclared(outcome) => is_not_declared(rt, game, outcome),
+        Step::DeclaresOpen(outcome, comment) => declare_open(game, outcome, comment),
         Step::ClearsDeclared => clear_declared(game),
         Step::Is(state) => is_so(rt, game, state),
     }
@@ -1012,7 +1021,8 @@ const RESULTS: &[Step] = &[
     Step::IsDeclared(Outcome::WhiteWins, b"Black resigns"),
     Step::IsTakenBack(b"e2e4"),
     Step::Is(State::SaysNothing),
-    Step::IsDeclared(Outcome::BlackWins, b"White resigns"),
+    Step::DeclaresOpen(Outcome::BlackWins, b"White resigns"),
+    Step::Is(State::Says(Outcome::BlackWins, b"White resigns")),
     Step::RestartsInitial,
     Step::Is(State::SaysNothing),
     Step::Is(State::HasOutcome(Outcome::Unfinished)),

@@ -213,11 +213,8 @@ fn end_game<B: Board>(game: &mut Game<B>, outcome: Outcome)
         ≡ left_at game.old
         (with_declared game.old.state (declared_behind (is_some (verdict_now game.old.state)) outcome)) }
 {
-    if outcome != Outcome::Unfinished
-        && game.verdict().is_none()
-        && game.declare(outcome, Comment::cut(b"")).is_err()
-    {
-        unreachable!();
+    if outcome != Outcome::Unfinished && !is_decided(game) {
+        game.declare_open(outcome, Comment::cut(b""));
     }
 }
 

@@ -4,6 +4,7 @@ ghost use Rattle.std.specs.Prelude.{◌≡◌, ◌≤◌, ◌<◌, [], ◌∷◌
 ghost use Rattle.arrayvec.specs.ArrayVec.{array_vec_len};
 ghost use Rattle.byte_devices.specs.Devices.{Puts};
 ghost use Rattle.chess_base.specs.Moves.{is_legal, after};
+ghost use Rattle.chess_game.specs.Game.{outcome_now};
 ghost use Rattle.chess_pgn.specs.GameText.{roster_lines, is_initial, fen_lines, start_lines_in, last_lines, further_lines, tag_lines, number_token, tokens_of_move, move_tokens, game_tokens, placed_all, column_behind_all, pgn};
 ghost use Rattle.chess_pgn.specs.ties.Waiting.{Adds};
 ghost use Rattle.chess_pgn.specs.Written.{ended, move_text_of};
@@ -56,24 +57,26 @@ fn put_game<B: Board, W: Output>(
     ensures { Adds (W.seen writer.old) (W.seen writer.new) lines.old.waiting lines.new.waiting result
         (pgn lines.old.prefix.now tags.now game.now.state) }
 {
-    put_tag_lines(lines, writer, game, tags)?;
-    put_move_text(lines, writer, game, scratch)?;
+    let outcome = game.outcome();
+    put_tag_lines(lines, writer, game, outcome, tags)?;
+    put_move_text(lines, writer, game, outcome, scratch)?;
     lines.put_line(writer, b"")
 }
 
-// Puts the tags of a game, and an empty line.
+// Puts the tags of a game with that outcome, and an empty line.
 fn put_tag_lines<B: Board, W: Output>(
     lines: &mut LineWriter<'_>,
     writer: &mut W,
     game: &Game<B>,
+    outcome: Outcome,
     tags: &Tags,
 ) -> Result<(), WriteFault>
+    requires { outcome ≡ outcome_now game.now.state }
     ensures added { Adds (W.seen writer.old) (W.seen writer.new) lines.old.waiting lines.new.waiting result
         (ended lines.old.prefix.now (tag_lines tags.now game.now.state ++ [] ∷ [])) }
     ensures prefix { lines.new.prefix.now ≡ lines.old.prefix.now }
     ensures column { lines.new.column ≡ lines.old.column }
 {
-    let outcome = game.outcome();
     put_roster(lines, writer, tags, outcome)?;
     let termination = Termination::of(tags.ended, outcome);
     put_further(lines, writer, &game.start(), termination)?;
@@ -223,15 +226,17 @@ fn put_move_text<B: Board, W: Output>(
     lines: &mut LineWriter<'_>,
     writer: &mut W,
     game: &Game<B>,
+    outcome: Outcome,
     scratch: &mut B,
 ) -> Result<(), WriteFault>
-    requires { lines.old.column ≡ 0 }
+    requires outcome { outcome ≡ outcome_now game.now.state }
+    requires column { lines.old.column ≡ 0 }
     ensures added { Adds (W.seen writer.old) (W.seen writer.new) lines.old.waiting lines.new.waiting result
         (move_text_of lines.old.prefix.now (game_tokens game.now.state)) }
     ensures prefix { lines.new.prefix.now ≡ lines.old.prefix.now }
 {
     put_moves(lines, writer, game, scratch)?;
-    lines.put_token(writer, game.outcome().text())?;
+    lines.put_token(writer, outcome.text())?;
     lines.end_line(writer)
 }
 

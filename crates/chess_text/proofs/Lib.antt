@@ -17,6 +17,7 @@ pub mod ShownLaw
 pub mod Origins
 mod SpelledStart
 pub mod Starts
+mod Rivals
 mod Promoting
 mod Shapes
 pub mod NormalTexts

@@ -24,25 +24,22 @@ some_same : {A : Type 0} (x y : A) → Some x ≡ Some y → x ≡ y
 some_same x y e = cc
 
 -- only a pawn promotes
-pub legal_promotes : (p q : Setup) (m : Move) (d : Described) → q ≡ p → IsTrue (is_legal p m) → Some d ≡ described q m
+pub legal_promotes : (p : Setup) (m : Move) (d : Described) → IsTrue (is_legal p m) → Some d ≡ described p m
     → promotes_as_a_pawn d
-legal_promotes p q m d same h e =
+legal_promotes p m d h e =
     let move = legal_move p m h in
-    let is : d ≡ told_of p m move.man = some_same _ _ (e ∙ ap (λ v. described v m) same ∙ described_is p m move) in
+    let is : d ≡ told_of p m move.man = some_same _ _ (e ∙ described_is p m move) in
     rw is (by_kind p m move.man move.moves_as)
 
-pub san_nothing : (p q : Setup) (m : Move) → q ≡ p → None ≡ described q m → List.[] ≡ san p m
+pub san_nothing : (p : Setup) (m : Move) → None ≡ described p m → List.[] ≡ san p m
 unfolding san
-san_nothing p q m same e = ap (san_as p m) (e ∙ ap (λ v. described v m) same)
+san_nothing p m e = ap (san_as p m) e
 
-pub san_written : (p q next : Setup) (m : Move) (d : Described) (ms : List Move) (unmarked text : List ℕ) → q ≡ p
-    → ms ≡ moves p → next ≡ after p m → Some d ≡ described q m
-    → unmarked ≡ unmarked_san (rival_starts q ms d) d → text ≡ unmarked ++ check_mark next → text ≡ san p m
+pub san_written : (p next : Setup) (m : Move) (d : Described) (unmarked text : List ℕ) → next ≡ after p m
+    → Some d ≡ described p m → unmarked ≡ unmarked_san (rival_starts p (moves p) d) d
+    → text ≡ unmarked ++ check_mark next → text ≡ san p m
 unfolding san
-san_written p q next m d ms unmarked text same all left is body e =
-    let of : Some d ≡ described p m = is ∙ ap (λ v. described v m) same in
-    let body' : unmarked ≡ unmarked_san (rival_starts p (moves p) d) d = body
-    ∙ ap (λ v. unmarked_san (rival_starts v ms d) d) same ∙ ap (λ v. unmarked_san (rival_starts p v d) d) all in
-    e ∙ ap (λ v. v ++ check_mark next) body'
+san_written p next m d unmarked text left is body e =
+    e ∙ ap (λ v. v ++ check_mark next) body
     ∙ ap (λ v. unmarked_san (rival_starts p (moves p) d) d ++ check_mark v) left
-    ∙ ap (san_as p m) of
+    ∙ ap (san_as p m) is

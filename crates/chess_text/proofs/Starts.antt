@@ -28,7 +28,7 @@ use Rattle.chess_text.proofs.SpelledStart.{spelled_of}
 
 -- ---- no promotion
 
-unpromoted : (p : Setup) (m : Move) (k j : Kind) → MovesAs p m j → same_kind k j ≡ true → same_kind Pawn k ≡ false
+pub unpromoted : (p : Setup) (m : Move) (k j : Kind) → MovesAs p m j → same_kind k j ≡ true → same_kind Pawn k ≡ false
     → m.promotion ≡ None
 unpromoted p m k King e same other = e
 unpromoted p m k Queen e same other = e
@@ -113,7 +113,7 @@ starts p q k w e legal_starts = λ m spelled legal.
 
 -- ---- one move from each of them
 
-one_kept : (t : Move → Bool) (a b : ℕ) (s : Bool) → t (triple a b None) ≡ s → t (triple a b (Some Queen)) ≡ false
+pub one_kept : (t : Move → Bool) (a b : ℕ) (s : Bool) → t (triple a b None) ≡ s → t (triple a b (Some Queen)) ≡ false
     → t (triple a b (Some Rook)) ≡ false → t (triple a b (Some Bishop)) ≡ false → t (triple a b (Some Knight)) ≡ false
     → filter t (triple a b None ∷ triple a b (Some Queen) ∷ triple a b (Some Rook) ∷ triple a b (Some Bishop)
     ∷ triple a b (Some Knight) ∷ []) ≡ cond s (triple a b None ∷ []) []

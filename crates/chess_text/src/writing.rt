@@ -1,16 +1,20 @@
 //! Writing a move in SAN (PGN standard of 1994, section 8.2.3).
 
-ghost use Rattle.std.specs.Prelude.{◌≡◌, ◌+◌, ◌≤◌, ◌<◌, ◌∷◌, [], ◌++◌, length, IsTrue};
+ghost use Rattle.std.specs.Prelude.{◌≡◌, ◌+◌, ◌≤◌, ◌<◌, ◌∷◌, [], ◌++◌, false, IsTrue};
 ghost use Rattle.arrayvec.specs.ArrayVec.{array_vec_len};
 ghost use Rattle.chess_base.specs.Letters.{white_letter, square_text};
+ghost use Rattle.chess_base.specs.declared.man.Kind.TheVariants.{Pawn};
+ghost use Rattle.chess_base.specs.Men.{same_kind};
+ghost use Rattle.chess_base.specs.MoveList.{moves};
 ghost use Rattle.chess_base.specs.Moves.{is_legal};
+ghost use Rattle.chess_moves.specs.Sets.{members};
 ghost use Rattle.chess_text.specs.Parts.{when, parts_text};
-ghost use Rattle.chess_text.specs.San.{castling_text, some_on_file, some_on_rank, said, told_start, pawn_parts, officer_parts, is_rival, rival_starts, promotes_as_a_pawn, unmarked_san, check_mark, san};
+ghost use Rattle.chess_text.specs.San.{castling_text, some_on_file, some_on_rank, said, told_start, pawn_parts, officer_parts, rival_starts, promotes_as_a_pawn, unmarked_san, check_mark, san};
 
 use crate::described::{Described, describe};
 use arrayvec::ArrayVec;
-use chess_base::{CastlingSide, Kind, Move, Setup, Square};
-use chess_moves::Board;
+use chess_base::{CastlingSide, Kind, Move, Square};
+use chess_moves::{Board, SquareSet};
 
 /// The SAN of a move: two to seven bytes.
 pub type SanText = ArrayVec<u8, 7>;
@@ -22,16 +26,30 @@ pub struct ToldStart {
     pub rank: bool,
 }
 
-fn some_on_file(file: u8, squares: &[Square]) -> bool
-    ensures { result ≡ some_on_file file squares.now }
+// Whether one of the squares is on the file.
+fn some_on_file(file: u8, squares: SquareSet) -> bool
+    ensures { result ≡ some_on_file file (members squares) }
 {
-    squares.iter().any(|square| square.file() == file)
+    let mut rest = squares;
+    while let Some(square) = rest.take_first() {
+        if square.file() == file {
+            return true;
+        }
+    }
+    false
 }
 
-fn some_on_rank(rank: u8, squares: &[Square]) -> bool
-    ensures { result ≡ some_on_rank rank squares.now }
+// Whether one of the squares is on the rank.
+fn some_on_rank(rank: u8, squares: SquareSet) -> bool
+    ensures { result ≡ some_on_rank rank (members squares) }
 {
-    squares.iter().any(|square| square.rank() == rank)
+    let mut rest = squares;
+    while let Some(square) = rest.take_first() {
+        if square.rank() == rank {
+            return true;
+        }
+    }
+    false
 }
 
 fn said(file: bool, rank: bool) -> ToldStart
@@ -40,11 +58,12 @@ fn said(file: bool, rank: bool) -> ToldStart
     ToldStart { file, rank }
 }
 
-// What has to be said of a start square beside the starts of other moves that the text would spell without it.
-fn told_start(from: Square, others: &[Square]) -> ToldStart
-    ensures { result ≡ told_start from others.now }
+// What has to be said of a start square beside the starts of other moves that the text would denote without it.
+#[tactic(auto, using(crate::proofs::Rivals::alone, crate::proofs::Rivals::beside_others))]
+fn told_start(from: Square, others: SquareSet) -> ToldStart
+    ensures { result ≡ told_start from (members others) }
 {
-    if let [] = others {
+    if others.is_empty() {
         said(false, false)
     } else if !some_on_file(from.file(), others) {
         said(true, false)
@@ -55,32 +74,13 @@ fn told_start(from: Square, others: &[Square]) -> ToldStart
     }
 }
 
-// Whether the move goes to the same square by a man of the same kind from another one.
-#[tactic(auto, unfolding(crate::specs::San::is_rival))]
-fn is_rival(setup: &Setup, d: &Described, m: &Move) -> bool
-    ensures { result ≡ is_rival setup.now d.now m.now }
+// Where the other pieces of the kind start that have the legal move to the same square.
+fn rival_starts<B: Board>(board: &B, d: &Described) -> SquareSet
+    requires { same_kind d.now.man Pawn ≡ false }
+    ensures { members result ≡ rival_starts (B.position board.now) (moves (B.position board.now)) d.now }
 {
-    m.to == d.to
-        && m.from != d.from
-        && match describe(setup, m) {
-            None => false,
-            Some(other) => other.man == d.man,
-        }
-}
-
-// Where those of the moves start that need to be told apart from the one described.
-#[tactic(auto, unfolding(crate::specs::San::rival_starts))]
-fn rival_starts(setup: &Setup, moves: &[Move], d: &Described) -> ArrayVec<Square, 896>
-    requires { length moves.now ≤ 896 }
-    ensures { result.items ≡ rival_starts setup.now moves.now d.now }
-{
-    let mut starts = ArrayVec::new();
-    for m in moves {
-        if is_rival(setup, d, m) {
-            starts.push(m.from);
-        }
-    }
-    starts
+    let starts = board.legal_starts(d.man, d.to);
+    starts.without(SquareSet::single(d.from))
 }
 
 // Adds a byte where it is to be said.
@@ -144,9 +144,9 @@ fn pawn_text(d: &Described) -> SanText
     text
 }
 
-fn officer_text(others: &[Square], d: &Described) -> SanText
+fn officer_text(others: SquareSet, d: &Described) -> SanText
     requires { d.now.promotion ≡ None }
-    ensures text { result.items ≡ parts_text (officer_parts others.now d.now) }
+    ensures text { result.items ≡ parts_text (officer_parts (members others) d.now) }
     ensures len { array_vec_len result ≤ 6 }
 {
     let start = told_start(d.from, others);
@@ -159,12 +159,12 @@ fn officer_text(others: &[Square], d: &Described) -> SanText
     text
 }
 
-// The text of a described move without a mark, beside those moves.
+// The text of a described move without a mark, beside the board's legal moves.
 #[tactic(auto, unfolding(crate::specs::San::walk_parts))]
-fn unmarked_san(setup: &Setup, moves: &[Move], d: &Described) -> SanText
-    requires few { length moves.now ≤ 896 }
+fn unmarked_san<B: Board>(board: &B, d: &Described) -> SanText
     requires promotes { promotes_as_a_pawn d.now }
-    ensures text { result.items ≡ unmarked_san (rival_starts setup.now moves.now d.now) d.now }
+    ensures text { result.items
+        ≡ unmarked_san (rival_starts (B.position board.now) (moves (B.position board.now)) d.now) d.now }
     ensures len { array_vec_len result ≤ 6 }
 {
     if let Some(castling_side) = d.castles {
@@ -173,8 +173,7 @@ fn unmarked_san(setup: &Setup, moves: &[Move], d: &Described) -> SanText
     if d.man == Kind::Pawn {
         return pawn_text(d);
     }
-    let others = rival_starts(setup, moves, d);
-    officer_text(others.as_slice(), d)
+    officer_text(rival_starts(board, d), d)
 }
 
 // Adds the mark of the position after a move.
@@ -201,13 +200,10 @@ pub fn san<B: Board>(board: &mut B, m: Move) -> SanText
 {
     // The prover wants two variables here: each of the two calls that go forward and back is given a move.
     let again = m;
-    let position = board.position();
-    let setup = position.setup();
-    let Some(d) = describe(setup, &m) else {
+    let Some(d) = describe(board.setup(), &m) else {
         return SanText::new();
     };
-    let moves = board.legal_moves();
-    let mut text = unmarked_san(setup, moves.as_slice(), &d);
+    let mut text = unmarked_san(board, &d);
     let saved = board.make(m);
     write_mark(board, &mut text);
     board.take_back(again, saved);

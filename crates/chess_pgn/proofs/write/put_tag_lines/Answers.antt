@@ -9,8 +9,8 @@ returns-in_err-put_roster-clause-added g c =
     let prefix = c.args.lines.now.prefix.now in
     adds_exit _ _ c.from_residual.result _ _ _
     (first_broke _ _ _ _ _ _ _
-    (tags_are prefix prefix prefix c.args.tags.now c.outcome-outcome.result c.args.game.now.state.start _
-    c.args.game.now.state c.outcome-outcome.ensures refl refl refl refl) c.in_err-put_roster.ensures.added)
+    (tags_are prefix prefix prefix c.args.tags.now c.args.outcome c.args.game.now.state.start _
+    c.args.game.now.state c.requires refl refl refl refl) c.in_err-put_roster.ensures.added)
     c.from_residual.ensures.0
 
 pub returns-in_err-put_further-clause-added : goal.returns-in_err-put_further-clause-added
@@ -18,8 +18,8 @@ returns-in_err-put_further-clause-added g c =
     let prefix = c.args.lines.now.prefix.now in
     adds_exit _ _ c.from_residual-in_err-put_further.result _ _ _
     (second_broke _ _ _ _ _ _ _ _ _
-    (tags_are prefix c.put_roster.new.lines.prefix.now prefix c.args.tags.now c.outcome-outcome.result
-    c.start.result c.of-termination.result c.args.game.now.state c.outcome-outcome.ensures c.start.ensures
+    (tags_are prefix c.put_roster.new.lines.prefix.now prefix c.args.tags.now c.args.outcome
+    c.start.result c.of-termination.result c.args.game.now.state c.requires c.start.ensures
     c.of-termination.ensures c.in_ok-put_roster.ensures.prefix refl) c.in_ok-put_roster.ensures.added
     c.in_err-put_further.ensures.added)
     c.from_residual-in_err-put_further.ensures.0
@@ -28,7 +28,7 @@ pub returns-clause-added : goal.returns-clause-added
 returns-clause-added g c =
     third_put _ _ _ _ c.put_line.result _ _ _ _ _ _ _ _
     (tags_are c.args.lines.now.prefix.now c.put_roster.new.lines.prefix.now c.put_further.new.lines.prefix.now
-    c.args.tags.now c.outcome-outcome.result c.start.result c.of-termination.result c.args.game.now.state
-    c.outcome-outcome.ensures c.start.ensures c.of-termination.ensures c.in_ok-put_roster.ensures.prefix
+    c.args.tags.now c.args.outcome c.start.result c.of-termination.result c.args.game.now.state
+    c.requires c.start.ensures c.of-termination.ensures c.in_ok-put_roster.ensures.prefix
     (c.in_ok-put_further.ensures.prefix ∙ c.in_ok-put_roster.ensures.prefix))
     c.in_ok-put_roster.ensures.added c.in_ok-put_further.ensures.added c.put_line.ensures.added

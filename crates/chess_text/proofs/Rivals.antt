@@ -1,0 +1,207 @@
+-- The rivals of an officer's move begin on the squares from which another piece of its kind has the legal move to the
+-- end square.
+use mathlib.Core.Bool.{and-false}
+use Rattle.std.proofs.Common.{◌≡◌, ◌≢◌, ℕ, zero, suc, ◌<◌, ◌+◌, ◌≤◌, inl, inr, Bool, true, false, not, ◌&&◌, ◌==◌, if◌then◌else◌, cond, Some, None, List, [], ◌∷◌, ◌++◌, map, refl, sym, ap, ◌∙◌, arith}
+use Rattle.std.proofs.lemmas.Bool.{cases_Bool, and_parts, false_from_ne_true, eqb-true, eq-eqb}
+use Rattle.std.proofs.lemmas.List.{map-append}
+use Rattle.std.specs.List.{filter, flat_map, list_any, range_with_len}
+use Rattle.chess_base.specs.declared.man.Colour.{Colour}
+use Rattle.chess_base.specs.declared.man.Colour.TheVariants.{White, Black}
+use Rattle.chess_base.specs.declared.man.Kind.{Kind}
+use Rattle.chess_base.specs.declared.man.Kind.TheVariants.{King, Queen, Rook, Bishop, Knight, Pawn}
+use Rattle.chess_base.specs.declared.man.Move.{Move}
+use Rattle.chess_base.specs.declared.setup.Setup.{Setup}
+use Rattle.chess_base.specs.Squares.{file, rank, some_square}
+use Rattle.chess_base.proofs.OverSquares.{some_square-none}
+use Rattle.chess_base.specs.Men.{man_at, is_man, same_kind, same_colour}
+use Rattle.chess_base.specs.Moves.{is_legal}
+use Rattle.chess_base.specs.MoveList.{promotions, triple, squares, all_triples, moves}
+use Rattle.chess_moves.specs.Sets.{has, members, HasLegalStarts}
+use Rattle.chess_moves.proofs.Members.{by_range, members_none, of_range}
+use Rattle.chess_moves.proofs.Parts.{filter-flat_map}
+use Rattle.chess_moves.proofs.SomeMember.{any-filter, any-square}
+use Rattle.chess_text.specs.declared.described.Described.{Described}
+use Rattle.chess_text.specs.Moves.{described, passes}
+use Rattle.chess_text.specs.San.{is_rival, rival_starts, said, some_on_file, some_on_rank, told_start}
+use Rattle.chess_text.proofs.Alone.{same_kind-self, same_kind-true}
+use Rattle.chess_text.proofs.AllMoves.{filter-both, none-kept, kept, alone-square}
+use Rattle.chess_text.proofs.Legal.{IsMove, legal_move, described_is}
+use Rattle.chess_text.proofs.Starts.{unpromoted, one_kept}
+
+-- ---- one rival
+
+abbrev legal_rival : Setup → Described → Move → Bool
+legal_rival p d m = is_legal p m && is_rival p d m
+
+abbrev is_other : Described → Move → Bool
+is_other d m = (m.to == d.to) && not (m.from == d.from)
+
+ends : (p : Setup) (d : Described) (m : Move) → is_rival p d m ≡ true → m.to ≡ d.to
+unfolding is_rival
+ends p d m e =
+    let two = and_parts (is_other d m) (passes (λ x. same_kind x.man d.man) (described p m)) e in
+    eqb-true m.to d.to (and_parts (m.to == d.to) (not (m.from == d.from)) two.0).0
+
+of_move : (p : Setup) (d : Described) (m : Move) (h : IsMove p m)
+    → is_rival p d m ≡ (is_other d m && same_kind h.man d.man)
+unfolding is_rival
+of_move p d m h = ap (λ o. is_other d m && passes (λ x. same_kind x.man d.man) o) (described_is p m h)
+
+officer : (j k : Kind) → same_kind j k ≡ true → same_kind k Pawn ≡ false
+    → (same_kind k j ≡ true) × (same_kind Pawn k ≡ false)
+officer j k e other = (same k j (same_kind-true j k e), apart k other)
+  where
+    same : (k j : Kind) → j ≡ k → same_kind k j ≡ true
+    same k j e = rw e (same_kind-self k)
+
+    apart : (k : Kind) → same_kind k Pawn ≡ false → same_kind Pawn k ≡ false
+    apart King h = refl
+    apart Queen h = refl
+    apart Rook h = refl
+    apart Bishop h = refl
+    apart Knight h = refl
+    apart Pawn h = absurd cc
+
+stays : (p : Setup) (d : Described) (m : Move) → same_kind d.man Pawn ≡ false → legal_rival p d m ≡ true
+    → m.promotion ≡ None
+stays p d m other e =
+    let both = and_parts (is_legal p m) (is_rival p d m) e in
+    let h = legal_move p m both.0 in
+    let kinds = officer h.man d.man
+    (and_parts (is_other d m) (same_kind h.man d.man) (sym (of_move p d m h) ∙ both.1)).1 other in
+    unpromoted p m d.man h.man h.moves_as kinds.0 kinds.1
+
+-- ---- the rivals from one square
+
+elsewhere : (p : Setup) (d : Described) (m : Move) → m.to ≢ d.to → legal_rival p d m ≡ false
+elsewhere p d m away = false_from_ne_true (legal_rival p d m)
+    (λ e. away (ends p d m (and_parts (is_legal p m) (is_rival p d m) e).1))
+
+outside : (p : Setup) (d : Described) (m : Move) → 64 ≤ m.to → legal_rival p d m ≡ false
+outside p d m past = false_from_ne_true (legal_rival p d m)
+    (λ e. let legal = legal_move p m (and_parts (is_legal p m) (is_rival p d m) e).0 in let below = legal.to_in in
+    omega (arith, below, past))
+
+promoted : (p : Setup) (d : Described) (a : ℕ) (k : Kind) → same_kind d.man Pawn ≡ false
+    → legal_rival p d (triple a d.to (Some k)) ≡ false
+promoted p d a k other = false_from_ne_true (legal_rival p d (triple a d.to (Some k)))
+    (λ e. let none : Some k ≡ None = stays p d (triple a d.to (Some k)) other e in cc)
+
+-- another piece of the kind has the legal move to the same square
+abbrev starts : Setup → Described → ℕ → Bool
+starts p d a = is_man p.side d.man (man_at p.men a) && is_legal p (triple a d.to None) && not (a == d.from)
+
+is_start : (p : Setup) (d : Described) (a : ℕ) → legal_rival p d (triple a d.to None) ≡ starts p d a
+unfolding is_man
+is_start p d a =
+    elim (cases_Bool (is_legal p (triple a d.to None))) [
+      | inr off ↦ rw (off, and-false (is_man p.side d.man (man_at p.men a))) refl
+      | inl legal ↦
+          let h = legal_move p (triple a d.to None) legal in
+          rw (legal, of_move p d (triple a d.to None) h, h.at_from, eq-eqb d.to d.to refl, own p.side)
+          (by_kinds (not (a == d.from)) h.man d.man)
+    ]
+  where
+    own : (c : Colour) → same_colour c c ≡ true
+    own White = refl
+    own Black = refl
+
+    by_kinds : (t : Bool) (j k : Kind) → (t && same_kind j k) ≡ ((same_kind k j && true) && t)
+    by_kinds t j k = grind (arith)
+
+from_square : (p : Setup) (d : Described) (a : ℕ) → same_kind d.man Pawn ≡ false
+    → map (λ (m : Move). m.from) (filter (legal_rival p d) (flat_map (λ b. map (triple a b) promotions) squares))
+    ≡ cond (starts p d a) (a ∷ []) []
+from_square p d a other =
+    ap (map (λ (m : Move). m.from))
+    (filter-flat_map (legal_rival p d) (λ b. map (triple a b) promotions) squares
+    ∙ alone-square (λ b. kept (legal_rival p d) a b) d.to
+    (λ b away. none-kept (legal_rival p d) a b (λ k. elsewhere p d (triple a b k) away))
+    (λ past. none-kept (legal_rival p d) a d.to (λ k. outside p d (triple a d.to k) past))
+    ∙ one_kept (legal_rival p d) a d.to (starts p d a) (is_start p d a) (promoted p d a Queen other)
+    (promoted p d a Rook other) (promoted p d a Bishop other) (promoted p d a Knight other))
+    ∙ its_start (starts p d a)
+  where
+    its_start : (s : Bool) → map (λ (m : Move). m.from) (cond s (triple a d.to None ∷ []) []) ≡ cond s (a ∷ []) []
+    its_start true = refl
+    its_start false = refl
+
+-- ---- all of them
+
+gathered : (f : ℕ → List Move) (t : ℕ → Bool) (n a : ℕ)
+    → ((k : ℕ) → k < a + n → map (λ (m : Move). m.from) (f k) ≡ cond (t k) (k ∷ []) [])
+    → map (λ (m : Move). m.from) (flat_map f (range_with_len a n)) ≡ filter t (range_with_len a n)
+gathered f t zero a h = refl
+gathered f t (suc n) a h =
+    let rest : map (λ (m : Move). m.from) (flat_map f (range_with_len (a + 1) n)) ≡ filter t (range_with_len (a + 1) n) =
+    gathered f t n (a + 1) (λ k l. h k (omega arith)) in
+    map-append (λ (m : Move). m.from) (f a) (flat_map f (range_with_len (a + 1) n))
+    ∙ rw (h a (omega arith), rest) (joined (t a) a (filter t (range_with_len (a + 1) n)))
+  where
+    joined : (s : Bool) (a : ℕ) (xs : List ℕ) → (cond s (a ∷ []) [] ++ xs) ≡ cond s (a ∷ xs) xs
+    joined true a xs = refl
+    joined false a xs = refl
+
+pub rivals : (p : Setup) (d : Described) (w s v : ℕ) → same_kind d.man Pawn ≡ false → HasLegalStarts p d.man d.to w
+    → ((k : ℕ) → has s k ≡ (k == d.from)) → ((k : ℕ) → k < 64 → has v k ≡ (has w k && not (has s k)))
+    → members v ≡ rival_starts p (moves p) d
+unfolding rival_starts moves all_triples
+rivals p d w s v other legal_starts single without =
+    sym (ap (map (λ (m : Move). m.from))
+    (filter-both (λ m. is_legal p m) (λ m. is_rival p d m) all_triples
+    ∙ filter-flat_map (legal_rival p d) (λ a. flat_map (λ b. map (triple a b) promotions) squares) squares)
+    ∙ ap (λ xs. map (λ (m : Move). m.from) (flat_map (λ a. from a) xs)) by_range
+    ∙ gathered (λ a. from a) (λ k. has v k) 64 0
+    (λ k low. from_square p d k other
+    ∙ ap (λ b. cond b (k ∷ []) []) (sym (without k (omega (arith, low))
+    ∙ ap (λ b. b && not (has s k)) (legal_starts k (omega (arith, low)))
+    ∙ ap (λ b. is_man p.side d.man (man_at p.men k) && is_legal p (triple k d.to None) && not b) (single k))))
+    ∙ sym (of_range v))
+  where
+    from : ℕ → List Move
+    from a = filter (legal_rival p d) (flat_map (λ b. map (triple a b) promotions) squares)
+
+-- ---- what is said of the start
+
+some_member : (w : ℕ) → some_square (λ k. has w k) ≡ true → list_any (λ s. true) (members w) ≡ true
+unfolding members
+some_member w some =
+    any-filter (λ k. has w k) (λ s. true) squares
+    ∙ elim (cases_Bool (list_any (λ k. has w k && true) squares)) [
+      | inl on ↦ on
+      | inr off ↦
+          let none : some_square (λ k. has w k) ≡ false = some_square-none (λ k. has w k)
+          (λ k low. false_from_ne_true (has w k)
+          (λ here. let on = any-square (λ k. has w k && true) k low (rw here refl) in cc)) in
+          absurd cc
+    ]
+
+pub alone : (from w : ℕ) → w ≡ 0 → said false false ≡ told_start from (members w)
+alone from w none = ap (told_start from) (sym (members_none w none))
+
+-- beside others it is by their files and ranks
+pub beside_others : (from w : ℕ) (empty : Bool) → empty ≡ not (some_square (λ k. has w k)) → empty ≡ false
+    → (if not (some_on_file (file from) (members w)) then said true false
+    else (if not (some_on_rank (rank from) (members w)) then said false true else said true true))
+    ≡ told_start from (members w)
+beside_others from w empty is off = by_others from (members w) (some_member w (occupied empty (some_square (λ k. has w k)) is off))
+  where
+    occupied : (empty some : Bool) → empty ≡ not some → empty ≡ false → some ≡ true
+    occupied empty true is off = refl
+    occupied empty false is off = cc
+
+    by_others : (from : ℕ) (xs : List ℕ) → list_any (λ s. true) xs ≡ true
+        → (if not (some_on_file (file from) xs) then said true false
+        else (if not (some_on_rank (rank from) xs) then said false true else said true true)) ≡ told_start from xs
+    by_others from [] h = absurd cc
+    by_others from (x ∷ xs) h = refl
+
+pub file_said : (from f w : ℕ) (empty on : Bool) → empty ≡ not (some_square (λ k. has w k)) → empty ≡ false
+    → f ≡ file from → on ≡ some_on_file f (members w) → on ≡ false → said true false ≡ told_start from (members w)
+file_said from f w empty on is full at found off =
+    let none : some_on_file (file from) (members w) ≡ false = ap (λ n. some_on_file n (members w)) (sym at) ∙ sym found
+    ∙ off in
+    sym (ap (λ b. if not b then said true false
+    else (if not (some_on_rank (rank from) (members w)) then said false true else said true true))
+    none)
+    ∙ beside_others from w empty is full
