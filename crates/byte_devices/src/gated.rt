@@ -11,9 +11,9 @@ use std::alloc::Global;
 use std::cell::Cell;
 use std::io::{Error, ErrorKind, Read, Result, Write};
 
-/// Gives one line at a call, and shuts the gate behind it; a flush of its `GatedWriter` opens it, and a write
+/// Gives one line at a call, and shuts the gate after it; a flush of its `GatedWriter` opens it, and a write
 /// shuts it too. Where the gate is shut, a read fails and is counted: it came too early, before the answer to the
-/// last line was handed on.
+/// last line was passed on.
 #[derive(Drop)]
 pub struct GatedReader<'a> {
     /// The bytes that are still to be given.
@@ -38,7 +38,7 @@ impl<'a> GatedReader<'a> {
     }
 }
 
-// The place of the first byte 10.
+// The offset of the first byte 10.
 fn line_end(text: &[u8]) -> Option<usize>
     ensures value { result ≡ position (λ b. b == 10) text.now }
     ensures in_range { IfSome result (λ at. at < length text.now) }

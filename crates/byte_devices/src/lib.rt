@@ -1,4 +1,4 @@
-//! What gives bytes and what takes them: readers and writers whose contracts tell their bytes and count their failures.
+//! What gives bytes and what takes them: readers and writers whose contracts fix their bytes and count their failures.
 //!
 //! A reader that gives pieces of three bytes, and a writer into memory:
 //!

@@ -1,4 +1,4 @@
-//! A reader and a writer over memory, for tests: they cut pieces as told, fail at one call, and go on.
+//! A reader and a writer over memory, for tests: they cut pieces as asked, fail at one call, and go on.
 
 ghost use Rattle.std.specs.Prelude.{◌≡◌, [], ◌<◌, ◌+◌, ◌⊎◌, ◌↔◌, min, length, IsErr, IfOk, IfErr, OnErr, vec_len, vec_capacity};
 ghost use Rattle.std.specs.Io.{ReadsAtMost, WritesAtMost};

@@ -13,12 +13,12 @@ pub struct ReadFault;
 #[error("a write or a flush failed")]
 pub struct WriteFault;
 
-/// What gives bytes, in pieces. Its contract counts the calls that failed and the ends that were told.
+/// What gives bytes, in pieces. Its contract counts the calls that failed and the ends that were reported.
 pub trait Input {
     /// What contracts see of it: the bytes still to come where they are known, and the counts.
     ghost seen: { Self → InputState };
 
-    /// Reads a piece into the front of `buf`, and answers its length in bytes, 0 for the end.
+    /// Reads a piece into the front of `buf`, and returns its length in bytes, 0 for the end.
     fn read(&mut self, buf: &mut [u8]) -> Result<usize, ReadFault>
         requires { 0 < length buf.old }
         ensures { ReadStep (seen self.old) (seen self.new) result buf.new };
@@ -29,16 +29,16 @@ pub trait Output {
     /// What contracts see of it: the bytes that it took where they are known, and the counts.
     ghost seen: { Self → OutputState };
 
-    /// Takes a beginning of `buf`, and answers how many bytes.
+    /// Takes a beginning of `buf`, and returns how many bytes.
     fn write(&mut self, buf: &[u8]) -> Result<usize, WriteFault>
         ensures { WriteStep (seen self.old) (seen self.new) result buf.now };
 
-    /// Hands on what was taken, so that a reader at the other end has it.
+    /// Passes on what was taken, so that a reader at the other end has it.
     fn flush(&mut self) -> Result<(), WriteFault>
         ensures { FlushStep (seen self.old) (seen self.new) result };
 }
 
-/// Writes all of a text. After a fault a beginning of it was taken.
+/// Writes all of a text. After a fault a beginning of it has been taken.
 pub fn put<W: Output>(writer: &mut W, text: &[u8]) -> Result<(), WriteFault>
     ensures { Puts (W.seen writer.old) (W.seen writer.new) result text.now }
 {
@@ -49,7 +49,7 @@ pub fn put<W: Output>(writer: &mut W, text: &[u8]) -> Result<(), WriteFault>
     Ok(())
 }
 
-/// Writes texts, one behind another. After a fault a beginning of them was taken.
+/// Writes texts, one after the other. After a fault a beginning of them has been taken.
 pub fn put_parts<W: Output>(writer: &mut W, parts: &[&[u8]]) -> Result<(), WriteFault>
     ensures { Puts (W.seen writer.old) (W.seen writer.new) result (joined parts.now) }
 {

@@ -223,7 +223,7 @@ enum Step {
     Flushes,
 }
 
-// A second line needs a second flush, and that behind all that was written.
+// A second line needs a second flush, after all that was written.
 const STEPS: [Step; 12] = [
     Step::Gives(b"new\n"),
     Step::IsEarly,

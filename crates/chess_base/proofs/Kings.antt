@@ -14,7 +14,7 @@ use Rattle.chess_base.specs.Castling.{king_square}
 use Rattle.chess_base.proofs.Counts.{count_by-set}
 use Rattle.chess_base.proofs.MenFacts.{in_board}
 
--- where one man passes, no two squares do
+-- where one piece passes, no two squares do
 only_one : (q : Option Man → Bool) (men : Men) (i j : ℕ) → q None ≡ false → count_by q men ≡ 1 → i < length men
     → j < length men → q (man_at men i) ≡ true → q (man_at men j) ≡ true → i ≡ j
 only_one q men i j n one hi hj a b =
@@ -38,7 +38,7 @@ one_king men c i j l h a b =
     only_one (λ o. is_man c King o) men i j refl (eqb-true (count_by (λ o. is_man c King o) men) 1 h) (omega (arith, l))
     (omega (arith, l)) a b
 
--- where a colour has one king, its square is where a king stands
+-- where a colour has one king, its square is where a king is
 pub king_square-at : (men : Men) (c : Colour) (k : ℕ) → length men ≡ 64 → has_one_king men c ≡ true
     → is_man c King (man_at men k) ≡ true → king_square men c ≡ Some k
 unfolding king_square
@@ -51,7 +51,7 @@ king_square-at men c k l h a =
     let test : nat_lt k 64 ≡ true = grind (arith, nat_tests) in
     rw (place, l, test) refl
 
--- and a king stands there
+-- and a king is there
 pub king_square-king : (men : Men) (c : Colour) (k : ℕ) → king_square men c ≡ Some k
     → is_man c King (man_at men k) ≡ true
 unfolding king_square

@@ -31,7 +31,7 @@ all-over Q g (suc n) f h =
     (All-append Q (g (f 0)) (flat_map g (from_below n (λ k. f (suc k)))) (h 0)
     (all-over Q g n (λ k. f (suc k)) (λ k. h (suc k))))
 
--- lists one behind the other rise, where each rises and what one number gives comes before what a higher one gives
+-- lists one after the other rise, where each rises and what one number gives comes before what a higher one gives
 pairs-over : {X : Type 0} (R : X → X → Type 0) (P : ℕ → X → Type 0) (g : ℕ → List X) → ((a : ℕ) → All (P a) (g a))
     → ((a : ℕ) → AllPairs R (g a)) → ((a b : ℕ) (m n : X) → a < b → P a m → P b n → R m n)
     → (n : ℕ) (f : ℕ → ℕ) → ((i j : ℕ) → i < j → f i < f j) → AllPairs R (flat_map g (from_below n f))

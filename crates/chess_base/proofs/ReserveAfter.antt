@@ -70,7 +70,7 @@ reserve-set : (men : Men) (s : ℕ) (v : Option Man) → length men ≡ 64 → s
 unfolding reserve weights_below
 reserve-set men s v l h = weights_below-set 64 men s v l h
 
--- what a man weighs
+-- what a piece weighs
 
 weight-none : (s : ℕ) (o : Option Man) → is_none o ≡ true → weight s o ≡ 0
 weight-none s None e = refl
@@ -94,7 +94,7 @@ unfolding is_of is_man
 weight-no_pawn c s None own e = cc
 weight-no_pawn c s (Some x) own e = let kind : same_kind Pawn x.kind ≡ false = rw own at e in rw kind refl
 
--- no man weighs more than a pawn there
+-- no piece weighs more than a pawn there
 weight-at_most : (s : ℕ) (x : Man) → weight s (Some x) ≤ 1 + ranks_to_go x.colour s
 weight-at_most s x = cond_both (same_kind Pawn x.kind) (1 + ranks_to_go x.colour s) 1
     (λ n. n ≤ 1 + ranks_to_go x.colour s) (λ _. omega arith) (λ _. omega arith)
@@ -107,7 +107,7 @@ weight-lands c s (Some x) None e = rw (same_colour-true c x.colour e) (weight-at
 weight-lands c s (Some x) (Some k) e =
     rw (same_colour-true c x.colour e) (weight-at_most s (record { colour = x.colour; kind = k }))
 
--- what the mover and a man that it takes on the end square weighed goes, and what lands comes
+-- what the mover and a piece that it takes on the end square weighed goes, and what lands comes
 
 taken_by : Bool → ℕ → Option Man → ℕ
 taken_by enemy s o = cond enemy (weight s o) 0

@@ -53,7 +53,7 @@ abbrev pub right_of : Rights → Colour → CastlingSide → Option ℕ
 right_of r White w = right_on r.white w
 right_of r Black w = right_on r.black w
 
--- where the king of colour c stands
+-- the square of colour c's king
 unfoldable pub king_square : Men → Colour → Option ℕ
 king_square men c = position (λ o. is_man c King o) men
 
@@ -67,7 +67,7 @@ abbrev pub is_beside : Colour → CastlingSide → Option ℕ → ℕ → Bool
 is_beside c w None s = false
 is_beside c w (Some k) s = (rank k == first_rank c) && (rank s == first_rank c) && is_to_side w k s
 
--- king and rook, which is on s, stand where castling to that side begins: in normal chess both at home, in Chess960
+-- king and rook, which is on s, are where castling to that side begins: in normal chess both at home, in Chess960
 -- both on the first rank, the rook on that side of the king
 abbrev pub stand_for_castling : Variant → Men → Colour → CastlingSide → ℕ → Bool
 stand_for_castling Normal men c w s =
@@ -75,7 +75,7 @@ stand_for_castling Normal men c w s =
     && is_man c Rook (man_at men s)
 stand_for_castling Fischerandom men c w s = is_beside c w (king_square men c) s && is_man c Rook (man_at men s)
 
--- king and rook stand so for a right, given by its rook's square; where there is none nothing is asked
+-- king and rook are so for a right, given by its rook's square; where there is none nothing is asked
 abbrev pub right_stands_at : Variant → Men → Colour → CastlingSide → Option ℕ → Bool
 right_stands_at v men c w None = true
 right_stands_at v men c w (Some s) = stand_for_castling v men c w s
@@ -133,12 +133,12 @@ castle_by c r m (Some w) = castle_with c w m.from (right_of r c w)
 unfoldable pub castle_of : Setup → Move → Option Castle
 castle_of p m = castle_by p.side p.rights m (castling p m)
 
--- where the mover stands after the move: the end square that it names, but for a king that castles
+-- the mover's square after the move: the end square that it names, but for a king that castles
 abbrev pub mover_to : Move → Option Castle → ℕ
 mover_to m None = m.to
 mover_to m (Some k) = k.king_to
 
--- where the castling rook stands before and after, if there is one
+-- the castling rook's square before and after, if there is one
 abbrev pub rook_from : Option Castle → Option ℕ
 rook_from None = None
 rook_from (Some k) = Some k.rook_from
@@ -147,7 +147,7 @@ abbrev pub rook_to : Option Castle → Option ℕ
 rook_to None = None
 rook_to (Some k) = Some k.rook_to
 
--- where the mover stands after the move. In normal chess that is m.to, castling too, since it is named by the king's
+-- the mover's square after the move. In normal chess that is m.to, castling too, since it is named by the king's
 -- squares
 unfoldable pub lands_on : Setup → Move → ℕ
 lands_on p m = mover_to m (castle_of p m)
@@ -162,7 +162,7 @@ castling_rook_to p m = rook_to (castle_of p m)
 abbrev pub is_on_way : ℕ → ℕ → ℕ → Bool
 is_on_way a b x = (x == a) || (x == b) || is_between a b x
 
--- king or rook crosses x or ends there, and neither of the two stands there
+-- king or rook crosses x or ends there, and neither of the two is there
 unfoldable pub castling_crosses : Castle → ℕ → Bool
 castling_crosses k x =
     (is_on_way k.king_from k.king_to x || is_on_way k.rook_from k.rook_to x) && not (x == k.king_from)

@@ -9,7 +9,7 @@ abbrev pub optional : {A : Type 0} → (A → List ℕ) → Option A → List �
 optional f None = []
 optional f (Some x) = f x
 
--- the small letter of a kind of men
+-- the small letter of a kind of piece
 abbrev pub small_letter_text : Kind → List ℕ
 small_letter_text k = (white_letter k + 32) ∷ []
 

@@ -1,4 +1,4 @@
--- The bytes of texts: letters and digits, what stands between, the letters of kinds of men and the names of squares.
+-- The bytes of texts: letters and digits, separators, the letters of kinds of piece and the names of squares.
 use Prim.Native.String.{String as Text}
 use Rattle.std.specs.Prelude.{ℕ, ◌+◌, ◌-◌, ◌*◌, Bool, ◌&&◌, ◌||◌, List, [], ◌∷◌, nat_le, codes}
 use Rattle.chess_base.specs.declared.man.Colour.{Colour}
@@ -39,14 +39,14 @@ is_letter c = (nat_le (byte "A") c && nat_le c (byte "Z")) || (nat_le (byte "a")
 abbrev pub is_digit : ℕ → Bool
 is_digit c = nat_le (byte "0") c && nat_le c (byte "9")
 
--- the value of digits behind a number
+-- the value of digits after a number
 abbrev pub value_after : ℕ → List ℕ → ℕ
 value_after n [] = n
 value_after n (c ∷ cs) = value_after (10 * n + (c - byte "0")) cs
 
--- ---- men and squares
+-- ---- pieces and squares
 
--- the capital letter of a kind of men (PGN standard of 1994, sections 8.2.3.2 and 16.1.3.1)
+-- the capital letter of a kind of piece (PGN standard of 1994, sections 8.2.3.2 and 16.1.3.1)
 abbrev pub white_letter : Kind → ℕ
 white_letter Pawn = byte "P"
 white_letter Knight = byte "N"
@@ -55,7 +55,7 @@ white_letter Rook = byte "R"
 white_letter Queen = byte "Q"
 white_letter King = byte "K"
 
--- the words of colours and kinds of men
+-- the words of colours and kinds of piece
 abbrev pub colour_word : Colour → List ℕ
 colour_word White = codes "white"
 colour_word Black = codes "black"

@@ -19,7 +19,7 @@ use Rattle.chess_base.specs.Attacks.{attacks, is_in_check}
 use Rattle.chess_base.specs.Castling.{right_of, castle_of, castling_rook_to, castles, lands_on, rook_from}
 use Rattle.chess_base.specs.Steps.{men_stepped}
 
--- a promotion to a queen, rook, bishop or knight stands exactly with a move to the last rank (3.7)
+-- there is a promotion, to a queen, rook, bishop or knight, exactly with a move to the last rank (3.7)
 abbrev pub promotion_fits : Bool → Option Kind → Bool
 promotion_fits last None = not last
 promotion_fits last (Some King) = false
@@ -55,34 +55,34 @@ unfoldable pub pawn_moves : Setup → Move → Bool
 pawn_moves p m =
     promotion_fits (rank m.to == first_rank (other p.side)) m.promotion && (pawn_advances p m || pawn_captures p m)
 
--- a man other than a pawn goes to a square that it attacks and no man of its own colour holds (3.1)
+-- a piece other than a pawn goes to a square that it attacks and no piece of its own colour holds (3.1)
 unfoldable pub man_moves : Setup → Move → Bool
 man_moves p m = is_none m.promotion && attacks p.men m.from m.to && not (is_of p.side (man_at p.men m.to))
 
--- the castling, if the move is one, is possible; else the man goes so
+-- the castling, if the move is one, is possible; else the piece goes so
 abbrev pub castles_or_moves : Setup → Move → Option Castle → Bool
 castles_or_moves p m None = man_moves p m
 castles_or_moves p m (Some k) = castles p m k
 
--- that man, if it is one of the side on move, goes so: a pawn as pawns do, any other man as it moves or castles
+-- that piece, if it is one of the side on move, goes so: a pawn as pawns do, any other piece as it moves or castles
 abbrev pub moves_as : Setup → Move → Option Man → Bool
 moves_as p m None = false
 moves_as p m (Some x) =
     same_colour p.side x.colour && (if same_kind Pawn x.kind then pawn_moves p m else castles_or_moves p m
     (castle_of p m))
 
--- the move has the pattern of one of the men's moves: it is pseudo-legal, legal unless it leaves its own king in check;
+-- the move has the pattern of a piece's moves: it is pseudo-legal, legal unless it leaves its own king in check;
 -- of castling it is asked here already that no square on the king's way is attacked
 unfoldable pub has_pattern : Setup → Move → Bool
 has_pattern p m = nat_lt m.from 64 && nat_lt m.to 64 && moves_as p m (man_at p.men m.from)
 
--- the man that stands on the end square: the mover, or what the pawn became
+-- the piece that is on the end square: the mover, or what the pawn became
 abbrev pub man_that_lands : Option Man → Option Kind → Option Man
 man_that_lands None k = None
 man_that_lands (Some x) None = Some x
 man_that_lands (Some x) (Some k) = Some (record { colour = x.colour; kind = k })
 
--- the square behind the target, where the pawn stands that is taken en passant
+-- the square behind the target, of the pawn that is taken en passant
 abbrev pub behind : Colour → ℕ → ℕ
 behind c s = forward (other c) s
 
@@ -101,7 +101,7 @@ steps_of p m = record {
   mover = man_that_lands (man_at p.men m.from) m.promotion;
 }
 
--- the men after a move
+-- the pieces after a move
 unfoldable pub men_after : Setup → Move → Men
 men_after p m = men_stepped p.men (steps_of p m)
 
@@ -126,7 +126,7 @@ rights_after p m = record { white = colour_rights_after p m White; black = colou
 unfoldable pub target_after : Setup → Move → Option ℕ
 target_after p m = if is_double_advance p m then Some (forward p.side m.from) else None
 
--- a pawn moves or a man is taken
+-- a pawn moves or a piece is taken
 unfoldable pub resets_clock : Setup → Move → Bool
 resets_clock p m = is_man p.side Pawn (man_at p.men m.from) || is_of (other p.side) (man_at p.men m.to)
 
@@ -139,8 +139,8 @@ abbrev pub fullmove_after : Colour → ℕ → ℕ
 fullmove_after White n = n
 fullmove_after Black n = min (n + 1) COUNTER_LIMIT
 
--- the whole position after a move: the men after its steps, the other side on move, and rights, target and counters by
--- their rules. Castling, en passant and promotion are cases of one change, `steps_of`
+-- the whole position after a move: the pieces after its steps, the other side on move, and rights, target and counters
+-- by their rules. Castling, en passant and promotion are cases of one change, `steps_of`
 unfoldable pub after : Setup → Move → Setup
 after p m = record {
   variant = p.variant;

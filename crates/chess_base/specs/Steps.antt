@@ -1,5 +1,5 @@
--- What changes on the board when a move is made, and when it is taken back: the mover and perhaps a second man leave,
--- and then perhaps a second man and the mover arrive. All leave before one arrives: in Chess960 a castling king and
+-- What changes on the board when a move is made, and when it is taken back: the mover and perhaps a second piece leave,
+-- and then perhaps a second piece and the mover arrive. All leave before one arrives: in Chess960 a castling king and
 -- rook may change places.
 use Rattle.std.specs.Prelude.{ℕ, ◌==◌, ◌||◌, Option, None, if◌then◌else◌}
 use Rattle.chess_base.specs.declared.man.Man.{Man}
@@ -7,7 +7,7 @@ use Rattle.chess_base.specs.declared.steps.Steps.{Steps}
 use Rattle.chess_base.specs.Squares.{from_below, is_square}
 use Rattle.chess_base.specs.Men.{Men, man_at}
 
--- what stands on s afterwards
+-- the piece on s afterwards, if any
 abbrev pub man_stepped : Men → Steps → ℕ → Option Man
 man_stepped men t s =
     if t.to == s then t.mover
@@ -15,6 +15,6 @@ man_stepped men t s =
     else if is_square t.second_from s || (t.from == s) then None
     else man_at men s
 
--- the men on all 64 squares afterwards
+-- the pieces on all 64 squares afterwards
 unfoldable pub men_stepped : Men → Steps → Men
 men_stepped men t = from_below 64 (man_stepped men t)

@@ -1,4 +1,4 @@
-//! What a move leaves: the men, the castling rights, the target and the counters.
+//! What a move leaves: the pieces, the castling rights, the target and the counters.
 
 ghost use Rattle.std.specs.Prelude.{◌≡◌};
 ghost use Rattle.chess_base.specs.Castling.{right_of};
@@ -13,7 +13,7 @@ use crate::setup::{COUNTER_LIMIT, Setup};
 use crate::square::Square;
 use crate::steps::{Steps, take_steps};
 
-/// The man that stands on the end square after the move: the mover, or what the pawn became.
+/// The piece that is on the end square after the move: the mover, or what the pawn became.
 pub fn man_that_lands(man: Option<Man>, promotion: Option<Kind>) -> Option<Man>
     ensures { result ≡ man_that_lands man promotion }
 {

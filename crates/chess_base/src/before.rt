@@ -1,4 +1,4 @@
-//! What a move does not keep, and what stood before it, told from what was saved.
+//! What a move does not keep, and the position before it, from what was saved.
 
 ghost use Rattle.std.specs.Prelude.{◌≡◌, ◌<◌, IsTrue};
 ghost use Rattle.chess_base.specs.Squares.{is_square};
@@ -17,7 +17,7 @@ use crate::setup::{Saved, Setup};
 use crate::square::{Square, is_square};
 use crate::steps::Steps;
 
-// The square of the man that the move captures, if it captures one.
+// The square of the piece that the move captures, if it captures one.
 #[tactic(auto, unfolding(crate::specs::Before::captured_square))]
 fn captured_square(setup: &Setup, m: &Move) -> Option<Square>
     requires { IsSound setup.now }
@@ -52,7 +52,7 @@ pub fn saved_of(setup: &Setup, m: &Move) -> Saved
     }
 }
 
-// The square on which the man stood that the move of that colour captured, if it captured one.
+// The square of the piece that the move of that colour captured, if it captured one.
 #[tactic(auto, unfolding(crate::specs::Before::captured_from))]
 fn captured_from(colour: Colour, m: &Move, saved: &Saved) -> Option<Square>
     requires { IsTrue (is_square saved.now.target m.now.to) → behind colour m.now.to < 64 }
@@ -134,7 +134,7 @@ fn man_that_left(man: Option<Man>, promotion: Option<Kind>) -> Option<Man>
     }
 }
 
-// The square to which a second man comes back: the castling rook, or else the captured man.
+// The square to which a second piece comes back: the castling rook, or else the captured piece.
 fn second_back_to(
     colour: Colour,
     m: &Move,
@@ -150,7 +150,7 @@ fn second_back_to(
     }
 }
 
-// The second man that comes back.
+// The second piece that comes back.
 fn second_back(colour: Colour, saved: &Saved, castle: &Option<Castle>) -> Option<Man>
     ensures { result ≡ second_back colour saved.now castle.now }
 {

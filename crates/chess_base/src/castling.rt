@@ -87,7 +87,7 @@ pub fn right_of(rights: Rights, colour: Colour, castling_side: CastlingSide) -> 
     }
 }
 
-// The place among the men of the king of that colour.
+// The index of that colour's king among the pieces.
 #[tactic(auto, unfolding(crate::specs::Castling::king_square))]
 fn king_place(men: &[Option<Man>; 64], colour: Colour) -> Option<usize>
     ensures value { result ≡ king_square men.now colour }
@@ -130,7 +130,7 @@ fn is_beside(colour: Colour, castling_side: CastlingSide, king: Option<Square>, 
     }
 }
 
-// Whether king and rook, which is on that square, stand where castling to that side begins.
+// Whether king and rook, which is on that square, are where castling to that side begins.
 fn stand_for_castling(
     variant: Variant,
     men: &[Option<Man>; 64],
@@ -158,7 +158,7 @@ fn stand_for_castling(
     }
 }
 
-// Whether king and rook of that right, if it is there, stand where castling to that side begins.
+// Whether king and rook of that right, if it is there, are where castling to that side begins.
 #[tactic(auto, unfolding(crate::specs::Castling::right_stands))]
 pub(crate) fn right_stands(setup: &Setup, colour: Colour, castling_side: CastlingSide) -> bool
     ensures { result ≡ right_stands setup.now colour castling_side }
@@ -253,7 +253,7 @@ pub fn castle_of(setup: &Setup, m: &Move) -> Option<Castle>
     castle_by(setup.side, setup.rights, m, castling(setup, m))
 }
 
-// Where the mover stands after the move, castling or not.
+// The square of the mover after the move, castling or not.
 pub(crate) fn mover_to(m: &Move, castle: &Option<Castle>) -> Square
     ensures { result ≡ mover_to m.now castle.now }
 {
@@ -283,7 +283,7 @@ pub(crate) fn rook_to(castle: &Option<Castle>) -> Option<Square>
     }
 }
 
-/// The square on which the mover stands after the move: the end square that it names, but for castling in Chess960.
+/// The square of the mover after the move: the end square that it names, but for castling in Chess960.
 #[tactic(auto, unfolding(crate::specs::Castling::lands_on))]
 pub fn lands_on(setup: &Setup, m: &Move) -> Square
     ensures { result ≡ lands_on setup.now m.now }

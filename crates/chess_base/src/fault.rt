@@ -1,7 +1,7 @@
 //! What is wrong with the setup of a position, or with its text, which chess_fen reads.
 
-/// Why a text spells no position, or a setup is none: the first fault in the order fields, placement, side, spelling of
-/// the rights, spelling of the target, counters, kings, pawns, men, homes of the rights, men round the target, check.
+/// Why a text denotes no position, or a setup is none: the first fault in the order fields, placement, side, form of
+/// the rights, form of the target, counters, kings, pawns, pieces, homes of the rights, pieces round the target, check.
 #[derive(Clone, Copy, Debug, PartialEq, Eq, thiserror::Error)]
 pub enum FenFault {
     /// The first field is not eight ranks of eight squares.
@@ -10,11 +10,11 @@ pub enum FenFault {
     /// The second field is neither `w` nor `b`.
     #[error("the side is neither w nor b")]
     Side,
-    /// The third field spells no rights, or a right has not its king and its rook where they belong; in Chess960 also
+    /// The third field denotes no rights, or a right has not its king and its rook where they belong; in Chess960 also
     /// where a letter names no rook on that side of the king, or two letters name one side.
     #[error("the castling rights are misspelled or do not fit the men")]
     Castling,
-    /// The fourth field spells no target, or the target is not the empty square behind an enemy pawn's double advance.
+    /// The fourth field denotes no target, or the target is not the empty square behind an enemy pawn's double advance.
     #[error("the en passant target is misspelled or does not fit the men")]
     EnPassant,
     /// A counter is no number of one to six digits; or the halfmove clock is above 999,999, or the fullmove number not
@@ -24,10 +24,10 @@ pub enum FenFault {
     /// A colour has not exactly one king.
     #[error("a colour has not exactly one king")]
     Kings,
-    /// A pawn stands on the first or last rank.
+    /// A pawn is on the first or last rank.
     #[error("a pawn stands on the first or last rank")]
     Pawns,
-    /// A colour has more than 16 men.
+    /// A colour has more than 16 pieces.
     #[error("a colour has more than 16 men")]
     Men,
     /// The side that is not on move is in check.

@@ -1,4 +1,4 @@
-//! Squares, men, moves and sound positions, and the rules of chess said plainly.
+//! Squares, pieces, moves and sound positions, and the rules of chess in plain form.
 //!
 //! ```
 //! let position = Position::initial();

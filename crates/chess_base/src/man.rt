@@ -1,4 +1,4 @@
-//! Colours, men, castling rights and moves.
+//! Colours, pieces, castling rights and moves.
 
 ghost use Rattle.std.specs.Prelude.{◌≡◌, Some};
 ghost use Rattle.chess_base.specs.Coordinates.{small_letter_text, coordinate};
@@ -8,7 +8,7 @@ ghost use Rattle.chess_base.specs.Men.{other, is_of, is_man, same_kind, same_col
 use crate::square::Square;
 use std::fmt;
 
-/// The two players and their men (Laws of Chess 2023, article 1.1).
+/// The two players and their pieces (Laws of Chess 2023, article 1.1).
 #[derive(Clone, Copy, Debug, PartialEq, Eq)]
 pub enum Colour {
     White,
@@ -38,7 +38,7 @@ impl fmt::Display for Colour {
     }
 }
 
-/// The kinds of men (Laws of Chess 2023, article 2.2).
+/// The kinds of piece (Laws of Chess 2023, article 2.2).
 #[derive(Clone, Copy, Debug, PartialEq, Eq)]
 pub enum Kind {
     King,
@@ -71,7 +71,7 @@ pub enum Variant {
     Fischerandom,
 }
 
-/// A man of one colour and kind.
+/// A piece of one colour and kind.
 #[derive(Clone, Copy, Debug, PartialEq, Eq)]
 pub struct Man {
     pub colour: Colour,
@@ -102,7 +102,7 @@ pub struct Rights {
 
 /// A move: its start and end squares, and what a pawn becomes on its last rank (Laws of Chess 2023, article 3.7).
 /// Castling is named by the king's squares, in Chess960 by the king's and its rook's, en passant by the pawn's. The
-/// default, from a1 to a1, is no man's move: a blank in a list.
+/// default, from a1 to a1, is no piece's move: a filler in a list.
 #[derive(Clone, Copy, Debug, Default, PartialEq, Eq)]
 pub struct Move {
     pub from: Square,
@@ -110,7 +110,7 @@ pub struct Move {
     pub promotion: Option<Kind>,
 }
 
-// The small letter of a kind of men.
+// The small letter of a kind of piece.
 fn small_letter(kind: Kind) -> &'static str
     ensures { result.now ≡ small_letter_text kind }
 {

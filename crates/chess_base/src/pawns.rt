@@ -10,7 +10,7 @@ use crate::rules::{first_rank, man_on};
 use crate::setup::Setup;
 use crate::square::is_square;
 
-// The number of the square straight ahead for a pawn of that colour. Ahead of the last rank, where no pawn stands, it
+// The number of the square straight ahead for a pawn of that colour. Ahead of the last rank, where there is no pawn, it
 // is for White past 63 and for Black 0.
 pub(crate) fn forward(colour: Colour, number: u8) -> u8
     requires { number < 248 }
@@ -32,7 +32,7 @@ pub fn pawn_rank(colour: Colour) -> u8
     }
 }
 
-/// Whether a promotion stands exactly with a pawn's move to its last rank, and is to a man that a pawn may become (Laws
+/// Whether there is a promotion exactly where a pawn moves to its last rank, and to a piece that it may become (Laws
 /// of Chess 2023, article 3.7.3.3).
 pub fn promotion_fits(last: bool, promotion: Option<Kind>) -> bool
     ensures { result ≡ promotion_fits last promotion }

@@ -41,7 +41,7 @@ impl Model for Position {
 
 impl Position {
     /// The position that a setup is, if it is sound; else the first condition that fails, in the order counters, kings,
-    /// pawns, men, castling, target, check.
+    /// pawns, pieces, castling, target, check.
     pub fn new(setup: Setup) -> Result<Self, FenFault>
         ensures sound { IsOk result ↔ IsSound setup }
         ensures value { IfOk result (λ p. p ≡ setup) }
@@ -61,7 +61,7 @@ impl Position {
         Position::initial_of(Variant::Normal)
     }
 
-    /// The position with the men, the rights and the counters of the initial position, in that variant.
+    /// The position with the pieces, the rights and the counters of the initial position, in that variant.
     pub fn initial_of(variant: Variant) -> Self
         ensures { result ≡ initial_setup_of variant }
     {
@@ -117,22 +117,22 @@ impl Position {
         self.setup.side
     }
 
-    /// The man on a square, if there is one.
+    /// The piece on a square, if there is one.
     pub fn at(&self, square: Square) -> Option<Man>
         ensures { result ≡ man_at self.now.men square }
     {
         self.setup.men[square.index()]
     }
 
-    /// Whether some man of that colour attacks the square, also one that may not move because it shields its king (Laws
-    /// of Chess 2023, articles 3.1 to 3.8).
+    /// Whether some piece of that colour attacks the square, also one that may not move because it shields its king
+    /// (Laws of Chess 2023, articles 3.1 to 3.8).
     pub fn attacked(&self, square: Square, by: Colour) -> bool
         ensures { result ≡ is_attacked self.now.men square by }
     {
         is_attacked(&self.setup.men, square, by)
     }
 
-    /// Whether the side on move may make this move: its man goes so, and its king is not attacked afterwards (Laws of
+    /// Whether the side on move may make this move: its piece goes so, and its king is not attacked afterwards (Laws of
     /// Chess 2023, articles 3.1 to 3.9).
     pub fn is_legal(&self, m: Move) -> bool
         ensures { result ≡ is_legal self.now m }

@@ -11,7 +11,7 @@ pub const COUNTER_LIMIT: u32 = 999_999;
 pub struct Setup {
     /// Whether castling goes by normal chess or by Chess960.
     pub variant: Variant,
-    /// The men, by the number of their square.
+    /// The pieces, by the number of their square.
     pub men: [Option<Man>; 64],
     /// The colour on move.
     pub side: Colour,
@@ -25,10 +25,10 @@ pub struct Setup {
     pub fullmove: u32,
 }
 
-/// What a move does not keep: the captured man, en passant too, and the rest as it was before the move.
+/// What a move does not keep: the captured piece, en passant too, and the rest as it was before the move.
 #[derive(Clone, Copy, Debug, PartialEq, Eq)]
 pub struct Saved {
-    /// The man that was captured, en passant too.
+    /// The piece that was captured, en passant too.
     pub captured: Option<Man>,
     /// The castling rights before the move.
     pub rights: Rights,

@@ -1,4 +1,4 @@
-//! The steps in which a move, made or taken back, changes the men.
+//! The steps in which a move, made or taken back, changes the pieces.
 
 ghost use Rattle.std.specs.Prelude.{◌≡◌};
 ghost use Rattle.chess_base.specs.Men.{with_man};
@@ -7,18 +7,18 @@ ghost use Rattle.chess_base.specs.Steps.{men_stepped};
 use crate::man::Man;
 use crate::square::Square;
 
-/// What a move changes on the board, and what taking it back changes: the mover and perhaps a second man leave their
-/// squares, then perhaps a second man and the mover arrive. A move's second man is the pawn taken en passant, which
-/// only leaves, or the castling rook; taken back, it is the captured man, which only arrives, or the castling rook.
+/// What a move changes on the board, and what taking it back changes: the mover and perhaps a second piece leave their
+/// squares, then perhaps a second piece and the mover arrive. A move's second piece is the pawn taken en passant, which
+/// only leaves, or the castling rook; taken back, it is the captured piece, which only arrives, or the castling rook.
 #[derive(Clone, Copy, Debug, PartialEq, Eq)]
 pub struct Steps {
     /// The square that the mover leaves.
     pub from: Square,
-    /// The square that a second man leaves, if one does.
+    /// The square that a second piece leaves, if one does.
     pub second_from: Option<Square>,
-    /// The square where a second man arrives, if one does.
+    /// The square where a second piece arrives, if one does.
     pub second_to: Option<Square>,
-    /// The second man that arrives.
+    /// The second piece that arrives.
     pub second: Option<Man>,
     /// The square where the mover arrives.
     pub to: Square,
@@ -34,7 +34,7 @@ fn put(men: &mut [Option<Man>; 64], square: Option<Square>, man: Option<Man>)
     }
 }
 
-/// Changes the men by these steps. Both men leave before one arrives: in Chess960 a castling king and
+/// Changes the pieces by these steps. Both pieces leave before one arrives: in Chess960 a castling king and
 /// rook may change places.
 pub fn take_steps(men: &mut [Option<Man>; 64], steps: &Steps)
     ensures { men.new ≡ men_stepped men.old steps.now }

@@ -77,7 +77,7 @@ fn castling_leaves_its_positions(rt: HostRuntime) -> Result<(), Fail> {
     Ok(())
 }
 
-// Puts a man on the free place of that number.
+// Puts a piece on the free square of that number.
 fn put_on_free(rank: &mut [u8; 8], place: usize, man: u8) {
     let mut left = place;
     for index in 0..8 {
@@ -174,7 +174,7 @@ fn start(king: u8, left: u8, right: u8) -> Setup {
     }
 }
 
-// Whether castling with that rook is legal; then king and rook stand on those squares.
+// Whether castling with that rook is legal; then king and rook are on those squares.
 fn castles(position: Position, king: u8, rook: u8, ends: (u8, u8)) -> Result<bool, Fail> {
     let m = Move {
         from: Square::new(king % 8),
@@ -194,7 +194,7 @@ fn castles(position: Position, king: u8, rook: u8, ends: (u8, u8)) -> Result<boo
     Ok(true)
 }
 
-// From each of the 960 starts with its other men gone. How often each castling is legal was counted by Stockfish.
+// From each of the 960 starts with its other pieces gone. How often each castling is legal was counted by Stockfish.
 #[test]
 fn kings_castle_from_every_start(rt: HostRuntime) -> Result<(), Fail> {
     let mut king_side: u32 = 0;

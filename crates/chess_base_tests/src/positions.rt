@@ -22,7 +22,7 @@ fn man(letter: u8) -> Option<Man> {
     Some(Man { colour, kind })
 }
 
-// The men of a board, told from the eighth rank down, with all rights.
+// The pieces of a board, given from the eighth rank down, with all rights.
 fn setup(rows: &[u8; 64], side: Colour) -> Setup {
     let mut men = [None; 64];
     for (place, letter) in rows.iter().enumerate() {
@@ -105,7 +105,7 @@ const INITIAL: &[u8; 64] = b"rnbqkbnrpppppppp................................PPP
 // The second of the usual test positions of move generators, "Kiwipete".
 const KIWIPETE: &[u8] = b"r3k2r/p1ppqpb1/bn2pnp1/3PN3/1p2P3/2N2Q1p/PPPBBPPP/R3K2R w KQkq - 0 1";
 
-// A sound position whose FEN is as long as one can be: no two empty squares stand side by side.
+// A sound position whose FEN is as long as one can be: no two empty squares are side by side.
 const LONGEST: &[u8] =
     b"r1b1k1n1/1p1p1p1p/p1p1p1p1/1q1r1b1n/P1P1P1P1/1Q1R1B1N/1P1P1P1P/R1B1K1N1 b Qq e3 999999 999999";
 

@@ -1,4 +1,4 @@
-//! Names of squares, men and faults.
+//! Names of squares, pieces and faults.
 
 use chess_base::{Colour, FenFault, Kind, Move, Position, Square};
 use std::test::Fail;

@@ -47,7 +47,7 @@ kept_by : (men : Men) (c : Colour) (w : CastlingSide) (s t x : ℕ) (xs : List �
 kept_by men c w s t x xs n None at rec e = let r = rec s e in (r.0, (at, r.1))
 kept_by men c w s t x xs n (Some u) at rec e = let r = rec nowhere e in absurd (n (sym r.0))
 
--- what was found and stands is what was named first, and no later letter names one
+-- what was found and is available is what was named first, and no later letter names one
 kept : (men : Men) (c : Colour) (w : CastlingSide) (s t : ℕ) (ls : List ℕ) → t ≢ nowhere
     → right_after_letters men c w (Some s) ls ≡ Some t → (s ≡ t) × AllByRecursion (IsUnnamed men c w) ls
 kept men c w s t [] n e = (cc, tt)
@@ -116,7 +116,7 @@ from_left White QueenSide t h = omega (arith, h)
 from_left Black KingSide t h = omega (arith, h)
 from_left Black QueenSide t h = omega (arith, h)
 
--- what stands further out than a file has more files left
+-- what is further out than a file has more files left
 further : (c : Colour) (w : CastlingSide) (k t : ℕ) → k < 8 → rank t ≡ first_rank c
     → is_to_side w (home_square c (edge_file w k)) t ≡ true → k < files_left w t
 further White KingSide k t l h e = let o : 8 * 0 + k < t = ltb-true (8 * 0 + k) t e in omega (arith, l, h, o)

@@ -10,7 +10,7 @@ use Rattle.chess_fen.specs.Texts.{stacked, placement_of, parts_of}
 abbrev ranks_of : List ℕ → List (List ℕ)
 ranks_of text = slice_split (λ c. eqb c 47) text
 
--- What is left gives all the men, on top of the ranks so far. So many ranks are left
+-- What is left gives all the pieces, on top of the ranks so far. So many ranks are left
 pub record Stacking (text : List ℕ) (men : List (Option Man)) (rest : Option (Bor (List ℕ))) (left : ℕ) : Type 0 where
   pub stack : stacked (drop (8 * left) men) (parts_of 47 rest) ≡ stacked [] (slice_split (λ c. eqb c 47) text)
   pub count : length (parts_of 47 rest) + 8 ≡ length (slice_split (λ c. eqb c 47) text) + left
@@ -18,7 +18,7 @@ pub record Stacking (text : List ℕ) (men : List (Option Man)) (rest : Option (
 not_eight : (text : List ℕ) → length (ranks_of text) ≢ 8 → None ≡ placement_of text
 not_eight text h = let t : eqb (length (ranks_of text)) 8 ≡ false = grind (arith, nat_tests) in rw t refl
 
--- where another rank stands behind the eighth
+-- where another rank follows the eighth
 pub too_many : (text : List ℕ) (men : List (Option Man)) (rest : Option (Bor (List ℕ))) (left : ℕ)
     → Stacking text men rest left → left ≤ 0 → is_some rest ≡ true → None ≡ placement_of text
 too_many text men None left so_far h some = absurd cc

@@ -29,7 +29,7 @@ squares-man_below c m low e = let t : (leb 49 c && leb c 56) ≡ false = grind (
 pub squares-man_above : (c : ℕ) (m : Man) → 56 < c → man_with_letter c ≡ Some m → squares_of c ≡ Some (Some m ∷ [])
 squares-man_above c m high e = let t : (leb 49 c && leb c 56) ≡ false = grind (arith, nat_tests) in rw (t, e) refl
 
--- What is left of the text gives the whole rank, behind the squares so far. The others are still empty
+-- What is left of the text gives the whole rank, after the squares so far. The others are still empty
 pub record RankSoFar (text : List ℕ) (row : List (Option Man)) (file i : ℕ) : Type 0 where
   pub rest : rank_after (take file row) (drop i text) ≡ rank_of text
   pub empty : drop file row ≡ replicate (8 - file) None

@@ -1,4 +1,4 @@
--- In Chess960, the letters that are written for rights that stand name them.
+-- In Chess960, the letters that are written for available rights name them.
 use Rattle.std.proofs.Common.{◌≡◌, ℕ, ◌+◌, ◌-◌, ◌%◌, ◌<◌, ◌≤◌, ◌⊎◌, inl, inr, Bool, true, false, cond, eqb, ◌&&◌, List, [], ◌∷◌, ◌++◌, length, Option, Some, None, refl, sym, ap, ◌∙◌, arith}
 use Rattle.std.specs.Prelude.{IsTrue}
 use Rattle.std.specs.List.{AllByRecursion}
@@ -22,7 +22,7 @@ use Rattle.chess_fen.specs.Writing.{right_text, or_dash, rights_text}
 use Rattle.chess_fen.specs.Spelling.{IsCastling}
 use Rattle.chess_fen.proofs.SpelledRights.{times-cons}
 
--- what a right that stands says of king and rook
+-- what an available right says of king and rook
 pub record Beside (men : Men) (c : Colour) (w : CastlingSide) (s : ℕ) : Type 0 where
   pub king : ℕ
   pub at : king_square men c ≡ Some king
@@ -150,7 +150,7 @@ after-dash men Black KingSide [] = refl
 after-dash men Black QueenSide [] = refl
 after-dash men c w (x ∷ xs) = refl
 
--- the rights that stand
+-- the rights are available
 pub record Stand (men : Men) (r : Rights) : Type 0 where
   pub a : right_stands_at Fischerandom men White KingSide r.white.king_side ≡ true
   pub b : right_stands_at Fischerandom men White QueenSide r.white.queen_side ≡ true
@@ -234,7 +234,7 @@ one_at_most : (c : Colour) (w : CastlingSide) (o : Option ℕ) → length (right
 one_at_most c w None = omega arith
 one_at_most c w (Some s) = omega arith
 
--- a letter that occurs tells on which side of the king it stands
+-- a letter that occurs says on which side of the king its rook is
 record Placed (men : Men) (c : Colour) (w : CastlingSide) (n : ℕ) : Type 0 where
   king : ℕ
   at : king_square men c ≡ Some king

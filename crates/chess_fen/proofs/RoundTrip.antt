@@ -137,7 +137,7 @@ tells None None (Some c) None = record { letters = refl; first = refl; second = 
 tells None None None (Some d) = record { letters = refl; first = refl; second = refl; third = refl; fourth = refl }
 tells None None None None = record { letters = refl; first = refl; second = refl; third = refl; fourth = refl }
 
--- a right that stands in normal chess has its rook on its corner
+-- an available right in normal chess has its rook on its corner
 on_corner : (men : Men) (c : Colour) (w : CastlingSide) (right : Option ℕ) → right_stands_at Normal men c w right ≡ true
     → cond (is_some right) (Some (home_square c (rook_file w))) None ≡ right
 on_corner men c w None e = refl
@@ -148,7 +148,7 @@ on_corner men c w (Some s) e =
     outer.0 in
     ap Some (sym (eqb-true s (home_square c (rook_file w)) inner.0))
 
--- what is written for the rights of a position is a text of rights, and tells them
+-- what is written for the rights of a position is a text of rights, and denotes them
 record Told (v : Variant) (men : Men) (r : Rights) : Type 0 where
   letters : is_castling v (rights_text v r) ≡ true
   rights : (c : Colour) (w : CastlingSide) → right_told v men (rights_text v r) c w ≡ right_of r c w
@@ -213,7 +213,7 @@ setup-back p h =
       fullmove = p.fullmove;
     }) (rights_back p h)
 
--- a target that stands has rank 3 or 6
+-- a target has rank 3 or 6
 target_rank : (men : Men) (c : Colour) (target : Option ℕ) → target_is_behind_double_advance_at men c target ≡ true
     → IfSome target (λ square. (square / 8 ≡ 2) ⊎ (square / 8 ≡ 5))
 target_rank men c None e = tt

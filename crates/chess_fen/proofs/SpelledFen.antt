@@ -1,4 +1,4 @@
--- A text is described exactly where it spells a position, and what its first fault says.
+-- A text is described exactly where it denotes a position, and what its first fault says.
 use Rattle.std.proofs.Common.{◌≡◌, ◌≢◌, ℕ, ◌⊎◌, inl, inr, Bool, true, false, cond, List, [], ◌∷◌, length, Option, Some, None, Result, Ok, Err, refl, sym, ap, subst, ◌∙◌, arith}
 use Rattle.std.specs.Prelude.{max, IsOk, IfOk, IfErr, ◌↔◌}
 use Rattle.std.specs.Option.{ok_or}
@@ -77,7 +77,7 @@ with_letters v men colour c d more = ok_or (letters_of v c) faults.Castling >>= 
 abbrev with_side : Variant → List (Option Man) → List ℕ → List ℕ → List ℕ → List (List ℕ) → Result Description FenFault
 with_side v men b c d more = ok_or (side_of b) faults.Side >>= λ colour. with_letters v men colour c d more
 
--- either the fields spell what they describe, or the first that doesn't is the fault
+-- either the fields denote what they describe, or the first that doesn't is the fault
 abbrev Outcome : Variant → List ℕ → List ℕ → List ℕ → List ℕ → List (List ℕ) → Result Description FenFault → Type 0
 Outcome v a b c d more (Ok described) = (described.variant ≡ v) × SpellsFields a b c d more (setup_from described)
 Outcome v a b c d more (Err f) = IsFieldFault v a b c d more f
@@ -217,7 +217,7 @@ text_outcome v text = text_outcome_by v text (fields_of text) refl
 
 -- ---- and back
 
--- what a text that spells a position describes
+-- what a text that denotes a position describes
 pub record Describes (v : Variant) (text : List ℕ) (p : Setup) : Type 0 where
   pub described : Description
   pub is : description_of v text ≡ Ok described
@@ -278,7 +278,7 @@ reading-spelled v text p s h =
     ap (λ r. r >>= sound_from) d.is ∙ ap (λ q. unless_fault q (setup_fault q)) d.named
     ∙ ap (unless_fault p) (no_fault_from_IsSound p h)
 
--- what is read is spelled, and the fault is true
+-- the text denotes what is read, and the fault is true
 abbrev ReadingOutcome : Variant → List ℕ → Result Setup FenFault → Type 0
 ReadingOutcome v text (Ok p) = SpellsFenAs v text p
 ReadingOutcome v text (Err f) = IsFaultAs v text f

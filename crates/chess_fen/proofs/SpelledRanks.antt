@@ -1,4 +1,4 @@
--- A rank is read exactly where it is spelled.
+-- A rank is read exactly where it is well written.
 use Rattle.std.proofs.Common.{◌≡◌, ℕ, ◌-◌, ◌≤◌, inl, inr, Bool, true, false, cond, eqb, leb, ◌&&◌, List, [], ◌∷◌, ◌++◌, length, Option, Some, None, refl, sym, ap, subst, ◌∙◌, append_assoc, arith}
 use Rattle.std.specs.Prelude.{replicate, option_and_then, find}
 use Rattle.std.specs.Option.{option_map}
@@ -14,7 +14,7 @@ use Rattle.chess_fen.specs.Texts.{squares_of, rank_after, rank_of}
 use Rattle.chess_fen.specs.Spelling.{StandsFor, SpellsSquares, SpellsRank}
 use Rattle.chess_fen.proofs.Ranks.{squares-digit}
 
--- a man's letter is read as the man
+-- a piece's letter is read as the piece
 squares-letter_by : (colour : Colour) (kind : Kind)
     → squares_of (letter_by colour kind) ≡ Some (Some (record { colour = colour; kind = kind }) ∷ [])
 squares-letter_by White Pawn = refl
@@ -83,7 +83,7 @@ rank-spelled (c ∷ cs) before row s =
 
 -- ---- and back
 
--- a rank that is read behind some squares
+-- a rank that is read after some squares
 pub record ReadBehind (text : List ℕ) (before whole : List (Option Man)) : Type 0 where
   pub row : List (Option Man)
   pub spells : SpellsSquares text row

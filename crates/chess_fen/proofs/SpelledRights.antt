@@ -1,4 +1,4 @@
--- Rights are read exactly where they are spelled.
+-- Rights are read exactly where they are well written.
 use Rattle.std.proofs.Common.{◌≡◌, ℕ, ◌+◌, ◌<◌, ◌≤◌, ◌⊎◌, inl, inr, Bool, true, false, cond, eqb, leb, ltb, ◌&&◌, List, [], ◌∷◌, length, Option, Some, None, refl, sym, ap, ◌∙◌, arith}
 use Rattle.std.specs.Prelude.{IsSome, IfSome, IsTrue, ◌↔◌}
 use Rattle.std.specs.List.{AllByRecursion, list_all}

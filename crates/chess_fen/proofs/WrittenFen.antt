@@ -1,4 +1,4 @@
--- What is written spells its position, and no other.
+-- What is written denotes its position, and no other.
 use Rattle.std.proofs.Common.{◌≡◌, sym, ap, subst, ◌∙◌}
 use Rattle.chess_base.specs.declared.setup.Setup.{Setup}
 use Rattle.chess_base.specs.Sound.{IsSound}

@@ -1,5 +1,5 @@
--- What the fault of a text says of the text, as a relation: a wrong number of fields; the first field that spells
--- nothing; or, of what is spelled, the first condition of soundness that fails.
+-- What the fault of a text says of the text, as a relation: a wrong number of fields; the first field that denotes
+-- nothing; or, of what is denoted, the first condition of soundness that fails.
 use Rattle.std.specs.Prelude.{◌≡◌, ◌≢◌, ◌⊎◌, ℕ, List, ◌∷◌, length, Option, Some}
 use Rattle.chess_base.specs.declared.man.Colour.{Colour}
 use Rattle.chess_base.specs.declared.man.Variant.{Variant}
@@ -13,7 +13,7 @@ use Rattle.chess_fen.specs.Texts.{fields_of}
 use Rattle.chess_fen.specs.Writing.{side_text}
 use Rattle.chess_fen.specs.Spelling.{SpellsPlacement, IsCastling, SpellsTarget, SpellsCounters, SpellsFenAs}
 
--- a field that spells men; a side; a target, or none
+-- a field that denotes pieces; a side; a target, or none
 abbrev pub SpellsSomeMen : List ℕ → Type 0
 SpellsSomeMen text = (men : Men) × SpellsPlacement text men
 
@@ -23,7 +23,7 @@ SpellsSomeSide text = (colour : Colour) × (text ≡ side_text colour)
 abbrev pub SpellsSomeTarget : List ℕ → Type 0
 SpellsSomeTarget text = (target : Option ℕ) × SpellsTarget text target
 
--- the field of this fault spells nothing, and each before it does
+-- the field of this fault denotes nothing, and each before it does
 abbrev pub IsFieldFault : Variant → List ℕ → List ℕ → List ℕ → List ℕ → List (List ℕ) → FenFault → Type 0
 IsFieldFault v a b c d more Placement = (men : Men) → SpellsPlacement a men → ⊥
 IsFieldFault v a b c d more Side = SpellsSomeMen a × ((colour : Colour) → b ≢ side_text colour)
@@ -38,7 +38,7 @@ IsFieldFault v a b c d more f = ⊥
 abbrev pub HasWrongFieldCount : List ℕ → FenFault → Type 0
 HasWrongFieldCount text f = (f ≡ Fields) × (length (fields_of text) ≢ 4) × (length (fields_of text) ≢ 6)
 
--- four or six, of which one spells nothing
+-- four or six, of which one denotes nothing
 abbrev pub IsMisspelled : Variant → List ℕ → FenFault → Type 0
 IsMisspelled v text f =
     (a : List ℕ) × (b : List ℕ) × (c : List ℕ) × (d : List ℕ) × (more : List (List ℕ))
@@ -46,7 +46,7 @@ IsMisspelled v text f =
     × ((length more ≡ 0) ⊎ (length more ≡ 2))
     × IsFieldFault v a b c d more f
 
--- spelled, but unsound: the first condition that fails
+-- well written, but unsound: the first condition that fails
 abbrev pub IsUnsound : Variant → List ℕ → FenFault → Type 0
 IsUnsound v text f = (p : Setup) × SpellsFenAs v text p × (setup_fault p ≡ Some f)
 

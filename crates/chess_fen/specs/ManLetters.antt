@@ -1,4 +1,4 @@
--- The letters of men in a FEN (PGN standard of 1994, section 16.1.3.1), and the bytes with a meaning of their own.
+-- The letters of pieces in a FEN (PGN standard of 1994, section 16.1.3.1), and the bytes with a meaning of their own.
 use Rattle.std.specs.Prelude.{ℕ, ◌+◌, ◌==◌, List, [], ◌∷◌, ◌++◌, map, find, Option}
 use Rattle.chess_base.specs.declared.man.Man.{Man}
 use Rattle.chess_base.specs.declared.man.Kind.{Kind}
@@ -7,7 +7,7 @@ use Rattle.chess_base.specs.declared.man.Colour.{Colour}
 use Rattle.chess_base.specs.declared.man.Colour.TheVariants.{White, Black}
 use Rattle.chess_base.specs.Letters.{byte, white_letter}
 
--- what stands between ranks; what stands for none
+-- what is between ranks; what is written for none
 abbrev pub stroke : ℕ
 stroke = byte "/"
 
@@ -19,18 +19,18 @@ abbrev pub letter_by : Colour → Kind → ℕ
 letter_by White kind = white_letter kind
 letter_by Black kind = white_letter kind + 32
 
--- the letter of a man
+-- the letter of a piece
 abbrev pub letter : Man → ℕ
 letter m = letter_by m.colour m.kind
 
--- the six kinds of men
+-- the six kinds of piece
 abbrev pub kinds : List Kind
 kinds = Pawn ∷ Knight ∷ Bishop ∷ Rook ∷ Queen ∷ King ∷ []
 
--- the twelve men, each kind in both colours
+-- the twelve pieces, each kind in both colours
 abbrev pub all_men : List Man
 all_men = map (λ k. record { colour = White; kind = k }) kinds ++ map (λ k. record { colour = Black; kind = k }) kinds
 
--- the man with this letter, if there is one
+-- the piece with this letter, if there is one
 abbrev pub man_with_letter : ℕ → Option Man
 man_with_letter c = find (λ m. letter m == c) all_men

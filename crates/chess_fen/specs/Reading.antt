@@ -1,6 +1,7 @@
--- What a text describes, field by field, and the position that it spells, or its first fault. This project's own beside
--- the standard: the counters may be left out, and a fullmove number of 0 is read as 1. Spelling and FenFaults say the
--- same as relations; that both agree is proved by the clauses `found`, `only`, `told` and `refused` of `read_fen_as`.
+-- What a text describes, field by field, and the position that it denotes, or its first fault. This project's additions
+-- to the standard: the counters may be left out, and a fullmove number of 0 is read as 1. Spelling and FenFaults say
+-- the same as relations; that both agree is proved by the clauses `found`, `only`, `told` and `refused` of
+-- `read_fen_as`.
 use Rattle.std.specs.Prelude.{◌≡◌, ℕ, max, List, [], ◌∷◌, Option, Some, None, Result, Ok, Err, ◌==◌, if◌then◌else◌}
 use Rattle.std.specs.Option.{ok_or}
 use Rattle.chess_base.specs.declared.man.Colour.{Colour}
@@ -44,7 +45,7 @@ counters_of (halfmove ∷ []) = None
 counters_of (halfmove ∷ fullmove ∷ []) = numbers_of (number_of halfmove) (number_of fullmove)
 counters_of (a ∷ b ∷ c ∷ more) = None
 
--- what the fields spell. The rights are still letters
+-- what the fields denote. The rights are still letters
 pub record Description : Type 0 where
   pub variant : Variant
   pub men : Men
@@ -82,7 +83,7 @@ described_in v (a ∷ b ∷ c ∷ d ∷ []) = described_by v a b c d []
 described_in v (a ∷ b ∷ c ∷ d ∷ e ∷ f ∷ []) = described_by v a b c d (e ∷ f ∷ [])
 described_in v _ = Err faults.Fields
 
--- what a text describes, or its first fault: of the number of its fields, or of what one spells
+-- what a text describes, or its first fault: of the number of its fields, or of what one denotes
 abbrev pub description_of : Variant → List ℕ → Result Description FenFault
 description_of v text = described_in v (fields_of text)
 
@@ -141,7 +142,7 @@ unless_fault p (Some f) = Err f
 abbrev pub sound_from : Description → Result Setup FenFault
 sound_from d = unless_fault (setup_from d) (setup_fault (setup_from d))
 
--- the position that the text spells in that variant, or its first fault
+-- the position that the text denotes in that variant, or its first fault
 abbrev pub fen_reading_as : Variant → List ℕ → Result Setup FenFault
 fen_reading_as v text = description_of v text >>= sound_from
 

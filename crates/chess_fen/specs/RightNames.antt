@@ -1,6 +1,6 @@
 -- Which rights the letters of a FEN name: in normal chess K, Q, k and q (PGN standard of 1994, section 16.1.3.3); in
 -- Chess960 a rook by its file (Shredder-FEN), or the outermost one by its side (X-FEN). A text that names a right
--- wrongly spells one that does not stand.
+-- wrongly denotes one that is not available.
 use Rattle.std.specs.Prelude.{ℕ, zero, suc, ◌+◌, ◌-◌, ◌==◌, nat_lt, Bool, false, not, ◌&&◌, List, [], ◌∷◌, Option, Some, None, if◌then◌else◌}
 use Rattle.chess_base.specs.declared.man.Colour.{Colour}
 use Rattle.chess_base.specs.declared.man.Colour.TheVariants.{White, Black}
@@ -29,13 +29,13 @@ right_letter Fischerandom c w s = first_letter c + file s
 
 -- ---- normal chess
 
--- a letter names the right whose rook stands on that corner
+-- a letter names the right whose rook is on that corner
 abbrev pub right_named : List ℕ → ℕ → ℕ → Option ℕ
 right_named letters letter corner = if occurs letter letters then Some corner else None
 
 -- ---- Chess960
 
--- a square off the first ranks: a right with its rook there never stands
+-- a square off the first ranks: a right with its rook there is never available
 abbrev pub nowhere : ℕ
 nowhere = 24
 
@@ -50,7 +50,7 @@ rook_among men c w zero = nowhere
 rook_among men c w (suc k) = if is_man c Rook (man_at men (home_square c (edge_file w k))) then home_square c
     (edge_file w k) else rook_among men c w k
 
--- the rook nearest to that side's edge, on whichever side of the king it stands; nowhere if there is none
+-- the rook nearest to that side's edge, on whichever side of the king it is; nowhere if there is none
 unfoldable pub outer_rook : Men → Colour → CastlingSide → ℕ
 outer_rook men c w = rook_among men c w 8
 

@@ -1,5 +1,5 @@
--- Which texts spell a position, as a relation (PGN standard of 1994, section 16.1.3): what each field stands for. One
--- or more spaces separate the fields, and may stand at both ends.
+-- Which texts denote a position, as a relation (PGN standard of 1994, section 16.1.3): what each field stands for. One
+-- or more spaces separate the fields, and may be at both ends.
 use Rattle.std.specs.Prelude.{◌≡◌, ℕ, ◌+◌, ◌<◌, ◌≤◌, ◌⊎◌, List, [], ◌∷◌, ◌++◌, length, replicate, Option, Some, None, IfSome, IsSome, IsTrue, ◌↔◌, codes, max, ◌==◌}
 use Rattle.std.specs.List.{slice_split, AllZip, AllByRecursion}
 use Rattle.std.specs.Str.Parse.{digits_value}
@@ -20,7 +20,7 @@ use Rattle.chess_base.specs.Letters.{byte}
 use Rattle.chess_fen.specs.Texts.{times, occurs, may_name_right, fields_of}
 use Rattle.chess_fen.specs.Writing.{side_text, target_text}
 
--- a man's letter stands for the man, a digit from 1 to 8 for so many empty squares
+-- a piece's letter stands for the piece, a digit from 1 to 8 for so many empty squares
 abbrev pub StandsFor : ℕ → List (Option Man) → Type 0
 StandsFor c squares = ((man : Man) × (c ≡ letter man) × (squares ≡ Some man ∷ []))
     ⊎ ((n : ℕ) × (0 < n) × (n ≤ 8) × (c ≡ byte "0" + n) × (squares ≡ replicate n None))
@@ -35,7 +35,7 @@ SpellsSquares (c ∷ cs) squares = (first : List (Option Man)) × (others : List
 abbrev pub SpellsRank : List ℕ → List (Option Man) → Type 0
 SpellsRank text row = SpellsSquares text row × (length row ≡ 8)
 
--- ranks told from the highest down, as one list from the lowest up
+-- ranks given from the highest down, as one list from the lowest up
 abbrev pub from_top : List (List (Option Man)) → List (Option Man)
 from_top [] = []
 from_top (row ∷ rows) = from_top rows ++ row
@@ -99,15 +99,15 @@ pub record SpellsFields (a b c d : List ℕ) (counters_text : List (List ℕ)) (
   pub target : SpellsTarget d p.target
   pub counters : SpellsCounters counters_text p.halfmove p.fullmove
 
--- the text has four fields or six, which spell the position in its variant
+-- the text has four fields or six, which denote the position in its variant
 abbrev pub SpellsFenOf : List ℕ → Setup → Type 0
 SpellsFenOf text p = (a : List ℕ) × (b : List ℕ) × (c : List ℕ) × (d : List ℕ) × (more : List (List ℕ))
     × (fields_of text ≡ a ∷ b ∷ c ∷ d ∷ more) × SpellsFields a b c d more p
 
--- the text spells the position, which is of that variant
+-- the text denotes the position, which is of that variant
 abbrev pub SpellsFenAs : Variant → List ℕ → Setup → Type 0
 SpellsFenAs v text p = (p.variant ≡ v) × SpellsFenOf text p
 
--- it spells the position of normal chess
+-- it denotes the position of normal chess
 abbrev pub SpellsFen : List ℕ → Setup → Type 0
 SpellsFen text p = SpellsFenAs Normal text p

@@ -1,5 +1,5 @@
--- What the fields of a FEN stand for (PGN standard of 1994, section 16.1.3). This project's own beside the standard:
--- several spaces between fields and at both ends, digits of empty squares one behind another, letters of rights in any
+-- What the fields of a FEN stand for (PGN standard of 1994, section 16.1.3). This project's additions to the standard:
+-- several spaces between fields and at both ends, digits of empty squares one after the other, letters of rights in any
 -- order, leading zeros.
 use Rattle.std.specs.Prelude.{◌≡◌, ◌≢◌, ℕ, codes, count_by, ◌+◌, ◌-◌, ◌*◌, Bool, false, ◌&&◌, ◌||◌, List, [], ◌∷◌, ◌++◌, length, replicate, Option, Some, None, nat_lt, nat_le, ◌==◌, if◌then◌else◌, option_and_then}
 use Rattle.std.specs.List.{slice_split, list_all, list_any, filter}
@@ -16,14 +16,14 @@ use Rattle.chess_fen.specs.ManLetters.{stroke, dash, man_with_letter}
 
 -- ---- numbers
 
--- the number that one to six digits write
+-- the number that one to six digits denote
 abbrev pub number_of : List ℕ → Option ℕ
 number_of text = if nat_lt 0 (length text) && nat_le (length text) 6
     && list_all is_digit text then Some (value_after 0 text) else None
 
 -- ---- ranks
 
--- what a byte stands for: so many empty squares, or a man
+-- what a byte stands for: so many empty squares, or a piece
 abbrev pub squares_of : ℕ → Option (List (Option Man))
 squares_of c = if nat_le (byte "1") c && nat_le c (byte "8") then Some (replicate (c - byte "0") None) else option_map
     (λ m. Some m ∷ []) (man_with_letter c)
@@ -39,12 +39,12 @@ rank_of text = rank_after [] text
 
 -- ---- placement
 
--- the men of ranks read from the eighth down, each below those before it
+-- the pieces of ranks read from the eighth down, each below those before it
 abbrev pub stacked : List (Option Man) → List (List ℕ) → Option (List (Option Man))
 stacked above [] = Some above
 stacked above (text ∷ texts) = option_and_then (λ row. stacked (row ++ above) texts) (rank_of text)
 
--- the men of the first field: eight ranks with a stroke between
+-- the pieces of the first field: eight ranks with a stroke between
 abbrev pub placement_of : List ℕ → Option (List (Option Man))
 placement_of text = let ranks = slice_split (λ c. c == stroke) text in if length ranks == 8 then stacked [] ranks else
     None
@@ -101,7 +101,7 @@ target_of (f ∷ r ∷ c ∷ cs) = None
 abbrev pub fields_of : List ℕ → List (List ℕ)
 fields_of text = filter (λ field. nat_lt 0 (length field)) (slice_split (λ c. c == space) text)
 
--- the parts behind a separator
+-- the parts after a separator
 abbrev pub parts_of : ℕ → Option (Bor (List ℕ)) → List (List ℕ)
 parts_of c None = []
 parts_of c (Some rest) = slice_split (λ b. b == c) rest.now

@@ -19,7 +19,7 @@ abbrev pub run_text : ℕ → List ℕ
 run_text zero = []
 run_text (suc n) = (byte "0" + suc n) ∷ []
 
--- the squares of a rank behind a run of empty squares
+-- the squares of a rank after a run of empty squares
 abbrev pub row_text : ℕ → List (Option Man) → List ℕ
 row_text empty [] = run_text empty
 row_text empty (None ∷ row) = row_text (suc empty) row
@@ -52,7 +52,7 @@ abbrev pub right_text : Variant → Colour → CastlingSide → Option ℕ → L
 right_text v c w None = []
 right_text v c w (Some s) = right_letter v c w s ∷ []
 
--- a dash stands in place of an empty text
+-- a dash is written in place of an empty text
 abbrev pub or_dash : List ℕ → List ℕ
 or_dash [] = codes "-"
 or_dash (c ∷ cs) = c ∷ cs

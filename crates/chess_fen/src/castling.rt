@@ -100,7 +100,7 @@ pub(crate) fn right_letter(
     }
 }
 
-// The right that a letter of a side names: its rook stands on its corner.
+// The right that a letter of a side names: its rook is on its corner.
 fn right_named(letters: &[u8], colour: Colour, castling_side: CastlingSide) -> Option<Square>
     ensures { result ≡ right_named letters.now (side_letter colour castling_side)
         (home_square colour (rook_file castling_side)) }
@@ -178,7 +178,7 @@ fn named_square(
     }
 }
 
-// One of the two, if only one is named; where two are, a square on which no right stands.
+// One of the two, if only one is named; where two are, a square that no right can have.
 fn only_one_of(first: Option<Square>, second: Option<Square>) -> Option<Square>
     ensures { result ≡ only_one_of first second }
 {

@@ -5,14 +5,14 @@ ghost use Rattle.std.specs.List.{position_or_len, before_first, slice_split};
 ghost use Rattle.chess_base.specs.Letters.{space};
 ghost use Rattle.chess_fen.specs.Texts.{fields_of, FieldsAre, parts_of};
 
-// The place of the first byte that is no space.
+// The offset of the first byte that is no space.
 fn first_other(text: &[u8]) -> Option<usize>
     ensures { result ≡ position (λ b. not (b == space)) text.now }
 {
     text.iter().position(|byte| *byte != b' ')
 }
 
-// The place of the first separator.
+// The offset of the first separator.
 fn first_place(text: &[u8], separator: u8) -> Option<usize>
     ensures { result ≡ position (λ b. b == separator) text.now }
 {
@@ -38,7 +38,7 @@ fn split_before(text: &[u8], separator: u8) -> (&[u8], &[u8])
     text.split_at(end)
 }
 
-// The next field, and what stands behind it.
+// The next field, and what follows it.
 fn next_field(text: &[u8]) -> Option<(&[u8], &[u8])>
     ensures found { IfSome result (λ r. fields_of text.now ≡ r.0.now ∷ fields_of r.1.now) }
     ensures none { IfNone result (fields_of text.now ≡ []) }
@@ -51,7 +51,7 @@ fn next_field(text: &[u8]) -> Option<(&[u8], &[u8])>
     }
 }
 
-// The part before a separator, and what stands behind the separator, if there is one.
+// The part before a separator, and what follows the separator, if there is one.
 pub(crate) fn next_part(text: &[u8], separator: u8) -> (&[u8], Option<&[u8]>)
     ensures { slice_split (λ c. c == separator) text.now ≡ result.0.now ∷ parts_of separator result.1 }
 {

@@ -8,7 +8,7 @@ ghost use Rattle.chess_fen.specs.Writing.{fen};
 ghost use Rattle.chess_fen.specs.laws.Normal.{normal_fen, normal_fen_reading};
 ghost use Rattle.chess_fen.specs.laws.Laws.{WrittenIsSpelled, WrittenSpellsNoOther, WrittenIsReadBack, RightsAreNamed};
 
-/// The FEN that is written for a sound position spells it, and no other position, and is read as it.
+/// The FEN that is written for a sound position denotes it, and no other position, and is read as it.
 pub fn written_is_spelled()
     ensures spells { WrittenIsSpelled }
     ensures no_other { WrittenSpellsNoOther }
@@ -21,7 +21,7 @@ pub fn rights_are_named()
     ensures { RightsAreNamed }
 {}
 
-/// FEN of normal chess is what it is said to be for normal chess alone: each text is read so, and each position written
+/// FEN of normal chess is as defined for normal chess alone: each text is read so, and each position written
 /// so.
 pub fn normal_is_kept()
     ensures read { (text : List ℕ) → fen_reading_as Normal text ≡ normal_fen_reading text }

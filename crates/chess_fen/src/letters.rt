@@ -1,11 +1,11 @@
-//! The letters of men.
+//! The letters of pieces.
 
 ghost use Rattle.std.specs.Prelude.{◌≡◌};
 ghost use Rattle.chess_fen.specs.ManLetters.{letter, man_with_letter};
 
 use chess_base::{Colour, Kind, Man};
 
-// The man with this letter, if there is one.
+// The piece with this letter, if there is one.
 pub(crate) fn man_with_letter(byte: u8) -> Option<Man>
     ensures { result ≡ man_with_letter byte }
 {
@@ -27,7 +27,7 @@ pub(crate) fn man_with_letter(byte: u8) -> Option<Man>
     Some(Man { colour, kind })
 }
 
-// The letter of a man: White's are capital, Black's small.
+// The letter of a piece: White's are capital, Black's small.
 pub(crate) fn letter_of(man: Man) -> u8
     ensures { result ≡ letter man }
 {

@@ -1,4 +1,4 @@
-//! The men of a position.
+//! The pieces of a position.
 
 ghost use Rattle.std.specs.Prelude.{◌≡◌, ◌<◌, ◌+◌, ◌*◌, ◌++◌, drop};
 ghost use Rattle.chess_fen.specs.Texts.{placement_of};
@@ -15,7 +15,7 @@ fn put_rank(men: &mut [Option<Man>; 64], rank: usize, row: &[Option<Man>; 8])
     men[8 * rank..8 * rank + 8].copy_from_slice(row);
 }
 
-// The men of the 64 squares, from eight ranks.
+// The pieces of the 64 squares, from eight ranks.
 pub(crate) fn read_placement(text: &[u8]) -> Option<[Option<Man>; 64]>
     ensures { result ≡ placement_of text.now }
 {

@@ -18,7 +18,7 @@ use chess_base::{
     CastlingSide, Colour, ColourRights, FenFault, Man, Position, Rights, Setup, Square, Variant,
 };
 
-// What the fields of a text spell. The rights are still letters.
+// What the fields of a text denote. The rights are still letters.
 #[derive(Clone, Copy)]
 pub(crate) struct Described<'a> {
     variant: Variant,
@@ -53,7 +53,7 @@ fn read_counters(counters: Option<(&[u8], &[u8])>) -> Option<(u32, u32)>
     Some((halfmove, fullmove.max(1)))
 }
 
-// What the fields of a text spell, or the first field that is wrong.
+// What the fields of a text denote, or the first field that is wrong.
 fn describe(variant: Variant, text: &[u8]) -> Result<Described<'_>, FenFault>
     ensures { IsDescribed result (description_of variant text.now) }
 {
@@ -121,7 +121,7 @@ fn setup_from(described: &Described<'_>) -> Setup
     }
 }
 
-// The position that a text spells, or the first fault.
+// The position that a text denotes, or the first fault.
 fn spelled_position(variant: Variant, text: &[u8]) -> Result<Position, FenFault>
     ensures value { result ≡ fen_reading_as variant text.now }
     ensures sound { IfOk result IsSound }
@@ -132,14 +132,14 @@ fn spelled_position(variant: Variant, text: &[u8]) -> Result<Position, FenFault>
     }
 }
 
-/// The position of that variant that a text spells as FEN (PGN standard of 1994, section 16.1), or the first fault of
-/// the text. Byte 32 alone separates the fields, and may stand at both ends. In Chess960 a right is named by the letter
+/// The position of that variant that a text denotes as FEN (PGN standard of 1994, section 16.1), or the first fault of
+/// the text. Byte 32 alone separates the fields, and may be at both ends. In Chess960 a right is named by the letter
 /// of its rook's file, or by `K`, `Q`, `k` or `q` as the outermost rook on that side.
 pub fn read_fen_as(variant: Variant, text: &[u8]) -> Result<Position, FenFault>
     ensures value { result ≡ fen_reading_as variant text.now }
-    // What is read is spelled so, and sound.
+    // The text denotes what is read, which is sound.
     ensures found { IfOk result (λ p. SpellsFenAs variant text.now p × IsSound p) }
-    // A sound position that is spelled so is read.
+    // A sound position that the text denotes is read.
     ensures only { (p : Setup) → SpellsFenAs variant text.now p → IsSound p → result ≡ Ok p }
     // What the fault says of the text, field by field.
     ensures told { IfErr result (IsFaultAs variant text.now) }
@@ -149,13 +149,13 @@ pub fn read_fen_as(variant: Variant, text: &[u8]) -> Result<Position, FenFault>
     spelled_position(variant, text)
 }
 
-/// The position of normal chess that a text spells as FEN (PGN standard of 1994, section 16.1), or the first fault of
-/// the text. Byte 32 alone separates the fields, and may stand at both ends.
+/// The position of normal chess that a text denotes as FEN (PGN standard of 1994, section 16.1), or the first fault of
+/// the text. Byte 32 alone separates the fields, and may be at both ends.
 pub fn read_fen(text: &[u8]) -> Result<Position, FenFault>
     ensures value { result ≡ fen_reading text.now }
-    // What is read is spelled so, and sound.
+    // The text denotes what is read, which is sound.
     ensures found { IfOk result (λ p. SpellsFen text.now p × IsSound p) }
-    // A sound position that is spelled so is read.
+    // A sound position that the text denotes is read.
     ensures only { (p : Setup) → SpellsFen text.now p → IsSound p → result ≡ Ok p }
     // What the fault says of the text, field by field.
     ensures told { IfErr result (IsFault text.now) }

@@ -46,7 +46,7 @@ fn write_rank(out: &mut FenText, row: &[Option<Man>])
     write_run(out, empty);
 }
 
-// The men, from the eighth rank down.
+// The pieces, from the eighth rank down.
 fn write_placement(out: &mut FenText, men: &[Option<Man>; 64])
     requires room { array_vec_len out.old + 71 ≤ 100 }
     ensures text { out.new.items ≡ out.old.items ++ placement_text men.now }

@@ -82,7 +82,8 @@ fn check_all_refused(rt: &impl Abort, rows: &[(&[u8], FenFault)]) {
 }
 
 // Each field of rights but the last two's names no rook, one right twice, two on one side, or is no such field. The
-// last two have a fault that is told before the squares of the rights, and one that is told after their spelling.
+// last two have a fault that is reported before the squares of the rights, and one that is reported after their
+// letters.
 const BAD_RIGHTS: &[(&[u8], FenFault)] = &[
     (b"4k3/8/8/8/8/8/8/RK5R w C - 0 1", FenFault::Castling),
     (b"4k3/8/8/8/8/8/8/RK5R w B - 0 1", FenFault::Castling),

@@ -41,7 +41,7 @@ fn check_all(rt: &impl Abort, rows: &[(&[u8], Wanted)]) {
     }
 }
 
-// Below stand positions of well-known test suites and games, and some that each change one of them. Each table has a
+// Below are positions of well-known test suites and games, and some that each change one of them. Each table has a
 // test of its own, since a check's length grows with the square of the rows that one function names.
 
 // The usual positions of move generators.
@@ -248,10 +248,10 @@ fn changed_positions_are_judged(rt: HostRuntime) {
     check_all(&rt, CHANGED);
 }
 
-// Below stand texts that are spelled otherwise than they are written, and texts with each fault, and of several the
+// Below are texts in other forms than those that are written, and texts with each fault, and of several the
 // first.
 
-// What is read beside what is written.
+// What is read in addition to what is written.
 const SPELLINGS: &[(&[u8], Wanted)] = &[
     (
         b"4k3/8/8/8/8/8/8/4K2R  w  K -",
@@ -430,7 +430,7 @@ fn long_texts_are_refused(rt: HostRuntime) {
     check(&rt, &[b'8'; 10_000], Wanted::Refused(FenFault::Fields));
 }
 
-// A sound position whose FEN is as long as one can be: no two empty squares stand side by side.
+// A sound position whose FEN is as long as one can be: no two empty squares are side by side.
 const LONGEST: &[u8] =
     b"r1b1k1n1/1p1p1p1p/p1p1p1p1/1q1r1b1n/P1P1P1P1/1Q1R1B1N/1P1P1P1P/R1B1K1N1 b Qq e3 999999 999999";
 

@@ -1,4 +1,4 @@
--- A legal move stands in the list of all moves, once.
+-- A legal move is in the list of all moves, once.
 use Rattle.std.proofs.Common.{◌≡◌, ◌≢◌, ℕ, zero, suc, ◌<◌, ◌≤◌, inl, inr, Bool, true, false, ◌&&◌, cond, Option, Some, None, List, [], ◌∷◌, map, refl, sym, ap, ◌∙◌, arith}
 use Rattle.std.specs.Prelude.{IfSome}
 use Rattle.std.proofs.lemmas.Bool.{cases_Bool, cases_lt, and_parts, and_from, false_from_ne_true, or_left, or_right}
@@ -116,7 +116,7 @@ any-triple t m f b k e =
     any-flat_map t (λ a. flat_map (λ b. map (triple a b) promotions) squares) squares
     ∙ any-square (λ a. list_any t (flat_map (λ b. map (triple a b) promotions) squares)) m.from f from
 
--- a legal move that passes a test stands among all moves
+-- a legal move that passes a test is among all moves
 pub any-move : (p : Setup) (t : Move → Bool) (m : Move) → is_legal p m ≡ true → t m ≡ true → list_any t (moves p) ≡ true
 unfolding moves
 any-move p t m legal e =

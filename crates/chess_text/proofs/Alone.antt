@@ -25,7 +25,7 @@ use Rattle.chess_text.proofs.Legal.{IsMove, told_of, described_is}
 
 -- ---- what is read
 
--- a text that spells a legal move alone is read as it
+-- a text that denotes a legal move alone is read as it
 pub read_alone : (p : Setup) (text : List ℕ) (m : Move) → is_legal p m ≡ true → shape text ≡ true → SpellsAlone p text m
     → reading p text ≡ reads.Move m
 unfolding reading
@@ -148,7 +148,7 @@ promotes-same equals small None (Some k) e = absurd cc
 promotes-same equals small (Some k) None e = absurd cc
 promotes-same equals small (Some k) (Some l) e = ap Some (sym (same_kind-true k l e))
 
--- ---- what a text spells, with no reader
+-- ---- what a text denotes, with no reader
 
 pub castled : (test : CastlingSide → Bool) (o : Option CastlingSide) → passes test o ≡ true → (w : CastlingSide)
     × (o ≡ Some w) × (test w ≡ true)

@@ -1,4 +1,4 @@
--- What a text is read as tells its shape and what it spells.
+-- What a text is read as fixes its shape and what it denotes.
 use Rattle.std.proofs.Common.{◌≡◌, ℕ, Bool, true, false, ◌&&◌, ◌||◌, cond, List, [], ◌∷◌, Option, Some, None, is_some, refl, sym, ap, ◌∙◌}
 use Rattle.std.proofs.lemmas.Bool.{and_parts, and_right}
 use Rattle.std.proofs.lemmas.List.Elements.{filter_agree}
@@ -46,7 +46,7 @@ unfolding shape form_of is_castling_text move_parts
 shape-form text = shape_by (unmarked text) (list_any (bytes_eq (unmarked text)) (castling_texts KingSide))
     (list_any (bytes_eq (unmarked text)) (castling_texts QueenSide))
 
--- ---- what is spelled
+-- ---- what is denoted
 
 -- parts of no form fit no move
 no_form : (letter : Option Kind) (f r : Option ℕ) (takes : Bool) (to : ℕ) (promotion : Option Promotion) (d : Described)
@@ -82,7 +82,7 @@ same_for : (test other : CastlingSide → Bool) → ((v : CastlingSide) → test
 same_for test other h None = refl
 same_for test other h (Some v) = h v
 
--- a text of castling spells castling to its side
+-- a text of castling denotes castling to its side
 pub spelled_castling : (text : List ℕ) (w : CastlingSide) (d : Described) → IsCastling text w
     → (passes (λ v. list_any (bytes_eq text) (castling_texts v)) d.castles || passes (λ q. fits q d) (parts_at text))
     ≡ passes (same_side w) d.castles

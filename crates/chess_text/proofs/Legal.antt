@@ -25,7 +25,7 @@ use Rattle.chess_text.specs.Parts.{CanPromote}
 use Rattle.chess_text.specs.ties.Forms.{castling_end}
 use Rattle.chess_text.specs.Moves.{captures, described, described_as}
 
--- what a text can tell of a move of that man
+-- what a text can say of a move of that piece
 abbrev pub told_of : Setup → Move → Kind → Described
 told_of p m k = record {
   man = k;
@@ -36,7 +36,7 @@ told_of p m k = record {
   castles = castling p m;
 }
 
--- by the kind of man: a pawn's move, or one without a promotion
+-- by the kind of piece: a pawn's move, or one without a promotion
 abbrev pub MovesAs : Setup → Move → Kind → Type 0
 MovesAs p m Pawn = (pawn_moves p m ≡ true) × (castling p m ≡ None)
 MovesAs p m k = m.promotion ≡ None

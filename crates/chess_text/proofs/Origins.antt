@@ -1,4 +1,4 @@
--- Where the moves begin that a form spells.
+-- Where the moves begin that a form denotes.
 use Rattle.std.proofs.Common.{◌≡◌, ℕ, ◌+◌, ◌*◌, ◌/◌, ◌%◌, ◌<◌, inl, inr, true, false, ◌&&◌, ◌||◌, ◌==◌, nat_lt, Option, Some, None, List, [], ◌∷◌, ◌++◌, refl, sym, ap, ◌∙◌, arith}
 use Rattle.std.specs.Prelude.{is_none}
 use Rattle.std.specs.List.{filter, flat_map}
@@ -31,7 +31,7 @@ use Rattle.chess_text.proofs.AllMoves.{none-kept}
 use Rattle.chess_text.proofs.Legal.{castling_says, legal_move, IsMove, told_of, described_is}
 use Rattle.chess_text.proofs.SpelledMoves.{spelled_ends, all_spelled}
 
--- the man of a legal move, as a test
+-- the piece of a legal move, as a test
 pub man_is : (p : Setup) (m : Move) (h : IsMove p m) (k : Kind) → same_kind k h.man ≡ true
     → is_man p.side k (man_at p.men m.from) ≡ true
 unfolding is_man
@@ -41,7 +41,7 @@ man_is p m h k e = rw h.at_from (by_colour p.side e)
     by_colour White e = e
     by_colour Black e = e
 
--- what is described of a legal move that is spelled
+-- what is described of a legal move that is denoted
 pub fits_told : (p : Setup) (q : Parts) (m : Move) (h : IsMove p m) → is_spelled (Walk q) p m ≡ true
     → fits q (told_of p m h.man) ≡ true
 unfolding is_spelled
@@ -198,7 +198,7 @@ spelled_from form p w start = flat_map_members _ w (λ k low out. none_there k o
         let there : has w k ≡ true = start (triple k (end_square form p) x) both.0 both.1 in
         cc))
 
--- ---- what a text is that spells some moves
+-- ---- what a text is that denotes some moves
 
 with_both : (found : Reading) (xs ys : List Move) → with_moves found (xs ++ ys) ≡ with_moves (with_moves found xs) ys
 with_both found [] ys = refl

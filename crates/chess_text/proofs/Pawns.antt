@@ -21,7 +21,7 @@ use Rattle.chess_text.specs.Moves.{captures}
 abbrev pub pawn_of : Colour → Man
 pawn_of c = record { colour = c; kind = Pawn }
 
--- ---- no pawn stands on its first rank
+-- ---- no pawn is on its first rank
 
 stands_off : (men : Men) (c : Colour) (s : ℕ) → man_at men s ≡ Some (pawn_of c) → pawn_may_stand men s ≡ true
     → rank s ≢ 0

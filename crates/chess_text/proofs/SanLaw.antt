@@ -1,4 +1,4 @@
--- The SAN of a legal move spells it alone.
+-- The SAN of a legal move denotes it alone.
 use Rattle.std.proofs.Common.{◌≡◌, ℕ, ◌<◌, ◌≤◌, inl, inr, Bool, true, false, not, ◌&&◌, ◌||◌, List, [], ◌∷◌, ◌++◌, length, map, Option, Some, None, is_none, refl, sym, ap, subst, ◌∙◌, arith, ◌==◌}
 use Rattle.std.specs.Prelude.{IfSome, IsTrue}
 use Rattle.std.specs.Option.{option_map}
@@ -142,7 +142,7 @@ pawn_fits p m false e on =
     let f = promotes-self true false m.promotion in
     rw (a, b, f) refl
 
--- what a move of some man has that the parts of a straight move fit
+-- what a move of some piece has that the parts of a straight move fit
 record GoesStraight (p : Setup) (m n : Move) (l : Kind) : Type 0 where
   man : l ≡ Pawn
   on : file n.from ≡ file n.to
@@ -263,7 +263,7 @@ pawn_on_file p m sound h is e =
     let a = as_pawn p m h is in
     advances_on_file p m (pawn_stands p sound p.side m.from h.from_in a.0) (advances_without p m a.0 a.1 e)
 
--- ---- other men
+-- ---- other pieces
 
 abbrev rivals : Setup → Move → Kind → List ℕ
 rivals p m k = rival_starts p (moves p) (told_of p m k)
@@ -374,7 +374,7 @@ any-map : {A B : Type 0} (t : B → Bool) (g : A → B) (xs : List A) → list_a
 any-map t g [] = refl
 any-map t g (x ∷ xs) = ap (λ b. t (g x) || b) (any-map t g xs)
 
--- a rival's start stands among the rivals'
+-- a rival's start is among the rivals'
 rival_stands : (p : Setup) (m n : Move) (k : Kind) (t : ℕ → Bool) → is_legal p n ≡ true
     → is_rival p (told_of p m k) n ≡ true → t n.from ≡ true → list_any t (rivals p m k) ≡ true
 unfolding rival_starts

@@ -1,4 +1,4 @@
--- What is read tells whether the text has a move's shape.
+-- What is read decides whether the text has a move's shape.
 use Rattle.std.proofs.Common.{◌≡◌, ℕ, Bool, true, false, List, [], ◌∷◌, refl, if◌then◌else◌}
 use Rattle.std.specs.List.{filter}
 use Rattle.chess_base.specs.declared.man.Move.{Move}

@@ -1,4 +1,4 @@
--- The text of a legal move as lists and lines of moves show it spells it alone.
+-- The text of a legal move as lists and lines of moves show it denotes it alone.
 use Rattle.std.proofs.Common.{◌≡◌, Option, Some, None, refl}
 use Rattle.std.specs.Prelude.{IsTrue}
 use Rattle.chess_base.specs.declared.man.CastlingSide.{CastlingSide}

@@ -1,4 +1,4 @@
--- All moves that a form spells end on one square, so that none needs be looked at that ends elsewhere.
+-- All moves that a form denotes end on one square, so that none needs be looked at that ends elsewhere.
 use mathlib.Core.Bool.{and_comm}
 use Rattle.std.proofs.Common.{◌≡◌, ◌≢◌, ℕ, ◌≤◌, inl, inr, Bool, true, false, ◌&&◌, ◌||◌, Option, Some, None, List, [], ◌∷◌, map, refl, sym, ap, ◌∙◌, arith}
 use Rattle.std.proofs.lemmas.Bool.Decides.{nat_tests}
@@ -24,7 +24,7 @@ use Rattle.chess_text.proofs.Alone.{castled}
 use Rattle.chess_text.proofs.AllMoves.{filter-both, none-kept, kept, alone-square}
 use Rattle.chess_text.proofs.Legal.{castling_says, names_end, legal_move}
 
--- ---- where a spelled move ends
+-- ---- where a denoted move ends
 
 by_squares_ends : (q : Parts) (d : Described) → is_by_squares q d ≡ true → d.to ≡ q.end.to
 unfolding is_by_squares

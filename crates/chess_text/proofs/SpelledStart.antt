@@ -1,4 +1,4 @@
--- What the parts spell of the legal moves of one kind of men.
+-- What the parts denote of the legal moves of one kind of piece.
 use mathlib.Core.Bool.{and-true, and-false}
 use Rattle.std.proofs.Common.{◌≡◌, ℕ, ◌<◌, Bool, true, false, not, ◌&&◌, ◌||◌, ◌==◌, cond, Option, Some, None, is_none, refl, sym, ap, ◌∙◌, arith}
 use Rattle.std.specs.Prelude.{is_some}
@@ -24,7 +24,7 @@ use Rattle.chess_text.specs.ties.Forms.{is_spelled, is_spelled_by_letter, is_spe
 use Rattle.chess_text.proofs.Legal.{castling_says, legal_move, IsMove, told_of, described_is}
 use Rattle.chess_text.proofs.Origins.{named_is}
 
--- ---- the man
+-- ---- the piece
 
 same_number : (j k : Kind) → same_kind j k ≡ true → j ≡ k
 same_number King King e = refl

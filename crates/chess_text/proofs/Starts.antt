@@ -1,5 +1,5 @@
--- Where the parts spell moves of one kind of men alone, none of which promotes, these are the moves from the squares
--- where a man of that kind has the legal move to the end square.
+-- Where the parts denote moves of one kind of piece alone, none of which promotes, these are the moves from the squares
+-- where a piece of that kind has the legal move to the end square.
 use Rattle.std.proofs.Common.{◌≡◌, ℕ, zero, suc, ◌+◌, ◌<◌, inl, inr, Bool, true, false, ◌&&◌, cond, Option, Some, None, List, [], ◌∷◌, refl, sym, ap, subst, ◌∙◌, arith}
 use Rattle.std.specs.Prelude.{is_some}
 use Rattle.std.specs.List.{filter, flat_map, range_with_len}
@@ -53,7 +53,7 @@ promotes_as q d at h = grind (arith, nat_tests, at, h)
 
 -- ---- one kind
 
--- a spelled legal move is of such a man, and has no promotion
+-- a denoted legal move is of such a piece, and has no promotion
 abbrev OfKind : Setup → Kind → Move → Type 0
 OfKind p k m = (is_man p.side k (man_at p.men m.from) ≡ true) × (m.promotion ≡ None)
 

@@ -5,7 +5,7 @@ use Rattle.chess_base.specs.Squares.{file, rank}
 use Rattle.chess_text.specs.Moves.{admits}
 use Rattle.chess_text.specs.San.{some_on_file, some_on_rank, said, told_start, if_said}
 
--- the start itself is as told
+-- the start itself is as written
 pub told_admits : (b : Bool) (n : ℕ) → admits (if_said b n) n ≡ true
 told_admits true n = eq-eqb n n refl
 told_admits false n = refl
@@ -16,7 +16,7 @@ admitted n k e = eqb-true n k e
 pub same_square : (a b : ℕ) → file a ≡ file b → rank a ≡ rank b → b ≡ a
 same_square a b f r = omega arith
 
--- no other start that stands among the others is
+-- no other start among the others is
 pub told_apart : (from s : ℕ) (others : List ℕ) → some_on_file (file s) others ≡ true
     → some_on_rank (rank s) others ≡ true → s ≢ from
     → admits (if_said (told_start from others).file (file from)) (file s) ≡ true

@@ -1,4 +1,4 @@
--- The texts of moves: which moves a text spells (PGN standard of 1994, section 8.2.3). This project's own beside the
+-- The texts of moves: which moves a text denotes (PGN standard of 1994, section 8.2.3). This project's additions to the
 -- standard: castling with the digit 0, a promotion in a small letter or without `=`, a capture without `x`, more of the
 -- start square than is needed, and any run of marks.
 use Rattle.std.specs.Prelude.{ℕ, ◌==◌, Bool, true, false, not, ◌&&◌, ◌||◌, if◌then◌else◌, List, [], ◌∷◌, Option, Some, None, is_some, is_none, IsTrue, codes}
@@ -23,13 +23,13 @@ use Rattle.chess_text.specs.declared.reading.Reading.{Reading}
 use Rattle.chess_text.specs.declared.reading.Reading.TheVariants as reads
 use Rattle.chess_text.specs.Parts.{unmarked, move_parts}
 
--- ---- what a text can tell of a move
+-- ---- what a text can say of a move
 
--- an enemy man stands on the end square, or the pawn takes en passant
+-- an enemy piece is on the end square, or the pawn takes en passant
 unfoldable pub captures : Setup → Move → Bool
 captures p m = is_of (other p.side) (man_at p.men m.to) || is_en_passant p m
 
--- what is so of a move of the man on its start square, if one stands there
+-- the description of a move of the piece on its start square, if there is one
 abbrev pub described_as : Setup → Move → Option Man → Option Described
 described_as p m None = None
 described_as p m (Some x) =
@@ -42,8 +42,8 @@ described_as p m (Some x) =
       castles = castling p m;
     })
 
--- what is so of a move in a position: the man on its start square, both squares, the promotion, whether it captures,
--- and to which side it castles; nothing where no man stands there
+-- the description of a move in a position: the piece on its start square, both squares, the promotion, whether it
+-- captures, and to which side it castles; nothing where no piece is there
 unfoldable pub described : Setup → Move → Option Described
 described p m = described_as p m (man_at p.men m.from)
 
@@ -59,12 +59,12 @@ abbrev pub names : Option ℕ → ℕ → Bool
 names None n = false
 names (Some told) n = told == n
 
--- the text names this kind of man
+-- the text names this kind of piece
 abbrev pub tells_kind : Option Kind → Kind → Bool
 tells_kind None k = false
 tells_kind (Some told) k = same_kind told k
 
--- with a promotion only moves with that promotion are spelled, without one only moves without
+-- with a promotion only moves with that promotion are denoted, without one only moves without
 abbrev pub promotes_so : Option Promotion → Option Kind → Bool
 promotes_so None None = true
 promotes_so None (Some k) = false
@@ -76,13 +76,13 @@ abbrev pub has_equals : Option Promotion → Bool
 has_equals None = false
 has_equals (Some told) = told.equals
 
--- any man from one square to another, castling too; a promotion stands without `=`
+-- any piece from one square to another, castling too; a promotion is written without `=`
 unfoldable pub is_by_squares : Parts → Described → Bool
 is_by_squares q d =
     is_none q.letter && names q.file (file d.from) && names q.rank (rank d.from) && not q.takes && (q.end.to == d.to)
     && not (has_equals q.end.promotion) && promotes_so q.end.promotion d.promotion
 
--- a man that is no pawn, not castling; with `x` only a capture
+-- a piece that is no pawn, not castling; with `x` only a capture
 unfoldable pub is_by_letter : Parts → Described → Bool
 is_by_letter q d =
     tells_kind q.letter d.man && is_none d.castles && admits q.file (file d.from) && admits q.rank (rank d.from)
@@ -109,12 +109,12 @@ fits q d = is_by_squares q d || is_by_letter q d || is_straight q d || is_from_f
 unfoldable pub is_form : Parts → Bool
 is_form q = if is_some q.letter then is_none q.end.promotion else is_some q.file || (is_none q.rank && not q.takes)
 
--- castling is spelled with the letter O, or with the digit 0
+-- castling is written with the letter O, or with the digit 0
 abbrev pub castling_texts : CastlingSide → List (List ℕ)
 castling_texts KingSide = codes "O-O" ∷ codes "0-0" ∷ []
 castling_texts QueenSide = codes "O-O-O" ∷ codes "0-0-0" ∷ []
 
--- without its marks, the text spells castling to that side
+-- without its marks, the text denotes castling to that side
 unfoldable pub is_castling_text : List ℕ → CastlingSide → Bool
 is_castling_text text w = list_any (bytes_eq (unmarked text)) (castling_texts w)
 
@@ -127,23 +127,23 @@ passes test (Some x) = test x
 unfoldable pub shape : List ℕ → Bool
 shape text = is_castling_text text KingSide || is_castling_text text QueenSide || passes is_form (move_parts text)
 
--- the text spells the move that is described
+-- the text denotes the move that is described
 unfoldable pub spells_described : List ℕ → Described → Bool
 spells_described text d = passes (is_castling_text text) d.castles || passes (λ q. fits q d) (move_parts text)
 
--- the text spells this move of the position
+-- the text denotes this move of the position
 unfoldable pub spells : Setup → List ℕ → Move → Bool
 spells p text m = passes (spells_described text) (described p m)
 
 -- ---- reading
 
--- what a text is that spells these legal moves
+-- what a text is that denotes these legal moves
 abbrev pub one_of : List Move → Reading
 one_of [] = reads.NoSuch
 one_of (m ∷ []) = reads.Move m
 one_of (m ∷ n ∷ ms) = reads.Ambiguous
 
--- what a text is in a position, by the legal moves that it spells: one is the move, several are ambiguous, none is no
+-- what a text is in a position, by the legal moves that it denotes: one is the move, several are ambiguous, none is no
 -- such move. What has no move's shape is no move
 unfoldable pub reading : Setup → List ℕ → Reading
 reading p text = if shape text then one_of (filter (λ m. spells p text m) (moves p)) else reads.NotAMove

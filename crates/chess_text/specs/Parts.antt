@@ -1,4 +1,4 @@
--- The parts of a move's text: [letter][file][rank][x]square[[=]promotion], and the marks behind it.
+-- The parts of a move's text: [letter][file][rank][x]square[[=]promotion], and the marks after it.
 use Rattle.std.specs.Prelude.{ℕ, ◌+◌, ◌-◌, ◌*◌, ◌<◌, ◌==◌, nat_le, Bool, true, false, ◌&&◌, ◌||◌, if◌then◌else◌, List, [], ◌∷◌, ◌++◌, length, take, find, Option, Some, None, IfSome}
 use Rattle.std.specs.List.{suffix_len}
 use Rattle.std.specs.Option.{option_map}
@@ -38,7 +38,7 @@ rank_text r = (byte "1" + r) ∷ []
 abbrev pub promotion_letter : Promotion → ℕ
 promotion_letter p = if p.small then white_letter p.kind + 32 else white_letter p.kind
 
--- what the pawn becomes, behind `=` where that is written
+-- what the pawn becomes, after `=` where that is written
 abbrev pub promotion_text : Promotion → List ℕ
 promotion_text p = when p.equals (byte "=" ∷ []) ++ promotion_letter p ∷ []
 
@@ -51,14 +51,14 @@ abbrev pub parts_text : Parts → List ℕ
 parts_text q = optional kind_text q.letter
     ++ (optional file_text q.file ++ (optional rank_text q.rank ++ (when q.takes (byte "x" ∷ []) ++ end_text q.end)))
 
--- the men that a letter names, and those that a pawn may become (3.7)
+-- the pieces that a letter names, and those that a pawn may become (3.7)
 abbrev pub officers : List Kind
 officers = King ∷ Queen ∷ Rook ∷ Bishop ∷ Knight ∷ []
 
 abbrev pub promoted : List Kind
 promoted = Queen ∷ Rook ∷ Bishop ∷ Knight ∷ []
 
--- a letter names men of this kind; a pawn may become one
+-- a letter names pieces of this kind; a pawn may become one
 abbrev pub IsOfficer : Kind → Type 0
 IsOfficer Pawn = ⊥
 IsOfficer k = Unit {0}
@@ -94,7 +94,7 @@ abbrev pub or_else : {A : Type 0} → Option A → Option A → Option A
 or_else (Some x) o = Some x
 or_else None o = o
 
--- the promotion that a letter tells, capital or small, behind `=` or not
+-- the promotion that a letter names, capital or small, after `=` or not
 abbrev pub promotion_by : Bool → ℕ → Option Promotion
 promotion_by equals c =
     or_else (option_map (λ k. record { kind = k; equals = equals; small = false }) (kind_from promoted c))
@@ -107,7 +107,7 @@ promotion_at (c ∷ []) = option_map Some (promotion_by false c)
 promotion_at (c ∷ d ∷ []) = if c == byte "=" then option_map Some (promotion_by true d) else None
 promotion_at (c ∷ d ∷ e ∷ cs) = None
 
--- the end square, and what the pawn becomes behind it
+-- the end square, and what the pawn becomes after it
 abbrev pub end_at : List ℕ → Option End
 end_at [] = None
 end_at (f ∷ []) = None
@@ -140,7 +140,7 @@ file_at letter (c ∷ rest) =
     or_else (option_map (with_parts letter None) (rank_at (c ∷ rest)))
     (if is_file_letter c then option_map (with_parts letter (Some (c - byte "a"))) (rank_at rest) else None)
 
--- the parts behind a man's letter, or where there is none
+-- the parts after a piece's letter, or where there is none
 abbrev pub at_letter : Option Kind → ℕ → List ℕ → Option Parts
 at_letter None c rest = file_at None (c ∷ rest)
 at_letter (Some k) c rest = file_at (Some k) rest

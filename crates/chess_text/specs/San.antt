@@ -1,7 +1,7 @@
 -- The text that is written for a move (PGN standard of 1994, section 8.2.3). Castling is `O-O` or `O-O-O`. A pawn's
--- move is for a capture its file and `x`, the end square, and for a promotion `=` and a letter; another man's its
--- letter, what tells its start square from those of its rivals, `x` for a capture, and the end square. Last comes `#`
--- for mate, else `+` for check.
+-- move is for a capture its file and `x`, the end square, and for a promotion `=` and a letter; another piece's its
+-- letter, what distinguishes its start square from those of its rivals, `x` for a capture, and the end square. Last
+-- comes `#` for mate, else `+` for check.
 use Rattle.std.specs.Prelude.{ℕ, false, true, Bool, not, ◌&&◌, ◌||◌, ◌==◌, is_none, IsTrue, if◌then◌else◌, List, [], ◌∷◌, ◌++◌, length, map, Option, Some, None, codes}
 use Rattle.std.specs.List.{list_any, filter}
 use Rattle.std.specs.Option.{option_map}
@@ -38,11 +38,11 @@ some_on_file f squares = list_any (λ s. file s == f) squares
 abbrev pub some_on_rank : ℕ → List ℕ → Bool
 some_on_rank r squares = list_any (λ s. rank s == r) squares
 
--- whether the file is told, and whether the rank is
+-- whether the file is written, and whether the rank is
 abbrev pub said : Bool → Bool → ToldStart
 said f r = record { file = f; rank = r }
 
--- what is said of the start square beside other starts: nothing where there are none; the file where none is on it;
+-- what is written of the start square given other starts: nothing where there are none; the file where none is on it;
 -- else the rank where none is on it; else both
 abbrev pub told_start : ℕ → List ℕ → ToldStart
 told_start from [] = said false false
@@ -50,7 +50,7 @@ told_start from (other ∷ others) =
     if not (some_on_file (file from) (other ∷ others)) then said true false
     else (if not (some_on_rank (rank from) (other ∷ others)) then said false true else said true true)
 
--- the number, where it is told
+-- the number, where it is written
 abbrev pub if_said : Bool → ℕ → Option ℕ
 if_said b n = if b then Some n else None
 
@@ -76,7 +76,7 @@ pawn_parts d = record {
   end = end_of d;
 }
 
--- and of another man's, where others of its kind start from these squares and go to the same
+-- and of another piece's, where others of its kind start from these squares and go to the same
 abbrev pub officer_parts : List ℕ → Described → Parts
 officer_parts others d =
     let start = told_start d.from others in
@@ -92,7 +92,7 @@ officer_parts others d =
 unfoldable pub walk_parts : List ℕ → Described → Parts
 walk_parts others d = if same_kind d.man Pawn then pawn_parts d else officer_parts others d
 
--- a move of a man of the same kind to the same square from another one
+-- a move of a piece of the same kind to the same square from another one
 unfoldable pub is_rival : Setup → Described → Move → Bool
 is_rival p d m = (m.to == d.to) && not (m.from == d.from) && passes (λ e. same_kind e.man d.man) (described p m)
 

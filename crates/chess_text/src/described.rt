@@ -1,4 +1,4 @@
-//! What a text can tell of a move.
+//! What a text can say of a move.
 
 ghost use Rattle.std.specs.Prelude.{◌≡◌, ◌==◌};
 ghost use Rattle.chess_text.specs.Moves.{captures, described, admits, names, tells_kind, promotes_so, has_equals, is_by_squares, is_by_letter, is_straight, is_from_file, fits, is_form};
@@ -7,8 +7,8 @@ use crate::parts::{Parts, Promotion};
 use chess_base::for_boards::{castling, is_en_passant, is_of};
 use chess_base::{CastlingSide, Kind, Move, Setup, Square};
 
-/// A move of a position, as far as a text can tell it: its man, squares and promotion, whether it captures, and to
-/// which side it castles.
+/// A move of a position, as far as a text can describe it: its piece, squares and promotion, whether it captures, and
+/// to which side it castles.
 #[derive(Clone, Copy, Debug, PartialEq, Eq)]
 pub struct Described {
     pub man: Kind,
@@ -19,7 +19,7 @@ pub struct Described {
     pub castles: Option<CastlingSide>,
 }
 
-// Whether the move takes an enemy man, en passant too.
+// Whether the move takes an enemy piece, en passant too.
 #[tactic(auto, unfolding(crate::specs::Moves::captures))]
 pub(crate) fn captures(setup: &Setup, m: &Move) -> bool
     ensures { result ≡ captures setup.now m.now }
@@ -27,7 +27,7 @@ pub(crate) fn captures(setup: &Setup, m: &Move) -> bool
     is_of(setup.side.other(), setup.men[m.to.index()]) || is_en_passant(setup, m)
 }
 
-// The move of the man on its start square, if one stands there.
+// The move of the piece on its start square, if there is one.
 #[tactic(auto, unfolding(crate::specs::Moves::described))]
 pub(crate) fn describe(setup: &Setup, m: &Move) -> Option<Described>
     ensures { result ≡ described setup.now m.now }
@@ -144,7 +144,7 @@ fn is_from_file(parts: &Parts, d: &Described) -> bool
         && promotes_so(parts.end.promotion, d.promotion)
 }
 
-// Whether the parts spell the move in one of the forms of a text.
+// Whether the parts denote the move in one of the forms of a text.
 #[tactic(auto, unfolding(crate::specs::Moves::fits))]
 pub(crate) fn fits(parts: &Parts, d: &Described) -> bool
     ensures { result ≡ fits parts.now d.now }

@@ -50,7 +50,7 @@ fn form_fits(form: &Form, d: &Described) -> bool
     }
 }
 
-// Whether the text of that form spells the move.
+// Whether the text of that form denotes the move.
 #[tactic(auto, unfolding(crate::specs::ties::Forms::is_spelled))]
 pub(crate) fn is_spelled(form: &Form, setup: &Setup, m: &Move) -> bool
     ensures { result ≡ is_spelled form.now setup.now m.now }

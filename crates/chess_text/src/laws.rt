@@ -6,7 +6,7 @@ ghost use Rattle.chess_base.specs.declared.man.Variant.TheVariants.{Normal};
 ghost use Rattle.chess_base.specs.declared.setup.Setup.{Setup};
 ghost use Rattle.chess_text.specs.laws.Normal.{NormalIsKept};
 
-/// The SAN of a legal move of a sound position spells it and no other legal move, and is read as it.
+/// The SAN of a legal move of a sound position denotes it and no other legal move, and is read as it.
 pub fn san_spells_its_move()
     ensures spells { SanSpellsItsMove }
     ensures shape { SanHasShape }
@@ -27,7 +27,7 @@ pub fn read_moves_are_legal()
     ensures { ReadMovesAreLegal }
 {}
 
-/// The coordinate text of a legal move of a sound position spells it and no other legal move, and is read as it.
+/// The coordinate text of a legal move of a sound position denotes it and no other legal move, and is read as it.
 pub fn coordinate_spells_its_move()
     ensures spells { CoordinateSpellsItsMove }
     ensures shape { CoordinateHasShape }
@@ -35,14 +35,14 @@ pub fn coordinate_spells_its_move()
 {}
 
 /// The text of a legal move of a sound position as lists and lines of moves show it, castling in Chess960 among them,
-/// spells it and no other legal move, and is read as it.
+/// denotes it and no other legal move, and is read as it.
 pub fn move_text_spells_its_move()
     ensures spells { ShownMoveSpellsItsMove }
     ensures shape { ShownMoveHasShape }
     ensures read_back { ShownMoveIsReadBack }
 {}
 
-/// The parts of a text are those that it is written from; so a text spells the castling that it names, or what the
+/// The parts of a text are those that it is written from; so a text denotes the castling that it names, or what the
 /// parts fit whose text it is, and has a move's shape if it names castling, or is the text of parts that have a form.
 pub fn texts_have_parts()
     ensures read { PartsAreTheTexts }
@@ -52,7 +52,7 @@ pub fn texts_have_parts()
 {}
 
 /// On positions of normal chess the legal moves, the move that a text is read as, SAN, and how lists show a move are those
-/// said for normal chess alone.
+/// defined for normal chess alone.
 pub fn normal_is_kept()
     ensures { (p : Setup) → p.variant ≡ Normal → NormalIsKept p }
 {}

@@ -5,7 +5,7 @@ ghost use Rattle.chess_text.specs.Parts.{is_mark, unmarked, promotion_by, promot
 
 use chess_base::{Kind, Square};
 
-/// What a text names as the promotion: the kind, whether `=` stands before its letter, and whether the letter is small.
+/// What a text names as the promotion: the kind, whether `=` comes before its letter, and whether the letter is small.
 #[derive(Clone, Copy, Debug, PartialEq, Eq)]
 pub struct Promotion {
     pub kind: Kind,
@@ -13,15 +13,15 @@ pub struct Promotion {
     pub small: bool,
 }
 
-/// What stands last in a text: the end square, and the promotion, if one is named.
+/// What comes last in a text: the end square, and the promotion, if one is named.
 #[derive(Clone, Copy, Debug, PartialEq, Eq)]
 pub struct End {
     pub to: Square,
     pub promotion: Option<Promotion>,
 }
 
-/// The parts of a text `[letter][file][rank][x]square[[=]promotion]`: the man's letter, the file and rank of the start
-/// square, both from 0, whether `x` is there, and what stands last.
+/// The parts of a text `[letter][file][rank][x]square[[=]promotion]`: the piece's letter, the file and rank of the
+/// start square, both from 0, whether `x` is there, and what comes last.
 #[derive(Clone, Copy, Debug, PartialEq, Eq)]
 pub struct Parts {
     pub letter: Option<Kind>,
@@ -71,7 +71,7 @@ fn promotion_by(equals: bool, letter: u8) -> Option<Promotion>
     })
 }
 
-// What stands behind the end square: nothing, or a promotion.
+// What follows the end square: nothing, or a promotion.
 #[inline(always)]
 fn read_promotion(text: &[u8]) -> Option<Option<Promotion>>
     ensures { result ≡ promotion_at text.now }

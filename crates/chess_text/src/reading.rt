@@ -18,17 +18,17 @@ use chess_moves::{Board, SquareSet, would_promote};
 /// What a text is in a position.
 #[derive(Clone, Copy, Debug, PartialEq, Eq)]
 pub enum Reading {
-    /// It spells this legal move and no other.
+    /// It denotes this legal move and no other.
     Move(Move),
-    /// It spells several legal moves.
+    /// It denotes several legal moves.
     Ambiguous,
-    /// It has a move's shape and spells no legal move.
+    /// It has a move's shape and denotes no legal move.
     NoSuch,
     /// It hasn't a move's shape.
     NotAMove,
 }
 
-/// Whether a text has the shape of a move, in any position: a move by coordinates, castling, or a man's move,
+/// Whether a text has the shape of a move, in any position: a move by coordinates, castling, or a piece's move,
 /// as SAN (PGN standard of 1994, section 8.2.3) or without what SAN asks for; a run of `+`, `#`, `!` and `?` at
 /// its end is passed over.
 pub fn has_move_shape(text: &[u8]) -> bool
@@ -53,7 +53,7 @@ fn castling_end(
     }
 }
 
-// The square on which every move ends that the form spells.
+// The square on which every move ends that the form denotes.
 fn end_square(form: &Form, setup: &Setup) -> Square
     ensures { result ≡ end_square form.now setup.now }
 {
@@ -81,7 +81,7 @@ fn named_square(file: Option<u8>, rank: Option<u8>) -> Option<Square>
     }
 }
 
-// Squares among which each legal move begins that the parts spell.
+// Squares among which each legal move begins that the parts denote.
 #[tactic(auto, using(crate::proofs::Origins::by_letter, crate::proofs::Origins::by_squares, crate::proofs::Origins::by_pawn))]
 fn walk_origins<B: Board>(board: &B, parts: &Parts) -> SquareSet
     ensures { IsStart (B.position board.now) (Walk parts.now) result }
@@ -95,7 +95,7 @@ fn walk_origins<B: Board>(board: &B, parts: &Parts) -> SquareSet
     board.origins(Kind::Pawn, parts.end.to)
 }
 
-// Squares among which each legal move begins that the form spells.
+// Squares among which each legal move begins that the form denotes.
 #[tactic(auto, using(crate::proofs::Origins::by_castling))]
 fn form_origins<B: Board>(board: &B, form: &Form, to: Square) -> SquareSet
     requires { to ≡ end_square form.now (B.position board.now) }
@@ -107,7 +107,7 @@ fn form_origins<B: Board>(board: &B, form: &Form, to: Square) -> SquareSet
     }
 }
 
-// What a text is that spells this move too.
+// What a text is that denotes this move too.
 fn with_move(found: Reading, m: Move) -> Reading
     ensures { result ≡ with_move found m }
 {
@@ -118,8 +118,8 @@ fn with_move(found: Reading, m: Move) -> Reading
     }
 }
 
-// What a text is that spells the legal moves too from there to there, with one of those promotions,
-// that the form spells.
+// What a text is that denotes the legal moves too from there to there, with one of those promotions,
+// that the form denotes.
 fn with_spelled<B: Board>(
     board: &B,
     form: &Form,
@@ -144,7 +144,7 @@ fn with_spelled<B: Board>(
     found
 }
 
-// What a text is that spells the legal moves too from there to there that the form spells.
+// What a text is that denotes the legal moves too from there to there that the form denotes.
 #[tactic(auto, using(crate::proofs::Promoting::all_promote, crate::proofs::Promoting::none_promotes))]
 fn with_spelled_between<B: Board>(
     board: &B,
@@ -168,7 +168,7 @@ fn with_spelled_between<B: Board>(
     }
 }
 
-// The kind of all men whose moves the parts spell, if it is one kind and none of these moves promotes.
+// The kind of all pieces whose moves the parts denote, if it is one kind and none of these moves promotes.
 #[inline(always)]
 fn one_kind(parts: &Parts) -> Option<Kind>
     ensures { result ≡ one_kind parts.now }
@@ -183,7 +183,7 @@ fn one_kind(parts: &Parts) -> Option<Kind>
     }
 }
 
-// Whether the letter spells a legal move of a man of that kind, with no promotion, to the end square.
+// Whether the letter denotes a legal move of a piece of that kind, with no promotion, to the end square.
 #[inline(always)]
 fn is_spelled_by_letter(parts: &Parts, setup: &Setup, kind: Kind, m: &Move) -> bool
     ensures { result ≡ is_spelled_by_letter parts.now setup.now kind m.now }
@@ -194,7 +194,7 @@ fn is_spelled_by_letter(parts: &Parts, setup: &Setup, kind: Kind, m: &Move) -> b
         && !(kind == Kind::King && castling(setup, m).is_some())
 }
 
-// Whether the parts, with no letter, spell a legal move of a pawn, with no promotion, to the end square.
+// Whether the parts, with no letter, denote a legal move of a pawn, with no promotion, to the end square.
 #[inline(always)]
 fn is_spelled_by_pawn(parts: &Parts, setup: &Setup, m: &Move) -> bool
     ensures { result ≡ is_spelled_by_pawn parts.now setup.now m.now }
@@ -208,7 +208,7 @@ fn is_spelled_by_pawn(parts: &Parts, setup: &Setup, m: &Move) -> bool
     }
 }
 
-// Whether the parts spell a legal move of a man of that one kind, with no promotion, to the end square.
+// Whether the parts denote a legal move of a piece of that one kind, with no promotion, to the end square.
 #[inline(always)]
 fn is_spelled_of(parts: &Parts, setup: &Setup, kind: Kind, m: &Move) -> bool
     ensures { result ≡ is_spelled_of parts.now setup.now kind m.now }
@@ -220,7 +220,7 @@ fn is_spelled_of(parts: &Parts, setup: &Setup, kind: Kind, m: &Move) -> bool
     }
 }
 
-// What a text of these parts is, whose legal moves are of men of that kind, and begin on those squares.
+// What a text of these parts is, whose legal moves are of pieces of that kind, and begin on those squares.
 #[inline(always)]
 fn spelled_among(setup: &Setup, parts: &Parts, kind: Kind, starts: SquareSet) -> Reading
     ensures { result ≡ one_of (flat_map (spelled_start parts.now setup.now kind) (members starts)) }
@@ -240,7 +240,7 @@ fn spelled_among(setup: &Setup, parts: &Parts, kind: Kind, starts: SquareSet) ->
     found
 }
 
-// What a text of these parts is, that spells moves of men of that kind alone and none that promotes.
+// What a text of these parts is, that denotes moves of pieces of that kind alone and none that promotes.
 #[inline(always)]
 fn spelled_by_kind<B: Board>(board: &B, parts: &Parts, kind: Kind) -> Reading
     requires { one_kind parts.now ≡ Some kind }
@@ -255,7 +255,7 @@ fn spelled_by_kind<B: Board>(board: &B, parts: &Parts, kind: Kind) -> Reading
     )
 }
 
-// What a text of that form is, by the moves from all squares where one may begin that it spells.
+// What a text of that form is, by the moves that it denotes from all squares where one may begin.
 fn spelled_from_origins<B: Board>(board: &B, form: &Form) -> Reading
     ensures { result ≡ one_of
         (filter (λ m. is_spelled form.now (B.position board.now) m) (moves (B.position board.now))) }
@@ -269,7 +269,7 @@ fn spelled_from_origins<B: Board>(board: &B, form: &Form) -> Reading
     found
 }
 
-// What a text of that form is: of the legal moves it may spell one, several or none.
+// What a text of that form is: of the legal moves it may denote one, several or none.
 fn spelled<B: Board>(board: &B, form: &Form) -> Reading
     ensures { result ≡ one_of
         (filter (λ m. is_spelled form.now (B.position board.now) m) (moves (B.position board.now))) }
@@ -282,7 +282,7 @@ fn spelled<B: Board>(board: &B, form: &Form) -> Reading
     spelled_from_origins(board, form)
 }
 
-/// What a text is in the board's position: of the legal moves it may spell one, several or none. Whether a mark `+` or
+/// What a text is in the board's position: of the legal moves it may denote one, several or none. Whether a mark `+` or
 /// `#` is true isn't asked; en passant is a capture.
 pub fn read_move<B: Board>(board: &B, text: &[u8]) -> Reading
     ensures value { result ≡ reading (B.position board.now) text.now }

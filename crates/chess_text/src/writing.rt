@@ -189,8 +189,8 @@ fn write_mark<B: Board>(board: &B, text: &mut SanText)
 }
 
 /// The SAN of a legal move: castling as `O-O` or `O-O-O`; of a pawn for a capture its file and `x`, the end square,
-/// and for a promotion `=` and a letter; of another man its letter, what tells it from the other legal moves of
-/// such men to that square, `x` for a capture, and the end square; last `#` for mate, or `+` for check. The board
+/// and for a promotion `=` and a letter; of another piece its letter, what distinguishes it from the other legal moves
+/// of such pieces to that square, `x` for a capture, and the end square; last `#` for mate, or `+` for check. The board
 /// is left at its position.
 pub fn san<B: Board>(board: &mut B, m: Move) -> SanText
     requires { IsTrue (is_legal (B.position board.old) m) }

@@ -23,7 +23,7 @@ ends_here ended place part c cs h =
     ap (λ b. if b then piece_at place (part ++ c ∷ []) ∷ pieces_from ended (place + (length part + 1)) [] cs
     else pieces_from ended place (part ++ c ∷ []) cs) h
 
--- ---- a byte with seven behind it
+-- ---- a byte with seven after it
 
 pub same_end : (c : ℕ) (cs rest : List ℕ) → 7 ≤ length cs → ends_piece c (cs ++ rest) ≡ ends_piece c cs
 same_end c cs rest h = ap (λ (xs : List ℕ). (c == 10) && bytes_eq xs (codes "[Event ")) (take-append-le 7 cs rest h)

@@ -1,4 +1,4 @@
--- What was read of an input, and more of it behind that.
+-- What was read of an input, and more of it afterwards.
 use Rattle.std.proofs.Common.{◌≡◌, ℕ, ◌==◌, Bool, true, false, if◌then◌else◌, List, [], ◌++◌, length, refl, ap, subst, append-nil, ◌∙◌, arith}
 use Rattle.std.proofs.lemmas.Bool.Decides.{nat_tests}
 use Rattle.byte_devices.specs.Devices.{InputState, GavePiece, FailedToRead, risen}

@@ -47,7 +47,7 @@ has_piece c cs = by_test (ends_piece c cs) refl
     by_test true e = (c ∷ [], cut cs, cut_here c cs e)
     by_test false e = let w = with_one (cut cs) in (w.0, w.1, cut_on c cs e ∙ w.2)
 
--- behind a piece's end stands a byte
+-- after a piece's end there is a byte
 kept_on : (ended : Bool) (c : ℕ) (cs : List ℕ) (piece : List ℕ) → ends_piece c cs ≡ true
     → kept ended (piece ∷ cut cs) ≡ piece ∷ kept ended (cut cs)
 kept_on true c cs piece h = refl

@@ -1,11 +1,11 @@
--- The pieces of an input, handed out one after another.
+-- The pieces of an input, returned one after another.
 use Rattle.std.specs.Prelude.{◌≡◌, ℕ, ◌+◌, Bool, true, false, ◌&&◌, nat_lt, if◌then◌else◌, List, [], ◌∷◌, ◌++◌, length, Result, Ok, Err}
 use Rattle.byte_devices.specs.Devices.{InputState}
 use Rattle.pgn_pieces.specs.declared.pieces.PieceFault.{PieceFault}
 use Rattle.pgn_pieces.specs.Pieces.{Piece, piece_at, ends_piece, HasRead, IsCause}
 
 -- what is held of an input: the offset at which a piece begins, the bytes of it, and the bytes after these; and whether
--- the input has ended. Of a piece that is too long any bytes may stand here, as many as it has
+-- the input has ended. Of a piece that is too long any bytes may be here, as many as it has
 pub record State : Type 0 where
   pub place : ℕ
   pub part : List ℕ

@@ -1,3 +1,3 @@
--- Claims beside the definitions: each is the contract of a function that does nothing.
+-- Claims about the definitions: each is the contract of a function that does nothing.
 pub mod HandedOut
 pub mod Shards

@@ -15,7 +15,7 @@ fn begins_event(text: &[u8]) -> bool
     text.starts_with(b"[Event ")
 }
 
-// Whether a piece ends with the byte before the place.
+// Whether a piece ends with the byte before the offset.
 fn ends_before(text: &[u8], place: usize) -> bool
     requires some { 0 < place }
     requires within { place ≤ length text.now }

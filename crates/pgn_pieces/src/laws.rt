@@ -3,7 +3,7 @@
 ghost use Rattle.pgn_pieces.specs.laws.Shards.{ShardsAreCut};
 ghost use Rattle.pgn_pieces.specs.laws.HandedOut.{PiecesAreCut};
 
-/// The pieces of a text that are handed out are those that it is cut into.
+/// The pieces of a text that are returned are those that it is cut into.
 pub fn pieces_are_cut()
     ensures { PiecesAreCut }
 {}

@@ -12,7 +12,7 @@ use byte_devices::Input;
 use std::alloc::{AllocError, Global};
 use std::marker::Model;
 
-/// The most bytes of a piece that is handed out.
+/// The most bytes of a piece that is returned.
 pub const PIECE_LEN: usize = 16_777_216;
 
 // The most bytes of a read.
@@ -39,7 +39,7 @@ pub enum PieceFault {
 /// 16,777,216, and what was read after it.
 #[derive(Drop)]
 pub struct PgnPieces {
-    // What is held of the input. What stands before `at` is done with.
+    // What is held of the input. What is before `at` is done with.
     held: Vec<u8>,
     // Where a read puts its bytes.
     chunk: Vec<u8>,
@@ -140,7 +140,7 @@ impl PgnPieces {
         }
     }
 
-    // The piece takes all that is held, and answers whether it has a byte.
+    // The piece takes all that is held, and returns whether it has a byte.
     fn take_rest(&mut self) -> bool
         ensures state { self.new ≡ passed (length self.old.coming) self.old }
         ensures some { result ≡ nat_lt 0 (length self.new.part) }
@@ -195,11 +195,11 @@ impl PgnPieces {
         Ok(())
     }
 
-    /// Goes on to the next piece, and answers whether there is one. Nothing is read where its end is held.
+    /// Goes on to the next piece, and returns whether there is one. Nothing is read where its end is held.
     ///
     /// # Errors
     /// Where a read failed, we ran out of memory, or nearly 2^63 bytes or more were read. There is no next piece then, as
-    /// far as the input was read: its end was not seen. What later calls answer, no clause says.
+    /// far as the input was read: its end was not seen. No clause says what later calls return.
     pub fn next<R: Input>(&mut self, input: &mut R) -> Result<bool, PieceFault>
         ensures next { (r : InputState) (text : List ℕ) → IsStateOf self.old r (R.seen input.old) text
             → Next self.old self.new r (R.seen input.new) text result }

@@ -1,5 +1,5 @@
--- The rules as they are said for normal chess alone: what the definitions of both variants come to there. Each of these
--- is the definition of the same name without `normal_`, with castling named by the king's squares: from the
+-- The rules as they are defined for normal chess alone: what the definitions of both variants come to there. Each of
+-- these is the definition of the same name without `normal_`, with castling named by the king's squares: from the
 -- e-file to the g-file or the c-file.
 use Rattle.std.specs.Prelude.{◌≡◌, ℕ, ◌==◌, nat_lt, Bool, false, true, not, ◌&&◌, Option, Some, None, is_some, if◌then◌else◌}
 use Rattle.chess_base.specs.declared.castling.Castle.{Castle}

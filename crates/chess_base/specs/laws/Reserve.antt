@@ -10,11 +10,11 @@ use Rattle.chess_base.specs.Men.{Men, man_at, same_kind, other, first_rank}
 abbrev pub ranks_to_go : Colour → ℕ → ℕ
 ranks_to_go c s = gap (rank s) (first_rank (other c))
 
--- a man counts one, and a pawn one more for each rank that it has to go
+-- a piece counts one, and a pawn one more for each rank that it has to go
 abbrev pub weight : ℕ → Option Man → ℕ
 weight s None = 0
 weight s (Some x) = if same_kind Pawn x.kind then 1 + ranks_to_go x.colour s else 1
 
--- the weights of what stands on the 64 squares, together
+-- the weights of the pieces on the 64 squares, together
 unfoldable pub reserve : Men → ℕ
 reserve men = sum (from_below 64 (λ s. weight s (man_at men s)))

@@ -11,11 +11,11 @@ use Rattle.chess_fen.specs.Reading.{fen_reading_as}
 use Rattle.chess_fen.specs.Spelling.{SpellsFenAs, IsCastling, SpellsRights}
 use Rattle.chess_fen.specs.laws.NamedRooks.{RightIsNamed}
 
--- the FEN that is written for a sound position spells it in its variant
+-- the FEN that is written for a sound position denotes it in its variant
 abbrev pub WrittenIsSpelled : Type 0
 WrittenIsSpelled = (p : Setup) → IsSound p → SpellsFenAs p.variant (fen p) p
 
--- it spells no other position of that variant
+-- it denotes no other position of that variant
 abbrev pub WrittenSpellsNoOther : Type 0
 WrittenSpellsNoOther = (p q : Setup) → IsSound p → SpellsFenAs p.variant (fen p) q → q ≡ p
 
@@ -23,7 +23,7 @@ WrittenSpellsNoOther = (p q : Setup) → IsSound p → SpellsFenAs p.variant (fe
 abbrev pub WrittenIsReadBack : Type 0
 WrittenIsReadBack = (p : Setup) → IsSound p → fen_reading_as p.variant (fen p) ≡ Ok p
 
--- in Chess960 a text spells a sound position's rights exactly where it is a field of rights and names each right as it
+-- in Chess960 a text denotes a sound position's rights exactly where it is a field of rights and names each right as it
 -- is
 abbrev pub RightsAreNamed : Type 0
 RightsAreNamed =

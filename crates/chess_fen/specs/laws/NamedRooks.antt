@@ -1,4 +1,5 @@
--- Which rook a letter of a FEN of Chess960 names (X-FEN), and what the letters say of each right, said with no reader.
+-- Which rook a letter of a FEN of Chess960 names (X-FEN), and what the letters say of each right, defined with no
+-- reader.
 use Rattle.std.specs.Prelude.{◌≡◌, ◌≢◌, ◌⊎◌, ℕ, ◌+◌, true, false, List, ◌∷◌, ◌++◌, Option, Some, None}
 use Rattle.std.specs.List.{AllByRecursion}
 use Rattle.chess_base.specs.declared.man.Colour.{Colour}
@@ -10,7 +11,7 @@ use Rattle.chess_base.specs.Castling.{king_square, is_to_side}
 use Rattle.chess_fen.specs.Texts.{first_letter}
 use Rattle.chess_fen.specs.RightNames.{side_letter, is_towards}
 
--- on s, on its first rank, stands colour c's outermost rook of that side: none of its rooks there stands further out
+-- on s, on its first rank, is colour c's outermost rook of that side: none of its rooks there is further out
 pub record IsOutermost (men : Men) (c : Colour) (w : CastlingSide) (s : ℕ) : Type 0 where
   pub rook : is_man c Rook (man_at men s) ≡ true
   pub home : rank s ≡ first_rank c

@@ -1,6 +1,6 @@
--- FEN as it is said for normal chess alone (PGN standard of 1994, section 16.1): rights are told by the letters K, Q, k
--- and q, and king and rook of each stand at home. Nothing here takes a variant; what FEN says of men, side, target and
--- counters is shared.
+-- FEN as it is defined for normal chess alone (PGN standard of 1994, section 16.1): rights are named by the letters K,
+-- Q, k and q, and king and rook of each are at home. Nothing here takes a variant; what FEN says of pieces, side,
+-- target and counters is shared.
 use Rattle.std.specs.Prelude.{ℕ, ◌==◌, nat_lt, nat_le, Bool, false, not, ◌&&◌, ◌||◌, List, [], ◌∷◌, ◌++◌, length, decimal, codes, Option, Some, None, Result, Ok, Err, if◌then◌else◌}
 use Rattle.std.specs.List.{list_all, join_with_byte}
 use Rattle.std.specs.Option.{ok_or}
@@ -57,7 +57,7 @@ normal_is_castling (c ∷ cs) =
 abbrev pub normal_letters_of : List ℕ → Option (List ℕ)
 normal_letters_of text = if normal_is_castling text then Some text else None
 
--- the rights that letters name: the rooks stand on h1 and a1, h8 and a8
+-- the rights that letters name: the rooks are on h1 and a1, h8 and a8
 abbrev pub normal_rights_named : List ℕ → Rights
 normal_rights_named letters = record {
   white = record {
@@ -70,7 +70,7 @@ normal_rights_named letters = record {
   };
 }
 
--- the position that the fields spell; the first field that is wrong is the fault
+-- the position that the fields denote; the first field that is wrong is the fault
 abbrev pub normal_setup_by : List ℕ → List ℕ → List ℕ → List ℕ → List (List ℕ) → Result Setup FenFault
 normal_setup_by placement side castling target counters = do
   men ← ok_or (placement_of placement) faults.Placement
@@ -119,6 +119,6 @@ normal_fault p =
 abbrev pub normal_sound : Setup → Result Setup FenFault
 normal_sound p = unless_fault p (normal_fault p)
 
--- the position that the text spells, or its first fault
+-- the position that the text denotes, or its first fault
 abbrev pub normal_fen_reading : List ℕ → Result Setup FenFault
 normal_fen_reading text = normal_setup_in (fields_of text) >>= normal_sound

@@ -15,12 +15,12 @@ use Rattle.chess_text.specs.Parts.{AreParts, unmarked, parts_at, parts_text}
 use Rattle.chess_text.specs.Moves.{is_castling_text, is_form, fits, spells_described, spells, shape, reading}
 use Rattle.chess_text.specs.San.{san, shown_move}
 
--- the text spells the move, and of the legal moves no other
+-- the text denotes the move, and of the legal moves no other
 abbrev pub SpellsAlone : Setup → List ℕ → Move → Type 0
 SpellsAlone p text m = IsTrue (spells p text m)
     × ((n : Move) → IsTrue (is_legal p n) → IsTrue (spells p text n) → n ≡ m)
 
--- what is written for a legal move spells it alone, has a move's shape, and is read as it
+-- what is written for a legal move denotes it alone, has a move's shape, and is read as it
 abbrev pub SanSpellsItsMove : Type 0
 SanSpellsItsMove = (p : Setup) → (m : Move) → IsSound p → IsTrue (is_legal p m) → SpellsAlone p (san p m) m
 
@@ -84,7 +84,7 @@ PartsAreTheTexts = (text : List ℕ) → (q : Parts) → parts_at text ≡ Some 
 abbrev pub PartsAreRead : Type 0
 PartsAreRead = (q : Parts) → AreParts q → parts_at (parts_text q) ≡ Some q
 
--- a text spells what its castling names, or what the parts fit whose text it is without marks: said with no reader
+-- a text denotes what its castling names, or what the parts fit whose text it is without marks: defined with no reader
 abbrev pub IsSpelled : List ℕ → Described → Type 0
 IsSpelled text d =
     ((w : CastlingSide) × (d.castles ≡ Some w) × IsTrue (is_castling_text text w))

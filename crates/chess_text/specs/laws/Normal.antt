@@ -1,6 +1,6 @@
--- The texts of moves as they are said for normal chess alone: each of these is the definition of the same name without
--- `normal_`, over the rules of normal chess alone (laws/Normal of chess_base). Nothing here takes a variant. What a
--- text is, and which described moves it spells, is shared.
+-- The texts of moves as they are defined for normal chess alone: each of these is the definition of the same name
+-- without `normal_`, over the rules of normal chess alone (laws/Normal of chess_base). Nothing here takes a variant.
+-- What a text is, and which described moves it denotes, is shared.
 use Rattle.std.specs.Prelude.{◌≡◌, ℕ, ◌==◌, Bool, not, ◌&&◌, List, [], ◌++◌, length, map, filter, codes, Option, Some, None, if◌then◌else◌}
 use Rattle.chess_base.specs.declared.man.Man.{Man}
 use Rattle.chess_base.specs.declared.man.Move.{Move}
@@ -23,7 +23,8 @@ normal_moves p = filter (λ m. normal_is_legal p m) all_triples
 
 -- ---- read
 
--- what is so of a move of the man on its start square, if one stands there: castling is the king's move of two squares
+-- the description of a move of the piece on its start square, if there is one: castling is the king's move of two
+-- squares
 abbrev pub normal_described_as : Setup → Move → Option Man → Option Described
 normal_described_as p m None = None
 normal_described_as p m (Some x) =
@@ -39,17 +40,17 @@ normal_described_as p m (Some x) =
 unfoldable pub normal_described : Setup → Move → Option Described
 normal_described p m = normal_described_as p m (man_at p.men m.from)
 
--- the text spells this move of the position
+-- the text denotes this move of the position
 unfoldable pub normal_spells : Setup → List ℕ → Move → Bool
 normal_spells p text m = passes (spells_described text) (normal_described p m)
 
--- what a text is in a position, by the legal moves that it spells
+-- what a text is in a position, by the legal moves that it denotes
 unfoldable pub normal_reading : Setup → List ℕ → Reading
 normal_reading p text = if shape text then one_of (filter (λ m. normal_spells p text m) (normal_moves p)) else NotAMove
 
 -- ---- written
 
--- a move of a man of the same kind to the same square from another one
+-- a move of a piece of the same kind to the same square from another one
 unfoldable pub normal_is_rival : Setup → Described → Move → Bool
 normal_is_rival p d m =
     (m.to == d.to) && not (m.from == d.from) && passes (λ e. same_kind e.man d.man) (normal_described p m)

@@ -1,5 +1,5 @@
 -- What a text is read as, before any position is looked at: castling, or parts of a form. Then, in a position, the one
--- square on which each move ends that it spells.
+-- square on which each move ends that it denotes.
 use Rattle.std.specs.Prelude.{Bool, is_some, is_none, not, ◌||◌, ◌==◌, ◌≡◌, ◌&&◌, ◌+◌, ◌*◌, nat_lt, if◌then◌else◌, List, [], ◌∷◌, ℕ, map, Option, Some, None}
 use Rattle.std.specs.List.{list_any, filter}
 use Rattle.std.specs.Str.{bytes_eq}
@@ -56,7 +56,7 @@ abbrev pub form_fits : Form → Described → Bool
 form_fits (Castling w) d = passes (same_side w) d.castles
 form_fits (Walk q) d = fits q d
 
--- the form spells this move of the position
+-- the form denotes this move of the position
 unfoldable pub is_spelled : Form → Setup → Move → Bool
 is_spelled form p m = passes (form_fits form) (described p m)
 
@@ -67,23 +67,23 @@ castling_end Normal c w right = home_square c (castled_king_file w)
 castling_end Fischerandom c w None = home_square c (castled_king_file w)
 castling_end Fischerandom c w (Some rook) = rook
 
--- every move ends here that the form spells
+-- every move ends here that the form denotes
 abbrev pub end_square : Form → Setup → ℕ
 end_square (Castling w) p = castling_end p.variant p.side w (right_of p.rights p.side w)
 end_square (Walk q) p = q.end.to
 
--- the legal moves from a to b, with one of these promotions, that the form spells
+-- the legal moves from a to b, with one of these promotions, that the form denotes
 abbrev pub spelled_with : Form → Setup → ℕ → ℕ → List (Option Kind) → List Move
 spelled_with form p a b ks = filter (λ m. is_spelled form p m && is_legal p m) (map (triple a b) ks)
 
--- what a text is that spells this move too
+-- what a text is that denotes this move too
 abbrev pub with_move : Reading → Move → Reading
 with_move reads.NoSuch m = reads.Move m
 with_move (reads.Move n) m = reads.Ambiguous
 with_move reads.Ambiguous m = reads.Ambiguous
 with_move reads.NotAMove m = reads.NotAMove
 
--- what a text is that spells these moves too
+-- what a text is that denotes these moves too
 abbrev pub with_moves : Reading → List Move → Reading
 with_moves found [] = found
 with_moves found (m ∷ ms) = with_moves (with_move found m) ms
@@ -94,11 +94,11 @@ named_square None rank = None
 named_square (Some f) None = None
 named_square (Some f) (Some r) = if nat_lt f 8 && nat_lt r 8 then Some (8 * r + f) else None
 
--- each legal move that the form spells begins on a square of the set
+-- each legal move that the form denotes begins on a square of the set
 abbrev pub IsStart : Setup → Form → ℕ → Type 0
 IsStart p form w = (m : Move) → is_spelled form p m ≡ Bool.true → is_legal p m ≡ Bool.true → has w m.from ≡ Bool.true
 
--- the kind of all men whose moves are spelled by that letter, and by that square where both its file and its rank are
+-- the kind of all pieces whose moves that letter denotes, and that square where both its file and its rank are
 -- named, if it is one kind: a letter's, or without letter and square a pawn. No letter names a pawn
 abbrev pub kind_by : Option Kind → Option ℕ → Option Kind
 kind_by (Some Pawn) square = None
@@ -106,25 +106,25 @@ kind_by (Some kind) square = Some kind
 kind_by None (Some square) = None
 kind_by None None = Some Pawn
 
--- the kind of all men whose moves the parts spell, if it is one kind and none of these moves promotes
+-- the kind of all pieces whose moves the parts denote, if it is one kind and none of these moves promotes
 abbrev pub one_kind : Parts → Option Kind
 one_kind q = if is_some q.end.promotion then None else kind_by q.letter (named_square q.file q.rank)
 
--- a letter spells the legal move of such a man, with no promotion, to the end square
+-- a letter denotes the legal move of such a piece, with no promotion, to the end square
 abbrev pub is_spelled_by_letter : Parts → Setup → Kind → Move → Bool
 is_spelled_by_letter q p k m = admits q.file (file m.from) && admits q.rank (rank m.from)
     && (not q.takes || captures p m) && not (same_kind King k && is_some (castling p m))
 
--- without a letter the parts spell the legal move of a pawn, with no promotion, to the end square
+-- without a letter the parts denote the legal move of a pawn, with no promotion, to the end square
 abbrev pub is_spelled_by_pawn : Parts → Setup → Move → Bool
 is_spelled_by_pawn q p m =
     if is_none q.file then is_none q.rank && not q.takes && (file m.from == file m.to)
     else names q.file (file m.from) && admits q.rank (rank m.from) && (not q.takes || captures p m)
 
--- the parts spell the legal move of a man of that one kind, with no promotion, to the end square
+-- the parts denote the legal move of a piece of that one kind, with no promotion, to the end square
 abbrev pub is_spelled_of : Parts → Setup → Kind → Move → Bool
 is_spelled_of q p k m = if is_some q.letter then is_spelled_by_letter q p k m else is_spelled_by_pawn q p m
 
--- the move of a man of that one kind from that square that the parts spell, if they spell it
+-- the move of a piece of that one kind from that square that the parts denote, if they denote it
 abbrev pub spelled_start : Parts → Setup → Kind → ℕ → List Move
 spelled_start q p k a = if is_spelled_of q p k (triple a q.end.to None) then triple a q.end.to None ∷ [] else []

@@ -1,4 +1,4 @@
--- The pieces that are handed out.
+-- The pieces that are returned.
 use Rattle.std.specs.Prelude.{◌≡◌, ℕ, Bool, List, []}
 use Rattle.pgn_pieces.specs.Pieces.{pieces}
 use Rattle.pgn_pieces.specs.Stream.{pieces_from}

@@ -1,4 +1,4 @@
--- No rook stands on the files already passed, so the first rook among those left is the outermost of all (RookAmong).
+-- No rook is on the files already passed, so the first rook among those left is the outermost of all (RookAmong).
 use Rattle.std.proofs.Common.{◌-◌, ◌∙◌, sym, refl, arith}
 use Rattle.chess_fen.specs.RightNames.{outer_rook}
 use Rattle.chess_fen.proofs.RookAmong.{rook_here, no_rook_here}

@@ -1,4 +1,4 @@
--- What is written spells its position and no other (WrittenFen), and what spells a sound position is read as it.
+-- What is written denotes its position and no other (WrittenFen), and what denotes a sound position is read as it.
 use Rattle.chess_fen.proofs.SpelledFen.{reading-spelled}
 use Rattle.chess_fen.proofs.WrittenFen.{fen-spelled, no_other}
 use Rattle.chess_fen.specs.Writing.{fen}

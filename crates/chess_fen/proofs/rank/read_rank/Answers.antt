@@ -1,5 +1,5 @@
--- The squares so far, followed by what the rest of the text spells, are the rank of the whole text (RankSoFar). A digit
--- or a letter moves squares from the rest to those so far; more than eight squares are no rank (overfull).
+-- The squares so far, followed by what the rest of the text denotes, are the rank of the whole text (RankSoFar). A
+-- digit or a letter moves squares from the rest to those so far; more than eight squares are no rank (overfull).
 use Rattle.std.proofs.Common.{Option, Some, None, ◌∷◌, [], get_or, refl, arith, rules, ◌≡◌, ◌-◌}
 use Rattle.std.specs.Prelude.{replicate}
 use Rattle.std.proofs.lemmas.List.{length-replicate}

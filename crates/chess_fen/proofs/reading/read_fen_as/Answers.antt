@@ -1,5 +1,5 @@
 -- The result is what the function of the definition reads. SpelledFen says that this is the sound position that the
--- text spells, if there is one, and else the one fault that is true of the text.
+-- text denotes, if there is one, and else the one fault that is true of the text.
 use Rattle.std.proofs.Common.{◌≡◌, Result, Ok, Err, List, ℕ, sym, ◌∙◌}
 use Rattle.std.specs.Prelude.{IfOk, IfErr}
 use Rattle.chess_base.specs.declared.man.Variant.{Variant}

@@ -1,4 +1,4 @@
--- The text is that of the coordinates, which spells its move alone (CoordinateLaw), or in Chess960 that of castling to
+-- The text is that of the coordinates, which denotes its move alone (CoordinateLaw), or in Chess960 that of castling to
 -- a side, which is one move (castling_law of SanLaw).
 use Rattle.chess_text.proofs.ShownLaw.{shown_alone, shown_shape, shown_read}
 use Rattle.chess_text.proofs.laws.move_text_spells_its_move.Goals as goal

@@ -1,4 +1,4 @@
--- The text is castling's or that of a man's parts, with one mark behind it at most; SanLaw tells the bytes of each.
+-- The text is castling's or that of a piece's parts, with one mark after it at most; SanLaw gives the bytes of each.
 use Rattle.chess_text.proofs.SanLaw.{san_short, san_bytes, san_letter}
 use Rattle.chess_text.proofs.laws.san_is_a_word.Goals as goal
 

@@ -3,7 +3,7 @@ use Rattle.std.specs.List.{suffix_len}
 use Rattle.chess_text.specs.Parts.{is_mark}
 use Rattle.chess_text.proofs.parts.unmarked.Given as goal
 
--- what stands behind the end is marks
+-- what follows the end is marks
 abbrev pub invariant-loop-end : goal.invariant-loop-end
 invariant-loop-end l = record {
   marks : suffix_len is_mark l.text ≡ (length l.text - l.end) + suffix_len is_mark (take l.end l.text);

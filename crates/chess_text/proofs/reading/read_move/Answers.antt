@@ -1,5 +1,5 @@
--- A text spells what its form spells, and one without a form is no move (reading_spelled, reading_nothing of
--- FormFacts); what is read stands in the list of legal moves (reads_legal), and tells whether the text has a move's
+-- A text denotes what its form denotes, and one without a form is no move (reading_spelled, reading_nothing of
+-- FormFacts); what is read is in the list of legal moves (reads_legal), and decides whether the text has a move's
 -- shape (Shapes.read_shape).
 use Rattle.std.proofs.Common.{ap, sym, ◌∙◌}
 use Rattle.chess_text.specs.Moves.{has_shape}

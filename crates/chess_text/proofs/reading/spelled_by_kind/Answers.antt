@@ -1,4 +1,4 @@
--- The moves that the parts spell are those from the squares with such a man that has the legal move (by_starts of
+-- The moves that the parts denote are those from the squares with such a piece that has the legal move (by_starts of
 -- Starts).
 use Rattle.std.proofs.Common.{ap, ◌∙◌}
 use Rattle.std.specs.List.{flat_map}

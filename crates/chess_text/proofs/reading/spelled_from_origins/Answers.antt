@@ -1,4 +1,4 @@
--- A legal move that the form spells begins on a square of the set, and all such moves end on one square: so those from
+-- A legal move that the form denotes begins on a square of the set, and all such moves end on one square: so those from
 -- the set's squares to that one are all (spelled_from of Origins).
 use Rattle.std.proofs.Common.{ap, ◌∙◌}
 use Rattle.chess_base.specs.MoveList.{promotions}

@@ -1,4 +1,4 @@
--- The text beside the legal moves, and the mark of the position after the move, are the definition's (san_written of
+-- The text given the legal moves, and the mark of the position after the move, are the definition's (san_written of
 -- SanWritten). Only a pawn promotes, so an officer's text has no promotion (legal_promotes).
 use Rattle.std.proofs.Common.{ap, ◌∙◌}
 use Rattle.chess_text.specs.Moves.{described}

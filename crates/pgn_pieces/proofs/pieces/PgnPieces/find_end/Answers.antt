@@ -1,4 +1,4 @@
--- The bytes up to the piece's end come to it (Finds.found), or those behind which its end may yet stand
+-- The bytes up to the piece's end come to it (Finds.found), or those after which its end may still come
 -- (Finds.not_found).
 use Rattle.std.proofs.Common.{◌≡◌, ◌+◌, ◌-◌, List, ℕ, true, false, Some, None, length, drop, sym, ap, subst, ◌∙◌}
 use Rattle.pgn_pieces.specs.Stream.{State}
