@@ -131,6 +131,7 @@ impl Board for Bits<'_> {
         own.intersection(reached)
     }
 
+    #[inline(always)]
     fn men_of(&self, colour: Colour, kind: Kind) -> SquareSet {
         self.sets.of(colour).of(kind)
     }

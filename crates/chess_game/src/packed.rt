@@ -1,7 +1,7 @@
 //! Positions whose men are packed into sets of squares: seven words in place of 64 squares.
 
 ghost use Rattle.std.specs.Prelude.{◌≡◌, ℕ, ◌<◌, ◌&&◌, ◌||◌, not};
-ghost use Rattle.chess_base.specs.Men.{is_of, man_at, same_colour};
+ghost use Rattle.chess_base.specs.Men.{is_of, man_at};
 ghost use Rattle.chess_base.specs.Sound.{IsSound};
 ghost use Rattle.chess_base.specs.declared.man.Colour.TheVariants.{White};
 ghost use Rattle.chess_moves.specs.Sets.{has};
@@ -27,6 +27,7 @@ pub(crate) struct PackedMen {
 
 // The squares of both colours' men of a kind.
 #[tactic(auto, using(crate::proofs::SomeKind::of_colours))]
+#[inline(always)]
 pub(crate) fn squares_of<B: Board>(board: &B, kind: Kind) -> SquareSet
     ensures { (k : ℕ) → k < 64 → has result k ≡ is_kind kind (man_at (B.position board.now).men k) }
 {
@@ -37,6 +38,7 @@ pub(crate) fn squares_of<B: Board>(board: &B, kind: Kind) -> SquareSet
 
 // The squares of White's men.
 #[tactic(auto, using(crate::proofs::AsSets::white_kinds))]
+#[inline(always)]
 fn white_squares<B: Board>(board: &B) -> SquareSet
     ensures { (k : ℕ) → k < 64 → has result k ≡ is_of White (man_at (B.position board.now).men k) }
 {
@@ -64,6 +66,7 @@ fn difference(these: SquareSet, those: SquareSet) -> SquareSet
 
 impl PackedMen {
     // The men of a board's position.
+    #[inline(always)]
     fn of<B: Board>(board: &B) -> Self
         ensures { ArePacked result (B.position board.now).men }
     {
