@@ -1,4 +1,4 @@
--- Positions that are the same have the same men, side and rights, so their words by one definition are equal.
+-- Positions that are the same have the same pieces, side and rights, so their hashes by one definition are equal.
 use Rattle.std.proofs.Common.{◌≡◌, ℕ, ◌<◌, true, false, not, ◌&&◌, ◌==◌, [], ◌∷◌, length, get_or, Option, None, Some, refl, sym, ◌∙◌, ap, arith, true≢false}
 use Rattle.std.proofs.lemmas.Bool.{and_parts, eqb-true, eq-eqb, false_from_ne_true}
 use Rattle.std.proofs.lemmas.List.{ext_get_or}
@@ -75,7 +75,7 @@ rights_equal r q e =
     let blacks = rights_of_equal r.black q.black both.1 in
     (λ i. record { white = whites i; black = blacks i })
 
--- ---- words
+-- ---- hashes
 
 pub equal_words : (f : Wording) (p q : Setup) → IsSound p → IsSound q → same p q ≡ true
     → f p.men p.side p.rights ≡ f q.men q.side q.rights
@@ -109,7 +109,7 @@ same_alike p q r this that e =
     (λ i. same_colour p.side (b i) && same_men p.men (a i) && same_rights p.rights (c i)
     && same_square (live_target p) (d i))
 
--- so words that differ tell positions apart
+-- so hashes that differ tell positions apart
 pub told_apart : (f : Wording) (x y : Known) → IsSound x.position → IsSound y.position → HasWord f x → HasWord f y
     → not (x.word == y.word) ≡ true → same x.position y.position ≡ false
 told_apart f x y this that has_word other_has differ =

@@ -27,7 +27,7 @@ use Rattle.chess_game.specs.declared.repetition.Known.{Known}
 use Rattle.chess_game.proofs.Kept.{follows_more, last-more}
 use Rattle.chess_game.proofs.Positions.{known_before}
 
--- ---- the same men have the same reserve
+-- ---- the same pieces have the same reserve
 
 same_weight : (s : ℕ) (o r : Option Man) → same_man o r ≡ true → weight s o ≡ weight s r
 same_weight s None None e = refl
@@ -60,7 +60,7 @@ second true true false d e = refl
 second true true true false e = refl
 second false b c d e = cc
 
--- a position whose men have more in reserve is another
+-- a position whose pieces have more in reserve is another
 pub other_by_reserve : (p q : Setup) → reserve q.men < reserve p.men → same p q ≡ false
 unfolding same
 other_by_reserve p q h =
@@ -113,7 +113,7 @@ fallen grows falls start (y ∷ ys) (suc k) (suc j) d f h zeroed before =
     subst (λ v. reserve (last v (moves_of ys)).men < reserve (known_at y.reached ys j).position.men) f.0.left
     (fallen grows falls y.reached ys k j d f.2 (omega (arith, h)) zeroed (omega (arith, before)))
 
--- ---- a position that a move behind those of a game reached
+-- ---- a position that a move after those of a game reached
 
 -- the place of that move
 place_of : Move → Saved → Known → Place

@@ -116,7 +116,7 @@ made-last p [] x f = subst (WasMade p x.made x.saved) f.0.left f.0
 made-last p (y ∷ ys) x f = subst (λ v. WasMade (last v (moves_of ys)) x.made x.saved (last v (moves_of (ys ++ x ∷ []))))
     f.0.left (made-last y.reached.position ys x f.2)
 
--- the last place tells the position that was left
+-- the last place holds the position that was left
 pub taken : (p : Setup) (xs ys : List Place) (x : Place) (q : Setup) → Follows p xs → xs ≡ ys ++ x ∷ []
     → q ≡ last p (moves_of xs) → WasMade (last p (moves_of ys)) x.made x.saved q
 taken p xs ys x q f is at =
@@ -126,9 +126,9 @@ taken p xs ys x q f is at =
 pub fewer : (p : Setup) (xs ys : List Place) (x : Place) → Follows p xs → xs ≡ ys ++ x ∷ [] → Follows p ys
 fewer p xs ys x f is = follows_fewer p ys x (subst (Follows p) is f)
 
--- ---- words
+-- ---- hashes
 
--- each place has its word
+-- each place has its hash
 abbrev pub AllHave : Wording → List Place → Type 0
 AllHave f xs = AllByRecursion (λ (x : Place). HasWord f x.reached) xs
 

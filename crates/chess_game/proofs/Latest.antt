@@ -77,7 +77,7 @@ unfolding count_below
 count_first t zero = omega arith
 count_first t (suc n) = let rest = count_first t n in omega (arith, rest)
 
--- if only numbers that pass t pass s, none behind the latest one of t passes s
+-- if only numbers that pass t pass s, none after the latest one of t passes s
 pub skipped : (s t : ℕ → Bool) (n : ℕ) → ((k : ℕ) → k < n → s k ≡ true → t k ≡ true)
     → count_below s n ≡ count_below s (latest_below t n)
 unfolding latest_below

@@ -8,7 +8,7 @@ use Rattle.chess_game.specs.declared.game.Place.{Place}
 use Rattle.chess_game.specs.declared.repetition.Known.{Known}
 use Rattle.chess_game.proofs.Kept.{AllHave}
 
--- behind the start they are those that the places reached
+-- after the start they are those that the places reached
 pub known_place : (start : Known) (xs : List Place) (k : ℕ) (d : Place) → k < length xs
     → known_at start xs (suc k) ≡ (get_or xs k d).reached
 unfolding known_at

@@ -19,7 +19,7 @@ use Rattle.chess_game.proofs.Latest.{latest_low, latest_passes, count_low, count
 use Rattle.chess_game.proofs.Positions.{known_place, word_of_known, sound_is}
 use Rattle.chess_game.proofs.SameSelf.{same_self}
 
--- what a walk stands on: the positions of a game, and one that is looked for
+-- what a walk rests on: the positions of a game, and one that is looked for
 pub record IsSought (start : Known) (xs : List Place) (now : Known) : Type 0 where
   pub follows : Follows start.position xs
   pub words : (f : Wording) × HaveWords f start xs × HasWord f now
@@ -38,7 +38,7 @@ met_there start xs now k s h met =
     ∙ sym s.words.2 in
     eq-eqb (bucket (known_at start xs k)) (bucket now) (ap (λ w. w % BUCKETS) words)
 
--- a walk is at a position of the bucket, and none behind it is the same
+-- a walk is at a position of the bucket, and none after it is the same
 pub record IsAlong (start : Known) (xs : List Place) (now : Known) (at : ℕ) : Type 0 where
   pub low : at ≤ suc (length xs)
   pub there : (k : ℕ) → at ≡ suc k → is_in start xs (bucket now) k ≡ true

@@ -1,4 +1,4 @@
--- How a game ends by what stands on the board and by its line (Laws of Chess 2023, articles 5.1.1, 5.2.1, 5.2.2, 9.6),
+-- How a game ends by its position and by its line (Laws of Chess 2023, articles 5.1.1, 5.2.1, 5.2.2, 9.6),
 -- and what a player may claim (articles 9.2 and 9.3).
 use Rattle.std.specs.Prelude.{ℕ, ◌+◌, ◌%◌, ◌==◌, nat_le, Bool, false, not, ◌&&◌, ◌||◌, if◌then◌else◌, List, length, count_by, codes, Option, None, Some}
 use Rattle.std.specs.List.{list_any}
@@ -25,25 +25,25 @@ use Rattle.chess_game.specs.declared.ends.Claims.{Claims}
 abbrev pub square_colour : ℕ → Colour
 square_colour s = if (file s + rank s) % 2 == 0 then Black else White
 
--- a man of this kind stands there
+-- a piece of this kind is there
 abbrev pub is_kind : Kind → Option Man → Bool
 is_kind k None = false
 is_kind k (Some x) = same_kind k x.kind
 
--- with a pawn, a rook or a queen on the board, material alone tells no dead position
+-- with a pawn, a rook or a queen on the board, material alone makes no dead position
 abbrev pub is_pawn_rook_or_queen : Option Man → Bool
 is_pawn_rook_or_queen o = is_kind Pawn o || is_kind Rook o || is_kind Queen o
 
--- a minor piece stands there: a bishop or a knight
+-- a minor piece is there: a bishop or a knight
 abbrev pub is_minor : Option Man → Bool
 is_minor o = is_kind Bishop o || is_kind Knight o
 
--- a bishop stands on a square of this colour
+-- a bishop is on a square of this colour
 unfoldable pub has_bishop_on : Colour → Men → Bool
 has_bishop_on c men = some_square (λ s. same_colour c (square_colour s) && is_kind Bishop (man_at men s))
 
 -- no pawn, rook or queen, and at most one bishop or knight in all, or no knight and all bishops on squares of one
--- colour (5.2.2): the dead positions that material alone tells; others are not judged
+-- colour (5.2.2): the dead positions by material alone; others are not judged
 unfoldable pub is_bare : Men → Bool
 is_bare men =
     not (list_any is_pawn_rook_or_queen men)

@@ -1,4 +1,4 @@
--- A game: where it started, the moves that stand, and what was declared. All else is told from these.
+-- A game: where it started, the current moves, and what was declared. All else follows from these.
 use Rattle.std.specs.Prelude.{◌≡◌, ℕ, ◌-◌, ◌≤◌, ◌<◌, ◌||◌, not, nat_le, Bool, false, if◌then◌else◌, List, [], ◌∷◌, ◌++◌, length, take, slice_get, Option, None, Some, is_some, Result, Ok, Err}
 use Rattle.chess_base.specs.declared.man.Move.{Move}
 use Rattle.chess_base.specs.declared.setup.Setup.{Setup}
@@ -17,13 +17,13 @@ use Rattle.chess_game.specs.declared.game.PlayRefusal.TheVariants.{Over, TooLong
 use Rattle.chess_game.specs.declared.game.NoMove.{NoMove}
 use Rattle.chess_game.specs.declared.game.BoardSaysOtherwise.{BoardSaysOtherwise}
 
--- the state of a game: its start, the moves that stand, and what was declared
+-- the state of a game: its start, the current moves, and what was declared
 pub record State : Type 0 where
   pub start : Setup
   pub moves : List Move
   pub declared : Option Declared
 
--- what a game is seen as: how many half-moves can stand, fixed when it opens, and its state
+-- what a game is seen as: how many half-moves it may have, fixed when it opens, and its state
 pub record Seen : Type 0 where
   pub limit : ℕ
   pub state : State
@@ -46,7 +46,7 @@ outcome_by (Some v) d = verdict_outcome v
 outcome_by None (Some d) = d.outcome
 outcome_by None None = Unfinished
 
--- the outcome of a game as it stands
+-- the outcome of a game in its present state
 abbrev pub outcome_now : State → Outcome
 outcome_now s = outcome_by (verdict_now s) s.declared
 
@@ -74,7 +74,7 @@ at g s = record g { state = s }
 abbrev pub opened : ℕ → Seen
 opened limit = record { limit = limit; state = from_start initial_setup }
 
--- no more half-moves can stand
+-- the limit allows no more half-moves
 abbrev pub is_full : Seen → Bool
 is_full g = nat_le g.limit (length g.state.moves)
 
@@ -96,7 +96,7 @@ abbrev pub after_play : Seen → Move → Option PlayRefusal → Seen
 after_play g m None = at g (played g.state m)
 after_play g m (Some e) = g
 
--- the last move, if one stands
+-- the last move, if there is one
 abbrev pub last_move : List Move → Result Move NoMove
 last_move ms = by_end (slice_get ms (length ms - 1))
   where
@@ -104,7 +104,7 @@ last_move ms = by_end (slice_get ms (length ms - 1))
     by_end None = Err (record {})
     by_end (Some m) = Ok m
 
--- the game after its last move is taken back, if one stands
+-- the game after its last move is taken back, if there is one
 abbrev pub after_take_back : Seen → Seen
 after_take_back g = if nat_le 1 (length g.state.moves) then at g (taken_back g.state 1) else g
 

@@ -12,7 +12,7 @@ use Rattle.chess_base.specs.Moves.{is_en_passant, is_legal}
 use Rattle.chess_base.specs.MoveList.{triple, moves}
 use Rattle.chess_game.specs.Line.{line, last}
 
--- men of the same kind and colour stand there, or none does
+-- pieces of the same kind and colour are there, or none is
 abbrev pub same_man : Option Man → Option Man → Bool
 same_man None None = true
 same_man (Some x) (Some y) = same_colour x.colour y.colour && same_kind x.kind y.kind
@@ -36,7 +36,7 @@ same_colour_rights r q = same_square r.king_side q.king_side && same_square r.qu
 unfoldable pub same_rights : Rights → Rights → Bool
 same_rights r q = same_colour_rights r.white q.white && same_colour_rights r.black q.black
 
--- the target, where some legal move captures en passant on it; else there is nothing to tell from it
+-- the target, where some legal move captures en passant on it; else none
 unfoldable pub live_target : Setup → Option ℕ
 live_target p = if list_any (λ m. is_en_passant p m) (moves p) then p.target else None
 
@@ -44,7 +44,7 @@ live_target p = if list_any (λ m. is_en_passant p m) (moves p) then p.target el
 abbrev pub captures_legally : Setup → ℕ → ℕ → Bool
 captures_legally p b a = is_en_passant p (triple a b None) && is_legal p (triple a b None)
 
--- the same side on move, the same men on the same squares, the same rights, and the same pawn to capture en passant;
+-- the same side on move, the same pieces on the same squares, the same rights, and the same pawn to capture en passant;
 -- clock and number make no difference
 unfoldable pub same : Setup → Setup → Bool
 same p q = same_colour p.side q.side && same_men p.men q.men && same_rights p.rights q.rights

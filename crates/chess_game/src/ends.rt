@@ -1,4 +1,4 @@
-//! How a game ends by what stands on the board and by its line, and what may be claimed.
+//! How a game ends by its position and by its line, and what may be claimed.
 
 ghost use Rattle.std.specs.Prelude.{◌≡◌, ◌≤◌, ◌<◌, Some, length, count_by};
 ghost use Rattle.std.specs.List.{list_any};
@@ -11,7 +11,7 @@ use chess_base::{Colour, Kind, Man};
 use chess_moves::Board;
 use std::fmt;
 
-/// Why a game is over by what stands on the board and by its line, the first that holds in this order.
+/// Why a game is over by its position and by its line, the first that holds in this order.
 #[derive(Clone, Copy, Debug, PartialEq, Eq)]
 pub enum Verdict {
     /// Black is mated (Laws of Chess 2023, article 5.1.1).
@@ -20,8 +20,8 @@ pub enum Verdict {
     BlackMates,
     /// The side on move has no legal move and is not in check (article 5.2.1).
     Stalemate,
-    /// Neither side has the men to mate with (article 5.2.2): no pawn, rook or queen, and at most one bishop or knight,
-    /// or bishops alone, all on squares of one colour.
+    /// Neither side has the pieces to mate with (article 5.2.2): no pawn, rook or queen, and at most one bishop or
+    /// knight, or bishops alone, all on squares of one colour.
     InsufficientMaterial,
     /// The position is there for the fifth time (article 9.6.1).
     FivefoldRepetition,
@@ -59,7 +59,7 @@ impl Verdict {
         }
     }
 
-    /// The same as the comment that stands in braces behind its outcome.
+    /// The same as the comment in braces after its outcome.
     pub fn comment(self) -> &'static [u8]
         ensures value { result.now ≡ verdict_comment self }
         ensures short { length result.now ≤ 60 }
@@ -133,7 +133,7 @@ fn has_bishop_on(colour: Colour, men: &[Option<Man>; 64]) -> bool
     is_found
 }
 
-// Whether a man of that kind stands on the board, of either colour.
+// Whether a piece of that kind is on the board, of either colour.
 fn has_kind<B: Board>(board: &B, kind: Kind) -> bool
     requires { IsSound (B.position board.now) }
     ensures { result ≡ list_any (is_kind kind) (B.position board.now).men }
@@ -161,7 +161,7 @@ fn minor_count(men: &[Option<Man>; 64]) -> usize
     men.iter().filter(|man| is_minor(**man)).count()
 }
 
-// Whether the men are too few to mate with.
+// Whether the pieces are too few to mate with.
 #[tactic(auto, unfolding(crate::specs::Ends::is_bare))]
 pub(crate) fn is_bare<B: Board>(board: &B) -> bool
     ensures { result ≡ is_bare (B.position board.now).men }

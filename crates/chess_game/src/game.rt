@@ -1,4 +1,4 @@
-//! One game: the moves that stand, and the positions that they gave.
+//! One game: the current moves, and the positions that they gave.
 
 ghost use Rattle.std.specs.Prelude.{false, ◌≡◌, ◌≤◌, ◌<◌, ◌+◌, ◌↔◌, IsTrue, IsFalse, IsNone, IsOk, IsErr, IfOk, OnOk, OnErr, Err, None, Some, [], ◌∷◌, ◌++◌, length, take, slice_get, nat_le, nat_lt};
 ghost use Rattle.chess_base.specs.MoveList.{moves};
@@ -31,7 +31,7 @@ pub enum PlayRefusal {
     /// The game is over, by a verdict or a declared result.
     #[error("the game is over")]
     Over,
-    /// As many half-moves stand as can.
+    /// As many half-moves are current as the limit allows.
     #[error("no more moves can stand")]
     TooLong,
     /// The move is not legal in the present position.
@@ -39,7 +39,7 @@ pub enum PlayRefusal {
     Illegal,
 }
 
-/// No move stands that could be taken back.
+/// No move is current that could be taken back.
 #[derive(Clone, Copy, Debug, PartialEq, Eq, thiserror::Error)]
 #[error("no move stands")]
 pub struct NoMove;
@@ -58,8 +58,8 @@ pub(crate) struct Place {
     pub(crate) entry: Entry,
 }
 
-/// A game of at most `limit` half-moves on a board. In contracts it is its limit and its state: the start, the moves
-/// that stand, and what was declared.
+/// A game of at most `limit` half-moves on a board. In contracts it is its limit and its state: the start, the current
+/// moves, and what was declared.
 #[derive(Drop)]
 pub struct Game<B: Board> {
     board: B,
@@ -229,7 +229,7 @@ impl<B: Board> Game<B> {
             .index
             .push(&self.start, self.places.as_slice(), &place.reached);
         place.entry = entry;
-        // There is room: `open` took a place for each half-move that can stand.
+        // There is room: `open` took a place for each half-move that the limit allows.
         if self.places.push(place).is_err() {
             unreachable!();
         }
@@ -238,7 +238,7 @@ impl<B: Board> Game<B> {
     /// Takes the last move back and clears what was declared; gives the move.
     ///
     /// # Errors
-    /// Where no move stands. The game stays as it was.
+    /// Where no move is current. The game stays as it was.
     pub fn take_back(&mut self) -> Result<Move, NoMove>
         ensures answer { result ≡ last_move self.old.state.moves }
         ensures game { self.new ≡ after_take_back self.old }
@@ -254,7 +254,7 @@ impl<B: Board> Game<B> {
             None => Err(NoMove),
             Some(place) => {
                 self.index.pop(&place);
-                // The prover wants two variables here: one move is given to the board, and one is told.
+                // The prover wants two variables here: one move is given to the board, and one is returned.
                 let made = place.made;
                 self.board.take_back(made, place.saved);
                 self.declared = None;
@@ -312,7 +312,7 @@ impl<B: Board> Game<B> {
         self.start.position.unpacked()
     }
 
-    /// The present position: the one that the start and the moves that stand give.
+    /// The present position: the one that the start and the current moves give.
     pub fn position(&self) -> Position
         ensures value { result ≡ current self.now.state }
         ensures playable { IsPlayable self.now }
@@ -334,7 +334,7 @@ impl<B: Board> Game<B> {
         }
     }
 
-    /// How many half-moves stand.
+    /// How many half-moves are current.
     pub fn ply(&self) -> usize
         ensures { result ≡ length self.now.state.moves }
     {
@@ -389,7 +389,7 @@ impl<B: Board> Game<B> {
         verdict_of_moving(&self.board, self.places.as_slice())
     }
 
-    /// What was declared, if it still stands.
+    /// What was declared, if it still holds.
     pub fn declared(&self) -> Option<&Declared>
         ensures { option_map (λ d. d.now) result ≡ self.now.state.declared }
     {
@@ -414,7 +414,7 @@ impl<B: Board> Game<B> {
         self.declared.is_some() || self.verdict().is_some()
     }
 
-    /// Whether as many half-moves stand as can.
+    /// Whether as many half-moves are current as the limit allows.
     pub fn is_full(&self) -> bool
         ensures value { result ≡ is_full self.now }
         ensures few { result ≡ false → length self.now.state.moves < MOST_MOVES }

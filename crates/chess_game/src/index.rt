@@ -1,6 +1,6 @@
-//! The index of a game's positions, which tells how often a position occurred with few comparisons.
+//! The index of a game's positions, which finds how often a position occurred with few comparisons.
 //!
-//! A position's word puts it in one of 32,768 buckets. A bucket's head is the latest position in it. Each place has an
+//! A position's hash puts it in one of 32,768 buckets. A bucket's head is the latest position in it. Each place has an
 //! entry: a link to the latest earlier position in the bucket of its own, and the count of its own. Positions are
 //! numbered from 0, the start, on; a head or a link is a number plus one, or 0 where there is no such position.
 
@@ -50,7 +50,7 @@ fn oldest(places: &[Place], now: &Known) -> usize
     ensures { (start : Known) → Follows start.position places.now → IsNext start places.now now.now → (k : ℕ)
         → k < result → is_same_at start places.now now.now.position k ≡ false }
 {
-    // The prover wants this law: the reserve of the men falls with each capture and pawn move, and never grows.
+    // The prover wants this law: the reserve of the pieces falls with each capture and pawn move, and never grows.
     reserve_never_grows();
     let ago = now.position.halfmove() as usize;
     if ago == 0 {
@@ -81,7 +81,7 @@ fn count_same(head: u16, start: &Known, places: &[Place], now: &Known) -> u32
     requires head { head ≡ latest_below (is_in start.now places.now (bucket now.now)) (suc (length places.now)) }
     ensures { result ≡ suc (count_below (is_same_at start.now places.now now.now.position) (suc (length places.now))) }
 {
-    // The prover wants this fact: a position is sound, so it has a place for each of the 64 squares.
+    // The prover wants this fact: a position is sound, so it has an element for each of the 64 squares.
     let _sound = now.position.halfmove();
     if head == 0 {
         return 1;

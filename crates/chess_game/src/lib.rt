@@ -1,4 +1,4 @@
-//! A game of chess: its start, the moves that stand and what was declared; how often a position occurred, what may be
+//! A game of chess: its start, its current moves and what was declared; how often a position occurred, what may be
 //! claimed, and when the game is over.
 //!
 //! ```

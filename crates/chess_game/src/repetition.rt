@@ -34,12 +34,12 @@ impl Known {
         }
     }
 
-    // Whether the words of the two positions differ; then these are not the same.
+    // Whether the hashes of the two positions differ; then these are not the same.
     fn is_told_apart(&self, other: &Known) -> bool
         requires { ShareWording self.now other.now }
         ensures { result ≡ true → same self.now.position other.now.position ≡ false }
     {
-        // The prover wants this fact of both: a position is sound, so it has a place for each of the 64 squares.
+        // The prover wants this fact of both: a position is sound, so it has an element for each of the 64 squares.
         let _this = self.position.halfmove();
         let _that = other.position.halfmove();
         self.word != other.word
@@ -53,7 +53,7 @@ impl Known {
         requires words { ShareWording self.now other.now }
         ensures { result ≡ same self.now.position other.now.position }
     {
-        // Most positions differ in their words, so men and rights are seldom looked at.
+        // Most positions differ in their hashes, so pieces and rights are seldom looked at.
         if self.is_told_apart(other) {
             return false;
         }

@@ -13,7 +13,7 @@ use std::fmt::Debug;
 use std::process::Abort;
 use std::test::Fail;
 
-/// How often each call that changes a board was made, and how often its word was asked for.
+/// How often each call that changes a board was made, and how often its hash was asked for.
 #[derive(Drop)]
 struct Calls {
     set: Cell<u32>,
@@ -41,7 +41,7 @@ impl Calls {
         )
     }
 
-    // How often the word was asked for since this was last asked.
+    // How often the hash was asked for since this was last asked.
     fn words_since(&self) -> u32 {
         self.word.replace(0)
     }
@@ -51,7 +51,7 @@ fn count_up(count: &Cell<u32>) {
     count.set(count.get().wrapping_add(1));
 }
 
-/// A board that counts the calls that change it, and those that ask for its word.
+/// A board that counts the calls that change it, and those that ask for its hash.
 #[derive(Drop)]
 struct Counting<'a> {
     plain: Plain,
@@ -131,7 +131,7 @@ fn counting_board(calls: &Calls) -> Counting<'_> {
     }
 }
 
-/// A board whose words are all 0, so that they tell no positions apart.
+/// A board whose hashes are all 0, so that they distinguish no positions.
 #[derive(Drop)]
 struct Wordless {
     plain: Plain,
@@ -262,7 +262,7 @@ fn declare_open<B: Board>(game: &mut Game<B>, outcome: Outcome, comment: &[u8]) 
     }
 }
 
-// Plays one move, behind which more may stand.
+// Plays one move, after which more may be current.
 fn play_first<B: Board>(game: &mut Game<B>, moves: &[u8]) -> Result<(), Fail> {
     let [from_file, from_rank, to_file, to_rank, ..] = *moves else {
         return Err("no move".into());
@@ -295,7 +295,7 @@ fn is_equal_at<T: PartialEq + Debug>(rt: &impl Abort, place: &[u8], found: &T, w
     assert_eq!(rt; *found, *wanted, "at {place:?}");
 }
 
-// What a call of a game answers, and what is told of the game: one comparison each.
+// What a call of a game answers, and what is returned of the game: one comparison each.
 
 fn is_played<B: Board>(rt: &impl Abort, game: &mut Game<B>, squares: &[u8; 4]) {
     is_equal_at(rt, squares, &play(game, squares), &Ok(()));
@@ -424,7 +424,7 @@ fn is_promoted_to_a_knight<B: Board>(rt: &impl Abort, game: &mut Game<B>, square
     is_equal(rt, &game.play(promotion), &Ok(()));
 }
 
-/// What is told of a game.
+/// What is returned of a game.
 #[derive(Clone, Copy)]
 enum State {
     Says(Outcome, &'static [u8]),
@@ -468,7 +468,7 @@ fn is_so<B: Board>(rt: &impl Abort, game: &Game<B>, state: State) {
     }
 }
 
-/// A call of a game with its answer, or what is told of the game then.
+/// A call of a game with its answer, or what is returned of the game then.
 #[derive(Clone, Copy)]
 enum Step {
     Restarts(&'static [u8]),
@@ -531,7 +531,7 @@ fn game_goes_on<B: Board + Drop>(
     all_go(rt, &mut game, steps)
 }
 
-// The same on both boards, and on the one whose words are all 0.
+// The same on both boards, and on the one whose hashes are all 0.
 fn game_goes(rt: &impl Abort, alloc: Global, limit: u32, steps: &[Step]) -> Result<(), Fail> {
     game_goes_on(rt, alloc, Plain::new(), limit, steps)?;
     let tables = AttackTables::open(alloc)?;
@@ -564,7 +564,7 @@ const STARTS: [(&[u8], Option<Verdict>); 24] = [
         Some(Verdict::SeventyFiveMoves),
     ),
     (b"4k3/8/8/8/8/8/8/R3K3 w - - 149 100", None),
-    // No man; one bishop or knight; bishops on squares of one colour.
+    // No piece; one bishop or knight; bishops on squares of one colour.
     (
         b"4k3/8/8/8/8/8/8/4K3 w - - 0 1",
         Some(Verdict::InsufficientMaterial),
@@ -625,7 +625,7 @@ const BOTH: Claims = Claims {
     fifty_moves: true,
 };
 
-/// A start, moves from there, and what is told of the game then.
+/// A start, moves from there, and what is returned of the game then.
 struct Told {
     start: &'static [u8],
     moves: &'static [u8],
@@ -694,7 +694,7 @@ const LINES: [Told; 27] = [
         halfmove: 150,
         claims: BOTH,
     },
-    // A target on which nobody may capture tells nothing: no pawn stands beside it, also after a move that set it; a
+    // A target on which nobody may capture makes no difference: no pawn is beside it, also after a move that set it; a
     // pin.
     Told {
         start: b"rnbqkbnr/pppppppp/8/8/4P3/8/PPPP1PPP/RNBQKBNR b KQkq e3 0 1",
@@ -720,7 +720,7 @@ const LINES: [Told; 27] = [
         halfmove: 4,
         claims: NONE,
     },
-    // Games on which programs differ: the third time counts the position behind a double advance that nobody could
+    // Games on which programs differ: the third time counts the position after a double advance that nobody could
     // answer en passant; the capturing pawn would uncover its king along the rank.
     Told {
         start: b"rnbqkbnr/pppppppp/8/8/8/8/PPPPPPPP/RNBQKBNR w KQkq - 0 1",
@@ -772,7 +772,7 @@ const LINES: [Told; 27] = [
         halfmove: 8,
         claims: NONE,
     },
-    // The same men with the other side on move are another position; like men in one another's place are not.
+    // The same pieces with the other side on move are another position; like pieces on each other's squares are not.
     Told {
         start: b"4k3/8/8/8/8/8/8/R3K3 w - - 0 1",
         moves: b"e1d1 e8d8 d1d2 d8e8 d2e1",
@@ -875,7 +875,7 @@ fn undeclared(verdict: Option<Verdict>) -> Outcome {
     }
 }
 
-// Why a game is over, its outcome, whether it is over, and how often its position stood.
+// Why a game is over, its outcome, whether it is over, and how often its position has occurred.
 fn ending<B: Board>(game: &Game<B>) -> (Option<Verdict>, Outcome, bool, u32) {
     (
         game.verdict(),
@@ -1011,7 +1011,7 @@ const RESULTS: &[Step] = &[
     Step::Is(State::HasOutcome(Outcome::Unfinished)),
     Step::Is(State::IsOver),
     Step::IsRefused(b"e2e4", PlayRefusal::Over),
-    // No move stands that could be taken back, so the result stays.
+    // No move is current that could be taken back, so the result stays.
     Step::HasNoMove,
     Step::Is(State::Says(Outcome::Unfinished, b"")),
     Step::ClearsDeclared,
@@ -1056,7 +1056,7 @@ fn fifth_time_is_taken_back(rt: HostRuntime) -> Result<(), Fail> {
     game_goes(&rt, rt.alloc(), 100, FIVE_TIMES)
 }
 
-// On a board whose words are all 0, all positions are in one bucket.
+// On a board whose hashes are all 0, all positions are in one bucket.
 const RESTARTED: &[Step] = &[
     Step::PlaysAll(b"g1f3 g8f6 f3g1 f6g8 g1f3 g8f6 f3g1 f6g8"),
     Step::Is(State::HasRepetitions(3)),
@@ -1272,7 +1272,7 @@ fn was_asked(rt: &impl Abort, calls: &Calls, times: u32) {
     is_equal(rt, &calls.words_since(), &times);
 }
 
-// The word is asked for where a move is played, and not where it is refused.
+// The hash is asked for where a move is played, and not where it is refused.
 fn is_asked_for_its_word_once(
     rt: &impl Abort,
     game: &mut Game<Counting<'_>>,
@@ -1302,7 +1302,7 @@ fn are_taken_back<B: Board>(rt: &impl Abort, game: &mut Game<B>, moves: &[&[u8; 
     }
 }
 
-// None of these asks for a word.
+// None of these asks for a hash.
 const NOT_ASKED: &[Step] = &[
     Step::Is(State::HasRepetitions(3)),
     Step::Is(State::HasClaims(THREEFOLD)),
@@ -1310,7 +1310,7 @@ const NOT_ASKED: &[Step] = &[
     Step::Is(State::GoesOn),
 ];
 
-// A game keeps the words of its positions: each is asked for once, when the position is reached.
+// A game keeps the hashes of its positions: each is asked for once, when the position is reached.
 #[test]
 fn each_position_is_asked_for_its_word_once(rt: HostRuntime) -> Result<(), Fail> {
     let calls = Calls::none();

@@ -78,7 +78,7 @@ no_lists g (suc n) a none =
     ap (λ xs. xs ++ flat_map g (range_with_len (a + 1) n)) (none a (omega arith) (omega arith))
     ∙ no_lists g n (a + 1) (λ k l h. none k (omega arith) (omega arith))
 
--- the keys of an empty board, and of men that stand alike
+-- the keys of an empty board, and of boards with the same pieces
 pub no_men_keys : (men : Men) → ((k : ℕ) → k < 64 → man_at men k ≡ None) → men_keys men ≡ []
 unfolding men_keys
 no_men_keys men none =
@@ -136,7 +136,7 @@ men_changed men s d o all low e =
     (omega arith)
     (omega arith))
 
--- a man comes to an empty square, and a man leaves his: the word changes by his key
+-- a piece comes to an empty square, or leaves its own: the hash changes by its key
 pub word_put : (men : Men) (s : ℕ) (x : Man) (word change : ℕ) → length men ≡ 64 → s < 64 → man_at men s ≡ None
     → word ≡ xor_of (men_keys men) → change ≡ man_key x s
     → bit_xor word change ≡ xor_of (men_keys (set men s (Some x)))

@@ -1,6 +1,6 @@
--- The position word of the boards `Plain` and `Bits`, a Zobrist hash: the exclusive or of keys, numbers below 2 to the
--- 64th, one for each man on its square, one for Black on move and one for each castling right. Target and counters have
--- no part in it. No claim says that two positions have different words.
+-- The position hash of the boards `Plain` and `Bits`, a Zobrist hash: the exclusive or of keys, numbers below 2 to the
+-- 64th, one for each piece on its square, one for Black on move and one for each castling right. Target and counters
+-- have no part in it. No claim says that two positions have different hashes.
 use Rattle.std.specs.Prelude.{ℕ, ◌+◌, ◌*◌, ◌/◌, ◌%◌, ◌^◌, Option, Some, None, List, [], ◌∷◌, ◌++◌, bit_xor, fold, flat_map}
 use Rattle.chess_base.specs.declared.man.Colour.{Colour}
 use Rattle.chess_base.specs.declared.man.Colour.TheVariants.{White, Black}
@@ -24,7 +24,7 @@ first_factor = 0xbf58476d1ce4e5b9
 abbrev pub second_factor : ℕ
 second_factor = 0x94d049bb133111eb
 
--- z with its bits from place k on laid over its lowest ones
+-- z with its bits from bit k on laid over its lowest ones
 abbrev pub laid_over : ℕ → ℕ → ℕ
 laid_over z k = bit_xor z (z / 2 ^ k)
 
@@ -36,9 +36,9 @@ key n =
     let z = laid_over y 27 * second_factor % 2 ^ 64 in
     laid_over z 31
 
--- ---- which keys: twelve times 64 for the men on squares, one for Black on move, twice 8 for the rights
+-- ---- which keys: twelve times 64 for the pieces on squares, one for Black on move, twice 8 for the rights
 
--- the places of colours and kinds among the keys of men
+-- the indices of colours and kinds among the keys of pieces
 abbrev pub colour_place : Colour → ℕ
 colour_place White = 0
 colour_place Black = 1
@@ -51,7 +51,7 @@ kind_place Rook = 3
 kind_place Queen = 4
 kind_place King = 5
 
--- the man x on square s
+-- the piece x on square s
 abbrev pub man_key : Man → ℕ → ℕ
 man_key x s = key (64 * (6 * colour_place x.colour + kind_place x.kind) + s)
 
@@ -65,7 +65,7 @@ right_key c r = key (769 + 8 * colour_place c + file r)
 
 -- ---- the keys of a position's parts
 
--- of what stands on s
+-- of what is on s
 abbrev pub square_keys : ℕ → Option Man → List ℕ
 square_keys s None = []
 square_keys s (Some x) = man_key x s ∷ []
@@ -74,7 +74,7 @@ square_keys s (Some x) = man_key x s ∷ []
 abbrev pub keys_on : Men → ℕ → List ℕ
 keys_on men s = square_keys s (man_at men s)
 
--- of all men
+-- of all pieces
 unfoldable pub men_keys : Men → List ℕ
 men_keys men = flat_map (keys_on men) squares
 
@@ -94,7 +94,7 @@ rights_keys r =
     right_keys White r.white.king_side ++ right_keys White r.white.queen_side ++ right_keys Black r.black.king_side
     ++ right_keys Black r.black.queen_side
 
--- ---- the word
+-- ---- the hash
 
 -- the exclusive or of all numbers of a list
 abbrev pub xor_of : List ℕ → ℕ

@@ -15,7 +15,7 @@ use crate::set::SquareSet;
 use arrayvec::ArrayVec;
 use chess_base::{Colour, Kind, Move, Position, Saved, Setup, Square};
 
-/// Moves in a list: at most 16 men move, and each has at most 56 moves.
+/// Moves in a list: at most 16 pieces move, and each has at most 56 moves.
 pub type MoveList = ArrayVec<Move, 896>;
 
 /// A board: one position at a time, always sound, that goes forward and back by moves.
@@ -29,8 +29,8 @@ pub trait Board {
     /// The position that the board is at.
     ghost position: { Self → Setup };
 
-    /// What the board's position words are: its own choice, but told by the men, the side on move and the castling
-    /// rights alone. So the same positions (Laws of Chess 2023, article 9.2.3) have equal words; others may have, too.
+    /// How the board hashes positions: its own choice, but fixed by the pieces, the side on move and the castling
+    /// rights alone. So the same positions (Laws of Chess 2023, article 9.2.3) have equal hashes; others may have, too.
     ghost word_of: { Men → Colour → Rights → ℕ };
 
     /// Leaves the board at that position.
@@ -58,7 +58,7 @@ pub trait Board {
     fn legal_move_count(&self) -> usize
         ensures { result ≡ length (moves (position self.now)) };
 
-    /// Whether there is a legal move. Both boards look no further than the first man that has one,
+    /// Whether there is a legal move. Both boards look no further than the first piece that has one,
     /// which no clause says.
     fn has_legal_move(&self) -> bool
         ensures { result ≡ nat_lt 0 (length (moves (position self.now))) };
@@ -67,16 +67,17 @@ pub trait Board {
     fn is_legal(&self, m: &Move) -> bool
         ensures { result ≡ is_legal (position self.now) m.now };
 
-    /// Squares from which men of a kind, of the side on move, may go to a square: each from which one has a legal move
-    /// to it is among them, others may be.
+    /// Squares from which pieces of a kind, of the side on move, may go to a square: each from which one has a legal
+    /// move to it is among them, others may be.
     fn origins(&self, kind: Kind, to: Square) -> SquareSet
         ensures { HasOrigins (position self.now) kind to result };
 
-    /// The squares of a colour's men of a kind.
+    /// The squares of a colour's pieces of a kind.
     fn men_of(&self, colour: Colour, kind: Kind) -> SquareSet
         ensures { (k : ℕ) → k < 64 → has result k ≡ is_man colour kind (man_at (position self.now).men k) };
 
-    /// The squares from which a man of a kind, of the side on move, has the legal move to a square without a promotion.
+    /// The squares from which a piece of a kind, of the side on move, has the legal move to a square without a
+    /// promotion.
     fn legal_starts(&self, kind: Kind, to: Square) -> SquareSet
         ensures { HasLegalStarts (position self.now) kind to result };
 
@@ -84,8 +85,8 @@ pub trait Board {
     fn in_check(&self) -> bool
         ensures { result ≡ is_in_check (position self.now).men (position self.now).side };
 
-    /// The position's word, a Zobrist hash of men, side on move and castling rights, without the en passant target: two
-    /// positions whose words differ are not the same.
+    /// The position's hash, a Zobrist hash of pieces, side on move and castling rights, without the en passant target:
+    /// two positions whose hashes differ are not the same.
     fn word(&self) -> u64
         ensures { result ≡ word_of (position self.now).men (position self.now).side (position self.now).rights };
 

@@ -1,5 +1,5 @@
 //! Boards: all legal moves of a position in order, and a position that goes forward and back without loss. A board also
-//! tells its position's word, a number told by men, side on move and castling rights alone.
+//! hashes its position, by pieces, side on move and castling rights alone.
 //!
 //! ```
 //! let mut board = Plain::new();

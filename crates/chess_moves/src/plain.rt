@@ -1,4 +1,4 @@
-//! The plain board: the men by their squares.
+//! The plain board: the pieces by their squares.
 
 ghost use Rattle.std.specs.Prelude.{◌≡◌, ℕ, ◌<◌, ◌&&◌, None};
 ghost use Rattle.chess_base.specs.Initial.{initial_setup};
@@ -17,7 +17,7 @@ use chess_base::for_boards::{is_in_check, is_legal, is_man, saved_of};
 use chess_base::{Colour, Kind, Man, Move, Position, Saved, Setup, Square};
 use std::marker::Model;
 
-/// A board that keeps the man of each of the 64 squares and changes them in place. In contracts it is the
+/// A board that keeps the piece of each of the 64 squares and changes them in place. In contracts it is the
 /// `Setup` of its position.
 #[derive(Clone, Copy, PartialEq, Eq)]
 pub struct Plain {
@@ -38,7 +38,7 @@ impl Model for Plain {
     ghost inverse = { λ v. record { setup = v } };
 }
 
-// The squares of a colour's men of a kind.
+// The squares of a colour's pieces of a kind.
 fn men_of(men: &[Option<Man>; 64], colour: Colour, kind: Kind) -> SquareSet
     ensures { (k : ℕ) → k < 64 → has result k ≡ is_man colour kind (man_at men.now k) }
 {
@@ -52,7 +52,7 @@ fn men_of(men: &[Option<Man>; 64], colour: Colour, kind: Kind) -> SquareSet
     set
 }
 
-// Whether a man of a kind, of the side on move, has the legal move from there to there without a promotion.
+// Whether a piece of a kind, of the side on move, has the legal move from there to there without a promotion.
 fn is_legal_start(setup: &Setup, kind: Kind, from: Square, to: Square) -> bool
     requires { IsSound setup.now }
     ensures { result ≡ (is_man setup.now.side kind (man_at setup.now.men from)
@@ -66,7 +66,7 @@ fn is_legal_start(setup: &Setup, kind: Kind, from: Square, to: Square) -> bool
     is_man(setup.side, kind, setup.men[from.index()]) && is_legal(setup, &m)
 }
 
-// The squares from which a man of a kind, of the side on move, has the legal move to a square without a promotion.
+// The squares from which a piece of a kind, of the side on move, has the legal move to a square without a promotion.
 fn legal_starts(setup: &Setup, kind: Kind, to: Square) -> SquareSet
     requires { IsSound setup.now }
     ensures { HasLegalStarts setup.now kind to result }
@@ -128,7 +128,7 @@ impl Board for Plain {
         is_legal(&self.setup, m)
     }
 
-    // All men of the kind.
+    // All pieces of the kind.
     #[tactic(auto, using(crate::proofs::Origins::all_men))]
     fn origins(&self, kind: Kind, _to: Square) -> SquareSet {
         men_of(&self.setup.men, self.setup.side, kind)

@@ -1,4 +1,4 @@
-//! The position word: the keys of men, side on move and castling rights, joined by exclusive or.
+//! The position hash: the keys of pieces, side on move and castling rights, joined by exclusive or.
 
 ghost use Rattle.std.specs.Prelude.{◌≡◌, ◌<◌};
 ghost use Rattle.chess_moves.specs.PositionWord.{key, colour_place, kind_place, man_key, square_keys, men_keys, side_keys, right_keys, rights_keys, xor_of, position_word};
@@ -57,7 +57,7 @@ fn kind_place(kind: Kind) -> u16
     }
 }
 
-/// The key of a man on a square.
+/// The key of a piece on a square.
 #[inline(always)]
 pub fn man_key<K: Keys>(keys: &K, man: Man, square: Square) -> u64
     ensures { result ≡ man_key man square }
@@ -66,7 +66,7 @@ pub fn man_key<K: Keys>(keys: &K, man: Man, square: Square) -> u64
     keys.key(64 * place + square.number() as u16)
 }
 
-// The word of what stands on a square.
+// The hash of what is on a square.
 fn square_word(square: Square, man: Option<Man>) -> u64
     ensures { result ≡ xor_of (square_keys square man) }
 {
@@ -76,7 +76,7 @@ fn square_word(square: Square, man: Option<Man>) -> u64
     }
 }
 
-// The word of the men alone.
+// The hash of the pieces alone.
 fn men_word(men: &[Option<Man>; 64]) -> u64
     ensures { result ≡ xor_of (men_keys men.now) }
 {
@@ -88,7 +88,7 @@ fn men_word(men: &[Option<Man>; 64]) -> u64
     word
 }
 
-// The word of the side on move alone.
+// The hash of the side on move alone.
 fn side_word<K: Keys>(keys: &K, side: Colour) -> u64
     ensures { result ≡ xor_of (side_keys side) }
 {
@@ -98,7 +98,7 @@ fn side_word<K: Keys>(keys: &K, side: Colour) -> u64
     }
 }
 
-// The word of a right, by the square of its rook, if it is there.
+// The hash of a right, by the square of its rook, if it is there.
 fn right_word<K: Keys>(keys: &K, colour: Colour, rook: Option<Square>) -> u64
     ensures { result ≡ xor_of (right_keys colour rook) }
 {
@@ -108,7 +108,7 @@ fn right_word<K: Keys>(keys: &K, colour: Colour, rook: Option<Square>) -> u64
     }
 }
 
-// The word of the castling rights alone.
+// The hash of the castling rights alone.
 fn rights_word<K: Keys>(keys: &K, rights: &Rights) -> u64
     ensures { result ≡ xor_of (rights_keys rights.now) }
 {
@@ -119,7 +119,7 @@ fn rights_word<K: Keys>(keys: &K, rights: &Rights) -> u64
     white_king_side ^ white_queen_side ^ black_king_side ^ black_queen_side
 }
 
-/// The position word of a setup, where that of its men is known.
+/// The position hash of a setup, where that of its pieces is known.
 pub fn word_with<K: Keys>(keys: &K, of_men: u64, setup: &Setup) -> u64
     requires { of_men ≡ xor_of (men_keys setup.now.men) }
     ensures { result ≡ position_word setup.now.men setup.now.side setup.now.rights }
@@ -127,7 +127,7 @@ pub fn word_with<K: Keys>(keys: &K, of_men: u64, setup: &Setup) -> u64
     of_men ^ side_word(keys, setup.side) ^ rights_word(keys, &setup.rights)
 }
 
-/// The position word of a setup.
+/// The position hash of a setup.
 pub fn position_word(setup: &Setup) -> u64
     ensures { result ≡ position_word setup.now.men setup.now.side setup.now.rights }
 {

@@ -7,7 +7,7 @@ use Rattle.std.proofs.lemmas.List.{take-append-drop}
 use Rattle.chess_pgn.specs.Tokens.{Token, Plain, Brace, Line, Inside, is_white_space, is_word_byte, is_name_byte, behind_brace, behind_gap, string_at, onto, behind_byte, behind_next, closed, with_text, with_string, with_name, tag_at, variation_at, comment_at, token_at}
 use Rattle.chess_base.specs.Letters.{is_digit}
 
--- the rest of a text behind a byte other than 10
+-- the rest of a text after a byte other than 10
 pub record Cut (text rest : List ℕ) : Type 0 where
   pub front : List ℕ
   pub last : ℕ
@@ -45,7 +45,7 @@ passes_no_ten p ten c h = by_test (eqb c 10) refl
     by_test true e = let is : c ≡ 10 = grind (arith, nat_tests) in let same : p c ≡ p 10 = ap p is in absurd (cc)
     by_test false e = refl
 
--- behind a run of bytes that pass
+-- after a run of bytes that pass
 run_cut : (p : ℕ → Bool) → p 10 ≡ false → (c : ℕ) (rest : List ℕ) → eqb c 10 ≡ false
     → Cut (c ∷ rest) (drop (prefix_len p rest) rest)
 run_cut p ten c [] e = cut_here c [] e
@@ -170,7 +170,7 @@ string_suffix (c ∷ d ∷ rest) =
     (λ _. kept_suffix (c ∷ d ∷ []) rest c d (string_at rest) (string_suffix rest))) (λ _.
     onto_suffix (c ∷ []) (d ∷ rest) c (string_at (d ∷ rest)) (string_suffix (d ∷ rest)))))
 
--- behind a byte other than 10
+-- after a byte other than 10
 byte_cut : (b : ℕ) (text : List ℕ) → eqb b 10 ≡ false → IfSome (behind_byte b text) (Cut text)
 byte_cut b [] e = tt
 byte_cut b (c ∷ rest) e = pick (λ (o : Option (List ℕ)). IfSome o (Cut (c ∷ rest))) (eqb c b) _ _

@@ -1,4 +1,4 @@
--- A fault's place is in the text, and not before the place where reading began.
+-- A fault's offset is in the text, and not before the offset where reading began.
 use Rattle.std.proofs.Common.{◌≡◌, ℕ, zero, suc, ◌-◌, ◌≤◌, Bool, true, eqb, List, [], ◌∷◌, length, take, drop, Option, Result, Ok, Err, IfErr, ap, arith}
 use Rattle.std.specs.Prelude.{codes, is_some, nat_lt, ◌&&◌}
 use Rattle.std.specs.Str.{bytes_eq}
@@ -27,7 +27,7 @@ use Rattle.chess_pgn.proofs.Cuts.{pick}
 use Rattle.chess_pgn.proofs.TokenPlaces.{within}
 use Rattle.chess_pgn.proofs.Walk.{shorter}
 
--- a fault has its place from the first on and up to the last
+-- a fault has its offset from the first on and up to the last
 abbrev FaultIn : ℕ → ℕ → Result (Option PgnEnd) PgnFault → Type 0
 FaultIn first last r = IfErr r (λ f. (first ≤ f.place) × (f.place ≤ last))
 
@@ -111,7 +111,7 @@ game_in limit total (suc n) begins g (c ∷ rest) =
     (λ h. further (total - suc (length rest)) (total - length t.1) total _ nearer
     (game_in limit total n (eqb c 10) h t.1))
 
--- ---- the place where reading begins
+-- ---- the offset where reading begins
 
 pub behind : (text : List ℕ) (at : ℕ) → at ≤ length text → (at ≤ first_place text at)
     × (first_place text at ≤ length text)

@@ -1,4 +1,4 @@
--- A FEN that is read in a variant spells a position of that variant.
+-- A FEN that is read in a variant denotes a position of that variant.
 use Rattle.std.proofs.Common.{◌≡◌, ℕ, List, [], ◌∷◌, Option, Some, None, Result, Ok, Err, refl, sym, ap, ◌∙◌}
 use Rattle.std.specs.Option.{ok_or}
 use Rattle.chess_base.specs.declared.fault.FenFault.{FenFault}

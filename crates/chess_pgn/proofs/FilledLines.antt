@@ -39,7 +39,7 @@ line_text-push t (s ∷ ts) u = ap (λ text. t ++ 32 ∷ text) (line_text-push s
 abbrev ended : List ℕ → List (List ℕ) → List ℕ
 ended prefix line = prefix ++ line_text line ++ 10 ∷ []
 
--- how the tokens go on behind a line that has t and ts
+-- how the tokens go on after a line that has t and ts
 record GoesOn (prefix t : List ℕ) (ts rest : List (List ℕ)) : Type 0 where
   more : List (List ℕ)
   others : List (List (List ℕ))
@@ -144,7 +144,7 @@ filled-move_text prefix (t ∷ ts) short = from_first (goes_on prefix t [] ts sh
 
 -- ---- no other text has it
 
--- tokens behind others in a line
+-- tokens after others in a line
 abbrev tail : List (List ℕ) → List ℕ
 tail ts = flat_map (λ u. 32 ∷ u) ts
 

@@ -29,7 +29,7 @@ use Rattle.chess_pgn.specs.ties.GameSteps.{so_far, IsReadOn, ReadsAlike, step_se
 use Rattle.chess_pgn.proofs.Cuts.{pick}
 use Rattle.chess_pgn.proofs.Walk.{token_more}
 
--- ---- nothing is declared before the game's end, and nothing behind a fault
+-- ---- nothing is declared before the game's end, and nothing after a fault
 
 abbrev Undeclared : Step → Type 0
 Undeclared (On g) = g.state.declared ≡ None
@@ -273,7 +273,7 @@ pub passed : (text : List ℕ) (from at : ℕ) → ReadsAlike text from at → a
 passed text from at so low h = λ limit g. so limit g ∙ passed_at text at (get_or text at 0) (drop (suc at) text)
     (drop-cons text at 0 low) low h limit g
 
--- reading goes on behind them
+-- reading goes on after them
 pub alike : (limit : ℕ) (text : List ℕ) (from : ℕ) (game : Seen) (p : Progress) (here there : ℕ)
     → Reads limit text from game p here → ReadsAlike text here there → here ≤ there → there ≤ length text
     → Reads limit text from game p there

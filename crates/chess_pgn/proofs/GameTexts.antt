@@ -51,7 +51,7 @@ third_put a b c d r w x y z t u v text parts h k l =
 
 -- ---- tags
 
--- the tags of a start, and the last ones behind them
+-- the tags of a start, and the last ones after them
 further_is : (prefix before : List ℕ) (start : Setup) (v : Variant) (t : Termination) → v ≡ start.variant
     → before ≡ prefix → ended prefix (further_lines start t) ≡ ended prefix (start_lines_in start.variant start)
     ++ ended before (last_lines v t)
@@ -111,7 +111,7 @@ game_is prefix before last_before t s b l =
           ∙ rw (b, l) refl;
     }
 
--- all was put behind nothing, and what waits is written
+-- all was put after nothing, and what waits is written
 pub game_written : {A E : Type 0} (a b c : OutputState) (r : Result A E) (w x prefix before : List ℕ) (t : Tags)
     (s : State) → w ≡ [] → before ≡ prefix → TookSome a b w x (pgn before t s) → Puts b c r x
     → Puts a c r (pgn prefix t s)
@@ -119,7 +119,7 @@ game_written a b c r w x prefix before t s none is h k =
     subst (Puts a c r) (ap (λ v. v ++ pgn before t s) none ∙ ap (λ v. pgn v t s) is)
     (finished a b c r w x (pgn before t s) h k)
 
--- ---- tokens, one list behind another
+-- ---- tokens, one list after another
 
 pub placed_all-append : (prefix : List ℕ) (column : ℕ) (ts us : List (List ℕ))
     → placed_all prefix column (ts ++ us) ≡ placed_all prefix column ts
@@ -210,9 +210,9 @@ move_put a b c w x y prefix before text column col f p q m same pre is said h k 
     (subst (TookSome b c x y) (one_placed prefix before text (san p m) (column_behind_all column number) col pre here
     said) k))
 
--- ---- the tokens of moves, one move behind another
+-- ---- the tokens of moves, one move after another
 
--- each move of a line is legal in the position behind those before it
+-- each move of a line is legal in the position after those before it
 pub legal_next : (start : Setup) (ms : List Move) (i : ℕ) (m : Move) → IsLine start ms → slice_get ms i ≡ Some m
     → IsTrue (is_legal (last start (take i ms)) m)
 legal_next start [] zero m h e = cc
@@ -253,7 +253,7 @@ moves_more p (x ∷ ms) (suc i) m e =
     ∙ sym (append_assoc (tokens_of_move true p x) (move_tokens false (after p x) (take i ms))
     (tokens_of_move false (last (after p x) (take i ms)) m)))
 
--- where the moves go on behind some of them
+-- where the moves go on after some of them
 moves_split : (f : Bool) (p : Setup) (ms : List Move) (n : ℕ)
     → (rest : List (List ℕ)) × (move_tokens f p ms ≡ move_tokens f p (take n ms) ++ rest)
 moves_split f p ms zero = (move_tokens f p ms, refl)
@@ -268,7 +268,7 @@ moves_split f p (x ∷ ms) (suc n) = by_rest (moves_split false (after p x) ms n
           ∙ sym (append_assoc (tokens_of_move f p x) (move_tokens false (after p x) (take n ms)) rest),
     )
 
--- how a move stands behind those before it: of the game's moves the one with that number, in the position that they
+-- a move after those before it: of the game's moves the one with that number, in the position that they
 -- give
 pub record IsNext (prefix : List ℕ) (column : ℕ) (p : Setup) (ms : List Move) (i : ℕ) (before : List ℕ) (col : ℕ)
     (f : Bool) (q : Setup) (m : Move) : Type 0 where

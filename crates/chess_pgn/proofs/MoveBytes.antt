@@ -24,7 +24,7 @@ use Rattle.chess_pgn.proofs.Cuts.{pick}
 use Rattle.chess_pgn.proofs.FaultPlaces.{behind}
 use Rattle.chess_pgn.proofs.Walk.{shorter}
 
--- from a place on, behind so many half-moves
+-- from an offset on, after so many half-moves
 abbrev Fits : ℕ → ℕ → ℕ → Result (Option PgnEnd) PgnFault → Type 0
 Fits first done moves r = IfOk r (λ o. IfSome o (λ e. moves + first ≤ done + e.place))
 

@@ -22,7 +22,7 @@ use Rattle.chess_pgn.specs.Words.{kind_of}
 use Rattle.chess_pgn.proofs.Cuts.{pick}
 use Rattle.chess_pgn.proofs.FenVariants.{read_variant, initial_variant}
 
--- ---- the variant that is told
+-- ---- the variant that is named
 
 both : (a b : Bool) → (not a && b) ≡ true → (a ≡ false) × (b ≡ true)
 both true b e = absurd (cc)

@@ -1,4 +1,4 @@
--- Reading the moves of a game's text, which stand in filled lines.
+-- Reading the moves of a game's text, which are in filled lines.
 use Rattle.std.proofs.Common.{◌≡◌, ℕ, suc, ◌+◌, ◌-◌, ◌<◌, ◌≤◌, Bool, true, false, cond, eqb, leb, List, [], ◌∷◌, ◌++◌, length, take, Option, None, refl, sym, ap, ◌∙◌, append_assoc, append-nil, arith}
 use Rattle.std.specs.Prelude.{codes, decimal}
 use Rattle.std.proofs.Math.Seq.{take-append_seam}
@@ -97,7 +97,7 @@ outcome_some Unfinished = omega arith
 
 -- ---- reading
 
--- so many of them were read; a first number may be behind them
+-- so many of them were read; a first number may be after them
 abbrev pub read_so_far : Option Termination → Setup → List Move → Bool → SoFar
 read_so_far t start done is_begun = record {
   state = record { start = start; moves = done; declared = None };
@@ -111,7 +111,7 @@ last-more start [] m = refl
 last-more start (x ∷ done) m = last-more (after start x) done m
 
 module _ (limit total : ℕ) where
-  -- what stands before a token in its line is skipped
+  -- what is before a token in its line is skipped
   placed_read : (g : SoFar) (begins : Bool) (column : ℕ) (t more : List ℕ) (r : GameRead)
       → ((b : Bool) → read_on limit total g b (t ++ more) ≡ r)
       → read_on limit total g begins (placed [] column t ++ more) ≡ r

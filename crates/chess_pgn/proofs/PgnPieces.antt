@@ -41,11 +41,11 @@ read_on limit total g begins text = game_of limit total g (tokens_of (length tex
 abbrev pub tagged : Bool → Option Termination → State → SoFar
 tagged met t s = record { state = s; is_met = met; is_begun = false; termination = t }
 
--- behind a number
+-- after a number
 abbrev pub begun : SoFar → SoFar
 begun g = record { state = g.state; is_met = true; is_begun = true; termination = g.termination }
 
--- behind a move
+-- after a move
 abbrev pub moved : SoFar → Move → SoFar
 moved g m = record { state = played g.state m; is_met = true; is_begun = true; termination = g.termination }
 
@@ -56,7 +56,7 @@ ended_game t s o place = record {
   answer = Ok (Some (record { outcome = o; termination = t; place = place }));
 }
 
--- ---- the termination that a tag tells
+-- ---- the termination that a tag names
 
 pub termination_bare : (u : Termination) → list_all is_bare (termination_text u) ≡ true
 termination_bare ending.Abandoned = refl
@@ -87,7 +87,7 @@ module _ (limit total : ℕ) where
   behind_step g c t left most = go_on (step limit total g left t.0)
       (λ h. game_of limit total h (tokens_of most (eqb c 10) t.1))
 
-  -- reading goes on behind a token
+  -- reading goes on after a token
   pub token_on : (g h : SoFar) (begins : Bool) (c : ℕ) (rest : List ℕ) (token : Token) (behind : List ℕ)
       → token_at begins c rest ≡ (token, behind) → step limit total g (suc (length rest)) token ≡ On h
       → read_on limit total g begins (c ∷ rest) ≡ read_on limit total h (eqb c 10) behind
@@ -144,7 +144,7 @@ module _ (limit total : ℕ) where
       (next (total - suc (length (cs ++ d ∷ rest))))
       ∙ ap (λ b. read_on limit total h b (d ∷ rest)) (not_byte is_word_byte 10 c refl here)
 
-  -- a number, and the dots behind it
+  -- a number, and the dots after it
   number_takes : (g : SoFar) (n : ℕ) → n ≤ 999999 → Takes g (begun g) (decimal n)
   number_takes g n h =
       let digits = decimal_digits n h in

@@ -119,7 +119,7 @@ module _ (limit total : ℕ) where
       (line_read (tagged true (Some u) s) (tagged true (Some u) s) true [] [] rest _
       (empty_line limit total (tagged true (Some u) s)) refl))
 
-  -- the tags behind the seven, and the empty line
+  -- the tags after the seven, and the empty line
   further_read : WrittenIsReadBack → IsSound (initial_setup_of Normal) → (start : Setup) (u : Termination)
       → IsSound start → (rest : List ℕ)
       → read_on limit total (tagged true None (from_start (initial_setup_of start.variant))) true
@@ -195,7 +195,7 @@ module _ (limit total : ℕ) where
       (λ x b k. outcome_read limit total (read_so_far told s.start s.moves x) b k o (10 ∷ rest)) true s.start []
       s.moves refl refl h.start h.line false true 0
 
--- ---- its place
+-- ---- its offset
 
 -- a text that begins so has no byte order mark
 no_mark : (before : List ℕ) (c : ℕ) (rest : List ℕ) → eqb c 239 ≡ false
@@ -204,7 +204,7 @@ no_mark [] c rest e = rw e refl
 no_mark (b ∷ before) c rest e = let some : eqb (suc (length before)) 0 ≡ false = grind (arith, nat_tests) in
     rw some refl
 
--- reading from the place behind `before` on
+-- reading from the offset after `before` on
 read_behind : (limit : ℕ) (before text : List ℕ) (v : Variant) → first_place (before ++ text) (length before)
     ≡ length before → told_on Normal (begins_line (before ++ text) (length before)) text ≡ v
     → pgn_read limit (before ++ text) (length before) ≡ read_on limit (length (before ++ text)) (nothing_read v)
@@ -221,7 +221,7 @@ read_behind limit before text v place told =
     ∙ ap (λ u. game_of limit (length whole) (nothing_read u)
     (tokens_of (length text) (begins_line whole (length before)) text)) told
 
--- the variant that a game's text tells
+-- the variant that a game's text names
 variant_is : (tags : Tags) → AreTagTexts tags → (s : State) → IsSound s.start → (begins : Bool) (rest : List ℕ)
     → told_on Normal begins (pgn [] tags s ++ rest) ≡ s.start.variant
 unfolding pgn
@@ -253,7 +253,7 @@ declared_again BlackWins = refl
 declared_again Draw = refl
 declared_again Unfinished = refl
 
--- the verdict is there again; where there is none, what the termination tells is declared
+-- the verdict is there again; where there is none, what the termination names is declared
 same_outcome : (v : Option Verdict) (d : Option Declared) → outcome_by v (declared_behind (is_some v) (outcome_by v d))
     ≡ outcome_by v d
 same_outcome (Some v) d = refl

@@ -178,7 +178,7 @@ move_kind (c ∷ cs) h =
     let mark = letter_fails (λ k. eqb k 33 || eqb k 63) c mark_no_letter h in
     ap (kind_by (c ∷ cs)) (no_outcome begins_with_letter (c ∷ cs) no_letter h) ∙ rw (digit, mark) refl
 
--- ---- words that begin with `A` or a byte behind it
+-- ---- words that begin with `A` or a byte after it
 
 from_a_no_outcome : (o : Outcome) → begins_from_a (outcome_text o) ≡ false
 from_a_no_outcome WhiteWins = refl
@@ -209,7 +209,7 @@ all_of p q h (c ∷ cs) all =
     let both = and_parts (p c) (list_all p cs) all in
     and_from (q c) (list_all q cs) (h c both.0) (all_of p q h cs both.1)
 
--- digits as std tells them
+-- digits as std defines them
 all_digits : (text : List ℕ) → AllDigits 10 text → list_all is_digit text ≡ true
 all_digits [] h = refl
 all_digits (c ∷ cs) h =

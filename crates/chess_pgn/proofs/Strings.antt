@@ -57,7 +57,7 @@ string_other c (d ∷ rest) line quote = rw (quote, line) (by_test (eqb c 92))
     by_test true = by_kept (eqb d 10)
     by_test false = refl
 
--- ---- at a place of the text, as code meets it
+-- ---- at an offset of the text, as code meets it
 
 it : {n m : ℕ} → n ≡ m → eqb n m ≡ true
 it {n} {m} e = grind (arith, nat_tests)

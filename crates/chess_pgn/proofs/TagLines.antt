@@ -1,4 +1,4 @@
--- Lines of tags, one behind another.
+-- Lines of tags, one after the other.
 use Rattle.std.proofs.Common.{◌≡◌, ℕ, ◌+◌, ◌<◌, List, [], ◌∷◌, ◌++◌, length, get_or, take, refl, sym, ap, subst, ◌∙◌}
 use Rattle.std.specs.List.{flat_map}
 use Rattle.byte_devices.specs.Devices.{OutputState, BreaksOff}

@@ -1,4 +1,4 @@
--- The places that a token tells are in the text.
+-- The offsets that a token gives are in the text.
 use Rattle.std.proofs.Common.{◌≡◌, ℕ, zero, suc, ◌-◌, ◌≤◌, Bool, true, false, eqb, List, [], ◌∷◌, length, take, drop, Option, Some, None, IfSome, refl, sym, ap, subst, ◌∙◌, arith}
 use Rattle.std.specs.Prelude.{◌&&◌, ◌||◌}
 use Rattle.std.specs.List.{prefix_len, take_while}
@@ -102,7 +102,7 @@ within begins c rest =
 same_first : (s t : ℕ × Token) (ss ts : List (ℕ × Token)) → s ∷ ss ≡ t ∷ ts → s ≡ t
 same_first s t ss ts e = cc
 
--- of a token that stands in a text
+-- of a token that is in a text
 pub token_within : (text : List ℕ) (at : ℕ) (token : Token) (ts : List (ℕ × Token)) → at ≤ length text
     → tokens_from text at ≡ (length text - at, token) ∷ ts → IsWithin (length text - at) token
 token_within text at token ts h is = by_rest (drop at text) refl

@@ -34,7 +34,7 @@ use Rattle.chess_pgn.proofs.PgnTags.{is_in_line, bare_in_line, is_tag_name, tag_
 use Rattle.chess_pgn.proofs.PgnWords.{word_token, number_kind, decimal_digits, decimal_some, number_bytes}
 use Rattle.chess_pgn.proofs.Walk.{enough, shorter}
 
--- the variant told from a text on
+-- the variant named from a text on
 abbrev pub told_on : Variant → Bool → List ℕ → Variant
 told_on v begins text = variant_told v (tokens_of (length text) begins text)
 
@@ -148,7 +148,7 @@ last_tells Fischerandom t rest =
     (variant_tag Normal)
     (line_tells Fischerandom Fischerandom _ true [] [] rest (empty_line Fischerandom) refl))
 
--- the tags behind the seven, and the empty line
+-- the tags after the seven, and the empty line
 further_tells : (start : Setup) (t : Termination) → IsSound start → (rest : List ℕ)
     → told_on Normal true (ended [] (further_lines start t ++ [] ∷ []) ++ rest) ≡ told_on start.variant true rest
 further_tells start t sound rest =

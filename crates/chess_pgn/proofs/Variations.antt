@@ -43,7 +43,7 @@ in_brace left begins depth (c ∷ rest) = by_test (eqb c 125) (in_brace left fal
     by_test true more = refl
     by_test false more = more
 
--- a part, and how many variations are open behind it
+-- a part, and how many variations are open after it
 abbrev pub behind : ℕ → Bool → Option (List ℕ) → Option ℕ → Token × List ℕ
 behind left begins None inner = (Unclosed_comment left, [])
 behind left begins (Some rest) None = (Skip, rest)
@@ -126,7 +126,7 @@ part_unclosed begins depth xs h part =
     part_first begins depth xs h
     ∙ ap (λ o. behind (length xs) (eqb (get_or xs 0 0) 10) o (depth_behind depth (get_or xs 0 0))) (sym part)
 
--- a part, behind which the outermost variation is closed, or still open
+-- a part, after which the outermost variation is closed, or still open
 pub part_behind : (begins : Bool) (depth : ℕ) (xs rest : List ℕ) (inner : Option ℕ) → 1 ≤ length xs
     → Some rest ≡ behind_part begins (get_or xs 0 0) (take (length xs - 1) (drop 1 xs))
     → inner ≡ depth_behind depth (get_or xs 0 0) → variation_at Plain begins (suc depth) xs ≡ behind (length xs)

@@ -5,7 +5,7 @@ use Rattle.std.proofs.lemmas.List.{length-append, length-drop, take-append-drop,
 use Rattle.chess_pgn.specs.Tokens.{Token, token_at, tokens_of, begins_line, tokens_from}
 use Rattle.chess_pgn.proofs.Cuts.{Left, token_left, token_ten}
 
--- what stands behind a token: nothing, or a rest before which stands a byte that is 10 exactly where the token's first
+-- what follows a token: nothing, or a rest before which is a byte that is 10 exactly where the token's first
 -- is
 record Behind (c : ℕ) (rest behind : List ℕ) : Type 0 where
   front : List ℕ
@@ -68,7 +68,7 @@ no_token text at h = by_rest (drop at text) h
     by_rest [] k = none_left (length text) (begins_line text at)
     by_rest (c ∷ rest) k = absurd (omega (arith, k))
 
--- the place behind a byte: how a line begins there, and what stands from there on
+-- the offset after a byte: how a line begins there, and what is from there on
 at_cut : (before behind : List ℕ) (last : ℕ)
     → (drop (length (before ++ last ∷ behind) - length behind) (before ++ last ∷ behind) ≡ behind)
     × (begins_line (before ++ last ∷ behind) (length (before ++ last ∷ behind) - length behind) ≡ eqb last 10)
@@ -96,7 +96,7 @@ IsPlace : List ℕ → ℕ → List ℕ → Type 0
 IsPlace behind last text = (drop (length text - length behind) text ≡ behind)
     × (begins_line text (length text - length behind) ≡ eqb last 10)
 
--- the tokens behind one that begins with c
+-- the tokens after one that begins with c
 tokens_behind : (text : List ℕ) (at c : ℕ) (rest behind : List ℕ) → drop at text ≡ c ∷ rest → Rest c rest behind
     → tokens_of (length rest) (eqb c 10) behind ≡ tokens_from text (length text - length behind)
 unfolding tokens_from IsPlace

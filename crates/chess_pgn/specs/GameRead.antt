@@ -1,6 +1,6 @@
 -- A game read from a text (PGN standard of 1994, sections 7 to 9; which words are taken is this project's own). Token
 -- after token: the tag FEN gives the start, a move's word its move by its reading in the position reached, and an
--- outcome ends the game. The first token that can't be taken is the fault, with its place.
+-- outcome ends the game. The first token that can't be taken is the fault, with its offset.
 use Rattle.std.specs.Prelude.{ℕ, ◌+◌, ◌-◌, nat_lt, ◌||◌, Bool, true, false, if◌then◌else◌, List, [], ◌∷◌, length, Option, Some, None, is_some, Result, Ok, Err, codes}
 use Rattle.std.specs.Str.{bytes_eq, str_eq_ignore_ascii_case}
 use Rattle.chess_base.specs.declared.fault.FenFault.{FenFault}
@@ -28,7 +28,7 @@ use Rattle.chess_pgn.specs.Tokens.{Token, Skip, Tag, Word, Bad_tag, Unclosed_com
 use Rattle.chess_pgn.specs.Words.{kind_of}
 
 -- the game so far. It is met where it had a tag, number or move, and begun where it had a number or move; the
--- termination is what its tags told
+-- termination is what its tags said
 pub record SoFar : Type 0 where
   pub state : State
   pub is_met : Bool
@@ -45,13 +45,13 @@ pub data Step : Type 0 where
   On : (game : SoFar) → Step
   Stop : (read : GameRead) → Step
 
--- reading ends at a place that can't be read or played: the game holds the moves before it and nothing declared
+-- reading ends at an offset that can't be read or played: the game holds the moves before it and nothing declared
 abbrev pub fails : SoFar → PgnFaultKind → ℕ → Step
 fails g kind place = Stop (record { state = g.state; answer = Err (record { kind = kind; place = place }) })
 
 -- ---- words
 
--- the outcome told at a game's end is declared where there is no verdict and it is not `*`
+-- the outcome named at a game's end is declared where there is no verdict and it is not `*`
 abbrev pub declared_behind : Bool → Outcome → Option Declared
 declared_behind true o = None
 declared_behind false WhiteWins = Some (record { outcome = WhiteWins; comment = [] })
@@ -59,20 +59,20 @@ declared_behind false BlackWins = Some (record { outcome = BlackWins; comment = 
 declared_behind false Draw = Some (record { outcome = Draw; comment = [] })
 declared_behind false Unfinished = None
 
--- the game ends with this outcome, at a place behind its text
+-- the game ends with this outcome, at an offset after its text
 abbrev pub ends : SoFar → Outcome → ℕ → Step
 ends g o place = Stop (record {
   state = with_declared g.state (declared_behind (is_some (verdict_now g.state)) o);
   answer = Ok (Some (record { outcome = o; termination = g.termination; place = place }));
 })
 
--- no move is played behind a verdict, and none past the limit
+-- no move is played after a verdict, and none past the limit
 abbrev pub unless_full : ℕ → SoFar → ℕ → Step → Step
 unless_full limit g place next =
     if is_some (verdict_now g.state) then fails g AfterEnd place
     else (if nat_lt (length g.state.moves) limit then next else fails g TooLong place)
 
--- a word that is read as a move, at that place
+-- a word that is read as a move, at that offset
 abbrev pub move_step : ℕ → SoFar → ℕ → Reading → Step
 move_step limit g place reads.NotAMove = fails g BadToken place
 move_step limit g place (reads.Move m) = unless_full limit g place
@@ -80,7 +80,7 @@ move_step limit g place (reads.Move m) = unless_full limit g place
 move_step limit g place reads.Ambiguous = unless_full limit g place (fails g AmbiguousMove place)
 move_step limit g place reads.NoSuch = unless_full limit g place (fails g IllegalMove place)
 
--- a word at that place
+-- a word at that offset
 abbrev pub word_step : ℕ → SoFar → ℕ → List ℕ → WordKind → Step
 word_step limit g place word (End o) = ends g o (place + length word)
 word_step limit g place word Number =
@@ -90,17 +90,17 @@ word_step limit g place word Move = move_step limit g place (reading (current g.
 
 -- ---- tags
 
--- a start that a FEN spells at that place
+-- a start that a FEN at that offset denotes
 abbrev pub fen_step : SoFar → ℕ → Result Setup FenFault → Step
 fen_step g place (Ok start) =
     On (record { state = from_start start; is_met = true; is_begun = g.is_begun; termination = g.termination })
 fen_step g place (Err fault) = fails g BadFen place
 
--- what is told of the game's end behind a tag: the last one counts
+-- what is known of the game's end after a tag: the last one counts
 abbrev pub told_behind : Option Termination → List ℕ → List ℕ → Option Termination
 told_behind before name text = if bytes_eq name (codes "Termination") then termination_named text else before
 
--- a tag whose string begins at that place
+-- a tag whose string begins at that offset
 abbrev pub tag_step : SoFar → List ℕ → List ℕ → ℕ → Step
 tag_step g name text place =
     if bytes_eq name (codes "FEN") then fen_step g place (fen_reading_as g.state.start.variant text)
@@ -161,14 +161,14 @@ variant_named text =
     || str_eq_ignore_ascii_case text (codes "chess960") then Fischerandom
     else Normal
 
--- the variant behind a word, if more tags may follow it: behind marks alone
+-- the variant after a word, if more tags may follow it: after marks alone
 abbrev pub behind_word : Variant → WordKind → Option Variant
 behind_word v Marks = Some v
 behind_word v Number = None
 behind_word v Move = None
 behind_word v (End o) = None
 
--- the variant behind a token, if more tags may follow it
+-- the variant after a token, if more tags may follow it
 abbrev pub told_by : Variant → Token → Option Variant
 told_by v Skip = Some v
 told_by v (Tag name text left) = Some (if bytes_eq name (codes "Variant") then variant_named text else v)
@@ -178,12 +178,12 @@ told_by v (Unclosed_comment left) = None
 told_by v Unclosed_variation = None
 told_by v Bad = None
 
--- the variant so far where no more tags may follow, else what `later` tells
+-- the variant so far where no more tags may follow, else what `later` gives
 abbrev pub told_next : Variant → Option Variant → (Variant → Variant) → Variant
 told_next v None later = v
 told_next v (Some u) later = later u
 
--- the variant that tokens tell
+-- the variant that tokens name
 abbrev pub variant_told : Variant → List (ℕ × Token) → Variant
 variant_told v [] = v
 variant_told v (t ∷ ts) = told_next v (told_by v t.1) (λ u. variant_told u ts)
@@ -194,6 +194,6 @@ variant_told v (t ∷ ts) = told_next v (told_by v t.1) (λ u. variant_told u ts
 abbrev pub tokens_read : ℕ → ℕ → List (ℕ × Token) → GameRead
 tokens_read limit total tokens = game_of limit total (nothing_read (variant_told Normal tokens)) tokens
 
--- what a text is read as from a place on
+-- what a text is read as from an offset on
 unfoldable pub pgn_read : ℕ → List ℕ → ℕ → GameRead
 pgn_read limit text at = tokens_read limit (length text) (tokens_from text (first_place text at))

@@ -47,11 +47,11 @@ abbrev pub variant_lines : Variant → List (List ℕ)
 variant_lines Normal = []
 variant_lines Fischerandom = tag_line (codes "Variant") (codes "fischerandom") ∷ []
 
--- the tag that tells how the game ended, and that of the variant
+-- the tag that says how the game ended, and that of the variant
 abbrev pub last_lines : Variant → Termination → List (List ℕ)
 last_lines v termination = tag_line (codes "Termination") (termination_text termination) ∷ variant_lines v
 
--- the tags behind the seven, in the order of their names' bytes
+-- the tags after the seven, in the order of their names' bytes
 abbrev pub further_lines : Setup → Termination → List (List ℕ)
 further_lines start termination = start_lines_in start.variant start ++ last_lines start.variant termination
 
@@ -61,7 +61,7 @@ tag_lines t s = roster_lines t (outcome_now s) ++ further_lines s.start (termina
 
 -- ---- the tokens of the moves
 
--- what stands before a move: the position's number before White's, and before a first move by Black
+-- what is written before a move: the position's number before White's, and before a first move by Black
 abbrev pub number_token : Colour → Bool → ℕ → List (List ℕ)
 number_token White is_first number = (decimal number ++ codes ".") ∷ []
 number_token Black true number = (decimal number ++ codes "...") ∷ []
@@ -80,19 +80,19 @@ move_tokens is_first p (m ∷ ms) = tokens_of_move is_first p m ++ move_tokens f
 abbrev pub game_tokens : State → List (List ℕ)
 game_tokens s = move_tokens true s.start s.moves ++ outcome_text (outcome_now s) ∷ []
 
--- ---- tokens put into lines that go on: their text, and how many bytes the line has behind them
+-- ---- tokens put into lines that go on: their text, and how many bytes the line has after them
 
 -- what the tokens put into the text
 abbrev pub placed_all : List ℕ → ℕ → List (List ℕ) → List ℕ
 placed_all prefix column [] = []
 placed_all prefix column (t ∷ ts) = placed prefix column t ++ placed_all prefix (column_behind column t) ts
 
--- how many bytes the last line has behind them
+-- how many bytes the last line has after them
 abbrev pub column_behind_all : ℕ → List (List ℕ) → ℕ
 column_behind_all column [] = column
 column_behind_all column (t ∷ ts) = column_behind_all (column_behind column t) ts
 
--- ---- the whole text: tags, an empty line, the moves in filled lines, an empty line; each line behind a prefix
+-- ---- the whole text: tags, an empty line, the moves in filled lines, an empty line; each line after a prefix
 
 -- a game's text
 unfoldable pub pgn : List ℕ → Tags → State → List ℕ

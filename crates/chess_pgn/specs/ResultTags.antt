@@ -45,6 +45,6 @@ last_result total before [] = before
 last_result total before (t ∷ ts) =
     if may_precede_tags t.1 then last_result total (result_after total before t.1) ts else before
 
--- the tag Result of the game that is read from a place on
+-- the tag Result of the game that is read from an offset on
 abbrev pub result_tag_of : List ℕ → ℕ → Option ResultTag
 result_tag_of text at = last_result (length text) None (tokens_from text (first_place text at))

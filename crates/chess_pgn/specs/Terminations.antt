@@ -1,4 +1,4 @@
--- How a game ended, as the tag Termination tells it (PGN standard of 1994, section 9.8.1).
+-- How a game ended, as the tag Termination says (PGN standard of 1994, section 9.8.1).
 use Rattle.std.specs.Prelude.{ℕ, List, [], ◌∷◌, Option, find, codes}
 use Rattle.std.specs.Str.{str_eq_ignore_ascii_case}
 use Rattle.chess_game.specs.declared.results.Outcome.{Outcome}

@@ -1,16 +1,16 @@
 -- The tokens of a game's text as it is read (PGN standard of 1994, sections 5 to 7 and 8.2): white space, dots,
--- comments, `%` lines, `$` glyphs and variations are skipped; tags and words are told; the first token that can't be
+-- comments, `%` lines, `$` glyphs and variations are skipped; tags and words are kept; the first token that can't be
 -- read is the last. This project's own: the bytes of a word; that a `%` line is skipped also in a tag and in a
--- variation; that a string may have tabs and more than 255 bytes; and that the bytes EF BB BF at place 0 are skipped.
+-- variation; that a string may have tabs and more than 255 bytes; and that the bytes EF BB BF at offset 0 are skipped.
 use Rattle.std.specs.Prelude.{ℕ, zero, suc, ◌-◌, Bool, true, false, not, ◌&&◌, ◌||◌, List, [], ◌∷◌, ◌++◌, length, take, drop, slice_index, Option, Some, None, ◌==◌, nat_le, if◌then◌else◌}
 use Rattle.chess_base.specs.Letters.{is_digit, is_letter, byte, carriage_return, new_line, space, tab}
 use Rattle.std.specs.List.{prefix_len, position_or_len, take_while}
 use Rattle.std.specs.Str.{bytes_eq}
 
--- what a token is. A place in it is told by how many bytes of the text are left there
+-- what a token is. An offset in it is given by how many bytes of the text are left there
 pub data Token : Type 0 where
   Skip : Token
-  -- a tag's name, the bytes between its quotes as they stand, and how many are left at the first of them
+  -- a tag's name, the bytes between its quotes as they are, and how many are left at the first of them
   Tag : (name : List ℕ) (text : List ℕ) (left : ℕ) → Token
   Word : (bytes : List ℕ) → Token
   Bad_tag : Token
@@ -44,12 +44,12 @@ is_word_byte c =
 abbrev pub line_end : List ℕ → List ℕ
 line_end text = drop (position_or_len (λ c. c == new_line) text) text
 
--- behind the first closing brace
+-- the text after the first closing brace
 abbrev pub behind_brace : List ℕ → Option (List ℕ)
 behind_brace [] = None
 behind_brace (c ∷ rest) = if c == byte "}" then Some rest else behind_brace rest
 
--- behind white space and `%` lines: in such a line or not, where a line begins or not
+-- the text after white space and `%` lines: in such a line or not, where a line begins or not
 abbrev pub behind_gap : Bool → Bool → List ℕ → List ℕ
 behind_gap skips begins [] = []
 behind_gap true begins (c ∷ rest) = behind_gap (not (c == new_line)) true rest
@@ -59,14 +59,14 @@ behind_gap false begins (c ∷ rest) = if begins
 
 -- ---- variations
 
--- where a variation's bytes stand: in no comment, in a brace comment that began with so many bytes left, or in a line
+-- where a variation's bytes are: in no comment, in a brace comment that began with so many bytes left, or in a line
 -- that is skipped to its end
 pub data Inside : Type 0 where
   Plain : Inside
   Brace : (left : ℕ) → Inside
   Line : Inside
 
--- a variation behind its `(`, where so many are open
+-- a variation after its `(`, where so many are open
 abbrev pub variation_at : Inside → Bool → ℕ → List ℕ → Token × List ℕ
 variation_at inside line_begins zero text = (Skip, text)
 variation_at Plain line_begins (suc depth) [] = (Unclosed_variation, [])
@@ -87,12 +87,12 @@ variation_at Line line_begins (suc depth) (c ∷ rest) =
 
 -- ---- tags
 
--- a string that goes on behind these bytes
+-- a string that goes on after these bytes
 abbrev pub onto : List ℕ → Option (List ℕ × List ℕ) → Option (List ℕ × List ℕ)
 onto front None = None
 onto front (Some found) = Some (front ++ found.0, found.1)
 
--- a string's bytes up to its closing quote, and what stands behind it; none where a line or the text ends before. A
+-- a string's bytes up to its closing quote, and what follows it; none where a line or the text ends before. A
 -- backslash keeps the next byte from ending it
 abbrev pub string_at : List ℕ → Option (List ℕ × List ℕ)
 string_at [] = None
@@ -103,49 +103,49 @@ string_at (c ∷ d ∷ rest) =
     else (if c == byte "\\" then (if d == new_line then None else onto (c ∷ d ∷ []) (string_at rest))
     else onto (c ∷ []) (string_at (d ∷ rest))))
 
--- behind this byte
+-- the text after this byte
 abbrev pub behind_byte : ℕ → List ℕ → Option (List ℕ)
 behind_byte b [] = None
 behind_byte b (c ∷ rest) = if c == b then Some rest else None
 
--- behind a gap and this byte
+-- the text after a gap and this byte
 abbrev pub behind_next : ℕ → List ℕ → Option (List ℕ)
 behind_next b text = behind_byte b (behind_gap false false text)
 
--- a tag with what stands behind its bracket
+-- a tag with what follows its bracket
 abbrev pub closed : List ℕ → ℕ → List ℕ → Option (List ℕ) → Token × List ℕ
 closed name left text None = (Bad_tag, [])
 closed name left text (Some rest) = (Tag name text left, rest)
 
--- a tag with its string, if that is closed; its closing bracket stands behind a gap
+-- a tag with its string, if that is closed; its closing bracket comes after a gap
 abbrev pub with_text : List ℕ → ℕ → Option (List ℕ × List ℕ) → Token × List ℕ
 with_text name left None = (Bad_tag, [])
 with_text name left (Some found) = closed name left found.0 (behind_next (byte "]") found.1)
 
--- a tag with what stands behind its opening quote, if there is one
+-- a tag with what follows its opening quote, if there is one
 abbrev pub with_string : List ℕ → Option (List ℕ) → Token × List ℕ
 with_string name None = (Bad_tag, [])
 with_string name (Some string) = with_text name (length string) (string_at string)
 
--- a tag with its name, which has a byte at least, and what stands behind that
+-- a tag with its name, which has a byte at least, and what follows that
 abbrev pub with_name : List ℕ → List ℕ → Token × List ℕ
 with_name [] rest = (Bad_tag, [])
 with_name (n ∷ ns) rest = with_string (n ∷ ns) (behind_next (byte "\"") rest)
 
--- a tag behind its opening bracket: a name, a string and the closing bracket, with gaps before each
+-- a tag after its opening bracket: a name, a string and the closing bracket, with gaps before each
 abbrev pub tag_at : List ℕ → Token × List ℕ
 tag_at text = let inner = behind_gap false false text in with_name (take_while is_name_byte inner)
     (drop (prefix_len is_name_byte inner) inner)
 
 -- ---- tokens
 
--- a comment in braces, with what stands behind it, if it is closed
+-- a comment in braces, with what follows it, if it is closed
 abbrev pub comment_at : ℕ → Option (List ℕ) → Token × List ℕ
 comment_at left None = (Unclosed_comment left, [])
 comment_at left (Some rest) = (Skip, rest)
 
--- the first token of a text that isn't empty, where a line begins or not, and what stands behind it; nothing is read
--- behind one that can't be read
+-- the first token of a text that isn't empty, where a line begins or not, and what follows it; nothing is read
+-- after one that can't be read
 unfoldable pub token_at : Bool → ℕ → List ℕ → Token × List ℕ
 token_at line_begins c rest =
     if line_begins && c == byte "%" then (Skip, line_end rest)
@@ -169,16 +169,16 @@ tokens_of (suc most) line_begins [] = []
 tokens_of (suc most) line_begins (c ∷ rest) = let t =
     token_at line_begins c rest in (length (c ∷ rest), t.0) ∷ tokens_of most (c == new_line) t.1
 
--- ---- a text from a place on
+-- ---- a text from an offset on
 
--- the bytes EF BB BF at place 0 are skipped
+-- the bytes EF BB BF at offset 0 are skipped
 abbrev pub first_place : List ℕ → ℕ → ℕ
 first_place text at = if (at == 0) && bytes_eq (take 3 text) (239 ∷ 187 ∷ 191 ∷ []) then 3 else at
 
--- the text's first byte stands there, or byte 10 before it
+-- the text's first byte is there, or byte 10 before it
 abbrev pub begins_line : List ℕ → ℕ → Bool
 begins_line text place = (place == 0) || (slice_index text (place - 1) == new_line)
 
--- the tokens of a text from a place on. A token takes at least a byte, so no text has more tokens than bytes
+-- the tokens of a text from an offset on. A token takes at least a byte, so no text has more tokens than bytes
 unfoldable pub tokens_from : List ℕ → ℕ → List (ℕ × Token)
 tokens_from text place = tokens_of (length text) (begins_line text place) (drop place text)

@@ -10,7 +10,7 @@ use Rattle.std.specs.List.{join_with_byte, flat_map, AllByRecursion}
 abbrev pub line_text : List (List ℕ) → List ℕ
 line_text tokens = join_with_byte space tokens
 
--- no line has more than 79 bytes behind its prefix, and none could also have taken the first token of the next
+-- no line has more than 79 bytes after its prefix, and none could also have taken the first token of the next
 abbrev pub AreFilled : List (List (List ℕ)) → Type 0
 AreFilled [] = Unit {0}
 AreFilled ([] ∷ lines) = ⊥
@@ -24,7 +24,7 @@ AreFilled ((t ∷ ts) ∷ (next ∷ us) ∷ lines) =
 abbrev pub tokens_in : List (List (List ℕ)) → List (List ℕ)
 tokens_in lines = flat_map (λ line. line) lines
 
--- the text has the tokens in filled lines, each behind a prefix and ended by byte 10
+-- the text has the tokens in filled lines, each after a prefix and ended by byte 10
 pub record IsMoveText (prefix : List ℕ) (tokens : List (List ℕ)) (text : List ℕ) : Type 0 where
   pub lines : List (List (List ℕ))
   pub filled : AreFilled lines
@@ -44,7 +44,7 @@ placed prefix column token =
     else (if nat_le (column + 1 + length token) 79 then space ∷ token
     else new_line ∷ prefix ++ token)
 
--- how many bytes the line has behind it
+-- how many bytes the line has after it
 abbrev pub column_behind : ℕ → List ℕ → ℕ
 column_behind column token =
     if column == 0 then length token
@@ -55,7 +55,7 @@ column_behind column token =
 abbrev pub line_close : ℕ → List ℕ
 line_close column = if column == 0 then [] else new_line ∷ []
 
--- the text of tokens behind a line of so many bytes
+-- the text of tokens after a line of so many bytes
 abbrev pub filled_from : List ℕ → ℕ → List (List ℕ) → List ℕ
 filled_from prefix column [] = line_close column
 filled_from prefix column (t ∷ ts) = placed prefix column t ++ filled_from prefix (column_behind column t) ts
@@ -87,6 +87,6 @@ escaped text = flat_map (λ c. if c == byte "\"" || c == byte "\\" then byte "\\
 abbrev pub tag_line : List ℕ → List ℕ → List ℕ
 tag_line name text = codes "[" ++ name ++ codes " \"" ++ escaped text ++ codes "\"]"
 
--- lines, each behind a prefix and ended by byte 10
+-- lines, each after a prefix and ended by byte 10
 abbrev pub ended : List ℕ → List (List ℕ) → List ℕ
 ended prefix lines = flat_map (λ line. prefix ++ line ++ new_line ∷ []) lines

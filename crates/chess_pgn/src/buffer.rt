@@ -36,7 +36,7 @@ impl TextBuffer {
         }
     }
 
-    // Writes what waits, unless there is room behind it for so many bytes.
+    // Writes what waits, unless there is room after it for so many bytes.
     fn make_room<W: Output>(&mut self, writer: &mut W, len: usize) -> Result<(), WriteFault>
         ensures added { Adds (W.seen writer.old) (W.seen writer.new) self.old self.new result [] }
         ensures room { OnOk result (len ≤ BUFFER_LEN → length self.new + len ≤ BUFFER_LEN) }
@@ -49,7 +49,7 @@ impl TextBuffer {
         Ok(())
     }
 
-    /// Adds a text behind what waits.
+    /// Adds a text after what waits.
     ///
     /// # Errors
     /// Where the writer failed; a beginning of what waited and of the text was taken.
@@ -64,7 +64,7 @@ impl TextBuffer {
         Ok(())
     }
 
-    /// Adds texts, one behind another.
+    /// Adds texts, one after the other.
     ///
     /// # Errors
     /// Where the writer failed; a beginning of what waited and of the texts was taken.

@@ -14,7 +14,7 @@ use chess_fen::written_is_spelled;
 use chess_text::san_is_a_word;
 
 /// The text that tokens of 1 to 79 bytes make from left to right has them in filled lines, and no other text has: no
-/// line has more than 79 bytes behind the prefix, and none could also have taken the first token of the next.
+/// line has more than 79 bytes after the prefix, and none could also have taken the first token of the next.
 pub fn lines_are_filled()
     ensures filled { (prefix : List ℕ) (tokens : List (List ℕ)) → AreShort tokens
         → IsMoveText prefix tokens (move_text_of prefix tokens) }
@@ -32,15 +32,16 @@ pub fn games_are_in_filled_lines()
     san_is_a_word();
 }
 
-/// A game that is read is that of the first tokens of its text, said with no reader: which tokens are taken, that its
-/// start is what their last FEN tag spells, that each move word's reading in the position reached is its move, what
-/// their last tag `Termination` names, and which token ended it or has the fault, with the place that is told.
+/// A game that is read is that of the first tokens of its text, defined with no reader: which tokens are taken, that
+/// its start is what their last FEN tag denotes, that each move word's reading in the position reached is its move,
+/// what their last tag `Termination` names, and which token ended it or has the fault, with the offset that is
+/// returned.
 pub fn games_are_of_tokens()
     ensures { GamesAreOfTokens }
 {}
 
-/// The text of a game that the limit admits is read back where it begins, whatever stands before and after it: the
-/// start, the moves and the outcome are those of the game, and the place told is the one behind its termination.
+/// The text of a game that the limit admits is read back where it begins, whatever comes before and after it: the
+/// start, the moves and the outcome are those of the game, and the offset returned is the one after its termination.
 ///
 /// A result that was declared comes back without its comment, since the text holds none. The tags are not kept.
 pub fn pgn_is_read_back()
@@ -54,13 +55,14 @@ pub fn pgn_is_read_back()
     let _sound = initial.setup();
 }
 
-/// Games of normal chess are written, and texts in which no tag `Variant` stands before the first number, move or
-/// outcome are read, as is said for normal chess alone: from its initial position, and each FEN as one of normal chess.
+/// Games of normal chess are written, and texts with no tag `Variant` before the first number, move or
+/// outcome are read, as is defined for normal chess alone: from its initial position, and each FEN as one of normal
+/// chess.
 pub fn normal_is_kept()
     ensures { NormalIsKept }
 {}
 
-/// A fault's place is in the text, and not before the place where reading began.
+/// A fault's offset is in the text, and not before the offset where reading began.
 pub fn faults_have_places()
     ensures { FaultsHavePlaces }
 {}

@@ -1,4 +1,4 @@
-//! Lines of a game's text, each behind the same prefix.
+//! Lines of a game's text, each after the same prefix.
 
 ghost use Rattle.chess_pgn.specs.declared.lines.TheConstants.{LINE_LEN};
 ghost use Rattle.std.specs.Prelude.{◌≡◌, ◌+◌, ◌≤◌, ◌<◌, [], ◌∷◌, ◌++◌, length};
@@ -13,7 +13,7 @@ use byte_devices::{Output, WriteFault};
 // The most bytes of a line of moves, its prefix and its end not counted (PGN standard of 1994, section 4.3).
 const LINE_LEN: usize = 79;
 
-/// Writes lines, each behind a prefix. Tokens go into the line that is begun, which has `column` bytes
+/// Writes lines, each after a prefix. Tokens go into the line that is begun, which has `column` bytes
 /// so far; 0 is no line.
 #[derive(Drop)]
 pub(crate) struct LineWriter<'a> {

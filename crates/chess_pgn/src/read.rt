@@ -27,12 +27,12 @@ use chess_text::{Reading, read_move};
 /// How a game's text ended.
 #[derive(Clone, Copy, Debug, PartialEq, Eq)]
 pub struct PgnEnd {
-    /// The outcome that the termination tells; where there is a verdict, the game has the verdict's.
+    /// The outcome that the termination names; where there is a verdict, the game has the verdict's.
     pub outcome: Outcome,
-    /// How the game ended, as its last tag `Termination` tells; `None` where it has none, or one with another text. It
+    /// How the game ended, as its last tag `Termination` says; `None` where it has none, or one with another text. It
     /// is not compared with the outcome.
     pub termination: Option<Termination>,
-    /// The byte behind the termination, from the text's first byte on.
+    /// The byte after the termination, from the text's first byte on.
     pub place: usize,
 }
 
@@ -42,7 +42,7 @@ pub enum PgnFaultKind {
     /// A bracket that begins no tag.
     #[error("a bracket begins no tag")]
     BadTag,
-    /// A FEN that spells no sound position; the place is the first byte of its string.
+    /// A FEN that denotes no sound position; the offset is that of the first byte of its string.
     #[error("the FEN spells no position")]
     BadFen,
     /// A byte that begins no token, or a word that is no move, number or termination.
@@ -54,16 +54,16 @@ pub enum PgnFaultKind {
     /// A text that several legal moves fit.
     #[error("several legal moves fit")]
     AmbiguousMove,
-    /// A move behind the game's end.
+    /// A move after the game's end.
     #[error("the move is behind the end of the game")]
     AfterEnd,
     /// A move past the game's limit.
     #[error("the game has more moves than can stand")]
     TooLong,
-    /// A comment without its closing brace; the place is its opening brace.
+    /// A comment without its closing brace; the offset is that of its opening brace.
     #[error("the comment is not closed")]
     UnclosedComment,
-    /// A variation without its end; the place is its outermost bracket.
+    /// A variation without its end; the offset is that of its outermost bracket.
     #[error("the variation is not closed")]
     UnclosedVariation,
     /// No termination before the next game's tags or the text's end.
@@ -85,9 +85,9 @@ pub struct PgnFault {
 struct Progress {
     // Whether a tag, number or move was met.
     is_met: bool,
-    // Whether a number or move was: behind one no tag belongs to this game.
+    // Whether a number or move was read: after one no tag belongs to this game.
     is_begun: bool,
-    // What the last tag Termination told.
+    // What the last tag Termination said.
     termination: Option<Termination>,
 }
 
@@ -103,7 +103,7 @@ impl Progress {
         }
     }
 
-    // Behind a number or move.
+    // The progress after a number or move.
     fn begun(self) -> Self
         ensures { result ≡ record { is_met = true; is_begun = true; termination = self.termination } }
     {
@@ -114,7 +114,7 @@ impl Progress {
         }
     }
 
-    // Behind a tag.
+    // The progress after a tag.
     fn behind_tag(self, tag: &Tag<'_>) -> Self
         ensures { result ≡ record {
           is_met = true;
@@ -130,7 +130,7 @@ impl Progress {
     }
 }
 
-// What is told of the game's end behind a tag: the last tag Termination counts.
+// What is known of the game's end after a tag: the last tag Termination counts.
 fn told_behind(before: Option<Termination>, tag: &Tag<'_>) -> Option<Termination>
     ensures { result ≡ told_behind before tag.now.name.now tag.now.text.now }
 {
@@ -156,8 +156,8 @@ fn is_decided<B: Board>(game: &Game<B>) -> bool
     game.verdict().is_some()
 }
 
-// Plays a legal move that is written at a place. The verdict is asked with the help of that move, which costs less than
-// to look for one.
+// Plays a legal move that is written at an offset. The verdict is asked with the help of that move, which costs less
+// than to look for one.
 fn play_move<B: Board>(
     game: &mut Game<B>,
     progress: Progress,
@@ -182,7 +182,7 @@ fn play_move<B: Board>(
     Err(PgnFault { kind, place })
 }
 
-// Plays the move that a word at a place is read as.
+// Plays the move that a word at an offset is read as.
 fn play_word<B: Board>(
     game: &mut Game<B>,
     progress: Progress,
@@ -218,7 +218,7 @@ fn end_game<B: Board>(game: &mut Game<B>, outcome: Outcome)
     }
 }
 
-// Reads a word that stands at a place.
+// Reads a word at an offset.
 #[tactic(auto, using(crate::proofs::GameReads::termination_has_bytes))]
 fn read_word<B: Board>(
     game: &mut Game<B>,
@@ -249,7 +249,7 @@ fn read_word<B: Board>(
     }
 }
 
-// Reads a tag whose string begins at a place.
+// Reads a tag whose string begins at an offset.
 fn read_tag<B: Board>(
     game: &mut Game<B>,
     progress: Progress,
@@ -275,7 +275,7 @@ fn read_tag<B: Board>(
     Ok(Step::On(progress.behind_tag(tag)))
 }
 
-// Reads a token that stands at a place of a text of so many bytes.
+// Reads a token at an offset of a text of so many bytes.
 fn read_token<B: Board>(
     game: &mut Game<B>,
     progress: Progress,
@@ -302,7 +302,7 @@ fn read_token<B: Board>(
     }
 }
 
-// What is told where no token can be read at a place of a text of so many bytes.
+// What is reported where no token can be read at an offset of a text of so many bytes.
 fn told_fault(fault: TokenFault, progress: Progress, len: usize, place: usize) -> PgnFault
     requires within { IsWithin (len - place) (fault_seen fault) }
     requires place { place ≤ len }
@@ -347,7 +347,7 @@ fn variant_named(text: &[u8]) -> Variant
     }
 }
 
-// The variant behind a token, if more tags may follow it.
+// The variant after a token, if more tags may follow it.
 pub(crate) fn told_by(variant: Variant, token: &Token<'_>) -> Option<Variant>
     ensures { result ≡ told_by variant (token_seen token.now) }
 {
@@ -367,7 +367,7 @@ pub(crate) fn told_by(variant: Variant, token: &Token<'_>) -> Option<Variant>
     }
 }
 
-// The variant that the tags name from a place on: the last that they name before a number, move or termination.
+// The variant that the tags name from an offset on: the last that they name before a number, move or termination.
 fn told_variant(text: &[u8], at: usize) -> Variant
     requires { at ≤ length text.now }
     ensures { result ≡ variant_told Normal (tokens_from text.now at) }
@@ -388,7 +388,8 @@ fn told_variant(text: &[u8], at: usize) -> Variant
     }
 }
 
-// Behind the white space and dots from a place on. They are tokens too, but a game is read alike without them.
+// The offset after the white space and dots from an offset on. They are tokens too, but a game is read alike without
+// them.
 fn behind_blanks(text: &[u8], at: usize) -> usize
     requires { at ≤ length text.now }
     ensures alike { ReadsAlike text.now at result }
@@ -449,14 +450,14 @@ fn begin_game<B: Board>(text: &[u8], at: usize, game: &mut Game<B>) -> (Progress
     (Progress::none(), at)
 }
 
-/// Reads the first game of a text from a place on (PGN standard of 1994; which words are taken is this project's own).
-/// The game begins anew from the initial position or from the last FEN tag's, of the variant that the last tag
+/// Reads the first game of a text from an offset on (PGN standard of 1994; which words are taken is this project's
+/// own). The game begins anew from the initial position or from the last FEN tag's, of the variant that the last tag
 /// `Variant` names; its moves are played as they are met, and the termination's outcome is declared unless there is a
-/// verdict or it is `*`. `None` where no tag, number, move or termination stands up to the text's end. The next game
-/// begins at the place that is answered.
+/// verdict or it is `*`. `None` where there is no tag, number, move or termination up to the text's end. The next game
+/// begins at the offset that is returned.
 ///
 /// # Errors
-/// The first place that can't be read or played. The game holds the moves before it, and nothing is declared.
+/// The first offset that can't be read or played. The game holds the moves before it, and nothing is declared.
 #[tactic(auto, using(crate::proofs::GameReads::read_from))]
 pub fn read_pgn<B: Board>(
     text: &[u8],

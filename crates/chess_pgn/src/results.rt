@@ -60,7 +60,7 @@ fn result_after(before: Option<ResultTag>, len: usize, token: &Token<'_>) -> Opt
     }
 }
 
-/// The last tag `Result` of the game that is read from a place on; `None` where it has none before its first number,
+/// The last tag `Result` of the game that is read from an offset on; `None` where it has none before its first number,
 /// move or termination.
 pub fn result_tag(text: &[u8], at: usize) -> Option<ResultTag>
     requires { at ≤ length text.now }

@@ -50,7 +50,7 @@ fn near_brace(text: &[u8]) -> &[u8]
     rest
 }
 
-// Behind the first closing brace.
+// The text after the first closing brace.
 pub(crate) fn behind_brace(text: &[u8]) -> Option<&[u8]>
     ensures rest { option_map (λ r. r.now) result ≡ behind_brace text.now }
     ensures shorter { IfSome result (λ r. length r.now < length text.now) }
@@ -65,7 +65,7 @@ pub(crate) fn behind_brace(text: &[u8]) -> Option<&[u8]>
     None
 }
 
-// Behind white space and `%` lines, where no line begins at the text's first byte.
+// The text after white space and `%` lines, where no line begins at the text's first byte.
 pub(crate) fn behind_gap(text: &[u8]) -> &[u8]
     ensures { result.now ≡ behind_gap false false text.now }
 {

@@ -9,7 +9,7 @@ ghost use Rattle.chess_pgn.specs.ties.Seen.{tag_seen};
 use crate::bytes::is_name_byte;
 use crate::skips::behind_gap;
 
-/// A tag: its name, the bytes between its quotes as they stand, and how many bytes of the text are left at the first of
+/// A tag: its name, the bytes between its quotes as they are, and how many bytes of the text are left at the first of
 /// these.
 #[derive(Clone, Copy)]
 pub(crate) struct Tag<'a> {
@@ -18,7 +18,7 @@ pub(crate) struct Tag<'a> {
     pub left: usize,
 }
 
-// A name, and what stands behind it.
+// A name, and what follows it.
 pub(crate) fn split_name(text: &[u8]) -> (&[u8], &[u8])
     ensures name { result.0.now ≡ take_while is_name_byte text.now }
     ensures rest { result.1.now ≡ drop (prefix_len is_name_byte text.now) text.now }
@@ -30,7 +30,7 @@ pub(crate) fn split_name(text: &[u8]) -> (&[u8], &[u8])
     text.split_at(end)
 }
 
-// Behind a gap and this byte, if it stands there.
+// The text after a gap and this byte, if it is there.
 pub(crate) fn behind_next(byte: u8, text: &[u8]) -> Option<&[u8]>
     ensures { option_map (λ r. r.now) result ≡ behind_next byte text.now }
 {
@@ -40,7 +40,7 @@ pub(crate) fn behind_next(byte: u8, text: &[u8]) -> Option<&[u8]>
     }
 }
 
-// A string's bytes up to its closing quote, and what stands behind that. A backslash keeps the next
+// A string's bytes up to its closing quote, and what follows that. A backslash keeps the next
 // byte from being one.
 pub(crate) fn split_string(text: &[u8]) -> Option<(&[u8], &[u8])>
     ensures { option_map (λ r. (r.0.now, r.1.now)) result ≡ string_at text.now }
@@ -61,7 +61,7 @@ pub(crate) fn split_string(text: &[u8]) -> Option<(&[u8], &[u8])>
     None
 }
 
-// A tag behind its opening bracket, and what stands behind it.
+// A tag after its opening bracket, and what follows it.
 pub(crate) fn read_tag(text: &[u8]) -> Option<(Tag<'_>, &[u8])>
     ensures { tag_seen result ≡ tag_at text.now }
 {

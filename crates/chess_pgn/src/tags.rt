@@ -77,7 +77,7 @@ pub enum HowEnded {
 }
 
 /// The tags that each game has (the seven of the PGN standard of 1994, section 8.1.1, and `Termination`), but for the
-/// result, which the game tells.
+/// result, which comes from the game.
 #[derive(Drop)]
 pub struct Tags {
     /// The tournament or match.

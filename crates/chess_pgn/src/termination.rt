@@ -6,7 +6,7 @@ ghost use Rattle.chess_pgn.specs.Terminations.{termination_text, termination_nam
 use crate::tags::HowEnded;
 use chess_game::Outcome;
 
-/// How a game ended, as its tag `Termination` tells it.
+/// How a game ended, as its tag `Termination` says.
 #[derive(Clone, Copy, Debug, PartialEq, Eq)]
 pub enum Termination {
     /// The game was abandoned.

@@ -22,7 +22,7 @@ pub(crate) enum Token<'a> {
     Word(&'a [u8]),
 }
 
-/// Why no token can be read. A place is told by how many bytes of the text are left there.
+/// Why no token can be read. An offset is given by how many bytes of the text are left there.
 #[derive(Clone, Copy)]
 pub(crate) enum TokenFault {
     /// An opening bracket that begins no tag.
@@ -45,7 +45,7 @@ fn behind_digits(text: &[u8]) -> &[u8]
     &text[end..]
 }
 
-// A word, and what stands behind it.
+// A word, and what follows it.
 #[inline(always)]
 fn split_word(text: &[u8]) -> (&[u8], &[u8])
     ensures word { result.0.now ≡ take_while is_word_byte text.now }
@@ -58,7 +58,7 @@ fn split_word(text: &[u8]) -> (&[u8], &[u8])
     text.split_at(end)
 }
 
-// A comment behind its brace, where so many bytes are left at that.
+// A comment after its brace, where so many bytes are left at that.
 #[inline(never)]
 fn read_comment(left: usize, text: &[u8]) -> Result<(Token<'_>, &[u8]), TokenFault>
     ensures { first_seen result ≡ comment_at left (behind_brace text.now) }
@@ -69,7 +69,7 @@ fn read_comment(left: usize, text: &[u8]) -> Result<(Token<'_>, &[u8]), TokenFau
     }
 }
 
-// A variation behind its bracket.
+// A variation after its bracket.
 #[inline(never)]
 fn read_variation(text: &[u8]) -> Result<(Token<'_>, &[u8]), TokenFault>
     ensures { first_seen result ≡ variation_at Plain false 1 text.now }
@@ -80,7 +80,7 @@ fn read_variation(text: &[u8]) -> Result<(Token<'_>, &[u8]), TokenFault>
     }
 }
 
-// A tag behind its bracket.
+// A tag after its bracket.
 #[inline(never)]
 fn read_bracket(text: &[u8]) -> Result<(Token<'_>, &[u8]), TokenFault>
     ensures { first_seen result ≡ tag_at text.now }
@@ -91,7 +91,7 @@ fn read_bracket(text: &[u8]) -> Result<(Token<'_>, &[u8]), TokenFault>
     }
 }
 
-// The first token of a text that begins with this byte, where a line begins or not, and what stands behind it.
+// The first token of a text that begins with this byte, where a line begins or not, and what follows it.
 #[tactic(auto, using(crate::proofs::PgnWords::begins_word), unfolding(crate::specs::Tokens::token_at))]
 #[inline(always)]
 fn read_token<'a>(
@@ -120,7 +120,7 @@ fn read_token<'a>(
     }
 }
 
-// Whether a line begins at a place: it is the text's first byte, or byte 10 stands before it.
+// Whether a line begins at an offset: it is the text's first byte, or byte 10 comes before it.
 fn begins_line(text: &[u8], at: usize) -> bool
     requires { at ≤ length text.now }
     ensures { result ≡ begins_line text.now at }
@@ -128,7 +128,7 @@ fn begins_line(text: &[u8], at: usize) -> bool
     at == 0 || text[at - 1] == b'\n'
 }
 
-/// The next token of a text from a place on, and the place behind it; `None` at the text's end.
+/// The next token of a text from an offset on, and the offset after it; `None` at the text's end.
 ///
 /// # Errors
 /// Where no token can be read at the first byte from there on.
@@ -147,7 +147,7 @@ pub(crate) fn next_token(text: &[u8], at: usize) -> Result<Option<(Token<'_>, us
     }
 }
 
-/// The place where reading begins: behind the bytes EF BB BF (a byte order mark) at place 0, else the place itself.
+/// The offset where reading begins: after the bytes EF BB BF (a byte order mark) at offset 0, else the offset itself.
 pub(crate) fn first_place(text: &[u8], at: usize) -> usize
     requires { at ≤ length text.now }
     ensures place { result ≡ first_place text.now at }

@@ -9,7 +9,7 @@ ghost use Rattle.chess_pgn.specs.ties.Seen.{variation_seen};
 use crate::skips::{behind_brace, line_end};
 use crate::token::TokenFault;
 
-// Behind a byte, or the `%` line or comment that it begins.
+// The text after a byte, or after the `%` line or comment that it begins.
 fn behind_part(line_begins: bool, byte: u8, rest: &[u8]) -> Option<&[u8]>
     ensures behind { option_map (λ r. r.now) result ≡ behind_part line_begins byte rest.now }
     ensures shorter { IfSome result (λ r. length r.now ≤ length rest.now) }
@@ -22,7 +22,7 @@ fn behind_part(line_begins: bool, byte: u8, rest: &[u8]) -> Option<&[u8]>
     }
 }
 
-// How many variations are open in the outermost one behind a byte, or `None` where that is closed.
+// How many variations are open in the outermost one after a byte, or `None` where that is closed.
 fn depth_behind(depth: usize, byte: u8) -> Option<usize>
     requires { depth + 1 < 2 ^ 64 }
     ensures { result ≡ depth_behind depth byte }
@@ -34,7 +34,7 @@ fn depth_behind(depth: usize, byte: u8) -> Option<usize>
     }
 }
 
-// Behind a variation, whose `(` stands before the text.
+// The text after a variation, whose `(` comes before the text.
 pub(crate) fn behind_variation(text: &[u8]) -> Result<&[u8], TokenFault>
     ensures { variation_seen result ≡ variation_at Plain false 1 text.now }
 {

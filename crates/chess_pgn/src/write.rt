@@ -26,7 +26,7 @@ use itoa::Buffer;
 type NumberText = ArrayVec<u8, 13>;
 
 /// Writes a game's text (PGN standard of 1994, section 3.2, the form for exchange): its tags, an empty line, its moves
-/// in SAN with the outcome last, and an empty line. Each line stands behind the prefix and is ended by byte 10. The
+/// in SAN with the outcome last, and an empty line. Each line comes after the prefix and is ended by byte 10. The
 /// writer is not flushed; the scratch board is left at some position.
 ///
 /// # Errors
@@ -128,7 +128,7 @@ fn put_roster<W: Output>(
     put_tags(lines, writer, &roster)
 }
 
-// Puts the tags behind the seven.
+// Puts the tags after the seven.
 fn put_further<W: Output>(
     lines: &mut LineWriter<'_>,
     writer: &mut W,
@@ -193,7 +193,7 @@ fn put_fen<W: Output>(
     put_tags(lines, writer, &tags)
 }
 
-// Puts the tag that tells how the game ended, and in Chess960 that of the variant.
+// Puts the tag that says how the game ended, and in Chess960 that of the variant.
 fn put_last<W: Output>(
     lines: &mut LineWriter<'_>,
     writer: &mut W,
@@ -292,7 +292,7 @@ fn put_move<B: Board, W: Output>(
     Ok(())
 }
 
-// Puts the number that stands before a move: before each of White's, and before a first one by Black.
+// Puts the number that comes before a move: before each of White's, and before a first one by Black.
 fn put_number<W: Output>(
     lines: &mut LineWriter<'_>,
     writer: &mut W,
@@ -313,7 +313,7 @@ fn put_number<W: Output>(
     lines.put_token(writer, number_text(setup.fullmove, dots).as_slice())
 }
 
-// A number, and dots behind it.
+// A number, and dots after it.
 #[tactic(auto, using(crate::proofs::GameTexts::short_decimal))]
 fn number_text(number: u32, dots: &[u8]) -> NumberText
     requires some { 0 < length dots.now }

@@ -37,7 +37,7 @@ impl Wanted {
     }
 }
 
-// A text, the answer, how many half-moves stand then, and the outcome that is declared.
+// A text, the answer, how many half-moves are current then, and the outcome that is declared.
 struct Row {
     text: &'static [u8],
     wanted: Wanted,
@@ -59,7 +59,7 @@ const ROWS: [Row; 77] = [
         ply: 1,
         declared: None,
     },
-    // Each fault, with its place.
+    // Each fault, with its offset.
     Row {
         text: b"1. e4",
         wanted: Wanted::Fault(PgnFaultKind::NoResult, 5),
@@ -108,7 +108,7 @@ const ROWS: [Row; 77] = [
         ply: 4,
         declared: None,
     },
-    // The place of a bad FEN is behind the quote, whatever stands around it.
+    // The offset of a bad FEN is that after the quote, whatever is around it.
     Row {
         text: b"\n[ FEN \n\"x\"  ]*",
         wanted: Wanted::Fault(PgnFaultKind::BadFen, 9),
@@ -122,7 +122,7 @@ const ROWS: [Row; 77] = [
         ply: 1,
         declared: None,
     },
-    // Behind the end any move is one too many, but a word that is no move is told as such.
+    // After the end any move is one too many, but a word that is no move is reported as such.
     Row {
         text: b"1. f3 e5 2. g4 Qh4# Nd2 *",
         wanted: Wanted::Fault(PgnFaultKind::AfterEnd, 20),
@@ -179,7 +179,7 @@ const ROWS: [Row; 77] = [
         ply: 1,
         declared: None,
     },
-    // Where the board has a verdict, it stands.
+    // Where the board has a verdict, it takes precedence.
     Row {
         text: b"1. f3 e5 2. g4 Qh4# 1-0",
         wanted: Wanted::Ended(Outcome::WhiteWins, 23),
@@ -236,7 +236,7 @@ const ROWS: [Row; 77] = [
         ply: 0,
         declared: None,
     },
-    // A bracket behind a number or move, whether it begins a tag or not.
+    // A bracket after a number or move, whether it begins a tag or not.
     Row {
         text: b"e4 [White \"x\"] *",
         wanted: Wanted::Fault(PgnFaultKind::NoResult, 3),
@@ -287,14 +287,14 @@ const ROWS: [Row; 77] = [
         ply: 1,
         declared: None,
     },
-    // A start without a move left: black is stalemated.
+    // A start without a move left: Black is stalemated.
     Row {
         text: b"[FEN \"7k/5Q2/6K1/8/8/8/8/8 b - - 0 1\"] 0-1",
         wanted: Wanted::Ended(Outcome::BlackWins, 42),
         ply: 0,
         declared: None,
     },
-    // A byte order mark at place 0 alone.
+    // A byte order mark at offset 0 alone.
     Row {
         text: b"\xEF\xBB\xBF1. e4 *",
         wanted: Wanted::Ended(Outcome::Unfinished, 10),
@@ -550,7 +550,7 @@ fn read<B: Board>(
     read_pgn(text, at, game)
 }
 
-// Reads a text from a place on, and compares the answer and how many half-moves stand then.
+// Reads a text from an offset on, and compares the answer and how many half-moves are current then.
 fn is_read_on<B: Board>(
     rt: &impl Abort,
     text: &[u8],
@@ -568,7 +568,7 @@ fn is_read_on<B: Board>(
     );
 }
 
-// Reads a row's text, and compares the answer, the half-moves that stand and what is declared.
+// Reads a row's text, and compares the answer, the current half-moves and what is declared.
 fn is_read<B: Board>(rt: &impl Abort, game: &mut Game<B>, row: &Row) {
     is_read_on(rt, row.text, game, 0, row.wanted, row.ply);
     is_equal_at(rt, 0, row.text, &declared(rt, game), &row.declared);
@@ -614,7 +614,7 @@ const VARIANTS: [Row; 14] = [
         ply: 1,
         declared: None,
     },
-    // The tag may stand behind the FEN, and the last one counts.
+    // The tag may come after the FEN, and the last one counts.
     Row {
         text: b"[FEN \"4k3/8/8/8/8/8/8/RK5R w HA - 0 1\"] [Variant \"x\"] [Variant \"FISCHERRANDOM\"] b1h1 *",
         wanted: Wanted::Ended(Outcome::Unfinished, 86),
@@ -749,7 +749,8 @@ fn are_read_on<B: Board>(
     }
 }
 
-// Three games in a text, with the places that they are read from, what is answered, and how many half-moves stand.
+// Three games in a text, with the offsets that they are read from, what is answered, and how many half-moves are
+// current.
 const THREE_GAMES: &[u8] = b"* 1. d4 1/2-1/2[White \"x\"]\ne4 0-1 {end}\n";
 
 const PLACES: [(usize, Wanted, usize); 5] = [

@@ -59,7 +59,7 @@ fn written<B: Board>(
     Ok(writer.into_writer().bytes)
 }
 
-/// A game that has no tags but the seven with `?`, and its text without the first six lines, each behind `# `.
+/// A game that has no tags but the seven with `?`, and its text without the first six lines, each after `# `.
 #[derive(Drop)]
 struct GameRow {
     fen: &'static [u8],
@@ -89,7 +89,7 @@ const GAMES: [GameRow; 10] = [
         moves: b"g1f3 g8f6 f3g1 f6g8 g1f3 g8f6 f3g1 f6g8 g1f3 g8f6 f3g1 f6g8 g1f3 g8f6 f3g1 f6g8",
         text: b"# [Result \"1/2-1/2\"]\n# [Termination \"normal\"]\n# \n# 1. Nf3 Nf6 2. Ng1 Ng8 3. Nf3 Nf6 4. Ng1 Ng8 5. Nf3 Nf6 6. Ng1 Ng8 7. Nf3 Nf6 8.\n# Ng1 Ng8 1/2-1/2\n# \n",
     },
-    // The same from move 10 on, so that fewer stand in the first line.
+    // The same from move 10 on, so that fewer are in the first line.
     GameRow {
         fen: b"rnbqkbnr/pppppppp/8/8/8/8/PPPPPPPP/RNBQKBNR w KQkq - 0 10",
         moves: b"g1f3 g8f6 f3g1 f6g8 g1f3 g8f6 f3g1 f6g8 g1f3 g8f6 f3g1 f6g8 g1f3 g8f6 f3g1 f6g8",
@@ -102,7 +102,7 @@ const GAMES: [GameRow; 10] = [
         text: b"# [Result \"0-1\"]\n# [Termination \"normal\"]\n# \n# 1. f3 e5 2. g4 Qh4# 0-1\n# \n",
     },
     PROMOTION,
-    // The number stands only before the first of Black's moves.
+    // The number is written only before the first of Black's moves.
     GameRow {
         fen: b"4k3/8/8/8/8/8/4p3/K7 b - - 0 1",
         moves: b"e2e1q a1a2 e1e2 a2a1",
@@ -120,7 +120,7 @@ const GAMES: [GameRow; 10] = [
         moves: b"Nbd2",
         text: b"# [Result \"*\"]\n# [FEN \"4k3/8/8/8/8/5N2/8/1N2K3 w - - 0 1\"]\n# [SetUp \"1\"]\n# [Termination \"unterminated\"]\n# \n# 1. Nbd2 *\n# \n",
     },
-    // The men of the initial position at another clock are another start.
+    // The pieces of the initial position at another clock are another start.
     GameRow {
         fen: b"rnbqkbnr/pppppppp/8/8/8/8/PPPPPPPP/RNBQKBNR w KQkq - 1 1",
         moves: b"e2e4",
@@ -338,7 +338,7 @@ fn leaves<B: Board>(
     );
 }
 
-// Each call fails in turn, and then one behind the last.
+// Each call fails in turn, and then one after the last.
 fn each_call_fails<B: Board>(
     rt: &impl Abort,
     alloc: Global,
@@ -430,7 +430,7 @@ const NO_MOVES: [&[u8]; 11] = [
     b"\n",
 ];
 
-// Lines, each behind a prefix.
+// Lines, each after a prefix.
 fn prefixed(alloc: Global, prefix: &[u8], lines: &[&[u8]]) -> Result<Vec<u8>, Fail> {
     let mut text = Vec::new(alloc);
     for line in lines {

@@ -1,4 +1,4 @@
--- A text that is cut at commas and blanks, byte by byte.
+-- A text that is cut at commas, spaces and tabs, byte by byte.
 use Rattle.std.proofs.Common.{◌≡◌, ℕ, zero, suc, ◌+◌, ◌-◌, ◌<◌, ◌≤◌, Bool, true, false, ◌||◌, List, [], ◌∷◌, ◌++◌, length, take, drop, get_or, refl, ap, sym, ◌∙◌, arith}
 use Rattle.std.specs.Prelude.{if◌then◌else◌}
 use Rattle.std.specs.Str.{bytes_eq}
@@ -37,7 +37,7 @@ over_byte word text from at o h e =
 nothing_taken : (n : ℕ) (xs : List ℕ) → take (n - n) xs ≡ []
 nothing_taken n xs = let e : n - n ≡ 0 = omega arith in rw e refl
 
--- a byte behind a piece that isn't the word
+-- a byte after a piece that isn't the word
 pub over_mark : (word text : List ℕ) (from at : ℕ) → at < length text → is_comma_or_blank (get_or text at 0) ≡ true
     → bytes_eq (take (at - from) (drop from text)) word ≡ false
     → has_word_behind word (take (at - from) (drop from text)) (drop at text) ≡ has_word_behind word

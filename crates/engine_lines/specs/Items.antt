@@ -18,7 +18,7 @@ pub record Item : Type 0 where
   pub name : List ℕ
   pub value : Value
 
--- how many bytes stand before the next double quote
+-- how many bytes are before the next double quote
 abbrev pub quote_at : List ℕ → ℕ
 quote_at text = run_of (λ c. not (c == byte "\"")) text
 
@@ -38,24 +38,24 @@ value_of (c ∷ cs) =
     )
     else None
 
--- blanks or the line's end stand here
+-- here is a space, a tab or the line's end
 abbrev pub is_apart : List ℕ → Bool
 is_apart [] = true
 is_apart (c ∷ cs) = is_blank c
 
--- the item of this name with the value at the front of a text, if blanks or the end stand behind that; and what follows
+-- the item of this name with the value at the front of a text, if a space, a tab or the end follows; and what follows
 abbrev pub with_value : List ℕ → List ℕ → Option (Item × List ℕ)
 with_value name rest =
     option_and_then (λ (p : Value × List ℕ). if is_apart p.1 then Some
     (record { name = name; value = p.0 }, without_front_blanks p.1) else None) (value_of rest)
 
--- the item of this name, if it isn't empty and an equals sign and a value stand behind it; and what follows
+-- the item of this name, if it isn't empty and is followed by an equals sign and a value; and what follows
 abbrev pub with_name : List ℕ → List ℕ → Option (Item × List ℕ)
 with_name [] rest = None
 with_name (n ∷ ns) [] = None
 with_name (n ∷ ns) (c ∷ cs) = if c == byte "=" then with_value (n ∷ ns) cs else None
 
--- the item at the front of a text, and what follows it and its blanks; none where it is malformed
+-- the item at the front of a text, and what follows it and its spaces and tabs; none where it is malformed
 unfoldable pub item_of : List ℕ → Option (Item × List ℕ)
 item_of text = with_name (take (run_of is_name_byte text) text) (drop (run_of is_name_byte text) text)
 
@@ -70,7 +70,7 @@ is_one (Quoted cs) = false
 abbrev pub ends_hello : Item → Bool
 ends_hello i = bytes_eq i.name (codes "done") && is_one i.value
 
--- the items of a text, at most n, up to a malformed one or one that ends the hello
+-- the items of a text, at most n, up to a malformed one or one that ends the handshake
 abbrev pub first_items : ℕ → List ℕ → List Item
 first_items zero text = []
 first_items (suc n) text =
@@ -83,7 +83,7 @@ first_items (suc n) text =
 unfoldable pub items_of : List ℕ → List Item
 items_of text = first_items (length text) text
 
--- one of the items ends the hello
+-- one of the items ends the handshake
 unfoldable pub has_done : List Item → Bool
 has_done items = list_any ends_hello items
 
@@ -121,18 +121,18 @@ text_or default (Some v) = value_text v
 unfoldable pub told : List ℕ → List Item → List ℕ
 told name items = text_or [] (last_value name items)
 
--- a comma or a blank: the words of a value stand between these
+-- a comma, space or tab: the words of a value are between these
 abbrev pub is_comma_or_blank : ℕ → Bool
 is_comma_or_blank c = is_blank c || (c == byte ",")
 
--- the rest of a text behind a piece is cut at commas and blanks, and one of the pieces is this word
+-- the rest of a text after a piece is cut at commas, spaces and tabs, and one of the pieces is this word
 abbrev pub has_word_behind : List ℕ → List ℕ → List ℕ → Bool
 has_word_behind word piece [] = bytes_eq piece word
 has_word_behind word piece (c ∷ cs) =
     if is_comma_or_blank c then bytes_eq piece word
     || has_word_behind word [] cs else has_word_behind word (piece ++ c ∷ []) cs
 
--- a text, cut at commas and blanks, has this word
+-- a text, cut at commas, spaces and tabs, has this word
 unfoldable pub has_word : List ℕ → List ℕ → Bool
 has_word word text = has_word_behind word [] text
 

@@ -13,7 +13,7 @@ pub record LevelSeen : Type 0 where
   pub base : ℕ
   pub increment : ℕ
 
--- no number of a level is greater than can be spelled
+-- no number of a level is greater than can be written
 pub record IsLevel (level : LevelSeen) : Type 0 where
   pub moves : level.moves ≤ 999
   pub base : level.base ≤ 59999
@@ -21,12 +21,12 @@ pub record IsLevel (level : LevelSeen) : Type 0 where
 
 -- ---- spelling
 
--- the number that at most n digits write, at least one
+-- the number that at most n digits denote, at least one
 abbrev pub short_number : ℕ → List ℕ → Option ℕ
 short_number n text = if nat_lt 0 (length text) && nat_le (length text) n
     && list_all is_digit text then Some (value_after 0 text) else None
 
--- how many bytes stand before the first colon
+-- how many bytes are before the first colon
 abbrev pub colon_at : List ℕ → ℕ
 colon_at text = run_of (λ c. not (c == byte ":")) text
 
@@ -49,16 +49,16 @@ level_by (Some m) None increment = None
 level_by (Some m) (Some b) None = None
 level_by (Some m) (Some b) (Some i) = Some (record { moves = m; base = b; increment = i })
 
--- three words, of moves, base and increment, and nothing behind them
+-- three words, of moves, base and increment, and nothing after them
 abbrev pub level_in : List ℕ → List ℕ → List ℕ → List ℕ → Option LevelSeen
 level_in moves base increment [] = level_by (short_number 3 moves) (base_of base) (short_number 3 increment)
 level_in moves base increment (c ∷ cs) = None
 
--- the level of two words and of the next word of a text, behind which nothing may follow
+-- the level of two words and of the next word of a text, after which nothing may follow
 abbrev pub level_behind : List ℕ → List ℕ → List ℕ → Option LevelSeen
 level_behind moves base rest = level_in moves base (word_of rest) (argument_of rest)
 
--- the level that a text spells
+-- the level that a text denotes
 unfoldable pub level_of : List ℕ → Option LevelSeen
 level_of text =
     let t = without_front_blanks text in
@@ -75,7 +75,7 @@ abbrev pub base_text : ℕ → List ℕ
 base_text base = if base % 60 == 0 then decimal (base / 60) else decimal (base / 60)
     ++ (codes ":" ++ two_digits (base % 60))
 
--- a level as it is written: moves, base and increment, with blanks between
+-- a level as it is written: moves, base and increment, with spaces between
 unfoldable pub level_text : LevelSeen → List ℕ
 level_text level =
     decimal level.moves ++ (codes " " ++ (base_text level.base ++ (codes " " ++ decimal level.increment)))

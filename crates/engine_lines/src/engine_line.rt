@@ -40,7 +40,7 @@ fn pong(text: &[u8]) -> EngineLine<'_>
     }
 }
 
-/// What a line with this text says, told by its first words. Blanks at the text's ends are not cut here: a
+/// What a line with this text says, by its first words. Spaces and tabs at the text's ends are not cut here: a
 /// line's text has none.
 #[tactic(auto, unfolding(crate::specs::EngineLines::kind_of))]
 pub fn read_engine_line(text: &[u8]) -> EngineLine<'_>

@@ -11,7 +11,7 @@ use chess_cecp::{is_blank, trim_start};
 /// The value of an item.
 #[derive(Clone, Copy, Debug)]
 pub enum Value<'a> {
-    /// Digits, as many as stand there.
+    /// Digits, as many as there are.
     Digits(&'a [u8]),
     /// The text between double quotes.
     Quoted(&'a [u8]),
@@ -57,7 +57,7 @@ fn digits_len(text: &[u8]) -> usize
     at
 }
 
-// How many bytes stand before the next double quote.
+// Counts the bytes before the next double quote.
 fn quote_at(text: &[u8]) -> usize
     ensures value { result ≡ quote_at text.now }
     ensures in_range { result ≤ length text.now }
@@ -93,7 +93,7 @@ fn read_value(text: &[u8]) -> Option<(Value<'_>, &[u8])>
     }
 }
 
-// Whether blanks or the end stand at the front.
+// Whether the text is empty or begins with a space or tab.
 fn is_apart(text: &[u8]) -> bool
     ensures { result ≡ is_apart text.now }
 {
@@ -103,7 +103,7 @@ fn is_apart(text: &[u8]) -> bool
     }
 }
 
-/// The item at the front of a text, and what follows it and its blanks; none where it is malformed.
+/// The item at the front of a text, and what follows it and its spaces and tabs; none where it is malformed.
 #[tactic(auto, unfolding(crate::specs::Items::item_of))]
 pub fn next_item(text: &[u8]) -> Option<(Item<'_>, &[u8])>
     ensures { item_read result ≡ item_of text.now }
@@ -192,7 +192,7 @@ fn is_comma_or_blank(byte: u8) -> bool
     is_blank(byte) || byte == b','
 }
 
-// Whether a text, cut at commas and blanks, has that word.
+// Whether a text, cut at commas, spaces and tabs, has that word.
 #[tactic(auto, unfolding(crate::specs::Items::has_word))]
 fn has_word(text: &[u8], word: &[u8]) -> bool
     ensures { result ≡ has_word word.now text.now }

@@ -32,7 +32,7 @@ impl Model for Level {
     ghost inverse = { λ v. record { moves = v.moves; base = v.base; increment = v.increment } };
 }
 
-// The number that at most so many digits write.
+// The number that at most so many digits denote.
 fn short_number(text: &[u8], most: usize) -> Option<u32>
     requires { most ≤ 3 }
     ensures value { result ≡ short_number most text.now }
@@ -51,7 +51,7 @@ fn short_number(text: &[u8], most: usize) -> Option<u32>
     Some(number)
 }
 
-// How many bytes stand before the first colon.
+// Counts the bytes before the first colon.
 fn colon_at(text: &[u8]) -> usize
     ensures value { result ≡ colon_at text.now }
     ensures in_range { result ≤ length text.now }
@@ -82,7 +82,7 @@ fn in_seconds(minutes: Option<u32>, seconds: Option<u32>) -> Option<u32>
     }
 }
 
-// The base that a text spells, in seconds.
+// The base that a text denotes, in seconds.
 #[tactic(auto, unfolding(crate::specs::Levels::base_of))]
 fn base(text: &[u8]) -> Option<u32>
     ensures value { result ≡ base_of text.now }
@@ -102,7 +102,7 @@ fn base(text: &[u8]) -> Option<u32>
     }
 }
 
-// The level that three words spell, behind which a text follows.
+// The level that three words denote, after which a text follows.
 fn level_in(moves: &[u8], base_text: &[u8], increment: &[u8], rest: &[u8]) -> Option<Level>
     ensures { result ≡ level_in moves.now base_text.now increment.now rest.now }
 {
@@ -126,7 +126,7 @@ fn level_in(moves: &[u8], base_text: &[u8], increment: &[u8], rest: &[u8]) -> Op
 }
 
 impl Level {
-    /// The level that a text spells: `MOVES BASE INCREMENT`, each a number of one to three digits, with blanks
+    /// The level that a text denotes: `MOVES BASE INCREMENT`, each a number of one to three digits, with spaces or tabs
     /// between and perhaps around. The base is in minutes, or `minutes:seconds` with one or two digits for
     /// fewer than 60 seconds.
     #[tactic(auto, unfolding(crate::specs::Levels::level_of))]

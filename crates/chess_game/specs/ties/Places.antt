@@ -1,4 +1,4 @@
--- What a game keeps of its start and of each move that stands.
+-- What a game keeps of its start and of each current move.
 use Rattle.std.specs.Prelude.{◌≡◌, ◌≤◌, ◌<◌, ℕ, List, [], ◌∷◌, length, take, map, None}
 use Rattle.std.specs.List.{AllByRecursion}
 use Rattle.chess_base.specs.declared.man.Colour.{Colour}
@@ -14,37 +14,37 @@ use Rattle.chess_game.specs.declared.repetition.Known.{Known}
 use Rattle.chess_game.specs.declared.game.Place.{Place}
 use Rattle.chess_game.specs.declared.game.TheConstants.{MOST_MOVES}
 
--- the moves that stand
+-- the current moves
 abbrev pub moves_of : List Place → List Move
 moves_of places = map (λ x. x.made) places
 
--- beside a position stands its live target
+-- a position is kept with its live target
 abbrev pub IsKnown : Known → Type 0
 IsKnown k = k.live_target ≡ live_target k.position
 
--- a definition of position words, as a board has one
+-- a definition of position hashes, as a board has one
 abbrev pub Wording : Type 0
 Wording = Men → Colour → Rights → ℕ
 
--- beside a position stands its word by that definition
+-- a position is kept with its hash by that definition
 abbrev pub HasWord : Wording → Known → Type 0
 HasWord f k = k.word ≡ f k.position.men k.position.side k.position.rights
 
--- beside two positions stand their words by one definition
+-- two positions are kept with their hashes by one definition
 abbrev pub ShareWording : Known → Known → Type 0
 ShareWording x y = (f : Wording) × HasWord f x × HasWord f y
 
--- beside the start and each position that a place reached stands its word by that definition
+-- the start and each position that a place reached are kept with their hashes by that definition
 pub record HaveWords (f : Wording) (first : Known) (places : List Place) : Type 0 where
   pub start : HasWord f first
   pub behind : AllByRecursion (λ (x : Place). HasWord f x.reached) places
 
--- each move was made in the position before it: beside it stand what that saved and the position that it gave
+-- each move was made in the position before it, and is kept with what that saved and the position that it gave
 abbrev pub Follows : Setup → List Place → Type 0
 Follows p [] = Unit {0}
 Follows p (x ∷ xs) = WasMade p x.made x.saved x.reached.position × IsKnown x.reached × Follows x.reached.position xs
 
--- from this start the places follow, all with words by the board's definition, and the board is at the position at the
+-- from this start the places follow, all with hashes by the board's definition, and the board is at the position at the
 -- end of the line
 pub record IsKept (f : Wording) (start : Known) (places : List Place) (board : Setup) : Type 0 where
   pub known : IsKnown start

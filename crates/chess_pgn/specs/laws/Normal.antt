@@ -72,7 +72,7 @@ is_mark_word Number = false
 is_mark_word Move = false
 is_mark_word (End o) = false
 
--- a number, move or outcome, or what can't be read: no tag of the game stands behind it
+-- a number, move or outcome, or what can't be read: no tag of the game comes after it
 abbrev pub ends_tags : Token → Bool
 ends_tags Skip = false
 ends_tags (Tag name text left) = false

@@ -17,8 +17,8 @@ pub record AreTagTexts (t : Tags) : Type 0 where
   pub white : IsTagText t.white
   pub black : IsTagText t.black
 
--- reading left a game with the start, the moves and the outcome of this one, whose text ends at a place. It told that
--- outcome, how the game ended, and the place behind the outcome, which the ends of two lines follow
+-- reading left a game with the start, the moves and the outcome of this one, whose text ends at an offset. It returned
+-- that outcome, how the game ended, and the offset after the outcome, which the ends of two lines follow
 pub record IsReadBack (s : State) (termination : Termination) (text_end : ℕ) (r : GameRead) : Type 0 where
   pub start : r.state.start ≡ s.start
   pub moves : r.state.moves ≡ s.moves
@@ -27,7 +27,7 @@ pub record IsReadBack (s : State) (termination : Termination) (text_end : ℕ) (
   pub answer : r.answer ≡ Ok (Some (record { outcome = outcome_now s; termination = Some termination; place = place }))
   pub behind : place + 2 ≡ text_end
 
--- the text of a game that the limit admits is read back at its place, whatever stands before and after it
+-- the text of a game that the limit admits is read back at its offset, whatever is before and after it
 abbrev pub PgnIsReadBack : Type 0
 PgnIsReadBack =
     (limit : ℕ) → (tags : Tags) → (s : State) → (before after : List ℕ) → AreTagTexts tags

@@ -2,12 +2,12 @@
 use Rattle.std.specs.Prelude.{◌≤◌, ℕ, ◌+◌, List, length, IfOk, IfErr, IfSome}
 use Rattle.chess_pgn.specs.GameRead.{pgn_read}
 
--- a fault's place is in the text or right behind it, and not before the place where reading began
+-- a fault's offset is in the text or right after it, and not before the offset where reading began
 abbrev pub FaultsHavePlaces : Type 0
 FaultsHavePlaces = (limit : ℕ) (text : List ℕ) (at : ℕ) → at ≤ length text
     → IfErr (pgn_read limit text at).answer (λ f. (at ≤ f.place) × (f.place ≤ length text))
 
--- a half-move takes at least a byte of the text that a game has from the place on
+-- a half-move takes at least a byte of the text that a game has from the offset on
 abbrev pub HalfMovesHaveBytes : Type 0
 HalfMovesHaveBytes =
     (limit : ℕ) (text : List ℕ) (at : ℕ) → at ≤ length text

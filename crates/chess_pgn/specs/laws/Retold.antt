@@ -1,4 +1,4 @@
--- What the tokens of a game's text tell, with no reader: which are taken, the start, the moves and how the game ended;
+-- What the tokens of a game's text say, with no reader: which are taken, the start, the moves and how the game ended;
 -- and why the next one is not taken.
 use Rattle.std.specs.Prelude.{◌≡◌, ℕ, ◌+◌, ◌-◌, ◌<◌, nat_lt, Bool, true, false, not, ◌&&◌, ◌||◌, if◌then◌else◌, List, [], ◌∷◌, ◌++◌, length, Option, Some, None, is_some, Result, Ok, Err, codes}
 use Rattle.std.specs.List.{list_any, flat_map}
@@ -43,7 +43,7 @@ is_outcome Number = false
 is_outcome Marks = false
 is_outcome Move = false
 
--- a number or move: behind it no tag belongs to the game
+-- a number or move: after it no tag belongs to the game
 abbrev pub begins : Token → Bool
 begins (Word word) = is_number_or_move (kind_of word)
 begins Skip = false
@@ -66,7 +66,7 @@ counts Bad = false
 abbrev pub is_fen : List ℕ → Bool
 is_fen name = bytes_eq name (codes "FEN")
 
--- ---- what can be taken: a tag before the first number or move, a FEN tag only if it spells a sound position; a word
+-- ---- what can be taken: a tag before the first number or move, a FEN tag only if it denotes a sound position; a word
 -- that is no outcome; never a token that can't be read
 
 abbrev pub can_be_taken : Variant → Bool → Token → Bool
@@ -82,7 +82,7 @@ abbrev pub can_all_be_taken : Variant → Bool → List (ℕ × Token) → Bool
 can_all_be_taken v begun [] = true
 can_all_be_taken v begun (t ∷ ts) = can_be_taken v begun t.1 && can_all_be_taken v (begun || begins t.1) ts
 
--- ---- what they tell
+-- ---- what they say
 
 -- the words that are moves, in their order
 abbrev pub if_move : List ℕ → WordKind → List (List ℕ)
@@ -103,7 +103,7 @@ move_words_of Bad = []
 abbrev pub move_words : List (ℕ × Token) → List (List ℕ)
 move_words tokens = flat_map (λ t. move_words_of t.1) tokens
 
--- what the last FEN tag spells, else the position before it
+-- what the last FEN tag denotes, else the position before it
 abbrev pub if_read : Setup → Result Setup FenFault → Setup
 if_read p (Ok start) = start
 if_read p (Err fault) = p
@@ -135,8 +135,8 @@ abbrev pub termination_told : Option Termination → List (ℕ × Token) → Opt
 termination_told o [] = o
 termination_told o (t ∷ ts) = termination_told (termination_by_token o t.1) ts
 
--- behind some moves each word is read as its move, in the position reached, where no verdict holds and fewer moves
--- stand than the limit
+-- after some moves each word is read as its move, in the position reached, where no verdict holds and fewer moves
+-- are current than the limit
 abbrev pub AreReadAs : ℕ → Setup → List Played → List (List ℕ) → List Played → Type 0
 AreReadAs limit start done [] [] = Unit {0}
 AreReadAs limit start done [] (m ∷ ms) = ⊥
@@ -181,8 +181,8 @@ token_fault limit total v begun s left Bad = fault_at (total - left) (Some BadTo
 
 -- ---- the game
 
--- where reading stopped, in a text of so many bytes: at its end, with a game there or not; at the outcome that is told;
--- or at the token that has the fault. Only an outcome declares anything
+-- where reading stopped, in a text of so many bytes: at its end, with a game there or not; at the outcome that is
+-- named; or at the token that has the fault. Only an outcome declares anything
 abbrev pub StopsAt : ℕ → ℕ → Variant → List (ℕ × Token) → List (ℕ × Token) → State → Result (Option PgnEnd) PgnFault
     → Type 0
 StopsAt limit total v taken [] s (Ok None) = (s.declared ≡ None) × (list_any (λ t. counts t.1) taken ≡ false)
@@ -197,8 +197,8 @@ StopsAt limit total v taken (t ∷ ts) s (Ok (Some e)) =
 StopsAt limit total v taken (t ∷ ts) s (Err f) =
     (s.declared ≡ None) × (token_fault limit total v (list_any (λ u. begins u.1) taken) s t.0 t.1 ≡ Some f)
 
--- a game is that of the first tokens: these can be taken, its start is what their last FEN tag spells, else the initial
--- position of the variant, and its moves are those of their words
+-- a game is that of the first tokens: these can be taken, its start is what their last FEN tag denotes, else the
+-- initial position of the variant, and its moves are those of their words
 pub record IsOfTokens (limit total : ℕ) (v : Variant) (tokens : List (ℕ × Token)) (r : GameRead) : Type 0 where
   pub taken : List (ℕ × Token)
   pub others : List (ℕ × Token)

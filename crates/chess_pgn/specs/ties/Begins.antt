@@ -2,7 +2,7 @@
 use Rattle.std.specs.Prelude.{ℕ, Bool, false, List, [], ◌∷◌, nat_le}
 use Rattle.chess_base.specs.Letters.{byte}
 
--- with `A` or a byte behind it
+-- with `A` or a byte after it
 abbrev pub begins_from_a : List ℕ → Bool
 begins_from_a [] = false
 begins_from_a (c ∷ cs) = nat_le (byte "A") c

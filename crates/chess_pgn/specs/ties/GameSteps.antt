@@ -18,13 +18,13 @@ step_seen s (Ok (does.On p)) = On (so_far s p)
 step_seen s (Ok (does.Ended end)) = Stop (record { state = s; answer = Ok (Some end) })
 step_seen s (Err fault) = Stop (record { state = s; answer = Err fault })
 
--- a game that ended did so behind the first place, and not behind the last
+-- a game that ended did so after the first offset, and not after the last
 abbrev pub EndsIn : ℕ → ℕ → Result code.Step PgnFault → Type 0
 EndsIn first last (Ok (does.On p)) = Unit {0}
 EndsIn first last (Ok (does.Ended end)) = (first < end.place) × (end.place ≤ last)
 EndsIn first last (Err fault) = Unit {0}
 
--- the places that a token tells are in the text: so many bytes are left where it begins
+-- the offsets that a token gives are in the text: so many bytes are left where it begins
 abbrev pub IsWithin : ℕ → Token → Type 0
 IsWithin left Skip = Unit {0}
 IsWithin left (Tag name text string) = string ≤ left
@@ -34,7 +34,7 @@ IsWithin left (Unclosed_comment brace) = brace ≤ left
 IsWithin left Unclosed_variation = Unit {0}
 IsWithin left Bad = Unit {0}
 
--- whatever was read before, the rest of a game is read alike from either place on
+-- whatever was read before, the rest of a game is read alike from either offset on
 abbrev pub ReadsAlike : List ℕ → ℕ → ℕ → Type 0
 ReadsAlike text a b = (limit : ℕ) (g : SoFar)
     → game_of limit (length text) g (tokens_from text a) ≡ game_of limit (length text) g (tokens_from text b)

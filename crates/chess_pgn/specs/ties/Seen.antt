@@ -32,7 +32,7 @@ abbrev pub first_seen : Result (Token × Bor (List ℕ)) TokenFault → told.Tok
 first_seen (Ok r) = (token_seen r.0, r.1.now)
 first_seen (Err f) = (fault_seen f, [])
 
--- the next token of a text from a place on, and the place behind it; what can't be read is the last
+-- the next token of a text from an offset on, and the offset after it; what can't be read is the last
 abbrev pub IsNextToken : List ℕ → ℕ → Result (Option (Token × ℕ)) TokenFault → Type 0
 IsNextToken text at (Ok None) = tokens_from text at ≡ []
 IsNextToken text at (Ok (Some r)) = (tokens_from text at ≡ (length text - at, token_seen r.0) ∷ tokens_from text r.1)

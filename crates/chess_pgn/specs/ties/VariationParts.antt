@@ -3,7 +3,7 @@ use Rattle.std.specs.Prelude.{ℕ, zero, suc, ◌+◌, Bool, ◌&&◌, ◌||◌,
 use Rattle.chess_base.specs.Letters.{byte}
 use Rattle.chess_pgn.specs.Tokens.{line_end, behind_brace}
 
--- behind a byte, or the `%` line or comment that it begins
+-- the text after a byte, or after the `%` line or comment that it begins
 abbrev pub behind_part : Bool → ℕ → List ℕ → Option (List ℕ)
 behind_part line_begins c rest = if line_begins && c == byte "%"
     || c == byte ";" then Some (line_end rest) else (if c == byte "{" then behind_brace rest else Some rest)
@@ -12,7 +12,7 @@ abbrev pub one_fewer : ℕ → Option ℕ
 one_fewer zero = None
 one_fewer (suc n) = Some n
 
--- how many variations are open in the outermost one behind a byte, if that is still open
+-- how many variations are open in the outermost one after a byte, if that is still open
 abbrev pub depth_behind : ℕ → ℕ → Option ℕ
 depth_behind depth c = if c == byte "(" then Some (depth + 1) else
     (if c == byte ")" then one_fewer depth else Some depth)

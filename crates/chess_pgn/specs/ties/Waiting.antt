@@ -2,7 +2,7 @@
 use Rattle.std.specs.Prelude.{◌≡◌, ℕ, List, ◌++◌, Result, Ok, Err}
 use Rattle.byte_devices.specs.Devices.{OutputState, Took, BreaksOff}
 
--- a text was added behind what waited: the writer took a beginning of both, and the rest waits
+-- a text was added after what waited: the writer took a beginning of both, and the rest waits
 pub record TookSome (old new : OutputState) (waiting left text : List ℕ) : Type 0 where
   pub out : List ℕ
   pub took : Took old new out

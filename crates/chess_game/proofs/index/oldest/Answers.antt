@@ -1,4 +1,4 @@
--- No position before a capture or a pawn move is the same as one behind it (ForGood).
+-- No position before a capture or a pawn move is the same as one after it (ForGood).
 use Rattle.std.proofs.Common.{◌-◌, ◌<◌, length, arith}
 use Rattle.std.proofs.lemmas.Bool.Decides.{nat_tests}
 use Rattle.chess_game.proofs.ForGood.{none_is_same, none_is_same_before}

@@ -1,4 +1,4 @@
--- The word so far is the word of the squares so far (xor_turn of Xored).
+-- The hash so far is the hash of the squares so far (xor_turn of Xored).
 use Rattle.std.proofs.Common.{◌≡◌, ℕ, ◌∙◌, ap, arith}
 use Rattle.chess_base.specs.Men.{man_at}
 use Rattle.chess_moves.specs.PositionWord.{square_keys, keys_on, xor_of}

@@ -1,4 +1,4 @@
--- The word of all rights is that of each, joined (rights_apart of Xored).
+-- The hash of all rights is that of each, joined (rights_apart of Xored).
 use Rattle.std.proofs.Common.{sym}
 use Rattle.chess_moves.proofs.Xored.{rights_apart}
 use Rattle.chess_moves.proofs.word.rights_word.Goals as goal

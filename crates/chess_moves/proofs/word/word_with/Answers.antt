@@ -1,4 +1,4 @@
--- The word of all keys is that of the men's, the side's and the rights', joined (word_apart of Xored).
+-- The hash of all keys is that of the pieces', the side's and the rights', joined (word_apart of Xored).
 use Rattle.std.proofs.Common.{sym}
 use Rattle.chess_moves.proofs.Xored.{word_apart}
 use Rattle.chess_moves.proofs.word.word_with.Goals as goal

@@ -1,4 +1,4 @@
--- White space or a dot is a token at which nothing counts, so a game is read alike from behind it on
+-- White space or a dot is a token at which nothing counts, so a game is read alike from after it on
 -- (GameReads.passed).
 use Rattle.std.proofs.Common.{sym, ◌∙◌, arith}
 use Rattle.chess_pgn.proofs.GameReads.{passed}

@@ -1,5 +1,5 @@
 -- From here on, the rest with what was read so far gives what the whole text gives (GameReads.Reads): the step of a
--- token keeps that (GameReads.more), and so does the white space behind it (GameReads.alike).
+-- token keeps that (GameReads.more), and so does the white space after it (GameReads.alike).
 use Rattle.chess_pgn.specs.ties.Seen.{token_seen, fault_seen}
 use Rattle.chess_pgn.proofs.TokenPlaces.{token_within}
 use Rattle.chess_pgn.proofs.GameReads.{more, alike, bare_at_fault}

@@ -1,4 +1,4 @@
--- What stands behind the gap of the rest stands behind the gap of the text, since the definition too skips a `%` line
+-- What follows the gap of the rest follows the gap of the text, since the definition too skips a `%` line
 -- and white space (Skipped.gap_line_more, gap_blank_more).
 use Rattle.std.proofs.Common.{sym, ap, ◌∙◌, false}
 use Rattle.chess_pgn.specs.Tokens.{behind_gap}

@@ -1,5 +1,5 @@
--- The token at the first byte that is left begins the list of tokens from there on, and the list goes on at the place
--- behind it, which is nearer to the end (Walk.next_token).
+-- The token at the first byte that is left begins the list of tokens from there on, and the list goes on at the offset
+-- after it, which is nearer to the end (Walk.next_token).
 use Rattle.std.proofs.Common.{refl, arith}
 use Rattle.chess_pgn.specs.ties.Seen.{token_seen, fault_seen}
 use Rattle.chess_pgn.proofs.Walk.{NextToken, next_token, last_token, no_token_left}

@@ -1,4 +1,4 @@
--- The tags behind the seven are those of the start and then the last ones, so their lines stand one behind another
+-- The tags after the seven are those of the start and then the last ones, so their lines come one after the other
 -- (GameTexts.further_put).
 use Rattle.chess_pgn.proofs.Added.{adds_exit}
 use Rattle.chess_pgn.proofs.GameTexts.{start_broke, further_put}

@@ -1,4 +1,4 @@
--- In each variant the tags of the array are those of the definition, whose termination is told by its text.
+-- In each variant the tags of the array are those of the definition, whose termination is named by its text.
 use Rattle.std.proofs.Common.{sym, subst, codes, [], ◌∷◌}
 use Rattle.chess_pgn.specs.GameText.{last_lines}
 use Rattle.chess_pgn.specs.ties.Waiting.{Adds}

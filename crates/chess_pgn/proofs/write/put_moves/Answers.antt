@@ -1,5 +1,5 @@
--- The moves so far were put, and the scratch board holds the position behind them. There the next move of the game is
--- legal (GameTexts.legal_next), and its tokens stand next (GameTexts.moves_put).
+-- The moves so far were put, and the scratch board holds the position after them. There the next move of the game is
+-- legal (GameTexts.legal_next), and its tokens come next (GameTexts.moves_put).
 use Rattle.std.proofs.Common.{refl, ◌∙◌}
 use Rattle.chess_pgn.proofs.Added.{adds_exit}
 use Rattle.chess_pgn.proofs.GameTexts.{legal_next, IsNext, moves_put, moves_broke, columns_more, positions_more}

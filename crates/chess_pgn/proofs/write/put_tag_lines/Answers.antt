@@ -1,4 +1,4 @@
--- The roster, the further tags and an empty line stand one behind another.
+-- The roster, the further tags and an empty line come one after the other.
 use Rattle.std.proofs.Common.{refl, ◌∙◌}
 use Rattle.chess_pgn.proofs.Added.{adds_exit}
 use Rattle.chess_pgn.proofs.GameTexts.{first_broke, second_broke, third_put, tags_are}

@@ -1,4 +1,4 @@
--- The last place tells which position its move left, so the board goes back to that one (taken of Kept). No verdict
+-- The last place holds the position that its move left, so the board goes back to that one (taken of Kept). No verdict
 -- came before the last move, so none before the one that is now the last (unended_fewer of Judged).
 use Rattle.std.proofs.Common.{subst, arith}
 use Rattle.chess_game.specs.Line.{last}

@@ -1,4 +1,4 @@
--- Positions that are the same would have equal words (told_apart of EqualWords).
+-- Positions that are the same would have equal hashes (told_apart of EqualWords).
 use Rattle.chess_game.proofs.EqualWords.{told_apart}
 use Rattle.chess_game.proofs.repetition.Known.is_told_apart.Goals as goal
 

@@ -1,4 +1,4 @@
--- Where making room failed, a beginning of what waited was taken, so the text behind it stays due (Added.break_longer).
+-- Where making room failed, a beginning of what waited was taken, so the text after it stays due (Added.break_longer).
 -- A text longer than the buffer is put where nothing waits (Added.put_behind).
 use Rattle.std.proofs.Common.{[]}
 use Rattle.chess_pgn.proofs.Added.{break_longer, adds_exit, put_behind}

@@ -1,4 +1,4 @@
--- Each feature is told by its name and the item alone, so what it is behind one item more follows from what it was
+-- Each feature is set by its name and the item alone, so what it is after one item more follows from what it was
 -- (ItemRuns.features-snoc).
 use Rattle.engine_lines.specs.Seen.{item_seen}
 use Rattle.engine_lines.proofs.ItemRuns.{features-snoc}
