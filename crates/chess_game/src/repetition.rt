@@ -12,7 +12,7 @@ use chess_base::for_boards::is_en_passant;
 use chess_base::{ColourRights, Kind, Move, Rights, Square};
 use chess_moves::Board;
 
-// A position, packed, with its live target and its word, which are told once.
+// A position, packed, with its live target and its hash, which are found once.
 #[derive(Drop)]
 pub(crate) struct Known {
     pub(crate) position: PackedPosition,
