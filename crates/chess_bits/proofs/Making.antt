@@ -1,7 +1,7 @@
 -- Moves made by cheaper means than their definitions give.
 use mathlib.Core.Bool.{and-false}
-use Rattle.std.proofs.Common.{◌≡◌, ℕ, true, false, ◌&&◌, Bool, length, set, refl, sym, ap, ◌∙◌, Option, Some, None, is_none, if◌then◌else◌}
-use Rattle.std.proofs.lemmas.Bool.{and_parts, both_ways}
+use Rattle.std.proofs.Common.{◌≡◌, ℕ, true, false, ◌&&◌, Bool, length, set, refl, sym, ap, ◌∙◌, ◌||◌, ◌==◌, Option, Some, None, is_none, if◌then◌else◌}
+use Rattle.std.proofs.lemmas.Bool.{and_parts, and_right, both_ways, ne_eqb}
 use Rattle.chess_base.specs.declared.man.CastlingSide.{CastlingSide}
 use Rattle.chess_base.specs.declared.man.CastlingSide.TheVariants.{KingSide, QueenSide}
 use Rattle.chess_base.specs.declared.man.Colour.{Colour}
@@ -11,15 +11,18 @@ use Rattle.chess_base.specs.declared.man.Kind.TheVariants.{King, Queen, Rook, Bi
 use Rattle.chess_base.specs.declared.man.Man.{Man}
 use Rattle.chess_base.specs.declared.man.Move.{Move}
 use Rattle.chess_base.specs.declared.man.Rights.{Rights}
+use Rattle.chess_base.specs.declared.man.Variant.{Variant}
+use Rattle.chess_base.specs.declared.man.Variant.TheVariants.{Normal, Fischerandom}
 use Rattle.chess_base.specs.declared.setup.Saved.{Saved}
 use Rattle.chess_base.specs.declared.setup.Setup.{Setup}
 use Rattle.chess_base.specs.Squares.{is_square}
 use Rattle.chess_base.specs.Men.{Men, man_at, other, is_man, is_of, same_colour, same_kind}
 use Rattle.chess_base.specs.Before.{captured_square, man_on, saved_of}
-use Rattle.chess_base.specs.Castling.{castle_of, castling_rook_to, lands_on, right_of, says_castling}
-use Rattle.chess_base.specs.Moves.{is_en_passant, man_that_lands, men_after, rights_after, second_square_emptied}
+use Rattle.chess_base.specs.Castling.{castle_of, castling_rook_to, home_square, is_beside, king_home_file, king_square, lands_on, right_of, right_stands, right_stands_at, rook_file, says_castling, stand_for_castling}
+use Rattle.chess_base.specs.Sound.{IsSound}
+use Rattle.chess_base.specs.Moves.{is_en_passant, man_that_lands, men_after, right_after, rights_after, second_square_emptied}
 use Rattle.chess_base.proofs.Writes.{men_after-written}
-use Rattle.chess_bits.specs.ties.Changes.{has_no_right, IsPlainly}
+use Rattle.chess_bits.specs.ties.Changes.{has_no_right, is_king_or_rook, IsPlainly}
 use Rattle.chess_bits.proofs.Quiet.{not_passing}
 use Rattle.chess_bits.proofs.TargetsOf.{no_king_says, none_castles}
 
@@ -54,6 +57,65 @@ unfolding rights_after
 none_lost p m h =
     let none = no_right p.rights h in
     rw (none.white_king_side, none.white_queen_side, none.black_king_side, none.black_queen_side) refl
+
+neither : (a b : Bool) → (a || b) ≡ false → (a ≡ false) × (b ≡ false)
+neither false false e = (refl, refl)
+neither false true e = cc
+neither true b e = cc
+
+no_king : (c : Colour) (o : Option Man) → is_king_or_rook o ≡ false → is_man c King o ≡ false
+unfolding is_man
+no_king c None e = refl
+no_king c (Some x) e = and_right (same_colour c x.colour) (same_kind King x.kind)
+    (neither (same_kind King x.kind) (same_kind Rook x.kind) e).0
+
+no_rook : (c : Colour) (o : Option Man) → is_king_or_rook o ≡ false → is_man c Rook o ≡ false
+unfolding is_man
+no_rook c None e = refl
+no_rook c (Some x) e = and_right (same_colour c x.colour) (same_kind Rook x.kind)
+    (neither (same_kind King x.kind) (same_kind Rook x.kind) e).1
+
+-- the rook of a right is on its square
+rook_there : (v : Variant) (men : Men) (c : Colour) (w : CastlingSide) (s : ℕ) → stand_for_castling v men c w s ≡ true
+    → is_man c Rook (man_at men s) ≡ true
+rook_there Normal men c w s h =
+    (and_parts ((s == home_square c (rook_file w)) && is_man c King (man_at men (home_square c king_home_file)))
+    (is_man c Rook (man_at men s)) h).1
+rook_there Fischerandom men c w s h =
+    (and_parts (is_beside c w (king_square men c) s) (is_man c Rook (man_at men s)) h).1
+
+right_kept : (p : Setup) (m : Move) (c : Colour) (w : CastlingSide) (o : Option ℕ)
+    → is_king_or_rook (man_at p.men m.from) ≡ false → is_king_or_rook (man_at p.men m.to) ≡ false
+    → right_stands_at p.variant p.men c w o ≡ true → right_after p m c o ≡ o
+right_kept p m c w None mover taken stands = refl
+right_kept p m c w (Some s) mover taken stands =
+    let there = rook_there p.variant p.men c w s stands in
+    let not_from : (m.from == s) ≡ false =
+    ne_eqb m.from s (λ e. both_ways _ (no_rook c (man_at p.men m.from) mover) (rw e there)) in
+    let not_to : (m.to == s) ≡ false =
+    ne_eqb m.to s (λ e. both_ways _ (no_rook c (man_at p.men m.to) taken) (rw e there)) in
+    rw (no_king c (man_at p.men m.from) mover, not_from, not_to) refl
+
+stands_at : (p : Setup) (c : Colour) (w : CastlingSide) → right_stands p c w ≡ true
+    → right_stands_at p.variant p.men c w (right_of p.rights c w) ≡ true
+unfolding right_stands
+stands_at p c w h = h
+
+pub rights_kept : (p : Setup) (m : Move) → IsSound p
+    → (is_king_or_rook (man_at p.men m.from) || is_king_or_rook (man_at p.men m.to)) ≡ false → p.rights ≡ rights_after p m
+unfolding rights_after
+rights_kept p m sound h =
+    let none = neither (is_king_or_rook (man_at p.men m.from)) (is_king_or_rook (man_at p.men m.to)) h in
+    rw (
+      right_kept p m White KingSide p.rights.white.king_side none.0 none.1
+          (stands_at p White KingSide sound.white_king_side),
+      right_kept p m White QueenSide p.rights.white.queen_side none.0 none.1
+          (stands_at p White QueenSide sound.white_queen_side),
+      right_kept p m Black KingSide p.rights.black.king_side none.0 none.1
+          (stands_at p Black KingSide sound.black_king_side),
+      right_kept p m Black QueenSide p.rights.black.queen_side none.0 none.1
+          (stands_at p Black QueenSide sound.black_queen_side),
+    ) refl
 
 none_of : (r : Rights) (c : Colour) (w : CastlingSide) → NoRight r → right_of r c w ≡ None
 none_of r White KingSide none = none.white_king_side

@@ -1,6 +1,6 @@
 //! A setup and its sets changed in place by a move, and back.
 
-ghost use Rattle.std.specs.Prelude.{◌≡◌, ◌&&◌, length, IsTrue, Some, None, if◌then◌else◌};
+ghost use Rattle.std.specs.Prelude.{◌≡◌, ◌&&◌, ◌||◌, length, IsTrue, Some, None, if◌then◌else◌};
 ghost use Rattle.chess_base.specs.Before.{before, saved_of};
 ghost use Rattle.chess_base.specs.Men.{is_man, is_of, man_at, with_man};
 ghost use Rattle.chess_base.specs.declared.man.Kind.TheVariants.{King, Pawn};
@@ -9,7 +9,7 @@ ghost use Rattle.chess_base.specs.Sound.{IsSound};
 ghost use Rattle.chess_base.specs.Squares.{is_square};
 ghost use Rattle.chess_base.specs.Steps.{men_stepped};
 ghost use Rattle.chess_bits.specs.ties.BoardSets.{IsSets};
-ghost use Rattle.chess_bits.specs.ties.Changes.{has_no_right, IsPlainly};
+ghost use Rattle.chess_bits.specs.ties.Changes.{has_no_right, is_king_or_rook, IsPlainly};
 ghost use Rattle.chess_moves.specs.Made.{IsMade};
 
 use crate::keys::KeyTable;
@@ -121,12 +121,36 @@ fn has_no_right(rights: &Rights) -> bool
         && rights.black.queen_side.is_none()
 }
 
-// The castling rights after the move. Where none is left there is nothing to look at.
+// Whether a king or a rook is there.
 #[inline(always)]
-#[tactic(auto, using(crate::proofs::Making::none_lost))]
+fn is_king_or_rook(man: Option<Man>) -> bool
+    ensures { result ≡ is_king_or_rook man }
+{
+    match man {
+        None => false,
+        Some(man) => man.kind == Kind::King || man.kind == Kind::Rook,
+    }
+}
+
+// Whether a king or a rook moves, or is captured.
+#[inline(always)]
+fn may_lose_right(setup: &Setup, m: &Move) -> bool
+    ensures { result ≡ (is_king_or_rook (man_at setup.now.men m.now.from)
+        || is_king_or_rook (man_at setup.now.men m.now.to)) }
+{
+    is_king_or_rook(setup.men[m.from.index()]) || is_king_or_rook(setup.men[m.to.index()])
+}
+
+// The castling rights after the move. Most moves can't take one, since its king and its rook are where they belong.
+#[inline(always)]
+#[tactic(auto, using(crate::proofs::Making::none_lost, crate::proofs::Making::rights_kept))]
 fn rights_left(setup: &Setup, m: &Move) -> Rights
+    requires { IsSound setup.now }
     ensures { result ≡ rights_after setup.now m.now }
 {
+    if !may_lose_right(setup, m) {
+        return setup.rights;
+    }
     if has_no_right(&setup.rights) {
         return setup.rights;
     }

@@ -67,6 +67,7 @@ impl Sets {
     }
 
     // Takes a man from its square.
+    #[inline(always)]
     fn lift(&mut self, keys: &KeyTable, square: Square, man: Man)
         ensures { (men : Men) → length men ≡ 64 → man_at men square ≡ Some man → IsSets self.old men
             → IsSets self.new (slice_set men square None) }
@@ -86,6 +87,7 @@ impl Sets {
     }
 
     // Puts a man on an empty square.
+    #[inline(always)]
     fn put(&mut self, keys: &KeyTable, square: Square, man: Man)
         ensures { (men : Men) → length men ≡ 64 → man_at men square ≡ None → IsSets self.old men
             → IsSets self.new (slice_set men square (Some man)) }
@@ -105,6 +107,7 @@ impl Sets {
     }
 
     // Takes from a square what stands there.
+    #[inline(always)]
     fn clear(&mut self, keys: &KeyTable, square: Square, old: Option<Man>)
         ensures { (men : Men) → length men ≡ 64 → man_at men square ≡ old → IsSets self.old men
             → IsSets self.new (slice_set men square None) }
@@ -115,6 +118,7 @@ impl Sets {
     }
 
     // Puts on an empty square what shall stand there.
+    #[inline(always)]
     fn fill(&mut self, keys: &KeyTable, square: Square, new: Option<Man>)
         ensures { (men : Men) → length men ≡ 64 → man_at men square ≡ None → IsSets self.old men
             → IsSets self.new (slice_set men square new) }
@@ -125,6 +129,7 @@ impl Sets {
     }
 
     /// Changes what stands on a square.
+    #[inline(always)]
     pub fn write(&mut self, keys: &KeyTable, square: Square, old: Option<Man>, new: Option<Man>)
         ensures { (men : Men) → length men ≡ 64 → man_at men square ≡ old → IsSets self.old men
             → IsSets self.new (slice_set men square new) }

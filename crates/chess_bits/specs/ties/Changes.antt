@@ -1,11 +1,12 @@
 -- The squares that a move changes and fills, and moves that change their two squares alone.
-use Rattle.std.specs.Prelude.{◌≡◌, ℕ, ◌==◌, ◌&&◌, ◌||◌, Bool, true, false, None, is_none}
-use Rattle.chess_base.specs.declared.man.Kind.TheVariants.{King, Pawn}
+use Rattle.std.specs.Prelude.{◌≡◌, ℕ, ◌==◌, ◌&&◌, ◌||◌, Bool, true, false, None, is_none, Option, Some}
+use Rattle.chess_base.specs.declared.man.Kind.TheVariants.{King, Rook, Pawn}
+use Rattle.chess_base.specs.declared.man.Man.{Man}
 use Rattle.chess_base.specs.declared.man.Move.{Move}
 use Rattle.chess_base.specs.declared.man.Rights.{Rights}
 use Rattle.chess_base.specs.declared.setup.Setup.{Setup}
 use Rattle.chess_base.specs.Castling.{castle_of, lands_on, castling_rook_to}
-use Rattle.chess_base.specs.Men.{man_at, is_man}
+use Rattle.chess_base.specs.Men.{man_at, is_man, same_kind}
 use Rattle.chess_base.specs.MoveList.{triple}
 use Rattle.chess_base.specs.Moves.{has_pattern, is_en_passant, second_square_emptied}
 use Rattle.chess_base.specs.Squares.{is_square}
@@ -28,6 +29,11 @@ pub record StepsPlainly (p : Setup) (a b : ℕ) : Type 0 where
 abbrev pub has_no_right : Rights → Bool
 has_no_right r = is_none r.white.king_side && is_none r.white.queen_side && is_none r.black.king_side
     && is_none r.black.queen_side
+
+-- a man that a right to castle speaks of: a king or a rook
+abbrev pub is_king_or_rook : Option Man → Bool
+is_king_or_rook None = false
+is_king_or_rook (Some x) = same_kind King x.kind || same_kind Rook x.kind
 
 -- the move is neither castling nor a capture en passant
 pub record IsPlainly (p : Setup) (m : Move) : Type 0 where
