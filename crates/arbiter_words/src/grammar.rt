@@ -10,22 +10,27 @@ use clap::builder::ValueParser;
 use clap::{Arg, ArgAction, Command};
 use std::alloc::{AllocError, Global};
 
-const ABOUT: &str =
-    "Checks games between chess engines by the Laws of Chess: answers the XBoard protocol (CECP, version 2), verifies
-PGN, and plays matches between two engines";
+// The version that `--version` prints.
+const VERSION: &str = "0.1.0";
 
-const EXAMPLES: &str = "Examples:
+const ABOUT: &str = "\
+Checks games between chess engines by the Laws of Chess: answers the XBoard protocol (CECP, version 2), verifies PGN,
+and plays matches between two engines";
+
+const EXAMPLES: &str = "\
+Examples:
   arbiter                                              a session: type e2e4, showfen, quit
   arbiter verify < games.pgn                           one line per game, up to the first fault
   arbiter match --white sjeng --black phalanx > a.txt  one game between two engines
   arbiter stub e2e4 g1f3                               an engine that plays these two moves
 
-Exit status: 0 on success; 1 after an I/O error, out of memory, a failed engine or a fault found by verify; 2 for
-invalid arguments.";
+Exit status: 0 on success; 1 if an I/O error occurs, memory runs out, the input of verify is too long, an engine fails,
+or verify finds a fault; 2 if the arguments are invalid.";
 
-const SESSION_EXAMPLES: &str = "Commands, one per line:
+const SESSION_EXAMPLES: &str = "\
+Commands, one per line:
   new                                start from the initial position of normal chess
-  variant fischerandom               start from the initial position of Chess960
+  variant fischerandom               start from the same position, in Chess960
   setboard FEN                       start from a position
   e2e4, Nf3, O-O, usermove e7e8q     play a move
   undo, remove                       take back one half-move, or two
@@ -33,49 +38,49 @@ const SESSION_EXAMPLES: &str = "Commands, one per line:
   result 1-0 {Black resigns}         declare the result
   showfen, showmoves                 print the position, or all legal moves
   showstate, showpgn                 print the state of the game, or its PGN
-  ping 7, protover 2, quit           the XBoard protocol
+  ping 7, protover 2                 print `pong 7`, or the features of the arbiter
+  quit                               end the session
 
-A legal move is answered by nothing, or by the result if it ends the game.
+A legal move is only answered if it ends the game, with the result.
 
 Example:
   printf 'e2e4\\nshowfen\\n' | arbiter session";
 
-const VERIFY_EXAMPLES: &str =
-    "Prints one line per game: `game 1: 40 half-moves, 1-0`, or its first fault: `game 1: illegal move at byte 6`. Bytes
-are counted from 0. Without --keep-going the first fault ends the run, and the file may have 16,777,216 bytes. With it
-the file may have any size, and the text from one `[Event ` line to the next 16,777,216 bytes. The exit status is 1 if
-a game has a fault.
+const VERIFY_EXAMPLES: &str = "\
+Prints one line per game: `game 1: 40 half-moves, 1-0`, or its first fault: `game 1: illegal move at byte 6`. Bytes are
+counted from 0. The exit status is 1 if a game has a fault.
+
+Without --keep-going the first fault ends the run, and the input may have at most 16,777,216 bytes. With --keep-going it
+may have any size, but at most 16,777,216 bytes from one line that begins with `[Event ` to the next. The totals are
+`games 2 half-moves 91 faults 1`: the games without a fault, their half-moves, and the faults.
 
 Examples:
   arbiter verify < games.pgn
   arbiter verify --keep-going --quiet < games.pgn
-  zcat games.pgn.gz | arbiter verify --keep-going --strict
+  zcat games.pgn.gz | arbiter verify --keep-going --strict";
 
-The totals are `games 2 half-moves 91 faults 1`: games without a fault, their half-moves, and games with one.";
-
-const STUB_EXAMPLES: &str =
-    "On each turn the stub plays the next argument: a move; `resign`; or `end`, which closes its output in the middle of
-a line. After a move, `offer` offers a draw and `claim` claims one. When no arguments are left, it resigns.
+const STUB_EXAMPLES: &str = "\
+On each turn the stub plays the next argument: a move; `resign`; or `end`, which closes its output in the middle of a
+line. After a move, `offer` offers a draw and `claim` claims one. When no arguments are left, it resigns.
 
 Examples:
   arbiter stub e2e4 g1f3 offer resign
   arbiter match --white \"arbiter stub f2f3 g2g4\" --black \"arbiter stub e7e5 d8h4\"";
 
-const MATCH_EXAMPLES: &str =
-    "The first engine plays White in odd games and Black in even ones. Both must send `feature ping=1` and `done=1`.
-There are no time-outs: an engine that never answers is waited for. After the last game comes the score, which is not
-PGN: grep -v '^score ' removes it.
+const MATCH_EXAMPLES: &str = "\
+The first engine plays White in odd games and Black in even ones. Both must send `feature ping=1` and `done=1`, and
+`setboard=1` unless games start from the initial position of normal chess. There are no time-outs: an engine that never
+answers is waited for. After the last game comes the score, which is not PGN: grep -v '^score ' removes it.
+
+In the log, `312 <first : move e2e4` is a line from the first engine, whichever side it has, and `312 >second: e2e4` a
+line to the second; `!` marks an end of output, an I/O error, or a line that is too long and left out.
 
 Examples:
   arbiter match --white sjeng --black phalanx
   arbiter match --white sjeng --black phalanx --games 10 --level \"40 5 0\" --date 2026.11.23 > match.txt
   arbiter match --white ./a --black \"./b -x\" --level \"0 0:30 1\" --fen \"4k3/8/8/8/8/8/4P3/4K3 w - - 0 1\"
   arbiter match --white ./a --black ./b --variant fischerandom
-  arbiter match --white ./a --black ./b --log 2> match.debug
-
-With --log a line of the error output is `312 <first : move e2e4` or `312 >second: e2e4`: the milliseconds of the match
-at the last event, `<` for what the engine of --white says and `>` for what it is sent, or `second` for that of --black;
-with `!` an end of its output, a read or write that failed, or a line of more than 8,192 bytes, which is left out.";
+  arbiter match --white ./a --black ./b --log 2> match.debug";
 
 // What `--variant` takes.
 static VARIANTS: [&str; 2] = ["normal", "fischerandom"];
@@ -172,7 +177,7 @@ fn match_command<'a>(alloc: Global) -> Result<Command<'a>, AllocError>
         alloc,
         "level",
         "LEVEL",
-        "Moves per session, minutes or M:SS, seconds per move [default: 40 5 0]",
+        "Moves per session (0: all), minutes or M:SS, seconds per move [default: 40 5 0]",
     ))?
     .arg(option(
         alloc,
@@ -191,7 +196,7 @@ fn match_command<'a>(alloc: Global) -> Result<Command<'a>, AllocError>
     .arg(flag(
         alloc,
         "log",
-        "Write each line that an engine says or is sent to standard error, in the form of XBoard's debug file",
+        "Log the lines from and to both engines on standard error, in the format of XBoard's debug file",
     ))
 }
 
@@ -210,7 +215,7 @@ fn verify_command<'a>(alloc: Global) -> Result<Command<'a>, AllocError>
         "keep-going",
         "Continue after a fault, with the next line that begins with `[Event `, and print totals at the end",
     ))?
-    .arg(flag(alloc, "quiet", "Print only games with a fault"))?
+    .arg(flag(alloc, "quiet", "Leave out games without a fault"))?
     .arg(flag(
         alloc,
         "strict",
@@ -249,7 +254,7 @@ pub(crate) fn arbiter_command<'a>(alloc: Global) -> Result<Command<'a>, AllocErr
     let matches = match_command(alloc)?;
     command(alloc, "arbiter", ABOUT, EXAMPLES)
         .bin_name("arbiter")?
-        .version("0.1.0")
+        .version(VERSION)
         .no_binary_name(true)
         .disable_help_subcommand(true)
         .subcommand(session)?

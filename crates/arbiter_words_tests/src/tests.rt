@@ -355,3 +355,124 @@ fn other_words_are_refused(rt: HostRuntime) -> Result<(), Fail> {
     }
     Ok(())
 }
+
+// Arguments that ask for help, the beginning of a line in that text, and the arguments of the example on that line.
+const EXAMPLES: [(&[&str], &str, &[&str]); 15] = [
+    (&["--help"], "\n  arbiter     ", &[]),
+    (&["--help"], "\n  arbiter verify < games.pgn ", &["verify"]),
+    (
+        &["--help"],
+        "\n  arbiter match --white sjeng --black phalanx > a.txt ",
+        &["match", "--white", "sjeng", "--black", "phalanx"],
+    ),
+    (
+        &["--help"],
+        "\n  arbiter stub e2e4 g1f3 ",
+        &["stub", "e2e4", "g1f3"],
+    ),
+    (
+        &["session", "--help"],
+        "\n  printf 'e2e4\\nshowfen\\n' | arbiter session\n",
+        &["session"],
+    ),
+    (
+        &["verify", "--help"],
+        "\n  arbiter verify < games.pgn\n",
+        &["verify"],
+    ),
+    (
+        &["verify", "--help"],
+        "\n  arbiter verify --keep-going --quiet < games.pgn\n",
+        &["verify", "--keep-going", "--quiet"],
+    ),
+    (
+        &["verify", "--help"],
+        "\n  zcat games.pgn.gz | arbiter verify --keep-going --strict\n",
+        &["verify", "--keep-going", "--strict"],
+    ),
+    (
+        &["stub", "--help"],
+        "\n  arbiter stub e2e4 g1f3 offer resign\n",
+        &["stub", "e2e4", "g1f3", "offer", "resign"],
+    ),
+    (
+        &["stub", "--help"],
+        "\n  arbiter match --white \"arbiter stub f2f3 g2g4\" --black \"arbiter stub e7e5 d8h4\"\n",
+        &[
+            "match",
+            "--white",
+            "arbiter stub f2f3 g2g4",
+            "--black",
+            "arbiter stub e7e5 d8h4",
+        ],
+    ),
+    (
+        &["match", "--help"],
+        "\n  arbiter match --white sjeng --black phalanx\n",
+        &["match", "--white", "sjeng", "--black", "phalanx"],
+    ),
+    (
+        &["match", "--help"],
+        "\n  arbiter match --white sjeng --black phalanx --games 10 --level \"40 5 0\" --date 2026.11.23 > match.txt\n",
+        &[
+            "match",
+            "--white",
+            "sjeng",
+            "--black",
+            "phalanx",
+            "--games",
+            "10",
+            "--level",
+            "40 5 0",
+            "--date",
+            "2026.11.23",
+        ],
+    ),
+    (
+        &["match", "--help"],
+        "\n  arbiter match --white ./a --black \"./b -x\" --level \"0 0:30 1\" --fen \"4k3/8/8/8/8/8/4P3/4K3 w - - 0 1\"\n",
+        &[
+            "match",
+            "--white",
+            "./a",
+            "--black",
+            "./b -x",
+            "--level",
+            "0 0:30 1",
+            "--fen",
+            "4k3/8/8/8/8/8/4P3/4K3 w - - 0 1",
+        ],
+    ),
+    (
+        &["match", "--help"],
+        "\n  arbiter match --white ./a --black ./b --variant fischerandom\n",
+        &[
+            "match",
+            "--white",
+            "./a",
+            "--black",
+            "./b",
+            "--variant",
+            "fischerandom",
+        ],
+    ),
+    (
+        &["match", "--help"],
+        "\n  arbiter match --white ./a --black ./b --log 2> match.debug\n",
+        &["match", "--white", "./a", "--black", "./b", "--log"],
+    ),
+];
+
+// The examples in the texts of help ask for something.
+#[test]
+fn examples_in_help_are_accepted(rt: HostRuntime) -> Result<(), Fail> {
+    for (asked, line, arguments) in &EXAMPLES {
+        let Err(fault) = read_words(rt.alloc(), asked) else {
+            return Err(Fail::new("no help"));
+        };
+        let help = format!(in rt.alloc(); "{fault}")?;
+        assert!(rt; help.as_str().contains(*line));
+        assert!(rt; read_words(rt.alloc(), arguments).is_ok());
+    }
+    Ok(())
+}
