@@ -1,21 +1,30 @@
 -- The games of a match, one after another.
-use Rattle.std.proofs.Common.{◌≡◌, ◌∙◌, ◌<◌, ◌≤◌, ◌+◌, ◌&&◌, not, ℕ, true, false, List, [], ◌∷◌, ◌++◌, length, is_err, is_some, Bor, Option, Some, None, Result, Ok, Err, refl, sym, ap, subst, append_assoc, append-nil, length-append, arith, inl, inr}
+use Rattle.std.proofs.Common.{◌≡◌, ◌∙◌, ◌<◌, ◌≤◌, ◌+◌, ◌&&◌, not, ℕ, Bool, true, false, List, [], ◌∷◌, ◌++◌, length, is_err, is_some, Bor, Option, Some, None, Result, Ok, Err, refl, sym, ap, subst, append_assoc, append-nil, length-append, arith, inl, inr}
+use Rattle.std.specs.Prelude.{if◌then◌else◌}
 use Rattle.std.proofs.lemmas.Bool.{and_from}
 use Rattle.arbiter_words.specs.declared.plan.MatchPlan.{MatchPlan}
 use Rattle.chess_base.specs.declared.man.Colour.{Colour}
+use Rattle.chess_base.specs.declared.man.Colour.TheVariants.{White, Black}
 use Rattle.byte_devices.specs.Devices.{OutputState, Begins, BreaksOff, Sends, Sent}
 use Rattle.byte_devices.proofs.DeviceLaws.{appends_more}
 use Rattle.chess_game.specs.Game.{Seen}
 use Rattle.chess_base.specs.declared.setup.Setup.{Setup}
 use Rattle.engine_lines.specs.Levels.{LevelSeen}
 use Rattle.chess_match.specs.Reasons.{comment_of}
-use Rattle.chess_match.specs.Run.{Flushed, Ran}
+use Rattle.chess_match.specs.Match.{Event}
+use Rattle.chess_match.specs.Notes.{Note, Happened, Gives, events_in, given_in}
+use Rattle.chess_match.specs.Rules.{rules_of}
+use Rattle.chess_match.specs.Run.{Flushed, Ports, Ran}
+use Rattle.chess_match.specs.Sent.{SentLine, bytes_of}
+use Rattle.chess_match.specs.Transcript.{sent}
 use Rattle.chess_match.specs.declared.reason.MatchFault.{MatchFault}
 use Rattle.chess_match.specs.declared.reason.Reason.TheVariants.{Faulted}
 use Rattle.chess_match.specs.declared.run.MatchEnd.{MatchEnd}
 use Rattle.chess_match.proofs.Flushes.{flushed_none, failed_behind}
 use Rattle.chess_match.proofs.Outcomes.{and_first, and_second}
-use Rattle.chess_arbiter.specs.Games.{AreOfPlan, EndsGames, GameTold, HasPlayed, IsMatchEnd, IsOfPlan, IsStartFault, PlayedOne, RanGames, SoundGames, are_sound, game_text, game_texts, is_odd, match_text, no_score, score_line, score_of, score_on, scored}
+use Rattle.chess_arbiter.specs.Games.{AreOfPlan, EndsGames, GameTold, HasPlayed, IsOfPlan, IsStartFault, LogsGame, LogsGames, LogsGamesIf, PlayedOne, RanGames, Relayed, SoundGames, are_sound, first_side, game_logs, game_text, game_texts, is_odd, logged_side, match_text, no_score, score_line, score_of, score_on, scored}
+use Rattle.chess_arbiter.specs.Log.{LogSeen, Logged, RanNoted, log_text}
+use Rattle.chess_arbiter.proofs.Logged.{logged_more, logs_none}
 use Rattle.chess_arbiter.specs.declared.games.GamesFault.{GamesFault}
 use Rattle.chess_arbiter.specs.declared.games.GamesFault.TheVariants.{WriteFailed, NoMemory, CanNotStart, Game}
 use Rattle.chess_arbiter.specs.declared.games.Played.{Played}
@@ -33,12 +42,66 @@ flushed_more w w' w'' x y h k = record {
 -- ---- one game
 
 -- a match leaves the game its limit
-pub limit_kept : (start : Setup) (level : LevelSeen) (g g' : Seen) (end : MatchEnd) → IsMatchEnd start level g g' end
+pub limit_kept : (notes : List Note) (start : Setup) (level : LevelSeen) (g g' : Seen) (end : MatchEnd)
+    (w w' : Ports) (coming coming' : ℕ → Option ℕ) → RanNoted notes start level g g' end w w' coming coming'
     → g'.limit ≡ g.limit
-limit_kept start level g g' end (w, w', coming, coming', ran) = kept ran
-  where
-    kept : Ran start level g g' end w w' coming coming' → g'.limit ≡ g.limit
-    kept (T, by) = ap (λ (v : Seen). v.limit) by.4
+limit_kept notes start level g g' end w w' coming coming' (T, are, by) = ap (λ (v : Seen). v.limit) by.4
+
+-- ---- a game that is not logged
+
+abbrev happened : List Event → List Note
+happened [] = []
+happened (e ∷ T) = Happened e ∷ happened T
+
+-- notes of a transcript and of the lines that were sent
+abbrev notes_of : List Event → (Colour → List SentLine) → List Note
+notes_of T lines = Gives White (bytes_of (lines White)) ∷ Gives Black (bytes_of (lines Black)) ∷ happened T
+
+events-happened : (T : List Event) → events_in (happened T) ≡ T
+events-happened [] = refl
+events-happened (e ∷ T) = ap (λ (es : List Event). e ∷ es) (events-happened T)
+
+given-happened : (S : Colour) (T : List Event) → given_in S (happened T) ≡ []
+given-happened S [] = refl
+given-happened S (e ∷ T) = given-happened S T
+
+given_of : (T : List Event) (lines : Colour → List SentLine) (S : Colour)
+    → given_in S (notes_of T lines) ≡ bytes_of (lines S)
+given_of T lines White =
+    ap (λ (l : List ℕ). bytes_of (lines White) ++ l) (given-happened White T) ∙ append-nil (bytes_of (lines White))
+given_of T lines Black =
+    ap (λ (l : List ℕ). bytes_of (lines Black) ++ l) (given-happened Black T) ∙ append-nil (bytes_of (lines Black))
+
+pub relayed : (l : LogSeen) (start : Setup) (level : LevelSeen) (g g' : Seen) (end : MatchEnd) (w w' : Ports)
+    (coming coming' : ℕ → Option ℕ) → Ran start level g g' end w w' coming coming'
+    → Relayed None l l start level g g' end w w' coming coming'
+relayed l start level g g' end w w' coming coming' (T, by) =
+    let lines : Colour → List SentLine = λ S. sent (rules_of start level g.limit) S T in
+    (notes_of T lines, (T, (events-happened T, given_of T lines), by), refl)
+
+-- ---- logs of games
+
+logs_more : (n : ℕ) (games : List GameTold) (g : GameTold)
+    → game_logs n (games ++ g ∷ []) ≡ game_logs n games ++ log_text (first_side (n + length games)) g.notes
+logs_more n [] g =
+    append-nil (log_text (first_side n) g.notes) ∙ ap (λ k. log_text (first_side k) g.notes) (omega arith)
+logs_more n (x ∷ games) g =
+    let here : List ℕ = log_text (first_side n) x.notes in
+    ap (λ t. here ++ t) (logs_more (n + 1) games g)
+    ∙ sym (append_assoc here (game_logs (n + 1) games) (log_text (first_side (n + 1 + length games)) g.notes))
+    ∙ ap (λ k. (here ++ game_logs (n + 1) games) ++ log_text (first_side k) g.notes) (omega arith)
+
+logs_if : (asked : Bool) (l l' l'' : LogSeen) (games : List GameTold) (g : GameTold) → LogsGamesIf asked l l' games
+    → LogsGame (if asked then Some (first_side (1 + length games)) else None) l' l'' g.notes
+    → LogsGamesIf asked l l'' (games ++ g ∷ [])
+logs_if false l l' l'' games g h k = k ∙ h
+logs_if true l l' l'' games g h k =
+    subst (λ (t : List ℕ). Logged l l'' t) (sym (logs_more 1 games g))
+    (logged_more l l' l'' (game_logs 1 games) (log_text (first_side (1 + length games)) g.notes) h k)
+
+log_none : (asked : Bool) (l : LogSeen) → LogsGamesIf asked l l []
+log_none false l = refl
+log_none true l = logs_none l.broken l.output
 
 -- ---- one game more
 
@@ -72,26 +135,35 @@ sound_more (x ∷ games) g h k =
 
 -- ---- so far
 
--- games without a fault were played and told
-pub record SoFar (plan : MatchPlan) (w w' : OutputState) (number : ℕ) (score : Score) (games : List GameTold) : Type 0
+-- games without a fault were played, written and logged
+pub record SoFar (plan : MatchPlan) (w w' : OutputState) (l l' : LogSeen) (number : ℕ) (score : Score)
+    (games : List GameTold) : Type 0
   where
     pub games_sound : SoundGames plan games
     pub numbered : number ≡ 1 + length games
     pub few : length games ≤ plan.games
     pub counted : score ≡ score_of games
     pub told : Flushed w w' (game_texts plan 1 games)
+    pub logged : LogsGames plan l l' games
 
-pub start : (plan : MatchPlan) (w : OutputState) → SoFar plan w w 1 no_score []
-start plan w = record {
+pub start : (plan : MatchPlan) (w : OutputState) (l : LogSeen) → SoFar plan w w l l 1 no_score []
+start plan w l = record {
   games_sound = record { of_plan = tt; sound = refl };
   numbered = omega arith;
   few = omega arith;
   counted = refl;
   told = flushed_none w;
+  logged = log_none plan.log l;
 }
 
-module _ (plan : MatchPlan) (w w' w'' : OutputState) (number : ℕ) (score : Score) (games : List GameTold)
-    (s : SoFar plan w w' number score games) where
+module _ (plan : MatchPlan) (w w' w'' : OutputState) (l l' l'' : LogSeen) (number : ℕ) (score : Score)
+    (games : List GameTold) (s : SoFar plan w w' l l' number score games) where
+  logged_on : (g : GameTold) → LogsGame (logged_side plan number) l' l'' g.notes
+      → LogsGames plan l l'' (games ++ g ∷ [])
+  logged_on g log =
+      logs_if plan.log l l' l'' games g s.logged
+      (subst (λ n. LogsGame (logged_side plan n) l' l'' g.notes) s.numbered log)
+
   told_more : (g : GameTold) → Sent w' w'' (game_text plan number g)
       → Flushed w w'' (game_texts plan 1 (games ++ g ∷ []))
   told_more g sent =
@@ -106,9 +178,9 @@ module _ (plan : MatchPlan) (w w' w'' : OutputState) (number : ℕ) (score : Sco
       ∙ sym (score_more 1 games g no_score)
 
   pub one_more : (g : GameTold) → number ≤ plan.games → IsOfPlan plan g → g.end.fault ≡ None
-      → Sent w' w'' (game_text plan number g)
-      → SoFar plan w w'' (number + 1) (scored (is_odd number) g.end.outcome score) (games ++ g ∷ [])
-  one_more g le of none sent =
+      → Sent w' w'' (game_text plan number g) → LogsGame (logged_side plan number) l' l'' g.notes
+      → SoFar plan w w'' l l'' (number + 1) (scored (is_odd number) g.end.outcome score) (games ++ g ∷ [])
+  one_more g le of none sent log =
       let n = s.numbered in
       let longer = length-append games (g ∷ []) in
       record {
@@ -120,23 +192,26 @@ module _ (plan : MatchPlan) (w w' w'' : OutputState) (number : ℕ) (score : Sco
         few = omega (arith, n, longer, le);
         counted = counted_more g;
         told = told_more g sent;
+        logged = logged_on g log;
       }
 
   pub with_fault : (g : GameTold) (side : Colour) (fault : MatchFault) → number ≤ plan.games → IsOfPlan plan g
       → g.end.fault ≡ Some (side, fault) → Sent w' w'' (game_text plan number g)
-      → HasPlayed plan w w''
+      → LogsGame (logged_side plan number) l' l'' g.notes
+      → HasPlayed plan w w'' l l''
       (Ok (record { score = scored (is_odd number) g.end.outcome score; fault = Some (number, side, fault) }))
-  with_fault g side fault le of is sent =
+  with_fault g side fault le of is sent log =
       let n = s.numbered in (
         games ++ g ∷ [],
         (games, g, refl, s.games_sound, of, is, omega (arith, n), omega (arith, n, le)),
         counted_more g,
         told_more g sent,
+        logged_on g log,
       )
 
-  pub broke : (fault : GamesFault) → number ≤ plan.games → PlayedOne plan number w' w'' (Err fault)
-      → HasPlayed plan w w'' (Err fault)
-  broke WriteFailed le (next, of, (begun, begins, failed)) =
+  pub broke : (fault : GamesFault) → number ≤ plan.games → PlayedOne plan number w' w'' l' l'' (Err fault)
+      → HasPlayed plan w w'' l l'' (Err fault)
+  broke WriteFailed le (next, of, (begun, begins, failed), log) =
       let n = s.numbered in
       let m : number ≡ length games + 1 = omega (arith, n) in (
         games,
@@ -147,8 +222,9 @@ module _ (plan : MatchPlan) (w w' w'' : OutputState) (number : ℕ) (score : Sco
         of,
         subst (λ k. Begins begun (game_text plan k next)) m begins,
         failed_behind w w' w'' (game_texts plan 1 games) begun s.told failed,
+        logged_on next log,
       )
-  broke NoMemory le (is, same) =
+  broke NoMemory le (is, same, log) =
       let n = s.numbered in
       let m : number ≡ length games + 1 = omega (arith, n) in (
         games,
@@ -156,8 +232,9 @@ module _ (plan : MatchPlan) (w w' w'' : OutputState) (number : ℕ) (score : Sco
         omega (arith, n, le),
         subst (λ k. IsStartFault plan k NoMemory) m is,
         subst (λ v. Flushed w v (game_texts plan 1 games)) (sym same) s.told,
+        subst (λ v. LogsGames plan l v games) (sym log) s.logged,
       )
-  broke (CanNotStart command) le (is, same) =
+  broke (CanNotStart command) le (is, same, log) =
       let n = s.numbered in
       let m : number ≡ length games + 1 = omega (arith, n) in (
         games,
@@ -165,19 +242,20 @@ module _ (plan : MatchPlan) (w w' w'' : OutputState) (number : ℕ) (score : Sco
         omega (arith, n, le),
         subst (λ k. IsStartFault plan k (CanNotStart command)) m is,
         subst (λ v. Flushed w v (game_texts plan 1 games)) (sym same) s.told,
+        subst (λ v. LogsGames plan l v games) (sym log) s.logged,
       )
-  broke (Game k text) le (is, same) = elim is [
+  broke (Game k text) le (is, same, log) = elim is [
     | inl h ↦ absurd h
     | inr h ↦ absurd h
   ]
 
-pub all_played : (plan : MatchPlan) (w w' : OutputState) (number : ℕ) (score : Score) (games : List GameTold)
-    → SoFar plan w w' number score games → plan.games < number
-    → HasPlayed plan w w' (Ok (record { score = score; fault = None }))
-all_played plan w w' number score games s past =
+pub all_played : (plan : MatchPlan) (w w' : OutputState) (l l' : LogSeen) (number : ℕ) (score : Score)
+    (games : List GameTold) → SoFar plan w w' l l' number score games → plan.games < number
+    → HasPlayed plan w w' l l' (Ok (record { score = score; fault = None }))
+all_played plan w w' l l' number score games s past =
     let n = s.numbered in
     let few = s.few in
-    (games, (s.games_sound, omega (arith, n, few, past)), s.counted, s.told)
+    (games, (s.games_sound, omega (arith, n, few, past)), s.counted, s.told, s.logged)
 
 -- ---- the end of a match
 
@@ -192,24 +270,25 @@ pub is_broken : {A E : Type 0} (w w' : OutputState) (r : Result A E) (text : Lis
 is_broken w w' (Ok v) text h k = cc
 is_broken w w' (Err e) text h k = h
 
-module _ (plan : MatchPlan) (w w' w'' : OutputState) (played : Played) (h : HasPlayed plan w w' (Ok played)) where
+module _ (plan : MatchPlan) (w w' w'' : OutputState) (l l' : LogSeen) (played : Played)
+    (h : HasPlayed plan w w' l l' (Ok played)) where
   score_sent : Sent w' w'' (score_line played.score) → Flushed w w'' (match_text plan h.0)
   score_sent sent =
       flushed_more w w' w'' (game_texts plan 1 h.0) (score_line (score_of h.0)) h.3
       (subst (λ v. Sent w' w'' (score_line v)) h.2 sent)
 
   pub all_told : Sent w' w'' (score_line played.score) → played.fault ≡ None
-      → RanGames {A = Unit {0}} plan w w'' (Ok (tt {0}))
-  all_told sent none = (h.0, subst (EndsGames plan h.0) none h.1, score_sent sent)
+      → RanGames {A = Unit {0}} plan w w'' l l' (Ok (tt {0}))
+  all_told sent none = (h.0, subst (EndsGames plan h.0) none h.1, score_sent sent, h.4)
 
   pub fault_told : (number : ℕ) (side : Colour) (fault : MatchFault) (text : Bor (List ℕ))
       → text.now ≡ comment_of (Faulted side fault)
       → Sent w' w'' (score_line played.score) → played.fault ≡ Some (number, side, fault)
-      → RanGames {A = Unit {0}} plan w w'' (Err (Game number text))
+      → RanGames {A = Unit {0}} plan w w'' l l' (Err (Game number text))
   fault_told number side fault text told sent is =
-      (h.0, side, fault, subst (EndsGames plan h.0) is h.1, told, score_sent sent)
+      (h.0, side, fault, subst (EndsGames plan h.0) is h.1, told, score_sent sent, h.4)
 
-  pub score_broken : BreaksOff w' w'' (score_line played.score) → RanGames {A = Unit {0}} plan w w'' (Err WriteFailed)
+  pub score_broken : BreaksOff w' w'' (score_line played.score) → RanGames {A = Unit {0}} plan w w'' l l' (Err WriteFailed)
   score_broken (begun, begins, failed) = inr (
     h.0,
     played.fault,
@@ -217,4 +296,5 @@ module _ (plan : MatchPlan) (w w' w'' : OutputState) (played : Played) (h : HasP
     h.1,
     subst (λ v. Begins begun (score_line v)) h.2 begins,
     failed_behind w w' w'' (game_texts plan 1 h.0) begun h.3 failed,
+    h.4,
   )

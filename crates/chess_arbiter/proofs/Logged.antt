@@ -1,60 +1,134 @@
--- What a log took, put together.
-use Rattle.std.proofs.Common.{◌≡◌, ℕ, ◌+◌, ◌<◌, length, drop, get_or, Bool, false, List, [], ◌∷◌, ◌++◌, refl, ap, sym, ◌∙◌, subst, append_assoc, append-nil, Option, Some, None}
+-- What was logged, put together.
+use Rattle.std.proofs.Common.{◌≡◌, ℕ, ◌+◌, ◌<◌, length, drop, get_or, Bool, true, false, List, [], ◌∷◌, ◌++◌, refl, ap, sym, ◌∙◌, subst, append_assoc, append-nil, Option, Some, None, Result, Ok, Err}
 use Rattle.std.specs.Prelude.{if◌then◌else◌, ◌==◌}
+use Rattle.std.specs.Result.{is_err}
 use Rattle.std.proofs.lemmas.List.{drop_more}
 use Rattle.std.specs.Io.KnownBytes.{Appends}
 use Rattle.chess_base.specs.Letters.{new_line}
 use Rattle.chess_base.specs.declared.man.Colour.{Colour}
-use Rattle.byte_devices.specs.Devices.{OutputState, Sent}
-use Rattle.chess_match.specs.Notes.{Note, Knowing, WasNoted, WasTold}
-use Rattle.chess_match.specs.Match.{Event}
-use Rattle.chess_match.specs.Sent.{SentLine}
-use Rattle.chess_arbiter.specs.Log.{Adds, IsLog, IsWritten, shown, given_text, ends_line, log_from, log_text, no_place, note_text, place_by, place_from}
+use Rattle.chess_base.specs.declared.man.Colour.TheVariants.{White, Black}
+use Rattle.chess_base.specs.declared.setup.Setup.{Setup}
+use Rattle.byte_devices.specs.Devices.{OutputState, Sent, Sends, risen}
+use Rattle.byte_devices.proofs.DeviceLaws.{appends_more}
+use Rattle.chess_game.specs.Game.{Seen}
+use Rattle.engine_lines.specs.Levels.{LevelSeen}
+use Rattle.chess_match.specs.Notes.{Note, WasNoted}
+use Rattle.chess_match.specs.Run.{Flushed, FlushedThenFailed, Ports, RanBefore}
+use Rattle.chess_match.specs.declared.run.MatchEnd.{MatchEnd}
+use Rattle.chess_match.proofs.Flushes.{flushed_none, flushed_more, failed_behind}
+use Rattle.chess_arbiter.specs.Log.{Adds, IsLog, LogSeen, Logged, Logs, RanLogged, after_note, after_notes, ends_line, first_of_text, given_text, log_from, log_of_text, log_start, log_text, note_text, shown, text_of_log}
+use Rattle.chess_arbiter.specs.declared.log.LogState.{LogState}
 use Rattle.chess_arbiter.specs.declared.log.Pending.{Pending}
-use Rattle.chess_arbiter.specs.declared.log.Place.{Place}
+
+-- ---- the output
+
+-- nothing was logged
+pub logs_none : (b : Bool) (o : OutputState) → Logs b b o o [] []
+logs_none false o = ([], flushed_none o, refl)
+logs_none true o = refl
+
+flushed_sent : (o o' : OutputState) (text : List ℕ) → Sent o o' text → Flushed o o' text
+flushed_sent o o' text s = record { bytes = s.bytes; failures = s.failures; unflushed = λ e. s.flushed }
+
+-- a text was sent, or a beginning of it was
+pub logs_sent : {A E : Type 0} (o o' : OutputState) (r : Result A E) (failed : Bool) (text : List ℕ)
+    → Sends o o' r text → failed ≡ is_err r → Logs false failed o o' [] text
+logs_sent o o' (Ok v) failed text s is =
+    subst (λ (b : Bool). Logs false b o o' [] text) (sym is) (text, flushed_sent o o' text s, append-nil text)
+logs_sent o o' (Err e) failed text (start, begins, took) is =
+    subst (λ (b : Bool). Logs false b o o' [] text) (sym is)
+    ([], start, begins, failed_behind o o o' [] start (flushed_none o) took)
+
+failed_more : (a b c : OutputState) (x y start : List ℕ) → Flushed a b x → FlushedThenFailed b c y start
+    → FlushedThenFailed a c (x ++ y) start
+failed_more a b c x y start h k = record {
+  bytes = subst (λ (t : List ℕ). Appends a.known_bytes c.known_bytes t) (sym (append_assoc x y start))
+      (appends_more a.known_bytes b.known_bytes c.known_bytes x (y ++ start) h.bytes k.bytes);
+  failures = k.failures ∙ ap risen h.failures;
+  unflushed = λ e. k.unflushed (h.unflushed e);
+}
+
+-- bytes more are pending
+logs_pending : (b b' : Bool) (o o' : OutputState) (pending text more : List ℕ) → Logs b b' o o' pending text
+    → Logs b b' o o' (pending ++ more) (text ++ more)
+logs_pending false false o o' pending text more (written, flushed, is) =
+    (written, flushed, sym (append_assoc written pending more) ∙ ap (λ (l : List ℕ). l ++ more) is)
+logs_pending false true o o' pending text more (written, start, (rest, is), failed) = (
+  written,
+  start,
+  (rest ++ more, sym (append_assoc (written ++ start) rest more) ∙ ap (λ (l : List ℕ). l ++ more) is),
+  failed,
+)
+logs_pending true false o o' pending text more h = absurd h
+logs_pending true true o o' pending text more h = h
+
+-- the pending bytes were logged
+logs_flushed : (b b' b'' : Bool) (o o' o'' : OutputState) (pending text : List ℕ) → Logs b b' o o' pending text
+    → Logs b' b'' o' o'' [] pending → Logs b b'' o o'' [] text
+logs_flushed false false false o o' o'' pending text (x, h, is) (y, k, all) = (
+  x ++ y,
+  flushed_more o o' o'' x y h k,
+  append_assoc x y [] ∙ ap (λ (l : List ℕ). x ++ l) all ∙ is,
+)
+logs_flushed false false true o o' o'' pending text (x, h, is) (y, start, (rest, all), k) = (
+  x ++ y,
+  start,
+  (
+    rest,
+    ap (λ (l : List ℕ). l ++ rest) (append_assoc x y start) ∙ append_assoc x (y ++ start) rest
+        ∙ ap (λ (l : List ℕ). x ++ l) all ∙ is,
+  ),
+  failed_more o o' o'' x y start h k,
+)
+logs_flushed false true false o o' o'' pending text h k = absurd k
+logs_flushed false true true o o' o'' pending text h k =
+    subst (λ (v : OutputState). Logs false true o v [] text) (sym k) h
+logs_flushed true false b'' o o' o'' pending text h k = absurd h
+logs_flushed true true false o o' o'' pending text h k = absurd k
+logs_flushed true true true o o' o'' pending text h k = k ∙ h
+
+-- a text was logged, and then another
+pub logged_more : (l l' l'' : LogSeen) (x y : List ℕ) → Logged l l' x → Logged l' l'' y → Logged l l'' (x ++ y)
+logged_more l l' l'' x y h k =
+    logs_flushed l.broken l'.broken l''.broken l.output l'.output l''.output y (x ++ y)
+    (logs_pending l.broken l'.broken l.output l'.output [] x y h) k
+
+-- ---- pending bytes
 
 pub adds_none : (o : OutputState) (p : Pending) → Adds o o p p []
-adds_none o p = record { behind = λ text h. subst (λ (t : List ℕ). IsWritten o p t) (sym (append-nil text)) h }
+adds_none o p = record {
+  after = λ from text h. subst (λ (t : List ℕ). Logs from.broken p.broken from.output o p.bytes.items t)
+      (sym (append-nil text)) h;
+}
 
 pub adds_more : (o o' o'' : OutputState) (p p' p'' : Pending) (a b : List ℕ) → Adds o o' p p' a → Adds o' o'' p' p'' b
     → Adds o o'' p p'' (a ++ b)
 adds_more o o' o'' p p' p'' a b x y = record {
-  behind = λ text h. subst (λ (t : List ℕ). IsWritten o'' p'' t) (append_assoc text a b)
-      (y.behind (text ++ a) (x.behind text h));
+  after = λ from text h. subst (λ (t : List ℕ). Logs from.broken p''.broken from.output o'' p''.bytes.items t)
+      (append_assoc text a b) (y.after from (text ++ a) (x.after from text h));
 }
 
 pub adds_as : (o o' : OutputState) (p p' : Pending) (a b : List ℕ) → a ≡ b → Adds o o' p p' a → Adds o o' p p' b
 adds_as o o' p p' a b e x = subst (λ (t : List ℕ). Adds o o' p p' t) e x
 
--- a byte more waits
-pub adds_waiting : (o : OutputState) (p p' : Pending) (b : ℕ) → p'.broken ≡ p.broken
+-- a byte more is pending
+pub adds_pending : (o : OutputState) (p p' : Pending) (b : ℕ) → p'.broken ≡ p.broken
     → p'.bytes.items ≡ p.bytes.items ++ b ∷ [] → Adds o o p p' (b ∷ [])
-adds_waiting o p p' b same more = record {
-  behind = λ text h e. let w = h (sym same ∙ e) in (
-    w.0,
-    w.1,
-    ap (λ (l : List ℕ). w.0 ++ l) more ∙ sym (append_assoc w.0 p.bytes.items (b ∷ []))
-        ∙ ap (λ (l : List ℕ). l ++ b ∷ []) w.2,
-  );
+adds_pending o p p' b same more = record {
+  after = λ from text h.
+      subst (λ (c : Bool). Logs from.broken c from.output o p'.bytes.items (text ++ b ∷ [])) (sym same)
+      (subst (λ (l : List ℕ). Logs from.broken p.broken from.output o l (text ++ b ∷ [])) (sym more)
+      (logs_pending from.broken p.broken from.output o p.bytes.items text (b ∷ []) h));
 }
 
-appended : (b : Option (List ℕ)) (x text : List ℕ) → Appends (Some x) b text → b ≡ Some (x ++ text)
-appended None x text p = absurd p
-appended (Some y) x text p = ap Some p
-
--- what waited was written
-pub adds_handed : (o o' : OutputState) (p p' : Pending)
-    → (p'.broken ≡ false → (p.broken ≡ false) × Sent o o' p.bytes.items) → p'.bytes.items ≡ [] → Adds o o' p p' []
-adds_handed o o' p p' puts none = record {
-  behind = λ text h e.
-      let s = puts e in
-      let w = h s.0 in (
-        w.0 ++ p.bytes.items,
-        appended o'.known_bytes w.0 p.bytes.items
-            (subst (λ (k : Option (List ℕ)). Appends k o'.known_bytes p.bytes.items) w.1 s.1.bytes),
-        ap (λ (l : List ℕ). (w.0 ++ p.bytes.items) ++ l) none ∙ append-nil (w.0 ++ p.bytes.items) ∙ w.2
-            ∙ sym (append-nil text),
-      );
+-- the pending bytes were logged
+pub adds_flushed : (o o' : OutputState) (p p' : Pending) → Logs p.broken p'.broken o o' [] p.bytes.items
+    → p'.bytes.items ≡ [] → Adds o o' p p' []
+adds_flushed o o' p p' k none = record {
+  after = λ from text h.
+      subst (λ (l : List ℕ). Logs from.broken p'.broken from.output o' l (text ++ [])) (sym none)
+      (subst (λ (t : List ℕ). Logs from.broken p'.broken from.output o' [] t) (sym (append-nil text))
+      (logs_flushed from.broken p.broken p'.broken from.output o o' p.bytes.items text h k));
 }
 
 -- ---- bytes, one after the other
@@ -67,7 +141,7 @@ loop_step F text i piece done lt f h =
     ∙ ap (λ (l : List ℕ). done ++ l) (sym (f (drop (i + 1) text)) ∙ ap F (sym (drop_more text i 0 lt)))
     ∙ h
 
--- a byte that an engine is given, as it is shown
+-- a byte that an engine is sent, as it is shown
 abbrev pub given_byte : ℕ → ℕ
 given_byte b = if b == new_line then new_line else shown b
 
@@ -89,52 +163,99 @@ ends_step at_start end text i lt h = ap (λ (l : List ℕ). ends_line at_start l
 
 -- ---- notes
 
-log_more : (first : Colour) (p : Place) (notes : List Note) (n : Note)
-    → log_from first p (notes ++ n ∷ []) ≡ log_from first p notes ++ note_text first (place_from p notes) n
-log_more first p [] n = append-nil (note_text first p n)
-log_more first p (x ∷ notes) n =
-    ap (λ (l : List ℕ). note_text first p x ++ l) (log_more first (place_by p x) notes n)
-    ∙ sym (append_assoc (note_text first p x) (log_from first (place_by p x) notes)
-    (note_text first (place_from (place_by p x) notes) n))
+log_more : (first : Colour) (s : LogState) (notes : List Note) (n : Note)
+    → log_from first s (notes ++ n ∷ []) ≡ log_from first s notes ++ note_text first (after_notes s notes) n
+log_more first s [] n = append-nil (note_text first s n)
+log_more first s (x ∷ notes) n =
+    ap (λ (l : List ℕ). note_text first s x ++ l) (log_more first (after_note s x) notes n)
+    ∙ sym (append_assoc (note_text first s x) (log_from first (after_note s x) notes)
+    (note_text first (after_notes (after_note s x) notes) n))
 
-place_more : (p : Place) (notes : List Note) (n : Note) → place_from p (notes ++ n ∷ [])
-    ≡ place_by (place_from p notes) n
-place_more p [] n = refl
-place_more p (x ∷ notes) n = place_more (place_by p x) notes n
+state_more : (s : LogState) (notes : List Note) (n : Note) → after_notes s (notes ++ n ∷ [])
+    ≡ after_note (after_notes s notes) n
+state_more s [] n = refl
+state_more s (x ∷ notes) n = state_more (after_note s x) notes n
 
--- a note more is written
-pub logged : (first first' : Colour) (o o' : OutputState) (p p' : Pending) (place place' : Place) (n : Note)
-    → first' ≡ first → Adds o o' p p' (note_text first place n) → place' ≡ place_by place n
-    → WasNoted (λ before notes. IsLog first o p place before notes)
-    (λ before notes. IsLog first' o' p' place' before notes) (n ∷ [])
-logged first first' o o' p p' place place' n same a e = record {
-  behind = λ before notes l. subst (λ (c : Colour). IsLog c o' p' place' before (notes ++ n ∷ [])) (sym same) (record {
-    written = subst (λ (t : List ℕ). IsWritten o' p' t)
-        (append_assoc before (log_text first notes) (note_text first place n)
-        ∙ ap (λ (t : List ℕ). before ++ t) (ap (λ (q : Place). log_text first notes ++ note_text first q n) l.stands
-        ∙ sym (log_more first no_place notes n)))
-        (a.behind (before ++ log_text first notes) l.written);
-    stands = e ∙ ap (λ (q : Place). place_by q n) l.stands ∙ sym (place_more no_place notes n);
-  });
+-- no note was logged yet
+pub log_begun : (first side : Colour) (o o' : OutputState) (p p' : Pending) (s : LogState) → side ≡ first → o' ≡ o
+    → p'.broken ≡ p.broken → p'.bytes.items ≡ [] → s ≡ log_start
+    → IsLog first (record { output = o; broken = p.broken }) side o' p' s []
+log_begun first side o o' p p' s sided is same none begun = record {
+  sided = sided;
+  written =
+      subst (λ (v : OutputState). Logs p.broken p'.broken o v p'.bytes.items []) (sym is)
+      (subst (λ (b : Bool). Logs p.broken b o o p'.bytes.items []) (sym same)
+      (subst (λ (l : List ℕ). Logs p.broken p.broken o o l []) (sym none) (logs_none p.broken o)));
+  reached = begun;
 }
 
--- what was told is still so where the log's bytes were handed on
-pub told_kept : (a b c : Knowing) (es : List Event) (lines : Colour → List SentLine)
-    → ((before : List ℕ) (notes : List Note) → b before notes → c before notes) → WasTold a b es lines
-    → WasTold a c es lines
-told_kept a b c es lines k (more, noted, events, given) = (
-  more,
-  record { behind = λ before notes h. k before (notes ++ more) (noted.behind before notes h) },
-  events,
-  given,
-)
+-- a note more was logged
+log_on : (first : Colour) (from : LogSeen) (side side' : Colour) (o o' : OutputState) (p p' : Pending)
+    (s s' : LogState) (notes : List Note) (n : Note) → side' ≡ side → Adds o o' p p' (note_text side s n)
+    → s' ≡ after_note s n → IsLog first from side o p s notes → IsLog first from side' o' p' s' (notes ++ n ∷ [])
+log_on first from side side' o o' p p' s s' notes n same a e l = record {
+  sided = same ∙ l.sided;
+  written = subst (λ (t : List ℕ). Logs from.broken p'.broken from.output o' p'.bytes.items t)
+      (ap (λ (c : Colour). log_text first notes ++ note_text c s n) l.sided
+      ∙ ap (λ (q : LogState). log_text first notes ++ note_text first q n) l.reached
+      ∙ sym (log_more first log_start notes n))
+      (a.after from (log_text first notes) l.written);
+  reached = e ∙ ap (λ (q : LogState). after_note q n) l.reached ∙ sym (state_more log_start notes n);
+}
 
-pub log_kept : (first first' : Colour) (o o' : OutputState) (p p' : Pending) (place place' : Place)
-    (before : List ℕ) (notes : List Note) → first' ≡ first → place' ≡ place → Adds o o' p p' []
-    → IsLog first o p place before notes → IsLog first' o' p' place' before notes
-log_kept first first' o o' p p' place place' before notes same still a l =
-    subst (λ (c : Colour). IsLog c o' p' place' before notes) (sym same) (record {
-      written = subst (λ (t : List ℕ). IsWritten o' p' t) (append-nil (before ++ log_text first notes))
-          (a.behind (before ++ log_text first notes) l.written);
-      stands = still ∙ l.stands;
-    })
+pub logged : (side side' : Colour) (o o' : OutputState) (p p' : Pending) (s s' : LogState) (n : Note)
+    → side' ≡ side → Adds o o' p p' (note_text side s n) → s' ≡ after_note s n
+    → WasNoted (λ before notes. IsLog (first_of_text before) (log_of_text before) side o p s notes)
+    (λ before notes. IsLog (first_of_text before) (log_of_text before) side' o' p' s' notes) (n ∷ [])
+logged side side' o o' p p' s s' n same a e = record {
+  behind = λ before notes l.
+      log_on (first_of_text before) (log_of_text before) side side' o o' p p' s s' notes n same a e l;
+}
+
+-- ---- a whole match
+
+first_again : (first : Colour) (l : LogSeen) → first_of_text (text_of_log first l) ≡ first
+first_again White l = refl
+first_again Black l = refl
+
+seen_again : (first : Colour) (known : Option (List ℕ)) (failures unflushed : ℕ) (broken : Bool)
+    → log_of_text (text_of_log first (record {
+      output = record { known_bytes = known; failure_count = failures; unflushed = unflushed };
+      broken = broken;
+    }))
+    ≡ record {
+      output = record { known_bytes = known; failure_count = failures; unflushed = unflushed };
+      broken = broken;
+    }
+seen_again first None failures unflushed false = refl
+seen_again first None failures unflushed true = refl
+seen_again first (Some bytes) failures unflushed false = refl
+seen_again first (Some bytes) failures unflushed true = refl
+
+-- a match was watched from the beginning of its log, and what was pending then was logged
+pub ran_logged : (first side side' : Colour) (from : LogSeen) (o o' o'' : OutputState) (p p' p'' : Pending)
+    (s s' : LogState) (start : Setup) (level : LevelSeen) (g g' : Seen) (end : MatchEnd) (w w' : Ports)
+    (coming coming' : ℕ → Option ℕ) → IsLog first from side o p s []
+    → RanBefore (λ before notes. IsLog (first_of_text before) (log_of_text before) side o p s notes)
+    (λ before notes. IsLog (first_of_text before) (log_of_text before) side' o' p' s' notes) start level g g' end w w'
+    coming coming'
+    → Adds o' o'' p' p'' [] → p''.bytes.items ≡ []
+    → RanLogged first from (record { output = o''; broken = p''.broken }) start level g g' end w w' coming coming'
+ran_logged first side side' from o o' o'' p p' p'' s s' start level g g' end w w' coming coming' begun
+    (T, (notes, noted, events, given), by) a none =
+    let text : List ℕ = text_of_log first from in
+    let first_is : first_of_text text ≡ first = first_again first from in
+    let from_is : log_of_text text ≡ from =
+    seen_again first from.output.known_bytes from.output.failure_count from.output.unflushed from.broken in
+    let log : IsLog first from side' o' p' s' notes =
+    subst (λ (v : LogSeen). IsLog first v side' o' p' s' notes) from_is
+    (subst (λ (c : Colour). IsLog c (log_of_text text) side' o' p' s' notes) first_is
+    (noted.behind text []
+    (subst (λ (c : Colour). IsLog c (log_of_text text) side o p s []) (sym first_is)
+    (subst (λ (v : LogSeen). IsLog first v side o p s []) (sym from_is) begun)))) in (
+      notes,
+      (T, (events, given), by),
+      subst (λ (l : List ℕ). Logs from.broken p''.broken from.output o'' l (log_text first notes)) none
+          (subst (λ (t : List ℕ). Logs from.broken p''.broken from.output o'' p''.bytes.items t)
+          (append-nil (log_text first notes)) (a.after from (log_text first notes) log.written)),
+    )

@@ -11,6 +11,7 @@ use Rattle.arbiter_words.specs.declared.plan.Plan.TheVariants.{Session, Verify, 
 use Rattle.byte_devices.specs.Devices.{InputState, OutputState}
 use Rattle.byte_devices.proofs.DeviceLaws.{consumes_none}
 use Rattle.chess_arbiter.specs.laws.Laws.{ServesSession, VerifiesGames}
+use Rattle.chess_arbiter.specs.Log.{LogSeen}
 use Rattle.chess_arbiter.specs.Program.{RanPlan, RanSession, RanVerify}
 use Rattle.pgn_verifier.specs.Verify.{LacksMemory}
 use Rattle.pgn_verifier.specs.declared.fault.VerifyFault.TheVariants as verifying
@@ -47,44 +48,44 @@ no_match_by_session e = shorter (codes "match") (codes "session") (lit< tt) (sym
 no_match_by_verify : codes "verify" ≡ codes "match" → ⊥
 no_match_by_verify e = shorter (codes "match") (codes "verify") (lit< tt) (sym e)
 
-session_or_want : (fault : WordsFault) (r r' : InputState) (w w' : OutputState) (status : ℕ) → IsWant fault
-    → RanPlan (Err fault) r r' w w' status → RanSession r r' w w' status
-session_or_want words.NoMemory r r' w w' status want (same, (kept, is)) =
+session_or_want : (fault : WordsFault) (r r' : InputState) (w w' : OutputState) (l l' : LogSeen) (status : ℕ) → IsWant fault
+    → RanPlan (Err fault) r r' w w' l l' status → RanSession r r' w w' status
+session_or_want words.NoMemory r r' w w' l l' status want (same, (kept, is)) =
     (Err NoMemory, record { input = same; output = kept }, is)
-session_or_want (words.Words e) r r' w w' status want ran = absurd want
-session_or_want words.BadLevel r r' w w' status want ran = absurd want
-session_or_want (words.BadFen f) r r' w w' status want ran = absurd want
-session_or_want words.BadDate r r' w w' status want ran = absurd want
+session_or_want (words.Words e) r r' w w' l l' status want ran = absurd want
+session_or_want words.BadLevel r r' w w' l l' status want ran = absurd want
+session_or_want (words.BadFen f) r r' w w' l l' status want ran = absurd want
+session_or_want words.BadDate r r' w w' l l' status want ran = absurd want
 
 nothing_read : (r r' : InputState) → r' ≡ r → LacksMemory r r'
 nothing_read r r' same =
     subst (λ v. LacksMemory r v) (sym same)
     (inl ([], record { bytes = consumes_none r.known_bytes; failures = refl; ends = refl }))
 
-verify_or_want : (fault : WordsFault) (r r' : InputState) (w w' : OutputState) (status : ℕ) → IsWant fault
-    → RanPlan (Err fault) r r' w w' status → RanVerify bare_plan r r' w w' status
-verify_or_want words.NoMemory r r' w w' status want (same, (kept, is)) =
+verify_or_want : (fault : WordsFault) (r r' : InputState) (w w' : OutputState) (l l' : LogSeen) (status : ℕ) → IsWant fault
+    → RanPlan (Err fault) r r' w w' l l' status → RanVerify bare_plan r r' w w' status
+verify_or_want words.NoMemory r r' w w' l l' status want (same, (kept, is)) =
     (Err verifying.NoMemory, (nothing_read r r' same, kept), is)
-verify_or_want (words.Words e) r r' w w' status want ran = absurd want
-verify_or_want words.BadLevel r r' w w' status want ran = absurd want
-verify_or_want (words.BadFen f) r r' w w' status want ran = absurd want
-verify_or_want words.BadDate r r' w w' status want ran = absurd want
+verify_or_want (words.Words e) r r' w w' l l' status want ran = absurd want
+verify_or_want words.BadLevel r r' w w' l l' status want ran = absurd want
+verify_or_want (words.BadFen f) r r' w w' l l' status want ran = absurd want
+verify_or_want words.BadDate r r' w w' l l' status want ran = absurd want
 
 serves : PlansAreNamed → (words : List Text) → AskFor words (codes "session") → (read : Result Plan WordsFault)
     → IsReading words read
-    → (r r' : InputState) (w w' : OutputState) (status : ℕ) → RanPlan read r r' w w' status
+    → (r r' : InputState) (w w' : OutputState) (l l' : LogSeen) (status : ℕ) → RanPlan read r r' w w' l l' status
     → RanSession r r' w w' status
-serves named ws a (Ok Session) is r r' w w' status ran = ran
-serves named ws a (Ok (Verify v)) is r r' w w' status ran =
+serves named ws a (Ok Session) is r r' w w' l l' status ran = ran
+serves named ws a (Ok (Verify v)) is r r' w w' l l' status ran =
     absurd (shorter (codes "verify") (codes "session") (lit< tt)
     (sym (read_word named ws (codes "session") (Verify v) a is)))
-serves named ws a (Ok (Stub s)) is r r' w w' status ran =
+serves named ws a (Ok (Stub s)) is r r' w w' l l' status ran =
     absurd (shorter (codes "stub") (codes "session") (lit< tt)
     (sym (read_word named ws (codes "session") (Stub s) a is)))
-serves named ws a (Ok (Match m)) is r r' w w' status ran =
+serves named ws a (Ok (Match m)) is r r' w w' l l' status ran =
     absurd (no_match_by_session (read_word named ws (codes "session") (Match m) a is))
-serves named ws a (Err fault) is r r' w w' status ran =
-    session_or_want fault r r' w w' status (refused_word ws (codes "session") fault a no_match_by_session is) ran
+serves named ws a (Err fault) is r r' w w' l l' status ran =
+    session_or_want fault r r' w w' l l' status (refused_word ws (codes "session") fault a no_match_by_session is) ran
 
 -- `verify` alone sets none of its flags
 without_flags : VerifyIsAsSpelled → (words : List Text) (v : VerifyPlan) → VerifyAsBare words
@@ -93,23 +94,23 @@ without_flags spelled ws v bare (names, are, (none, is)) = spelled (asked names 
 
 verifies : PlansAreNamed → VerifyIsAsSpelled → (words : List Text) → AskFor words (codes "verify") → VerifyAsBare words
     → (read : Result Plan WordsFault) → IsReading words read
-    → (r r' : InputState) (w w' : OutputState) (status : ℕ) → RanPlan read r r' w w' status
+    → (r r' : InputState) (w w' : OutputState) (l l' : LogSeen) (status : ℕ) → RanPlan read r r' w w' l l' status
     → RanVerify bare_plan r r' w w' status
-verifies named spelled ws a bare (Ok Session) is r r' w w' status ran =
+verifies named spelled ws a bare (Ok Session) is r r' w w' l l' status ran =
     absurd (shorter (codes "verify") (codes "session") (lit< tt) (read_word named ws (codes "verify") Session a is))
-verifies named spelled ws a bare (Ok (Verify v)) is r r' w w' status ran =
+verifies named spelled ws a bare (Ok (Verify v)) is r r' w w' l l' status ran =
     subst (λ (plan : VerifyPlan). RanVerify plan r r' w w' status) (without_flags spelled ws v bare is) ran
-verifies named spelled ws a bare (Ok (Stub s)) is r r' w w' status ran =
+verifies named spelled ws a bare (Ok (Stub s)) is r r' w w' l l' status ran =
     absurd (shorter (codes "stub") (codes "verify") (lit< tt) (sym (read_word named ws (codes "verify") (Stub s) a is)))
-verifies named spelled ws a bare (Ok (Match m)) is r r' w w' status ran =
+verifies named spelled ws a bare (Ok (Match m)) is r r' w w' l l' status ran =
     absurd (no_match_by_verify (read_word named ws (codes "verify") (Match m) a is))
-verifies named spelled ws a bare (Err fault) is r r' w w' status ran =
-    verify_or_want fault r r' w w' status (refused_word ws (codes "verify") fault a no_match_by_verify is) ran
+verifies named spelled ws a bare (Err fault) is r r' w w' l l' status ran =
+    verify_or_want fault r r' w w' l l' status (refused_word ws (codes "verify") fault a no_match_by_verify is) ran
 
 pub serves_session : PlansAreNamed → (words : List Text) → AskFor words (codes "session") → ServesSession words
-serves_session named ws a r r' w w' status (read, is, ran) = serves named ws a read is r r' w w' status ran
+serves_session named ws a r r' w w' l l' status (read, is, ran) = serves named ws a read is r r' w w' l l' status ran
 
 pub verifies_games : PlansAreNamed → VerifyIsAsSpelled → (words : List Text) → AskFor words (codes "verify")
     → VerifyAsBare words → VerifiesGames words
-verifies_games named spelled ws a bare r r' w w' status (read, is, ran) = verifies named spelled ws a bare read is r r'
-    w w' status ran
+verifies_games named spelled ws a bare r r' w w' l l' status (read, is, ran) = verifies named spelled ws a bare read is r r'
+    w w' l l' status ran

@@ -53,8 +53,8 @@ shown k words.BadDate w w' status help is told = absurd is
 
 pub shows_help : (ws : List Text) (k : ErrorKind) → (k ≡ DisplayHelp) ⊎ (k ≡ DisplayVersion) → AreRefused ws (k ∷ [])
     → ShowsHelp ws
-shows_help ws k help one r r' w w' status (Ok plan, is, ran) = absurd (no_plan ws k plan one is)
-shows_help ws k help one r r' w w' status (Err fault, is, (same, told)) =
+shows_help ws k help one r r' w w' l l' status (Ok plan, is, ran) = absurd (no_plan ws k plan one is)
+shows_help ws k help one r r' w w' l l' status (Err fault, is, (same, told)) =
     (same, shown k fault w w' status help (refusal ws k fault one is) told)
 
 -- ---- other kinds
@@ -70,6 +70,6 @@ refused k words.BadDate w w' status help version is told = absurd is
 
 pub refuses_words : (ws : List Text) (k : ErrorKind) → k ≢ DisplayHelp → k ≢ DisplayVersion → AreRefused ws (k ∷ [])
     → RefusesWords ws
-refuses_words ws k help version one r r' w w' status (Ok plan, is, ran) = absurd (no_plan ws k plan one is)
-refuses_words ws k help version one r r' w w' status (Err fault, is, (same, told)) =
+refuses_words ws k help version one r r' w w' l l' status (Ok plan, is, ran) = absurd (no_plan ws k plan one is)
+refuses_words ws k help version one r r' w w' l l' status (Err fault, is, (same, told)) =
     let t = refused k fault w w' status help version (refusal ws k fault one is) told in (same, t.0, t.1)

@@ -7,16 +7,19 @@ use Rattle.arbiter_words.specs.declared.plan.MatchPlan.{MatchPlan}
 use Rattle.chess_game.specs.declared.results.Outcome.{Outcome}
 use Rattle.chess_game.specs.declared.results.Outcome.TheVariants.{WhiteWins, BlackWins, Draw, Unfinished}
 use Rattle.chess_base.specs.declared.man.Colour.{Colour}
+use Rattle.chess_base.specs.declared.man.Colour.TheVariants.{White, Black}
 use Rattle.chess_base.specs.declared.setup.Setup.{Setup}
 use Rattle.byte_devices.specs.Devices.{OutputState, Begins, BreaksOff, Sent}
 use Rattle.chess_game.specs.Game.{Seen}
 use Rattle.engine_lines.specs.Levels.{LevelSeen}
 use Rattle.chess_match.specs.Reasons.{comment_of}
-use Rattle.chess_match.specs.Run.{Ports, Ran, Flushed, FlushedThenFailed}
+use Rattle.chess_match.specs.Notes.{Note}
+use Rattle.chess_match.specs.Run.{Ports, Flushed, FlushedThenFailed}
 use Rattle.chess_match.specs.declared.reason.MatchFault.{MatchFault}
 use Rattle.chess_match.specs.declared.reason.Reason.TheVariants.{Faulted}
 use Rattle.chess_match.specs.declared.run.MatchEnd.{MatchEnd}
 use Rattle.chess_pgn.specs.GameText.{pgn}
+use Rattle.chess_arbiter.specs.Log.{LogSeen, Logged, RanNoted, log_text}
 use Rattle.chess_arbiter.specs.declared.engine.StartFault.{StartFault}
 use Rattle.chess_arbiter.specs.declared.engine.StartFault.TheVariants as start
 use Rattle.chess_arbiter.specs.declared.games.GamesFault.{GamesFault}
@@ -97,26 +100,48 @@ score_line s =
 
 -- ---- one game
 
+-- the side of the first engine, that of `--white`
+abbrev pub first_side : ℕ → Colour
+first_side number = if is_odd number then White else Black
+
+-- the side of the first engine, where the plan asks for a log
+abbrev pub logged_side : MatchPlan → ℕ → Option Colour
+logged_side plan number = if plan.log then Some (first_side number) else None
+
+-- a game of these notes was logged, where a log is asked for; the first engine has that side
+abbrev pub LogsGame : Option Colour → LogSeen → LogSeen → List Note → Type 0
+LogsGame None l l' notes = l' ≡ l
+LogsGame (Some first) l l' notes = Logged l l' (log_text first notes)
+
+-- a match ran as `Ran` says, and was logged where a log is asked for
+abbrev pub Relayed : Option Colour → LogSeen → LogSeen → Setup → LevelSeen → Seen → Seen → MatchEnd → Ports → Ports
+    → (ℕ → Option ℕ) → (ℕ → Option ℕ) → Type 0
+Relayed first l l' start level g g' end w w' coming coming' =
+    (notes : List Note) × RanNoted notes start level g g' end w w' coming coming' × LogsGame first l l' notes
+
 -- a game from that start was played between two engines, whatever these sent
-abbrev pub IsMatchEnd : Setup → LevelSeen → Seen → Seen → MatchEnd → Type 0
-IsMatchEnd start level g g' end =
+abbrev pub IsMatchEnd : List Note → Setup → LevelSeen → Seen → Seen → MatchEnd → Type 0
+IsMatchEnd notes start level g g' end =
     (w : Ports) × (w' : Ports) × (coming : ℕ → Option ℕ) × (coming' : ℕ → Option ℕ)
-    × Ran start level g g' end w w' coming coming'
+    × RanNoted notes start level g g' end w w' coming coming'
 
--- these were White's and Black's engines, as their ports stood before
-abbrev pub IsMatchEndOf : Setup → LevelSeen → Seen → Seen → MatchEnd → Ports → Type 0
-IsMatchEndOf start level g g' end w = (w' : Ports) × (coming : ℕ → Option ℕ) × (coming' : ℕ → Option ℕ)
-    × Ran start level g g' end w w' coming coming'
+-- these were White's and Black's engines, by their ports before; the game was logged where a log is asked for
+abbrev pub IsMatchEndOf : Option Colour → LogSeen → LogSeen → Setup → LevelSeen → Seen → Seen → MatchEnd → Ports
+    → Type 0
+IsMatchEndOf log l l' start level g g' end w =
+    (notes : List Note) × (w' : Ports) × (coming : ℕ → Option ℕ) × (coming' : ℕ → Option ℕ)
+    × RanNoted notes start level g g' end w w' coming coming' × LogsGame log l l' notes
 
--- a game as it is told: how it stands, and how it ended
+-- a game as it is written: its moves, how it ended, and what a log of it holds
 pub record GameTold : Type 0 where
   pub game : Seen
   pub end : MatchEnd
+  pub notes : List Note
 
 -- it is one of the plan, of at most 20,000 half-moves
 abbrev pub IsOfPlan : MatchPlan → GameTold → Type 0
 IsOfPlan plan told = (before : Seen) × (before.limit ≡ MOST_MOVES)
-    × IsMatchEnd plan.start plan.level before told.game told.end
+    × IsMatchEnd told.notes plan.start plan.level before told.game told.end
 
 -- its text, where it has that number
 abbrev pub game_text : MatchPlan → ℕ → GameTold → List ℕ
@@ -139,14 +164,18 @@ abbrev pub IsStartFault : MatchPlan → ℕ → GamesFault → Type 0
 IsStartFault plan number fault = FailsToStart (white_command plan number) fault
     ⊎ FailsToStart (black_command plan number) fault
 
--- the game with that number was played, and its text was written and flushed; or its engines could not be started, and
--- nothing was written; or a beginning of its text was
-abbrev pub PlayedOne : MatchPlan → ℕ → OutputState → OutputState → Result MatchEnd GamesFault → Type 0
-PlayedOne plan number w w' (Ok end) = (game : Seen) × IsOfPlan plan (record { game = game; end = end })
-    × Sent w w' (game_text plan number (record { game = game; end = end }))
-PlayedOne plan number w w' (Err WriteFailed) =
+-- the game with that number was played and logged, and its text was written and flushed; or its engines could not be
+-- started, and nothing was written; or a beginning of its text was
+abbrev pub PlayedOne : MatchPlan → ℕ → OutputState → OutputState → LogSeen → LogSeen → Result MatchEnd GamesFault
+    → Type 0
+PlayedOne plan number w w' l l' (Ok end) =
+    (game : Seen) × (notes : List Note) × IsOfPlan plan (record { game = game; end = end; notes = notes })
+    × Sent w w' (game_text plan number (record { game = game; end = end; notes = notes }))
+    × LogsGame (logged_side plan number) l l' notes
+PlayedOne plan number w w' l l' (Err WriteFailed) =
     (told : GameTold) × IsOfPlan plan told × BreaksOff w w' (game_text plan number told)
-PlayedOne plan number w w' (Err fault) = IsStartFault plan number fault × (w' ≡ w)
+    × LogsGame (logged_side plan number) l l' told.notes
+PlayedOne plan number w w' l l' (Err fault) = IsStartFault plan number fault × (w' ≡ w) × (l' ≡ l)
 
 -- ---- the games
 
@@ -162,6 +191,19 @@ are_sound games = list_all (λ told. not (is_some told.end.fault)) games
 abbrev pub game_texts : MatchPlan → ℕ → List GameTold → List ℕ
 game_texts plan number [] = []
 game_texts plan number (told ∷ rest) = game_text plan number told ++ game_texts plan (number + 1) rest
+
+-- the logs of games with numbers from there on
+abbrev pub game_logs : ℕ → List GameTold → List ℕ
+game_logs number [] = []
+game_logs number (told ∷ rest) = log_text (first_side number) told.notes ++ game_logs (number + 1) rest
+
+-- these games were logged, where a log is asked for
+abbrev pub LogsGamesIf : Bool → LogSeen → LogSeen → List GameTold → Type 0
+LogsGamesIf false l l' games = l' ≡ l
+LogsGamesIf true l l' games = Logged l l' (game_logs 1 games)
+
+abbrev pub LogsGames : MatchPlan → LogSeen → LogSeen → List GameTold → Type 0
+LogsGames plan l l' games = LogsGamesIf plan.log l l' games
 
 abbrev pub score_on : ℕ → List GameTold → Score → Score
 score_on number [] s = s
@@ -184,42 +226,45 @@ EndsGames plan games (Some (number, side, fault)) =
     × (last.end.fault ≡ Some (side, fault))
     × (number ≡ length before + 1) × (length before < plan.games)
 
--- the games before were played and told, and the next could not be started; or a beginning of its text was written
-abbrev pub BrokeOff : MatchPlan → OutputState → OutputState → GamesFault → Type 0
-BrokeOff plan w w' WriteFailed =
+-- the games before were played and written, and the next could not be started; or a beginning of its text was written
+abbrev pub BrokeOff : MatchPlan → OutputState → OutputState → LogSeen → LogSeen → GamesFault → Type 0
+BrokeOff plan w w' l l' WriteFailed =
     (games : List GameTold) × (next : GameTold) × (start : List ℕ)
     × SoundGames plan games × (length games < plan.games) × IsOfPlan plan next
     × Begins start (game_text plan (length games + 1) next) × FlushedThenFailed w w' (game_texts plan 1 games) start
-BrokeOff plan w w' fault =
+    × LogsGames plan l l' (games ++ next ∷ [])
+BrokeOff plan w w' l l' fault =
     (games : List GameTold) × SoundGames plan games × (length games < plan.games)
-    × IsStartFault plan (length games + 1) fault × Flushed w w' (game_texts plan 1 games)
+    × IsStartFault plan (length games + 1) fault × Flushed w w' (game_texts plan 1 games) × LogsGames plan l l' games
 
--- games were played, each was told, and the score counts them
-abbrev pub HasPlayed : MatchPlan → OutputState → OutputState → Result Played GamesFault → Type 0
-HasPlayed plan w w' (Ok played) =
+-- games were played, each was written and logged, and the score counts them
+abbrev pub HasPlayed : MatchPlan → OutputState → OutputState → LogSeen → LogSeen → Result Played GamesFault → Type 0
+HasPlayed plan w w' l l' (Ok played) =
     (games : List GameTold) × EndsGames plan games played.fault × (played.score ≡ score_of games)
-    × Flushed w w' (game_texts plan 1 games)
-HasPlayed plan w w' (Err fault) = BrokeOff plan w w' fault
+    × Flushed w w' (game_texts plan 1 games) × LogsGames plan l l' games
+HasPlayed plan w w' l l' (Err fault) = BrokeOff plan w w' l l' fault
 
 -- the text of a match: each game, and then the score
 abbrev pub match_text : MatchPlan → List GameTold → List ℕ
 match_text plan games = game_texts plan 1 games ++ score_line (score_of games)
 
--- the games were told, and then a beginning of the score was
-abbrev pub BrokeOffAtScore : MatchPlan → OutputState → OutputState → Type 0
-BrokeOffAtScore plan w w' =
+-- the games were written, and then a beginning of the score was
+abbrev pub BrokeOffAtScore : MatchPlan → OutputState → OutputState → LogSeen → LogSeen → Type 0
+BrokeOffAtScore plan w w' l l' =
     (games : List GameTold) × (last : Option (ℕ × Colour × MatchFault)) × (start : List ℕ)
     × EndsGames plan games last × Begins start (score_line (score_of games))
-    × FlushedThenFailed w w' (game_texts plan 1 games) start
+    × FlushedThenFailed w w' (game_texts plan 1 games) start × LogsGames plan l l' games
 
--- all games were played, or one with a fault was the last: they were told, and then the score; the fault is told as in
--- the game's comment. Where something broke off, the games before were told
-abbrev pub RanGames : {A : Type 0} → MatchPlan → OutputState → OutputState → Result A GamesFault → Type 0
-RanGames plan w w' (Ok _) = (games : List GameTold) × EndsGames plan games None × Flushed w w' (match_text plan games)
-RanGames plan w w' (Err (Game number text)) =
+-- all games were played, or one with a fault was the last: they were written and logged, and then the score was written;
+-- the fault is reported as in the game's comment. Where something broke off, the games before were written
+abbrev pub RanGames : {A : Type 0} → MatchPlan → OutputState → OutputState → LogSeen → LogSeen → Result A GamesFault
+    → Type 0
+RanGames plan w w' l l' (Ok _) = (games : List GameTold) × EndsGames plan games None
+    × Flushed w w' (match_text plan games) × LogsGames plan l l' games
+RanGames plan w w' l l' (Err (Game number text)) =
     (games : List GameTold) × (side : Colour) × (fault : MatchFault)
     × EndsGames plan games (Some (number, side, fault)) × (text.now ≡ comment_of (Faulted side fault))
-    × Flushed w w' (match_text plan games)
-RanGames plan w w' (Err WriteFailed) = BrokeOff plan w w' WriteFailed ⊎ BrokeOffAtScore plan w w'
-RanGames plan w w' (Err NoMemory) = (w' ≡ w) ⊎ BrokeOff plan w w' NoMemory
-RanGames plan w w' (Err (CanNotStart command)) = BrokeOff plan w w' (CanNotStart command)
+    × Flushed w w' (match_text plan games) × LogsGames plan l l' games
+RanGames plan w w' l l' (Err WriteFailed) = BrokeOff plan w w' l l' WriteFailed ⊎ BrokeOffAtScore plan w w' l l'
+RanGames plan w w' l l' (Err NoMemory) = ((w' ≡ w) × (l' ≡ l)) ⊎ BrokeOff plan w w' l l' NoMemory
+RanGames plan w w' l l' (Err (CanNotStart command)) = BrokeOff plan w w' l l' (CanNotStart command)

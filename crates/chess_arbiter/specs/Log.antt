@@ -1,13 +1,22 @@
--- What a log of a match holds: a line for each line that an engine says or is sent, as XBoard's debug file has them.
+-- What a log of a match holds: a line for each line that an engine sends or is sent, as XBoard's debug file has them.
 use Rattle.std.specs.Prelude.{◌≡◌, ℕ, ◌==◌, ◌&&◌, nat_le, Bool, true, false, if◌then◌else◌, List, [], ◌∷◌, ◌++◌, map, codes, decimal, Option, Some, None}
 use Rattle.chess_base.specs.Letters.{new_line}
 use Rattle.chess_base.specs.declared.man.Colour.{Colour}
+use Rattle.chess_base.specs.declared.man.Colour.TheVariants.{White, Black}
 use Rattle.chess_base.specs.Men.{same_colour}
-use Rattle.byte_devices.specs.Devices.{OutputState}
+use Rattle.chess_base.specs.declared.setup.Setup.{Setup}
+use Rattle.byte_devices.specs.Devices.{OutputState, Begins}
+use Rattle.chess_game.specs.Game.{Seen}
+use Rattle.engine_lines.specs.Levels.{LevelSeen}
 use Rattle.chess_match.specs.Match.{Event, Line, Opened, OutputEnds, FailsToRead, FailsToWrite}
-use Rattle.chess_match.specs.Notes.{Note, Happened, Gives}
+use Rattle.chess_match.specs.Notes.{Note, Happened, Gives, events_in, given_in}
+use Rattle.chess_match.specs.Rules.{rules_of}
+use Rattle.chess_match.specs.Run.{Ports, RanBy, Flushed, FlushedThenFailed}
+use Rattle.chess_match.specs.Sent.{SentLine, bytes_of}
+use Rattle.chess_match.specs.Transcript.{sent}
+use Rattle.chess_match.specs.declared.run.MatchEnd.{MatchEnd}
 use Rattle.chess_arbiter.specs.declared.log.Pending.{Pending}
-use Rattle.chess_arbiter.specs.declared.log.Place.{Place}
+use Rattle.chess_arbiter.specs.declared.log.LogState.{LogState}
 
 -- ---- one line
 
@@ -20,33 +29,33 @@ abbrev pub engine_text : Bool → List ℕ
 engine_text true = codes "first : "
 engine_text false = codes "second: "
 
--- what stands before a line: the milliseconds, a mark, and which engine
+-- what a line begins with: the milliseconds, a mark, and which engine
 abbrev pub head : ℕ → ℕ → Bool → List ℕ
 head moment mark is_first = decimal moment ++ ((32 ∷ mark ∷ []) ++ engine_text is_first)
 
 abbrev pub log_line : ℕ → ℕ → Bool → List ℕ → List ℕ
 log_line moment mark is_first text = head moment mark is_first ++ (map shown text ++ new_line ∷ [])
 
--- bytes that an engine is given: the head stands before each line, and where no line is begun first before them
+-- bytes that an engine is sent: each line begins with the head, the first only where the bytes begin a line
 abbrev pub given_text : List ℕ → Bool → List ℕ → List ℕ
 given_text front at_start [] = []
 given_text front at_start (b ∷ bs) =
     (if at_start then front else [])
     ++ ((if b == new_line then new_line else shown b) ∷ given_text front (b == new_line) bs)
 
--- whether a line is to begin behind bytes
+-- whether the byte after these begins a line
 abbrev pub ends_line : Bool → List ℕ → Bool
 ends_line at_start [] = at_start
 ends_line at_start (b ∷ bs) = ends_line (b == new_line) bs
 
 -- ---- notes
 
--- what is written of a line that an engine said
+-- what is written of a line that an engine sends
 abbrev pub heard_text : ℕ → Bool → Option (List ℕ) → List ℕ
 heard_text moment is_first (Some text) = log_line moment 60 is_first text
 heard_text moment is_first None = log_line moment 33 is_first (codes "line too long")
 
--- what is written of an event: `<` marks what an engine said, and `!` all else
+-- what is written of an event: `<` marks what an engine sends, and `!` all else
 abbrev pub event_text : Colour → ℕ → Event → List ℕ
 event_text first moment (Line c text now) = heard_text now (same_colour c first) text
 event_text first moment (Opened c now) = []
@@ -55,49 +64,112 @@ event_text first moment (FailsToRead c) = log_line moment 33 (same_colour c firs
 event_text first moment (FailsToWrite c) = log_line moment 33 (same_colour c first) (codes "write failed")
 
 -- what is written of a note; `>` marks what an engine is sent
-abbrev pub note_text : Colour → Place → Note → List ℕ
-note_text first p (Happened e) = event_text first p.moment e
-note_text first p (Gives c text) = given_text (head p.moment 62 (same_colour c first)) p.at_start text
+abbrev pub note_text : Colour → LogState → Note → List ℕ
+note_text first s (Happened e) = event_text first s.moment e
+note_text first s (Gives c text) = given_text (head s.moment 62 (same_colour c first)) s.at_start text
 
--- the last moment that was told, and whether a line is to begin
-abbrev pub place_by_event : Place → Event → Place
-place_by_event p (Line c text now) = record { moment = now; at_start = true }
-place_by_event p (Opened c now) = record { moment = now; at_start = p.at_start }
-place_by_event p _ = record { moment = p.moment; at_start = true }
+-- the moment of the last event, and whether the next byte begins a line
+abbrev pub after_event : LogState → Event → LogState
+after_event s (Line c text now) = record { moment = now; at_start = true }
+after_event s (Opened c now) = record { moment = now; at_start = s.at_start }
+after_event s _ = record { moment = s.moment; at_start = true }
 
-abbrev pub place_by : Place → Note → Place
-place_by p (Happened e) = place_by_event p e
-place_by p (Gives c text) = record { moment = p.moment; at_start = ends_line p.at_start text }
+abbrev pub after_note : LogState → Note → LogState
+after_note s (Happened e) = after_event s e
+after_note s (Gives c text) = record { moment = s.moment; at_start = ends_line s.at_start text }
 
-abbrev pub place_from : Place → List Note → Place
-place_from p [] = p
-place_from p (n ∷ notes) = place_from (place_by p n) notes
+abbrev pub after_notes : LogState → List Note → LogState
+after_notes s [] = s
+after_notes s (n ∷ notes) = after_notes (after_note s n) notes
 
-abbrev pub log_from : Colour → Place → List Note → List ℕ
-log_from first p [] = []
-log_from first p (n ∷ notes) = note_text first p n ++ log_from first (place_by p n) notes
+abbrev pub log_from : Colour → LogState → List Note → List ℕ
+log_from first s [] = []
+log_from first s (n ∷ notes) = note_text first s n ++ log_from first (after_note s n) notes
 
-abbrev pub no_place : Place
-no_place = record { moment = 0; at_start = true }
+abbrev pub log_start : LogState
+log_start = record { moment = 0; at_start = true }
 
 -- the whole log of a match in which the first engine has that side
 abbrev pub log_text : Colour → List Note → List ℕ
-log_text first notes = log_from first no_place notes
+log_text first notes = log_from first log_start notes
 
 -- ---- the output
 
--- the output took all of this text, but for the bytes that wait for the end of their line; or a write or a flush of it
--- failed
-abbrev pub IsWritten : OutputState → Pending → List ℕ → Type 0
-IsWritten o p text = p.broken ≡ false
-    → (bytes : List ℕ) × (o.known_bytes ≡ Some bytes) × (bytes ++ p.bytes.items ≡ text)
+-- what is seen of a log: its output, and whether a write or a flush of it failed
+pub record LogSeen : Type 0 where
+  pub output : OutputState
+  pub broken : Bool
 
--- this text came behind what was written before
+abbrev pub log_seen : OutputState → Pending → LogSeen
+log_seen o p = record { output = o; broken = p.broken }
+
+-- what became of a text that was logged, by whether the log was broken before and is now: the text was written and
+-- flushed but for pending bytes; or a write or a flush failed, and a beginning was written and nothing more. A broken
+-- log writes nothing, and stays so
+abbrev pub Logs : Bool → Bool → OutputState → OutputState → List ℕ → List ℕ → Type 0
+Logs false false o o' pending text = (written : List ℕ) × Flushed o o' written × (written ++ pending ≡ text)
+Logs false true o o' pending text =
+    (written : List ℕ) × (start : List ℕ) × Begins (written ++ start) text × FlushedThenFailed o o' written start
+Logs true false o o' pending text = ⊥
+Logs true true o o' pending text = o' ≡ o
+
+-- the text was logged, and no byte of it is pending
+abbrev pub Logged : LogSeen → LogSeen → List ℕ → Type 0
+Logged l l' text = Logs l.broken l'.broken l.output l'.output [] text
+
+-- this text was logged after what was logged before
 pub record Adds (o o' : OutputState) (p p' : Pending) (more : List ℕ) : Type 0 where
-  pub behind : (text : List ℕ) → IsWritten o p text → IsWritten o' p' (text ++ more)
+  pub after : (from : LogSeen) (text : List ℕ) → Logs from.broken p.broken from.output o p.bytes.items text
+      → Logs from.broken p'.broken from.output o' p'.bytes.items (text ++ more)
 
--- behind that text stands the log of these notes
-pub record IsLog (first : Colour) (o : OutputState) (p : Pending) (place : Place) (before : List ℕ) (notes : List Note)
-    : Type 0 where
-  pub written : IsWritten o p (before ++ log_text first notes)
-  pub stands : place ≡ place_from no_place notes
+-- from that on the log of these notes was logged, and the first engine has that side
+pub record IsLog (first : Colour) (from : LogSeen) (side : Colour) (o : OutputState) (p : Pending) (state : LogState)
+    (notes : List Note) : Type 0 where
+  pub sided : side ≡ first
+  pub written : Logs from.broken p.broken from.output o p.bytes.items (log_text first notes)
+  pub reached : state ≡ after_notes log_start notes
+
+-- ---- a match that is logged
+
+-- notes of this transcript, and of the lines that each engine is sent
+abbrev pub AreNotes : List Note → List Event → (Colour → List SentLine) → Type 0
+AreNotes notes T lines = (events_in notes ≡ T) × ((S : Colour) → given_in S notes ≡ bytes_of (lines S))
+
+-- a match ran as `Ran` says, with these notes of its transcript
+abbrev pub RanNoted : List Note → Setup → LevelSeen → Seen → Seen → MatchEnd → Ports → Ports → (ℕ → Option ℕ)
+    → (ℕ → Option ℕ) → Type 0
+RanNoted notes start level g g' end w w' coming coming' =
+    (T : List Event) × AreNotes notes T (λ S. sent (rules_of start level g.limit) S T)
+    × RanBy T start level g g' end w w' coming coming'
+
+-- a match ran, and was logged with that side as the first engine's
+abbrev pub RanLogged : Colour → LogSeen → LogSeen → Setup → LevelSeen → Seen → Seen → MatchEnd → Ports → Ports
+    → (ℕ → Option ℕ) → (ℕ → Option ℕ) → Type 0
+RanLogged first l l' start level g g' end w w' coming coming' =
+    (notes : List Note) × RanNoted notes start level g g' end w w' coming coming' × Logged l l' (log_text first notes)
+
+-- ---- what a log began with, as a text: a witness is known by a text that it held before
+
+abbrev pub text_of_bytes : Option (List ℕ) → List ℕ
+text_of_bytes None = []
+text_of_bytes (Some bytes) = 0 ∷ bytes
+
+abbrev pub bytes_of_text : List ℕ → Option (List ℕ)
+bytes_of_text [] = None
+bytes_of_text (_ ∷ bytes) = Some bytes
+
+-- the side of the first engine, and the log before
+abbrev pub text_of_log : Colour → LogSeen → List ℕ
+text_of_log first l = (if same_colour first White then 1 else 0) ∷ (if l.broken then 1 else 0)
+    ∷ l.output.failure_count ∷ l.output.unflushed ∷ text_of_bytes l.output.known_bytes
+
+abbrev pub first_of_text : List ℕ → Colour
+first_of_text [] = White
+first_of_text (c ∷ _) = if c == 1 then White else Black
+
+abbrev pub log_of_text : List ℕ → LogSeen
+log_of_text (_ ∷ b ∷ failures ∷ unflushed ∷ rest) = record {
+  output = record { known_bytes = bytes_of_text rest; failure_count = failures; unflushed = unflushed };
+  broken = b == 1;
+}
+log_of_text _ = record { output = record { known_bytes = None; failure_count = 0; unflushed = 0 }; broken = false }

@@ -25,6 +25,7 @@ use Rattle.pgn_verifier.specs.Collection.{VerifiesCollection}
 use Rattle.pgn_verifier.specs.Verify.{Verifies}
 use Rattle.chess_arbiter.specs.Games.{RanGames}
 use Rattle.chess_arbiter.specs.declared.games.GamesFault.{GamesFault}
+use Rattle.chess_arbiter.specs.Log.{LogSeen}
 use Rattle.chess_arbiter.specs.Stub.{StubRan, Words, beginning}
 use Rattle.chess_arbiter.specs.declared.stub.StubFault.{StubFault}
 use Rattle.chess_arbiter.specs.declared.fault.ProgramFault.TheVariants.{ReadFailed, WriteFailed, NoMemory, InputTooLong, WrongWords}
@@ -125,24 +126,28 @@ abbrev pub RanStub : Words → InputState → InputState → OutputState → Out
 RanStub words r r' w w' status = (outcome : Result (Unit {0}) StubFault) × StubRan r r' w w' (beginning words) outcome
     × (status ≡ stub_status outcome)
 
--- the games of a match were played and told, and the status tells whether anything failed
+-- the games of a match were played, written and logged, and the status is whether anything failed; where nothing did, the
+-- error output has the logs and nothing more
 abbrev pub games_status : {A : Type 0} → Result A GamesFault → ℕ
 games_status (Ok _) = 0
 games_status (Err fault) = 1
 
-abbrev pub RanMatch : MatchPlan → OutputState → OutputState → ℕ → Type 0
-RanMatch plan w w' status = (outcome : Result (Unit {0}) GamesFault) × RanGames plan w w' outcome
-    × (status ≡ games_status outcome)
+abbrev pub RanMatch : MatchPlan → OutputState → OutputState → LogSeen → LogSeen → ℕ → Type 0
+RanMatch plan w w' l l' status =
+    (outcome : Result (Unit {0}) GamesFault) × (logged : LogSeen) × RanGames plan w w' l logged outcome
+    × (status ≡ games_status outcome) × (status ≡ 0 → l' ≡ logged)
 
 -- what the words ask for was done, or was told why they ask for nothing
-abbrev pub RanPlan : Result Plan WordsFault → InputState → InputState → OutputState → OutputState → ℕ → Type 0
-RanPlan (Ok Session) r r' w w' status = RanSession r r' w w' status
-RanPlan (Ok (Verify plan)) r r' w w' status = RanVerify plan r r' w w' status
-RanPlan (Ok (Stub words)) r r' w w' status = RanStub words.items r r' w w' status
-RanPlan (Ok (Match plan)) r r' w w' status = (r' ≡ r) × RanMatch plan w w' status
-RanPlan (Err fault) r r' w w' status = (r' ≡ r) × ToldWords fault w w' status
+abbrev pub RanPlan : Result Plan WordsFault → InputState → InputState → OutputState → OutputState → LogSeen → LogSeen → ℕ
+    → Type 0
+RanPlan (Ok Session) r r' w w' l l' status = RanSession r r' w w' status
+RanPlan (Ok (Verify plan)) r r' w w' l l' status = RanVerify plan r r' w w' status
+RanPlan (Ok (Stub words)) r r' w w' l l' status = RanStub words.items r r' w w' status
+RanPlan (Ok (Match plan)) r r' w w' l l' status = (r' ≡ r) × RanMatch plan w w' l l' status
+RanPlan (Err fault) r r' w w' l l' status = (r' ≡ r) × ToldWords fault w w' status
 
 -- the words were read, and what they ask for was done
-abbrev pub RanProgram : List Text → InputState → InputState → OutputState → OutputState → ℕ → Type 0
-RanProgram words r r' w w' status = (read : Result Plan WordsFault) × IsReading words read
-    × RanPlan read r r' w w' status
+abbrev pub RanProgram : List Text → InputState → InputState → OutputState → OutputState → LogSeen → LogSeen → ℕ
+    → Type 0
+RanProgram words r r' w w' l l' status = (read : Result Plan WordsFault) × IsReading words read
+    × RanPlan read r r' w w' l l' status

@@ -3,19 +3,21 @@
 ghost use Rattle.std.specs.Prelude.{◌≡◌, ◌⊎◌, [], IfErr, IfOk};
 ghost use Rattle.byte_devices.specs.Devices.{Sends};
 ghost use Rattle.chess_match.specs.Reasons.{comment_of};
-ghost use Rattle.chess_match.specs.Run.{Ports, Ran};
+ghost use Rattle.chess_match.specs.Run.{Ports};
 ghost use Rattle.chess_match.specs.declared.reason.Reason.TheVariants.{Faulted};
 ghost use Rattle.chess_pgn.specs.GameText.{pgn};
-ghost use Rattle.chess_arbiter.specs.Games.{FailsToStart, HasPlayed, IsMatchEnd, IsMatchEndOf, PlayedOne, RanGames, TellsStart, black_command, is_odd, name_of, score_line, tags_of, white_command};
+ghost use Rattle.chess_arbiter.specs.Games.{FailsToStart, HasPlayed, IsMatchEndOf, PlayedOne, RanGames, Relayed, TellsStart, black_command, first_side, is_odd, logged_side, name_of, score_line, tags_of, white_command};
+ghost use Rattle.chess_arbiter.specs.Log.{log_seen};
 ghost use Rattle.chess_game.specs.declared.game.TheConstants.{MOST_MOVES};
 
 use crate::engine::{Engine, StartFault, finish, start};
 use crate::fault::ProgramFault;
 use crate::log::{Log, run_match_logged};
 use crate::moments::SinceStart;
+use crate::output::send;
 use crate::score::Score;
 use arbiter_words::MatchPlan;
-use byte_devices::{Counted, Input, Output, WriteFault, put};
+use byte_devices::{Counted, Input, Output, WriteFault};
 use chess_base::Colour;
 use chess_bits::{AttackTables, Bits};
 use chess_game::{Game, MOST_MOVES};
@@ -112,7 +114,9 @@ fn tags_of(plan: &MatchPlan<'_>, number: u32, end: &MatchEnd) -> Tags
 }
 
 // The side of the first engine.
-fn first_side(number: u32) -> Colour {
+fn first_side(number: u32) -> Colour
+    ensures { result ≡ first_side number }
+{
     if is_odd(number) {
         Colour::White
     } else {
@@ -120,7 +124,18 @@ fn first_side(number: u32) -> Colour {
     }
 }
 
-// One game between two engines, and its log where one is wanted: `log` is then the side of the first engine.
+// The side of the first engine in the game with that number, where the plan asks for a log.
+fn logged_side(plan: &MatchPlan<'_>, number: u32) -> Option<Colour>
+    ensures { result ≡ logged_side plan.now number }
+{
+    if plan.log {
+        Some(first_side(number))
+    } else {
+        None
+    }
+}
+
+// Plays one game between two engines, and logs it where `first` is the side of the first engine.
 fn relay<'t, R: Input, W: Output, M: Moments, E: Output>(
     white: &mut Ends<R, W>,
     black: &mut Ends<R, W>,
@@ -128,10 +143,12 @@ fn relay<'t, R: Input, W: Output, M: Moments, E: Output>(
     setup: &Setup,
     game: &mut Game<Bits<'t>>,
     scratch: &mut Bits<'t>,
-    log: Option<Colour>,
-    errors: &mut E,
+    first: Option<Colour>,
+    log: &mut Log<E>,
 ) -> MatchEnd
-    ensures ran { Ran setup.now.start setup.now.level game.old game.new result
+    ensures ran { Relayed first
+        (log_seen (E.seen log.old.output) log.old.pending) (log_seen (E.seen log.new.output) log.new.pending)
+        setup.now.start setup.now.level game.old game.new result
         (record {
           white_reader = R.seen white.old.reader;
           white_writer = W.seen white.old.writer;
@@ -146,27 +163,27 @@ fn relay<'t, R: Input, W: Output, M: Moments, E: Output>(
         })
         (M.coming moments.old) (M.coming moments.new) }
 {
-    let Some(first) = log else {
+    let Some(first) = first else {
         return run_match(white, black, moments, setup, game, scratch);
     };
-    let mut log = Log::new(errors, first);
-    run_match_logged(white, black, moments, setup, game, scratch, &mut log)
+    run_match_logged(white, black, moments, setup, game, scratch, first, log)
 }
 
-// One game between two engines that run; both are ended.
+// Plays one game between two engines that run, and ends both.
 fn play_game<'t, C: Clock, P: OpenProcess + Drop, M: Moments, E: Output>(
     rt: &C,
     white: Engine<P>,
     black: Engine<P>,
-    log: Option<Colour>,
-    errors: &mut E,
+    first: Option<Colour>,
+    log: &mut Log<E>,
     moments: &mut M,
     setup: &Setup,
     game: &mut Game<Bits<'t>>,
     scratch: &mut Bits<'t>,
 ) -> MatchEnd
-    ensures played { IsMatchEnd setup.now.start setup.now.level game.old game.new result }
-    ensures sides { IsMatchEndOf setup.now.start setup.now.level game.old game.new result
+    ensures played { IsMatchEndOf first
+        (log_seen (E.seen log.old.output) log.old.pending) (log_seen (E.seen log.new.output) log.new.pending)
+        setup.now.start setup.now.level game.old game.new result
         (record {
           white_reader = ⟦<Counted<P::Stdout> as Input>⟧.seen white.ends.reader;
           white_writer = ⟦<Counted<P::Stdin> as Output>⟧.seen white.ends.writer;
@@ -190,8 +207,8 @@ fn play_game<'t, C: Clock, P: OpenProcess + Drop, M: Moments, E: Output>(
         setup,
         game,
         scratch,
+        first,
         log,
-        errors,
     );
     finish(
         rt,
@@ -210,7 +227,7 @@ fn play_game<'t, C: Clock, P: OpenProcess + Drop, M: Moments, E: Output>(
     end
 }
 
-// Writes a game's text and hands it on.
+// Writes and flushes a game's text.
 fn write_game<'t, W: Output>(
     game: &Game<Bits<'t>>,
     scratch: &mut Bits<'t>,
@@ -223,12 +240,11 @@ fn write_game<'t, W: Output>(
     output.flush()
 }
 
-// Writes the score and hands it on.
+// Writes and flushes the score.
 fn write_score<W: Output>(score: Score, output: &mut W) -> Result<(), WriteFault>
     ensures { Sends (W.seen output.old) (W.seen output.new) result (score_line score) }
 {
-    put(output, score.line().as_slice())?;
-    output.flush()
+    send(output, score.line().as_slice())
 }
 
 // What a fault at the start of an engine is told as.
@@ -264,7 +280,7 @@ fn start_both<'a, P: Processes + Clock>(
     }
 }
 
-// Plays the game with that number, writes its text and hands it on.
+// Plays the game with that number, and writes and flushes its text.
 fn play_one<'a, 't, P: Processes + Clock, M: Moments, W: Output, E: Output>(
     rt: &P,
     alloc: Global,
@@ -274,11 +290,13 @@ fn play_one<'a, 't, P: Processes + Clock, M: Moments, W: Output, E: Output>(
     game: &mut Game<Bits<'t>>,
     scratch: &mut Bits<'t>,
     output: &mut W,
-    errors: &mut E,
+    log: &mut Log<E>,
 ) -> Result<MatchEnd, GamesFault<'a>>
     requires limit { game.old.limit ≡ MOST_MOVES }
     ensures limit { game.new.limit ≡ MOST_MOVES }
-    ensures played { PlayedOne plan.now number (W.seen output.old) (W.seen output.new) result }
+    ensures played { PlayedOne plan.now number (W.seen output.old) (W.seen output.new)
+        (log_seen (E.seen log.old.output) log.old.pending) (log_seen (E.seen log.new.output) log.new.pending)
+        result }
 {
     let (white, black) = match start_both(
         rt,
@@ -293,14 +311,8 @@ fn play_one<'a, 't, P: Processes + Clock, M: Moments, W: Output, E: Output>(
         start: plan.start,
         level: plan.level,
     };
-    let log = if plan.log {
-        Some(first_side(number))
-    } else {
-        None
-    };
-    let end = play_game(
-        rt, white, black, log, errors, moments, &setup, game, scratch,
-    );
+    let first = logged_side(plan, number);
+    let end = play_game(rt, white, black, first, log, moments, &setup, game, scratch);
     let tags = tags_of(plan, number, &end);
     match write_game(game, scratch, &tags, output) {
         Ok(()) => Ok(end),
@@ -324,18 +336,18 @@ fn play_each<'a, 't, P: Processes + Clock, M: Moments, W: Output, E: Output>(
     game: &mut Game<Bits<'t>>,
     scratch: &mut Bits<'t>,
     output: &mut W,
-    errors: &mut E,
+    log: &mut Log<E>,
 ) -> Result<Played, GamesFault<'a>>
     requires { game.old.limit ≡ MOST_MOVES }
-    ensures { HasPlayed plan.now (W.seen output.old) (W.seen output.new) result }
+    ensures { HasPlayed plan.now (W.seen output.old) (W.seen output.new)
+        (log_seen (E.seen log.old.output) log.old.pending) (log_seen (E.seen log.new.output) log.new.pending)
+        result }
 {
     let mut score = Score::new();
     let mut number: u32 = 0;
     while number < u32::from(plan.games) {
         number += 1;
-        let end = match play_one(
-            rt, alloc, plan, number, moments, game, scratch, output, errors,
-        ) {
+        let end = match play_one(rt, alloc, plan, number, moments, game, scratch, output, log) {
             Ok(end) => end,
             Err(fault) => return Err(fault),
         };
@@ -358,7 +370,7 @@ fn open_game<'t>(alloc: Global, tables: &'t AttackTables) -> Result<Game<Bits<'t
 }
 
 /// Plays the games of a match, with colours changed after each, and writes each game's text and then the score; where
-/// the plan asks for a log, what the engines say and are sent is written to the error output.
+/// the plan asks for a log, each game is logged.
 ///
 /// # Errors
 /// Where an engine can't be started, there is no memory, the output failed, or an engine failed in a game,
@@ -368,9 +380,11 @@ pub(crate) fn play_games<'a, P: Processes + Clock, W: Output, E: Output>(
     alloc: Global,
     plan: &MatchPlan<'a>,
     output: &mut W,
-    errors: &mut E,
+    log: &mut Log<E>,
 ) -> Result<(), GamesFault<'a>>
-    ensures { RanGames plan.now (W.seen output.old) (W.seen output.new) result }
+    ensures { RanGames plan.now (W.seen output.old) (W.seen output.new)
+        (log_seen (E.seen log.old.output) log.old.pending) (log_seen (E.seen log.new.output) log.new.pending)
+        result }
 {
     let Ok(tables) = AttackTables::open(alloc) else {
         return Err(GamesFault::NoMemory);
@@ -388,7 +402,7 @@ pub(crate) fn play_games<'a, P: Processes + Clock, W: Output, E: Output>(
         &mut game,
         &mut scratch,
         output,
-        errors,
+        log,
     ) {
         Ok(played) => played,
         Err(fault) => return Err(fault),

@@ -3,7 +3,7 @@
 //! ```
 //! let mut input = Counted::reading(b"1. e4 *".as_slice());
 //! let mut output = Counted::writing(Vec::<u8>::new(alloc));
-//! let mut errors = Counted::writing(Vec::<u8>::new(alloc));
+//! let mut errors = Log::new(Counted::writing(Vec::<u8>::new(alloc)));
 //! let status = run_program(&rt, alloc, &["verify"], &mut input, &mut output, &mut errors);
 //! ```
 #![tactic(auto)]
@@ -14,6 +14,7 @@ mod games;
 mod laws;
 mod log;
 mod moments;
+mod output;
 mod program;
 mod score;
 mod standard;

@@ -1,15 +1,16 @@
-//! The log of a match: what the engines say and are sent.
+//! The log of a match: what the engines send and are sent.
 
-ghost use Rattle.std.specs.Prelude.{◌≡◌, ◌==◌, ◌<◌, ◌∷◌, ◌++◌, [], List, ℕ, Some, decimal, false, true, if◌then◌else◌, map};
+ghost use Rattle.std.specs.Prelude.{◌≡◌, ◌==◌, ◌<◌, ◌∷◌, ◌++◌, [], List, ℕ, decimal, false, true, if◌then◌else◌, map};
 ghost use Rattle.arrayvec.specs.ArrayVec.{array_vec_len};
-ghost use Rattle.byte_devices.specs.Devices.{Sent};
+ghost use Rattle.byte_devices.specs.Devices.{OutputState};
 ghost use Rattle.chess_base.specs.Letters.{new_line};
 ghost use Rattle.chess_base.specs.Men.{same_colour};
-ghost use Rattle.chess_match.specs.Run.{Ports, RanBefore, text_heard};
-ghost use Rattle.chess_arbiter.specs.Log.{Adds, IsLog, engine_text, given_text, head, log_line, heard_text, shown, ends_line};
+ghost use Rattle.chess_match.specs.Run.{Ports, text_heard};
+ghost use Rattle.chess_arbiter.specs.Log.{Adds, IsLog, Logs, RanLogged, ends_line, engine_text, given_text, head, heard_text, log_line, log_seen, log_start, shown};
 
+use crate::output::send;
 use arrayvec::ArrayVec;
-use byte_devices::{Input, Output, put};
+use byte_devices::{Input, Output};
 use chess_base::Colour;
 use chess_cecp::Line;
 use chess_game::Game;
@@ -17,18 +18,30 @@ use chess_match::{ENGINE_LINE_LEN, Ends, MatchEnd, Moments, Setup, Witness, run_
 use chess_moves::Board;
 use itoa::Buffer;
 
-// The bytes that wait for the end of their line, and whether a write or a flush failed; behind one nothing is written.
+// The bytes of a line that has not ended, and whether a write or a flush failed.
 #[derive(Drop)]
 pub(crate) struct Pending {
     bytes: ArrayVec<u8, 256>,
     broken: bool,
 }
 
-// The last moment that was told, and whether a line is to begin.
+// The moment of the last event, and whether the next byte begins a line.
 #[derive(Clone, Copy)]
-pub(crate) struct Place {
+pub(crate) struct LogState {
     moment: u64,
     at_start: bool,
+}
+
+impl LogState {
+    // The state before a match.
+    fn start() -> Self
+        ensures { result ≡ log_start }
+    {
+        LogState {
+            moment: 0,
+            at_start: true,
+        }
+    }
 }
 
 // A byte as it is shown.
@@ -42,17 +55,14 @@ fn shown(byte: u8) -> u8
     }
 }
 
-// Writes a text and hands it on, unless a write or a flush failed before. Whether one has failed.
-fn put_unless_broken<E: Output>(output: &mut E, text: &[u8], broken: bool) -> bool
-    ensures { result ≡ false → (broken ≡ false) × Sent (E.seen output.old) (E.seen output.new) text.now }
+// Writes and flushes a text, unless a write or a flush failed before. Returns whether one has failed.
+fn send_unless_broken<E: Output>(output: &mut E, text: &[u8], broken: bool) -> bool
+    ensures { Logs broken result (E.seen output.old) (E.seen output.new) [] text.now }
 {
     if broken {
         return true;
     }
-    match put(output, text) {
-        Ok(()) => output.flush().is_err(),
-        Err(_) => true,
-    }
+    send(output, text).is_err()
 }
 
 impl Pending {
@@ -66,13 +76,13 @@ impl Pending {
         }
     }
 
-    // Writes what waits.
-    fn hand_on<E: Output>(&mut self, output: &mut E)
+    // Writes and flushes the pending bytes.
+    fn flush_pending<E: Output>(&mut self, output: &mut E)
         ensures adds { Adds (E.seen output.old) (E.seen output.new) self.old self.new [] }
         ensures empty { array_vec_len self.new.bytes ≡ 0 }
         ensures nothing { self.new.bytes.items ≡ [] }
     {
-        self.broken = put_unless_broken(output, self.bytes.as_slice(), self.broken);
+        self.broken = send_unless_broken(output, self.bytes.as_slice(), self.broken);
         self.bytes.clear();
     }
 
@@ -82,20 +92,20 @@ impl Pending {
         ensures room { array_vec_len self.new.bytes < 256 }
     {
         if self.bytes.is_full() {
-            self.hand_on(output);
+            self.flush_pending(output);
         }
     }
 
-    // Writes what waits, if that byte ends a line.
+    // Writes and flushes the pending bytes where that byte ends a line.
     fn end_line<E: Output>(&mut self, output: &mut E, byte: u8)
         ensures adds { Adds (E.seen output.old) (E.seen output.new) self.old self.new [] }
     {
         if byte == b'\n' {
-            self.hand_on(output);
+            self.flush_pending(output);
         }
     }
 
-    // A byte more.
+    // Adds a byte.
     fn add<E: Output>(&mut self, output: &mut E, byte: u8)
         ensures { Adds (E.seen output.old) (E.seen output.new) self.old self.new (byte ∷ []) }
     {
@@ -104,7 +114,7 @@ impl Pending {
         self.end_line(output, byte);
     }
 
-    // A text more.
+    // Adds a text.
     fn add_text<E: Output>(&mut self, output: &mut E, text: &[u8])
         ensures { Adds (E.seen output.old) (E.seen output.new) self.old self.new text.now }
     {
@@ -113,7 +123,7 @@ impl Pending {
         }
     }
 
-    // A text more, as it is shown.
+    // Adds a text, as it is shown.
     fn add_shown<E: Output>(&mut self, output: &mut E, text: &[u8])
         ensures { Adds (E.seen output.old) (E.seen output.new) self.old self.new (map shown text.now) }
     {
@@ -122,7 +132,7 @@ impl Pending {
         }
     }
 
-    // A number more.
+    // Adds a number.
     fn add_number<E: Output>(&mut self, output: &mut E, number: u64)
         ensures { Adds (E.seen output.old) (E.seen output.new) self.old self.new (decimal number) }
     {
@@ -130,7 +140,7 @@ impl Pending {
         self.add_text(output, buffer.format(number).as_bytes());
     }
 
-    // What stands before a line.
+    // Adds what a line begins with.
     fn add_head<E: Output>(&mut self, output: &mut E, moment: u64, mark: u8, is_first: bool)
         ensures { Adds (E.seen output.old) (E.seen output.new) self.old self.new (head moment mark is_first) }
     {
@@ -139,7 +149,7 @@ impl Pending {
         self.add_text(output, engine_text(is_first));
     }
 
-    // A whole line.
+    // Adds a whole line.
     fn add_line<E: Output>(
         &mut self,
         output: &mut E,
@@ -156,7 +166,7 @@ impl Pending {
         self.add(output, b'\n');
     }
 
-    // A line that an engine said.
+    // Adds a line that an engine sent.
     fn add_heard<E: Output>(
         &mut self,
         output: &mut E,
@@ -174,62 +184,68 @@ impl Pending {
         self.add_line(output, moment, b'<', is_first, line.text());
     }
 
-    // What stands before a line, where one is to begin.
-    fn add_head_if<E: Output>(&mut self, output: &mut E, place: Place, is_first: bool)
+    // Adds what a line begins with, where one begins.
+    fn add_head_if<E: Output>(&mut self, output: &mut E, state: LogState, is_first: bool)
         ensures { Adds (E.seen output.old) (E.seen output.new) self.old self.new
-            (if place.at_start then head place.moment 62 is_first else []) }
+            (if state.at_start then head state.moment 62 is_first else []) }
     {
-        if place.at_start {
-            self.add_head(output, place.moment, b'>', is_first);
+        if state.at_start {
+            self.add_head(output, state.moment, b'>', is_first);
         }
     }
 
-    // A byte that an engine is given.
-    fn add_given_byte<E: Output>(&mut self, output: &mut E, place: Place, is_first: bool, byte: u8)
+    // Adds a byte that an engine is sent.
+    fn add_given_byte<E: Output>(
+        &mut self,
+        output: &mut E,
+        state: LogState,
+        is_first: bool,
+        byte: u8,
+    )
         ensures { Adds (E.seen output.old) (E.seen output.new) self.old self.new
-            ((if place.at_start then head place.moment 62 is_first else [])
+            ((if state.at_start then head state.moment 62 is_first else [])
             ++ (if byte == new_line then new_line else shown byte) ∷ []) }
     {
-        self.add_head_if(output, place, is_first);
+        self.add_head_if(output, state, is_first);
         self.add(output, given_byte(byte));
     }
 
-    // Bytes that an engine is given. Whether a line is to begin behind them.
+    // Adds bytes that an engine is sent. Returns the state after them.
     fn add_given<E: Output>(
         &mut self,
         output: &mut E,
-        place: Place,
+        state: LogState,
         is_first: bool,
         text: &[u8],
-    ) -> Place
+    ) -> LogState
         ensures adds { Adds (E.seen output.old) (E.seen output.new) self.old self.new
-            (given_text (head place.moment 62 is_first) place.at_start text.now) }
-        ensures place { result ≡ (record { moment = place.moment; at_start = ends_line place.at_start text.now }) }
+            (given_text (head state.moment 62 is_first) state.at_start text.now) }
+        ensures state { result ≡ (record { moment = state.moment; at_start = ends_line state.at_start text.now }) }
     {
-        let mut at_start = place.at_start;
+        let mut at_start = state.at_start;
         for byte in text {
-            let now = Place {
-                moment: place.moment,
+            let now = LogState {
+                moment: state.moment,
                 at_start,
             };
             self.add_given_byte(output, now, is_first, *byte);
             at_start = *byte == b'\n';
         }
-        Place {
-            moment: place.moment,
+        LogState {
+            moment: state.moment,
             at_start,
         }
     }
 }
 
-// A byte that an engine is given, as it is shown.
+// A byte that an engine is sent, as it is shown.
 fn given_byte(byte: u8) -> u8
     ensures { result ≡ (if byte == new_line then new_line else shown byte) }
 {
     if byte == b'\n' { byte } else { shown(byte) }
 }
 
-// How an engine is named.
+// The name of an engine in the log.
 fn engine_text(is_first: bool) -> &'static [u8]
     ensures { result.now ≡ engine_text is_first }
 {
@@ -248,79 +264,101 @@ fn is_side(side: Colour, other: Colour) -> bool
     }
 }
 
-/// A witness of a match that writes what it is told, line by line, as XBoard's debug file has it. Where a write or a
-/// flush fails it writes nothing more.
+/// An output on which matches are logged. As a witness of a match it writes each event, and each line that an engine is
+/// sent, in the form of XBoard's debug file. After a write or a flush that failed it logs nothing more.
 #[derive(Drop)]
-pub struct Log<'a, E> {
-    output: &'a mut E,
+pub struct Log<E> {
+    pub(crate) output: E,
     pending: Pending,
-    place: Place,
+    state: LogState,
     /// The side of the first engine.
     first: Colour,
 }
 
-impl<'a, E: Output> Log<'a, E> {
-    /// The log of a match that is to begin, in which the first engine has that side.
-    pub fn new(output: &'a mut E, first: Colour) -> Self
-        ensures first { result.first ≡ first }
-        ensures log { (before : List ℕ) → (E.seen output.old).known_bytes ≡ Some before
-            → IsLog first (E.seen result.output.now) result.pending result.place before [] }
+impl<E: Output> Log<E> {
+    /// A log on that output, of no match yet.
+    pub fn new(output: E) -> Self
+        ensures output { result.output ≡ output }
+        ensures unbroken { result.pending.broken ≡ false }
     {
         Log {
             output,
             pending: Pending::new(),
-            place: Place {
-                moment: 0,
-                at_start: true,
-            },
-            first,
+            state: LogState::start(),
+            first: Colour::White,
         }
     }
 
-    // Writes what waits for the end of its line.
-    fn finish(&mut self)
-        ensures adds { Adds (E.seen self.old.output.now) (E.seen self.new.output.now) self.old.pending self.new.pending [] }
-        ensures nothing { self.new.pending.bytes.items ≡ [] }
-        ensures first { self.new.first ≡ self.old.first }
-        ensures place { self.new.place ≡ self.old.place }
+    /// The output, taken out.
+    pub fn into_output(self) -> E
+        ensures { result ≡ self.output }
     {
-        self.pending.hand_on(self.output);
+        let Log {
+            output,
+            pending: _,
+            state: _,
+            first: _,
+        } = self;
+        output
     }
 
-    // A line of the log at the last moment that was told.
-    fn note(&mut self, side: Colour, text: &[u8])
-        ensures adds { Adds (E.seen self.old.output.now) (E.seen self.new.output.now) self.old.pending self.new.pending
-            (log_line self.old.place.moment 33 (same_colour side self.old.first) text.now) }
+    // Begins the log of a match in which the first engine has that side.
+    fn begin(&mut self, first: Colour)
+        ensures log { IsLog first
+            (log_seen (E.seen self.old.output) self.old.pending)
+            self.new.first (E.seen self.new.output) self.new.pending self.new.state [] }
+    {
+        self.pending.bytes.clear();
+        self.state = LogState::start();
+        self.first = first;
+    }
+
+    // Writes and flushes the pending bytes.
+    fn finish(&mut self)
+        ensures adds { Adds (E.seen self.old.output) (E.seen self.new.output) self.old.pending self.new.pending [] }
+        ensures nothing { self.new.pending.bytes.items ≡ [] }
         ensures first { self.new.first ≡ self.old.first }
-        ensures place { self.new.place ≡ (record { moment = self.old.place.moment; at_start = true }) }
+        ensures state { self.new.state ≡ self.old.state }
+    {
+        self.pending.flush_pending(&mut self.output);
+    }
+
+    // Logs a line at the moment of the last event.
+    fn note(&mut self, side: Colour, text: &[u8])
+        ensures adds { Adds (E.seen self.old.output) (E.seen self.new.output) self.old.pending self.new.pending
+            (log_line self.old.state.moment 33 (same_colour side self.old.first) text.now) }
+        ensures first { self.new.first ≡ self.old.first }
+        ensures state { self.new.state ≡ (record { moment = self.old.state.moment; at_start = true }) }
     {
         let is_first = is_side(side, self.first);
-        let moment = self.place.moment;
+        let moment = self.state.moment;
         self.pending
-            .add_line(self.output, moment, b'!', is_first, text);
-        self.place = Place {
+            .add_line(&mut self.output, moment, b'!', is_first, text);
+        self.state = LogState {
             moment,
             at_start: true,
         };
     }
 }
 
-impl<E: Output> Witness for Log<'_, E> {
-    ghost use Rattle.chess_arbiter.specs.Log.{IsLog};
+impl<E: Output> Witness for Log<E> {
+    ghost use Rattle.chess_arbiter.specs.Log.{IsLog, first_of_text, log_of_text};
 
-    ghost told = { λ l before notes. IsLog l.first (E.seen l.output.now) l.pending l.place before notes };
+    ghost told = { λ l before notes.
+        IsLog (first_of_text before) (log_of_text before) l.first (E.seen l.output) l.pending l.state notes };
 
     fn line(&mut self, side: Colour, line: &Line<ENGINE_LINE_LEN>, moment: u64) {
         let is_first = is_side(side, self.first);
-        self.pending.add_heard(self.output, moment, is_first, line);
-        self.place = Place {
+        self.pending
+            .add_heard(&mut self.output, moment, is_first, line);
+        self.state = LogState {
             moment,
             at_start: true,
         };
     }
 
     fn opened(&mut self, _side: Colour, moment: u64) {
-        self.place.moment = moment;
+        self.state.moment = moment;
     }
 
     fn output_ends(&mut self, side: Colour) {
@@ -337,15 +375,18 @@ impl<E: Output> Witness for Log<'_, E> {
 
     fn gives(&mut self, side: Colour, text: &[u8]) {
         let is_first = is_side(side, self.first);
-        let place = self.place;
-        self.place = self.pending.add_given(self.output, place, is_first, text);
+        let state = self.state;
+        self.state = self
+            .pending
+            .add_given(&mut self.output, state, is_first, text);
     }
 }
 
-/// Plays one game as `run_match` of chess_match does, and logs it.
+/// Plays one game as `run_match` of chess_match does, and logs it; the first engine has the side `first`.
 ///
-/// In the contract the transcript is the one that the log has, and the log has all lines that each engine is sent: its
-/// output's bytes, where they were known and no write or flush of it failed, grew by just this log.
+/// In the contract the log is that of the transcript and of all lines that each engine is sent. All of it was written
+/// and flushed; or a write or a flush of it failed, and a beginning of it was written; or one had failed before, and
+/// nothing was.
 pub fn run_match_logged<R: Input, W: Output, M: Moments, B: Board, E: Output>(
     white: &mut Ends<R, W>,
     black: &mut Ends<R, W>,
@@ -353,11 +394,11 @@ pub fn run_match_logged<R: Input, W: Output, M: Moments, B: Board, E: Output>(
     setup: &Setup,
     game: &mut Game<B>,
     scratch: &mut B,
-    log: &mut Log<'_, E>,
+    first: Colour,
+    log: &mut Log<E>,
 ) -> MatchEnd
-    ensures ran { RanBefore
-        (λ before notes. IsLog log.old.first (E.seen log.old.output.now) log.old.pending log.old.place before notes)
-        (λ before notes. IsLog log.new.first (E.seen log.new.output.now) log.new.pending log.new.place before notes)
+    ensures ran { RanLogged first
+        (log_seen (E.seen log.old.output) log.old.pending) (log_seen (E.seen log.new.output) log.new.pending)
         setup.now.start setup.now.level game.old game.new result
         (record {
           white_reader = R.seen white.old.reader;
@@ -372,8 +413,8 @@ pub fn run_match_logged<R: Input, W: Output, M: Moments, B: Board, E: Output>(
           black_writer = W.seen black.new.writer;
         })
         (M.coming moments.old) (M.coming moments.new) }
-    ensures whole { log.new.pending.bytes.items ≡ [] }
 {
+    log.begin(first);
     let end = run_match_watched(white, black, moments, setup, game, scratch, log);
     log.finish();
     end

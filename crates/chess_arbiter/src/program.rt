@@ -1,17 +1,19 @@
 //! The program on an input, an output and an error output.
 
 ghost use Rattle.std.specs.Prelude.{◌≡◌, IfOk, Ok, Err, map};
-ghost use Rattle.byte_devices.specs.Devices.{Sends};
 ghost use Rattle.chess_cecp.specs.Held.{opened_session};
 ghost use Rattle.chess_pgn.specs.Tags.{default_tags};
+ghost use Rattle.chess_arbiter.specs.Log.{log_seen};
 ghost use Rattle.chess_arbiter.specs.Program.{Served, Shown, RanHelp, RanMatch, RanProgram, RanSession, RanStub, RanVerify, ToldWords, VerifiesAs, options_of, program_fault, verify_status};
 ghost use Rattle.chess_game.specs.declared.game.TheConstants.{MOST_MOVES};
 
 use crate::fault::{ProgramFault, tell_text, told};
 use crate::games::play_games;
+use crate::log::Log;
+use crate::output::send;
 use crate::stub::{StubFault, run_stub};
 use arbiter_words::{MatchPlan, Plan, VerifyPlan, WordsFault, read_words};
-use byte_devices::{Input, Output, WriteFault, put};
+use byte_devices::{Input, Output};
 use chess_bits::{AttackTables, Bits};
 use chess_cecp::{End, Fault, Session, run_session};
 use chess_game::MOST_MOVES;
@@ -144,14 +146,6 @@ fn verified<R: Input, W: Output, E: Output>(
     }
 }
 
-// Writes a text and hands it on.
-fn send<W: Output>(output: &mut W, text: &[u8]) -> Result<(), WriteFault>
-    ensures { Sends (W.seen output.old) (W.seen output.new) result text.now }
-{
-    put(output, text)?;
-    output.flush()
-}
-
 // Writes a text of help, as it is displayed.
 fn show<W: Output, D: Display>(alloc: Global, help: &D, output: &mut W) -> Result<(), ProgramFault>
     ensures { Shown (W.seen output.old) (W.seen output.new) result }
@@ -227,13 +221,15 @@ fn matched<P: Processes + Clock, W: Output, E: Output>(
     alloc: Global,
     plan: &MatchPlan<'_>,
     output: &mut W,
-    errors: &mut E,
+    log: &mut Log<E>,
 ) -> u8
-    ensures { RanMatch plan.now (W.seen output.old) (W.seen output.new) result }
+    ensures { RanMatch plan.now (W.seen output.old) (W.seen output.new)
+        (log_seen (E.seen log.old.output) log.old.pending) (log_seen (E.seen log.new.output) log.new.pending)
+        result }
 {
-    match play_games(rt, alloc, plan, output, errors) {
+    match play_games(rt, alloc, plan, output, log) {
         Ok(()) => 0,
-        Err(fault) => told(errors, &fault, 1),
+        Err(fault) => told(&mut log.output, &fault, 1),
     }
 }
 
@@ -255,28 +251,30 @@ fn matched<P: Processes + Clock, W: Output, E: Output>(
 /// the input was too long, a game verified has a fault, or an engine could not be started or failed in a game; 2
 /// for all other words.
 ///
-/// The contract tells what was read and written, and the status; of a match it doesn't tell which programs ran, and of
-/// the error output nothing. Tests show both: on the error output stands `arbiter: FAULT`, or what `clap` says of wrong
-/// words, and nothing where a game verified has a fault.
+/// The contract says what was read and written, and the status. After a match whose status is 0 the error output has just
+/// the logs of its games if `--log` was given, up to a write that failed, and else nothing more. Which programs a match
+/// ran, and what else is written to the error output, only tests show: `arbiter: FAULT`, after the logs where there are
+/// any; what `clap` says of invalid arguments; and nothing where a game verified has a fault.
 pub fn run_program<'a, P: Processes + Clock, R: Input, W: Output, E: Output>(
     rt: &P,
     alloc: Global,
     words: &'a [&'a str],
     input: &mut R,
     output: &mut W,
-    errors: &mut E,
+    errors: &mut Log<E>,
 ) -> u8
     ensures { RanProgram (map (λ w. w.now) words.entry.now) (R.seen input.old) (R.seen input.new) (W.seen output.old)
-        (W.seen output.new) result }
+        (W.seen output.new) (log_seen (E.seen errors.old.output) errors.old.pending)
+        (log_seen (E.seen errors.new.output) errors.new.pending) result }
 {
     let plan = match read_words(alloc, words) {
         Ok(plan) => plan,
-        Err(fault) => return told_words(alloc, &fault, output, errors),
+        Err(fault) => return told_words(alloc, &fault, output, &mut errors.output),
     };
     match plan {
-        Plan::Session => session(alloc, input, output, errors),
-        Plan::Verify(plan) => verified(alloc, plan, input, output, errors),
-        Plan::Stub(words) => stubbed(words.as_slice(), input, output, errors),
+        Plan::Session => session(alloc, input, output, &mut errors.output),
+        Plan::Verify(plan) => verified(alloc, plan, input, output, &mut errors.output),
+        Plan::Stub(words) => stubbed(words.as_slice(), input, output, &mut errors.output),
         Plan::Match(plan) => matched(rt, alloc, &plan, output, errors),
     }
 }

@@ -4,6 +4,7 @@ ghost use Rattle.std.specs.Prelude.{◌≡◌, ◌≢◌};
 ghost use Rattle.std.specs.IoError.{error_kind};
 
 use crate::fault::{ProgramFault, tell};
+use crate::log::Log;
 use crate::program::run_program;
 use byte_devices::Counted;
 use std::alloc::AllocError;
@@ -33,7 +34,7 @@ fn status_of(rt: &HostRuntime) -> io::Result<u8> {
         words.as_slice(),
         &mut Counted::reading(rt.stdin()),
         &mut Counted::writing(rt.stdout()),
-        &mut Counted::writing(rt.stderr()),
+        &mut Log::new(Counted::writing(rt.stderr())),
     ))
 }
 

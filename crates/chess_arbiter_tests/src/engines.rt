@@ -2,7 +2,7 @@
 
 use crate::runs::{Devices, Outcome, SOUND, Wanted, run};
 use byte_devices::Counted;
-use chess_arbiter::{SinceStart, run_program};
+use chess_arbiter::{Log, SinceStart, run_program};
 use chess_match::Moments;
 use std::alloc::Global;
 use std::process::Abort;
@@ -24,7 +24,7 @@ fn acts_as_the_program(rt: HostRuntime) -> Result<(), Fail> {
         words.as_slice(),
         &mut Counted::reading(rt.stdin()),
         &mut Counted::writing(rt.stdout()),
-        &mut Counted::writing(rt.stderr()),
+        &mut Log::new(Counted::writing(rt.stderr())),
     );
     Ok(())
 }

@@ -88,24 +88,22 @@ fn play(rt: &impl Abort, alloc: Global, said: &Said<'_>) -> Result<Logged, Fail>
     let mut moments = Listed { rest: said.moments };
     let mut game = Game::open(alloc, Plain::new(), 100)?;
     let mut scratch = Plain::new();
-    let mut output = Counted::writing(PieceWriter::new(alloc, 1024, said.log_write));
-    let end = {
-        let mut log = Log::new(&mut output, said.first);
-        run_match_logged(
-            &mut white,
-            &mut black,
-            &mut moments,
-            &setup,
-            &mut game,
-            &mut scratch,
-            &mut log,
-        )
-    };
+    let mut log = Log::new(Counted::writing(PieceWriter::new(alloc, 1024, said.log_write)));
+    let end = run_match_logged(
+        &mut white,
+        &mut black,
+        &mut moments,
+        &setup,
+        &mut game,
+        &mut scratch,
+        said.first,
+        &mut log,
+    );
     Ok(Logged {
         fault: end.fault,
         to_white: white.writer.into_writer().bytes,
         to_black: black.writer.into_writer().bytes,
-        log: output.into_writer().bytes,
+        log: log.into_output().into_writer().bytes,
     })
 }
 

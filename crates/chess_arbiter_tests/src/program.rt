@@ -2,7 +2,7 @@
 
 use crate::runs::{Devices, Outcome, SOUND, Wanted, run};
 use byte_devices::{Counted, PieceWriter};
-use chess_arbiter::{ProgramFault, run_program};
+use chess_arbiter::{Log, ProgramFault, run_program};
 use std::process::{Abort, ExitCode};
 use std::test::Fail;
 
@@ -219,7 +219,7 @@ fn runs_of_the_program(rt: HostRuntime) {
 fn a_failed_error_output_changes_no_status(rt: HostRuntime) {
     let mut input = Counted::reading(b"".as_slice());
     let mut output = Counted::writing(Vec::<u8>::new(rt.alloc()));
-    let mut errors = Counted::writing(PieceWriter::new(rt.alloc(), 3, 2));
+    let mut errors = Log::new(Counted::writing(PieceWriter::new(rt.alloc(), 3, 2)));
     let status = run_program(
         &rt,
         rt.alloc(),
@@ -228,6 +228,7 @@ fn a_failed_error_output_changes_no_status(rt: HostRuntime) {
         &mut output,
         &mut errors,
     );
+    let errors = errors.into_output();
     assert_eq!(rt; errors.writer().bytes.as_slice(), b"err".as_slice());
     assert_eq!(rt; status, 2);
 }

@@ -4,7 +4,7 @@ ghost use Rattle.std.specs.Prelude.{◌≤◌, length};
 
 use crate::runs::Outcome;
 use byte_devices::Counted;
-use chess_arbiter::run_program;
+use chess_arbiter::{Log, run_program};
 use std::io::{self, Read};
 
 /// Spaces without an end.
@@ -64,11 +64,11 @@ impl Read for Parts {
 pub fn run_on<R: Read + Drop>(rt: &HostRuntime, words: &[&str], reader: R) -> Outcome {
     let mut input = Counted::reading(reader);
     let mut output = Counted::writing(Vec::<u8>::new(rt.alloc()));
-    let mut errors = Counted::writing(Vec::<u8>::new(rt.alloc()));
+    let mut errors = Log::new(Counted::writing(Vec::<u8>::new(rt.alloc())));
     let status = run_program(rt, rt.alloc(), words, &mut input, &mut output, &mut errors);
     Outcome {
         output: output.into_writer(),
-        errors: errors.into_writer(),
+        errors: errors.into_output().into_writer(),
         status,
     }
 }

@@ -1,7 +1,7 @@
 //! The program over memory, for tests.
 
 use byte_devices::{Counted, PieceReader, PieceWriter};
-use chess_arbiter::run_program;
+use chess_arbiter::{Log, run_program};
 use std::process::Abort;
 
 /// How the devices of a run are cut, and at which call they fail (0: at none).
@@ -56,11 +56,15 @@ pub fn run(rt: &HostRuntime, words: &[&str], input: &[u8], devices: Devices) -> 
         devices.taken,
         devices.write_fails,
     ));
-    let mut errors = Counted::writing(PieceWriter::new(rt.alloc(), 1024, devices.errors_fail));
+    let mut errors = Log::new(Counted::writing(PieceWriter::new(
+        rt.alloc(),
+        1024,
+        devices.errors_fail,
+    )));
     let status = run_program(rt, rt.alloc(), words, &mut reader, &mut output, &mut errors);
     Outcome {
         output: output.into_writer().bytes,
-        errors: errors.into_writer().bytes,
+        errors: errors.into_output().into_writer().bytes,
         status,
     }
 }

@@ -3,7 +3,7 @@
 use crate::readers::{Parts, Spaces, run_on};
 use crate::runs::{Devices, SOUND, Wanted, run};
 use byte_devices::{Counted, GatedWriter};
-use chess_arbiter::run_program;
+use chess_arbiter::{Log, run_program};
 use std::cell::Cell;
 use std::process::Abort;
 
@@ -100,7 +100,7 @@ fn lines_on_games_are_flushed(rt: HostRuntime) {
     let open = Cell::new(true);
     let mut input = Counted::reading(b"* 1. e4 *".as_slice());
     let mut output = Counted::writing(GatedWriter::new(rt.alloc(), &open));
-    let mut errors = Counted::writing(Vec::<u8>::new(rt.alloc()));
+    let mut errors = Log::new(Counted::writing(Vec::<u8>::new(rt.alloc())));
     let status = run_program(
         &rt,
         rt.alloc(),

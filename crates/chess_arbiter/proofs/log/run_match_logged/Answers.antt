@@ -1,12 +1,9 @@
--- What was told is still so where what waited is written.
-use Rattle.chess_arbiter.proofs.Logged.{log_kept, told_kept}
+-- The match was watched from the beginning of its log to its end.
+use Rattle.chess_arbiter.proofs.Logged.{ran_logged}
 use Rattle.chess_arbiter.proofs.log.run_match_logged.Goals as goal
 
-pub returns-clause-ran : goal.returns-clause-ran
-returns-clause-ran g c =
-    let r = c.run_match_watched-end.ensures.ran in (
-      r.0,
-      told_kept _ _ _ r.0 _ (λ before notes l. log_kept _ _ _ _ _ _ _ _ before notes c.finish.ensures.first
-          c.finish.ensures.place c.finish.ensures.adds l) r.1,
-      r.2,
-    )
+pub returns : goal.returns
+returns g c = record {
+  ran = ran_logged _ _ _ _ _ _ _ _ _ _ _ _ _ _ c.args.game.now _ _ _ _ _ _ c.begin.ensures.log c.run_match_watched-end.ensures.ran
+      c.finish.ensures.adds c.finish.ensures.nothing;
+}

@@ -8,6 +8,6 @@ use Rattle.chess_arbiter.proofs.log.LogWitness.gives.Goals as goal
 pub returns : goal.returns
 returns g c = logged _ _ _ _ _ _ _ _ (Gives c.args.side c.args.text.now) refl
     (adds_as _ _ _ _ _ _
-    (ap (λ (b : Bool). given_text (head c.args.self.now.place.moment 62 b) c.args.self.now.place.at_start
+    (ap (λ (b : Bool). given_text (head c.args.self.now.state.moment 62 b) c.args.self.now.state.at_start
     c.args.text.now) c.is_side-is_first.ensures) c.add_given-self.ensures.adds)
-    c.add_given-self.ensures.place
+    c.add_given-self.ensures.state

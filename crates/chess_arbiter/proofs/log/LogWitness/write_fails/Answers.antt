@@ -6,4 +6,4 @@ use Rattle.chess_arbiter.proofs.log.LogWitness.write_fails.Goals as goal
 
 pub returns : goal.returns
 returns g c = logged _ _ _ _ _ _ _ _ (Happened (FailsToWrite c.args.side)) c.note.ensures.first c.note.ensures.adds
-    c.note.ensures.place
+    c.note.ensures.state

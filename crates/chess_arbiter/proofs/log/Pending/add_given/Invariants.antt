@@ -6,6 +6,6 @@ use Rattle.chess_arbiter.proofs.log.Pending.add_given.Given as goal
 abbrev pub invariant-loop-byte : goal.invariant-loop-byte
 invariant-loop-byte g l =
     (done : List ℕ) × Adds (g.E.Output.seen l.fn.output) (g.E.Output.seen l.output) l.fn.self l.self done
-    × (done ++ given_text (head l.place.moment 62 l.is_first) l.at_start (drop l.byte-index l.text)
-    ≡ given_text (head l.place.moment 62 l.is_first) l.place.at_start l.text)
-    × (ends_line l.at_start (drop l.byte-index l.text) ≡ ends_line l.place.at_start l.text)
+    × (done ++ given_text (head l.state.moment 62 l.is_first) l.at_start (drop l.byte-index l.text)
+    ≡ given_text (head l.state.moment 62 l.is_first) l.state.at_start l.text)
+    × (ends_line l.at_start (drop l.byte-index l.text) ≡ ends_line l.state.at_start l.text)
