@@ -18,8 +18,8 @@ returns-in-Ok-None-clause-moves c = moves_are c.args.text.now c.args.at c.args.g
 pub returns-in-Some-clause-judged : goal.returns-in-Some-clause-judged
 returns-in-Some-clause-judged c =
     end_judged c.args.strict c.args.text.now c.args.at c.args.game.now c.read_pgn.new.game
-    (verdict_now c.read_pgn.new.game.state) c.in-Ok-Some.end (Some c.in-Some.fault) c.requires.limit c.in-Ok-Some.ensures.game refl
-    c.in-Some.ensures.fault
+    (verdict_now c.read_pgn.new.game.state) c.in-Ok-Some.end (Some c.in-Some.fault) c.requires.limit
+    c.in-Ok-Some.ensures.game refl c.in-Some.ensures.fault
     (answered c.args.game.now.limit c.args.text.now c.args.at (Ok (Some c.in-Ok-Some.end)) c.requires.limit
     (rw c.in-Ok-Some.field-0-is at c.in-Ok-Some.ensures.answer))
 
@@ -30,7 +30,8 @@ returns-in-Some-clause-moves c = moves_are c.args.text.now c.args.at c.args.game
 pub returns-in-None-clause-judged : goal.returns-in-None-clause-judged
 returns-in-None-clause-judged c =
     end_judged c.args.strict c.args.text.now c.args.at c.args.game.now c.read_pgn.new.game
-    (verdict_now c.read_pgn.new.game.state) c.in-Ok-Some.end None c.requires.limit c.in-Ok-Some.ensures.game refl c.in-None.ensures.fault
+    (verdict_now c.read_pgn.new.game.state) c.in-Ok-Some.end None c.requires.limit
+    c.in-Ok-Some.ensures.game refl c.in-None.ensures.fault
     (answered c.args.game.now.limit c.args.text.now c.args.at (Ok (Some c.in-Ok-Some.end)) c.requires.limit
     (rw c.in-Ok-Some.field-0-is at c.in-Ok-Some.ensures.answer))
 
