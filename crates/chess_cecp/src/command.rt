@@ -55,7 +55,7 @@ pub enum Command {
 
 // The first word, and what follows it and the blanks behind it.
 #[tactic(auto, unfolding(crate::specs::Commands::argument_of))]
-fn split_word(text: &[u8]) -> (&[u8], &[u8])
+pub(crate) fn split_word(text: &[u8]) -> (&[u8], &[u8])
     ensures word { result.0.now ≡ word_of text.now }
     ensures argument { result.1.now ≡ argument_of text.now }
     ensures short { length result.1.now ≤ length text.now }
@@ -157,12 +157,11 @@ fn is_told_of_opponent_or_clocks(word: &[u8]) -> bool
         || word == b"otim".as_slice()
 }
 
-// The command that the first word of a text names, with what follows it; none where the word is no command's name.
+// The command that a first word names, with this argument; none where the word is no command's name.
 #[tactic(auto, unfolding(crate::specs::Commands::named_command))]
-pub(crate) fn named_command(text: &[u8]) -> Option<Command>
-    ensures { result ≡ named_command (word_of text.now) (argument_of text.now) }
+pub(crate) fn named_command(word: &[u8], argument: &[u8]) -> Option<Command>
+    ensures { result ≡ named_command word.now argument.now }
 {
-    let (word, argument) = split_word(text);
     if word.is_empty() || is_told_of_engine(word) || is_told_of_opponent_or_clocks(word) {
         Some(Command::Silent)
     } else if word == b"new".as_slice() {
@@ -211,7 +210,8 @@ pub(crate) fn named_command(text: &[u8]) -> Option<Command>
 pub fn read_command(text: &[u8]) -> Command
     ensures { result ≡ command_of text.now }
 {
-    if let Some(command) = named_command(text) {
+    let (word, argument) = split_word(text);
+    if let Some(command) = named_command(word, argument) {
         return command;
     }
     if has_move_shape(text) {

@@ -12,7 +12,8 @@ ghost use Rattle.chess_game.specs.Results.{cut_comment};
 ghost use Rattle.chess_text.specs.Moves.{reading, has_shape, shape, IsLegalReading};
 ghost use Rattle.chess_cecp.specs.Commands.{argument_of, unnamed_command};
 ghost use Rattle.chess_cecp.specs.Declaring.{declared_by};
-ghost use Rattle.chess_cecp.specs.Session.{row, move_row, undo_row, remove_row, result_row, draws, claim_row, setboard_row, normal_row, variant_row, stands, next_state, answer_to, is_quit, is_quit_command, shows_pgn, asks_for_pgn, joined_line, moves_line, IsRefusal};
+ghost use Rattle.chess_cecp.specs.Session.{row, move_row, undo_row, remove_row, result_row, draws, claim_row, setboard_row, normal_row, variant_row, stands, next_state, answer_to, is_quit, shows_pgn, asks_for_pgn, joined_line, moves_line, IsRefusal};
+ghost use Rattle.chess_cecp.specs.ties.Replies.{reply_of, reply_to};
 ghost use Rattle.chess_game.specs.declared.game.TheConstants.{MOST_MOVES};
 ghost use Rattle.chess_cecp.specs.declared.session.TheConstants.{COMMAND_LEN};
 
@@ -20,7 +21,7 @@ use crate::answer::{
     Answer, write_features, write_illegal_position, write_line, write_moves, write_pong,
     write_result, write_state, write_verdict,
 };
-use crate::command::{Command, argument, named_command};
+use crate::command::{Command, named_command, split_word};
 use crate::declaring::declared_by;
 use crate::lines::Line;
 use byte_devices::{Output, WriteFault, put};
@@ -41,6 +42,14 @@ pub const COMMAND_LEN: usize = 1024;
 pub enum Go {
     On,
     Quit,
+}
+
+// What answers a line.
+enum Reply {
+    // The text that was put together, and whether the session goes on after it.
+    Text(Go),
+    // The game's text.
+    Pgn,
 }
 
 /// A session over one game. In contracts it is the game's start, the moves that stand and what was declared, the number
@@ -103,6 +112,19 @@ impl<B: Board> Session<B> {
         read_move(self.game.board(), text)
     }
 
+    // Whether the game is over, found with the help of a legal move if one was read.
+    fn is_over(&self, read: &Reading) -> bool
+        requires { IsLegalReading (current self.now.state) read.now }
+        ensures { result ≡ is_over self.now.state }
+    {
+        match read {
+            Reading::Move(m) => {
+                self.game.declared().is_some() || self.game.verdict_of_moving(m).is_some()
+            }
+            Reading::Ambiguous | Reading::NoSuch | Reading::NotAMove => self.game.is_over(),
+        }
+    }
+
     // Plays the one legal move that a text was read as.
     fn play(&mut self, read: Reading, text: &[u8], answer: &mut Answer)
         requires read { read ≡ reading (current self.old.state) text.now }
@@ -112,7 +134,7 @@ impl<B: Board> Session<B> {
         ensures next { self.new ≡ stands self.old (move_row self.old.limit self.old.state text.now) }
         ensures text { answer.new.items ≡ (move_row self.old.limit self.old.state text.now).text }
     {
-        if self.game.is_over() {
+        if self.is_over(&read) {
             write_line(answer, b"Illegal move (game over): ", text);
             return;
         }
@@ -240,7 +262,7 @@ impl<B: Board> Session<B> {
         ensures next { self.new ≡ stands self.old (draws self.old.state comment.now) }
         ensures text { answer.new.items ≡ (draws self.old.state comment.now).text }
     {
-        let _declared = self.game.declare(Outcome::Draw, Comment::cut(comment));
+        self.game.declare_open(Outcome::Draw, Comment::cut(comment));
         write_result(answer, Outcome::Draw, comment);
     }
 
@@ -282,15 +304,14 @@ impl<B: Board> Session<B> {
         write_moves(answer, &self.game.position(), moves.as_slice());
     }
 
-    // Does what a row of the table says.
+    // Does what a row of the table says, and puts the answer together unless it is the game's text.
     fn obey(&mut self, command: Command, text: &[u8], argument: &[u8], answer: &mut Answer)
         requires short { length text.now ≤ COMMAND_LEN }
         requires short_argument { length argument.now ≤ COMMAND_LEN }
-        requires brief { shows_pgn command ≡ false }
         requires empty { answer.old.items ≡ [] }
         ensures next { self.new
             ≡ stands self.old (row self.old.tags self.old.limit self.old.state text.now argument.now command) }
-        ensures text { answer.new.items
+        ensures text { shows_pgn command ≡ false → answer.new.items
             ≡ (row self.old.tags self.old.limit self.old.state text.now argument.now command).text }
     {
         match command {
@@ -313,16 +334,15 @@ impl<B: Board> Session<B> {
             Command::ShowFen => self.show_fen(answer),
             Command::ShowMoves => self.show_moves(answer),
             Command::ShowState => write_state(answer, &self.game),
-            Command::Quit | Command::Silent => {}
-            Command::ShowPgn => unreachable!(),
+            Command::ShowPgn | Command::Quit | Command::Silent => {}
             Command::BadNumber => write_line(answer, b"Error (bad number): ", text),
             Command::Unknown => write_line(answer, b"Error (unknown command): ", text),
         }
     }
 
-    // Does what the row of a line says whose first word names no command, and answers whether the session goes on. The
-    // text is read once, which tells whether it is a move.
-    fn obey_unnamed(&mut self, text: &[u8], answer: &mut Answer) -> Go
+    // Does what the row of a line says whose first word names no command. The text is read once, which shows whether it
+    // is a move.
+    fn obey_unnamed(&mut self, text: &[u8], answer: &mut Answer)
         requires short { length text.now ≤ COMMAND_LEN }
         requires empty { answer.old.items ≡ [] }
         ensures next { self.new
@@ -332,7 +352,6 @@ impl<B: Board> Session<B> {
         ensures text { answer.new.items
             ≡ (row self.old.tags self.old.limit self.old.state text.now (argument_of text.now)
             (unnamed_command text.now)).text }
-        ensures go { result ≡ (if is_quit_command (unnamed_command text.now) then Go.Quit else Go.On) }
     {
         let read = self.read(text);
         match read {
@@ -341,28 +360,28 @@ impl<B: Board> Session<B> {
                 self.play(read, text, answer);
             }
         }
-        Go::On
     }
 
-    // Does what the row of a line says, and answers whether the session goes on.
+    // Does what the row of a line says, and puts the answer together unless it is the game's text.
     #[tactic(auto, unfolding(crate::specs::Session::next_state, crate::specs::Session::answer_to, crate::specs::Session::is_quit, crate::specs::Session::asks_for_pgn, crate::specs::Commands::command_of))]
-    fn obey_line(&mut self, line: &Line<COMMAND_LEN>, answer: &mut Answer) -> Go
-        requires brief { asks_for_pgn line.now ≡ false }
-        requires empty { answer.old.items ≡ [] }
+    fn obey_line(&mut self, line: &Line<COMMAND_LEN>, answer: &mut Answer) -> Reply
+        requires { answer.old.items ≡ [] }
         ensures next { self.new ≡ next_state self.old line.now }
-        ensures text { answer.new.items ≡ answer_to self.old line.now }
-        ensures go { result ≡ (if is_quit line.now then Go.Quit else Go.On) }
+        ensures text { asks_for_pgn line.now ≡ false → answer.new.items ≡ answer_to self.old line.now }
+        ensures reply { result ≡ reply_to line.now }
     {
         let text = line.text();
         if line.is_too_long() {
             write_line(answer, b"Error (line too long): ", text);
-            return Go::On;
+            return Reply::Text(Go::On);
         }
-        let Some(command) = named_command(text) else {
-            return self.obey_unnamed(text, answer);
+        let (word, argument) = split_word(text);
+        let Some(command) = named_command(word, argument) else {
+            self.obey_unnamed(text, answer);
+            return Reply::Text(Go::On);
         };
-        self.obey(command, text, argument(text), answer);
-        go_after(command)
+        self.obey(command, text, argument, answer);
+        reply_of(command)
     }
 
     // Writes the game's text, and flushes.
@@ -393,39 +412,17 @@ impl<B: Board> Session<B> {
         ensures refused { IsRefusal (answer_to self.old line.now) → self.new ≡ self.old }
         ensures kept { (self.new.tags ≡ self.old.tags) × (self.new.limit ≡ self.old.limit) }
     {
-        if asks_for_pgn(line) {
-            return match self.send_pgn(writer) {
+        let mut answer = Answer::new();
+        match self.obey_line(line, &mut answer) {
+            Reply::Text(go) => {
+                send(writer, answer.as_slice())?;
+                Ok(go)
+            }
+            Reply::Pgn => match self.send_pgn(writer) {
                 Ok(()) => Ok(Go::On),
                 Err(fault) => Err(fault),
-            };
+            },
         }
-        let mut answer = Answer::new();
-        let go = self.obey_line(line, &mut answer);
-        send(writer, answer.as_slice())?;
-        Ok(go)
-    }
-}
-
-// Whether the line asks for the game's text.
-#[tactic(auto, unfolding(crate::specs::Session::asks_for_pgn, crate::specs::Commands::command_of))]
-fn asks_for_pgn(line: &Line<COMMAND_LEN>) -> bool
-    ensures { result ≡ asks_for_pgn line.now }
-{
-    if line.is_too_long() {
-        return false;
-    }
-    match named_command(line.text()) {
-        Some(command) => shows_pgn(command),
-        None => false,
-    }
-}
-
-fn shows_pgn(command: Command) -> bool
-    ensures { result ≡ shows_pgn command }
-{
-    match command {
-        Command::ShowPgn => true,
-        _ => false,
     }
 }
 
@@ -437,11 +434,13 @@ fn send<W: Output>(writer: &mut W, text: &[u8]) -> Result<(), WriteFault>
     writer.flush()
 }
 
-fn go_after(command: Command) -> Go
-    ensures { result ≡ (if is_quit_command command then Go.Quit else Go.On) }
+// What answers the lines of a command.
+fn reply_of(command: Command) -> Reply
+    ensures { result ≡ reply_of command }
 {
     match command {
-        Command::Quit => Go::Quit,
-        _ => Go::On,
+        Command::ShowPgn => Reply::Pgn,
+        Command::Quit => Reply::Text(Go::Quit),
+        _ => Reply::Text(Go::On),
     }
 }

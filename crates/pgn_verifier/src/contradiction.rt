@@ -2,12 +2,13 @@
 
 ghost use Rattle.std.specs.Prelude.{◌≡◌, ◌≤◌, length};
 ghost use Rattle.std.specs.Option.{IfSome};
-ghost use Rattle.chess_game.specs.Game.{is_other};
+ghost use Rattle.chess_game.specs.Game.{is_other, verdict_now};
 ghost use Rattle.chess_pgn.specs.ResultTags.{result_tag_of};
 ghost use Rattle.pgn_verifier.specs.GameFaults.{is_text_of, result_differs, board_says_otherwise, first_fault, contradiction};
 
 use crate::game_fault::{FaultKind, GameFault};
-use chess_game::{Outcome, Verdict};
+use chess_game::{Game, Outcome, Verdict};
+use chess_moves::Board;
 use chess_pgn::{PgnEnd, ResultTag, result_tag};
 
 // Whether a tag's text, which denotes this outcome, is that of the termination.
@@ -68,16 +69,16 @@ fn first_fault(first: Option<GameFault>, second: Option<GameFault>) -> Option<Ga
 }
 
 // The contradiction of the game that is read from an offset on and has this end; without `strict` none is looked for.
-pub(crate) fn contradiction(
+pub(crate) fn contradiction<B: Board>(
     strict: bool,
     text: &[u8],
     at: usize,
-    verdict: Option<Verdict>,
+    game: &Game<B>,
     end: PgnEnd,
 ) -> Option<GameFault>
     requires at { at ≤ length text.now }
     requires end { end.place ≤ length text.now }
-    ensures fault { result ≡ contradiction strict (result_tag_of text.now at) verdict end }
+    ensures fault { result ≡ contradiction strict (result_tag_of text.now at) (verdict_now game.now.state) end }
     ensures within { IfSome result (λ fault. fault.offset ≤ length text.now) }
 {
     if !strict {
@@ -85,6 +86,6 @@ pub(crate) fn contradiction(
     }
     first_fault(
         result_differs(result_tag(text, at), end),
-        board_says_otherwise(verdict, end),
+        board_says_otherwise(game.verdict(), end),
     )
 }

@@ -49,7 +49,7 @@ fn judge_game(
     half_moves_have_bytes();
     match read_pgn(text, at, game) {
         Ok(None) => Ok(None),
-        Ok(Some(end)) => match contradiction(strict, text, at, game.verdict(), end) {
+        Ok(Some(end)) => match contradiction(strict, text, at, game, end) {
             Some(fault) => Err(fault),
             None => Ok(Some(end)),
         },

@@ -1,5 +1,6 @@
 -- What was read is judged (GamesJudged).
-use Rattle.std.proofs.Common.{◌≡◌, ◌≤◌, length, Ok, Err, Some, None, sym, subst}
+use Rattle.std.proofs.Common.{◌≡◌, ◌≤◌, length, Ok, Err, Some, None, refl, sym, subst}
+use Rattle.chess_game.specs.Game.{verdict_now}
 use Rattle.pgn_verifier.specs.declared.game_fault.GameFault.{GameFault}
 use Rattle.pgn_verifier.proofs.GamesJudged.{answered, moves_are, none_judged, fault_judged, end_judged, few_moves, fault_within}
 use Rattle.pgn_verifier.proofs.games.judge_game.Goals as goal
@@ -16,9 +17,9 @@ returns-in-Ok-None-clause-moves c = moves_are c.args.text.now c.args.at c.args.g
 
 pub returns-in-Some-clause-judged : goal.returns-in-Some-clause-judged
 returns-in-Some-clause-judged c =
-    end_judged c.args.strict c.args.text.now c.args.at c.args.game.now c.read_pgn.new.game c.verdict.result
-    c.in-Ok-Some.end (Some c.in-Some.fault) c.requires.limit c.in-Ok-Some.ensures.game c.verdict.ensures
-    c.in-Some.ensures.fault
+    end_judged c.args.strict c.args.text.now c.args.at c.args.game.now c.read_pgn.new.game
+    (verdict_now c.read_pgn.new.game.state) c.in-Ok-Some.end (Some c.in-Some.fault) c.requires.limit
+    c.in-Ok-Some.ensures.game refl c.in-Some.ensures.fault
     (answered c.args.game.now.limit c.args.text.now c.args.at (Ok (Some c.in-Ok-Some.end)) c.requires.limit
     (rw c.in-Ok-Some.field-0-is at c.in-Ok-Some.ensures.answer))
 
@@ -28,8 +29,9 @@ returns-in-Some-clause-moves c = moves_are c.args.text.now c.args.at c.args.game
 
 pub returns-in-None-clause-judged : goal.returns-in-None-clause-judged
 returns-in-None-clause-judged c =
-    end_judged c.args.strict c.args.text.now c.args.at c.args.game.now c.read_pgn.new.game c.verdict.result
-    c.in-Ok-Some.end None c.requires.limit c.in-Ok-Some.ensures.game c.verdict.ensures c.in-None.ensures.fault
+    end_judged c.args.strict c.args.text.now c.args.at c.args.game.now c.read_pgn.new.game
+    (verdict_now c.read_pgn.new.game.state) c.in-Ok-Some.end None c.requires.limit
+    c.in-Ok-Some.ensures.game refl c.in-None.ensures.fault
     (answered c.args.game.now.limit c.args.text.now c.args.at (Ok (Some c.in-Ok-Some.end)) c.requires.limit
     (rw c.in-Ok-Some.field-0-is at c.in-Ok-Some.ensures.answer))
 
