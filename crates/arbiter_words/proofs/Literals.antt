@@ -1,4 +1,4 @@
--- What the grammar makes of words that are written out.
+-- What the grammar makes of arguments that are written out.
 use Rattle.std.proofs.Common.{[], ◌∷◌, codes, refl}
 use Rattle.clap.proofs.OnLiterals.{clap_on_literals}
 use Rattle.clap.specs.declared.error.kind.ErrorKind.TheVariants.{DisplayHelp, DisplayVersion, MissingRequiredArgument}

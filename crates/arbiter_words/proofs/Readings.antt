@@ -1,4 +1,4 @@
--- What was parsed, spelled and planned is a reading of the words.
+-- What was parsed, taken as written and planned is a reading of the arguments.
 use Rattle.std.proofs.Common.{◌≡◌, ◌∙◌, ap, sym, subst, inl, inr, option_map, unwrap_or, [], codes, IfOk, IfErr, IfSome, List, Option, Some, None, Result, Ok, Err, Bor}
 use Rattle.clap.specs.Words.{HasKind, IsAmong, Kinds, Row, Text, found_of, kind_of, rows_of, subcommand_of, subcommand_rows_of}
 use Rattle.clap.specs.declared.error.Error.{Error}
@@ -57,7 +57,7 @@ plan_fault names texts (spelled.Verify v) f none is h = absurd h
 plan_fault names texts (spelled.Stub words) f none is h = absurd h
 plan_fault names texts (spelled.Match m) f none is h = match_fault names texts m f none is.0 is.1 h
 
--- what is spelled was planned
+-- what was taken as written was planned
 pub planned_reading : (names : Lent) (texts : List Text) → AreVariants names → faults_in names texts ≡ []
     → (s : Spelled) → IsSpelledOf (asked names texts) s
     → (r : Result Plan WordsFault) → IfOk r (IsPlanned s) → IfErr r (IsPlanFault s) → IsReading texts r

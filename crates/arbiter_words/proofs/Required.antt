@@ -198,7 +198,7 @@ the_first : (a b : Bool) → (a || b) ≡ true → b ≡ false → a ≡ true
 the_first true b e f = refl
 the_first false b e f = absurd (true≢false (sym e ∙ f))
 
--- a use with no value, for which these stand
+-- a use with no value, in place of which these are
 used_missing : (again : Bool) (a : Rule) (rows : List Row) → Asks a → (ms : List Text) → a.missing ≡ ms
     → use_fault again a [] rows ≡ [] → HasValues rows
     → HasValues (used_as (action_of a) a.id (reading_by a) ms rows)
@@ -309,7 +309,7 @@ module _ (c : List Rule) (again : Bool) (all : AllAsk c) where
       bundle_step_kept (slice_get (chars flags) 0) flags skip so_far h (flags_fault c again k) (bundle_met c k)
       (λ f s o g n w. bundle_kept k f s o g n w) none v
 
-  -- ---- one word
+  -- ---- one argument
 
   option_word_kept : (o : Option Rule) (id word : Text) (h : Held) → HasValues h.rows
       → HasValues (option_word o id word h).0.rows

@@ -20,7 +20,7 @@ needed r = record r { required = true }
 abbrev pub games_rule : Rule
 games_rule = record (option_rule (codes "games")) { parser = Some (Unsigned 1 1000) }
 
--- the names that `--variant` takes, wherever they stand in memory: a grammar holds references to them
+-- the names that `--variant` takes, wherever they are in memory: a grammar holds references to them
 abbrev pub Lent : Type 0
 Lent = Bor (List (Bor Text))
 
@@ -70,11 +70,11 @@ GivesMatchApp app = (names : Lent) × AreVariants names × (app ≡ match_app na
 abbrev pub GivesArbiterApp : App → Type 0
 GivesArbiterApp app = (names : Lent) × AreVariants names × (app ≡ arbiter_app names)
 
--- the words, by `clap`'s meaning of the grammar: the subcommand with its matches, `session` with none where no
+-- the arguments, by `clap`'s meaning of the grammar: the subcommand with its matches, `session` with none where no
 -- subcommand is named
 abbrev pub asked : Lent → List Text → Text × List Row
 asked names words = unwrap_or (subcommand_of (arbiter_app names) words) (codes "session", [])
 
--- the kinds of fault that `clap` may tell of the words, by its meaning of the grammar; none where it takes them
+-- the kinds of fault that `clap` may report of the arguments, by its meaning of the grammar; none where it takes them
 abbrev pub faults_in : Lent → List Text → Kinds
 faults_in names words = fault_of (arbiter_app names) words

@@ -1,4 +1,4 @@
--- What a plan has to do with the words.
+-- What a plan has to do with the arguments.
 use Rattle.std.specs.Prelude.{◌≡◌, ◌≢◌, ◌⊎◌, ◌≤◌, ◌&&◌, ℕ, Bool, List, [], codes, length, map, nat_le, option_map, if◌then◌else◌, Option, Some, None, Result, Ok, Err, is_some, true, false, unwrap_or, ⊤}
 use Rattle.std.specs.List.{list_all, list_any}
 use Rattle.std.specs.Option.{option_map_or}
@@ -28,7 +28,7 @@ use Rattle.chess_base.specs.declared.man.Variant.TheVariants.{Normal, Fischerand
 use Rattle.chess_base.specs.declared.setup.Setup.{Setup}
 use Rattle.engine_lines.specs.Levels.{LevelSeen, level_of}
 
--- ---- what is spelled
+-- ---- what is asked for, as written
 
 -- what an option has, or else its default
 abbrev pub text_or : Text → List Row → Text → Text
@@ -68,7 +68,7 @@ pub record IsMatchOf (rows : List Row) (m : MatchWords) : Type 0 where
   pub variant : m.variant ≡ variant_in rows
   pub log : m.log ≡ is_set (codes "log") rows
 
--- what the words ask for, as it is spelled
+-- what the arguments ask for, as written
 abbrev pub IsSpelledOf : Text × List Row → Spelled → Type 0
 IsSpelledOf p spelled.Session = p.0 ≡ codes "session"
 IsSpelledOf p (spelled.Verify v) = (p.0 ≡ codes "verify") × (v ≡ verify_plan_of p.1)
@@ -78,7 +78,7 @@ IsSpelledOf p (spelled.Match m) = (p.0 ≡ codes "match") × IsMatchOf p.1 m
 
 -- ---- what it means
 
--- the position that a match starts in: what the FEN spells, or else the variant's initial one
+-- the position that a match starts in: what the FEN denotes, or else the variant's initial one
 abbrev pub start_of : Variant → Option Text → Result Setup FenFault
 start_of v None = Ok (initial_setup_of v)
 start_of v (Some text) = fen_reading_as v text
@@ -87,7 +87,7 @@ start_of v (Some text) = fen_reading_as v text
 abbrev pub is_date : Text → Bool
 is_date text = nat_le (length text) 60 && list_all (λ b. nat_le 32 b && nat_le b 126) text
 
--- a match is played by what the words spell
+-- a match is played by what the arguments denote
 pub record IsMatchPlan (m : MatchWords) (plan : MatchPlan) : Type 0 where
   pub white : plan.white ≡ m.white
   pub black : plan.black ≡ m.black
@@ -118,23 +118,23 @@ abbrev pub IsPlanFault : Spelled → WordsFault → Type 0
 IsPlanFault (spelled.Match m) f = IsMatchFault m f
 IsPlanFault _ f = ⊥
 
--- the plan is what the words ask for
+-- the plan is what the arguments ask for
 abbrev pub IsPlanOf : Text × List Row → Plan → Type 0
 IsPlanOf p plan = (s : Spelled) × IsSpelledOf p s × IsPlanned s plan
 
--- a level, FEN or date out of its form is told only where a match was asked for by it
+-- a level, FEN or date out of its form is reported only where a match was asked for by it
 abbrev pub IsFaultOf : Text × List Row → WordsFault → Type 0
 IsFaultOf p f = (m : MatchWords) × (p.0 ≡ codes "match") × IsMatchOf p.1 m × IsMatchFault m f
 
--- a plan, or a level, FEN or date out of its form, is told only of words in which `clap` finds no fault; of others, one
--- of the faults that it may find in them. Want of memory may be told of any words
+-- a plan, or a level, FEN or date out of its form, is returned only for arguments in which `clap` finds no fault; for
+-- others, one of the faults that it may find in them. Out of memory may be reported for any arguments
 abbrev pub IsReadBy : Lent → List Text → Result Plan WordsFault → Type 0
 IsReadBy names words (Ok plan) = (faults_in names words ≡ []) × IsPlanOf (asked names words) plan
 IsReadBy names words (Err (Words e)) = IsAmong (kind_of e) (faults_in names words)
 IsReadBy names words (Err NoMemory) = ⊤
 IsReadBy names words (Err f) = (faults_in names words ≡ []) × IsFaultOf (asked names words) f
 
--- the words are read by the grammar
+-- the arguments are read by the grammar
 abbrev pub IsReading : List Text → Result Plan WordsFault → Type 0
 IsReading words result = (names : Lent) × AreVariants names × IsReadBy names words result
 
@@ -148,17 +148,17 @@ command_name (Match plan) = codes "match"
 abbrev pub PlansAreNamed : Type 0
 PlansAreNamed = (p : Text × List Row) (plan : Plan) → IsPlanOf p plan → p.0 ≡ command_name plan
 
--- a plan to verify has the flags that the words set
+-- a plan to verify has the flags that the arguments set
 abbrev pub VerifyIsAsSpelled : Type 0
 VerifyIsAsSpelled = (p : Text × List Row) (v : VerifyPlan) → IsPlanOf p (Verify v) → v ≡ verify_plan_of p.1
 
--- the words are taken, and ask for the command of that name, with no argument that a word gives
+-- the arguments are taken, and ask for the command of that name, with none of its own arguments given
 pub record AskFor (words : List Text) (name : Text) : Type 0 where
   pub taken : (names : Lent) → faults_in names words ≡ []
   pub named : (names : Lent) → (asked names words).0 ≡ name
   pub bare : (names : Lent) → list_any (λ r. explicit_source r.source) (asked names words).1 ≡ false
 
--- the words are refused, and by one of these kinds
+-- the arguments are refused, and by one of these kinds
 abbrev pub AreRefused : List Text → Kinds → Type 0
 AreRefused words kinds = (names : Lent) → faults_in names words ≡ kinds
 
@@ -166,13 +166,13 @@ AreRefused words kinds = (names : Lent) → faults_in names words ≡ kinds
 abbrev pub bare_plan : VerifyPlan
 bare_plan = record { keep_going = false; quiet = false; strict = false }
 
--- the words ask for this
+-- the arguments ask for this
 abbrev pub VerifyAsBare : List Text → Type 0
 VerifyAsBare words = (names : Lent) → verify_plan_of (asked names words).1 ≡ bare_plan
 
 -- ---- on the way there
 
--- what `clap` gives for the words, by the grammar
+-- what `clap` gives for the arguments, by the grammar
 abbrev pub IsParsedBy : Lent → List Text → Result ArgMatches Error → Type 0
 IsParsedBy names words (Ok m) = (faults_in names words ≡ [])
     × (subcommand_rows_of m ≡ subcommand_of (arbiter_app names) words)
@@ -194,7 +194,7 @@ NamesBoth p = p.0 ≡ codes "match" → (is_some (first_of (codes "white") p.1) 
 abbrev pub HasGames : List Row → Type 0
 HasGames rows = (t : Text) → first_of (codes "games") rows ≡ Some t → is_unsigned_in 1 1000 t ≡ true
 
--- want of memory is told as such, and what else `clap` gave is told as it is
+-- out of memory is reported as such, and what else `clap` gave is reported as it is
 abbrev pub Refuses : Error → WordsFault → Type 0
 Refuses e (Words told) = (kind_of e ≢ OutOfMemory) × (told ≡ e)
 Refuses e NoMemory = kind_of e ≡ OutOfMemory

@@ -1,4 +1,4 @@
-//! Why words ask for nothing.
+//! Why arguments ask for nothing.
 
 ghost use Rattle.arbiter_words.specs.Plans.{Refuses};
 
@@ -7,7 +7,7 @@ use chess_cecp::fen_fault_name;
 use clap::Error;
 use clap::error::ErrorKind;
 
-/// Why the words ask for nothing.
+/// Why the arguments ask for nothing.
 #[derive(Debug, Drop, thiserror::Error)]
 pub enum WordsFault {
     /// They are none of the program's forms, or ask for help or the version; the text is `clap`'s.
@@ -16,10 +16,10 @@ pub enum WordsFault {
     /// There was no memory to read them.
     #[error("no memory")]
     NoMemory,
-    /// The level of a match spells none.
+    /// The text of a match's level denotes none.
     #[error("bad level")]
     BadLevel,
-    /// The start of a match spells no sound position.
+    /// The text of a match's start denotes no sound position.
     #[error("illegal position ({})", fen_fault_name(*.0))]
     BadFen(FenFault),
     /// The date of a match has more than 60 bytes, or one outside 32 to 126.

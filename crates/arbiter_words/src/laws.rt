@@ -1,11 +1,11 @@
-//! Laws of the words. A caller learns one by calling its function, which does nothing.
+//! Laws of the arguments. A caller learns one by calling its function, which does nothing.
 
 ghost use Rattle.std.specs.Prelude.{[], ◌∷◌, codes};
 ghost use Rattle.clap.specs.declared.error.kind.ErrorKind.TheVariants.{DisplayHelp, DisplayVersion, MissingRequiredArgument};
 ghost use Rattle.arbiter_words.specs.Plans.{AreRefused, AskFor, PlansAreNamed, VerifyAsBare, VerifyIsAsSpelled};
 
-/// No words, `session` alone and `verify` alone are taken, and ask for what they say; `verify` alone sets none of its
-/// flags.
+/// No arguments, `session` alone and `verify` alone are taken, and ask for what they say; `verify` alone sets none of
+/// its flags.
 pub fn plain_words_are_taken()
     ensures none { AskFor [] (codes "session") }
     ensures session { AskFor (codes "session" ∷ []) (codes "session") }
@@ -25,7 +25,7 @@ pub fn plans_are_named()
     ensures { PlansAreNamed }
 {}
 
-/// A plan to verify has the flags that the words after `verify` set.
+/// A plan to verify has the flags that the arguments after `verify` set.
 pub fn verify_is_as_spelled()
     ensures { VerifyIsAsSpelled }
 {}

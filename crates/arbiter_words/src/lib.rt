@@ -1,4 +1,4 @@
-//! The words of the command line: what they ask for.
+//! The arguments of the command line: what they ask for.
 //!
 //! ```
 //! let words = ["verify", "--quiet"];

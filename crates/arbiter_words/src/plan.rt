@@ -1,4 +1,4 @@
-//! What words ask for.
+//! What arguments ask for.
 
 ghost use Rattle.std.specs.Prelude.{◌≡◌, ◌&&◌, IfErr, IfOk, nat_le, option_map};
 ghost use Rattle.std.specs.List.{list_all};
@@ -23,7 +23,7 @@ pub struct MatchPlan<'a> {
     pub start: Position,
     /// How many games, from 1 to 1,000.
     pub games: u16,
-    /// The date that each game tells.
+    /// The date in each game's tags.
     pub date: &'a str,
     /// Whether what the engines say and are sent is written to the error output.
     pub log: bool,
@@ -41,14 +41,14 @@ pub struct VerifyPlan {
     pub strict: bool,
 }
 
-/// What the words ask for.
+/// What the arguments ask for.
 #[derive(Drop)]
 pub enum Plan<'a> {
     /// A session on the standard streams.
     Session,
     /// To verify the games on the standard input.
     Verify(VerifyPlan),
-    /// To be an engine that plays these words.
+    /// To be an engine that plays these arguments.
     Stub(Vec<&'a str>),
     /// Games between two engines.
     Match(MatchPlan<'a>),
@@ -104,7 +104,7 @@ fn judged<'a>(words: &MatchWords<'a>) -> Result<MatchPlan<'a>, WordsFault>
     })
 }
 
-// The plan, where what is spelled is in its form.
+// The plan, where each argument is in its form.
 pub(crate) fn planned<'a>(spelled: Spelled<'a>) -> Result<Plan<'a>, WordsFault>
     ensures plan { IfOk result (IsPlanned spelled.entry) }
     ensures fault { IfErr result (IsPlanFault spelled.entry) }

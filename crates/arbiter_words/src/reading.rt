@@ -1,4 +1,4 @@
-//! Reading the words.
+//! Reading the arguments.
 
 ghost use Rattle.std.specs.Prelude.{◌≡◌, [], IfErr, IfOk, map, option_map, true};
 ghost use Rattle.clap.specs.Words.{found_of, rows_of, subcommand_rows_of};
@@ -12,7 +12,7 @@ use clap::error::ErrorKind;
 use clap::{ArgMatches, Error};
 use std::alloc::{AllocError, Global};
 
-// What `clap` finds in the words.
+// What `clap` finds in the arguments.
 fn parsed<'a>(alloc: Global, words: &'a [&'a str]) -> Result<ArgMatches<'a>, Error>
     ensures { IsParsed (map (λ w. w.now) words.entry.now) result }
 {
@@ -27,11 +27,11 @@ fn entered<'m, 'a>(matches: &'m ArgMatches<'a>) -> Option<(&'a str, &'m ArgMatch
     matches.subcommand()
 }
 
-/// Reads the words behind the program's name.
+/// Reads the arguments after the program's name.
 ///
 /// # Errors
-/// Where `clap` refuses the words or asks to show help or the version, where there is no memory, and where level, FEN
-/// or date of a match isn't in its form, the first of them.
+/// Where `clap` refuses the arguments or asks to show help or the version, where there is no memory, and where level,
+/// FEN or date of a match isn't in its form, the first of them.
 pub fn read_words<'a>(alloc: Global, words: &'a [&'a str]) -> Result<Plan<'a>, WordsFault>
     ensures { IsReading (map (λ w. w.now) words.entry.now) result }
 {

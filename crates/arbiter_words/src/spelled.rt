@@ -1,4 +1,4 @@
-//! What words ask for, as they spell it.
+//! What the arguments ask for, as written.
 
 ghost use Rattle.std.specs.Prelude.{◌≡◌, ◌≤◌, [], IfOk, IfSome, IsSome, true, codes, is_some, map, option_map, unwrap_or};
 ghost use Rattle.clap.specs.Words.{all_of, first_of, found_of, rows_of, subcommand_rows_of};
@@ -9,7 +9,7 @@ use chess_base::Variant;
 use clap::ArgMatches;
 use std::alloc::{AllocError, Global};
 
-/// What a match is played by, as it is spelled.
+/// What a match is played by, as written.
 #[derive(Clone, Copy, Debug)]
 pub(crate) struct MatchWords<'a> {
     pub white: &'a str,
@@ -22,7 +22,7 @@ pub(crate) struct MatchWords<'a> {
     pub log: bool,
 }
 
-/// What the words ask for, as it is spelled.
+/// What the arguments ask for, as written.
 #[derive(Drop)]
 pub(crate) enum Spelled<'a> {
     Session,
@@ -59,7 +59,7 @@ fn verify_plan(found: &ArgMatches<'_>) -> VerifyPlan
     }
 }
 
-// The words behind `stub`.
+// The arguments after `stub`.
 fn stub_words<'a>(alloc: Global, found: &ArgMatches<'a>) -> Result<Vec<&'a str>, AllocError>
     ensures { IfOk result (λ v. map (λ w. w.now) v.items
         ≡ unwrap_or (all_of (codes "words") (rows_of (found_of found.now))) []) }
@@ -123,7 +123,7 @@ fn match_words<'a>(found: &ArgMatches<'a>) -> Option<MatchWords<'a>>
     })
 }
 
-// What a command's matches spell.
+// What a command's matches ask for, as written.
 pub(crate) fn spelled_in<'a>(
     alloc: Global,
     name: &str,

@@ -1,4 +1,4 @@
-//! The words of the command line as their callers read them.
+//! The arguments of the command line as their callers read them.
 #![tactic(auto)]
 
 #[cfg(test)]

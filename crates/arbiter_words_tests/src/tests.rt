@@ -1,4 +1,4 @@
-//! What the words of the command line ask for, and which are refused.
+//! What the arguments of the command line ask for, and which are refused.
 
 use arbiter_words::{Plan, VerifyPlan, WordsFault, read_words};
 use chess_base::Variant;
@@ -18,7 +18,7 @@ fn plans_without_arguments(rt: HostRuntime) -> Result<(), Fail> {
     Ok(())
 }
 
-// Words of `verify`, and the flags that they set: keep-going, quiet, strict.
+// Arguments of `verify`, and the flags that they set: keep-going, quiet, strict.
 const VERIFY: [(&[&str], bool, bool, bool); 14] = [
     (&["verify"], false, false, false),
     (&["verify", "--keep-going"], true, false, false),
@@ -66,7 +66,7 @@ const VERIFY: [(&[&str], bool, bool, bool); 14] = [
     ),
 ];
 
-// The words of `verify` go together in any order.
+// The arguments of `verify` go together in any order.
 #[test]
 fn verify_by_its_words(rt: HostRuntime) -> Result<(), Fail> {
     for (words, keep_going, quiet, strict) in &VERIFY {
@@ -85,7 +85,7 @@ fn verify_by_its_words(rt: HostRuntime) -> Result<(), Fail> {
     Ok(())
 }
 
-// Words of `stub`, and how many of them it plays.
+// Arguments of `stub`, and how many of them it plays.
 const STUBS: [(&[&str], usize); 3] = [
     (&["stub", "e2e4", "offer"], 2),
     (&["stub"], 0),
@@ -181,7 +181,7 @@ fn a_variant_has_its_initial_position(rt: HostRuntime) -> Result<(), Fail> {
     Ok(())
 }
 
-// Words of a match, and what is told of them.
+// Arguments of a match, and what is reported of them.
 const FAULTS: [([&str; 6], &str); 8] = [
     (
         ["--level", "40 5", "--fen", "x", "--date", "\u{7f}"],
@@ -252,7 +252,7 @@ const FAULTS: [([&str; 6], &str); 8] = [
     ),
 ];
 
-// Words that ask for nothing: what is told of them.
+// Arguments that ask for nothing: what is reported of them.
 #[test]
 fn faults_are_told(rt: HostRuntime) -> Result<(), Fail> {
     for ([a, b, c, d, e, f], wanted) in &FAULTS {
@@ -344,7 +344,7 @@ const OTHERS: [(&[&str], i32); 39] = [
     (&["-V"], 0),
 ];
 
-// Words that are none of the program's forms, or ask for help: the status that `clap` gives them.
+// Arguments that are none of the program's forms, or ask for help: the status that `clap` gives them.
 #[test]
 fn other_words_are_refused(rt: HostRuntime) -> Result<(), Fail> {
     for (words, status) in &OTHERS {

@@ -1,7 +1,7 @@
 //! Measures the crates below the program. `bench DEPTH [FEN..]` counts the lines of legal moves from a position,
 //! `bench games FILE` the games and half-moves of a PGN file, reading each, and `bench match TIMES` the half-moves of
 //! so many matches between two engines in memory, each of 500. It writes the counts, and on standard error how many
-//! lines or half-moves a second it made. With no words it does a little of each.
+//! lines or half-moves a second it made. With no arguments it does a little of each.
 #![tactic(auto)]
 
 mod games;
@@ -30,7 +30,7 @@ const MANY_KINDS: &[u8] = b"r3k2r/p1ppqpb1/bn2pnp1/3PN3/1p2P3/2N2Q1p/PPPBBPPP/R3
 
 const TWO_GAMES: &[u8] = b"1. e4 e5 1-0 [Event \"x\"] 1. f3 (1. d4) e5 2. g4 *";
 
-// Words with a blank behind each.
+// The arguments, with a space after each.
 fn joined(alloc: Global, words: &[String]) -> io::Result<Vec<u8>> {
     let mut text = Vec::new(alloc);
     for word in words {
@@ -40,7 +40,7 @@ fn joined(alloc: Global, words: &[String]) -> io::Result<Vec<u8>> {
     Ok(text)
 }
 
-// The position that a FEN spells. No text is the initial position.
+// The position that a FEN denotes. No text is the initial position.
 fn start_of(fen: &[u8]) -> Option<Position> {
     if fen.is_empty() {
         return Some(Position::initial());
@@ -62,7 +62,7 @@ fn words_of(rt: &HostRuntime) -> io::Result<Vec<String>> {
     Ok(words)
 }
 
-// Counts lines from the position that a FEN spells.
+// Counts lines from the position that a FEN denotes.
 fn measure_lines(rt: &HostRuntime, depth: u8, fen: &[u8]) -> io::Result<ExitCode> {
     let Some(start) = start_of(fen) else {
         return misused(rt);

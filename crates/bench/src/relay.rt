@@ -16,7 +16,7 @@ pub struct Script {
     pub black: Vec<u8>,
 }
 
-// The moments of a clock that stands.
+// The moments of a clock that does not move.
 #[derive(Drop)]
 struct Standing;
 
@@ -30,7 +30,7 @@ impl Moments for Standing {
     }
 }
 
-// What comes behind a number in a sequence that looks like dice.
+// What comes after a number in a sequence that looks like dice.
 fn next_number(number: u32) -> u32 {
     number.wrapping_mul(1_664_525).wrapping_add(1_013_904_223)
 }
@@ -42,7 +42,7 @@ fn goes_on(setup: &Setup, m: Move) -> bool {
     setup.men[m.to.index()].is_none() && is_pawn == (setup.halfmove > 20)
 }
 
-// The first such legal move from that place of their list on, and then from its beginning; else the one at that place.
+// The first such legal move from that index of their list on, and then from its beginning; else the one at that index.
 fn next_move<B: Board>(board: &B, place: usize) -> Option<Move> {
     let moves = board.legal_moves();
     let (front, behind) = moves.as_slice().split_at_checked(place)?;
@@ -60,7 +60,7 @@ fn next_move<B: Board>(board: &B, place: usize) -> Option<Move> {
     behind.first().copied()
 }
 
-// A move, and the answer to the `ping` behind it.
+// A move, and the answer to the `ping` after it.
 fn say_move(said: &mut Vec<u8>, m: Move, number: usize) -> Result<(), AllocError> {
     let mut buffer = itoa::Buffer::new();
     said.extend_from_slice(b"move ")?;
@@ -76,11 +76,11 @@ fn greeting(alloc: Global) -> Result<Vec<u8>, AllocError> {
     Ok(said)
 }
 
-/// What two engines say that play a game of up to so many half-moves, in which hardly a man is taken; the
+/// What two engines say that play a game of up to so many half-moves, in which hardly a piece is taken; the
 /// game is played here.
 ///
 /// # Errors
-/// Where memory is wanting.
+/// Where we ran out of memory.
 pub fn write_script<B: Board>(
     alloc: Global,
     game: &mut Game<B>,
@@ -110,7 +110,7 @@ pub fn write_script<B: Board>(
     Ok(script)
 }
 
-/// Plays a match between two engines that say this, in pieces of 4,096 bytes, and tells its half-moves.
+/// Plays a match between two engines that say this, in pieces of 4,096 bytes, and returns its half-moves.
 pub fn relay<B: Board>(
     alloc: Global,
     script: &Script,

@@ -67,7 +67,7 @@ const NORMAL: [Counted; 6] = [
     },
 ];
 
-// Chess960: a usual position, and king and rooks that stand beside each other, so that castling
+// Chess960: a usual position, and king and rooks that are beside each other, so that castling
 // moves one of them alone.
 const FISCHERANDOM: [Counted; 2] = [
     Counted {
@@ -151,7 +151,7 @@ fn what_is_made_is_the_position_after(rt: HostRuntime) -> Result<(), Fail> {
     Ok(())
 }
 
-// Positions and their words, as a program apart from this one tells them: all kinds of men, either side on move, all
+// Positions and their hashes, as another program gives them: all kinds of piece, either side on move, all
 // rights, one and none. Target and counters make no difference.
 const WORDS: [(&[u8], u64); 6] = [
     (
@@ -171,7 +171,7 @@ const WORDS: [(&[u8], u64); 6] = [
     (b"4k3/8/8/8/8/8/8/4K3 w - - 0 1", 0xD933_5A52_334C_2F4E),
 ];
 
-/// Asks a board for the words of these positions.
+/// Asks a board for the hashes of these positions.
 fn tells_words<B: Board>(rt: &impl Abort, board: &mut B) -> Result<(), Fail> {
     for (fen, word) in &WORDS {
         board.set(&read_fen(fen).ok().ok_or("sound")?);
@@ -180,7 +180,7 @@ fn tells_words<B: Board>(rt: &impl Abort, board: &mut B) -> Result<(), Fail> {
     Ok(())
 }
 
-/// Asks a board for the words on the way from one position to another by 1. e4, and back.
+/// Asks a board for the hashes on the way from one position to another by 1. e4, and back.
 fn tells_words_on_the_way<B: Board>(rt: &impl Abort, board: &mut B) -> Result<(), Fail> {
     board.set(&Position::initial());
     let m = Move {

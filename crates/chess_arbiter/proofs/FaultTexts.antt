@@ -1,4 +1,4 @@
--- What a fault of an engine is told as is ASCII, so it is a text.
+-- The report of an engine's fault is ASCII, so it is a text.
 use Rattle.std.proofs.Common.{◌≡◌, ◌<◌, ℕ, true, List, refl, subst, sym}
 use Rattle.std.specs.Char.{is_ascii}
 use Rattle.std.specs.List.{list_all}

@@ -1,4 +1,4 @@
--- What no words, `session` and `verify` do.
+-- What no arguments, `session` and `verify` do.
 use Rattle.std.proofs.Common.{◌≡◌, ◌∙◌, ◌<◌, ℕ, List, [], length, lit<, codes, Result, Ok, Err, refl, sym, ap, subst, inl, arith}
 use Rattle.clap.specs.Words.{IsAmong, Text, kind_of}
 use Rattle.arbiter_words.specs.Grammar.{asked}
@@ -20,12 +20,12 @@ use Rattle.chess_arbiter.specs.declared.fault.ProgramFault.TheVariants.{NoMemory
 shorter : (xs ys : Text) → length xs < length ys → xs ≡ ys → ⊥
 shorter xs ys lt e = let same : length xs ≡ length ys = ap length e in absurd (omega arith)
 
--- a plan that was read of words that ask for that command
+-- a plan that was read of arguments that ask for that command
 read_word : PlansAreNamed → (words : List Text) (name : Text) (plan : Plan) → AskFor words name
     → IsReading words (Ok plan) → name ≡ command_name plan
 read_word named words name plan a (names, are, (none, is)) = sym (a.named names) ∙ named (asked names words) plan is
 
--- words that are taken and ask for no match are refused for want of memory alone
+-- arguments that are taken and ask for no match are refused for being out of memory alone
 abbrev IsWant : WordsFault → Type 0
 IsWant words.NoMemory = Unit {0}
 IsWant _ = ⊥

@@ -1,4 +1,4 @@
--- What words do that ask for no plan.
+-- What arguments do that ask for no plan.
 use Rattle.std.proofs.Common.{◌≡◌, ◌≢◌, ◌∙◌, ◌⊎◌, ℕ, List, [], ◌∷◌, Ok, Err, sym, subst, inl, inr}
 use Rattle.clap.specs.Words.{IsAmong, Kinds, Text, kind_of}
 use Rattle.clap.specs.declared.error.kind.ErrorKind.{ErrorKind}
@@ -22,7 +22,7 @@ only_one k x (inr none) = absurd none
 the_fault : (k x : ErrorKind) (kinds : Kinds) → kinds ≡ k ∷ [] → IsAmong x kinds → x ≡ k
 the_fault k x kinds one among = only_one k x (subst (IsAmong x) one among)
 
--- they are refused by that kind, or for want of memory
+-- they are refused by that kind, or for being out of memory
 abbrev pub IsRefusal : ErrorKind → WordsFault → Type 0
 IsRefusal k (words.Words e) = kind_of e ≡ k
 IsRefusal k words.NoMemory = Unit {0}

@@ -1,4 +1,4 @@
--- What a stub says behind its move, remark by remark.
+-- What a stub says after its move, remark by remark.
 use Rattle.std.proofs.Common.{◌≡◌, ◌∙◌, ◌<◌, ◌≤◌, ◌+◌, ℕ, Bor, Bool, true, false, List, [], ◌∷◌, ◌++◌, length, drop, get_or, is_some, Option, Some, None, Result, Ok, Err, IsErr, if◌then◌else◌, refl, sym, ap, append_assoc, append-nil, arith, subst}
 use Rattle.std.proofs.lemmas.List.{drop_more, at_drop_all}
 use Rattle.byte_devices.specs.Devices.{OutputState, Took, BreaksOff}
@@ -10,7 +10,7 @@ use Rattle.chess_arbiter.specs.declared.stub.Onward.{Onward}
 use Rattle.chess_arbiter.specs.declared.stub.Onward.TheVariants.{On}
 use Rattle.chess_arbiter.specs.declared.stub.Stub.{Stub}
 
--- ---- words
+-- ---- arguments
 
 remarks_none : remarks [] ≡ []
 unfolding remarks
@@ -42,7 +42,7 @@ pub record SoFar (words : Words) (from at : ℕ) (w w' : OutputState) (text : Li
 pub start : (words : Words) (from : ℕ) (w : OutputState) → from ≤ length words → SoFar words from from w w []
 start words from w in_range = record { within = in_range; took = took_none w; rest = refl; behind = refl }
 
--- a word that is a remark
+-- an argument that is a remark
 module _ (words : Words) (at : ℕ) (d : Bor (List ℕ)) (text : List ℕ) (lt : at < length words)
     (is : remark (get_or words at d).now ≡ Some text) where
   abbrev here : Bor (List ℕ)
@@ -76,7 +76,7 @@ module _ (words : Words) (at : ℕ) (d : Bor (List ℕ)) (text : List ℕ) (lt :
       (breaks_more w w' w'' before (text ++ remarks (drop (at + 1) words)) s.took
       (breaks_longer w' w'' text (remarks (drop (at + 1) words)) h))
 
--- a word that is none, or no word
+-- an argument that is none, or no argument
 pub no_more : (E : Type 0) (words : Words) (from at : ℕ) (w w' : OutputState) (before : List ℕ)
     → SoFar words from at w w' before
     → remarks (drop at words) ≡ [] → behind_remarks (drop at words) ≡ drop at words

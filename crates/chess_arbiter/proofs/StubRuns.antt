@@ -34,7 +34,7 @@ one_state : (b : Bool) (x : StubState) → (if b then x else x) ≡ x
 one_state true x = refl
 one_state false x = refl
 
--- lines at which it doesn't end: those behind them go on from where they left it
+-- lines at which it doesn't end: those after them go on from where they left it
 replies_on : (s : StubState) (xs ys : List LineSeen) → ends_in s xs ≡ false
     → replies s (xs ++ ys) ≡ replies s xs ++ replies (standing s xs) ys
 replies_on s [] ys h = refl
@@ -122,7 +122,7 @@ waited r r' r'' w w' s s' held given more done f (inr (few, none)) =
     ∙ append-nil done in
     omega (arith, ap length e)
 
--- a line was reached: the lines that were given are those that are done, and that one, and what stands behind it
+-- a line was reached: the lines that were given are those that are done, and that one, and what follows it
 pub record Reached (r r' : InputState) (given : List ℕ) (told : Bool) (done : List LineSeen) (line : LineSeen)
     (behind : List LineSeen) : Type 0 where
   pub bytes : Consumes r.known_bytes r'.known_bytes given

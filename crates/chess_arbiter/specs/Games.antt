@@ -1,4 +1,4 @@
--- The games of a match: who plays which colour, how each is told, and the score.
+-- The games of a match: who plays which colour, how each is reported, and the score.
 use Rattle.std.specs.Prelude.{◌≡◌, ◌⊎◌, ℕ, ◌+◌, ◌<◌, ◌%◌, ◌==◌, Bool, true, false, not, if◌then◌else◌, min, List, [], ◌∷◌, ◌++◌, length, codes, decimal, Option, None, Some, is_some, Result, Ok, Err}
 use Rattle.std.specs.Borrow.{Bor}
 use Rattle.chess_base.specs.Letters.{new_line}
@@ -154,7 +154,7 @@ FailsToStart command NoMemory = Unit {0}
 FailsToStart command (CanNotStart c) = c.now ≡ command
 FailsToStart command (Game number text) = ⊥
 
--- want of memory is told as such, and all else by the engine's command
+-- out of memory is reported as such, and all else by the engine's command
 abbrev pub TellsStart : StartFault → List ℕ → GamesFault → Type 0
 TellsStart start.NoMemory command fault = fault ≡ NoMemory
 TellsStart start.CanNotStart command fault = (c : Bor (List ℕ)) × (fault ≡ CanNotStart c) × (c.now ≡ command)

@@ -1,4 +1,4 @@
--- What the program does with its words and its devices.
+-- What the program does with its arguments and its devices.
 use Rattle.std.specs.Prelude.{◌≡◌, ◌≢◌, ◌⊎◌, ℕ, Bool, true, false, List, Result, Ok, Err}
 use Rattle.clap.specs.Words.{Text, kind_of}
 use Rattle.clap.specs.declared.error.kind.ErrorKind.TheVariants.{DisplayHelp, DisplayVersion}
@@ -48,7 +48,7 @@ Served r r' w w' (Err NoMemory) = IsUntouched r r' w w'
 Served r r' w w' (Err InputTooLong) = ⊥
 Served r r' w w' (Err WrongWords) = ⊥
 
--- the exit status of a fault of the program: 2 for wrong words, else 1
+-- the exit status of a fault of the program: 2 for invalid arguments, else 1
 abbrev pub fault_status : ProgramFault → ℕ
 fault_status ReadFailed = 1
 fault_status WriteFailed = 1
@@ -72,7 +72,7 @@ verify_status (Ok EachGame) = 0
 verify_status (Ok FaultTold) = 1
 verify_status (Err fault) = fault_status (program_fault fault)
 
--- a session ran, and the status tells how it ended
+-- a session ran, and the status says how it ended
 abbrev pub RanSession : InputState → InputState → OutputState → OutputState → ℕ → Type 0
 RanSession r r' w w' status = (outcome : Result End ProgramFault) × Served r r' w w' outcome
     × (status ≡ status_of outcome)
@@ -87,7 +87,7 @@ abbrev pub VerifiesAs : Bool → VerifyOptions → InputState → InputState →
 VerifiesAs true options r r' w w' outcome = VerifiesCollection options r r' w w' outcome
 VerifiesAs false options r r' w w' outcome = Verifies options r r' w w' outcome
 
--- they were, and the status tells whether there was a fault
+-- they were, and the status says whether there was a fault
 abbrev pub RanVerify : VerifyPlan → InputState → InputState → OutputState → OutputState → ℕ → Type 0
 RanVerify plan r r' w w' status = (outcome : Result Verified VerifyFault)
     × VerifiesAs plan.keep_going (options_of plan) r r' w w' outcome × (status ≡ verify_status outcome)
@@ -105,11 +105,11 @@ abbrev pub shown_status : {A : Type 0} → Result A ProgramFault → ℕ
 shown_status (Ok _) = 0
 shown_status (Err fault) = fault_status fault
 
--- a text of help was shown, and the status tells whether
+-- a text of help was shown, and the status says whether
 abbrev pub RanHelp : OutputState → OutputState → ℕ → Type 0
 RanHelp w w' status = (outcome : Result (Unit {0}) ProgramFault) × Shown w w' outcome × (status ≡ shown_status outcome)
 
--- what is told of words that ask for nothing: help and the version on the output, all else on the error output
+-- what is reported of arguments that ask for nothing: help and the version on the output, all else on the error output
 abbrev pub ToldWords : WordsFault → OutputState → OutputState → ℕ → Type 0
 ToldWords (words.Words e) w w' status =
     ((kind_of e ≢ DisplayHelp) → (kind_of e ≢ DisplayVersion) → (w' ≡ w) × (status ≡ 2))
@@ -117,7 +117,7 @@ ToldWords (words.Words e) w w' status =
 ToldWords words.NoMemory w w' status = (w' ≡ w) × (status ≡ 1)
 ToldWords fault w w' status = (w' ≡ w) × (status ≡ 2)
 
--- a stub ran, and the status tells whether a device failed
+-- a stub ran, and the status says whether a device failed
 abbrev pub stub_status : {A : Type 0} → Result A StubFault → ℕ
 stub_status (Ok _) = 0
 stub_status (Err fault) = 1
@@ -137,7 +137,7 @@ RanMatch plan w w' l l' status =
     (outcome : Result (Unit {0}) GamesFault) × (logged : LogSeen) × RanGames plan w w' l logged outcome
     × (status ≡ games_status outcome) × (status ≡ 0 → l' ≡ logged)
 
--- what the words ask for was done, or was told why they ask for nothing
+-- what the arguments ask for was done, or it was reported why they ask for nothing
 abbrev pub RanPlan : Result Plan WordsFault → InputState → InputState → OutputState → OutputState → LogSeen → LogSeen → ℕ
     → Type 0
 RanPlan (Ok Session) r r' w w' l l' status = RanSession r r' w w' status
@@ -146,7 +146,7 @@ RanPlan (Ok (Stub words)) r r' w w' l l' status = RanStub words.items r r' w w' 
 RanPlan (Ok (Match plan)) r r' w w' l l' status = (r' ≡ r) × RanMatch plan w w' l l' status
 RanPlan (Err fault) r r' w w' l l' status = (r' ≡ r) × ToldWords fault w w' status
 
--- the words were read, and what they ask for was done
+-- the arguments were read, and what they ask for was done
 abbrev pub RanProgram : List Text → InputState → InputState → OutputState → OutputState → LogSeen → LogSeen → ℕ
     → Type 0
 RanProgram words r r' w w' l l' status = (read : Result Plan WordsFault) × IsReading words read

@@ -1,4 +1,4 @@
--- An engine that plays the words that it is given.
+-- An engine that plays the arguments that it is given.
 use Rattle.std.specs.Prelude.{◌≡◌, ◌⊎◌, ◌≤◌, ◌||◌, ℕ, Bool, true, false, if◌then◌else◌, List, [], ◌∷◌, ◌++◌, length, codes, decimal, Option, Some, None, is_some, drop, Result, Ok, Err}
 use Rattle.chess_base.specs.Letters.{new_line}
 use Rattle.std.specs.Borrow.{Bor}
@@ -21,7 +21,7 @@ use Rattle.chess_cecp.specs.declared.session.TheConstants.{COMMAND_LEN}
 abbrev pub Words : Type 0
 Words = List (Bor (List ℕ))
 
--- the words that are left, and whether it plays
+-- the arguments that are left, and whether it plays
 pub record StubState : Type 0 where
   pub words : Words
   pub plays : Bool
@@ -34,7 +34,7 @@ pub record Reply : Type 0 where
 
 -- ---- a turn
 
--- what a word is that is said behind a move
+-- what is said for an argument that is a remark after a move
 abbrev pub remark : List ℕ → Option (List ℕ)
 remark word =
     if bytes_eq word (codes "offer") then Some (codes "offer draw" ++ new_line ∷ [])
@@ -45,23 +45,23 @@ abbrev pub before_others : Option (List ℕ) → List ℕ → List ℕ
 before_others None others = []
 before_others (Some text) others = text ++ others
 
--- what is said of words behind a move: of the first ones that are remarks
+-- what is said for the arguments after a move: for the first ones that are remarks
 unfoldable pub remarks : Words → List ℕ
 remarks [] = []
 remarks (word ∷ words) = before_others (remark word.now) (remarks words)
 
--- the words behind these
+-- the arguments after these
 unfoldable pub behind_remarks : Words → Words
 behind_remarks [] = []
 behind_remarks (word ∷ words) = if is_some (remark word.now) then behind_remarks words else word ∷ words
 
--- what a word is that is played
+-- what is said for an argument that is played
 abbrev pub played_text : List ℕ → List ℕ
 played_text word =
     if bytes_eq word (codes "resign") then codes "resign" ++ new_line ∷ []
     else codes "move " ++ (word ++ new_line ∷ [])
 
--- a turn: the next word is played, and with none left it resigns
+-- a turn: the next argument is played, and with none left it resigns
 abbrev pub turn : Words → Reply
 turn [] = record { text = codes "resign" ++ new_line ∷ []; state = record { words = []; plays = true }; ends = false }
 turn (word ∷ words) =
@@ -109,7 +109,7 @@ reply s line = if line.too_long then says s [] else row s line.text (command_of 
 
 -- ---- what code does of it
 
--- where a stub with these words stands
+-- the state of a stub with these arguments
 abbrev pub state_at : Words → Stub → StubState
 state_at words stub = record { words = drop stub.at words; plays = stub.plays }
 
@@ -121,7 +121,7 @@ abbrev pub onward_of : Bool → Onward
 onward_of true = Over
 onward_of false = On
 
--- the stub stands where the reply says, and goes on as it says
+-- the stub is in the state that the reply gives, and goes on as it says
 abbrev pub Stands : Words → Reply → Stub × Onward → Type 0
 Stands words r (stub, onward) = (stub.at ≤ length words) × (state_at words stub ≡ r.state) × (onward ≡ onward_of r.ends)
 
@@ -159,7 +159,7 @@ abbrev pub replies : StubState → List LineSeen → List ℕ
 replies s [] = []
 replies s (line ∷ lines) = if ends_at s line then said s line else said s line ++ replies (after s line) lines
 
--- where the stub stands then
+-- the state of the stub then
 abbrev pub standing : StubState → List LineSeen → StubState
 standing s [] = s
 standing s (line ∷ lines) = if ends_at s line then after s line else standing (after s line) lines
@@ -169,7 +169,7 @@ abbrev pub ends_in : StubState → List LineSeen → Bool
 ends_in s [] = false
 ends_in s (line ∷ lines) = ends_at s line || ends_in (after s line) lines
 
--- the line behind those before, at none of which the stub ends, is the one at which the call ended: nothing was read
+-- the line after those before, at none of which the stub ends, is the one at which the call ended: nothing was read
 -- while a whole line was unanswered, so before the last piece fewer lines were whole
 pub record StubEndsAt (s : StubState) (t : Transcript) (last_len : ℕ) (before : List LineSeen) (line : LineSeen)
     (after : List LineSeen) : Type 0 where

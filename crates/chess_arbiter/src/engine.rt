@@ -32,7 +32,7 @@ fn start_fault(error: &io::Error) -> StartFault {
     }
 }
 
-// Cuts a command at blanks: the program and its words.
+// Splits a command at spaces and tabs: the program and its arguments.
 fn command_of(alloc: Global, text: &str) -> Result<Command, StartFault> {
     let mut parts = text.split([' ', '\t']).filter(|part| !part.is_empty());
     let Some(program) = parts.next() else {
@@ -49,11 +49,11 @@ fn command_of(alloc: Global, text: &str) -> Result<Command, StartFault> {
     Ok(command)
 }
 
-/// Starts an engine by its command, cut at blanks, with pipes at its input and output; its error output is that of this
-/// process. A name without a slash is looked for on the path.
+/// Starts an engine by its command, split at spaces and tabs, with pipes at its input and output; its error output is
+/// that of this process. A name without a slash is looked for on the path.
 ///
 /// # Errors
-/// Where the command has no word, where there is no such program, or no memory.
+/// Where the command is empty, where there is no such program, or no memory.
 pub(crate) fn start<R: Processes>(
     rt: &R,
     alloc: Global,
@@ -86,7 +86,7 @@ pub(crate) fn start<R: Processes>(
 // How often an engine is asked whether it has ended, a millisecond apart, before its output is closed.
 const GRACE: u32 = 500;
 
-// Waits a little for the end of an engine whose input is closed, so that its last words meet an open pipe.
+// Waits a little for the end of an engine whose input is closed, so that what it writes last meets an open pipe.
 fn give_grace<C: Clock, P: OpenProcess>(rt: &C, child: &mut Child<P>) {
     for _ in 0..GRACE {
         match child.try_wait() {

@@ -1,4 +1,4 @@
-//! What the program tells on its error output.
+//! What the program writes on its error output.
 
 ghost use Rattle.std.specs.Prelude.{◌≡◌};
 ghost use Rattle.chess_arbiter.specs.Program.{fault_status};
@@ -23,13 +23,13 @@ pub enum ProgramFault {
     /// The text of games is longer than 16,777,216 bytes, or a collection of nearly 2^63.
     #[error("input too long")]
     InputTooLong,
-    /// The program's words could not be had, as where one of them is no UTF-8.
+    /// The program's arguments could not be had, as where one of them is no UTF-8.
     #[error("wrong words")]
     WrongWords,
 }
 
 impl ProgramFault {
-    /// The program's exit status: 2 for wrong words, else 1.
+    /// The program's exit status: 2 for invalid arguments, else 1.
     pub fn status(self) -> u8
         ensures { result ≡ fault_status self }
     {
@@ -71,7 +71,7 @@ pub(crate) fn tell<E: Output, D: Display>(errors: &mut E, fault: &D) {
     }
 }
 
-// Tells a fault, and gives that status.
+// Writes a fault, and returns that status.
 pub(crate) fn told<E: Output, D: Display>(errors: &mut E, fault: &D, status: u8) -> u8
     ensures { result ≡ status }
 {

@@ -46,7 +46,7 @@ pub(crate) enum GamesFault<'a> {
     Game(u32, &'static str),
 }
 
-// What a fault of a side's engine is told as.
+// How a fault of a side's engine is reported.
 fn fault_text(side: Colour, fault: MatchFault) -> &'static str
     ensures { result.now ≡ comment_of (Faulted side fault) }
 {
@@ -247,7 +247,7 @@ fn write_score<W: Output>(score: Score, output: &mut W) -> Result<(), WriteFault
     send(output, score.line().as_slice())
 }
 
-// What a fault at the start of an engine is told as.
+// How a fault at the start of an engine is reported.
 fn start_fault<'a>(fault: StartFault, command: &'a str) -> GamesFault<'a>
     ensures fails { FailsToStart command.entry.now result }
     ensures told { TellsStart fault command.entry.now result }

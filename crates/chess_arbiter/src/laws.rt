@@ -12,14 +12,14 @@ use arbiter_words::{
     plain_words_are_refused, plain_words_are_taken, plans_are_named, verify_is_as_spelled,
 };
 
-/// No words, or `session` alone, serve a session, and `verify` alone verifies games: such words are never refused,
-/// whatever else the grammar of the words has.
+/// No arguments, or `session` alone, serve a session, and `verify` alone verifies games: such arguments are never
+/// refused, whatever else the grammar of the arguments has.
 pub fn plain_words_do_what_they_say()
     ensures none { ServesSession [] }
     ensures session { ServesSession (codes "session" ∷ []) }
     ensures verify { VerifiesGames (codes "verify" ∷ []) }
 {
-    // The prover wants these laws of the words: these are taken, and what they ask for is what is planned.
+    // The prover wants these laws of the arguments: these are taken, and what they ask for is what is planned.
     plain_words_are_taken();
     plans_are_named();
     verify_is_as_spelled();
@@ -31,7 +31,7 @@ pub fn refused_words_are_told()
     ensures version { ShowsHelp (codes "--version" ∷ []) }
     ensures bare_match { RefusesWords (codes "match" ∷ []) }
 {
-    // The prover wants this law of the words: how each of them is refused.
+    // The prover wants this law of the arguments: how each of them is refused.
     plain_words_are_refused();
 }
 

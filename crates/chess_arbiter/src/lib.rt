@@ -1,4 +1,4 @@
-//! The arbiter as a program: what its words ask for, on an input, an output and an error output.
+//! The arbiter as a program: what its arguments ask for, on an input, an output and an error output.
 //!
 //! ```
 //! let mut input = Counted::reading(b"1. e4 *".as_slice());

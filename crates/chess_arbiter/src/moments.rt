@@ -5,7 +5,7 @@ use std::rt::Clock;
 use std::time::Instant;
 
 /// The milliseconds since this was made, by a runtime's monotonic clock; 0 where that can't be read. No
-/// contract tells them.
+/// contract says what they are.
 #[derive(Drop)]
 pub struct SinceStart<'a, R> {
     rt: &'a R,
@@ -25,7 +25,7 @@ impl<'a, R: Clock> SinceStart<'a, R> {
 impl<R: Clock> Moments for SinceStart<'_, R> {
     ghost use Rattle.std.specs.Prelude.{None};
 
-    // What the clock will tell isn't known.
+    // What the clock will show isn't known.
     ghost coming = { λ m n. None };
 
     fn now(&mut self) -> u64 {

@@ -57,7 +57,7 @@ fn serve<R: Input, W: Output>(
     }
 }
 
-// A session, told, with its status.
+// A session, reported, with its status.
 fn session<R: Input, W: Output, E: Output>(
     alloc: Global,
     input: &mut R,
@@ -175,7 +175,7 @@ fn help<W: Output, E: Output, D: Display>(
     }
 }
 
-// Tells why the words ask for nothing: help and the version on the output, all else on the error output.
+// Reports why the arguments ask for nothing: help and the version on the output, all else on the error output.
 fn told_words<W: Output, E: Output>(
     alloc: Global,
     fault: &WordsFault,
@@ -233,9 +233,9 @@ fn matched<P: Processes + Clock, W: Output, E: Output>(
     }
 }
 
-/// Runs the program on its words, read as `arbiter_words` reads them, and gives its exit status.
+/// Runs the program on its arguments, read as `arbiter_words` reads them, and returns its exit status.
 ///
-/// - No words, or `session`: a session of at most 20,000 half-moves.
+/// - No arguments, or `session`: a session of at most 20,000 half-moves.
 /// - `verify`: the games of the input, one line for each up to the first fault. With `--keep-going` an input of any
 ///   length, cut into pieces where a line begins with `[Event `: a fault ends its piece alone, and totals come at the
 ///   end. With `--quiet` only games with a fault; with `--strict` a result that contradicts the tag Result or the final
@@ -243,13 +243,13 @@ fn matched<P: Processes + Clock, W: Output, E: Output>(
 /// - `match` with `--white`, `--black` and perhaps `--games`, `--level`, `--fen`, `--variant`, `--date` and `--log`:
 ///   games between two engines that are started as processes, the text of each game, and then the score. The
 ///   input is left alone.
-/// - `stub`, and words to play: an engine that plays these on the input and the output.
+/// - `stub`, and arguments to play: an engine that plays these on the input and the output.
 /// - Help or the version, where `clap` asks for it: a text on the output. The input is left alone.
 ///
 /// The status is 0 where the session or the stub ended by its own command or the input's end, no game verified has
 /// a fault, all games of the match were played, or help was shown; 1 where the input, the output or memory failed,
 /// the input was too long, a game verified has a fault, or an engine could not be started or failed in a game; 2
-/// for all other words.
+/// for all other arguments.
 ///
 /// The contract says what was read and written, and the status. After a match whose status is 0 the error output has just
 /// the logs of its games if `--log` was given, up to a write that failed, and else nothing more. Which programs a match

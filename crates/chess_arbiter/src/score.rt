@@ -17,7 +17,7 @@ pub(crate) struct Score {
     unfinished: u16,
 }
 
-// The score's line: its words have 40 bytes, and its four numbers at most 20 each.
+// The score's line: its text has 40 bytes, and its four numbers at most 20 each.
 type ScoreLine = ArrayVec<u8, 140>;
 
 fn add_text(line: &mut ScoreLine, text: &[u8])

@@ -12,7 +12,7 @@ use std::env;
 use std::io::{self, ErrorKind};
 use std::process::ExitCode;
 
-// The words after the program's name.
+// The arguments after the program's name.
 fn words_of(rt: &HostRuntime) -> io::Result<Vec<String>> {
     let mut words = Vec::new(rt.alloc());
     for word in env::args(rt)?.skip(1) {
@@ -38,7 +38,7 @@ fn status_of(rt: &HostRuntime) -> io::Result<u8> {
     ))
 }
 
-// Why the words could not be had: no memory for them, or one of them is no UTF-8.
+// Why the arguments could not be had: no memory for them, or one of them is no UTF-8.
 fn words_fault(error: &io::Error) -> ProgramFault
     ensures memory { error_kind error.now ≡ ErrorKind.OutOfMemory → result ≡ ProgramFault.NoMemory }
     ensures others { error_kind error.now ≢ ErrorKind.OutOfMemory → result ≡ ProgramFault.WrongWords }
@@ -49,9 +49,9 @@ fn words_fault(error: &io::Error) -> ProgramFault
     }
 }
 
-/// Runs the program on the words behind its name and the standard streams, as `main` does, and gives its exit status,
-/// that of `run_program`; 2 where a word is no UTF-8, and 1 where there is no memory for the words. No clause says so:
-/// it is read off these lines, and the stored run shows it.
+/// Runs the program on the arguments after its name and the standard streams, as `main` does, and returns its exit
+/// status, that of `run_program`; 2 where an argument is no UTF-8, and 1 where there is no memory for them. No clause
+/// says so: it is read off these lines, and the stored run shows it.
 pub fn run(rt: &HostRuntime) -> ExitCode {
     match status_of(rt) {
         Ok(status) => ExitCode::from(status),

@@ -1,4 +1,4 @@
-//! A stub of an engine, which plays the words that it is given.
+//! A stub of an engine, which plays the arguments that it is given.
 
 ghost use Rattle.std.specs.Prelude.{◌≡◌, ◌≤◌, ◌++◌, ◌∷◌, [], codes, decimal, drop, false, length, option_map};
 ghost use Rattle.byte_devices.specs.Devices.{Puts};
@@ -13,7 +13,7 @@ use itoa::Buffer;
 
 const FEATURES: &[u8] = b"feature ping=1 setboard=1 usermove=1 myname=\"stub\" done=1\n";
 
-/// How a stub goes on behind a line.
+/// How a stub goes on after a line.
 #[derive(Clone, Copy, Debug, PartialEq, Eq)]
 pub(crate) enum Onward {
     On,
@@ -27,14 +27,14 @@ pub(crate) enum StubFault {
     Write,
 }
 
-/// Where a stub stands: how many of its words are behind it, and whether it plays.
+/// The state of a stub: how many of its arguments are left, and whether it plays.
 #[derive(Clone, Copy, Debug, PartialEq, Eq)]
 pub(crate) struct Stub {
     at: usize,
     plays: bool,
 }
 
-// What a word is that is said behind a move.
+// What is said for an argument that is a remark after a move.
 fn remark(word: &str) -> Option<&'static [u8]>
     ensures { option_map (λ t. t.now) result ≡ remark word.now }
 {
@@ -64,7 +64,7 @@ fn say_move<W: Output>(writer: &mut W, word: &str) -> Result<(), WriteFault>
     put(writer, line.as_slice())
 }
 
-// Says the word that is played.
+// Says the argument that is played.
 fn say_word<W: Output>(writer: &mut W, word: &str) -> Result<(), WriteFault>
     ensures { Puts (W.seen writer.old) (W.seen writer.new) result (played_text word.now) }
 {
@@ -89,7 +89,7 @@ fn say_pong<W: Output>(writer: &mut W, number: u32) -> Result<(), WriteFault>
     put(writer, line.as_slice())
 }
 
-// Says the remarks among the words from there on, up to the first other word, and tells where that is.
+// Says the remarks among the arguments from there on, up to the first other one, and returns its index.
 fn say_remarks<W: Output>(words: &[&str], from: usize, writer: &mut W) -> Result<usize, WriteFault>
     requires { from ≤ length words.now }
     ensures { SaysRemarks words.now from (W.seen writer.old) (W.seen writer.new) result }
@@ -105,7 +105,7 @@ fn say_remarks<W: Output>(words: &[&str], from: usize, writer: &mut W) -> Result
     Ok(at)
 }
 
-// Plays the next word.
+// Plays the next argument.
 fn play<W: Output>(words: &[&str], at: usize, writer: &mut W) -> Result<(Stub, Onward), WriteFault>
     requires { at ≤ length words.now }
     ensures { Gives words.now (turn (drop at words.now)) (W.seen writer.old) (W.seen writer.new) result }
@@ -230,7 +230,7 @@ fn answer<W: Output>(
     Ok(given)
 }
 
-/// Runs a stub with these words, line by line, up to its end or the input's.
+/// Runs a stub with these arguments, line by line, up to its end or the input's.
 ///
 /// # Errors
 /// Where a call of the reader or of the writer failed.

@@ -8,7 +8,7 @@ use std::test::Fail;
 /// A line to the program, and what it answers.
 type Line = (&'static [u8], &'static [u8]);
 
-/// Words of the program, and lines to it.
+/// Arguments of the program, and lines to it.
 struct Talk {
     words: &'static [&'static str],
     lines: &'static [Line],
@@ -84,7 +84,7 @@ fn input_of(alloc: Global, lines: &[Line]) -> Result<Vec<u8>, Fail> {
     Ok(input)
 }
 
-// What the program tells of a failed input, and of a failed output.
+// What the program reports of a failed input, and of a failed output.
 const READ_FAILED: &[u8] = b"arbiter: read failed\n";
 
 const WRITE_FAILED: &[u8] = b"arbiter: write failed\n";
@@ -92,7 +92,7 @@ const WRITE_FAILED: &[u8] = b"arbiter: write failed\n";
 // The most calls of a device in the runs below.
 const CALLS: u64 = 400;
 
-// Runs a talk in pieces of each length.
+// Runs a session in pieces of each length.
 fn check_talk(rt: &impl Abort, host: &HostRuntime, talk: &Talk) -> Result<(), Fail> {
     let input = input_of(host.alloc(), talk.lines)?;
     let (answers, _) = answered(host.alloc(), talk.lines, input.len())?;
@@ -132,7 +132,7 @@ fn check_beginning(
     Ok(())
 }
 
-// Runs a talk on the first bytes of its input.
+// Runs a session on the first bytes of its input.
 fn check_cut(
     rt: &impl Abort,
     host: &HostRuntime,
@@ -146,7 +146,7 @@ fn check_cut(
     check_beginning(rt, &outcome, answers.as_slice(), read < given)
 }
 
-// Runs a talk on each beginning of its input.
+// Runs a session on each beginning of its input.
 fn check_cuts(rt: &impl Abort, host: &HostRuntime, talk: &Talk) -> Result<(), Fail> {
     let input = input_of(host.alloc(), talk.lines)?;
     for given in 0..=input.len() {
@@ -164,7 +164,7 @@ fn inputs_cut_after_each_byte(rt: HostRuntime) -> Result<(), Fail> {
     Ok(())
 }
 
-// Runs a talk whose input fails at that call, behind so many bytes.
+// Runs a session whose input fails at that call, after so many bytes.
 fn check_failed_read(
     rt: &impl Abort,
     host: &HostRuntime,
@@ -188,7 +188,7 @@ fn check_failed_read(
     Ok(())
 }
 
-// Runs a talk whose input fails at each call in turn.
+// Runs a session whose input fails at each call in turn.
 fn check_failed_reads(rt: &impl Abort, host: &HostRuntime, talk: &Talk) -> Result<(), Fail> {
     let input = input_of(host.alloc(), talk.lines)?;
     for call in 1..=input.len() {
@@ -206,7 +206,7 @@ fn reads_that_fail_at_each_place(rt: HostRuntime) -> Result<(), Fail> {
     Ok(())
 }
 
-// Asserts that a run wrote a beginning of the answers and told of a failed write, if its status says so.
+// Asserts that a run wrote a beginning of the answers and reported a failed write, if its status says so.
 fn check_taken(rt: &impl Abort, outcome: &Outcome, answers: &[u8]) {
     assert!(rt; answers.starts_with(outcome.output.as_slice()));
     if outcome.status != 0 {
@@ -215,7 +215,7 @@ fn check_taken(rt: &impl Abort, outcome: &Outcome, answers: &[u8]) {
     }
 }
 
-// Runs words on an input where the output fails at each call in turn, up to the first that is not made.
+// Runs arguments on an input where the output fails at each call in turn, up to the first that is not made.
 fn check_each_write(
     rt: &impl Abort,
     host: &HostRuntime,
@@ -241,7 +241,7 @@ fn check_each_write(
     assert_eq!(rt; taken_before, answers.len());
 }
 
-// Runs a talk whose output fails at each call in turn.
+// Runs a session whose output fails at each call in turn.
 fn check_failed_writes(rt: &impl Abort, host: &HostRuntime, talk: &Talk) -> Result<(), Fail> {
     let input = input_of(host.alloc(), talk.lines)?;
     let (answers, _) = answered(host.alloc(), talk.lines, input.len())?;
@@ -258,7 +258,7 @@ fn writes_that_fail_at_each_place(rt: HostRuntime) -> Result<(), Fail> {
     Ok(())
 }
 
-// Runs a talk whose output takes nothing.
+// Runs a session whose output takes nothing.
 fn check_nothing_taken(rt: &impl Abort, host: &HostRuntime, talk: &Talk) -> Result<(), Fail> {
     let input = input_of(host.alloc(), talk.lines)?;
     let devices = Devices { taken: 0, ..SOUND };
@@ -319,7 +319,7 @@ fn verify_front(rt: &impl Abort, host: &HostRuntime, given: usize) -> Result<(),
     Ok(())
 }
 
-// A text is verified where it ends behind a game, or behind the blanks after it.
+// A text is verified where it ends after a game, or after the spaces that follow it.
 #[test]
 fn texts_cut_after_each_byte(rt: HostRuntime) -> Result<(), Fail> {
     for given in 0..=BOTH.len() {
@@ -343,7 +343,7 @@ fn verify_failed_read(rt: &impl Abort, host: &HostRuntime, call: usize) {
     run(host, &["verify"], BOTH, devices).check(rt, wanted);
 }
 
-// Without all of its text, `verify` tells nothing.
+// Without all of its text, `verify` reports nothing.
 #[test]
 fn reads_of_games_that_fail(rt: HostRuntime) {
     for call in 1..=BOTH.len() {
@@ -351,7 +351,7 @@ fn reads_of_games_that_fail(rt: HostRuntime) {
     }
 }
 
-// Verifies both games where the output fails behind so many bytes.
+// Verifies both games where the output fails after so many bytes.
 fn verify_failed_write(rt: &impl Abort, host: &HostRuntime, taken: usize) -> Result<(), Fail> {
     let devices = Devices {
         taken: 1,
@@ -367,7 +367,7 @@ fn verify_failed_write(rt: &impl Abort, host: &HostRuntime, taken: usize) -> Res
     Ok(())
 }
 
-// Each write in turn, and the flush behind them.
+// Each write in turn, and the flush after them.
 #[test]
 fn writes_of_games_that_fail(rt: HostRuntime) -> Result<(), Fail> {
     for taken in 0..=LINES.len() {

@@ -9,8 +9,8 @@ use std::process::Abort;
 use std::test::Fail;
 use std::{env, fs};
 
-// What a child of a test runs: the program, on the words behind this test's name. It also runs by
-// itself, with no words.
+// What a child of a test runs: the program, with the arguments after this test's name. It also runs by
+// itself, with no arguments.
 #[test]
 fn acts_as_the_program(rt: HostRuntime) -> Result<(), Fail> {
     let owned = env::args(&rt)?.skip(2).collect::<Vec<String>>(rt.alloc())?;
@@ -29,13 +29,13 @@ fn acts_as_the_program(rt: HostRuntime) -> Result<(), Fail> {
     Ok(())
 }
 
-// The command of a stub that plays these words.
+// The command of a stub that plays these arguments.
 fn stub(rt: &HostRuntime, words: &str) -> Result<String, Fail> {
     let program = env::args(rt)?.next().ok_or("the program's name")?;
     Ok(format!(in rt.alloc(); "{program} engines::acts_as_the_program stub {words}")?)
 }
 
-/// A match over processes: the words of both stubs, the other words, what is written, told and answered.
+/// A match over processes: the arguments of both stubs, the other arguments, what is written, reported and answered.
 struct Played {
     white: &'static str,
     black: &'static str,
@@ -112,7 +112,7 @@ const PLAYED: [Played; 7] = [
     },
 ];
 
-// The words of a match between these commands.
+// The arguments of a match between these commands.
 fn words_of<'a>(
     alloc: Global,
     white: &'a str,
@@ -129,7 +129,7 @@ fn words_of<'a>(
     Ok(words)
 }
 
-// Plays a match over processes between stubs that play these words.
+// Plays a match over processes between stubs that play these arguments.
 fn play_stubs(
     rt: &HostRuntime,
     white: &str,
@@ -257,7 +257,7 @@ fn a_log_on_a_failed_error_output(rt: HostRuntime) -> Result<(), Fail> {
     Ok(())
 }
 
-// How many descriptors this process holds open, and which processes it started that still stand.
+// How many descriptors this process holds open, and which processes it started that still run.
 fn held(rt: &HostRuntime) -> Result<(usize, Vec<u8>), Fail> {
     let open = fs::read_dir(rt, "/proc/self/fd")?.count();
     Ok((open, fs::read(rt, "/proc/thread-self/children")?))
@@ -285,7 +285,7 @@ fn engines_leave_nothing_behind(rt: HostRuntime) -> Result<(), Fail> {
     Ok(())
 }
 
-// Asserts that a match ends before a game, with that told.
+// Asserts that a match ends before a game, with that report.
 fn check_early_end(rt: &impl Abort, host: &HostRuntime, words: &[&str], told: &[u8], status: u8) {
     let wanted = Wanted {
         output: b"",
@@ -295,7 +295,7 @@ fn check_early_end(rt: &impl Abort, host: &HostRuntime, words: &[&str], told: &[
     run(host, words, b"", SOUND).check(rt, wanted);
 }
 
-// Asserts that a match between these commands can not start, with that told.
+// Asserts that a match between these commands can not start, with that report.
 fn check_no_start(rt: &impl Abort, host: &HostRuntime, white: &str, black: &str, told: &[u8]) {
     let words = ["match", "--white", white, "--black", black];
     check_early_end(rt, host, &words, told, 1);
@@ -328,7 +328,7 @@ fn engines_that_can_not_start(rt: HostRuntime) -> Result<(), Fail> {
     Ok(())
 }
 
-// Words of matches out of form, and what is told.
+// Arguments of matches out of form, and what is reported.
 const OUT_OF_FORM: [(&[&str], &[u8]); 4] = [
     (
         &["match", "--white", "x", "--black", "y", "--level", "40 5"],
@@ -476,7 +476,7 @@ fn moments_rise(rt: HostRuntime) {
     assert!(rt; false);
 }
 
-/// A stub over memory: its words, the input, where calls of the devices fail (0: nowhere), and what is said.
+/// A stub over memory: its arguments, the input, where calls of the devices fail (0: nowhere), and what is said.
 struct Said {
     words: &'static [&'static str],
     input: &'static [u8],
@@ -555,7 +555,7 @@ const SAID: [Said; 13] = [
         errors: b"",
         status: 0,
     },
-    // The first word is played, whatever it is; it is longer than a line that is put together.
+    // The first argument is played, whatever it is; it is longer than a line that is put together.
     Said {
         words: &["stub", "0123456789012345678901234567890123456789"],
         input: b"go\n",

@@ -1,4 +1,4 @@
-//! The program as its callers use it: over memory, over devices that fail at each place, and with engines as processes.
+//! The program as its callers use it: over memory, over devices that fail at each call, and with engines as processes.
 #![tactic(auto)]
 
 #[cfg(test)]

@@ -1,4 +1,4 @@
-//! The program over memory: its words, its faults and its help.
+//! The program over memory: its arguments, its faults and its help.
 
 use crate::runs::{Devices, Outcome, SOUND, Wanted, run};
 use byte_devices::{Counted, PieceWriter};
@@ -130,7 +130,7 @@ const CASES: [Case; 21] = [
         errors: b"error: unexpected argument 'x' found\n\nUsage: arbiter verify [OPTIONS]\n\nFor more information, try '--help'.\n",
         status: 2,
     },
-    // The line of the counts, and the flush behind it.
+    // The line of the counts, and the flush after it.
     Case {
         words: &["verify", "--keep-going", "--quiet"],
         input: b"1. e4 *",
@@ -163,7 +163,7 @@ const CASES: [Case; 21] = [
         errors: b"arbiter: write failed\n",
         status: 1,
     },
-    // The line of a fault, and the flush behind the counts.
+    // The line of a fault, and the flush after the counts.
     Case {
         words: &["verify", "--strict", "--quiet"],
         input: b"1. e5 *",
@@ -233,7 +233,7 @@ fn a_failed_error_output_changes_no_status(rt: HostRuntime) {
     assert_eq!(rt; status, 2);
 }
 
-// Asserts that a run was refused for want of this argument, with nothing on the output.
+// Asserts that a run was refused since this argument is missing, with nothing on the output.
 fn check_lacking(rt: &impl Abort, outcome: &Outcome, argument: &str) -> Result<(), Fail> {
     let errors = std::str::from_utf8(outcome.errors.as_slice())?;
     assert!(rt; errors.starts_with("error: the following required arguments were not provided:\n"));
@@ -256,7 +256,7 @@ fn a_match_needs_both_engines(rt: HostRuntime) -> Result<(), Fail> {
     )
 }
 
-// Words that ask for help, and what their help must name.
+// Arguments that ask for help, and what their help must name.
 const HELP: [(&[&str], &[&str]); 3] = [
     (&["--help"], &["session", "verify", "--help", "--version"]),
     (
@@ -291,7 +291,7 @@ const HELP: [(&[&str], &[&str]); 3] = [
     ),
 ];
 
-// Asserts that a run told help that names each of these words, and nothing else.
+// Asserts that a run wrote help that names each of these words, and nothing else.
 fn check_help(rt: &impl Abort, outcome: &Outcome, named: &[&str]) -> Result<(), Fail> {
     let help = std::str::from_utf8(outcome.output.as_slice())?;
     for name in named {
@@ -325,7 +325,7 @@ fn help_on_a_failed_output(rt: HostRuntime) {
     run(&rt, &["--version"], b"", devices).check(&rt, wanted);
 }
 
-// Each fault, how it is told and the status.
+// Each fault, how it is reported, and the status.
 const FAULTS: [(ProgramFault, &str, u8); 5] = [
     (ProgramFault::ReadFailed, "read failed", 1),
     (ProgramFault::WriteFailed, "write failed", 1),
@@ -344,7 +344,7 @@ fn faults_have_texts(rt: HostRuntime) -> Result<(), Fail> {
     Ok(())
 }
 
-// The tests' program has words of its own: a test's name.
+// The tests' program has arguments of its own: a test's name.
 #[test]
 fn the_words_of_the_process_are_read(rt: HostRuntime) {
     assert!(rt; chess_arbiter::run(&rt) == ExitCode::from(2));

@@ -1,4 +1,4 @@
-//! `verify --strict`: the result beside the tag Result and the final position.
+//! `verify --strict`: the result compared with the tag Result and the final position.
 
 use crate::runs::{SOUND, Wanted, run};
 use std::process::Abort;

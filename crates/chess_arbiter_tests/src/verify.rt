@@ -1,4 +1,4 @@
-//! Games as `verify` reads them, by its words.
+//! Games as `verify` reads them, by its arguments.
 
 use crate::readers::{Parts, Spaces, run_on};
 use crate::runs::{Devices, SOUND, Wanted, run};
@@ -7,7 +7,7 @@ use chess_arbiter::{Log, run_program};
 use std::cell::Cell;
 use std::process::Abort;
 
-// Games as they are verified: the text, what is told, and the status.
+// Games as they are verified: the text, what is reported, and the status.
 const GAMES: [(&[u8], &[u8], u8); 16] = [
     (
         b"1.e4 {a} e5 (1...c5 2.Nf3) 2.Nf3 $1 *",
@@ -45,7 +45,7 @@ const GAMES: [(&[u8], &[u8], u8); 16] = [
         b"game 1: 4 half-moves, 0-1\ngame 2: 1 half-moves, 1-0\n",
         0,
     ),
-    // How a game ended, where its text tells it: each for itself.
+    // How a game ended, where its text says it: each for itself.
     (
         b"[Termination \"Time forfeit\"] 1. e4 1-0",
         b"game 1: 1 half-moves, 1-0, time forfeit\n",
@@ -64,7 +64,7 @@ const GAMES: [(&[u8], &[u8], u8); 16] = [
     (b"", b"", 0),
 ];
 
-// Verifies a text by these words: what is told, with nothing on the error output, and the status.
+// Verifies a text by these arguments: what is reported, with nothing on the error output, and the status.
 fn check_verified(
     rt: &impl Abort,
     host: &HostRuntime,
@@ -127,11 +127,11 @@ fn more_than_16_mebibytes_are_too_long(rt: HostRuntime) {
     run_on(&rt, &["verify"], Spaces).check(&rt, wanted);
 }
 
-// The second of three games has a fault, and no line's end stands behind the last.
+// The second of three games has a fault, and no line feed follows the last.
 const COLLECTION: &[u8] =
     b"[Event \"a\"]\n\n1. e4 e5 *\n\n[Event \"b\"]\n\n1. e4 e4 *\n\n[Event \"c\"]\n\n1. d4 1-0";
 
-// Texts as they are verified by words of `verify`: what is told, and the status.
+// Texts as they are verified by options of `verify`: what is reported, and the status.
 const BY_WORDS: [(&[&str], &[u8], &[u8], u8); 11] = [
     (
         &["verify", "--keep-going"],

@@ -57,7 +57,7 @@ unfolding is_man
 other_not_own White k x = refl
 other_not_own Black k x = refl
 
--- the enemy's men after a move: those on squares that did not change
+-- the enemy's pieces after a move: those on squares that did not change
 pub enemy_after : (p : Setup) (m : Move) (kind : Kind) (k : ℕ)
     → is_of (other p.side) (man_that_lands (man_at p.men m.from) m.promotion) ≡ false → k < 64
     → (is_man (other p.side) kind (man_at p.men k) && not (is_changed p m k)) ≡ is_man (other p.side) kind

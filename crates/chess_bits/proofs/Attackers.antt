@@ -86,7 +86,7 @@ de_morgan true true = refl
 de_morgan true false = refl
 de_morgan false q = refl
 
--- what is clear on the board is open in the set of its men, seen from the other end
+-- what is clear on the board is open in the set of its pieces, seen from the other end
 pub open_is_clear : (w : ℕ) (men : Men) (a b : ℕ) → IsOccupied w men → is_open w b a ≡ is_clear men a b
 unfolding is_open is_clear
 open_is_clear w men a b h =
@@ -106,7 +106,7 @@ unfolding in_shape could_capture
 pawn_back men White a b = rw (gap_back (file b) (file a)) refl
 pawn_back men Black a b = rw (gap_back (file b) (file a)) refl
 
--- the answer of `attackers` at one square, from its five parts and what stands there
+-- the answer of `attackers` at one square, from its five parts and the piece there
 abbrev pub hit : Bool → Bool → Bool → Bool → Bool → Bool → Kind → Bool
 hit l d k n p s kind =
     ((l && ((s && same_kind Rook kind) || (s && same_kind Queen kind)))
@@ -153,7 +153,7 @@ seen_kind men c a b s Bishop = hit_bishop _ _ _ _ _ s
 seen_kind men c a b s Knight = hit_knight _ _ _ _ _ s ∙ ap (λ x. s && x) (knight_back men c a b)
 seen_kind men c a b s Pawn = hit_pawn _ _ _ _ _ s ∙ ap (λ x. s && x) (pawn_back men c a b)
 
--- a man's colour is the one that was asked for
+-- a piece's colour is the one that was asked for
 own_reach : (men : Men) (c d : Colour) (kind : Kind) (a b : ℕ) → (same_colour c d && could_capture men c kind a b)
     ≡ (same_colour c d && could_capture men d kind a b)
 own_reach men White White kind a b = refl
@@ -189,7 +189,7 @@ attacked_is w men b c h =
     not-not (some_square (λ k. has w k))
     ∙ some_square_same (λ k. has w k) (λ k. is_of c (man_at men k) && attacks men k b) h
 
--- where a set is empty, no man is met
+-- where a set is empty, no piece is met
 pub none_there : (w k : ℕ) → (w == 0) ≡ true → has w k ≡ false
 none_there w k e = let empty : w ≡ 0 = eqb-true w 0 e in rw empty (has_zero k)
 

@@ -1,4 +1,4 @@
--- What stands on one square changes: the sets of both colours.
+-- One square changes: the sets of both colours.
 use mathlib.Core.Bool.{and-true, and-false, or-true, or-false}
 use Rattle.std.proofs.Common.{◌≡◌, ℕ, ◌<◌, inl, inr, true, false, not, ◌&&◌, ◌||◌, ◌==◌, refl, sym, ◌∙◌, ap, arith, Option, Some, None, List, [], ◌∷◌, zero, suc, length, get_or, set, get_or-set_same, get_or-set_other}
 use Rattle.std.proofs.lemmas.Bool.{cases_eq, eq-eqb, ne_eqb}
@@ -12,7 +12,7 @@ use Rattle.std.proofs.lemmas.List.{set-get_or}
 use Rattle.chess_base.proofs.MenFacts.{is_man-none}
 use Rattle.chess_bits.specs.ties.KindSets.{IsKinds}
 
--- the sets of a colour none of whose men came or went
+-- the sets of a colour none of whose pieces came or went
 pub kinds_kept : (sets : List ℕ) (men : Men) (c : Colour) (s : ℕ) (o : Option Man) → length men ≡ 64 → s < 64
     → ((y : Kind) → is_man c y (man_at men s) ≡ is_man c y o) → IsKinds sets c men → IsKinds sets c (set men s o)
 kinds_kept sets men c s o all ls same h = record { of_kind = at }

@@ -1,4 +1,4 @@
--- Which moves are legal, by the kind of the man that goes.
+-- Which moves are legal, by the kind of the piece that goes.
 use mathlib.Core.Bool.{and-true}
 use Rattle.std.proofs.Common.{◌≡◌, ℕ, ◌<◌, inl, inr, Bool, true, false, not, ◌&&◌, ◌||◌, ◌==◌, Option, Some, None, refl, sym, ap, ◌∙◌}
 use Rattle.std.specs.Option.{is_some}
@@ -27,7 +27,7 @@ use Rattle.chess_bits.proofs.Patterns.{fits_low, not_fitting, not_promoting, off
 use Rattle.chess_bits.proofs.Starts.{starts_are}
 use Rattle.chess_bits.proofs.TargetsOf.{man_told, no_king_says, none_castles, steps_of_man}
 
--- a man other than a pawn has the pattern of a move where it moves or castles
+-- a piece other than a pawn has the pattern of a move where it moves or castles
 pub man_pattern : (p : Setup) (kind : Kind) (a b : ℕ) → is_man p.side kind (man_at p.men a) ≡ true
     → same_kind Pawn kind ≡ false → a < 64 → b < 64
     → castles_or_moves p (triple a b None) (castle_of p (triple a b None)) ≡ has_pattern p (triple a b None)
@@ -38,7 +38,7 @@ man_pattern p kind a b man no_pawn low high =
     ∙ ap (λ w. goes p a b && promotion_fits w None) (not_promoting p a b _ at no_pawn)
     ∙ and-true (goes p a b))
 
--- and an officer where it attacks what is no own man
+-- and an officer where it attacks what is no own piece
 pub officer_pattern : (p : Setup) (kind : Kind) (a b : ℕ) → IsOfficer p.side kind (man_at p.men a) → a < 64 → b < 64
     → (could_capture p.men p.side kind a b && not (is_of p.side (man_at p.men b))) ≡ has_pattern p (triple a b None)
 officer_pattern p kind a b h low high =
@@ -91,7 +91,7 @@ as_triple p m none = ap (λ k. is_legal p (triple m.from m.to k)) (sym (nothing 
 
 -- ---- starts
 
--- no officer goes to a square of an own man
+-- no officer goes to a square of an own piece
 pub own_on_end : (p : Setup) (kind : Kind) (to k : ℕ) → (same_kind King kind || same_kind Pawn kind) ≡ false
     → is_of p.side (man_at p.men to) ≡ true → to < 64 → k < 64
     → false ≡ (is_man p.side kind (man_at p.men k) && is_legal p (triple k to None))
@@ -165,7 +165,7 @@ king_from_same Bishop h = cc
 king_from_same Knight h = cc
 king_from_same Pawn h = cc
 
--- where he has no step to a square he goes there by castling alone
+-- where the king has no step to a square it goes there by castling alone
 pub king_otherwise : (p : Setup) (a b : ℕ) → is_man p.side King (man_at p.men a) ≡ true → a < 64 → b < 64
     → man_moves p (triple a b None) ≡ false
     → legal_or p (triple a b None) (castle_of p (triple a b None)) false ≡ is_legal p (triple a b None)
@@ -178,7 +178,7 @@ king_otherwise p a b king low high still = by (castle_of p (triple a b None)) re
         (sym (man_pattern p King a b king refl low high) ∙ ap (castles_or_moves p (triple a b None)) e ∙ still))
     by (Some castle) e = refl
 
--- he is the only start, or none is
+-- it is the only start, or none is
 pub king_start : (p : Setup) (to king k : ℕ) → is_man p.side King (man_at p.men k) ≡ (k == king)
     → is_legal p (triple king to None) ≡ true
     → (k == king) ≡ (is_man p.side King (man_at p.men k) && is_legal p (triple k to None))

@@ -1,4 +1,4 @@
--- Castling in normal chess: where its right stands, the king is at home.
+-- Castling in normal chess: where its right is available, the king is at home.
 use Rattle.std.proofs.Common.{◌≡◌, ℕ, ◌<◌, true, false, ◌&&◌, ◌==◌, Option, Some, None, refl, sym, ap, ◌∙◌}
 use Rattle.std.proofs.lemmas.Bool.{and_parts, and_from, and_right, eqb-true, eq-eqb}
 use Rattle.chess_base.specs.declared.man.CastlingSide.{CastlingSide}
@@ -89,7 +89,7 @@ castle_at p w a rook sound normal right king low =
     (castling_is p w a rook normal right king (at_home p w a rook sound normal right king low))
     ∙ ap (castle_with p.side w a) right
 
--- as the code tells it
+-- as the code computes it
 pub castle_told : (p : Setup) (w : CastlingSide) (a b rook far : ℕ) (o : Option Kind) → IsSound p → p.variant ≡ Normal
     → right_of p.rights p.side w ≡ Some rook → is_man p.side King (man_at p.men a) ≡ true → a < 64
     → b ≡ castling_end p.variant p.side w rook → o ≡ None → far ≡ home_square p.side (castled_rook_file w)

@@ -1,4 +1,4 @@
--- Castling, told by sets: its squares are on one rank, and its ways are sets.
+-- Castling by sets: its squares are on one rank, and its ways are sets.
 use mathlib.Core.Bool.{and-true}
 use Rattle.std.proofs.Common.{◌≡◌, ℕ, zero, suc, ◌<◌, ◌≤◌, Bool, true, false, not, ◌&&◌, ◌||◌, ◌==◌, nat_lt, Option, Some, None, is_none, refl, sym, ap, subst, ◌∙◌, arith}
 use Rattle.std.proofs.lemmas.Bool.Decides.{nat_tests}
@@ -160,7 +160,7 @@ crossed x y z u false = by (((x || y) && not z) && not u)
     by true = refl
     by false = refl
 
--- no man is met on the ways
+-- no piece is met on the ways
 pub way_is_empty : (men : Men) (k : Castle) (met : ℕ → Bool)
     → ((x : ℕ) → x < 64
     → met x ≡

@@ -32,7 +32,7 @@ use Rattle.chess_bits.proofs.Quiet.{could_capture_as_clear, lands_same}
 
 -- ---- squares at home
 
--- who sees the king's end square past his start sees it past the rook's end
+-- what sees the king's end square past its start sees it past the rook's end
 past_king : (c : Colour) (w : CastlingSide) (b : ℕ)
     → is_between b (home_square c (castled_king_file w)) (home_square c king_home_file) ≡ true
     → is_between b (home_square c (castled_king_file w)) (home_square c (castled_rook_file w)) ≡ true
@@ -83,7 +83,7 @@ after_castling p m k s e l =
     let still = no_en_passant p m (is_man-kind p.side p.side King Pawn (man_at p.men m.from) refl king) in
     man_at-men_after p m s l ∙ rw (still, e) refl
 
--- an enemy that stands there then stood there
+-- an enemy that is there then was there before
 enemy_stood : (t r l : Bool) (arr rook o : Option Man) (c : Colour) → is_of c arr ≡ false → is_of c rook ≡ false
     → is_of c (cond t arr (cond r rook (cond l None o))) ≡ true
     → cond t arr (cond r rook (cond l None o)) ≡ o

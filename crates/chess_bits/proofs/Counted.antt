@@ -44,7 +44,7 @@ one_counted p a b e =
     let all = ap length (none_promotes p a b e) in
     omega (arith, one, all)
 
--- the moves of the next man are counted with those before
+-- the moves of the next piece are counted with those before
 pub count_fits : (p : Setup) (n : ℕ) (ms : List ℕ) (s : ℕ) (ns : List ℕ) → IsSound p → ms ≡ s ∷ ns
     → n + length (flat_map (λ a. moves_from p a) ms) ≡ length (moves p)
     → n + length (moves_from p s) ≤ 896
@@ -58,7 +58,7 @@ count_fits p n ms s ns sound e h =
 pub none_counted : {m n : ℕ} → m ≡ n → 0 + m ≡ n
 none_counted e = omega (arith, e)
 
--- some men's moves are no more than all
+-- some pieces' moves are no more than all
 fewer : {A : Type 0} (g : ℕ → List A) (q : ℕ → Bool) (xs : List ℕ)
     → length (flat_map g (filter q xs)) ≤ length (flat_map g xs)
 fewer g q [] = omega arith

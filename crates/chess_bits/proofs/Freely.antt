@@ -1,4 +1,4 @@
--- Men without which their king is not attacked: where they go, they go legally.
+-- Pieces without which their king is not attacked: where they go, they go legally.
 use Rattle.std.proofs.Common.{◌≡◌, ℕ, ◌+◌, ◌<◌, ◌≤◌, ◌⊎◌, inl, inr, Bool, true, false, not, ◌&&◌, ◌||◌, ◌==◌, Option, Some, None, cond, List, [], ◌∷◌, ◌++◌, length, refl, sym, ap, ◌∙◌, length-append, subst, arith}
 use Rattle.std.specs.List.{flat_map}
 use Rattle.std.proofs.lemmas.Bool.{and_parts, and_from, false_from_ne_true, and_right, or_cases, or_parts, eqb-true, eq-eqb, ne_eqb, both_ways, cases_Bool, and_left}
@@ -65,7 +65,7 @@ free_is_legal p a b king sound free low there one go stays no_passing =
 
 -- ---- what is no pawn, and pawns that neither promote nor take en passant
 
--- no move of the man on a promotes or takes en passant
+-- no move of the piece on a promotes or takes en passant
 pub record IsUsual (p : Setup) (a : ℕ) : Type 0 where
   pub stays : (b : ℕ) → b < 64 → goes p a b ≡ true → would_promote p a b ≡ false
   pub passes : (b : ℕ) → is_en_passant p (triple a b None) ≡ false
@@ -128,7 +128,7 @@ pawn_usual p a sound low pawn no_target off = record {
               (is_of (other p.side) (man_at p.men b) || is_square p.target b) takes).0).1
         ]
 
--- as the code tells it
+-- as the code computes it
 pub usual_from : (p : Setup) (a : ℕ) → IsSound p → a < 64
     → (is_man p.side Pawn (man_at p.men a) && (aims_at p.target p.side a || (rank a == pawn_rank (other p.side))))
     ≡ false → IsUsual p a
@@ -168,14 +168,14 @@ free_counted p a king w sound free usual low there one sets all =
         let legal = free_is_legal p a b king sound free low there one go (usual.stays b high go) (usual.passes b) in
         sym (rw legal at (one_counted p a b (usual.stays b high go)))
 
--- ---- the set of the free men
+-- ---- the set of the free pieces
 
 at_king : (p : Setup) (a king : ℕ) (P : ℕ → Type 0)
     → ((k : ℕ) → k < 64 → is_man p.side King (man_at p.men k) ≡ (k == king)) → P king
     → (k : ℕ) → k < 64 → is_man p.side King (man_at p.men k) ≡ true → P k
 at_king p a king P one h k low man = subst P (sym (eqb-true k king (sym (one k low) ∙ man))) h
 
--- what attacks with that man taken off attacks as it is, if that opens nothing
+-- what attacks with that piece taken off attacks as it is, if that opens nothing
 last_told : (n s t u : Bool) → ((n && s) ≡ true → t ≡ true → u ≡ true) → (n && s && t) ≡ true → (n && s && u) ≡ true
 last_told true true t u h e = h refl e
 last_told true false t u h e = e
@@ -251,7 +251,7 @@ freed p a king sound low there calm one out lines diagonals = record {
       (some_square-at _ b l (and_from _ _ was hit)))));
 }
 
--- what a set tells that is empty
+-- a test whose negation fails holds
 pub from_not : (b : Bool) → not b ≡ false → b ≡ true
 from_not true h = refl
 from_not false h = cc
@@ -271,7 +271,7 @@ free_listed p a king w sound free usual low there one sets b high h =
     let legal = free_is_legal p a b king sound free low there one go stays (usual.passes b) in
     none_promotes p a b stays ∙ rw legal refl
 
--- its place in the list
+-- there is room for it in the list
 pub one_fits : {A : Type 0} (g : ℕ → List A) (x : A) (now whole : List A) (ms : List ℕ) (s : ℕ) (ns : List ℕ) (n : ℕ)
     → ms ≡ s ∷ ns → now ++ flat_map g ms ≡ whole → length whole ≤ n → g s ≡ x ∷ [] → length now < n
 one_fits g x now whole ms s ns n e h fits one =

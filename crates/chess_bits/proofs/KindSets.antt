@@ -1,4 +1,4 @@
--- A man put on an empty square, or taken from its square.
+-- A piece put on an empty square, or taken from its square.
 use mathlib.Core.Bool.{and-true, and-false, or-true, or-false}
 use Rattle.std.proofs.Common.{◌≡◌, ℕ, ◌<◌, inl, inr, Bool, true, false, not, ◌&&◌, ◌||◌, ◌==◌, refl, sym, ap, ◌∙◌, arith, Option, Some, None, List, length, get_or, set, get_or-set_same, get_or-set_other}
 use Rattle.std.proofs.lemmas.Bool.{and_left, and_right, cases_Bool, eq-eqb, ne_eqb, cases_eq}
@@ -121,7 +121,7 @@ lift_kinds sets men c x s w d six all ls there h made =
     get_or_default sets (kind_number x) d 0 in_sets in
     record { of_kind = λ y k lk. lift_at sets men c x y s k w six all ls lk there h (λ j l. made j l ∙ rw read refl) }
 
--- ---- the men left out on some squares
+-- ---- the pieces left out on some squares
 
 nobody_there : (c : Colour) (o : Option Man) → ((kind : Kind) → is_man c kind o ≡ false) → is_of c o ≡ false
 unfolding is_of is_man

@@ -1,4 +1,4 @@
--- The moves of free men of a kind, counted together.
+-- The moves of free pieces of a kind, counted together.
 use Rattle.std.proofs.Common.{◌≡◌, ℕ, zero, suc, ◌+◌, ◌<◌, ◌≤◌, inl, inr, Bool, true, false, Some, None, not, ◌&&◌, ◌||◌, ◌==◌, List, ◌∷◌, length, length-append, refl, sym, ap, ◌∙◌, arith}
 use Rattle.std.specs.List.{filter, flat_map, range_with_len}
 use Rattle.std.proofs.lemmas.Bool.{and_parts, and_right, or_parts, cases_Bool, eq-eqb, both_ways}
@@ -57,7 +57,7 @@ unfolding members squares
 split g w c u v hu hv = split_range g (λ k. has w k) (λ k. has c k) (λ k. has u k) (λ k. has v k) 64 0 (omega arith)
     (λ k l. hu k) hv
 
--- the men chosen are free, and of the kind
+-- the pieces chosen are free, and of the kind
 pub chosen_free : (p : Setup) (kind : Kind) (sets : List ℕ) (free chosen w taken kinds : ℕ)
     → ((k : ℕ) → k < 64 → has free k ≡ true → IsFree p k)
     → ((k : ℕ) → k < 64 → has kinds k ≡ is_man p.side kind (man_at p.men k))

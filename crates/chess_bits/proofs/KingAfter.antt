@@ -1,4 +1,4 @@
--- Where the king of the side on move stands after a move, and when it is attacked there.
+-- The square of the king of the side on move after a move, and when it is attacked there.
 use Rattle.std.proofs.Common.{◌≡◌, ℕ, ◌<◌, inl, inr, Bool, true, false, not, ◌||◌, ◌==◌, cond, count_by, Option, Some, None, is_none, refl, ap, ◌∙◌, arith}
 use Rattle.std.proofs.lemmas.Bool.{cases_Bool, eqb-true}
 use Rattle.chess_base.specs.declared.man.Colour.{Colour}

@@ -1,4 +1,4 @@
--- Where a king steps, and when he is safe there.
+-- Where a king steps, and when it is safe there.
 use Rattle.std.proofs.Common.{◌≡◌, ℕ, zero, suc, ◌<◌, ◌≤◌, ◌+◌, inl, inr, Bool, true, false, not, ◌&&◌, ◌==◌, cond, Option, Some, None, List, [], length, length-append, refl, sym, ap, ◌∙◌, arith}
 use Rattle.std.specs.List.{filter, flat_map, range_with_len}
 use Rattle.std.proofs.lemmas.Bool.{and_parts, and_right, both_ways, cases_Bool, eqb-true, eq-eqb, false_from_ne_true}
@@ -38,7 +38,7 @@ use Rattle.chess_bits.proofs.Patterns.{man_sound, man_complete, not_promoting}
 use Rattle.chess_bits.proofs.Quiet.{IsPlain, lands_same, plain_after, not_passing}
 use Rattle.chess_bits.proofs.TargetsOf.{man_told, none_castles, steps_of_man}
 
--- ---- a square is attacked from elsewhere: what stands on it doesn't count
+-- ---- a square is attacked from elsewhere: what is on it doesn't count
 
 gap_self : (n : ℕ) → gap n n ≡ 0
 gap_self n = omega arith
@@ -198,7 +198,7 @@ step_is p a b sound king moves low high =
     ap not (attacked_same (lifted p.men a) (men_after p m) b (other p.side) same
     ∙ sym (check_after p m b sound pattern high there)) ∙ legal_is p m pattern
 
--- ---- his steps and castling are all his moves
+-- ---- its steps and castling are all its moves
 
 -- what two sets that are apart give is all, where other squares give nothing
 two_range : {A : Type 0} (g : ℕ → List A) (s e : ℕ → Bool) (n a : ℕ) → a + n ≤ 64
@@ -274,7 +274,7 @@ king_counted p a s e sound king low steps ends =
         not_promoting p a b _ (man_told p.side King (man_at p.men a) king) refl in
         sym (rw legal at (one_counted p a b stays))
 
--- as the code tells them
+-- as the code computes them
 pub steps_are : (p : Setup) (a b : ℕ) → is_man p.side King (man_at p.men a) ≡ true
     → (could_capture p.men p.side King a b && not (is_of p.side (man_at p.men b))) ≡ man_moves p (triple a b None)
 steps_are p a b king = sym (steps_of_man p a b _ (man_told p.side King (man_at p.men a) king) refl)

@@ -105,7 +105,7 @@ from_targets p a w all =
     (λ k. false_from_ne_true (is_legal p (triple a b k))
     (λ e. both_ways (has w b) out (all (triple a b k) e refl))))
 
--- nor do the squares without an own man
+-- nor do the squares without an own piece
 pub from_men : (p : Setup) (w : ℕ) → ((k : ℕ) → k < 64 → has w k ≡ is_of p.side (man_at p.men k))
     → flat_map (λ a. moves_from p a) (members w) ≡ moves p
 from_men p w own = flat_map_members (λ a. moves_from p a) w (λ a low out. none_from p a (sym (own a low) ∙ out))

@@ -1,4 +1,4 @@
--- From where pawns go to a square, and officers: from where they are attacked that stand there.
+-- From where pawns go to a square, and officers: from where pieces like them would be attacked from that square.
 use Rattle.std.proofs.Common.{◌≡◌, ℕ, ◌<◌, ◌≤◌, ◌⊎◌, inl, inr, Bool, true, false, not, ◌&&◌, ◌||◌, ◌==◌, nat_lt, Option, Some, None, is_none, refl, sym, ap, ◌∙◌, arith}
 use Rattle.std.specs.Option.{is_some}
 use Rattle.std.proofs.lemmas.Bool.{and_parts, and_from, or_left, or_right, or_cases, eq-eqb, lt-ltb, not-true}
@@ -35,7 +35,7 @@ clear_back : (men : Men) (a b : ℕ) → is_clear men a b ≡ is_clear men b a
 unfolding is_clear
 clear_back men a b = each_square_same _ _ (λ x l. rw (between_back a b x) refl)
 
--- a man other than a pawn attacks as it is attacked
+-- a piece other than a pawn attacks as it is attacked
 pub back : (men : Men) (c : Colour) (kind : Kind) (a b : ℕ) → same_kind Pawn kind ≡ false
     → could_capture men c kind a b ≡ could_capture men c kind b a
 unfolding could_capture
@@ -72,7 +72,7 @@ officer_origins p kind to w u v no_pawn no_king all men reached = λ m legal man
 
 -- ---- pawns
 
--- no pawn stands on the lowest rank
+-- no pawn is on the lowest rank
 pub off_lowest : (men : Men) (c : Colour) (a : ℕ) → is_man c Pawn (man_at men a) ≡ true → pawn_may_stand men a ≡ true
     → 8 ≤ a
 unfolding pawn_may_stand

@@ -89,19 +89,19 @@ pattern_by p a b k =
     ∙ and_joined (nat_lt a 64 && nat_lt b 64) (moves_as p (triple a b (usual_promotion p a b)) (man_at p.men a))
     (promotion_fits (would_promote p a b) k)
 
--- a move has a pattern where its man goes so and its promotion fits
+-- a move has a pattern where its piece goes so and its promotion fits
 pub pattern_is : (p : Setup) (m : Move)
     → has_pattern p m ≡ (goes p m.from m.to && promotion_fits (would_promote p m.from m.to) m.promotion)
 pattern_is p m = pattern_by p m.from m.to m.promotion
 
--- ---- by the man
+-- ---- by the piece
 
 goes_as : (p : Setup) (a b : ℕ) (o : Option Man) → man_at p.men a ≡ o → a < 64 → b < 64
     → goes p a b ≡ moves_as p (triple a b (usual_promotion p a b)) o
 unfolding goes has_pattern
 goes_as p a b o at low high = rw (lt-ltb a 64 low, lt-ltb b 64 high, at) refl
 
--- no man, or an enemy, goes nowhere
+-- no piece, or an enemy, goes nowhere
 pub no_man_goes : (p : Setup) (a b : ℕ) → is_of p.side (man_at p.men a) ≡ false → goes p a b ≡ false
 unfolding goes has_pattern is_of
 no_man_goes p a b h =
@@ -158,7 +158,7 @@ moves_officer : (p : Setup) (m : Move) (x : Man) → x.colour ≡ p.side → sam
 moves_officer p m x own no_pawn = let own' : same_colour p.side x.colour ≡ true = rw own (same_colour-self p.side) in
     rw (own', no_pawn) refl
 
--- another man goes as it attacks, or castles
+-- another piece goes as it attacks, or castles
 pub officer_goes : (p : Setup) (a b : ℕ) (x : Man) → man_at p.men a ≡ Some x → x.colour ≡ p.side
     → same_kind Pawn x.kind ≡ false → a < 64 → b < 64
     → goes p a b ≡ castles_or_moves p (triple a b None) (castle_of p (triple a b None))

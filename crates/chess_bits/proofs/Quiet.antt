@@ -1,4 +1,4 @@
--- A move that changes only its two squares leaves the king as safe as he was with the mover taken off.
+-- A move that changes only its two squares leaves the king as safe as it was with the mover taken off.
 use mathlib.Core.Bool.{or-false}
 use Rattle.std.proofs.Common.{◌≡◌, ℕ, ◌<◌, inl, inr, Bool, true, false, not, ◌&&◌, ◌||◌, ◌==◌, cond, length, refl, sym, ap, ◌∙◌, Option, Some, None, is_none}
 use Rattle.std.proofs.lemmas.Bool.{and_parts, and_from, cases_Bool, both_ways, false_from_ne_true}
@@ -29,7 +29,7 @@ last_of_three true true r s h e = h e
 last_of_three true false r s h e = e
 last_of_three false q r s h e = e
 
--- a man could_capture no less where fewer squares are in the way
+-- a piece could_capture no less where fewer squares are in the way
 could_capture_clear : (men later : Men) (c : Colour) (k : Kind) (a b : ℕ)
     → (is_clear later a b ≡ true → is_clear men a b ≡ true)
     → could_capture later c k a b ≡ true → could_capture men c k a b ≡ true

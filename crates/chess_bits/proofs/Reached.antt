@@ -1,4 +1,4 @@
--- Where a man other than a pawn may go, seen from its square.
+-- Where a piece other than a pawn may go, seen from its square.
 use Rattle.std.proofs.Common.{◌≡◌, ℕ, not, ◌&&◌, ◌||◌, ◌==◌, refl, is_none}
 use Rattle.chess_base.specs.declared.man.Colour.{Colour}
 use Rattle.chess_base.specs.declared.man.Kind.TheVariants.{King, Queen, Rook, Bishop, Knight, Pawn}

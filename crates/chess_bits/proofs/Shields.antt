@@ -1,4 +1,4 @@
--- Men that hide a man of the other side from their king: those that he sees along a line.
+-- Pieces that hide a piece of the other side from their king: those that it sees along a line.
 use Rattle.std.proofs.Common.{◌≡◌, ℕ, ◌<◌, inl, inr, Bool, true, false, not, ◌&&◌, ◌==◌, cond, None, is_none, length, refl, sym, ap, ◌∙◌}
 use Rattle.std.proofs.lemmas.Bool.Decides.{nat_tests}
 use Rattle.std.proofs.lemmas.Bool.{and_parts, and_from, and_right, or_cases, or_left, or_right, both_ways, cases_Bool, eqb-true, eq-eqb, false_from_ne_true}
@@ -49,7 +49,7 @@ inner l b k a y same h g =
     between_on_line l b k y same
     ∙ and_from (same_line l b y) (lies_inside b k y) on (inside_inner b k a y (parts_on l b k a same h).1 near.1)
 
--- ---- with one man taken off
+-- ---- with one piece taken off
 
 -- what is clear with it taken off is empty, but for its square
 empty_there : (men : Men) (w a b k y : ℕ) → IsOccupied w men → length men ≡ 64 → a < 64 → y < 64
@@ -61,7 +61,7 @@ empty_there men w a b k y stood all low l clear inside apart =
     ∙ ap (λ t. cond t None (man_at men y)) apart in
     stood.of_men y l ∙ ap (λ o. not (is_none o)) (sym same) ∙ ap not now
 
--- the king sees it, if it stood between
+-- the king sees it, if it was between
 seen_from : (l : Line) (men : Men) (w a b k : ℕ) → IsOccupied w men → length men ≡ 64 → a < 64 → same_line l b k ≡ true
     → is_clear (lifted men a) b k ≡ true → is_between b k a ≡ true → is_open w k a ≡ true
 unfolding is_open
@@ -78,7 +78,7 @@ seen_from l men w a b k stood all low same clear inside =
 all_told : (n s o w : Bool) → n ≡ false → s ≡ true → o ≡ true → w ≡ true → ((not n && s && o) && w) ≡ true
 all_told n s o w f g h i = rw (f, g, h, i) refl
 
--- so it is among the own men that he sees
+-- so it is among the own pieces that the king sees
 pub is_near : (l : Line) (men : Men) (w a b k : ℕ) (near s own : Bool) → IsOccupied w men → length men ≡ 64 → a < 64
     → same_line l b k ≡ true → (same_line l a k ≡ true → s ≡ true) → own ≡ true
     → near ≡ ((not (a == k) && s && is_open w k a) && own) → is_clear (lifted men a) b k ≡ true
@@ -128,7 +128,7 @@ clear_without men a b k all low out clear =
           rw inside (ap is_none (sym same) ∙ now)
     ])
 
--- ---- what the code tells
+-- ---- what the code computes
 
 pub nothing_hidden : (l : Line) (men : Men) (w v a b k : ℕ) (near : ℕ → Bool) (sh : ℕ → ℕ → Bool)
     (own aimed hidden : Bool)
@@ -184,7 +184,7 @@ diagonal_of b k high low h =
       )
     ]
 
--- a man on none of the lines of k stands between k and nothing
+-- a piece on none of the lines of k is between k and nothing
 pub off_line : (men : Men) (a b k : ℕ) → length men ≡ 64 → a < 64 → share_rank_or_file a k ≡ false
     → share_rank_or_file b k ≡ true → is_clear (lifted men a) b k ≡ true → is_clear men b k ≡ true
 off_line men a b k all low off on clear =
@@ -199,7 +199,7 @@ off_diagonal men a b k all low high there off on clear =
     clear_without men a b k all low
     (λ inside. both_ways (share_diagonal a k) off (line.2 a low (line_on line.0 b k a line.1 inside))) clear
 
--- what a table of lines tells of another square
+-- what a table of lines says of another square
 pub off_shape : (same share : Bool) → same ≡ false → (not same && share) ≡ false → share ≡ false
 off_shape true share e h = cc
 off_shape false share e h = h

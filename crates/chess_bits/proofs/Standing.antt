@@ -1,4 +1,4 @@
--- Sets of men that stand, and of none.
+-- Sets of the pieces on the board, and of none.
 use Rattle.std.proofs.Common.{◌≡◌, ℕ, zero, suc, replicate, ◌<◌, true, false, not, ◌||◌, refl, sym, ◌∙◌, ap, Option, Some, None, is_none, List, [], ◌∷◌}
 use Rattle.chess_base.specs.declared.man.Colour.{Colour}
 use Rattle.chess_base.specs.declared.man.Colour.TheVariants.{White, Black}
@@ -19,7 +19,7 @@ pub kinds_same : (sets : List ℕ) (c : Colour) (a b : Men) → ((k : ℕ) → k
     → IsKinds sets c a → IsKinds sets c b
 kinds_same sets c a b same h = record { of_kind = λ kind k low. h.of_kind kind k low ∙ ap (is_man c kind) (same k low) }
 
--- the sets of the same men on the same squares
+-- the sets of the same pieces on the same squares
 pub sets_same : (s : Sets) (a b : Men) → ((k : ℕ) → k < 64 → man_at a k ≡ man_at b k) → IsSets s a → IsSets s b
 sets_same s a b same h = record {
   of_white = kinds_same s.white.sets _ a b same h.of_white;

@@ -1,4 +1,4 @@
--- Where each kind of man goes, as its sets tell it.
+-- Where each kind of piece goes, as its sets say.
 use mathlib.Core.Bool.{or-false}
 use Rattle.std.proofs.Common.{◌≡◌, ℕ, zero, suc, ◌<◌, ◌≤◌, Bool, true, false, not, ◌&&◌, ◌||◌, ◌==◌, Option, Some, None, is_none, refl, sym, ap, subst, ◌∙◌, arith}
 use Rattle.std.specs.Prelude.{if◌then◌else◌}
@@ -195,7 +195,7 @@ kind_back Bishop = refl
 kind_back Knight = refl
 kind_back Pawn = refl
 
--- the man that a test tells
+-- the piece that passes a test
 pub man_told : (c : Colour) (k : Kind) (o : Option Man) → is_man c k o ≡ true
     → o ≡ Some (record { colour = c; kind = k })
 unfolding is_man
@@ -243,7 +243,7 @@ advanced false false r i en et h g = turn i r en et
     turn false false true z = refl
     turn false false false z = refl
 
--- by what stands one and two squares ahead
+-- by what is one and two squares ahead
 pub advances_is : (p : Setup) (a b n t : ℕ) → is_man p.side Pawn (man_at p.men a) ≡ true → n ≡ forward p.side a
     → t ≡ forward p.side n
     → pawn_advances p (triple a b None)
@@ -317,7 +317,7 @@ man_set_complete p a w own other low set m legal e =
     ∙ man_complete p m man.0 there mine (no_pawn_kind p.side man.0 (man_at p.men a) man.1 mine other)
     (subst (λ s. s < 64) (sym e) low) high legal
 
--- ---- straight ahead, by what stands there
+-- ---- straight ahead, by what is there
 
 some_is_not_none : {A : Type 0} (o : Option A) (b : Bool) → is_some o ≡ b → is_none o ≡ not b
 some_is_not_none None b e = rw (← e) refl

@@ -1,4 +1,4 @@
-//! A board with sets of squares beside its men.
+//! A board with sets of squares along with its pieces.
 
 ghost use Rattle.std.specs.Prelude.{◌≡◌, ℕ, ◌<◌, ◌==◌};
 ghost use Rattle.chess_base.specs.Attacks.{is_attacked};
@@ -16,9 +16,9 @@ use chess_base::{Colour, Kind, Move, Position, Saved, Setup, Square};
 use chess_moves::{Board, MoveList, SquareSet, word_with};
 use std::marker::Model;
 
-/// A board that keeps, beside the man of each square, sets of the squares of the men by colour and kind. The tables of
-/// attacks are lent to it, so one set of tables serves any number of boards. In contracts it is the `Setup` of its
-/// position.
+/// A board that keeps, along with the piece of each square, sets of the squares of the pieces by colour and kind. The
+/// tables of attacks are lent to it, so one set of tables serves any number of boards. In contracts it is the `Setup`
+/// of its position.
 #[derive(Drop)]
 pub struct Bits<'t> {
     pub(crate) setup: Setup,
@@ -60,7 +60,7 @@ impl<'t> Bits<'t> {
         self.sets.occupied()
     }
 
-    // Where the king of that colour stands.
+    // The square of that colour's king.
     pub(crate) fn king(&self, colour: Colour) -> Square
         ensures alone { (k : ℕ) → k < 64 → is_man colour King (man_at self.now.men k) ≡ (k == result) }
         ensures in_range { result < 64 }
@@ -70,7 +70,7 @@ impl<'t> Bits<'t> {
         kings.first()
     }
 
-    // Whether a man of that colour attacks the square.
+    // Whether a piece of that colour attacks the square.
     pub(crate) fn is_attacked(&self, square: Square, by: Colour) -> bool
         ensures { result ≡ is_attacked self.now.men square by }
     {
@@ -116,7 +116,7 @@ impl Board for Bits<'_> {
         self.is_legal_by_kind(m)
     }
 
-    // The king, the pawns of the square's file and those that attack it, and the other men that attack it.
+    // The king, the pawns of the square's file and those that attack it, and the other pieces that attack it.
     fn origins(&self, kind: Kind, to: Square) -> SquareSet {
         let side = self.setup.side;
         let men = self.sets.of(side);

@@ -1,4 +1,4 @@
-//! Castling, told by sets.
+//! Castling by sets.
 
 ghost use Rattle.std.specs.Prelude.{◌≡◌, ◌<◌, ℕ, ◌&&◌, ◌||◌, not, true, false, None, Some, IsTrue};
 ghost use Rattle.chess_base.specs.Attacks.{is_attacked};
@@ -101,8 +101,8 @@ impl Bits<'_> {
         }
     }
 
-    // Whether the king is safe after castling that nothing prevents: in Chess960 the rook may have stood between
-    // him and an attacker.
+    // Whether the king is safe after castling that nothing prevents: in Chess960 the rook may have been between
+    // it and an attacker.
     fn is_safe_castled(&self, m: &Move, castle: &Castle) -> bool
         requires castle { castle_of self.now m.now ≡ Some castle.now }
         requires none { m.now.promotion ≡ None }

@@ -1,4 +1,4 @@
-//! How many legal moves there are, and whether there is one: man by man, with no list.
+//! How many legal moves there are, and whether there is one: piece by piece, with no list.
 
 ghost use Rattle.std.specs.Prelude.{◌≡◌, ◌+◌, ◌≤◌, ◌<◌, ◌==◌, ◌&&◌, ◌||◌, ℕ, length, nat_lt, cond, true, false, IsTrue, Some, None};
 ghost use Rattle.std.specs.List.{flat_map};
@@ -20,7 +20,7 @@ use chess_base::{Kind, Move, Square};
 use chess_moves::{Board, SquareSet, would_promote};
 
 impl Bits<'_> {
-    // How often a move with a man's pattern is legal: once or never.
+    // How often a move with a piece's pattern is legal: once or never.
     fn times_legal(&self, m: &Move) -> usize
         requires { IsTrue (has_pattern self.now m.now) }
         ensures value { result ≡ cond (is_legal self.now m.now) 1 0 }
@@ -84,7 +84,7 @@ impl Bits<'_> {
         if self.is_safe_step(king, to) { 1 } else { 0 }
     }
 
-    // How many legal moves the king has: his steps, and castling.
+    // How many legal moves the king has: its steps, and castling.
     fn count_king(&self, king: Square) -> usize
         requires king { is_man (self.now).side King (man_at (self.now).men king) ≡ true }
         requires few { length (moves_from self.now king) ≤ 896 }
@@ -101,7 +101,7 @@ impl Bits<'_> {
         count
     }
 
-    // Whether a pawn of the side on move that stands there attacks the en passant target.
+    // Whether a pawn of the side on move that is there attacks the en passant target.
     fn aims_at_target(&self, from: Square) -> bool
         ensures { result ≡ aims_at (self.now).target (self.now).side from }
     {
@@ -124,7 +124,7 @@ impl Bits<'_> {
         self.aims_at_target(from) || from.rank() == pawn_rank(self.setup.side.other())
     }
 
-    // Whether a pawn of the side on move stands there that may promote or take en passant.
+    // Whether a pawn of the side on move is there that may promote or take en passant.
     pub(crate) fn is_unusual(&self, from: Square) -> bool
         ensures { result ≡ (is_man (self.now).side Pawn (man_at (self.now).men from)
             && (aims_at (self.now).target (self.now).side from
@@ -134,7 +134,7 @@ impl Bits<'_> {
         is_man(side, Kind::Pawn, self.setup.men[from.index()]) && self.is_unusual_pawn(from)
     }
 
-    // How many legal moves the free pawn has that stands there.
+    // How many legal moves the free pawn has that is there.
     fn count_pawn(&self, from: Square) -> usize
         requires pawn { is_man (self.now).side Pawn (man_at (self.now).men from) ≡ true }
         requires free { IsFree self.now from }
@@ -146,7 +146,7 @@ impl Bits<'_> {
         if self.is_unusual_pawn(from) {
             return self.count_from(from);
         }
-        // The prover wants this fact: the king stands on one square alone.
+        // The prover wants this fact: the king is on one square alone.
         let _king = self.king(self.setup.side);
         self.pawn_targets(from).len()
     }
@@ -165,7 +165,7 @@ impl Bits<'_> {
         count
     }
 
-    // How many legal moves the free man of that kind has that stands there: it is neither king nor pawn.
+    // How many legal moves the free piece of that kind has that is there: it is neither king nor pawn.
     #[inline(always)]
     fn count_officer(&self, kind: Kind, from: Square) -> usize
         requires kind { (same_kind King kind || same_kind Pawn kind) ≡ false }
@@ -173,13 +173,13 @@ impl Bits<'_> {
         requires free { IsFree self.now from }
         ensures { result ≡ length (moves_from self.now from) }
     {
-        // The prover wants these facts: the start's number is below 64, and the king stands on one square alone.
+        // The prover wants these facts: the start's number is below 64, and the king is on one square alone.
         let _start = from.number();
         let _king = self.king(self.setup.side);
         self.steps(kind, from).len()
     }
 
-    // How many legal moves these free men of a kind have.
+    // How many legal moves these free pieces of a kind have.
     #[inline(always)]
     fn count_officers(&self, kind: Kind, men: SquareSet) -> usize
         requires kind { (same_kind King kind || same_kind Pawn kind) ≡ false }
@@ -195,7 +195,7 @@ impl Bits<'_> {
         count
     }
 
-    // Takes the free men of a kind from these, and tells how many legal moves they have.
+    // Takes the free pieces of a kind from these, and returns how many legal moves they have.
     #[inline(always)]
     fn count_kind(&self, kind: Kind, free: SquareSet, men: &mut SquareSet) -> usize
         requires kind { same_kind King kind ≡ false }
@@ -216,7 +216,7 @@ impl Bits<'_> {
         }
     }
 
-    // How many legal moves the man there has.
+    // How many legal moves the piece there has.
     fn count_of(&self, from: Square) -> usize
         requires { length (moves_from self.now from) ≤ 896 }
         ensures { result ≡ length (moves_from self.now from) }
@@ -227,7 +227,7 @@ impl Bits<'_> {
         self.count_from(from)
     }
 
-    // How many legal moves these men have, each looked at alone.
+    // How many legal moves these pieces have, each looked at alone.
     fn count_each(&self, men: SquareSet) -> usize
         requires { length (flat_map (λ a. moves_from self.now a) (members men)) ≤ 896 }
         ensures { result ≡ length (flat_map (λ a. moves_from self.now a) (members men)) }
@@ -240,8 +240,8 @@ impl Bits<'_> {
         count
     }
 
-    // How many legal moves there are: those of the free men kind by kind, and then those of all others: the king and
-    // the men that may shield him, or in check all men.
+    // How many legal moves there are: those of the free pieces kind by kind, and then those of all others: the king and
+    // the pieces that may shield it, or in check all pieces.
     pub(crate) fn count(&self) -> usize
         ensures { result ≡ length (moves self.now) }
     {
@@ -271,7 +271,7 @@ impl Bits<'_> {
         false
     }
 
-    // Whether one of these men has a legal move. It looks no further than the first.
+    // Whether one of these pieces has a legal move. It looks no further than the first.
     fn has_move_of(&self, men: SquareSet) -> bool
         ensures { result ≡ nat_lt 0 (length (flat_map (λ a. moves_from self.now a) (members men))) }
     {
@@ -329,7 +329,7 @@ impl Bits<'_> {
         false
     }
 
-    // Whether a knight or pawn off its king's lines has a legal move, where he is not in check. Mostly one has.
+    // Whether a knight or pawn off its king's lines has a legal move, where the king is not in check. Mostly one has.
     fn has_usual_move(&self) -> bool
         ensures { result ≡ true → nat_lt 0 (length (moves self.now)) ≡ true }
     {
@@ -345,8 +345,8 @@ impl Bits<'_> {
         self.has_pawn_move(pawns.intersection(free))
     }
 
-    // Whether there is a legal move. It looks no further than the first man that has one, and sees to the king early,
-    // since in check he mostly has one.
+    // Whether there is a legal move. It looks no further than the first piece that has one, and looks at the king
+    // early, since in check it mostly has one.
     pub(crate) fn has_move(&self) -> bool
         ensures { result ≡ nat_lt 0 (length (moves self.now)) }
     {

@@ -1,4 +1,4 @@
-//! The men of one colour as sets of squares, and what they attack.
+//! The pieces of one colour as sets of squares, and what they attack.
 
 ghost use Rattle.std.specs.Prelude.{◌≡◌, ℕ, ◌<◌, ◌&&◌, ◌||◌, not, ◌==◌, Some, None, length, slice_set, slice_index};
 ghost use Rattle.chess_base.specs.declared.man.Colour.{Colour as Side};
@@ -16,7 +16,7 @@ use crate::tables::AttackTables;
 use chess_base::{Colour, Kind, Square};
 use chess_moves::SquareSet;
 
-/// The men of one colour: a set of squares for each kind, at the kind's number.
+/// The pieces of one colour: a set of squares for each kind, at the kind's number.
 #[derive(Clone, Copy)]
 pub struct Kinds {
     sets: [SquareSet; 6],
@@ -37,7 +37,7 @@ fn number(kind: Kind) -> usize
 }
 
 impl Kinds {
-    /// No men.
+    /// No pieces.
     #[tactic(auto, using(crate::proofs::Standing::no_kinds))]
     pub fn empty() -> Kinds
         ensures { (c : Side) → (men : Men) → ((k : ℕ) → k < 64 → man_at men k ≡ None) → IsKinds result.sets c men }
@@ -48,7 +48,7 @@ impl Kinds {
         }
     }
 
-    /// Puts a man on an empty square.
+    /// Puts a piece on an empty square.
     pub fn put(&mut self, kind: Kind, square: Square)
         ensures { (men : Men) → (c : Side) → length men ≡ 64 → man_at men square ≡ None → IsKinds self.old.sets c men
             → IsKinds self.new.sets c (slice_set men square (Some (record { colour = c; kind = kind }))) }
@@ -57,7 +57,7 @@ impl Kinds {
         self.sets[at] = self.sets[at].union(SquareSet::single(square));
     }
 
-    /// Takes a man from its square.
+    /// Takes a piece from its square.
     pub fn lift(&mut self, kind: Kind, square: Square)
         ensures { (men : Men) → (c : Side) → length men ≡ 64
             → man_at men square ≡ Some (record { colour = c; kind = kind }) → IsKinds self.old.sets c men
@@ -96,7 +96,7 @@ pub(crate) fn along_diagonals(
     up.union(down).union(left.union(right))
 }
 
-// Of these men those that are on the square's rank or file, with nothing between.
+// Of these pieces those that are on the square's rank or file, with nothing between.
 #[tactic(auto, unfolding(crate::specs::ties::Shapes::in_shape))]
 fn met_on_lines(
     tables: &AttackTables,
@@ -115,7 +115,7 @@ fn met_on_lines(
     along_lines(tables, square, occupied).intersection(men)
 }
 
-// Of these men those that are on a diagonal of the square, with nothing between.
+// Of these pieces those that are on a diagonal of the square, with nothing between.
 #[tactic(auto, unfolding(crate::specs::ties::Shapes::in_shape))]
 fn met_on_diagonals(
     tables: &AttackTables,
@@ -134,14 +134,14 @@ fn met_on_diagonals(
 }
 
 impl Kinds {
-    /// The squares of these men of a kind.
+    /// The squares of these pieces of a kind.
     pub fn of(&self, kind: Kind) -> SquareSet
         ensures { result ≡ slice_index self.now.sets (kind_number kind) }
     {
         self.sets[number(kind)]
     }
 
-    /// These men, of that colour, that attack the square where those squares are occupied.
+    /// These pieces, of that colour, that attack the square where those squares are occupied.
     #[inline(always)]
     pub fn attackers(
         &self,
@@ -173,7 +173,7 @@ impl Kinds {
             .union(pawns)
     }
 
-    /// Whether one of these men, of that colour, attacks the square where those squares are occupied.
+    /// Whether one of these pieces, of that colour, attacks the square where those squares are occupied.
     #[tactic(auto, unfolding(chess_base::specs::Attacks::is_attacked))]
     pub fn attacks(
         &self,
@@ -188,8 +188,8 @@ impl Kinds {
         !self.attackers(tables, colour, square, occupied).is_empty()
     }
 
-    /// Whether one of these men, of that colour, attacks the square where those squares are occupied: the men on the
-    /// squares of a set are left out.
+    /// Whether one of these pieces, of that colour, attacks the square where those squares are occupied: the pieces on
+    /// the squares of a set are left out.
     #[inline(always)]
     #[tactic(auto, unfolding(chess_base::specs::Attacks::is_attacked))]
     pub fn attacks_outside(

@@ -1,4 +1,4 @@
-//! The king's safety after a move, told by the sets after it: no move is made.
+//! The king's safety after a move, by the sets after it: no move is made.
 
 ghost use Rattle.std.specs.Prelude.{◌≡◌, ◌==◌, ◌||◌, ◌<◌, ℕ, true, None, IsTrue};
 ghost use Rattle.chess_base.specs.Men.{man_at, is_man};
@@ -25,7 +25,7 @@ pub(crate) fn set_of(square: Option<Square>) -> SquareSet
     }
 }
 
-// The squares on which men arrive.
+// The squares on which pieces arrive.
 #[inline(always)]
 fn filled_by(steps: &Steps) -> SquareSet
     ensures { (k : ℕ) → has result k ≡ ((steps.now.to == k) || is_square steps.now.second_to k) }
@@ -34,7 +34,7 @@ fn filled_by(steps: &Steps) -> SquareSet
     to.union(set_of(steps.second_to))
 }
 
-// The squares that men leave.
+// The squares that pieces leave.
 #[inline(always)]
 fn emptied_by(steps: &Steps) -> SquareSet
     ensures { (k : ℕ) → has result k ≡ (is_square steps.now.second_from k || (steps.now.from == k)) }
@@ -44,7 +44,7 @@ fn emptied_by(steps: &Steps) -> SquareSet
 }
 
 impl Bits<'_> {
-    // Where the king of the side on move stands after a move with a man's pattern, whose steps these are.
+    // The square of the king of the side on move after a move with a piece's pattern, whose steps these are.
     fn king_after(&self, m: &Move, steps: &Steps) -> Square
         requires pattern { IsTrue (has_pattern self.now m.now) }
         requires steps { steps.now ≡ steps_of self.now m.now }
@@ -60,8 +60,8 @@ impl Bits<'_> {
         }
     }
 
-    // Whether a move with a man's pattern is legal, after which the king stands there: these squares are filled by it, and
-    // these changed.
+    // Whether a move with a piece's pattern is legal, after which the king is there: these squares are filled by it,
+    // and these changed.
     #[inline(always)]
     fn is_safe_at(&self, king: Square, filled: SquareSet, changed: SquareSet) -> bool
         ensures { (m : Move) → has_pattern self.now m ≡ true → king < 64
@@ -77,7 +77,7 @@ impl Bits<'_> {
         !men.attacks_outside(self.tables, by, king, occupied, changed)
     }
 
-    // Whether a step of the king is legal: nothing attacks its end square once he has left his own.
+    // Whether a step of the king is legal: nothing attacks its end square once it has left its own.
     pub(crate) fn is_safe_step(&self, king: Square, to: Square) -> bool
         requires king { is_man (self.now).side King (man_at (self.now).men king) ≡ true }
         requires step { man_moves self.now (triple king to None) ≡ true }
@@ -91,7 +91,7 @@ impl Bits<'_> {
         !self.sets.of(by).attacks(self.tables, by, to, left)
     }
 
-    // Whether a move with a man's pattern is legal: the king of the side on move is safe after it.
+    // Whether a move with a piece's pattern is legal: the king of the side on move is safe after it.
     pub(crate) fn is_safe_after(&self, m: &Move) -> bool
         requires { IsTrue (has_pattern self.now m.now) }
         ensures { result ≡ is_legal self.now m.now }

@@ -1,4 +1,4 @@
-//! Which moves are legal, by the kind of the man that goes, and from where men go legally to a square.
+//! Which moves are legal, by the kind of the piece that goes, and from where pieces go legally to a square.
 
 ghost use Rattle.std.specs.Prelude.{◌≡◌, ℕ, ◌<◌, ◌&&◌, ◌||◌, not, true, false, None, MatchOption};
 ghost use Rattle.chess_base.specs.Men.{man_at, is_man, same_kind};
@@ -24,7 +24,7 @@ fn is_officer(kind: Kind) -> bool
     !(is_king(kind) || is_pawn(kind))
 }
 
-// The kind of the man there, if it is of that colour and neither king nor pawn.
+// The kind of the piece there, if it is of that colour and neither king nor pawn.
 #[inline(always)]
 fn officer_of(colour: Colour, man: Option<Man>) -> Option<Kind>
     ensures { MatchOption result (true ≡ true) (λ kind. IsOfficer colour kind man) }
@@ -69,7 +69,7 @@ impl Bits<'_> {
         self.goes_legally(kind, m.from, m.to)
     }
 
-    // Whether a move is legal, by the end squares of the man at its start.
+    // Whether a move is legal, by the end squares of the piece at its start.
     fn is_legal_by_targets(&self, m: &Move) -> bool
         ensures { result ≡ is_legal self.now m.now }
     {
@@ -84,7 +84,7 @@ impl Bits<'_> {
         self.is_safe_after(m)
     }
 
-    // Whether a move is legal: of an officer by what it reaches, of any other man by its end squares.
+    // Whether a move is legal: of an officer by what it reaches, of any other piece by its end squares.
     #[inline(always)]
     pub(crate) fn is_legal_by_kind(&self, m: &Move) -> bool
         ensures { result ≡ is_legal self.now m.now }
@@ -172,7 +172,7 @@ impl Bits<'_> {
         }
     }
 
-    // From where men of any kind go legally to a square: those of the origins that do.
+    // From where pieces of any kind go legally to a square: those of the origins that do.
     fn other_starts(&self, kind: Kind, to: Square) -> SquareSet
         ensures { HasLegalStarts self.now kind to result }
     {
@@ -180,7 +180,7 @@ impl Bits<'_> {
         self.starts_among(own.intersection(self.origins(kind, to)), to)
     }
 
-    // From where men of a kind go legally to a square.
+    // From where pieces of a kind go legally to a square.
     #[inline(always)]
     pub(crate) fn starts_of(&self, kind: Kind, to: Square) -> SquareSet
         ensures { HasLegalStarts self.now kind to result }

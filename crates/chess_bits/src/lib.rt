@@ -1,6 +1,6 @@
-//! A board of sets of squares: who attacks what is told by few words of 64 bits and by tables.
+//! A board of sets of squares: words of 64 bits and tables give what attacks what.
 //!
-//! Wherever a board is wanted, it stands for `Plain`:
+//! It serves wherever a board is wanted, in place of `Plain`:
 //!
 //! ```
 //! let tables = AttackTables::open(alloc)?;

@@ -1,4 +1,4 @@
-//! The list of legal moves: man by man, and end square by end square.
+//! The list of legal moves: piece by piece, and end square by end square.
 
 ghost use Rattle.std.specs.Prelude.{◌≡◌, ◌+◌, ◌≤◌, ◌<◌, ◌==◌, ◌&&◌, ◌||◌, ◌++◌, ℕ, length, get_or, true, false, Option, None, ◌∷◌};
 ghost use Rattle.arrayvec.specs.ArrayVec.{array_vec_len};
@@ -80,7 +80,7 @@ impl Bits<'_> {
         }
     }
 
-    // Adds the legal moves of a free man, who is no pawn that may promote or take en passant: he goes as he may.
+    // Adds the legal moves of a free piece other than a pawn that may promote or take en passant: it goes as it may.
     fn add_usual_moves(&self, from: Square, list: &mut MoveList)
         requires free { IsFree self.now from }
         requires usual { (is_man (self.now).side Pawn (man_at (self.now).men from)
@@ -89,7 +89,7 @@ impl Bits<'_> {
         requires room { array_vec_len list.old + length (moves_from self.now from) ≤ 896 }
         ensures { list.new.items ≡ list.old.items ++ moves_from self.now from }
     {
-        // The prover wants these facts: the start's number is below 64, and the king stands on one square alone.
+        // The prover wants these facts: the start's number is below 64, and the king is on one square alone.
         let _start = from.number();
         let _king = self.king(self.setup.side);
         let mut targets = self.targets(from);
@@ -102,7 +102,7 @@ impl Bits<'_> {
         }
     }
 
-    // Adds the legal moves of a free man.
+    // Adds the legal moves of a free piece.
     fn add_free_moves(&self, from: Square, list: &mut MoveList)
         requires free { IsFree self.now from }
         requires room { array_vec_len list.old + length (moves_from self.now from) ≤ 896 }
@@ -115,7 +115,7 @@ impl Bits<'_> {
         }
     }
 
-    // Adds the legal moves of the man there, if those men are free.
+    // Adds the legal moves of the piece there, if those pieces are free.
     fn add_moves_of(&self, from: Square, free: SquareSet, list: &mut MoveList)
         requires free { (k : ℕ) → k < 64 → has free k ≡ true → IsFree self.now k }
         requires room { array_vec_len list.old + length (moves_from self.now from) ≤ 896 }

@@ -20,7 +20,7 @@ use chess_base::for_boards::{
 };
 use chess_base::{Colour, Kind, Man, Move, Rights, Saved, Setup, Square};
 
-// Changes what stands on a square, if there is one.
+// Changes the content of a square, if there is one.
 #[inline(always)]
 fn place(
     men: &mut [Option<Man>; 64],
@@ -40,7 +40,7 @@ fn place(
 }
 
 impl Sets {
-    /// The sets of the men that stand so.
+    /// The sets of the pieces on the board.
     pub fn standing(keys: &KeyTable, men: &[Option<Man>; 64]) -> Sets
         ensures { IsSets result men.now }
     {
@@ -60,7 +60,7 @@ impl Sets {
     }
 }
 
-// Changes the men by these steps, and their sets.
+// Changes the pieces by these steps, and their sets.
 fn take_steps(men: &mut [Option<Man>; 64], sets: &mut Sets, keys: &KeyTable, steps: &Steps)
     ensures men { men.new ≡ men_stepped men.old steps.now }
     ensures sets { IsSets sets.old men.old → IsSets sets.new men.new }

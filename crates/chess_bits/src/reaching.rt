@@ -1,4 +1,4 @@
-//! Where men reach.
+//! Where pieces reach.
 
 ghost use Rattle.std.specs.Prelude.{◌≡◌, ℕ, ◌<◌};
 ghost use Rattle.chess_base.specs.Attacks.{could_capture};
@@ -12,7 +12,7 @@ use crate::tables::AttackTables;
 use chess_base::{Colour, Kind, Square};
 use chess_moves::SquareSet;
 
-/// The squares on which such a man could capture from a square, where those squares are occupied.
+/// The squares on which such a piece could capture from a square, where those squares are occupied.
 #[inline(always)]
 #[tactic(auto, using(crate::proofs::Reached::king_from, crate::proofs::Reached::queen_from, crate::proofs::Reached::rook_from, crate::proofs::Reached::bishop_from, crate::proofs::Reached::knight_from, crate::proofs::Reached::pawn_from))]
 pub fn reached_from(

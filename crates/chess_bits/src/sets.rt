@@ -1,4 +1,4 @@
-//! The men of both colours as sets of squares, beside the men by their squares.
+//! The pieces of both colours as sets of squares, kept along with the pieces by their squares.
 
 ghost use Rattle.std.specs.Prelude.{◌≡◌, ℕ, ◌<◌, length, slice_set, Some, None};
 ghost use Rattle.chess_base.specs.Men.{Men, man_at, is_of};
@@ -13,7 +13,7 @@ use crate::kinds::Kinds;
 use chess_base::{Colour, Man, Square};
 use chess_moves::{SquareSet, man_key};
 
-/// The men as sets, of each colour by kind and together, and the exclusive or of their keys.
+/// The pieces as sets, of each colour by kind and together, and the exclusive or of their keys.
 #[derive(Clone, Copy)]
 pub struct Sets {
     pub white: Kinds,
@@ -38,7 +38,7 @@ impl Sets {
         }
     }
 
-    /// The men of a colour by kind.
+    /// The pieces of a colour by kind.
     pub fn of(&self, colour: Colour) -> &Kinds
         ensures { (men : Men) → IsSets self.now men → IsKinds result.now.sets colour men }
     {
@@ -48,7 +48,7 @@ impl Sets {
         }
     }
 
-    /// The squares of the men of a colour.
+    /// The squares of the pieces of a colour.
     pub fn all(&self, colour: Colour) -> SquareSet
         ensures { (men : Men) → IsSets self.now men → (k : ℕ) → k < 64 → has result k ≡ is_of colour (man_at men k) }
     {
@@ -66,7 +66,7 @@ impl Sets {
         self.all_white.union(self.all_black)
     }
 
-    // Takes a man from its square.
+    // Takes a piece from its square.
     #[inline(always)]
     fn lift(&mut self, keys: &KeyTable, square: Square, man: Man)
         ensures { (men : Men) → length men ≡ 64 → man_at men square ≡ Some man → IsSets self.old men
@@ -86,7 +86,7 @@ impl Sets {
         }
     }
 
-    // Puts a man on an empty square.
+    // Puts a piece on an empty square.
     #[inline(always)]
     fn put(&mut self, keys: &KeyTable, square: Square, man: Man)
         ensures { (men : Men) → length men ≡ 64 → man_at men square ≡ None → IsSets self.old men
@@ -106,7 +106,7 @@ impl Sets {
         }
     }
 
-    // Takes from a square what stands there.
+    // Takes the old content from a square.
     #[inline(always)]
     fn clear(&mut self, keys: &KeyTable, square: Square, old: Option<Man>)
         ensures { (men : Men) → length men ≡ 64 → man_at men square ≡ old → IsSets self.old men
@@ -117,7 +117,7 @@ impl Sets {
         }
     }
 
-    // Puts on an empty square what shall stand there.
+    // Puts the new content on an empty square.
     #[inline(always)]
     fn fill(&mut self, keys: &KeyTable, square: Square, new: Option<Man>)
         ensures { (men : Men) → length men ≡ 64 → man_at men square ≡ None → IsSets self.old men
@@ -128,7 +128,7 @@ impl Sets {
         }
     }
 
-    /// Changes what stands on a square.
+    /// Changes the content of a square.
     #[inline(always)]
     pub fn write(&mut self, keys: &KeyTable, square: Square, old: Option<Man>, new: Option<Man>)
         ensures { (men : Men) → length men ≡ 64 → man_at men square ≡ old → IsSets self.old men

@@ -1,4 +1,4 @@
-//! The own men that may shield their king.
+//! The own pieces that may shield their king.
 
 ghost use Rattle.std.specs.Prelude.{◌≡◌, ◌<◌, ℕ, true, false};
 ghost use Rattle.chess_base.specs.Men.{man_at, is_of};
@@ -12,8 +12,8 @@ use chess_base::{Kind, Square};
 use chess_moves::{Board, SquareSet};
 
 impl Bits<'_> {
-    // The own men that the king sees on his rank and file, if one of them hides a rook or queen from him, and else
-    // none: taking off any other man opens neither.
+    // The own pieces that the king sees on its rank and file, if one of them hides a rook or queen from it, and else
+    // none: taking off any other piece opens neither.
     #[tactic(auto, unfolding(crate::specs::ties::Shapes::in_shape))]
     fn line_shields(&self, king: Square) -> SquareSet
         ensures { (a : ℕ) → a < 64 → is_of (self.now).side (man_at (self.now).men a) ≡ true → has result a ≡ false
@@ -38,7 +38,8 @@ impl Bits<'_> {
         near
     }
 
-    // The own men that the king sees on his diagonals, if one of them hides a bishop or queen from him, and else none.
+    // The own pieces that the king sees on its diagonals, if one of them hides a bishop or queen from it, and else
+    // none.
     #[tactic(auto, unfolding(crate::specs::ties::Shapes::in_shape))]
     fn diagonal_shields(&self, king: Square) -> SquareSet
         ensures { (a : ℕ) → a < 64 → is_of (self.now).side (man_at (self.now).men a) ≡ true → has result a ≡ false
@@ -64,8 +65,8 @@ impl Bits<'_> {
         near
     }
 
-    // Men of the side on move that may go anywhere, as far as their king is concerned: not always all of them, and none
-    // where he is in check.
+    // Pieces of the side on move that may go anywhere, as far as their king is concerned: not always all of them, and
+    // none where it is in check.
     pub(crate) fn free_men(&self) -> SquareSet
         ensures { (k : ℕ) → k < 64 → has result k ≡ true → IsFree self.now k }
     {
@@ -79,8 +80,8 @@ impl Bits<'_> {
         others.without(shields)
     }
 
-    // The men of the side on move that stand on none of their king's lines, where he is not in check: they may go
-    // anywhere, as far as he is concerned. They are found sooner than all free men.
+    // The pieces of the side on move that are on none of their king's lines, where it is not in check: they may go
+    // anywhere, as far as it is concerned. They are found sooner than all free pieces.
     #[tactic(auto, unfolding(crate::specs::ties::Shapes::in_shape))]
     pub(crate) fn men_off_lines(&self) -> SquareSet
         ensures { (k : ℕ) → k < 64 → has result k ≡ true → IsFree self.now k }

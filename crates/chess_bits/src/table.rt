@@ -1,4 +1,5 @@
-//! Tables of sets of squares, one set for each square: what a man attacks there on an empty board, or a ray from there.
+//! Tables of sets of squares, one set for each square: what a piece attacks there on an empty board, or a ray from
+//! there.
 
 ghost use Rattle.std.specs.Prelude.{◌≡◌, ℕ, ◌<◌};
 ghost use Rattle.chess_moves.specs.Sets.{has};
@@ -9,7 +10,7 @@ use chess_base::{Colour, Square};
 use chess_moves::SquareSet;
 use std::marker::Model;
 
-/// What a table of sets of squares is about: what a man attacks on an empty board, or a ray.
+/// What a table of sets of squares is about: what a piece attacks on an empty board, or a ray.
 #[derive(Clone, Copy, PartialEq, Eq)]
 pub enum Shape {
     King,

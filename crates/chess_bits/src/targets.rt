@@ -1,4 +1,4 @@
-//! Where men go: sets of end squares, whatever becomes of the king. Castling is among them only where it is legal.
+//! Where pieces go: sets of end squares, whatever becomes of the king. Castling is among them only where it is legal.
 
 ghost use Rattle.std.specs.Prelude.{◌≡◌, ◌+◌, ◌≤◌, ◌<◌, ℕ, ◌&&◌, ◌||◌, not, true, false, Some, None, MatchOption};
 ghost use Rattle.std.specs.Option.{is_some};
@@ -52,7 +52,7 @@ pub(crate) fn is_pawn(kind: Kind) -> bool
 }
 
 impl Bits<'_> {
-    // Where a man of that kind attacks from there what is no own man.
+    // Where a piece of that kind attacks from there what is no own piece.
     #[inline(always)]
     pub(crate) fn steps(&self, kind: Kind, from: Square) -> SquareSet
         ensures { (k : ℕ) → k < 64
@@ -65,7 +65,7 @@ impl Bits<'_> {
     }
 
     // The squares of the castling that the move is, if it is one: its end names castling to that side with the rook of
-    // the right. In normal chess a king whose right stands is at home, so no more has to be asked.
+    // the right. In normal chess a king with an available right is at home, so no more has to be asked.
     fn castle_to(&self, m: &Move, castling_side: CastlingSide, rook: Square) -> Option<Castle>
         requires right { right_of (self.now).rights (self.now).side castling_side ≡ Some rook }
         requires end { m.now.to ≡ castling_end (self.now).variant (self.now).side castling_side rook }
@@ -89,7 +89,7 @@ impl Bits<'_> {
         }
     }
 
-    // These squares, where castling to that side is told as it is legal.
+    // These squares, with castling to that side among them exactly where it is legal.
     fn with_castling(
         &self,
         targets: SquareSet,
@@ -132,7 +132,7 @@ impl Bits<'_> {
         self.with_castling(far, king, CastlingSide::KingSide)
     }
 
-    // Where the own man goes that stands there and is no pawn; castling is told as it is legal.
+    // Where the own piece goes that is there and is no pawn; castling is included exactly where it is legal.
     fn man_targets(&self, from: Square) -> SquareSet
         requires { is_of (self.now).side (man_at (self.now).men from) ≡ true }
         ensures { (k : ℕ) → k < 64 → has result k ≡ man_goes self.now from k }
@@ -234,7 +234,7 @@ impl Bits<'_> {
         straight.union(self.capture_starts(to))
     }
 
-    // Where the own pawn goes that stands there.
+    // Where the own pawn goes that is there.
     pub(crate) fn pawn_targets(&self, from: Square) -> SquareSet
         requires { is_man (self.now).side Pawn (man_at (self.now).men from) ≡ true }
         ensures { (k : ℕ) → k < 64
@@ -246,7 +246,7 @@ impl Bits<'_> {
         advances.union(captures)
     }
 
-    // Where the man goes that stands there, if it is of the side on move: each end square of its legal moves is there,
+    // Where the piece goes that is there, if it is of the side on move: each end square of its legal moves is there,
     // and none to which it hasn't the pattern of a move.
     pub(crate) fn targets(&self, from: Square) -> SquareSet
         ensures sound { (k : ℕ) → k < 64 → has result k ≡ true → goes self.now from k ≡ true }

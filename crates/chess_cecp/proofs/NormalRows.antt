@@ -114,7 +114,7 @@ moves_shown s e =
     line_listed (current s) (moves (current s)) normal
     ∙ ap normal_moves_line ((texts_kept (current s) normal).moves ∙ ap normal_moves (last_kept s.start e s.moves))
 
--- the text of a state, by what it tells
+-- the text of a state, by what it shows
 told : State → ℕ → Setup → Claims → Option Verdict → List ℕ
 told s n p c v =
     decimal (length s.moves)

@@ -42,7 +42,7 @@ one_state : (b : Bool) (x : SessionSeen) → (if b then x else x) ≡ x
 one_state true x = refl
 one_state false x = refl
 
--- lines without a quit: those behind them go on from where they left
+-- lines without a quit: those after them go on from where they left
 pub answers_on : (s : SessionSeen) (xs ys : List LineSeen) → has_quit xs ≡ false
     → answers s (xs ++ ys) ≡ answers s xs ++ answers (standing s xs) ys
 answers_on s [] ys h = refl
@@ -81,9 +81,9 @@ standing_one s x ys h = rw h refl
 pub standing_last : (s : SessionSeen) (x : LineSeen) → standing s (x ∷ []) ≡ next_state s x
 standing_last s x = one_state (is_quit x) (next_state s x)
 
--- ---- what the writer took and handed on
+-- ---- what the writer took and passed on
 
--- texts were sent, one behind another
+-- texts were sent, one after the other
 pub record SentAll (w w' : OutputState) (text : List ℕ) : Type 0 where
   pub bytes : Appends w.known_bytes w'.known_bytes text
   pub failures : w'.failure_count ≡ w.failure_count
@@ -176,7 +176,7 @@ known_front None b bs P p h = tt
 known_front (Some x) None bs P p h = absurd p
 known_front (Some x) (Some y) bs P p h = subst P (sym p) (h y)
 
--- a line was reached: the lines that were given are those that are done, and that one, and what stands behind it
+-- a line was reached: the lines that were given are those that are done, and that one, and what follows it
 pub record Reached (r r' : InputState) (given : List ℕ) (told : Bool) (done : List LineSeen) (line : LineSeen)
     (after : List LineSeen) : Type 0 where
   pub bytes : Consumes r.known_bytes r'.known_bytes given

@@ -1,4 +1,4 @@
--- Blanks and a byte 13 at the ends of a list.
+-- Spaces, tabs and a byte 13 at the ends of a list.
 use mathlib.Core.Bool.{and-false}
 use Rattle.std.proofs.Common.{◌≡◌, ℕ, ◌+◌, ◌-◌, ◌<◌, ◌≤◌, true, false, List, [], ◌∷◌, ◌++◌, length, get_or, take, refl, sym, ap, ◌∙◌, ◌==◌, ◌≢◌, arith}
 use Rattle.std.proofs.Math.Seq.{take-length}

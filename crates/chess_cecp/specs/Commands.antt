@@ -9,16 +9,16 @@ use Rattle.chess_text.specs.Moves.{shape}
 use Rattle.chess_cecp.specs.declared.command.Command.{Command}
 use Rattle.chess_cecp.specs.declared.command.Command.TheVariants.{New, SetBoard, UserMove, BareMove, Undo, Remove, Declare, Claim, Ping, Protover, Variant, Go, ShowFen, ShowMoves, ShowState, ShowPgn, Quit, Silent, BadNumber, Unknown}
 
--- the bytes up to the first blank
+-- the bytes up to the first space or tab
 abbrev pub word_of : List ℕ → List ℕ
 word_of [] = []
 word_of (c ∷ cs) = if is_blank c then [] else c ∷ word_of cs
 
--- what follows the first word and the blanks after it
+-- what follows the first word and the spaces and tabs after it
 unfoldable pub argument_of : List ℕ → List ℕ
 argument_of text = without_front_blanks (drop (length (word_of text)) text)
 
--- the number that one to nine digits write
+-- the number that one to nine digits denote
 unfoldable pub command_number : List ℕ → Option ℕ
 command_number text = if nat_lt 0 (length text) && nat_le (length text) 9
     && list_all is_digit text then Some (value_after 0 text) else None
@@ -36,7 +36,7 @@ protover_of None = BadNumber
 abbrev pub is_named : List ℕ → List (List ℕ) → Bool
 is_named word names = list_any (bytes_eq word) names
 
--- commands to an engine that plays, which an arbiter hears in silence: of the protocol, and of how the engine is to
+-- commands to an engine that plays, which an arbiter accepts and ignores: of the protocol, and of how the engine is to
 -- play (`?` is: at once)
 abbrev pub engine_words : List (List ℕ)
 engine_words =
@@ -49,11 +49,11 @@ opponent_and_clock_words =
     codes "computer" ∷ codes "name" ∷ codes "rating" ∷ codes "ics" ∷ codes "draw" ∷ codes "level" ∷ codes "st"
     ∷ codes "sd" ∷ codes "time" ∷ codes "otim" ∷ []
 
--- it tells an engine how to play
+-- it says to an engine how to play
 unfoldable pub is_told_of_engine : List ℕ → Bool
 is_told_of_engine word = is_named word engine_words
 
--- it tells an engine of its opponent or of the clocks
+-- it informs an engine of its opponent or of the clocks
 unfoldable pub is_told_of_opponent_or_clocks : List ℕ → Bool
 is_told_of_opponent_or_clocks word = is_named word opponent_and_clock_words
 

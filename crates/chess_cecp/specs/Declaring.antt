@@ -1,4 +1,4 @@
--- Results as they are declared and told, and what `showstate` tells of a game.
+-- Results as they are declared and reported, and what `showstate` shows of a game.
 use Rattle.std.specs.Prelude.{ℕ, ◌-◌, ◌==◌, ◌&&◌, nat_le, Bool, true, false, if◌then◌else◌, List, [], ◌++◌, length, take, drop, slice_index_or, codes, decimal, Option, None, Some}
 use Rattle.std.specs.Str.{bytes_eq}
 use Rattle.chess_base.specs.Letters.{byte}
@@ -22,11 +22,11 @@ outcome_named word =
     else if bytes_eq word (outcome_text Unfinished) then Some Unfinished
     else None
 
--- what stands between the brace at a text's start and the one at its end
+-- what is between the brace at a text's start and the one at its end
 abbrev pub inside_braces : List ℕ → List ℕ
 inside_braces text = take (length text - 2) (drop 1 text)
 
--- the comment behind an outcome: none, or a text in braces
+-- the comment after an outcome: none, or a text in braces
 unfoldable pub comment_told : List ℕ → Option (List ℕ)
 comment_told text =
     if length text == 0 then Some []
@@ -34,13 +34,13 @@ comment_told text =
     && (slice_index_or text (length text - 1) 0 == byte "}") then Some (inside_braces text)
     else None
 
--- a result, where both an outcome and a comment were told
+-- a result, where both an outcome and a comment were given
 abbrev pub declared_as : Option Outcome → Option (List ℕ) → Option Declared
 declared_as None comment = None
 declared_as (Some o) None = None
 declared_as (Some o) (Some comment) = Some (record { outcome = o; comment = cut_comment comment })
 
--- the result that the argument of `result` declares, if it declares one: an outcome, and behind it nothing or a text
+-- the result that the argument of `result` declares, if it declares one: an outcome, and after it nothing or a text
 -- from a brace to a last brace, of which the game keeps what a comment can hold
 unfoldable pub declared_by : List ℕ → Option Declared
 declared_by argument = declared_as (outcome_named (word_of argument)) (comment_told (argument_of argument))
@@ -68,7 +68,7 @@ claims_by false false = codes "none"
 abbrev pub claims_text : Claims → List ℕ
 claims_text c = claims_by c.threefold c.fifty_moves
 
--- half-moves that stand, how often the position occurred (1 at its first time), the halfmove clock, claims, verdict and
+-- current half-moves, how often the position occurred (1 at its first time), the halfmove clock, claims, verdict and
 -- declared result
 unfoldable pub state_text : State → List ℕ
 state_text s =

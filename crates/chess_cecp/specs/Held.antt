@@ -1,5 +1,5 @@
--- What a session holds: the tags that its games are written with, how many half-moves can stand, and its game. Tags and
--- limit are fixed when it opens.
+-- What a session holds: the tags that its games are written with, how many half-moves it may have, and its game. Tags
+-- and limit are fixed when it opens.
 use Rattle.std.specs.Prelude.{ℕ}
 use Rattle.chess_base.specs.Initial.{initial_setup}
 use Rattle.chess_game.specs.Game as game

@@ -28,7 +28,7 @@ pub record GotLine (n : ℕ) (r r' : InputState) (held held' : Held) (given : Li
   pub ends : r'.end_count ≡ r.end_count
   pub falls : work r' held' < work r held
 
--- what followed the last byte 10, once the end was told
+-- what followed the last byte 10, once the end was reported
 pub record GotLast (n : ℕ) (r r' : InputState) (held held' : Held) (given : List ℕ) (line : LineSeen) : Type 0 where
   pub whole : lines_held n false held given ≡ []
   pub lines : lines_held n true held given ≡ line ∷ []
@@ -37,7 +37,7 @@ pub record GotLast (n : ℕ) (r r' : InputState) (held held' : Held) (given : Li
   pub failures : r'.failure_count ≡ r.failure_count
   pub ends : r'.end_count ≡ risen r.end_count
 
--- the end was told, and nothing was left
+-- the end was reported, and nothing was left
 pub record GotNone (n : ℕ) (r r' : InputState) (held held' : Held) (given : List ℕ) : Type 0 where
   pub lines : (told : Bool) → lines_held n told held given ≡ []
   pub rest : held' ≡ nothing_held

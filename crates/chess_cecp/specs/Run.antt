@@ -14,7 +14,8 @@ use Rattle.chess_cecp.specs.declared.run.Fault.{Fault}
 use Rattle.chess_cecp.specs.declared.run.Fault.TheVariants.{Read, Write}
 use Rattle.chess_cecp.specs.declared.session.TheConstants.{COMMAND_LEN}
 
--- what passed in a call: the bytes that the reader gave, whether it told its end, and the bytes that the writer took
+-- what passed in a call: the bytes that the reader gave, whether it reported its end, and the bytes that the writer
+-- took
 pub record Transcript : Type 0 where
   pub given : List ℕ
   pub told : Bool
@@ -25,8 +26,8 @@ abbrev pub risen_if : Bool → ℕ → ℕ
 risen_if true n = risen n
 risen_if false n = n
 
--- the transcript is that of the devices, as far as they tell. Their counts show that a device failed exactly where that
--- is said of it here
+-- the transcript is that of the devices, as far as they report it. Their counts show that a device failed exactly where
+-- that is said of it here
 pub record FitsDevices (r r' : InputState) (w w' : OutputState) (t : Transcript)
     (read_failed write_failed : Bool) : Type 0 where
   pub given : Consumes r.known_bytes r'.known_bytes t.given
@@ -49,7 +50,7 @@ FitsFailedWrite r r' w w' t = FitsDevices r r' w w' t false true
 abbrev pub LeavesUnflushed : OutputState → OutputState → List ℕ → Type 0
 LeavesUnflushed w w' text = w.unflushed ≡ 0 → w'.unflushed ≡ raised 0 text
 
--- the lines that were given: an unended last one counts where the end was told
+-- the lines that were given: an unended last one counts where the end was reported
 abbrev pub lines_given : Transcript → List LineSeen
 lines_given t = lines_heard COMMAND_LEN t.told t.given
 
@@ -72,8 +73,8 @@ AnsweredKnown r s s' t quit = IfSome r.known_bytes
 abbrev pub FirstOfKnown : InputState → List LineSeen → Type 0
 FirstOfKnown r ls = IfSome r.known_bytes (λ xs. (behind : List LineSeen) × (lines COMMAND_LEN xs ≡ ls ++ behind))
 
--- the line behind those before, none of them `quit`, is the one at which the call ended: nothing was read while
--- a whole line was unanswered, so before the last piece no more lines were whole than stand before
+-- the line after those before, none of them `quit`, is the one at which the call ended: nothing was read while
+-- a whole line was unanswered, so before the last piece no more lines were whole than there are before
 pub record EndsAt (t : Transcript) (last_len : ℕ) (before : List LineSeen) (line : LineSeen)
     (after : List LineSeen) : Type 0 where
   pub lines : lines_given t ≡ before ++ line ∷ after
@@ -101,7 +102,7 @@ pub record ByRead (r : InputState) (s s' : SessionSeen) (t : Transcript) : Type 
   pub state : s' ≡ standing s (whole COMMAND_LEN t.given)
   pub first : FirstOfKnown r (whole COMMAND_LEN t.given)
 
--- an end by a write or a flush that failed: a beginning of the answer to the line was written, and its change stands.
+-- an end by a write or a flush that failed: a beginning of the answer to the line was written, and its change is kept.
 -- That beginning is all that is not flushed
 abbrev pub ByWrite : InputState → OutputState → OutputState → SessionSeen → SessionSeen → Transcript → ℕ → Type 0
 ByWrite r w w' s s' t last_len =

@@ -34,7 +34,7 @@ use Rattle.chess_game.specs.declared.results.Outcome.TheVariants.{Draw}
 use Rattle.chess_cecp.specs.declared.command.Command.{Command}
 use Rattle.chess_cecp.specs.declared.command.Command.TheVariants.{New, SetBoard, UserMove, BareMove, Undo, Remove, Declare, Claim, Ping, Protover, Variant, Go, ShowFen, ShowMoves, ShowState, ShowPgn, Quit, Silent, BadNumber, Unknown}
 
--- a text behind another, and byte 10
+-- a text after another, and byte 10
 abbrev pub joined_line : List ℕ → List ℕ → List ℕ
 joined_line front text = front ++ (text ++ new_line ∷ [])
 
@@ -51,7 +51,7 @@ says s text = record { text = text; next = s }
 abbrev pub refuses : State → List ℕ → List ℕ → Row
 refuses s front text = says s (joined_line front text)
 
--- the game changes, in silence
+-- the game changes, with no answer
 abbrev pub becomes : State → Row
 becomes s = record { text = []; next = s }
 
@@ -68,7 +68,7 @@ verdict_line (Some v) = result_line (verdict_outcome v) (verdict_comment v)
 abbrev pub becomes_judged : State → Row
 becomes_judged s = record { text = verdict_line (verdict_now s); next = s }
 
--- a move behind a space
+-- a move after a space
 abbrev pub shown : Setup → Move → List ℕ
 shown p m = space ∷ shown_move p m
 
@@ -89,17 +89,18 @@ fen_fault_name Pawns = codes "pawns"
 fen_fault_name Men = codes "men"
 fen_fault_name Check = codes "check"
 
--- the game starts anew from the sound position that a FEN spells; a FEN that spells none is refused by its first fault
+-- the game starts anew from the sound position that a FEN denotes; a FEN that denotes none is refused by its first
+-- fault
 abbrev pub setboard_row : State → Result Setup FenFault → Row
 setboard_row s (Ok start) = becomes_judged (from_start start)
 setboard_row s (Err fault) = refuses s (codes "tellusererror Illegal position (") (fen_fault_name fault ++ codes ")")
 
--- what the arbiter tells of itself to an interface that speaks version 2
+-- what the arbiter says of itself to an interface that speaks version 2
 unfoldable pub feature_text : List ℕ
 feature_text =
     codes "feature ping=1 setboard=1 playother=0 san=0 usermove=1 time=1 draw=1 sigint=0 sigterm=0 reuse=1 analyze=0 colors=0 debug=1 myname=\"CECP arbiter\" variants=\"normal,fischerandom\" done=1"
 
--- the one legal move that a text spells is played
+-- the one legal move that a text denotes is played
 abbrev pub reading_row : State → List ℕ → Reading → Row
 reading_row s text (reads.Move m) = becomes_judged (played s m)
 reading_row s text reads.Ambiguous = refuses s (codes "Error (ambiguous move): ") text
@@ -113,12 +114,12 @@ move_row limit s text =
     else if nat_le limit (length s.moves) then refuses s (codes "Error (game too long): ") text
     else reading_row s text (reading (current s) text)
 
--- the last move is taken back, if one stands
+-- the last move is taken back, if there is one
 abbrev pub undo_row : State → Row
 undo_row s = if nat_le 1 (length s.moves) then becomes (taken_back s 1) else refuses s
     (codes "Error (command not legal now): ") (codes "undo")
 
--- the last two moves are taken back, if two stand
+-- the last two moves are taken back, if there are two
 abbrev pub remove_row : State → Row
 remove_row s = if nat_le 2 (length s.moves) then becomes (taken_back s 2) else refuses s
     (codes "Error (command not legal now): ") (codes "remove")
@@ -150,7 +151,7 @@ abbrev pub claim_row : State → Row
 claim_row s = if is_over s then refuses s (codes "Error (command not legal now): ") (codes "claim") else claimed s
     (claims s.start s.moves)
 
--- normal chess is asked for: silence in a game of it; in one of Chess960 the game starts anew, as after `new`
+-- normal chess is asked for: no answer in a game of it; in one of Chess960 the game starts anew, as after `new`
 abbrev pub normal_row : State → Rules → Row
 normal_row s Normal = says s []
 normal_row s Fischerandom = becomes (from_start initial_setup)

@@ -1,4 +1,4 @@
--- Claims beside the definitions: each is the contract of a function that does nothing.
+-- Claims about the definitions: each is the contract of a function that does nothing.
 pub mod NormalGame
 pub mod NormalPgn
 pub mod Normal

@@ -23,7 +23,7 @@ const ANSWER_LEN: usize = 5500;
 // The text of an answer.
 pub(crate) type Answer = ArrayVec<u8, ANSWER_LEN>;
 
-// A text behind another, and byte 10.
+// A text after another, and byte 10.
 pub(crate) fn write_line(answer: &mut Answer, front: &[u8], text: &[u8])
     requires { array_vec_len answer.old + length front.now + length text.now + 1 ≤ ANSWER_LEN }
     ensures { answer.new.items ≡ answer.old.items ++ joined_line front.now text.now }
@@ -41,11 +41,11 @@ pub(crate) fn write_pong(answer: &mut Answer, number: u32)
     write_line(answer, b"pong ", buffer.format(number).as_bytes());
 }
 
-// What the arbiter tells of itself: it takes `setboard`, answers `ping`, and knows normal chess and Chess960.
+// What the arbiter says of itself: it takes `setboard`, answers `ping`, and knows normal chess and Chess960.
 const FEATURES: &[u8] =
     b"feature ping=1 setboard=1 playother=0 san=0 usermove=1 time=1 draw=1 sigint=0 sigterm=0 reuse=1 analyze=0 colors=0 debug=1 myname=\"CECP arbiter\" variants=\"normal,fischerandom\" done=1";
 
-// The line that tells it.
+// The line that says it.
 #[tactic(auto, unfolding(crate::specs::Session::feature_text))]
 pub(crate) fn write_features(answer: &mut Answer)
     requires { answer.old.items ≡ [] }
@@ -54,7 +54,7 @@ pub(crate) fn write_features(answer: &mut Answer)
     write_line(answer, FEATURES, b"");
 }
 
-/// The name of a fault of a FEN, by which a refusal tells it.
+/// The name of a fault of a FEN, as a refusal reports it.
 pub fn fen_fault_name(fault: FenFault) -> &'static str
     ensures value { result.now ≡ fen_fault_name fault }
     ensures short { length result.now ≤ 10 }
@@ -127,7 +127,7 @@ pub(crate) fn write_result(answer: &mut Answer, outcome: Outcome, comment: &[u8]
     answer.push(b'\n');
 }
 
-// A number behind a text.
+// A number after a text.
 fn write_number(answer: &mut Answer, front: &[u8], number: u64)
     requires { array_vec_len answer.old + length front.now + 20 ≤ ANSWER_LEN }
     ensures text { answer.new.items ≡ answer.old.items ++ (front.now ++ decimal number) }
@@ -162,7 +162,7 @@ fn write_declared_text(answer: &mut Answer, declared: Option<&Declared>)
     }
 }
 
-// The line that tells the state of a game.
+// The line that shows the state of a game.
 #[tactic(auto, unfolding(crate::specs::Declaring::state_text))]
 pub(crate) fn write_state<B: Board>(answer: &mut Answer, game: &Game<B>)
     requires { answer.old.items ≡ [] }
@@ -200,7 +200,7 @@ pub(crate) fn write_moves(answer: &mut Answer, position: &Position, moves: &[Mov
     answer.push(b'\n');
 }
 
-// Each move behind a space.
+// Each move after a space.
 fn write_each(answer: &mut Answer, position: &Position, moves: &[Move])
     requires { array_vec_len answer.old + 6 * length moves.now ≤ ANSWER_LEN }
     ensures text { answer.new.items ≡ answer.old.items ++ flat_map (shown position.now) moves.now }

@@ -8,7 +8,7 @@ use crate::trim::is_blank;
 use chess_text::has_move_shape;
 
 /// The kinds of command (CECP, version 2; `claim`, `showfen`, `showmoves`, `showpgn` and `showstate` are this project's
-/// own). A command's text stands in its line.
+/// own). A command's text is found in its line.
 #[derive(Clone, Copy, Debug, PartialEq, Eq)]
 pub enum Command {
     /// `new`
@@ -21,7 +21,7 @@ pub enum Command {
     Undo,
     /// `remove`
     Remove,
-    /// `result R {C}`, or anything else behind `result`.
+    /// `result R {C}`, or anything else after `result`.
     Declare,
     /// `claim`
     Claim,
@@ -45,7 +45,7 @@ pub enum Command {
     ShowPgn,
     /// `quit`
     Quit,
-    /// A command that is answered by silence, such as `xboard` or `force`, and an empty line.
+    /// A command without an answer, such as `xboard` or `force`, and an empty line.
     Silent,
     /// A command that takes a number, with something else.
     BadNumber,
@@ -53,7 +53,7 @@ pub enum Command {
     Unknown,
 }
 
-// The first word, and what follows it and the blanks behind it.
+// The first word, and what follows it and the spaces and tabs after it.
 #[tactic(auto, unfolding(crate::specs::Commands::argument_of))]
 pub(crate) fn split_word(text: &[u8]) -> (&[u8], &[u8])
     ensures word { result.0.now ≡ word_of text.now }
@@ -71,14 +71,14 @@ pub(crate) fn split_word(text: &[u8]) -> (&[u8], &[u8])
     (&text[..end], &text[from..])
 }
 
-/// The first word of a text; empty where a blank is at its front.
+/// The first word of a text; empty where the text begins with a space or tab.
 pub fn first_word(text: &[u8]) -> &[u8]
     ensures { result.now ≡ word_of text.now }
 {
     split_word(text).0
 }
 
-/// What follows the first word and the blanks behind it.
+/// What follows the first word and the spaces and tabs after it.
 pub fn argument(text: &[u8]) -> &[u8]
     ensures value { result.now ≡ argument_of text.now }
     ensures short { length result.now ≤ length text.now }
@@ -86,7 +86,7 @@ pub fn argument(text: &[u8]) -> &[u8]
     split_word(text).1
 }
 
-/// The number that a text of one to nine digits writes.
+/// The number that a text of one to nine digits denotes.
 #[tactic(auto, unfolding(crate::specs::Commands::command_number))]
 pub fn read_number(text: &[u8]) -> Option<u32>
     ensures { result ≡ command_number text.now }
@@ -122,8 +122,8 @@ fn protover(argument: &[u8]) -> Command
     }
 }
 
-// Whether the word is one that an arbiter hears in silence, of the protocol or of how an engine is to play; `?` is: at
-// once.
+// Whether the word is one that an arbiter accepts and ignores, of the protocol or of how an engine is to play; `?` is:
+// at once.
 #[tactic(auto, unfolding(crate::specs::Commands::is_told_of_engine))]
 fn is_told_of_engine(word: &[u8]) -> bool
     ensures { result ≡ is_told_of_engine word.now }
@@ -205,7 +205,7 @@ pub(crate) fn named_command(word: &[u8], argument: &[u8]) -> Option<Command>
     }
 }
 
-/// What a line with this text commands. The text is that of a line: blanks at both ends are cut.
+/// What a line with this text commands. The text is that of a line: spaces and tabs at both ends are cut.
 #[tactic(auto, unfolding(crate::specs::Commands::command_of))]
 pub fn read_command(text: &[u8]) -> Command
     ensures { result ≡ command_of text.now }

@@ -1,4 +1,4 @@
-//! Results as they are declared and told.
+//! Results as they are declared and reported.
 
 ghost use Rattle.std.specs.Prelude.{◌≡◌, ◌≤◌, length};
 ghost use Rattle.std.specs.Option.{option_map};
@@ -25,7 +25,7 @@ fn outcome_named(word: &[u8]) -> Option<Outcome>
     }
 }
 
-// The comment behind an outcome: none, or a text in braces.
+// The comment after an outcome: none, or a text in braces.
 #[tactic(auto, unfolding(crate::specs::Declaring::comment_told))]
 fn comment_told(text: &[u8]) -> Option<&[u8]>
     ensures { option_map (λ c. c.now) result ≡ comment_told text.now }
@@ -55,7 +55,7 @@ pub(crate) fn declared_by(text: &[u8]) -> Option<Declared>
     }
 }
 
-// The claims as they are told.
+// The claims as they are reported.
 pub(crate) fn claims_text(claims: Claims) -> &'static [u8]
     ensures value { result.now ≡ claims_text claims }
     ensures short { length result.now ≤ 12 }

@@ -11,7 +11,8 @@ ghost use Rattle.chess_cecp.specs.Lines.{LineSeen, lines_heard, line_of, HasNoEn
 ghost use Rattle.chess_cecp.specs.laws.Normal.{normal_row_of, keeps_its_row};
 ghost use Rattle.chess_cecp.specs.Session.{row, next_state, answer_to, IsRefusal};
 
-/// The lines are the pieces that byte 10 ends, and what follows the last one, if it isn't empty and the end was told.
+/// The lines are the pieces that byte 10 ends, and what follows the last one, if it isn't empty and the end was
+/// reported.
 pub fn lines_are_pieces()
     ensures empty { (n : ℕ) (told : Bool) → lines_heard n told [] ≡ [] }
     ensures ended { (n : ℕ) (told : Bool) (piece rest : List ℕ) → HasNoEnd piece →

@@ -31,8 +31,8 @@ impl<const N: usize> Model for Line<N> {
 }
 
 impl<const N: usize> Line<N> {
-    /// Its text: without its end, one byte 13 before that, and blanks at both ends. Of a line that is too long, its
-    /// first 64 bytes as they came, or N where N is less.
+    /// Its text: without its end, one byte 13 before that, and spaces and tabs at both ends. Of a line that is too
+    /// long, its first 64 bytes as they came, or N where N is less.
     pub fn text(&self) -> &[u8]
         ensures value { result.now ≡ self.now.text }
         ensures short { length result.now ≤ N }
@@ -198,7 +198,7 @@ impl Window {
     }
 }
 
-/// The lines of a stream, each of at most N bytes; what was read and not handed out is held.
+/// The lines of a stream, each of at most N bytes; what was read and not returned is held.
 #[derive(Drop)]
 pub struct Lines<const N: usize> {
     part: Part<N>,
@@ -243,7 +243,7 @@ impl<const N: usize> Lines<N> {
     /// The next line, or `None` where the input ended and nothing was left. It reads only where it holds no whole line.
     ///
     /// # Errors
-    /// Where a read failed; what was read before stays, and the next call goes on behind it.
+    /// Where a read failed; what was read before stays, and the next call goes on after it.
     pub fn next<R: Input>(&mut self, reader: &mut R) -> Result<Option<Line<N>>, ReadFault>
         ensures { NextLine N (R.seen reader.old) (R.seen reader.new) self.old self.new result }
     {

@@ -31,7 +31,7 @@ pub enum Fault {
 ///
 /// # Errors
 /// Where a call of the reader or of the writer failed. After a failed read all whole lines were answered; after a
-/// failed write the change of its line stands, and a beginning of the answer was written.
+/// failed write the change of its line is kept, and a beginning of the answer was written.
 pub fn run_session<R: Input, W: Output, B: Board>(
     reader: &mut R,
     writer: &mut W,

@@ -52,8 +52,8 @@ enum Reply {
     Pgn,
 }
 
-/// A session over one game. In contracts it is the game's start, the moves that stand and what was declared, the number
-/// of half-moves that can stand, and the tags with which games are written.
+/// A session over one game. In contracts it is the game's start, the current moves and what was declared, the number
+/// of half-moves that it may have, and the tags with which games are written.
 #[derive(Drop)]
 pub struct Session<B: Board> {
     game: Game<B>,
@@ -95,7 +95,7 @@ impl<B: Board + Drop> Session<B> {
 }
 
 impl<B: Board> Session<B> {
-    /// The position on the board: the one that the start and the moves that stand give.
+    /// The position on the board: the one that the start and the current moves give.
     pub fn position(&self) -> Position
         ensures value { result ≡ current self.now.state }
         ensures playable { IsPlayable (game_held self.now) }
@@ -103,7 +103,7 @@ impl<B: Board> Session<B> {
         self.game.position()
     }
 
-    // What a text is in the present position, which also tells whether it has a move's shape.
+    // What a text is in the present position, which also decides whether it has a move's shape.
     fn read(&self, text: &[u8]) -> Reading
         ensures value { result ≡ reading (current self.now.state) text.now }
         ensures legal { IsLegalReading (current self.now.state) result }
@@ -152,7 +152,7 @@ impl<B: Board> Session<B> {
         }
     }
 
-    // Plays the one legal move that a text spells.
+    // Plays the one legal move that a text denotes.
     fn play_text(&mut self, text: &[u8], answer: &mut Answer)
         requires short { length text.now ≤ COMMAND_LEN }
         requires empty { answer.old.items ≡ [] }
@@ -163,7 +163,7 @@ impl<B: Board> Session<B> {
         self.play(read, text, answer);
     }
 
-    // Starts the game anew from the position that a FEN spells.
+    // Starts the game anew from the position that a FEN denotes.
     fn set_board(&mut self, fen: &[u8], answer: &mut Answer)
         requires { answer.old.items ≡ [] }
         ensures next { self.new
@@ -180,7 +180,7 @@ impl<B: Board> Session<B> {
         }
     }
 
-    // Goes over to the variant that the argument of `variant` tells.
+    // Goes over to the variant that the argument of `variant` names.
     fn change_variant(&mut self, text: &[u8], argument: &[u8], answer: &mut Answer)
         requires short { length text.now ≤ COMMAND_LEN }
         requires empty { answer.old.items ≡ [] }
@@ -233,7 +233,7 @@ impl<B: Board> Session<B> {
         let _before = self.game.take_back();
     }
 
-    // Declares the result that the argument of `result` tells.
+    // Declares the result that the argument of `result` names.
     fn declare(&mut self, text: &[u8], argument: &[u8], answer: &mut Answer)
         requires short { length text.now ≤ COMMAND_LEN }
         requires empty { answer.old.items ≡ [] }
@@ -294,7 +294,7 @@ impl<B: Board> Session<B> {
         write_line(answer, b"# fen ", fen.as_slice());
     }
 
-    // Lists the legal moves. The list is large, so only the lines that ask for it pay for its place.
+    // Lists the legal moves. The list is large, so only the lines that ask for it pay for its space.
     #[inline(never)]
     fn show_moves(&self, answer: &mut Answer)
         requires { answer.old.items ≡ [] }
@@ -398,7 +398,7 @@ impl<B: Board> Session<B> {
     /// flushed.
     ///
     /// # Errors
-    /// Where a write or the flush failed. The change stands, and a beginning of the answer was written.
+    /// Where a write or the flush failed. The change is kept, and a beginning of the answer was written.
     pub fn answer<W: Output>(
         &mut self,
         line: &Line<COMMAND_LEN>,
@@ -408,7 +408,7 @@ impl<B: Board> Session<B> {
         ensures written { Sends (W.seen writer.old) (W.seen writer.new) result (answer_to self.old line.now) }
         ensures go { IfOk result (λ go. go ≡ (if is_quit line.now then Go.Quit else Go.On)) }
 
-        // In single facts, beside the table.
+        // In single facts, in addition to the table.
         ensures refused { IsRefusal (answer_to self.old line.now) → self.new ≡ self.old }
         ensures kept { (self.new.tags ≡ self.old.tags) × (self.new.limit ≡ self.old.limit) }
     {

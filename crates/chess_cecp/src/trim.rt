@@ -1,4 +1,4 @@
-//! What a line says, without what stands round it.
+//! What a line says, without what surrounds it.
 
 ghost use Rattle.std.specs.Prelude.{◌≡◌, ◌≤◌, ◌||◌, ◌==◌, length};
 ghost use Rattle.chess_cecp.specs.Lines.{is_blank, without_return, without_front_blanks, without_end_blanks, trimmed};
@@ -20,7 +20,7 @@ fn cut_return(text: &[u8]) -> &[u8]
     }
 }
 
-/// A text without the blanks at its front.
+/// A text without the spaces and tabs at its front.
 pub fn trim_start(text: &[u8]) -> &[u8]
     ensures { result.now ≡ without_front_blanks text.now }
 {
@@ -41,7 +41,7 @@ fn cut_end(text: &[u8]) -> &[u8]
     &text[..to]
 }
 
-/// The text of a piece, without one byte 13 at its end, and blanks at both ends.
+/// The text of a piece, without one byte 13 at its end, and spaces and tabs at both ends.
 #[tactic(auto, using(crate::proofs::Parts::trimmed_short), unfolding(crate::specs::Lines::trimmed))]
 pub fn trim(piece: &[u8]) -> &[u8]
     ensures text { result.now ≡ trimmed piece.now }

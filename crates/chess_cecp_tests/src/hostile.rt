@@ -240,7 +240,7 @@ fn failing_write<B: Board>(
     );
 }
 
-// The first answer fails; where all lines are silent none does.
+// The first answer fails; where no line is answered none does.
 fn full_writer<B: Board>(
     rt: &impl Abort,
     alloc: Global,

@@ -72,7 +72,7 @@ Illegal move: e2e4
 > showfen now
 # fen rnbqkbnr/pppppppp/8/8/8/8/PPPPPPPP/RNBQKBNR w KQkq - 0 1
 ",
-    // Blank lines, and bytes that are no text.
+    // Lines of spaces and tabs, and bytes that are no text.
     b">\x20
 > \r
 >   \t
@@ -109,7 +109,7 @@ Error (the arbiter plays no side): go
 > ?
 >\x20
 ",
-    // How an interface begins, and what it tells an engine on its way.
+    // How an interface begins, and what it sends an engine on its way.
     b"> xboard
 > protover 2
 feature ping=1 setboard=1 playother=0 san=0 usermove=1 time=1 draw=1 sigint=0 sigterm=0 reuse=1 analyze=0 colors=0 \
@@ -256,7 +256,7 @@ Illegal move: e8
 > e8=N!?
 1/2-1/2 {Insufficient material}
 ",
-    // A pinned man, and a king that stays in check: 1. e4 e5 2. Qh5 Nc6 3. Qxf7+.
+    // A pinned piece, and a king that stays in check: 1. e4 e5 2. Qh5 Nc6 3. Qxf7+.
     b"> e2e4
 > e7e5
 > d1h5
@@ -270,7 +270,7 @@ Illegal move: a7a6
 > showfen
 # fen r1bq1bnr/pppp1kpp/2n5/4p3/4P3/8/PPPP1PPP/RNB1KBNR w KQ - 0 4
 ",
-    // Two men leave the rank.
+    // Two pieces leave the rank.
     b"> setboard 7k/8/8/K2pP2r/8/8/8/8 w - d6 0 1
 > usermove e5d6
 Illegal move: e5d6
@@ -293,7 +293,7 @@ Illegal move: e5d6
 > showfen
 # fen rnbqkbnr/pppp1ppp/8/4p3/4P3/8/PPPPNPPP/RNBQKB1R b KQkq - 1 2
 ",
-    // Moves that no man can make.
+    // Moves that no piece can make.
     b"> new
 > bc3
 Illegal move: bc3

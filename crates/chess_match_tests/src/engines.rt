@@ -10,8 +10,8 @@ use std::io::{Error, ErrorKind, Read, Write};
 use std::process::Abort;
 use std::test::Fail;
 
-/// A match: its level and start, how many half-moves can stand, what the engines say, the moments, and what the engines
-/// are sent.
+/// A match: its level and start, how many half-moves there is room for, what the engines say, the moments, and what the
+/// engines are sent.
 pub struct Row {
     pub level: &'static [u8],
     pub start: &'static [u8],
@@ -246,7 +246,7 @@ const BROKEN: &[Broken] = &[
         to_white: b"xboard\nprotover 2\naccepted ping\naccepted usermove\naccepted done\n",
         to_black: b"result * {White can not be written}\nquit\n",
     },
-    // The end lines to White fail: the outcome stands, and Black has all of its row.
+    // The end lines to White fail: the outcome is kept, and Black has all of its row.
     Broken {
         white_read: 0,
         white_write: 15,
@@ -407,7 +407,7 @@ fn line_count(text: &[u8]) -> u64 {
     count
 }
 
-/// Takes all bytes, and tells at a flush how many lines it took.
+/// Takes all bytes, and reports at a flush how many lines it took.
 #[derive(Drop)]
 struct Flushed<'a> {
     bytes: Vec<u8>,

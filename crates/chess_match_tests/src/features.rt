@@ -26,7 +26,7 @@ const ROWS: &[Row] = &[
         to_white: b"xboard\nprotover 2\naccepted ping\naccepted usermove\naccepted time\naccepted done\nnew\nlevel 0 0:10 0\nnopost\neasy\nforce\nping 1\ngo\nping 2\nusermove e7e5\nping 3\nusermove d8h4\nresult 0-1 {Black mates}\nquit\n",
         to_black: b"xboard\nprotover 2\naccepted ping\naccepted done\nnew\nlevel 0 0:10 0\nnopost\neasy\nforce\nping 1\nf2f3\ntime 1000\notim 1000\ngo\nping 2\ntime 1000\notim 1000\ng2g4\nresult 0-1 {Black mates}\nquit\n",
     },
-    // White takes no draws, so Black's offer isn't sent; it stands all the same.
+    // White takes no draws, so Black's offer isn't sent; it counts all the same.
     Row {
         level: b"0 0:10 0",
         start: b"",
@@ -59,7 +59,7 @@ const ROWS: &[Row] = &[
         to_white: b"xboard\nprotover 2\naccepted ping\naccepted usermove\naccepted done\nnew\nlevel 0 0:10 0\nnopost\neasy\nforce\nping 1\ntime 1000\notim 1000\ngo\nping 2\ntime 1000\notim 1000\nusermove e7e5\nresult * {Game too long}\nquit\n",
         to_black: b"xboard\nprotover 2\naccepted ping\naccepted done\nnew\nlevel 0 0:10 0\nnopost\neasy\nforce\nping 1\nf2f3\ntime 1000\notim 1000\ngo\nping 2\nresult * {Game too long}\nquit\n",
     },
-    // Before the move the clock is at 99, so the claim is an offer; behind it, and before the pong, it is at 100.
+    // Before the move the clock is at 99, so the claim is an offer; after it, and before the pong, it is at 100.
     Row {
         level: b"0 0:10 0",
         start: b"4k3/8/8/8/8/8/8/R3K3 w - - 99 60",
@@ -70,7 +70,7 @@ const ROWS: &[Row] = &[
         to_white: b"xboard\nprotover 2\naccepted ping\naccepted setboard\naccepted done\nnew\nlevel 0 0:10 0\nnopost\neasy\nforce\nsetboard 4k3/8/8/8/8/8/8/R3K3 w - - 99 60\nping 1\ntime 1000\notim 1000\ngo\nping 2\nresult 1/2-1/2 {50-move rule}\nquit\n",
         to_black: b"xboard\nprotover 2\naccepted ping\naccepted setboard\naccepted done\nnew\nlevel 0 0:10 0\nnopost\neasy\nforce\nsetboard 4k3/8/8/8/8/8/8/R3K3 w - - 99 60\nping 1\ndraw\na1a2\nresult 1/2-1/2 {50-move rule}\nquit\n",
     },
-    // A start with a verdict ends the match behind both setups.
+    // A start with a verdict ends the match after both setups.
     Row {
         level: b"0 0:10 0",
         start: b"7k/5Q2/6K1/8/8/8/8/8 b - - 0 1",

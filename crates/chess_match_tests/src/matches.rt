@@ -1,4 +1,4 @@
-//! Engines that flood or fail, Chess960, and what is told of an end.
+//! Engines that flood or fail, Chess960, and what is reported of an end.
 
 use crate::plays::{BOARDS, Listed, On, is_text, is_told, play_over, setup_of};
 use byte_devices::{Counted, PieceReader, PieceWriter};
@@ -93,12 +93,12 @@ fn is_end(rt: &impl Abort, played: &Played, ending: &Ending) {
     assert_eq!(rt; played.end.ended, ending.ended);
 }
 
-// So many half-moves stand.
+// So many half-moves are current.
 fn is_number(rt: &impl Abort, moves: usize, wanted: usize) {
     assert_eq!(rt; moves, wanted, "half-moves");
 }
 
-// Plays a match from the initial position on such a board, which ends so, with so many half-moves that stand.
+// Plays a match from the initial position on such a board, which ends so, with so many current half-moves.
 fn ends_so_on(
     rt: &impl Abort,
     alloc: Global,
@@ -127,7 +127,7 @@ fn ends_so(
     Ok(())
 }
 
-// These texts, each so many times, one behind another.
+// These texts, each so many times, one after the other.
 fn repeated(alloc: Global, parts: &[(&[u8], usize)]) -> Result<Vec<u8>, Fail> {
     let mut text = Vec::new(alloc);
     for (part, count) in parts {
@@ -206,7 +206,7 @@ const NO_DONE: Ending = Ending {
     fault: Some((Colour::White, MatchFault::NoDone)),
 };
 
-// So many lines `x` before the hello.
+// So many lines `x` before the handshake.
 fn hello_behind(rt: &impl Abort, alloc: Global, count: usize, ending: &Ending) -> Result<(), Fail> {
     let behind = b"feature ping=1 done=1\npong 1\nresign\n".as_slice();
     let white = repeated(alloc, &[(b"x\n", count), (behind, 1)])?;
@@ -226,7 +226,7 @@ const FLOOD: Ending = Ending {
     fault: Some((Colour::White, MatchFault::Flood)),
 };
 
-// A text behind 9,999 lines `x`.
+// A text after 9,999 lines `x`.
 fn flood(
     rt: &impl Abort,
     alloc: Global,
@@ -240,7 +240,7 @@ fn flood(
     ends_so_on(rt, alloc, on, &said, ending, 1)
 }
 
-// The move behind them stands; with one more line there are too many.
+// The move after them is taken; with one more line there are too many.
 fn floods_on(rt: &impl Abort, alloc: Global, on: On) -> Result<(), Fail> {
     flood(rt, alloc, on, b"move f2f3\nresign\n", &WHITE_RESIGNS)?;
     flood(rt, alloc, on, b"move f2f3\nx\npong 2\n", &FLOOD)
@@ -256,7 +256,7 @@ fn floods_on_sets_of_squares(rt: HostRuntime) -> Result<(), Fail> {
     floods_on(&rt, rt.alloc(), On::Bits)
 }
 
-// What White says, with a move of 8,193 bytes, as parts and how often each stands.
+// What White says, with a move of 8,193 bytes, as parts and how often each is repeated.
 const LONG_LINE: &[(&[u8], usize)] = &[
     (b"feature ping=1 done=1\npong 1\nmove f2f3", 1),
     (b" ", 8184),
@@ -355,7 +355,7 @@ const UNFIT: &[(&[u8], Ending)] = &[
     (b"feature ping=1 variants=\"normal\" done=1\n", NO_SETBOARD),
 ];
 
-// In a match of Chess960 on such a board, Black's hello ends it so.
+// In a match of Chess960 on such a board, Black's handshake ends it so.
 fn is_unfit(
     rt: &impl Abort,
     alloc: Global,
@@ -382,7 +382,7 @@ fn engines_without_chess960(rt: HostRuntime) -> Result<(), Fail> {
 const WHITE: &[u8] =
     b"feature ping=1 usermove=1 done=1\npong 1\nmove f2f3\npong 2\nmove g2g4\npong 3\n";
 
-// Whether a text is a beginning of another, and then an end of one line, `quit` behind it.
+// Whether a text is a beginning of another, and then an end of one line, `quit` after it.
 fn is_cut_off(text: &[u8], whole: &[u8], end: &[u8]) -> bool {
     if text.len() < end.len() {
         return false;
@@ -517,7 +517,7 @@ const TO_WHITE_AT_THE_END: &[u8] = b"result * {Black can not be written}\nquit\n
 const TO_BLACK_AT_THE_END: &[u8] = b"result * {White can not be written}\nquit\n";
 
 // Where each of White's blocks fails: how many blocks Black is sent, and then what. A block that is due to it after
-// White's isn't sent; a move that it wasn't told is.
+// White's isn't sent; a move that it wasn't sent is.
 const BESIDE_WHITE: &[(usize, &[u8], &[u8])] = &[
     (0, b"", TO_BLACK_AT_THE_END),
     (0, b"", TO_BLACK_AT_THE_END),
@@ -558,7 +558,7 @@ fn is_blocks(
     is_text(rt, name, rest, end);
 }
 
-// What stands behind that front.
+// What follows that front.
 fn behind<'a>(rt: &impl Abort, name: &str, text: &'a [u8], front: &[u8]) -> &'a [u8] {
     match text.strip_prefix(front) {
         Some(rest) => rest,
@@ -682,7 +682,7 @@ fn writes_that_fail_at_one_event(rt: HostRuntime) -> Result<(), Fail> {
     said.white_write = 4;
     said.black_write = 1;
     ends_so(&rt, rt.alloc(), &said, &WHITE_UNWRITTEN, 0)?;
-    // Both end lines fail: the outcome stands, and White's failure is the first.
+    // Both end lines fail: the outcome is kept, and White's failure is the first.
     let mut said = Said::of(WHITE, BLACK);
     said.white_write = 15;
     said.black_write = 13;
@@ -759,7 +759,7 @@ fn end_lines_to_white_first(rt: HostRuntime) -> Result<(), Fail> {
     Ok(())
 }
 
-// What White says, as parts and how often each stands.
+// What White says, as parts and how often each is repeated.
 const MANY_ITEMS: &[(&[u8], usize)] = &[
     (b"feature ", 1),
     (b"a=1 ", 1700),

@@ -1,4 +1,4 @@
-//! The PGN of a game behind its match.
+//! The PGN of a game after its match.
 
 use crate::plays::{BOARDS, On, is_text, pgn_over, setup_of};
 use byte_devices::{Counted, PieceReader, PieceWriter};

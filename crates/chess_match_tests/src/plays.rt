@@ -85,8 +85,8 @@ fn play_with_bits<R: Input, W: Output, M: Moments>(
     play_with(alloc, board, scratch, limit, white, black, moments, setup)
 }
 
-/// Plays a match of at most so many half-moves: its end, and how many half-moves stand. Its contract stays in here:
-/// tests compare values.
+/// Plays a match of at most so many half-moves: its end, and how many half-moves are current. Its contract stays in
+/// here: tests compare values.
 pub fn play_over<R: Input, W: Output, M: Moments>(
     alloc: Global,
     on: On,
@@ -105,7 +105,7 @@ pub fn play_over<R: Input, W: Output, M: Moments>(
     }
 }
 
-// The PGN of a game behind its match, with all tags but that of its end as they are by default.
+// The PGN of a game after its match, with all tags but that of its end as they are by default.
 fn pgn_with<R: Input, W: Output, B: Board + Drop>(
     alloc: Global,
     board: B,
@@ -124,7 +124,7 @@ fn pgn_with<R: Input, W: Output, B: Board + Drop>(
     Ok(writer.into_writer().bytes)
 }
 
-/// The PGN of a game behind its match, on such a board.
+/// The PGN of a game after its match, on such a board.
 pub fn pgn_over<R: Input, W: Output>(
     alloc: Global,
     on: On,

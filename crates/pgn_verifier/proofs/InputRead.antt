@@ -8,7 +8,7 @@ use Rattle.pgn_verifier.specs.declared.fault.VerifyFault.TheVariants.{ReadFailed
 use Rattle.pgn_pieces.specs.Pieces.{IsFront}
 use Rattle.pgn_verifier.specs.Verify.{IsAll, IsNotAll}
 
--- the end was told
+-- the end was reported
 pub all_read : (r r' r'' : InputState) (text buf : List ℕ) (n : ℕ) → IsFront r r' text → length text ≤ 16777216
     → GavePiece r' r'' (take n buf) → n ≡ 0 → IsAll r r'' text
 all_read r r' r'' text buf n front few gave is =

@@ -1,4 +1,4 @@
--- Reports that are told one behind another, and counted.
+-- Reports that are written one after the other, and counted.
 use Rattle.std.proofs.Common.{◌≡◌, ℕ, ◌+◌, Bool, false, eqb, List, [], ◌∷◌, ◌++◌, length, Result, Ok, Err, refl, sym, ap, subst, ◌∙◌, append_assoc, append-nil, arith}
 use Rattle.std.specs.Prelude.{if◌then◌else◌, ◌==◌}
 use Rattle.std.proofs.lemmas.Bool.Decides.{nat_tests}
@@ -10,7 +10,7 @@ use Rattle.pgn_verifier.specs.declared.tally.Tally.{Tally}
 use Rattle.pgn_verifier.specs.declared.tally.Verified.TheVariants.{EachGame, FaultTold}
 use Rattle.pgn_verifier.specs.Reports.{written_line, lines_of, games_in, half_moves_in, faults_in, counted, next_number, verified, Writes}
 
--- ---- reports and those behind them
+-- ---- reports and those after them
 
 pub lines_after : (quiet : Bool) (number : ℕ) (xs ys : List Report)
     → lines_of quiet number (xs ++ ys) ≡ lines_of quiet number xs ++ lines_of quiet (number + length xs) ys
@@ -79,7 +79,7 @@ number_after t u xs h =
     let faults : u.faults ≡ t.faults + faults_in xs = ap (λ (v : Tally). v.faults) h in
     omega (arith, all, games, faults)
 
--- ---- telling
+-- ---- writing
 
 pub wrote_none : (quiet : Bool) (t : Tally) (w : OutputState) → Took w w (lines_of quiet (next_number t) [])
 wrote_none quiet t w = took_none w

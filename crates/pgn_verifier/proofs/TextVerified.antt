@@ -53,7 +53,7 @@ begun options start text before w = record {
 module _ (options : VerifyOptions) (start : ℕ) (text : List ℕ) (before : Tally) (w w' w'' : OutputState) (at : ℕ)
     (tally : Tally)
     (done : List Report) (s : SoFar options start text before w w' at tally done) where
-  -- the report that comes, with those behind it
+  -- the report that comes, with those after it
   due : (answer : Result (Option PgnEnd) GameFault) (plies : ℕ) → judged_at options.strict text at ≡ answer
       → plies ≡ length (read_at text at).state.moves
       → reports_at options.strict start text

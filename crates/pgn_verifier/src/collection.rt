@@ -77,7 +77,7 @@ fn verify_pieces<R: Input, W: Output>(
     ensures { WritesCollection options (R.seen input.old) (R.seen input.new) (W.seen output.old) (W.seen output.new)
         result }
 {
-    // The prover wants this law: the pieces of a text are those that are handed out.
+    // The prover wants this law: the pieces of a text are those that are returned.
     pieces_are_cut();
     let mut tally = Tally::none();
     loop {

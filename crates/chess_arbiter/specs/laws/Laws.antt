@@ -1,4 +1,4 @@
--- What words do.
+-- What arguments do.
 use Rattle.std.specs.Prelude.{◌≡◌, ◌⊎◌, ℕ, List}
 use Rattle.clap.specs.Words.{Text}
 use Rattle.arbiter_words.specs.Plans.{bare_plan}
@@ -6,25 +6,25 @@ use Rattle.byte_devices.specs.Devices.{InputState, OutputState}
 use Rattle.chess_arbiter.specs.Log.{LogSeen}
 use Rattle.chess_arbiter.specs.Program.{RanHelp, RanProgram, RanSession, RanVerify}
 
--- a program with these words is a session
+-- a program with these arguments is a session
 abbrev pub ServesSession : List Text → Type 0
 ServesSession words = (r r' : InputState) (w w' : OutputState) (l l' : LogSeen) (status : ℕ)
     → RanProgram words r r' w w' l l' status
     → RanSession r r' w w' status
 
--- a program with these words verifies games, with no flag set
+-- a program with these arguments verifies games, with no flag set
 abbrev pub VerifiesGames : List Text → Type 0
 VerifiesGames words = (r r' : InputState) (w w' : OutputState) (l l' : LogSeen) (status : ℕ)
     → RanProgram words r r' w w' l l' status
     → RanVerify bare_plan r r' w w' status
 
--- a program with these words shows a text of help, and leaves the input alone
+-- a program with these arguments shows a text of help, and leaves the input alone
 abbrev pub ShowsHelp : List Text → Type 0
 ShowsHelp words = (r r' : InputState) (w w' : OutputState) (l l' : LogSeen) (status : ℕ)
     → RanProgram words r r' w w' l l' status
     → (r' ≡ r) × RanHelp w w' status
 
--- a program with these words leaves input and output alone, and ends with 2, or with 1 for want of memory
+-- a program with these arguments leaves input and output alone, and ends with 2, or with 1 where it is out of memory
 abbrev pub RefusesWords : List Text → Type 0
 RefusesWords words = (r r' : InputState) (w w' : OutputState) (l l' : LogSeen) (status : ℕ)
     → RanProgram words r r' w w' l l' status

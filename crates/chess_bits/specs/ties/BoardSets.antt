@@ -1,4 +1,4 @@
--- The men of both colours as sets of squares, and the word of their keys.
+-- The pieces of both colours as sets of squares, and the exclusive or of their keys.
 use Rattle.std.specs.Prelude.{ℕ, ◌<◌, ◌≡◌}
 use Rattle.chess_base.specs.declared.man.Colour.TheVariants.{White, Black}
 use Rattle.chess_base.specs.Men.{Men, man_at, is_of}
@@ -7,7 +7,7 @@ use Rattle.chess_bits.specs.ties.KindSets.{IsKinds}
 use Rattle.chess_moves.specs.PositionWord.{men_keys, xor_of}
 use Rattle.chess_moves.specs.Sets.{has}
 
--- the sets and the word are those of these men
+-- the sets and the exclusive or are those of these pieces
 pub record IsSets (s : Sets) (men : Men) : Type 0 where
   pub of_white : IsKinds s.white.sets White men
   pub of_black : IsKinds s.black.sets Black men

@@ -19,7 +19,7 @@ is_changed p m k = (lands_on p m == k) || is_square (castling_rook_to p m) k
 abbrev pub is_filled : Setup → Move → ℕ → Bool
 is_filled p m k = (lands_on p m == k) || is_square (castling_rook_to p m) k
 
--- the man on a, other than the king, has the pattern of a move to b without a promotion and not en passant
+-- the piece on a, other than the king, has the pattern of a move to b without a promotion and not en passant
 pub record StepsPlainly (p : Setup) (a b : ℕ) : Type 0 where
   pub pattern : has_pattern p (triple a b None) ≡ true
   pub no_king : is_man p.side King (man_at p.men a) ≡ false

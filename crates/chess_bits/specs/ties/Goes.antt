@@ -1,4 +1,4 @@
--- Where the men of the side on move go, whatever becomes of their king.
+-- Where the pieces of the side on move go, whatever becomes of their king.
 use Rattle.std.specs.Prelude.{◌≡◌, ℕ, ◌<◌, ◌==◌, not, ◌&&◌, ◌||◌, Bool, true, false, Option, Some, None, if◌then◌else◌}
 use Rattle.chess_base.specs.declared.castling.Castle.{Castle}
 use Rattle.chess_base.specs.declared.man.CastlingSide.{CastlingSide}
@@ -25,7 +25,7 @@ use Rattle.chess_moves.specs.Sets.{has}
 abbrev pub usual_promotion : Setup → ℕ → ℕ → Option Kind
 usual_promotion p a b = if would_promote p a b then Some Queen else None
 
--- a man of the side on move goes from a to b
+-- a piece of the side on move goes from a to b
 unfoldable pub goes : Setup → ℕ → ℕ → Bool
 goes p a b = has_pattern p (triple a b (usual_promotion p a b))
 
@@ -40,26 +40,26 @@ abbrev pub castling_end : Variant → Colour → CastlingSide → ℕ → ℕ
 castling_end Normal c w rook = home_square c (castled_king_file w)
 castling_end Fischerandom c w rook = rook
 
--- s, but for castling, which is told as it is legal
+-- s, but for castling, which is included exactly where it is legal
 abbrev pub legal_or : Setup → Move → Option Castle → Bool → Bool
 legal_or p m None s = s
 legal_or p m (Some castle) s = is_legal p m
 
--- s, but for castling on that side, which is told as it is legal
+-- s, but for castling on that side, which is included exactly where it is legal
 abbrev pub castling_or : Setup → CastlingSide → ℕ → ℕ → Bool → Bool
 castling_or p w a b s =
     if names_end p.variant p.side w (right_of p.rights p.side w) b then legal_or p (triple a b None)
     (castle_of p (triple a b None)) s else s
 
--- where a man other than a pawn goes; castling is told as it is legal
+-- where a piece other than a pawn goes; castling is included exactly where it is legal
 abbrev pub man_goes : Setup → ℕ → ℕ → Bool
 man_goes p a b = legal_or p (triple a b None) (castle_of p (triple a b None)) (man_moves p (triple a b None))
 
--- the men, but for the one on a
+-- the pieces, but for the one on a
 abbrev pub lifted : Men → ℕ → Men
 lifted men a = with_man men (Some a) None
 
--- taken off, the man on a opens no rank or file to k for a rook or queen of the other side; and no diagonal for a
+-- taken off, the piece on a opens no rank or file to k for a rook or queen of the other side; and no diagonal for a
 -- bishop or queen
 abbrev pub OpensNoLine : Setup → ℕ → ℕ → Type 0
 OpensNoLine p a k =
@@ -73,17 +73,17 @@ OpensNoDiagonal p a k =
     ≡ true
     → (not (b == k) && share_diagonal b k) ≡ true → is_clear (lifted p.men a) b k ≡ true → is_clear p.men b k ≡ true
 
--- what stands on a is not the king of the side on move, and he is not attacked though it be taken off
+-- the piece on a is not the king of the side on move, which is not attacked even with that piece taken off
 pub record IsFree (p : Setup) (a : ℕ) : Type 0 where
   pub apart : (k : ℕ) → k < 64 → is_man p.side King (man_at p.men k) ≡ true → (a == k) ≡ false
   pub safe : (k : ℕ) → k < 64 → is_man p.side King (man_at p.men k) ≡ true
       → is_attacked (lifted p.men a) k (other p.side) ≡ false
 
--- on each square of the set stands a man of that kind of the side on move, and it is free
+-- on each square of the set is a piece of that kind of the side on move, and it is free
 abbrev pub AreFree : Setup → Kind → ℕ → Type 0
 AreFree p kind w = (k : ℕ) → k < 64 → has w k ≡ true → (is_man p.side kind (man_at p.men k) ≡ true) × IsFree p k
 
--- a man of colour c and that kind stands there, which is neither king nor pawn
+-- a piece of colour c and that kind is there, which is neither king nor pawn
 pub record IsOfficer (c : Colour) (kind : Kind) (o : Option Man) : Type 0 where
   pub man : is_man c kind o ≡ true
   pub usual : (same_kind King kind || same_kind Pawn kind) ≡ false

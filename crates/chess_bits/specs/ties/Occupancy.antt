@@ -1,4 +1,4 @@
--- Squares that are not empty, and what stands later.
+-- Squares that are not empty, and what is on the squares later.
 use Rattle.std.specs.Prelude.{ℕ, ◌<◌, ◌≡◌, not, ◌&&◌, ◌||◌, is_none}
 use Rattle.chess_base.specs.declared.man.Colour.{Colour}
 use Rattle.chess_base.specs.declared.man.Kind.{Kind}
@@ -9,7 +9,7 @@ use Rattle.chess_moves.specs.Sets.{has}
 pub record IsOccupied (w : ℕ) (men : Men) : Type 0 where
   pub of_men : (k : ℕ) → k < 64 → has w k ≡ not (is_none (man_at men k))
 
--- what stands later: the squares of one set are filled, those of the other changed, and no man of colour c came
+-- what is on the squares later: those of one set are filled, those of the other changed, and no piece of colour c came
 pub record IsLater (changed filled : ℕ) (c : Colour) (men later : Men) : Type 0 where
   pub of_all : (k : ℕ) → k < 64 → (has filled k || (not (is_none (man_at men k)) && not (has changed k)))
       ≡ not (is_none (man_at later k))

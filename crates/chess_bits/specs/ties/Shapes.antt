@@ -1,4 +1,4 @@
--- The squares on which a man could capture on an empty board, ranks and files, diagonals, and the rays.
+-- The squares on which a piece could capture on an empty board, ranks and files, diagonals, and the rays.
 use Rattle.std.specs.Prelude.{ℕ, ◌==◌, nat_le, Bool, not, ◌&&◌, ◌||◌}
 use Rattle.chess_base.specs.Squares.{file, rank, gap, share_rank_or_file, share_diagonal}
 use Rattle.chess_base.specs.Attacks.{is_rank_ahead}

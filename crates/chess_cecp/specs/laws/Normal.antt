@@ -1,5 +1,5 @@
--- The table of commands as it is said for normal chess alone. Nothing here takes a variant: positions, their FEN, the
--- texts of moves and of games are those of normal chess alone (laws/Normal of chess_base, chess_fen and chess_text;
+-- The table of commands as it is defined for normal chess alone. Nothing here takes a variant: positions, their FEN,
+-- the texts of moves and of games are those of normal chess alone (laws/Normal of chess_base, chess_fen and chess_text;
 -- NormalGame and NormalPgn). Without Chess960 `variant` and `protover` have other rows than with it; all others have
 -- the same.
 use Rattle.std.specs.Prelude.{ℕ, nat_le, nat_lt, Bool, true, false, if◌then◌else◌, List, [], ◌∷◌, ◌++◌, length, codes, decimal, Option, None, Some, Result, Ok, Err}
@@ -29,13 +29,13 @@ use Rattle.chess_cecp.specs.laws.NormalPgn.{normal_pgn}
 abbrev pub normal_becomes_judged : State → Row
 normal_becomes_judged s = record { text = verdict_line (normal_verdict_now s); next = s }
 
--- the game starts anew from the sound position that a FEN spells
+-- the game starts anew from the sound position that a FEN denotes
 abbrev pub normal_setboard_row : State → Result Setup FenFault → Row
 normal_setboard_row s (Ok start) = normal_becomes_judged (from_start start)
 normal_setboard_row s (Err fault) =
     refuses s (codes "tellusererror Illegal position (") (fen_fault_name fault ++ codes ")")
 
--- the one legal move that a text spells is played
+-- the one legal move that a text denotes is played
 abbrev pub normal_reading_row : State → List ℕ → Reading → Row
 normal_reading_row s text (reads.Move m) = normal_becomes_judged (played s m)
 normal_reading_row s text reads.Ambiguous = refuses s (codes "Error (ambiguous move): ") text
@@ -77,7 +77,7 @@ abbrev pub normal_moves_line : List Move → List ℕ
 normal_moves_line ms =
     joined_line (codes "# moves ") (decimal (length ms) ++ flat_map (λ m. space ∷ coordinate m) ms)
 
--- what `showstate` tells of a game
+-- what `showstate` shows of a game
 unfoldable pub normal_state_text : State → List ℕ
 normal_state_text s =
     decimal (length s.moves)

@@ -1,5 +1,5 @@
--- A game as it is said for normal chess alone: each of these is the definition of the same name without `normal_`, over
--- the rules of normal chess alone (laws/Normal of chess_base and of chess_text). Nothing here takes a variant.
+-- A game as it is defined for normal chess alone: each of these is the definition of the same name without `normal_`,
+-- over the rules of normal chess alone (laws/Normal of chess_base and of chess_text). Nothing here takes a variant.
 use Rattle.std.specs.Prelude.{ℕ, ◌==◌, nat_le, Bool, ◌&&◌, ◌||◌, if◌then◌else◌, List, [], ◌∷◌, length, count_by, Option, None, Some, is_some}
 use Rattle.std.specs.List.{list_any}
 use Rattle.chess_base.specs.declared.man.Colour.TheVariants.{White}
@@ -57,7 +57,7 @@ normal_current s = normal_last s.start s.moves
 unfoldable pub normal_live_target : Setup → Option ℕ
 normal_live_target p = if list_any (λ m. is_en_passant p m) (normal_moves p) then p.target else None
 
--- the same side on move, the same men on the same squares, the same rights, and the same pawn to capture en passant
+-- the same side on move, the same pieces on the same squares, the same rights, and the same pawn to capture en passant
 unfoldable pub normal_same : Setup → Setup → Bool
 normal_same p q =
     same_colour p.side q.side && same_men p.men q.men && same_rights p.rights q.rights

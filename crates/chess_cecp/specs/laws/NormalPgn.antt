@@ -1,4 +1,4 @@
--- A game's text as it is said for normal chess alone: each of these is the definition of the same name without
+-- A game's text as it is defined for normal chess alone: each of these is the definition of the same name without
 -- `normal_`. Nothing here takes a variant, and no tag names one.
 use Rattle.std.specs.Prelude.{ℕ, Bool, true, false, if◌then◌else◌, List, [], ◌∷◌, ◌++◌, codes}
 use Rattle.std.specs.Str.{bytes_eq}
@@ -26,7 +26,7 @@ normal_start_lines start =
     if normal_is_initial start then []
     else tag_line (codes "FEN") (normal_fen start) ∷ tag_line (codes "SetUp") (codes "1") ∷ []
 
--- the tags behind the seven that each game has
+-- the tags after the seven that each game has
 abbrev pub normal_further_lines : Setup → Termination → List (List ℕ)
 normal_further_lines start termination =
     normal_start_lines start ++ tag_line (codes "Termination") (termination_text termination) ∷ []
@@ -49,7 +49,7 @@ normal_move_tokens is_first p (m ∷ ms) =
 abbrev pub normal_game_tokens : State → List (List ℕ)
 normal_game_tokens s = normal_move_tokens true s.start s.moves ++ outcome_text (normal_outcome_now s) ∷ []
 
--- the whole text: tags, an empty line, the moves in filled lines, an empty line; each line behind a prefix
+-- the whole text: tags, an empty line, the moves in filled lines, an empty line; each line after a prefix
 unfoldable pub normal_pgn : List ℕ → Tags → State → List ℕ
 normal_pgn prefix t s =
     ended prefix (normal_tag_lines t s ++ [] ∷ []) ++ move_text_of prefix (normal_game_tokens s)

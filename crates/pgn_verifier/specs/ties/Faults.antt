@@ -1,4 +1,4 @@
--- What becomes of the fault where no more pieces are told.
+-- What becomes of the fault where no more pieces are reported.
 use Rattle.pgn_pieces.specs.declared.pieces.PieceFault.{PieceFault}
 use Rattle.pgn_pieces.specs.declared.pieces.PieceFault.TheVariants as pieces
 use Rattle.pgn_verifier.specs.declared.fault.VerifyFault.{VerifyFault}

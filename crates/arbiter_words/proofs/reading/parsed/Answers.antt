@@ -1,5 +1,5 @@
--- Of a grammar as simple as this one `clap` promises what it finds, and which faults it tells (parsed_by). Where there
--- was no memory for the grammar, any names will do (without_grammar).
+-- Of a grammar as simple as this one `clap` promises what it finds, and which faults it reports (parsed_by). Where
+-- there was no memory for the grammar, any names will do (without_grammar).
 use Rattle.std.proofs.Common.{rules, IsErr, ◌≡◌, ◌∙◌, ap, map, [], ◌∷◌, codes, IfOk, IfErr, List, Result, Ok, Err, Bor, inl, refl, subst, true, sym}
 use Rattle.clap.specs.Words.{App, FailsBy, HasKind, HasMatchesOf, Text, fault_of, is_simple, is_simple_and_free, kind_of, subcommand_of}
 use Rattle.clap.specs.declared.error.Error.{Error}

@@ -1,5 +1,6 @@
--- What was entered is what the words ask for (Readings.some_asked), with all that its command needs, since `clap` took
--- the words (Readings.entered_well). What is planned by it is a reading of the words (Readings.planned_reading).
+-- What was entered is what the arguments ask for (Readings.some_asked), with all that its command needs, since `clap`
+-- took the arguments (Readings.entered_well). What is planned by it is a reading of the arguments
+-- (Readings.planned_reading).
 use Rattle.std.proofs.Common.{rules, ◌≡◌, ap, sym, subst, map, Some, None, Ok}
 use Rattle.arbiter_words.specs.Grammar.{asked}
 use Rattle.arbiter_words.specs.Plans.{IsParsed, IsSpelledOf}

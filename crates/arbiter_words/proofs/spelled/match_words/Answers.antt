@@ -1,4 +1,4 @@
--- What `clap` finds of an option is the first value in its row (first_value-rows), so each field is as it is spelled;
+-- What `clap` finds of an option is the first value in its row (first_value-rows), so each field is as written;
 -- where both engines are named, both are found.
 use Rattle.std.proofs.Common.{rules, ◌≡◌, ◌∙◌, ap, codes, Option, Some, None, is_some, sym, true, true≢false}
 use Rattle.clap.specs.Words.{Text, first_value, found_of}

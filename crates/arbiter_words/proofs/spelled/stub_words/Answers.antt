@@ -1,4 +1,5 @@
--- The words that `clap` finds are all values in the row of `words` (raw_values-rows), or none where there is no row.
+-- The arguments that `clap` finds are all values in the row of `words` (raw_values-rows), or none where there is no
+-- row.
 use Rattle.std.proofs.Common.{rules, ◌≡◌, ◌∙◌, ap, List, [], Option, Some, None, map, option_map, unwrap_or, sym, Bor, codes, IfOk}
 use Rattle.std.proofs.lemmas.Result.{IfOk-weaker}
 use Rattle.clap.specs.Words.{Text, found_of, matched_of, raw_values}

@@ -1,4 +1,4 @@
--- The games were told, and the score stands behind them: that is the text of the match (GamesTold.all_told,
+-- The games were written, and the score comes after them: that is the text of the match (GamesTold.all_told,
 -- fault_told), or a beginning of it where the score could not be written (GamesTold.score_broken).
 use Rattle.std.proofs.Common.{◌≡◌, ◌∙◌, None, Some, sym, rules}
 use Rattle.chess_arbiter.specs.Games.{score_line}

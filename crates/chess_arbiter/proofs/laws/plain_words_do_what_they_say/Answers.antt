@@ -1,4 +1,4 @@
--- The laws of the words tell that each of them is taken, and with that what is planned and done
+-- By the laws of the arguments each of them is taken, and so what is planned and done
 -- (PlainWords.serves_session, verifies_games).
 use Rattle.std.proofs.Common.{[], ◌∷◌, codes}
 use Rattle.chess_arbiter.proofs.PlainWords.{serves_session, verifies_games}

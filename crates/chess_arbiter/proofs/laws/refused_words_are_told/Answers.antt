@@ -1,4 +1,4 @@
--- The law of the words tells how each of them is refused, and with that what the program does
+-- The law of the arguments says how each of them is refused, and with that what the program does
 -- (RefusedWords.shows_help, refuses_words).
 use Rattle.std.proofs.Common.{[], ◌∷◌, codes, inl, inr, refl}
 use Rattle.clap.specs.declared.error.kind.ErrorKind.TheVariants.{DisplayHelp, DisplayVersion, MissingRequiredArgument}

@@ -1,4 +1,4 @@
--- A word that isn't `end` is said, and then the remarks behind it: that is the turn of the definition
+-- An argument that isn't `end` is said, and then the remarks after it: that is the turn of the definition
 -- (Remarks.turn_taken). Where a write fails, a beginning of it was said (Remarks.move_broken, remarks_broken).
 use Rattle.std.proofs.Common.{◌<◌, length, sym, arith}
 use Rattle.byte_devices.specs.declared.traits.WriteFault.{WriteFault}

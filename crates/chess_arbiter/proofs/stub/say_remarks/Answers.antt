@@ -1,5 +1,5 @@
--- The remarks said so far, with those at the front of the words from here on, are all that the definition has
--- (Remarks.SoFar): a remark more keeps that (Remarks.more), and another word or none ends them (Remarks.no_more).
+-- The remarks said so far, with those at the front of the arguments from here on, are all that the definition has
+-- (Remarks.SoFar): a remark more keeps that (Remarks.more), and another argument or none ends them (Remarks.no_more).
 use Rattle.std.proofs.Common.{◌≡◌, ◌∙◌, Bor, List, ℕ, Option, Some, None, option_map, rules, sym, ap, arith}
 use Rattle.byte_devices.specs.declared.traits.WriteFault.{WriteFault}
 use Rattle.chess_arbiter.proofs.Remarks.{more, broken, at_other, at_end}

@@ -1,4 +1,4 @@
--- Where none of these men is on a diagonal of the square, none is met on one, whatever stands between (none_met).
+-- Where none of these pieces is on a diagonal of the square, none is met on one, whatever is between (none_met).
 use Rattle.std.proofs.Common.{◌==◌, not, sym, ◌∙◌}
 use Rattle.chess_base.specs.Squares.{share_diagonal}
 use Rattle.chess_moves.specs.Sets.{has}

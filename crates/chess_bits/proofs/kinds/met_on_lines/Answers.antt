@@ -1,4 +1,4 @@
--- Where none of these men is on the square's rank or file, none is met there, whatever stands between (none_met).
+-- Where none of these pieces is on the square's rank or file, none is met there, whatever is between (none_met).
 use Rattle.std.proofs.Common.{◌==◌, not, sym, ◌∙◌}
 use Rattle.chess_base.specs.Squares.{share_rank_or_file}
 use Rattle.chess_moves.specs.Sets.{has}

@@ -1,4 +1,4 @@
--- The answer is what each piece adds behind those before it, and `state_text` is these pieces in the same order.
+-- The answer is what each piece adds after those before it, and `state_text` is these pieces in the same order.
 use Rattle.std.proofs.Common.{append_assoc}
 use Rattle.chess_cecp.specs.Declaring.{state_text}
 use Rattle.chess_cecp.proofs.answer.write_state.Goals as goal

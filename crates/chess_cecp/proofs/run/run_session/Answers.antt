@@ -1,5 +1,5 @@
 -- All lines so far were answered, and none of them was a quit (RunLemmas.SoFar). An answer more keeps that
--- (RunLemmas.go_on), and each way out gives the transcript of its end (RunLemmas.by_quit and those behind it).
+-- (RunLemmas.go_on), and each way out gives the transcript of its end (RunLemmas.by_quit and those after it).
 use Rattle.std.proofs.Common.{[], subst, sym}
 use Rattle.chess_cecp.specs.Lines.{Held}
 use Rattle.byte_devices.specs.declared.traits.ReadFault.{ReadFault}

@@ -1,5 +1,5 @@
--- The front that is left has the same text without end blanks as the whole: a blank at its end changes nothing
--- (Trims.end_step), and a byte that is none ends the search (Trims.end_stop).
+-- The front that is left has the same text without end spaces and tabs as the whole: one at its end changes nothing
+-- (Trims.end_step), and another byte ends the search (Trims.end_stop).
 use Rattle.std.proofs.Common.{arith, sym, ◌∙◌}
 use Rattle.chess_cecp.proofs.Trims.{end_step, end_stop, zero_end}
 use Rattle.chess_cecp.proofs.trim.cut_end.Goals as goal

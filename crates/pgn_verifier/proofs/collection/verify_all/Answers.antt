@@ -1,4 +1,4 @@
--- Behind the lines of all pieces the counts were told, and all was flushed (Finished.finished).
+-- After the lines of all pieces the counts were written, and all was flushed (Finished.finished).
 use Rattle.pgn_verifier.proofs.Finished.{finished, not_finished}
 use Rattle.pgn_verifier.proofs.collection.verify_all.Goals as goal
 

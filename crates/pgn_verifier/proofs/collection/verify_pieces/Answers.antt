@@ -1,5 +1,5 @@
--- The pieces up to here were told (CollectionVerified.SoFar). A piece more keeps that; the last one, a read that gave nothing
--- and a failed write each end it by one lemma.
+-- The pieces up to here were reported (CollectionVerified.SoFar). A piece more keeps that; the last one, a read that
+-- gave nothing and a failed write each end it by one lemma.
 use Rattle.std.proofs.Common.{sym, subst, arith}
 use Rattle.pgn_pieces.specs.Stream.{State}
 use Rattle.pgn_verifier.specs.declared.tally.Tally.{Tally}

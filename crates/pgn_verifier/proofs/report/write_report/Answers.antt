@@ -1,4 +1,4 @@
--- The parts were put one behind another, and the definition groups them to the right.
+-- The parts were put one after the other, and the definition groups them to the right.
 use Rattle.std.proofs.Common.{append_assoc}
 use Rattle.pgn_verifier.proofs.report.write_report.Goals as goal
 

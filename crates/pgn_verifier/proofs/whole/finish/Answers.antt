@@ -1,4 +1,4 @@
--- The lines of the text's reports were told, from the first byte on (Finished.whole_lines), and then flushed.
+-- The lines of the text's reports were written, from the first byte on (Finished.whole_lines), and then flushed.
 use Rattle.std.proofs.Common.{subst}
 use Rattle.byte_devices.specs.Devices.{Took, BreaksOff}
 use Rattle.byte_devices.proofs.DeviceLaws.{sent_on}

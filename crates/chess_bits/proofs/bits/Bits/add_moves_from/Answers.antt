@@ -1,4 +1,4 @@
--- Each legal move of the man ends on one of his targets, so the moves to these are all (from_targets of Listed).
+-- Each legal move of the piece ends on one of its targets, so the moves to these are all (from_targets of Listed).
 use Rattle.std.proofs.Common.{◌≡◌, ◌++◌, ◌≤◌, length, true, ap, length-append, arith}
 use Rattle.chess_moves.specs.ties.Candidates.{moves_between, moves_from}
 use Rattle.chess_bits.specs.ties.Goes.{goes}

@@ -6,7 +6,7 @@ use Rattle.chess_bits.specs.ties.Goes.{goes}
 use Rattle.chess_bits.proofs.Listed.{Each}
 use Rattle.chess_bits.proofs.bits.Bits.add_moves_from.Given as goal
 
--- the moves so far and those to the squares that are left are all, and the man goes to each of these
+-- the moves so far and those to the squares that are left are all, and the piece goes to each of these
 abbrev pub invariant-loop-to : goal.invariant-loop-to
 invariant-loop-to l = record {
   moves : l.list.items ++ flat_map (λ b. moves_between l.self l.from b) (members l.targets) ≡ l.initial.list.items

@@ -1,4 +1,4 @@
--- A man that goes there with a promotion that fits has a move's pattern (pattern_of): only the king's safety is left.
+-- A piece that goes there with a promotion that fits has a move's pattern (pattern_of): only the king's safety is left.
 use Rattle.std.proofs.Common.{lit<, sym, ◌∙◌}
 use Rattle.chess_moves.proofs.Parts.{room_for_next}
 use Rattle.chess_bits.proofs.Listed.{pattern_of}

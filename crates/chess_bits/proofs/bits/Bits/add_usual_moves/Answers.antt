@@ -1,5 +1,5 @@
--- A free man leaves his king safe wherever he goes; as he neither promotes nor takes en passant, he has just one legal
--- move to each target (free_listed of Freely).
+-- A free piece leaves its king safe wherever it goes; as it neither promotes nor takes en passant, it has just one
+-- legal move to each target (free_listed of Freely).
 use Rattle.std.proofs.Common.{◌≡◌, ◌<◌, ◌++◌, ◌≤◌, ◌∷◌, [], None, length, lit<, ap, subst, length-append, arith}
 use Rattle.chess_base.specs.MoveList.{triple}
 use Rattle.chess_base.specs.Sound.{IsSound}

@@ -1,4 +1,4 @@
--- How far a pawn advances depends on its rank and on what stands one and two squares ahead (advances_is of TargetsOf).
+-- How far a pawn advances depends on its rank and on what is one and two squares ahead (advances_is of TargetsOf).
 use Rattle.std.proofs.Common.{◌≡◌, ◌<◌, true, false, sym, ap, subst, ◌∙◌}
 use Rattle.std.specs.Option.{is_some}
 use Rattle.chess_base.specs.declared.man.Kind.TheVariants.{Pawn}

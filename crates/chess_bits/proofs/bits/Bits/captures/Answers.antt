@@ -1,4 +1,4 @@
--- A pawn captures on the squares it attacks where an enemy stands or which are the target (captures_is of TargetsOf).
+-- A pawn captures on the squares it attacks that hold an enemy or are the target (captures_is of TargetsOf).
 use Rattle.std.proofs.Common.{◌≡◌, ◌∙◌, true}
 use Rattle.chess_base.specs.declared.man.Kind.TheVariants.{Pawn}
 use Rattle.chess_base.specs.Men.{man_at, is_man}

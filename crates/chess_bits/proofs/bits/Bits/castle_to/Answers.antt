@@ -1,5 +1,5 @@
--- In normal chess king and rook of a right that stands are at home, so these are the squares of its castling
--- (castle_told of CastlingAtHome); a man that is no king never castles (none_castles).
+-- In normal chess king and rook of an available right are at home, so these are the squares of its castling
+-- (castle_told of CastlingAtHome); a piece that is no king never castles (none_castles).
 use Rattle.std.proofs.Common.{rules, ◌≡◌, ◌<◌, true, false, sym, ap, subst, ◌∙◌}
 use Rattle.chess_base.specs.declared.man.CastlingSide.TheVariants.{KingSide, QueenSide}
 use Rattle.chess_base.specs.declared.man.Kind.TheVariants.{King}

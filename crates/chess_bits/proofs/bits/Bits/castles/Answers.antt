@@ -1,5 +1,5 @@
--- The men met are those on squares that king or rook crosses, so the way is empty where none is met; it is safe where
--- no square from the king's start to his end is attacked (way_is_empty, way_is_safe of CastlingBySets).
+-- The pieces met are those on squares that king or rook crosses, so the way is empty where none is met; it is safe
+-- where no square from the king's start to its end is attacked (way_is_empty, way_is_safe of CastlingBySets).
 use Rattle.std.proofs.Common.{◌≡◌, ◌&&◌, ◌||◌, ◌==◌, ℕ, ◌<◌, not, true, false, is_none, refl, sym, ◌∙◌}
 use Rattle.std.proofs.lemmas.Bool.{and_left}
 use Rattle.chess_base.specs.Castling.{is_on_way, castling_way_is_empty, castling_way_is_safe}

@@ -1,5 +1,5 @@
--- Each call counts the moves of the men that it takes out of the set, and leaves the others to the next. So the sum is
--- that of all own men, which have all legal moves (from_men of Listed), 896 at most (Room of chess_moves).
+-- Each call counts the moves of the pieces that it takes out of the set, and leaves the others to the next. So the sum
+-- is that of all own pieces, which have all legal moves (from_men of Listed), 896 at most (Room of chess_moves).
 use Rattle.std.proofs.Common.{◌≡◌, ◌+◌, ◌<◌, ℕ, length, ap, arith}
 use Rattle.std.specs.List.{flat_map}
 use Rattle.chess_base.specs.Men.{man_at, is_of}

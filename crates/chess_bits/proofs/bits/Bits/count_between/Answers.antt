@@ -1,4 +1,4 @@
--- A pawn that promotes has the four promotions there and no other move (promotions_counted); elsewhere a man has one
+-- A pawn that promotes has the four promotions there and no other move (promotions_counted); elsewhere a piece has one
 -- move at most (one_counted of Counted).
 use Rattle.std.proofs.Common.{◌≡◌, true, false, None, lit<, sym, ◌∙◌}
 use Rattle.chess_moves.specs.Promoting.{would_promote}

@@ -1,4 +1,4 @@
--- The men fall into those taken and those left, and their legal moves fall so too (split of KindsCounted).
+-- The pieces fall into those taken and those left, and their legal moves fall so too (split of KindsCounted).
 use Rattle.std.proofs.Common.{◌+◌, length, ap, ◌∙◌, arith}
 use Rattle.std.specs.List.{flat_map}
 use Rattle.chess_moves.specs.ties.Candidates.{moves_from}

@@ -1,4 +1,4 @@
--- The king's legal moves are his legal steps and his legal castlings, and no step is castling (king_counted of
+-- The king's legal moves are its legal steps and its legal castlings, and no step is castling (king_counted of
 -- KingSteps).
 use Rattle.std.proofs.Common.{◌≡◌, ◌+◌, ◌<◌, ℕ, length, None, true, subst, sym, ap, ◌∙◌}
 use Rattle.std.specs.List.{flat_map}

@@ -1,4 +1,4 @@
--- A free man leaves his king safe wherever he goes, so he has one legal move to each square where he goes
+-- A free piece leaves its king safe wherever it goes, so it has one legal move to each square where it goes
 -- (officer_counted of KindsCounted).
 use Rattle.std.proofs.Common.{◌<◌, subst, ◌∙◌}
 use Rattle.chess_base.specs.Sound.{IsSound}

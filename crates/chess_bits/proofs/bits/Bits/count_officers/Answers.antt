@@ -1,4 +1,4 @@
--- What holds on each square of a set holds of its members (each_member), so every man that the loop meets is free.
+-- What holds on each square of a set holds of its members (each_member), so every piece that the loop meets is free.
 use Rattle.std.proofs.Common.{◌≡◌, true, refl}
 use Rattle.chess_base.specs.Men.{man_at, is_man}
 use Rattle.chess_bits.specs.ties.Goes.{IsFree}

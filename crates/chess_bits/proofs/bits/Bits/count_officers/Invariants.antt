@@ -7,7 +7,7 @@ use Rattle.chess_moves.specs.ties.Candidates.{moves_from}
 use Rattle.chess_moves.specs.Sets.{members}
 use Rattle.chess_bits.proofs.bits.Bits.count_officers.Given as goal
 
--- the moves counted and those of the men that are left are all, and each of these is free
+-- the moves counted and those of the pieces that are left are all, and each of these is free
 abbrev pub invariant-loop-from : goal.invariant-loop-from
 invariant-loop-from l = record {
   all : l.count + length (flat_map (λ a. moves_from l.self a) (members l.rest))

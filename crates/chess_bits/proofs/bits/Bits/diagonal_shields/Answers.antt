@@ -1,5 +1,5 @@
--- An own man that hides a bishop or queen from the king is one that he sees on that diagonal (nothing_near of Shields).
--- Where none comes into his sight though all these are taken off, none of them hides one (nothing_hidden).
+-- An own piece that hides a bishop or queen from the king is one that it sees on that diagonal (nothing_near of
+-- Shields). Where none comes into its sight though all these are taken off, none of them hides one (nothing_hidden).
 use Rattle.std.proofs.Common.{◌≡◌, ℕ, ◌<◌, ◌==◌, ◌&&◌, ◌||◌, not, refl, sym, subst, ◌∙◌}
 use Rattle.std.proofs.lemmas.Bool.{and_parts, and_from, both_ways}
 use Rattle.chess_base.specs.declared.man.Kind.TheVariants.{Queen, Bishop}

@@ -1,4 +1,4 @@
--- Where the king is not in check, another own man is free if taking it off opens no line and no diagonal to him (freed
+-- Where the king is not in check, another own piece is free if taking it off opens no line and no diagonal to it (freed
 -- of Freely), and that holds of each that is no shield.
 use Rattle.std.proofs.Common.{◌≡◌, not, true, false, sym, ◌∙◌}
 use Rattle.std.proofs.lemmas.Bool.{and_parts, or_parts, both_ways, not-true}

@@ -6,7 +6,7 @@ use Rattle.chess_bits.specs.ties.Goes.{goes}
 use Rattle.chess_bits.proofs.Listed.{Each}
 use Rattle.chess_bits.proofs.bits.Bits.has_move_from.Given as goal
 
--- none of the squares so far is the end of a legal move, and the man goes to each of those that are left
+-- none of the squares so far is the end of a legal move, and the piece goes to each of those that are left
 abbrev pub invariant-loop-to : goal.invariant-loop-to
 invariant-loop-to l = record {
   moves : flat_map (λ b. moves_between l.self l.from b) (members l.targets) ≡ moves_from l.self l.from;

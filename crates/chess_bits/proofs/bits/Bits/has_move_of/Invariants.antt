@@ -4,7 +4,7 @@ use Rattle.chess_moves.specs.ties.Candidates.{moves_from}
 use Rattle.chess_moves.specs.Sets.{members}
 use Rattle.chess_bits.proofs.bits.Bits.has_move_of.Given as goal
 
--- the men so far have no move
+-- the pieces so far have no move
 abbrev pub invariant-loop-from : goal.invariant-loop-from
 invariant-loop-from l = flat_map (λ a. moves_from l.self a) (members l.rest) ≡ flat_map (λ a. moves_from l.self a)
     (members l.fn.men)

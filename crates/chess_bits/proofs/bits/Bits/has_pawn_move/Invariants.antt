@@ -8,7 +8,7 @@ use Rattle.chess_moves.specs.ties.Candidates.{moves_from}
 use Rattle.chess_moves.specs.Sets.{members}
 use Rattle.chess_bits.proofs.bits.Bits.has_pawn_move.Given as goal
 
--- the men so far have no move, and each of those that are left is free
+-- the pieces so far have no move, and each of those that are left is free
 abbrev pub invariant-loop-from : goal.invariant-loop-from
 invariant-loop-from l = record {
   moves : flat_map (λ a. moves_from l.self a) (members l.rest) ≡ flat_map (λ a. moves_from l.self a) (members l.fn.men);

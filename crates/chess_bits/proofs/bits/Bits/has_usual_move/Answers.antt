@@ -1,4 +1,4 @@
--- The legal moves of some men are among all legal moves (some_of of Counted), and so fit into a list (some_fit).
+-- The legal moves of some pieces are among all legal moves (some_of of Counted), and so fit into a list (some_fit).
 use Rattle.std.proofs.Common.{sym, ◌∙◌}
 use Rattle.chess_bits.proofs.Counted.{some_fit, some_of}
 use Rattle.chess_bits.proofs.bits.Bits.has_usual_move.Goals as goal

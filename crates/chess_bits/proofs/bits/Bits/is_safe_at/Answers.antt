@@ -1,4 +1,4 @@
--- After the move all men stand as before on the squares that it leaves alone, and own men on those that it fills
+-- After the move all pieces are as before on the squares that it leaves alone, and own pieces on those that it fills
 -- (later_after of AfterSets); check is then an attack on the king's square (check_after of KingAfter).
 use Rattle.std.proofs.Common.{not, sym, ap, ◌∙◌}
 use Rattle.chess_base.specs.Attacks.{is_attacked}

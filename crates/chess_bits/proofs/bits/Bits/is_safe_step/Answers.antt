@@ -1,5 +1,5 @@
--- A step is legal where nothing attacks its end once the king is off the board (step_is of KingSteps); with him off it,
--- the enemy's sets are the same and only his square is empty (Lifted).
+-- A step is legal where nothing attacks its end once the king is off the board (step_is of KingSteps); with the king
+-- off it, the enemy's sets are the same and only its square is empty (Lifted).
 use Rattle.std.proofs.Common.{◌≡◌, ◌<◌, true, false, not, ◌&&◌, subst, ap, ◌∙◌}
 use Rattle.chess_base.specs.declared.man.Kind.TheVariants.{King}
 use Rattle.chess_base.specs.Attacks.{is_attacked}

@@ -1,4 +1,4 @@
--- A king that moves stands where the mover lands (king_lands); when another man moves he stays (king_stays).
+-- A king that moves is where the mover lands (king_lands); when another piece moves it stays (king_stays).
 use Rattle.std.proofs.Common.{◌≡◌, ◌<◌, true, false, sym, ap, ◌∙◌, subst}
 use Rattle.chess_base.specs.declared.man.Kind.TheVariants.{King}
 use Rattle.chess_base.specs.declared.steps.Steps.{Steps}

@@ -1,4 +1,5 @@
--- A king steps where he attacks what is no own man (steps_are of KingSteps), and else he castles (king_otherwise of ByKind).
+-- A king steps where it attacks what is no own piece (steps_are of KingSteps), and else it castles (king_otherwise of
+-- ByKind).
 use Rattle.std.proofs.Common.{◌≡◌, ◌<◌, None, true, false, sym, subst, ◌∙◌}
 use Rattle.chess_base.specs.MoveList.{triple}
 use Rattle.chess_base.specs.Moves.{man_moves}

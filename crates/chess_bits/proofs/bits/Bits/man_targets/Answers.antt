@@ -1,5 +1,5 @@
--- An officer goes where it attacks what is no own man (officer_is of TargetsOf); so does a king, but for castling,
--- which is told on both sides as it is legal (king_is).
+-- An officer goes where it attacks what is no own piece (officer_is of TargetsOf); so does a king, but for castling,
+-- which is included on both sides exactly where it is legal (king_is).
 use Rattle.std.proofs.Common.{rules, ◌≡◌, sym, ◌∙◌, Some, None}
 use Rattle.chess_base.specs.Men.{man_at}
 use Rattle.chess_bits.proofs.TargetsOf.{officer_is, king_is, no_own}

@@ -1,5 +1,5 @@
--- A man on none of the king's lines stands between him and nothing (off_line, off_diagonal of Shields), so without it
--- nothing opens to him, and it is free (freed of Freely).
+-- A piece on none of the king's lines is between it and nothing (off_line, off_diagonal of Shields), so without it
+-- nothing opens to the king, and it is free (freed of Freely).
 use Rattle.std.proofs.Common.{◌≡◌, ◌==◌, not, false, sym, ◌∙◌}
 use Rattle.std.proofs.lemmas.Bool.{and_parts, or_parts, both_ways, not-true}
 use Rattle.chess_base.specs.Attacks.{is_in_check}

@@ -1,4 +1,5 @@
--- The own men have all legal moves (from_men of Listed), and all moves of a sound position fit into a list (fits_from).
+-- The own pieces have all legal moves (from_men of Listed), and all moves of a sound position fit into a list
+-- (fits_from).
 use Rattle.std.proofs.Common.{◌≡◌, ◌<◌, ℕ}
 use Rattle.chess_base.specs.Men.{man_at, is_of}
 use Rattle.chess_base.specs.Sound.{IsSound}

@@ -5,7 +5,7 @@ use Rattle.chess_moves.specs.ties.Candidates.{moves_from}
 use Rattle.chess_moves.specs.Sets.{members}
 use Rattle.chess_bits.proofs.bits.Bits.moves.Given as goal
 
--- the moves so far and those of the men that are left are all
+-- the moves so far and those of the pieces that are left are all
 abbrev pub invariant-loop-from : goal.invariant-loop-from
 invariant-loop-from l = l.list.items ++ flat_map (λ a. moves_from l.self a) (members l.men) ≡ moves l.self
 

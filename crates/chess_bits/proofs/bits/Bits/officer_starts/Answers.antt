@@ -1,4 +1,4 @@
--- An officer reaches the square from where it is reached from there, if no own man stands on it (starts_plain,
+-- An officer reaches the square from where it is reached from there, if no own piece is on it (starts_plain,
 -- own_on_end of ByKind).
 use Rattle.std.proofs.Common.{◌≡◌, ◌<◌, true, false, sym, ap, subst, ◌∙◌}
 use Rattle.chess_base.specs.Men.{man_at, is_of}

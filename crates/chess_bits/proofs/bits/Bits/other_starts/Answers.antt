@@ -1,4 +1,4 @@
--- No legal move of such a man begins outside the origins (starts_are of Starts).
+-- No legal move of such a piece begins outside the origins (starts_are of Starts).
 use Rattle.std.proofs.Common.{◌&&◌, None, ap, ◌∙◌}
 use Rattle.chess_base.specs.MoveList.{triple}
 use Rattle.chess_base.specs.Moves.{is_legal}

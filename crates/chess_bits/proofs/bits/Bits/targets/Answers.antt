@@ -1,4 +1,4 @@
--- A square that is told is one to which the man goes, and a legal move ends on one that is told: TargetsOf for pawns
+-- A square of the set is one to which the piece goes, and a legal move ends on one of the set: TargetsOf for pawns
 -- (pawn_sound, pawn_complete) and for the others (man_set_sound, man_set_complete).
 use Rattle.std.proofs.Common.{rules, ◌≡◌, ◌<◌, true, false, subst}
 use Rattle.chess_base.specs.declared.man.Kind.TheVariants.{Pawn}

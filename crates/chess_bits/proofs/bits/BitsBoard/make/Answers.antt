@@ -1,4 +1,4 @@
--- A legal move of a sound position leaves a sound one (IsSound-after), and the sets change as the men do.
+-- A legal move of a sound position leaves a sound one (IsSound-after), and the sets change as the pieces do.
 use Rattle.std.proofs.Common.{◌≡◌, true}
 use Rattle.chess_base.specs.Moves.{is_legal}
 use Rattle.chess_base.proofs.StaysSound.{IsSound-after}

@@ -1,5 +1,5 @@
 -- A pawn goes along its file or where it attacks (pawn_origins of OriginsOf); an officer goes where it attacks, and is
--- attacked back from there (officer_origins). All men of a kind are always enough (all_men of chess_moves).
+-- attacked back from there (officer_origins). All pieces of a kind are always enough (all_men of chess_moves).
 use Rattle.std.proofs.Common.{sym, ap, ◌∙◌}
 use Rattle.chess_moves.specs.Sets.{has}
 use Rattle.chess_moves.proofs.Origins.{all_men}

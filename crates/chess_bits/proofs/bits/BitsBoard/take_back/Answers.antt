@@ -1,4 +1,5 @@
--- What stood before a move that was made is that sound position (Steps of chess_moves); the sets change as the men do.
+-- The position before a move that was made is that sound position (Steps of chess_moves); the sets change as the pieces
+-- do.
 use Rattle.chess_moves.proofs.Steps.{IsMade-sound, WasMade-back}
 use Rattle.chess_bits.proofs.bits.BitsBoard.take_back.Goals as goal
 

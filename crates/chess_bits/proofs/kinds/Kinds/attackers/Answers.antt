@@ -1,5 +1,5 @@
--- A man attacks a square just where one of its kind on that square would attack it back, a pawn where one of the other
--- colour would (attackers_are of Attackers).
+-- A piece attacks a square just where one of its kind on that square would attack it back, a pawn where one of the
+-- other colour would (attackers_are of Attackers).
 use Rattle.chess_base.specs.Men.{man_at}
 use Rattle.chess_base.specs.Attacks.{attacks}
 use Rattle.chess_base.specs.declared.man.Kind.TheVariants.{King, Queen, Rook, Bishop, Knight, Pawn}

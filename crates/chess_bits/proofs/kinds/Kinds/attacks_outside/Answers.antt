@@ -1,4 +1,4 @@
--- On a square that doesn't change the sets tell who stands there later, and on one that does no such man stands
+-- On a square that doesn't change the sets give the piece there later, and on one that does there is no such piece
 -- (left_out of KindSets).
 use Rattle.chess_bits.proofs.Attackers.{attacked_is}
 use Rattle.chess_bits.proofs.KindSets.{left_out}

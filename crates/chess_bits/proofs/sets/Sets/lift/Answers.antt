@@ -1,4 +1,4 @@
--- The man's square leaves the sets of its colour, and no set of the other colour had it (BoardSets).
+-- The piece's square leaves the sets of its colour, and no set of the other colour had it (BoardSets).
 use Rattle.std.proofs.Common.{refl, ◌∙◌}
 use Rattle.chess_base.specs.declared.man.Colour.TheVariants.{White, Black}
 use Rattle.chess_bits.proofs.BoardSets.{theirs_lifted, all_theirs_lifted, all_lift, as_own}

@@ -1,4 +1,4 @@
--- The man's square comes into the sets of its colour, and no set of the other colour gets or loses it (BoardSets).
+-- The piece's square comes into the sets of its colour, and no set of the other colour gets or loses it (BoardSets).
 use Rattle.std.proofs.Common.{slice_set, Some, refl, sym, ◌∙◌, subst}
 use Rattle.chess_base.specs.declared.man.Colour.TheVariants.{White, Black}
 use Rattle.chess_bits.specs.ties.KindSets.{IsKinds}

@@ -1,4 +1,5 @@
--- The men that stand are those that were placed, square by square, so the sets are theirs (sets_same of Standing).
+-- The pieces of the position are those that were placed, square by square, so the sets are theirs (sets_same of
+-- Standing).
 use Rattle.std.proofs.Common.{◌≡◌, arith}
 use Rattle.chess_bits.proofs.Standing.{none_at, sets_same}
 use Rattle.chess_bits.proofs.sets.Sets.standing.Goals as goal
