@@ -8,13 +8,13 @@ use Rattle.byte_devices.specs.Devices.{OutputState}
 use Rattle.chess_base.specs.Men.{other}
 use Rattle.engine_lines.specs.Clocks.{ClocksSeen, spent_by}
 use Rattle.chess_cecp.specs.Lines.{LineSeen}
-use Rattle.chess_match.specs.ties.Delivering.{Delivered, given_broken, by_side, by_turn, event_heard}
-use Rattle.engine_lines.specs.Items.{Item, items_of}
+use Rattle.chess_match.specs.ties.Delivering.{Delivered, broken_notes, by_side, by_turn, event_heard}
+use Rattle.engine_lines.specs.Items.{Item}
 use Rattle.chess_match.specs.Match.{Match, Event, Line, OutputEnds, FailsToRead, FailsToWrite, after}
-use Rattle.chess_match.specs.Notes.{Knowing, WasTold}
+use Rattle.chess_match.specs.Notes.{Noted, WasNoted, Happened, both_notes, first_sent}
 use Rattle.chess_match.specs.Rules.{Rules}
-use Rattle.chess_match.specs.Sent.{SentLine, block, bytes_of}
-use Rattle.chess_match.specs.ties.Stands.{Stands, Goes, clocks_of}
+use Rattle.chess_match.specs.Sent.{SentLine, answers_to, block, bytes_of}
+use Rattle.chess_match.specs.ties.Stands.{Stands, Goes, clocks_of, items_to, nothing_said}
 use Rattle.chess_match.specs.ties.Steps.{IsSane, in_turn}
 use Rattle.chess_match.specs.ties.Told.{SendsIf}
 use Rattle.chess_match.specs.Run.{Asked, text_heard}
@@ -22,6 +22,8 @@ use Rattle.chess_match.specs.Transcript.{is_on, reads, moment_in}
 use Rattle.chess_match.specs.declared.state.Core.{Core}
 use Rattle.chess_match.specs.declared.state.Given.{Given}
 use Rattle.chess_match.proofs.Flushes.{flushed_none}
+use Rattle.chess_match.proofs.Going.{goes_with, nothing_to}
+use Rattle.chess_match.proofs.Runs.{asked_none}
 
 -- who is still to be told the last move has one to be told
 pub last_told : (r : Rules) (core : Core) (played : List Move) (m : Match) → Stands r core played m
@@ -33,10 +35,6 @@ pub on_too : (r : Rules) (core : Core) (played : List Move) (m : Match) → Stan
     → is_on core.phase ≡ true → is_on m.phase ≡ true
 on_too r core played m s h = ap is_on (sym s.phase) ∙ h
 
-pub no_items : items_of [] ≡ []
-unfolding items_of
-no_items = refl
-
 -- ---- one call
 
 pub sends_if : (o o' : OutputState) (b b' : Bool) (text text' : List ℕ) → b' ≡ b → text ≡ text' → SendsIf b o o' text
@@ -47,12 +45,12 @@ sends_if o o' b b' text text' e t p = subst (λ (x : List ℕ). SendsIf b' o o' 
 -- ---- two calls, in turn
 
 pub first_failed : (r : Rules) (core : Core) (played : List Move) (m : Match) (due : Colour → List SentLine)
-    (S : Colour) (o o' x x' : OutputState) (f : Bool) (notes notes' : Knowing) → is_on m.phase ≡ true
+    (S : Colour) (o o' x x' : OutputState) (f : Bool) (notes notes' : Noted) → is_on m.phase ≡ true
     → 0 < length (due S)
     → Stands r core played (after r m (FailsToWrite S))
     → SendsIf true o o' (bytes_of (due S))
     → SendsIf f x x' (bytes_of (block r m (after r m (FailsToWrite S)) (other S)))
-    → WasTold notes notes' (FailsToWrite S ∷ []) (given_broken r m due S S)
+    → WasNoted notes notes' (broken_notes r m due S S)
     → Delivered r core played m due S (by_turn S o x) (by_turn S o' x') (by_turn S true f) notes notes'
 unfolding bytes_of
 first_failed r core played m due White o o' x x' f notes notes' on some s b p t = inr (
@@ -81,12 +79,12 @@ first_failed r core played m due Black o o' x x' f notes notes' on some s b p t 
 )
 
 pub second_failed : (r : Rules) (core : Core) (played : List Move) (m : Match) (due : Colour → List SentLine)
-    (S : Colour) (o v o' x x' : OutputState) (f : Bool) (notes notes' : Knowing) → is_on m.phase ≡ true
+    (S : Colour) (o v o' x x' : OutputState) (f : Bool) (notes notes' : Noted) → is_on m.phase ≡ true
     → 0 < length (due (other S))
     → Stands r core played (after r m (FailsToWrite (other S)))
     → SendsIf false o v (bytes_of (due S)) → SendsIf true x x' (bytes_of (due (other S)))
     → SendsIf f v o' (bytes_of (block r m (after r m (FailsToWrite (other S))) (other (other S))))
-    → WasTold notes notes' (FailsToWrite (other S) ∷ []) (given_broken r m due S (other S))
+    → WasNoted notes notes' (broken_notes r m due S (other S))
     → Delivered r core played m due S (by_turn S o x) (by_turn S o' x') (by_turn S f true) notes notes'
 second_failed r core played m due White o v o' x x' f notes notes' on some s t b p told = inr (
   Black,
@@ -117,52 +115,63 @@ pub both_sides : (P : Colour → Type 0) → P White → P Black → (S : Colour
 both_sides P w b White = w
 both_sides P w b Black = b
 
+-- in a match that is on the blocks are noted in turn
+turn_noted : (m : Match) (S : Colour) (due : Colour → List SentLine) (notes notes' : Noted) → is_on m.phase ≡ true
+    → WasNoted notes notes' (both_notes S due) → WasNoted notes notes' (both_notes (first_sent m S) due)
+turn_noted m S due notes notes' on t =
+    subst (λ (b : Bool). WasNoted notes notes' (both_notes (if b then S else White) due)) (sym on) t
+
 pub none_failed : (r : Rules) (core : Core) (played : List Move) (m : Match) (due : Colour → List SentLine) (S : Colour)
-    (o o' x x' : OutputState) (notes notes' : Knowing) → Stands r core played m
+    (o o' x x' : OutputState) (notes notes' : Noted) → Stands r core played m
     → SendsIf false o o' (bytes_of (due S)) → SendsIf false x x' (bytes_of (due (other S)))
-    → WasTold notes notes' [] due
+    → is_on m.phase ≡ true → WasNoted notes notes' (both_notes S due)
     → Delivered r core played m due S (by_turn S o x) (by_turn S o' x') (by_turn S false false) notes notes'
-none_failed r core played m due White o o' x x' notes notes' s a b t = inl (record {
+none_failed r core played m due White o o' x x' notes notes' s a b on t = inl (record {
   stands = s;
   puts = both_sides (λ X. SendsIf (by_side false false X) (by_side o x X) (by_side o' x' X) (bytes_of (due X))) a b;
   fine = λ h X. both_sides (λ Y. by_side false false Y ≡ false) refl refl X;
-  told = t;
+  told = turn_noted m White due _ _ on t;
 })
-none_failed r core played m due Black o o' x x' notes notes' s a b t = inl (record {
+none_failed r core played m due Black o o' x x' notes notes' s a b on t = inl (record {
   stands = s;
   puts = both_sides (λ X. SendsIf (by_side false false X) (by_side x o X) (by_side x' o' X) (bytes_of (due X))) b a;
   fine = λ h X. both_sides (λ Y. by_side false false Y ≡ false) refl refl X;
-  told = t;
+  told = turn_noted m Black due _ _ on t;
 })
 
 never : (b : Bool) {P : Type 0} → true ≡ not b → b ≡ true → P
 never true e h = absurd cc
 never false e h = absurd cc
 
+is_off : (b : Bool) → true ≡ not b → b ≡ false
+is_off true e = cc
+is_off false e = refl
+
 -- at the end each engine is sent its block, whatever became of the other's
 pub both_sent : (r : Rules) (core : Core) (played : List Move) (m : Match) (due : Colour → List SentLine) (S : Colour)
-    (w w' b b' : OutputState) (f g : Bool) (notes notes' : Knowing) → Stands r core played m
+    (w w' b b' : OutputState) (f g : Bool) (notes notes' : Noted) → Stands r core played m
     → true ≡ not (is_on core.phase)
-    → SendsIf f w w' (bytes_of (due White)) → SendsIf g b b' (bytes_of (due Black)) → WasTold notes notes' [] due
+    → SendsIf f w w' (bytes_of (due White)) → SendsIf g b b' (bytes_of (due Black)) → WasNoted notes notes' (both_notes White due)
     → Delivered r core played m due S (by_side w b) (by_side w' b') (by_side f g) notes notes'
 both_sent r core played m due S w w' b b' f g notes notes' s o x y t = inl (record {
   stands = s;
   puts = both_sides (λ X. SendsIf (by_side f g X) (by_side w b X) (by_side w' b' X) (bytes_of (due X))) x y;
   fine = λ h X. never (is_on core.phase) o (ap is_on s.phase ∙ h);
-  told = t;
+  told = subst (λ (b : Bool). WasNoted notes notes' (both_notes (if b then S else White) due))
+      (sym (ap is_on (sym s.phase) ∙ is_off (is_on core.phase) o)) t;
 })
 
 -- ---- which writer is whose
 
 pub turn_white : (r : Rules) (core : Core) (played : List Move) (m : Match) (due : Colour → List SentLine) (S : Colour)
-    (o o' x x' : OutputState) (f g : Bool) (notes notes' : Knowing) → S ≡ White
+    (o o' x x' : OutputState) (f g : Bool) (notes notes' : Noted) → S ≡ White
     → Delivered r core played m due S (by_turn S o x) (by_turn S o' x') (by_turn S f g) notes notes'
     → Delivered r core played m due S (by_side o x) (by_side o' x') (by_side f g) notes notes'
 turn_white r core played m due White o o' x x' f g notes notes' e d = d
 turn_white r core played m due Black o o' x x' f g notes notes' e d = absurd cc
 
 pub turn_black : (r : Rules) (core : Core) (played : List Move) (m : Match) (due : Colour → List SentLine) (S : Colour)
-    (o o' x x' : OutputState) (f g : Bool) (notes notes' : Knowing) → S ≡ Black
+    (o o' x x' : OutputState) (f g : Bool) (notes notes' : Noted) → S ≡ Black
     → Delivered r core played m due S (by_turn S o x) (by_turn S o' x') (by_turn S f g) notes notes'
     → Delivered r core played m due S (by_side x o) (by_side x' o') (by_side g f) notes notes'
 turn_black r core played m due Black o o' x x' f g notes notes' e d = d
@@ -191,21 +200,34 @@ pub undecided : (r : Rules) (core : Core) (played : List Move) (m : Match) → S
 undecided r core played m s sane h = ap (λ (ms : List Move). r.verdict ms) s.moves
     ∙ sane.undecided (ap in_turn (sym s.phase) ∙ h)
 
--- the same items, told otherwise
-pub goes_with : (r : Rules) (core : Core) (played : List Move) (given : Given) (items items' : List Item) (m m' : Match)
-    → items ≡ items' → Goes r core played given items m m' → Goes r core played given items' m m'
-goes_with r core played given items items' m m' e g = subst (λ (is : List Item). Goes r core played given is m m') e g
-
 -- ---- what was heard, and what it is noted as
 
--- an event is noted: its moment was asked for, and the core goes on by it
+-- an event is noted: its moment was asked for, the answers to its items wait, and the core goes on by it
 abbrev pub IsNoted : (Rules → Type 0) → Core → List Move → Core → List Move → Given → List ℕ → Colour → (ℕ → Option ℕ)
-    → (ℕ → Option ℕ) → Knowing → Knowing → Event → Type 0
+    → (ℕ → Option ℕ) → Noted → Noted → Event → Type 0
 IsNoted plays core played core' played' given text S coming coming' notes notes' e =
-    Asked coming coming' (moment_in e)
-    × WasTold notes notes' (e ∷ []) (λ X. [])
+    (items : List Item) × Asked coming coming' (moment_in e)
+    × WasNoted notes notes' (Happened e ∷ [])
+    × (text ≡ bytes_of (answers_to items))
     × ((r : Rules) (m : Match) → plays r → reads m.phase S ≡ true → Stands r core played m
-    → Goes r core' played' given (items_of text) m (after r m e))
+    → Goes r core' played' given (items_to S items) m (after r m e))
+
+-- an event at which no items are said
+pub noted_bare : (plays : Rules → Type 0) (core : Core) (played : List Move) (core' : Core) (played' : List Move)
+    (given : Given) (text : List ℕ) (S : Colour) (coming : ℕ → Option ℕ) (notes notes' : Noted) (e : Event)
+    → moment_in e ≡ [] → text ≡ [] → WasNoted notes notes' (Happened e ∷ [])
+    → ((r : Rules) (m : Match) → plays r → reads m.phase S ≡ true → Stands r core played m
+    → Goes r core' played' given nothing_said m (after r m e))
+    → IsNoted plays core played core' played' given text S coming coming notes notes' e
+unfolding bytes_of
+noted_bare plays core played core' played' given text S coming notes notes' e none empty noted goes = (
+  [],
+  subst (λ (ms : List ℕ). Asked coming coming ms) (sym none) (asked_none coming),
+  noted,
+  empty,
+  λ r m p h s. goes_with r core' played' given nothing_said (items_to S []) m (after r m e) (nothing_to S)
+      (goes r m p h s),
+)
 
 pub heard_failed : {E : Type 0} (P : Event → Type 0) (S : Colour) (moment : ℕ) (result : Result (Option LineSeen) E)
     (x : E) → result ≡ Err x → P (FailsToRead S) → P (event_heard S moment result)
@@ -221,9 +243,3 @@ pub heard_last : {E : Type 0} (P : Event → Type 0) (S : Colour) (moment : ℕ)
 heard_last P S moment result line e f p =
     subst (λ v. P (event_heard S moment v)) (sym e)
     (subst (λ (b : Bool). P (if b then Line S (text_heard line) moment else OutputEnds S)) (sym f) p)
-
--- items that stand in a text that is empty
-pub goes_bare : (r : Rules) (core : Core) (played : List Move) (given : Given) (text : List ℕ) (m m' : Match)
-    → text ≡ [] → Goes r core played given [] m m' → Goes r core played given (items_of text) m m'
-goes_bare r core played given text m m' e g = goes_with r core played given [] (items_of text) m m'
-    (sym no_items ∙ ap items_of (sym e)) g

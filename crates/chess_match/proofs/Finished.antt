@@ -15,7 +15,7 @@ use Rattle.chess_match.specs.ties.Delivering.{by_side}
 use Rattle.engine_lines.specs.Levels.{LevelSeen}
 use Rattle.chess_match.specs.Match.{Event, seat}
 use Rattle.chess_match.specs.Reasons.{declared_at, outcome_of}
-use Rattle.chess_match.specs.Notes.{Knowing}
+use Rattle.chess_match.specs.Notes.{Noted}
 use Rattle.chess_match.specs.Rules.{Rules, rules_of}
 use Rattle.chess_match.specs.Run.{Ports, reader_at, writer_at, Heard, Written, game_after, RanBefore}
 use Rattle.chess_match.specs.ties.Stands.{name_by}
@@ -68,7 +68,7 @@ told_outcome h h' reason outcome e o none =
 
 pub ran : (g h h' : game.Seen) (start : Setup) (level : LevelSeen) (T : List Event) (core : Core) (reason : Reason)
     (failed : Failed) (end : MatchEnd) (nw nb nw' nb' : InputState) (held : Colour → Held) (ow ob ow' ob' : OutputState)
-    (coming coming' : ℕ → Option ℕ) (notes notes' : Knowing)
+    (coming coming' : ℕ → Option ℕ) (notes notes' : Noted)
     → IsUnderWay (rules_of start level g.limit) T core h.state.moves (by_side failed.white failed.black) (by_side nw nb)
     (by_side nw' nb') held (by_side ow ob) (by_side ow' ob') coming coming' notes notes'
     → core.phase ≡ Over reason → IsTold reason failed end → end.white_name ≡ core.white.name

@@ -14,7 +14,7 @@ use Rattle.chess_cecp.specs.Next.{NextLine, GotLine, GotLast, work}
 use Rattle.chess_match.specs.ties.Delivering.{event_heard, Delivered}
 use Rattle.chess_match.proofs.Hearing.{is_heard_of, Tells, HearsAt}
 use Rattle.chess_match.specs.Match.{Match, Event, Line, OutputEnds, FailsToRead, after}
-use Rattle.chess_match.specs.Notes.{Knowing}
+use Rattle.chess_match.specs.Notes.{Noted}
 use Rattle.chess_match.specs.Rules.{Rules}
 use Rattle.chess_match.specs.Run.{text_heard}
 use Rattle.chess_match.specs.Sent.{SentLine}
@@ -150,7 +150,7 @@ one_less White f f' l e = omega (arith, l, e)
 one_less Black f f' l e = omega (arith, l, e)
 
 over_after : (r : Rules) (core : Core) (played : List Move) (m : Match) (due : Colour → List SentLine) (first : Colour)
-    (w w' : Colour → OutputState) (failed : Colour → Bool) (notes notes' : Knowing) → is_on m.phase ≡ false
+    (w w' : Colour → OutputState) (failed : Colour → Bool) (notes notes' : Noted) → is_on m.phase ≡ false
     → Delivered r core played m due first w w' failed notes notes' → is_on core.phase ≡ false
 over_after r core played m due first w w' failed notes notes' o (inl s) = ap is_on s.stands.phase ∙ o
 over_after r core played m due first w w' failed notes notes' o (inr (c, s)) = ap is_on s.stands.phase
@@ -158,7 +158,7 @@ over_after r core played m due first w w' failed notes notes' o (inr (c, s)) = a
 pub heard_less : {E : Type 0} (r : Rules) (p : Phase) (core : Core) (played : List Move) (m : Match) (S : Colour)
     (moment : ℕ) (result : Result (Option LineSeen) E) (due : Colour → List SentLine) (n n' : Colour → InputState)
     (h h' : Colour → Held) (w w' : Colour → OutputState) (failed : Colour → Bool)
-    (notes notes' : Knowing)
+    (notes notes' : Noted)
     → reads p S ≡ true → NextLine ENGINE_LINE_LEN (n S) (n' S) (h S) (h' S) result → n' (other S) ≡ n (other S)
     → h' (other S) ≡ h (other S)
     → Delivered r core played (after r m (event_heard S moment result)) due S w w' failed

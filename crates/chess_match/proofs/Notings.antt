@@ -1,194 +1,168 @@
--- What a witness was told, put together.
-use Rattle.std.proofs.Common.{◌≡◌, ℕ, Bool, true, false, List, [], ◌∷◌, ◌++◌, refl, ap, sym, ◌∙◌, subst, append_assoc, append-nil, Option}
+-- The notes that a witness is given, put together.
+use mathlib.Core.Bool.{or-false}
+use Rattle.std.proofs.Common.{◌≡◌, ◌≢◌, ℕ, Bool, true, not, ◌&&◌, ◌||◌, List, [], ◌∷◌, ◌++◌, refl, ap, sym, ◌∙◌, subst, append_assoc, append-nil, Option}
 use Rattle.std.specs.Prelude.{if◌then◌else◌}
 use Rattle.chess_base.specs.declared.man.Colour.{Colour}
 use Rattle.chess_base.specs.declared.man.Colour.TheVariants.{White, Black}
 use Rattle.chess_base.specs.Men.{other, same_colour}
-use Rattle.engine_lines.specs.Items.{Item}
-use Rattle.chess_match.specs.Match.{Match, Event, Line, FailsToWrite, start, after}
-use Rattle.chess_match.specs.Notes.{Note, Knowing, Happened, Gives, events_in, given_in, WasNoted, WasTold}
+use Rattle.chess_match.specs.Match.{Match, Event, Line, Opened, OutputEnds, FailsToRead, FailsToWrite, start, after}
+use Rattle.chess_match.specs.Notes.{Note, Noted, Happened, Gives, WasNoted, given_note, both_notes, side_of, first_sent, lines_at, notes_from, notes_of}
 use Rattle.chess_match.specs.Rules.{Rules}
-use Rattle.chess_match.specs.Sent.{SentLine, block, entry, bytes_of, for, answers_to, answer_line}
-use Rattle.chess_match.specs.Transcript.{match_of, blocks, blocks_from, joined_blocks, sent}
-use Rattle.chess_match.specs.ties.Delivering.{given_broken}
-use Rattle.chess_match.specs.ties.Noting.{IsGiven}
-use Rattle.chess_match.specs.ties.Stands.{to}
-use Rattle.chess_match.proofs.Answering.{answer_bytes}
-use Rattle.chess_match.proofs.Runs.{is_sound, blocks-append, block_alone, joined_snoc}
-use Rattle.chess_match.proofs.Sends.{bytes_of-append}
+use Rattle.chess_match.specs.Sent.{SentLine, block, entry, bytes_of}
+use Rattle.chess_match.specs.Transcript.{match_from, match_of, is_on, fails_at}
+use Rattle.chess_match.specs.ties.Delivering.{broken_notes}
+use Rattle.chess_match.proofs.Runs.{is_sound, dropped_alone, dropped-longer, kept_at}
 
-noted_none : (a : Knowing) → WasNoted a a []
+pub noted_none : (a : Noted) → WasNoted a a []
 noted_none a = record { behind = λ before notes h. subst (λ (l : List Note). a before l) (sym (append-nil notes)) h }
 
-noted_more : (a b c : Knowing) (M N : List Note) → WasNoted a b M → WasNoted b c N → WasNoted a c (M ++ N)
+pub noted_more : (a b c : Noted) (M N : List Note) → WasNoted a b M → WasNoted b c N → WasNoted a c (M ++ N)
 noted_more a b c M N p q = record {
   behind = λ before notes h. subst (λ (l : List Note). c before l) (append_assoc notes M N)
       (q.behind before (notes ++ M) (p.behind before notes h));
 }
 
-events-append : (M N : List Note) → events_in (M ++ N) ≡ events_in M ++ events_in N
-events-append [] N = refl
-events-append (Happened e ∷ M) N = ap (λ (es : List Event). e ∷ es) (events-append M N)
-events-append (Gives c t ∷ M) N = events-append M N
+pub noted_as : (a b : Noted) (M N : List Note) → M ≡ N → WasNoted a b M → WasNoted a b N
+noted_as a b M N e h = subst (λ (l : List Note). WasNoted a b l) e h
 
-given-append : (S : Colour) (M N : List Note) → given_in S (M ++ N) ≡ given_in S M ++ given_in S N
-given-append S [] N = refl
-given-append S (Happened e ∷ M) N = given-append S M N
-given-append S (Gives c t ∷ M) N =
-    ap (λ (l : List ℕ). (if same_colour c S then t else []) ++ l) (given-append S M N)
-    ∙ sym (append_assoc (if same_colour c S then t else []) (given_in S M) (given_in S N))
+pub given_some : (a b : Noted) (S : Colour) (text : List ℕ) → text ≢ [] → WasNoted a b (Gives S text ∷ [])
+    → WasNoted a b (given_note S text)
+given_some a b S [] some h = absurd (some refl)
+given_some a b S (c ∷ text) some h = h
 
--- ---- all that was told
+-- ---- one event's blocks
 
-pub told_none : (a : Knowing) → WasTold a a [] (λ S. [])
+pub both_by : (S : Colour) (x y : Colour → List SentLine) → ((X : Colour) → x X ≡ y X) → both_notes S x ≡ both_notes S y
+both_by S x y e =
+    ap (λ (l : List SentLine). given_note S (bytes_of l) ++ given_note (other S) (bytes_of (x (other S)))) (e S)
+    ∙ ap (λ (l : List SentLine). given_note S (bytes_of (y S)) ++ given_note (other S) (bytes_of l)) (e (other S))
+
+-- the end lines of S, where a write to the other fails
+abbrev end_note : Rules → Match → Colour → Colour → List Note
+end_note r m c S = given_note S (bytes_of (block r m (after r m (FailsToWrite c)) S))
+
+pub first_noted : (r : Rules) (m : Match) (due : Colour → List SentLine) (S : Colour)
+    → given_note S (bytes_of (due S)) ++ Happened (FailsToWrite S) ∷ end_note r m S (other S)
+    ≡ broken_notes r m due S S
 unfolding bytes_of
-told_none a = ([], noted_none a, refl, λ S. refl)
+first_noted r m due White =
+    ap (λ (l : List Note). l ++ Happened (FailsToWrite White) ∷ end_note r m White Black)
+    (sym (append-nil (given_note White (bytes_of (due White)))))
+first_noted r m due Black =
+    ap (λ (l : List Note). l ++ Happened (FailsToWrite Black) ∷ end_note r m Black White)
+    (sym (append-nil (given_note Black (bytes_of (due Black)))))
+    ∙ ap (λ (l : List Note). (given_note Black (bytes_of (due Black)) ++ []) ++ Happened (FailsToWrite Black) ∷ l)
+    (sym (append-nil (end_note r m Black White)))
 
-pub told_event : (a b : Knowing) (e : Event) → WasNoted a b (Happened e ∷ [])
-    → WasTold a b (e ∷ []) (λ S. [])
+pub second_noted : (r : Rules) (m : Match) (due : Colour → List SentLine) (S : Colour)
+    → both_notes S due ++ Happened (FailsToWrite (other S)) ∷ end_note r m (other S) (other (other S))
+    ≡ broken_notes r m due S (other S)
 unfolding bytes_of
-told_event a b e g = (Happened e ∷ [], g, refl, λ S. refl)
+second_noted r m due White = ap (λ (l : List Note). both_notes White due ++ Happened (FailsToWrite Black) ∷ l)
+    (sym (append-nil (end_note r m Black White)))
+second_noted r m due Black = refl
 
-pub told_more : (a b c : Knowing) (es fs : List Event) (x y : Colour → List SentLine) → WasTold a b es x
-    → WasTold b c fs y → WasTold a c (es ++ fs) (λ S. x S ++ y S)
-told_more a b c es fs x y (M, g, e, t) (N, h, f, u) = (
-  M ++ N,
-  noted_more a b c M N g h,
-  events-append M N ∙ ap (λ (l : List Event). l ++ events_in N) e ∙ ap (λ (l : List Event). es ++ l) f,
-  λ S. given-append S M N ∙ ap (λ (l : List ℕ). l ++ given_in S N) (t S)
-      ∙ ap (λ (l : List ℕ). bytes_of (x S) ++ l) (u S) ∙ sym (bytes_of-append (x S) (y S)),
-)
+pub broken_by : (r : Rules) (m : Match) (due due' : Colour → List SentLine) (first c : Colour)
+    → ((X : Colour) → due X ≡ due' X) → broken_notes r m due first c ≡ broken_notes r m due' first c
+broken_by r m due due' first c e =
+    ap (λ (l : List Note). l ++ Happened (FailsToWrite c)
+    ∷ both_notes White (λ S. if same_colour c S then [] else block r m (after r m (FailsToWrite c)) S))
+    (both_by first _ _ (λ X. ap (λ (l : List SentLine). if same_colour first c && not (same_colour c X) then [] else l)
+    (e X)))
 
-pub told_as : (a b : Knowing) (es : List Event) (x y : Colour → List SentLine) → ((S : Colour) → x S ≡ y S)
-    → WasTold a b es x → WasTold a b es y
-told_as a b es x y e (M, g, f, t) = (M, g, f, λ S. t S ∙ ap bytes_of (e S))
+-- ---- a transcript that goes on
 
--- ---- pieces of one block
+same_lines : (r : Rules) (m : Match) (x e : Event) (U : List Event) (S : Colour) → is_sound e ≡ true
+    → lines_at r m x (e ∷ U) S ≡ lines_at r m x [] S
+same_lines r m x e U S h = rw (kept_at x e U S h, dropped_alone x S) refl
 
-abbrev no_text : List ℕ
-no_text = []
+longer_lines : (r : Rules) (m : Match) (x y : Event) (T U : List Event) (S : Colour)
+    → lines_at r m x (y ∷ T ++ U) S ≡ lines_at r m x (y ∷ T) S
+longer_lines r m x y T U S = ap (λ (b : Bool). if b || fails_at x S then [] else block r m (after r m x) S)
+    (dropped-longer x y T U S)
 
-if_nothing : (b : Bool) → no_text ≡ (if b then no_text else [])
-if_nothing true = refl
-if_nothing false = refl
+alone_lines : (r : Rules) (m : Match) (e : Event) (S : Colour) → is_sound e ≡ true
+    → lines_at r m e [] S ≡ block r m (after r m e) S
+alone_lines r m (Line c t n) S h = refl
+alone_lines r m (Opened c n) S h = refl
+alone_lines r m (OutputEnds c) S h = refl
+alone_lines r m (FailsToRead c) S h = refl
+alone_lines r m (FailsToWrite c) S h = cc
 
-if_both : (b : Bool) (x y : List ℕ) → (if b then x else []) ++ (if b then y else []) ≡ (if b then x ++ y else [])
-if_both true x y = refl
-if_both false x y = refl
+-- the notes of the blocks of an event
+abbrev notes_at : Rules → Match → Event → List Event → List Note
+notes_at r m e es = both_notes (first_sent (after r m e) (side_of e)) (lines_at r m e es)
 
-if_bytes : (b : Bool) (lines : List SentLine) → (if b then bytes_of lines else []) ≡ bytes_of (if b then lines else [])
+notes_from-append : (r : Rules) (m : Match) (T : List Event) (e : Event) (U : List Event) → is_sound e ≡ true
+    → notes_from r m (T ++ e ∷ U) ≡ notes_from r m T ++ notes_from r (match_from r m T) (e ∷ U)
+notes_from-append r m [] e U h = refl
+notes_from-append r m (x ∷ []) e U h =
+    ap (λ (l : List Note). Happened x ∷ (l ++ notes_from r (after r m x) (e ∷ U)))
+    (both_by (first_sent (after r m x) (side_of x)) _ _ (λ S. same_lines r m x e U S h)
+    ∙ sym (append-nil (notes_at r m x [])))
+notes_from-append r m (x ∷ y ∷ T) e U h =
+    ap (λ (l : List Note). Happened x ∷ (l ++ notes_from r (after r m x) (y ∷ T ++ e ∷ U)))
+    (both_by (first_sent (after r m x) (side_of x)) _ _ (λ S. longer_lines r m x y T (e ∷ U) S))
+    ∙ ap (λ (l : List Note). Happened x ∷ (notes_at r m x (y ∷ T) ++ l))
+    (notes_from-append r (after r m x) (y ∷ T) e U h)
+    ∙ ap (λ (l : List Note). Happened x ∷ l)
+    (sym (append_assoc (notes_at r m x (y ∷ T)) (notes_from r (after r m x) (y ∷ T))
+    (notes_from r (match_from r (after r m x) (y ∷ T)) (e ∷ U))))
+
+notes-append : (r : Rules) (T : List Event) (e : Event) (U : List Event) → is_sound e ≡ true
+    → notes_of r (T ++ e ∷ U) ≡ notes_of r T ++ notes_from r (match_of r T) (e ∷ U)
+notes-append r T e U h =
+    ap (λ (l : List Note). both_notes White (λ S. entry r start S) ++ l) (notes_from-append r start T e U h)
+    ∙ sym (append_assoc (both_notes White (λ S. entry r start S)) (notes_from r start T)
+    (notes_from r (match_of r T) (e ∷ U)))
+
+pub noted_on : (r : Rules) (T : List Event) (e : Event) → is_sound e ≡ true
+    → notes_of r T ++ Happened e ∷ both_notes (first_sent (after r (match_of r T) e) (side_of e))
+    (λ S. block r (match_of r T) (after r (match_of r T) e) S) ≡ notes_of r (T ++ e ∷ [])
+noted_on r T e h = sym (
+    notes-append r T e [] h
+    ∙ ap (λ (l : List Note). notes_of r T ++ Happened e ∷ l)
+    (append-nil (notes_at r (match_of r T) e [])
+    ∙ both_by (first_sent (after r (match_of r T) e) (side_of e)) _ _ (λ S. alone_lines r (match_of r T) e S h)))
+
+broken_at : (r : Rules) (m : Match) (d c : Colour) (text : Option (List ℕ)) (k : ℕ)
+    → is_on (after r m (Line d text k)).phase ≡ true
+    → notes_from r m (Line d text k ∷ FailsToWrite c ∷ [])
+    ≡ Happened (Line d text k)
+    ∷ broken_notes r (after r m (Line d text k)) (λ S. block r m (after r m (Line d text k)) S) d c
+broken_at r m d c text k on =
+    let m' : Match = after r m (Line d text k) in
+    let due : Colour → List SentLine = λ S. block r m m' S in
+    let tail : List Note = both_notes White
+    (λ S. if same_colour c S then [] else block r m' (after r m' (FailsToWrite c)) S) in
+    let sent : Colour → List SentLine = lines_at r m (Line d text k) (FailsToWrite c ∷ []) in
+    ap (λ (b : Bool). Happened (Line d text k) ∷ (both_notes (if b then d else White) sent
+    ++ Happened (FailsToWrite c) ∷ (tail ++ []))) on
+    ∙ ap (λ (l : List Note). Happened (Line d text k) ∷ (both_notes d sent ++ Happened (FailsToWrite c) ∷ l))
+    (append-nil tail)
+    ∙ ap (λ (l : List Note). Happened (Line d text k) ∷ (l ++ Happened (FailsToWrite c) ∷ tail))
+    (both_by d sent (λ S. if same_colour d c && not (same_colour c S) then [] else due S)
+    (λ S. ap (λ (b : Bool). if b then [] else due S) (or-false (same_colour d c && not (same_colour c S)))))
+
+pub noted_broken : (r : Rules) (T : List Event) (d c : Colour) (text : Option (List ℕ)) (k : ℕ)
+    → is_on (after r (match_of r T) (Line d text k)).phase ≡ true
+    → notes_of r T ++ Happened (Line d text k)
+    ∷ broken_notes r (after r (match_of r T) (Line d text k))
+    (λ S. block r (match_of r T) (after r (match_of r T) (Line d text k)) S) d c
+    ≡ notes_of r (T ++ Line d text k ∷ FailsToWrite c ∷ [])
+noted_broken r T d c text k on = sym (
+    notes-append r T (Line d text k) (FailsToWrite c ∷ []) refl
+    ∙ ap (λ (l : List Note). notes_of r T ++ l) (broken_at r (match_of r T) d c text k on))
+
+-- ---- the start
+
+pub noted_start : (r : Rules) → both_notes White (λ S. entry r start S) ≡ notes_of r []
+noted_start r = sym (append-nil (both_notes White (λ S. entry r start S)))
+
+pub noted_start_broken : (r : Rules) → broken_notes r start (λ S. entry r start S) White White
+    ≡ notes_of r (FailsToWrite White ∷ [])
 unfolding bytes_of
-if_bytes true lines = refl
-if_bytes false lines = refl
-
-pub given_none : (a : Knowing) (side : Colour) → IsGiven a a side []
-given_none a side = ([], noted_none a, refl, λ S. if_nothing (same_colour side S))
-
-pub given_piece : (a b : Knowing) (side : Colour) (text : List ℕ) → WasNoted a b (Gives side text ∷ [])
-    → IsGiven a b side text
-given_piece a b side text g =
-    (Gives side text ∷ [], g, refl, λ S. append-nil (if same_colour side S then text else []))
-
-pub given_more : (a b c : Knowing) (side : Colour) (x y : List ℕ) → IsGiven a b side x
-    → IsGiven b c side y → IsGiven a c side (x ++ y)
-given_more a b c side x y (M, g, e, t) (N, h, f, u) = (
-  M ++ N,
-  noted_more a b c M N g h,
-  events-append M N ∙ ap (λ (l : List Event). l ++ events_in N) e ∙ f,
-  λ S. given-append S M N ∙ ap (λ (l : List ℕ). l ++ given_in S N) (t S)
-      ∙ ap (λ (l : List ℕ). (if same_colour side S then x else []) ++ l) (u S) ∙ if_both (same_colour side S) x y,
-)
-
-pub given_as : (a b : Knowing) (side : Colour) (x y : List ℕ) → x ≡ y → IsGiven a b side x
-    → IsGiven a b side y
-given_as a b side x y e g = subst (λ (l : List ℕ). IsGiven a b side l) e g
-
-pub told_given : (a b : Knowing) (side : Colour) (lines : List SentLine)
-    → IsGiven a b side (bytes_of lines) → WasTold a b [] (λ X. for side X lines)
-told_given a b side lines (M, g, e, t) = (M, g, e, λ S. t S ∙ if_bytes (same_colour side S) lines)
-
-pub given_not : (a : Knowing) (side : Colour) (whose : Option Colour) (text : List SentLine)
-    → to whose side text ≡ [] → IsGiven a a side (bytes_of (to whose side text))
-unfolding bytes_of
-given_not a side whose text e =
-    given_as a a side [] _ (ap (λ (ls : List SentLine). bytes_of ls) (sym e)) (given_none a side)
-
-pub answers_given : (a b c : Knowing) (side : Colour) (so_far : List Item) (i : Item)
-    → IsGiven a b side (bytes_of (answers_to so_far)) → IsGiven b c side (answer_line i.name)
-    → IsGiven a c side (bytes_of (answers_to (so_far ++ i ∷ [])))
-unfolding bytes_of
-answers_given a b c side so_far i g h = given_as a c side _ _ (sym (answer_bytes so_far (i ∷ [])))
-    (given_more a b c side (bytes_of (answers_to so_far)) (answer_line i.name) g h)
-
--- ---- both engines' blocks
-
-pub all_given : (due : Colour → List SentLine) (S X : Colour) → for S X (due S) ++ for (other S) X (due (other S))
-    ≡ due X
-all_given due White White = append-nil (due White)
-all_given due White Black = refl
-all_given due Black White = refl
-all_given due Black Black = append-nil (due Black)
-
-pub first_given : (r : Rules) (m : Match) (due : Colour → List SentLine) (S X : Colour)
-    → for S X (due S) ++ for (other S) X (block r m (after r m (FailsToWrite S)) (other S))
-    ≡ given_broken r m due S S X
-first_given r m due White White = append-nil (due White)
-first_given r m due White Black = refl
-first_given r m due Black White = refl
-first_given r m due Black Black = append-nil (due Black)
-
-pub second_given : (r : Rules) (m : Match) (due : Colour → List SentLine) (S X : Colour)
-    → (for S X (due S) ++ for (other S) X (due (other S)))
-    ++ for (other (other S)) X (block r m (after r m (FailsToWrite (other S))) (other (other S)))
-    ≡ given_broken r m due S (other S) X
-second_given r m due White White = ap (λ (l : List SentLine). l ++ block r m (after r m (FailsToWrite Black)) White)
-    (append-nil (due White))
-second_given r m due White Black = append-nil (due Black)
-second_given r m due Black White = append-nil (due White)
-second_given r m due Black Black = ap (λ (l : List SentLine). l ++ block r m (after r m (FailsToWrite White)) Black)
-    (append-nil (due Black))
-
--- ---- all that is sent, along a transcript
-
-joined-append : (a b : List (List SentLine)) → joined_blocks (a ++ b) ≡ joined_blocks a ++ joined_blocks b
-joined-append [] b = refl
-joined-append (x ∷ a) b = ap (λ (ls : List SentLine). x ++ ls) (joined-append a b)
-    ∙ sym (append_assoc x (joined_blocks a) (joined_blocks b))
-
-pub sent_start : (r : Rules) (S : Colour) → entry r start S ≡ sent r S []
-sent_start r S = sym (append-nil (entry r start S))
-
-pub sent_start_broken : (r : Rules) (S : Colour) → given_broken r start (λ X. entry r start X) White White S
-    ≡ sent r S (FailsToWrite White ∷ [])
-sent_start_broken r White = sym (append-nil (entry r start White))
-sent_start_broken r Black = sym (append-nil (block r start (after r start (FailsToWrite White)) Black))
-
-pub sent_on : (r : Rules) (S : Colour) (T : List Event) (e : Event) → is_sound e ≡ true
-    → sent r S T ++ block r (match_of r T) (after r (match_of r T) e) S ≡ sent r S (T ++ e ∷ [])
-sent_on r S T e h = sym (
-    ap joined_blocks (blocks-append r S T e [] h ∙ ap (λ (bs : List (List SentLine)). blocks r S T ++ bs)
-    (block_alone r S (match_of r T) e h))
-    ∙ joined_snoc (blocks r S T) (block r (match_of r T) (after r (match_of r T) e) S))
-
-broken_blocks : (r : Rules) (m : Match) (d c : Colour) (text : Option (List ℕ)) (k : ℕ) (S : Colour)
-    → given_broken r (after r m (Line d text k)) (λ X. block r m (after r m (Line d text k)) X) d c S
-    ≡ joined_blocks (blocks_from r S m (Line d text k ∷ FailsToWrite c ∷ []))
-broken_blocks r m White White text k White = sym (append-nil (block r m (after r m (Line White text k)) White))
-broken_blocks r m White White text k Black = sym (append-nil _)
-broken_blocks r m White Black text k White =
-    ap (λ (l : List SentLine). block r m (after r m (Line White text k)) White ++ l) (sym (append-nil _))
-broken_blocks r m White Black text k Black = sym (append-nil (block r m (after r m (Line White text k)) Black))
-broken_blocks r m Black White text k White = sym (append-nil (block r m (after r m (Line Black text k)) White))
-broken_blocks r m Black White text k Black =
-    ap (λ (l : List SentLine). block r m (after r m (Line Black text k)) Black ++ l) (sym (append-nil _))
-broken_blocks r m Black Black text k White = sym (append-nil _)
-broken_blocks r m Black Black text k Black = sym (append-nil (block r m (after r m (Line Black text k)) Black))
-
-pub sent_broken : (r : Rules) (S : Colour) (T : List Event) (d c : Colour) (text : Option (List ℕ)) (k : ℕ)
-    → sent r S T ++ given_broken r (after r (match_of r T) (Line d text k))
-    (λ X. block r (match_of r T) (after r (match_of r T) (Line d text k)) X) d c S
-    ≡ sent r S (T ++ Line d text k ∷ FailsToWrite c ∷ [])
-sent_broken r S T d c text k =
-    ap (λ (l : List SentLine). sent r S T ++ l) (broken_blocks r (match_of r T) d c text k S)
-    ∙ sym (joined-append (blocks r S T) (blocks_from r S (match_of r T) (Line d text k ∷ FailsToWrite c ∷ [])))
-    ∙ ap joined_blocks (sym (blocks-append r S T (Line d text k) (FailsToWrite c ∷ []) refl))
+noted_start_broken r =
+    ap (λ (l : List Note). both_notes White (λ S. entry r start S) ++ Happened (FailsToWrite White) ∷ l)
+    (sym (append-nil (both_notes White
+    (λ S. if same_colour White S then [] else block r start (after r start (FailsToWrite White)) S))))

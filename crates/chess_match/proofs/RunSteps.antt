@@ -15,12 +15,11 @@ use Rattle.chess_match.specs.ties.Delivering.{Delivered, event_heard}
 use Rattle.chess_match.proofs.Hearing.{HearsAt}
 use Rattle.engine_lines.specs.Levels.{LevelSeen}
 use Rattle.chess_match.specs.Match.{Match, Event, start, after}
-use Rattle.chess_match.specs.Notes.{Knowing, WasTold}
+use Rattle.chess_match.specs.Notes.{Noted, WasNoted, Happened}
 use Rattle.chess_match.specs.Rules.{Rules, rules_of}
 use Rattle.chess_match.specs.Run.{Asked}
 use Rattle.chess_match.specs.Sent.{block, entry}
-use Rattle.engine_lines.specs.Items.{Item}
-use Rattle.chess_match.specs.ties.Stands.{given_block}
+use Rattle.chess_match.specs.ties.Stands.{given_block, nothing_said}
 use Rattle.chess_match.specs.Transcript.{match_of, reads, opens, moment_in}
 use Rattle.chess_match.proofs.UnderWay.{IsUnderWay, steps_left}
 use Rattle.chess_match.specs.declared.phase.Phase.{Phase}
@@ -51,22 +50,22 @@ plays_on g h begin level s l d = (
   d,
 )
 
-entry_given : (r : Rules) (items : List Item) (S : Colour)
-    → given_block r (record { answers = None; draw = None; entered = true }) items start S ≡ entry r start S
+entry_given : (r : Rules) (S : Colour)
+    → given_block r (record { draw = None; entered = true }) nothing_said start S ≡ entry r start S
 unfolding given_block
-entry_given r items S = refl
+entry_given r S = refl
 
-pub begun : (r : Rules) (core : Core) (played : List Move) (items : List Item) (failed : Colour → Bool)
+pub begun : (r : Rules) (core : Core) (played : List Move) (failed : Colour → Bool)
     (n : Colour → InputState) (held : Colour → Held) (w w' : Colour → OutputState) (coming : ℕ → Option ℕ)
-    (notes notes' : Knowing) → ((S : Colour) → held S ≡ nothing_held)
-    → Delivered r core played start (given_block r (record { answers = None; draw = None; entered = true }) items start)
+    (notes notes' : Noted) → ((S : Colour) → held S ≡ nothing_held)
+    → Delivered r core played start (given_block r (record { draw = None; entered = true }) nothing_said start)
     White w w' failed notes notes'
     → (T : List Event) × IsUnderWay r T core played failed n n held w w' coming coming notes notes'
-begun r core played items failed n held w w' coming notes notes' none d =
+begun r core played failed n held w w' coming notes notes' none d =
     started r core played failed n held w w' coming notes notes' none
     (delivered_by r core played start
-    (given_block r (record { answers = None; draw = None; entered = true }) items start) (λ S. entry r start S)
-    White w w' failed notes notes' (entry_given r items) d)
+    (given_block r (record { draw = None; entered = true }) nothing_said start) (λ S. entry r start S)
+    White w w' failed notes notes' (entry_given r) d)
 
 -- ---- a line, an end, or a read that failed
 
@@ -74,12 +73,12 @@ pub heard_on : {E : Type 0} (r : Rules) (T : List Event) (S : Colour) (moment : 
     (core core' : Core) (played played' : List Move) (failed failed' : Colour → Bool) (n n' n'' : Colour → InputState)
     (held held' : Colour → Held)
     (w w' w'' : Colour → OutputState) (coming coming' coming'' : ℕ → Option ℕ)
-    (notes notes' between notes'' : Knowing)
+    (notes notes' between notes'' : Noted)
     → IsUnderWay r T core played failed n n' held w w' coming coming' notes notes' → reads core.phase S ≡ true
     → NextLine ENGINE_LINE_LEN (n' S) (n'' S) (held S) (held' S) result → n'' (other S) ≡ n' (other S)
     → held' (other S) ≡ held (other S)
     → Asked coming' coming'' (moment_in (event_heard S moment result))
-    → WasTold notes' between (event_heard S moment result ∷ []) (λ X. [])
+    → WasNoted notes' between (Happened (event_heard S moment result) ∷ [])
     → Delivered r core' played' (after r (match_of r T) (event_heard S moment result))
     (block r (match_of r T) (after r (match_of r T) (event_heard S moment result))) S w' w'' failed'
     between notes''

@@ -130,14 +130,14 @@ fits-append r T e U h f n = fits_from-append r (entry r start) start T e U h f n
 
 -- ---- blocks
 
-dropped_alone : (x : Event) (S : Colour) → is_dropped x [] S ≡ false
+pub dropped_alone : (x : Event) (S : Colour) → is_dropped x [] S ≡ false
 dropped_alone (Line c t n) S = refl
 dropped_alone (Opened c n) S = refl
 dropped_alone (OutputEnds c) S = refl
 dropped_alone (FailsToRead c) S = refl
 dropped_alone (FailsToWrite c) S = refl
 
-dropped-longer : (x y : Event) (T U : List Event) (S : Colour) → is_dropped x (y ∷ T ++ U) S ≡ is_dropped x (y ∷ T) S
+pub dropped-longer : (x y : Event) (T U : List Event) (S : Colour) → is_dropped x (y ∷ T ++ U) S ≡ is_dropped x (y ∷ T) S
 dropped-longer (Line c t n) (Line d u k) T U S = refl
 dropped-longer (Line c t n) (Opened d k) T U S = refl
 dropped-longer (Line c t n) (OutputEnds d) T U S = refl
@@ -148,7 +148,7 @@ dropped-longer (OutputEnds c) y T U S = refl
 dropped-longer (FailsToRead c) y T U S = refl
 dropped-longer (FailsToWrite c) y T U S = refl
 
-kept_at : (x e : Event) (U : List Event) (S : Colour) → is_sound e ≡ true → is_dropped x (e ∷ U) S ≡ false
+pub kept_at : (x e : Event) (U : List Event) (S : Colour) → is_sound e ≡ true → is_dropped x (e ∷ U) S ≡ false
 kept_at (Line c t n) (Line d u k) U S h = refl
 kept_at (Line c t n) (Opened d k) U S h = refl
 kept_at (Line c t n) (OutputEnds d) U S h = refl

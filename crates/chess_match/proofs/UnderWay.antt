@@ -6,12 +6,12 @@ use Rattle.byte_devices.specs.Devices.{InputState, OutputState}
 use Rattle.chess_cecp.specs.Lines.{Held}
 use Rattle.chess_match.proofs.Hearing.{Hearing}
 use Rattle.chess_match.specs.Match.{Event}
-use Rattle.chess_match.specs.Notes.{Knowing, WasTold}
+use Rattle.chess_match.specs.Notes.{Noted, WasNoted, notes_of}
 use Rattle.chess_match.specs.Rules.{Rules}
 use Rattle.chess_match.specs.Run.{Heard, Written, Asked}
 use Rattle.chess_match.specs.ties.Stands.{Stands}
 use Rattle.chess_match.specs.ties.Steps.{IsSane}
-use Rattle.chess_match.specs.Transcript.{match_of, fits, blocks, sent, lines_of, moments_of, has_end, has_read_failure, has_write_failure, is_on}
+use Rattle.chess_match.specs.Transcript.{match_of, fits, blocks, lines_of, moments_of, has_end, has_read_failure, has_write_failure, is_on}
 use Rattle.chess_match.specs.declared.phase.Phase.{Phase}
 use Rattle.chess_match.specs.declared.phase.Phase.TheVariants.{Hello, Setup, Opening, Before, After, Over}
 use Rattle.chess_match.specs.declared.state.Core.{Core}
@@ -29,7 +29,7 @@ HeardSoFar S T on r r' held = (given : List ℕ) × Heard S T r r' given × (on 
 -- core, game, devices and witness agree with the transcript T
 pub record IsUnderWay (r : Rules) (T : List Event) (core : Core) (played : List Move) (failed : Colour → Bool)
     (n n' : Colour → InputState) (held : Colour → Held) (w w' : Colour → OutputState)
-    (coming coming' : ℕ → Option ℕ) (notes notes' : Knowing) : Type 0 where
+    (coming coming' : ℕ → Option ℕ) (notes notes' : Noted) : Type 0 where
   pub fitting : fits r T ≡ true
   pub stands : Stands r core played (match_of r T)
   pub sane : IsSane r (match_of r T)
@@ -38,7 +38,7 @@ pub record IsUnderWay (r : Rules) (T : List Event) (core : Core) (played : List 
   pub fine : is_on (match_of r T).phase ≡ true → (S : Colour) → failed S ≡ false
   pub failing : (S : Colour) → has_write_failure S T ≡ true → failed S ≡ true
   pub moments : Asked coming coming' (moments_of T)
-  pub told : WasTold notes notes' T (λ S. sent r S T)
+  pub told : WasNoted notes notes' (notes_of r T)
 
 -- what is left to do, where so much can still be read
 abbrev pub steps_left : Phase → ℕ → ℕ

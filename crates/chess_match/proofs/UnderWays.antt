@@ -8,17 +8,17 @@ use Rattle.byte_devices.specs.Devices.{InputState, OutputState, BreaksOff}
 use Rattle.chess_base.specs.Men.{other, same_colour}
 use Rattle.chess_base.proofs.MenFacts.{same_colour-true}
 use Rattle.chess_cecp.specs.Lines.{Held, nothing_held}
-use Rattle.chess_match.specs.ties.Delivering.{AllSent, OneFailed, Delivered, given_broken}
+use Rattle.chess_match.specs.ties.Delivering.{AllSent, OneFailed, Delivered}
 use Rattle.chess_match.proofs.Hearing.{Hearing, HearsAt, is_heard_of}
 use Rattle.chess_match.specs.Match.{Match, Event, Line, Opened, OutputEnds, FailsToRead, FailsToWrite, start, after}
-use Rattle.chess_match.specs.Notes.{Knowing, WasTold}
+use Rattle.chess_match.specs.Notes.{Noted, WasNoted, Happened, both_notes, first_sent, notes_of, side_of}
 use Rattle.chess_match.specs.Rules.{Rules}
 use Rattle.chess_match.specs.Run.{Flushed, Written, Asked}
 use Rattle.chess_match.specs.Sent.{SentLine, block, entry, bytes_of}
-use Rattle.chess_match.specs.ties.Stands.{Stands, Goes, given_block}
+use Rattle.chess_match.specs.ties.Stands.{Stands, Goes, given_block, nothing_said}
 use Rattle.chess_match.specs.ties.Steps.{IsSane}
 use Rattle.chess_match.specs.ties.Told.{SendsIf}
-use Rattle.chess_match.specs.Transcript.{match_of, fits_next, is_on, opens, blocks, blocks_from, joined_blocks, sent, lines_of, moments_of, moment_in, has_end, has_read_failure, has_write_failure, fails_at}
+use Rattle.chess_match.specs.Transcript.{match_of, fits_next, is_on, opens, blocks, blocks_from, joined_blocks, lines_of, moments_of, moment_in, has_end, has_read_failure, has_write_failure, fails_at}
 use Rattle.chess_match.proofs.UnderWay.{IsHearing, HeardSoFar, IsUnderWay}
 use Rattle.chess_match.specs.declared.phase.Phase.{Phase}
 use Rattle.chess_match.specs.declared.phase.Phase.TheVariants.{Hello, Setup, Opening, Before, After, Over}
@@ -27,7 +27,7 @@ use Rattle.chess_match.proofs.Flushes.{flushed_none, flushed_more}
 use Rattle.chess_match.proofs.HeardOn.{is_stop, heard_still, heard_more, not_both}
 use Rattle.chess_match.proofs.Hears.{hearing_start}
 use Rattle.chess_match.proofs.Runs.{is_sound, match_of-append, IsTail, no_tail, failed_tail, moments_more, has_write_failure-append, fits-append, nothing_due, blocks-append, block_alone, sent_more, written_more, all_sent, asked_none, asked_more}
-use Rattle.chess_match.proofs.Notings.{told_none, told_more, told_as, sent_on, sent_broken, sent_start, sent_start_broken}
+use Rattle.chess_match.proofs.Notings.{noted_none, noted_more, noted_as, noted_on, noted_broken, noted_start, noted_start_broken, both_by, broken_by}
 use Rattle.chess_match.proofs.Sane.{sane_start, sane_over, sane_opened}
 
 -- the match is over behind what stops it
@@ -67,14 +67,14 @@ no_failure_yet S T U failed failed' none old new h =
 pub all_step : (r : Rules) (T : List Event) (e : Event) (core core' : Core) (played played' : List Move)
     (failed failed' : Colour → Bool) (n n' n'' : Colour → InputState) (held held' : Colour → Held)
     (w w' w'' : Colour → OutputState) (coming coming' coming'' : ℕ → Option ℕ)
-    (notes notes' between notes'' : Knowing)
+    (notes notes' between notes'' : Noted)
     → IsUnderWay r T core played failed n n' held w w' coming coming' notes notes'
-    → WasTold notes' between (e ∷ []) (λ S. [])
+    → WasNoted notes' between (Happened e ∷ [])
     → is_on (match_of r T).phase ≡ true → is_sound e ≡ true → fits_next nothing_due (match_of r T) e ≡ true
     → IsSane r (after r (match_of r T) e)
     → ((S : Colour) → HearsAt S e (n' S) (n'' S) (held S) (held' S)) → Asked coming' coming'' (moment_in e)
-    → AllSent r core' played' (after r (match_of r T) e) (λ S. block r (match_of r T) (after r (match_of r T) e) S) w'
-    w'' failed' between notes''
+    → AllSent r core' played' (after r (match_of r T) e) (λ S. block r (match_of r T) (after r (match_of r T) e) S)
+    (side_of e) w' w'' failed' between notes''
     → IsUnderWay r (T ++ e ∷ []) core' played' failed' n n'' held' w w'' coming coming'' notes notes''
 all_step r T e core core' played played' failed failed' n n' n'' held held' w w' w'' coming coming' coming'' notes
     notes' between notes'' u line on sound fit sane hears asked all =
@@ -98,9 +98,9 @@ all_step r T e core core' played played' failed failed' n n' n'' held held' w w'
           h);
       moments = subst (λ (ms : List ℕ). Asked coming coming'' ms) (sym (moments_more T e [] no_tail))
           (asked_more coming coming' coming'' (moments_of T) (moment_in e) u.moments asked);
-      told = told_as notes notes'' (T ++ e ∷ []) _ _ (λ S. sent_on r S T e sound)
-          (told_more notes notes' notes'' T (e ∷ []) (λ S. sent r S T) _ u.told
-          (told_more notes' between notes'' (e ∷ []) [] (λ S. []) _ line all.told));
+      told = noted_as notes notes'' _ (notes_of r (T ++ e ∷ [])) (noted_on r T e sound)
+          (noted_more notes notes' notes'' (notes_of r T) _ u.told
+          (noted_more notes' between notes'' (Happened e ∷ []) _ line all.told));
     }
 
 -- ---- a write that fails
@@ -176,9 +176,9 @@ pub failed_step : (r : Rules) (T : List Event) (d : Colour) (text : Option (List
     (played played' : List Move) (failed failed' : Colour → Bool) (n n' n'' : Colour → InputState)
     (held held' : Colour → Held)
     (w w' w'' : Colour → OutputState) (coming coming' coming'' : ℕ → Option ℕ)
-    (notes notes' between notes'' : Knowing) (c : Colour)
+    (notes notes' between notes'' : Noted) (c : Colour)
     → IsUnderWay r T core played failed n n' held w w' coming coming' notes notes'
-    → WasTold notes' between (Line d text k ∷ []) (λ S. [])
+    → WasNoted notes' between (Happened (Line d text k) ∷ [])
     → is_on (match_of r T).phase ≡ true → fits_next nothing_due (match_of r T) (Line d text k) ≡ true
     → IsSane r (after r (match_of r T) (Line d text k))
     → ((S : Colour) → HearsAt S (Line d text k) (n' S) (n'' S) (held S) (held' S)) → Asked coming' coming'' (k ∷ [])
@@ -216,32 +216,27 @@ failed_step r T d text k core core' played played' failed failed' n n' n'' held 
           (own_fails c failed' one.fails S);
       moments = subst (λ (ms : List ℕ). Asked coming coming'' ms) (sym (moments_more T e U (failed_tail c)))
           (asked_more coming coming' coming'' (moments_of T) (k ∷ []) u.moments asked);
-      told = told_as notes notes'' (T ++ e ∷ U) _ _ (λ S. sent_broken r S T d c text k)
-          (told_more notes notes' notes'' T (e ∷ U) (λ S. sent r S T) _ u.told
-          (told_more notes' between notes'' (e ∷ []) U (λ S. []) _ line one.told));
+      told = noted_as notes notes'' _ (notes_of r (T ++ e ∷ U)) (noted_broken r T d c text k one.on)
+          (noted_more notes notes' notes'' (notes_of r T) _ u.told
+          (noted_more notes' between notes'' (Happened e ∷ []) _ line one.told));
     }
 
 -- ---- the blocks that are due
 
 all_by : (r : Rules) (core : Core) (played : List Move) (m : Match) (due due' : Colour → List SentLine)
-    (w w' : Colour → OutputState) (failed : Colour → Bool) (notes notes' : Knowing)
+    (first : Colour) (w w' : Colour → OutputState) (failed : Colour → Bool) (notes notes' : Noted)
     → ((S : Colour) → due S ≡ due' S)
-    → AllSent r core played m due w w' failed notes notes' → AllSent r core played m due' w w' failed notes notes'
-all_by r core played m due due' w w' failed notes notes' e s = record {
+    → AllSent r core played m due first w w' failed notes notes'
+    → AllSent r core played m due' first w w' failed notes notes'
+all_by r core played m due due' first w w' failed notes notes' e s = record {
   stands = s.stands;
   puts = λ S. subst (λ (b : List SentLine). SendsIf (failed S) (w S) (w' S) (bytes_of b)) (e S) (s.puts S);
   fine = s.fine;
-  told = told_as notes notes' [] due due' e s.told;
+  told = noted_as notes notes' _ _ (both_by (first_sent m first) due due' e) s.told;
 }
 
-broken_by : (r : Rules) (m : Match) (due due' : Colour → List SentLine) (first c S : Colour)
-    → ((X : Colour) → due X ≡ due' X) → given_broken r m due first c S ≡ given_broken r m due' first c S
-broken_by r m due due' first c S e =
-    ap (λ (x : List SentLine). if same_colour c S then x
-    else ((if same_colour c first then [] else x) ++ block r m (after r m (FailsToWrite c)) S)) (e S)
-
 one_by : (r : Rules) (core : Core) (played : List Move) (m : Match) (due due' : Colour → List SentLine) (first : Colour)
-    (w w' : Colour → OutputState) (failed : Colour → Bool) (notes notes' : Knowing) (c : Colour)
+    (w w' : Colour → OutputState) (failed : Colour → Bool) (notes notes' : Noted) (c : Colour)
     → ((S : Colour) → due S ≡ due' S)
     → OneFailed r core played m due first w w' failed notes notes' c
     → OneFailed r core played m due' first w w' failed notes notes' c
@@ -257,15 +252,15 @@ one_by r core played m due due' first w w' failed notes notes' c e s = record {
         (bytes_of (if same_colour c first then [] else b))) (e (other c)) s.others.1,
     s.others.2,
   );
-  told = told_as notes notes' (FailsToWrite c ∷ []) _ _ (λ S. broken_by r m due due' first c S e) s.told;
+  told = noted_as notes notes' _ _ (broken_by r m due due' first c e) s.told;
 }
 
 pub delivered_by : (r : Rules) (core : Core) (played : List Move) (m : Match) (due due' : Colour → List SentLine)
-    (first : Colour) (w w' : Colour → OutputState) (failed : Colour → Bool) (notes notes' : Knowing)
+    (first : Colour) (w w' : Colour → OutputState) (failed : Colour → Bool) (notes notes' : Noted)
     → ((S : Colour) → due S ≡ due' S) → Delivered r core played m due first w w' failed notes notes'
     → Delivered r core played m due' first w w' failed notes notes'
 delivered_by r core played m due due' first w w' failed notes notes' e (inl s) =
-    inl (all_by r core played m due due' w w' failed notes notes' e s)
+    inl (all_by r core played m due due' first w w' failed notes notes' e s)
 delivered_by r core played m due due' first w w' failed notes notes' e (inr (c, s)) =
     inr (c, one_by r core played m due due' first w w' failed notes notes' c e s)
 
@@ -289,9 +284,9 @@ unfolding bytes_of
 first_block f w w' b p = written_more f w w w' [] b (flushed_none w) p
 
 all_started : (r : Rules) (core : Core) (played : List Move) (failed : Colour → Bool) (n : Colour → InputState)
-    (held : Colour → Held) (w w' : Colour → OutputState) (coming : ℕ → Option ℕ) (notes notes' : Knowing)
+    (held : Colour → Held) (w w' : Colour → OutputState) (coming : ℕ → Option ℕ) (notes notes' : Noted)
     → ((S : Colour) → held S ≡ nothing_held)
-    → AllSent r core played start (λ S. entry r start S) w w' failed notes notes'
+    → AllSent r core played start (λ S. entry r start S) White w w' failed notes notes'
     → IsUnderWay r [] core played failed n n held w w' coming coming notes notes'
 all_started r core played failed n held w w' coming notes notes' none s = record {
   fitting = refl;
@@ -302,7 +297,7 @@ all_started r core played failed n held w w' coming notes notes' none s = record
   fine = s.fine;
   failing = λ S h. absurd cc;
   moments = asked_none coming;
-  told = told_as notes notes' [] _ _ (λ S. sent_start r S) s.told;
+  told = noted_as notes notes' _ _ (noted_start r) s.told;
 }
 
 broken_start : (f : Bool) (w w' : OutputState) (b : List SentLine) → f ≡ true → BreaksOff w w' (bytes_of b)
@@ -315,7 +310,7 @@ other_start : (r : Rules) (f : Bool) (w w' : OutputState) (b : List SentLine)
 other_start r f w w' b (v, t, p) = written_more f w v w' ([] ∷ []) b t p
 
 one_started : (r : Rules) (core : Core) (played : List Move) (failed : Colour → Bool) (n : Colour → InputState)
-    (held : Colour → Held) (w w' : Colour → OutputState) (coming : ℕ → Option ℕ) (notes notes' : Knowing)
+    (held : Colour → Held) (w w' : Colour → OutputState) (coming : ℕ → Option ℕ) (notes notes' : Noted)
     (c : Colour) → ((S : Colour) → held S ≡ nothing_held)
     → OneFailed r core played start (λ S. entry r start S) White w w' failed notes notes' c
     → IsUnderWay r (FailsToWrite c ∷ []) core played failed n n held w w' coming coming notes notes'
@@ -331,12 +326,12 @@ one_started r core played failed n held w w' coming notes notes' White none s = 
   fine = λ h. absurd cc;
   failing = λ S. own_fails White failed s.fails S;
   moments = asked_none coming;
-  told = told_as notes notes' (FailsToWrite White ∷ []) _ _ (λ S. sent_start_broken r S) s.told;
+  told = noted_as notes notes' _ _ (noted_start_broken r) s.told;
 }
 
 -- the first lines of White's hello were sent
 pub started : (r : Rules) (core : Core) (played : List Move) (failed : Colour → Bool) (n : Colour → InputState)
-    (held : Colour → Held) (w w' : Colour → OutputState) (coming : ℕ → Option ℕ) (notes notes' : Knowing)
+    (held : Colour → Held) (w w' : Colour → OutputState) (coming : ℕ → Option ℕ) (notes notes' : Noted)
     → ((S : Colour) → held S ≡ nothing_held)
     → Delivered r core played start (λ S. entry r start S) White w w' failed notes notes'
     → (T : List Event) × IsUnderWay r T core played failed n n held w w' coming coming notes notes'
@@ -347,12 +342,18 @@ started r core played failed n held w w' coming notes notes' none (inr (c, s)) =
 
 -- ---- one event of d's output
 
+sent_by : (r : Rules) (core : Core) (played : List Move) (m : Match) (due : Colour → List SentLine) (d c : Colour)
+    (w w' : Colour → OutputState) (failed : Colour → Bool) (notes notes' : Noted) → c ≡ d
+    → AllSent r core played m due d w w' failed notes notes' → AllSent r core played m due c w w' failed notes notes'
+sent_by r core played m due d c w w' failed notes notes' e s =
+    subst (λ (x : Colour). AllSent r core played m due x w w' failed notes notes') (sym e) s
+
 pub event_step : (r : Rules) (T : List Event) (e : Event) (d : Colour) (core core' : Core) (played played' : List Move)
     (failed failed' : Colour → Bool) (n n' n'' : Colour → InputState) (held held' : Colour → Held)
     (w w' w'' : Colour → OutputState) (coming coming' coming'' : ℕ → Option ℕ)
-    (notes notes' between notes'' : Knowing)
+    (notes notes' between notes'' : Noted)
     → IsUnderWay r T core played failed n n' held w w' coming coming' notes notes'
-    → WasTold notes' between (e ∷ []) (λ S. [])
+    → WasNoted notes' between (Happened e ∷ [])
     → is_heard_of d e ≡ true → is_on (match_of r T).phase ≡ true → fits_next nothing_due (match_of r T) e ≡ true
     → IsSane r (after r (match_of r T) e)
     → ((S : Colour) → HearsAt S e (n' S) (n'' S) (held S) (held' S)) → Asked coming' coming'' (moment_in e)
@@ -363,19 +364,22 @@ event_step r T (Line c text k) d core core' played played' failed failed' n n' n
     coming'' notes notes' between notes'' u line is on fit sane hears asked (inl s) = (
       T ++ Line c text k ∷ [],
       all_step r T (Line c text k) core core' played played' failed failed' n n' n'' held held'
-          w w' w'' coming coming' coming'' notes notes' between notes'' u line on refl fit sane hears asked s,
+          w w' w'' coming coming' coming'' notes notes' between notes'' u line on refl fit sane hears asked
+          (sent_by r _ _ _ _ d c _ _ _ _ _ (same_colour-true c d is) s),
     )
 event_step r T (OutputEnds c) d core core' played played' failed failed' n n' n'' held held' w w' w'' coming coming'
     coming'' notes notes' between notes'' u line is on fit sane hears asked (inl s) = (
       T ++ OutputEnds c ∷ [],
       all_step r T (OutputEnds c) core core' played played' failed failed' n n' n'' held held' w
-          w' w'' coming coming' coming'' notes notes' between notes'' u line on refl fit sane hears asked s,
+          w' w'' coming coming' coming'' notes notes' between notes'' u line on refl fit sane hears asked
+          (sent_by r _ _ _ _ d c _ _ _ _ _ (same_colour-true c d is) s),
     )
 event_step r T (FailsToRead c) d core core' played played' failed failed' n n' n'' held held' w w' w'' coming coming'
     coming'' notes notes' between notes'' u line is on fit sane hears asked (inl s) = (
       T ++ FailsToRead c ∷ [],
       all_step r T (FailsToRead c) core core' played played' failed failed' n n' n'' held held'
-          w w' w'' coming coming' coming'' notes notes' between notes'' u line on refl fit sane hears asked s,
+          w w' w'' coming coming' coming'' notes notes' between notes'' u line on refl fit sane hears asked
+          (sent_by r _ _ _ _ d c _ _ _ _ _ (same_colour-true c d is) s),
     )
 event_step r T (Line c text k) d core core' played played' failed failed' n n' n'' held held' w w' w'' coming coming'
     coming'' notes notes' between notes'' u line is on fit sane hears asked (inr (x, s)) = (
@@ -411,17 +415,22 @@ opens_on (After c) S h = refl
 opens_on (Over x) S h = absurd cc
 
 none_given : (r : Rules) (m : Match) (S : Colour)
-    → [] ≡ given_block r (record { answers = None; draw = None; entered = false }) [] m S
+    → [] ≡ given_block r (record { draw = None; entered = false }) nothing_said m S
 unfolding given_block
 none_given r m S = refl
 
+-- no lines, no notes
+nothing_noted : (S : Colour) (due : Colour → List SentLine) → ((X : Colour) → [] ≡ due X) → [] ≡ both_notes S due
+unfolding bytes_of
+nothing_noted S due e = both_by S (λ X. []) due e
+
 pub opened_step : (r : Rules) (T : List Event) (d : Colour) (k : ℕ) (core core' : Core) (played : List Move)
     (failed : Colour → Bool) (n n' : Colour → InputState) (held : Colour → Held) (w w' : Colour → OutputState)
-    (coming coming' coming'' : ℕ → Option ℕ) (notes notes' notes'' : Knowing)
+    (coming coming' coming'' : ℕ → Option ℕ) (notes notes' notes'' : Noted)
     → IsUnderWay r T core played failed n n' held w w' coming coming' notes notes'
-    → WasTold notes' notes'' (Opened d k ∷ []) (λ S. []) → opens (match_of r T).phase d ≡ true
+    → WasNoted notes' notes'' (Happened (Opened d k) ∷ []) → opens (match_of r T).phase d ≡ true
     → Asked coming' coming'' (k ∷ [])
-    → Goes r core' played (record { answers = None; draw = None; entered = false }) [] (match_of r T)
+    → Goes r core' played (record { draw = None; entered = false }) nothing_said (match_of r T)
     (after r (match_of r T) (Opened d k))
     → IsUnderWay r (T ++ Opened d k ∷ []) core' played failed n n' held w w' coming coming'' notes notes''
 opened_step r T d k core core' played failed n n' held w w' coming coming' coming'' notes notes' notes'' u line opening
@@ -434,6 +443,7 @@ opened_step r T d k core core' played failed n n' held w w' coming coming' comin
       puts = λ S. nothing_put (failed S) (w' S) _ (u.fine on S)
           (none_given r (after r (match_of r T) (Opened d k)) S ∙ goes.gives S);
       fine = λ h S. u.fine on S;
-      told = told_as notes'' notes'' [] (λ S. []) _
-          (λ S. none_given r (after r (match_of r T) (Opened d k)) S ∙ goes.gives S) (told_none notes'');
+      told = noted_as notes'' notes'' [] _
+          (nothing_noted _ _ (λ S. none_given r (after r (match_of r T) (Opened d k)) S ∙ goes.gives S))
+          (noted_none notes'');
     })

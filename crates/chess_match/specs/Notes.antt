@@ -1,16 +1,59 @@
--- What a witness of a match is told: the events of a transcript, and the bytes that each engine is given.
-use Rattle.std.specs.Prelude.{◌≡◌, ℕ, List, [], ◌∷◌, ◌++◌, if◌then◌else◌}
+-- What a witness of a match is given: the events of a transcript, and after each the blocks that the engines are sent.
+use Rattle.std.specs.Prelude.{ℕ, ◌||◌, if◌then◌else◌, List, [], ◌∷◌, ◌++◌}
 use Rattle.chess_base.specs.declared.man.Colour.{Colour}
-use Rattle.chess_base.specs.Men.{same_colour}
-use Rattle.chess_match.specs.Match.{Event}
-use Rattle.chess_match.specs.Sent.{SentLine, bytes_of}
+use Rattle.chess_base.specs.declared.man.Colour.TheVariants.{White}
+use Rattle.chess_base.specs.Men.{other, same_colour}
+use Rattle.chess_match.specs.Match.{Match, Event, Line, Opened, OutputEnds, FailsToRead, FailsToWrite, start, after}
+use Rattle.chess_match.specs.Rules.{Rules}
+use Rattle.chess_match.specs.Sent.{SentLine, block, entry, bytes_of}
+use Rattle.chess_match.specs.Transcript.{is_on, is_dropped, fails_at}
 
 -- one note
 pub data Note : Type 0 where
   -- an event of the transcript
   Happened : (event : Event) → Note
-  -- more bytes of the lines that a side's engine is given, noted before they are written
+  -- the bytes of a block that a side's engine is sent, noted before they are written
   Gives : (side : Colour) → (text : List ℕ) → Note
+
+-- ---- the notes of a transcript
+
+-- the note of a block: none of an empty one
+abbrev pub given_note : Colour → List ℕ → List Note
+given_note S [] = []
+given_note S (b ∷ bs) = Gives S (b ∷ bs) ∷ []
+
+-- the notes of both engines' lines, S's first
+abbrev pub both_notes : Colour → (Colour → List SentLine) → List Note
+both_notes S lines = given_note S (bytes_of (lines S)) ++ given_note (other S) (bytes_of (lines (other S)))
+
+-- the engine of which an event came, or to which a write failed
+abbrev pub side_of : Event → Colour
+side_of (Line c text moment) = c
+side_of (Opened c moment) = c
+side_of (OutputEnds c) = c
+side_of (FailsToRead c) = c
+side_of (FailsToWrite c) = c
+
+-- who is sent its block first: the engine of which the event came, and White once the match is over
+abbrev pub first_sent : Match → Colour → Colour
+first_sent m S = if is_on m.phase then S else White
+
+-- the lines that S is sent at an event, before the others
+abbrev pub lines_at : Rules → Match → Event → List Event → Colour → List SentLine
+lines_at r m e es S = if is_dropped e es S || fails_at e S then [] else block r m (after r m e) S
+
+-- the notes of these events, from the match m on: each event, and then the blocks that it gives
+abbrev pub notes_from : Rules → Match → List Event → List Note
+notes_from r m [] = []
+notes_from r m (e ∷ es) =
+    Happened e
+    ∷ (both_notes (first_sent (after r m e) (side_of e)) (lines_at r m e es) ++ notes_from r (after r m e) es)
+
+-- the notes of a transcript: before all events White's first lines
+abbrev pub notes_of : Rules → List Event → List Note
+notes_of r T = both_notes White (λ S. entry r start S) ++ notes_from r start T
+
+-- ---- what notes hold
 
 -- the events among notes
 abbrev pub events_in : List Note → List Event
@@ -18,23 +61,19 @@ events_in [] = []
 events_in (Happened e ∷ notes) = e ∷ events_in notes
 events_in (Gives c text ∷ notes) = events_in notes
 
--- the bytes that S is given
+-- the bytes that S is sent by notes
 abbrev pub given_in : Colour → List Note → List ℕ
 given_in S [] = []
 given_in S (Happened e ∷ notes) = given_in S notes
 given_in S (Gives c text ∷ notes) = (if same_colour c S then text else []) ++ given_in S notes
 
--- what is known of a witness: whether it may have been told these notes, behind a text that it held before
-abbrev pub Knowing : Type 1
-Knowing = List ℕ → List Note → Type 0
+-- ---- a witness
 
--- from the one state to the other a witness was told these notes, in their order: whatever it was told before, these
--- came behind it
-pub record WasNoted (old new : Knowing) (more : List Note) : Type 0 where
+-- which notes a witness may have been given, after a text that it held before
+abbrev pub Noted : Type 1
+Noted = List ℕ → List Note → Type 0
+
+-- from the one state to the other a witness was given these notes, in their order and after all that it was given
+-- before
+pub record WasNoted (old new : Noted) (more : List Note) : Type 0 where
   pub behind : (before : List ℕ) (notes : List Note) → old before notes → new before (notes ++ more)
-
--- what was noted is these events, in their order, and for each engine the bytes of these lines
-abbrev pub WasTold : Knowing → Knowing → List Event → (Colour → List SentLine) → Type 0
-WasTold old new events lines =
-    (more : List Note) × WasNoted old new more × (events_in more ≡ events)
-    × ((S : Colour) → given_in S more ≡ bytes_of (lines S))

@@ -3,6 +3,5 @@ pub mod Stands
 pub mod Chess
 pub mod Steps
 pub mod Told
-pub mod Noting
 pub mod Awaits
 pub mod Delivering

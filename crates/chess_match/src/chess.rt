@@ -58,7 +58,7 @@ fn is_initial(start: &Position) -> bool
     write_fen(start).as_slice() == write_fen(&Position::initial()).as_slice()
 }
 
-// How the start of a match is told: as FEN, unless it is the initial position of normal chess.
+// The start of a match as it is sent: as FEN, unless it is the initial position of normal chess.
 fn start_text(start: &Position) -> Option<FenText>
     ensures text { option_map (λ t. t.items) result ≡ fen_told start.now }
     ensures short { IfSome result (λ t. array_vec_len t ≤ 100) }
@@ -162,7 +162,7 @@ impl<B: Board> Played for Game<B> {
         prefixed: bool,
         block: &mut Block,
     ) {
-        // The line of a game, of which each move is legal, is told with its position.
+        // The contract of `position` says that each move of the game is legal.
         let _playable = self.position();
         let ply = self.ply() - 1;
         let made = self.move_at(ply);

@@ -32,8 +32,8 @@ mod witness;
 
 pub use laws::{
     clocks_do_not_underflow, each_is_told_the_others, lines_are_few, moves_are_read,
-    moves_are_told_once, moves_sent_are_known, times_are_clocks, transcript_is_the_only_one,
-    used_times_are_differences,
+    moves_are_told_once, moves_sent_are_known, notes_have_all, times_are_clocks,
+    transcript_is_the_only_one, used_times_are_differences,
 };
 pub use moments::Moments;
 pub use phase::Phase;

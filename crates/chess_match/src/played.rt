@@ -33,7 +33,7 @@ pub(crate) trait Played {
     fn first(&self) -> Colour
         ensures { (r : Rules) → plays self.now r → result ≡ r.first };
 
-    /// Whether the start is told: it is, unless it is the initial position of normal chess.
+    /// Whether the start is sent: it is, unless it is the initial position of normal chess.
     fn has_start(&self) -> bool
         ensures { (r : Rules) → plays self.now r → result ≡ is_some r.start_fen };
 
@@ -67,14 +67,14 @@ pub(crate) trait Played {
         ensures rules { (r : Rules) → plays self.old r → plays self.new r }
         ensures origin { origin self.new ≡ origin self.old };
 
-    /// The line that tells the start, where it is told.
+    /// The line with the start, where it is sent.
     fn add_start(&self, block: &mut Block)
         requires { array_vec_len block.old + 110 ≤ BLOCK_LEN }
         ensures text { (r : Rules) → plays self.now r
             → block.new.items ≡ block.old.items ++ bytes_of (start_lines r.start_fen) }
         ensures len { array_vec_len block.new ≤ array_vec_len block.old + 110 };
 
-    /// The line that tells the last move, in SAN or by squares, with `usermove` before it or without.
+    /// The line with the last move, in SAN or by squares, with `usermove` before it or without.
     fn add_last_move<S: Board>(
         &self,
         scratch: &mut S,

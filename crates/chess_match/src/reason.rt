@@ -1,4 +1,4 @@
-//! Why a match is over, and what that is told as.
+//! Why a match is over, and how that is reported.
 
 ghost use Rattle.std.specs.Prelude.{◌≡◌, ◌≤◌, ◌++◌, length};
 ghost use Rattle.chess_match.specs.Reasons.{win_of, outcome_of, comment_of, claim_comment, colour_name, fault_words, ended_by, fault_of, first_fault};
@@ -20,7 +20,7 @@ pub enum MatchFault {
     NoDone,
     /// Its hello doesn't say `ping=1`.
     NoPing,
-    /// The start is to be told, and its hello doesn't say `setboard=1`.
+    /// The start is to be sent, and its handshake doesn't say `setboard=1`.
     NoSetboard,
     /// It sent 10,000 lines in its setup or in a turn that count as ignored.
     Flood,
@@ -163,7 +163,7 @@ impl Reason {
         }
     }
 
-    /// How the game ended, as the PGN tag `Termination` tells it.
+    /// How the game ended, as the PGN tag `Termination` has it.
     pub fn ended(self) -> HowEnded
         ensures { result ≡ ended_by self }
     {

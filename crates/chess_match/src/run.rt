@@ -1,28 +1,31 @@
 //! The run of a match.
 
-ghost use Rattle.std.specs.Prelude.{◌≡◌, ◌<◌, List, [], ◌∷◌, ℕ, length, true, None, is_some};
+ghost use Rattle.std.specs.Prelude.{◌≡◌, ◌<◌, List, [], ◌∷◌, ℕ, length, true, None, is_some, ◌≤◌};
+ghost use Rattle.arrayvec.specs.ArrayVec.{array_vec_len};
 ghost use Rattle.chess_base.specs.Men.{other};
 ghost use Rattle.chess_base.specs.declared.man.Colour.{Colour};
 ghost use Rattle.chess_cecp.specs.Next.{NextLine};
 ghost use Rattle.chess_game.specs.Game.{at, outcome_now, with_declared, verdict_now};
 ghost use Rattle.chess_match.specs.ties.Awaits.{IsAwaited};
 ghost use Rattle.chess_match.specs.ties.Delivering.{by_side, by_turn, event_heard, line_event, Delivered, HasLast};
-ghost use Rattle.engine_lines.specs.EngineLines.{kind_heard};
-ghost use Rattle.engine_lines.specs.Items.{items_of};
+ghost use Rattle.engine_lines.specs.EngineLines.{kind_heard, Features};
+ghost use Rattle.engine_lines.specs.Items.{Item};
 ghost use Rattle.chess_match.specs.Match.{Match, FailsToWrite, after};
-ghost use Rattle.chess_match.specs.Notes.{WasTold};
+ghost use Rattle.chess_match.specs.Notes.{WasNoted, Happened, given_note, both_notes};
 ghost use Rattle.chess_match.specs.Reasons.{declared_at};
 ghost use Rattle.chess_match.specs.Rules.{Rules};
 ghost use Rattle.chess_match.specs.Run.{Ports, Ran, RanBefore, Asked, text_heard};
 ghost use Rattle.engine_lines.specs.Seen.{seen};
-ghost use Rattle.chess_match.specs.Sent.{block, bytes_of, for};
-ghost use Rattle.chess_match.specs.ties.Stands.{Stands, Goes, given_block, items_in};
+ghost use Rattle.chess_match.specs.Sent.{block, bytes_of, answers_to};
+ghost use Rattle.chess_match.specs.ties.Stands.{Stands, Goes, given_block, items_to};
 ghost use Rattle.chess_match.specs.ties.Steps.{IsSane};
 ghost use Rattle.chess_match.specs.ties.Told.{SendsIf, IsTold};
 ghost use Rattle.chess_match.specs.Transcript.{is_on, reads, moment_in};
+ghost use Rattle.chess_match.specs.declared.block.TheConstants.{ANSWERS_LEN};
 ghost use Rattle.chess_match.specs.declared.run.TheConstants.{ENGINE_LINE_LEN};
 
-use crate::giving::tell_and_send;
+use crate::block::{Block, Blocks};
+use crate::giving::note_and_send;
 use crate::moments::Moments;
 use crate::phase::Phase;
 use crate::played::Played;
@@ -63,15 +66,15 @@ pub struct Setup {
 pub struct MatchEnd {
     /// The outcome: `Unfinished` where a fault ended the match, or where no further move has room.
     pub outcome: Outcome,
-    /// What is said of the end, as it is sent to the engines behind `result`.
+    /// What is said of the end, as it is sent to the engines after `result`.
     pub comment: Comment,
-    /// How it came, as the PGN tag `Termination` tells it.
+    /// How it came, as the PGN tag `Termination` has it.
     pub ended: HowEnded,
     /// The name that White's engine gave itself; empty where it gave none.
     pub white_name: TagText,
     /// The name that Black's engine gave itself; empty where it gave none.
     pub black_name: TagText,
-    /// The first fault, and the side of which it is told. One that first comes in the end lines leaves the outcome.
+    /// The first fault, and whose it is. One that first comes in the end lines leaves the outcome.
     pub fault: Option<(Colour, MatchFault)>,
 }
 
@@ -80,10 +83,10 @@ pub struct MatchEnd {
 ///
 /// In the contract there is a transcript of the match: the lines, moments, ends and failures in their order. It agrees
 /// with both engines' devices and with the moments, one for each line and one at the end of each turn's opening, and it
-/// tells all that was sent, the game and the end. Where nothing was unflushed before, nothing is at the end, but for
+/// fixes all that was sent, the game and the end. Where nothing was unflushed before, nothing is at the end, but for
 /// the beginning of a block at which a write or a flush failed.
 ///
-/// That a block is flushed before the next line is read, and that a moment is asked for behind its line or opening, is
+/// That a block is flushed before the next line is read, and that a moment is asked for after its line or opening, is
 /// only tested. By the code no memory is taken, and an engine that doesn't answer is waited for.
 pub fn run_match<R: Input, W: Output, M: Moments, B: Board>(
     white: &mut Ends<R, W>,
@@ -116,11 +119,11 @@ pub fn run_match<R: Input, W: Output, M: Moments, B: Board>(
     run_match_watched(white, black, moments, setup, game, scratch, &mut Silent)
 }
 
-/// Plays one game as [`run_match`] does, and tells a witness of it as it goes.
+/// Plays one game as [`run_match`] does, before a witness.
 ///
-/// In the contract the transcript is no longer any that there is: it is what the witness was told, in its order. It was
-/// also told all lines that each engine is sent. Each line is told before it is heard, and each block before it is
-/// written; that is only tested.
+/// In the contract the witness was given the notes of the transcript, and no others: each event, and after it the block
+/// that each engine is sent, in their order. So what it was given is known from the transcript. That each line is noted
+/// before it is judged, and each block before it is written, is only tested.
 pub fn run_match_watched<R: Input, W: Output, M: Moments, B: Board, L: Witness>(
     white: &mut Ends<R, W>,
     black: &mut Ends<R, W>,
@@ -154,6 +157,7 @@ pub fn run_match_watched<R: Input, W: Output, M: Moments, B: Board, L: Witness>(
     let mut core = Core::new(setup.level);
     let mut white_lines: Lines<ENGINE_LINE_LEN> = Lines::new();
     let mut black_lines: Lines<ENGINE_LINE_LEN> = Lines::new();
+    let mut blocks = Blocks::new();
     let mut failed = deliver(
         &mut white.writer,
         &mut black.writer,
@@ -162,7 +166,7 @@ pub fn run_match_watched<R: Input, W: Output, M: Moments, B: Board, L: Witness>(
         game,
         scratch,
         ENTRY,
-        b"",
+        &mut blocks,
         Colour::White,
     );
     'events: loop {
@@ -181,7 +185,15 @@ pub fn run_match_watched<R: Input, W: Output, M: Moments, B: Board, L: Witness>(
                     &mut black_lines,
                     side,
                 );
-                let (given, text) = note(&mut core, moments, witness, game, &heard, side);
+                let given = hear(
+                    &mut core,
+                    moments,
+                    witness,
+                    game,
+                    &heard,
+                    side,
+                    &mut blocks.own,
+                );
                 failed = deliver(
                     &mut white.writer,
                     &mut black.writer,
@@ -190,7 +202,7 @@ pub fn run_match_watched<R: Input, W: Output, M: Moments, B: Board, L: Witness>(
                     game,
                     scratch,
                     given,
-                    text,
+                    &mut blocks,
                     side,
                 );
             }
@@ -260,35 +272,43 @@ fn send_both<W: Output, L: Witness, G: Played, S: Board>(
     game: &G,
     scratch: &mut S,
     given: Given,
-    text: &[u8],
+    white_block: &mut Block,
+    black_block: &mut Block,
 ) -> Failed
-    requires { is_some core.now.untold ≡ true → 0 < length (G.played game.now) }
-    ensures { (r : Rules) (m : Match) → G.plays game.now r → Stands r core.now (G.played game.now) m
+    requires untold { is_some core.now.untold ≡ true → 0 < length (G.played game.now) }
+    requires white_room { array_vec_len white_block.old ≤ ANSWERS_LEN }
+    requires black_room { array_vec_len black_block.old ≤ ANSWERS_LEN }
+    ensures sent { (r : Rules) (m : Match) (items : Colour → List Item) → G.plays game.now r
+        → Stands r core.now (G.played game.now) m
+        → white_block.old.items ≡ bytes_of (answers_to (items Colour.White))
+        → black_block.old.items ≡ bytes_of (answers_to (items Colour.Black))
         → SendsIf result.white (W.seen white.old) (W.seen white.new)
-        (bytes_of (given_block r given (items_of text.now) m Colour.White))
+        (bytes_of (given_block r given items m Colour.White))
         × SendsIf result.black (W.seen black.old) (W.seen black.new)
-        (bytes_of (given_block r given (items_of text.now) m Colour.Black))
-        × WasTold (L.told witness.old) (L.told witness.new) [] (given_block r given (items_of text.now) m) }
+        (bytes_of (given_block r given items m Colour.Black))
+        × WasNoted (L.told witness.old) (L.told witness.new) (both_notes Colour.White (given_block r given items m)) }
+    ensures white_empty { white_block.new.items ≡ [] }
+    ensures black_empty { black_block.new.items ≡ [] }
 {
-    let white_failed = tell_and_send(
+    let white_failed = note_and_send(
         white,
         witness,
         core,
         game,
         scratch,
         given,
-        text,
+        white_block,
         Colour::White,
     )
     .is_err();
-    let black_failed = tell_and_send(
+    let black_failed = note_and_send(
         black,
         witness,
         core,
         game,
         scratch,
         given,
-        text,
+        black_block,
         Colour::Black,
     )
     .is_err();
@@ -306,27 +326,30 @@ fn end_for_other<W: Output, L: Witness, G: Played, S: Board>(
     core: &mut Core,
     game: &G,
     scratch: &mut S,
+    waiting: &mut Block,
     side: Colour,
 ) -> bool
     requires last { HasLast core.old (G.played game.now) }
     requires on { is_on core.old.phase ≡ true }
-    ensures { (r : Rules) (m : Match) → G.plays game.now r → Stands r core.old (G.played game.now) m
+    requires empty { waiting.old.items ≡ [] }
+    ensures ended { (r : Rules) (m : Match) → G.plays game.now r → Stands r core.old (G.played game.now) m
         → Stands r core.new (G.played game.now) (after r m (FailsToWrite side))
         × SendsIf result (W.seen others.old) (W.seen others.new)
         (bytes_of (block r m (after r m (FailsToWrite side)) (other side)))
-        × WasTold (L.told witness.old) (L.told witness.new) (FailsToWrite side ∷ [])
-        (λ X. for (other side) X (block r m (after r m (FailsToWrite side)) (other side))) }
+        × WasNoted (L.told witness.old) (L.told witness.new) (Happened (FailsToWrite side)
+        ∷ given_note (other side) (bytes_of (block r m (after r m (FailsToWrite side)) (other side)))) }
+    ensures empty { waiting.new.items ≡ [] }
 {
     witness.write_fails(side);
     let given = core.write_fails(side);
-    tell_and_send(
+    note_and_send(
         others,
         witness,
         core,
         game,
         scratch,
         given,
-        b"",
+        waiting,
         side.other(),
     )
     .is_err()
@@ -342,40 +365,73 @@ fn send_in_turn<W: Output, L: Witness, G: Played, S: Board>(
     game: &G,
     scratch: &mut S,
     given: Given,
-    text: &[u8],
+    blocks: &mut Blocks,
     side: Colour,
 ) -> (bool, bool)
     requires last { HasLast core.old (G.played game.now) }
     requires on { is_on core.old.phase ≡ true }
-    ensures { (r : Rules) (m : Match) → G.plays game.now r → Stands r core.old (G.played game.now) m
-        → Delivered r core.new (G.played game.now) m (given_block r given (items_of text.now) m) side
+    requires room { array_vec_len blocks.old.own ≤ ANSWERS_LEN }
+    requires empty { blocks.old.others.items ≡ [] }
+    ensures delivered { (r : Rules) (m : Match) (items : Colour → List Item) → G.plays game.now r
+        → Stands r core.old (G.played game.now) m → blocks.old.own.items ≡ bytes_of (answers_to (items side))
+        → items (other side) ≡ []
+        → Delivered r core.new (G.played game.now) m (given_block r given items m) side
         (by_turn side (W.seen own.old) (W.seen others.old)) (by_turn side (W.seen own.new) (W.seen others.new))
         (by_turn side result.0 result.1) (L.told witness.old) (L.told witness.new) }
+    ensures own_empty { blocks.new.own.items ≡ [] }
+    ensures others_empty { blocks.new.others.items ≡ [] }
 {
-    if tell_and_send(own, witness, core, game, scratch, given, text, side).is_err() {
-        let others_failed = end_for_other(others, witness, core, game, scratch, side);
+    if note_and_send(
+        own,
+        witness,
+        core,
+        game,
+        scratch,
+        given,
+        &mut blocks.own,
+        side,
+    )
+    .is_err()
+    {
+        let others_failed = end_for_other(
+            others,
+            witness,
+            core,
+            game,
+            scratch,
+            &mut blocks.others,
+            side,
+        );
         return (true, others_failed);
     }
-    if tell_and_send(
+    if note_and_send(
         others,
         witness,
         core,
         game,
         scratch,
         given,
-        text,
+        &mut blocks.others,
         side.other(),
     )
     .is_err()
     {
-        let own_failed = end_for_other(own, witness, core, game, scratch, side.other());
+        let own_failed = end_for_other(
+            own,
+            witness,
+            core,
+            game,
+            scratch,
+            &mut blocks.own,
+            side.other(),
+        );
         return (own_failed, true);
     }
     (false, false)
 }
 
 // Sends the blocks of an event: first to the side of which it came, and at the end to White and then to Black. A write
-// that fails ends the match.
+// that fails ends the match. The answers to the items of a line wait in the block of its side.
 fn deliver<W: Output, L: Witness, G: Played, S: Board>(
     white: &mut W,
     black: &mut W,
@@ -384,22 +440,39 @@ fn deliver<W: Output, L: Witness, G: Played, S: Board>(
     game: &G,
     scratch: &mut S,
     given: Given,
-    text: &[u8],
+    blocks: &mut Blocks,
     side: Colour,
 ) -> Failed
-    requires { HasLast core.old (G.played game.now) }
-    ensures { (r : Rules) (m : Match) → G.plays game.now r → Stands r core.old (G.played game.now) m
-        → Delivered r core.new (G.played game.now) m (given_block r given (items_of text.now) m) side
+    requires last { HasLast core.old (G.played game.now) }
+    requires room { array_vec_len blocks.old.own ≤ ANSWERS_LEN }
+    requires empty { blocks.old.others.items ≡ [] }
+    ensures delivered { (r : Rules) (m : Match) (items : Colour → List Item) → G.plays game.now r
+        → Stands r core.old (G.played game.now) m → blocks.old.own.items ≡ bytes_of (answers_to (items side))
+        → items (other side) ≡ []
+        → Delivered r core.new (G.played game.now) m (given_block r given items m) side
         (by_side (W.seen white.old) (W.seen black.old)) (by_side (W.seen white.new) (W.seen black.new))
         (by_side result.white result.black) (L.told witness.old) (L.told witness.new) }
+    ensures own_empty { blocks.new.own.items ≡ [] }
+    ensures others_empty { blocks.new.others.items ≡ [] }
 {
-    if core.is_over() {
-        return send_both(white, black, witness, core, game, scratch, given, text);
-    }
+    let is_over = core.is_over();
     match side {
         Colour::White => {
+            if is_over {
+                return send_both(
+                    white,
+                    black,
+                    witness,
+                    core,
+                    game,
+                    scratch,
+                    given,
+                    &mut blocks.own,
+                    &mut blocks.others,
+                );
+            }
             let (own, others) = send_in_turn(
-                white, black, witness, core, game, scratch, given, text, side,
+                white, black, witness, core, game, scratch, given, blocks, side,
             );
             Failed {
                 white: own,
@@ -407,39 +480,27 @@ fn deliver<W: Output, L: Witness, G: Played, S: Board>(
             }
         }
         Colour::Black => {
+            if is_over {
+                return send_both(
+                    white,
+                    black,
+                    witness,
+                    core,
+                    game,
+                    scratch,
+                    given,
+                    &mut blocks.others,
+                    &mut blocks.own,
+                );
+            }
             let (own, others) = send_in_turn(
-                black, white, witness, core, game, scratch, given, text, side,
+                black, white, witness, core, game, scratch, given, blocks, side,
             );
             Failed {
                 white: others,
                 black: own,
             }
         }
-    }
-}
-
-// What a line tells of items: those of a hello alone.
-#[tactic(auto, unfolding(engine_lines::specs::Items::items_of))]
-fn items_text(phase: Phase, said: EngineLine<'_>) -> &[u8]
-    ensures { items_of result.now ≡ items_in phase (seen said.entry) }
-{
-    match phase {
-        Phase::Hello(_) => match said {
-            EngineLine::Features(text) => text,
-            EngineLine::Move(_) => b"",
-            EngineLine::Pong(_) => b"",
-            EngineLine::Resign => b"",
-            EngineLine::Offer => b"",
-            EngineLine::Draw => b"",
-            EngineLine::Win(_) => b"",
-            EngineLine::Rejection => b"",
-            EngineLine::Other => b"",
-        },
-        Phase::Setup(_) => b"",
-        Phase::Opening(_) => b"",
-        Phase::Before(_) => b"",
-        Phase::After(_) => b"",
-        Phase::Over(_) => b"",
     }
 }
 
@@ -452,7 +513,8 @@ fn is_heard(line: &Line<ENGINE_LINE_LEN>) -> bool
 
 // What a line says; of one that is too long nothing.
 fn said(line: &Line<ENGINE_LINE_LEN>) -> EngineLine<'_>
-    ensures { seen result ≡ kind_heard (text_heard line.now) }
+    ensures said { seen result ≡ kind_heard (text_heard line.now) }
+    ensures short { (text : List ℕ) → seen result ≡ Features text → length text ≤ ENGINE_LINE_LEN }
 {
     if line.is_too_long() {
         EngineLine::Other
@@ -461,72 +523,76 @@ fn said(line: &Line<ENGINE_LINE_LEN>) -> EngineLine<'_>
     }
 }
 
-// Hears a line of a side's engine, and then asks for the moment. What is to be sent, and the text of the
-// items to be answered.
-fn hear_line<'a, M: Moments, L: Witness, G: Played>(
+// Hears a line of a side's engine, and then asks for the moment. What is to be sent; the answers to the line's items
+// are added to an empty block.
+fn hear_line<M: Moments, L: Witness, G: Played>(
     core: &mut Core,
     moments: &mut M,
     witness: &mut L,
     game: &mut G,
-    line: &'a Line<ENGINE_LINE_LEN>,
+    line: &Line<ENGINE_LINE_LEN>,
     side: Colour,
-) -> (Given, &'a [u8])
-    requires { (r : Rules) × (m : Match) × (G.plays game.old r) × Stands r core.old (G.played game.old) m × IsSane r m
-        × (reads m.phase side ≡ true) }
+    block: &mut Block,
+) -> Given
+    requires sane { (r : Rules) × (m : Match) × (G.plays game.old r) × Stands r core.old (G.played game.old) m
+        × IsSane r m × (reads m.phase side ≡ true) }
+    requires empty { block.old.items ≡ [] }
     ensures rules { (r : Rules) → G.plays game.old r → G.plays game.new r }
     ensures origin { G.origin game.new ≡ G.origin game.old }
-    ensures heard { (moment : ℕ) × Asked (M.coming moments.old) (M.coming moments.new) (moment ∷ [])
-        × WasTold (L.told witness.old) (L.told witness.new) (line_event side line.now moment ∷ []) (λ X. [])
+    ensures heard { (moment : ℕ) × (items : List Item)
+        × Asked (M.coming moments.old) (M.coming moments.new) (moment_in (line_event side line.now moment))
+        × WasNoted (L.told witness.old) (L.told witness.new) (Happened (line_event side line.now moment) ∷ [])
+        × (block.new.items ≡ bytes_of (answers_to items))
         × ((r : Rules) (m : Match) → G.plays game.old r → reads m.phase side ≡ true
         → Stands r core.old (G.played game.old) m
-        → Goes r core.new (G.played game.new) result.0 (items_of result.1.now) m
-        (after r m (line_event side line.now moment))) }
+        → Goes r core.new (G.played game.new) result (items_to side items) m (after r m (line_event side line.now moment))) }
+    ensures room { array_vec_len block.new ≤ ANSWERS_LEN }
 {
     let moment = moments.now();
     witness.line(side, line, moment);
-    let said = said(line);
-    let text = items_text(core.phase, said);
-    let given = core.line(game, said, moment);
-    (given, text)
+    core.line(game, said(line), moment, block)
 }
 
-// Hears what a call for the next line of a side's engine gave. What is to be sent, and the text of the
-// items to be answered.
-fn note<'a, M: Moments, L: Witness, G: Played>(
+// Hears what a call for the next line of a side's engine gave. What is to be sent; the answers to the line's items are
+// added to an empty block.
+fn hear<M: Moments, L: Witness, G: Played>(
     core: &mut Core,
     moments: &mut M,
     witness: &mut L,
     game: &mut G,
-    heard: &'a Result<Option<Line<ENGINE_LINE_LEN>>, ReadFault>,
+    heard: &Result<Option<Line<ENGINE_LINE_LEN>>, ReadFault>,
     side: Colour,
-) -> (Given, &'a [u8])
-    requires { (r : Rules) × (m : Match) × (G.plays game.old r) × Stands r core.old (G.played game.old) m × IsSane r m
-        × (reads m.phase side ≡ true) }
+    block: &mut Block,
+) -> Given
+    requires sane { (r : Rules) × (m : Match) × (G.plays game.old r) × Stands r core.old (G.played game.old) m
+        × IsSane r m × (reads m.phase side ≡ true) }
+    requires empty { block.old.items ≡ [] }
     ensures rules { (r : Rules) → G.plays game.old r → G.plays game.new r }
     ensures origin { G.origin game.new ≡ G.origin game.old }
-    ensures heard { (moment : ℕ)
+    ensures heard { (moment : ℕ) × (items : List Item)
         × Asked (M.coming moments.old) (M.coming moments.new) (moment_in (event_heard side moment heard.now))
-        × WasTold (L.told witness.old) (L.told witness.new) (event_heard side moment heard.now ∷ []) (λ X. [])
+        × WasNoted (L.told witness.old) (L.told witness.new) (Happened (event_heard side moment heard.now) ∷ [])
+        × (block.new.items ≡ bytes_of (answers_to items))
         × ((r : Rules) (m : Match) → G.plays game.old r → reads m.phase side ≡ true
         → Stands r core.old (G.played game.old) m
-        → Goes r core.new (G.played game.new) result.0 (items_of result.1.now) m
-        (after r m (event_heard side moment heard.now))) }
+        → Goes r core.new (G.played game.new) result (items_to side items) m (after r m (event_heard side moment heard.now))) }
+    ensures room { array_vec_len block.new ≤ ANSWERS_LEN }
 {
     match heard {
         Err(_) => {
             witness.read_fails(side);
-            (core.read_fails(side), b"".as_slice())
+            core.read_fails(side)
         }
         Ok(None) => {
             witness.output_ends(side);
-            (core.output_ends(side), b"".as_slice())
+            core.output_ends(side)
         }
         Ok(Some(line)) => {
             if is_heard(line) {
-                hear_line(core, moments, witness, game, line, side)
+                hear_line(core, moments, witness, game, line, side, block)
             } else {
                 witness.output_ends(side);
-                (core.output_ends(side), b"".as_slice())
+                core.output_ends(side)
             }
         }
     }
@@ -543,7 +609,7 @@ fn declare<B: Board>(game: &mut Game<B>, reason: Reason)
     let _declared = game.declare(reason.outcome(), Comment::cut(reason.comment()));
 }
 
-// What is told of the end; it is declared where the game has no verdict.
+// The report of the end; the end is declared where the game has no verdict.
 fn end_of<B: Board>(core: Core, game: &mut Game<B>, reason: Reason, failed: Failed) -> MatchEnd
     requires { game.old.state.declared ≡ None }
     ensures told { IsTold reason failed result }

@@ -1,19 +1,15 @@
 //! Sending blocks.
 
 ghost use Rattle.chess_match.specs.declared.block.TheConstants.{BLOCK_LEN};
-ghost use Rattle.std.specs.Prelude.{◌≡◌, ◌≢◌, ◌+◌, false, Ok, IfOk, ◌≤◌, ◌<◌, ◌++◌, ◌∷◌, [], length, IsErr, List, is_some, true, nat_lt, if◌then◌else◌};
+ghost use Rattle.std.specs.Prelude.{◌≡◌, ◌+◌, false, ◌≤◌, ◌<◌, ◌++◌, ◌∷◌, [], length, List, is_some, true, if◌then◌else◌};
 ghost use Rattle.arrayvec.specs.ArrayVec.{array_vec_len};
-ghost use Rattle.byte_devices.specs.Devices.{Puts, Sends};
-ghost use Rattle.std.specs.Result.{is_err};
-ghost use Rattle.chess_match.specs.ties.Told.{SendsIf};
-ghost use Rattle.engine_lines.specs.Items.{items_of};
-ghost use Rattle.chess_pgn.specs.ties.Waiting.{Adds};
+ghost use Rattle.byte_devices.specs.Devices.{Sends};
 ghost use Rattle.chess_match.specs.Match.{Match};
 ghost use Rattle.chess_match.specs.Rules.{Rules};
 ghost use Rattle.chess_base.specs.declared.man.Move.{Move};
-ghost use Rattle.chess_match.specs.Sent.{SentLine, DrawOffered, answer_line, bytes_of, answers_to, last_move, last_move_lines, clock_lines, opening_lines, setup_lines, end_lines, end_block, entry, untold_lines, variant_lines, is_unwritten};
+ghost use Rattle.chess_match.specs.Sent.{DrawOffered, bytes_of, last_move, last_move_lines, clock_lines, opening_lines, setup_lines, end_lines, entry, untold_lines, variant_lines, is_unwritten};
 ghost use Rattle.chess_match.specs.Reasons.{fault_of};
-ghost use Rattle.chess_match.specs.ties.Stands.{Stands, given_block, player, to};
+ghost use Rattle.chess_match.specs.ties.Stands.{Stands, player, to};
 
 use crate::block::{Block, add, add_end, add_level, add_ping, add_times};
 use crate::phase::Phase;
@@ -155,7 +151,7 @@ fn add_setup<G: Played>(block: &mut Block, core: &Core, game: &G)
     add_ping(block, 1);
 }
 
-// The last move, if the side is still to be told it.
+// The last move, if the side is still to be sent it.
 fn add_untold<G: Played, S: Board>(
     block: &mut Block,
     core: &Core,
@@ -271,131 +267,7 @@ fn add_entry<G: Played, S: Board>(
     }
 }
 
-// Adds the answer to an item of that name.
-fn add_answer(block: &mut Block, name: &[u8])
-    requires { array_vec_len block.old + length name.now + 10 ≤ BLOCK_LEN }
-    ensures text { block.new.items ≡ block.old.items ++ answer_line name.now }
-    ensures len { array_vec_len block.new ≡ array_vec_len block.old + length name.now + 10 }
-{
-    if is_known(name) {
-        add(block, b"accepted ");
-    } else {
-        add(block, b"rejected ");
-    }
-    add(block, name);
-    add(block, b"\n");
-}
-
-// Writes the answer to an item of that name.
-fn put_answer<W: Output>(writer: &mut W, name: &[u8]) -> Result<(), WriteFault>
-    ensures { Puts (W.seen writer.old) (W.seen writer.new) result (answer_line name.now) }
-{
-    if is_known(name) {
-        put_parts(writer, &[b"accepted ".as_slice(), name, b"\n".as_slice()])
-    } else {
-        put_parts(writer, &[b"rejected ".as_slice(), name, b"\n".as_slice()])
-    }
-}
-
-// Writes what waits.
-fn put_block<W: Output>(writer: &mut W, block: &mut Block) -> Result<(), WriteFault>
-    ensures puts { Puts (W.seen writer.old) (W.seen writer.new) result block.old.items }
-    ensures empty { IfOk result (λ u. block.new.items ≡ []) }
-    ensures len { IfOk result (λ u. array_vec_len block.new ≤ 290) }
-{
-    match put(writer, block.as_slice()) {
-        Ok(()) => {}
-        Err(fault) => return Err(fault),
-    }
-    block.clear();
-    Ok(())
-}
-
-// Whether the answer to an item of that name fits behind what waits, so that there is room for the rest of a block too.
-fn has_room(block: &Block, name: &[u8]) -> bool
-    ensures { result ≡ true → array_vec_len block.now + length name.now ≤ 280 }
-{
-    name.len() <= 280 && block.len() <= 280 - name.len()
-}
-
-// Answers an item of that name behind what waits; where there is no room for it, what waits is written first,
-// and then the answer.
-fn answer<W: Output>(writer: &mut W, block: &mut Block, name: &[u8]) -> Result<(), WriteFault>
-    requires { array_vec_len block.old ≤ 290 }
-    ensures adds { Adds (W.seen writer.old) (W.seen writer.new) block.old.items block.new.items result
-        (answer_line name.now) }
-    ensures len { IfOk result (λ u. array_vec_len block.new ≤ 290) }
-{
-    if has_room(block, name) {
-        add_answer(block, name);
-        return Ok(());
-    }
-    match put_block(writer, block) {
-        Ok(()) => {}
-        Err(fault) => return Err(fault),
-    }
-    put_answer(writer, name)
-}
-
-// Answers the items of a text, and tells whether there are any.
-fn answer_items<W: Output>(
-    writer: &mut W,
-    block: &mut Block,
-    text: &[u8],
-) -> Result<bool, WriteFault>
-    requires { array_vec_len block.old ≤ 290 }
-    ensures adds { Adds (W.seen writer.old) (W.seen writer.new) block.old.items block.new.items result
-        (bytes_of (answers_to (items_of text.now))) }
-    ensures len { IfOk result (λ some. array_vec_len block.new ≤ 290) }
-    ensures due { IsErr result → 0 < length (answers_to (items_of text.now)) }
-    ensures some { IfOk result (λ some. some ≡ nat_lt 0 (length (answers_to (items_of text.now)))) }
-{
-    let mut rest = text;
-    let mut some = false;
-    while let Some((item, behind)) = next_item(rest) {
-        match answer(writer, block, item.name) {
-            Ok(()) => {}
-            Err(fault) => return Err(fault),
-        }
-        some = true;
-        if item.ends_hello() {
-            return Ok(some);
-        }
-        rest = behind;
-    }
-    Ok(some)
-}
-
-// Answers the items of a text, if they are that side's, and tells whether there are any.
-#[tactic(auto, unfolding(crate::specs::Sent::bytes_of), using(chess_pgn::proofs::Added::added_none))]
-fn answer_own_items<W: Output>(
-    writer: &mut W,
-    block: &mut Block,
-    given: Given,
-    text: &[u8],
-    side: Colour,
-) -> Result<bool, WriteFault>
-    requires { array_vec_len block.old ≤ 290 }
-    ensures adds { Adds (W.seen writer.old) (W.seen writer.new) block.old.items block.new.items result
-        (bytes_of (to given.answers side (answers_to (items_of text.now)))) }
-    ensures len { IfOk result (λ some. array_vec_len block.new ≤ 290) }
-    ensures due { IsErr result → 0 < length (to given.answers side (answers_to (items_of text.now))) }
-    ensures some { IfOk result
-        (λ some. some ≡ nat_lt 0 (length (to given.answers side (answers_to (items_of text.now))))) }
-{
-    match given.answers {
-        None => Ok(false),
-        Some(answering) => {
-            if is_side(answering, side) {
-                answer_items(writer, block, text)
-            } else {
-                Ok(false)
-            }
-        }
-    }
-}
-
-// The offer of a draw, if that side is told one.
+// The offer of a draw, if that side is sent one.
 #[tactic(auto, unfolding(crate::specs::Sent::bytes_of))]
 pub(crate) fn add_offer(block: &mut Block, given: Given, side: Colour)
     requires { array_vec_len block.old + 10 ≤ BLOCK_LEN }
@@ -432,50 +304,10 @@ pub(crate) fn add_entered<G: Played, S: Board>(
     }
 }
 
-// Whether nothing is to be sent: no text, and nothing was written before it.
-fn is_nothing(text: &[u8], is_due: bool) -> bool
-    ensures some { result ≡ false → is_due ≡ false → text.now ≢ [] }
-    ensures none { result ≡ true → (is_due ≡ false) × (text.now ≡ []) }
-{
-    text.is_empty() && !is_due
-}
-
-// Writes a text, and flushes.
-fn put_and_flush<W: Output>(writer: &mut W, text: &[u8]) -> Result<(), WriteFault>
+/// Writes a text, and flushes.
+pub(crate) fn put_and_flush<W: Output>(writer: &mut W, text: &[u8]) -> Result<(), WriteFault>
     ensures { Sends (W.seen writer.old) (W.seen writer.new) result text.now }
 {
     put(writer, text)?;
     writer.flush()
-}
-
-/// Writes and flushes the block that is given for a side, if it isn't empty: answers to the items of a text, an offer,
-/// and what the phase gives. It is written by one call, unless there are more answers than fit the buffer.
-pub(crate) fn send<W: Output, G: Played, S: Board>(
-    writer: &mut W,
-    core: &Core,
-    game: &G,
-    scratch: &mut S,
-    given: Given,
-    text: &[u8],
-    side: Colour,
-) -> Result<(), WriteFault>
-    requires { is_some core.now.untold ≡ true → 0 < length (G.played game.now) }
-    ensures sends { (r : Rules) (m : Match) → G.plays game.now r → Stands r core.now (G.played game.now) m
-        → SendsIf (is_err result) (W.seen writer.old) (W.seen writer.new)
-        (bytes_of (given_block r given (items_of text.now) m side)) }
-    ensures due { (r : Rules) (m : Match) → G.plays game.now r → Stands r core.now (G.played game.now) m → IsErr result
-        → 0 < length (given_block r given (items_of text.now) m side) }
-{
-    let mut block = Block::new();
-    let answered = match answer_own_items(writer, &mut block, given, text, side) {
-        Ok(answered) => answered,
-        Err(fault) => return Err(fault),
-    };
-    add_offer(&mut block, given, side);
-    add_entered(&mut block, core, game, scratch, given, side);
-    let waiting = block.as_slice();
-    if is_nothing(waiting, answered) {
-        return Ok(());
-    }
-    put_and_flush(writer, waiting)
 }

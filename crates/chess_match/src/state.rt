@@ -1,6 +1,8 @@
 //! The core of a match, without devices.
 
-ghost use Rattle.std.specs.Prelude.{◌≡◌, ◌++◌, ◌∷◌, [], List, false};
+ghost use Rattle.std.specs.Prelude.{◌≡◌, ◌++◌, ◌∷◌, [], List, false, ◌+◌, ◌*◌, ◌≤◌, length};
+ghost use Rattle.arrayvec.specs.ArrayVec.{array_vec_len};
+ghost use Rattle.chess_match.specs.declared.block.TheConstants.{ANSWERS_LEN};
 ghost use Rattle.chess_base.specs.Men.{same_colour};
 ghost use Rattle.engine_lines.specs.Seen.{item_seen, features_of};
 ghost use Rattle.engine_lines.specs.Items as told;
@@ -8,7 +10,9 @@ ghost use Rattle.engine_lines.specs.Items.{items_of, has_done};
 ghost use Rattle.chess_match.specs.ties.Stands.{name_by, Stands};
 ghost use Rattle.chess_match.specs.Match.{start};
 ghost use Rattle.chess_match.specs.Rules.{Rules};
+ghost use Rattle.chess_match.specs.Sent.{answers_to, bytes_of};
 
+use crate::block::{Block, add_answer};
 use crate::phase::Phase;
 use chess_base::Colour;
 use chess_pgn::TagText;
@@ -23,10 +27,9 @@ pub(crate) struct Player {
     pub offers: bool,
 }
 
-/// What is to be sent: answers to the items of the line, an offer, and what the phase that was entered gives.
+/// What is to be sent beside answers to items: an offer, and what the phase that was entered gives.
 #[derive(Clone, Copy)]
 pub(crate) struct Given {
-    pub answers: Option<Colour>,
     pub draw: Option<Colour>,
     pub entered: bool,
 }
@@ -38,7 +41,7 @@ pub(crate) struct Core {
     pub white: Player,
     pub black: Player,
     pub clocks: Clocks,
-    /// Who is still to be told the last move.
+    /// Who is still to be sent the last move.
     pub untold: Option<Colour>,
     /// The lines of a hello, or the ignored ones of a setup or a turn.
     pub count: u32,
@@ -47,13 +50,11 @@ pub(crate) struct Core {
 }
 
 pub(crate) const NOTHING: Given = Given {
-    answers: None,
     draw: None,
     entered: false,
 };
 
 pub(crate) const ENTRY: Given = Given {
-    answers: None,
     draw: None,
     entered: true,
 };
@@ -73,19 +74,23 @@ impl Player {
         }
     }
 
-    /// Takes over what the items of a text say, and answers whether they end the hello.
-    pub(crate) fn hear(&mut self, text: &[u8]) -> bool
+    /// Takes over what the items of a text say, adds the answers to them, and returns whether they end the handshake.
+    pub(crate) fn hear(&mut self, text: &[u8], block: &mut Block) -> bool
+        requires { array_vec_len block.old + 4 * length text.now ≤ ANSWERS_LEN }
         ensures features { (items : List told.Item) → self.old.features ≡ features_of items
             → self.new.features ≡ features_of (items ++ items_of text.now) }
         ensures name { (items : List told.Item) → self.old.name ≡ name_by items
             → self.new.name ≡ name_by (items ++ items_of text.now) }
         ensures offers { self.new.offers ≡ self.old.offers }
         ensures done { result ≡ has_done (items_of text.now) }
+        ensures answers { block.new.items ≡ block.old.items ++ bytes_of (answers_to (items_of text.now)) }
+        ensures len { array_vec_len block.new ≤ array_vec_len block.old + 4 * length text.now }
     {
         let mut rest = text;
         while let Some((item, behind)) = next_item(rest) {
             self.features = self.features.heard(&item);
             note_name(&mut self.name, &item);
+            add_answer(block, item.name);
             if item.ends_hello() {
                 return true;
             }

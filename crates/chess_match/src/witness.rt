@@ -1,4 +1,4 @@
-//! What is told of a match as it goes.
+//! The witness of a match.
 
 ghost use Rattle.std.specs.Prelude.{◌∷◌, []};
 ghost use Rattle.chess_match.specs.Match as events;
@@ -9,16 +9,16 @@ use crate::run::ENGINE_LINE_LEN;
 use chess_base::Colour;
 use chess_cecp::Line;
 
-/// What is told of a match as it goes: each event of its transcript, and what each engine is given.
+/// A witness of a match: it is given each event of the transcript, and each block that an engine is sent.
 pub trait Witness {
     ghost use Rattle.std.specs.Prelude.{List, ℕ};
     ghost use Rattle.chess_match.specs.Notes.{Note};
 
-    /// What contracts see of it: whether it may have been told these notes, in their order, behind a text that it held
+    /// What contracts see of it: whether it may have been given these notes, in their order, after a text that it held
     /// before.
     ghost told: { Self → List ℕ → List Note → Type 0 };
 
-    /// A side's engine sent a line; the moment was asked for behind it.
+    /// A side's engine sent a line; the moment was asked for after it.
     fn line(&mut self, side: Colour, line: &Line<ENGINE_LINE_LEN>, moment: u64)
         ensures { WasNoted (told self.old) (told self.new)
             (Happened (events.Line side (text_heard line.now) moment) ∷ []) };
@@ -39,7 +39,7 @@ pub trait Witness {
     fn write_fails(&mut self, side: Colour)
         ensures { WasNoted (told self.old) (told self.new) (Happened (events.FailsToWrite side) ∷ []) };
 
-    /// These bytes more of its lines are now written to a side's engine.
+    /// These bytes, a block of lines, are now written to a side's engine.
     fn gives(&mut self, side: Colour, text: &[u8])
         ensures { WasNoted (told self.old) (told self.new) (Gives side text.now ∷ []) };
 }

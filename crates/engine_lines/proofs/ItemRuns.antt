@@ -1,5 +1,6 @@
 -- Items, one after the other.
-use Rattle.std.proofs.Common.{◌≡◌, ℕ, zero, suc, ◌+◌, ◌-◌, ◌≤◌, ◌<◌, Bool, true, false, List, [], ◌∷◌, ◌++◌, length, take, drop, refl, ap, sym, ◌∙◌, Option, None, Some, arith, length-drop, append_assoc, append-nil}
+use Rattle.std.proofs.Common.{◌≡◌, ℕ, zero, suc, ◌+◌, ◌-◌, ◌≤◌, ◌<◌, Bool, true, false, List, [], ◌∷◌, ◌++◌, length, take, drop, refl, ap, sym, ◌∙◌, Option, None, Some, arith, length-append, length-drop, append_assoc, append-nil}
+use Rattle.std.proofs.lemmas.List.{take-append-drop}
 use Rattle.std.specs.Prelude.{if◌then◌else◌, ◌==◌, codes, option_and_then}
 use Rattle.std.specs.Str.{bytes_eq}
 use Rattle.chess_base.specs.Letters.{is_digit}
@@ -58,54 +59,77 @@ quoted_shorter cs false p e =
     (let q : Some p ≡ Some (Quoted (take (quote_at cs) cs), drop (quote_at cs + 1) cs) = sym e in cc) in
     omega arith
 
-value_shorter : (text : List ℕ) (p : Value × List ℕ) → value_of text ≡ Some p → length p.1 ≤ length text
+value_shorter : (text : List ℕ) (p : Value × List ℕ) → value_of text ≡ Some p → length p.1 < length text
 value_shorter [] p e = cc
-value_shorter (c ∷ cs) p e = by_tests (c == 34) (is_digit c) e
+value_shorter (c ∷ cs) p e = by_tests (c == 34) (is_digit c) refl e
   where
-    by_tests : (a b : Bool)
+    by_tests : (a b : Bool) → is_digit c ≡ b
         → (if a then quoted cs else if b then
         Some (Digits (take (run_of is_digit (c ∷ cs)) (c ∷ cs)), drop (run_of is_digit (c ∷ cs)) (c ∷ cs)) else None)
-        ≡ Some p → length p.1 ≤ length (c ∷ cs)
-    by_tests true b e = let q = quoted_shorter cs (quote_at cs == length cs) p e in omega arith
-    by_tests false true e =
+        ≡ Some p → length p.1 < length (c ∷ cs)
+    by_tests true b k e = let q = quoted_shorter cs (quote_at cs == length cs) p e in omega arith
+    by_tests false true k e =
+        let n : run_of is_digit (c ∷ cs) ≡ run_of is_digit cs + 1 = rw k refl in
         let d : length (drop (run_of is_digit (c ∷ cs)) (c ∷ cs)) ≡ length (c ∷ cs) - run_of is_digit (c ∷ cs) =
         length-drop (run_of is_digit (c ∷ cs)) (c ∷ cs) in
         let s : length p.1 ≡ length (drop (run_of is_digit (c ∷ cs)) (c ∷ cs)) = cc in
         omega arith
-    by_tests false false e = cc
+    by_tests false false k e = cc
+
+abbrev name_or : List ℕ → Option (Item × List ℕ) → List ℕ
+name_or default None = default
+name_or default (Some p) = p.0.name
 
 with_value_shorter : (name rest : List ℕ) (v : Option (Value × List ℕ)) (p : Item × List ℕ) → value_of rest ≡ v
     → option_and_then (λ (p : Value × List ℕ). if is_apart p.1 then
     Some (record { name = name; value = p.0 }, without_front_blanks p.1) else None) v ≡ Some p
-    → length p.1 ≤ length rest
+    → (p.0.name ≡ name) × (length p.1 < length rest)
 with_value_shorter name rest None p is e = cc
 with_value_shorter name rest (Some q) p is e = by_test (is_apart q.1) e
   where
     by_test : (b : Bool) → (if b then Some (record { name = name; value = q.0 }, without_front_blanks q.1) else None)
-        ≡ Some p → length p.1 ≤ length rest
+        ≡ Some p → (p.0.name ≡ name) × (length p.1 < length rest)
     by_test true e =
+        let n : name ≡ p.0.name = ap (λ (o : Option (Item × List ℕ)). name_or name o) e in
         let s : length p.1 ≡ length (without_front_blanks q.1) = cc in
         let b = wfb_short q.1 in
         let v = value_shorter rest q is in
-        omega arith
+        let l : length p.1 < length rest = omega arith in
+        (sym n, l)
     by_test false e = cc
 
-with_name_shorter : (name rest : List ℕ) (p : Item × List ℕ) → with_name name rest ≡ Some p → length p.1 < length rest
+with_name_shorter : (name rest : List ℕ) (p : Item × List ℕ) → with_name name rest ≡ Some p
+    → (p.0.name ≡ name) × (0 < length name) × (length p.1 + 1 < length rest)
 with_name_shorter [] rest p e = cc
 with_name_shorter (n ∷ ns) [] p e = cc
 with_name_shorter (n ∷ ns) (c ∷ cs) p e = by_test (c == 61) e
   where
-    by_test : (b : Bool) → (if b then with_value (n ∷ ns) cs else None) ≡ Some p → length p.1 < length (c ∷ cs)
-    by_test true e = let h = with_value_shorter (n ∷ ns) cs (value_of cs) p refl e in omega arith
+    by_test : (b : Bool) → (if b then with_value (n ∷ ns) cs else None) ≡ Some p
+        → (p.0.name ≡ n ∷ ns) × (0 < length (n ∷ ns)) × (length p.1 + 1 < length (c ∷ cs))
+    by_test true e =
+        let h = with_value_shorter (n ∷ ns) cs (value_of cs) p refl e in
+        let some : 0 < length (n ∷ ns) = omega arith in
+        let fewer : length p.1 + 1 < length (c ∷ cs) = omega (arith, h.1) in
+        (h.0, some, fewer)
     by_test false e = cc
 
-pub item_shorter : (text : List ℕ) (p : Item × List ℕ) → item_of text ≡ Some p → length p.1 < length text
+-- an item takes at least two bytes more than its name, which is not empty
+pub item_room : (text : List ℕ) (p : Item × List ℕ) → item_of text ≡ Some p
+    → (0 < length p.0.name) × (length p.0.name + length p.1 + 2 ≤ length text)
 unfolding item_of
-item_shorter text p e =
+item_room text p e =
     let h = with_name_shorter (take (run_of is_name_byte text) text) (drop (run_of is_name_byte text) text) p e in
-    let d : length (drop (run_of is_name_byte text) text) ≡ length text - run_of is_name_byte text =
-    length-drop (run_of is_name_byte text) text in
-    omega arith
+    let all : length (take (run_of is_name_byte text) text) + length (drop (run_of is_name_byte text) text)
+    ≡ length text = sym (length-append (take (run_of is_name_byte text) text) (drop (run_of is_name_byte text) text))
+    ∙ ap (λ (l : List ℕ). length l) (take-append-drop (run_of is_name_byte text) text) in
+    let named : length p.0.name ≡ length (take (run_of is_name_byte text) text) =
+    ap (λ (l : List ℕ). length l) h.0 in
+    let some : 0 < length p.0.name = omega (arith, h.1, named) in
+    let fewer : length p.0.name + length p.1 + 2 ≤ length text = omega (arith, all, named, h.2) in
+    (some, fewer)
+
+pub item_shorter : (text : List ℕ) (p : Item × List ℕ) → item_of text ≡ Some p → length p.1 < length text
+item_shorter text p e = let h = item_room text p e in omega (arith, h.1)
 
 -- ---- the items of a text, step by step
 

@@ -1,5 +1,5 @@
 -- Which event a call for a line is, and how the blocks of an event are sent.
-use Rattle.std.specs.Prelude.{◌≡◌, ℕ, ◌<◌, ◌⊎◌, Bool, true, false, List, [], length, ◌∷◌, ◌++◌, if◌then◌else◌, Option, None, Some, is_some, Result, Ok, Err}
+use Rattle.std.specs.Prelude.{◌≡◌, ℕ, ◌<◌, ◌⊎◌, ◌&&◌, not, Bool, true, false, List, [], length, ◌∷◌, ◌++◌, if◌then◌else◌, Option, None, Some, is_some, Result, Ok, Err}
 use Rattle.chess_base.specs.declared.man.Colour.{Colour}
 use Rattle.chess_base.specs.declared.man.Colour.TheVariants.{White, Black}
 use Rattle.chess_base.specs.declared.man.Move.{Move}
@@ -7,7 +7,7 @@ use Rattle.byte_devices.specs.Devices.{OutputState, BreaksOff}
 use Rattle.chess_base.specs.Men.{other, same_colour}
 use Rattle.chess_cecp.specs.Lines.{LineSeen}
 use Rattle.chess_match.specs.Match.{Match, Event, Line, OutputEnds, FailsToRead, FailsToWrite, after}
-use Rattle.chess_match.specs.Notes.{Knowing, WasTold}
+use Rattle.chess_match.specs.Notes.{Noted, WasNoted, Happened, Note, both_notes, first_sent}
 use Rattle.chess_match.specs.Rules.{Rules}
 use Rattle.chess_match.specs.Run.{text_heard, Flushed}
 use Rattle.chess_match.specs.Sent.{SentLine, block, bytes_of}
@@ -43,23 +43,23 @@ line_event S line moment = Line S (text_heard line) moment
 -- no write failed before the end: each engine was sent what is due to it, and at the end a beginning where a write
 -- failed
 pub record AllSent (r : Rules) (core : Core) (played : List Move) (m : Match) (due : Colour → List SentLine)
-    (w w' : Colour → OutputState) (failed : Colour → Bool) (notes notes' : Knowing) : Type 0 where
+    (first : Colour) (w w' : Colour → OutputState) (failed : Colour → Bool) (notes notes' : Noted) : Type 0 where
   pub stands : Stands r core played m
   pub puts : (S : Colour) → SendsIf (failed S) (w S) (w' S) (bytes_of (due S))
   pub fine : is_on m.phase ≡ true → (S : Colour) → failed S ≡ false
-  pub told : WasTold notes notes' [] due
+  pub told : WasNoted notes notes' (both_notes (first_sent m first) due)
 
--- what the engines are given where a write to c fails: c what is due to it, and the other what is due to it, unless it
--- comes after, and its end lines
-abbrev pub given_broken : Rules → Match → (Colour → List SentLine) → Colour → Colour → Colour → List SentLine
-given_broken r m due first c S =
-    if same_colour c S then due S
-    else ((if same_colour c first then [] else due S) ++ block r m (after r m (FailsToWrite c)) S)
+-- what is noted where a write to c fails: what is due, but not what comes after, the failure, and the other's end lines
+abbrev pub broken_notes : Rules → Match → (Colour → List SentLine) → Colour → Colour → List Note
+broken_notes r m due first c =
+    both_notes first (λ S. if same_colour first c && not (same_colour c S) then [] else due S)
+    ++ Happened (FailsToWrite c)
+    ∷ both_notes White (λ S. if same_colour c S then [] else block r m (after r m (FailsToWrite c)) S)
 
 -- a write to c failed, which ended the match. The other engine was sent what is due to it, unless it comes after, and
 -- its end lines
 pub record OneFailed (r : Rules) (core : Core) (played : List Move) (m : Match) (due : Colour → List SentLine)
-    (first : Colour) (w w' : Colour → OutputState) (failed : Colour → Bool) (notes notes' : Knowing)
+    (first : Colour) (w w' : Colour → OutputState) (failed : Colour → Bool) (notes notes' : Noted)
     (c : Colour) : Type 0 where
   pub on : is_on m.phase ≡ true
   pub some : 0 < length (due c)
@@ -69,14 +69,14 @@ pub record OneFailed (r : Rules) (core : Core) (played : List Move) (m : Match) 
   pub others : (v : OutputState) × Flushed (w (other c)) v
       (bytes_of (if same_colour c first then [] else due (other c)))
       × SendsIf (failed (other c)) v (w' (other c)) (bytes_of (block r m (after r m (FailsToWrite c)) (other c)))
-  pub told : WasTold notes notes' (FailsToWrite c ∷ []) (given_broken r m due first c)
+  pub told : WasNoted notes notes' (broken_notes r m due first c)
 
 -- the blocks that are due were sent, first to that side, and no write failed before the end, or the first that failed
--- ended the match; a witness was told so
+-- ended the match; a witness was given notes of them
 abbrev pub Delivered : Rules → Core → List Move → Match → (Colour → List SentLine) → Colour → (Colour → OutputState)
-    → (Colour → OutputState) → (Colour → Bool) → Knowing → Knowing → Type 0
+    → (Colour → OutputState) → (Colour → Bool) → Noted → Noted → Type 0
 Delivered r core played m due first w w' failed notes notes' =
-    AllSent r core played m due w w' failed notes notes'
+    AllSent r core played m due first w w' failed notes notes'
     ⊎ ((c : Colour) × OneFailed r core played m due first w w' failed notes notes' c)
 
 -- core and game stand for a match in which there is a last move, if someone is still to be told it

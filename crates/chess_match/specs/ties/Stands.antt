@@ -53,16 +53,24 @@ abbrev pub to : Option Colour → Colour → List SentLine → List SentLine
 to None S text = []
 to (Some c) S text = if same_colour c S then text else []
 
--- the block that is given for S: answers to these items, an offer, and what the phase gives
-unfoldable pub given_block : Rules → Given → List Item → Match → Colour → List SentLine
-given_block r given items m S =
-    to given.answers S (answers_to items)
-    ++ (to given.draw S (DrawOffered ∷ [])
-    ++ (if given.entered then entry r m S else []))
+-- the items that each side's engine said: these that side's, and none
+abbrev pub items_to : Colour → List Item → Colour → List Item
+items_to c items S = if same_colour c S then items else []
+
+abbrev pub nothing_said : Colour → List Item
+nothing_said S = []
+
+-- what is given after the answers: the offer, and what the phase gives
+abbrev pub behind_answers : Rules → Given → Match → Colour → List SentLine
+behind_answers r given m S = to given.draw S (DrawOffered ∷ []) ++ (if given.entered then entry r m S else [])
+
+-- the block that is given for S: answers to its items, an offer, and what the phase gives
+unfoldable pub given_block : Rules → Given → (Colour → List Item) → Match → Colour → List SentLine
+given_block r given items m S = answers_to (items S) ++ behind_answers r given m S
 
 -- from m to m' the core goes on to stand for m', and gives the blocks between them
-pub record Goes (r : Rules) (core : Core) (played : List Move) (given : Given) (items : List Item) (m m' : Match) : Type
-    0 where
+pub record Goes (r : Rules) (core : Core) (played : List Move) (given : Given) (items : Colour → List Item)
+    (m m' : Match) : Type 0 where
   pub stands : Stands r core played m'
   pub gives : (S : Colour) → given_block r given items m' S ≡ block r m m' S
 

@@ -1,38 +1,37 @@
 -- The core goes over to the end, and the block that this gives is sent.
-use Rattle.std.proofs.Common.{List, [], ◌∷◌, ap, ◌∙◌}
+use Rattle.std.proofs.Common.{◌≡◌, List, [], ◌∷◌, ap, ◌∙◌}
 use Rattle.chess_base.specs.declared.man.Colour.{Colour}
 use Rattle.chess_base.specs.Men.{other}
-use Rattle.engine_lines.specs.Items.{Item, items_of}
 use Rattle.chess_match.specs.Match.{Match, FailsToWrite, after}
-use Rattle.chess_match.specs.Sent.{SentLine, bytes_of, for}
-use Rattle.chess_match.specs.ties.Stands.{given_block}
-use Rattle.chess_match.proofs.Notings.{told_more, told_event, told_as}
-use Rattle.chess_match.proofs.Delivers.{last_told, on_too, no_items, sends_if}
+use Rattle.chess_match.specs.Notes.{Happened, given_note}
+use Rattle.chess_match.specs.Sent.{SentLine, block, bytes_of}
+use Rattle.chess_match.specs.ties.Stands.{given_block, nothing_said}
+use Rattle.chess_match.proofs.Notings.{noted_more, noted_as}
+use Rattle.chess_match.proofs.Delivers.{last_told, on_too, sends_if}
+use Rattle.chess_match.proofs.Sends.{no_answers}
 use Rattle.chess_match.proofs.run.end_for_other.Goals as goal
 
-pub tell_and_send-requires : goal.tell_and_send-requires
-tell_and_send-requires g c =
+pub note_and_send-requires-clause-untold : goal.note_and_send-requires-clause-untold
+note_and_send-requires-clause-untold g c =
     let l = c.requires.last in
     let goes = c.write_fails-given.ensures l.0 _ l.1 (on_too l.0 _ _ l.1 l.2 c.requires.on) l.2 in
     last_told l.0 _ _ (after l.0 l.1 (FailsToWrite c.args.side)) goes.stands l.3
 
-pub returns : goal.returns
-returns g c r m p s =
+pub returns-clause-ended : goal.returns-clause-ended
+returns-clause-ended g c r m p s =
     let goes = c.write_fails-given.ensures r _ m (on_too r _ _ m s c.requires.on) s in
-    let m' : Match = after r m (FailsToWrite c.args.side) in (
+    let m' : Match = after r m (FailsToWrite c.args.side) in
+    let none = no_answers _ c.requires.empty in
+    let sent : given_block r c.write_fails-given.result nothing_said m' c.other.result
+    ≡ block r m m' (other c.args.side) =
+    ap (λ (S : Colour). given_block r c.write_fails-given.result nothing_said m' S) c.other.ensures
+    ∙ goes.gives (other c.args.side) in (
       goes.stands,
-      sends_if _ _ _ c.is_err.result _ _ c.is_err.ensures.value
-          (ap (λ (S : Colour). bytes_of (given_block r c.write_fails-given.result (items_of []) m' S)) c.other.ensures
-          ∙ ap (λ (is : List Item). bytes_of (given_block r c.write_fails-given.result is m' (other c.args.side)))
-          no_items
-          ∙ ap bytes_of (goes.gives (other c.args.side)))
-          (c.tell_and_send.ensures.sends r m' p goes.stands),
-      told_more _ _ _ (FailsToWrite c.args.side ∷ []) [] (λ X. []) _
-          (told_event _ _ (FailsToWrite c.args.side) c.write_fails.ensures)
-          (told_as _ _ [] _ _ (λ X. ap (λ (S : Colour). for S X (given_block r c.write_fails-given.result (items_of [])
-          m' S)) c.other.ensures
-          ∙ ap (λ (is : List Item). for (other c.args.side) X (given_block r c.write_fails-given.result is m'
-          (other c.args.side))) no_items
-          ∙ ap (λ (b : List SentLine). for (other c.args.side) X b) (goes.gives (other c.args.side)))
-          (c.tell_and_send.ensures.told r m' p goes.stands)),
+      sends_if _ _ _ c.is_err.result _ _ c.is_err.ensures.value (ap bytes_of sent)
+          (c.note_and_send.ensures.sends r m' nothing_said p goes.stands none),
+      noted_more _ _ _ (Happened (FailsToWrite c.args.side) ∷ []) _ c.write_fails.ensures
+          (noted_as _ _ _ _ (ap (λ (S : Colour). given_note S (bytes_of (given_block r c.write_fails-given.result
+          nothing_said m' c.other.result))) c.other.ensures
+          ∙ ap (λ (b : List SentLine). given_note (other c.args.side) (bytes_of b)) sent)
+          (c.note_and_send.ensures.told r m' nothing_said p goes.stands none)),
     )

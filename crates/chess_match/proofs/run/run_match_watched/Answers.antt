@@ -1,5 +1,5 @@
 -- The loop keeps a transcript of what passed so far, and what agrees with it.
-use Rattle.std.proofs.Common.{◌≡◌, List, [], ◌∷◌, ◌++◌, true, ap, sym, ◌∙◌, subst, ℕ}
+use Rattle.std.proofs.Common.{◌≡◌, List, [], ◌∷◌, ◌++◌, true, refl, ap, sym, ◌∙◌, subst, ℕ}
 use Rattle.chess_base.specs.declared.man.Colour.{Colour}
 use Rattle.chess_base.specs.declared.man.Move.{Move}
 use Rattle.chess_base.specs.declared.setup.Setup.{Setup}
@@ -8,21 +8,23 @@ use Rattle.chess_game.specs.Game as game
 use Rattle.chess_match.specs.ties.Delivering.{by_side, event_heard}
 use Rattle.chess_match.specs.Match.{Match, Opened, start, after}
 use Rattle.chess_match.specs.Rules.{Rules, rules_of}
-use Rattle.chess_match.specs.Sent.{block}
-use Rattle.chess_match.specs.ties.Stands.{Stands}
+use Rattle.chess_match.specs.Sent.{answers_to, block, bytes_of}
+use Rattle.chess_match.specs.ties.Stands.{Stands, items_to, nothing_said}
+use Rattle.engine_lines.specs.Items.{Item}
 use Rattle.chess_match.specs.Transcript.{match_of, reads, opens}
 use Rattle.chess_match.specs.declared.phase.Phase.{Phase}
 use Rattle.chess_match.proofs.Delivers.{both_sides}
 use Rattle.chess_match.proofs.Finished.{ran, told_outcome}
 use Rattle.chess_match.proofs.LinesRead.{heard_less, heard_sane}
 use Rattle.chess_match.proofs.RunSteps.{rules_level, plays_anew, plays_on, begun, heard_on, opened_left}
-use Rattle.chess_match.proofs.Notings.{told_event}
+use Rattle.chess_match.proofs.Sends.{no_answers}
+use Rattle.chess_match.proofs.Going.{to_own, to_other}
 use Rattle.chess_match.proofs.Runs.{asked_one}
 use Rattle.chess_match.proofs.UnderWays.{opened_step, delivered_by}
 use Rattle.chess_match.proofs.run.run_match_watched.Goals as goal
 
-pub deliver-failed-requires : goal.deliver-failed-requires
-deliver-failed-requires g c =
+pub deliver-failed-requires-clause-last : goal.deliver-failed-requires-clause-last
+deliver-failed-requires-clause-last g c =
     let r : Rules = rules_of c.args.setup.now.start c.args.setup.now.level c.args.game.now.limit in (
       r,
       start,
@@ -38,10 +40,10 @@ events-init g c =
     let stands = subst (λ (ms : List Move). Stands r c.new-core.result ms start)
     (sym (ap (λ (x : game.Seen). x.state.moves) c.restart.ensures))
     (c.new-core.ensures r (rules_level c.args.setup.now.start c.args.setup.now.level c.args.game.now.limit)) in
-    let d = c.deliver-failed.ensures r start
+    let d = c.deliver-failed.ensures.delivered r start nothing_said
     (plays_anew c.args.game.now c.restart.new.self c.args.setup.now.start c.args.setup.now.level c.restart.ensures)
-    stands in
-    let b = begun r _ _ _ (by_side c.deliver-failed.result.white c.deliver-failed.result.black)
+    stands (no_answers _ c.new-blocks.ensures.own) refl in
+    let b = begun r _ _ (by_side c.deliver-failed.result.white c.deliver-failed.result.black)
     (by_side (g.R.Input.seen c.args.white.now.reader) (g.R.Input.seen c.args.black.now.reader))
     (by_side c.new-white_lines.result c.new-black_lines.result)
     _ _ (g.M.Moments.coming c.args.moments.now) _ _
@@ -53,6 +55,8 @@ events-init g c =
       ap (λ (x : game.Seen). x.limit)
           c.restart.ensures,
       ap (λ (x : game.Seen). x.state.declared) c.restart.ensures,
+      c.deliver-failed.ensures.own_empty,
+      c.deliver-failed.ensures.others_empty,
     )
 
 pub returns-in-Nothing-clause-ran : goal.returns-in-Nothing-clause-ran
@@ -99,27 +103,35 @@ events-preserved-in-Moment g c =
     let goes = c.open.ensures r _ (match_of r i.0) opening i.1.stands in (
       i.0 ++ Opened c.in-Moment.side c.now-moment.result ∷ [],
       opened_step r i.0 c.in-Moment.side c.now-moment.result _ _ _ _ _ _ _ _ _ _ _ _ _ _ _ i.1
-          (told_event _ _ (Opened c.in-Moment.side c.now-moment.result) c.opened.ensures) opening
+          c.opened.ensures opening
           (asked_one _ _ c.now-moment.result c.now-moment.ensures.moment c.now-moment.ensures.rest) goes,
       i.2,
       i.3,
       i.4,
+      i.5,
+      i.6,
     )
 
-pub deliver-failed-requires-in-Line : goal.deliver-failed-requires-in-Line
-deliver-failed-requires-in-Line g c =
+pub deliver-failed-requires-in-Line-clause-last : goal.deliver-failed-requires-in-Line-clause-last
+deliver-failed-requires-in-Line-clause-last g c =
     let i = c.events.invariant in
     let r : Rules = rules_of c.args.setup.now.start c.args.setup.now.level c.args.game.now.limit in
     let m : Match = match_of r i.0 in
     let S : Colour = c.in-Line.side in
     let reading : reads m.phase S ≡ true = ap (λ (p : Phase). reads p S) (sym i.1.stands.phase) ∙ c.in-Line.ensures in
     let plays = plays_on c.args.game.now c.events.game c.args.setup.now.start c.args.setup.now.level i.2 i.3 i.4 in
-    let h = c.note.ensures.heard in (
+    let h = c.hear-given.ensures.heard in (
       r,
       after r m (event_heard S h.0 c.next_line-heard.result),
-      (h.3 r m plays reading i.1.stands).stands,
+      (h.5 r m plays reading i.1.stands).stands,
       (heard_sane r m S h.0 c.next_line-heard.result i.1.sane).untold,
     )
+
+pub hear-given-requires-clause-empty : goal.hear-given-requires-clause-empty
+hear-given-requires-clause-empty g c = c.events.invariant.5
+
+pub deliver-failed-requires-in-Line-clause-empty : goal.deliver-failed-requires-in-Line-clause-empty
+deliver-failed-requires-in-Line-clause-empty g c = c.events.invariant.6
 
 pub events-smaller : goal.events-smaller
 events-smaller g c =
@@ -129,10 +141,11 @@ events-smaller g c =
     let S : Colour = c.in-Line.side in
     let reading : reads m.phase S ≡ true = ap (λ (p : Phase). reads p S) (sym i.1.stands.phase) ∙ c.in-Line.ensures in
     let plays = plays_on c.args.game.now c.events.game c.args.setup.now.start c.args.setup.now.level i.2 i.3 i.4 in
-    let h = c.note.ensures.heard in
-    let goes = h.3 r m plays reading i.1.stands in
+    let h = c.hear-given.ensures.heard in
+    let goes = h.5 r m plays reading i.1.stands in
     let d = delivered_by r _ _ _ _ (block r m (after r m (event_heard S h.0 c.next_line-heard.result))) S _ _ _ _ _
-    goes.gives (c.deliver-failed-in-Line.ensures r _ (c.note.ensures.rules r plays) goes.stands) in
+    goes.gives (c.deliver-failed-in-Line.ensures.delivered r _ (items_to S h.1) (c.hear-given.ensures.rules r plays)
+    goes.stands (h.4 ∙ ap (λ (is : List Item). bytes_of (answers_to is)) (sym (to_own S h.1))) (to_other S h.1)) in
     heard_less r c.events.core.phase c.deliver-failed-in-Line.new.core _ m S h.0 c.next_line-heard.result _
     (by_side (g.R.Input.seen c.events.white.reader) (g.R.Input.seen c.events.black.reader))
     (by_side (g.R.Input.seen c.next_line-heard.new.white) (g.R.Input.seen c.next_line-heard.new.black))
@@ -148,10 +161,11 @@ events-preserved g c =
     let S : Colour = c.in-Line.side in
     let reading : reads m.phase S ≡ true = ap (λ (p : Phase). reads p S) (sym i.1.stands.phase) ∙ c.in-Line.ensures in
     let plays = plays_on c.args.game.now c.events.game c.args.setup.now.start c.args.setup.now.level i.2 i.3 i.4 in
-    let h = c.note.ensures.heard in
-    let goes = h.3 r m plays reading i.1.stands in
+    let h = c.hear-given.ensures.heard in
+    let goes = h.5 r m plays reading i.1.stands in
     let d = delivered_by r _ _ _ _ (block r m (after r m (event_heard S h.0 c.next_line-heard.result))) S _ _ _ _ _
-    goes.gives (c.deliver-failed-in-Line.ensures r _ (c.note.ensures.rules r plays) goes.stands) in
+    goes.gives (c.deliver-failed-in-Line.ensures.delivered r _ (items_to S h.1) (c.hear-given.ensures.rules r plays)
+    goes.stands (h.4 ∙ ap (λ (is : List Item). bytes_of (answers_to is)) (sym (to_own S h.1))) (to_other S h.1)) in
     let u = heard_on r i.0 S h.0 c.next_line-heard.result c.events.core c.deliver-failed-in-Line.new.core _ _
     (by_side c.events.failed.white c.events.failed.black)
     (by_side c.deliver-failed-in-Line.result.white c.deliver-failed-in-Line.result.black)
@@ -162,11 +176,13 @@ events-preserved g c =
     (by_side c.next_line-heard.new.white_lines c.next_line-heard.new.black_lines)
     (by_side (g.W.Output.seen c.args.white.now.writer) (g.W.Output.seen c.args.black.now.writer)) _ _ _ _ _ _ _ _ _
     i.1 c.in-Line.ensures c.next_line-heard.ensures.next c.next_line-heard.ensures.others c.next_line-heard.ensures.held
-    h.1 h.2 d in (
+    h.2 h.3 d in (
       u.0,
       u.1,
-      ap (λ (x : Setup × ℕ). x.0) c.note.ensures.origin
+      ap (λ (x : Setup × ℕ). x.0) c.hear-given.ensures.origin
           ∙ i.2,
-      ap (λ (x : Setup × ℕ). x.1) c.note.ensures.origin ∙ i.3,
-      (c.note.ensures.rules r plays).2,
+      ap (λ (x : Setup × ℕ). x.1) c.hear-given.ensures.origin ∙ i.3,
+      (c.hear-given.ensures.rules r plays).2,
+      c.deliver-failed-in-Line.ensures.own_empty,
+      c.deliver-failed-in-Line.ensures.others_empty,
     )

@@ -1,4 +1,4 @@
-use Rattle.std.proofs.Common.{◌≡◌, ◌+◌, List, None}
+use Rattle.std.proofs.Common.{◌≡◌, ◌+◌, List, [], None}
 use Rattle.chess_cecp.specs.Next.{work}
 use Rattle.chess_match.specs.ties.Delivering.{by_side}
 use Rattle.chess_match.specs.Match.{Event}
@@ -18,6 +18,7 @@ invariant-events g l =
     (g.M.Moments.coming l.fn.moments) (g.M.Moments.coming l.moments)
     (g.L.Witness.told l.fn.witness) (g.L.Witness.told l.witness)
     × (l.game.state.start ≡ l.fn.setup.start) × (l.game.limit ≡ l.fn.game.limit) × (l.game.state.declared ≡ None)
+    × (l.blocks.own.items ≡ []) × (l.blocks.others.items ≡ [])
 
 abbrev pub decreases-events : goal.decreases-events
 decreases-events g l =

@@ -15,9 +15,9 @@ use Rattle.chess_match.proofs.Going.{hello_goes, hear_phase, one_core}
 use Rattle.chess_match.proofs.state.Core.hello_line.Goals as goal
 use Rattle.chess_base.proofs.MenFacts.{same_colour-self}
 
-pub returns-then-done : goal.returns-then-done
+pub returns-then-done-clause-goes : goal.returns-then-done-clause-goes
 unfolding hello_line
-returns-then-done g c r m p at s =
+returns-then-done-clause-goes g c r m p at s =
     let st : Stands r c.hear-done.new.self (g.G.Played.played c.args.game.now)
     (hear c.args.side (items_heard (seen c.args.line)) m) = c.hear-done.ensures.heard r _ m s in
     let done : has_done (items_heard (seen c.args.line)) ≡ true = sym c.hear-done.ensures.done ∙ c.if-done.true in
@@ -28,9 +28,9 @@ returns-then-done g c r m p at s =
     rw (done, on) (hello_goes r c.hear-done.new.self _ _ c.args.side (items_heard (seen c.args.line))
     c.after_hello-self.result 0 false m st differs refl)
 
-pub returns-then-self-ge1000 : goal.returns-then-self-ge1000
+pub returns-then-self-ge1000-clause-goes : goal.returns-then-self-ge1000-clause-goes
 unfolding hello_line
-returns-then-self-ge1000 g c r m p at s =
+returns-then-self-ge1000-clause-goes g c r m p at s =
     let st : Stands r c.hear-done.new.self (g.G.Played.played c.args.game.now)
     (hear c.args.side (items_heard (seen c.args.line)) m) = c.hear-done.ensures.heard r _ m s in
     let done : has_done (items_heard (seen c.args.line)) ≡ false = sym c.hear-done.ensures.done ∙ c.if-done.false in
@@ -42,9 +42,9 @@ returns-then-self-ge1000 g c r m p at s =
     differs
     (one_core c.hear-done.new.self _ _ _ _ refl st.count))
 
-pub returns-else-self-ge1000 : goal.returns-else-self-ge1000
+pub returns-else-self-ge1000-clause-goes : goal.returns-else-self-ge1000-clause-goes
 unfolding hello_line
-returns-else-self-ge1000 g c r m p at s =
+returns-else-self-ge1000-clause-goes g c r m p at s =
     let st : Stands r c.hear-done.new.self (g.G.Played.played c.args.game.now)
     (hear c.args.side (items_heard (seen c.args.line)) m) = c.hear-done.ensures.heard r _ m s in
     let done : has_done (items_heard (seen c.args.line)) ≡ false = sym c.hear-done.ensures.done ∙ c.if-done.false in

@@ -1,13 +1,13 @@
 -- The game and its verdict are those of the match: after White's setup comes Black's, and after that the end by the
 -- verdict of the start or the turn of the side on move there.
-use Rattle.std.proofs.Common.{◌≡◌, List, [], true, false, refl, sym, Some, None, subst}
+use Rattle.std.proofs.Common.{◌≡◌, List, true, false, refl, sym, Some, None, subst}
 use Rattle.chess_base.specs.declared.man.Colour.{Colour}
 use Rattle.chess_base.specs.declared.man.Colour.TheVariants.{Black}
 use Rattle.chess_base.specs.declared.man.Move.{Move}
 use Rattle.chess_match.specs.Match.{Match, open_turn}
 use Rattle.chess_match.specs.Rules.{Rules}
 use Rattle.chess_match.specs.Sent.{is_same_phase}
-use Rattle.chess_match.specs.ties.Stands.{Goes}
+use Rattle.chess_match.specs.ties.Stands.{Goes, nothing_said}
 use Rattle.chess_match.specs.Transcript.{is_on}
 use Rattle.chess_match.specs.declared.state.Core.{Core}
 use Rattle.chess_match.specs.declared.state.Given.{Given}
@@ -15,9 +15,9 @@ use Rattle.chess_match.specs.declared.phase.Phase.TheVariants.{Setup, Opening}
 use Rattle.chess_match.proofs.state.Core.ready.Goals as goal
 
 first_goes : (r : Rules) (core : Core) (played : List Move) (given : Given) (m : Match) (x y : Colour) → x ≡ y
-    → Goes r core played given [] m (open_turn x m) → Goes r core played given [] m (open_turn y m)
+    → Goes r core played given nothing_said m (open_turn x m) → Goes r core played given nothing_said m (open_turn y m)
 first_goes r core played given m x y e h = let P : Colour
-    → Type 0 = λ q. Goes r core played given [] m (open_turn q m) in subst P e h
+    → Type 0 = λ q. Goes r core played given nothing_said m (open_turn q m) in subst P e h
 
 pub returns-in-White : goal.returns-in-White
 returns-in-White g c r m p at s =

@@ -1,0 +1,51 @@
+-- The items of a line are a part of it.
+use Rattle.std.proofs.Common.{◌≡◌, ℕ, ◌-◌, ◌≤◌, Bool, true, false, ◌&&◌, List, length, drop, take, length-drop, ap, Option, Some, None, arith}
+use Rattle.std.specs.Prelude.{if◌then◌else◌, codes}
+use Rattle.std.specs.Str.{bytes_eq}
+use Rattle.chess_base.specs.declared.man.Colour.TheVariants.{White, Black}
+use Rattle.chess_cecp.specs.Commands.{word_of, argument_of, command_number}
+use Rattle.chess_cecp.proofs.Parts.{wfb_short}
+use Rattle.engine_lines.specs.EngineLines.{LineKind, Features, Moves, Resigns, OffersDraw, ClaimsDraw, ClaimsWin, Rejects, SaysElse, pong_of, kind_of}
+
+argument_short : (text : List ℕ) → length (argument_of text) ≤ length text
+unfolding argument_of
+argument_short text =
+    let d : length (drop (length (word_of text)) text) ≡ length text - length (word_of text) =
+    length-drop (length (word_of text)) text in
+    omega (arith, d, wfb_short (drop (length (word_of text)) text))
+
+abbrev items_text : List ℕ → LineKind → List ℕ
+items_text default (Features text) = text
+items_text default _ = default
+
+no_pong : (o : Option ℕ) (text : List ℕ) {P : Type 0} → pong_of o ≡ Features text → P
+no_pong (Some n) text e = absurd cc
+no_pong None text e = absurd cc
+
+pub features_short : (line text : List ℕ) → kind_of line ≡ Features text → length text ≤ length line
+unfolding kind_of
+features_short line text e =
+    by_tests (bytes_eq (take 12 line) (codes "Illegal move")) (bytes_eq (word_of line) (codes "feature"))
+    (bytes_eq (word_of line) (codes "move")) (bytes_eq (word_of line) (codes "resign"))
+    (bytes_eq (word_of line) (codes "offer") && bytes_eq (word_of (argument_of line)) (codes "draw"))
+    (bytes_eq (word_of line) (codes "1/2-1/2")) (bytes_eq (word_of line) (codes "1-0"))
+    (bytes_eq (word_of line) (codes "0-1")) (bytes_eq (word_of line) (codes "pong")) e
+  where
+    by_tests : (a b c d o f g h p : Bool)
+        → (if a then Rejects else if b then Features (argument_of line) else if c then Moves (argument_of line)
+        else if d then Resigns else if o then OffersDraw else if f then ClaimsDraw else if g then ClaimsWin White
+        else if h then ClaimsWin Black else if p then pong_of (command_number (argument_of line)) else SaysElse)
+        ≡ Features text → length text ≤ length line
+    by_tests true b c d o f g h p e = absurd cc
+    by_tests false true c d o f g h p e =
+        let same : argument_of line ≡ text = ap (λ (k : LineKind). items_text text k) e in
+        omega (arith, argument_short line, ap (λ (l : List ℕ). length l) same)
+    by_tests false false true d o f g h p e = absurd cc
+    by_tests false false false true o f g h p e = absurd cc
+    by_tests false false false false true f g h p e = absurd cc
+    by_tests false false false false false true g h p e = absurd cc
+    by_tests false false false false false false true h p e = absurd cc
+    by_tests false false false false false false false true p e = absurd cc
+    by_tests false false false false false false false false true e =
+        no_pong (command_number (argument_of line)) text e
+    by_tests false false false false false false false false false e = absurd cc
