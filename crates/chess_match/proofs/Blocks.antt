@@ -46,6 +46,6 @@ pub joined_at : (b : Bool) (x : List SentLine) (bs : List (List SentLine))
 joined_at true x bs = refl
 joined_at false x bs = refl
 
--- what was told so far, and what is told now
+-- what was sent so far, and what is sent now
 pub told_more : {A : Type 0} (X all all' t : List A) → X ++ [] ≡ all → all' ≡ all ++ t → X ++ t ≡ all'
 told_more {A} X all all' t h e = ap (λ (l : List A). l ++ t) (sym (append-nil X) ∙ h) ∙ sym e

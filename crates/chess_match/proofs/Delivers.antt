@@ -25,7 +25,7 @@ use Rattle.chess_match.proofs.Flushes.{flushed_none}
 use Rattle.chess_match.proofs.Going.{goes_with, nothing_to}
 use Rattle.chess_match.proofs.Runs.{asked_none}
 
--- who is still to be told the last move has one to be told
+-- where the last move is still to be sent, there is one
 pub last_told : (r : Rules) (core : Core) (played : List Move) (m : Match) → Stands r core played m
     → (is_some m.untold ≡ true → 0 < length m.played) → is_some core.untold ≡ true → 0 < length played
 last_told r core played m s some h = subst (λ (ms : List Move). 0 < length ms) (sym s.moves)
@@ -200,7 +200,7 @@ pub undecided : (r : Rules) (core : Core) (played : List Move) (m : Match) → S
 undecided r core played m s sane h = ap (λ (ms : List Move). r.verdict ms) s.moves
     ∙ sane.undecided (ap in_turn (sym s.phase) ∙ h)
 
--- ---- what was heard, and what it is noted as
+-- ---- what was parsed, and what it is noted as
 
 -- an event is noted: its moment was asked for, the answers to its items wait, and the core goes on by it
 abbrev pub IsNoted : (Rules → Type 0) → Core → List Move → Core → List Move → Given → List ℕ → Colour → (ℕ → Option ℕ)

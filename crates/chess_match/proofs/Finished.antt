@@ -54,7 +54,7 @@ game_kept g h h' start level T reason s l m e =
     ∙ ap (λ (a : Setup). ended g.limit a h.state.moves reason) s
     ∙ ap (λ (ms : List Move). ended g.limit start ms reason) m
 
--- where the game has no verdict, its outcome is the one that is told
+-- where the game has no verdict, its outcome is the one that is reported
 pub told_outcome : (h h' : game.Seen) (reason : Reason) (outcome : Outcome)
     → h' ≡ game.at h (with_declared h.state (declared_at (verdict_now h.state) reason)) → outcome ≡ outcome_of reason
     → verdict_now h'.state ≡ None → outcome_now h'.state ≡ outcome

@@ -1,4 +1,4 @@
--- Texts that are written and flushed, one behind another.
+-- Texts that are written and flushed, one after the other.
 use Rattle.std.proofs.Common.{ℕ, List, [], ◌++◌, ap, ◌∙◌, refl, Result, Ok, Err}
 use Rattle.std.specs.Result.{is_err}
 use Rattle.byte_devices.specs.Devices.{OutputState, TookThenFailed, Sends, raised, risen}

@@ -1,4 +1,4 @@
--- What was heard of an engine, one event more.
+-- What was read from an engine, one event more.
 use Rattle.std.proofs.Common.{◌≡◌, ℕ, Bool, true, false, inl, inr, List, [], ◌∷◌, ◌++◌, map, refl, ap, sym, ◌∙◌, subst, append-nil, Option}
 use Rattle.std.specs.Bool.{MatchBool}
 use Rattle.std.specs.Io.KnownBytes.{Consumes, IsAtEnd}
@@ -32,7 +32,7 @@ first_lines r r' h given texts s =
     ∙ map_both s.lines.0 (lines_held ENGINE_LINE_LEN false h [])
     ∙ ap (λ ls. ls ++ map text_heard (lines_held ENGINE_LINE_LEN false h [])) s.lines.1
 
--- while an engine is heard, its lines so far are the first of all
+-- while an engine is read, its lines so far are the first of all
 pub heard_still : (S : Colour) (T : List Event) (r r' : InputState) (h : Held) (given : List ℕ)
     → IsHearing S T r r' h given → Heard S T r r' given
 heard_still S T r r' h given s = record {
@@ -118,7 +118,7 @@ others_hear S T e U r r' r'' h h' given t f (same, kept) s = record {
 
 -- ---- an event of S's output
 
--- no more is heard behind it
+-- no more is read after it
 abbrev pub is_stop : Event → Bool
 is_stop (OutputEnds c) = true
 is_stop (FailsToRead c) = true

@@ -11,7 +11,7 @@ use Rattle.chess_match.specs.Match.{Event, Line, Opened, OutputEnds, FailsToRead
 use Rattle.chess_match.specs.Run.{text_heard}
 use Rattle.chess_match.specs.declared.run.TheConstants.{ENGINE_LINE_LEN}
 
--- these bytes came, of them these lines were handed out, and the rest is held; no end was told, and no read failed
+-- these bytes came, of them these lines were given, and the rest is held; no end was reported, and no read failed
 pub record Hearing (old new : InputState) (held : Held) (given : List ℕ) (texts : List (Option (List ℕ))) : Type 0 where
   pub bytes : Consumes old.known_bytes new.known_bytes given
   pub lines : (heard : List LineSeen) × (map text_heard heard ≡ texts)
@@ -20,7 +20,7 @@ pub record Hearing (old new : InputState) (held : Held) (given : List ℕ) (text
   pub ends : new.end_count ≡ old.end_count
   pub failures : new.failure_count ≡ old.failure_count
 
--- the end was told, and all lines were handed out
+-- the end was reported, and all lines were given
 pub record HeardAll (old new : InputState) (given : List ℕ) (texts : List (Option (List ℕ))) : Type 0 where
   pub bytes : Consumes old.known_bytes new.known_bytes given
   pub lines : (heard : List LineSeen) × (map text_heard heard ≡ texts)
@@ -36,7 +36,7 @@ is_heard_of S (FailsToRead c) = same_colour c S
 is_heard_of S (Opened c moment) = false
 is_heard_of S (FailsToWrite c) = false
 
--- the bytes that came with an event, and what it was told by
+-- the bytes that came with an event, and what reported it
 abbrev pub Tells : Event → InputState → InputState → Held → Held → List ℕ → Type 0
 Tells (Line c text moment) r r' held held' more =
     (line : LineSeen) × GotLine ENGINE_LINE_LEN r r' held held' more line × (text ≡ text_heard line)

@@ -1,4 +1,4 @@
--- What a call for the next line tells, and what it leaves to do.
+-- What a call for the next line returns, and what it leaves to do.
 use Rattle.std.proofs.Common.{◌≡◌, ℕ, ◌+◌, ◌*◌, ◌<◌, ◌≤◌, Bool, true, false, inl, inr, List, refl, ap, sym, ◌∙◌, subst, arith, Option, Some, None, Result, Ok, Err}
 use Rattle.std.specs.Prelude.{if◌then◌else◌}
 use Rattle.std.specs.Bool.{MatchBool}
@@ -37,7 +37,7 @@ by_ended : (P : Event → Type 0) (S : Colour) (line : LineSeen) (moment : ℕ) 
 by_ended P S line moment b e p = subst (λ (x : Bool). P (if x then Line S (text_heard line) moment else OutputEnds S))
     (sym e) p
 
--- a property of lines, ends and failures is one of what is heard
+-- a property of lines, ends and failures is one of what is read
 pub heard_is : {E : Type 0} (P : Event → Type 0) (S : Colour) (moment : ℕ) (result : Result (Option LineSeen) E)
     → ((text : Option (List ℕ)) → P (Line S text moment)) → P (OutputEnds S) → P (FailsToRead S)
     → P (event_heard S moment result)
@@ -69,7 +69,7 @@ pub heard_sane : {E : Type 0} (r : Rules) (m : Match) (S : Colour) (moment : ℕ
 heard_sane r m S moment result s = heard_is (λ e. IsSane r (after r m e)) S moment result
     (λ text. sane_line r m S text moment s) (sane_over r m _ s) (sane_over r m _ s)
 
--- ---- what it was told by
+-- ---- what reported it
 
 hears_as : (S : Colour) (e : Event) (r r' : InputState) (h h' : Held) (more : List ℕ) → is_heard_of S e ≡ true
     → Consumes r.known_bytes r'.known_bytes more → Tells e r r' h h' more → HearsAt S e r r' h h'

@@ -1,4 +1,4 @@
--- An engine is told the other's moves, each once and in order.
+-- An engine is sent the other's moves, each once and in order.
 use mathlib.Core.Bool.{or-false}
 use Rattle.std.proofs.Common.{◌≡◌, ℕ, ◌+◌, ◌-◌, ◌/◌, ◌<◌, Bool, true, false, not, ◌&&◌, ◌||◌, List, [], ◌∷◌, ◌++◌, length, length-append, refl, ap, sym, subst, ◌∙◌, append-nil, append_assoc, Option, None, Some, arith}
 use Rattle.std.specs.Prelude.{if◌then◌else◌, nat_lt, codes, is_some}
@@ -35,7 +35,7 @@ use Rattle.chess_match.proofs.Blocks.{told_more}
 
 -- ---- who moves
 
--- who is on move behind these moves, which c begins
+-- who is on move after these moves, which c begins
 abbrev pub mover : Colour → List Move → Colour
 mover c [] = c
 mover c (m ∷ ms) = mover (other c) ms
@@ -58,8 +58,8 @@ texts-snoc r as_san S c before (x ∷ ms) m =
 
 -- ---- what is so of every match
 
--- no move stands before the first turn; a turn is of the side on move, which was told the last move in its opening, and
--- which the other is still to be told once it has moved
+-- no move is played before the first turn; a turn is of the side on move, which was sent the last move in its opening,
+-- and whose move is still to be sent to the other once it has moved
 abbrev pub OrderlyIn : Colour → Phase → List Move → Option Colour → Type 0
 OrderlyIn first (Hello c) played untold = (played ≡ []) × (untold ≡ None)
 OrderlyIn first (Setup c) played untold = (played ≡ []) × (untold ≡ None)
@@ -75,7 +75,7 @@ Orderly r m = OrderlyIn r.first m.phase m.played m.untold
 pub orderly_in : (r : Rules) (m : Match) (p : Phase) → m.phase ≡ p → Orderly r m → OrderlyIn r.first p m.played m.untold
 orderly_in r m p e o = subst (λ (q : Phase). OrderlyIn r.first q m.played m.untold) e o
 
--- ---- what a phase tells of moves
+-- ---- what a phase says of moves
 
 abbrev last_text : Rules → Match → Colour → List (List ℕ)
 last_text r m O = r.move_text (takes (codes "san") (seat m O).items) m.played ∷ []
@@ -199,7 +199,7 @@ told_block r m m' O = of_block move_told (λ i. refl) refl r m m' O
 abbrev all_texts : Rules → Match → Colour → List (List ℕ)
 all_texts r m O = move_texts r m O (other O)
 
--- where a match goes to m' from a phase, what was told before, what is told now, and what is owed then are the other's
+-- where a match goes to m' from a phase, what was sent before, what is sent now, and what is owed then are the other's
 -- moves
 abbrev Told : Rules → List (List ℕ) → Colour → Bool → Phase → Match → Type 0
 Told r X O failed p m' = (X ++ (if is_same_phase p m'.phase then [] else entry_moves r m' O m'.phase))
@@ -220,7 +220,7 @@ stays_told : (r : Rules) (X : List (List ℕ)) (O : Colour) (p : Phase) (m' : Ma
     → X ++ untold_text r m' O m'.untold ≡ all_texts r m' O → Told r X O false p m'
 stays_told r X O p m' same on h = rw (same, append-nil X, owed_on r m' O m'.untold false on) h
 
--- nothing is told on the way into this phase
+-- nothing is sent on the way into this phase
 quiet_told : (r : Rules) (X : List (List ℕ)) (O : Colour) (p : Phase) (m' : Match) → entry_moves r m' O m'.phase ≡ []
     → is_on m'.phase ≡ true
     → X ++ untold_text r m' O m'.untold ≡ all_texts r m' O → Told r X O false p m'
@@ -231,7 +231,7 @@ quiet_told r X O p m' none on h = rw (
   owed_on r m' O m'.untold false on,
 ) h
 
--- what is owed is told where the match is over, unless a write failed
+-- what is owed is sent where the match is over, unless a write failed
 ended_told : (r : Rules) (X A : List (List ℕ)) (O : Colour) (failed : Bool) (reason : Reason) (m : Match)
     (untold : Option Colour) → X ++ untold_text r (over reason m) O untold ≡ A
     → (X ++ (if failed then [] else untold_text r (over reason m) O untold))
@@ -258,7 +258,7 @@ over_told : (r : Rules) (X : List (List ℕ)) (O : Colour) (failed : Bool) (p : 
 over_told r X O failed p reason m out u h =
     rw (out, u) (ended_told r X (all_texts r (over reason m) O) O failed reason m m.untold h)
 
--- ---- what was told before is carried on
+-- ---- what was sent before is carried on
 
 abbrev SofarBy : Rules → List (List ℕ) → Colour → List Item → List Move → Option Colour → Type 0
 SofarBy r X O items ms untold = X ++ untold_by r O items ms untold
@@ -273,7 +273,7 @@ carried : (r : Rules) (X : List (List ℕ)) (O : Colour) (m m' : Match) → m'.p
 carried r X O m m' p u w b h =
     rw (p, u, items_same m m' w b O) h
 
--- nothing is told, and nothing was, where no move stands
+-- nothing is sent, and nothing was, where no move is current
 fresh : (r : Rules) (X : List (List ℕ)) (O : Colour) (m m' : Match) → m.played ≡ [] → m.untold ≡ None → m'.played ≡ []
     → m'.untold ≡ None → Sofar r X O m → Sofar r X O m'
 fresh r X O m m' p u p' u' h =
@@ -290,7 +290,7 @@ texts_more : (r : Rules) (as_san : Bool) (S T : Colour) (ms : List Move) (move :
     ++ (if same_colour T S then r.move_text as_san (ms ++ move ∷ []) ∷ [] else [])
 texts_more r as_san S T ms move e = rw e at (texts-snoc r as_san S r.first [] ms move)
 
--- S's move is played, and the other is still to be told it
+-- S's move is played, and is still to be sent to the other
 moved : (r : Rules) (X : List (List ℕ)) (S O : Colour) (items : List Item) (ms : List Move) (move : Move)
     → mover r.first ms ≡ S → SofarBy r X O items ms None
     → SofarBy r X O items (ms ++ move ∷ []) (Some (other S))
@@ -378,7 +378,7 @@ decides_goes r X S O move used v m p o h = (
   tt,
 )
 
--- the turn passes to the other side, whose opening tells it the last move
+-- the turn passes to the other side, whose opening has the last move
 opening_told : (r : Rules) (X : List (List ℕ)) (O c : Colour) (items : List Item) (ms : List Move) → 0 < length ms
     → SofarBy r X O items ms (Some c)
     → X ++ (if same_colour c O then (if nat_lt 0 (length ms) then r.move_text (takes (codes "san") items) ms ∷ []
@@ -554,12 +554,12 @@ step_goes r X O due m (FailsToWrite S) f o h = (
   tt,
 )
 
--- ---- blocks that aren't sent tell no move
+-- ---- blocks that aren't sent have no move
 
 abbrev told_now : Rules → Match → Match → Colour → List (List ℕ)
 told_now r m m' O = if is_same_phase m.phase m'.phase then [] else entry_moves r m' O m'.phase
 
--- where a line gives its own engine something to send, and the match goes on, it tells the other engine no move
+-- where a line gives its own engine something to send, and the match goes on, the other engine is sent no move
 abbrev TellsNone : Rules → Colour → Colour → Match → Match → Type 0
 TellsNone r S O m m' = is_on m'.phase ≡ true → 0 < length (block r m m' S) → told_now r m m' O ≡ []
 
@@ -638,7 +638,7 @@ pub or_assoc : (a b c : Bool) → (a || b) || c ≡ a || (b || c)
 or_assoc true b c = refl
 or_assoc false b c = refl
 
--- a block that isn't sent tells no move
+-- a block that isn't sent has no move
 unsent_none : (r : Rules) (O : Colour) (due : Colour → List SentLine) (m : Match) (e : Event) (T : List Event)
     → fits_from r due m (e ∷ T) ≡ true → Orderly r m
     → is_dropped e T O || fails_at e O ≡ true → told_now r m (after r m e) O ≡ []
@@ -656,7 +656,7 @@ unsent_none r O due m (Opened S n) T f o h = cc
 unsent_none r O due m (OutputEnds S) T f o h = cc
 unsent_none r O due m (FailsToRead S) T f o h = cc
 
--- what is told by the block of an event, if it is sent
+-- what the block of an event holds, if it is sent
 told_at : (r : Rules) (O : Colour) (due : Colour → List SentLine) (m : Match) (e : Event) (T : List Event)
     → fits_from r due m (e ∷ T) ≡ true → Orderly r m
     → moves_told (joined_blocks (blocks_from r O m (e ∷ T))) ≡ told_now r m (after r m e) O

@@ -51,7 +51,7 @@ reads_or_opens (Before x) c d h k = cc
 reads_or_opens (After x) c d h k = cc
 reads_or_opens (Over x) c d h k = cc
 
--- ---- the streams behind an event
+-- ---- the streams after an event
 
 abbrev moments_behind : Event → (ℕ → ℕ) → ℕ → ℕ
 moments_behind (Line c t n) moments k = moments (suc k)
@@ -111,7 +111,7 @@ pub over_stops : (r : Rules) (due : Colour → List SentLine) (m : Match) (T : L
 over_stops r due m [] off f = refl
 over_stops r due m (e ∷ T) off f = not_on (sym off ∙ fits_on due m e (and_first (fits_next due m e) _ f))
 
--- an engine whose end was told, or of which a read failed, has no line left
+-- an engine whose end was reported, or of which a read failed, has no line left
 no_line : (r : Rules) (due : Colour → List SentLine) (m : Match) (S : Colour) (T : List Event)
     (lines : List (Option (List ℕ))) → is_on m.phase ≡ false → fits_from r due m T ≡ true
     → lines ≡ lines_of S T → lines ≡ []

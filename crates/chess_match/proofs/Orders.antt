@@ -1,4 +1,4 @@
--- What is so of every match: whose turn it is, who is to be told what, and how many moves each side made.
+-- What is so of every match: whose turn it is, who is to be sent what, and how many moves each side made.
 use Rattle.std.proofs.Common.{◌≡◌, ℕ, ◌+◌, ◌-◌, Bool, true, false, List, [], ◌∷◌, ◌++◌, length, length-append, refl, ap, sym, ◌∙◌, append-nil, Option, None, arith}
 use Rattle.std.specs.Prelude.{if◌then◌else◌, nat_lt, codes}
 use Rattle.chess_base.specs.declared.man.Colour.{Colour}

@@ -145,7 +145,7 @@ unfolding setup_line
 setup_outcome r S kind m P ends counts pong =
     by_test P (is_pong 1 kind) pong (λ h. ignore_outcome S m P ends (counts h))
 
--- in its hello
+-- in its handshake
 pub hello_outcome : (r : Rules) (S : Colour) (items : List Item) (m : Match) (P : Match → Type 0)
     → (has_done items ≡ false → P (over (Faulted S NoDone) (hear S items m)))
     → (has_done items ≡ false → m.count + 1 < 1000 → (let m' = hear S items m in P (record m' { count = m.count + 1 })))
@@ -158,7 +158,7 @@ hello_outcome r Black items m P ends counts done =
     by_test P (has_done items) done (λ more. by_test P (nat_le 1000 (m.count + 1)) (λ h. ends more)
     (λ h. counts more (leb-false 1000 (m.count + 1) h)))
 
--- both hellos are judged
+-- both handshakes are judged
 pub judged_outcome : (r : Rules) (m : Match) (P : Match → Type 0)
     → ((S : Colour) (f : MatchFault) → P (enter (Over (Faulted S f)) m)) → P (enter (Setup White) m)
     → P (judged (lack r m.white.items) (lack r m.black.items) m)

@@ -1,4 +1,4 @@
--- There is only one transcript of a run whose devices tell all.
+-- There is only one transcript of a run whose devices show all.
 use Rattle.std.proofs.Common.{◌≡◌, ℕ, ◌<◌, ◌^◌, ◌-◌, Bool, true, false, List, [], ◌∷◌, refl, ap, sym, subst, ◌∙◌, Option, None, Some, arith}
 use Rattle.std.specs.Prelude.{is_some, slice_get}
 use Rattle.std.specs.Option.{IfSome}
@@ -28,7 +28,7 @@ rises : {A : Type 0} (n : ℕ) → n < 2 ^ 64 - 1 → n ≡ risen n → A
 unfolding risen
 rises n small e = absurd (omega (arith, small, e))
 
--- a count that can rise tells whether it did
+-- a count that can rise shows whether it did
 one_rise : (n m : ℕ) (a b : Bool) → n < 2 ^ 64 - 1 → m ≡ risen_if a n → m ≡ risen_if b n → a ≡ b
 one_rise n m true true small x y = refl
 one_rise n m false false small x y = refl
@@ -45,7 +45,7 @@ none_written : (failed : Bool) (has : Bool) → failed ≡ false → (has ≡ tr
 none_written failed true none h = sym (h refl) ∙ none
 none_written failed false none h = refl
 
--- an engine whose end was told had no read that failed
+-- an engine whose end was reported had no read that failed
 no_failure : (r : Rules) (S : Colour) (due : Colour → List SentLine) (m : Match) (T : List Event) → fits_from r due m T
     ≡ true → has_end S T ≡ true → has_read_failure S T ≡ false
 no_failure r S due m [] f h = refl

@@ -63,7 +63,7 @@ has_write_failure-append S [] U = refl
 has_write_failure-append S (x ∷ T) U = ap (λ b. fails_at x S || b) (has_write_failure-append S T U)
     ∙ or_assoc (fails_at x S) (has_write_failure S T) (has_write_failure S U)
 
--- nothing was heard in what follows
+-- nothing was read in what follows
 pub record IsTail (U : List Event) : Type 0 where
   pub lines : (S : Colour) → lines_of S U ≡ []
   pub moments : moments_of U ≡ []

@@ -15,7 +15,7 @@ pub used_same : (m m' : Match) → m'.white.used ≡ m.white.used → m'.black.u
 used_same m m' w b White = w
 used_same m m' w b Black = b
 
--- what a line of a hello leaves as it was
+-- what a line of a handshake leaves as it was
 pub hear_used : (S : Colour) (items : List Item) (m : Match)
     → ((hear S items m).white.used ≡ m.white.used) × ((hear S items m).black.used ≡ m.black.used)
 hear_used White items m = (refl, refl)

@@ -1,4 +1,4 @@
--- What lines of one kind an engine was told, along a transcript.
+-- What lines of one kind an engine was sent, along a transcript.
 use mathlib.Core.Bool.{or-false}
 use Rattle.std.proofs.Common.{◌≡◌, ℕ, ◌+◌, ◌-◌, ◌<◌, Bool, true, false, not, ◌&&◌, ◌||◌, List, [], ◌∷◌, ◌++◌, length, refl, ap, sym, ◌∙◌, append-nil, append_assoc, arith}
 use Rattle.std.specs.Prelude.{if◌then◌else◌}
@@ -25,7 +25,7 @@ use Rattle.chess_match.proofs.MoveLaw.{not_on}
 use Rattle.chess_match.proofs.Outcomes.{Lines, InTurn, line_outcome, and_first, and_second}
 use Rattle.chess_match.proofs.Going.{hear_phase, is_opening, offered, plain_block, reads_stays}
 
--- what S is told of a kind where a match goes from m to m'
+-- what S is sent of a kind where a match goes from m to m'
 abbrev pub now : {A : Type 0} → (SentLine → List A) → Rules → Colour → Match → Match → List A
 now f r S m m' = if is_same_phase m.phase m'.phase then [] else flat_map f (entry r m' S)
 
@@ -33,7 +33,7 @@ joined_more : {A : Type 0} (X t R : List A) (Q : List A → Type 0) {M : List A}
     → Q (X ++ M)
 joined_more X t R Q e q = rw (e, ← append_assoc X t R) q
 
--- what holds of what was told and of the match, and each event keeps, holds at the end of all that is told
+-- what holds of what was sent and of the match, and each event keeps, holds at the end of all that is sent
 pub gathered : {A : Type 0} (f : SentLine → List A) → ((i : Item) → f (Answered i) ≡ []) → f DrawOffered ≡ []
     → (r : Rules) (S : Colour) (Q : List A → Match → Type 0)
     → ((due : Colour → List SentLine) (m : Match) (e : Event) (X : List A) → fits_next due m e ≡ true → Q X m
@@ -72,7 +72,7 @@ abbrev pub InOpenings : {A : Type 0} → (SentLine → List A) → Type 0
 InOpenings f = (r : Rules) (m : Match) (S : Colour) (p : Phase) → is_opening p ≡ false → flat_map f (entry_to r m S p)
     ≡ []
 
--- where a line of S gives S something to send, the other is told none of these
+-- where a line of S gives S something to send, the other is sent none of these
 abbrev TellsNone : {A : Type 0} → (SentLine → List A) → Rules → Colour → Match → Match → Type 0
 TellsNone f r S m m' = is_on m'.phase ≡ true → 0 < length (block r m m' S) → now f r (other S) m m' ≡ []
 
@@ -93,7 +93,7 @@ sends_nothing : {B : Type 0} (xs : List SentLine) → xs ≡ [] → 0 < length x
 sends_nothing [] e some = absurd (omega (arith, some))
 sends_nothing (x ∷ xs) e some = cc
 
--- of an opening: it is the other's, and S is sent nothing; or it is of S, and the other is told nothing
+-- of an opening: it is the other's, and S is sent nothing; or it is of S, and the other is sent nothing
 opens_tells_none : {A : Type 0} (f : SentLine → List A) (r : Rules) (S c : Colour) (m : Match)
     → is_same_phase m.phase (Opening c) ≡ false → TellsNone f r S m (open_turn c m)
 opens_tells_none f r White White m out on some = rw out refl

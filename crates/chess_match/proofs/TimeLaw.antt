@@ -1,4 +1,4 @@
--- The times that an engine is told are the clocks.
+-- The times that an engine is sent are the clocks.
 use Rattle.std.proofs.Common.{◌≡◌, ℕ, ◌+◌, ◌-◌, ◌/◌, ◌≤◌, Bool, true, false, ◌||◌, List, [], ◌∷◌, ◌++◌, length, length-append, drop, refl, ap, subst, ◌∙◌, append-nil, Option, None, Some, arith}
 use Rattle.std.specs.Prelude.{if◌then◌else◌, nat_lt, codes, sum}
 use Rattle.std.specs.List.{flat_map}
@@ -39,7 +39,7 @@ abbrev numbers : Bool → SentLine → List ℕ
 numbers true = time_told
 numbers false = otim_told
 
--- whose clock they tell to S
+-- whose clock they show to S
 abbrev told_of : Bool → Colour → Colour
 told_of true S = S
 told_of false S = other S
@@ -99,7 +99,7 @@ end_times true r m S reason = flat_map-append time_told (untold_lines r m S m.un
 end_times false r m S reason = flat_map-append otim_told (untold_lines r m S m.untold) _
     ∙ append-nil (flat_map otim_told (untold_lines r m S m.untold)) ∙ untold_times false r m S m.untold
 
--- the clock that is told in an opening, where the engine takes `time`
+-- the clock that is sent in an opening, where the engine takes `time`
 abbrev clock_told : Bool → Rules → Match → Colour → List ℕ
 clock_told own r m S = if takes (codes "time") (seat m S).items then clock r m (told_of own S) / 10 ∷ [] else []
 
@@ -201,7 +201,7 @@ all_told whole r takes used = if takes then from whole (centiseconds r.level 0 0
 abbrev last_told : Rules → Bool → List ℕ → List ℕ
 last_told r takes used = if takes then left r.level (length used) (sum used) / 10 ∷ [] else []
 
--- what is still to be told in this phase: the last, where S's turn wasn't opened since the clock changed
+-- what is still to be sent in this phase: the last, where S's turn wasn't opened since the clock changed
 abbrev pending : Bool → Phase → Colour → List ℕ → List ℕ
 pending true (Opening c) S t = if same_colour c S then [] else t
 pending true (Before c) S t = if same_colour c S then [] else t
@@ -460,7 +460,7 @@ turn_goes own r S c X m out h =
         (open_turn c m)
     carried_turn i u = rw (i, u) h
 
--- in a hello nothing was told, and no move made
+-- in a handshake nothing was sent, and no move made
 hello_goes : (own : Bool) (r : Rules) (S c d : Colour) (X : List ℕ) (items : List Item) (n : ℕ) (p : Phase) (m : Match)
     → TimesOf own r S (Hello d) X m → (reason : Reason)
     → (Times own r S X (enter (Hello Black) (hear c items m)))

@@ -1,4 +1,4 @@
--- What an engine is told, by the two engines' lines alone.
+-- What an engine is sent, by the two engines' lines alone.
 use Rattle.std.proofs.Common.{◌≡◌, ℕ, ◌+◌, ◌-◌, ◌≤◌, Bool, true, false, ◌&&◌, ◌||◌, List, [], ◌∷◌, ◌++◌, length, refl, ap, sym, ◌∙◌, append-nil, append_assoc, Option, None, Some, arith}
 use Rattle.std.specs.Prelude.{if◌then◌else◌, codes, is_some}
 use Rattle.chess_base.specs.declared.man.Colour.{Colour}
@@ -53,7 +53,7 @@ Says d t m m' =
     × (is_on m'.phase ≡ false → (S : Colour) → (seat m S).items ++ said_ahead m.phase S (with_line d t no_lines S)
     ≡ (seat m' S).items)
 
--- no hello is on
+-- no handshake is on
 abbrev is_greeted : Phase → Bool
 is_greeted (Hello c) = false
 is_greeted (Setup c) = true
@@ -70,7 +70,7 @@ none_ahead (Before c) S ls h = refl
 none_ahead (After c) S ls h = refl
 none_ahead (Over x) S ls h = refl
 
--- behind the hellos nothing is said
+-- after the handshakes nothing is said
 greeted_says : (d : Colour) (t : Option (List ℕ)) (m m' : Match) → is_greeted m.phase ≡ true → is_greeted m'.phase
     ≡ true → m'.white.items ≡ m.white.items → m'.black.items ≡ m.black.items → Says d t m m'
 greeted_says d t m m' g g' w b = (
@@ -87,7 +87,7 @@ greeted_says d t m m' g g' w b = (
 joined_items : (xs is ys : List Item) → xs ++ (is ++ ys) ≡ (xs ++ is) ++ ys
 joined_items xs is ys = sym (append_assoc xs is ys)
 
--- a line of a hello that isn't ended by it
+-- a line of a handshake that isn't ended by it
 hello_on : (d : Colour) (t : Option (List ℕ)) (n : ℕ) (m : Match) → m.phase ≡ Hello d
     → has_done (items_heard (kind_heard t)) ≡ false
     → (let m' = hear d (items_heard (kind_heard t)) m in Says d t m (record m' { count = n }))

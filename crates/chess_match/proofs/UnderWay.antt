@@ -16,13 +16,13 @@ use Rattle.chess_match.specs.declared.phase.Phase.{Phase}
 use Rattle.chess_match.specs.declared.phase.Phase.TheVariants.{Hello, Setup, Opening, Before, After, Over}
 use Rattle.chess_match.specs.declared.state.Core.{Core}
 
--- S's engine is still heard
+-- S's engine is still read
 pub record IsHearing (S : Colour) (T : List Event) (r r' : InputState) (held : Held) (given : List ℕ) : Type 0 where
   pub hearing : Hearing r r' held given (lines_of S T)
   pub unended : has_end S T ≡ false
   pub unfailed : has_read_failure S T ≡ false
 
--- these bytes came of S's engine, and while the match is on it is still heard
+-- these bytes came from S's engine, and while the match is on it is still read
 abbrev pub HeardSoFar : Colour → List Event → Bool → InputState → InputState → Held → Type 0
 HeardSoFar S T on r r' held = (given : List ℕ) × Heard S T r r' given × (on ≡ true → IsHearing S T r r' held given)
 

@@ -30,7 +30,7 @@ use Rattle.chess_match.proofs.Runs.{is_sound, match_of-append, IsTail, no_tail, 
 use Rattle.chess_match.proofs.Notings.{noted_none, noted_more, noted_as, noted_on, noted_broken, noted_start, noted_start_broken, both_by, broken_by}
 use Rattle.chess_match.proofs.Sane.{sane_start, sane_over, sane_opened}
 
--- the match is over behind what stops it
+-- the match is over after what stops it
 stopped : (r : Rules) (m : Match) (e : Event) → is_stop e ≡ true → is_on (after r m e).phase ≡ false
 stopped r m (OutputEnds c) h = refl
 stopped r m (FailsToRead c) h = refl
@@ -45,7 +45,7 @@ sound_write S (OutputEnds c) h = refl
 sound_write S (FailsToRead c) h = refl
 sound_write S (FailsToWrite c) h = absurd cc
 
--- what was heard of S, one event more
+-- what was read of S, one event more
 so_far_on : (S : Colour) (T : List Event) (e : Event) (U : List Event) (on on' : Bool) (r r' r'' : InputState)
     (h h' : Held) → IsTail U → on ≡ true → (is_stop e ≡ true → on' ≡ false) → HearsAt S e r' r'' h h'
     → HeardSoFar S T on r r' h → HeardSoFar S (T ++ e ∷ U) on' r r'' h'
@@ -329,7 +329,7 @@ one_started r core played failed n held w w' coming notes notes' White none s = 
   told = noted_as notes notes' _ _ (noted_start_broken r) s.told;
 }
 
--- the first lines of White's hello were sent
+-- the first lines of White's handshake were sent
 pub started : (r : Rules) (core : Core) (played : List Move) (failed : Colour → Bool) (n : Colour → InputState)
     (held : Colour → Held) (w w' : Colour → OutputState) (coming : ℕ → Option ℕ) (notes notes' : Noted)
     → ((S : Colour) → held S ≡ nothing_held)

@@ -101,7 +101,7 @@ stays_grow S kind n m m' w b p o none = (
     next None = refl
     next (Some k) = rw none refl
 
--- no move is awaited before the line or behind it
+-- no move is awaited before the line or after it
 apart_grow : (S : Colour) (kind : LineKind) (n : ℕ) (m m' : Match) (p : Phase) → m.phase ≡ p → awaited S p m.opened
     ≡ None → m'.white.used ≡ m.white.used → m'.black.used ≡ m.black.used
     → awaited S m'.phase m'.opened ≡ None → Grows S kind n m m'

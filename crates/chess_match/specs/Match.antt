@@ -32,23 +32,23 @@ pub data Event : Type 0 where
 
 -- what is known of one engine
 pub record Seat : Type 0 where
-  -- the items that were read in its hello
+  -- the items that were read in its handshake
   pub items : List Item
   -- the milliseconds that each of its moves used
   pub used : List ℕ
-  -- its offer of a draw stands
+  -- its offer of a draw is open
   pub offers : Bool
 
--- what is known of a match. Its phase is a side's hello, setup or opening, before its move or after it; or it is over,
--- and why
+-- what is known of a match. Its phase is a side's handshake, setup or opening, before its move or after it; or it is
+-- over, and why
 pub record Match : Type 0 where
   pub phase : Phase
   pub white : Seat
   pub black : Seat
   pub played : List Move
-  -- who is still to be told the last move
+  -- who is still to be sent the last move
   pub untold : Option Colour
-  -- the lines of a hello, or the ignored ones of a setup or a turn
+  -- the lines of a handshake, or the ignored ones of a setup or a turn
   pub count : ℕ
   -- the moment at the end of the turn's opening
   pub opened : ℕ
@@ -67,7 +67,7 @@ with_seat m Black s = record m { black = s }
 abbrev pub new_seat : Seat
 new_seat = record { items = []; used = []; offers = false }
 
--- before any line: White's hello
+-- before any line: White's handshake
 abbrev pub start : Match
 start = record {
   phase = Hello White;
@@ -89,7 +89,7 @@ over reason m = record m { phase = Over reason }
 abbrev pub enter : Phase → Match → Match
 enter phase m = record m { phase = phase; count = 0 }
 
--- that side's turn: its opening tells it the last move
+-- that side's turn: its opening has the last move
 abbrev pub open_turn : Colour → Match → Match
 open_turn S m = record m { phase = Opening S; count = 0; untold = None }
 
@@ -97,9 +97,9 @@ open_turn S m = record m { phase = Opening S; count = 0; untold = None }
 abbrev pub ignore : Colour → Match → Match
 ignore S m = if nat_le 10000 (m.count + 1) then over (over_by.Faulted S Flood) m else record m { count = m.count + 1 }
 
--- ---- hello
+-- ---- handshake
 
--- the items that a line tells: those of a `feature` line alone
+-- the items of a line: those of a `feature` line alone
 abbrev pub items_heard : LineKind → List Item
 items_heard (Features text) = items_of text
 items_heard _ = []
@@ -109,7 +109,7 @@ abbrev pub hear : Colour → List Item → Match → Match
 hear S items m =
     with_seat m S (record { items = (seat m S).items ++ items; used = (seat m S).used; offers = (seat m S).offers })
 
--- what an engine lacks: ping; setboard, where a start is told; the variant
+-- what an engine lacks: ping; setboard, where a start is sent; the variant
 abbrev pub lacking : Bool → Variant → Bool → Bool → Bool → Option MatchFault
 lacking has_start v ping setboard fischerandom =
     if not ping then Some NoPing
@@ -126,18 +126,18 @@ abbrev pub lack : Rules → List Item → Option MatchFault
 lack r items = lacking (is_some r.start_fen) r.variant (takes (codes "ping") items) (takes (codes "setboard") items)
     (plays_fischerandom items)
 
--- after both hellos White is judged, then Black
+-- after both handshakes White is judged, then Black
 abbrev pub judged : Option MatchFault → Option MatchFault → Match → Match
 judged (Some f) _ m = enter (Over (over_by.Faulted White f)) m
 judged None (Some f) m = enter (Over (over_by.Faulted Black f)) m
 judged None None m = enter (Setup White) m
 
--- S's hello ended: after White's comes Black's, and after Black's both are judged
+-- S's handshake ended: after White's comes Black's, and after Black's both are judged
 abbrev pub greeted : Rules → Colour → Match → Match
 greeted r White m = enter (Hello Black) m
 greeted r Black m = judged (lack r m.white.items) (lack r m.black.items) m
 
--- `done=1` ends the hello; else the thousandth line is the last
+-- `done=1` ends the handshake; else the thousandth line is the last
 unfoldable pub hello_line : Rules → Colour → List Item → Match → Match
 hello_line r S items m =
     if has_done items then greeted r S (hear S items m)
@@ -176,7 +176,7 @@ abbrev pub decide : Option Verdict → Match → Match
 decide (Some v) m = over (over_by.Decided v) m
 decide None m = m
 
--- S's move stands: the other's offer lapses, S's clock is charged, and the other is still to be told
+-- S's move is played: the other's offer lapses, S's clock is charged, and the move is still to be sent to the other
 abbrev pub played_by : Colour → Move → ℕ → Match → Match
 played_by White move used m = record {
   phase = After White;
@@ -197,13 +197,13 @@ played_by Black move used m = record {
   opened = m.opened;
 }
 
--- a text that doesn't spell one legal move loses; a legal move stands, and the verdict behind it, if there is one, ends
--- the match
+-- a text that doesn't denote one legal move loses; a legal move is played, and the verdict after it, if there is one,
+-- ends the match
 abbrev pub move_row : Rules → Colour → Option Move → ℕ → Match → Match
 move_row r S None moment m = over (over_by.MovesIllegally S) m
 move_row r S (Some move) moment m = decide (r.verdict (m.played ++ move ∷ [])) (played_by S move (moment - m.opened) m)
 
--- where the other's offer stands the draw is agreed; where S's own does the line counts as ignored; else S's stands
+-- where the other's offer is open the draw is agreed; where S's own is the line counts as ignored; else S's is opened
 abbrev pub offer_row : Colour → Match → Match
 offer_row S m =
     if (seat m (other S)).offers then over over_by.Agreed m
@@ -215,7 +215,7 @@ abbrev pub draw_row : Option DrawClaim → Colour → Match → Match
 draw_row (Some c) S m = over (over_by.Claimed c) m
 draw_row None S m = offer_row S m
 
--- a move was ever sent to S: the other has moved, since S's opening tells it the other's last move
+-- a move was ever sent to S: the other has moved, since S's opening has the other's last move
 abbrev pub was_told : Match → Colour → Bool
 was_told m S = nat_lt 0 (length (seat m (other S)).used)
 
@@ -229,7 +229,7 @@ either_way r S (ClaimsWin c) m = if same_colour c S then over (over_by.ClaimsFal
 either_way r S Rejects m = if was_told m S then over (over_by.RejectsLegalMove S) m else ignore S m
 either_way r S _ m = ignore S m
 
--- a line before the move, in time: where no more half-moves can stand a move ends the match
+-- a line before the move, in time: where the limit allows no more half-moves a move ends the match
 abbrev pub before_row : Rules → Colour → LineKind → ℕ → Match → Match
 before_row r S (Moves text) moment m =
     if nat_le r.limit (length m.played) then over over_by.GameTooLong m else move_row r S (r.reading m.played text)

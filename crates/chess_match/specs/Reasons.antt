@@ -1,4 +1,4 @@
--- What an end is told as: its outcome, its comment, its fault, and how it came.
+-- How an end is reported: its outcome, its comment, its fault, and how it came.
 use Rattle.std.specs.Prelude.{ℕ, Bool, true, false, List, ◌++◌, codes, Option, None, Some}
 use Rattle.chess_base.specs.declared.man.Colour.{Colour}
 use Rattle.chess_base.specs.declared.man.Colour.TheVariants.{White, Black}
@@ -58,7 +58,7 @@ fault_words NoSetboard = codes " has no setboard"
 fault_words Flood = codes " sent too many lines"
 fault_words NoVariant = codes " has no fischerandom"
 
--- what is said of the end, as it stands in braces behind `result` and its outcome
+-- what is said of the end, in braces after `result` and its outcome
 abbrev pub comment_of : Reason → List ℕ
 comment_of (Decided v) = verdict_comment v
 comment_of (Claimed c) = claim_comment c
@@ -73,7 +73,7 @@ comment_of ForfeitsToBareKing = codes "Time forfeit against a bare king"
 comment_of GameTooLong = codes "Game too long"
 comment_of (Faulted c f) = colour_name c ++ fault_words f
 
--- how the game ended, as PGN tells it
+-- how the game ended, as PGN says it
 abbrev pub ended_by : Reason → HowEnded
 ended_by (Decided v) = Normal
 ended_by (Claimed c) = Normal
@@ -93,7 +93,7 @@ abbrev pub fault_of : Reason → Option (Colour × MatchFault)
 fault_of (Faulted c f) = Some (c, f)
 fault_of _ = None
 
--- the first fault: that of the end, else of the end lines, where White's stand first
+-- the first fault: that of the end, else of the end lines, where White's come first
 abbrev pub first_fault : Option (Colour × MatchFault) → Bool → Bool → Option (Colour × MatchFault)
 first_fault (Some f) white_failed black_failed = Some f
 first_fault None true black_failed = Some (White, Write)

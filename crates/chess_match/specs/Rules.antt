@@ -1,4 +1,4 @@
--- What a match is told of its game, and what chess tells it.
+-- What a match needs of its game, and how chess gives it.
 use Rattle.std.specs.Prelude.{ℕ, Bool, true, ◌||◌, not, if◌then◌else◌, List, [], ◌∷◌, Option, None, Some}
 use Rattle.std.specs.List.{list_all}
 use Rattle.chess_base.specs.declared.man.Colour.{Colour}
@@ -27,25 +27,25 @@ use Rattle.chess_base.specs.declared.man.Variant.TheVariants.{Normal, Fischerand
 -- what is fixed when a match begins, and what its game says of the moves that were played from its start
 pub record Rules : Type 0 where
   pub variant : Variant
-  -- the start as it is told; none for the initial position of normal chess
+  -- the start as it is sent; none for the initial position of normal chess
   pub start_fen : Option (List ℕ)
   -- who is on move at the start
   pub first : Colour
   pub level : LevelSeen
   -- how many half-moves can be played
   pub limit : ℕ
-  -- the one legal move that a text spells behind these moves
+  -- the one legal move that a text denotes after these moves
   pub reading : List Move → List ℕ → Option Move
   pub verdict : List Move → Option Verdict
   pub claim : List Move → Option DrawClaim
   -- the text of the last of these moves, in SAN or by squares
   pub move_text : Bool → List Move → List ℕ
-  -- that side has no man but its king
+  -- that side has no piece but its king
   pub is_bare : List Move → Colour → Bool
 
 -- ---- chess
 
--- the move that a text is read as, if it spells exactly one
+-- the move that a text is read as, if it denotes exactly one
 abbrev pub move_read : Reading → Option Move
 move_read (reads.Move m) = Some m
 move_read reads.Ambiguous = None
@@ -66,21 +66,21 @@ text_of_last as_san p [] = []
 text_of_last as_san p (m ∷ []) = text_of_move as_san p m
 text_of_last as_san p (m ∷ n ∷ ms) = text_of_last as_san (after p m) (n ∷ ms)
 
--- no man, one of the other colour, or a king
+-- no piece, one of the other colour, or a king
 abbrev pub is_king_or_other : Colour → Option Man → Bool
 is_king_or_other c None = true
 is_king_or_other c (Some x) = not (same_colour x.colour c) || same_kind x.kind King
 
--- each man of that colour is a king
+-- each piece of that colour is a king
 unfoldable pub has_bare_king : Colour → Men → Bool
 has_bare_king c men = list_all (is_king_or_other c) men
 
--- normal chess begins from its initial position if nothing is said; of Chess960 each start is told
+-- normal chess begins from its initial position if nothing is said; of Chess960 each start is sent
 abbrev pub fen_told_in : Variant → Setup → Option (List ℕ)
 fen_told_in Normal start = if is_initial start then None else Some (fen start)
 fen_told_in Fischerandom start = Some (fen start)
 
--- a start as it is told, if it is: its FEN
+-- a start as it is sent, if it is: its FEN
 abbrev pub fen_told : Setup → Option (List ℕ)
 fen_told start = fen_told_in start.variant start
 

@@ -82,7 +82,7 @@ bytes_of (l ∷ ls) = words_of l ++ new_line ∷ bytes_of ls
 abbrev pub answers_to : List Item → List SentLine
 answers_to items = map Answered items
 
--- the start, where it is told
+-- the start, where it is sent
 abbrev pub start_lines : Option (List ℕ) → List SentLine
 start_lines None = []
 start_lines (Some fen) = StartSet fen ∷ []
@@ -93,7 +93,7 @@ variant_lines Normal = []
 variant_lines Fischerandom = VariantSet ∷ []
 
 -- the setup of an engine: a new game, its variant where it isn't normal chess, its level, `nopost`, `easy`, `force`,
--- the start where it is told, and `ping 1`
+-- the start where it is sent, and `ping 1`
 unfoldable pub setup_lines : Rules → List SentLine
 setup_lines r =
     New ∷ (variant_lines r.variant ++ (LevelSet r.level ∷ Nopost ∷ Easy ∷ Force ∷
@@ -120,12 +120,12 @@ opening_lines r m S =
     then clock_lines r m S ++ last_move_lines r m S
     else last_move_lines r m S ++ (clock_lines r m S ++ Go ∷ [])
 
--- the last move, if S wasn't told it
+-- the last move, if S wasn't sent it
 abbrev pub untold_lines : Rules → Match → Colour → Option Colour → List SentLine
 untold_lines r m S None = []
 untold_lines r m S (Some c) = if same_colour c S then last_move r m S ∷ [] else []
 
--- the last move, if S wasn't told it, and then the result and `quit`
+-- the last move, if S wasn't sent it, and then the result and `quit`
 unfoldable pub end_lines : Rules → Match → Colour → Reason → List SentLine
 end_lines r m S reason = untold_lines r m S m.untold ++ (Result (outcome_of reason) (comment_of reason) ∷ Quit ∷ [])
 
@@ -170,7 +170,7 @@ is_same_phase _ _ = false
 abbrev pub new_items : Seat → Seat → List Item
 new_items old new = drop (length old.items) new.items
 
--- an offer that came to stand between, for an engine that takes draws
+-- an offer that was opened in between, for an engine that takes draws
 abbrev pub draw_line : Seat → Seat → Seat → List SentLine
 draw_line told old new = if not old.offers && new.offers
     && takes (codes "draw") told.items then DrawOffered ∷ [] else []

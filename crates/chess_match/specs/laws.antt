@@ -1,2 +1,2 @@
--- Claims beside the definitions: each is the contract of a function that does nothing.
+-- Claims about the definitions: each is the contract of a function that does nothing.
 pub mod Laws

@@ -21,7 +21,7 @@ use chess_game::{Claims, Game, Verdict};
 use chess_moves::Board;
 use chess_text::{Reading, move_text, read_move, read_moves_are_legal, san};
 
-// Whether each man of that colour is a king.
+// Whether each piece of that colour is a king.
 fn is_king_or_other(colour: Colour, man: Option<Man>) -> bool
     ensures { result ≡ is_king_or_other colour man }
 {

@@ -26,7 +26,7 @@ pub(crate) trait Played {
     /// The moves so far.
     ghost played: { Self → List Move };
 
-    /// The start, and how many half-moves can stand: neither ever changes.
+    /// The start, and how many half-moves the game may have: neither ever changes.
     ghost origin: { Self → Setup × ℕ };
 
     /// Who is on move at the start.
@@ -40,12 +40,12 @@ pub(crate) trait Played {
     fn variant(&self) -> Variant
         ensures { (r : Rules) → plays self.now r → result ≡ r.variant };
 
-    /// Whether as many half-moves stand as can.
+    /// Whether as many half-moves are current as the limit allows.
     fn is_full(&self) -> bool
         ensures value { (r : Rules) → plays self.now r → result ≡ nat_le r.limit (length (played self.now)) }
         ensures few { result ≡ false → length (played self.now) < MOST_MOVES };
 
-    /// The one legal move that a text spells.
+    /// The one legal move that a text denotes.
     fn reading(&self, text: &[u8]) -> Option<Move>
         ensures { (r : Rules) → plays self.now r → result ≡ r.reading (played self.now) text.now };
 
@@ -55,11 +55,11 @@ pub(crate) trait Played {
     fn claim(&self) -> Option<DrawClaim>
         ensures { (r : Rules) → plays self.now r → result ≡ r.claim (played self.now) };
 
-    /// Whether that side has no man but its king.
+    /// Whether that side has no piece but its king.
     fn is_bare(&self, side: Colour) -> bool
         ensures { (r : Rules) → plays self.now r → result ≡ r.is_bare (played self.now) side };
 
-    /// Plays a move that some text spells, where the game isn't over and has room.
+    /// Plays a move that some text denotes, where the game isn't over and has room.
     fn play(&mut self, chosen: Move)
         requires { (r : Rules) × (text : List ℕ) × (plays self.old r) × (r.verdict (played self.old) ≡ None)
             × (nat_le r.limit (length (played self.old)) ≡ false) × (r.reading (played self.old) text ≡ Some chosen) }

@@ -16,15 +16,15 @@ pub enum MatchFault {
     Read,
     /// A write or a flush to it failed.
     Write,
-    /// Its hello did not end within 1,000 lines.
+    /// Its handshake did not end within 1,000 lines.
     NoDone,
-    /// Its hello doesn't say `ping=1`.
+    /// Its handshake doesn't say `ping=1`.
     NoPing,
     /// The start is to be sent, and its handshake doesn't say `setboard=1`.
     NoSetboard,
     /// It sent 10,000 lines in its setup or in a turn that count as ignored.
     Flood,
-    /// The variant is Chess960, and its hello says `variants` without `fischerandom`.
+    /// The variant is Chess960, and its handshake says `variants` without `fischerandom`.
     NoVariant,
 }
 
@@ -48,9 +48,9 @@ pub enum Reason {
     Agreed,
     /// By `resign`, or by `1-0` or `0-1` in which the other side wins.
     Resigns(Colour),
-    /// Its `move` spells no legal move, or more than one.
+    /// Its `move` denotes no legal move, or more than one.
     MovesIllegally(Colour),
-    /// It sends another `move` before it answers the ping behind its move.
+    /// It sends another `move` before it answers the ping after its move.
     MovesOutOfTurn(Colour),
     /// It says by `1-0` or `0-1` that it has won. A claim of a draw that doesn't hold counts as an offer.
     ClaimsFalsely(Colour),
@@ -60,7 +60,7 @@ pub enum Reason {
     Forfeits(Colour),
     /// A side forfeits on time, and the other has only its king.
     ForfeitsToBareKing,
-    /// As many half-moves stand as can.
+    /// As many half-moves are current as the limit allows.
     GameTooLong,
     /// That side's engine, or a device of it, failed: the game has no outcome.
     Faulted(Colour, MatchFault),
@@ -136,7 +136,7 @@ impl Reason {
         }
     }
 
-    /// The comment that stands in braces behind its outcome.
+    /// The comment in braces after its outcome.
     pub fn comment(self) -> &'static [u8]
         ensures value { result.now ≡ comment_of self }
         ensures short { length result.now ≤ 60 }
@@ -184,7 +184,7 @@ impl Reason {
     }
 }
 
-// The first fault: that of the end, else of the end lines, where White's stand first.
+// The first fault: that of the end, else of the end lines, where White's come first.
 pub(crate) fn first_fault(
     reason: Reason,
     white_failed: bool,

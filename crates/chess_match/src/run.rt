@@ -504,7 +504,7 @@ fn deliver<W: Output, L: Witness, G: Played, S: Board>(
     }
 }
 
-// Whether a line is heard: byte 10 ends it. What comes after the last byte 10 is the end of the output.
+// Whether a line is parsed: byte 10 ends it. What comes after the last byte 10 is the end of the output.
 fn is_heard(line: &Line<ENGINE_LINE_LEN>) -> bool
     ensures { result ≡ line.now.ended }
 {

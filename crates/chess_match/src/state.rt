@@ -23,7 +23,7 @@ use engine_lines::{Clocks, Features, Item, Level, next_item};
 pub(crate) struct Player {
     pub features: Features,
     pub name: TagText,
-    /// Its offer of a draw stands.
+    /// Its offer of a draw is open.
     pub offers: bool,
 }
 
@@ -43,7 +43,7 @@ pub(crate) struct Core {
     pub clocks: Clocks,
     /// Who is still to be sent the last move.
     pub untold: Option<Colour>,
-    /// The lines of a hello, or the ignored ones of a setup or a turn.
+    /// The lines of a handshake, or the ignored ones of a setup or a turn.
     pub count: u32,
     /// The moment at the end of the turn's opening.
     pub opened: u64,
@@ -101,7 +101,7 @@ impl Player {
 }
 
 impl Core {
-    /// Before any line: White's hello.
+    /// Before any line: White's handshake.
     pub(crate) fn new(level: Level) -> Self
         ensures { (r : Rules) → r.level ≡ level → Stands r result [] start }
     {

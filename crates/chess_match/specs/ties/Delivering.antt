@@ -26,7 +26,7 @@ abbrev pub by_turn : {A : Type 0} → Colour → A → A → Colour → A
 by_turn White own others = by_side own others
 by_turn Black own others = by_side others own
 
--- ---- what is heard
+-- ---- what is parsed
 
 -- the event that a call for the next line of S is; a last line that byte 10 doesn't end is the end
 abbrev pub event_heard : {E : Type 0} → Colour → ℕ → Result (Option LineSeen) E → Event
@@ -79,7 +79,7 @@ Delivered r core played m due first w w' failed notes notes' =
     AllSent r core played m due first w w' failed notes notes'
     ⊎ ((c : Colour) × OneFailed r core played m due first w w' failed notes notes' c)
 
--- core and game stand for a match in which there is a last move, if someone is still to be told it
+-- core and game stand for a match in which there is a last move, if someone is still to be sent it
 abbrev pub HasLast : Core → List Move → Type 0
 HasLast core played = (r : Rules) × (m : Match) × Stands r core played m
     × (is_some m.untold ≡ true → 0 < length m.played)

@@ -79,14 +79,14 @@ abbrev pub player : Core → Colour → Player
 player core White = core.white
 player core Black = core.black
 
--- the core once S's offer stands
+-- the core once S's offer is open
 abbrev pub offered_core : Core → Colour → Core
 offered_core core White =
     record core { white = record { features = core.white.features; name = core.white.name; offers = true } }
 offered_core core Black =
     record core { black = record { features = core.black.features; name = core.black.name; offers = true } }
 
--- the core once S's move stands
+-- the core once S's move is played
 abbrev pub played_core : Core → Colour → ℕ → Core
 played_core core White used = record core {
   phase = After White;
@@ -101,7 +101,7 @@ played_core core Black used = record core {
   white = record { features = core.white.features; name = core.white.name; offers = false };
 }
 
--- the items that a line tells: those of a hello alone
+-- the items of a line: those of a handshake alone
 abbrev pub items_in : Phase → LineKind → List Item
 items_in (Hello c) kind = items_heard kind
 items_in _ kind = []

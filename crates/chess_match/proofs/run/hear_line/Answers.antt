@@ -1,4 +1,4 @@
--- The moment is asked for, and the core hears what the line says.
+-- The moment is asked for, and the core takes over what the line says.
 use Rattle.std.proofs.Common.{ap, sym}
 use Rattle.engine_lines.specs.Seen.{seen}
 use Rattle.chess_match.specs.ties.Stands.{items_in}

@@ -1,4 +1,4 @@
--- Both clocks stand before the last move (Sends.behind).
+-- Both clocks come before the last move (Sends.behind).
 use Rattle.std.proofs.Common.{◌∙◌, ap, ◌++◌, List, ℕ}
 use Rattle.chess_match.specs.Sent.{bytes_of, clock_lines, last_move_lines}
 use Rattle.chess_match.proofs.Sends.{behind}

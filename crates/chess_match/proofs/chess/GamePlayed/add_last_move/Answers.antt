@@ -1,4 +1,4 @@
--- The text is that of the last move in the position before it, which the game's line tells.
+-- The text is that of the last move in the position before it, which follows from the game's line.
 use Rattle.std.proofs.Common.{◌≡◌, ◌+◌, ◌-◌, ◌++◌, ◌∷◌, [], length, List, ℕ, ap, sym, ◌∙◌, arith}
 use Rattle.chess_base.specs.declared.setup.Setup.{Setup}
 use Rattle.chess_text.specs.San.{san, shown_move}

@@ -1,5 +1,5 @@
 -- The clock and the opening's moment are those of the match (Going.clocks_left), so the flag falls here where it falls
--- there. In time, `move_line` and `either_way` go on by the row of the line.
+-- there. In time, `move_line` and `either_way` go on as the table says for the line.
 use Rattle.std.proofs.Common.{◌≡◌, ◌-◌, ℕ, Bool, true, false, refl, sym, ◌∙◌}
 use Rattle.std.specs.Prelude.{nat_lt}
 use Rattle.chess_base.specs.Men.{other}

@@ -1,4 +1,4 @@
--- The game's claim, the offers and the count of moves are those of the match for which core and game stand, so each
+-- The game's claim, the offers and the count of moves are those of the match that core and game stand for, so each
 -- kind of line has here the row that it has there; an end needs only that the match is on (Going.reads_on).
 use Rattle.std.proofs.Common.{◌≡◌, true, false, sym, ◌∙◌, Some, None, arith, length, lt-ltb, le-ltb}
 use Rattle.chess_base.specs.Men.{other, same_colour}

@@ -1,4 +1,4 @@
--- A line without features has no items, and hearing none leaves what the core stands for (Going.unheard_stands).
+-- A line without features has no items, and taking over none leaves what the core stands for (Going.unheard_stands).
 use Rattle.chess_match.proofs.Going.{unheard_stands}
 use Rattle.chess_match.proofs.state.Core.hear.Goals as goal
 

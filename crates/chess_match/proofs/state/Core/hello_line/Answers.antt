@@ -1,4 +1,4 @@
--- With the line's items heard, the core stands for the match that heard them. What comes next changes only phase and
+-- With the line's items parsed, the core stands for the match that parsed them. What comes next changes only phase and
 -- count, and gives the answers and the new phase's lines (Going.hello_goes).
 use Rattle.std.proofs.Common.{◌≡◌, ◌+◌, true, false, refl, sym, ◌∙◌, arith, le-leb}
 use Rattle.std.proofs.lemmas.Bool.{lt-leb}

@@ -1,5 +1,5 @@
--- The offers that stand are those of the match, and what is kept of the other engine tells whether it takes draws, so
--- that it is told of a new offer exactly where the match says so (Going.offered_goes).
+-- The open offers are those of the match, and what is kept of the other engine says whether it takes draws, so
+-- that it is sent a new offer exactly where the match says so (Going.offered_goes).
 use Rattle.std.proofs.Common.{◌≡◌, true, false, ◌∙◌, ap}
 use Rattle.std.specs.Prelude.{codes}
 use Rattle.chess_base.specs.Men.{other}
