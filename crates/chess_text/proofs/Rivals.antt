@@ -133,8 +133,7 @@ gathered : (f : ℕ → List Move) (t : ℕ → Bool) (n a : ℕ)
     → map (λ (m : Move). m.from) (flat_map f (range_with_len a n)) ≡ filter t (range_with_len a n)
 gathered f t zero a h = refl
 gathered f t (suc n) a h =
-    let rest : map (λ (m : Move). m.from) (flat_map f (range_with_len (a + 1) n))
-    ≡ filter t (range_with_len (a + 1) n) =
+    let rest : map (λ (m : Move). m.from) (flat_map f (range_with_len (a + 1) n)) ≡ filter t (range_with_len (a + 1) n) =
     gathered f t n (a + 1) (λ k l. h k (omega arith)) in
     map-append (λ (m : Move). m.from) (f a) (flat_map f (range_with_len (a + 1) n))
     ∙ rw (h a (omega arith), rest) (joined (t a) a (filter t (range_with_len (a + 1) n)))
@@ -185,8 +184,7 @@ pub beside_others : (from w : ℕ) (empty : Bool) → empty ≡ not (some_square
     → (if not (some_on_file (file from) (members w)) then said true false
     else (if not (some_on_rank (rank from) (members w)) then said false true else said true true))
     ≡ told_start from (members w)
-beside_others from w empty is off =
-    by_others from (members w) (some_member w (occupied empty (some_square (λ k. has w k)) is off))
+beside_others from w empty is off = by_others from (members w) (some_member w (occupied empty (some_square (λ k. has w k)) is off))
   where
     occupied : (empty some : Bool) → empty ≡ not some → empty ≡ false → some ≡ true
     occupied empty true is off = refl

@@ -3,5 +3,5 @@ use Rattle.chess_text.proofs.writing.rival_starts.Goals as goal
 
 pub returns : goal.returns
 returns g c =
-    rivals (g.B.Board.position c.args.board.now) c.args.d.now c.legal_starts-starts.result c.single.result
-    c.without.result c.requires c.legal_starts-starts.ensures c.single.ensures.value c.without.ensures
+    rivals (g.B.Board.position c.args.board.now) c.args.d.now c.legal_starts-starts.result c.single.result c.without.result
+    c.requires c.legal_starts-starts.ensures c.single.ensures.value c.without.ensures
