@@ -24,6 +24,7 @@ games_rule = record (option_rule (codes "games")) { parser = Some (Unsigned 1 10
 abbrev pub Lent : Type 0
 Lent = Bor (List (Bor Text))
 
+-- the names are `normal` and `fischerandom`
 abbrev pub AreVariants : Lent → Type 0
 AreVariants names = map (λ n. n.now) names.now ≡ codes "normal" ∷ codes "fischerandom" ∷ []
 
@@ -59,6 +60,7 @@ abbrev pub bare_app : App
 bare_app = let a = new_app (codes "arbiter") in
     record a { top = record a.top { has_version = true; no_binary_name = true; disable_help_subcommand = true } }
 
+-- the whole grammar: `session`, `verify`, `stub` and `match`
 abbrev pub arbiter_app : Lent → App
 arbiter_app names = with_subcommand (with_subcommand (with_subcommand (with_subcommand bare_app
     (new_app (codes "session")).top) verify_app.top) stub_app.top) (match_app names).top

@@ -57,6 +57,7 @@ verify_plan_of rows = record {
   strict = is_set (codes "strict") rows;
 }
 
+-- these are the options of a match, as written or by default
 pub record IsMatchOf (rows : List Row) (m : MatchWords) : Type 0 where
   pub white : first_of (codes "white") rows ≡ Some m.white.now
   pub black : first_of (codes "black") rows ≡ Some m.black.now
@@ -108,6 +109,7 @@ IsMatchFault m (BadFen f) = (l : LevelSeen) × (level_of m.level.now ≡ Some l)
 IsMatchFault m BadDate = (l : LevelSeen) × (p : Setup) × (level_of m.level.now ≡ Some l)
     × (start_of m.variant (option_map (λ t. t.now) m.fen) ≡ Ok p) × (is_date m.date.now ≡ false)
 
+-- the plan is what was written; a match has its level, FEN and date read
 abbrev pub IsPlanned : Spelled → Plan → Type 0
 IsPlanned spelled.Session plan = plan ≡ Session
 IsPlanned (spelled.Verify v) plan = plan ≡ Verify v

@@ -4,19 +4,15 @@ use Rattle.std.specs.Prelude.{if◌then◌else◌}
 use Rattle.std.proofs.lemmas.Bool.{and_from}
 use Rattle.arbiter_words.specs.declared.plan.MatchPlan.{MatchPlan}
 use Rattle.chess_base.specs.declared.man.Colour.{Colour}
-use Rattle.chess_base.specs.declared.man.Colour.TheVariants.{White, Black}
 use Rattle.byte_devices.specs.Devices.{OutputState, Begins, BreaksOff, Sends, Sent}
 use Rattle.byte_devices.proofs.DeviceLaws.{appends_more}
 use Rattle.chess_game.specs.Game.{Seen}
 use Rattle.chess_base.specs.declared.setup.Setup.{Setup}
 use Rattle.engine_lines.specs.Levels.{LevelSeen}
 use Rattle.chess_match.specs.Reasons.{comment_of}
-use Rattle.chess_match.specs.Match.{Event}
-use Rattle.chess_match.specs.Notes.{Note, Happened, Gives, events_in, given_in}
+use Rattle.chess_match.specs.Notes.{Note, notes_of}
 use Rattle.chess_match.specs.Rules.{rules_of}
 use Rattle.chess_match.specs.Run.{Flushed, Ports, Ran}
-use Rattle.chess_match.specs.Sent.{SentLine, bytes_of}
-use Rattle.chess_match.specs.Transcript.{sent}
 use Rattle.chess_match.specs.declared.reason.MatchFault.{MatchFault}
 use Rattle.chess_match.specs.declared.reason.Reason.TheVariants.{Faulted}
 use Rattle.chess_match.specs.declared.run.MatchEnd.{MatchEnd}
@@ -49,35 +45,11 @@ limit_kept notes start level g g' end w w' coming coming' (T, are, by) = ap (λ 
 
 -- ---- a game that is not logged
 
-abbrev happened : List Event → List Note
-happened [] = []
-happened (e ∷ T) = Happened e ∷ happened T
-
--- notes of a transcript and of the lines that were sent
-abbrev notes_of : List Event → (Colour → List SentLine) → List Note
-notes_of T lines = Gives White (bytes_of (lines White)) ∷ Gives Black (bytes_of (lines Black)) ∷ happened T
-
-events-happened : (T : List Event) → events_in (happened T) ≡ T
-events-happened [] = refl
-events-happened (e ∷ T) = ap (λ (es : List Event). e ∷ es) (events-happened T)
-
-given-happened : (S : Colour) (T : List Event) → given_in S (happened T) ≡ []
-given-happened S [] = refl
-given-happened S (e ∷ T) = given-happened S T
-
-given_of : (T : List Event) (lines : Colour → List SentLine) (S : Colour)
-    → given_in S (notes_of T lines) ≡ bytes_of (lines S)
-given_of T lines White =
-    ap (λ (l : List ℕ). bytes_of (lines White) ++ l) (given-happened White T) ∙ append-nil (bytes_of (lines White))
-given_of T lines Black =
-    ap (λ (l : List ℕ). bytes_of (lines Black) ++ l) (given-happened Black T) ∙ append-nil (bytes_of (lines Black))
-
 pub relayed : (l : LogSeen) (start : Setup) (level : LevelSeen) (g g' : Seen) (end : MatchEnd) (w w' : Ports)
     (coming coming' : ℕ → Option ℕ) → Ran start level g g' end w w' coming coming'
     → Relayed None l l start level g g' end w w' coming coming'
 relayed l start level g g' end w w' coming coming' (T, by) =
-    let lines : Colour → List SentLine = λ S. sent (rules_of start level g.limit) S T in
-    (notes_of T lines, (T, (events-happened T, given_of T lines), by), refl)
+    (notes_of (rules_of start level g.limit) T, (T, refl, by), refl)
 
 -- ---- logs of games
 

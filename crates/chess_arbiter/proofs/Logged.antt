@@ -12,7 +12,8 @@ use Rattle.byte_devices.specs.Devices.{OutputState, Sent, Sends, risen}
 use Rattle.byte_devices.proofs.DeviceLaws.{appends_more}
 use Rattle.chess_game.specs.Game.{Seen}
 use Rattle.engine_lines.specs.Levels.{LevelSeen}
-use Rattle.chess_match.specs.Notes.{Note, WasNoted}
+use Rattle.chess_match.specs.Notes.{Note, WasNoted, notes_of}
+use Rattle.chess_match.specs.Rules.{rules_of}
 use Rattle.chess_match.specs.Run.{Flushed, FlushedThenFailed, Ports, RanBefore}
 use Rattle.chess_match.specs.declared.run.MatchEnd.{MatchEnd}
 use Rattle.chess_match.proofs.Flushes.{flushed_none, flushed_more, failed_behind}
@@ -242,7 +243,8 @@ pub ran_logged : (first side side' : Colour) (from : LogSeen) (o o' o'' : Output
     → Adds o' o'' p' p'' [] → p''.bytes.items ≡ []
     → RanLogged first from (record { output = o''; broken = p''.broken }) start level g g' end w w' coming coming'
 ran_logged first side side' from o o' o'' p p' p'' s s' start level g g' end w w' coming coming' begun
-    (T, (notes, noted, events, given), by) a none =
+    (T, noted, by) a none =
+    let notes : List Note = notes_of (rules_of start level g.limit) T in
     let text : List ℕ = text_of_log first from in
     let first_is : first_of_text text ≡ first = first_again first from in
     let from_is : log_of_text text ≡ from =
@@ -254,7 +256,7 @@ ran_logged first side side' from o o' o'' p p' p'' s s' start level g g' end w w
     (subst (λ (c : Colour). IsLog c (log_of_text text) side o p s []) (sym first_is)
     (subst (λ (v : LogSeen). IsLog first v side o p s []) (sym from_is) begun)))) in (
       notes,
-      (T, (events, given), by),
+      (T, refl, by),
       subst (λ (l : List ℕ). Logs from.broken p''.broken from.output o'' l (log_text first notes)) none
           (subst (λ (t : List ℕ). Logs from.broken p''.broken from.output o'' p''.bytes.items t)
           (append-nil (log_text first notes)) (a.after from (log_text first notes) log.written)),

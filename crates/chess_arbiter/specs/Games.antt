@@ -89,6 +89,7 @@ scored first_has_white Unfinished s = record {
   unfinished = one_more s.unfinished;
 }
 
+-- the last line of a match: the counts of the score
 unfoldable pub score_line : Score → List ℕ
 score_line s =
     codes "score first "
@@ -138,7 +139,7 @@ pub record GameTold : Type 0 where
   pub end : MatchEnd
   pub notes : List Note
 
--- it is one of the plan, of at most 20,000 half-moves
+-- it was played from the plan's start at its level, with at most 20,000 half-moves, between some two engines
 abbrev pub IsOfPlan : MatchPlan → GameTold → Type 0
 IsOfPlan plan told = (before : Seen) × (before.limit ≡ MOST_MOVES)
     × IsMatchEnd told.notes plan.start plan.level before told.game told.end
@@ -179,6 +180,7 @@ PlayedOne plan number w w' l l' (Err fault) = IsStartFault plan number fault × 
 
 -- ---- the games
 
+-- each of these games is one of the plan
 abbrev pub AreOfPlan : MatchPlan → List GameTold → Type 0
 AreOfPlan plan [] = Unit {0}
 AreOfPlan plan (told ∷ rest) = IsOfPlan plan told × AreOfPlan plan rest
@@ -202,9 +204,11 @@ abbrev pub LogsGamesIf : Bool → LogSeen → LogSeen → List GameTold → Type
 LogsGamesIf false l l' games = l' ≡ l
 LogsGamesIf true l l' games = Logged l l' (game_logs 1 games)
 
+-- these games were logged if the plan asks for a log; otherwise nothing was
 abbrev pub LogsGames : MatchPlan → LogSeen → LogSeen → List GameTold → Type 0
 LogsGames plan l l' games = LogsGamesIf plan.log l l' games
 
+-- the score after these games, with numbers from there on, counted on from s
 abbrev pub score_on : ℕ → List GameTold → Score → Score
 score_on number [] s = s
 score_on number (told ∷ rest) s = score_on (number + 1) rest (scored (is_odd number) told.end.outcome s)
@@ -212,7 +216,7 @@ score_on number (told ∷ rest) s = score_on (number + 1) rest (scored (is_odd n
 abbrev pub score_of : List GameTold → Score
 score_of games = score_on 1 games no_score
 
--- games without a fault, all that the plan asks for, or fewer
+-- games of the plan, none with a fault; how many is not said here
 pub record SoundGames (plan : MatchPlan) (games : List GameTold) : Type 0 where
   pub of_plan : AreOfPlan plan games
   pub sound : are_sound games ≡ true

@@ -9,11 +9,9 @@ use Rattle.byte_devices.specs.Devices.{OutputState, Begins}
 use Rattle.chess_game.specs.Game.{Seen}
 use Rattle.engine_lines.specs.Levels.{LevelSeen}
 use Rattle.chess_match.specs.Match.{Event, Line, Opened, OutputEnds, FailsToRead, FailsToWrite}
-use Rattle.chess_match.specs.Notes.{Note, Happened, Gives, events_in, given_in}
+use Rattle.chess_match.specs.Notes.{Note, Happened, Gives, notes_of}
 use Rattle.chess_match.specs.Rules.{rules_of}
 use Rattle.chess_match.specs.Run.{Ports, RanBy, Flushed, FlushedThenFailed}
-use Rattle.chess_match.specs.Sent.{SentLine, bytes_of}
-use Rattle.chess_match.specs.Transcript.{sent}
 use Rattle.chess_match.specs.declared.run.MatchEnd.{MatchEnd}
 use Rattle.chess_arbiter.specs.declared.log.Pending.{Pending}
 use Rattle.chess_arbiter.specs.declared.log.LogState.{LogState}
@@ -33,6 +31,7 @@ engine_text false = codes "second: "
 abbrev pub head : ℕ → ℕ → Bool → List ℕ
 head moment mark is_first = decimal moment ++ ((32 ∷ mark ∷ []) ++ engine_text is_first)
 
+-- a whole line of the log: its head, the text as it is shown, and byte 10
 abbrev pub log_line : ℕ → ℕ → Bool → List ℕ → List ℕ
 log_line moment mark is_first text = head moment mark is_first ++ (map shown text ++ new_line ∷ [])
 
@@ -74,6 +73,7 @@ after_event s (Line c text now) = record { moment = now; at_start = true }
 after_event s (Opened c now) = record { moment = now; at_start = s.at_start }
 after_event s _ = record { moment = s.moment; at_start = true }
 
+-- the state of the log after a note
 abbrev pub after_note : LogState → Note → LogState
 after_note s (Happened e) = after_event s e
 after_note s (Gives c text) = record { moment = s.moment; at_start = ends_line s.at_start text }
@@ -82,10 +82,12 @@ abbrev pub after_notes : LogState → List Note → LogState
 after_notes s [] = s
 after_notes s (n ∷ notes) = after_notes (after_note s n) notes
 
+-- the log of these notes, from that state on
 abbrev pub log_from : Colour → LogState → List Note → List ℕ
 log_from first s [] = []
 log_from first s (n ∷ notes) = note_text first s n ++ log_from first (after_note s n) notes
 
+-- the state before a game: moment 0, at the beginning of a line
 abbrev pub log_start : LogState
 log_start = record { moment = 0; at_start = true }
 
@@ -100,6 +102,7 @@ pub record LogSeen : Type 0 where
   pub output : OutputState
   pub broken : Bool
 
+-- what is seen of a log with that output and those pending bytes
 abbrev pub log_seen : OutputState → Pending → LogSeen
 log_seen o p = record { output = o; broken = p.broken }
 
@@ -131,15 +134,11 @@ pub record IsLog (first : Colour) (from : LogSeen) (side : Colour) (o : OutputSt
 
 -- ---- a match that is logged
 
--- notes of this transcript, and of the lines that each engine is sent
-abbrev pub AreNotes : List Note → List Event → (Colour → List SentLine) → Type 0
-AreNotes notes T lines = (events_in notes ≡ T) × ((S : Colour) → given_in S notes ≡ bytes_of (lines S))
-
--- a match ran as `Ran` says, with these notes of its transcript
+-- a match ran as `Ran` says, and these are the notes of its transcript
 abbrev pub RanNoted : List Note → Setup → LevelSeen → Seen → Seen → MatchEnd → Ports → Ports → (ℕ → Option ℕ)
     → (ℕ → Option ℕ) → Type 0
 RanNoted notes start level g g' end w w' coming coming' =
-    (T : List Event) × AreNotes notes T (λ S. sent (rules_of start level g.limit) S T)
+    (T : List Event) × (notes ≡ notes_of (rules_of start level g.limit) T)
     × RanBy T start level g g' end w w' coming coming'
 
 -- a match ran, and was logged with that side as the first engine's

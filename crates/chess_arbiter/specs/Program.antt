@@ -56,6 +56,7 @@ fault_status NoMemory = 1
 fault_status InputTooLong = 1
 fault_status WrongWords = 2
 
+-- the exit status of a session: 0, or that of its fault
 abbrev pub status_of : Result End ProgramFault → ℕ
 status_of (Ok end) = 0
 status_of (Err fault) = fault_status fault
@@ -67,6 +68,7 @@ program_fault verifying.WriteFailed = WriteFailed
 program_fault verifying.NoMemory = NoMemory
 program_fault verifying.InputTooLong = InputTooLong
 
+-- the exit status of `verify`: 0 without a fault; 1 with one, or where games were not verified
 abbrev pub verify_status : Result Verified VerifyFault → ℕ
 verify_status (Ok EachGame) = 0
 verify_status (Ok FaultTold) = 1
@@ -101,6 +103,7 @@ Shown w w' (Err NoMemory) = w' ≡ w
 Shown w w' (Err InputTooLong) = ⊥
 Shown w w' (Err WrongWords) = ⊥
 
+-- the exit status of help: 0 where it was shown, else that of the fault
 abbrev pub shown_status : {A : Type 0} → Result A ProgramFault → ℕ
 shown_status (Ok _) = 0
 shown_status (Err fault) = fault_status fault
@@ -117,21 +120,23 @@ ToldWords (words.Words e) w w' status =
 ToldWords words.NoMemory w w' status = (w' ≡ w) × (status ≡ 1)
 ToldWords fault w w' status = (w' ≡ w) × (status ≡ 2)
 
--- a stub ran, and the status says whether a device failed
+-- the exit status of a stub: 1 where a device failed, else 0
 abbrev pub stub_status : {A : Type 0} → Result A StubFault → ℕ
 stub_status (Ok _) = 0
 stub_status (Err fault) = 1
 
+-- a stub ran, and the status says whether a device failed
 abbrev pub RanStub : Words → InputState → InputState → OutputState → OutputState → ℕ → Type 0
 RanStub words r r' w w' status = (outcome : Result (Unit {0}) StubFault) × StubRan r r' w w' (beginning words) outcome
     × (status ≡ stub_status outcome)
 
--- the games of a match were played, written and logged, and the status is whether anything failed; where nothing did, the
--- error output has the logs and nothing more
+-- the exit status of a match: 1 where anything failed, else 0
 abbrev pub games_status : {A : Type 0} → Result A GamesFault → ℕ
 games_status (Ok _) = 0
 games_status (Err fault) = 1
 
+-- games were played, written and logged, and the status says whether anything failed; what the error output has is said
+-- for status 0 alone
 abbrev pub RanMatch : MatchPlan → OutputState → OutputState → LogSeen → LogSeen → ℕ → Type 0
 RanMatch plan w w' l l' status =
     (outcome : Result (Unit {0}) GamesFault) × (logged : LogSeen) × RanGames plan w w' l logged outcome

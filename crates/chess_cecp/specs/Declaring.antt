@@ -22,7 +22,7 @@ outcome_named word =
     else if bytes_eq word (outcome_text Unfinished) then Some Unfinished
     else None
 
--- what is between the brace at a text's start and the one at its end
+-- a text without its first and its last byte
 abbrev pub inside_braces : List ℕ → List ℕ
 inside_braces text = take (length text - 2) (drop 1 text)
 

@@ -41,7 +41,7 @@ pub data SentLine : Type 0 where
   Result : (outcome : Outcome) → (comment : List ℕ) → SentLine
   Quit : SentLine
 
--- an item of that name is answered
+-- the text of the answer to an item of that name: accepted if known, else rejected
 abbrev pub answer_words : List ℕ → List ℕ
 answer_words name = (if is_known name then codes "accepted " else codes "rejected ") ++ name
 

@@ -80,7 +80,7 @@ abbrev pub is_dropped : Event → List Event → Colour → Bool
 is_dropped (Line c text moment) (FailsToWrite d ∷ es) S = same_colour c d && not (same_colour d S)
 is_dropped _ _ S = false
 
--- the event is a write to S that fails: it gives S nothing
+-- the event is a write to S that fails
 abbrev pub fails_at : Event → Colour → Bool
 fails_at (FailsToWrite c) S = same_colour c S
 fails_at _ S = false

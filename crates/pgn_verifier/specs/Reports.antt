@@ -38,7 +38,7 @@ reports_on strict text = reports_from strict (length text + 1) text 0
 
 -- ---- the reports on the games of pieces
 
--- a fault of a text that begins at that offset of the input
+-- the fault, its offset counted from the input's first byte, where its text begins at `start`
 abbrev pub moved : ℕ → GameFault → GameFault
 moved start fault = record { kind = fault.kind; offset = start + fault.offset }
 
