@@ -12,7 +12,7 @@ use Rattle.chess_match.specs.Transcript.{is_on, is_dropped, fails_at}
 pub data Note : Type 0 where
   -- an event of the transcript
   Happened : (event : Event) → Note
-  -- the bytes of a block that a side's engine is sent, noted before they are written
+  -- the bytes of a block that a side's engine is sent
   Gives : (side : Colour) → (text : List ℕ) → Note
 
 -- ---- the notes of a transcript
