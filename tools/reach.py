@@ -3,18 +3,23 @@
 
     tools/reach.py              the table of docs/claims/README.md
     tools/reach.py NAME..       what these functions reach, file by file in reading order (`run_match`, `Game::play`)
-    tools/reach.py --rooms      for each file of specs/ which of its definitions serve the program, other calls, laws, or only ties
+    tools/reach.py --rooms      for each file of specs/ which of its definitions serve the program, other calls, laws, or only ties,
+                                and which definitions are misplaced; the exit status is 1 if there are any
     tools/reach.py --rooms NAME the definitions of one room: program, calls, laws, ties, proofs, nothing
+    tools/reach.py --silent     the definitions that run_program reaches and that no comment is right above; the exit status is 1
+                                if there are any
 
-A function reaches the definitions that its clauses name, those by which contracts see its arguments, and what these name in turn.
+What is at the top of specs/ is to be reached by the contract of a function that a user of the crates can call; what is in
+specs/laws/ or specs/ties/ is not. A function reaches the definitions that its clauses name, those by which contracts see its arguments, and what these name in turn.
 A definition's lines are counted without comments, imports and empty lines. Names are resolved by the imports of their file; no
 prover is asked."""
 
+import re
 import sys
 
 sys.dont_write_bytecode = True
 
-from sources import TOP, Sources, Specs, imports_of, read, reading_order
+from sources import HEAD, TOP, Name, Sources, Specs, imports_of, read, reading_order, without_comment
 
 HEADLINES = [
     "run_program", "run_session", "run_match", "read_words",
@@ -84,6 +89,29 @@ class Reach:
                 found[key] = "nothing"
         return found
 
+    def misplaced(self):
+        """For each file the definitions that are at the top of specs/ and serve no call, or that are below it and serve one."""
+        found = {}
+        for key, room in self.rooms().items():
+            is_top = not key.module.startswith(("laws.", "ties."))
+            if is_top != (room in ("program", "calls")):
+                found.setdefault(key.path, []).append(f"{key.name} ({room})")
+        return found
+
+    def silent(self):
+        """For each file the definitions that run_program reaches and that no comment is right above."""
+        reached = self.of(self.functions("run_program"))
+        found = {}
+        for path in self.specs.files:
+            crate, module = path.split("/")[1], path.split("/specs/")[1][: -len(".antt")].replace("/", ".")
+            above = ""
+            for line in read(path).split("\n"):
+                head = HEAD.match(without_comment(line))
+                if head and Name(crate, module, head.group(2)) in reached and not re.match(r"\s*--(\s|$)", above):
+                    found.setdefault(path, []).append(head.group(2))
+                above = line
+        return found
+
     def named_in(self, folder, ending, prefix):
         """What the files of a folder name anywhere."""
         found = set()
@@ -149,19 +177,34 @@ def show_rooms(reach, wanted):
         print(f"{path}: {', '.join(counts)}")
 
 
+def show_found(found, what):
+    """Prints what was found file by file. Returns the exit status."""
+    for path, names in found.items():
+        print(f"{path}: {', '.join(names)}")
+    print(f"{sum(map(len, found.values()))} definitions {what}")
+    return 1 if found else 0
+
+
 def main(words):
     reach = Reach()
+    if words == ["--silent"]:
+        return show_found(reach.silent(), "have no comment right above them")
+    if words == ["--rooms"]:
+        show_rooms(reach, None)
+        print()
+        return show_found(reach.misplaced(), "are misplaced")
     if words[:1] == ["--rooms"]:
-        show_rooms(reach, words[1] if len(words) > 1 else None)
+        show_rooms(reach, words[1])
     elif words:
         for name in words:
             show(reach, name)
     else:
         print(table(reach))
+    return 0
 
 
 if __name__ == "__main__":
     try:
-        main(sys.argv[1:])
+        sys.exit(main(sys.argv[1:]))
     except BrokenPipeError:
         sys.stderr.close()

@@ -1,5 +1,5 @@
 """The sources, as far as the documents speak of them: the definitions in specs/, the public functions with their clauses, and the
-mutations in must-fail/. Found by their shape, as the formatter leaves it; no prover is asked."""
+mutations in must-fail/ and tried-apart/. Found by their shape, as the formatter leaves it; no prover is asked."""
 
 import re
 from dataclasses import dataclass, field
@@ -392,10 +392,10 @@ class Sources:
         return found
 
 
-def mutations(ending="edit"):
-    """The names of the mutations by crate: those that the gate tries, or, by the ending `md`, those tried apart from it."""
+def mutations(folder="must-fail"):
+    """The names of the mutations by crate: those that the gate tries, or those in tried-apart/."""
     found = {}
-    for path in sorted(TOP.glob(f"crates/*/must-fail/*.{ending}")):
+    for path in sorted(TOP.glob(f"crates/*/{folder}/*.edit")):
         found.setdefault(path.parent.parent.name, []).append(path.stem)
     return found
 
@@ -416,5 +416,6 @@ def target_of(label):
 
 
 def reading_order(text):
-    """The files of specs/ as the tables of docs/DEFINITIONS.md have them."""
-    return [target_of(label) for label in re.findall(r"^\| \[([a-z_]+/\w+)\] ", text, re.M)]
+    """The files of specs/ as docs/DEFINITIONS.md lists them: a line `- CRATE: FILE, FILE..` for each crate."""
+    lines = re.findall(r"^- (\w+): ([\w/]+(?:, [\w/]+)*)$", text, re.M)
+    return [f"crates/{crate}/specs/{file}.antt" for crate, files in lines for file in files.split(", ")]

@@ -2,12 +2,14 @@
 """Checks the documents against the sources.
 
     tools/theorems.py           reports where docs/THEOREMS.md or its lists in docs/claims/ name a function, clause, definition or
-                                test that is not in its file; which clause of a public function is missing; which mutation is not
-                                listed exactly once; which headings of the lists differ from the claims; whether figures, files to
-                                read or links are old; which file of specs/ is not in docs/DEFINITIONS.md exactly once, after
-                                those on which it rests; and which link of a document leads to no file or to no heading
-    tools/theorems.py --fill    writes headings, figures, files to read and short links anew, moves mutations that the gate tries
-                                by now to the refused ones, and then checks
+                                test that there is not; which clause of a public function is missing; which mutation is not
+                                listed exactly once; which headings of the lists differ from the claims; whether figures, theorems
+                                or files to read of the lists are old; which file of specs/ is not in docs/DEFINITIONS.md exactly
+                                once, after those on which it rests; which definitions are misplaced or have no comment (by
+                                tools/reach.py); and which link of a document leads to no file or to no heading
+    tools/theorems.py --fill    writes the generated parts of docs/claims/ anew (headings, theorems with their clauses, files to
+                                read, figures, links), moves mutations that the gate tries by now to the refused ones, and then
+                                checks
 
 The exit status is 0 if there is no fault."""
 
@@ -23,6 +25,7 @@ PAGE = "docs/THEOREMS.md"
 LISTS = "docs/claims"
 FIGURES = f"{LISTS}/README.md"
 ORDER = "docs/DEFINITIONS.md"
+FILES = f"{LISTS}/definitions.md"
 
 FAULTS = []
 
@@ -69,13 +72,14 @@ READ = re.compile(r"\[([a-z_]+/\w+)\](?: \(([^)]*)\))?")
 
 
 class Claim:
-    """A claim of the page with its lists: `Read`, `Within the crate`, `Tests`, `Refused` and `Tried apart`."""
+    """A claim of the page with its lists: `Theorem`, `Read`, `Within the crate`, `Tests`, `Refused` and `Tried apart`."""
 
     def __init__(self, heading, theorem, lists):
         self.heading = heading
         self.slug = slug(heading)
         self.theorem = theorem
-        self.lists = lists
+        self.theorems = []  # (function, clauses), found by `find_theorems`
+        self.lists = [line for line in lists if not line.startswith("- Theorem: ")]
         read_line = next((line[len("- Read: "):] for line in lists if line.startswith("- Read: ")), "")
         self.links = re.findall(r"\]\((?:\w+\.md)?#([^)]+)\)", read_line)
         self.begins = read_line.split(";")[0] if self.links else ""
@@ -87,14 +91,14 @@ class Section:
 
     def __init__(self, text):
         self.title = text.split("\n")[0]
-        crate = re.search(r"\((\w+)", self.title).group(1)
-        self.page = f"{LISTS}/{crate}.md"
+        self.crates = re.search(r"\(([\w, ]+)\)", self.title).group(1).split(", ")
+        self.page = f"{LISTS}/{self.crates[0]}.md"
         old = re.split(r"^## ", read(self.page).split("<!-- links -->")[0], flags=re.M)[1:] if (TOP / self.page).exists() else []
         lists = {slug(part.split("\n")[0]): [line for line in part.split("\n") if line.startswith("- ")] for part in old}
         self.claims = []
         for part in re.split(r"^### ", text, flags=re.M)[1:]:
             heading = part.split("\n")[0]
-            theorem = re.search(r"^- Theorem(?:, within the crate)?: (.*)$", part, re.M)
+            theorem = re.search(r"^- Theorem: (.*)$", part, re.M)
             self.claims.append(Claim(heading, theorem.group(1) if theorem else "", lists.pop(slug(heading), [])))
         self.left = list(lists)
         for left in lists:
@@ -115,45 +119,49 @@ def sections_of(text):
 
 # ---- what a line names
 
-NAMES = re.compile(r"`([^`]+)`(?: \(([^)]*)\))?")
-
-
-def items(line):
-    """The names of a line, with the text in brackets after each, and the short link after `in`."""
-    start = 0
-    for m in re.finditer(r" in \[([a-z_]+/[\w.]+)\]", line):
-        for name in NAMES.finditer(line[start:m.start()]):
-            yield name.group(1), name.group(2), m.group(1)
-        start = m.end()
+NAMES = re.compile(r"`(?:(\w+)/)?([^`]+)`(?: \(([^)]*)\))?")
 
 
 def clauses_in(brackets):
-    """The names in brackets; none for a function with its one clause."""
+    """The names in brackets."""
     return re.findall(r"`(\w+)`", brackets or "")
 
 
-def check_theorem(where, line, sources):
-    if not list(items(line)):
+def find_theorems(claim, crates, sources):
+    """Finds the functions that a claim's line names, as `CRATE/NAME` where NAME is not the only one, and for each the clauses in
+    brackets, or all of it. Those of the section's crates are looked at first, and public ones before others."""
+    where = f"{PAGE}: {claim.heading}"
+    if not claim.theorem:
         fault(where, "names no function")
-    for name, brackets, label in items(line):
-        path = target_of(label)
-        found = [f for f in sources.functions if f.full_name == name and f.path == path]
-        if not found:
-            fault(where, f"{name} is not in {path}")
+    for crate, name, brackets in NAMES.findall(claim.theorem):
+        found = [f for f in sources.functions if f.full_name == name and (f.clauses or (f.crate, f.owner) in sources.members)]
+        found = [f for f in found if not crate or f.crate == SHORT.get(crate)]
+        for fits in (sources.is_public, lambda f: f.crate in crates):
+            found = [f for f in found if fits(f)] or found
+        if len({f.path for f in found}) != 1:
+            fault(where, f"{name} is in {sorted({f.path for f in found}) or 'no file'}")
             continue
-        clauses = {n for f in found for kind, n, _ in f.clauses if kind == "ensures"}
-        clauses |= sources.members.get((found[0].crate, found[0].owner), set())
-        for clause in clauses_in(brackets) or [""]:
-            if clause not in clauses:
-                fault(where, f"{name} has no clause {clause or 'without a name'}, but {sorted(clauses)}")
+        clauses = {clause: None for f in found for kind, clause, _ in f.clauses if kind == "ensures"}
+        members = sources.members.get((found[0].crate, found[0].owner), set())
+        wanted = clauses_in(brackets) or list(clauses)
+        for clause in wanted:
+            if clause not in clauses and clause not in members:
+                fault(where, f"{name} has no clause {clause}, but {sorted(clauses)}")
+        claim.theorems.append((found[0], wanted))
+
+
+def theorem_line(claim):
+    """The line of a claim's lists that names its theorems, with clauses and files."""
+    parts = {}
+    for f, clauses in claim.theorems:
+        names = [f"`{clause}`" for clause in clauses if clause]
+        parts.setdefault(label_of(f.path), []).append(f"`{f.full_name}`" + (f" ({', '.join(names)})" if names else ""))
+    return "- Theorem: " + "; ".join(f"{', '.join(names)} in [{label}]" for label, names in parts.items())
 
 
 def check_all_are_named(claims, sources):
     """Each clause of a function that a user of the crates can call is named at some claim."""
-    named = set()
-    for claim in claims:
-        for name, brackets, label in items(claim.theorem):
-            named |= {(target_of(label), name, clause) for clause in clauses_in(brackets) or [""]}
+    named = {(f.path, f.full_name, clause) for claim in claims for f, clauses in claim.theorems for clause in clauses}
     for f in sources.functions:
         for kind, clause, _ in f.clauses if sources.is_public(f) else []:
             if kind == "ensures" and (f.path, f.full_name, clause) not in named:
@@ -206,7 +214,7 @@ def check_mutations(claims):
         for line in claim.lists:
             if m := MUTATIONS.fullmatch(line):
                 listed[m.group(1)].setdefault(m.group(2), []).extend(re.findall(r"`(\w+)`", m.group(3)))
-    for kind, there in (("Refused", mutations()), ("Tried apart", mutations("md"))):
+    for kind, there in (("Refused", mutations()), ("Tried apart", mutations("tried-apart"))):
         for crate in sorted(set(there) | set(listed[kind])):
             named, real = listed[kind].get(crate, []), there.get(crate, [])
             for name in sorted(set(real) - set(named)):
@@ -220,7 +228,7 @@ def check_mutations(claims):
 
 def check_mutations_fit():
     """Each old text of a mutation is in its file exactly once, also of those that the gate does not try."""
-    for edit in sorted(TOP.glob("crates/*/must-fail/*")):
+    for edit in sorted([*TOP.glob("crates/*/must-fail/*"), *TOP.glob("crates/*/tried-apart/*")]):
         file, texts = None, {}
         for line in edit.read_text(encoding="utf-8").split("\n"):
             kind, _, rest = line.partition(": ")
@@ -277,8 +285,10 @@ def check_order(text, specs):
 # ---- what a claim says is to be read
 
 def label_of(path):
-    crate, _, file = path[len("crates/"):].partition("/specs/")
-    return f"{next(short for short, whole in SHORT.items() if whole == crate)}/{file[: -len('.antt')].split('/')[-1]}"
+    """The short link to a file of specs/ or src/."""
+    crate, folder, file = re.match(r"crates/(\w+)/(specs|src)/(.*)$", path).groups()
+    name = file.split("/")[-1]
+    return f"{next(short for short, whole in SHORT.items() if whole == crate)}/{name if folder == 'src' else name[: -len('.antt')]}"
 
 
 def with_reading(claims, reached, place):
@@ -289,11 +299,12 @@ def with_reading(claims, reached, place):
     for claim in claims:
         claim.below = [by_slug[link] for link in claim.links if link in by_slug]
         roots = {k for k in reached.specs.definitions if k.name in claim.names.get(k.path, [])}
-        for name, brackets, label in items(claim.theorem):
-            wanted = {c for c in clauses_in(brackets) or [""] if (label, name, c) not in seen}
-            seen |= {(label, name, c) for c in wanted}
+        for theorem, clauses in claim.theorems:
+            name, path = theorem.full_name, theorem.path
+            wanted = {c for c in clauses if (path, name, c) not in seen}
+            seen |= {(path, name, c) for c in wanted}
             for f in reached.sources.functions:
-                if wanted and f.full_name == name and f.path == target_of(label):
+                if wanted and f.full_name == name and f.path == path:
                     roots |= reached.sources.names_in(reached.specs, f, wanted)
         claim.reached = {k.path for k in reached.specs.reached(roots)}
     found = {}
@@ -310,7 +321,30 @@ def with_reading(claims, reached, place):
         files = sorted((claim.reached - below) | {p for p, names in claim.names.items() if names}, key=lambda p: place.get(p, 0))
         shown = [f"[{label_of(p)}]" + (f" ({', '.join(f'`{n}`' for n in claim.names[p])})" if claim.names.get(p) else "") for p in files]
         line = "- Read: " + "; ".join(([claim.begins] if claim.begins else []) + shown)
-        claim.lists = [line if old.startswith("- Read: ") else old for old in claim.lists]
+        claim.lists = [theorem_line(claim)] + [line if old.startswith("- Read: ") else old for old in claim.lists]
+
+
+def subject_of(path):
+    """The first sentence of the comment at a file's front."""
+    lines = []
+    for line in read(path).split("\n"):
+        if not line.startswith("--"):
+            break
+        lines.append(line[2:].strip())
+    return re.match(r"(?:.*?\.(?= [A-Z`])|.*)", " ".join(lines)).group(0)
+
+
+def files_page(order):
+    """The page that lists the files of specs/ with their subjects."""
+    text = "# The files of definitions\n\nIn reading order, each with the first sentence of its comment; see [DEFINITIONS](../DEFINITIONS.md).\n"
+    crate = ""
+    for path in order:
+        if path.split("/")[1] != crate:
+            crate = path.split("/")[1]
+            text += f"\n## {crate}\n\n"
+        name = path.split("/specs/")[1][: -len(".antt")]
+        text += f"- [{name}](../../{path}): {subject_of(path)}\n"
+    return text
 
 
 def settle(page, now, is_to_fill):
@@ -325,31 +359,35 @@ def settle(page, now, is_to_fill):
 def main(words):
     is_to_fill = words[:1] == ["--fill"]
     reached = reach.Reach()
-    for page in (ORDER, PAGE):
-        settle(page, between(read(page), "links", links_of(page, read(page).split("<!-- links -->")[0])), is_to_fill)
     settle(FIGURES, between(read(FIGURES), "reach", reach.table(reached)), is_to_fill)
     place = check_order(read(ORDER), reached.specs)
+    settle(FILES, files_page(reached.order), is_to_fill)
     sections = sections_of(read(PAGE))
     claims = [claim for section in sections for claim in section.claims]
-    for claim in claims:
-        claim.lists = with_tried(claim.lists)
+    for section in sections:
+        for claim in section.claims:
+            claim.lists = with_tried(claim.lists)
+            find_theorems(claim, section.crates, reached.sources)
     with_reading(claims, reached, place)
     for section in sections:
         settle(section.page, section.shown(), is_to_fill and not section.left)
         for claim in section.claims:
-            check_theorem(f"{PAGE}: {claim.heading}", claim.theorem, reached.sources)
             for line in claim.lists:
                 if line.startswith(("- Read: ", "- Within the crate: ")):
                     check_read(f"{section.page}: {claim.heading}", line, reached.specs)
                 elif line.startswith("- Tests: "):
                     check_tests(f"{section.page}: {claim.heading}", line, reached.sources)
-    lists = {section.page for section in sections} | {FIGURES}
+    lists = {section.page for section in sections} | {FIGURES, FILES}
     for path in TOP.glob(f"{LISTS}/*"):
         if path.relative_to(TOP).as_posix() not in lists:
             fault(path.relative_to(TOP), f"no section of {PAGE} has this file")
     check_all_are_named(claims, reached.sources)
     counts = check_mutations(claims)
     check_mutations_fit()
+    for path, names in reached.misplaced().items():
+        fault(path, f"misplaced: {', '.join(names)}")
+    for path, names in reached.silent().items():
+        fault(path, f"no comment is right above {', '.join(names)}")
     for number in re.findall(r"(\d+) mutations", read("README.md")):
         if int(number) != counts["Refused"]:
             fault("README.md", f"{number} mutations are named, but there are {counts['Refused']}")
