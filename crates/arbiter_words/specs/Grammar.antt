@@ -13,6 +13,7 @@ option_rule name = record (new_rule name) { long = Some name; value_names = 1 }
 abbrev pub flag_rule : Text → Rule
 flag_rule name = record (new_rule name) { long = Some name; action = Some SetTrue }
 
+-- the same option, but required
 abbrev pub needed : Rule → Rule
 needed r = record r { required = true }
 
@@ -32,6 +33,7 @@ AreVariants names = map (λ n. n.now) names.now ≡ codes "normal" ∷ codes "fi
 abbrev pub variant_rule : Lent → Rule
 variant_rule names = record (option_rule (codes "variant")) { parser = Some (Names names) }
 
+-- `match` with its options; `--white` and `--black` are required
 abbrev pub match_app : Lent → App
 match_app names = with_rule (with_rule (with_rule (with_rule (with_rule (with_rule (with_rule (with_rule
     (new_app (codes "match"))
@@ -44,6 +46,7 @@ match_app names = with_rule (with_rule (with_rule (with_rule (with_rule (with_ru
     (variant_rule names))
     (flag_rule (codes "log"))
 
+-- `verify` with its flags
 abbrev pub verify_app : App
 verify_app = with_rule (with_rule (with_rule
     (new_app (codes "verify"))
@@ -51,11 +54,13 @@ verify_app = with_rule (with_rule (with_rule
     (flag_rule (codes "quiet")))
     (flag_rule (codes "strict"))
 
+-- `stub`, which takes any number of arguments
 abbrev pub stub_app : App
 stub_app = with_rule (new_app (codes "stub")) (record (new_rule (codes "words")) {
   action = Some Append;
 })
 
+-- `arbiter` by itself: it has `--version`, no command `help`, and arguments without the program's name in front
 abbrev pub bare_app : App
 bare_app = let a = new_app (codes "arbiter") in
     record a { top = record a.top { has_version = true; no_binary_name = true; disable_help_subcommand = true } }

@@ -38,6 +38,7 @@ text_or name rows default = unwrap_or (first_of name rows) default
 abbrev pub games_in : List Row → ℕ
 games_in rows = option_map_or (λ t. digits_value 10 (without_leading_plus t)) (first_of (codes "games") rows) 1
 
+-- Chess960 for `fischerandom`, normal chess for any other name
 abbrev pub variant_named : Text → Variant
 variant_named name = if bytes_eq name (codes "fischerandom") then Fischerandom else Normal
 

@@ -34,10 +34,11 @@ use Rattle.chess_game.specs.declared.game.TheConstants.{MOST_MOVES}
 abbrev pub is_odd : ℕ → Bool
 is_odd number = number % 2 == 1
 
--- the command of White's engine, and that of Black's
+-- the command of White's engine
 abbrev pub white_command : MatchPlan → ℕ → List ℕ
 white_command plan number = if is_odd number then plan.white.now else plan.black.now
 
+-- the command of Black's engine
 abbrev pub black_command : MatchPlan → ℕ → List ℕ
 black_command plan number = if is_odd number then plan.black.now else plan.white.now
 
@@ -60,6 +61,7 @@ tags_of plan number end = record {
 
 -- ---- the score
 
+-- the score before the first game
 abbrev pub no_score : Score
 no_score = record { first = 0; second = 0; drawn = 0; unfinished = 0 }
 
@@ -213,6 +215,7 @@ abbrev pub score_on : ℕ → List GameTold → Score → Score
 score_on number [] s = s
 score_on number (told ∷ rest) s = score_on (number + 1) rest (scored (is_odd number) told.end.outcome s)
 
+-- the score after these games, the first of which has number 1
 abbrev pub score_of : List GameTold → Score
 score_of games = score_on 1 games no_score
 

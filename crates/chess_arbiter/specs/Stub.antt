@@ -18,6 +18,7 @@ use Rattle.chess_arbiter.specs.declared.stub.StubFault.{StubFault}
 use Rattle.chess_arbiter.specs.declared.stub.StubFault.TheVariants.{Read, Write}
 use Rattle.chess_cecp.specs.declared.session.TheConstants.{COMMAND_LEN}
 
+-- the stub's arguments
 abbrev pub Words : Type 0
 Words = List (Bor (List ℕ))
 
@@ -41,6 +42,7 @@ remark word =
     else if bytes_eq word (codes "claim") then Some (codes "1/2-1/2 {Draw by repetition}" ++ new_line ∷ [])
     else None
 
+-- the text of a remark before the text of those that follow; without a remark nothing, the others left out too
 abbrev pub before_others : Option (List ℕ) → List ℕ → List ℕ
 before_others None others = []
 before_others (Some text) others = text ++ others
@@ -78,12 +80,15 @@ turn (word ∷ words) =
 
 -- ---- a line
 
+-- the reply with this text: the state stays, and the stub goes on
 abbrev pub says : StubState → List ℕ → Reply
 says s text = record { text = text; state = s; ends = false }
 
+-- the same arguments are left, and the stub does not play
 abbrev pub stopped : StubState → StubState
 stopped s = record { words = s.words; plays = false }
 
+-- the stub's answer to `protover`
 abbrev pub features : List ℕ
 features = codes "feature ping=1 setboard=1 usermove=1 myname=\"stub\" done=1" ++ new_line ∷ []
 
@@ -148,9 +153,11 @@ GivesAndFlushes words r w w' (Err e) = BreaksOff w w' r.text
 unfoldable pub said : StubState → LineSeen → List ℕ
 said s line = (reply s line).text
 
+-- the state after the reply to a line
 unfoldable pub after : StubState → LineSeen → StubState
 after s line = (reply s line).state
 
+-- whether the stub ends at a line
 unfoldable pub ends_at : StubState → LineSeen → Bool
 ends_at s line = (reply s line).ends
 

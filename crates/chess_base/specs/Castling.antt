@@ -24,19 +24,21 @@ use Rattle.chess_base.specs.Attacks.{is_attacked}
 abbrev pub home_square : Colour → ℕ → ℕ
 home_square c f = 8 * first_rank c + f
 
--- normal chess: the king begins on the e-file, its rooks on the h-file and the a-file (2.3)
+-- normal chess: the king begins on the e-file (2.3)
 abbrev pub king_home_file : ℕ
 king_home_file = 4
 
+-- normal chess: the files on which the rooks begin, the h-file and the a-file (2.3)
 abbrev pub rook_file : CastlingSide → ℕ
 rook_file KingSide = 7
 rook_file QueenSide = 0
 
--- castling takes the king to the g-file or the c-file, and its rook to the f-file or the d-file (3.8.2)
+-- castling takes the king to the g-file or the c-file (3.8.2)
 abbrev pub castled_king_file : CastlingSide → ℕ
 castled_king_file KingSide = 6
 castled_king_file QueenSide = 2
 
+-- castling takes the rook to the f-file or the d-file (3.8.2)
 abbrev pub castled_rook_file : CastlingSide → ℕ
 castled_rook_file KingSide = 5
 castled_rook_file QueenSide = 3
@@ -138,11 +140,12 @@ abbrev pub mover_to : Move → Option Castle → ℕ
 mover_to m None = m.to
 mover_to m (Some k) = k.king_to
 
--- the castling rook's square before and after, if there is one
+-- the castling rook's square before castling, if there is one
 abbrev pub rook_from : Option Castle → Option ℕ
 rook_from None = None
 rook_from (Some k) = Some k.rook_from
 
+-- the castling rook's square after it, if there is one
 abbrev pub rook_to : Option Castle → Option ℕ
 rook_to None = None
 rook_to (Some k) = Some k.rook_to

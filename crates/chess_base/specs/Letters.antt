@@ -16,16 +16,19 @@ first_of (c ∷ cs) = c
 abbrev pub byte : Text → ℕ
 byte text = first_of (codes text)
 
--- the bytes between lines and words (PGN standard of 1994, section 7)
+-- the bytes between lines and words (PGN standard of 1994, section 7): byte 10
 abbrev pub new_line : ℕ
 new_line = 10
 
+-- byte 13
 abbrev pub carriage_return : ℕ
 carriage_return = 13
 
+-- byte 9
 abbrev pub tab : ℕ
 tab = 9
 
+-- byte 32
 abbrev pub space : ℕ
 space = byte " "
 

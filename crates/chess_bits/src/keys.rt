@@ -1,4 +1,4 @@
-//! The keys of position words, computed once.
+//! The keys of position hashes, computed once.
 
 ghost use Rattle.std.specs.Prelude.{◌≡◌, ℕ, ◌<◌, slice_index};
 ghost use Rattle.chess_moves.specs.PositionWord.{key};

@@ -157,7 +157,7 @@ fn rights_left(setup: &Setup, m: &Move) -> Rights
     rights_after(setup, m)
 }
 
-// The man, if it is one of that colour.
+// The piece, if it is one of that colour.
 #[inline(always)]
 fn man_of(colour: Colour, man: Option<Man>) -> Option<Man>
     ensures { result ≡ (if is_of colour man then man else None) }
@@ -230,7 +230,7 @@ fn take_step(
     place(men, sets, keys, Some(m.to), mover);
 }
 
-// Moves the men, and changes their sets.
+// Moves the pieces, and changes their sets.
 #[tactic(auto, unfolding(chess_base::specs::Moves::men_after), using(crate::proofs::Making::plainly_written))]
 fn move_men(setup: &mut Setup, sets: &mut Sets, keys: &KeyTable, m: &Move)
     requires { IsSound setup.old }

@@ -48,8 +48,8 @@ struct Tables {
     ghost of_antidiagonal_down: { antidiagonal_down ≡ Ray Antidiagonal false },
 }
 
-/// What the men attack on an empty board, and the rays: fourteen times 64 sets of squares, and the keys of position
-/// words, in one box. They never change, and are lent to the boards that look them up.
+/// What the pieces attack on an empty board, and the rays: fourteen times 64 sets of squares, and the keys of position
+/// hashes, in one box. They never change, and are lent to the boards that look them up.
 #[derive(Drop)]
 pub struct AttackTables {
     tables: Box<Tables>,

@@ -23,11 +23,12 @@ unfoldable pub command_number : List ℕ → Option ℕ
 command_number text = if nat_lt 0 (length text) && nat_le (length text) 9
     && list_all is_digit text then Some (value_after 0 text) else None
 
--- `ping` and `protover` with their number, if it is one
+-- `ping` with its number, if it is one
 abbrev pub ping_of : Option ℕ → Command
 ping_of (Some n) = Ping n
 ping_of None = BadNumber
 
+-- `protover` with its number, if it is one
 abbrev pub protover_of : Option ℕ → Command
 protover_of (Some n) = Protover n
 protover_of None = BadNumber

@@ -49,11 +49,12 @@ declared_by argument = declared_as (outcome_named (word_of argument)) (comment_t
 unfoldable pub result_text : Outcome → List ℕ → List ℕ
 result_text o comment = outcome_text o ++ (codes " {" ++ (comment ++ codes "}"))
 
--- a verdict, or that there is none; what was declared, or that nothing was
+-- a verdict, or that there is none
 abbrev pub verdict_text : Option Verdict → List ℕ
 verdict_text None = codes "none"
 verdict_text (Some v) = result_text (verdict_outcome v) (verdict_comment v)
 
+-- what was declared, or that nothing was
 abbrev pub declared_text : Option Declared → List ℕ
 declared_text None = codes "none"
 declared_text (Some d) = result_text d.outcome d.comment
@@ -65,6 +66,7 @@ claims_by true false = codes "threefold"
 claims_by false true = codes "50"
 claims_by false false = codes "none"
 
+-- the claims as `showstate` shows them
 abbrev pub claims_text : Claims → List ℕ
 claims_text c = claims_by c.threefold c.fifty_moves
 

@@ -36,13 +36,15 @@ pub record FitsDevices (r r' : InputState) (w w' : OutputState) (t : Transcript)
   pub reads : r'.failure_count ≡ risen_if read_failed r.failure_count
   pub writes : w'.failure_count ≡ risen_if write_failed w.failure_count
 
--- it is theirs, and no device failed; a read failed; a write or a flush failed
+-- the transcript is the devices', and none failed
 abbrev pub FitsUnfailed : InputState → InputState → OutputState → OutputState → Transcript → Type 0
 FitsUnfailed r r' w w' t = FitsDevices r r' w w' t false false
 
+-- the transcript is the devices', and a read failed
 abbrev pub FitsFailedRead : InputState → InputState → OutputState → OutputState → Transcript → Type 0
 FitsFailedRead r r' w w' t = FitsDevices r r' w w' t true false
 
+-- the transcript is the devices', and a write or a flush failed
 abbrev pub FitsFailedWrite : InputState → InputState → OutputState → OutputState → Transcript → Type 0
 FitsFailedWrite r r' w w' t = FitsDevices r r' w w' t false true
 

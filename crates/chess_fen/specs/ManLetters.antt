@@ -7,10 +7,11 @@ use Rattle.chess_base.specs.declared.man.Colour.{Colour}
 use Rattle.chess_base.specs.declared.man.Colour.TheVariants.{White, Black}
 use Rattle.chess_base.specs.Letters.{byte, white_letter}
 
--- what is between ranks; what is written for none
+-- what is between ranks
 abbrev pub stroke : ℕ
 stroke = byte "/"
 
+-- what is written for no right and for no target
 abbrev pub dash : ℕ
 dash = byte "-"
 

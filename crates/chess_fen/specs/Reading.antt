@@ -20,8 +20,8 @@ use Rattle.chess_base.specs.Letters.{byte}
 use Rattle.chess_fen.specs.RightNames.{right_told}
 use Rattle.chess_fen.specs.Texts.{placement_of, is_castling, target_of, number_of, fields_of}
 
--- f of the value, or the first fault
 infixl 10 ◌>>=◌
+-- f of the value, or the first fault
 abbrev pub ◌>>=◌ : {A B E : Type 0} → Result A E → (A → Result B E) → Result B E
 (Ok x) >>= f = f x
 (Err e) >>= f = Err e

@@ -51,10 +51,11 @@ placement_of text = let ranks = slice_split (λ c. c == stroke) text in if lengt
 
 -- ---- castling
 
--- how often a letter occurs; whether it does
+-- how often a letter occurs
 abbrev pub times : ℕ → List ℕ → ℕ
 times c text = count_by (λ b. b == c) text
 
+-- whether a letter occurs
 abbrev pub occurs : ℕ → List ℕ → Bool
 occurs c text = list_any (λ b. b == c) text
 

@@ -1,4 +1,4 @@
--- Men as sets of squares, and back.
+-- Pieces as sets of squares, and back.
 use Rattle.std.proofs.Common.{◌≡◌, ℕ, zero, suc, ◌<◌, inl, inr, Bool, true, false, not, ◌&&◌, ◌||◌, if◌then◌else◌, refl, sym, ◌∙◌, ap, subst, arith, Option, Some, None, length, set, get_or-set_same, get_or-set_other, length-set, ◌+◌, true≢false}
 use Rattle.std.proofs.lemmas.Bool.{or_from, or_parts, cases_Bool, cases_eq}
 use Rattle.std.proofs.lemmas.List.{ext_get_or}
@@ -18,7 +18,7 @@ use Rattle.chess_game.specs.declared.packed.PackedMen.{PackedMen}
 use Rattle.chess_game.proofs.EqualWords.{places_equal}
 use Rattle.chess_game.proofs.SameSelf.{man_self}
 
--- ---- White's men
+-- ---- White's pieces
 
 by_kind : (b : Bool) (x : Kind)
     → ((b && same_kind King x) || (b && same_kind Queen x) || (b && same_kind Rook x) || (b && same_kind Bishop x)
@@ -43,7 +43,7 @@ white_kinds (Some x) = by_kind (same_colour White x.colour) x.kind
 
 -- ---- back
 
--- the man that seven tests report
+-- the piece that seven tests report
 abbrev reported : (white king queen rook bishop knight pawn : Bool) → Option Man
 reported white king queen rook bishop knight pawn =
     man_of (if white then White else Black)
@@ -86,7 +86,7 @@ man_back p s o h =
     (λ i. reported (h.white i) (h.kings i) (h.queens i) (h.rooks i) (h.bishops i) (h.knights i) (h.pawns i))
     ∙ reported_is o
 
--- the men whose sets they are
+-- the pieces whose sets they are
 pub men_back : (p : PackedMen) (men : Men) → length men ≡ 64 → ArePacked p men → men_in p ≡ men
 unfolding men_in
 men_back p men all h =
@@ -100,7 +100,7 @@ packed_back p men all h = subst (ArePacked p) (sym (men_back p men all h)) h
 
 -- ---- square by square
 
--- the first n squares have their men
+-- the first n squares have their pieces
 pub record HasMen (p : PackedMen) (men : Men) (n : ℕ) : Type 0 where
   pub board : length men ≡ 64
   pub below : (k : ℕ) → k < n → man_at men k ≡ man_in p k
@@ -127,7 +127,7 @@ men_all p men n whole h =
     (λ k l. let low : k < 64 = omega (arith, l, h.board) in
     h.below k (omega arith) ∙ sym (get_or-from_below 64 (man_in p) k None low))
 
--- ---- where men differ
+-- ---- where pieces differ
 
 abbrev pub differ : Bool → Bool → Bool
 differ a b = (a && not b) || (b && not a)
@@ -184,7 +184,7 @@ same_man_in p q s e =
     let pawns = alike (has p.pawns s) (has q.pawns s) six.1 in
     (λ i. reported (white i) (kings i) (queens i) (rooks i) (bishops i) (knights i) (pawns i))
 
--- the men on s differ where one of the sets does
+-- the pieces on s differ where one of the sets does
 pub differ_at : (p q : PackedMen) (s : ℕ) (o r : Option Man) → IsPackedAt p s o → IsPackedAt q s r
     → some_differ p q s ≡ not (same_man o r)
 differ_at p q s o r h t = by_test (same_man o r) refl

@@ -63,7 +63,7 @@ not_none : (a : Bool) → not (not a) ≡ a
 not_none true = refl
 not_none false = refl
 
--- a man of the kind is there where the squares of the kind's men are some
+-- a piece of the kind is there where the squares of the kind's pieces are some
 pub some_of_kind : (p : Setup) (kind : Kind) (w : ℕ) → IsSound p
     → ((k : ℕ) → k < 64 → has w k ≡ is_kind kind (man_at p.men k))
     → not (not (some_square (λ k. has w k))) ≡ list_any (is_kind kind) p.men

@@ -1,4 +1,4 @@
-//! Positions whose men are packed into sets of squares: seven words in place of 64 squares.
+//! Positions whose pieces are packed into sets of squares: seven numbers in place of 64 squares.
 
 ghost use Rattle.std.specs.Prelude.{◌≡◌, ℕ, ◌<◌, ◌&&◌, ◌||◌, not};
 ghost use Rattle.chess_base.specs.Men.{is_of, man_at};
@@ -13,7 +13,7 @@ use chess_base::{Colour, Kind, Man, Position, Rights, Setup, Square, Variant};
 use chess_moves::{Board, SquareSet};
 use std::marker::Model;
 
-// The men as sets of squares: White's, and those of each kind, of both colours.
+// The pieces as sets of squares: White's, and those of each kind, of both colours.
 #[derive(Clone, Copy)]
 pub(crate) struct PackedMen {
     white: SquareSet,
@@ -25,7 +25,7 @@ pub(crate) struct PackedMen {
     pawns: SquareSet,
 }
 
-// The squares of both colours' men of a kind.
+// The squares of both colours' pieces of a kind.
 #[tactic(auto, using(crate::proofs::SomeKind::of_colours))]
 #[inline(always)]
 pub(crate) fn squares_of<B: Board>(board: &B, kind: Kind) -> SquareSet
@@ -36,7 +36,7 @@ pub(crate) fn squares_of<B: Board>(board: &B, kind: Kind) -> SquareSet
     white.union(black)
 }
 
-// The squares of White's men.
+// The squares of White's pieces.
 #[tactic(auto, using(crate::proofs::AsSets::white_kinds))]
 #[inline(always)]
 fn white_squares<B: Board>(board: &B) -> SquareSet
@@ -65,7 +65,7 @@ fn difference(these: SquareSet, those: SquareSet) -> SquareSet
 }
 
 impl PackedMen {
-    // The men of a board's position.
+    // The pieces of a board's position.
     #[inline(always)]
     fn of<B: Board>(board: &B) -> Self
         ensures { ArePacked result (B.position board.now).men }
@@ -81,7 +81,7 @@ impl PackedMen {
         }
     }
 
-    // The kind of the man on a square, if one is there.
+    // The kind of the piece on a square, if one is there.
     fn kind_at(&self, square: Square) -> Option<Kind>
         ensures { result ≡ kind_in self.now square }
     {
@@ -102,7 +102,7 @@ impl PackedMen {
         }
     }
 
-    // The colour of the man on a square, where one is there.
+    // The colour of the piece on a square, where one is there.
     fn colour_at(&self, square: Square) -> Colour
         ensures { result ≡ colour_in self.now square }
     {
@@ -113,7 +113,7 @@ impl PackedMen {
         }
     }
 
-    // The man on a square, if there is one.
+    // The piece on a square, if there is one.
     #[tactic(auto, unfolding(crate::specs::ties::Packed::man_in))]
     fn man_at(&self, square: Square) -> Option<Man>
         ensures { result ≡ man_in self.now square }
@@ -123,7 +123,7 @@ impl PackedMen {
         Some(Man { colour, kind })
     }
 
-    // The men on all squares.
+    // The pieces on all squares.
     fn unpacked(&self) -> [Option<Man>; 64]
         ensures { result ≡ men_in self.now }
     {
@@ -135,7 +135,7 @@ impl PackedMen {
         men
     }
 
-    // The squares on which the men differ from others.
+    // The squares on which the pieces differ from others.
     #[tactic(auto, using(crate::proofs::AsSets::differ_at))]
     fn differing(&self, other: &PackedMen) -> SquareSet
         requires this { ArePacked self.now (men_in self.now) }
@@ -160,7 +160,7 @@ impl PackedMen {
     }
 }
 
-/// A position, always sound, its men packed into sets of squares. In contracts it is its `Setup`.
+/// A position, always sound, its pieces packed into sets of squares. In contracts it is its `Setup`.
 #[derive(Drop)]
 pub(crate) struct PackedPosition {
     men: PackedMen,
@@ -258,7 +258,7 @@ impl PackedPosition {
         self.halfmove
     }
 
-    /// Whether the same men are on the same squares.
+    /// Whether the same pieces are on the same squares.
     #[tactic(auto, using(crate::proofs::AsSets::same_where_none))]
     pub(crate) fn same_men(&self, other: &PackedPosition) -> bool
         ensures { result ≡ same_men self.now.men other.now.men }

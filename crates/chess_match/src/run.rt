@@ -523,8 +523,8 @@ fn said(line: &Line<ENGINE_LINE_LEN>) -> EngineLine<'_>
     }
 }
 
-// Hears a line of a side's engine, and then asks for the moment. What is to be sent; the answers to the line's items
-// are added to an empty block.
+// Takes a line of a side's engine, and then asks for the moment. Returns what is to be sent; the answers to the
+// line's items are added to an empty block.
 fn hear_line<M: Moments, L: Witness, G: Played>(
     core: &mut Core,
     moments: &mut M,
@@ -553,8 +553,8 @@ fn hear_line<M: Moments, L: Witness, G: Played>(
     core.line(game, said(line), moment, block)
 }
 
-// Hears what a call for the next line of a side's engine gave. What is to be sent; the answers to the line's items are
-// added to an empty block.
+// Takes what a call for the next line of a side's engine gave. Returns what is to be sent; the answers to
+// the line's items are added to an empty block.
 fn hear<M: Moments, L: Witness, G: Played>(
     core: &mut Core,
     moments: &mut M,

@@ -12,7 +12,7 @@ const FIRST_FACTOR: u64 = 0xBF58_476D_1CE4_E5B9;
 
 const SECOND_FACTOR: u64 = 0x94D0_49BB_1331_11EB;
 
-/// The keys that position words are made of: 768 for the men on squares, one for Black on move, and 16 for the rights.
+/// The keys of which position hashes are made: 768 of pieces on squares, one of Black on move, and 16 of rights.
 pub trait Keys {
     /// The key with that number.
     fn key(&self, number: u16) -> u64

@@ -24,13 +24,15 @@ unmarked text = take (length text - suffix_len is_mark text) text
 abbrev pub when : Bool → List ℕ → List ℕ
 when b text = if b then text else []
 
--- the capital letter of a kind; a file's letter; a rank's digit
+-- the capital letter of a kind
 abbrev pub kind_text : Kind → List ℕ
 kind_text k = white_letter k ∷ []
 
+-- a file's letter
 abbrev pub file_text : ℕ → List ℕ
 file_text f = (byte "a" + f) ∷ []
 
+-- a rank's digit
 abbrev pub rank_text : ℕ → List ℕ
 rank_text r = (byte "1" + r) ∷ []
 
@@ -51,10 +53,11 @@ abbrev pub parts_text : Parts → List ℕ
 parts_text q = optional kind_text q.letter
     ++ (optional file_text q.file ++ (optional rank_text q.rank ++ (when q.takes (byte "x" ∷ []) ++ end_text q.end)))
 
--- the pieces that a letter names, and those that a pawn may become (3.7)
+-- the pieces that a letter names
 abbrev pub officers : List Kind
 officers = King ∷ Queen ∷ Rook ∷ Bishop ∷ Knight ∷ []
 
+-- the pieces that a pawn may become (3.7)
 abbrev pub promoted : List Kind
 promoted = Queen ∷ Rook ∷ Bishop ∷ Knight ∷ []
 
@@ -82,10 +85,11 @@ pub record AreParts (q : Parts) : Type 0 where
 abbrev pub kind_from : List Kind → ℕ → Option Kind
 kind_from kinds c = find (λ k. white_letter k == c) kinds
 
--- from `a` to `h`; from `1` to `8`
+-- from `a` to `h`
 abbrev pub is_file_letter : ℕ → Bool
 is_file_letter c = nat_le (byte "a") c && nat_le c (byte "h")
 
+-- from `1` to `8`
 abbrev pub is_rank_digit : ℕ → Bool
 is_rank_digit c = nat_le (byte "1") c && nat_le c (byte "8")
 

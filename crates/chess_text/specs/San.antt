@@ -31,10 +31,11 @@ abbrev pub castling_text : CastlingSide → List ℕ
 castling_text KingSide = codes "O-O"
 castling_text QueenSide = codes "O-O-O"
 
--- one of these squares is on the file; on the rank
+-- one of these squares is on the file
 abbrev pub some_on_file : ℕ → List ℕ → Bool
 some_on_file f squares = list_any (λ s. file s == f) squares
 
+-- one of these squares is on the rank
 abbrev pub some_on_rank : ℕ → List ℕ → Bool
 some_on_rank r squares = list_any (λ s. rank s == r) squares
 

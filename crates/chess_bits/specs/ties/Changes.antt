@@ -30,7 +30,7 @@ abbrev pub has_no_right : Rights → Bool
 has_no_right r = is_none r.white.king_side && is_none r.white.queen_side && is_none r.black.king_side
     && is_none r.black.queen_side
 
--- a man that a right to castle speaks of: a king or a rook
+-- a piece of which a castling right speaks: a king or a rook
 abbrev pub is_king_or_rook : Option Man → Bool
 is_king_or_rook None = false
 is_king_or_rook (Some x) = same_kind King x.kind || same_kind Rook x.kind

@@ -1,4 +1,5 @@
--- A king without rights does not castle (king_plainly of Making), and another man captures en passant on the target only.
+-- A king without rights does not castle (king_plainly of Making), and another piece captures en passant on the target
+-- only.
 use Rattle.std.proofs.Common.{sym, ◌∙◌}
 use Rattle.std.proofs.lemmas.Bool.{not-true}
 use Rattle.chess_bits.proofs.Making.{king_plainly, no_king_plainly}

@@ -1,4 +1,4 @@
--- Where the squares of the kind's men are some, there is such a man (some_of_kind of SomeKind).
+-- Where the squares of the kind's pieces are some, there is such a piece (some_of_kind of SomeKind).
 use Rattle.chess_game.proofs.SomeKind.{some_of_kind}
 use Rattle.chess_game.proofs.ends.has_kind.Goals as goal
 

@@ -1,4 +1,4 @@
--- The answers wait, and the rest of the block is put behind them.
+-- The answers wait, and the rest of the block is put after them.
 use Rattle.std.proofs.Common.{◌++◌, List, ℕ, ap, sym, ◌∙◌}
 use Rattle.chess_match.specs.Sent.{bytes_of}
 use Rattle.chess_match.specs.ties.Stands.{behind_answers, given_block}

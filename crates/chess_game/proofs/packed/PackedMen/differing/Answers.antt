@@ -1,4 +1,4 @@
--- The men on a square differ where one of the seven sets does (differ_at of AsSets).
+-- The pieces on a square differ where one of the seven sets does (differ_at of AsSets).
 use Rattle.chess_base.specs.Men.{man_at}
 use Rattle.chess_game.specs.ties.Packed.{men_in}
 use Rattle.chess_game.proofs.AsSets.{differ_at}
