@@ -6,13 +6,14 @@
     tools/reach.py --rooms      for each file of specs/ which of its definitions serve the program, other calls, laws, or only ties,
                                 and which definitions are misplaced; the exit status is 1 if there are any
     tools/reach.py --rooms NAME the definitions of one room: program, calls, laws, ties, proofs, nothing
-    tools/reach.py --silent     the definitions that run_program reaches and that no comment is right above; the exit status is 1
+    tools/reach.py --uncommented
+                                the definitions that run_program reaches and that no comment is right above; the exit status is 1
                                 if there are any
 
 What is at the top of specs/ is to be reached by the contract of a function that a user of the crates can call; what is in
-specs/laws/ or specs/ties/ is not. A function reaches the definitions that its clauses name, those by which contracts see its arguments, and what these name in turn.
-A definition's lines are counted without comments, imports and empty lines. Names are resolved by the imports of their file; no
-prover is asked."""
+specs/laws/ or specs/ties/ is not. A function reaches the definitions that its clauses name, those by which contracts see its
+arguments, and what these name in turn. A definition's lines are counted without comments, imports and empty lines. Names are
+resolved by the imports of their file; no prover is asked."""
 
 import re
 import sys
@@ -98,7 +99,7 @@ class Reach:
                 found.setdefault(key.path, []).append(f"{key.name} ({room})")
         return found
 
-    def silent(self):
+    def uncommented(self):
         """For each file the definitions that run_program reaches and that no comment is right above."""
         reached = self.of(self.functions("run_program"))
         found = {}
@@ -187,8 +188,8 @@ def show_found(found, what):
 
 def main(words):
     reach = Reach()
-    if words == ["--silent"]:
-        return show_found(reach.silent(), "have no comment right above them")
+    if words == ["--uncommented"]:
+        return show_found(reach.uncommented(), "have no comment right above them")
     if words == ["--rooms"]:
         show_rooms(reach, None)
         print()

@@ -416,6 +416,6 @@ def target_of(label):
 
 
 def reading_order(text):
-    """The files of specs/ as docs/DEFINITIONS.md lists them: a line `- CRATE: FILE, FILE..` for each crate."""
-    lines = re.findall(r"^- (\w+): ([\w/]+(?:, [\w/]+)*)$", text, re.M)
-    return [f"crates/{crate}/specs/{file}.antt" for crate, files in lines for file in files.split(", ")]
+    """The files of specs/ as docs/DEFINITIONS.md lists them: `CRATE: FILE, FILE..` for each crate, indented by four spaces."""
+    lists = re.findall(r"^    (\w+): ([\w/]+(?:,\s+[\w/]+)*)$", text, re.M)
+    return [f"crates/{crate}/specs/{file}.antt" for crate, files in lists for file in re.split(r",\s+", files)]

@@ -343,7 +343,7 @@ def files_page(order):
             crate = path.split("/")[1]
             text += f"\n## {crate}\n\n"
         name = path.split("/specs/")[1][: -len(".antt")]
-        text += f"- [{name}](../../{path}): {subject_of(path)}\n"
+        text += f"- [`{name}`](../../{path}): {subject_of(path)}\n"
     return text
 
 
@@ -386,7 +386,7 @@ def main(words):
     check_mutations_fit()
     for path, names in reached.misplaced().items():
         fault(path, f"misplaced: {', '.join(names)}")
-    for path, names in reached.silent().items():
+    for path, names in reached.uncommented().items():
         fault(path, f"no comment is right above {', '.join(names)}")
     for number in re.findall(r"(\d+) mutations", read("README.md")):
         if int(number) != counts["Refused"]:
