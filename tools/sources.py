@@ -419,3 +419,10 @@ def reading_order(text):
     """The files of specs/ as docs/DEFINITIONS.md lists them: `CRATE: FILE, FILE..` for each crate, indented by four spaces."""
     lists = re.findall(r"^    (\w+): ([\w/]+(?:,\s+[\w/]+)*)$", text, re.M)
     return [f"crates/{crate}/specs/{file}.antt" for crate, files in lists for file in re.split(r",\s+", files)]
+
+
+def direct_uses():
+    """The crates of this repository that each crate uses directly, by crates.txt: not those that another of them uses."""
+    uses = used_crates()
+    own = {crate: {used for used in all_used if used in uses} for crate, all_used in uses.items()}
+    return {crate: {u for u in used if not any(u in own[other] for other in used)} for crate, used in own.items()}

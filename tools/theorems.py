@@ -6,7 +6,8 @@
                                 listed exactly once; which headings of the lists differ from the claims; whether figures, theorems
                                 or files to read of the lists are old; which file of specs/ is not in docs/DEFINITIONS.md exactly
                                 once, after those on which it rests; which definitions are misplaced or have no comment (by
-                                tools/reach.py); and which link of a document leads to no file or to no heading
+                                tools/reach.py); where the graph of docs/ARCHITECTURE.md differs from crates.txt; and which link
+                                of a document leads to no file or to no heading
     tools/theorems.py --fill    writes the generated parts of docs/claims/ anew (headings, theorems with their clauses, files to
                                 read, figures, links), moves mutations that the gate tries by now to the refused ones, and then
                                 checks
@@ -19,13 +20,14 @@ import sys
 sys.dont_write_bytecode = True
 
 import reach
-from sources import SHORT, TOP, mutations, reading_order, target_of
+from sources import SHORT, TOP, direct_uses, mutations, reading_order, target_of
 
 PAGE = "docs/THEOREMS.md"
 LISTS = "docs/claims"
 FIGURES = f"{LISTS}/README.md"
 ORDER = "docs/DEFINITIONS.md"
 FILES = f"{LISTS}/definitions.md"
+GRAPH = "docs/ARCHITECTURE.md"
 
 FAULTS = []
 
@@ -282,6 +284,14 @@ def check_order(text, specs):
     return place
 
 
+def check_graph(text):
+    """The drawn graph has the crates that each crate uses directly, but for crates of tests."""
+    drawn = {m.group(1): set(m.group(2).split(" & ")) for m in re.finditer(r"^ +(\w+) --> (\w+(?: & \w+)*)$", text, re.M)}
+    for crate, used in direct_uses().items():
+        if not crate.endswith("_tests") and drawn.get(crate, set()) != used:
+            fault(GRAPH, f"{crate} uses {sorted(used)} directly, and not {sorted(drawn.get(crate, set()))}")
+
+
 # ---- what a claim says is to be read
 
 def label_of(path):
@@ -384,6 +394,7 @@ def main(words):
     check_all_are_named(claims, reached.sources)
     counts = check_mutations(claims)
     check_mutations_fit()
+    check_graph(read(GRAPH))
     for path, names in reached.misplaced().items():
         fault(path, f"misplaced: {', '.join(names)}")
     for path, names in reached.uncommented().items():
