@@ -7,7 +7,8 @@ An example is an indented block whose first line begins with `$ `: a command, co
 then what it prints on standard output. An indented block after the line `<!-- runs -->` is an example too: all of it is one
 command, which must end with status 0. The examples of a document are run by bash, in their order, in one new temporary
 folder; `arbiter` is PROGRAM there, or else the launcher, and the engines of ENGINES are stubs that resign. An example is
-skipped if it names a program of NEEDED that isn't installed. The exit status is 1 if an example goes otherwise."""
+skipped if it, or an example before it in its block, names a program of NEEDED that isn't installed. The exit status is 1 if an
+example goes otherwise."""
 
 import os
 import re
@@ -25,9 +26,10 @@ RUNS = "<!-- runs -->"
 
 
 def examples(text):
-    """Yields (line number, command, expected lines) for each example of a Markdown text; None where only the status counts."""
+    """Yields (line number, line number of its block, command, expected lines) for each example of a Markdown text; None where only
+    the status counts."""
     lines = text.split("\n")
-    number = 0
+    number = block = end = 0
     while number < len(lines):
         if lines[number] == RUNS:
             number += 1
@@ -35,13 +37,14 @@ def examples(text):
             while number < len(lines) and (lines[number] == "" or lines[number].startswith("    ")):
                 command.append(lines[number][4:])
                 number += 1
-            yield first, "\n".join(command), None
+            yield first, first, "\n".join(command), None
             continue
         begin = FIRST.match(lines[number])
         if not begin:
             number += 1
             continue
         margin, command, first = begin.group(1), begin.group(2), number + 1
+        block = block if number == end else first
         number += 1
         while number < len(lines) and lines[number].startswith(f"{margin}> "):
             command += "\n" + lines[number][len(margin) + 2 :]
@@ -55,7 +58,8 @@ def examples(text):
             else:
                 break
             number += 1
-        yield first, command, without_empty_end(expected)
+        end = number
+        yield first, block, command, without_empty_end(expected)
 
 
 def without_empty_end(lines):
@@ -91,8 +95,10 @@ def main(arguments):
             (Path(programs) / engine).chmod(0o755)
         for name in names:
             with tempfile.TemporaryDirectory() as folder:
-                for line, command, expected in examples((TOP / name).read_text(encoding="utf-8")):
-                    if any(re.search(rf"\b{needed}\b", command) for needed in missing):
+                left_out = None
+                for line, block, command, expected in examples((TOP / name).read_text(encoding="utf-8")):
+                    if block == left_out or any(re.search(rf"\b{needed}\b", command) for needed in missing):
+                        left_out = block
                         skipped += 1
                         continue
                     tried += 1
