@@ -1,6 +1,6 @@
 -- All lines so far were answered, and the stub ended at none of them (StubRuns.SoFar). An answer more keeps that
 -- (StubRuns.go_on), and each way out gives the transcript of its end (StubRuns.by_line and those after it).
-use Rattle.std.proofs.Common.{[], subst, sym, ◌∙◌, rules}
+use Rattle.std.proofs.Common.{[], subst, sym, rules}
 use Rattle.chess_cecp.specs.Lines.{Held}
 use Rattle.byte_devices.specs.declared.traits.ReadFault.{ReadFault}
 use Rattle.chess_arbiter.specs.Stub.{beginning, state_at}
