@@ -1,10 +1,13 @@
 -- What was parsed, taken as written and planned is a reading of the arguments.
-use Rattle.std.proofs.Common.{◌≡◌, ◌∙◌, ap, sym, subst, inl, inr, option_map, unwrap_or, [], codes, IfOk, IfErr, IfSome, List, Option, Some, None, Result, Ok, Err, Bor}
+use Rattle.std.proofs.Common.{◌≡◌, ◌∙◌, ◌≤◌, ap, ap₂, is_ok, is_some, sym, subst, inl, inr, option_map, unwrap_or, [], codes, IfOk, IfErr, IfSome, List, Option, Some, None, Result, Ok, Err, Bor}
 use Rattle.clap.specs.Words.{HasKind, IsAmong, Kinds, Row, Text, found_of, kind_of, rows_of, subcommand_of, subcommand_rows_of}
 use Rattle.clap.specs.declared.error.Error.{Error}
 use Rattle.clap.specs.declared.parser.matches.ArgMatches.{ArgMatches}
 use Rattle.arbiter_words.specs.Grammar.{AreVariants, Lent, arbiter_app, asked, faults_in}
-use Rattle.arbiter_words.specs.Plans.{IsMatchFault, IsMatchOf, IsParsed, IsPlanFault, IsPlanned, IsReadBy, IsReading, IsSpelledOf, Refuses}
+use Rattle.arbiter_words.specs.Plans.{IsMatchFault, IsMatchPlan, IsParsed, IsPlanOf, IsReadBy, IsReading, Refuses, is_date, level_asked, start_asked, start_of}
+use Rattle.arbiter_words.specs.ties.Spelling.{IsJudged, IsJudgedFault, IsMatchOf, IsPlanFault, IsPlanned, IsSpelledOf}
+use Rattle.engine_lines.specs.Levels.{level_of}
+use Rattle.arbiter_words.specs.declared.plan.MatchPlan.{MatchPlan}
 use Rattle.arbiter_words.specs.declared.fault.WordsFault.{WordsFault}
 use Rattle.arbiter_words.specs.declared.fault.WordsFault.TheVariants.{Words, NoMemory, BadLevel, BadFen, BadDate}
 use Rattle.arbiter_words.specs.declared.plan.Plan.{Plan}
@@ -41,27 +44,63 @@ pub refused_reading : (texts : List Text) (e : Error) (f : WordsFault) → IsPar
 refused_reading texts e f p fits =
     (p.0, p.1, refused_by p.0 texts f (refusal_by (faults_in p.0 texts) e f p.2 fits))
 
-match_fault : (names : Lent) (texts : List Text) (m : MatchWords) (f : WordsFault) → faults_in names texts ≡ []
-    → (asked names texts).0 ≡ codes "match" → IsMatchOf (asked names texts).1 m → IsMatchFault m f
-    → IsReadBy names texts (Err f)
-match_fault names texts m (Words x) none name is h = absurd h
-match_fault names texts m NoMemory none name is h = absurd h
-match_fault names texts m BadLevel none name is h = (none, (m, name, is, h))
-match_fault names texts m (BadFen x) none name is h = (none, (m, name, is, h))
-match_fault names texts m BadDate none name is h = (none, (m, name, is, h))
+-- a match that was taken as written and then judged is played by what its options denote
+module _ (rows : List Row) (m : MatchWords) (is : IsMatchOf rows m) where
+  level_is : level_asked rows ≡ level_of m.level.now
+  level_is = ap level_of (sym is.level)
+
+  start_is : start_asked rows ≡ start_of m.variant (option_map (λ t. t.now) m.fen)
+  start_is = ap₂ start_of (sym is.variant) (sym is.fen)
+
+  match_judged : (plan : MatchPlan) → IsJudged m plan → IsMatchPlan rows plan
+  match_judged plan judged = record {
+    white = is.white ∙ ap (λ (t : Bor Text). Some t.now) (sym judged.white);
+    black = is.black ∙ ap (λ (t : Bor Text). Some t.now) (sym judged.black);
+    level = level_is ∙ judged.level;
+    start = start_is ∙ judged.start;
+    games = judged.games ∙ is.games;
+    games_range = subst (λ n. (1 ≤ n) × (n ≤ 1000)) (sym judged.games) is.games_range;
+    date = ap (λ (t : Bor Text). t.now) judged.date ∙ is.date;
+    good_date = ap (λ (t : Bor Text). is_date t.now) judged.date ∙ judged.good_date;
+    log = judged.log ∙ is.log;
+  }
+
+  judged_fault : (f : WordsFault) → IsJudgedFault m f → IsMatchFault rows f
+  judged_fault (Words x) h = absurd h
+  judged_fault NoMemory h = absurd h
+  judged_fault BadLevel h = level_is ∙ h
+  judged_fault (BadFen x) (l, level, start) = (ap is_some (level_is ∙ level), start_is ∙ start)
+  judged_fault BadDate (l, p, level, start, date) =
+      (ap is_some (level_is ∙ level), ap is_ok (start_is ∙ start), ap is_date (sym is.date) ∙ date)
+
+match_fault : (names : Lent) (texts : List Text) (f : WordsFault) → faults_in names texts ≡ []
+    → (asked names texts).0 ≡ codes "match" → IsMatchFault (asked names texts).1 f → IsReadBy names texts (Err f)
+match_fault names texts (Words x) none name h = absurd h
+match_fault names texts NoMemory none name h = absurd h
+match_fault names texts BadLevel none name h = (none, (name, h))
+match_fault names texts (BadFen x) none name h = (none, (name, h))
+match_fault names texts BadDate none name h = (none, (name, h))
+
+planned_plan : (p : Text × List Row) (s : Spelled) (plan : Plan) → IsSpelledOf p s → IsPlanned s plan → IsPlanOf p plan
+planned_plan p spelled.Session plan is e = subst (IsPlanOf p) (sym e) is
+planned_plan p (spelled.Verify v) plan is e = subst (IsPlanOf p) (sym e) is
+planned_plan p (spelled.Stub words) plan is e = subst (IsPlanOf p) (sym e) is
+planned_plan p (spelled.Match m) plan is e =
+    subst (IsPlanOf p) (sym e.1) (is.0, match_judged p.1 m is.1 e.0 e.2)
 
 plan_fault : (names : Lent) (texts : List Text) (s : Spelled) (f : WordsFault) → faults_in names texts ≡ []
     → IsSpelledOf (asked names texts) s → IsPlanFault s f → IsReadBy names texts (Err f)
 plan_fault names texts spelled.Session f none is h = absurd h
 plan_fault names texts (spelled.Verify v) f none is h = absurd h
 plan_fault names texts (spelled.Stub words) f none is h = absurd h
-plan_fault names texts (spelled.Match m) f none is h = match_fault names texts m f none is.0 is.1 h
+plan_fault names texts (spelled.Match m) f none is h =
+    match_fault names texts f none is.0 (judged_fault (asked names texts).1 m is.1 f h)
 
 -- what was taken as written was planned
 pub planned_reading : (names : Lent) (texts : List Text) → AreVariants names → faults_in names texts ≡ []
     → (s : Spelled) → IsSpelledOf (asked names texts) s
     → (r : Result Plan WordsFault) → IfOk r (IsPlanned s) → IfErr r (IsPlanFault s) → IsReading texts r
-planned_reading names texts are none s is (Ok plan) p f = (names, are, (none, (s, is, p)))
+planned_reading names texts are none s is (Ok plan) p f = (names, are, (none, planned_plan (asked names texts) s plan is p))
 planned_reading names texts are none s is (Err e) p f = (names, are, plan_fault names texts s e none is f)
 
 -- ---- the command that was entered

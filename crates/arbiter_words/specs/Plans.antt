@@ -1,5 +1,5 @@
 -- What a plan has to do with the arguments.
-use Rattle.std.specs.Prelude.{◌≡◌, ◌≢◌, ◌⊎◌, ◌≤◌, ◌&&◌, ℕ, Bool, List, [], codes, length, map, nat_le, option_map, if◌then◌else◌, Option, Some, None, Result, Ok, Err, is_some, true, false, unwrap_or, ⊤}
+use Rattle.std.specs.Prelude.{◌≡◌, ◌≢◌, ◌⊎◌, ◌≤◌, ◌&&◌, ℕ, Bool, List, [], codes, length, map, nat_le, if◌then◌else◌, Option, Some, None, Result, Ok, Err, is_ok, is_some, true, false, unwrap_or, ⊤}
 use Rattle.std.specs.List.{list_all, list_any}
 use Rattle.std.specs.Option.{option_map_or}
 use Rattle.std.specs.Str.{bytes_eq}
@@ -17,9 +17,6 @@ use Rattle.arbiter_words.specs.declared.plan.MatchPlan.{MatchPlan}
 use Rattle.arbiter_words.specs.declared.plan.VerifyPlan.{VerifyPlan}
 use Rattle.arbiter_words.specs.declared.fault.WordsFault.{WordsFault}
 use Rattle.arbiter_words.specs.declared.fault.WordsFault.TheVariants.{Words, NoMemory, BadLevel, BadFen, BadDate}
-use Rattle.arbiter_words.specs.declared.spelled.MatchWords.{MatchWords}
-use Rattle.arbiter_words.specs.declared.spelled.Spelled.{Spelled}
-use Rattle.arbiter_words.specs.declared.spelled.Spelled.TheVariants as spelled
 use Rattle.chess_base.specs.Initial.{initial_setup_of}
 use Rattle.chess_fen.specs.Reading.{fen_reading_as}
 use Rattle.chess_base.specs.declared.fault.FenFault.{FenFault}
@@ -58,76 +55,60 @@ verify_plan_of rows = record {
   strict = is_set (codes "strict") rows;
 }
 
--- these are the options of a match, as written or by default
-pub record IsMatchOf (rows : List Row) (m : MatchWords) : Type 0 where
-  pub white : first_of (codes "white") rows ≡ Some m.white.now
-  pub black : first_of (codes "black") rows ≡ Some m.black.now
-  pub level : m.level.now ≡ text_or (codes "level") rows (codes "40 5 0")
-  pub fen : option_map (λ t. t.now) m.fen ≡ first_of (codes "fen") rows
-  pub games : m.games ≡ games_in rows
-  pub games_range : (1 ≤ m.games) × (m.games ≤ 1000)
-  pub date : m.date.now ≡ text_or (codes "date") rows (codes "????.??.??")
-  pub variant : m.variant ≡ variant_in rows
-  pub log : m.log ≡ is_set (codes "log") rows
-
--- what the arguments ask for, as written
-abbrev pub IsSpelledOf : Text × List Row → Spelled → Type 0
-IsSpelledOf p spelled.Session = p.0 ≡ codes "session"
-IsSpelledOf p (spelled.Verify v) = (p.0 ≡ codes "verify") × (v ≡ verify_plan_of p.1)
-IsSpelledOf p (spelled.Stub words) = (p.0 ≡ codes "stub")
-    × (map (λ w. w.now) words.items ≡ unwrap_or (all_of (codes "words") p.1) [])
-IsSpelledOf p (spelled.Match m) = (p.0 ≡ codes "match") × IsMatchOf p.1 m
-
 -- ---- what it means
+
+-- the level of a match, none where its text denotes none
+abbrev pub level_asked : List Row → Option LevelSeen
+level_asked rows = level_of (text_or (codes "level") rows (codes "40 5 0"))
+
+-- the date in each game's tags
+abbrev pub date_asked : List Row → Text
+date_asked rows = text_or (codes "date") rows (codes "????.??.??")
 
 -- the position that a match starts in: what the FEN denotes, or else the variant's initial one
 abbrev pub start_of : Variant → Option Text → Result Setup FenFault
 start_of v None = Ok (initial_setup_of v)
 start_of v (Some text) = fen_reading_as v text
 
--- at most 60 bytes from 32 to 126
+-- the position that a match of these options starts in
+abbrev pub start_asked : List Row → Result Setup FenFault
+start_asked rows = start_of (variant_in rows) (first_of (codes "fen") rows)
+
+-- a date has at most 60 bytes, from 32 to 126
 abbrev pub is_date : Text → Bool
 is_date text = nat_le (length text) 60 && list_all (λ b. nat_le 32 b && nat_le b 126) text
 
--- a match is played by what the arguments denote
-pub record IsMatchPlan (m : MatchWords) (plan : MatchPlan) : Type 0 where
-  pub white : plan.white ≡ m.white
-  pub black : plan.black ≡ m.black
-  pub level : level_of m.level.now ≡ Some plan.level
-  pub start : start_of m.variant (option_map (λ t. t.now) m.fen) ≡ Ok plan.start
-  pub games : plan.games ≡ m.games
-  pub date : plan.date ≡ m.date
-  pub log : plan.log ≡ m.log
-  pub good_date : is_date m.date.now ≡ true
+-- a match is played by what its options denote, as given or by default
+pub record IsMatchPlan (rows : List Row) (plan : MatchPlan) : Type 0 where
+  pub white : first_of (codes "white") rows ≡ Some plan.white.now
+  pub black : first_of (codes "black") rows ≡ Some plan.black.now
+  pub level : level_asked rows ≡ Some plan.level
+  pub start : start_asked rows ≡ Ok plan.start
+  pub games : plan.games ≡ games_in rows
+  pub games_range : (1 ≤ plan.games) × (plan.games ≤ 1000)
+  pub date : plan.date.now ≡ date_asked rows
+  pub good_date : is_date plan.date.now ≡ true
+  pub log : plan.log ≡ is_set (codes "log") rows
 
 -- the fault is that of the first of level, FEN and date that isn't in its form
-abbrev pub IsMatchFault : MatchWords → WordsFault → Type 0
-IsMatchFault m (Words e) = ⊥
-IsMatchFault m NoMemory = ⊥
-IsMatchFault m BadLevel = level_of m.level.now ≡ None
-IsMatchFault m (BadFen f) = (l : LevelSeen) × (level_of m.level.now ≡ Some l)
-    × (start_of m.variant (option_map (λ t. t.now) m.fen) ≡ Err f)
-IsMatchFault m BadDate = (l : LevelSeen) × (p : Setup) × (level_of m.level.now ≡ Some l)
-    × (start_of m.variant (option_map (λ t. t.now) m.fen) ≡ Ok p) × (is_date m.date.now ≡ false)
-
--- the plan is what was written; a match has its level, FEN and date read
-abbrev pub IsPlanned : Spelled → Plan → Type 0
-IsPlanned spelled.Session plan = plan ≡ Session
-IsPlanned (spelled.Verify v) plan = plan ≡ Verify v
-IsPlanned (spelled.Stub words) plan = plan ≡ Stub words
-IsPlanned (spelled.Match m) plan = (p : MatchPlan) × (plan ≡ Match p) × IsMatchPlan m p
-
-abbrev pub IsPlanFault : Spelled → WordsFault → Type 0
-IsPlanFault (spelled.Match m) f = IsMatchFault m f
-IsPlanFault _ f = ⊥
+abbrev pub IsMatchFault : List Row → WordsFault → Type 0
+IsMatchFault rows BadLevel = level_asked rows ≡ None
+IsMatchFault rows (BadFen fault) = (is_some (level_asked rows) ≡ true) × (start_asked rows ≡ Err fault)
+IsMatchFault rows BadDate = (is_some (level_asked rows) ≡ true) × (is_ok (start_asked rows) ≡ true)
+    × (is_date (date_asked rows) ≡ false)
+IsMatchFault rows _ = ⊥
 
 -- the plan is what the arguments ask for
 abbrev pub IsPlanOf : Text × List Row → Plan → Type 0
-IsPlanOf p plan = (s : Spelled) × IsSpelledOf p s × IsPlanned s plan
+IsPlanOf p Session = p.0 ≡ codes "session"
+IsPlanOf p (Verify v) = (p.0 ≡ codes "verify") × (v ≡ verify_plan_of p.1)
+IsPlanOf p (Stub words) = (p.0 ≡ codes "stub")
+    × (map (λ w. w.now) words.items ≡ unwrap_or (all_of (codes "words") p.1) [])
+IsPlanOf p (Match plan) = (p.0 ≡ codes "match") × IsMatchPlan p.1 plan
 
 -- a level, FEN or date out of its form is reported only where a match was asked for by it
 abbrev pub IsFaultOf : Text × List Row → WordsFault → Type 0
-IsFaultOf p f = (m : MatchWords) × (p.0 ≡ codes "match") × IsMatchOf p.1 m × IsMatchFault m f
+IsFaultOf p fault = (p.0 ≡ codes "match") × IsMatchFault p.1 fault
 
 -- a plan, or a level, FEN or date out of its form, is returned only for arguments in which `clap` finds no fault; for
 -- others, one of the faults that it may find in them. Out of memory may be reported for any arguments

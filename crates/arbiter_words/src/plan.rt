@@ -2,7 +2,8 @@
 
 ghost use Rattle.std.specs.Prelude.{◌≡◌, ◌&&◌, IfErr, IfOk, nat_le, option_map};
 ghost use Rattle.std.specs.List.{list_all};
-ghost use Rattle.arbiter_words.specs.Plans.{IsMatchFault, IsMatchPlan, IsPlanFault, IsPlanned, is_date as date_test, start_of};
+ghost use Rattle.arbiter_words.specs.Plans.{is_date as date_test, start_of};
+ghost use Rattle.arbiter_words.specs.ties.Spelling.{IsJudged, IsJudgedFault, IsPlanFault, IsPlanned};
 
 use crate::fault::WordsFault;
 use crate::spelled::{MatchWords, Spelled};
@@ -80,8 +81,8 @@ fn start_of(variant: Variant, fen: Option<&str>) -> Result<Position, FenFault>
 
 // What a match is played by, where level, FEN and date are in their form; else the first of them that isn't.
 fn judged<'a>(words: &MatchWords<'a>) -> Result<MatchPlan<'a>, WordsFault>
-    ensures plan { IfOk result (IsMatchPlan words.now) }
-    ensures fault { IfErr result (IsMatchFault words.now) }
+    ensures plan { IfOk result (IsJudged words.now) }
+    ensures fault { IfErr result (IsJudgedFault words.now) }
 {
     let Some(level) = Level::read(words.level.as_bytes()) else {
         return Err(WordsFault::BadLevel);

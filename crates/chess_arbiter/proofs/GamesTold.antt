@@ -1,7 +1,6 @@
 -- The games of a match, one after another.
-use Rattle.std.proofs.Common.{◌≡◌, ◌∙◌, ◌<◌, ◌≤◌, ◌+◌, ◌&&◌, not, ℕ, Bool, true, false, List, [], ◌∷◌, ◌++◌, length, is_err, is_some, Bor, Option, Some, None, Result, Ok, Err, refl, sym, ap, subst, append_assoc, append-nil, length-append, arith, inl, inr}
+use Rattle.std.proofs.Common.{◌≡◌, ◌∙◌, ◌<◌, ◌≤◌, ◌+◌, ℕ, Bool, true, false, List, [], ◌∷◌, ◌++◌, length, is_err, Bor, Option, Some, None, Result, Ok, Err, refl, sym, ap, subst, append_assoc, append-nil, length-append, arith, inl, inr}
 use Rattle.std.specs.Prelude.{if◌then◌else◌}
-use Rattle.std.proofs.lemmas.Bool.{and_from}
 use Rattle.arbiter_words.specs.declared.plan.MatchPlan.{MatchPlan}
 use Rattle.chess_base.specs.declared.man.Colour.{Colour}
 use Rattle.byte_devices.specs.Devices.{OutputState, Begins, BreaksOff, Sends, Sent}
@@ -17,8 +16,7 @@ use Rattle.chess_match.specs.declared.reason.MatchFault.{MatchFault}
 use Rattle.chess_match.specs.declared.reason.Reason.TheVariants.{Faulted}
 use Rattle.chess_match.specs.declared.run.MatchEnd.{MatchEnd}
 use Rattle.chess_match.proofs.Flushes.{flushed_none, failed_behind}
-use Rattle.chess_match.proofs.Outcomes.{and_first, and_second}
-use Rattle.chess_arbiter.specs.Games.{AreOfPlan, EndsGames, GameTold, HasPlayed, IsOfPlan, IsStartFault, LogsGame, LogsGames, LogsGamesIf, PlayedOne, RanGames, Relayed, SoundGames, are_sound, first_side, game_logs, game_text, game_texts, is_odd, logged_side, match_text, no_score, score_line, score_of, score_on, scored}
+use Rattle.chess_arbiter.specs.Games.{EndsGames, GameTold, HasPlayed, IsOfPlan, IsStartFault, LogsGame, LogsGames, PlayedOne, RanGames, Relayed, SoundGames, first_side, game_logs, game_text, game_texts, is_odd, logged_side, match_text, no_score, score_line, score_of, score_on, scored}
 use Rattle.chess_arbiter.specs.Log.{LogSeen, Logged, RanNoted, log_text}
 use Rattle.chess_arbiter.proofs.Logged.{logged_more, logs_none}
 use Rattle.chess_arbiter.specs.declared.games.GamesFault.{GamesFault}
@@ -63,15 +61,15 @@ logs_more n (x ∷ games) g =
     ∙ sym (append_assoc here (game_logs (n + 1) games) (log_text (first_side (n + 1 + length games)) g.notes))
     ∙ ap (λ k. (here ++ game_logs (n + 1) games) ++ log_text (first_side k) g.notes) (omega arith)
 
-logs_if : (asked : Bool) (l l' l'' : LogSeen) (games : List GameTold) (g : GameTold) → LogsGamesIf asked l l' games
+logs_if : (asked : Bool) (l l' l'' : LogSeen) (games : List GameTold) (g : GameTold) → LogsGames asked l l' games
     → LogsGame (if asked then Some (first_side (1 + length games)) else None) l' l'' g.notes
-    → LogsGamesIf asked l l'' (games ++ g ∷ [])
+    → LogsGames asked l l'' (games ++ g ∷ [])
 logs_if false l l' l'' games g h k = k ∙ h
 logs_if true l l' l'' games g h k =
     subst (λ (t : List ℕ). Logged l l'' t) (sym (logs_more 1 games g))
     (logged_more l l' l'' (game_logs 1 games) (log_text (first_side (1 + length games)) g.notes) h k)
 
-log_none : (asked : Bool) (l : LogSeen) → LogsGamesIf asked l l []
+log_none : (asked : Bool) (l : LogSeen) → LogsGames asked l l []
 log_none false l = refl
 log_none true l = logs_none l.broken l.output
 
@@ -92,18 +90,10 @@ score_more n (x ∷ games) g s =
     let s' = scored (is_odd n) x.end.outcome s in
     score_more (n + 1) games g s' ∙ ap (λ k. scored (is_odd k) g.end.outcome (score_on (n + 1) games s')) (omega arith)
 
-of_plan_more : (plan : MatchPlan) (games : List GameTold) (g : GameTold) → AreOfPlan plan games → IsOfPlan plan g
-    → AreOfPlan plan (games ++ g ∷ [])
-of_plan_more plan [] g h k = (k, tt)
-of_plan_more plan (x ∷ games) g h k = (h.0, of_plan_more plan games g h.1 k)
-
-sound_more : (games : List GameTold) (g : GameTold) → are_sound games ≡ true → g.end.fault ≡ None
-    → are_sound (games ++ g ∷ []) ≡ true
-sound_more [] g h k = ap (λ (o : Option (Colour × MatchFault)). not (is_some o) && true) k
-sound_more (x ∷ games) g h k =
-    let here = not (is_some x.end.fault) in
-    and_from here (are_sound (games ++ g ∷ [])) (and_first here (are_sound games) h)
-    (sound_more games g (and_second here (are_sound games) h) k)
+sound_more : (plan : MatchPlan) (games : List GameTold) (g : GameTold) → SoundGames plan games → IsOfPlan plan g
+    → g.end.fault ≡ None → SoundGames plan (games ++ g ∷ [])
+sound_more plan [] g h of none = (of, none, tt)
+sound_more plan (x ∷ games) g h of none = (h.0, h.1, sound_more plan games g h.2 of none)
 
 -- ---- so far
 
@@ -116,11 +106,11 @@ pub record SoFar (plan : MatchPlan) (w w' : OutputState) (l l' : LogSeen) (numbe
     pub few : length games ≤ plan.games
     pub counted : score ≡ score_of games
     pub told : Flushed w w' (game_texts plan 1 games)
-    pub logged : LogsGames plan l l' games
+    pub logged : LogsGames plan.log l l' games
 
 pub start : (plan : MatchPlan) (w : OutputState) (l : LogSeen) → SoFar plan w w l l 1 no_score []
 start plan w l = record {
-  games_sound = record { of_plan = tt; sound = refl };
+  games_sound = tt;
   numbered = omega arith;
   few = omega arith;
   counted = refl;
@@ -131,7 +121,7 @@ start plan w l = record {
 module _ (plan : MatchPlan) (w w' w'' : OutputState) (l l' l'' : LogSeen) (number : ℕ) (score : Score)
     (games : List GameTold) (s : SoFar plan w w' l l' number score games) where
   logged_on : (g : GameTold) → LogsGame (logged_side plan number) l' l'' g.notes
-      → LogsGames plan l l'' (games ++ g ∷ [])
+      → LogsGames plan.log l l'' (games ++ g ∷ [])
   logged_on g log =
       logs_if plan.log l l' l'' games g s.logged
       (subst (λ n. LogsGame (logged_side plan n) l' l'' g.notes) s.numbered log)
@@ -156,10 +146,7 @@ module _ (plan : MatchPlan) (w w' w'' : OutputState) (l l' l'' : LogSeen) (numbe
       let n = s.numbered in
       let longer = length-append games (g ∷ []) in
       record {
-        games_sound = record {
-          of_plan = of_plan_more plan games g s.games_sound.of_plan of;
-          sound = sound_more games g s.games_sound.sound none;
-        };
+        games_sound = sound_more plan games g s.games_sound of none;
         numbered = omega (arith, n, longer);
         few = omega (arith, n, longer, le);
         counted = counted_more g;
@@ -204,7 +191,7 @@ module _ (plan : MatchPlan) (w w' w'' : OutputState) (l l' l'' : LogSeen) (numbe
         omega (arith, n, le),
         subst (λ k. IsStartFault plan k NoMemory) m is,
         subst (λ v. Flushed w v (game_texts plan 1 games)) (sym same) s.told,
-        subst (λ v. LogsGames plan l v games) (sym log) s.logged,
+        subst (λ v. LogsGames plan.log l v games) (sym log) s.logged,
       )
   broke (CanNotStart command) le (is, same, log) =
       let n = s.numbered in
@@ -214,7 +201,7 @@ module _ (plan : MatchPlan) (w w' w'' : OutputState) (l l' l'' : LogSeen) (numbe
         omega (arith, n, le),
         subst (λ k. IsStartFault plan k (CanNotStart command)) m is,
         subst (λ v. Flushed w v (game_texts plan 1 games)) (sym same) s.told,
-        subst (λ v. LogsGames plan l v games) (sym log) s.logged,
+        subst (λ v. LogsGames plan.log l v games) (sym log) s.logged,
       )
   broke (Game k text) le (is, same, log) = elim is [
     | inl h ↦ absurd h

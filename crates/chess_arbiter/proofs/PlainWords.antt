@@ -1,5 +1,5 @@
 -- What no arguments, `session` and `verify` do.
-use Rattle.std.proofs.Common.{◌≡◌, ◌∙◌, ◌<◌, ℕ, List, [], length, lit<, codes, Result, Ok, Err, refl, sym, ap, subst, inl, arith}
+use Rattle.std.proofs.Common.{◌≡◌, ◌∙◌, ◌<◌, ℕ, List, [], length, lit<, codes, Result, Ok, Err, refl, sym, ap, subst, inl, inr, false, arith}
 use Rattle.clap.specs.Words.{IsAmong, Text, kind_of}
 use Rattle.arbiter_words.specs.Grammar.{asked}
 use Rattle.arbiter_words.specs.Plans.{AskFor, IsReading, PlansAreNamed, VerifyAsBare, VerifyIsAsSpelled, bare_plan, command_name}
@@ -13,9 +13,8 @@ use Rattle.byte_devices.proofs.DeviceLaws.{consumes_none}
 use Rattle.chess_arbiter.specs.laws.Laws.{ServesSession, VerifiesGames}
 use Rattle.chess_arbiter.specs.Log.{LogSeen}
 use Rattle.chess_arbiter.specs.Program.{RanPlan, RanSession, RanVerify}
-use Rattle.pgn_verifier.specs.Verify.{LacksMemory}
+use Rattle.pgn_pieces.specs.Pieces.{HasRead}
 use Rattle.pgn_verifier.specs.declared.fault.VerifyFault.TheVariants as verifying
-use Rattle.chess_arbiter.specs.declared.fault.ProgramFault.TheVariants.{NoMemory}
 
 shorter : (xs ys : Text) → length xs < length ys → xs ≡ ys → ⊥
 shorter xs ys lt e = let same : length xs ≡ length ys = ap length e in absurd (omega arith)
@@ -35,11 +34,11 @@ refused_word : (words : List Text) (name : Text) (fault : WordsFault) → AskFor
 refused_word ws name (words.Words e) a other (names, are, among) =
     absurd (subst (IsAmong (kind_of e)) (a.taken names) among)
 refused_word ws name words.NoMemory a other is = tt
-refused_word ws name words.BadLevel a other (names, are, (none, (m, named, rest, h))) =
+refused_word ws name words.BadLevel a other (names, are, (none, (named, h))) =
     absurd (other (sym (a.named names) ∙ named))
-refused_word ws name (words.BadFen f) a other (names, are, (none, (m, named, rest, h))) =
+refused_word ws name (words.BadFen f) a other (names, are, (none, (named, h))) =
     absurd (other (sym (a.named names) ∙ named))
-refused_word ws name words.BadDate a other (names, are, (none, (m, named, rest, h))) =
+refused_word ws name words.BadDate a other (names, are, (none, (named, h))) =
     absurd (other (sym (a.named names) ∙ named))
 
 no_match_by_session : codes "session" ≡ codes "match" → ⊥
@@ -51,21 +50,24 @@ no_match_by_verify e = shorter (codes "match") (codes "verify") (lit< tt) (sym e
 session_or_want : (fault : WordsFault) (r r' : InputState) (w w' : OutputState) (l l' : LogSeen) (status : ℕ) → IsWant fault
     → RanPlan (Err fault) r r' w w' l l' status → RanSession r r' w w' status
 session_or_want words.NoMemory r r' w w' l l' status want (same, (kept, is)) =
-    (Err NoMemory, record { input = same; output = kept }, is)
+    inr (same, kept, is)
 session_or_want (words.Words e) r r' w w' l l' status want ran = absurd want
 session_or_want words.BadLevel r r' w w' l l' status want ran = absurd want
 session_or_want (words.BadFen f) r r' w w' l l' status want ran = absurd want
 session_or_want words.BadDate r r' w w' l l' status want ran = absurd want
 
-nothing_read : (r r' : InputState) → r' ≡ r → LacksMemory r r'
-nothing_read r r' same =
-    subst (λ v. LacksMemory r v) (sym same)
-    (inl ([], record { bytes = consumes_none r.known_bytes; failures = refl; ends = refl }))
+nothing_read : (r r' : InputState) → r' ≡ r → HasRead false r r' []
+nothing_read r r' same = subst (λ v. HasRead false r v []) (sym same) (record {
+  bytes = consumes_none r.known_bytes;
+  failures = refl;
+  ends = refl;
+  at_end = λ e. absurd (cc);
+})
 
 verify_or_want : (fault : WordsFault) (r r' : InputState) (w w' : OutputState) (l l' : LogSeen) (status : ℕ) → IsWant fault
     → RanPlan (Err fault) r r' w w' l l' status → RanVerify bare_plan r r' w w' status
 verify_or_want words.NoMemory r r' w w' l l' status want (same, (kept, is)) =
-    (Err verifying.NoMemory, (nothing_read r r' same, kept), is)
+    (Err verifying.NoMemory, ([], inl (nothing_read r r' same), kept), is)
 verify_or_want (words.Words e) r r' w w' l l' status want ran = absurd want
 verify_or_want words.BadLevel r r' w w' l l' status want ran = absurd want
 verify_or_want (words.BadFen f) r r' w w' l l' status want ran = absurd want

@@ -10,7 +10,6 @@ use Rattle.arbiter_words.specs.declared.plan.Plan.{Plan}
 use Rattle.byte_devices.specs.Devices.{OutputState}
 use Rattle.chess_arbiter.specs.laws.Laws.{RefusesWords, ShowsHelp}
 use Rattle.chess_arbiter.specs.Program.{RanHelp, ToldWords}
-use Rattle.chess_arbiter.specs.declared.fault.ProgramFault.TheVariants.{NoMemory}
 
 no_fault : (k : ErrorKind) (kinds : Kinds) → kinds ≡ [] → kinds ≡ k ∷ [] → ⊥
 no_fault k kinds none one = absurd (cc)
@@ -46,7 +45,7 @@ shown : (k : ErrorKind) (fault : WordsFault) (w w' : OutputState) (status : ℕ)
     → RanHelp w w' status
 shown k (words.Words e) w w' status help is told =
     told.1 (subst (λ x. (x ≡ DisplayHelp) ⊎ (x ≡ DisplayVersion)) (sym is) help)
-shown k words.NoMemory w w' status help is (same, ends) = (Err NoMemory, same, ends)
+shown k words.NoMemory w w' status help is (same, ends) = inr (inr (same, ends))
 shown k words.BadLevel w w' status help is told = absurd is
 shown k (words.BadFen f) w w' status help is told = absurd is
 shown k words.BadDate w w' status help is told = absurd is

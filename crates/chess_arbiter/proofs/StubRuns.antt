@@ -1,5 +1,5 @@
 -- A run of a stub, line by line.
-use Rattle.std.proofs.Common.{◌≡◌, ℕ, ◌+◌, ◌-◌, ◌≤◌, inl, inr, Bool, true, false, List, [], ◌∷◌, ◌++◌, length, take, Some, None, Ok, Err, refl, sym, ap, ◌∙◌, arith, append_assoc, append-nil, length-append, if◌then◌else◌}
+use Rattle.std.proofs.Common.{◌≡◌, ℕ, ◌+◌, ◌-◌, ◌≤◌, inl, inr, Bool, true, false, List, [], ◌∷◌, ◌++◌, length, take, Some, None, Ok, Err, refl, sym, ap, subst, ◌∙◌, arith, append_assoc, append-nil, length-append, if◌then◌else◌}
 use Rattle.std.proofs.Math.Seq.{take-append-add}
 use Rattle.std.specs.Io.KnownBytes.{Consumes}
 use Rattle.byte_devices.specs.Devices.{InputState, OutputState, Sent, BreaksOff, risen}
@@ -7,71 +7,67 @@ use Rattle.byte_devices.proofs.DeviceLaws.{consumes_more, consumes_none}
 use Rattle.chess_cecp.specs.Lines.{LineSeen, Held, nothing_held, lines_heard, lines_held, whole}
 use Rattle.chess_cecp.specs.Next.{before_piece, Waits, GotLine, GotLast, NextLine}
 use Rattle.chess_cecp.specs.Run.{risen_if}
-use Rattle.chess_cecp.proofs.RunLemmas.{or_left, or_right, one_cond, SentAll, SentSome, sent_none, sent_more, sent_some, no_bytes, nothing_whole, of_true, of_false}
-use Rattle.chess_arbiter.specs.Stub.{StubState, StubRan, after, ends_at, ends_in, replies, reply, said, standing, onward_of}
+use Rattle.chess_cecp.proofs.RunLemmas.{SentAll, sent_none, sent_more, sent_some, no_bytes, nothing_whole, of_true, of_false}
+use Rattle.chess_arbiter.specs.Stub.{Reply, StubState, StubRan, and_then, replies, reply, says, onward_of}
 use Rattle.chess_arbiter.specs.declared.stub.Onward.{Onward}
 use Rattle.chess_arbiter.specs.declared.stub.Onward.TheVariants.{On, Over}
 use Rattle.chess_arbiter.specs.declared.stub.StubFault.TheVariants.{Read, Write}
 use Rattle.chess_cecp.specs.declared.session.TheConstants.{COMMAND_LEN}
 
--- ---- the parts of a reply
+-- ---- replies after one another
 
-pub said_is : (s : StubState) (line : LineSeen) → (reply s line).text ≡ said s line
-unfolding said
-said_is s line = refl
+-- a reply after that text
+abbrev with_front : List ℕ → Reply → Reply
+with_front text r = record r { text = text ++ r.text }
 
-pub after_is : (s : StubState) (line : LineSeen) → (reply s line).state ≡ after s line
-unfolding after
-after_is s line = refl
+fronts : (a b : List ℕ) (r : Reply) → with_front a (with_front b r) ≡ with_front (a ++ b) r
+fronts a b r = ap (λ t. record r { text = t }) (sym (append_assoc a b r.text))
 
-pub ends_is : (s : StubState) (line : LineSeen) → (reply s line).ends ≡ ends_at s line
-unfolding ends_at
-ends_is s line = refl
+goes_by : (b : Bool) (r next : Reply) → b ≡ false → (if b then r else with_front r.text next) ≡ with_front r.text next
+goes_by true r next e = cc
+goes_by false r next e = refl
 
--- ---- lists of lines
+goes : (r next : Reply) → r.ends ≡ false → and_then r next ≡ with_front r.text next
+goes r next e = goes_by r.ends r next e
 
-one_state : (b : Bool) (x : StubState) → (if b then x else x) ≡ x
-one_state true x = refl
-one_state false x = refl
+stops_by : (b : Bool) (r next : Reply) → b ≡ true → (if b then r else with_front r.text next) ≡ r
+stops_by true r next e = refl
+stops_by false r next e = cc
+
+stops : (r next : Reply) → r.ends ≡ true → and_then r next ≡ r
+stops r next e = stops_by r.ends r next e
+
+-- where the replies go on, the first does
+first_by : (b : Bool) (r next : Reply) → r.ends ≡ b → (if b then r else with_front r.text next).ends ≡ false → b ≡ false
+first_by true r next e h = sym e ∙ h
+first_by false r next e h = refl
+
+first_goes : (r next : Reply) → (and_then r next).ends ≡ false → r.ends ≡ false
+first_goes r next h = first_by r.ends r next refl h
+
+alone_by : (b : Bool) (r : Reply) → r.ends ≡ b → (if b then r else with_front r.text (says r.state [])) ≡ r
+alone_by true r e = refl
+alone_by false r e =
+    ap (λ t. record { text = t; state = r.state; ends = false }) (append-nil r.text)
+    ∙ ap (λ b. record { text = r.text; state = r.state; ends = b }) (sym e)
+
+alone : (s : StubState) (line : LineSeen) → replies s (line ∷ []) ≡ reply s line
+alone s line = alone_by (reply s line).ends (reply s line) refl
 
 -- lines at which it doesn't end: those after them go on from where they left it
-replies_on : (s : StubState) (xs ys : List LineSeen) → ends_in s xs ≡ false
-    → replies s (xs ++ ys) ≡ replies s xs ++ replies (standing s xs) ys
+replies_on : (s : StubState) (xs ys : List LineSeen) → (replies s xs).ends ≡ false
+    → replies s (xs ++ ys) ≡ with_front (replies s xs).text (replies (replies s xs).state ys)
 replies_on s [] ys h = refl
 replies_on s (x ∷ xs) ys h =
-    let n : ends_at s x ≡ false = or_left (ends_at s x) (ends_in (after s x) xs) h in
-    let m : ends_in (after s x) xs ≡ false = or_right (ends_at s x) (ends_in (after s x) xs) h in
-    rw n (ap (λ v. said s x ++ v) (replies_on (after s x) xs ys m)
-    ∙ sym (append_assoc (said s x) (replies (after s x) xs) (replies (standing (after s x) xs) ys)))
-
-standing_on : (s : StubState) (xs ys : List LineSeen) → ends_in s xs ≡ false
-    → standing s (xs ++ ys) ≡ standing (standing s xs) ys
-standing_on s [] ys h = refl
-standing_on s (x ∷ xs) ys h =
-    let n : ends_at s x ≡ false = or_left (ends_at s x) (ends_in (after s x) xs) h in
-    let m : ends_in (after s x) xs ≡ false = or_right (ends_at s x) (ends_in (after s x) xs) h in
-    rw n (standing_on (after s x) xs ys m)
-
-goes_on : (s : StubState) (xs : List LineSeen) (x : LineSeen) → ends_in s xs ≡ false → ends_at (standing s xs) x ≡ false
-    → ends_in s (xs ++ x ∷ []) ≡ false
-goes_on s [] x h k = rw k refl
-goes_on s (y ∷ xs) x h k =
-    let n : ends_at s y ≡ false = or_left (ends_at s y) (ends_in (after s y) xs) h in
-    let m : ends_in (after s y) xs ≡ false = or_right (ends_at s y) (ends_in (after s y) xs) h in
-    rw n (goes_on (after s y) xs x m (still (ends_at s y) (after s y) (standing (after s y) xs) n k))
-  where
-    still : (b : Bool) (u v : StubState) → b ≡ false → ends_at (if b then u else v) x ≡ false → ends_at v x ≡ false
-    still true u v n k = cc
-    still false u v n k = k
-
-replies_one : (s : StubState) (x : LineSeen) (ys : List LineSeen) → ends_at s x ≡ true → replies s (x ∷ ys) ≡ said s x
-replies_one s x ys h = rw h refl
-
-replies_last : (s : StubState) (x : LineSeen) → replies s (x ∷ []) ≡ said s x
-replies_last s x = one_cond (ends_at s x) (said s x)
-
-standing_last : (s : StubState) (x : LineSeen) → standing s (x ∷ []) ≡ after s x
-standing_last s x = one_state (ends_at s x) (after s x)
+    let r = reply s x in
+    let rest = replies r.state xs in
+    let n : r.ends ≡ false = first_goes r rest h in
+    let is : and_then r rest ≡ with_front r.text rest = goes r rest n in
+    let m : rest.ends ≡ false = ap (λ (v : Reply). v.ends) (sym is) ∙ h in
+    goes r (replies r.state (xs ++ ys)) n
+    ∙ ap (with_front r.text) (replies_on r.state xs ys m)
+    ∙ fronts r.text rest.text (replies rest.state ys)
+    ∙ ap (λ (v : Reply). with_front v.text (replies v.state ys)) (sym is)
 
 -- ---- so far
 
@@ -79,9 +75,9 @@ standing_last s x = one_state (ends_at s x) (after s x)
 pub record SoFar (r r' : InputState) (w w' : OutputState) (s s' : StubState) (held : Held) (given : List ℕ)
     (done : List LineSeen) : Type 0 where
   pub bytes : Consumes r.known_bytes r'.known_bytes given
-  pub took : SentAll w w' (replies s done)
-  pub state : s' ≡ standing s done
-  pub goes_on : ends_in s done ≡ false
+  pub took : SentAll w w' (replies s done).text
+  pub state : s' ≡ (replies s done).state
+  pub goes_on : (replies s done).ends ≡ false
   pub lines : (told : Bool) (rest : List ℕ)
       → lines_heard COMMAND_LEN told (given ++ rest) ≡ done ++ lines_held COMMAND_LEN told held rest
   pub on_demand : length (whole COMMAND_LEN (before_piece r'.last_len given)) ≤ length done
@@ -188,30 +184,31 @@ pub reached : (E : Type 0) (r r' r'' : InputState) (w w' : OutputState) (s s' : 
 reached E r r' r'' w w' s s' held held' given done line f n =
     reached_by line.ended E r r' r'' w w' s s' held held' given done line f n refl
 
--- what is said to a line, at the state that was reached
-said_on : (s s' : StubState) (done : List LineSeen) (line : LineSeen) → s' ≡ standing s done → ends_in s done ≡ false
-    → replies s (done ++ line ∷ []) ≡ replies s done ++ said s' line
-said_on s s' done line is on =
-    replies_on s done (line ∷ []) on ∙ ap (λ v. replies s done ++ v)
-    (replies_last (standing s done) line ∙ ap (λ v. said v line) (sym is))
+-- the replies with that to a line, at the state that was reached
+one_more : (s s' : StubState) (done : List LineSeen) (line : LineSeen) → s' ≡ (replies s done).state
+    → (replies s done).ends ≡ false
+    → replies s (done ++ line ∷ []) ≡ with_front (replies s done).text (reply s' line)
+one_more s s' done line is on =
+    replies_on s done (line ∷ []) on
+    ∙ ap (with_front (replies s done).text) (alone (replies s done).state line ∙ ap (λ v. reply v line) (sym is))
 
 -- the next line, once it was answered
 pub go_on : (E : Type 0) (r r' r'' : InputState) (w w' w'' : OutputState) (s s' s'' : StubState) (held held' : Held)
     (given : List ℕ) (done : List LineSeen) (line : LineSeen)
     → SoFar r r' w w' s s' held given done → NextLine {E = E} COMMAND_LEN r' r'' held held' (Ok (Some line))
     → line.ended ≡ true
-    → Sent w' w'' (said s' line) → s'' ≡ after s' line → ends_at s' line ≡ false
+    → Sent w' w'' (reply s' line).text → s'' ≡ (reply s' line).state → (reply s' line).ends ≡ false
     → (given' : List ℕ) × SoFar r r'' w w'' s s'' held' given' (done ++ line ∷ [])
 go_on E r r' r'' w w' w'' s s' s'' held held' given done line f (more, bytes, waits, got) ended took next on =
-    let g : GotLine COMMAND_LEN r' r'' held held' more line = of_true line.ended _ _ ended got in (
+    let g : GotLine COMMAND_LEN r' r'' held held' more line = of_true line.ended _ _ ended got in
+    let all = sym (one_more s s' done line f.state f.goes_on) in (
       given ++ more,
       record {
         bytes = consumes_more r.known_bytes r'.known_bytes r''.known_bytes given more f.bytes bytes;
-        took = rw (said_on s s' done line f.state f.goes_on)
-            (sent_more w w' w'' (replies s done) (said s' line) f.took took);
-        state = next ∙ ap (λ v. after v line) f.state ∙ sym (standing_last (standing s done) line)
-            ∙ sym (standing_on s done (line ∷ []) f.goes_on);
-        goes_on = goes_on s done line f.goes_on (ap (λ v. ends_at v line) (sym f.state) ∙ on);
+        took = subst (λ (v : Reply). SentAll w w'' v.text) all
+            (sent_more w w' w'' (replies s done).text (reply s' line).text f.took took);
+        state = next ∙ ap (λ (v : Reply). v.state) all;
+        goes_on = ap (λ (v : Reply). v.ends) (sym all) ∙ on;
         lines = λ told rest. ap (lines_heard COMMAND_LEN told) (append_assoc given more rest)
             ∙ f.lines told (more ++ rest) ∙ ap (λ v. done ++ v) (g.lines told rest)
             ∙ sym (append_assoc done (line ∷ []) (lines_held COMMAND_LEN told held' rest));
@@ -227,17 +224,17 @@ go_on E r r' r'' w w' w'' s s' s'' held held' given done line f (more, bytes, wa
 -- by the line that was reached
 pub by_line : (r r' r'' : InputState) (w w' w'' : OutputState) (s s' : StubState) (held : Held) (given : List ℕ)
     (done : List LineSeen) (line : LineSeen)
-    → SoFar r r' w w' s s' held given done → IsReached r r'' done line → Sent w' w'' (said s' line)
-    → ends_at s' line ≡ true → StubRan {A = Unit {0}} r r'' w w'' s (Ok (tt {0}))
+    → SoFar r r' w w' s s' held given done → IsReached r r'' done line → Sent w' w'' (reply s' line).text
+    → (reply s' line).ends ≡ true → StubRan {A = Unit {0}} r r'' w w'' s (Ok (tt {0}))
 by_line r r' r'' w w' w'' s s' held given done line f (all, told, behind, at) took over =
-    let both : SentAll w w'' (replies s done ++ said s' line) =
-    sent_more w w' w'' (replies s done) (said s' line) f.took took in
-    let here : ends_at (standing s done) line ≡ true = ap (λ v. ends_at v line) (sym f.state) ∙ over in
-    let is : replies s done ++ said s' line ≡ replies s (lines_heard COMMAND_LEN told all) =
-    sym (ap (replies s) at.lines ∙ replies_on s done (line ∷ behind) f.goes_on
-    ∙ ap (λ v. replies s done ++ v) (replies_one (standing s done) line behind here
-    ∙ ap (λ v. said v line) (sym f.state))) in (
-      record { given = all; told = told; taken = replies s done ++ said s' line },
+    let both = sent_more w w' w'' (replies s done).text (reply s' line).text f.took took in
+    let last = (replies s done).state in
+    let here : (reply last line).ends ≡ true = ap (λ v. (reply v line).ends) (sym f.state) ∙ over in
+    let is : (replies s done).text ++ (reply s' line).text ≡ (replies s (lines_heard COMMAND_LEN told all)).text =
+    sym (ap (λ (v : Reply). v.text) (ap (replies s) at.lines ∙ replies_on s done (line ∷ behind) f.goes_on
+    ∙ ap (with_front (replies s done).text) (stops (reply last line) (replies (reply last line).state behind) here
+    ∙ ap (λ v. reply v line) (sym f.state)))) in (
+      record { given = all; told = told; taken = (replies s done).text ++ (reply s' line).text },
       record { given = at.bytes; taken = both.bytes; told = at.ends; reads = at.failures; writes = both.failures },
       inl (done, line, behind, record { lines = at.lines; goes_on = f.goes_on; on_demand = at.on_demand }, here),
       is,
@@ -247,11 +244,11 @@ by_line r r' r'' w w' w'' s s' held given done line f (all, told, behind, at) to
 -- at a write that failed
 pub by_write : (r r' r'' : InputState) (w w' w'' : OutputState) (s s' : StubState) (held : Held) (given : List ℕ)
     (done : List LineSeen) (line : LineSeen)
-    → SoFar r r' w w' s s' held given done → IsReached r r'' done line → BreaksOff w' w'' (said s' line)
+    → SoFar r r' w w' s s' held given done → IsReached r r'' done line → BreaksOff w' w'' (reply s' line).text
     → StubRan {A = Unit {0}} r r'' w w'' s (Err Write)
 by_write r r' r'' w w' w'' s s' held given done line f (all, told, behind, at) (start, (rest, is), broke) =
-    let both : SentSome w w'' (replies s done) start = sent_some w w' w'' (replies s done) start f.took broke in (
-      record { given = all; told = told; taken = replies s done ++ start },
+    let both = sent_some w w' w'' (replies s done).text start f.took broke in (
+      record { given = all; told = told; taken = (replies s done).text ++ start },
       record { given = at.bytes; taken = both.bytes; told = at.ends; reads = at.failures; writes = both.failures },
       (
         done,
@@ -259,7 +256,7 @@ by_write r r' r'' w w' w'' s s' held given done line f (all, told, behind, at) (
         behind,
         start,
         record { lines = at.lines; goes_on = f.goes_on; on_demand = at.on_demand },
-        (rest, is ∙ ap (λ v. said v line) f.state),
+        (rest, is ∙ ap (λ v. (reply v line).text) f.state),
         refl,
         both.unflushed,
       ),
@@ -270,23 +267,23 @@ pub by_last : (E : Type 0) (r r' r'' : InputState) (w w' w'' : OutputState) (s s
     (given : List ℕ) (done : List LineSeen) (line : LineSeen)
     → SoFar r r' w w' s s' held given done → NextLine {E = E} COMMAND_LEN r' r'' held held' (Ok (Some line))
     → line.ended ≡ false
-    → Sent w' w'' (said s' line) → ends_at s' line ≡ false → StubRan {A = Unit {0}} r r'' w w'' s (Ok (tt {0}))
+    → Sent w' w'' (reply s' line).text → (reply s' line).ends ≡ false → StubRan {A = Unit {0}} r r'' w w'' s (Ok (tt {0}))
 by_last E r r' r'' w w' w'' s s' held held' given done line f (more, bytes, waits, got) ended took on =
     let g : GotLast COMMAND_LEN r' r'' held held' more line = of_false line.ended _ _ ended got in
     let at : Reached r r'' (given ++ more) true done line [] =
     reached_last r r' r'' w w' s s' held held' given more done line f bytes waits g in
-    let both : SentAll w w'' (replies s done ++ said s' line) =
-    sent_more w w' w'' (replies s done) (said s' line) f.took took in
-    let here : ends_at (standing s done) line ≡ false = ap (λ v. ends_at v line) (sym f.state) ∙ on in (
-      record { given = given ++ more; told = true; taken = replies s done ++ said s' line },
+    let both = sent_more w w' w'' (replies s done).text (reply s' line).text f.took took in
+    let all : replies s (lines_heard COMMAND_LEN true (given ++ more))
+    ≡ with_front (replies s done).text (reply s' line) =
+    ap (replies s) at.lines ∙ one_more s s' done line f.state f.goes_on in (
+      record { given = given ++ more; told = true; taken = (replies s done).text ++ (reply s' line).text },
       record { given = at.bytes; taken = both.bytes; told = at.ends; reads = at.failures; writes = both.failures },
       inr (record {
         told = refl;
         at_end = g.at_end;
-        goes_on = ap (ends_in s) at.lines
-            ∙ goes_on s done line f.goes_on here;
+        goes_on = ap (λ (v : Reply). v.ends) all ∙ on;
       }),
-      sym (ap (replies s) at.lines ∙ said_on s s' done line f.state f.goes_on),
+      sym (ap (λ (v : Reply). v.text) all),
       both.flushed,
     )
 
@@ -298,7 +295,7 @@ pub by_end : (E : Type 0) (r r' r'' : InputState) (w w' : OutputState) (s s' : S
 by_end E r r' r'' w w' s s' held held' given done f (more, bytes, waits, got) =
     let is : lines_heard COMMAND_LEN true (given ++ more) ≡ done =
     f.lines true more ∙ ap (λ v. done ++ v) (got.lines true) ∙ append-nil done in (
-      record { given = given ++ more; told = true; taken = replies s done },
+      record { given = given ++ more; told = true; taken = (replies s done).text },
       record {
         given = consumes_more r.known_bytes r'.known_bytes r''.known_bytes given more f.bytes bytes;
         taken = f.took.bytes;
@@ -306,8 +303,8 @@ by_end E r r' r'' w w' s s' held held' given done f (more, bytes, waits, got) =
         reads = got.failures ∙ f.failures;
         writes = f.took.failures;
       },
-      inr (record { told = refl; at_end = got.at_end; goes_on = ap (ends_in s) is ∙ f.goes_on }),
-      sym (ap (replies s) is),
+      inr (record { told = refl; at_end = got.at_end; goes_on = ap (λ xs. (replies s xs).ends) is ∙ f.goes_on }),
+      sym (ap (λ xs. (replies s xs).text) is),
       f.took.flushed,
     )
 
@@ -319,7 +316,7 @@ pub by_read : {E : Type 0} (e : E) (r r' r'' : InputState) (w w' : OutputState) 
 by_read e r r' r'' w w' s s' held held' given done f (more, bytes, waits, got) =
     let is : lines_heard COMMAND_LEN false (given ++ more) ≡ done =
     f.lines false more ∙ ap (λ v. done ++ v) got.whole ∙ append-nil done in (
-      record { given = given ++ more; told = false; taken = replies s done },
+      record { given = given ++ more; told = false; taken = (replies s done).text },
       record {
         given = consumes_more r.known_bytes r'.known_bytes r''.known_bytes given more f.bytes bytes;
         taken = f.took.bytes;
@@ -328,8 +325,8 @@ by_read e r r' r'' w w' s s' held held' given done f (more, bytes, waits, got) =
         writes = f.took.failures;
       },
       refl,
-      ap (ends_in s) is ∙ f.goes_on,
-      sym (ap (replies s) is),
+      ap (λ xs. (replies s xs).ends) is ∙ f.goes_on,
+      sym (ap (λ xs. (replies s xs).text) is),
       f.took.flushed,
     )
 

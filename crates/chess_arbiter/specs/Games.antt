@@ -1,8 +1,7 @@
 -- The games of a match: who plays which colour, how each is reported, and the score.
-use Rattle.std.specs.Prelude.{◌≡◌, ◌⊎◌, ℕ, ◌+◌, ◌<◌, ◌%◌, ◌==◌, Bool, true, false, not, if◌then◌else◌, min, List, [], ◌∷◌, ◌++◌, length, codes, decimal, Option, None, Some, is_some, Result, Ok, Err}
+use Rattle.std.specs.Prelude.{◌≡◌, ◌⊎◌, ℕ, ◌+◌, ◌<◌, ◌%◌, ◌==◌, Bool, true, false, not, if◌then◌else◌, min, List, [], ◌∷◌, ◌++◌, length, codes, decimal, Option, None, Some, Result, Ok, Err}
 use Rattle.std.specs.Borrow.{Bor}
 use Rattle.chess_base.specs.Letters.{new_line}
-use Rattle.std.specs.List.{list_all}
 use Rattle.arbiter_words.specs.declared.plan.MatchPlan.{MatchPlan}
 use Rattle.chess_game.specs.declared.results.Outcome.{Outcome}
 use Rattle.chess_game.specs.declared.results.Outcome.TheVariants.{WhiteWins, BlackWins, Draw, Unfinished}
@@ -71,25 +70,15 @@ one_more n = min (n + 1) 65535
 
 -- a win of the first engine, or of the second, more
 abbrev pub won : Bool → Score → Score
-won true s = record { first = one_more s.first; second = s.second; drawn = s.drawn; unfinished = s.unfinished }
-won false s = record { first = s.first; second = one_more s.second; drawn = s.drawn; unfinished = s.unfinished }
+won true s = record s { first = one_more s.first }
+won false s = record s { second = one_more s.second }
 
 -- a game with that outcome more, in which the first engine had White or not
 abbrev pub scored : Bool → Outcome → Score → Score
 scored first_has_white WhiteWins s = won first_has_white s
 scored first_has_white BlackWins s = won (not first_has_white) s
-scored first_has_white Draw s = record {
-  first = s.first;
-  second = s.second;
-  drawn = one_more s.drawn;
-  unfinished = s.unfinished;
-}
-scored first_has_white Unfinished s = record {
-  first = s.first;
-  second = s.second;
-  drawn = s.drawn;
-  unfinished = one_more s.unfinished;
-}
+scored first_has_white Draw s = record s { drawn = one_more s.drawn }
+scored first_has_white Unfinished s = record s { unfinished = one_more s.unfinished }
 
 -- the last line of a match: the counts of the score
 unfoldable pub score_line : Score → List ℕ
@@ -122,12 +111,6 @@ abbrev pub Relayed : Option Colour → LogSeen → LogSeen → Setup → LevelSe
 Relayed first l l' start level g g' end w w' coming coming' =
     (notes : List Note) × RanNoted notes start level g g' end w w' coming coming' × LogsGame first l l' notes
 
--- a game from that start was played between two engines, whatever these sent
-abbrev pub IsMatchEnd : List Note → Setup → LevelSeen → Seen → Seen → MatchEnd → Type 0
-IsMatchEnd notes start level g g' end =
-    (w : Ports) × (w' : Ports) × (coming : ℕ → Option ℕ) × (coming' : ℕ → Option ℕ)
-    × RanNoted notes start level g g' end w w' coming coming'
-
 -- these were White's and Black's engines, by their ports before; the game was logged where a log is asked for
 abbrev pub IsMatchEndOf : Option Colour → LogSeen → LogSeen → Setup → LevelSeen → Seen → Seen → MatchEnd → Ports
     → Type 0
@@ -141,10 +124,12 @@ pub record GameTold : Type 0 where
   pub end : MatchEnd
   pub notes : List Note
 
--- it was played from the plan's start at its level, with at most 20,000 half-moves, between some two engines
+-- it was played from the plan's start at its level, with at most 20,000 half-moves, between some two engines, whatever
+-- these sent
 abbrev pub IsOfPlan : MatchPlan → GameTold → Type 0
 IsOfPlan plan told = (before : Seen) × (before.limit ≡ MOST_MOVES)
-    × IsMatchEnd told.notes plan.start plan.level before told.game told.end
+    × (w : Ports) × (w' : Ports) × (coming : ℕ → Option ℕ) × (coming' : ℕ → Option ℕ)
+    × RanNoted told.notes plan.start plan.level before told.game told.end w w' coming coming'
 
 -- its text, where it has that number
 abbrev pub game_text : MatchPlan → ℕ → GameTold → List ℕ
@@ -182,14 +167,10 @@ PlayedOne plan number w w' l l' (Err fault) = IsStartFault plan number fault × 
 
 -- ---- the games
 
--- each of these games is one of the plan
-abbrev pub AreOfPlan : MatchPlan → List GameTold → Type 0
-AreOfPlan plan [] = Unit {0}
-AreOfPlan plan (told ∷ rest) = IsOfPlan plan told × AreOfPlan plan rest
-
--- none of them has a fault
-abbrev pub are_sound : List GameTold → Bool
-are_sound games = list_all (λ told. not (is_some told.end.fault)) games
+-- each of these games is one of the plan, and none has a fault
+abbrev pub SoundGames : MatchPlan → List GameTold → Type 0
+SoundGames plan [] = Unit {0}
+SoundGames plan (told ∷ rest) = IsOfPlan plan told × (told.end.fault ≡ None) × SoundGames plan rest
 
 -- the texts of games with numbers from there on
 abbrev pub game_texts : MatchPlan → ℕ → List GameTold → List ℕ
@@ -201,14 +182,10 @@ abbrev pub game_logs : ℕ → List GameTold → List ℕ
 game_logs number [] = []
 game_logs number (told ∷ rest) = log_text (first_side number) told.notes ++ game_logs (number + 1) rest
 
--- these games were logged, where a log is asked for
-abbrev pub LogsGamesIf : Bool → LogSeen → LogSeen → List GameTold → Type 0
-LogsGamesIf false l l' games = l' ≡ l
-LogsGamesIf true l l' games = Logged l l' (game_logs 1 games)
-
--- these games were logged if the plan asks for a log; otherwise nothing was
-abbrev pub LogsGames : MatchPlan → LogSeen → LogSeen → List GameTold → Type 0
-LogsGames plan l l' games = LogsGamesIf plan.log l l' games
+-- these games were logged where a log is asked for; otherwise nothing was
+abbrev pub LogsGames : Bool → LogSeen → LogSeen → List GameTold → Type 0
+LogsGames false l l' games = l' ≡ l
+LogsGames true l l' games = Logged l l' (game_logs 1 games)
 
 -- the score after these games, with numbers from there on, counted on from s
 abbrev pub score_on : ℕ → List GameTold → Score → Score
@@ -218,11 +195,6 @@ score_on number (told ∷ rest) s = score_on (number + 1) rest (scored (is_odd n
 -- the score after these games, the first of which has number 1
 abbrev pub score_of : List GameTold → Score
 score_of games = score_on 1 games no_score
-
--- games of the plan, none with a fault; how many is not said here
-pub record SoundGames (plan : MatchPlan) (games : List GameTold) : Type 0 where
-  pub of_plan : AreOfPlan plan games
-  pub sound : are_sound games ≡ true
 
 -- where all were played, or one more with a fault
 abbrev pub EndsGames : MatchPlan → List GameTold → Option (ℕ × Colour × MatchFault) → Type 0
@@ -239,16 +211,16 @@ BrokeOff plan w w' l l' WriteFailed =
     (games : List GameTold) × (next : GameTold) × (start : List ℕ)
     × SoundGames plan games × (length games < plan.games) × IsOfPlan plan next
     × Begins start (game_text plan (length games + 1) next) × FlushedThenFailed w w' (game_texts plan 1 games) start
-    × LogsGames plan l l' (games ++ next ∷ [])
+    × LogsGames plan.log l l' (games ++ next ∷ [])
 BrokeOff plan w w' l l' fault =
     (games : List GameTold) × SoundGames plan games × (length games < plan.games)
-    × IsStartFault plan (length games + 1) fault × Flushed w w' (game_texts plan 1 games) × LogsGames plan l l' games
+    × IsStartFault plan (length games + 1) fault × Flushed w w' (game_texts plan 1 games) × LogsGames plan.log l l' games
 
 -- games were played, each was written and logged, and the score counts them
 abbrev pub HasPlayed : MatchPlan → OutputState → OutputState → LogSeen → LogSeen → Result Played GamesFault → Type 0
 HasPlayed plan w w' l l' (Ok played) =
     (games : List GameTold) × EndsGames plan games played.fault × (played.score ≡ score_of games)
-    × Flushed w w' (game_texts plan 1 games) × LogsGames plan l l' games
+    × Flushed w w' (game_texts plan 1 games) × LogsGames plan.log l l' games
 HasPlayed plan w w' l l' (Err fault) = BrokeOff plan w w' l l' fault
 
 -- the text of a match: each game, and then the score
@@ -260,18 +232,18 @@ abbrev pub BrokeOffAtScore : MatchPlan → OutputState → OutputState → LogSe
 BrokeOffAtScore plan w w' l l' =
     (games : List GameTold) × (last : Option (ℕ × Colour × MatchFault)) × (start : List ℕ)
     × EndsGames plan games last × Begins start (score_line (score_of games))
-    × FlushedThenFailed w w' (game_texts plan 1 games) start × LogsGames plan l l' games
+    × FlushedThenFailed w w' (game_texts plan 1 games) start × LogsGames plan.log l l' games
 
 -- all games were played, or one with a fault was the last: they were written and logged, and then the score was written;
 -- the fault is reported as in the game's comment. Where something broke off, the games before were written
 abbrev pub RanGames : {A : Type 0} → MatchPlan → OutputState → OutputState → LogSeen → LogSeen → Result A GamesFault
     → Type 0
 RanGames plan w w' l l' (Ok _) = (games : List GameTold) × EndsGames plan games None
-    × Flushed w w' (match_text plan games) × LogsGames plan l l' games
+    × Flushed w w' (match_text plan games) × LogsGames plan.log l l' games
 RanGames plan w w' l l' (Err (Game number text)) =
     (games : List GameTold) × (side : Colour) × (fault : MatchFault)
     × EndsGames plan games (Some (number, side, fault)) × (text.now ≡ comment_of (Faulted side fault))
-    × Flushed w w' (match_text plan games) × LogsGames plan l l' games
+    × Flushed w w' (match_text plan games) × LogsGames plan.log l l' games
 RanGames plan w w' l l' (Err WriteFailed) = BrokeOff plan w w' l l' WriteFailed ⊎ BrokeOffAtScore plan w w' l l'
 RanGames plan w w' l l' (Err NoMemory) = ((w' ≡ w) × (l' ≡ l)) ⊎ BrokeOff plan w w' l l' NoMemory
 RanGames plan w w' l l' (Err (CanNotStart command)) = BrokeOff plan w w' l l' (CanNotStart command)

@@ -1,5 +1,5 @@
 -- An engine that plays the arguments that it is given.
-use Rattle.std.specs.Prelude.{◌≡◌, ◌⊎◌, ◌≤◌, ◌||◌, ℕ, Bool, true, false, if◌then◌else◌, List, [], ◌∷◌, ◌++◌, length, codes, decimal, Option, Some, None, is_some, drop, Result, Ok, Err}
+use Rattle.std.specs.Prelude.{◌≡◌, ◌⊎◌, ◌≤◌, ℕ, Bool, true, false, if◌then◌else◌, List, [], ◌∷◌, ◌++◌, length, codes, decimal, Option, Some, None, is_some, drop, Result, Ok, Err}
 use Rattle.chess_base.specs.Letters.{new_line}
 use Rattle.std.specs.Borrow.{Bor}
 use Rattle.std.specs.Str.{bytes_eq}
@@ -18,7 +18,6 @@ use Rattle.chess_arbiter.specs.declared.stub.StubFault.{StubFault}
 use Rattle.chess_arbiter.specs.declared.stub.StubFault.TheVariants.{Read, Write}
 use Rattle.chess_cecp.specs.declared.session.TheConstants.{COMMAND_LEN}
 
--- the stub's arguments
 abbrev pub Words : Type 0
 Words = List (Bor (List ℕ))
 
@@ -42,7 +41,6 @@ remark word =
     else if bytes_eq word (codes "claim") then Some (codes "1/2-1/2 {Draw by repetition}" ++ new_line ∷ [])
     else None
 
--- the text of a remark before the text of those that follow; without a remark nothing, the others left out too
 abbrev pub before_others : Option (List ℕ) → List ℕ → List ℕ
 before_others None others = []
 before_others (Some text) others = text ++ others
@@ -80,15 +78,12 @@ turn (word ∷ words) =
 
 -- ---- a line
 
--- the reply with this text: the state stays, and the stub goes on
 abbrev pub says : StubState → List ℕ → Reply
 says s text = record { text = text; state = s; ends = false }
 
--- the same arguments are left, and the stub does not play
 abbrev pub stopped : StubState → StubState
 stopped s = record { words = s.words; plays = false }
 
--- the stub's answer to `protover`
 abbrev pub features : List ℕ
 features = codes "feature ping=1 setboard=1 usermove=1 myname=\"stub\" done=1" ++ new_line ∷ []
 
@@ -149,60 +144,42 @@ GivesAndFlushes words r w w' (Err e) = BreaksOff w w' r.text
 
 -- ---- a run
 
--- the parts of the reply to a line
-unfoldable pub said : StubState → LineSeen → List ℕ
-said s line = (reply s line).text
+-- a reply with the next one after it, unless the stub ends with the first
+abbrev pub and_then : Reply → Reply → Reply
+and_then r next = if r.ends then r else record next { text = r.text ++ next.text }
 
--- the state after the reply to a line
-unfoldable pub after : StubState → LineSeen → StubState
-after s line = (reply s line).state
-
--- whether the stub ends at a line
-unfoldable pub ends_at : StubState → LineSeen → Bool
-ends_at s line = (reply s line).ends
-
--- what is said to lines, up to the one at which the stub ends
-abbrev pub replies : StubState → List LineSeen → List ℕ
-replies s [] = []
-replies s (line ∷ lines) = if ends_at s line then said s line else said s line ++ replies (after s line) lines
-
--- the state of the stub then
-abbrev pub standing : StubState → List LineSeen → StubState
-standing s [] = s
-standing s (line ∷ lines) = if ends_at s line then after s line else standing (after s line) lines
-
--- whether it ends at one of them
-abbrev pub ends_in : StubState → List LineSeen → Bool
-ends_in s [] = false
-ends_in s (line ∷ lines) = ends_at s line || ends_in (after s line) lines
+-- the replies to lines as one, up to the line at which the stub ends
+abbrev pub replies : StubState → List LineSeen → Reply
+replies s [] = says s []
+replies s (line ∷ lines) = and_then (reply s line) (replies (reply s line).state lines)
 
 -- the line after those before, at none of which the stub ends, is the one at which the call ended: nothing was read
 -- while a whole line was unanswered, so before the last piece fewer lines were whole
 pub record StubEndsAt (s : StubState) (t : Transcript) (last_len : ℕ) (before : List LineSeen) (line : LineSeen)
     (after : List LineSeen) : Type 0 where
   pub lines : lines_given t ≡ before ++ line ∷ after
-  pub goes_on : ends_in s before ≡ false
+  pub goes_on : (replies s before).ends ≡ false
   pub on_demand : length (whole COMMAND_LEN (before_piece last_len t.given)) ≤ length before
 
 -- an end by a line
 abbrev pub ByLine : StubState → Transcript → ℕ → Type 0
 ByLine s t last_len =
     (before : List LineSeen) × (line : LineSeen) × (after : List LineSeen)
-    × StubEndsAt s t last_len before line after × (ends_at (standing s before) line ≡ true)
+    × StubEndsAt s t last_len before line after × ((reply (replies s before).state line).ends ≡ true)
 
 -- an end by the input's end
 pub record ByInput (s : StubState) (t : Transcript) (r' : InputState) : Type 0 where
   pub told : t.told ≡ true
   pub at_end : IsAtEnd r'.known_bytes
-  pub goes_on : ends_in s (lines_given t) ≡ false
+  pub goes_on : (replies s (lines_given t)).ends ≡ false
 
 -- an end by a write or a flush that failed: a beginning of the reply to the line was written
 abbrev pub ByWrite : OutputState → OutputState → StubState → Transcript → ℕ → Type 0
 ByWrite w w' s t last_len =
     (before : List LineSeen) × (line : LineSeen) × (after : List LineSeen) × (start : List ℕ)
     × StubEndsAt s t last_len before line after
-    × Begins start (said (standing s before) line)
-    × (t.taken ≡ replies s before ++ start)
+    × Begins start (reply (replies s before).state line).text
+    × (t.taken ≡ (replies s before).text ++ start)
     × LeavesUnflushed w w' start
 
 -- the whole promise, as that of a session. Each reply was flushed before more was read: at all ends but that by a
@@ -211,9 +188,9 @@ abbrev pub StubRan : {A : Type 0} → InputState → InputState → OutputState 
     → Type 0
 StubRan r r' w w' s (Ok _) =
     (t : Transcript) × FitsDevices r r' w w' t false false × (ByLine s t r'.last_len ⊎ ByInput s t r')
-    × (t.taken ≡ replies s (lines_given t)) × LeavesUnflushed w w' []
+    × (t.taken ≡ (replies s (lines_given t)).text) × LeavesUnflushed w w' []
 StubRan r r' w w' s (Err Read) =
-    (t : Transcript) × FitsDevices r r' w w' t true false × (t.told ≡ false) × (ends_in s (lines_given t) ≡ false)
-    × (t.taken ≡ replies s (lines_given t)) × LeavesUnflushed w w' []
+    (t : Transcript) × FitsDevices r r' w w' t true false × (t.told ≡ false) × ((replies s (lines_given t)).ends ≡ false)
+    × (t.taken ≡ (replies s (lines_given t)).text) × LeavesUnflushed w w' []
 StubRan r r' w w' s (Err Write) =
     (t : Transcript) × FitsDevices r r' w w' t false true × ByWrite w w' s t r'.last_len

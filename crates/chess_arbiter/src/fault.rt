@@ -20,9 +20,6 @@ pub enum ProgramFault {
     /// There was no memory.
     #[error("no memory")]
     NoMemory,
-    /// The text of games is longer than 16,777,216 bytes, or a collection of nearly 2^63.
-    #[error("input too long")]
-    InputTooLong,
     /// The program's arguments could not be had, as where one of them is no UTF-8.
     #[error("wrong words")]
     WrongWords,
@@ -34,10 +31,7 @@ impl ProgramFault {
         ensures { result ≡ fault_status self }
     {
         match self {
-            ProgramFault::ReadFailed
-            | ProgramFault::WriteFailed
-            | ProgramFault::NoMemory
-            | ProgramFault::InputTooLong => 1,
+            ProgramFault::ReadFailed | ProgramFault::WriteFailed | ProgramFault::NoMemory => 1,
             ProgramFault::WrongWords => 2,
         }
     }

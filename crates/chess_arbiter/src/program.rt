@@ -4,7 +4,8 @@ ghost use Rattle.std.specs.Prelude.{◌≡◌, IfOk, Ok, Err, map};
 ghost use Rattle.chess_cecp.specs.Held.{opened_session};
 ghost use Rattle.chess_pgn.specs.Tags.{default_tags};
 ghost use Rattle.chess_arbiter.specs.Log.{log_seen};
-ghost use Rattle.chess_arbiter.specs.Program.{Served, Shown, RanHelp, RanMatch, RanProgram, RanSession, RanStub, RanVerify, ToldWords, VerifiesAs, options_of, program_fault, verify_status};
+ghost use Rattle.chess_arbiter.specs.Program.{RanHelp, RanMatch, RanProgram, RanSession, RanStub, RanVerify, ToldWords, VerifiesAs, options_of, verify_status};
+ghost use Rattle.chess_arbiter.specs.ties.Outcomes.{Served, Shown};
 ghost use Rattle.chess_game.specs.declared.game.TheConstants.{MOST_MOVES};
 
 use crate::fault::{ProgramFault, tell_text, told};
@@ -68,28 +69,8 @@ fn session<R: Input, W: Output, E: Output>(
 {
     match serve(alloc, input, output) {
         Ok(_) => 0,
-        Err(fault) => told(errors, &fault, fault.status()),
+        Err(fault) => told(errors, &fault, 1),
     }
-}
-
-// The program's fault where games were not verified.
-fn program_fault(fault: VerifyFault) -> ProgramFault
-    ensures { result ≡ program_fault fault }
-{
-    match fault {
-        VerifyFault::ReadFailed => ProgramFault::ReadFailed,
-        VerifyFault::WriteFailed => ProgramFault::WriteFailed,
-        VerifyFault::NoMemory => ProgramFault::NoMemory,
-        VerifyFault::InputTooLong => ProgramFault::InputTooLong,
-    }
-}
-
-// Reports why games were not verified, and returns the status.
-fn not_verified<E: Output>(errors: &mut E, fault: VerifyFault) -> u8
-    ensures { result ≡ verify_status (Err fault) }
-{
-    let fault = program_fault(fault);
-    told(errors, &fault, fault.status())
 }
 
 // The status after games were verified.
@@ -142,7 +123,7 @@ fn verified<R: Input, W: Output, E: Output>(
 {
     match verify_as(alloc, plan, input, output) {
         Ok(verified) => verified_status(verified),
-        Err(fault) => not_verified(errors, fault),
+        Err(fault) => told(errors, &fault, 1),
     }
 }
 
@@ -171,7 +152,7 @@ fn help<W: Output, E: Output, D: Display>(
 {
     match show(alloc, help, output) {
         Ok(()) => 0,
-        Err(fault) => told(errors, &fault, fault.status()),
+        Err(fault) => told(errors, &fault, 1),
     }
 }
 

@@ -326,11 +326,10 @@ fn help_on_a_failed_output(rt: HostRuntime) {
 }
 
 // Each fault, how it is reported, and the status.
-const FAULTS: [(ProgramFault, &str, u8); 5] = [
+const FAULTS: [(ProgramFault, &str, u8); 4] = [
     (ProgramFault::ReadFailed, "read failed", 1),
     (ProgramFault::WriteFailed, "write failed", 1),
     (ProgramFault::NoMemory, "no memory", 1),
-    (ProgramFault::InputTooLong, "input too long", 1),
     (ProgramFault::WrongWords, "wrong words", 2),
 ];
 

@@ -9,7 +9,7 @@ use Rattle.std.proofs.lemmas.Slice.Eq.{bytes_eq-Decides}
 use Rattle.byte_devices.specs.Devices.{InputState, GavePiece}
 use Rattle.pgn_pieces.specs.declared.pieces.PieceFault.{PieceFault}
 use Rattle.pgn_pieces.specs.declared.pieces.PieceFault.TheVariants.{ReadFailed, NoMemory, InputTooLong}
-use Rattle.pgn_pieces.specs.Pieces.{piece_at, ends_piece, IsFront, HasRead, IsCause}
+use Rattle.pgn_pieces.specs.Pieces.{piece_at, ends_piece, HasRead, IsCause}
 use Rattle.pgn_pieces.specs.Stream.{State, IsStateOf, Next, MayFollow, past_piece, current, pieces_from, pieces_held}
 use Rattle.pgn_pieces.specs.ties.Held.{Keeps, SamePieces, FindsEnd, Adds, passed, with_more}
 use Rattle.pgn_pieces.proofs.Cuts.{goes_on}
@@ -196,12 +196,12 @@ next_stopped s s1 s2 s3 s4 s5 r1 r2 r3 fault looked going (kept, same, few) kept
           ∙ found.3 false [] ∙ held_last s1 s2 false same few ∙ not_whole s2.place (s2.part ++ s2.coming),
     )
   where
-    cause : (e : PieceFault) → IsFront r r2 (text ++ (looked r text stands).0) → Adds {A = Unit {0}} s4 s5 r2 r3 (Err e)
+    cause : (e : PieceFault) → HasRead false r r2 (text ++ (looked r text stands).0) → Adds {A = Unit {0}} s4 s5 r2 r3 (Err e)
         → IsCause r r3 (text ++ (looked r text stands).0) e
     cause ReadFailed front (failed, is) = broke_off r r2 r3 (text ++ (looked r text stands).0) front failed
-    cause NoMemory front (is, same) = subst (λ x. IsFront r x (text ++ (looked r text stands).0)) (sym is) front
+    cause NoMemory front (is, same) = subst (λ x. HasRead false r x (text ++ (looked r text stands).0)) (sym is) front
     cause InputTooLong front (is, same, many) = (
-      subst (λ x. IsFront r x (text ++ (looked r text stands).0)) (sym is) front,
+      subst (λ x. HasRead false r x (text ++ (looked r text stands).0)) (sym is) front,
       (let all = (looked r text stands).1.all in
           let k1 = kept.all in
           let k2 = kept'.all in

@@ -54,18 +54,12 @@ pieces ended text = placed 0 (if ended then cut text else without_last (cut text
 
 -- ---- what was read of an input
 
--- this is what was read of the input: no read failed, and its end was not reported
-pub record IsFront (r r' : InputState) (text : List ℕ) : Type 0 where
+-- this was read of the input, and no read failed; where it has ended this is all of it, and its end was reported once
+pub record HasRead (ended : Bool) (r r' : InputState) (text : List ℕ) : Type 0 where
   pub bytes : Consumes r.known_bytes r'.known_bytes text
   pub failures : r'.failure_count ≡ r.failure_count
-  pub ends : r'.end_count ≡ r.end_count
-
--- these are all bytes that the input still had to give; its end was reported once
-pub record IsWhole (r r' : InputState) (text : List ℕ) : Type 0 where
-  pub bytes : Consumes r.known_bytes r'.known_bytes text
-  pub at_end : IsAtEnd r'.known_bytes
-  pub failures : r'.failure_count ≡ r.failure_count
-  pub ends : r'.end_count ≡ risen r.end_count
+  pub ends : r'.end_count ≡ (if ended then risen r.end_count else r.end_count)
+  pub at_end : ended ≡ true → IsAtEnd r'.known_bytes
 
 -- this was read of the input, then a read failed, and there was no other
 pub record BrokeOff (r r' : InputState) (text : List ℕ) : Type 0 where
@@ -73,13 +67,8 @@ pub record BrokeOff (r r' : InputState) (text : List ℕ) : Type 0 where
   pub failures : r'.failure_count ≡ risen r.failure_count
   pub ends : r'.end_count ≡ r.end_count
 
--- this was read of the input, and it is all of it where it has ended
-abbrev pub HasRead : Bool → InputState → InputState → List ℕ → Type 0
-HasRead false r r' text = IsFront r r' text
-HasRead true r r' text = IsWhole r r' text
-
 -- why no more than this text was read: a read failed, we ran out of memory, or it has nearly 2^63 bytes
 abbrev pub IsCause : InputState → InputState → List ℕ → PieceFault → Type 0
 IsCause r r' text ReadFailed = BrokeOff r r' text
-IsCause r r' text NoMemory = IsFront r r' text
-IsCause r r' text InputTooLong = IsFront r r' text × (2 ^ 63 ≤ length text + 2 ^ 16)
+IsCause r r' text NoMemory = HasRead false r r' text
+IsCause r r' text InputTooLong = HasRead false r r' text × (2 ^ 63 ≤ length text + 2 ^ 16)

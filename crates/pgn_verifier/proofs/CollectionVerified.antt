@@ -13,10 +13,11 @@ use Rattle.pgn_pieces.proofs.Inputs.{nothing_read}
 use Rattle.pgn_verifier.specs.declared.options.VerifyOptions.{VerifyOptions}
 use Rattle.pgn_verifier.specs.declared.tally.Tally.{Tally}
 use Rattle.pgn_verifier.specs.declared.fault.VerifyFault.TheVariants.{WriteFailed}
-use Rattle.pgn_verifier.specs.Reports.{reports_in, reports_of, lines_of, counted, next_number, GrowsBy}
-use Rattle.pgn_verifier.specs.Collection.{collection_reports, collection_lines, counts_text, StopsWith, WritesCollection}
+use Rattle.pgn_verifier.specs.Reports.{reports_in, reports_of, lines_of, counts_line, counted, counts_of, next_number, GrowsBy}
+use Rattle.pgn_verifier.specs.Collection.{collection_reports, collection_lines, VerifiesCollection}
+use Rattle.pgn_verifier.specs.ties.OnTheWay.{WritesCollection}
 use Rattle.pgn_verifier.specs.ties.Faults.{piece_fault}
-use Rattle.pgn_verifier.proofs.LinesWritten.{took_after, broke_after, lines_after, wrote_none, counted_none, counted_after}
+use Rattle.pgn_verifier.proofs.LinesWritten.{took_after, broke_after, lines_after, wrote_none, counted_after}
 
 abbrev pub none : Tally
 none = record { games = 0; half_moves = 0; faults = 0 }
@@ -43,7 +44,7 @@ begun options r w = record {
   stands = record { read = nothing_read r; all = refl };
   due = λ ended rest follows. refl;
   took = wrote_none options.quiet none w;
-  is = counted_none none;
+  is = refl;
   few = omega arith;
   few_moves = omega arith;
   small = omega arith;
@@ -114,7 +115,7 @@ module _ (options : VerifyOptions) (r r' r'' : InputState) (w w' : OutputState) 
 
   pub write_failed : (law : PiecesAreCut) (w'' : OutputState) → Next s s' r r'' so.text (Ok true)
       → BreaksOff w' w'' (lines_of options.quiet (next_number tally) (reports_in options.strict (current s')))
-      → StopsWith options r r'' w w'' WriteFailed
+      → VerifiesCollection options r r'' w w'' (Err WriteFailed)
   write_failed law w'' next broke =
       let later = pieces_held s'.ended (past_piece s') [] in
       let text = so.text ++ next.0 in
@@ -136,7 +137,7 @@ module _ (options : VerifyOptions) (r r' r'' : InputState) (w w' : OutputState) 
         text,
         next.1.read,
         breaks_longer w w'' (collection_lines options s'.ended text)
-            (if s'.ended then counts_text (collection_reports options.strict s'.ended text) else [])
+            (if s'.ended then counts_line (counts_of (collection_reports options.strict s'.ended text)) else [])
             (subst (BreaksOff w w'') (sym (lines_after options.quiet 1
             (reports_of options.strict so.done ++ reports_in options.strict (current s'))
             (reports_of options.strict later))
@@ -160,7 +161,7 @@ module _ (options : VerifyOptions) (r r' r'' : InputState) (w w' : OutputState) 
       )
 
   pub stopped : (law : PiecesAreCut) (fault : PieceFault) → Next s s' r r'' so.text (Err fault)
-      → StopsWith options r r'' w w' (piece_fault fault)
+      → VerifiesCollection options r r'' w w' (Err (piece_fault fault))
   stopped law fault next =
       let more = next.0 in
       let text = so.text ++ more in
@@ -172,8 +173,8 @@ module _ (options : VerifyOptions) (r r' r'' : InputState) (w w' : OutputState) 
       by_fault fault next.1 told
     where
       by_fault : (e : PieceFault) → IsCause r r'' (so.text ++ next.0) e
-          → Took w w' (collection_lines options false (so.text ++ next.0)) → StopsWith options r r'' w w'
-          (piece_fault e)
+          → Took w w' (collection_lines options false (so.text ++ next.0))
+          → VerifiesCollection options r r'' w w' (Err (piece_fault e))
       by_fault piece.ReadFailed cause told = (so.text ++ next.0, cause, told)
       by_fault piece.NoMemory cause told = (so.text ++ next.0, cause, told)
-      by_fault piece.InputTooLong cause told = (so.text ++ next.0, cause, told)
+      by_fault piece.InputTooLong (read, many) told = (so.text ++ next.0, read, many, told)

@@ -5,25 +5,27 @@ use Rattle.std.specs.Io.KnownBytes.{Consumes}
 use Rattle.byte_devices.specs.Devices.{InputState, GavePiece, FailedToRead, risen}
 use Rattle.byte_devices.proofs.DeviceLaws.{consumes_more, consumes_kept}
 use Rattle.pgn_verifier.specs.declared.fault.VerifyFault.TheVariants.{ReadFailed, NoMemory, InputTooLong}
-use Rattle.pgn_pieces.specs.Pieces.{IsFront}
-use Rattle.pgn_verifier.specs.Verify.{IsAll, IsNotAll}
+use Rattle.pgn_pieces.specs.Pieces.{HasRead}
+use Rattle.pgn_verifier.specs.Verify.{IsAll}
+use Rattle.pgn_verifier.specs.ties.OnTheWay.{IsNotAll}
 
 -- the end was reported
-pub all_read : (r r' r'' : InputState) (text buf : List ℕ) (n : ℕ) → IsFront r r' text → length text ≤ 16777216
+pub all_read : (r r' r'' : InputState) (text buf : List ℕ) (n : ℕ) → HasRead false r r' text → length text ≤ 16777216
     → GavePiece r' r'' (take n buf) → n ≡ 0 → IsAll r r'' text
 all_read r r' r'' text buf n front few gave is =
-    let gave' : GavePiece r' r'' [] = subst (λ k. GavePiece r' r'' (take k buf)) is gave in
-    record {
-      bytes = subst (Consumes r.known_bytes r''.known_bytes) (append-nil text)
-          (consumes_more r.known_bytes r'.known_bytes r''.known_bytes text [] front.bytes gave'.bytes);
-      at_end = gave'.at_end refl;
-      few = few;
-      failures = gave'.failures ∙ front.failures;
-      ends = gave'.ends ∙ ap risen front.ends;
-    }
+    let gave' : GavePiece r' r'' [] = subst (λ k. GavePiece r' r'' (take k buf)) is gave in (
+      record {
+        bytes = subst (Consumes r.known_bytes r''.known_bytes) (append-nil text)
+            (consumes_more r.known_bytes r'.known_bytes r''.known_bytes text [] front.bytes gave'.bytes);
+        failures = gave'.failures ∙ front.failures;
+        ends = gave'.ends ∙ ap risen front.ends;
+        at_end = λ e. gave'.at_end refl;
+      },
+      few,
+    )
 
 -- a read failed
-pub read_failed : (r r' r'' : InputState) (text : List ℕ) → IsFront r r' text → FailedToRead r' r''
+pub read_failed : (r r' r'' : InputState) (text : List ℕ) → HasRead false r r' text → FailedToRead r' r''
     → IsNotAll r r'' ReadFailed
 read_failed r r' r'' text front failed = (
   text,
@@ -44,23 +46,24 @@ not_ended a b n buf some within is =
     is ∙ rw e refl
 
 -- a piece more
-pub more_read : (r r' r'' : InputState) (text buf : List ℕ) (n : ℕ) → IsFront r r' text → GavePiece r' r'' (take n buf)
+pub more_read : (r r' r'' : InputState) (text buf : List ℕ) (n : ℕ) → HasRead false r r' text → GavePiece r' r'' (take n buf)
     → 0 < n → n ≤ length buf
-    → IsFront r r'' (text ++ take n buf)
+    → HasRead false r r'' (text ++ take n buf)
 more_read r r' r'' text buf n front gave some within = record {
   bytes = consumes_more r.known_bytes r'.known_bytes r''.known_bytes text (take n buf) front.bytes gave.bytes;
   failures = gave.failures ∙ front.failures;
   ends = not_ended r''.end_count r'.end_count n buf some within gave.ends ∙ front.ends;
+  at_end = λ e. absurd (cc);
 }
 
 -- there was no memory for a piece more
-pub no_room : (r r' r'' : InputState) (text buf : List ℕ) (n : ℕ) → IsFront r r' text → GavePiece r' r'' (take n buf)
+pub no_room : (r r' r'' : InputState) (text buf : List ℕ) (n : ℕ) → HasRead false r r' text → GavePiece r' r'' (take n buf)
     → 0 < n → n ≤ length buf → IsNotAll r r'' NoMemory
 no_room r r' r'' text buf n front gave some within =
     (text ++ take n buf, more_read r r' r'' text buf n front gave some within)
 
 -- there are too many bytes
-pub too_long : (r r' r'' : InputState) (text buf : List ℕ) (n len : ℕ) → IsFront r r' text
+pub too_long : (r r' r'' : InputState) (text buf : List ℕ) (n len : ℕ) → HasRead false r r' text
     → GavePiece r' r'' (take n buf) → len ≡ length text
     → length text ≤ 16777216 → 16777216 - len < n → n ≤ length buf → IsNotAll r r'' InputTooLong
 too_long r r' r'' text buf n len front gave is few past within =

@@ -1,6 +1,5 @@
 -- The games of a text, one after another.
 use Rattle.std.proofs.Common.{◌≡◌, ℕ, zero, suc, ◌+◌, ◌≤◌, ◌<◌, Bool, List, [], ◌∷◌, ◌++◌, length, Option, Some, None, Result, Ok, Err, refl, sym, ap, subst, ◌∙◌, append_assoc, append-nil, arith}
-use Rattle.std.specs.Prelude.{map}
 use Rattle.byte_devices.specs.Devices.{OutputState, Took, BreaksOff}
 use Rattle.chess_pgn.specs.declared.read.PgnEnd.{PgnEnd}
 use Rattle.pgn_verifier.specs.GameFaults.{read_at, judged_at}
@@ -9,19 +8,20 @@ use Rattle.pgn_verifier.specs.declared.options.VerifyOptions.{VerifyOptions}
 use Rattle.pgn_verifier.specs.declared.report.Report.{Report}
 use Rattle.pgn_verifier.specs.declared.report.Report.TheVariants.{Game, Faulty}
 use Rattle.pgn_verifier.specs.declared.tally.Tally.{Tally}
-use Rattle.pgn_verifier.specs.Reports.{report_then, reports_from, moved, report_at, reports_at, written_line, lines_of, games_in, half_moves_in, counted, next_number, Writes, GrowsBy}
-use Rattle.pgn_verifier.proofs.LinesWritten.{wrote_none, took_after, broke_after, writes_after, one_line, first_broke, counted_none, counted_after, same_tally}
+use Rattle.pgn_verifier.specs.Reports.{report_then, reports_from, reports_on, moved, written_line, lines_of, with_report, counted, next_number, Writes, GrowsBy}
+use Rattle.pgn_verifier.proofs.LinesWritten.{wrote_none, took_after, broke_after, writes_after, one_line, first_broke, counted_after}
 
 -- ---- the reports that are left
 
 -- what is left of a text has no more games than bytes
-left : (strict : Bool) (n : ℕ) (text : List ℕ) (at : ℕ) (answer : Result (Option PgnEnd) GameFault) (plies : ℕ)
+left : (strict : Bool) (start n : ℕ) (text : List ℕ) (at : ℕ) (answer : Result (Option PgnEnd) GameFault) (plies : ℕ)
     → judged_at strict text at ≡ answer → plies ≡ length (read_at text at).state.moves
-    → reports_from strict (suc n) text at ≡ report_then answer plies (λ next. reports_from strict n text next)
+    → reports_from strict start (suc n) text at
+    ≡ report_then start answer plies (λ next. reports_from strict start n text next)
 unfolding reports_from
-left strict n text at answer plies h k =
-    ap (λ r. report_then r (length (read_at text at).state.moves) (λ next. reports_from strict n text next)) h
-    ∙ ap (λ m. report_then answer m (λ next. reports_from strict n text next)) (sym k)
+left strict start n text at answer plies h k =
+    ap (λ r. report_then start r (length (read_at text at).state.moves) (λ next. reports_from strict start n text next)) h
+    ∙ ap (λ m. report_then start answer m (λ next. reports_from strict start n text next)) (sym k)
 
 -- ---- the games before an offset were reported
 
@@ -34,8 +34,7 @@ pub record SoFar (options : VerifyOptions) (start : ℕ) (text : List ℕ) (befo
   pub is : tally ≡ counted before done
   pub n : ℕ
   pub enough : length text < at + suc n
-  pub all : reports_at options.strict start text ≡ done ++ map (report_at start)
-      (reports_from options.strict (suc n) text at)
+  pub all : reports_on options.strict start text ≡ done ++ reports_from options.strict start (suc n) text at
 
 pub begun : (options : VerifyOptions) (start : ℕ) (text : List ℕ) (before : Tally) (w : OutputState)
     → SoFar options start text before w w 0 before []
@@ -44,10 +43,10 @@ begun options start text before w = record {
   few = omega arith;
   few_moves = omega arith;
   took = wrote_none options.quiet before w;
-  is = counted_none before;
+  is = refl;
   n = length text;
   enough = omega arith;
-  all = ap (λ k. map (report_at start) (reports_from options.strict k text 0)) (omega arith);
+  all = ap (λ k. reports_from options.strict start k text 0) (omega arith);
 }
 
 module _ (options : VerifyOptions) (start : ℕ) (text : List ℕ) (before : Tally) (w w' w'' : OutputState) (at : ℕ)
@@ -56,15 +55,15 @@ module _ (options : VerifyOptions) (start : ℕ) (text : List ℕ) (before : Tal
   -- the report that comes, with those after it
   due : (answer : Result (Option PgnEnd) GameFault) (plies : ℕ) → judged_at options.strict text at ≡ answer
       → plies ≡ length (read_at text at).state.moves
-      → reports_at options.strict start text
-      ≡ done ++ map (report_at start) (report_then answer plies (λ next. reports_from options.strict s.n text next))
-  due answer plies h k = s.all ∙ ap (λ xs. done ++ map (report_at start) xs)
-      (left options.strict s.n text at answer plies h k)
+      → reports_on options.strict start text
+      ≡ done ++ report_then start answer plies (λ next. reports_from options.strict start s.n text next)
+  due answer plies h k =
+      s.all ∙ ap (λ xs. done ++ xs) (left options.strict start s.n text at answer plies h k)
 
   pub all_written : (E : Type 0) → judged_at options.strict text at ≡ Ok None
-      → Writes {E = E} options.quiet before w w' (Ok tally) (reports_at options.strict start text)
+      → Writes {E = E} options.quiet before w w' (Ok tally) (reports_on options.strict start text)
   all_written E h =
-      let whole : reports_at options.strict start text ≡ done =
+      let whole : reports_on options.strict start text ≡ done =
       due (Ok None) (length (read_at text at).state.moves) h refl ∙ append-nil done in
       subst (Writes {E = E} options.quiet before w w' (Ok tally)) (sym whole) (s.took, s.is)
 
@@ -91,8 +90,8 @@ module _ (options : VerifyOptions) (start : ℕ) (text : List ℕ) (before : Tal
       more s.n enough longer
     where
       more : (n : ℕ) → length text < at + suc n
-          → reports_at options.strict start text ≡ done ++ map (report_at start) (report_then (Ok (Some end)) plies
-          (λ next. reports_from options.strict n text next))
+          → reports_on options.strict start text ≡ done ++ report_then start (Ok (Some end)) plies
+          (λ next. reports_from options.strict start n text next)
           → SoFar options start text before w w'' end.place
           (record { games = tally.games + 1; half_moves = tally.half_moves + plies; faults = tally.faults })
           (done ++ Game plies end.outcome end.termination ∷ [])
@@ -106,29 +105,20 @@ module _ (options : VerifyOptions) (start : ℕ) (text : List ℕ) (before : Tal
             few_moves = omega (arith, few_moves, moves);
             took = took_after options.quiet before tally w w' w'' done s.took s.is (r ∷ [])
                 (subst (Took w' w'') (one_line options.quiet (next_number tally) r) took);
-            is = game_counted ∙ ap (λ (t : Tally). counted t (r ∷ [])) s.is ∙ counted_after before done (r ∷ []);
+            is = ap (λ (t : Tally). with_report t r) s.is ∙ counted_after before done (r ∷ []);
             n = m;
             enough = omega (arith, enough, further);
-            all = longer ∙ sym (append_assoc done (r ∷ [])
-                (map (report_at start) (reports_from options.strict (suc m) text end.place)));
+            all = longer
+                ∙ sym (append_assoc done (r ∷ []) (reports_from options.strict start (suc m) text end.place));
           }
-        where
-          game_counted : ◌≡◌ {A = Tally}
-              (record { games = tally.games + 1; half_moves = tally.half_moves + plies; faults = tally.faults })
-              (counted tally (Game plies end.outcome end.termination ∷ []))
-          game_counted = same_tally (tally.games + 1) (tally.games + games_in
-              (Game plies end.outcome end.termination ∷ []))
-              (tally.half_moves + plies)
-              (tally.half_moves + half_moves_in (Game plies end.outcome end.termination ∷ [])) tally.faults
-              (tally.faults + 0) (omega arith) (omega arith) (omega arith)
 
   pub game_broke : {E : Type 0} (e : E) (end : PgnEnd) (plies : ℕ) → judged_at options.strict text at ≡ Ok (Some end)
       → plies ≡ length (read_at text at).state.moves
       → BreaksOff w' w'' (written_line options.quiet (next_number tally) (Game plies end.outcome end.termination))
-      → Writes options.quiet before w w'' (Err e) (reports_at options.strict start text)
+      → Writes options.quiet before w w'' (Err e) (reports_on options.strict start text)
   game_broke e end plies h k broke =
       let r = Game plies end.outcome end.termination in
-      let rest = map (report_at start) (reports_from options.strict s.n text end.place) in
+      let rest = reports_from options.strict start s.n text end.place in
       subst (λ xs. BreaksOff w w'' (lines_of options.quiet (next_number before) xs))
       (sym (due (Ok (Some end)) plies h k))
       (broke_after options.quiet before tally w w' w'' done s.took s.is (r ∷ rest)
@@ -138,7 +128,7 @@ module _ (options : VerifyOptions) (start : ℕ) (text : List ℕ) (before : Tal
       → Took w' w'' (written_line options.quiet (next_number tally) (Faulty (moved start fault)))
       → Writes {E = E} options.quiet before w w''
       (Ok (record { games = tally.games; half_moves = tally.half_moves; faults = tally.faults + 1 }))
-      (reports_at options.strict start text)
+      (reports_on options.strict start text)
   fault_written E fault h took =
       let r = Faulty (moved start fault) in
       subst (Writes {E = E} options.quiet before w w''
@@ -146,13 +136,7 @@ module _ (options : VerifyOptions) (start : ℕ) (text : List ℕ) (before : Tal
       (sym (due (Err fault) (length (read_at text at).state.moves) h refl))
       (writes_after options.quiet before tally w w' w'' done s.took s.is {E = E}
       (Ok (record { games = tally.games; half_moves = tally.half_moves; faults = tally.faults + 1 })) (r ∷ [])
-      (subst (Took w' w'') (one_line options.quiet (next_number tally) r) took, fault_counted tally))
-    where
-      fault_counted : (t : Tally) → ◌≡◌ {A = Tally}
-          (record { games = t.games; half_moves = t.half_moves; faults = t.faults + 1 })
-          (record { games = t.games + 0; half_moves = t.half_moves + 0; faults = t.faults + 1 })
-      fault_counted t = same_tally t.games (t.games + 0) t.half_moves (t.half_moves + 0) (t.faults + 1) (t.faults + 1)
-          (omega arith) (omega arith) refl
+      (subst (Took w' w'') (one_line options.quiet (next_number tally) r) took, refl))
 
   pub fault_grown : GrowsBy (length text) before
       (record { games = tally.games; half_moves = tally.half_moves; faults = tally.faults + 1 })
@@ -164,7 +148,7 @@ module _ (options : VerifyOptions) (start : ℕ) (text : List ℕ) (before : Tal
 
   pub fault_broke : {E : Type 0} (e : E) (fault : GameFault) → judged_at options.strict text at ≡ Err fault
       → BreaksOff w' w'' (written_line options.quiet (next_number tally) (Faulty (moved start fault)))
-      → Writes options.quiet before w w'' (Err e) (reports_at options.strict start text)
+      → Writes options.quiet before w w'' (Err e) (reports_on options.strict start text)
   fault_broke e fault h broke =
       let r = Faulty (moved start fault) in
       subst (λ xs. BreaksOff w w'' (lines_of options.quiet (next_number before) xs))

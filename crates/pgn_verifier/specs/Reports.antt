@@ -1,5 +1,5 @@
 -- The reports on the games of a text and of pieces, their lines and their counts.
-use Rattle.std.specs.Prelude.{◌≡◌, ◌≤◌, ℕ, zero, suc, ◌+◌, Bool, true, not, if◌then◌else◌, List, [], ◌∷◌, ◌++◌, length, map, codes, decimal, Option, Some, None, Result, Ok, Err}
+use Rattle.std.specs.Prelude.{◌≡◌, ◌≤◌, ℕ, zero, suc, ◌+◌, ◌==◌, Bool, true, not, if◌then◌else◌, List, [], ◌∷◌, ◌++◌, length, codes, decimal, Option, Some, None, Result, Ok, Err}
 use Rattle.std.specs.List.{flat_map}
 use Rattle.chess_base.specs.Letters.{new_line}
 use Rattle.byte_devices.specs.Devices.{OutputState, Took, BreaksOff}
@@ -20,40 +20,32 @@ use Rattle.pgn_verifier.specs.declared.tally.Verified.TheVariants.{EachGame, Fau
 
 -- ---- the reports on the games of a text
 
--- the report on a game with so many half-moves, and then those on the games after its end; a fault is the last
-abbrev pub report_then : Result (Option PgnEnd) GameFault → ℕ → (ℕ → List Report) → List Report
-report_then (Ok None) plies later = []
-report_then (Ok (Some end)) plies later = Game plies end.outcome end.termination ∷ later end.place
-report_then (Err fault) plies later = Faulty fault ∷ []
-
--- the reports on the games of a text from an offset on, of which there are no more than n
-unfoldable pub reports_from : Bool → ℕ → List ℕ → ℕ → List Report
-reports_from strict zero text at = []
-reports_from strict (suc n) text at = report_then (judged_at strict text at) (length (read_at text at).state.moves)
-    (λ next. reports_from strict n text next)
-
--- the reports on all games of a text, up to the first fault: each game has a byte at least
-abbrev pub reports_on : Bool → List ℕ → List Report
-reports_on strict text = reports_from strict (length text + 1) text 0
-
--- ---- the reports on the games of pieces
-
 -- the fault, its offset counted from the input's first byte, where its text begins at `start`
 abbrev pub moved : ℕ → GameFault → GameFault
 moved start fault = record { kind = fault.kind; offset = start + fault.offset }
 
--- a report on a text that begins there
-abbrev pub report_at : ℕ → Report → Report
-report_at start (Game plies outcome termination) = Game plies outcome termination
-report_at start (Faulty fault) = Faulty (moved start fault)
+-- the report on a game with so many half-moves, and then those on the games after its end; a fault is the last
+abbrev pub report_then : ℕ → Result (Option PgnEnd) GameFault → ℕ → (ℕ → List Report) → List Report
+report_then start (Ok None) plies later = []
+report_then start (Ok (Some end)) plies later = Game plies end.outcome end.termination ∷ later end.place
+report_then start (Err fault) plies later = Faulty (moved start fault) ∷ []
 
--- the reports on a text that begins there
-abbrev pub reports_at : Bool → ℕ → List ℕ → List Report
-reports_at strict start text = map (report_at start) (reports_on strict text)
+-- the reports on the games of a text from an offset on, of which there are no more than n
+unfoldable pub reports_from : Bool → ℕ → ℕ → List ℕ → ℕ → List Report
+reports_from strict start zero text at = []
+reports_from strict start (suc n) text at =
+    report_then start (judged_at strict text at) (length (read_at text at).state.moves)
+    (λ next. reports_from strict start n text next)
+
+-- the reports on all games of a text that begins there, up to the first fault: each game has a byte at least
+abbrev pub reports_on : Bool → ℕ → List ℕ → List Report
+reports_on strict start text = reports_from strict start (length text + 1) text 0
+
+-- ---- the reports on the games of pieces
 
 -- the reports on a piece that begins there: without its bytes it is too long
 abbrev pub reports_by : Bool → ℕ → Option (List ℕ) → List Report
-reports_by strict start (Some text) = reports_at strict start text
+reports_by strict start (Some text) = reports_on strict start text
 reports_by strict start None = Faulty (record { kind = Pgn TooLong; offset = start }) ∷ []
 
 -- the reports on a piece
@@ -62,13 +54,7 @@ reports_in strict piece = reports_by strict piece.place piece.bytes
 
 -- the reports on pieces: each is read as a text of its own
 abbrev pub reports_of : Bool → List Piece → List Report
-reports_of strict pieces = flat_map (λ piece. reports_in strict piece) pieces
-
--- whether a fault was reported
-abbrev pub verified : List Report → Verified
-verified [] = EachGame
-verified (Game plies outcome termination ∷ rest) = verified rest
-verified (Faulty fault ∷ rest) = FaultTold
+reports_of strict pieces = flat_map (reports_in strict) pieces
 
 -- ---- their lines
 
@@ -103,41 +89,34 @@ lines_of quiet number (report ∷ rest) = written_line quiet number report ++ li
 
 -- ---- the counts
 
--- how many games have no fault
-abbrev pub games_in : List Report → ℕ
-games_in [] = 0
-games_in (Game plies outcome termination ∷ rest) = games_in rest + 1
-games_in (Faulty fault ∷ rest) = games_in rest
-
--- how many half-moves these have
-abbrev pub half_moves_in : List Report → ℕ
-half_moves_in [] = 0
-half_moves_in (Game plies outcome termination ∷ rest) = half_moves_in rest + plies
-half_moves_in (Faulty fault ∷ rest) = half_moves_in rest
-
--- how many games have a fault
-abbrev pub faults_in : List Report → ℕ
-faults_in [] = 0
-faults_in (Game plies outcome termination ∷ rest) = faults_in rest
-faults_in (Faulty fault ∷ rest) = faults_in rest + 1
-
--- the line of these counts
-unfoldable pub counts_line : ℕ → ℕ → ℕ → List ℕ
-counts_line games half_moves faults =
-    codes "games "
-    ++ (decimal games
-    ++ (codes " half-moves "
-    ++ (decimal half_moves ++ (codes " faults " ++ (decimal faults ++ new_line ∷ [])))))
-
--- ---- writing reports, after others that were counted
+-- the counts with a report more: of games without a fault, of their half-moves, and of faults
+abbrev pub with_report : Tally → Report → Tally
+with_report t (Game plies outcome termination) =
+    record t { games = t.games + 1; half_moves = t.half_moves + plies }
+with_report t (Faulty fault) = record t { faults = t.faults + 1 }
 
 -- the counts with these reports
 abbrev pub counted : Tally → List Report → Tally
-counted before reports = record {
-  games = before.games + games_in reports;
-  half_moves = before.half_moves + half_moves_in reports;
-  faults = before.faults + faults_in reports;
-}
+counted t [] = t
+counted t (report ∷ rest) = counted (with_report t report) rest
+
+-- the counts of these reports
+abbrev pub counts_of : List Report → Tally
+counts_of reports = counted (record { games = 0; half_moves = 0; faults = 0 }) reports
+
+-- whether a fault was counted
+abbrev pub verified : Tally → Verified
+verified t = if t.faults == 0 then EachGame else FaultTold
+
+-- the line of the counts
+unfoldable pub counts_line : Tally → List ℕ
+counts_line t =
+    codes "games "
+    ++ (decimal t.games
+    ++ (codes " half-moves "
+    ++ (decimal t.half_moves ++ (codes " faults " ++ (decimal t.faults ++ new_line ∷ [])))))
+
+-- ---- writing reports, after others that were counted
 
 -- the number of the next game
 abbrev pub next_number : Tally → ℕ

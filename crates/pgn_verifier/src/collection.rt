@@ -4,7 +4,8 @@ ghost use Rattle.std.specs.Prelude.{◌≡◌, ◌≤◌, ◌<◌, ◌+◌, ◌*
 ghost use Rattle.byte_devices.specs.Devices.{Sends};
 ghost use Rattle.pgn_pieces.specs.Stream.{unread, current};
 ghost use Rattle.pgn_verifier.specs.Reports.{reports_in, counts_line, Writes, GrowsBy};
-ghost use Rattle.pgn_verifier.specs.Collection.{WritesCollection, VerifiesCollection};
+ghost use Rattle.pgn_verifier.specs.Collection.{VerifiesCollection};
+ghost use Rattle.pgn_verifier.specs.ties.OnTheWay.{WritesCollection};
 ghost use Rattle.pgn_verifier.specs.ties.Faults.{piece_fault};
 ghost use Rattle.chess_game.specs.declared.game.TheConstants.{MOST_MOVES};
 
@@ -96,8 +97,7 @@ fn verify_pieces<R: Input, W: Output>(
 
 // Writes the line of the counts, and flushes all lines.
 fn finish<W: Output>(output: &mut W, tally: Tally) -> Result<(), WriteFault>
-    ensures { Sends (W.seen output.old) (W.seen output.new) result
-        (counts_line tally.games tally.half_moves tally.faults) }
+    ensures { Sends (W.seen output.old) (W.seen output.new) result (counts_line tally) }
 {
     write_counts(output, tally)?;
     output.flush()

@@ -4,7 +4,7 @@ ghost use Rattle.std.specs.Prelude.{◌≡◌, ◌≤◌, ◌<◌, ◌+◌, ◌^
 ghost use Rattle.std.specs.Option.{IfSome};
 ghost use Rattle.chess_game.specs.declared.game.TheConstants.{MOST_MOVES};
 ghost use Rattle.pgn_verifier.specs.GameFaults.{read_at, judged_at};
-ghost use Rattle.pgn_verifier.specs.Reports.{reports_at, Writes, GrowsBy};
+ghost use Rattle.pgn_verifier.specs.Reports.{reports_on, Writes, GrowsBy};
 
 use crate::contradiction::contradiction;
 use crate::game_fault::GameFault;
@@ -71,7 +71,7 @@ pub(crate) fn verify_text<W: Output>(
     requires half_moves { before.half_moves + length text.now < 2 ^ 64 }
     requires limit { game.old.limit ≡ MOST_MOVES }
     ensures written { Writes options.quiet before (W.seen output.old) (W.seen output.new) result
-        (reports_at options.strict start text.now) }
+        (reports_on options.strict start text.now) }
     ensures grown { IfOk result (λ after. GrowsBy (length text.now) before after) }
     ensures limit { game.new.limit ≡ MOST_MOVES }
 {

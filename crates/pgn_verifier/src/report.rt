@@ -131,7 +131,7 @@ pub(crate) fn write_line<W: Output>(
 // The line of the counts.
 #[tactic(auto, unfolding(crate::specs::Reports::counts_line))]
 fn counts_line(tally: Tally) -> ReportLine
-    ensures { result.items ≡ counts_line tally.games tally.half_moves tally.faults }
+    ensures { result.items ≡ counts_line tally }
 {
     let mut line = ReportLine::new();
     write_text(&mut line, b"games ");
@@ -146,8 +146,7 @@ fn counts_line(tally: Tally) -> ReportLine
 
 // Writes the line of the counts.
 pub(crate) fn write_counts<W: Output>(output: &mut W, tally: Tally) -> Result<(), WriteFault>
-    ensures { Puts (W.seen output.old) (W.seen output.new) result
-        (counts_line tally.games tally.half_moves tally.faults) }
+    ensures { Puts (W.seen output.old) (W.seen output.new) result (counts_line tally) }
 {
     put(output, counts_line(tally).as_slice())
 }

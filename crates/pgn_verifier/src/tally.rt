@@ -1,7 +1,7 @@
 //! Counts of games.
 
-ghost use Rattle.std.specs.Prelude.{◌≡◌, ◌<◌, ◌+◌, ◌^◌, ◌==◌, if◌then◌else◌};
-ghost use Rattle.pgn_verifier.specs.declared.tally.Verified.TheVariants.{EachGame, FaultTold};
+ghost use Rattle.std.specs.Prelude.{◌≡◌, ◌<◌, ◌+◌, ◌^◌};
+ghost use Rattle.pgn_verifier.specs.Reports.{verified};
 
 /// How verifying ended.
 #[derive(Clone, Copy, Debug, PartialEq, Eq)]
@@ -70,7 +70,7 @@ impl Tally {
 
     // What the counts come to.
     pub(crate) fn verified(self) -> Verified
-        ensures { result ≡ (if self.faults == 0 then EachGame else FaultTold) }
+        ensures { result ≡ verified self }
     {
         if self.faults == 0 {
             Verified::EachGame

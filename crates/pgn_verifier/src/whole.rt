@@ -1,7 +1,8 @@
 //! A text verified as a whole: each game of it is read and its line written; the first fault ends it.
 
 ghost use Rattle.std.specs.Prelude.{◌≡◌, ◌≤◌, length, IfOk, IfErr};
-ghost use Rattle.pgn_verifier.specs.Verify.{IsAll, IsNotAll, WritesText, Verifies};
+ghost use Rattle.pgn_verifier.specs.Verify.{IsAll, Verifies};
+ghost use Rattle.pgn_verifier.specs.ties.OnTheWay.{IsNotAll, WritesText};
 ghost use Rattle.chess_game.specs.declared.game.TheConstants.{MOST_MOVES};
 ghost use Rattle.pgn_pieces.specs.declared.pieces.TheConstants.{PIECE_LEN};
 

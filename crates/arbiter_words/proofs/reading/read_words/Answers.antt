@@ -3,7 +3,8 @@
 -- (Readings.planned_reading).
 use Rattle.std.proofs.Common.{rules, ◌≡◌, ap, sym, subst, map, Some, None, Ok}
 use Rattle.arbiter_words.specs.Grammar.{asked}
-use Rattle.arbiter_words.specs.Plans.{IsParsed, IsSpelledOf}
+use Rattle.arbiter_words.specs.Plans.{IsParsed}
+use Rattle.arbiter_words.specs.ties.Spelling.{IsSpelledOf}
 use Rattle.arbiter_words.proofs.Readings.{refused_reading, planned_reading, none_asked, some_asked, entered_well}
 use Rattle.arbiter_words.proofs.reading.read_words.Goals as goal
 use Rattle.arbiter_words.proofs.reading.read_words.Goals.{in-None, in-Some+in-Ok-spelled_in}

@@ -18,7 +18,7 @@ returns-in-Ok-write_game-clause-played g c =
     let p = c.play_game-end.ensures.played in (
       game,
       p.0,
-      (c.args.game.now, c.requires.limit, (_, p.1, p.2, p.3, p.4)),
+      (c.args.game.now, c.requires.limit, _, p.1, p.2, p.3, p.4),
       subst (λ t. Sent w w' (pgn [] t game.state)) c.tags_of-tags.ensures c.in-Ok-write_game.ensures,
       subst (λ (first : Option Colour). LogsGame first l l' p.0) c.logged_side-first.ensures p.5,
     )
@@ -32,7 +32,7 @@ returns-in-Err-write_game-clause-played g c =
     let l' = log_seen (g.E.Output.seen c.play_game-end.new.log.output) c.play_game-end.new.log.pending in
     let p = c.play_game-end.ensures.played in (
       record { game = game; end = c.play_game-end.result; notes = p.0 },
-      (c.args.game.now, c.requires.limit, (_, p.1, p.2, p.3, p.4)),
+      (c.args.game.now, c.requires.limit, _, p.1, p.2, p.3, p.4),
       subst (λ t. BreaksOff w w' (pgn [] t game.state)) c.tags_of-tags.ensures c.in-Err-write_game.ensures,
       subst (λ (first : Option Colour). LogsGame first l l' p.0) c.logged_side-first.ensures p.5,
     )

@@ -1,11 +1,10 @@
 -- All lines so far were answered, and the stub ended at none of them (StubRuns.SoFar). An answer more keeps that
 -- (StubRuns.go_on), and each way out gives the transcript of its end (StubRuns.by_line and those after it).
-use Rattle.std.proofs.Common.{[], subst, sym, ◌∙◌, rules}
+use Rattle.std.proofs.Common.{[], subst, sym, rules}
 use Rattle.chess_cecp.specs.Lines.{Held}
-use Rattle.byte_devices.specs.Devices.{BreaksOff, Sent}
 use Rattle.byte_devices.specs.declared.traits.ReadFault.{ReadFault}
 use Rattle.chess_arbiter.specs.Stub.{beginning, state_at}
-use Rattle.chess_arbiter.proofs.StubRuns.{SoFar, start, reached, go_on, by_line, by_write, by_last, by_end, by_read, said_is, after_is, ends_is, over_told, on_told}
+use Rattle.chess_arbiter.proofs.StubRuns.{SoFar, start, reached, go_on, by_line, by_write, by_last, by_end, by_read, over_told, on_told}
 use Rattle.chess_arbiter.proofs.stub.run_stub.Goals as goal
 
 pub loop-line-init : goal.loop-line-init
@@ -32,8 +31,8 @@ returns-in-Ok-default-Over g c =
     let given = c.in-Ok-default-Over.ensures in
     by_line _ _ _ _ _ _ _ _ _ _ _ line c.loop-line.invariant.3
     (reached ReadFault _ _ _ _ _ _ _ _ _ _ _ line c.loop-line.invariant.3 n)
-    (subst (Sent _ _) (said_is s line) given.0)
-    (sym (ends_is s line) ∙ over_told _ c.in-Ok-default-Over.field-0-1 given.1.2 c.in-Ok-default-Over.field-0-1-is)
+    given.0
+    (over_told _ c.in-Ok-default-Over.field-0-1 given.1.2 c.in-Ok-default-Over.field-0-1-is)
 
 pub returns-in-Err-answer : goal.returns-in-Err-answer
 returns-in-Err-answer g c =
@@ -42,7 +41,7 @@ returns-in-Err-answer g c =
     let s = state_at c.args.words.now c.loop-line.stub in
     by_write _ _ _ _ _ _ _ _ _ _ _ line c.loop-line.invariant.3
     (reached ReadFault _ _ _ _ _ _ _ _ _ _ _ line c.loop-line.invariant.3 n)
-    (subst (BreaksOff _ _) (said_is s line) c.in-Err-answer.ensures)
+    c.in-Err-answer.ensures
 
 pub returns-then-not-is_ended : goal.returns-then-not-is_ended
 returns-then-not-is_ended g c =
@@ -52,8 +51,8 @@ returns-then-not-is_ended g c =
     let given = c.in-Ok-default-On.ensures in
     let h = c.if-not-is_ended.ensures in
     by_last ReadFault _ _ _ _ _ _ _ _ _ _ _ _ line c.loop-line.invariant.3 n (sym h)
-    (subst (Sent _ _) (said_is s line) given.0)
-    (sym (ends_is s line) ∙ on_told _ c.in-Ok-default-On.field-0-1 given.1.2 c.in-Ok-default-On.field-0-1-is)
+    given.0
+    (on_told _ c.in-Ok-default-On.field-0-1 given.1.2 c.in-Ok-default-On.field-0-1-is)
 
 pub loop-line-preserved : goal.loop-line-preserved
 loop-line-preserved g c =
@@ -63,6 +62,6 @@ loop-line-preserved g c =
     let given = c.in-Ok-default-On.ensures in
     let h = c.if-not-is_ended.ensures in
     let on = go_on ReadFault _ _ _ _ _ _ _ _ _ _ c.next.new.self _ _ line c.loop-line.invariant.3 n (sym h)
-    (subst (Sent _ _) (said_is s line) given.0) (given.1.1 ∙ after_is s line)
-    (sym (ends_is s line) ∙ on_told _ c.in-Ok-default-On.field-0-1 given.1.2 c.in-Ok-default-On.field-0-1-is) in
+    given.0 given.1.1
+    (on_told _ c.in-Ok-default-On.field-0-1 given.1.2 c.in-Ok-default-On.field-0-1-is) in
     (given.1.0, on.0, _, on.1)

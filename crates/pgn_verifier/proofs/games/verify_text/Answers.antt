@@ -7,7 +7,7 @@ use Rattle.pgn_verifier.specs.GameFaults.{read_at}
 use Rattle.pgn_verifier.specs.declared.game_fault.GameFault.{GameFault}
 use Rattle.pgn_verifier.specs.declared.report.Report.TheVariants.{Game, Faulty}
 use Rattle.pgn_verifier.specs.declared.tally.Tally.{Tally}
-use Rattle.pgn_verifier.specs.Reports.{moved, written_line, reports_at, Writes}
+use Rattle.pgn_verifier.specs.Reports.{moved, written_line, reports_on, Writes}
 use Rattle.pgn_verifier.proofs.TextVerified.{SoFar, begun, all_written, game_written, game_broke, fault_written, fault_broke}
 use Rattle.pgn_verifier.proofs.games.verify_text.Goals as goal
 
@@ -69,7 +69,7 @@ returns-in-Ok-write_line-clause-written g c =
     let w' = g.W.Output.seen c.loop-end.output in
     let w'' = g.W.Output.seen c.write_line-in-Err.new.output in
     subst (λ (t : Tally). Writes {E = WriteFault} c.args.options.quiet c.args.before w w'' (Ok t)
-    (reports_at c.args.options.strict c.args.start c.args.text.now)) (sym c.with_fault.ensures)
+    (reports_on c.args.options.strict c.args.start c.args.text.now)) (sym c.with_fault.ensures)
     (fault_written c.args.options c.args.start c.args.text.now c.args.before w w' w'' c.loop-end.at c.loop-end.tally
     c.loop-end.invariant.1.0 c.loop-end.invariant.1.1 WriteFault c.in-Err.fault (sym c.in-Err.ensures.judged)
     (subst (λ n. Took w' w'' (written_line c.args.options.quiet n (Faulty (moved c.args.start c.in-Err.fault))))

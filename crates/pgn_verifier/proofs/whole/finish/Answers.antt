@@ -2,8 +2,8 @@
 use Rattle.std.proofs.Common.{subst}
 use Rattle.byte_devices.specs.Devices.{Took, BreaksOff}
 use Rattle.byte_devices.proofs.DeviceLaws.{sent_on}
-use Rattle.pgn_verifier.specs.Reports.{reports_on, lines_of}
-use Rattle.pgn_verifier.proofs.Finished.{whole_lines, whole_counted, verified_so, not_flushed}
+use Rattle.pgn_verifier.specs.Verify.{text_lines}
+use Rattle.pgn_verifier.proofs.Finished.{whole_lines, whole_counted, not_flushed}
 use Rattle.pgn_verifier.proofs.whole.finish.Goals as goal
 
 pub returns-in-Err : goal.returns-in-Err
@@ -15,13 +15,10 @@ pub returns-in-Ok-flush : goal.returns-in-Ok-flush
 returns-in-Ok-flush g c =
     let took = subst (Took (g.W.Output.seen c.args.output.now) (g.W.Output.seen c.verify_text.new.output))
     (whole_lines c.args.options c.none.result c.args.text.now c.none.ensures) c.in-Ok.ensures.written.0 in (
-      verified_so c.in-Ok.tally (reports_on c.args.options.strict c.args.text.now) c.verified.result
-          (whole_counted c.args.options.strict c.none.result c.in-Ok.tally c.args.text.now c.none.ensures
-          c.in-Ok.ensures.written.1)
-          c.verified.ensures,
+      whole_counted c.args.options.strict c.none.result c.in-Ok.tally c.args.text.now c.verified.result c.none.ensures
+          c.in-Ok.ensures.written.1 c.verified.ensures,
       sent_on (g.W.Output.seen c.args.output.now) (g.W.Output.seen c.verify_text.new.output)
-          (g.W.Output.seen c.flush.new.self) (lines_of c.args.options.quiet 1
-          (reports_on c.args.options.strict c.args.text.now)) took
+          (g.W.Output.seen c.flush.new.self) (text_lines c.args.options c.args.text.now) took
           c.in-Ok-flush.ensures,
     )
 
@@ -30,6 +27,5 @@ returns-in-Err-flush g c =
     let took = subst (Took (g.W.Output.seen c.args.output.now) (g.W.Output.seen c.verify_text.new.output))
     (whole_lines c.args.options c.none.result c.args.text.now c.none.ensures) c.in-Ok.ensures.written.0 in
     not_flushed (g.W.Output.seen c.args.output.now) (g.W.Output.seen c.verify_text.new.output)
-    (g.W.Output.seen c.flush.new.self) (lines_of c.args.options.quiet 1
-    (reports_on c.args.options.strict c.args.text.now)) took
+    (g.W.Output.seen c.flush.new.self) (text_lines c.args.options c.args.text.now) took
     c.in-Err-flush.ensures

@@ -1,12 +1,12 @@
-use Rattle.std.proofs.Common.{◌≤◌, length}
-use Rattle.pgn_pieces.specs.Pieces.{IsFront}
+use Rattle.std.proofs.Common.{◌≤◌, false, length}
+use Rattle.pgn_pieces.specs.Pieces.{HasRead}
 use Rattle.pgn_pieces.specs.declared.pieces.TheConstants.{PIECE_LEN}
 use Rattle.pgn_verifier.proofs.whole.read_all.Given as goal
 
 -- the text is what was read so far
 abbrev pub invariant-loop-count : goal.invariant-loop-count
 invariant-loop-count g l = record {
-  front : IsFront (g.R.Input.seen l.fn.input) (g.R.Input.seen l.input) l.text.items;
+  front : HasRead false (g.R.Input.seen l.fn.input) (g.R.Input.seen l.input) l.text.items;
   few : length l.text.items ≤ PIECE_LEN;
 }
 

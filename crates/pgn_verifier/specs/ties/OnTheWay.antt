@@ -1,0 +1,34 @@
+-- What becomes of verifying on the way: of a text that is read as a whole, and of pieces before their counts are written.
+use Rattle.std.specs.Prelude.{◌≡◌, ◌<◌, ℕ, true, false, List, length, Result, Ok, Err}
+use Rattle.byte_devices.specs.Devices.{InputState, OutputState, Took, Sent, BreaksOff}
+use Rattle.pgn_pieces.specs.Pieces.{HasRead, BrokeOff}
+use Rattle.pgn_pieces.specs.declared.pieces.TheConstants.{PIECE_LEN}
+use Rattle.pgn_verifier.specs.declared.fault.VerifyFault.{VerifyFault}
+use Rattle.pgn_verifier.specs.declared.fault.VerifyFault.TheVariants.{ReadFailed, WriteFailed, NoMemory, InputTooLong}
+use Rattle.pgn_verifier.specs.declared.options.VerifyOptions.{VerifyOptions}
+use Rattle.pgn_verifier.specs.declared.tally.Tally.{Tally}
+use Rattle.pgn_verifier.specs.declared.tally.Verified.{Verified}
+use Rattle.pgn_verifier.specs.Reports.{reports_on, counts_of, verified}
+use Rattle.pgn_verifier.specs.Verify.{text_lines}
+use Rattle.pgn_verifier.specs.Collection.{collection_reports, collection_lines, VerifiesCollection}
+
+-- why not all of the input was read: a read failed, there are more than 16,777,216 bytes, or we ran out of memory
+abbrev pub IsNotAll : InputState → InputState → VerifyFault → Type 0
+IsNotAll r r' ReadFailed = (text : List ℕ) × BrokeOff r r' text
+IsNotAll r r' WriteFailed = ⊥
+IsNotAll r r' NoMemory = (text : List ℕ) × HasRead false r r' text
+IsNotAll r r' InputTooLong = (text : List ℕ) × HasRead false r r' text × (PIECE_LEN < length text)
+
+-- the lines of a text were written and flushed; where the writer failed, a beginning of them was written
+abbrev pub WritesText : {E : Type 0} → VerifyOptions → List ℕ → OutputState → OutputState → Result Verified E → Type 0
+WritesText options text w w' (Ok verdict) =
+    (verdict ≡ verified (counts_of (reports_on options.strict 0 text))) × Sent w w' (text_lines options text)
+WritesText options text w w' (Err e) = BreaksOff w w' (text_lines options text)
+
+-- the lines of all pieces were written, and their reports counted
+abbrev pub WritesCollection : VerifyOptions → InputState → InputState → OutputState → OutputState
+    → Result Tally VerifyFault → Type 0
+WritesCollection options r r' w w' (Ok tally) =
+    (text : List ℕ) × HasRead true r r' text × Took w w' (collection_lines options true text)
+    × (tally ≡ counts_of (collection_reports options.strict true text))
+WritesCollection options r r' w w' (Err fault) = VerifiesCollection options r r' w w' (Err fault)
