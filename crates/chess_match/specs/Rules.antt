@@ -1,5 +1,5 @@
 -- What a match needs of its game, and how chess gives it.
-use Rattle.std.specs.Prelude.{ℕ, Bool, true, ◌||◌, not, if◌then◌else◌, List, [], ◌∷◌, Option, None, Some}
+use Rattle.std.specs.Prelude.{ℕ, Bool, true, false, ◌||◌, ◌&&◌, not, if◌then◌else◌, List, [], ◌∷◌, Option, None, Some}
 use Rattle.std.specs.List.{list_all}
 use Rattle.chess_base.specs.declared.man.Colour.{Colour}
 use Rattle.chess_base.specs.declared.man.Kind.TheVariants.{King}
@@ -48,9 +48,7 @@ pub record Rules : Type 0 where
 -- the move that a text is read as, if it denotes exactly one
 abbrev pub move_read : Reading → Option Move
 move_read (reads.Move m) = Some m
-move_read reads.Ambiguous = None
-move_read reads.NoSuch = None
-move_read reads.NotAMove = None
+move_read _ = None
 
 -- the position for the third time comes before 50 moves
 abbrev pub claim_by : Claims → Option DrawClaim
@@ -75,14 +73,15 @@ is_king_or_other c (Some x) = not (same_colour x.colour c) || same_kind x.kind K
 unfoldable pub has_bare_king : Colour → Men → Bool
 has_bare_king c men = list_all (is_king_or_other c) men
 
--- normal chess begins from its initial position if nothing is said; of Chess960 each start is sent
-abbrev pub fen_told_in : Variant → Setup → Option (List ℕ)
-fen_told_in Normal start = if is_initial start then None else Some (fen start)
-fen_told_in Fischerandom start = Some (fen start)
+-- the variant is Chess960
+abbrev pub is_fischerandom : Variant → Bool
+is_fischerandom Normal = false
+is_fischerandom Fischerandom = true
 
--- a start as it is sent, if it is: its FEN
+-- a start as it is sent, if it is: its FEN. Normal chess begins from its initial position if nothing is said; of
+-- Chess960 each start is sent
 abbrev pub fen_told : Setup → Option (List ℕ)
-fen_told start = fen_told_in start.variant start
+fen_told start = if is_initial start && not (is_fischerandom start.variant) then None else Some (fen start)
 
 -- chess from this start, at this level, of at most so many half-moves
 unfoldable pub rules_of : Setup → LevelSeen → ℕ → Rules
