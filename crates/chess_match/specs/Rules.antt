@@ -54,14 +54,11 @@ move_read _ = None
 abbrev pub claim_by : Claims → Option DrawClaim
 claim_by c = if c.threefold then Some Threefold else if c.fifty_moves then Some FiftyMoves else None
 
--- in SAN, or by squares; castling in Chess960 is then `O-O` or `O-O-O`
-abbrev pub text_of_move : Bool → Setup → Move → List ℕ
-text_of_move as_san p m = if as_san then san p m else shown_move p m
-
--- the text of the last of these moves, in the position before it
+-- the text of the last of these moves, in the position before it: in SAN, or by squares, where castling in Chess960 is
+-- `O-O` or `O-O-O`
 abbrev pub text_of_last : Bool → Setup → List Move → List ℕ
 text_of_last as_san p [] = []
-text_of_last as_san p (m ∷ []) = text_of_move as_san p m
+text_of_last as_san p (m ∷ []) = if as_san then san p m else shown_move p m
 text_of_last as_san p (m ∷ n ∷ ms) = text_of_last as_san (after p m) (n ∷ ms)
 
 -- no piece, one of the other colour, or a king

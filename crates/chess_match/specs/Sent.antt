@@ -93,10 +93,14 @@ opening_lines r m S =
     then clock_lines r m S ++ last_move_lines r m S
     else last_move_lines r m S ++ (clock_lines r m S ++ Says (codes "go") ∷ [])
 
+-- what is c's alone, as S sees it
+abbrev pub for : {A : Type 0} → Colour → Colour → List A → List A
+for c S xs = if same_colour c S then xs else []
+
 -- the last move, if S wasn't sent it
 abbrev pub untold_lines : Rules → Match → Colour → Option Colour → List SentLine
 untold_lines r m S None = []
-untold_lines r m S (Some c) = if same_colour c S then last_move r m S ∷ [] else []
+untold_lines r m S (Some c) = for c S (last_move r m S ∷ [])
 
 -- the last move, if S wasn't sent it, and then the result and `quit`
 unfoldable pub end_lines : Rules → Match → Colour → Reason → List SentLine
@@ -109,22 +113,14 @@ abbrev pub is_unwritten : Option (Colour × MatchFault) → Colour → Bool
 is_unwritten (Some (c, Write)) S = same_colour c S
 is_unwritten _ S = false
 
--- an engine that could not be written is sent nothing more
-abbrev pub end_block : Rules → Match → Colour → Reason → Option (Colour × MatchFault) → List SentLine
-end_block r m S reason fault = if is_unwritten fault S then [] else end_lines r m S reason
-
--- a text that c alone is sent
-abbrev pub for : Colour → Colour → List SentLine → List SentLine
-for c S text = if same_colour c S then text else []
-
--- what S is sent where the match comes into a phase
+-- what S is sent where the match comes into a phase; an engine that could not be written is sent nothing more
 abbrev pub entry_to : Rules → Match → Colour → Phase → List SentLine
 entry_to r m S (Hello c) = for c S (Says (codes "xboard") ∷ Says (codes "protover 2") ∷ [])
 entry_to r m S (Setup c) = for c S (setup_lines r)
 entry_to r m S (Opening c) = for c S (opening_lines r m S)
 entry_to r m S (Before c) = []
 entry_to r m S (After c) = for c S (ping (ping_number m S) ∷ [])
-entry_to r m S (Over reason) = end_block r m S reason (fault_of reason)
+entry_to r m S (Over reason) = if is_unwritten (fault_of reason) S then [] else end_lines r m S reason
 
 -- what S is sent where the match comes into the phase that it is in
 abbrev pub entry : Rules → Match → Colour → List SentLine
