@@ -1,5 +1,5 @@
 -- What the blocks of an event hold of lines of one kind.
-use Rattle.std.proofs.Common.{◌≡◌, Bool, true, false, not, ◌&&◌, List, [], ◌∷◌, ◌++◌, refl, ap, ◌∙◌, sym, append-nil}
+use Rattle.std.proofs.Common.{ℕ, ◌≡◌, Bool, true, false, not, ◌&&◌, List, [], ◌∷◌, ◌++◌, refl, ap, ◌∙◌, sym, append-nil}
 use Rattle.std.specs.Prelude.{if◌then◌else◌, codes}
 use Rattle.std.specs.List.{flat_map}
 use Rattle.std.proofs.lemmas.Grind.{flat_map-append}
@@ -8,19 +8,19 @@ use Rattle.chess_base.specs.Men.{other}
 use Rattle.engine_lines.specs.Items.{Item, takes}
 use Rattle.chess_match.specs.Match.{Match, seat}
 use Rattle.chess_match.specs.Rules.{Rules}
-use Rattle.chess_match.specs.Sent.{SentLine, Answered, DrawOffered, answers_to, block, entry, is_same_phase, new_items, draw_line}
+use Rattle.chess_match.specs.Sent.{SentLine, answer_words, Says, answers_to, block, entry, is_same_phase, new_items, draw_line}
 use Rattle.chess_match.specs.Transcript.{joined_blocks}
 
 pub if_nil : {A : Type 0} (b : Bool) (xs : List A) → xs ≡ [] → (if b then [] else xs) ≡ []
 if_nil true xs e = refl
 if_nil false xs e = e
 
--- lines of a kind that neither answers an item nor offers a draw come of a phase alone
-pub of_block : {A : Type 0} (f : SentLine → List A) → ((i : Item) → f (Answered i) ≡ []) → f DrawOffered ≡ []
+-- moves and times come of a phase alone
+pub of_block : {A : Type 0} (f : SentLine → List A) → ((text : List ℕ) → f (Says text) ≡ [])
     → (r : Rules) (m m' : Match) (S : Colour)
     → flat_map f (block r m m' S) ≡ (if is_same_phase m.phase m'.phase then [] else flat_map f (entry r m' S))
 unfolding block
-of_block {A} f a d r m m' S =
+of_block {A} f a r m m' S =
     flat_map-append f (answers_to (new_items (seat m S) (seat m' S))) _
     ∙ ap (λ (l : List A). l ++ flat_map f (draw_line (seat m' S) (seat m (other S)) (seat m' (other S))
     ++ (if is_same_phase m.phase m'.phase then [] else entry r m' S))) (answers (new_items (seat m S) (seat m' S)))
@@ -31,10 +31,10 @@ of_block {A} f a d r m m' S =
   where
     answers : (items : List Item) → flat_map f (answers_to items) ≡ []
     answers [] = refl
-    answers (i ∷ items) = rw (a i) (answers items)
+    answers (i ∷ items) = rw (a (answer_words i.name)) (answers items)
 
-    offer : (b : Bool) → flat_map f (if b then DrawOffered ∷ [] else []) ≡ []
-    offer true = rw d refl
+    offer : (b : Bool) → flat_map f (if b then Says (codes "draw") ∷ [] else []) ≡ []
+    offer true = rw (a (codes "draw")) refl
     offer false = refl
 
     split : (b : Bool) (ls : List SentLine) → flat_map f (if b then [] else ls) ≡ (if b then [] else flat_map f ls)

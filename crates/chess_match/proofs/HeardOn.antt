@@ -9,11 +9,12 @@ use Rattle.chess_cecp.specs.Run.{risen_if}
 use Rattle.chess_match.proofs.Hearing.{Hearing, HeardAll, is_heard_of, Tells, HearsAt}
 use Rattle.chess_match.specs.Match.{Event, Line, Opened, OutputEnds, FailsToRead, FailsToWrite}
 use Rattle.chess_match.specs.Run.{text_heard, engine_lines, Heard}
-use Rattle.chess_match.specs.Transcript.{if_line_of, line_in, lines_of, is_end_of, has_end, is_read_failure_of, has_read_failure}
+use Rattle.chess_match.specs.Transcript.{line_in, lines_of, is_end_of, has_end, is_read_failure_of, has_read_failure}
 use Rattle.chess_match.proofs.UnderWay.{IsHearing, HeardSoFar}
 use Rattle.chess_match.proofs.Hears.{hearing_more, heard_last, heard_none, heard_fault}
 use Rattle.chess_match.proofs.Runs.{IsTail, lines_more, end_more, failure_more}
 use Rattle.chess_match.specs.declared.run.TheConstants.{ENGINE_LINE_LEN}
+use Rattle.std.specs.Prelude.{if◌then◌else◌}
 
 map_both : (xs ys : List LineSeen) → map text_heard (xs ++ ys) ≡ map text_heard xs ++ map text_heard ys
 map_both [] ys = refl
@@ -137,7 +138,7 @@ own_heard : (S : Colour) (T : List Event) (e : Event) (U : List Event) (on : Boo
 own_heard S T (Line c text n) U on r r' r'' h h' given more t is stop b (line, got, same) s =
     let texts : lines_of S T ++ text_heard line ∷ [] ≡ lines_of S (T ++ Line c text n ∷ U) =
     sym (lines_more S T (Line c text n) U t ∙ ap (λ (ls : List (Option (List ℕ))). lines_of S T ++ ls)
-    (ap (λ b. if_line_of b text) is ∙ ap (λ (x : Option (List ℕ)). x ∷ []) same)) in
+    (ap (λ (b : Bool). if b then text ∷ [] else []) is ∙ ap (λ (x : Option (List ℕ)). x ∷ []) same)) in
     still S (T ++ Line c text n ∷ U) on r r'' h' (given ++ more) (record {
       hearing = hearing_texts r r'' h' (given ++ more) _ _ texts
           (hearing_more r r' r'' h h' given more (lines_of S T) line s.hearing b got);

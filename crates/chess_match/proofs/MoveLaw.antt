@@ -16,7 +16,7 @@ use Rattle.chess_match.specs.laws.Laws.{move_told, moves_told, texts_from, move_
 use Rattle.chess_match.specs.Match.{Match, Event, Line, Opened, OutputEnds, FailsToRead, FailsToWrite, items_heard, seat, hear, start, over, enter, open_turn, played_by, after, clock, ping_number}
 use Rattle.chess_match.specs.Reasons.{fault_of}
 use Rattle.chess_match.specs.Rules.{Rules}
-use Rattle.chess_match.specs.Sent.{SentLine, Xboard, Protover, LevelSet, Nopost, Easy, Force, Ping, Go, Time, Otim, block, entry, entry_to, is_same_phase, is_unwritten, setup_lines, variant_lines, start_lines, opening_lines, last_move, last_move_lines, clock_lines, end_lines, untold_lines}
+use Rattle.chess_match.specs.Sent.{SentLine, Says, Time, Otim, block, entry, entry_to, is_same_phase, is_unwritten, setup_lines, variant_lines, start_lines, opening_lines, last_move, last_move_lines, clock_lines, end_lines, untold_lines, ping}
 use Rattle.chess_match.specs.Transcript.{is_on, reads, ending_in, match_of, match_from, fits, fits_next, fits_from, is_dropped, fails_at, blocks_from, joined_blocks, sent, has_write_failure}
 use Rattle.chess_base.specs.declared.man.Variant.{Variant}
 use Rattle.chess_base.specs.declared.man.Variant.TheVariants.{Normal, Fischerandom}
@@ -32,6 +32,7 @@ use Rattle.chess_match.proofs.Outcomes.{Lines, InTurn, line_outcome, opens_at, a
 use Rattle.chess_match.proofs.Going.{hear_phase, leaves, offered, plain_block, reads_on, reads_stays}
 use Rattle.chess_match.proofs.Seats.{hear_played, hear_untold, items_same}
 use Rattle.chess_match.proofs.Blocks.{told_more}
+use Rattle.engine_lines.specs.Levels.{level_text}
 
 -- ---- who moves
 
@@ -101,8 +102,8 @@ unfolding setup_lines
 setup_moves r = at r.variant r.start_fen
   where
     at : (v : Variant) (fen : Option (List ℕ))
-        → flat_map move_told (variant_lines v ++ (LevelSet
-        r.level ∷ Nopost ∷ Easy ∷ Force ∷ (start_lines fen ++ Ping 1 ∷ []))) ≡ []
+        → flat_map move_told (variant_lines v ++ (Says (codes "level "
+        ++ level_text r.level) ∷ Says (codes "nopost") ∷ Says (codes "easy") ∷ Says (codes "force") ∷ (start_lines fen ++ ping 1 ∷ []))) ≡ []
     at Normal None = refl
     at Normal (Some fen) = refl
     at Fischerandom None = refl
@@ -132,13 +133,13 @@ unfolding opening_lines
 opening_moves r m O = at (nat_lt 0 (length (seat m O).used))
   where
     at : (b : Bool) → flat_map move_told (if b then clock_lines r m O
-        ++ last_move_lines r m O else last_move_lines r m O ++ (clock_lines r m O ++ Go ∷ []))
+        ++ last_move_lines r m O else last_move_lines r m O ++ (clock_lines r m O ++ Says (codes "go") ∷ []))
         ≡ (if nat_lt 0 (length m.played) then last_text r m O else [])
     at true = rw (flat_map-append move_told (clock_lines r m O) (last_move_lines r m O), clock_moves r m O)
         (last_moves r m O)
     at false = rw (
-      flat_map-append move_told (last_move_lines r m O) (clock_lines r m O ++ Go ∷ []),
-      flat_map-append move_told (clock_lines r m O) (Go ∷ []),
+      flat_map-append move_told (last_move_lines r m O) (clock_lines r m O ++ Says (codes "go") ∷ []),
+      flat_map-append move_told (clock_lines r m O) (Says (codes "go") ∷ []),
       clock_moves r m O,
       append-nil (flat_map move_told (last_move_lines r m O)),
     ) (last_moves r m O)
@@ -162,7 +163,7 @@ end_moves r m O reason = flat_map-append move_told (untold_lines r m O m.untold)
 entry_told : (r : Rules) (m : Match) (O : Colour) (p : Phase) → moves_told (entry_to r m O p) ≡ entry_moves r m O p
 entry_told r m O (Hello c) = at (same_colour c O)
   where
-    at : (b : Bool) → flat_map move_told (if b then Xboard ∷ Protover ∷ [] else []) ≡ []
+    at : (b : Bool) → flat_map move_told (if b then Says (codes "xboard") ∷ Says (codes "protover 2") ∷ [] else []) ≡ []
     at true = refl
     at false = refl
 entry_told r m O (Setup c) = at (same_colour c O)
@@ -179,7 +180,7 @@ entry_told r m O (Opening c) = at (same_colour c O)
 entry_told r m O (Before c) = refl
 entry_told r m O (After c) = at (same_colour c O)
   where
-    at : (b : Bool) → flat_map move_told (if b then Ping (ping_number m O) ∷ [] else []) ≡ []
+    at : (b : Bool) → flat_map move_told (if b then ping (ping_number m O) ∷ [] else []) ≡ []
     at true = refl
     at false = refl
 entry_told r m O (Over reason) = at (is_unwritten (fault_of reason) O)
@@ -191,7 +192,7 @@ entry_told r m O (Over reason) = at (is_unwritten (fault_of reason) O)
 
 told_block : (r : Rules) (m m' : Match) (O : Colour) → moves_told (block r m m' O)
     ≡ (if is_same_phase m.phase m'.phase then [] else entry_moves r m' O m'.phase)
-told_block r m m' O = of_block move_told (λ i. refl) refl r m m' O
+told_block r m m' O = of_block move_told (λ text. refl) r m m' O
     ∙ ap (λ (l : List (List ℕ)). if is_same_phase m.phase m'.phase then [] else l) (entry_told r m' O m'.phase)
 
 -- ---- one event

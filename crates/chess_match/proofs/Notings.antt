@@ -6,10 +6,10 @@ use Rattle.chess_base.specs.declared.man.Colour.{Colour}
 use Rattle.chess_base.specs.declared.man.Colour.TheVariants.{White, Black}
 use Rattle.chess_base.specs.Men.{other, same_colour}
 use Rattle.chess_match.specs.Match.{Match, Event, Line, Opened, OutputEnds, FailsToRead, FailsToWrite, start, after}
-use Rattle.chess_match.specs.Notes.{Note, Noted, Happened, Gives, WasNoted, given_note, both_notes, side_of, first_sent, lines_at, notes_from, notes_of}
+use Rattle.chess_match.specs.Notes.{Note, Noted, Happened, Gives, WasNoted, given_note, both_notes, first_sent, lines_at, notes_from, notes_of}
 use Rattle.chess_match.specs.Rules.{Rules}
 use Rattle.chess_match.specs.Sent.{SentLine, block, entry, bytes_of}
-use Rattle.chess_match.specs.Transcript.{match_from, match_of, is_on, fails_at}
+use Rattle.chess_match.specs.Transcript.{match_from, match_of, is_on, fails_at, side_of}
 use Rattle.chess_match.specs.ties.Delivering.{broken_notes}
 use Rattle.chess_match.proofs.Runs.{is_sound, dropped_alone, dropped-longer, kept_at}
 

@@ -10,7 +10,7 @@ use Rattle.chess_game.specs.declared.ends.Verdict.{Verdict}
 use Rattle.engine_lines.specs.EngineLines.{kind_heard, LineKind, Features, Moves, Resigns, OffersDraw, ClaimsDraw, ClaimsWin, Rejects, Answers, SaysElse}
 use Rattle.engine_lines.specs.Items.{Item, has_done}
 use Rattle.chess_match.specs.laws.Laws.{move_said}
-use Rattle.chess_match.specs.Match.{Match, Event, Line, Opened, OutputEnds, FailsToRead, FailsToWrite, after, after_kind, items_heard, seat, clock, over, ignore, enter, open_turn, hear, greeted, hello_line, judged, lack, ready, begun, is_pong, setup_line, decide, played_by, move_row, offer_row, draw_row, was_told, either_way, before_row, before_line, after_line, ping_number}
+use Rattle.chess_match.specs.Match.{Match, Event, Line, Opened, OutputEnds, FailsToRead, FailsToWrite, after, after_kind, items_heard, seat, clock, over, ignore, enter, open_turn, hear, greeted, hello_line, judged, lack, ready, unless_decided, is_pong, setup_line, played_by, move_row, offer_row, draw_row, was_told, either_way, before_row, before_line, after_line, ping_number}
 use Rattle.chess_match.specs.Rules.{Rules}
 use Rattle.chess_match.specs.Sent.{SentLine, block, is_unwritten}
 use Rattle.chess_match.specs.Transcript.{reads, opens, is_on, fails_at, fits_next, fits_from, match_from}
@@ -87,7 +87,7 @@ move_outcome : (r : Rules) (S : Colour) (text : List ℕ) (moment : ℕ) (m : Ma
 move_outcome r S text moment m P None e room timely b = b.row.ends (MovesIllegally S) (λ O. refl)
 move_outcome r S text moment m P (Some move) e room timely b = judge (r.verdict (m.played ++ move ∷ []))
   where
-    judge : (v : Option Verdict) → P (decide v (played_by S move (moment - m.opened) m))
+    judge : (v : Option Verdict) → (let m' = played_by S move (moment - m.opened) m in P (unless_decided v m' m'))
     judge None = b.plays text move refl e room timely
     judge (Some v) = b.decides text move v refl e room timely
 
@@ -171,10 +171,10 @@ judged_outcome r m P ends on = at (lack r m.white.items) (lack r m.black.items)
 
 -- both are ready
 pub begun_outcome : (r : Rules) (m : Match) (P : Match → Type 0) → ((v : Verdict) → P (over (Decided v) m))
-    → P (open_turn r.first m) → P (begun (r.verdict m.played) r.first m)
+    → P (open_turn r.first m) → P (unless_decided (r.verdict m.played) m (open_turn r.first m))
 begun_outcome r m P ends on = at (r.verdict m.played)
   where
-    at : (v : Option Verdict) → P (begun v r.first m)
+    at : (v : Option Verdict) → P (unless_decided v m (open_turn r.first m))
     at (Some v) = ends v
     at None = on
 

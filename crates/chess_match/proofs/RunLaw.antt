@@ -39,7 +39,7 @@ one_rise n m false true small x y = rises n small (sym x ∙ y)
 none_failed : (failed : Bool) (old new : OutputState) (bs : List (List SentLine)) → old.failure_count < 2 ^ 64 - 1
     → new.failure_count ≡ old.failure_count → Written failed old new bs → failed ≡ false
 none_failed false old new bs small same w = refl
-none_failed true old new bs small same w = rises old.failure_count small (sym same ∙ w.2.failures)
+none_failed true old new bs small same w = rises old.failure_count small (sym same ∙ w.5.failures)
 
 none_written : (failed : Bool) (has : Bool) → failed ≡ false → (has ≡ true → failed ≡ true) → has ≡ false
 none_written failed true none h = sym (h refl) ∙ none

@@ -10,7 +10,7 @@ use Rattle.chess_match.specs.Rules.{Rules}
 use Rattle.chess_match.specs.Run.{Flushed, Written, Asked}
 use Rattle.chess_match.specs.Sent.{SentLine, block, entry, bytes_of}
 use Rattle.chess_match.specs.ties.Told.{SendsIf}
-use Rattle.chess_match.specs.Transcript.{match_from, match_of, fits_from, fits_next, fits, is_dropped, fails_at, block_at, blocks_from, blocks, joined_blocks, last_block, before_last, line_in, lines_of, moment_in, moments_of, is_end_of, has_end, is_read_failure_of, has_read_failure, has_write_failure}
+use Rattle.chess_match.specs.Transcript.{match_from, match_of, fits_from, fits_next, fits, is_dropped, fails_at, block_at, blocks_from, blocks, joined_blocks, line_in, lines_of, moment_in, moments_of, is_end_of, has_end, is_read_failure_of, has_read_failure, has_write_failure}
 use Rattle.chess_match.proofs.Flushes.{flushed_more, failed_behind}
 use Rattle.chess_match.proofs.Sends.{bytes_of-append}
 
@@ -200,16 +200,6 @@ joined_snoc [] b = append-nil b
 joined_snoc (x ∷ bs) b = ap (λ (ls : List SentLine). x ++ ls) (joined_snoc bs b)
     ∙ sym (append_assoc x (joined_blocks bs) b)
 
-last_snoc : (bs : List (List SentLine)) (b : List SentLine) → last_block (bs ++ b ∷ []) ≡ b
-last_snoc [] b = refl
-last_snoc (x ∷ []) b = refl
-last_snoc (x ∷ y ∷ bs) b = last_snoc (y ∷ bs) b
-
-before_last_snoc : (bs : List (List SentLine)) (b : List SentLine) → before_last (bs ++ b ∷ []) ≡ joined_blocks bs
-before_last_snoc [] b = refl
-before_last_snoc (x ∷ []) b = refl
-before_last_snoc (x ∷ y ∷ bs) b = ap (λ (ls : List SentLine). x ++ ls) (before_last_snoc (y ∷ bs) b)
-
 -- a block more was written and flushed
 pub sent_more : (w v v' : OutputState) (bs : List (List SentLine)) (b : List SentLine)
     → Flushed w v (bytes_of (joined_blocks bs)) → Flushed v v' (bytes_of b)
@@ -221,7 +211,7 @@ pub written_more : (f : Bool) (w v v' : OutputState) (bs : List (List SentLine))
     → Flushed w v (bytes_of (joined_blocks bs)) → SendsIf f v v' (bytes_of b) → Written f w v' (bs ++ b ∷ [])
 written_more false w v v' bs b t p = sent_more w v v' bs b t p
 written_more true w v v' bs b t (begun, begins, fails) =
-    (begun, rw (last_snoc bs b) begins, rw (before_last_snoc bs b) (failed_behind w v v' _ begun t fails))
+    (bs, b, begun, refl, begins, failed_behind w v v' _ begun t fails)
 
 pub all_sent : (f : Bool) (w v : OutputState) (bs : List (List SentLine)) → f ≡ false → Written f w v bs
     → Flushed w v (bytes_of (joined_blocks bs))

@@ -14,7 +14,7 @@ use Rattle.engine_lines.specs.EngineLines.{LineKind, kind_heard}
 use Rattle.engine_lines.specs.Items.{Item}
 use Rattle.chess_match.specs.Match.{Match, Event, Line, Opened, OutputEnds, FailsToRead, FailsToWrite, items_heard, hear, over, open_turn, played_by, after}
 use Rattle.chess_match.specs.Rules.{Rules}
-use Rattle.chess_match.specs.Sent.{SentLine, Answered, DrawOffered, block, entry, entry_to, is_same_phase}
+use Rattle.chess_match.specs.Sent.{SentLine, Says, block, entry, entry_to, is_same_phase}
 use Rattle.chess_match.specs.Transcript.{is_on, reads, match_from, fits_next, fits_from, is_dropped, fails_at, blocks_from, joined_blocks}
 use Rattle.chess_match.specs.declared.phase.Phase.{Phase}
 use Rattle.chess_match.specs.declared.phase.Phase.TheVariants.{Opening, Over}
@@ -34,7 +34,7 @@ joined_more : {A : Type 0} (X t R : List A) (Q : List A → Type 0) {M : List A}
 joined_more X t R Q e q = rw (e, ← append_assoc X t R) q
 
 -- what holds of what was sent and of the match, and each event keeps, holds at the end of all that is sent
-pub gathered : {A : Type 0} (f : SentLine → List A) → ((i : Item) → f (Answered i) ≡ []) → f DrawOffered ≡ []
+pub gathered : {A : Type 0} (f : SentLine → List A) → ((text : List ℕ) → f (Says text) ≡ [])
     → (r : Rules) (S : Colour) (Q : List A → Match → Type 0)
     → ((due : Colour → List SentLine) (m : Match) (e : Event) (X : List A) → fits_next due m e ≡ true → Q X m
     → Q (X ++ now f r S m (after r m e)) (after r m e))
@@ -42,18 +42,18 @@ pub gathered : {A : Type 0} (f : SentLine → List A) → ((i : Item) → f (Ans
     → is_dropped e T S || fails_at e S ≡ true → now f r S m (after r m e) ≡ [])
     → (due : Colour → List SentLine) (m : Match) (T : List Event) (X : List A) → fits_from r due m T ≡ true → Q X m
     → Q (X ++ flat_map f (joined_blocks (blocks_from r S m T))) (match_from r m T)
-gathered f a d r S Q step unsent due m [] X fits q = rw (append-nil X) q
-gathered {A} f a d r S Q step unsent due m (e ∷ T) X fits q =
+gathered f a r S Q step unsent due m [] X fits q = rw (append-nil X) q
+gathered {A} f a r S Q step unsent due m (e ∷ T) X fits q =
     joined_more X (now f r S m (after r m e)) (flat_map f (joined_blocks (blocks_from r S (after r m e) T)))
     (λ (l : List A). Q l (match_from r (after r m e) T)) (told (is_dropped e T S || fails_at e S) refl)
-    (gathered f a d r S Q step unsent (block r m (after r m e)) (after r m e) T (X ++ now f r S m (after r m e))
+    (gathered f a r S Q step unsent (block r m (after r m e)) (after r m e) T (X ++ now f r S m (after r m e))
     (and_second (fits_next due m e) _ fits)
     (step due m e X (and_first (fits_next due m e) _ fits) q))
   where
     at : (b : Bool) → is_dropped e T S || fails_at e S ≡ b → flat_map f (if b then [] else block r m (after r m e) S)
         ≡ now f r S m (after r m e)
     at true h = sym (unsent due m e T fits h)
-    at false h = of_block f a d r m (after r m e) S
+    at false h = of_block f a r m (after r m e) S
 
     told : (b : Bool) → is_dropped e T S || fails_at e S ≡ b
         → flat_map f (joined_blocks ((if b then [] else block r m (after r m e) S ∷ [])

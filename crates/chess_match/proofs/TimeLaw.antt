@@ -14,11 +14,11 @@ use Rattle.chess_game.specs.declared.ends.Verdict.{Verdict}
 use Rattle.engine_lines.specs.EngineLines.{LineKind, kind_heard}
 use Rattle.engine_lines.specs.Items.{Item, takes}
 use Rattle.chess_match.specs.laws.Laws.{centiseconds, time_told, otim_told, TimesAreClocks, OtherTimesAreClocks}
-use Rattle.engine_lines.specs.Levels.{LevelSeen, left}
+use Rattle.engine_lines.specs.Levels.{LevelSeen, left, level_text}
 use Rattle.chess_match.specs.Match.{Match, Event, Line, Opened, OutputEnds, FailsToRead, FailsToWrite, items_heard, seat, hear, start, over, enter, open_turn, played_by, after, clock, ping_number}
 use Rattle.chess_match.specs.Reasons.{fault_of}
 use Rattle.chess_match.specs.Rules.{Rules}
-use Rattle.chess_match.specs.Sent.{SentLine, Answered, DrawOffered, New, Xboard, Protover, LevelSet, Nopost, Easy, Force, Ping, Go, Time, Otim, entry, entry_to, is_same_phase, is_unwritten, setup_lines, variant_lines, start_lines, opening_lines, last_move, last_move_lines, clock_lines, end_lines, untold_lines}
+use Rattle.chess_match.specs.Sent.{SentLine, Says, Time, Otim, entry, entry_to, is_same_phase, is_unwritten, setup_lines, variant_lines, start_lines, opening_lines, last_move, last_move_lines, clock_lines, end_lines, untold_lines, ping}
 use Rattle.chess_match.specs.Transcript.{reads, match_of, fits, fits_next, blocks_from, joined_blocks, sent}
 use Rattle.chess_match.specs.declared.phase.Phase.{Phase}
 use Rattle.chess_match.specs.declared.phase.Phase.TheVariants.{Hello, Setup, Opening, Before, After, Over}
@@ -44,21 +44,17 @@ abbrev told_of : Bool → Colour → Colour
 told_of true S = S
 told_of false S = other S
 
-no_answer : (own : Bool) (i : Item) → numbers own (Answered i) ≡ []
-no_answer true i = refl
-no_answer false i = refl
-
-no_offer : (own : Bool) → numbers own DrawOffered ≡ []
-no_offer true = refl
-no_offer false = refl
+no_text : (own : Bool) (text : List ℕ) → numbers own (Says text) ≡ []
+no_text true text = refl
+no_text false text = refl
 
 setup_times : (own : Bool) (r : Rules) → flat_map (numbers own) (setup_lines r) ≡ []
 unfolding setup_lines
 setup_times own r = at own r.variant r.start_fen
   where
     at : (own : Bool) (v : Variant) (fen : Option (List ℕ))
-        → flat_map (numbers own) (New ∷ (variant_lines v
-        ++ (LevelSet r.level ∷ Nopost ∷ Easy ∷ Force ∷ (start_lines fen ++ Ping 1 ∷ [])))) ≡ []
+        → flat_map (numbers own) (Says (codes "new") ∷ (variant_lines v
+        ++ (Says (codes "level " ++ level_text r.level) ∷ Says (codes "nopost") ∷ Says (codes "easy") ∷ Says (codes "force") ∷ (start_lines fen ++ ping 1 ∷ [])))) ≡ []
     at true Normal None = refl
     at true Normal (Some fen) = refl
     at true Fischerandom None = refl
@@ -116,7 +112,7 @@ clock_times own r m S = at own (takes (codes "time") (seat m S).items)
     at true false = refl
     at false false = refl
 
-go_times : (own : Bool) → flat_map (numbers own) (Go ∷ []) ≡ []
+go_times : (own : Bool) → flat_map (numbers own) (Says (codes "go") ∷ []) ≡ []
 go_times true = refl
 go_times false = refl
 
@@ -127,14 +123,14 @@ opening_times own r m S = at (nat_lt 0 (length (seat m S).used))
   where
     at : (b : Bool) → flat_map (numbers own)
         (if b then clock_lines r m S ++ last_move_lines r m S else last_move_lines r m S
-        ++ (clock_lines r m S ++ Go ∷ [])) ≡ clock_told own r m S
+        ++ (clock_lines r m S ++ Says (codes "go") ∷ [])) ≡ clock_told own r m S
     at true = flat_map-append (numbers own) (clock_lines r m S) (last_move_lines r m S)
         ∙ rw (last_times own r m S, append-nil (flat_map (numbers own) (clock_lines r m S))) (clock_times own r m S)
     at false =
-        flat_map-append (numbers own) (last_move_lines r m S) (clock_lines r m S ++ Go ∷ [])
+        flat_map-append (numbers own) (last_move_lines r m S) (clock_lines r m S ++ Says (codes "go") ∷ [])
         ∙ rw (
           last_times own r m S,
-          flat_map-append (numbers own) (clock_lines r m S) (Go ∷ []),
+          flat_map-append (numbers own) (clock_lines r m S) (Says (codes "go") ∷ []),
           go_times own,
           append-nil (flat_map (numbers own) (clock_lines r m S)),
         ) (clock_times own r m S)
@@ -142,7 +138,7 @@ opening_times own r m S = at (nat_lt 0 (length (seat m S).used))
 in_openings : (own : Bool) → InOpenings (numbers own)
 in_openings own r m S (Hello c) e = at own (same_colour c S)
   where
-    at : (own b : Bool) → flat_map (numbers own) (if b then Xboard ∷ Protover ∷ [] else []) ≡ []
+    at : (own b : Bool) → flat_map (numbers own) (if b then Says (codes "xboard") ∷ Says (codes "protover 2") ∷ [] else []) ≡ []
     at true true = refl
     at false true = refl
     at true false = refl
@@ -155,7 +151,7 @@ in_openings own r m S (Setup c) e = at (same_colour c S)
 in_openings own r m S (Before c) e = refl
 in_openings own r m S (After c) e = at own (same_colour c S)
   where
-    at : (own b : Bool) → flat_map (numbers own) (if b then Ping (ping_number m S) ∷ [] else []) ≡ []
+    at : (own b : Bool) → flat_map (numbers own) (if b then ping (ping_number m S) ∷ [] else []) ≡ []
     at true true = refl
     at false true = refl
     at true false = refl
@@ -591,7 +587,7 @@ times_so own r S T f =
       in_openings own r
           start S (Hello White) refl,
     )
-    (gathered (numbers own) (no_answer own) (no_offer own) r S (λ X m. Times own r S X m) (step own r S)
+    (gathered (numbers own) (no_text own) r S (λ X m. Times own r S X m) (step own r S)
     (unsent (numbers own) r S (in_openings own)) (entry r start) start T [] f (refl, none S own))
   where
     none : (S : Colour) (own : Bool) → (seat start (told_of own S)).used ≡ []

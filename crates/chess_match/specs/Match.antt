@@ -8,7 +8,7 @@ use Rattle.chess_game.specs.declared.ends.Verdict.{Verdict}
 use Rattle.engine_lines.specs.EngineLines.{LineKind, Features, Moves, Resigns, OffersDraw, ClaimsDraw, ClaimsWin, Rejects, Answers, kind_heard}
 use Rattle.engine_lines.specs.Items.{Item, items_of, has_done, takes, plays_fischerandom}
 use Rattle.engine_lines.specs.Levels.{left}
-use Rattle.chess_match.specs.Rules.{Rules}
+use Rattle.chess_match.specs.Rules.{Rules, is_fischerandom}
 use Rattle.chess_match.specs.declared.phase.Phase.{Phase}
 use Rattle.chess_match.specs.declared.phase.Phase.TheVariants.{Hello, Setup, Opening, Before, After, Over}
 use Rattle.chess_match.specs.declared.reason.DrawClaim.{DrawClaim}
@@ -16,8 +16,6 @@ use Rattle.chess_match.specs.declared.reason.MatchFault.{MatchFault}
 use Rattle.chess_match.specs.declared.reason.MatchFault.TheVariants.{Ended, Read, Write, NoDone, NoPing, NoSetboard, Flood, NoVariant}
 use Rattle.chess_match.specs.declared.reason.Reason.{Reason}
 use Rattle.chess_match.specs.declared.reason.Reason.TheVariants as over_by
-use Rattle.chess_base.specs.declared.man.Variant.{Variant}
-use Rattle.chess_base.specs.declared.man.Variant.TheVariants.{Normal, Fischerandom}
 
 -- what happens at the devices. A line that was too long has no text
 pub data Event : Type 0 where
@@ -106,25 +104,15 @@ items_heard _ = []
 
 -- S's engine said these items more
 abbrev pub hear : Colour → List Item → Match → Match
-hear S items m =
-    with_seat m S (record { items = (seat m S).items ++ items; used = (seat m S).used; offers = (seat m S).offers })
+hear S items m = with_seat m S (record (seat m S) { items = (seat m S).items ++ items })
 
--- what an engine lacks: ping; setboard, where a start is sent; the variant
-abbrev pub lacking : Bool → Variant → Bool → Bool → Bool → Option MatchFault
-lacking has_start v ping setboard fischerandom =
-    if not ping then Some NoPing
-    else if has_start && not setboard then Some NoSetboard
-    else lacking_variant v fischerandom
-  where
-    lacking_variant : Variant → Bool → Option MatchFault
-    lacking_variant Normal fischerandom = None
-    lacking_variant Fischerandom true = None
-    lacking_variant Fischerandom false = Some NoVariant
-
--- what an engine lacks by the items that it said, if anything
+-- what an engine lacks by the items that it said, if anything: ping; setboard, where a start is sent; the variant
 abbrev pub lack : Rules → List Item → Option MatchFault
-lack r items = lacking (is_some r.start_fen) r.variant (takes (codes "ping") items) (takes (codes "setboard") items)
-    (plays_fischerandom items)
+lack r items =
+    if not (takes (codes "ping") items) then Some NoPing
+    else if is_some r.start_fen && not (takes (codes "setboard") items) then Some NoSetboard
+    else if is_fischerandom r.variant && not (plays_fischerandom items) then Some NoVariant
+    else None
 
 -- after both handshakes White is judged, then Black
 abbrev pub judged : Option MatchFault → Option MatchFault → Match → Match
@@ -146,15 +134,15 @@ hello_line r S items m =
 
 -- ---- setup
 
--- a start with a verdict ends the match
-abbrev pub begun : Option Verdict → Colour → Match → Match
-begun (Some v) first m = over (over_by.Decided v) m
-begun None first m = open_turn first m
+-- a verdict ends the match m; without one it goes on as m'
+abbrev pub unless_decided : Option Verdict → Match → Match → Match
+unless_decided (Some v) m m' = over (over_by.Decided v) m
+unless_decided None m m' = m'
 
 -- S answered its first ping: after White's setup comes Black's, and after Black's the game begins
 abbrev pub ready : Rules → Colour → Match → Match
 ready r White m = enter (Setup Black) m
-ready r Black m = begun (r.verdict m.played) r.first m
+ready r Black m = unless_decided (r.verdict m.played) m (open_turn r.first m)
 
 -- the line answers ping n
 abbrev pub is_pong : ℕ → LineKind → Bool
@@ -171,44 +159,33 @@ setup_line r S kind m = if is_pong 1 kind then ready r S m else ignore S m
 abbrev pub clock : Rules → Match → Colour → ℕ
 clock r m S = left r.level (length (seat m S).used) (sum (seat m S).used)
 
--- a verdict ends the match
-abbrev pub decide : Option Verdict → Match → Match
-decide (Some v) m = over (over_by.Decided v) m
-decide None m = m
+-- S used so many milliseconds for a move more
+abbrev pub charge : Colour → ℕ → Match → Match
+charge S used m = with_seat m S (record (seat m S) { used = (seat m S).used ++ used ∷ [] })
+
+-- S's offer of a draw is open from now on, or isn't
+abbrev pub with_offer : Colour → Bool → Match → Match
+with_offer S offers m = with_seat m S (record (seat m S) { offers = offers })
 
 -- S's move is played: the other's offer lapses, S's clock is charged, and the move is still to be sent to the other
 abbrev pub played_by : Colour → Move → ℕ → Match → Match
-played_by White move used m = record {
-  phase = After White;
-  white = record { items = m.white.items; used = m.white.used ++ used ∷ []; offers = m.white.offers };
-  black = record { items = m.black.items; used = m.black.used; offers = false };
-  played = m.played ++ move ∷ [];
-  untold = Some Black;
-  count = m.count;
-  opened = m.opened;
-}
-played_by Black move used m = record {
-  phase = After Black;
-  white = record { items = m.white.items; used = m.white.used; offers = false };
-  black = record { items = m.black.items; used = m.black.used ++ used ∷ []; offers = m.black.offers };
-  played = m.played ++ move ∷ [];
-  untold = Some White;
-  count = m.count;
-  opened = m.opened;
-}
+played_by S move used m =
+    let m' = with_offer (other S) false (charge S used m) in
+    record m' { phase = After S; played = m.played ++ move ∷ []; untold = Some (other S) }
 
 -- a text that doesn't denote one legal move loses; a legal move is played, and the verdict after it, if there is one,
 -- ends the match
 abbrev pub move_row : Rules → Colour → Option Move → ℕ → Match → Match
 move_row r S None moment m = over (over_by.MovesIllegally S) m
-move_row r S (Some move) moment m = decide (r.verdict (m.played ++ move ∷ [])) (played_by S move (moment - m.opened) m)
+move_row r S (Some move) moment m =
+    let m' = played_by S move (moment - m.opened) m in unless_decided (r.verdict m'.played) m' m'
 
 -- where the other's offer is open the draw is agreed; where S's own is the line counts as ignored; else S's is opened
 abbrev pub offer_row : Colour → Match → Match
 offer_row S m =
     if (seat m (other S)).offers then over over_by.Agreed m
     else if (seat m S).offers then ignore S m
-    else with_seat m S (record { items = (seat m S).items; used = (seat m S).used; offers = true })
+    else with_offer S true m
 
 -- a draw that may be claimed ends the match; else the claim is an offer
 abbrev pub draw_row : Option DrawClaim → Colour → Match → Match
@@ -262,8 +239,7 @@ after_kind r (Hello S) kind moment m = hello_line r S (items_heard kind) m
 after_kind r (Setup S) kind moment m = setup_line r S kind m
 after_kind r (Before S) kind moment m = before_line r S kind moment m
 after_kind r (After S) kind moment m = after_line r S kind m
-after_kind r (Opening S) kind moment m = m
-after_kind r (Over reason) kind moment m = m
+after_kind r _ kind moment m = m
 
 -- the match after an event
 abbrev pub after : Rules → Match → Event → Match

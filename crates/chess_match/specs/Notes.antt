@@ -2,11 +2,11 @@
 use Rattle.std.specs.Prelude.{ℕ, ◌||◌, if◌then◌else◌, List, [], ◌∷◌, ◌++◌}
 use Rattle.chess_base.specs.declared.man.Colour.{Colour}
 use Rattle.chess_base.specs.declared.man.Colour.TheVariants.{White}
-use Rattle.chess_base.specs.Men.{other, same_colour}
-use Rattle.chess_match.specs.Match.{Match, Event, Line, Opened, OutputEnds, FailsToRead, FailsToWrite, start, after}
+use Rattle.chess_base.specs.Men.{other}
+use Rattle.chess_match.specs.Match.{Match, Event, start, after}
 use Rattle.chess_match.specs.Rules.{Rules}
-use Rattle.chess_match.specs.Sent.{SentLine, block, entry, bytes_of}
-use Rattle.chess_match.specs.Transcript.{is_on, is_dropped, fails_at}
+use Rattle.chess_match.specs.Sent.{SentLine, block, entry, bytes_of, for}
+use Rattle.chess_match.specs.Transcript.{is_on, side_of, is_dropped, fails_at}
 
 -- one note
 pub data Note : Type 0 where
@@ -25,14 +25,6 @@ given_note S (b ∷ bs) = Gives S (b ∷ bs) ∷ []
 -- the notes of both engines' lines, S's first
 abbrev pub both_notes : Colour → (Colour → List SentLine) → List Note
 both_notes S lines = given_note S (bytes_of (lines S)) ++ given_note (other S) (bytes_of (lines (other S)))
-
--- the engine of which an event came, or to which a write failed
-abbrev pub side_of : Event → Colour
-side_of (Line c text moment) = c
-side_of (Opened c moment) = c
-side_of (OutputEnds c) = c
-side_of (FailsToRead c) = c
-side_of (FailsToWrite c) = c
 
 -- who is sent its block first: the engine of which the event came, and White once the match is over
 abbrev pub first_sent : Match → Colour → Colour
@@ -65,7 +57,7 @@ events_in (Gives c text ∷ notes) = events_in notes
 abbrev pub given_in : Colour → List Note → List ℕ
 given_in S [] = []
 given_in S (Happened e ∷ notes) = given_in S notes
-given_in S (Gives c text ∷ notes) = (if same_colour c S then text else []) ++ given_in S notes
+given_in S (Gives c text ∷ notes) = for c S text ++ given_in S notes
 
 -- ---- a witness
 

@@ -27,21 +27,6 @@ abbrev pub win_of : Colour → Outcome
 win_of White = WhiteWins
 win_of Black = BlackWins
 
--- the outcome that a reason gives: unfinished where an engine failed or the game is too long
-abbrev pub outcome_of : Reason → Outcome
-outcome_of (Decided v) = verdict_outcome v
-outcome_of (Claimed c) = Draw
-outcome_of Agreed = Draw
-outcome_of (Resigns c) = win_of (other c)
-outcome_of (MovesIllegally c) = win_of (other c)
-outcome_of (MovesOutOfTurn c) = win_of (other c)
-outcome_of (ClaimsFalsely c) = win_of (other c)
-outcome_of (RejectsLegalMove c) = win_of (other c)
-outcome_of (Forfeits c) = win_of (other c)
-outcome_of ForfeitsToBareKing = Draw
-outcome_of GameTooLong = Unfinished
-outcome_of (Faulted c f) = Unfinished
-
 -- what is said of a draw that was claimed
 abbrev pub claim_comment : DrawClaim → List ℕ
 claim_comment Threefold = codes "Threefold repetition"
@@ -58,35 +43,31 @@ fault_words NoSetboard = codes " has no setboard"
 fault_words Flood = codes " sent too many lines"
 fault_words NoVariant = codes " has no fischerandom"
 
--- what is said of the end, in braces after `result` and its outcome
-abbrev pub comment_of : Reason → List ℕ
-comment_of (Decided v) = verdict_comment v
-comment_of (Claimed c) = claim_comment c
-comment_of Agreed = codes "Draw agreed"
-comment_of (Resigns c) = colour_name c ++ codes " resigns"
-comment_of (MovesIllegally c) = colour_name c ++ codes " makes an illegal move"
-comment_of (MovesOutOfTurn c) = colour_name c ++ codes " moves out of turn"
-comment_of (ClaimsFalsely c) = colour_name c ++ codes " makes a false claim"
-comment_of (RejectsLegalMove c) = colour_name c ++ codes " rejects a legal move"
-comment_of (Forfeits c) = colour_name c ++ codes " forfeits on time"
-comment_of ForfeitsToBareKing = codes "Time forfeit against a bare king"
-comment_of GameTooLong = codes "Game too long"
-comment_of (Faulted c f) = colour_name c ++ fault_words f
+-- how an end is reported: its outcome, unfinished where an engine failed or the game is too long; its comment, in braces
+-- after `result` and the outcome; and how the game ended, as PGN says it
+abbrev pub reported : Reason → Outcome × List ℕ × HowEnded
+reported (Decided v) = (verdict_outcome v, verdict_comment v, Normal)
+reported (Claimed c) = (Draw, claim_comment c, Normal)
+reported Agreed = (Draw, codes "Draw agreed", Normal)
+reported (Resigns c) = (win_of (other c), colour_name c ++ codes " resigns", Normal)
+reported (MovesIllegally c) = (win_of (other c), colour_name c ++ codes " makes an illegal move", RulesInfraction)
+reported (MovesOutOfTurn c) = (win_of (other c), colour_name c ++ codes " moves out of turn", RulesInfraction)
+reported (ClaimsFalsely c) = (win_of (other c), colour_name c ++ codes " makes a false claim", RulesInfraction)
+reported (RejectsLegalMove c) = (win_of (other c), colour_name c ++ codes " rejects a legal move", RulesInfraction)
+reported (Forfeits c) = (win_of (other c), colour_name c ++ codes " forfeits on time", TimeForfeit)
+reported ForfeitsToBareKing = (Draw, codes "Time forfeit against a bare king", TimeForfeit)
+reported GameTooLong = (Unfinished, codes "Game too long", Normal)
+reported (Faulted c f) = (Unfinished, colour_name c ++ fault_words f, Normal)
 
--- how the game ended, as PGN says it
+-- its outcome, its comment, and how the game ended
+abbrev pub outcome_of : Reason → Outcome
+outcome_of reason = (reported reason).0
+
+abbrev pub comment_of : Reason → List ℕ
+comment_of reason = (reported reason).1
+
 abbrev pub ended_by : Reason → HowEnded
-ended_by (Decided v) = Normal
-ended_by (Claimed c) = Normal
-ended_by Agreed = Normal
-ended_by (Resigns c) = Normal
-ended_by (MovesIllegally c) = RulesInfraction
-ended_by (MovesOutOfTurn c) = RulesInfraction
-ended_by (ClaimsFalsely c) = RulesInfraction
-ended_by (RejectsLegalMove c) = RulesInfraction
-ended_by (Forfeits c) = TimeForfeit
-ended_by ForfeitsToBareKing = TimeForfeit
-ended_by GameTooLong = Normal
-ended_by (Faulted c f) = Normal
+ended_by reason = (reported reason).2
 
 -- the fault that ended the match, if one did, and the side that has it
 abbrev pub fault_of : Reason → Option (Colour × MatchFault)

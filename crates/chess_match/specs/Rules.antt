@@ -1,5 +1,5 @@
 -- What a match needs of its game, and how chess gives it.
-use Rattle.std.specs.Prelude.{ℕ, Bool, true, ◌||◌, not, if◌then◌else◌, List, [], ◌∷◌, Option, None, Some}
+use Rattle.std.specs.Prelude.{ℕ, Bool, true, false, ◌||◌, ◌&&◌, not, if◌then◌else◌, List, [], ◌∷◌, Option, None, Some}
 use Rattle.std.specs.List.{list_all}
 use Rattle.chess_base.specs.declared.man.Colour.{Colour}
 use Rattle.chess_base.specs.declared.man.Kind.TheVariants.{King}
@@ -48,22 +48,17 @@ pub record Rules : Type 0 where
 -- the move that a text is read as, if it denotes exactly one
 abbrev pub move_read : Reading → Option Move
 move_read (reads.Move m) = Some m
-move_read reads.Ambiguous = None
-move_read reads.NoSuch = None
-move_read reads.NotAMove = None
+move_read _ = None
 
 -- the position for the third time comes before 50 moves
 abbrev pub claim_by : Claims → Option DrawClaim
 claim_by c = if c.threefold then Some Threefold else if c.fifty_moves then Some FiftyMoves else None
 
--- in SAN, or by squares; castling in Chess960 is then `O-O` or `O-O-O`
-abbrev pub text_of_move : Bool → Setup → Move → List ℕ
-text_of_move as_san p m = if as_san then san p m else shown_move p m
-
--- the text of the last of these moves, in the position before it
+-- the text of the last of these moves, in the position before it: in SAN, or by squares, where castling in Chess960 is
+-- `O-O` or `O-O-O`
 abbrev pub text_of_last : Bool → Setup → List Move → List ℕ
 text_of_last as_san p [] = []
-text_of_last as_san p (m ∷ []) = text_of_move as_san p m
+text_of_last as_san p (m ∷ []) = if as_san then san p m else shown_move p m
 text_of_last as_san p (m ∷ n ∷ ms) = text_of_last as_san (after p m) (n ∷ ms)
 
 -- no piece, one of the other colour, or a king
@@ -75,14 +70,15 @@ is_king_or_other c (Some x) = not (same_colour x.colour c) || same_kind x.kind K
 unfoldable pub has_bare_king : Colour → Men → Bool
 has_bare_king c men = list_all (is_king_or_other c) men
 
--- normal chess begins from its initial position if nothing is said; of Chess960 each start is sent
-abbrev pub fen_told_in : Variant → Setup → Option (List ℕ)
-fen_told_in Normal start = if is_initial start then None else Some (fen start)
-fen_told_in Fischerandom start = Some (fen start)
+-- the variant is Chess960
+abbrev pub is_fischerandom : Variant → Bool
+is_fischerandom Normal = false
+is_fischerandom Fischerandom = true
 
--- a start as it is sent, if it is: its FEN
+-- a start as it is sent, if it is: its FEN. Normal chess begins from its initial position if nothing is said; of
+-- Chess960 each start is sent
 abbrev pub fen_told : Setup → Option (List ℕ)
-fen_told start = fen_told_in start.variant start
+fen_told start = if is_initial start && not (is_fischerandom start.variant) then None else Some (fen start)
 
 -- chess from this start, at this level, of at most so many half-moves
 unfoldable pub rules_of : Setup → LevelSeen → ℕ → Rules

@@ -7,15 +7,15 @@ use Rattle.chess_pgn.specs.Written.{cut_tag}
 use Rattle.engine_lines.specs.Items.{told}
 use Rattle.chess_match.specs.Match.{Match, Event, Line, Opened, OutputEnds, FailsToRead, FailsToWrite, seat, start, after}
 use Rattle.chess_match.specs.Rules.{Rules}
-use Rattle.chess_match.specs.Sent.{SentLine, block, entry}
+use Rattle.chess_match.specs.Sent.{SentLine, block, entry, for}
 use Rattle.chess_match.specs.declared.phase.Phase.{Phase}
 use Rattle.chess_match.specs.declared.phase.Phase.TheVariants.{Hello, Setup, Opening, Before, After, Over}
 use Rattle.chess_match.specs.declared.reason.Reason.{Reason}
+use Rattle.std.specs.List.{flat_map, fold, list_any}
 
 -- the match after these events
 abbrev pub match_from : Rules → Match → List Event → Match
-match_from r m [] = m
-match_from r m (e ∷ es) = match_from r (after r m e) es
+match_from r m T = fold (after r) m T
 
 -- the match after a whole transcript
 abbrev pub match_of : Rules → List Event → Match
@@ -42,8 +42,7 @@ reads (Hello c) S = same_colour c S
 reads (Setup c) S = same_colour c S
 reads (Before c) S = same_colour c S
 reads (After c) S = same_colour c S
-reads (Opening c) S = false
-reads (Over reason) S = false
+reads _ S = false
 
 -- that side's turn opens in this phase
 abbrev pub opens : Phase → Colour → Bool
@@ -55,13 +54,19 @@ abbrev pub is_on : Phase → Bool
 is_on (Over reason) = false
 is_on _ = true
 
+-- the engine of which an event came, or to which a write failed
+abbrev pub side_of : Event → Colour
+side_of (Line c text moment) = c
+side_of (Opened c moment) = c
+side_of (OutputEnds c) = c
+side_of (FailsToRead c) = c
+side_of (FailsToWrite c) = c
+
 -- an event is of the kind and side that the phase waits for, or a write of what the last event gave fails
 abbrev pub fits_next : (Colour → List SentLine) → Match → Event → Bool
-fits_next due m (Line S text moment) = reads m.phase S
 fits_next due m (Opened S moment) = opens m.phase S
-fits_next due m (OutputEnds S) = reads m.phase S
-fits_next due m (FailsToRead S) = reads m.phase S
 fits_next due m (FailsToWrite S) = is_on m.phase && nat_lt 0 (length (due S))
+fits_next due m e = reads m.phase (side_of e)
 
 -- each of these events fits, from the match m on, where these blocks are due
 abbrev pub fits_from : Rules → (Colour → List SentLine) → Match → List Event → Bool
@@ -101,41 +106,22 @@ blocks r S T = entry r start S ∷ blocks_from r S start T
 
 -- the lines of blocks, one after another
 abbrev pub joined_blocks : List (List SentLine) → List SentLine
-joined_blocks [] = []
-joined_blocks (b ∷ bs) = b ++ joined_blocks bs
+joined_blocks bs = flat_map (λ b. b) bs
 
 -- all lines that S is sent
 abbrev pub sent : Rules → Colour → List Event → List SentLine
 sent r S T = joined_blocks (blocks r S T)
 
--- the last block that S is sent: the one at which a write to S failed, or that of the end; and those before it
-abbrev pub last_block : List (List SentLine) → List SentLine
-last_block [] = []
-last_block (b ∷ []) = b
-last_block (b ∷ c ∷ bs) = last_block (c ∷ bs)
-
--- the lines of all blocks but the last
-abbrev pub before_last : List (List SentLine) → List SentLine
-before_last [] = []
-before_last (b ∷ []) = []
-before_last (b ∷ c ∷ bs) = b ++ before_last (c ∷ bs)
-
 -- ---- what passed at the devices
-
--- a line's text where it is of the side in question, else nothing
-abbrev pub if_line_of : Bool → Option (List ℕ) → List (Option (List ℕ))
-if_line_of true text = text ∷ []
-if_line_of false text = []
 
 -- the line of S that an event is, if it is one
 abbrev pub line_in : Colour → Event → List (Option (List ℕ))
-line_in S (Line c text moment) = if_line_of (same_colour c S) text
+line_in S (Line c text moment) = for c S (text ∷ [])
 line_in S _ = []
 
 -- the lines of S
 abbrev pub lines_of : Colour → List Event → List (Option (List ℕ))
-lines_of S [] = []
-lines_of S (e ∷ es) = line_in S e ++ lines_of S es
+lines_of S T = flat_map (line_in S) T
 
 -- the moment that was asked for at an event, if one was
 abbrev pub moment_in : Event → List ℕ
@@ -145,8 +131,7 @@ moment_in _ = []
 
 -- the moments that were asked for
 abbrev pub moments_of : List Event → List ℕ
-moments_of [] = []
-moments_of (e ∷ es) = moment_in e ++ moments_of es
+moments_of T = flat_map moment_in T
 
 -- the event is the end of S's output
 abbrev pub is_end_of : Colour → Event → Bool
@@ -155,8 +140,7 @@ is_end_of S _ = false
 
 -- S's output ended
 abbrev pub has_end : Colour → List Event → Bool
-has_end S [] = false
-has_end S (e ∷ es) = is_end_of S e || has_end S es
+has_end S T = list_any (is_end_of S) T
 
 -- the event is a read of S that fails
 abbrev pub is_read_failure_of : Colour → Event → Bool
@@ -165,10 +149,8 @@ is_read_failure_of S _ = false
 
 -- a read of S failed
 abbrev pub has_read_failure : Colour → List Event → Bool
-has_read_failure S [] = false
-has_read_failure S (e ∷ es) = is_read_failure_of S e || has_read_failure S es
+has_read_failure S T = list_any (is_read_failure_of S) T
 
 -- a write to S failed before the end
 abbrev pub has_write_failure : Colour → List Event → Bool
-has_write_failure S [] = false
-has_write_failure S (e ∷ es) = fails_at e S || has_write_failure S es
+has_write_failure S T = list_any (λ e. fails_at e S) T

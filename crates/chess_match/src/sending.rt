@@ -1,13 +1,13 @@
 //! Sending blocks.
 
 ghost use Rattle.chess_match.specs.declared.block.TheConstants.{BLOCK_LEN};
-ghost use Rattle.std.specs.Prelude.{◌≡◌, ◌+◌, false, ◌≤◌, ◌<◌, ◌++◌, ◌∷◌, [], length, List, is_some, true, if◌then◌else◌};
+ghost use Rattle.std.specs.Prelude.{◌≡◌, ◌+◌, false, ◌≤◌, ◌<◌, ◌++◌, ◌∷◌, [], length, List, is_some, true, if◌then◌else◌, codes};
 ghost use Rattle.arrayvec.specs.ArrayVec.{array_vec_len};
 ghost use Rattle.byte_devices.specs.Devices.{Sends};
 ghost use Rattle.chess_match.specs.Match.{Match};
 ghost use Rattle.chess_match.specs.Rules.{Rules};
 ghost use Rattle.chess_base.specs.declared.man.Move.{Move};
-ghost use Rattle.chess_match.specs.Sent.{DrawOffered, bytes_of, last_move, last_move_lines, clock_lines, opening_lines, setup_lines, end_lines, entry, untold_lines, variant_lines, is_unwritten};
+ghost use Rattle.chess_match.specs.Sent.{Says, bytes_of, last_move, last_move_lines, clock_lines, opening_lines, setup_lines, end_lines, entry, untold_lines, variant_lines, is_unwritten};
 ghost use Rattle.chess_match.specs.Reasons.{fault_of};
 ghost use Rattle.chess_match.specs.ties.Stands.{Stands, player, to};
 
@@ -271,7 +271,7 @@ fn add_entry<G: Played, S: Board>(
 #[tactic(auto, unfolding(crate::specs::Sent::bytes_of))]
 pub(crate) fn add_offer(block: &mut Block, given: Given, side: Colour)
     requires { array_vec_len block.old + 10 ≤ BLOCK_LEN }
-    ensures text { block.new.items ≡ block.old.items ++ bytes_of (to given.draw side (DrawOffered ∷ [])) }
+    ensures text { block.new.items ≡ block.old.items ++ bytes_of (to given.draw side (Says (codes "draw") ∷ [])) }
     ensures len { array_vec_len block.new ≤ array_vec_len block.old + 10 }
 {
     match given.draw {

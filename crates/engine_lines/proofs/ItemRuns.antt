@@ -6,46 +6,31 @@ use Rattle.std.specs.Str.{bytes_eq}
 use Rattle.chess_base.specs.Letters.{is_digit}
 use Rattle.chess_cecp.specs.Lines.{without_front_blanks}
 use Rattle.chess_cecp.proofs.Parts.{wfb_short}
-use Rattle.engine_lines.specs.Words.{is_name_byte, run_of}
-use Rattle.engine_lines.specs.Items.{Item, Value, Digits, Quoted, quoted, quote_at, value_of, is_apart, with_value, with_name, item_of, ends_hello, first_items, items_of, has_done, last_value, said_or, takes, said_again, is_one, fischerandom_again, has_fischerandom, plays_fischerandom}
+use Rattle.chess_pgn.specs.Tokens.{is_name_byte}
+use Rattle.std.specs.List.{prefix_len}
+use Rattle.engine_lines.specs.Items.{Item, Value, Digits, Quoted, quoted, quote_at, value_of, is_apart, with_value, with_name, item_of, ends_hello, first_items, items_of, has_done, unquoted, last_said, takes, said_again, is_one, value_text, has_word, fischerandom_again, plays_fischerandom}
 use Rattle.engine_lines.specs.Seen.{features_of}
 use Rattle.engine_lines.specs.declared.features.Features.{Features}
 
 -- ---- the last value
 
-pub last_value-snoc : (name : List ℕ) (items : List Item) (i : Item)
-    → last_value name (items ++ i ∷ []) ≡ (if bytes_eq i.name name then Some i.value else last_value name items)
-last_value-snoc name [] i = refl
-last_value-snoc name (j ∷ items) i =
-    rw (last_value-snoc name items i) (by_test (bytes_eq i.name name) i.value (last_value name items) _)
-  where
-    by_test : (b : Bool) (v : Value) (rest last : Option Value)
-        → (elim (if b then Some v else rest) [ Some w ↦ Some w | None ↦ last ])
-        ≡ (if b then Some v else (elim rest [ Some w ↦ Some w | None ↦ last ]))
-    by_test true v rest last = refl
-    by_test false v rest last = refl
-
-said_by : (b d : Bool) (v : Value) (rest : Option Value) → said_or d (if b then Some v else rest)
-    ≡ (if b then is_one v else said_or d rest)
-said_by true d v rest = refl
-said_by false d v rest = refl
+pub last_said-snoc : {A : Type 0} (f : Value → A) (default : A) (name : List ℕ) (items : List Item) (i : Item)
+    → last_said f default name (items ++ i ∷ [])
+    ≡ (if bytes_eq i.name name then f i.value else last_said f default name items)
+last_said-snoc f default name [] i = refl
+last_said-snoc f default name (j ∷ items) i =
+    last_said-snoc f (if bytes_eq j.name name then f j.value else default) name items i
 
 pub takes-snoc : (name : List ℕ) (items : List Item) (i : Item)
     → takes name (items ++ i ∷ []) ≡ said_again name i (takes name items)
 unfolding takes
-takes-snoc name items i =
-    rw (last_value-snoc name items i) (said_by (bytes_eq i.name name) _ i.value (last_value name items))
-
-fischerandom_by : (b : Bool) (v : Value) (rest : Option Value) → has_fischerandom (if b then Some v else rest)
-    ≡ (if b then has_fischerandom (Some v) else has_fischerandom rest)
-fischerandom_by true v rest = refl
-fischerandom_by false v rest = refl
+takes-snoc name items i = last_said-snoc is_one _ name items i
 
 pub fischerandom-snoc : (items : List Item) (i : Item) → plays_fischerandom (items ++ i ∷ []) ≡ fischerandom_again i
     (plays_fischerandom items)
 unfolding plays_fischerandom
-fischerandom-snoc items i = rw (last_value-snoc (codes "variants") items i)
-    (fischerandom_by (bytes_eq i.name (codes "variants")) i.value (last_value (codes "variants") items))
+fischerandom-snoc items i =
+    last_said-snoc (λ v. has_word (codes "fischerandom") (value_text v)) true (codes "variants") items i
 
 -- ---- an item takes a byte
 
@@ -65,14 +50,14 @@ value_shorter (c ∷ cs) p e = by_tests (c == 34) (is_digit c) refl e
   where
     by_tests : (a b : Bool) → is_digit c ≡ b
         → (if a then quoted cs else if b then
-        Some (Digits (take (run_of is_digit (c ∷ cs)) (c ∷ cs)), drop (run_of is_digit (c ∷ cs)) (c ∷ cs)) else None)
+        Some (unquoted (c ∷ cs)) else None)
         ≡ Some p → length p.1 < length (c ∷ cs)
     by_tests true b k e = let q = quoted_shorter cs (quote_at cs == length cs) p e in omega arith
     by_tests false true k e =
-        let n : run_of is_digit (c ∷ cs) ≡ run_of is_digit cs + 1 = rw k refl in
-        let d : length (drop (run_of is_digit (c ∷ cs)) (c ∷ cs)) ≡ length (c ∷ cs) - run_of is_digit (c ∷ cs) =
-        length-drop (run_of is_digit (c ∷ cs)) (c ∷ cs) in
-        let s : length p.1 ≡ length (drop (run_of is_digit (c ∷ cs)) (c ∷ cs)) = cc in
+        let n : prefix_len is_digit (c ∷ cs) ≡ 1 + prefix_len is_digit cs = rw k refl in
+        let d : length (drop (prefix_len is_digit (c ∷ cs)) (c ∷ cs)) ≡ length (c ∷ cs) - prefix_len is_digit (c ∷ cs) =
+        length-drop (prefix_len is_digit (c ∷ cs)) (c ∷ cs) in
+        let s : length p.1 ≡ length (drop (prefix_len is_digit (c ∷ cs)) (c ∷ cs)) = cc in
         omega arith
     by_tests false false k e = cc
 
@@ -118,11 +103,11 @@ pub item_room : (text : List ℕ) (p : Item × List ℕ) → item_of text ≡ So
     → (0 < length p.0.name) × (length p.0.name + length p.1 + 2 ≤ length text)
 unfolding item_of
 item_room text p e =
-    let h = with_name_shorter (take (run_of is_name_byte text) text) (drop (run_of is_name_byte text) text) p e in
-    let all : length (take (run_of is_name_byte text) text) + length (drop (run_of is_name_byte text) text)
-    ≡ length text = sym (length-append (take (run_of is_name_byte text) text) (drop (run_of is_name_byte text) text))
-    ∙ ap (λ (l : List ℕ). length l) (take-append-drop (run_of is_name_byte text) text) in
-    let named : length p.0.name ≡ length (take (run_of is_name_byte text) text) =
+    let h = with_name_shorter (take (prefix_len is_name_byte text) text) (drop (prefix_len is_name_byte text) text) p e in
+    let all : length (take (prefix_len is_name_byte text) text) + length (drop (prefix_len is_name_byte text) text)
+    ≡ length text = sym (length-append (take (prefix_len is_name_byte text) text) (drop (prefix_len is_name_byte text) text))
+    ∙ ap (λ (l : List ℕ). length l) (take-append-drop (prefix_len is_name_byte text) text) in
+    let named : length p.0.name ≡ length (take (prefix_len is_name_byte text) text) =
     ap (λ (l : List ℕ). length l) h.0 in
     let some : 0 < length p.0.name = omega (arith, h.1, named) in
     let fewer : length p.0.name + length p.1 + 2 ≤ length text = omega (arith, all, named, h.2) in

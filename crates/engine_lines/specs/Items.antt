@@ -1,10 +1,10 @@
 -- The items of a `feature` line (CECP, version 2: section 9), and what an engine says by them.
 use Rattle.std.specs.Prelude.{ℕ, zero, suc, ◌+◌, ◌==◌, ◌&&◌, ◌||◌, not, Bool, true, false, if◌then◌else◌, List, [], ◌∷◌, ◌++◌, length, take, drop, codes, Option, None, Some, option_and_then}
-use Rattle.std.specs.List.{list_any}
+use Rattle.std.specs.List.{fold, list_any, position_or_len, prefix_len, slice_split, take_while}
 use Rattle.std.specs.Str.{bytes_eq}
 use Rattle.chess_base.specs.Letters.{byte, is_digit}
 use Rattle.chess_cecp.specs.Lines.{is_blank, without_front_blanks}
-use Rattle.engine_lines.specs.Words.{is_name_byte, run_of}
+use Rattle.chess_pgn.specs.Tokens.{is_name_byte}
 
 -- ---- one item, `NAME=VALUE`
 
@@ -20,23 +20,22 @@ pub record Item : Type 0 where
 
 -- how many bytes are before the next double quote
 abbrev pub quote_at : List ℕ → ℕ
-quote_at text = run_of (λ c. not (c == byte "\"")) text
+quote_at text = position_or_len (λ c. c == byte "\"") text
 
 -- the text before the next double quote, and what follows that
 abbrev pub quoted : List ℕ → Option (Value × List ℕ)
 quoted text = if quote_at text == length text then None else Some
     (Quoted (take (quote_at text) text), drop (quote_at text + 1) text)
 
+-- the digits at the front of a text, and what follows them
+abbrev pub unquoted : List ℕ → Value × List ℕ
+unquoted text = (Digits (take_while is_digit text), drop (prefix_len is_digit text) text)
+
 -- the value at the front of a text, and what follows it: digits, or a text in double quotes
 abbrev pub value_of : List ℕ → Option (Value × List ℕ)
 value_of [] = None
 value_of (c ∷ cs) =
-    if c == byte "\"" then quoted cs
-    else if is_digit c then Some (
-      Digits (take (run_of is_digit (c ∷ cs)) (c ∷ cs)),
-      drop (run_of is_digit (c ∷ cs)) (c ∷ cs),
-    )
-    else None
+    if c == byte "\"" then quoted cs else if is_digit c then Some (unquoted (c ∷ cs)) else None
 
 -- here is a space, a tab or the line's end
 abbrev pub is_apart : List ℕ → Bool
@@ -51,13 +50,12 @@ with_value name rest =
 
 -- the item of this name, if it isn't empty and is followed by an equals sign and a value; and what follows
 abbrev pub with_name : List ℕ → List ℕ → Option (Item × List ℕ)
-with_name [] rest = None
-with_name (n ∷ ns) [] = None
 with_name (n ∷ ns) (c ∷ cs) = if c == byte "=" then with_value (n ∷ ns) cs else None
+with_name _ _ = None
 
 -- the item at the front of a text, and what follows it and its spaces and tabs; none where it is malformed
 unfoldable pub item_of : List ℕ → Option (Item × List ℕ)
-item_of text = with_name (take (run_of is_name_byte text) text) (drop (run_of is_name_byte text) text)
+item_of text = with_name (take_while is_name_byte text) (drop (prefix_len is_name_byte text) text)
 
 -- ---- the items of a line
 
@@ -89,61 +87,34 @@ has_done items = list_any ends_hello items
 
 -- ---- what an engine says by its items
 
--- the last value of a name
-abbrev pub last_value : List ℕ → List Item → Option Value
-last_value name [] = None
-last_value name (i ∷ is) =
-    elim (last_value name is) [
-      | Some v ↦ Some v
-      | None ↦ if bytes_eq i.name name then Some i.value else None
-    ]
+-- what f gives of the last value of a name, else a default
+abbrev pub last_said : {A : Type 0} → (Value → A) → A → List ℕ → List Item → A
+last_said f default name items = fold (λ before i. if bytes_eq i.name name then f i.value else before) default items
 
--- whether an engine takes what a name asks for, which it does by default or doesn't
-abbrev pub said_or : Bool → Option Value → Bool
-said_or default None = default
-said_or default (Some v) = is_one v
-
--- what isn't said is 1 for `time` and `draw`, else 0
+-- an engine takes what a name asks for: what isn't said is 1 for `time` and `draw`, else 0
 unfoldable pub takes : List ℕ → List Item → Bool
-takes name items = said_or (bytes_eq name (codes "time") || bytes_eq name (codes "draw")) (last_value name items)
+takes name items = last_said is_one (bytes_eq name (codes "time") || bytes_eq name (codes "draw")) name items
 
 -- the text of a value, without quotes
 abbrev pub value_text : Value → List ℕ
 value_text (Digits ds) = ds
 value_text (Quoted cs) = cs
 
--- the text of a value, else a default
-abbrev pub text_or : List ℕ → Option Value → List ℕ
-text_or default None = default
-text_or default (Some v) = value_text v
-
 -- the text of the last value of a name, else none
 unfoldable pub told : List ℕ → List Item → List ℕ
-told name items = text_or [] (last_value name items)
+told name items = last_said value_text [] name items
 
 -- a comma, space or tab: the words of a value are between these
 abbrev pub is_comma_or_blank : ℕ → Bool
 is_comma_or_blank c = is_blank c || (c == byte ",")
 
--- the rest of a text after a piece is cut at commas, spaces and tabs, and one of the pieces is this word
-abbrev pub has_word_behind : List ℕ → List ℕ → List ℕ → Bool
-has_word_behind word piece [] = bytes_eq piece word
-has_word_behind word piece (c ∷ cs) =
-    if is_comma_or_blank c then bytes_eq piece word
-    || has_word_behind word [] cs else has_word_behind word (piece ++ c ∷ []) cs
-
 -- a text, cut at commas, spaces and tabs, has this word
 unfoldable pub has_word : List ℕ → List ℕ → Bool
-has_word word text = has_word_behind word [] text
+has_word word text = list_any (λ piece. bytes_eq piece word) (slice_split is_comma_or_blank text)
 
--- the value of `variants` names fischerandom; an engine that doesn't say its variants is taken to play it
-abbrev pub has_fischerandom : Option Value → Bool
-has_fischerandom None = true
-has_fischerandom (Some v) = has_word (codes "fischerandom") (value_text v)
-
--- an engine that names its variants names this one
+-- the last value of `variants` names fischerandom; an engine that doesn't say its variants is taken to play it
 unfoldable pub plays_fischerandom : List Item → Bool
-plays_fischerandom items = has_fischerandom (last_value (codes "variants") items)
+plays_fischerandom items = last_said (λ v. has_word (codes "fischerandom") (value_text v)) true (codes "variants") items
 
 -- what an engine takes once it says an item more, and before whether it did
 abbrev pub said_again : List ℕ → Item → Bool → Bool

@@ -1,11 +1,10 @@
 -- Levels of time, their spelling, and the time that a level gives (CECP, version 2: command `level`).
 use Rattle.std.specs.Prelude.{ℕ, ◌+◌, ◌-◌, ◌*◌, ◌/◌, ◌%◌, ◌==◌, ◌≤◌, ◌&&◌, nat_lt, nat_le, not, if◌then◌else◌, List, [], ◌∷◌, ◌++◌, length, take, drop, codes, decimal, Option, None, Some}
-use Rattle.std.specs.List.{list_all}
+use Rattle.std.specs.List.{list_all, position_or_len}
 use Rattle.std.specs.Option.{option_map}
 use Rattle.chess_base.specs.Letters.{byte, is_digit, value_after}
 use Rattle.chess_cecp.specs.Commands.{word_of, argument_of}
 use Rattle.chess_cecp.specs.Lines.{without_front_blanks}
-use Rattle.engine_lines.specs.Words.{run_of}
 
 -- moves of a session, 0 for one session without end; base and increment in seconds
 pub record LevelSeen : Type 0 where
@@ -28,13 +27,12 @@ short_number n text = if nat_lt 0 (length text) && nat_le (length text) n
 
 -- how many bytes are before the first colon
 abbrev pub colon_at : List ℕ → ℕ
-colon_at text = run_of (λ c. not (c == byte ":")) text
+colon_at text = position_or_len (λ c. c == byte ":") text
 
 -- minutes and seconds, both there and with fewer than 60 seconds, in seconds
 abbrev pub in_seconds : Option ℕ → Option ℕ → Option ℕ
-in_seconds None seconds = None
-in_seconds (Some m) None = None
 in_seconds (Some m) (Some s) = if nat_lt s 60 then Some (60 * m + s) else None
+in_seconds _ _ = None
 
 -- minutes, or minutes and seconds with a colon between
 unfoldable pub base_of : List ℕ → Option ℕ
@@ -44,10 +42,8 @@ base_of text =
 
 -- the level of these three numbers, if each is there
 abbrev pub level_by : Option ℕ → Option ℕ → Option ℕ → Option LevelSeen
-level_by None base increment = None
-level_by (Some m) None increment = None
-level_by (Some m) (Some b) None = None
 level_by (Some m) (Some b) (Some i) = Some (record { moves = m; base = b; increment = i })
+level_by _ _ _ = None
 
 -- three words, of moves, base and increment, and nothing after them
 abbrev pub level_in : List ℕ → List ℕ → List ℕ → List ℕ → Option LevelSeen

@@ -1,4 +1,3 @@
-pub mod Words
 pub mod Items
 pub mod EngineLines
 pub mod Levels

@@ -4,7 +4,8 @@ ghost use Rattle.std.specs.Prelude.{◌≡◌, ◌≤◌, ◌<◌, ◌++◌, ◌
 ghost use Rattle.chess_base.specs.Letters.{is_digit};
 ghost use Rattle.engine_lines.specs.Items.{value_of, with_value, with_name, item_of, is_apart, is_one, ends_hello, quote_at, items_of, has_done, is_known, has_word, value_text, said_again, fischerandom_again, is_comma_or_blank};
 ghost use Rattle.engine_lines.specs.Seen.{value_seen, item_seen, value_read, item_read};
-ghost use Rattle.engine_lines.specs.Words.{is_name_byte, run_of};
+ghost use Rattle.chess_pgn.specs.Tokens.{is_name_byte};
+ghost use Rattle.std.specs.List.{prefix_len};
 
 use chess_cecp::{is_blank, trim_start};
 
@@ -27,15 +28,12 @@ pub struct Item<'a> {
 fn is_name_byte(byte: u8) -> bool
     ensures { result ≡ is_name_byte byte }
 {
-    (byte >= b'A' && byte <= b'Z')
-        || (byte >= b'a' && byte <= b'z')
-        || (byte >= b'0' && byte <= b'9')
-        || byte == b'_'
+    byte.is_ascii_alphanumeric() || byte == b'_'
 }
 
 // How many of the first bytes are a name's.
 fn name_len(text: &[u8]) -> usize
-    ensures value { result ≡ run_of is_name_byte text.now }
+    ensures value { result ≡ prefix_len is_name_byte text.now }
     ensures in_range { result ≤ length text.now }
 {
     let mut at = 0;
@@ -47,7 +45,7 @@ fn name_len(text: &[u8]) -> usize
 
 // How many of the first bytes are digits.
 fn digits_len(text: &[u8]) -> usize
-    ensures value { result ≡ run_of is_digit text.now }
+    ensures value { result ≡ prefix_len is_digit text.now }
     ensures in_range { result ≤ length text.now }
 {
     let mut at = 0;

@@ -12,7 +12,7 @@ use Rattle.engine_lines.specs.Seen.{features_of}
 use Rattle.engine_lines.specs.Levels.{LevelSeen}
 use Rattle.chess_match.specs.Match.{Match, Seat, items_heard}
 use Rattle.chess_match.specs.Rules.{Rules}
-use Rattle.chess_match.specs.Sent.{SentLine, DrawOffered, answers_to, entry, block}
+use Rattle.chess_match.specs.Sent.{SentLine, Says, answers_to, entry, block}
 use Rattle.chess_match.specs.declared.phase.Phase.{Phase}
 use Rattle.chess_match.specs.declared.phase.Phase.TheVariants.{Hello, After}
 use Rattle.chess_match.specs.declared.state.Player.{Player}
@@ -62,7 +62,7 @@ nothing_said S = []
 
 -- what is given after the answers: the offer, and what the phase gives
 abbrev pub behind_answers : Rules → Given → Match → Colour → List SentLine
-behind_answers r given m S = to given.draw S (DrawOffered ∷ []) ++ (if given.entered then entry r m S else [])
+behind_answers r given m S = to given.draw S (Says (codes "draw") ∷ []) ++ (if given.entered then entry r m S else [])
 
 -- the block that is given for S: answers to its items, an offer, and what the phase gives
 unfoldable pub given_block : Rules → Given → (Colour → List Item) → Match → Colour → List SentLine

@@ -1,11 +1,11 @@
 use Rattle.std.proofs.Common.{length, drop, ◌-◌, ◌+◌, ◌≡◌, ◌≤◌}
 use Rattle.chess_base.specs.Letters.{is_digit}
-use Rattle.engine_lines.specs.Words.{run_of}
+use Rattle.std.specs.List.{prefix_len}
 use Rattle.engine_lines.proofs.item.digits_len.Given as goal
 
 abbrev pub invariant-loop-at : goal.invariant-loop-at
 invariant-loop-at l = record {
-  before : run_of is_digit l.text ≡ l.at + run_of is_digit (drop l.at l.text);
+  before : prefix_len is_digit l.text ≡ l.at + prefix_len is_digit (drop l.at l.text);
   in_range : l.at ≤ length l.text;
 }
 

@@ -1,8 +1,16 @@
--- Either the byte is one more of the piece, or the piece ends here and isn't the word.
+-- At first nothing was cut (cut_at_once). Then either the byte is one more of the piece, or the piece ends here and
+-- isn't the word.
 use Rattle.std.proofs.Common.{sym, ◌∙◌, arith}
-use Rattle.engine_lines.proofs.Pieces.{over_byte, over_mark}
+use Rattle.engine_lines.proofs.Pieces.{cut_at_once, over_byte, over_mark}
 use Rattle.engine_lines.proofs.item.has_word.Goals.{then-is_comma_or_blank+else-eq, else-is_comma_or_blank}
 use Rattle.engine_lines.proofs.item.has_word.Goals as goal
+
+pub loop-at-init : goal.loop-at-init
+loop-at-init c = record {
+  pieces = cut_at_once c.args.word.now c.args.text.now;
+  in_order = omega arith;
+  in_range = omega arith;
+}
 
 pub loop-at-preserved : goal.loop-at-preserved
 loop-at-preserved c =

@@ -1,10 +1,11 @@
 use Rattle.std.proofs.Common.{length, drop, ◌-◌, ◌+◌, ◌≡◌, ◌≤◌}
-use Rattle.engine_lines.specs.Words.{is_name_byte, run_of}
+use Rattle.std.specs.List.{prefix_len}
+use Rattle.chess_pgn.specs.Tokens.{is_name_byte}
 use Rattle.engine_lines.proofs.item.name_len.Given as goal
 
 abbrev pub invariant-loop-at : goal.invariant-loop-at
 invariant-loop-at l = record {
-  before : run_of is_name_byte l.text ≡ l.at + run_of is_name_byte (drop l.at l.text);
+  before : prefix_len is_name_byte l.text ≡ l.at + prefix_len is_name_byte (drop l.at l.text);
   in_range : l.at ≤ length l.text;
 }
 
