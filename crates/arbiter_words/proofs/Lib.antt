@@ -2,4 +2,3 @@ mod FoundTexts
 mod Literals
 mod Names
 mod Readings
-pub mod Required

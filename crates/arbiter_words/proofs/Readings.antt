@@ -3,8 +3,8 @@ use Rattle.std.proofs.Common.{◌≡◌, ◌∙◌, ◌≤◌, ap, ap₂, is_ok,
 use Rattle.clap.specs.Words.{HasKind, IsAmong, Kinds, Row, Text, found_of, kind_of, rows_of, subcommand_of, subcommand_rows_of}
 use Rattle.clap.specs.declared.error.Error.{Error}
 use Rattle.clap.specs.declared.parser.matches.ArgMatches.{ArgMatches}
-use Rattle.arbiter_words.specs.Grammar.{AreVariants, Lent, arbiter_app, asked, faults_in}
-use Rattle.arbiter_words.specs.Plans.{IsMatchFault, IsMatchPlan, IsParsed, IsPlanOf, IsReadBy, IsReading, Refuses, is_date, level_asked, start_asked, start_of}
+use Rattle.arbiter_grammar.specs.Grammar.{AreVariants, IsComplete, IsParsed, Lent, arbiter_app, asked, faults_in}
+use Rattle.arbiter_words.specs.Plans.{IsMatchFault, IsMatchPlan, IsPlanOf, IsReadBy, IsReading, Refuses, is_date, level_asked, start_asked, start_of}
 use Rattle.arbiter_words.specs.ties.Spelling.{IsJudged, IsJudgedFault, IsMatchOf, IsPlanFault, IsPlanned, IsSpelledOf}
 use Rattle.engine_lines.specs.Levels.{level_of}
 use Rattle.arbiter_words.specs.declared.plan.MatchPlan.{MatchPlan}
@@ -14,7 +14,6 @@ use Rattle.arbiter_words.specs.declared.plan.Plan.{Plan}
 use Rattle.arbiter_words.specs.declared.spelled.MatchWords.{MatchWords}
 use Rattle.arbiter_words.specs.declared.spelled.Spelled.{Spelled}
 use Rattle.arbiter_words.specs.declared.spelled.Spelled.TheVariants as spelled
-use Rattle.arbiter_words.proofs.Required.{IsEntered, required_there}
 
 -- `clap` gave no matches
 abbrev IsRefusalBy : Kinds → WordsFault → Type 0
@@ -123,6 +122,7 @@ module _ (texts : List Text) (m : ArgMatches) (p : IsParsed texts (Ok m)) (o : O
   pub some_asked : (x : Bor Text × Bor ArgMatches) → o ≡ Some x → asked p.0 texts ≡ with_rows x
   some_asked x is = ap or_session (sym met ∙ ap (option_map with_rows) is)
 
-  pub entered_well : (x : Bor Text × Bor ArgMatches) → o ≡ Some x → IsEntered (with_rows x)
-  entered_well x is = subst (λ (y : Option (Text × List Row)). IfSome y IsEntered)
-      (sym met ∙ ap (option_map with_rows) is) (required_there p.0 texts p.2.0)
+  pub entered_well : IfSome (subcommand_rows_of m) IsComplete → (x : Bor Text × Bor ArgMatches) → o ≡ Some x
+      → IsComplete (with_rows x)
+  entered_well complete x is = subst (λ (y : Option (Text × List Row)). IfSome y IsComplete)
+      (sym e ∙ ap (option_map with_rows) is) complete

@@ -1,16 +1,14 @@
 -- What a plan has to do with the arguments.
-use Rattle.std.specs.Prelude.{◌≡◌, ◌≢◌, ◌⊎◌, ◌≤◌, ◌&&◌, ℕ, Bool, List, [], codes, length, map, nat_le, if◌then◌else◌, Option, Some, None, Result, Ok, Err, is_ok, is_some, true, false, unwrap_or, ⊤}
+use Rattle.std.specs.Prelude.{◌≡◌, ◌≢◌, ◌≤◌, ◌&&◌, ℕ, Bool, List, [], codes, length, map, nat_le, if◌then◌else◌, Option, Some, None, Result, Ok, Err, is_ok, is_some, true, false, unwrap_or, ⊤}
 use Rattle.std.specs.List.{list_all, list_any}
 use Rattle.std.specs.Option.{option_map_or}
 use Rattle.std.specs.Str.{bytes_eq}
 use Rattle.std.specs.Str.Parse.{digits_value, without_leading_plus}
-use Rattle.clap.specs.Words.{HasKind, IsAmong, Kinds, Row, Text, all_of, first_of, kind_of, subcommand_of, subcommand_rows_of}
+use Rattle.clap.specs.Words.{IsAmong, Kinds, Row, Text, all_of, first_of, kind_of}
 use Rattle.clap.specs.Facts.{explicit_source}
-use Rattle.clap.specs.ValueTests.{is_unsigned_in}
 use Rattle.clap.specs.declared.error.Error.{Error}
 use Rattle.clap.specs.declared.error.kind.ErrorKind.TheVariants.{OutOfMemory}
-use Rattle.clap.specs.declared.parser.matches.ArgMatches.{ArgMatches}
-use Rattle.arbiter_words.specs.Grammar.{AreVariants, Lent, arbiter_app, asked, faults_in}
+use Rattle.arbiter_grammar.specs.Grammar.{AreVariants, Lent, asked, faults_in}
 use Rattle.arbiter_words.specs.declared.plan.Plan.{Plan}
 use Rattle.arbiter_words.specs.declared.plan.Plan.TheVariants.{Session, Verify, Stub, Match}
 use Rattle.arbiter_words.specs.declared.plan.MatchPlan.{MatchPlan}
@@ -155,28 +153,6 @@ abbrev pub VerifyAsBare : List Text → Type 0
 VerifyAsBare words = (names : Lent) → verify_plan_of (asked names words).1 ≡ bare_plan
 
 -- ---- on the way there
-
--- what `clap` gives for the arguments, by the grammar
-abbrev pub IsParsedBy : Lent → List Text → Result ArgMatches Error → Type 0
-IsParsedBy names words (Ok m) = (faults_in names words ≡ [])
-    × (subcommand_rows_of m ≡ subcommand_of (arbiter_app names) words)
-IsParsedBy names words (Err e) = HasKind (faults_in names words) e
-
-abbrev pub IsParsed : List Text → Result ArgMatches Error → Type 0
-IsParsed words result = (names : Lent) × AreVariants names × IsParsedBy names words result
-
--- the name is a subcommand's
-abbrev pub IsCommand : Text → Type 0
-IsCommand name = (name ≡ codes "session") ⊎ (name ≡ codes "verify") ⊎ (name ≡ codes "stub") ⊎ (name ≡ codes "match")
-
--- both programs are given where a match is asked for
-abbrev pub NamesBoth : Text × List Row → Type 0
-NamesBoth p = p.0 ≡ codes "match" → (is_some (first_of (codes "white") p.1) ≡ true)
-    × (is_some (first_of (codes "black") p.1) ≡ true)
-
--- where a number of games is given, it is from 1 to 1,000
-abbrev pub HasGames : List Row → Type 0
-HasGames rows = (t : Text) → first_of (codes "games") rows ≡ Some t → is_unsigned_in 1 1000 t ≡ true
 
 -- out of memory is reported as such, and what else `clap` gave is reported as it is
 abbrev pub Refuses : Error → WordsFault → Type 0

@@ -9,7 +9,6 @@
 #![tactic(auto)]
 
 mod fault;
-mod grammar;
 mod laws;
 mod plan;
 mod reading;

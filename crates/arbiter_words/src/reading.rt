@@ -1,23 +1,15 @@
 //! Reading the arguments.
 
-ghost use Rattle.std.specs.Prelude.{◌≡◌, [], IfErr, IfOk, map, option_map, true};
+ghost use Rattle.std.specs.Prelude.{◌≡◌, map, option_map};
 ghost use Rattle.clap.specs.Words.{found_of, rows_of, subcommand_rows_of};
-ghost use Rattle.arbiter_words.specs.Plans.{IsParsed, IsReading};
+ghost use Rattle.arbiter_words.specs.Plans.{IsReading};
 
 use crate::fault::{WordsFault, refusal};
-use crate::grammar::arbiter_command;
 use crate::plan::{Plan, planned};
 use crate::spelled::{Spelled, spelled_in};
-use clap::error::ErrorKind;
-use clap::{ArgMatches, Error};
+use arbiter_grammar::parse;
+use clap::ArgMatches;
 use std::alloc::{AllocError, Global};
-
-// What `clap` finds in the arguments.
-fn parsed<'a>(alloc: Global, words: &'a [&'a str]) -> Result<ArgMatches<'a>, Error>
-    ensures { IsParsed (map (λ w. w.now) words.entry.now) result }
-{
-    arbiter_command(alloc)?.try_get_matches_from(words)
-}
 
 // The subcommand that was met, with its matches.
 fn entered<'m, 'a>(matches: &'m ArgMatches<'a>) -> Option<(&'a str, &'m ArgMatches<'a>)>
@@ -35,7 +27,7 @@ fn entered<'m, 'a>(matches: &'m ArgMatches<'a>) -> Option<(&'a str, &'m ArgMatch
 pub fn read_words<'a>(alloc: Global, words: &'a [&'a str]) -> Result<Plan<'a>, WordsFault>
     ensures { IsReading (map (λ w. w.now) words.entry.now) result }
 {
-    let matches = match parsed(alloc, words) {
+    let matches = match parse(alloc, words) {
         Ok(matches) => matches,
         Err(error) => return Err(refusal(error)),
     };

@@ -2,7 +2,8 @@
 
 ghost use Rattle.std.specs.Prelude.{◌≡◌, ◌≤◌, [], IfOk, IfSome, IsSome, true, codes, is_some, map, option_map, unwrap_or};
 ghost use Rattle.clap.specs.Words.{all_of, first_of, found_of, rows_of, subcommand_rows_of};
-ghost use Rattle.arbiter_words.specs.Plans.{HasGames, IsCommand, NamesBoth, games_in, is_set, text_or, variant_in, variant_named, verify_plan_of};
+ghost use Rattle.arbiter_grammar.specs.Grammar.{HasGames, IsCommand, NamesBoth};
+ghost use Rattle.arbiter_words.specs.Plans.{games_in, is_set, text_or, variant_in, variant_named, verify_plan_of};
 ghost use Rattle.arbiter_words.specs.ties.Spelling.{IsMatchOf, IsSpelledOf};
 
 use crate::plan::VerifyPlan;

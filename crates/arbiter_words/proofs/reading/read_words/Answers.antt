@@ -2,8 +2,7 @@
 -- took the arguments (Readings.entered_well). What is planned by it is a reading of the arguments
 -- (Readings.planned_reading).
 use Rattle.std.proofs.Common.{rules, ◌≡◌, ap, sym, subst, map, Some, None, Ok}
-use Rattle.arbiter_words.specs.Grammar.{asked}
-use Rattle.arbiter_words.specs.Plans.{IsParsed}
+use Rattle.arbiter_grammar.specs.Grammar.{IsParsed, asked}
 use Rattle.arbiter_words.specs.ties.Spelling.{IsSpelledOf}
 use Rattle.arbiter_words.proofs.Readings.{refused_reading, planned_reading, none_asked, some_asked, entered_well}
 use Rattle.arbiter_words.proofs.reading.read_words.Goals as goal
@@ -13,35 +12,35 @@ pub spelled_in-requires-clause-known : goal.spelled_in-requires-clause-known
 spelled_in-requires-clause-known c =
     let texts = map (λ w. w.now) c.args.words.now in
     let is : c.entered.result ≡ Some (c.in-Some.name, c.in-Some.found) = search rules in
-    let parsed : IsParsed texts (Ok c.in-Ok.matches) = c.in-Ok.ensures in
-    (entered_well texts c.in-Ok.matches parsed c.entered.result c.entered.ensures (c.in-Some.name, c.in-Some.found)
-    is).1
+    let parsed : IsParsed texts (Ok c.in-Ok.matches) = c.in-Ok.ensures.parsed in
+    (entered_well texts c.in-Ok.matches parsed c.entered.result c.entered.ensures c.in-Ok.ensures.complete
+    (c.in-Some.name, c.in-Some.found) is).1
 
 pub spelled_in-requires-clause-both : goal.spelled_in-requires-clause-both
 spelled_in-requires-clause-both c =
     let texts = map (λ w. w.now) c.args.words.now in
     let is : c.entered.result ≡ Some (c.in-Some.name, c.in-Some.found) = search rules in
-    let parsed : IsParsed texts (Ok c.in-Ok.matches) = c.in-Ok.ensures in
-    (entered_well texts c.in-Ok.matches parsed c.entered.result c.entered.ensures (c.in-Some.name, c.in-Some.found)
-    is).0
+    let parsed : IsParsed texts (Ok c.in-Ok.matches) = c.in-Ok.ensures.parsed in
+    (entered_well texts c.in-Ok.matches parsed c.entered.result c.entered.ensures c.in-Ok.ensures.complete
+    (c.in-Some.name, c.in-Some.found) is).0
 
 pub spelled_in-requires-clause-games : goal.spelled_in-requires-clause-games
 spelled_in-requires-clause-games c =
     let texts = map (λ w. w.now) c.args.words.now in
     let is : c.entered.result ≡ Some (c.in-Some.name, c.in-Some.found) = search rules in
-    let parsed : IsParsed texts (Ok c.in-Ok.matches) = c.in-Ok.ensures in
-    (entered_well texts c.in-Ok.matches parsed c.entered.result c.entered.ensures (c.in-Some.name, c.in-Some.found)
-    is).2
+    let parsed : IsParsed texts (Ok c.in-Ok.matches) = c.in-Ok.ensures.parsed in
+    (entered_well texts c.in-Ok.matches parsed c.entered.result c.entered.ensures c.in-Ok.ensures.complete
+    (c.in-Some.name, c.in-Some.found) is).2
 
 pub returns-in-Err : goal.returns-in-Err
-returns-in-Err c = refused_reading (map (λ w. w.now) c.args.words.now) c.in-Err.error c.refusal.result c.in-Err.ensures
-    c.refusal.ensures
+returns-in-Err c = refused_reading (map (λ w. w.now) c.args.words.now) c.in-Err.error c.refusal.result
+    c.in-Err.ensures.parsed c.refusal.ensures
 
 pub returns : goal.returns
 returns c =
     let texts = map (λ w. w.now) c.args.words.now in
     let m = c.in-Ok.matches in
-    let parsed : IsParsed texts (Ok m) = c.in-Ok.ensures in
+    let parsed : IsParsed texts (Ok m) = c.in-Ok.ensures.parsed in
     let spelled : IsSpelledOf (asked parsed.0 texts) c.match-entered.spelled = elim c.match-entered.branch [
       | in-None w ↦
           let is : c.entered.result ≡ None = search rules in

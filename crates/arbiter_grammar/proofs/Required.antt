@@ -21,8 +21,7 @@ use Rattle.clap.specs.declared.error.kind.ErrorKind.TheVariants as kind
 use Rattle.clap.specs.declared.parser.matches.ValueSource.{ValueSource}
 use Rattle.clap.specs.declared.parser.matches.ValueSource.TheVariants.{CommandLine, DefaultValue}
 use Rattle.clap.proofs.WalkLemmas.{both}
-use Rattle.arbiter_words.specs.Grammar.{Lent, arbiter_app}
-use Rattle.arbiter_words.specs.Plans.{HasGames, IsCommand, NamesBoth}
+use Rattle.arbiter_grammar.specs.Grammar.{IsCommand, IsComplete, Lent, arbiter_app}
 use Rattle.clap.specs.ValueTests.{is_unsigned_in}
 use Rattle.clap.specs.Takes.{value_passes}
 use Rattle.clap.specs.Faults.{values_fault}
@@ -676,12 +675,9 @@ subs_need names =
       ),
     )
 
-abbrev pub IsEntered : Text × List Row → Type 0
-IsEntered p = NamesBoth p × IsCommand p.0 × HasGames p.1
-
 level_of : (o : Option Shape) (words : List Text) → IfSome o Needs
     → option_map_or (λ s. level_fault s [] nothing_held words false []) o [] ≡ []
-    → IfSome (option_map (λ s. rows_at s words) o) IsEntered
+    → IfSome (option_map (λ s. rows_at s words) o) IsComplete
 level_of None words n none = tt
 level_of (Some s) words n none = (
   λ e.
@@ -693,13 +689,13 @@ level_of (Some s) words n none = (
 )
 
 stop_level : (a : App) (stop : Option (Text × List Text)) → AllNeed a.subs → entered_fault a stop ≡ []
-    → IfSome (entered a stop) IsEntered
+    → IfSome (entered a stop) IsComplete
 stop_level a None n none = tt
 stop_level a (Some p) n none = level_of (find (λ s. answers_to p.0 (label_of s)) a.subs) p.1 (find_level _ a.subs n)
     none
 
 pub required_there : (names : Lent) (words : List Text) → fault_of (arbiter_app names) words ≡ []
-    → IfSome (subcommand_of (arbiter_app names) words) IsEntered
+    → IfSome (subcommand_of (arbiter_app names) words) IsComplete
 required_there names words none =
     let whole = built (arbiter_app names) in
     stop_level whole (stop_after whole.top.rules (names_of whole) (argument_words (arbiter_app names) words))

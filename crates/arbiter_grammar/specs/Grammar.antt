@@ -1,7 +1,10 @@
 -- The grammar of the command line, as `clap` sees it.
-use Rattle.std.specs.Prelude.{◌≡◌, List, codes, [], ◌∷◌, Some, map, true, unwrap_or}
+use Rattle.std.specs.Prelude.{◌≡◌, ◌⊎◌, List, codes, [], ◌∷◌, Some, Result, Ok, Err, is_some, map, true, unwrap_or}
 use Rattle.std.specs.Borrow.{Bor}
-use Rattle.clap.specs.Words.{App, Kinds, Row, Rule, Text, fault_of, new_app, new_rule, subcommand_of, with_rule, with_subcommand}
+use Rattle.clap.specs.Words.{App, HasKind, Kinds, Row, Rule, Text, fault_of, first_of, new_app, new_rule, subcommand_of, subcommand_rows_of, with_rule, with_subcommand}
+use Rattle.clap.specs.ValueTests.{is_unsigned_in}
+use Rattle.clap.specs.declared.error.Error.{Error}
+use Rattle.clap.specs.declared.parser.matches.ArgMatches.{ArgMatches}
 use Rattle.clap.specs.declared.builder.value_parser.ValueParser.TheVariants.{Names, Unsigned}
 use Rattle.clap.specs.declared.builder.action.ArgAction.TheVariants.{Append, SetTrue}
 
@@ -85,3 +88,29 @@ asked names words = unwrap_or (subcommand_of (arbiter_app names) words) (codes "
 -- the kinds of fault that `clap` may report of the arguments, by its meaning of the grammar; none where it takes them
 abbrev pub faults_in : Lent → List Text → Kinds
 faults_in names words = fault_of (arbiter_app names) words
+
+-- what `clap` gives for the arguments, by the grammar
+abbrev pub IsParsedBy : Lent → List Text → Result ArgMatches Error → Type 0
+IsParsedBy names words (Ok m) = (faults_in names words ≡ [])
+    × (subcommand_rows_of m ≡ subcommand_of (arbiter_app names) words)
+IsParsedBy names words (Err e) = HasKind (faults_in names words) e
+
+abbrev pub IsParsed : List Text → Result ArgMatches Error → Type 0
+IsParsed words result = (names : Lent) × AreVariants names × IsParsedBy names words result
+
+-- the name is a subcommand's
+abbrev pub IsCommand : Text → Type 0
+IsCommand name = (name ≡ codes "session") ⊎ (name ≡ codes "verify") ⊎ (name ≡ codes "stub") ⊎ (name ≡ codes "match")
+
+-- both programs are given where a match is asked for
+abbrev pub NamesBoth : Text × List Row → Type 0
+NamesBoth p = p.0 ≡ codes "match" → (is_some (first_of (codes "white") p.1) ≡ true)
+    × (is_some (first_of (codes "black") p.1) ≡ true)
+
+-- where a number of games is given, it is from 1 to 1,000
+abbrev pub HasGames : List Row → Type 0
+HasGames rows = (t : Text) → first_of (codes "games") rows ≡ Some t → is_unsigned_in 1 1000 t ≡ true
+
+-- what follows a subcommand is complete
+abbrev pub IsComplete : Text × List Row → Type 0
+IsComplete p = NamesBoth p × IsCommand p.0 × HasGames p.1

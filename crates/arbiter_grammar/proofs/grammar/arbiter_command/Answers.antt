@@ -3,8 +3,8 @@
 use Rattle.std.proofs.Common.{rules, ◌≡◌, ◌∙◌, ap, ap₂}
 use Rattle.std.proofs.lemmas.Result.{IfOk-weaker}
 use Rattle.clap.specs.Words.{App, app_of, with_subcommand}
-use Rattle.arbiter_words.specs.Grammar.{bare_app}
-use Rattle.arbiter_words.proofs.grammar.arbiter_command.Goals as goal
+use Rattle.arbiter_grammar.specs.Grammar.{bare_app}
+use Rattle.arbiter_grammar.proofs.grammar.arbiter_command.Goals as goal
 
 pub returns : goal.returns
 returns c =

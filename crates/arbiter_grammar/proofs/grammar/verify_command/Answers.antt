@@ -3,8 +3,8 @@
 use Rattle.std.proofs.Common.{rules, ◌≡◌, ◌∙◌, ap₂, codes, Bool, ◌||◌}
 use Rattle.std.proofs.lemmas.Result.{IfOk-weaker}
 use Rattle.clap.specs.Words.{rule_of, with_rule}
-use Rattle.arbiter_words.specs.Grammar.{flag_rule}
-use Rattle.arbiter_words.proofs.grammar.verify_command.Goals as goal
+use Rattle.arbiter_grammar.specs.Grammar.{flag_rule}
+use Rattle.arbiter_grammar.proofs.grammar.verify_command.Goals as goal
 
 pub returns-clause-app : goal.returns-clause-app
 returns-clause-app c =
