@@ -25,6 +25,7 @@ SHORT = {
     "cecp": "chess_cecp",
     "lines": "engine_lines",
     "match": "chess_match",
+    "grammar": "arbiter_grammar",
     "words": "arbiter_words",
     "arbiter": "chess_arbiter",
     "devices_tests": "byte_devices_tests",
