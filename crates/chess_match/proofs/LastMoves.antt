@@ -12,7 +12,8 @@ last_at : (as_san : Bool) (start : Setup) (ms : List Move) (i : ℕ) (m : Move) 
     → slice_get ms i ≡ Some m
     → text_of_last as_san start ms ≡ (let p = last start (take i ms) in if as_san then san p m else shown_move p m)
 last_at as_san start [] i m n e = cc
-last_at as_san start (x ∷ []) zero m n e = let same : x ≡ m = cc in ap (λ (m : Move). if as_san then san start m else shown_move start m) same
+last_at as_san start (x ∷ []) zero m n e = let same : x ≡ m =
+    cc in ap (λ (m : Move). if as_san then san start m else shown_move start m) same
 last_at as_san start (x ∷ []) (suc i) m n e = cc
 last_at as_san start (x ∷ y ∷ ms) zero m n e = absurd (omega (arith, n))
 last_at as_san start (x ∷ y ∷ ms) (suc i) m n e = last_at as_san (after start x) (y ∷ ms) i m (omega (arith, n)) e

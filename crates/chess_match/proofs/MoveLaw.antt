@@ -103,7 +103,8 @@ setup_moves r = at r.variant r.start_fen
   where
     at : (v : Variant) (fen : Option (List ℕ))
         → flat_map move_told (variant_lines v ++ (Says (codes "level "
-        ++ level_text r.level) ∷ Says (codes "nopost") ∷ Says (codes "easy") ∷ Says (codes "force") ∷ (start_lines fen ++ ping 1 ∷ []))) ≡ []
+        ++ level_text r.level) ∷ Says (codes "nopost") ∷ Says (codes "easy") ∷ Says (codes "force")
+        ∷ (start_lines fen ++ ping 1 ∷ []))) ≡ []
     at Normal None = refl
     at Normal (Some fen) = refl
     at Fischerandom None = refl

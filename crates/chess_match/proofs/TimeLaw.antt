@@ -54,7 +54,8 @@ setup_times own r = at own r.variant r.start_fen
   where
     at : (own : Bool) (v : Variant) (fen : Option (List ℕ))
         → flat_map (numbers own) (Says (codes "new") ∷ (variant_lines v
-        ++ (Says (codes "level " ++ level_text r.level) ∷ Says (codes "nopost") ∷ Says (codes "easy") ∷ Says (codes "force") ∷ (start_lines fen ++ ping 1 ∷ [])))) ≡ []
+        ++ (Says (codes "level " ++ level_text r.level) ∷ Says (codes "nopost") ∷ Says (codes "easy")
+        ∷ Says (codes "force") ∷ (start_lines fen ++ ping 1 ∷ [])))) ≡ []
     at true Normal None = refl
     at true Normal (Some fen) = refl
     at true Fischerandom None = refl
@@ -138,7 +139,8 @@ opening_times own r m S = at (nat_lt 0 (length (seat m S).used))
 in_openings : (own : Bool) → InOpenings (numbers own)
 in_openings own r m S (Hello c) e = at own (same_colour c S)
   where
-    at : (own b : Bool) → flat_map (numbers own) (if b then Says (codes "xboard") ∷ Says (codes "protover 2") ∷ [] else []) ≡ []
+    at : (own b : Bool) → flat_map (numbers own) (if b then Says (codes "xboard") ∷ Says (codes "protover 2")
+        ∷ [] else []) ≡ []
     at true true = refl
     at false true = refl
     at true false = refl

@@ -43,8 +43,8 @@ fault_words NoSetboard = codes " has no setboard"
 fault_words Flood = codes " sent too many lines"
 fault_words NoVariant = codes " has no fischerandom"
 
--- how an end is reported: its outcome, unfinished where an engine failed or the game is too long; its comment, in braces
--- after `result` and the outcome; and how the game ended, as PGN says it
+-- how an end is reported: its outcome, unfinished where an engine failed or the game is too long; its comment, in
+-- braces after `result` and the outcome; and how the game ended, as PGN says it
 abbrev pub reported : Reason → Outcome × List ℕ × HowEnded
 reported (Decided v) = (verdict_outcome v, verdict_comment v, Normal)
 reported (Claimed c) = (Draw, claim_comment c, Normal)

@@ -93,7 +93,7 @@ opening_lines r m S =
     then clock_lines r m S ++ last_move_lines r m S
     else last_move_lines r m S ++ (clock_lines r m S ++ Says (codes "go") ∷ [])
 
--- what is c's alone, as S sees it
+-- a list that is c's alone: S has it where S is c, else nothing
 abbrev pub for : {A : Type 0} → Colour → Colour → List A → List A
 for c S xs = if same_colour c S then xs else []
 
