@@ -65,6 +65,16 @@ NextLine n r r' held held' result =
     (given : List ℕ) × Consumes r.known_bytes r'.known_bytes given × Waits n r r' held given
     × Got n r r' held held' given result
 
+-- a line, where there is one
+abbrev pub line_if : Bool → LineSeen → Option LineSeen
+line_if true line = Some line
+line_if false line = None
+
+-- what a call gave that read the next line into this one, where there was one
+abbrev pub line_read : {E : Type 0} → Result Bool E → LineSeen → Result (Option LineSeen) E
+line_read (Ok some) line = Ok (line_if some line)
+line_read (Err e) line = Err e
+
 -- both stand for what has come of a line: whatever follows, the lines are the same
 abbrev pub SameLines : ℕ → List ℕ → List ℕ → Type 0
 SameLines n part part' = (told : Bool) (bytes : List ℕ) → lines_from n told part bytes ≡ lines_from n told part' bytes

@@ -1,9 +1,9 @@
 //! The lines of a stream, in whatever pieces it comes.
 
-ghost use Rattle.std.specs.Prelude.{◌≡◌, ◌+◌, ◌≤◌, ◌==◌, [], ◌∷◌, ◌++◌, length, take, true, false, MatchOption, MatchResult};
+ghost use Rattle.std.specs.Prelude.{◌≡◌, ◌≢◌, ◌+◌, ◌≤◌, ◌==◌, [], ◌∷◌, ◌++◌, length, take, true, false, Ok, MatchOption, MatchResult};
 ghost use Rattle.byte_devices.specs.Devices.{GavePiece, FailedToRead};
-ghost use Rattle.chess_cecp.specs.Lines.{line_of, nothing_held, trimmed};
-ghost use Rattle.chess_cecp.specs.Next.{NextLine, SameLines, HeldLine, Filled};
+ghost use Rattle.chess_cecp.specs.Lines.{empty_line, line_of, nothing_held, trimmed};
+ghost use Rattle.chess_cecp.specs.Next.{NextLine, SameLines, HeldLine, Filled, line_if, line_read};
 
 use crate::trim::trim;
 use arrayvec::ArrayVec;
@@ -31,6 +31,17 @@ impl<const N: usize> Model for Line<N> {
 }
 
 impl<const N: usize> Line<N> {
+    /// An empty line, to be read into.
+    pub fn new() -> Self
+        ensures { result ≡ empty_line }
+    {
+        Line {
+            text: ArrayVec::new(),
+            too_long: false,
+            ended: false,
+        }
+    }
+
     /// Its text: without its end, one byte 13 before that, and spaces and tabs at both ends. Of a line that is too
     /// long, its first 64 bytes as they came, or N where N is less.
     pub fn text(&self) -> &[u8]
@@ -102,19 +113,16 @@ impl<const N: usize> Part<N> {
         }
     }
 
-    fn finish(&mut self, is_ended: bool) -> Line<N>
-        ensures line { result ≡ line_of N is_ended self.old }
+    // Puts it into a line, in place of what that held.
+    fn finish(&mut self, is_ended: bool, line: &mut Line<N>)
+        ensures line { line.new ≡ line_of N is_ended self.old }
         ensures empty { self.new ≡ [] }
     {
-        let text = kept_text(&self.bytes, self.is_too_long);
-        let is_too_long = self.is_too_long;
+        put_text(&self.bytes, self.is_too_long, &mut line.text);
+        line.too_long = self.is_too_long;
+        line.ended = is_ended;
         self.bytes.clear();
         self.is_too_long = false;
-        Line {
-            text,
-            too_long: is_too_long,
-            ended: is_ended,
-        }
     }
 }
 
@@ -127,21 +135,20 @@ fn beginning(text: &[u8]) -> &[u8]
     if text.len() > 64 { &text[..64] } else { text }
 }
 
-// What a line says whose first bytes are kept.
-fn kept_text<const N: usize>(bytes: &ArrayVec<u8, N>, is_too_long: bool) -> ArrayVec<u8, N>
-    ensures long { is_too_long ≡ true → result.items ≡ take 64 bytes.now.items }
-    ensures short { is_too_long ≡ false → result.items ≡ trimmed bytes.now.items }
+// Puts what a line says whose first bytes are kept into `text`.
+fn put_text<const N: usize>(bytes: &ArrayVec<u8, N>, is_too_long: bool, text: &mut ArrayVec<u8, N>)
+    ensures long { is_too_long ≡ true → text.new.items ≡ take 64 bytes.now.items }
+    ensures short { is_too_long ≡ false → text.new.items ≡ trimmed bytes.now.items }
 {
     let kept = if is_too_long {
         beginning(bytes.as_slice())
     } else {
         trim(bytes.as_slice())
     };
-    let mut text = ArrayVec::new();
+    text.clear();
     if text.try_extend_from_slice(kept).is_err() {
         unreachable!();
     }
-    text
 }
 
 const PIECE_LEN: usize = 1024;
@@ -227,17 +234,19 @@ impl<const N: usize> Lines<N> {
         }
     }
 
-    // Looks in what is held for a line that byte 10 ended.
-    fn held_line(&mut self) -> Option<Line<N>>
-        ensures { HeldLine N self.old self.new result }
+    // Looks in what is held for a line that byte 10 ended, reads it into `line`, and returns whether there was one.
+    fn held_line(&mut self, line: &mut Line<N>) -> bool
+        ensures held { HeldLine N self.old self.new (line_if result line.new) }
+        ensures kept { result ≡ false → line.new ≡ line.old }
     {
         while let Some(byte) = self.window.take_byte() {
             if byte == b'\n' {
-                return Some(self.part.finish(true));
+                self.part.finish(true, line);
+                return true;
             }
             self.part.add(byte);
         }
-        None
+        false
     }
 
     /// The next line, or `None` where the input ended and nothing was left. It reads only where it holds no whole line.
@@ -247,15 +256,37 @@ impl<const N: usize> Lines<N> {
     pub fn next<R: Input>(&mut self, reader: &mut R) -> Result<Option<Line<N>>, ReadFault>
         ensures { NextLine N (R.seen reader.old) (R.seen reader.new) self.old self.new result }
     {
+        let mut line = Line::new();
+        match self.read_line(reader, &mut line) {
+            Ok(true) => Ok(Some(line)),
+            Ok(false) => Ok(None),
+            Err(fault) => Err(fault),
+        }
+    }
+
+    /// Reads the next line into `line`, in place of what that held, and returns whether there was one: there was none
+    /// where the input ended and nothing was left. It reads only where it holds no whole line.
+    ///
+    /// # Errors
+    /// As of [`Lines::next`]. Without a line, `line` is as it was.
+    pub fn read_line<R: Input>(
+        &mut self,
+        reader: &mut R,
+        line: &mut Line<N>,
+    ) -> Result<bool, ReadFault>
+        ensures next { NextLine N (R.seen reader.old) (R.seen reader.new) self.old self.new (line_read result line.new) }
+        ensures kept { result ≢ Ok true → line.new ≡ line.old }
+    {
         loop {
-            if let Some(line) = self.held_line() {
-                return Ok(Some(line));
+            if self.held_line(line) {
+                return Ok(true);
             }
             if self.window.fill(reader)? == 0 {
                 if self.part.is_empty() {
-                    return Ok(None);
+                    return Ok(false);
                 }
-                return Ok(Some(self.part.finish(false)));
+                self.part.finish(false, line);
+                return Ok(true);
             }
         }
     }

@@ -3,7 +3,7 @@
 ghost use Rattle.chess_game.specs.Game.{IsPlayable};
 ghost use Rattle.chess_cecp.specs.Run.{Transcript, Ran};
 
-use crate::lines::Lines;
+use crate::lines::{Line, Lines};
 use crate::session::{COMMAND_LEN, Go, Session};
 use byte_devices::{Input, Output};
 use chess_moves::Board;
@@ -41,12 +41,13 @@ pub fn run_session<R: Input, W: Output, B: Board>(
         session.old session.new t result }
 {
     let mut lines: Lines<COMMAND_LEN> = Lines::new();
+    let mut line = Line::new();
     loop {
-        let line = match lines.next(reader) {
-            Ok(Some(line)) => line,
-            Ok(None) => return Ok(End::InputEnded),
+        match lines.read_line(reader, &mut line) {
+            Ok(true) => {}
+            Ok(false) => return Ok(End::InputEnded),
             Err(_) => return Err(Fault::Read),
-        };
+        }
         match session.answer(&line, writer) {
             Ok(Go::On) => {}
             Ok(Go::Quit) => return Ok(End::Quit),

@@ -5,12 +5,12 @@ use Rattle.chess_cecp.proofs.RunLemmas.{SoFar}
 use Rattle.chess_cecp.proofs.run.run_session.Given as goal
 
 -- the lines so far were answered, and none of them was a quit
-abbrev pub invariant-loop-line : goal.invariant-loop-line
-invariant-loop-line g l =
+abbrev pub invariant-loop-session : goal.invariant-loop-session
+invariant-loop-session g l =
     let input = g.R.Input.seen in
     let output = g.W.Output.seen in
     (given : List ℕ) × (done : List LineSeen) × SoFar (input l.fn.reader) (input l.reader) (output l.fn.writer)
     (output l.writer) l.fn.session l.session l.lines given done
 
-abbrev pub decreases-loop-line : goal.decreases-loop-line
-decreases-loop-line g l = work (g.R.Input.seen l.reader) l.lines
+abbrev pub decreases-loop-session : goal.decreases-loop-session
+decreases-loop-session g l = work (g.R.Input.seen l.reader) l.lines

@@ -8,6 +8,7 @@ invariant-loop-byte g l = record {
   same : (told : Bool) (rest : List ℕ) → lines_held g.row.N told l.fn.self rest ≡ lines_from g.row.N told
       l.self-inside.part (l.self-inside.window ++ rest);
   fewer : length l.self-inside.window ≤ length l.fn.self.coming;
+  kept : l.line ≡ l.fn.line;
 }
 
 abbrev pub decreases-loop-byte : goal.decreases-loop-byte
