@@ -113,3 +113,12 @@ same_written men s o e = ap (set men s) (sym e) ∙ set-get_or men s None
 
 pub cleared : (men : Men) (s : ℕ) → s < 64 → length men ≡ 64 → man_at (set men s None) s ≡ None
 cleared men s l all = let inside : s < length men = omega arith in get_or-set_same men s None None inside
+
+-- ---- two squares
+
+pub still_empty : (men : Men) (a b : ℕ) → length men ≡ 64 → a < 64 → man_at men b ≡ None → man_at (set men a None) b ≡ None
+still_empty men a b all low bare =
+    elim (cases_eq b a) [
+      | inl here ↦ rw here (cleared men a low all)
+      | inr away ↦ get_or-set_other men a b None None away ∙ bare
+    ]

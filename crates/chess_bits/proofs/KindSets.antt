@@ -1,6 +1,6 @@
 -- A piece put on an empty square, or taken from its square.
 use mathlib.Core.Bool.{and-true, and-false, or-true, or-false}
-use Rattle.std.proofs.Common.{◌≡◌, ℕ, ◌<◌, inl, inr, Bool, true, false, not, ◌&&◌, ◌||◌, ◌==◌, refl, sym, ap, ◌∙◌, arith, Option, Some, None, List, length, get_or, set, get_or-set_same, get_or-set_other}
+use Rattle.std.proofs.Common.{◌≡◌, ℕ, ◌<◌, inl, inr, Bool, true, false, not, ◌&&◌, ◌||◌, ◌==◌, refl, sym, ap, ◌∙◌, arith, Option, Some, None, List, length, length-set, subst, get_or, set, get_or-set_same, get_or-set_other}
 use Rattle.std.proofs.lemmas.Bool.{and_left, and_right, cases_Bool, eq-eqb, ne_eqb, cases_eq}
 use Rattle.std.proofs.lemmas.List.{get_or_default}
 use Rattle.chess_base.specs.declared.man.Colour.{Colour}
@@ -13,6 +13,7 @@ use Rattle.chess_base.proofs.MenFacts.{same_colour-self, is_man-none}
 use Rattle.chess_moves.specs.Sets.{has}
 use Rattle.chess_bits.specs.ties.Occupancy.{IsLater}
 use Rattle.chess_bits.specs.ties.KindSets.{AreKindsAt, IsKinds}
+use Rattle.chess_bits.proofs.BoardSets.{set_twice, still_empty}
 
 kind_below : (x : Kind) → kind_number x < 6
 kind_below King = omega arith
@@ -120,6 +121,22 @@ lift_kinds sets men c x s w d six all ls there h made =
     let read : get_or sets (kind_number x) d ≡ get_or sets (kind_number x) 0 =
     get_or_default sets (kind_number x) d 0 in_sets in
     record { of_kind = λ y k lk. lift_at sets men c x y s k w six all ls lk there h (λ j l. made j l ∙ rw read refl) }
+
+pub shift_kinds : (sets : List ℕ) (men : Men) (c : Colour) (x : Kind) (a b v w d : ℕ)
+    → length sets ≡ 6 → length men ≡ 64 → a < 64 → b < 64 → man_at men a ≡ Some (record { colour = c; kind = x })
+    → man_at men b ≡ None → IsKinds sets c men
+    → ((j : ℕ) → j < 64 → has v j ≡ (has (get_or sets (kind_number x) d) j && not (j == a)))
+    → ((j : ℕ) → has w j ≡ (has v j || (j == b)))
+    → IsKinds (set sets (kind_number x) w) c (set (set men a None) b (Some (record { colour = c; kind = x })))
+shift_kinds sets men c x a b v w d six all la lb there bare h lifted put =
+    let in_sets : kind_number x < length sets = let low = kind_below x in omega arith in
+    let long : length (set sets (kind_number x) v) ≡ 6 = length-set sets (kind_number x) v ∙ six in
+    let whole : length (set men a None) ≡ 64 = length-set men a None ∙ all in
+    subst (λ s. IsKinds s c (set (set men a None) b (Some (record { colour = c; kind = x }))))
+    (set_twice sets (kind_number x) v w)
+    (put_kinds (set sets (kind_number x) v) (set men a None) c x b w 0 long whole lb (still_empty men a b all la bare)
+    (lift_kinds sets men c x a v d six all la there h lifted)
+    (λ j. put j ∙ ap (λ u. has u j || (j == b)) (sym (get_or-set_same sets (kind_number x) v 0 in_sets))))
 
 -- ---- the pieces left out on some squares
 

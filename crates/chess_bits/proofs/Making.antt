@@ -1,7 +1,9 @@
 -- Moves made by cheaper means than their definitions give.
 use mathlib.Core.Bool.{and-false}
-use Rattle.std.proofs.Common.{◌≡◌, ℕ, true, false, ◌&&◌, Bool, length, set, refl, sym, ap, ◌∙◌, ◌||◌, ◌==◌, Option, Some, None, is_none, if◌then◌else◌}
-use Rattle.std.proofs.lemmas.Bool.{and_parts, and_right, both_ways, ne_eqb}
+use Rattle.std.proofs.Common.{◌≡◌, ◌≢◌, ℕ, true, false, not, ◌&&◌, Bool, length, set, refl, sym, ap, ◌∙◌, ◌||◌, ◌==◌, Option, Some, None, is_none, if◌then◌else◌}
+use Rattle.std.proofs.lemmas.Bool.{and_parts, and_left, and_right, both_ways, ne_eqb, not-true}
+use Rattle.std.proofs.lemmas.List.{set_comm}
+use Rattle.std.specs.Option.{is_some}
 use Rattle.chess_base.specs.declared.man.CastlingSide.{CastlingSide}
 use Rattle.chess_base.specs.declared.man.CastlingSide.TheVariants.{KingSide, QueenSide}
 use Rattle.chess_base.specs.declared.man.Colour.{Colour}
@@ -20,9 +22,14 @@ use Rattle.chess_base.specs.Men.{Men, man_at, other, is_man, is_of, same_colour,
 use Rattle.chess_base.specs.Before.{captured_square, man_on, saved_of}
 use Rattle.chess_base.specs.Castling.{castle_of, castling_rook_to, home_square, is_beside, king_home_file, king_square, lands_on, right_of, right_stands, right_stands_at, rook_file, says_castling, stand_for_castling}
 use Rattle.chess_base.specs.Sound.{IsSound}
-use Rattle.chess_base.specs.Moves.{is_en_passant, man_that_lands, men_after, right_after, rights_after, second_square_emptied}
+use Rattle.chess_base.specs.Attacks.{is_in_check}
+use Rattle.chess_base.specs.Moves.{after, fullmove_after, halfmove_after, has_pattern, is_double_advance, is_en_passant, is_legal, man_that_lands, men_after, resets_clock, right_after, rights_after, second_square_emptied, target_after}
+use Rattle.chess_base.proofs.Castlings.{change_of}
+use Rattle.chess_base.proofs.Changes.{Change, Rest, Alone, WithCapture, WithRook}
+use Rattle.chess_base.proofs.MoveKinds.{is_of-mover}
 use Rattle.chess_base.proofs.Writes.{men_after-written}
-use Rattle.chess_bits.specs.ties.Changes.{has_no_right, is_king_or_rook, IsPlainly}
+use Rattle.chess_bits.specs.ties.Changes.{clock_left, goes_plainly, has_no_right, is_king_or_rook, shifted, shifts, IsPlainly}
+use Rattle.chess_bits.proofs.BoardSets.{set_twice}
 use Rattle.chess_bits.proofs.Quiet.{not_passing}
 use Rattle.chess_bits.proofs.TargetsOf.{no_king_says, none_castles}
 
@@ -101,10 +108,10 @@ stands_at : (p : Setup) (c : Colour) (w : CastlingSide) → right_stands p c w �
 unfolding right_stands
 stands_at p c w h = h
 
-pub rights_kept : (p : Setup) (m : Move) → IsSound p
+rights_kept_at : (p : Setup) (m : Move) → IsSound p
     → (is_king_or_rook (man_at p.men m.from) || is_king_or_rook (man_at p.men m.to)) ≡ false → p.rights ≡ rights_after p m
 unfolding rights_after
-rights_kept p m sound h =
+rights_kept_at p m sound h =
     let none = neither (is_king_or_rook (man_at p.men m.from)) (is_king_or_rook (man_at p.men m.to)) h in
     rw (
       right_kept p m White KingSide p.rights.white.king_side none.0 none.1
@@ -116,6 +123,10 @@ rights_kept p m sound h =
       right_kept p m Black QueenSide p.rights.black.queen_side none.0 none.1
           (stands_at p Black QueenSide sound.black_queen_side),
     ) refl
+
+pub rights_kept : (p : Setup) (m : Move) (x : Man) (o : Option Man) → IsSound p → man_at p.men m.from ≡ Some x
+    → man_at p.men m.to ≡ o → (is_king_or_rook (Some x) || is_king_or_rook o) ≡ false → p.rights ≡ rights_after p m
+rights_kept p m x o sound from to h = rights_kept_at p m sound (rw (from, to) h)
 
 none_of : (r : Rights) (c : Colour) (w : CastlingSide) → NoRight r → right_of r c w ≡ None
 none_of r White KingSide none = none.white_king_side
@@ -129,32 +140,16 @@ no_right_says p m w h = rw (none_of p.rights p.side w (no_right p.rights h)) (an
 
 -- ---- plain moves
 
-pub no_king_plainly : (p : Setup) (m : Move) → is_man p.side King (man_at p.men m.from) ≡ false
+no_king_plainly : (p : Setup) (m : Move) → is_man p.side King (man_at p.men m.from) ≡ false
     → (is_man p.side Pawn (man_at p.men m.from) && is_square p.target m.to) ≡ false → IsPlainly p m
 no_king_plainly p m no_king no_passing = record {
   no_castle = none_castles p m (no_king_says p m KingSide no_king) (no_king_says p m QueenSide no_king);
   no_passing = not_passing p m no_passing;
 }
 
-no_pawn : (c : Colour) (o : Option Man) → is_man c King o ≡ true → is_man c Pawn o ≡ false
-unfolding is_man
-no_pawn c None e = refl
-no_pawn c (Some x) e = by_kind x.kind (same_colour c x.colour) e
-  where
-    by_kind : (k : Kind) (t : Bool) → (t && same_kind King k) ≡ true → (t && same_kind Pawn k) ≡ false
-    by_kind King t h = and-false t
-    by_kind Queen t h = and-false t
-    by_kind Rook t h = and-false t
-    by_kind Bishop t h = and-false t
-    by_kind Knight t h = and-false t
-    by_kind Pawn t h = absurd (both_ways _ (and-false t) h)
-
-pub king_plainly : (p : Setup) (m : Move) → is_man p.side King (man_at p.men m.from) ≡ true
-    → has_no_right p.rights ≡ true → IsPlainly p m
-king_plainly p m king none = record {
-  no_castle = none_castles p m (no_right_says p m KingSide none) (no_right_says p m QueenSide none);
-  no_passing = not_passing p m (rw (no_pawn p.side (man_at p.men m.from) king) refl);
-}
+officer_plainly : (p : Setup) (m : Move) → is_man p.side King (man_at p.men m.from) ≡ false
+    → is_man p.side Pawn (man_at p.men m.from) ≡ false → IsPlainly p m
+officer_plainly p m no_king no_pawn = no_king_plainly p m no_king (and_left _ _ no_pawn)
 
 plain_second : (p : Setup) (m : Move) → IsPlainly p m → second_square_emptied p m ≡ None
 unfolding second_square_emptied
@@ -173,13 +168,88 @@ pub plainly_written : (p : Setup) (m : Move) → length p.men ≡ 64 → IsPlain
 plainly_written p m all h =
     sym (men_after-written p m all ∙ rw (plain_second p m h, plain_rook p m h, plain_end p m h) refl)
 
--- ---- what is saved
+-- ---- a piece that goes from one square to another, and changes no more than that
 
-no_target : (p : Setup) (m : Move) → is_square p.target m.to ≡ false → is_en_passant p m ≡ false
-unfolding is_en_passant
-no_target p m h = rw h (and-false _)
+no_man : (c : Colour) (k : Kind) (o : Option Man) (x : Man) → o ≡ Some x → same_kind k x.kind ≡ false
+    → is_man c k o ≡ false
+unfolding is_man
+no_man c k o x at off = rw (at, off) (and-false _)
 
-abbrev saving : Setup → Option Man → Saved
+plainly_by : (p : Setup) (m : Move) (x : Man) → man_at p.men m.from ≡ Some x → (k : Kind) → x.kind ≡ k
+    → goes_plainly p m k ≡ true → IsPlainly p m
+plainly_by p m x at King e h = record {
+  no_castle = none_castles p m (no_right_says p m KingSide h) (no_right_says p m QueenSide h);
+  no_passing = not_passing p m
+      (and_left _ _ (no_man p.side Pawn (man_at p.men m.from) x at (ap (λ k. same_kind Pawn k) e)));
+}
+plainly_by p m x at Pawn e h = no_king_plainly p m
+    (no_man p.side King (man_at p.men m.from) x at (ap (λ k. same_kind King k) e))
+    (and_right _ _ (not-true (is_square p.target m.to) h))
+plainly_by p m x at Queen e h = officer_plainly p m
+    (no_man p.side King (man_at p.men m.from) x at (ap (λ k. same_kind King k) e))
+    (no_man p.side Pawn (man_at p.men m.from) x at (ap (λ k. same_kind Pawn k) e))
+plainly_by p m x at Rook e h = officer_plainly p m
+    (no_man p.side King (man_at p.men m.from) x at (ap (λ k. same_kind King k) e))
+    (no_man p.side Pawn (man_at p.men m.from) x at (ap (λ k. same_kind Pawn k) e))
+plainly_by p m x at Bishop e h = officer_plainly p m
+    (no_man p.side King (man_at p.men m.from) x at (ap (λ k. same_kind King k) e))
+    (no_man p.side Pawn (man_at p.men m.from) x at (ap (λ k. same_kind Pawn k) e))
+plainly_by p m x at Knight e h = officer_plainly p m
+    (no_man p.side King (man_at p.men m.from) x at (ap (λ k. same_kind King k) e))
+    (no_man p.side Pawn (man_at p.men m.from) x at (ap (λ k. same_kind Pawn k) e))
+
+pub record Shifts (p : Setup) (m : Move) (x : Man) : Type 0 where
+  pub mover : man_at p.men m.from ≡ Some x
+  pub unpromoted : m.promotion ≡ None
+  pub plainly : IsPlainly p m
+
+shifts_by : (p : Setup) (m : Move) (x : Man) (o : Option Man) → man_at p.men m.from ≡ o → shifted p m o ≡ Some x
+    → Shifts p m x
+shifts_by p m x None at e = cc
+shifts_by p m x (Some y) at e = by (shifts p m y.kind) refl e
+  where
+    by : (t : Bool) → shifts p m y.kind ≡ t → (if t then Some y else None) ≡ Some x → Shifts p m x
+    by false h f = cc
+    by true h f =
+        let both = and_parts (is_none m.promotion) (goes_plainly p m y.kind) h in
+        record {
+          mover = at ∙ f;
+          unpromoted = is_none_none m.promotion both.0;
+          plainly = plainly_by p m y at y.kind refl both.1;
+        }
+
+pub shifts_from : (p : Setup) (m : Move) (x : Man) → shifted p m (man_at p.men m.from) ≡ Some x → Shifts p m x
+shifts_from p m x e = shifts_by p m x (man_at p.men m.from) refl e
+
+change_legal : (p : Setup) (m : Move) → IsSound p → is_legal p m ≡ true → Change p m
+unfolding is_legal
+change_legal p m sound legal =
+    change_of p m sound (and_parts (has_pattern p m) (not (is_in_check (after p m).men p.side)) legal).0
+
+not_own : (p : Setup) (m : Move) → IsPlainly p m → Rest p m → is_of p.side (man_at p.men m.to) ≡ false
+not_own p m h (Alone walk al ra) = walk.not_own
+not_own p m h (WithCapture walk s al ra pawn to_empty mover) = walk.not_own
+not_own p m h (WithRook s r al ra rook to_free r_free r_to king r_in to_in no_enemy) =
+    let none = rw (plain_rook p m h) at ra in cc none
+
+other_than : (c d : Colour) → same_colour c d ≡ false → same_colour (other c) d ≡ true
+other_than White White e = cc
+other_than White Black e = refl
+other_than Black White e = refl
+other_than Black Black e = cc
+
+theirs_there : (c : Colour) (o : Option Man) → is_of c o ≡ false → is_of (other c) o ≡ is_some o
+unfolding is_of
+theirs_there c None e = refl
+theirs_there c (Some x) e = other_than c x.colour e
+
+-- it leaves its square, which is not the one where it comes
+pub apart : (p : Setup) (m : Move) (x : Man) → IsSound p → is_legal p m ≡ true → Shifts p m x → m.to ≢ m.from
+apart p m x sound legal h same =
+    let change = change_legal p m sound legal in
+    both_ways _ (not_own p m h.plainly change.rest) (rw same (is_of-mover p m change.moves))
+
+abbrev pub saving : Setup → Option Man → Saved
 saving p o = record {
   captured = o;
   rights = p.rights;
@@ -193,9 +263,65 @@ captured_on : (men : Men) (t : Bool) (s : ℕ)
 captured_on men true s = refl
 captured_on men false s = refl
 
-pub saved_plainly : (p : Setup) (m : Move) (o : Option Man) → is_square p.target m.to ≡ false
-    → o ≡ (if is_of (other p.side) (man_at p.men m.to) then man_at p.men m.to else None)
-    → saving p o ≡ saved_of p m
+if_there : (o : Option Man) → o ≡ (if is_some o then o else None)
+if_there None = refl
+if_there (Some x) = refl
+
+pub saved_shifting : (p : Setup) (m : Move) (x : Man) → IsSound p → is_legal p m ≡ true → Shifts p m x
+    → saving p (man_at p.men m.to) ≡ saved_of p m
 unfolding saved_of captured_square
-saved_plainly p m o off e =
-    rw (no_target p m off) (ap (saving p) (e ∙ captured_on p.men (is_of (other p.side) (man_at p.men m.to)) m.to))
+saved_shifting p m x sound legal h =
+    let change = change_legal p m sound legal in
+    let theirs = theirs_there p.side (man_at p.men m.to) (not_own p m h.plainly change.rest) in
+    let taken : man_at p.men m.to ≡ (if is_of (other p.side) (man_at p.men m.to) then man_at p.men m.to else None) =
+    if_there (man_at p.men m.to) ∙ ap (λ t. if t then man_at p.men m.to else None) (sym theirs) in
+    rw h.plainly.no_passing
+    (ap (saving p) (taken ∙ captured_on p.men (is_of (other p.side) (man_at p.men m.to)) m.to))
+
+pub officer_leaves_no_target : (p : Setup) (m : Move) (x : Man) → man_at p.men m.from ≡ Some x
+    → same_kind Pawn x.kind ≡ false → None ≡ target_after p m
+unfolding target_after is_double_advance
+officer_leaves_no_target p m x at off = rw (no_man p.side Pawn (man_at p.men m.from) x at off) refl
+
+pawn_is : (c : Colour) (o : Option Man) (x : Man) → o ≡ Some x → is_of c o ≡ true
+    → is_man c Pawn o ≡ same_kind Pawn x.kind
+unfolding is_of is_man
+pawn_is c o x at own = rw at (ap (λ t. t && same_kind Pawn x.kind) (rw at at own))
+
+clock_is : (p : Setup) (m : Move) (x : Man) → IsSound p → is_legal p m ≡ true → Shifts p m x
+    → clock_left p.halfmove x.kind (man_at p.men m.to) ≡ halfmove_after p m
+unfolding halfmove_after resets_clock
+clock_is p m x sound legal h =
+    let change = change_legal p m sound legal in
+    rw (
+      pawn_is p.side (man_at p.men m.from) x h.mover (is_of-mover p m change.moves),
+      theirs_there p.side (man_at p.men m.to) (not_own p m h.plainly change.rest),
+    ) refl
+
+men_shifted : (p : Setup) (m : Move) (x : Man) → IsSound p → Shifts p m x
+    → set (set p.men m.from None) m.to (Some x) ≡ men_after p m
+men_shifted p m x sound h =
+    let lands : man_that_lands (man_at p.men m.from) m.promotion ≡ Some x = rw (h.mover, h.unpromoted) refl in
+    ap (λ o. set (set p.men m.from None) m.to o) (sym lands) ∙ plainly_written p m sound.board h.plainly
+
+pub after_shift : (p : Setup) (m : Move) (x : Man) (rights : Rights) (target : Option ℕ) (n : ℕ) → IsSound p
+    → is_legal p m ≡ true → Shifts p m x → rights ≡ rights_after p m → target ≡ target_after p m
+    → n ≡ clock_left p.halfmove x.kind (man_at p.men m.to)
+    → record {
+      variant = p.variant;
+      men = set (set p.men m.from None) m.to (Some x);
+      side = other p.side;
+      rights = rights;
+      target = target;
+      halfmove = n;
+      fullmove = fullmove_after p.side p.fullmove;
+    } ≡ after p m
+unfolding after
+after_shift p m x rights target n sound legal h r t e =
+    rw (r, t, e, clock_is p m x sound legal h, men_shifted p m x sound h) refl
+
+-- cleared first, the end square is filled as if it had been cleared last
+pub shifted_over : (men : Men) (a b : ℕ) (o : Option Man) → b ≢ a
+    → set (set (set men b None) a None) b o ≡ set (set men a None) b o
+shifted_over men a b o away =
+    ap (λ xs. set xs b o) (set_comm men b a None None away) ∙ set_twice (set men a None) b None o

@@ -7,7 +7,7 @@ ghost use Rattle.chess_base.specs.Men.{Men, man_at, is_man};
 ghost use Rattle.chess_base.specs.declared.man.Kind.TheVariants.{King};
 ghost use Rattle.chess_bits.specs.ties.Occupancy.{IsOccupied};
 
-use crate::placing::{move_back, move_on, saved_by};
+use crate::placing::{make_move, move_back};
 use crate::reaching::reached_from;
 use crate::sets::Sets;
 use crate::tables::AttackTables;
@@ -153,9 +153,7 @@ impl Board for Bits<'_> {
 
     fn make(&mut self, m: Move) -> Saved {
         let keys = self.tables.keys();
-        let saved = saved_by(&self.setup, &m);
-        move_on(&mut self.setup, &mut self.sets, keys, &m);
-        saved
+        make_move(&mut self.setup, &mut self.sets, keys, &m)
     }
 
     fn take_back(&mut self, m: Move, saved: Saved) {

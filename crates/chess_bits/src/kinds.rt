@@ -66,6 +66,22 @@ impl Kinds {
         let at = number(kind);
         self.sets[at] = self.sets[at].without(SquareSet::single(square));
     }
+
+    /// Takes a piece from its square to an empty one.
+    #[inline(always)]
+    pub fn shift(&mut self, kind: Kind, from: Square, to: Square)
+        ensures { (men : Men) → (c : Side) → length men ≡ 64
+            → man_at men from ≡ Some (record { colour = c; kind = kind }) → man_at men to ≡ None
+            → IsKinds self.old.sets c men
+            → IsKinds self.new.sets c
+            (slice_set (slice_set men from None) to (Some (record { colour = c; kind = kind }))) }
+    {
+        let at = number(kind);
+        let left = SquareSet::single(from);
+        let entered = SquareSet::single(to);
+        let rest = self.sets[at].without(left);
+        self.sets[at] = rest.union(entered);
+    }
 }
 
 #[tactic(auto, using(crate::proofs::Attackers::on_lines))]

@@ -2,23 +2,23 @@
 
 ghost use Rattle.std.specs.Prelude.{◌≡◌, ◌&&◌, ◌||◌, length, IsTrue, Some, None, if◌then◌else◌};
 ghost use Rattle.chess_base.specs.Before.{before, saved_of};
-ghost use Rattle.chess_base.specs.Men.{is_man, is_of, man_at, with_man};
-ghost use Rattle.chess_base.specs.declared.man.Kind.TheVariants.{King, Pawn};
-ghost use Rattle.chess_base.specs.Moves.{after, is_legal, men_after, rights_after, steps_of};
+ghost use Rattle.chess_base.specs.Men.{man_at, with_man};
+ghost use Rattle.chess_base.specs.Moves.{after, is_legal, rights_after, steps_of, target_after};
 ghost use Rattle.chess_base.specs.Sound.{IsSound};
 ghost use Rattle.chess_base.specs.Squares.{is_square};
 ghost use Rattle.chess_base.specs.Steps.{men_stepped};
 ghost use Rattle.chess_bits.specs.ties.BoardSets.{IsSets};
-ghost use Rattle.chess_bits.specs.ties.Changes.{has_no_right, is_king_or_rook, IsPlainly};
+ghost use Rattle.chess_bits.specs.ties.Changes.{clock_left, goes_plainly, has_no_right, is_king_or_rook, shifted, shifts};
 ghost use Rattle.chess_moves.specs.Made.{IsMade};
 
 use crate::keys::KeyTable;
 use crate::sets::Sets;
+use crate::targets::is_pawn;
 use chess_base::for_boards::{
-    Steps, fullmove_after, halfmove_after, is_man, is_of, man_that_lands, rights_after, saved_of,
+    Steps, fullmove_after, halfmove_after, is_man, man_that_lands, rights_after, saved_of,
     steps_back, steps_of, target_after,
 };
-use chess_base::{Colour, Kind, Man, Move, Rights, Saved, Setup, Square};
+use chess_base::{COUNTER_LIMIT, Kind, Man, Move, Rights, Saved, Setup, Square};
 
 // Changes the content of a square, if there is one.
 #[inline(always)]
@@ -134,21 +134,22 @@ fn is_king_or_rook(man: Option<Man>) -> bool
 
 // Whether a king or a rook moves, or is captured.
 #[inline(always)]
-fn may_lose_right(setup: &Setup, m: &Move) -> bool
-    ensures { result ≡ (is_king_or_rook (man_at setup.now.men m.now.from)
-        || is_king_or_rook (man_at setup.now.men m.now.to)) }
+fn may_lose_right(mover: Man, taken: Option<Man>) -> bool
+    ensures { result ≡ (is_king_or_rook (Some mover) || is_king_or_rook taken) }
 {
-    is_king_or_rook(setup.men[m.from.index()]) || is_king_or_rook(setup.men[m.to.index()])
+    is_king_or_rook(Some(mover)) || is_king_or_rook(taken)
 }
 
-// The castling rights after the move. Most moves can't take one, since its king and its rook are where they belong.
+// The castling rights after the move of that piece to a square that holds that. Most moves can't take one, since its king and its rook are where they belong.
 #[inline(always)]
 #[tactic(auto, using(crate::proofs::Making::none_lost, crate::proofs::Making::rights_kept))]
-fn rights_left(setup: &Setup, m: &Move) -> Rights
-    requires { IsSound setup.now }
+fn rights_left(setup: &Setup, m: &Move, mover: Man, taken: Option<Man>) -> Rights
+    requires sound { IsSound setup.now }
+    requires mover { man_at setup.now.men m.now.from ≡ Some mover }
+    requires taken { man_at setup.now.men m.now.to ≡ taken }
     ensures { result ≡ rights_after setup.now m.now }
 {
-    if !may_lose_right(setup, m) {
+    if !may_lose_right(mover, taken) {
         return setup.rights;
     }
     if has_no_right(&setup.rights) {
@@ -157,112 +158,134 @@ fn rights_left(setup: &Setup, m: &Move) -> Rights
     rights_after(setup, m)
 }
 
-// The piece, if it is one of that colour.
+// Whether the move of such a piece changes its two squares alone: it is no capture on the target and no castling, which
+// a king without rights can't do.
 #[inline(always)]
-fn man_of(colour: Colour, man: Option<Man>) -> Option<Man>
-    ensures { result ≡ (if is_of colour man then man else None) }
+fn goes_plainly(setup: &Setup, m: &Move, kind: Kind) -> bool
+    ensures { result ≡ goes_plainly setup.now m.now kind }
 {
-    if is_of(colour, man) { man } else { None }
+    match kind {
+        Kind::King => has_no_right(&setup.rights),
+        Kind::Pawn => !is_target(setup, m.to),
+        _ => true,
+    }
 }
 
-// What the move does not keep. A capture is on its end square, but for those on the target.
+// Whether the move of such a piece is no promotion, and changes its two squares alone.
 #[inline(always)]
-#[tactic(auto, using(crate::proofs::Making::saved_plainly))]
-pub(crate) fn saved_by(setup: &Setup, m: &Move) -> Saved
-    requires { IsSound setup.now }
-    ensures { result ≡ saved_of setup.now m.now }
+fn shifts(setup: &Setup, m: &Move, kind: Kind) -> bool
+    ensures { result ≡ shifts setup.now m.now kind }
 {
-    if is_target(setup, m.to) {
-        return saved_of(setup, m);
+    m.promotion.is_none() && goes_plainly(setup, m, kind)
+}
+
+// The piece that the move takes from one square to the other, if it changes no more than that.
+#[inline(always)]
+fn shifted(setup: &Setup, m: &Move) -> Option<Man>
+    ensures { result ≡ shifted setup.now m.now (man_at setup.now.men m.now.from) }
+{
+    let man = setup.men[m.from.index()]?;
+    if shifts(setup, m, man.kind) {
+        Some(man)
+    } else {
+        None
     }
-    Saved {
-        captured: man_of(setup.side.other(), setup.men[m.to.index()]),
+}
+
+// The target after a move of that piece: none, but for a pawn's.
+#[inline(always)]
+fn target_left(setup: &Setup, m: &Move, man: Man) -> Option<Square>
+    requires { man_at setup.now.men m.now.from ≡ Some man }
+    ensures { result ≡ target_after setup.now m.now }
+{
+    if is_pawn(man.kind) {
+        target_after(setup, m)
+    } else {
+        None
+    }
+}
+
+// The halfmove clock after a move of that piece that captures that.
+#[inline(always)]
+fn halfmove_left(setup: &Setup, man: Man, taken: Option<Man>) -> u32
+    ensures { result ≡ clock_left setup.now.halfmove man.kind taken }
+{
+    if is_pawn(man.kind) || taken.is_some() {
+        0
+    } else {
+        setup.halfmove.saturating_add(1).min(COUNTER_LIMIT)
+    }
+}
+
+// Makes the legal move of that piece, which changes its two squares alone.
+#[inline(always)]
+fn shift(setup: &mut Setup, sets: &mut Sets, keys: &KeyTable, m: &Move, man: Man) -> Saved
+    requires sound { IsSound setup.old }
+    requires legal { IsTrue (is_legal setup.old m.now) }
+    requires shifted { shifted setup.old m.now (man_at setup.old.men m.now.from) ≡ Some man }
+    ensures setup { setup.new ≡ after setup.old m.now }
+    ensures saved { result ≡ saved_of setup.old m.now }
+    ensures sets { IsSets sets.old setup.old.men → IsSets sets.new setup.new.men }
+{
+    let taken = setup.men[m.to.index()];
+    let saved = Saved {
+        captured: taken,
         rights: setup.rights,
         target: setup.target,
         halfmove: setup.halfmove,
         fullmove: setup.fullmove,
-    }
+    };
+    let rights = rights_left(setup, m, man, taken);
+    let target = target_left(setup, m, man);
+    let halfmove = halfmove_left(setup, man, taken);
+    setup.rights = rights;
+    setup.target = target;
+    setup.halfmove = halfmove;
+    setup.fullmove = fullmove_after(setup.side, setup.fullmove);
+    setup.side = setup.side.other();
+    sets.clear(keys, m.to, taken);
+    sets.shift(keys, man, m.from, m.to);
+    setup.men[m.from.index()] = None;
+    setup.men[m.to.index()] = Some(man);
+    saved
 }
 
-// Whether the king moves.
-#[inline(always)]
-fn moves_king(setup: &Setup, m: &Move) -> bool
-    ensures { result ≡ is_man setup.now.side King (man_at setup.now.men m.now.from) }
-{
-    is_man(setup.side, Kind::King, setup.men[m.from.index()])
-}
-
-// Whether a pawn goes to the target.
-#[inline(always)]
-fn is_to_target(setup: &Setup, m: &Move) -> bool
-    ensures { result ≡ (is_man setup.now.side Pawn (man_at setup.now.men m.now.from)
-        && is_square setup.now.target m.now.to) }
-{
-    is_man(setup.side, Kind::Pawn, setup.men[m.from.index()]) && is_target(setup, m.to)
-}
-
-// Whether the move changes its two squares alone: it is no capture on the target and no castling, which a king without
-// rights can't do.
-#[inline(always)]
-#[tactic(auto, using(crate::proofs::Making::king_plainly, crate::proofs::Making::no_king_plainly))]
-fn is_plain(setup: &Setup, m: &Move) -> bool
-    ensures { IsTrue result → IsPlainly setup.now m.now }
-{
-    if moves_king(setup, m) {
-        return has_no_right(&setup.rights);
-    }
-    !is_to_target(setup, m)
-}
-
-// What is on one square goes to another, and is there what is given.
-#[inline(always)]
-fn take_step(
-    men: &mut [Option<Man>; 64],
-    sets: &mut Sets,
-    keys: &KeyTable,
-    m: &Move,
-    mover: Option<Man>,
-)
-    ensures men { men.new ≡ with_man (with_man men.old (Some m.now.from) None) (Some m.now.to) mover }
-    ensures sets { IsSets sets.old men.old → IsSets sets.new men.new }
-{
-    place(men, sets, keys, Some(m.from), None);
-    place(men, sets, keys, Some(m.to), mover);
-}
-
-// Moves the pieces, and changes their sets.
-#[tactic(auto, unfolding(chess_base::specs::Moves::men_after), using(crate::proofs::Making::plainly_written))]
-fn move_men(setup: &mut Setup, sets: &mut Sets, keys: &KeyTable, m: &Move)
+// Makes the legal move, whatever it changes. Few moves need it, so it is kept out of what calls it.
+#[inline(never)]
+#[tactic(auto, unfolding(chess_base::specs::Moves::after, chess_base::specs::Moves::men_after))]
+fn make_in_steps(setup: &mut Setup, sets: &mut Sets, keys: &KeyTable, m: &Move) -> Saved
     requires { IsSound setup.old }
-    ensures setup { setup.new ≡ record setup.old { men = men_after setup.old m.now } }
-    ensures sets { IsSets sets.old setup.old.men → IsSets sets.new setup.new.men }
-{
-    if is_plain(setup, m) {
-        let mover = man_that_lands(setup.men[m.from.index()], m.promotion);
-        take_step(&mut setup.men, sets, keys, m, mover);
-        return;
-    }
-    let steps = steps_of(setup, m);
-    take_steps(&mut setup.men, sets, keys, &steps);
-}
-
-// Makes the legal move.
-#[tactic(auto, unfolding(chess_base::specs::Moves::after))]
-pub(crate) fn move_on(setup: &mut Setup, sets: &mut Sets, keys: &KeyTable, m: &Move)
-    requires sound { IsSound setup.old }
-    requires legal { IsTrue (is_legal setup.old m.now) }
     ensures setup { setup.new ≡ after setup.old m.now }
+    ensures saved { result ≡ saved_of setup.old m.now }
     ensures sets { IsSets sets.old setup.old.men → IsSets sets.new setup.new.men }
 {
-    let rights = rights_left(setup, m);
+    let saved = saved_of(setup, m);
+    let rights = rights_after(setup, m);
     let target = target_after(setup, m);
     let halfmove = halfmove_after(setup, m);
-    move_men(setup, sets, keys, m);
+    let steps = steps_of(setup, m);
+    take_steps(&mut setup.men, sets, keys, &steps);
     setup.fullmove = fullmove_after(setup.side, setup.fullmove);
     setup.side = setup.side.other();
     setup.rights = rights;
     setup.target = target;
     setup.halfmove = halfmove;
+    saved
+}
+
+// Makes the legal move, and returns what it does not keep.
+#[inline(always)]
+pub(crate) fn make_move(setup: &mut Setup, sets: &mut Sets, keys: &KeyTable, m: &Move) -> Saved
+    requires sound { IsSound setup.old }
+    requires legal { IsTrue (is_legal setup.old m.now) }
+    ensures setup { setup.new ≡ after setup.old m.now }
+    ensures saved { result ≡ saved_of setup.old m.now }
+    ensures sets { IsSets sets.old setup.old.men → IsSets sets.new setup.new.men }
+{
+    let Some(man) = shifted(setup, m) else {
+        return make_in_steps(setup, sets, keys, m);
+    };
+    shift(setup, sets, keys, m, man)
 }
 
 // Takes the move back.

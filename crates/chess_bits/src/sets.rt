@@ -106,9 +106,35 @@ impl Sets {
         }
     }
 
-    // Takes the old content from a square.
+    /// Takes a piece from its square to an empty one.
     #[inline(always)]
-    fn clear(&mut self, keys: &KeyTable, square: Square, old: Option<Man>)
+    pub fn shift(&mut self, keys: &KeyTable, man: Man, from: Square, to: Square)
+        ensures { (men : Men) → length men ≡ 64 → man_at men from ≡ Some man → man_at men to ≡ None
+            → IsSets self.old men → IsSets self.new (slice_set (slice_set men from None) to (Some man)) }
+    {
+        let left = SquareSet::single(from);
+        let entered = SquareSet::single(to);
+        // One key before the sets change and one after: next to each other they become a branch on the piece's kind.
+        self.men_word ^= man_key(keys, man, from);
+        match man.colour {
+            Colour::White => {
+                self.white.shift(man.kind, from, to);
+                let rest = self.all_white.without(left);
+                self.all_white = rest.union(entered);
+                self.men_word ^= man_key(keys, man, to);
+            }
+            Colour::Black => {
+                self.black.shift(man.kind, from, to);
+                let rest = self.all_black.without(left);
+                self.all_black = rest.union(entered);
+                self.men_word ^= man_key(keys, man, to);
+            }
+        }
+    }
+
+    /// Takes the old content from a square.
+    #[inline(always)]
+    pub fn clear(&mut self, keys: &KeyTable, square: Square, old: Option<Man>)
         ensures { (men : Men) → length men ≡ 64 → man_at men square ≡ old → IsSets self.old men
             → IsSets self.new (slice_set men square None) }
     {

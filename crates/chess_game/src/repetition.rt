@@ -21,16 +21,19 @@ pub(crate) struct Known {
 }
 
 impl Known {
-    // The position of a board.
+    // The position of a board. Its sets are packed last, since the target is rarely live: nothing is then kept through
+    // the search for a capture.
     pub(crate) fn on<B: Board>(board: &B) -> Self
         ensures position { result.position ≡ B.position board.now }
         ensures known { IsKnown result }
         ensures word { HasWord B.word_of result }
     {
+        let live_target = live_target(board);
+        let word = board.word();
         Known {
             position: PackedPosition::of(board),
-            live_target: live_target(board),
-            word: board.word(),
+            live_target,
+            word,
         }
     }
 
@@ -76,6 +79,7 @@ impl Known {
 }
 
 // The target, where some legal move captures en passant on it.
+#[inline(always)]
 #[tactic(auto, unfolding(crate::specs::Same::live_target))]
 fn live_target<B: Board>(board: &B) -> Option<Square>
     ensures { result ≡ live_target (B.position board.now) }
@@ -88,7 +92,9 @@ fn live_target<B: Board>(board: &B) -> Option<Square>
     }
 }
 
-// Whether some legal move captures en passant on the target.
+// Whether some legal move captures en passant on the target. Few positions have a target, so it is kept out of what
+// calls it.
+#[inline(never)]
 fn is_captured_on<B: Board>(board: &B, target: Square) -> bool
     requires { (B.position board.now).target ≡ Some target }
     ensures { result ≡ list_any (λ m. is_en_passant (B.position board.now) m) (moves (B.position board.now)) }

@@ -1,10 +1,13 @@
 -- The squares that a move changes and fills, and moves that change their two squares alone.
-use Rattle.std.specs.Prelude.{◌≡◌, ℕ, ◌==◌, ◌&&◌, ◌||◌, Bool, true, false, None, is_none, Option, Some}
-use Rattle.chess_base.specs.declared.man.Kind.TheVariants.{King, Rook, Pawn}
+use Rattle.std.specs.Prelude.{◌≡◌, ℕ, ◌+◌, ◌==◌, not, ◌&&◌, ◌||◌, Bool, true, false, None, is_none, min, Option, Some, if◌then◌else◌}
+use Rattle.std.specs.Option.{is_some}
+use Rattle.chess_base.specs.declared.man.Kind.{Kind}
+use Rattle.chess_base.specs.declared.man.Kind.TheVariants.{King, Queen, Rook, Bishop, Knight, Pawn}
 use Rattle.chess_base.specs.declared.man.Man.{Man}
 use Rattle.chess_base.specs.declared.man.Move.{Move}
 use Rattle.chess_base.specs.declared.man.Rights.{Rights}
 use Rattle.chess_base.specs.declared.setup.Setup.{Setup}
+use Rattle.chess_base.specs.declared.setup.TheConstants.{COUNTER_LIMIT}
 use Rattle.chess_base.specs.Castling.{castle_of, lands_on, castling_rook_to}
 use Rattle.chess_base.specs.Men.{man_at, is_man, same_kind}
 use Rattle.chess_base.specs.MoveList.{triple}
@@ -39,3 +42,26 @@ is_king_or_rook (Some x) = same_kind King x.kind || same_kind Rook x.kind
 pub record IsPlainly (p : Setup) (m : Move) : Type 0 where
   pub no_castle : castle_of p m ≡ None
   pub no_passing : is_en_passant p m ≡ false
+
+-- the move of a piece of that kind is neither: a king without rights does not castle, and a pawn captures en passant on
+-- the target only
+abbrev pub goes_plainly : Setup → Move → Kind → Bool
+goes_plainly p m King = has_no_right p.rights
+goes_plainly p m Queen = true
+goes_plainly p m Rook = true
+goes_plainly p m Bishop = true
+goes_plainly p m Knight = true
+goes_plainly p m Pawn = not (is_square p.target m.to)
+
+-- it takes the piece from one square to the other, and changes no more than that
+abbrev pub shifts : Setup → Move → Kind → Bool
+shifts p m k = is_none m.promotion && goes_plainly p m k
+
+-- that piece, if it is there and the move does so
+abbrev pub shifted : Setup → Move → Option Man → Option Man
+shifted p m None = None
+shifted p m (Some x) = if shifts p m x.kind then Some x else None
+
+-- the halfmove clock after n, when a piece of that kind goes to a square with that on it
+abbrev pub clock_left : ℕ → Kind → Option Man → ℕ
+clock_left n kind taken = if same_kind Pawn kind || is_some taken then 0 else min (n + 1) COUNTER_LIMIT

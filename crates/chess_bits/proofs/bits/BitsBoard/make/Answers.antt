@@ -7,11 +7,11 @@ use Rattle.chess_bits.proofs.bits.BitsBoard.make.Goals as goal
 pub invariant_of-self : goal.invariant_of-self
 invariant_of-self c =
     let legal : is_legal c.self.inside.setup c.args.m ≡ true = rw c.self.view_is c.requires in (
-      rw c.move_on.ensures.setup (IsSound-after c.self.inside.setup c.args.m c.self.invariant.0 legal),
-      c.move_on.ensures.sets c.self.invariant.1,
+      rw c.make_move.ensures.setup (IsSound-after c.self.inside.setup c.args.m c.self.invariant.0 legal),
+      c.make_move.ensures.sets c.self.invariant.1,
     )
 
 pub returns-clause-sound : goal.returns-clause-sound
 returns-clause-sound c =
     let legal : is_legal c.self.inside.setup c.args.m ≡ true = rw c.self.view_is c.requires in
-    rw c.move_on.ensures.setup (IsSound-after c.self.inside.setup c.args.m c.self.invariant.0 legal)
+    rw c.make_move.ensures.setup (IsSound-after c.self.inside.setup c.args.m c.self.invariant.0 legal)
