@@ -1,5 +1,5 @@
 -- Reading a game, token by token.
-use Rattle.std.proofs.Common.{◌≡◌, ℕ, suc, ◌+◌, ◌-◌, ◌≤◌, ◌<◌, ◌||◌, ◌==◌, eqb, Bool, true, false, List, [], ◌∷◌, arith, rules, length, get_or, drop, Some, None, is_some, Result, Ok, Err, refl, sym, ap, subst, ◌∙◌, Option, IsNone, OnErr}
+use Rattle.std.proofs.Common.{◌≡◌, ℕ, suc, ◌+◌, ◌-◌, ◌≤◌, ◌<◌, ◌||◌, ◌==◌, eqb, Bool, true, false, List, [], ◌∷◌, arith, rules, length, get_or, take, drop, Some, None, is_some, Result, Ok, Err, refl, sym, ap, subst, ◌∙◌, Option, IsNone, OnErr}
 use Rattle.std.proofs.Math.Seq.{drop-cons}
 use Rattle.std.proofs.lemmas.Bool.Decides.{nat_tests}
 use Rattle.std.proofs.lemmas.List.{length-drop}
@@ -23,11 +23,11 @@ use Rattle.chess_text.specs.declared.reading.Reading.{Reading}
 use Rattle.chess_text.specs.declared.reading.Reading.TheVariants as reads
 use Rattle.chess_text.specs.Moves.{reading}
 use Rattle.chess_pgn.specs.Words.{kind_of}
-use Rattle.chess_pgn.specs.Tokens.{Token, Skip, Tag, Word, Bad_tag, Unclosed_comment, Unclosed_variation, Bad, first_place, is_white_space, token_at, begins_line, tokens_from}
+use Rattle.chess_pgn.specs.Tokens.{Token, Skip, Tag, Word, Bad_tag, Unclosed_comment, Unclosed_variation, Bad, first_place, is_white_space, behind_brace, token_at, begins_line, tokens_from}
 use Rattle.chess_pgn.specs.GameRead.{SoFar, Step, On, Stop, unless_full, move_step, word_step, fen_step, tag_step, step, go_on, game_of, nothing_read, told_by, told_next, variant_told, tokens_read, pgn_read}
 use Rattle.chess_pgn.specs.ties.GameSteps.{so_far, IsReadOn, ReadsAlike, step_seen}
 use Rattle.chess_pgn.proofs.Cuts.{pick}
-use Rattle.chess_pgn.proofs.Walk.{token_more}
+use Rattle.chess_pgn.proofs.Walk.{NextToken, next_token, token_more}
 
 -- ---- nothing is declared before the game's end, and nothing after a fault
 
@@ -272,6 +272,30 @@ pub passed : (text : List ℕ) (from at : ℕ) → ReadsAlike text from at → a
     → (is_white_space (get_or text at 0) || (get_or text at 0 == 46)) ≡ true → ReadsAlike text from (at + 1)
 passed text from at so low h = λ limit g. so limit g ∙ passed_at text at (get_or text at 0) (drop (suc at) text)
     (drop-cons text at 0 low) low h limit g
+
+-- ---- comments, at which nothing counts
+
+comment_token : (begins : Bool) (c : ℕ) (rest behind : List ℕ) → c ≡ 123 → behind_brace rest ≡ Some behind
+    → (Skip, behind) ≡ token_at begins c rest
+unfolding token_at
+comment_token true c rest behind brace closed = rw (brace, closed) refl
+comment_token false c rest behind brace closed = rw (brace, closed) refl
+
+-- a closed comment, with its text as code meets it
+pub commented : (text : List ℕ) (at : ℕ) (xs behind : List ℕ) → at ≤ length text
+    → xs ≡ take (length text - at) (drop at text) → 1 ≤ length xs → get_or xs 0 0 ≡ 123
+    → behind_brace (take (length xs - 1) (drop 1 xs)) ≡ Some behind → NextToken text at Skip behind
+commented text at xs behind h is some brace closed =
+    next_token text at (begins_line text at) xs h refl is some Skip behind
+    (comment_token (begins_line text at) (get_or xs 0 0) (take (length xs - 1) (drop 1 xs)) behind brace closed)
+
+pub skipped_alike : (text : List ℕ) (at behind : ℕ)
+    → tokens_from text at ≡ (length text - at, Skip) ∷ tokens_from text behind → ReadsAlike text at behind
+skipped_alike text at behind is = λ limit g. ap (game_of limit (length text) g) is
+
+pub alike_on : (text : List ℕ) (a b c d : ℕ) → ReadsAlike text a b → ReadsAlike text b c → ReadsAlike text c d
+    → ReadsAlike text a d
+alike_on text a b c d first second third = λ limit g. first limit g ∙ second limit g ∙ third limit g
 
 -- reading goes on after them
 pub alike : (limit : ℕ) (text : List ℕ) (from : ℕ) (game : Seen) (p : Progress) (here there : ℕ)

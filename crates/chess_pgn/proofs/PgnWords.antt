@@ -1,10 +1,10 @@
 -- Words as they are written in a game: each is one token where a byte of no word follows, and of its own kind.
-use Rattle.std.proofs.Common.{◌≡◌, ◌⊎◌, ℕ, ◌<◌, ◌≤◌, Bool, true, false, ◌||◌, eqb, List, [], ◌∷◌, ◌++◌, length, take, drop, None, refl, ap, ◌∙◌, inl, inr, arith}
+use Rattle.std.proofs.Common.{◌≡◌, ◌⊎◌, ℕ, ◌<◌, ◌≤◌, Bool, true, false, ◌||◌, eqb, List, [], ◌∷◌, ◌++◌, length, get_or, take, drop, None, refl, sym, ap, ◌-◌, ◌∙◌, inl, inr, arith}
 use Rattle.std.proofs.Math.Seq.{take-append_seam}
 use Rattle.std.proofs.lemmas.Bool.{and_parts, and_from, or_cases}
 use Rattle.std.proofs.lemmas.Bool.Decides.{nat_tests}
 use Rattle.std.proofs.lemmas.Fmt.{decimal_is_IsNumeral}
-use Rattle.std.proofs.lemmas.List.{drop_at}
+use Rattle.std.proofs.lemmas.List.{drop_at, take_rest}
 use Rattle.std.proofs.lemmas.Slice.Eq.{bytes_eq-Decides}
 use Rattle.std.proofs.lemmas.Str.Parse.{digit_from_value}
 use Rattle.std.specs.Fmt.{decimal}
@@ -17,10 +17,11 @@ use Rattle.chess_game.specs.declared.results.Outcome.{Outcome}
 use Rattle.chess_game.specs.declared.results.Outcome.TheVariants.{WhiteWins, BlackWins, Draw, Unfinished}
 use Rattle.chess_pgn.specs.declared.word.WordKind.TheVariants.{End, Number, Move}
 use Rattle.chess_text.specs.laws.Laws.{is_san_byte, begins_with_letter}
-use Rattle.chess_pgn.specs.Tokens.{Word, is_word_byte, token_at}
+use Rattle.chess_pgn.specs.Tokens.{Word, is_word_byte, token_at, begins_line}
 use Rattle.chess_pgn.specs.ties.Begins.{begins_from_a}
 use Rattle.chess_base.specs.Letters.{is_digit, is_letter}
 use Rattle.chess_pgn.specs.Words.{outcome_of, kind_by, kind_of}
+use Rattle.chess_pgn.proofs.Walk.{NextToken, next_token}
 
 -- ---- a run of bytes that pass
 
@@ -91,6 +92,23 @@ pub begins_word : (begins : Bool) (c : ℕ) (rest : List ℕ) → is_word_byte c
     → token_at begins c rest
     ≡ (Word (take_while is_word_byte (c ∷ rest)), drop (prefix_len is_word_byte (c ∷ rest)) (c ∷ rest))
 begins_word begins c rest h = no_percent begins c rest (not_byte is_word_byte 37 c refl h) ∙ first_byte c rest h
+
+-- the same, with its text as code meets it
+word_first : (begins : Bool) (xs : List ℕ) → 1 ≤ length xs → is_word_byte (get_or xs 0 0) ≡ true
+    → (Word (take_while is_word_byte xs), drop (prefix_len is_word_byte xs) xs)
+    ≡ token_at begins (get_or xs 0 0) (take (length xs - 1) (drop 1 xs))
+word_first begins [] some h = absurd (omega (arith, some))
+word_first begins (c ∷ rest) some h =
+    sym (ap (token_at begins c) (take_rest (c ∷ rest) 1) ∙ begins_word begins c rest h)
+
+pub next_word : (text : List ℕ) (at : ℕ) (xs word behind : List ℕ) → at ≤ length text
+    → xs ≡ take (length text - at) (drop at text) → 1 ≤ length xs → is_word_byte (get_or xs 0 0) ≡ true
+    → word ≡ take_while is_word_byte xs → behind ≡ drop (prefix_len is_word_byte xs) xs
+    → NextToken text at (Word word) behind
+next_word text at xs word behind h is some first taken left =
+    next_token text at (begins_line text at) xs h refl is some (Word word) behind
+    (ap (λ w. (Word w, behind)) taken ∙ ap (λ r. (Word (take_while is_word_byte xs), r)) left
+    ∙ word_first (begins_line text at) xs some first)
 
 pub word_token : (begins : Bool) (c : ℕ) (cs : List ℕ) (d : ℕ) (rest : List ℕ) → list_all is_word_byte (c ∷ cs) ≡ true
     → is_word_byte d ≡ false → token_at begins c (cs ++ d ∷ rest) ≡ (Word (c ∷ cs), d ∷ rest)

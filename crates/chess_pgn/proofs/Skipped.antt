@@ -1,9 +1,11 @@
 -- Lines and comments that are skipped.
-use Rattle.std.proofs.Common.{◌≡◌, ℕ, suc, ◌+◌, ◌-◌, ◌≤◌, Bool, true, false, not, eqb, List, [], ◌∷◌, length, get_or, take, drop, refl, sym, ap, ◌∙◌, arith}
+use Rattle.std.proofs.Common.{◌≡◌, ℕ, zero, suc, ◌+◌, ◌-◌, ◌≤◌, Bool, true, false, not, eqb, List, [], ◌∷◌, length, get_or, take, drop, refl, sym, ap, ◌∙◌, arith}
 use Rattle.std.specs.List.{position_or_len}
+use Rattle.std.proofs.lemmas.Bool.{or_parts}
 use Rattle.std.proofs.lemmas.Bool.Decides.{nat_tests}
 use Rattle.std.proofs.lemmas.List.{take_rest}
-use Rattle.chess_pgn.specs.Tokens.{line_end, is_white_space, behind_gap}
+use Rattle.chess_pgn.specs.Tokens.{line_end, is_white_space, behind_brace, behind_gap}
+use Rattle.chess_pgn.specs.ties.Braces.{has_brace}
 
 -- the end of a line whose first byte is not 10
 pub line_end-more : (c : ℕ) (rest : List ℕ) → eqb c 10 ≡ false → line_end (c ∷ rest) ≡ line_end rest
@@ -48,3 +50,12 @@ gap_blank_more begins (c ∷ rest) next h e is =
         → behind_gap false b (c ∷ rest) ≡ behind_gap false (eqb c 10) rest
     gap_blank true c rest line blank = rw (line, blank) refl
     gap_blank false c rest line blank = rw blank refl
+
+-- a piece without a closing brace
+pub no_brace : (n : ℕ) (text : List ℕ) → has_brace (take n text) ≡ false
+    → behind_brace (drop n text) ≡ behind_brace text
+no_brace zero text h = refl
+no_brace (suc n) [] h = refl
+no_brace (suc n) (c ∷ rest) h =
+    let both = or_parts (eqb c 125) (has_brace (take n rest)) h in
+    rw both.0 (no_brace n rest both.1)

@@ -14,6 +14,7 @@ ghost use Rattle.chess_pgn.specs.Tokens.{tokens_from};
 ghost use Rattle.chess_pgn.specs.ties.GameSteps.{EndsIn, so_far, step_seen, IsWithin, IsReadOn, ReadsAlike};
 
 use crate::bytes::is_passed;
+use crate::skips::behind_brace;
 use crate::tag::Tag;
 use crate::termination::Termination;
 use crate::token::{Token, TokenFault, first_place, next_token};
@@ -158,6 +159,7 @@ fn is_decided<B: Board>(game: &Game<B>) -> bool
 
 // Plays a legal move that is written at an offset. The verdict is asked with the help of that move, which costs less
 // than to look for one.
+#[inline(always)]
 fn play_move<B: Board>(
     game: &mut Game<B>,
     progress: Progress,
@@ -183,6 +185,7 @@ fn play_move<B: Board>(
 }
 
 // Plays the move that a word at an offset is read as.
+#[inline(always)]
 fn play_word<B: Board>(
     game: &mut Game<B>,
     progress: Progress,
@@ -220,6 +223,7 @@ fn end_game<B: Board>(game: &mut Game<B>, outcome: Outcome)
 
 // Reads a word at an offset.
 #[tactic(auto, using(crate::proofs::GameReads::termination_has_bytes))]
+#[inline(always)]
 fn read_word<B: Board>(
     game: &mut Game<B>,
     progress: Progress,
@@ -276,6 +280,7 @@ fn read_tag<B: Board>(
 }
 
 // Reads a token at an offset of a text of so many bytes.
+#[inline(always)]
 fn read_token<B: Board>(
     game: &mut Game<B>,
     progress: Progress,
@@ -390,6 +395,7 @@ fn told_variant(text: &[u8], at: usize) -> Variant
 
 // The offset after the white space and dots from an offset on. They are tokens too, but a game is read alike without
 // them.
+#[inline(always)]
 fn behind_blanks(text: &[u8], at: usize) -> usize
     requires { at ≤ length text.now }
     ensures alike { ReadsAlike text.now at result }
@@ -399,6 +405,41 @@ fn behind_blanks(text: &[u8], at: usize) -> usize
     let mut place = at;
     while place < text.len() && is_passed(text[place]) {
         place += 1;
+    }
+    place
+}
+
+// The offset after the comment at an offset, where one that is closed begins there.
+#[inline(always)]
+fn behind_comment(text: &[u8], at: usize) -> Option<usize>
+    requires { at ≤ length text.now }
+    ensures { IfSome result (λ behind.
+        ReadsAlike text.now at behind × (at < behind) × (behind ≤ length text.now)) }
+{
+    let [first, rest @ ..] = &text[at..] else {
+        return None;
+    };
+    if *first != b'{' {
+        return None;
+    }
+    match behind_brace(rest) {
+        Some(behind) => Some(text.len() - behind.len()),
+        None => None,
+    }
+}
+
+// The offset after the white space, dots and comments from an offset on. A game is read alike without them.
+#[inline(always)]
+fn behind_skipped(text: &[u8], at: usize) -> usize
+    requires { at ≤ length text.now }
+    ensures alike { ReadsAlike text.now at result }
+    ensures behind { at ≤ result }
+    ensures within { result ≤ length text.now }
+{
+    let first = behind_blanks(text, at);
+    let mut place = first;
+    while let Some(behind) = behind_comment(text, place) {
+        place = behind_blanks(text, behind);
     }
     place
 }
@@ -480,7 +521,7 @@ pub fn read_pgn<B: Board>(
                     Step::On(further) => progress = further,
                     Step::Ended(end) => return Ok(Some(end)),
                 }
-                place = behind_blanks(text, behind);
+                place = behind_skipped(text, behind);
             }
             Ok(None) if progress.is_met => {
                 return Err(PgnFault {

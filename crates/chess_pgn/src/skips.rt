@@ -34,14 +34,17 @@ fn has_brace(piece: &[u8]) -> bool
     any
 }
 
-// From the first of the pieces of 16 bytes that has a closing brace, else from the last bytes, which are fewer.
-fn near_brace(text: &[u8]) -> &[u8]
+// From the first of the pieces of so many bytes that has a closing brace, else from the last bytes, which are fewer.
+#[tactic(auto, using(crate::proofs::Skipped::no_brace))]
+#[inline(always)]
+fn near_brace(len: usize, text: &[u8]) -> &[u8]
+    requires { 0 < len }
     ensures rest { behind_brace result.now ≡ behind_brace text.now }
     ensures shorter { length result.now ≤ length text.now }
 {
     let mut rest = text;
-    while rest.len() >= 16 {
-        let (piece, others) = rest.split_at(16);
+    while rest.len() >= len {
+        let (piece, others) = rest.split_at(len);
         if has_brace(piece) {
             break;
         }
@@ -50,12 +53,14 @@ fn near_brace(text: &[u8]) -> &[u8]
     rest
 }
 
-// The text after the first closing brace.
+// The text after the first closing brace. Pieces of 8 bytes go fast over long comments, and those of 4 end a clock's.
+#[inline(always)]
 pub(crate) fn behind_brace(text: &[u8]) -> Option<&[u8]>
     ensures rest { option_map (λ r. r.now) result ≡ behind_brace text.now }
     ensures shorter { IfSome result (λ r. length r.now < length text.now) }
 {
-    let mut rest = near_brace(text);
+    let near = near_brace(8, text);
+    let mut rest = near_brace(4, near);
     while let [byte, others @ ..] = rest {
         if *byte == b'}' {
             return Some(others);

@@ -91,22 +91,20 @@ fn read_bracket(text: &[u8]) -> Result<(Token<'_>, &[u8]), TokenFault>
     }
 }
 
-// The first token of a text that begins with this byte, where a line begins or not, and what follows it.
-#[tactic(auto, using(crate::proofs::PgnWords::begins_word), unfolding(crate::specs::Tokens::token_at))]
-#[inline(always)]
+// The first token of a text that begins with this byte, where a line begins or not, and what follows it. The byte is
+// none of a word.
+#[tactic(auto, unfolding(crate::specs::Tokens::token_at))]
+#[inline(never)]
 fn read_token<'a>(
     line_begins: bool,
     first: u8,
     rest: &'a [u8],
     text: &'a [u8],
 ) -> Result<(Token<'a>, &'a [u8]), TokenFault>
-    requires { text.now ≡ first ∷ rest.now }
+    requires text { text.now ≡ first ∷ rest.now }
+    requires no_word { is_word_byte first ≡ false }
     ensures { first_seen result ≡ token_at line_begins first rest.now }
 {
-    if is_word_byte(first) {
-        let (word, behind) = split_word(text);
-        return Ok((Token::Word(word), behind));
-    }
     match first {
         b'%' if line_begins => Ok((Token::Skip, line_end(rest))),
         _ if is_passed(first) => Ok((Token::Skip, rest)),
@@ -141,6 +139,10 @@ pub(crate) fn next_token(text: &[u8], at: usize) -> Result<Option<(Token<'_>, us
     let [first, rest @ ..] = left else {
         return Ok(None);
     };
+    if is_word_byte(*first) {
+        let (word, behind) = split_word(left);
+        return Ok(Some((Token::Word(word), text.len() - behind.len())));
+    }
     match read_token(begins_line(text, at), *first, rest, left) {
         Ok((token, behind)) => Ok(Some((token, text.len() - behind.len()))),
         Err(fault) => Err(fault),

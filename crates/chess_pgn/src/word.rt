@@ -56,14 +56,13 @@ fn begins_from_a(word: &[u8]) -> bool
     }
 }
 
-/// What a word is.
-#[tactic(auto, using(crate::proofs::PgnWords::from_a_kind, crate::proofs::PgnWords::number_kind))]
-pub(crate) fn word_kind(word: &[u8]) -> WordKind
+// What a word is, by all of its bytes.
+#[tactic(auto, using(crate::proofs::PgnWords::number_kind))]
+#[inline(never)]
+fn low_word_kind(word: &[u8]) -> WordKind
     ensures { result ≡ kind_of word.now }
 {
-    if begins_from_a(word) {
-        WordKind::Move
-    } else if has_digits_alone(word) {
+    if has_digits_alone(word) {
         WordKind::Number
     } else if let Some(outcome) = outcome_of(word) {
         WordKind::End(outcome)
@@ -71,5 +70,18 @@ pub(crate) fn word_kind(word: &[u8]) -> WordKind
         WordKind::Marks
     } else {
         WordKind::Move
+    }
+}
+
+/// What a word is. Most are moves, and these mostly begin with a letter, which is asked first.
+#[tactic(auto, using(crate::proofs::PgnWords::from_a_kind))]
+#[inline(always)]
+pub(crate) fn word_kind(word: &[u8]) -> WordKind
+    ensures { result ≡ kind_of word.now }
+{
+    if begins_from_a(word) {
+        WordKind::Move
+    } else {
+        low_word_kind(word)
     }
 }

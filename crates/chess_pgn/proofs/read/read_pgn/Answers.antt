@@ -1,5 +1,5 @@
 -- From here on, the rest with what was read so far gives what the whole text gives (GameReads.Reads): the step of a
--- token keeps that (GameReads.more), and so does the white space after it (GameReads.alike).
+-- token keeps that (GameReads.more), and so does what is skipped after it (GameReads.alike).
 use Rattle.chess_pgn.specs.ties.Seen.{token_seen, fault_seen}
 use Rattle.chess_pgn.proofs.TokenPlaces.{token_within}
 use Rattle.chess_pgn.proofs.GameReads.{more, alike, bare_at_fault}
@@ -20,8 +20,8 @@ loop-token-preserved g c =
     c.loop-token.progress c.in-On.further c.loop-token.place c.in-Ok-Some.behind (token_seen c.in-Ok-Some.token)
     c.loop-token.invariant next.0 next.1 next.2 c.read_token.ensures.limit step_is in
     alike c.args.game.now.limit c.args.text.now c.args.at c.read_token.new.game c.in-On.further c.in-Ok-Some.behind
-    c.behind_blanks-place.result before c.behind_blanks-place.ensures.alike c.behind_blanks-place.ensures.behind
-    c.behind_blanks-place.ensures.within
+    c.behind_skipped-place.result before c.behind_skipped-place.ensures.alike c.behind_skipped-place.ensures.behind
+    c.behind_skipped-place.ensures.within
 
 pub told_fault-requires-clause-within : goal.told_fault-requires-clause-within
 told_fault-requires-clause-within g c =
