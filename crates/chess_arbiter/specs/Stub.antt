@@ -18,6 +18,7 @@ use Rattle.chess_arbiter.specs.declared.stub.StubFault.{StubFault}
 use Rattle.chess_arbiter.specs.declared.stub.StubFault.TheVariants.{Read, Write}
 use Rattle.chess_cecp.specs.declared.session.TheConstants.{COMMAND_LEN}
 
+-- the arguments of a stub
 abbrev pub Words : Type 0
 Words = List (Bor (List ℕ))
 
@@ -41,6 +42,7 @@ remark word =
     else if bytes_eq word (codes "claim") then Some (codes "1/2-1/2 {Draw by repetition}" ++ new_line ∷ [])
     else None
 
+-- a line before others, if there is one
 abbrev pub before_others : Option (List ℕ) → List ℕ → List ℕ
 before_others None others = []
 before_others (Some text) others = text ++ others
@@ -78,12 +80,15 @@ turn (word ∷ words) =
 
 -- ---- a line
 
+-- a reply that leaves the stub as it is
 abbrev pub says : StubState → List ℕ → Reply
 says s text = record { text = text; state = s; ends = false }
 
+-- the stub plays no side
 abbrev pub stopped : StubState → StubState
 stopped s = record { words = s.words; plays = false }
 
+-- the reply to `protover`
 abbrev pub features : List ℕ
 features = codes "feature ping=1 setboard=1 usermove=1 myname=\"stub\" done=1" ++ new_line ∷ []
 
