@@ -14,6 +14,7 @@ pub enum Form {
     Walk(Parts),
 }
 
+#[inline(always)]
 fn castling_named(text: &[u8]) -> Option<CastlingSide>
     ensures { result ≡ castling_named text.now }
 {
@@ -26,6 +27,7 @@ fn castling_named(text: &[u8]) -> Option<CastlingSide>
 
 // The form of a text, if it has a move's shape.
 #[tactic(auto, unfolding(crate::specs::ties::Forms::form_of))]
+#[inline(always)]
 pub(crate) fn read_form(text: &[u8]) -> Option<Form>
     ensures { result ≡ form_of text.now }
 {

@@ -256,6 +256,7 @@ fn spelled_by_kind<B: Board>(board: &B, parts: &Parts, kind: Kind) -> Reading
 }
 
 // What a text of that form is, by the moves that it denotes from all squares where one may begin.
+#[inline(never)]
 fn spelled_from_origins<B: Board>(board: &B, form: &Form) -> Reading
     ensures { result ≡ one_of
         (filter (λ m. is_spelled form.now (B.position board.now) m) (moves (B.position board.now))) }
@@ -270,6 +271,7 @@ fn spelled_from_origins<B: Board>(board: &B, form: &Form) -> Reading
 }
 
 // What a text of that form is: of the legal moves it may denote one, several or none.
+#[inline(always)]
 fn spelled<B: Board>(board: &B, form: &Form) -> Reading
     ensures { result ≡ one_of
         (filter (λ m. is_spelled form.now (B.position board.now) m) (moves (B.position board.now))) }
