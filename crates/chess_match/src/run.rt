@@ -4,7 +4,7 @@ ghost use Rattle.std.specs.Prelude.{◌≡◌, ◌<◌, List, [], ◌∷◌, ℕ
 ghost use Rattle.arrayvec.specs.ArrayVec.{array_vec_len};
 ghost use Rattle.chess_base.specs.Men.{other};
 ghost use Rattle.chess_base.specs.declared.man.Colour.{Colour};
-ghost use Rattle.chess_cecp.specs.Next.{NextLine};
+ghost use Rattle.chess_cecp.specs.Next.{NextLine, line_read};
 ghost use Rattle.chess_game.specs.Game.{at, outcome_now, with_declared, verdict_now};
 ghost use Rattle.chess_match.specs.ties.Awaits.{IsAwaited};
 ghost use Rattle.chess_match.specs.ties.Delivering.{by_side, by_turn, event_heard, line_event, Delivered, HasLast};
@@ -157,6 +157,7 @@ pub fn run_match_watched<R: Input, W: Output, M: Moments, B: Board, L: Witness>(
     let mut core = Core::new(setup.level);
     let mut white_lines: Lines<ENGINE_LINE_LEN> = Lines::new();
     let mut black_lines: Lines<ENGINE_LINE_LEN> = Lines::new();
+    let mut line = Line::new();
     let mut blocks = Blocks::new();
     let mut failed = deliver(
         &mut white.writer,
@@ -184,13 +185,15 @@ pub fn run_match_watched<R: Input, W: Output, M: Moments, B: Board, L: Witness>(
                     &mut white_lines,
                     &mut black_lines,
                     side,
+                    &mut line,
                 );
                 let given = hear(
                     &mut core,
                     moments,
                     witness,
                     game,
-                    &heard,
+                    heard,
+                    &line,
                     side,
                     &mut blocks.own,
                 );
@@ -234,25 +237,26 @@ fn awaited_in(phase: Phase) -> Awaited
     }
 }
 
-// The next line of that side's engine.
+// Reads the next line of that side's engine, if there is one.
 fn next_line<R: Input>(
     white: &mut R,
     black: &mut R,
     white_lines: &mut Lines<ENGINE_LINE_LEN>,
     black_lines: &mut Lines<ENGINE_LINE_LEN>,
     side: Colour,
-) -> Result<Option<Line<ENGINE_LINE_LEN>>, ReadFault>
+    line: &mut Line<ENGINE_LINE_LEN>,
+) -> Result<bool, ReadFault>
     ensures next { NextLine ENGINE_LINE_LEN (by_side (R.seen white.old) (R.seen black.old) side)
         (by_side (R.seen white.new) (R.seen black.new) side) (by_side white_lines.old black_lines.old side)
-        (by_side white_lines.new black_lines.new side) result }
+        (by_side white_lines.new black_lines.new side) (line_read result line.new) }
     ensures others { by_side (R.seen white.new) (R.seen black.new) (other side)
         ≡ by_side (R.seen white.old) (R.seen black.old) (other side) }
     ensures held { by_side white_lines.new black_lines.new (other side)
         ≡ by_side white_lines.old black_lines.old (other side) }
 {
     match side {
-        Colour::White => white_lines.next(white),
-        Colour::Black => black_lines.next(black),
+        Colour::White => white_lines.read_line(white, line),
+        Colour::Black => black_lines.read_line(black, line),
     }
 }
 
@@ -553,14 +557,15 @@ fn hear_line<M: Moments, L: Witness, G: Played>(
     core.line(game, said(line), moment, block)
 }
 
-// Takes what a call for the next line of a side's engine gave. Returns what is to be sent; the answers to
-// the line's items are added to an empty block.
+// Takes what reading the next line of a side's engine gave. Returns what is to be sent; the answers to the line's items
+// are added to an empty block.
 fn hear<M: Moments, L: Witness, G: Played>(
     core: &mut Core,
     moments: &mut M,
     witness: &mut L,
     game: &mut G,
-    heard: &Result<Option<Line<ENGINE_LINE_LEN>>, ReadFault>,
+    heard: Result<bool, ReadFault>,
+    line: &Line<ENGINE_LINE_LEN>,
     side: Colour,
     block: &mut Block,
 ) -> Given
@@ -570,12 +575,15 @@ fn hear<M: Moments, L: Witness, G: Played>(
     ensures rules { (r : Rules) → G.plays game.old r → G.plays game.new r }
     ensures origin { G.origin game.new ≡ G.origin game.old }
     ensures heard { (moment : ℕ) × (items : List Item)
-        × Asked (M.coming moments.old) (M.coming moments.new) (moment_in (event_heard side moment heard.now))
-        × WasNoted (L.told witness.old) (L.told witness.new) (Happened (event_heard side moment heard.now) ∷ [])
+        × Asked (M.coming moments.old) (M.coming moments.new)
+        (moment_in (event_heard side moment (line_read heard line.now)))
+        × WasNoted (L.told witness.old) (L.told witness.new)
+        (Happened (event_heard side moment (line_read heard line.now)) ∷ [])
         × (block.new.items ≡ bytes_of (answers_to items))
         × ((r : Rules) (m : Match) → G.plays game.old r → reads m.phase side ≡ true
         → Stands r core.old (G.played game.old) m
-        → Goes r core.new (G.played game.new) result (items_to side items) m (after r m (event_heard side moment heard.now))) }
+        → Goes r core.new (G.played game.new) result (items_to side items) m
+        (after r m (event_heard side moment (line_read heard line.now)))) }
     ensures room { array_vec_len block.new ≤ ANSWERS_LEN }
 {
     match heard {
@@ -583,11 +591,11 @@ fn hear<M: Moments, L: Witness, G: Played>(
             witness.read_fails(side);
             core.read_fails(side)
         }
-        Ok(None) => {
+        Ok(false) => {
             witness.output_ends(side);
             core.output_ends(side)
         }
-        Ok(Some(line)) => {
+        Ok(true) => {
             if is_heard(line) {
                 hear_line(core, moments, witness, game, line, side, block)
             } else {
@@ -606,7 +614,7 @@ fn declare<B: Board>(game: &mut Game<B>, reason: Reason)
     if game.verdict().is_some() {
         return;
     }
-    let _declared = game.declare(reason.outcome(), Comment::cut(reason.comment()));
+    game.declare_open(reason.outcome(), Comment::cut(reason.comment()));
 }
 
 // The report of the end; the end is declared where the game has no verdict.

@@ -1,5 +1,6 @@
 -- A line, the end, or a read that failed.
 use Rattle.std.proofs.Common.{ap, sym, ◌∙◌, Ok, refl}
+use Rattle.chess_cecp.specs.Next.{line_read}
 use Rattle.chess_match.proofs.Delivers.{IsNoted, heard_failed, heard_none, heard_last, noted_bare}
 use Rattle.chess_match.proofs.Going.{reads_on}
 use Rattle.chess_match.specs.Match.{FailsToRead, OutputEnds}
@@ -11,34 +12,36 @@ returns-in-Err-clause-heard g c =
     c.read_fails-in-Err.new.self (g.G.Played.played c.args.game.now) c.read_fails-in-Err.result c.args.block.now.items
     c.args.side (g.M.Moments.coming c.args.moments.now) (g.M.Moments.coming c.args.moments.now)
     (g.L.Witness.told c.args.witness.now) (g.L.Witness.told c.read_fails.new.self))
-    c.args.side 0 c.args.heard.now c.in-Err.field-0 c.in-Err.is
+    c.args.side 0 (line_read c.args.heard c.args.line.now) c.in-Err.field-0
+    (ap (λ v. line_read v c.args.line.now) c.in-Err.is)
     (noted_bare _ _ _ _ _ _ _ c.args.side _ _ _ (FailsToRead c.args.side) refl c.requires.empty c.read_fails.ensures
     (λ r m p h s. c.read_fails-in-Err.ensures r _ m (reads_on m.phase c.args.side h) s)) in
     (0, n.0, n.1, n.2, n.3, n.4)
 
-pub returns-in-Ok-None-clause-heard : goal.returns-in-Ok-None-clause-heard
-returns-in-Ok-None-clause-heard g c =
+pub returns-in-Ok-false-clause-heard : goal.returns-in-Ok-false-clause-heard
+returns-in-Ok-false-clause-heard g c =
     let n = heard_none (IsNoted (g.G.Played.plays c.args.game.now) c.args.core.now (g.G.Played.played c.args.game.now)
-    c.output_ends-in-Ok-None.new.self (g.G.Played.played c.args.game.now) c.output_ends-in-Ok-None.result
+    c.output_ends-in-Ok-false-2.new.self (g.G.Played.played c.args.game.now) c.output_ends-in-Ok-false-2.result
     c.args.block.now.items
     c.args.side (g.M.Moments.coming c.args.moments.now) (g.M.Moments.coming c.args.moments.now)
-    (g.L.Witness.told c.args.witness.now) (g.L.Witness.told c.output_ends.new.self))
-    c.args.side 0 c.args.heard.now (c.in-Ok-None.is ∙ ap (λ o. Ok o) (rw c.in-Ok-None.is at c.in-Ok-None.field-0-is))
-    (noted_bare _ _ _ _ _ _ _ c.args.side _ _ _ (OutputEnds c.args.side) refl c.requires.empty c.output_ends.ensures
-    (λ r m p h s. c.output_ends-in-Ok-None.ensures r _ m (reads_on m.phase c.args.side h) s)) in
+    (g.L.Witness.told c.args.witness.now) (g.L.Witness.told c.output_ends-in-Ok-false.new.self))
+    c.args.side 0 (line_read c.args.heard c.args.line.now)
+    (ap (λ v. line_read v c.args.line.now) (c.in-Ok-false.is ∙ ap (λ o. Ok o) c.in-Ok-false.field-0-test))
+    (noted_bare _ _ _ _ _ _ _ c.args.side _ _ _ (OutputEnds c.args.side) refl c.requires.empty c.output_ends-in-Ok-false.ensures
+    (λ r m p h s. c.output_ends-in-Ok-false-2.ensures r _ m (reads_on m.phase c.args.side h) s)) in
     (0, n.0, n.1, n.2, n.3, n.4)
 
 pub returns-else-is_heard-clause-heard : goal.returns-else-is_heard-clause-heard
 returns-else-is_heard-clause-heard g c =
     let n = heard_last (IsNoted (g.G.Played.plays c.args.game.now) c.args.core.now (g.G.Played.played c.args.game.now)
-    c.output_ends-else-is_heard-2.new.self (g.G.Played.played c.args.game.now) c.output_ends-else-is_heard-2.result
+    c.output_ends-else-is_heard.new.self (g.G.Played.played c.args.game.now) c.output_ends-else-is_heard.result
     c.args.block.now.items c.args.side (g.M.Moments.coming c.args.moments.now)
     (g.M.Moments.coming c.args.moments.now) (g.L.Witness.told c.args.witness.now)
-    (g.L.Witness.told c.output_ends-else-is_heard.new.self))
-    c.args.side 0 c.args.heard.now c.in-Ok-Some.line
-    (c.in-Ok-Some.is ∙ ap (λ o. Ok o) (rw c.in-Ok-Some.is at c.in-Ok-Some.field-0-is))
+    (g.L.Witness.told c.output_ends.new.self))
+    c.args.side 0 (line_read c.args.heard c.args.line.now) c.args.line.now
+    (ap (λ v. line_read v c.args.line.now) (c.in-Ok-true.is ∙ ap (λ o. Ok o) c.in-Ok-true.field-0-test))
     (sym c.is_heard.ensures ∙ c.if-is_heard.false)
     (noted_bare _ _ _ _ _ _ _ c.args.side _ _ _ (OutputEnds c.args.side) refl c.requires.empty
-    c.output_ends-else-is_heard.ensures
-    (λ r m p h s. c.output_ends-else-is_heard-2.ensures r _ m (reads_on m.phase c.args.side h) s)) in
+    c.output_ends.ensures
+    (λ r m p h s. c.output_ends-else-is_heard.ensures r _ m (reads_on m.phase c.args.side h) s)) in
     (0, n.0, n.1, n.2, n.3, n.4)

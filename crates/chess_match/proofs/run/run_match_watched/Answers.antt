@@ -4,6 +4,7 @@ use Rattle.chess_base.specs.declared.man.Colour.{Colour}
 use Rattle.chess_base.specs.declared.man.Move.{Move}
 use Rattle.chess_base.specs.declared.setup.Setup.{Setup}
 use Rattle.chess_cecp.specs.Lines.{nothing_held}
+use Rattle.chess_cecp.specs.Next.{line_read}
 use Rattle.chess_game.specs.Game as game
 use Rattle.chess_match.specs.ties.Delivering.{by_side, event_heard}
 use Rattle.chess_match.specs.Match.{Match, Opened, start, after}
@@ -118,13 +119,14 @@ deliver-failed-requires-in-Line-clause-last g c =
     let r : Rules = rules_of c.args.setup.now.start c.args.setup.now.level c.args.game.now.limit in
     let m : Match = match_of r i.0 in
     let S : Colour = c.in-Line.side in
+    let heard = line_read c.next_line-heard.result c.next_line-heard.new.line in
     let reading : reads m.phase S ≡ true = ap (λ (p : Phase). reads p S) (sym i.1.stands.phase) ∙ c.in-Line.ensures in
     let plays = plays_on c.args.game.now c.events.game c.args.setup.now.start c.args.setup.now.level i.2 i.3 i.4 in
     let h = c.hear-given.ensures.heard in (
       r,
-      after r m (event_heard S h.0 c.next_line-heard.result),
+      after r m (event_heard S h.0 heard),
       (h.5 r m plays reading i.1.stands).stands,
-      (heard_sane r m S h.0 c.next_line-heard.result i.1.sane).untold,
+      (heard_sane r m S h.0 heard i.1.sane).untold,
     )
 
 pub hear-given-requires-clause-empty : goal.hear-given-requires-clause-empty
@@ -139,14 +141,15 @@ events-smaller g c =
     let r : Rules = rules_of c.args.setup.now.start c.args.setup.now.level c.args.game.now.limit in
     let m : Match = match_of r i.0 in
     let S : Colour = c.in-Line.side in
+    let heard = line_read c.next_line-heard.result c.next_line-heard.new.line in
     let reading : reads m.phase S ≡ true = ap (λ (p : Phase). reads p S) (sym i.1.stands.phase) ∙ c.in-Line.ensures in
     let plays = plays_on c.args.game.now c.events.game c.args.setup.now.start c.args.setup.now.level i.2 i.3 i.4 in
     let h = c.hear-given.ensures.heard in
     let goes = h.5 r m plays reading i.1.stands in
-    let d = delivered_by r _ _ _ _ (block r m (after r m (event_heard S h.0 c.next_line-heard.result))) S _ _ _ _ _
+    let d = delivered_by r _ _ _ _ (block r m (after r m (event_heard S h.0 heard))) S _ _ _ _ _
     goes.gives (c.deliver-failed-in-Line.ensures.delivered r _ (items_to S h.1) (c.hear-given.ensures.rules r plays)
     goes.stands (h.4 ∙ ap (λ (is : List Item). bytes_of (answers_to is)) (sym (to_own S h.1))) (to_other S h.1)) in
-    heard_less r c.events.core.phase c.deliver-failed-in-Line.new.core _ m S h.0 c.next_line-heard.result _
+    heard_less r c.events.core.phase c.deliver-failed-in-Line.new.core _ m S h.0 heard _
     (by_side (g.R.Input.seen c.events.white.reader) (g.R.Input.seen c.events.black.reader))
     (by_side (g.R.Input.seen c.next_line-heard.new.white) (g.R.Input.seen c.next_line-heard.new.black))
     (by_side c.events.white_lines c.events.black_lines)
@@ -159,14 +162,15 @@ events-preserved g c =
     let r : Rules = rules_of c.args.setup.now.start c.args.setup.now.level c.args.game.now.limit in
     let m : Match = match_of r i.0 in
     let S : Colour = c.in-Line.side in
+    let heard = line_read c.next_line-heard.result c.next_line-heard.new.line in
     let reading : reads m.phase S ≡ true = ap (λ (p : Phase). reads p S) (sym i.1.stands.phase) ∙ c.in-Line.ensures in
     let plays = plays_on c.args.game.now c.events.game c.args.setup.now.start c.args.setup.now.level i.2 i.3 i.4 in
     let h = c.hear-given.ensures.heard in
     let goes = h.5 r m plays reading i.1.stands in
-    let d = delivered_by r _ _ _ _ (block r m (after r m (event_heard S h.0 c.next_line-heard.result))) S _ _ _ _ _
+    let d = delivered_by r _ _ _ _ (block r m (after r m (event_heard S h.0 heard))) S _ _ _ _ _
     goes.gives (c.deliver-failed-in-Line.ensures.delivered r _ (items_to S h.1) (c.hear-given.ensures.rules r plays)
     goes.stands (h.4 ∙ ap (λ (is : List Item). bytes_of (answers_to is)) (sym (to_own S h.1))) (to_other S h.1)) in
-    let u = heard_on r i.0 S h.0 c.next_line-heard.result c.events.core c.deliver-failed-in-Line.new.core _ _
+    let u = heard_on r i.0 S h.0 heard c.events.core c.deliver-failed-in-Line.new.core _ _
     (by_side c.events.failed.white c.events.failed.black)
     (by_side c.deliver-failed-in-Line.result.white c.deliver-failed-in-Line.result.black)
     (by_side (g.R.Input.seen c.args.white.now.reader) (g.R.Input.seen c.args.black.now.reader))
