@@ -18,7 +18,7 @@ now = { echo '$(call uses,$1)'; find $(top)/crates/$1/{src,specs,proofs} '$(kit)
     \( -name '*.rt' -o -name '*.antt' -o -name WHAT \) -printf '%p %s %T@\n' 2>/dev/null | LC_ALL=C sort; }
 
 # What little waits for gets the processors that the others leave.
-chess_bits pgn_pieces pgn_verifier: private nice := nice -n 10
+arbiter_grammar chess_bits pgn_pieces pgn_verifier: private nice := nice -n 10
 
 build = $(nice) $(kit)/bin/rattle build --crate-name $@ --jobs $(jobs) --links $@= \
     --antt-project $(kit)/rattle/logic/antt-project.json --logic-built $(kit)/logic_built \
