@@ -274,7 +274,8 @@ impl<const N: usize> Lines<N> {
         reader: &mut R,
         line: &mut Line<N>,
     ) -> Result<bool, ReadFault>
-        ensures next { NextLine N (R.seen reader.old) (R.seen reader.new) self.old self.new (line_read result line.new) }
+        ensures next { NextLine N (R.seen reader.old) (R.seen reader.new) self.old self.new
+            (line_read result line.new) }
         ensures kept { result ≢ Ok true → line.new ≡ line.old }
     {
         loop {

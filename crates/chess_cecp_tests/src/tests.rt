@@ -5,7 +5,7 @@ use crate::rows::{CHESS960, COMMANDS, COUNTS, ENDS, LIMITED, LONG, MOVES, STARTS
 use byte_devices::{Counted, PieceReader, PieceWriter};
 use chess_base::{Move, Position, Square};
 use chess_cecp::{
-    Command, End, Fault, Lines, Session, lines_are_pieces, normal_chess_keeps_its_rows,
+    Command, End, Fault, Line, Lines, Session, lines_are_pieces, normal_chess_keeps_its_rows,
     read_command, refusals_change_nothing, run_session,
 };
 use chess_fen::write_fen;
@@ -186,6 +186,54 @@ fn what_was_read_stays_after_a_fault(rt: HostRuntime) -> Result<(), Fail> {
     next_is(&rt, &mut lines, &mut reader, "a line", b"ab", true)?;
     next_is(&rt, &mut lines, &mut reader, "a last line", b"cd", false)?;
     assert!(rt; matches!(&lines.next(&mut reader), Ok(None)));
+    Ok(())
+}
+
+// The next line, read over the one before, is this one: its text, and whether it was too long.
+fn next_over(
+    rt: &impl Abort,
+    lines: &mut Lines<64>,
+    reader: &mut Counted<PieceReader<'_>>,
+    line: &mut Line<64>,
+    text: &[u8],
+    is_too_long: bool,
+) {
+    assert!(rt; matches!(&lines.read_line(reader, line), Ok(true)));
+    assert_eq!(rt; line.text(), text);
+    assert!(rt; line.is_ended() && line.is_too_long() == is_too_long);
+}
+
+// 70 bytes, of which a line of 64 shows 64, then 15 and then 3.
+const LONG_THEN_SHORT: &[u8] =
+    b"xxxxxxxxxxxxxxxxxxxxxxxxxxxxxxxxxxxxxxxxxxxxxxxxxxxxxxxxxxxxxxxxxxxxxx\n usermove e4 \r\ncd\n";
+
+// A read that fails, and the end, leave the line as it was.
+#[test]
+fn a_line_is_read_over_the_one_before(rt: HostRuntime) -> Result<(), Fail> {
+    let mut reader = pieces(LONG_THEN_SHORT, 7, 13);
+    let mut lines: Lines<64> = Lines::new();
+    let mut line = Line::new();
+    next_over(
+        &rt,
+        &mut lines,
+        &mut reader,
+        &mut line,
+        &LONG_THEN_SHORT[..64],
+        true,
+    );
+    assert!(rt; lines.read_line(&mut reader, &mut line).is_err());
+    assert_eq!(rt; line.text(), &LONG_THEN_SHORT[..64]);
+    next_over(
+        &rt,
+        &mut lines,
+        &mut reader,
+        &mut line,
+        b"usermove e4",
+        false,
+    );
+    next_over(&rt, &mut lines, &mut reader, &mut line, b"cd", false);
+    assert!(rt; matches!(&lines.read_line(&mut reader, &mut line), Ok(false)));
+    assert_eq!(rt; line.text(), b"cd".as_slice());
     Ok(())
 }
 

@@ -27,7 +27,8 @@ returns-in-Ok-false-clause-heard g c =
     (g.L.Witness.told c.args.witness.now) (g.L.Witness.told c.output_ends-in-Ok-false.new.self))
     c.args.side 0 (line_read c.args.heard c.args.line.now)
     (ap (λ v. line_read v c.args.line.now) (c.in-Ok-false.is ∙ ap (λ o. Ok o) c.in-Ok-false.field-0-test))
-    (noted_bare _ _ _ _ _ _ _ c.args.side _ _ _ (OutputEnds c.args.side) refl c.requires.empty c.output_ends-in-Ok-false.ensures
+    (noted_bare _ _ _ _ _ _ _ c.args.side _ _ _ (OutputEnds c.args.side) refl c.requires.empty
+    c.output_ends-in-Ok-false.ensures
     (λ r m p h s. c.output_ends-in-Ok-false-2.ensures r _ m (reads_on m.phase c.args.side h) s)) in
     (0, n.0, n.1, n.2, n.3, n.4)
 

@@ -5,8 +5,9 @@ use Rattle.chess_cecp.proofs.Parts.{found_line, one_byte, no_line}
 use Rattle.chess_cecp.proofs.lines.Lines.held_line.Goals as goal
 
 pub returns-then-byte-eq10-clause-held : goal.returns-then-byte-eq10-clause-held
-returns-then-byte-eq10-clause-held g c = found_line g.row.N c.args.self.now _ _ _ _ c.in-Some.byte _ c.loop-byte.invariant.same
-    c.loop-byte.invariant.fewer c.in-Some.ensures c.if-byte-eq10.true c.finish.ensures.line c.finish.ensures.empty
+returns-then-byte-eq10-clause-held g c =
+    found_line g.row.N c.args.self.now _ _ _ _ c.in-Some.byte _ c.loop-byte.invariant.same c.loop-byte.invariant.fewer
+    c.in-Some.ensures c.if-byte-eq10.true c.finish.ensures.line c.finish.ensures.empty
 
 pub loop-byte-preserved : goal.loop-byte-preserved
 loop-byte-preserved g c = record {
