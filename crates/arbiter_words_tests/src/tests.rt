@@ -68,7 +68,7 @@ const VERIFY: [(&[&str], bool, bool, bool); 14] = [
 
 // The arguments of `verify` go together in any order.
 #[test]
-fn verify_by_its_words(rt: HostRuntime) -> Result<(), Fail> {
+fn verify_by_its_options(rt: HostRuntime) -> Result<(), Fail> {
     for (words, keep_going, quiet, strict) in &VERIFY {
         let Plan::Verify(plan) = read_words(rt.alloc(), words)? else {
             return Err(Fail::new("another plan"));
@@ -93,7 +93,7 @@ const STUBS: [(&[&str], usize); 3] = [
 ];
 
 #[test]
-fn a_stub_keeps_its_words(rt: HostRuntime) -> Result<(), Fail> {
+fn a_stub_keeps_its_arguments(rt: HostRuntime) -> Result<(), Fail> {
     for (words, count) in &STUBS {
         let Plan::Stub(found) = read_words(rt.alloc(), words)? else {
             return Err(Fail::new("another plan"));
@@ -254,7 +254,7 @@ const FAULTS: [([&str; 6], &str); 8] = [
 
 // Arguments that ask for nothing: what is reported of them.
 #[test]
-fn faults_are_told(rt: HostRuntime) -> Result<(), Fail> {
+fn faults_are_reported(rt: HostRuntime) -> Result<(), Fail> {
     for ([a, b, c, d, e, f], wanted) in &FAULTS {
         let words = [
             "match", "--white", "x", "--black", "y", *a, *b, *c, *d, *e, *f,
@@ -346,7 +346,7 @@ const OTHERS: [(&[&str], i32); 39] = [
 
 // Arguments that are none of the program's forms, or ask for help: the status that `clap` gives them.
 #[test]
-fn other_words_are_refused(rt: HostRuntime) -> Result<(), Fail> {
+fn other_arguments_are_refused(rt: HostRuntime) -> Result<(), Fail> {
     for (words, status) in &OTHERS {
         match read_words(rt.alloc(), words) {
             Err(WordsFault::Words(error)) => assert_eq!(rt; error.exit_code(), *status),

@@ -202,7 +202,7 @@ fn tells_words_on_the_way<B: Board>(rt: &impl Abort, board: &mut B) -> Result<()
 }
 
 #[test]
-fn words_are_those_counted_apart(rt: HostRuntime) -> Result<(), Fail> {
+fn hashes_are_those_counted_apart(rt: HostRuntime) -> Result<(), Fail> {
     tells_words(&rt, &mut Plain::new())?;
     tells_words_on_the_way(&rt, &mut Plain::new())?;
     let tables = AttackTables::open(rt.alloc()).ok().ok_or("memory")?;

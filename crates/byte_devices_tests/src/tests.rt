@@ -56,7 +56,7 @@ fn healthy_devices_never_fail(rt: HostRuntime) -> Result<(), Fail> {
 }
 
 #[test]
-fn pieces_are_cut_as_told(rt: HostRuntime) {
+fn pieces_are_cut_as_set(rt: HostRuntime) {
     for cut in 1..4 {
         let mut input = Counted::reading(PieceReader::new(TEXT, cut, 0));
         for piece in TEXT.chunks(cut) {

@@ -199,7 +199,7 @@ fn check_failed_reads(rt: &impl Abort, host: &HostRuntime, talk: &Talk) -> Resul
 
 // What was read before the failure is answered, line by line, and no more.
 #[test]
-fn reads_that_fail_at_each_place(rt: HostRuntime) -> Result<(), Fail> {
+fn reads_that_fail_at_each_call(rt: HostRuntime) -> Result<(), Fail> {
     for talk in &TALKS {
         check_failed_reads(&rt, &rt, talk)?;
     }
@@ -251,7 +251,7 @@ fn check_failed_writes(rt: &impl Abort, host: &HostRuntime, talk: &Talk) -> Resu
 
 // Each write and each flush in turn: a beginning of the answers was taken, and that only grows.
 #[test]
-fn writes_that_fail_at_each_place(rt: HostRuntime) -> Result<(), Fail> {
+fn writes_that_fail_at_each_call(rt: HostRuntime) -> Result<(), Fail> {
     for talk in &TALKS {
         check_failed_writes(&rt, &rt, talk)?;
     }

@@ -303,7 +303,7 @@ fn check_help(rt: &impl Abort, outcome: &Outcome, named: &[&str]) -> Result<(), 
 }
 
 #[test]
-fn help_names_the_words(rt: HostRuntime) -> Result<(), Fail> {
+fn help_names_the_options(rt: HostRuntime) -> Result<(), Fail> {
     for (words, named) in &HELP {
         check_help(&rt, &run(&rt, words, b"ping 1\n", SOUND), named)?;
     }
@@ -345,6 +345,6 @@ fn faults_have_texts(rt: HostRuntime) -> Result<(), Fail> {
 
 // The tests' program has arguments of its own: a test's name.
 #[test]
-fn the_words_of_the_process_are_read(rt: HostRuntime) {
+fn the_arguments_of_the_process_are_read(rt: HostRuntime) {
     assert!(rt; chess_arbiter::run(&rt) == ExitCode::from(2));
 }

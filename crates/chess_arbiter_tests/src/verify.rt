@@ -200,7 +200,7 @@ const BY_WORDS: [(&[&str], &[u8], &[u8], u8); 11] = [
 ];
 
 #[test]
-fn games_verified_by_words(rt: HostRuntime) {
+fn games_verified_by_arguments(rt: HostRuntime) {
     for (words, text, told, status) in &BY_WORDS {
         for piece in [1, 7, 100] {
             let devices = Devices { piece, ..SOUND };

@@ -127,7 +127,7 @@ fn is_after_e4(rt: &impl Abort, position: &Position) {
 }
 
 #[test]
-fn a_move_stands_where_writing_breaks_off(rt: HostRuntime) -> Result<(), Fail> {
+fn a_move_is_kept_where_writing_fails(rt: HostRuntime) -> Result<(), Fail> {
     let mut session = open(rt.alloc(), 100)?;
     let mut reader = pieces(b"e2e4\nshowfen\n", 100, 0);
     let mut writer = taking(rt.alloc(), 3, 3);
@@ -258,7 +258,7 @@ const NAMED: &[(&[u8], Command)] = &[
 ];
 
 #[test]
-fn commands_are_told_by_their_first_word(rt: HostRuntime) {
+fn commands_are_named_by_their_first_word(rt: HostRuntime) {
     for (text, command) in NAMED {
         assert_eq!(rt; read_command(text), *command);
     }

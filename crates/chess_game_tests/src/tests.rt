@@ -995,7 +995,7 @@ const MATE: &[Step] = &[
 
 // 1. f3 e5 2. g4 Qh4#. The game is over until its last move is taken back, whatever is declared.
 #[test]
-fn mate_stands_against_declared_results(rt: HostRuntime) -> Result<(), Fail> {
+fn mate_overrules_declared_results(rt: HostRuntime) -> Result<(), Fail> {
     game_goes(&rt, rt.alloc(), 100, MATE)
 }
 
@@ -1183,7 +1183,7 @@ const PROMOTION: &[Step] = &[
 ];
 
 #[test]
-fn promotion_to_a_knight_leaves_too_few_men(rt: HostRuntime) -> Result<(), Fail> {
+fn promotion_to_a_knight_leaves_too_few_pieces(rt: HostRuntime) -> Result<(), Fail> {
     game_goes(&rt, rt.alloc(), 100, PROMOTION)
 }
 
@@ -1312,7 +1312,7 @@ const NOT_ASKED: &[Step] = &[
 
 // A game keeps the hashes of its positions: each is asked for once, when the position is reached.
 #[test]
-fn each_position_is_asked_for_its_word_once(rt: HostRuntime) -> Result<(), Fail> {
+fn each_position_is_asked_for_its_hash_once(rt: HostRuntime) -> Result<(), Fail> {
     let calls = Calls::none();
     let mut game = opened(&rt, rt.alloc(), counting_board(&calls), 9)?;
     was_asked(&rt, &calls, 1);

@@ -59,13 +59,15 @@ reported ForfeitsToBareKing = (Draw, codes "Time forfeit against a bare king", T
 reported GameTooLong = (Unfinished, codes "Game too long", Normal)
 reported (Faulted c f) = (Unfinished, colour_name c ++ fault_words f, Normal)
 
--- its outcome, its comment, and how the game ended
+-- its outcome
 abbrev pub outcome_of : Reason → Outcome
 outcome_of reason = (reported reason).0
 
+-- its comment
 abbrev pub comment_of : Reason → List ℕ
 comment_of reason = (reported reason).1
 
+-- how the game ended, for the tag Termination
 abbrev pub ended_by : Reason → HowEnded
 ended_by reason = (reported reason).2
 
