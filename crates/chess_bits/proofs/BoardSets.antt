@@ -116,7 +116,8 @@ cleared men s l all = let inside : s < length men = omega arith in get_or-set_sa
 
 -- ---- two squares
 
-pub still_empty : (men : Men) (a b : ℕ) → length men ≡ 64 → a < 64 → man_at men b ≡ None → man_at (set men a None) b ≡ None
+pub still_empty : (men : Men) (a b : ℕ) → length men ≡ 64 → a < 64 → man_at men b ≡ None
+    → man_at (set men a None) b ≡ None
 still_empty men a b all low bare =
     elim (cases_eq b a) [
       | inl here ↦ rw here (cleared men a low all)

@@ -20,10 +20,10 @@ use Rattle.chess_base.specs.declared.setup.Setup.{Setup}
 use Rattle.chess_base.specs.Squares.{is_square}
 use Rattle.chess_base.specs.Men.{Men, man_at, other, is_man, is_of, same_colour, same_kind}
 use Rattle.chess_base.specs.Before.{captured_square, man_on, saved_of}
-use Rattle.chess_base.specs.Castling.{castle_of, castling_rook_to, home_square, is_beside, king_home_file, king_square, lands_on, right_of, right_stands, right_stands_at, rook_file, says_castling, stand_for_castling}
+use Rattle.chess_base.specs.Castling.{castling_rook_to, home_square, is_beside, king_home_file, king_square, lands_on, right_of, right_stands, right_stands_at, rook_file, says_castling, stand_for_castling}
 use Rattle.chess_base.specs.Sound.{IsSound}
 use Rattle.chess_base.specs.Attacks.{is_in_check}
-use Rattle.chess_base.specs.Moves.{after, fullmove_after, halfmove_after, has_pattern, is_double_advance, is_en_passant, is_legal, man_that_lands, men_after, resets_clock, right_after, rights_after, second_square_emptied, target_after}
+use Rattle.chess_base.specs.Moves.{after, fullmove_after, halfmove_after, has_pattern, is_double_advance, is_legal, man_that_lands, men_after, resets_clock, right_after, rights_after, second_square_emptied, target_after}
 use Rattle.chess_base.proofs.Castlings.{change_of}
 use Rattle.chess_base.proofs.Changes.{Change, Rest, Alone, WithCapture, WithRook}
 use Rattle.chess_base.proofs.MoveKinds.{is_of-mover}
@@ -109,7 +109,8 @@ unfolding right_stands
 stands_at p c w h = h
 
 rights_kept_at : (p : Setup) (m : Move) → IsSound p
-    → (is_king_or_rook (man_at p.men m.from) || is_king_or_rook (man_at p.men m.to)) ≡ false → p.rights ≡ rights_after p m
+    → (is_king_or_rook (man_at p.men m.from) || is_king_or_rook (man_at p.men m.to)) ≡ false
+    → p.rights ≡ rights_after p m
 unfolding rights_after
 rights_kept_at p m sound h =
     let none = neither (is_king_or_rook (man_at p.men m.from)) (is_king_or_rook (man_at p.men m.to)) h in

@@ -140,7 +140,8 @@ fn may_lose_right(mover: Man, taken: Option<Man>) -> bool
     is_king_or_rook(Some(mover)) || is_king_or_rook(taken)
 }
 
-// The castling rights after the move of that piece to a square that holds that. Most moves can't take one, since its king and its rook are where they belong.
+// The castling rights after the move of that piece to a square that holds that. Most moves can't take one, since its
+// king and its rook are where they belong.
 #[inline(always)]
 #[tactic(auto, using(crate::proofs::Making::none_lost, crate::proofs::Making::rights_kept))]
 fn rights_left(setup: &Setup, m: &Move, mover: Man, taken: Option<Man>) -> Rights

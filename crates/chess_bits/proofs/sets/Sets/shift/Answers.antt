@@ -53,8 +53,8 @@ returns-in-Black c =
       of_white = theirs_put c.args.self.now.white.sets rest Black c.args.to c.args.man whole high c.in-Black.is free
           (theirs_lifted c.args.self.now.white.sets men Black c.args.from c.args.man all low c.in-Black.is at
           h.of_white);
-      all_black = all_put c.without-rest-in-Black.result c.union-self-in-Black.result rest Black c.args.to (Some c.args.man) whole
-          high (own_of Black c.args.man c.in-Black.is)
+      all_black = all_put c.without-rest-in-Black.result c.union-self-in-Black.result rest Black c.args.to
+          (Some c.args.man) whole high (own_of Black c.args.man c.in-Black.is)
           (λ j. c.union-self-in-Black.ensures j ∙ rw (c.single-entered.ensures.value j) refl)
           (all_lift c.args.self.now.all_black c.without-rest-in-Black.result men Black c.args.from all low
           (λ j l. c.without-rest-in-Black.ensures j l ∙ rw (c.single-left.ensures.value j) refl) h.all_black);
