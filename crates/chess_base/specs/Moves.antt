@@ -23,11 +23,8 @@ use Rattle.chess_base.specs.Steps.{men_stepped}
 abbrev pub promotion_fits : Bool → Option Kind → Bool
 promotion_fits last None = not last
 promotion_fits last (Some King) = false
-promotion_fits last (Some Queen) = last
-promotion_fits last (Some Rook) = last
-promotion_fits last (Some Bishop) = last
-promotion_fits last (Some Knight) = last
 promotion_fits last (Some Pawn) = false
+promotion_fits last (Some _) = last
 
 -- a pawn goes two squares from its home rank (3.7.2)
 unfoldable pub is_double_advance : Setup → Move → Bool

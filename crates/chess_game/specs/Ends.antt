@@ -70,10 +70,7 @@ verdict start ms =
 abbrev pub verdict_outcome : Verdict → Outcome
 verdict_outcome WhiteMates = WhiteWins
 verdict_outcome BlackMates = BlackWins
-verdict_outcome Stalemate = Draw
-verdict_outcome InsufficientMaterial = Draw
-verdict_outcome FivefoldRepetition = Draw
-verdict_outcome SeventyFiveMoves = Draw
+verdict_outcome _ = Draw
 
 -- what is said of a verdict
 abbrev pub verdict_comment : Verdict → List ℕ

@@ -54,10 +54,8 @@ fails g kind place = Stop (record { state = g.state; answer = Err (record { kind
 -- the outcome named at a game's end is declared where there is no verdict and it is not `*`
 abbrev pub declared_behind : Bool → Outcome → Option Declared
 declared_behind true o = None
-declared_behind false WhiteWins = Some (record { outcome = WhiteWins; comment = [] })
-declared_behind false BlackWins = Some (record { outcome = BlackWins; comment = [] })
-declared_behind false Draw = Some (record { outcome = Draw; comment = [] })
 declared_behind false Unfinished = None
+declared_behind false o = Some (record { outcome = o; comment = [] })
 
 -- the game ends with this outcome, at an offset after its text
 abbrev pub ends : SoFar → Outcome → ℕ → Step
@@ -76,15 +74,14 @@ unless_full limit g place next =
 abbrev pub move_step : ℕ → SoFar → ℕ → Reading → Step
 move_step limit g place reads.NotAMove = fails g BadToken place
 move_step limit g place (reads.Move m) = unless_full limit g place
-    (On (record { state = played g.state m; is_met = true; is_begun = true; termination = g.termination }))
+    (On (record g { state = played g.state m; is_met = true; is_begun = true }))
 move_step limit g place reads.Ambiguous = unless_full limit g place (fails g AmbiguousMove place)
 move_step limit g place reads.NoSuch = unless_full limit g place (fails g IllegalMove place)
 
 -- a word at that offset
 abbrev pub word_step : ℕ → SoFar → ℕ → List ℕ → WordKind → Step
 word_step limit g place word (End o) = ends g o (place + length word)
-word_step limit g place word Number =
-    On (record { state = g.state; is_met = true; is_begun = true; termination = g.termination })
+word_step limit g place word Number = On (record g { is_met = true; is_begun = true })
 word_step limit g place word Marks = On g
 word_step limit g place word Move = move_step limit g place (reading (current g.state) word)
 
@@ -92,8 +89,7 @@ word_step limit g place word Move = move_step limit g place (reading (current g.
 
 -- a start that a FEN at that offset denotes
 abbrev pub fen_step : SoFar → ℕ → Result Setup FenFault → Step
-fen_step g place (Ok start) =
-    On (record { state = from_start start; is_met = true; is_begun = g.is_begun; termination = g.termination })
+fen_step g place (Ok start) = On (record g { state = from_start start; is_met = true })
 fen_step g place (Err fault) = fails g BadFen place
 
 -- what is known of the game's end after a tag: the last one counts
@@ -104,12 +100,7 @@ told_behind before name text = if bytes_eq name (codes "Termination") then termi
 abbrev pub tag_step : SoFar → List ℕ → List ℕ → ℕ → Step
 tag_step g name text place =
     if bytes_eq name (codes "FEN") then fen_step g place (fen_reading_as g.state.start.variant text)
-    else On (record {
-      state = g.state;
-      is_met = true;
-      is_begun = g.is_begun;
-      termination = told_behind g.termination name text;
-    })
+    else On (record g { is_met = true; termination = told_behind g.termination name text })
 
 -- ---- tokens, in a text of so many bytes; each with how many bytes are left where it begins
 
@@ -164,19 +155,14 @@ variant_named text =
 -- the variant after a word, if more tags may follow it: after marks alone
 abbrev pub behind_word : Variant → WordKind → Option Variant
 behind_word v Marks = Some v
-behind_word v Number = None
-behind_word v Move = None
-behind_word v (End o) = None
+behind_word v _ = None
 
 -- the variant after a token, if more tags may follow it
 abbrev pub told_by : Variant → Token → Option Variant
 told_by v Skip = Some v
 told_by v (Tag name text left) = Some (if bytes_eq name (codes "Variant") then variant_named text else v)
 told_by v (Word word) = behind_word v (kind_of word)
-told_by v Bad_tag = None
-told_by v (Unclosed_comment left) = None
-told_by v Unclosed_variation = None
-told_by v Bad = None
+told_by v _ = None
 
 -- the variant so far where no more tags may follow, else what `later` gives
 abbrev pub told_next : Variant → Option Variant → (Variant → Variant) → Variant

@@ -10,19 +10,14 @@ use Rattle.chess_pgn.specs.Words.{outcome_of, kind_of}
 -- a game's tags may go on after marks, and after no other word
 abbrev pub is_marks : WordKind → Bool
 is_marks Marks = true
-is_marks Number = false
-is_marks Move = false
-is_marks (End o) = false
+is_marks _ = false
 
 -- more tags of a game may follow a token
 abbrev pub may_precede_tags : Token → Bool
 may_precede_tags Skip = true
 may_precede_tags (Tag name text left) = true
 may_precede_tags (Word word) = is_marks (kind_of word)
-may_precede_tags Bad_tag = false
-may_precede_tags (Unclosed_comment left) = false
-may_precede_tags Unclosed_variation = false
-may_precede_tags Bad = false
+may_precede_tags _ = false
 
 -- a tag Result of a text of so many bytes; a tag with another name leaves the one before it
 abbrev pub result_after_tag : ℕ → Option ResultTag → List ℕ → List ℕ → ℕ → Option ResultTag
@@ -31,13 +26,8 @@ result_after_tag total before name text left =
 
 -- the last tag Result after a token of such a text
 abbrev pub result_after : ℕ → Option ResultTag → Token → Option ResultTag
-result_after total before Skip = before
 result_after total before (Tag name text left) = result_after_tag total before name text left
-result_after total before (Word word) = before
-result_after total before Bad_tag = before
-result_after total before (Unclosed_comment left) = before
-result_after total before Unclosed_variation = before
-result_after total before Bad = before
+result_after total before _ = before
 
 -- the last tag Result of these tokens up to the first that no tag of the game may follow, or the one before them
 abbrev pub last_result : ℕ → Option ResultTag → List (ℕ × Token) → Option ResultTag

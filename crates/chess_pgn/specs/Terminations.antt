@@ -36,7 +36,5 @@ termination_by how.RulesInfraction = RulesInfraction
 
 -- that of a game with this outcome: `unterminated` where there is none yet
 abbrev pub termination_of : HowEnded → Outcome → Termination
-termination_of ended WhiteWins = termination_by ended
-termination_of ended BlackWins = termination_by ended
-termination_of ended Draw = termination_by ended
 termination_of ended Unfinished = Unterminated
+termination_of ended _ = termination_by ended
