@@ -19,6 +19,7 @@ import sys
 
 sys.dont_write_bytecode = True
 
+import needed
 import reach
 from sources import SHORT, TOP, direct_uses, mutations, reading_order, target_of
 
@@ -370,7 +371,9 @@ def settle(page, now, is_to_fill):
 
 
 def main(words):
-    is_to_fill = words[:1] == ["--fill"]
+    if words not in ([], ["--fill"]):
+        needed.stop("usage: tools/theorems.py [--fill]")
+    is_to_fill = words == ["--fill"]
     reached = reach.Reach()
     settle(FIGURES, between(read(FIGURES), "reach", reach.table(reached)), is_to_fill)
     place = check_order(read(ORDER), reached.specs)
