@@ -10,6 +10,7 @@ folder; `arbiter` is PROGRAM there, or else the launcher, and the engines of ENG
 skipped if it, or an example before it in its block, names a program of NEEDED that isn't installed. The exit status is 1 if an
 example goes otherwise."""
 
+import argparse
 import os
 import re
 import shutil
@@ -17,6 +18,10 @@ import subprocess
 import sys
 import tempfile
 from pathlib import Path
+
+sys.dont_write_bytecode = True
+
+import needed
 
 TOP = Path(__file__).resolve().parent.parent
 FIRST = re.compile(r"^( {4,})\$ (.*)$")
@@ -81,11 +86,14 @@ def outcome(command, folder, programs):
     return run.returncode, without_empty_end(run.stdout.decode(errors="replace").split("\n"))
 
 
-def main(arguments):
-    program = TOP / "arbiter"
-    if arguments[:1] == ["--arbiter"]:
-        program, arguments = Path(arguments[1]).resolve(), arguments[2:]
-    names = arguments or ["README.md"] + sorted(str(path.relative_to(TOP)) for path in TOP.glob("docs/*.md"))
+def main():
+    parser = argparse.ArgumentParser(description=__doc__.splitlines()[0])
+    parser.add_argument("--arbiter", default=str(TOP / "arbiter"))
+    parser.add_argument("files", nargs="*", metavar="FILE")
+    options = parser.parse_args()
+    program = needed.program(options.arbiter)
+    names = options.files or ["README.md"] + sorted(str(path.relative_to(TOP)) for path in TOP.glob("docs/*.md"))
+    texts = {name: needed.content(TOP / name) for name in names}
     missing = [name for name in NEEDED if not shutil.which(name)]
     tried = wrong = skipped = 0
     with tempfile.TemporaryDirectory() as programs:
@@ -93,10 +101,10 @@ def main(arguments):
         for engine in ENGINES:
             (Path(programs) / engine).write_text("#!/bin/sh\nexec arbiter stub\n")
             (Path(programs) / engine).chmod(0o755)
-        for name in names:
+        for name, text in texts.items():
             with tempfile.TemporaryDirectory() as folder:
                 left_out = None
-                for line, block, command, expected in examples((TOP / name).read_text(encoding="utf-8")):
+                for line, block, command, expected in examples(text):
                     if block == left_out or any(re.search(rf"\b{needed}\b", command) for needed in missing):
                         left_out = block
                         skipped += 1
@@ -111,4 +119,4 @@ def main(arguments):
 
 
 if __name__ == "__main__":
-    sys.exit(main(sys.argv[1:]))
+    sys.exit(main())

@@ -20,6 +20,7 @@ import sys
 
 sys.dont_write_bytecode = True
 
+import needed
 from sources import HEAD, TOP, Name, Sources, Specs, imports_of, read, reading_order, without_comment
 
 HEADLINES = [
@@ -151,7 +152,7 @@ def table(reach):
 def show(reach, name):
     functions = reach.functions(name)
     if not functions:
-        raise SystemExit(f"no public function with a contract is named {name}")
+        needed.stop(f"no public function with a contract is named {name}")
     keys = reach.of(functions)
     d, l, f = reach.specs.count(keys)
     print(f"{name}: {d} definitions, {l} lines, {f} files")
@@ -195,6 +196,8 @@ def main(words):
         print()
         return show_found(reach.misplaced(), "are misplaced")
     if words[:1] == ["--rooms"]:
+        if len(words) > 2 or words[1] not in ROOMS:
+            needed.stop(f"the rooms are {', '.join(ROOMS)}")
         show_rooms(reach, words[1])
     elif words:
         for name in words:

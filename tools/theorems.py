@@ -9,8 +9,8 @@
                                 tools/reach.py); where the graph of docs/ARCHITECTURE.md differs from crates.txt; and which link
                                 of a document leads to no file or to no heading
     tools/theorems.py --fill    writes the generated parts of docs/claims/ anew (headings, theorems with their clauses, files to
-                                read, figures, links), moves mutations that the gate tries by now to the refused ones, and then
-                                checks
+                                read, figures, links), moves a mutation's name where its file was moved to the other folder, and
+                                then checks
 
 The exit status is 0 if there is no fault."""
 
@@ -19,6 +19,7 @@ import sys
 
 sys.dont_write_bytecode = True
 
+import needed
 import reach
 from sources import SHORT, TOP, direct_uses, mutations, reading_order, target_of
 
@@ -190,22 +191,24 @@ def check_tests(where, line, sources):
 # ---- mutations
 
 MUTATIONS = re.compile(r"- (Refused|Tried apart) \((\w+)\): (.*)")
+FOLDERS = {"Refused": "must-fail", "Tried apart": "tried-apart"}
 
 
-def with_tried(lists):
-    """A claim's lists with mutations that the gate tries by now moved from those tried apart to the refused ones."""
-    tried = mutations()
-    found = {m.group(1, 2): re.findall(r"`(\w+)`", m.group(3)) for line in lists if (m := MUTATIONS.fullmatch(line))}
-    moved = {crate: [n for n in names if n in tried.get(crate, [])] for (kind, crate), names in found.items() if kind == "Tried apart"}
-    if not any(moved.values()):
+def by_folders(lists):
+    """A claim's lists with each mutation under the kind of the folder that it is in by now."""
+    there = {kind: mutations(folder) for kind, folder in FOLDERS.items()}
+    found, placed = {}, {}
+    for kind, crate, names in (m.groups() for line in lists if (m := MUTATIONS.fullmatch(line))):
+        for name in re.findall(r"`(\w+)`", names):
+            now = next((k for k in FOLDERS if name in there[k].get(crate, [])), kind)
+            found.setdefault((crate, kind), set()).add(name)
+            placed.setdefault((crate, now), set()).add(name)
+    if placed == found:
         return lists
     kept = [line for line in lists if not MUTATIONS.fullmatch(line)]
-    for crate in dict.fromkeys(crate for _, crate in found):
-        refused = sorted(found.get(("Refused", crate), []) + moved.get(crate, []))
-        apart = [n for n in found.get(("Tried apart", crate), []) if n not in moved.get(crate, [])]
-        for kind, names in (("Refused", refused), ("Tried apart", apart)):
-            if names:
-                kept.append(f"- {kind} ({crate}): {', '.join(f'`{n}`' for n in names)}")
+    crates = dict.fromkeys(crate for crate, _ in found)
+    for crate, kind in ((crate, kind) for crate in crates for kind in FOLDERS if (crate, kind) in placed):
+        kept.append(f"- {kind} ({crate}): {', '.join(f'`{name}`' for name in sorted(placed[crate, kind]))}")
     return kept
 
 
@@ -216,7 +219,8 @@ def check_mutations(claims):
         for line in claim.lists:
             if m := MUTATIONS.fullmatch(line):
                 listed[m.group(1)].setdefault(m.group(2), []).extend(re.findall(r"`(\w+)`", m.group(3)))
-    for kind, there in (("Refused", mutations()), ("Tried apart", mutations("tried-apart"))):
+    for kind, folder in FOLDERS.items():
+        there = mutations(folder)
         for crate in sorted(set(there) | set(listed[kind])):
             named, real = listed[kind].get(crate, []), there.get(crate, [])
             for name in sorted(set(real) - set(named)):
@@ -367,7 +371,9 @@ def settle(page, now, is_to_fill):
 
 
 def main(words):
-    is_to_fill = words[:1] == ["--fill"]
+    if words not in ([], ["--fill"]):
+        needed.stop("usage: tools/theorems.py [--fill]")
+    is_to_fill = words == ["--fill"]
     reached = reach.Reach()
     settle(FIGURES, between(read(FIGURES), "reach", reach.table(reached)), is_to_fill)
     place = check_order(read(ORDER), reached.specs)
@@ -376,7 +382,7 @@ def main(words):
     claims = [claim for section in sections for claim in section.claims]
     for section in sections:
         for claim in section.claims:
-            claim.lists = with_tried(claim.lists)
+            claim.lists = by_folders(claim.lists)
             find_theorems(claim, section.crates, reached.sources)
     with_reading(claims, reached, place)
     for section in sections:

@@ -61,6 +61,7 @@ verify_app = with_rule (with_rule (with_rule
 abbrev pub stub_app : App
 stub_app = with_rule (new_app (codes "stub")) (record (new_rule (codes "words")) {
   action = Some Append;
+  value_names = 1;
 })
 
 -- `arbiter` by itself: it has `--version`, no command `help`, and arguments without the program's name in front

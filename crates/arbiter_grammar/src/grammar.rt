@@ -60,8 +60,8 @@ Examples:
   zcat games.pgn.gz | arbiter verify --keep-going --strict";
 
 const STUB_EXAMPLES: &str = "\
-On each turn the stub plays the next argument: a move; `resign`; or `end`, which closes its output in the middle of a
-line. After a move, `offer` offers a draw and `claim` claims one. When no arguments are left, it resigns.
+On each turn the stub plays the next REPLY: a move; `resign`; or `end`, which closes its output in the middle of a
+line. After a move, `offer` offers a draw and `claim` claims one. When none is left, it resigns.
 
 Examples:
   arbiter stub e2e4 g1f3 offer resign
@@ -229,7 +229,8 @@ fn stub_command<'a>(alloc: Global) -> Result<Command<'a>, AllocError>
 {
     let words = Arg::new(alloc, "words")
         .action(ArgAction::Append)
-        .help("Moves, and resign, end, offer, claim");
+        .value_name("REPLY")
+        .help("A move, resign, or end; after a move also offer or claim");
     command(
         alloc,
         "stub",

@@ -1,0 +1,46 @@
+"""Ends a script by a plain message and status 2 where something that it needs is missing."""
+
+import argparse
+import os
+import shutil
+import sys
+from pathlib import Path
+
+
+def stop(message):
+    """Ends the script: it can't do what it was asked for."""
+    print(f"{Path(sys.argv[0]).name}: {message}", file=sys.stderr)
+    sys.exit(2)
+
+
+def program(name):
+    """Returns the path of a program: a name without a slash is looked up on the path."""
+    found = shutil.which(name)
+    if not found:
+        stop(f"{name} is no program that can be run" if "/" in name else f"{name} is not on the path")
+    return os.path.abspath(found)
+
+
+def content(path, encoding="utf-8"):
+    """Returns the text of a file."""
+    try:
+        return Path(path).read_text(encoding=encoding)
+    except (OSError, UnicodeDecodeError) as fault:
+        stop(f"{path} can't be read: {getattr(fault, 'strerror', None) or 'it is no text'}")
+
+
+def folder(path):
+    """Makes a folder, if there is none, and returns its path."""
+    try:
+        Path(path).mkdir(parents=True, exist_ok=True)
+    except OSError as fault:
+        stop(f"{path} can't be made: {fault.strerror}")
+    return Path(path).resolve()
+
+
+def positive(text):
+    """Reads a number of an argument, from 1 on."""
+    number = int(text)
+    if number < 1:
+        raise argparse.ArgumentTypeError(f"{text} is not a positive number")
+    return number
