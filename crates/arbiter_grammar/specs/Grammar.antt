@@ -74,13 +74,6 @@ abbrev pub arbiter_app : Lent → App
 arbiter_app names = with_subcommand (with_subcommand (with_subcommand (with_subcommand bare_app
     (new_app (codes "session")).top) verify_app.top) stub_app.top) (match_app names).top
 
--- a grammar is that of a match, or the whole one, with some such names
-abbrev pub GivesMatchApp : App → Type 0
-GivesMatchApp app = (names : Lent) × AreVariants names × (app ≡ match_app names)
-
-abbrev pub GivesArbiterApp : App → Type 0
-GivesArbiterApp app = (names : Lent) × AreVariants names × (app ≡ arbiter_app names)
-
 -- the arguments, by `clap`'s meaning of the grammar: the subcommand with its matches, `session` with none where no
 -- subcommand is named
 abbrev pub asked : Lent → List Text → Text × List Row

@@ -4,7 +4,8 @@ ghost use Rattle.std.specs.Prelude.{◌≡◌, IfOk, Some, false};
 ghost use Rattle.clap.specs.Words.{app_of, new_app, rule_of};
 ghost use Rattle.clap.specs.declared.builder.texts.Texts.TheVariants.{One};
 ghost use Rattle.clap.specs.declared.builder.command.Command.TheViews.{out-Command as fields_of};
-ghost use Rattle.arbiter_grammar.specs.Grammar.{AreVariants, GivesMatchApp, GivesArbiterApp, flag_rule, games_rule, needed, option_rule, stub_app, variant_rule, verify_app};
+ghost use Rattle.arbiter_grammar.specs.Grammar.{AreVariants, flag_rule, games_rule, needed, option_rule, stub_app, variant_rule, verify_app};
+ghost use Rattle.arbiter_grammar.specs.ties.Grammars.{GivesMatchApp, GivesArbiterApp};
 
 use clap::builder::ValueParser;
 use clap::{Arg, ArgAction, Command};

@@ -2,7 +2,7 @@
 use Rattle.std.proofs.Common.{[], ◌∷◌, codes, refl}
 use Rattle.clap.proofs.OnLiterals.{clap_on_literals}
 use Rattle.clap.specs.declared.error.kind.ErrorKind.TheVariants.{DisplayHelp, DisplayVersion, MissingRequiredArgument}
-use Rattle.arbiter_words.specs.Plans.{AreRefused, AskFor, VerifyAsBare}
+use Rattle.arbiter_words.specs.laws.Laws.{AreRefused, AskFor, VerifyAsBare}
 
 pub none_asked : AskFor [] (codes "session")
 unfolding clap_on_literals

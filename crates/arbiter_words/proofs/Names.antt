@@ -1,5 +1,5 @@
 -- A plan is that of the command that was asked for.
-use Rattle.arbiter_words.specs.Plans.{PlansAreNamed, VerifyIsAsSpelled}
+use Rattle.arbiter_words.specs.laws.Laws.{PlansAreNamed, VerifyIsAsSpelled}
 use Rattle.arbiter_words.specs.declared.plan.Plan.TheVariants.{Session, Verify, Stub, Match}
 
 pub plan_named : PlansAreNamed

@@ -4,8 +4,8 @@ use Rattle.clap.specs.Words.{HasKind, IsAmong, Kinds, Row, Text, found_of, kind_
 use Rattle.clap.specs.declared.error.Error.{Error}
 use Rattle.clap.specs.declared.parser.matches.ArgMatches.{ArgMatches}
 use Rattle.arbiter_grammar.specs.Grammar.{AreVariants, IsComplete, IsParsed, Lent, arbiter_app, asked, faults_in}
-use Rattle.arbiter_words.specs.Plans.{IsMatchFault, IsMatchPlan, IsPlanOf, IsReadBy, IsReading, Refuses, is_date, level_asked, start_asked, start_of}
-use Rattle.arbiter_words.specs.ties.Spelling.{IsJudged, IsJudgedFault, IsMatchOf, IsPlanFault, IsPlanned, IsSpelledOf}
+use Rattle.arbiter_words.specs.Plans.{IsMatchFault, IsMatchPlan, IsPlanOf, IsReadBy, IsReading, is_date, level_asked, start_asked, start_of}
+use Rattle.arbiter_words.specs.ties.Spelling.{IsJudged, IsJudgedFault, IsMatchOf, IsPlanFault, IsPlanned, IsSpelledOf, Refuses}
 use Rattle.engine_lines.specs.Levels.{level_of}
 use Rattle.arbiter_words.specs.declared.plan.MatchPlan.{MatchPlan}
 use Rattle.arbiter_words.specs.declared.fault.WordsFault.{WordsFault}

@@ -1,13 +1,10 @@
 -- What a plan has to do with the arguments.
-use Rattle.std.specs.Prelude.{◌≡◌, ◌≢◌, ◌≤◌, ◌&&◌, ℕ, Bool, List, [], codes, length, map, nat_le, if◌then◌else◌, Option, Some, None, Result, Ok, Err, is_ok, is_some, true, false, unwrap_or, ⊤}
-use Rattle.std.specs.List.{list_all, list_any}
+use Rattle.std.specs.Prelude.{◌≡◌, ◌≤◌, ◌&&◌, ℕ, Bool, List, [], codes, length, map, nat_le, if◌then◌else◌, Option, Some, None, Result, Ok, Err, is_ok, is_some, true, false, unwrap_or, ⊤}
+use Rattle.std.specs.List.{list_all}
 use Rattle.std.specs.Option.{option_map_or}
 use Rattle.std.specs.Str.{bytes_eq}
 use Rattle.std.specs.Str.Parse.{digits_value, without_leading_plus}
-use Rattle.clap.specs.Words.{IsAmong, Kinds, Row, Text, all_of, first_of, kind_of}
-use Rattle.clap.specs.Facts.{explicit_source}
-use Rattle.clap.specs.declared.error.Error.{Error}
-use Rattle.clap.specs.declared.error.kind.ErrorKind.TheVariants.{OutOfMemory}
+use Rattle.clap.specs.Words.{IsAmong, Row, Text, all_of, first_of, kind_of}
 use Rattle.arbiter_grammar.specs.Grammar.{AreVariants, Lent, asked, faults_in}
 use Rattle.arbiter_words.specs.declared.plan.Plan.{Plan}
 use Rattle.arbiter_words.specs.declared.plan.Plan.TheVariants.{Session, Verify, Stub, Match}
@@ -119,43 +116,3 @@ IsReadBy names words (Err f) = (faults_in names words ≡ []) × IsFaultOf (aske
 -- the arguments are read by the grammar
 abbrev pub IsReading : List Text → Result Plan WordsFault → Type 0
 IsReading words result = (names : Lent) × AreVariants names × IsReadBy names words result
-
--- the command that a plan is asked for by
-abbrev pub command_name : Plan → Text
-command_name Session = codes "session"
-command_name (Verify v) = codes "verify"
-command_name (Stub words) = codes "stub"
-command_name (Match plan) = codes "match"
-
-abbrev pub PlansAreNamed : Type 0
-PlansAreNamed = (p : Text × List Row) (plan : Plan) → IsPlanOf p plan → p.0 ≡ command_name plan
-
--- a plan to verify has the flags that the arguments set
-abbrev pub VerifyIsAsSpelled : Type 0
-VerifyIsAsSpelled = (p : Text × List Row) (v : VerifyPlan) → IsPlanOf p (Verify v) → v ≡ verify_plan_of p.1
-
--- the arguments are taken, and ask for the command of that name, with none of its own arguments given
-pub record AskFor (words : List Text) (name : Text) : Type 0 where
-  pub taken : (names : Lent) → faults_in names words ≡ []
-  pub named : (names : Lent) → (asked names words).0 ≡ name
-  pub bare : (names : Lent) → list_any (λ r. explicit_source r.source) (asked names words).1 ≡ false
-
--- the arguments are refused, and by one of these kinds
-abbrev pub AreRefused : List Text → Kinds → Type 0
-AreRefused words kinds = (names : Lent) → faults_in names words ≡ kinds
-
--- as `verify` alone verifies
-abbrev pub bare_plan : VerifyPlan
-bare_plan = record { keep_going = false; quiet = false; strict = false }
-
--- the arguments ask for this
-abbrev pub VerifyAsBare : List Text → Type 0
-VerifyAsBare words = (names : Lent) → verify_plan_of (asked names words).1 ≡ bare_plan
-
--- ---- on the way there
-
--- out of memory is reported as such, and what else `clap` gave is reported as it is
-abbrev pub Refuses : Error → WordsFault → Type 0
-Refuses e (Words told) = (kind_of e ≢ OutOfMemory) × (told ≡ e)
-Refuses e NoMemory = kind_of e ≡ OutOfMemory
-Refuses e _ = ⊥

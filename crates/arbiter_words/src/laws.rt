@@ -2,7 +2,7 @@
 
 ghost use Rattle.std.specs.Prelude.{[], ◌∷◌, codes};
 ghost use Rattle.clap.specs.declared.error.kind.ErrorKind.TheVariants.{DisplayHelp, DisplayVersion, MissingRequiredArgument};
-ghost use Rattle.arbiter_words.specs.Plans.{AreRefused, AskFor, PlansAreNamed, VerifyAsBare, VerifyIsAsSpelled};
+ghost use Rattle.arbiter_words.specs.laws.Laws.{AreRefused, AskFor, PlansAreNamed, VerifyAsBare, VerifyIsAsSpelled};
 
 /// No arguments, `session` alone and `verify` alone are taken, and ask for what they say; `verify` alone sets none of
 /// its flags.

@@ -16,7 +16,8 @@ use Rattle.chess_match.specs.declared.reason.MatchFault.{MatchFault}
 use Rattle.chess_match.specs.declared.reason.Reason.TheVariants.{Faulted}
 use Rattle.chess_match.specs.declared.run.MatchEnd.{MatchEnd}
 use Rattle.chess_match.proofs.Flushes.{flushed_none, failed_behind}
-use Rattle.chess_arbiter.specs.Games.{EndsGames, GameTold, HasPlayed, IsOfPlan, IsStartFault, LogsGame, LogsGames, PlayedOne, RanGames, Relayed, SoundGames, first_side, game_logs, game_text, game_texts, is_odd, logged_side, match_text, no_score, score_line, score_of, score_on, scored}
+use Rattle.chess_arbiter.specs.Games.{EndsGames, GameTold, IsOfPlan, IsStartFault, LogsGames, RanGames, SoundGames, first_side, game_logs, game_text, game_texts, is_odd, match_text, no_score, score_line, score_of, score_on, scored}
+use Rattle.chess_arbiter.specs.ties.Playing.{HasPlayed, LogsGame, PlayedOne, Relayed, logged_side}
 use Rattle.chess_arbiter.specs.Log.{LogSeen, Logged, RanNoted, log_text}
 use Rattle.chess_arbiter.proofs.Logged.{logged_more, logs_none}
 use Rattle.chess_arbiter.specs.declared.games.GamesFault.{GamesFault}

@@ -17,7 +17,8 @@ use Rattle.chess_match.specs.Rules.{rules_of}
 use Rattle.chess_match.specs.Run.{Flushed, FlushedThenFailed, Ports, RanBefore}
 use Rattle.chess_match.specs.declared.run.MatchEnd.{MatchEnd}
 use Rattle.chess_match.proofs.Flushes.{flushed_none, flushed_more, failed_behind}
-use Rattle.chess_arbiter.specs.Log.{Adds, IsLog, LogSeen, Logged, Logs, RanLogged, after_note, after_notes, ends_line, first_of_text, given_text, log_from, log_of_text, log_start, log_text, note_text, shown, text_of_log}
+use Rattle.chess_arbiter.specs.Log.{LogSeen, Logged, Logs, RanLogged, after_note, ends_line, given_text, log_from, log_start, log_text, note_text, shown}
+use Rattle.chess_arbiter.specs.ties.Logging.{Adds, IsLog, after_notes, first_of_text, log_of_text, text_of_log}
 use Rattle.chess_arbiter.specs.declared.log.LogState.{LogState}
 use Rattle.chess_arbiter.specs.declared.log.Pending.{Pending}
 

@@ -2,7 +2,8 @@
 use Rattle.std.proofs.Common.{◌≡◌, ◌∙◌, ◌<◌, ℕ, List, [], length, lit<, codes, Result, Ok, Err, refl, sym, ap, subst, inl, inr, false, arith}
 use Rattle.clap.specs.Words.{IsAmong, Text, kind_of}
 use Rattle.arbiter_grammar.specs.Grammar.{asked}
-use Rattle.arbiter_words.specs.Plans.{AskFor, IsReading, PlansAreNamed, VerifyAsBare, VerifyIsAsSpelled, bare_plan, command_name}
+use Rattle.arbiter_words.specs.Plans.{IsReading}
+use Rattle.arbiter_words.specs.laws.Laws.{AskFor, PlansAreNamed, VerifyAsBare, VerifyIsAsSpelled, bare_plan, command_name}
 use Rattle.arbiter_words.specs.declared.fault.WordsFault.{WordsFault}
 use Rattle.arbiter_words.specs.declared.fault.WordsFault.TheVariants as words
 use Rattle.arbiter_words.specs.declared.plan.Plan.{Plan}

@@ -5,7 +5,8 @@ use Rattle.byte_devices.specs.Devices.{OutputState, Took, BreaksOff}
 use Rattle.byte_devices.proofs.DeviceLaws.{took_none, took_more, breaks_more, breaks_longer}
 use Rattle.std.specs.Prelude.{codes}
 use Rattle.std.specs.Str.{bytes_eq}
-use Rattle.chess_arbiter.specs.Stub.{Gives, Reply, Words, SaysRemarks, before_others, behind_remarks, played_text, onward_of, remark, remarks, turn}
+use Rattle.chess_arbiter.specs.Stub.{Reply, Words, before_others, behind_remarks, played_text, remark, remarks, turn}
+use Rattle.chess_arbiter.specs.ties.Serving.{Gives, SaysRemarks, onward_of}
 use Rattle.chess_arbiter.specs.declared.stub.Onward.{Onward}
 use Rattle.chess_arbiter.specs.declared.stub.Onward.TheVariants.{On}
 use Rattle.chess_arbiter.specs.declared.stub.Stub.{Stub}

@@ -8,7 +8,8 @@ use Rattle.chess_cecp.specs.Lines.{LineSeen, Held, nothing_held, lines_heard, li
 use Rattle.chess_cecp.specs.Next.{before_piece, Waits, GotLine, GotLast, NextLine}
 use Rattle.chess_cecp.specs.Run.{risen_if}
 use Rattle.chess_cecp.proofs.RunLemmas.{SentAll, sent_none, sent_more, sent_some, no_bytes, nothing_whole, of_true, of_false}
-use Rattle.chess_arbiter.specs.Stub.{Reply, StubState, StubRan, and_then, replies, reply, says, onward_of}
+use Rattle.chess_arbiter.specs.Stub.{Reply, StubState, StubRan, and_then, replies, reply, says}
+use Rattle.chess_arbiter.specs.ties.Serving.{onward_of}
 use Rattle.chess_arbiter.specs.declared.stub.Onward.{Onward}
 use Rattle.chess_arbiter.specs.declared.stub.Onward.TheVariants.{On, Over}
 use Rattle.chess_arbiter.specs.declared.stub.StubFault.TheVariants.{Read, Write}

@@ -2,7 +2,6 @@
 use Rattle.std.specs.Prelude.{◌≡◌, ℕ, ◌==◌, ◌&&◌, nat_le, Bool, true, false, if◌then◌else◌, List, [], ◌∷◌, ◌++◌, map, codes, decimal, Option, Some, None}
 use Rattle.chess_base.specs.Letters.{new_line}
 use Rattle.chess_base.specs.declared.man.Colour.{Colour}
-use Rattle.chess_base.specs.declared.man.Colour.TheVariants.{White, Black}
 use Rattle.chess_base.specs.Men.{same_colour}
 use Rattle.chess_base.specs.declared.setup.Setup.{Setup}
 use Rattle.byte_devices.specs.Devices.{OutputState, Begins}
@@ -78,10 +77,6 @@ abbrev pub after_note : LogState → Note → LogState
 after_note s (Happened e) = after_event s e
 after_note s (Gives c text) = record { moment = s.moment; at_start = ends_line s.at_start text }
 
-abbrev pub after_notes : LogState → List Note → LogState
-after_notes s [] = s
-after_notes s (n ∷ notes) = after_notes (after_note s n) notes
-
 -- the log of these notes, from that state on
 abbrev pub log_from : Colour → LogState → List Note → List ℕ
 log_from first s [] = []
@@ -120,18 +115,6 @@ Logs true true o o' pending text = o' ≡ o
 abbrev pub Logged : LogSeen → LogSeen → List ℕ → Type 0
 Logged l l' text = Logs l.broken l'.broken l.output l'.output [] text
 
--- this text was logged after what was logged before
-pub record Adds (o o' : OutputState) (p p' : Pending) (more : List ℕ) : Type 0 where
-  pub after : (from : LogSeen) (text : List ℕ) → Logs from.broken p.broken from.output o p.bytes.items text
-      → Logs from.broken p'.broken from.output o' p'.bytes.items (text ++ more)
-
--- from that on the log of these notes was logged, and the first engine has that side
-pub record IsLog (first : Colour) (from : LogSeen) (side : Colour) (o : OutputState) (p : Pending) (state : LogState)
-    (notes : List Note) : Type 0 where
-  pub sided : side ≡ first
-  pub written : Logs from.broken p.broken from.output o p.bytes.items (log_text first notes)
-  pub reached : state ≡ after_notes log_start notes
-
 -- ---- a match that is logged
 
 -- a match ran as `Ran` says, and these are the notes of its transcript
@@ -146,29 +129,3 @@ abbrev pub RanLogged : Colour → LogSeen → LogSeen → Setup → LevelSeen �
     → (ℕ → Option ℕ) → (ℕ → Option ℕ) → Type 0
 RanLogged first l l' start level g g' end w w' coming coming' =
     (notes : List Note) × RanNoted notes start level g g' end w w' coming coming' × Logged l l' (log_text first notes)
-
--- ---- what a log began with, as a text: a witness is known by a text that it held before
-
-abbrev pub text_of_bytes : Option (List ℕ) → List ℕ
-text_of_bytes None = []
-text_of_bytes (Some bytes) = 0 ∷ bytes
-
-abbrev pub bytes_of_text : List ℕ → Option (List ℕ)
-bytes_of_text [] = None
-bytes_of_text (_ ∷ bytes) = Some bytes
-
--- the side of the first engine, and the log before
-abbrev pub text_of_log : Colour → LogSeen → List ℕ
-text_of_log first l = (if same_colour first White then 1 else 0) ∷ (if l.broken then 1 else 0)
-    ∷ l.output.failure_count ∷ l.output.unflushed ∷ text_of_bytes l.output.known_bytes
-
-abbrev pub first_of_text : List ℕ → Colour
-first_of_text [] = White
-first_of_text (c ∷ _) = if c == 1 then White else Black
-
-abbrev pub log_of_text : List ℕ → LogSeen
-log_of_text (_ ∷ b ∷ failures ∷ unflushed ∷ rest) = record {
-  output = record { known_bytes = bytes_of_text rest; failure_count = failures; unflushed = unflushed };
-  broken = b == 1;
-}
-log_of_text _ = record { output = record { known_bytes = None; failure_count = 0; unflushed = 0 }; broken = false }

@@ -1,19 +1,16 @@
 -- An engine that plays the arguments that it is given.
-use Rattle.std.specs.Prelude.{◌≡◌, ◌⊎◌, ◌≤◌, ℕ, Bool, true, false, if◌then◌else◌, List, [], ◌∷◌, ◌++◌, length, codes, decimal, Option, Some, None, is_some, drop, Result, Ok, Err}
+use Rattle.std.specs.Prelude.{◌≡◌, ◌⊎◌, ◌≤◌, ℕ, Bool, true, false, if◌then◌else◌, List, [], ◌∷◌, ◌++◌, length, codes, decimal, Option, Some, None, is_some, Result, Ok, Err}
 use Rattle.chess_base.specs.Letters.{new_line}
 use Rattle.std.specs.Borrow.{Bor}
 use Rattle.std.specs.Str.{bytes_eq}
 use Rattle.std.specs.Io.KnownBytes.{IsAtEnd}
-use Rattle.byte_devices.specs.Devices.{InputState, OutputState, Begins, Took, Sent, BreaksOff}
+use Rattle.byte_devices.specs.Devices.{InputState, OutputState, Begins}
 use Rattle.chess_cecp.specs.Commands.{command_of, word_of}
 use Rattle.chess_cecp.specs.Lines.{LineSeen, whole}
 use Rattle.chess_cecp.specs.Next.{before_piece}
 use Rattle.chess_cecp.specs.Run.{FitsDevices, LeavesUnflushed, Transcript, lines_given}
 use Rattle.chess_cecp.specs.declared.command.Command.{Command}
 use Rattle.chess_cecp.specs.declared.command.Command.TheVariants.{New, UserMove, Ping, Protover, Go, Quit, Silent, Unknown}
-use Rattle.chess_arbiter.specs.declared.stub.Stub.{Stub}
-use Rattle.chess_arbiter.specs.declared.stub.Onward.{Onward}
-use Rattle.chess_arbiter.specs.declared.stub.Onward.TheVariants.{On, Over}
 use Rattle.chess_arbiter.specs.declared.stub.StubFault.{StubFault}
 use Rattle.chess_arbiter.specs.declared.stub.StubFault.TheVariants.{Read, Write}
 use Rattle.chess_cecp.specs.declared.session.TheConstants.{COMMAND_LEN}
@@ -112,40 +109,9 @@ row s text _ = says s []
 unfoldable pub reply : StubState → LineSeen → Reply
 reply s line = if line.too_long then says s [] else row s line.text (command_of line.text)
 
--- ---- what code does of it
-
--- the state of a stub with these arguments
-abbrev pub state_at : Words → Stub → StubState
-state_at words stub = record { words = drop stub.at words; plays = stub.plays }
-
--- at its beginning
+-- the state of a stub with these arguments at its beginning
 abbrev pub beginning : Words → StubState
 beginning words = record { words = words; plays = false }
-
-abbrev pub onward_of : Bool → Onward
-onward_of true = Over
-onward_of false = On
-
--- the stub is in the state that the reply gives, and goes on as it says
-abbrev pub Stands : Words → Reply → Stub × Onward → Type 0
-Stands words r (stub, onward) = (stub.at ≤ length words) × (state_at words stub ≡ r.state) × (onward ≡ onward_of r.ends)
-
--- the remarks from there on were said, or a beginning of them
-abbrev pub SaysRemarks : {E : Type 0} → Words → ℕ → OutputState → OutputState → Result ℕ E → Type 0
-SaysRemarks words from w w' (Ok at) = Took w w' (remarks (drop from words)) × (at ≤ length words)
-    × (drop at words ≡ behind_remarks (drop from words))
-SaysRemarks words from w w' (Err e) = BreaksOff w w' (remarks (drop from words))
-
--- a reply was given, or a beginning of it
-abbrev pub Gives : {E : Type 0} → Words → Reply → OutputState → OutputState → Result (Stub × Onward) E → Type 0
-Gives words r w w' (Ok next) = Took w w' r.text × Stands words r next
-Gives words r w w' (Err e) = BreaksOff w w' r.text
-
--- and then flushed
-abbrev pub GivesAndFlushes : {E : Type 0} → Words → Reply → OutputState → OutputState → Result (Stub × Onward) E
-    → Type 0
-GivesAndFlushes words r w w' (Ok next) = Sent w w' r.text × Stands words r next
-GivesAndFlushes words r w w' (Err e) = BreaksOff w w' r.text
 
 -- ---- a run
 

@@ -6,7 +6,8 @@ ghost use Rattle.chess_match.specs.Reasons.{comment_of};
 ghost use Rattle.chess_match.specs.Run.{Ports};
 ghost use Rattle.chess_match.specs.declared.reason.Reason.TheVariants.{Faulted};
 ghost use Rattle.chess_pgn.specs.GameText.{pgn};
-ghost use Rattle.chess_arbiter.specs.Games.{FailsToStart, HasPlayed, IsMatchEndOf, PlayedOne, RanGames, Relayed, TellsStart, black_command, first_side, is_odd, logged_side, name_of, score_line, tags_of, white_command};
+ghost use Rattle.chess_arbiter.specs.Games.{FailsToStart, RanGames, black_command, first_side, is_odd, name_of, score_line, tags_of, white_command};
+ghost use Rattle.chess_arbiter.specs.ties.Playing.{HasPlayed, IsMatchEndOf, PlayedOne, Relayed, TellsStart, logged_side};
 ghost use Rattle.chess_arbiter.specs.Log.{log_seen};
 ghost use Rattle.chess_game.specs.declared.game.TheConstants.{MOST_MOVES};
 

@@ -6,7 +6,8 @@ ghost use Rattle.byte_devices.specs.Devices.{OutputState};
 ghost use Rattle.chess_base.specs.Letters.{new_line};
 ghost use Rattle.chess_base.specs.Men.{same_colour};
 ghost use Rattle.chess_match.specs.Run.{Ports, text_heard};
-ghost use Rattle.chess_arbiter.specs.Log.{Adds, IsLog, Logs, RanLogged, ends_line, engine_text, given_text, head, heard_text, log_line, log_seen, log_start, shown};
+ghost use Rattle.chess_arbiter.specs.Log.{Logs, RanLogged, ends_line, engine_text, given_text, head, heard_text, log_line, log_seen, log_start, shown};
+ghost use Rattle.chess_arbiter.specs.ties.Logging.{Adds, IsLog};
 
 use crate::output::send;
 use arrayvec::ArrayVec;
@@ -342,7 +343,7 @@ impl<E: Output> Log<E> {
 }
 
 impl<E: Output> Witness for Log<E> {
-    ghost use Rattle.chess_arbiter.specs.Log.{IsLog, first_of_text, log_of_text};
+    ghost use Rattle.chess_arbiter.specs.ties.Logging.{IsLog, first_of_text, log_of_text};
 
     ghost told = { λ l before notes.
         IsLog (first_of_text before) (log_of_text before) l.first (E.seen l.output) l.pending l.state notes };

@@ -4,7 +4,8 @@ ghost use Rattle.std.specs.Prelude.{◌≡◌, ◌≤◌, ◌++◌, ◌∷◌, [
 ghost use Rattle.byte_devices.specs.Devices.{Puts};
 ghost use Rattle.chess_base.specs.Letters.{new_line};
 ghost use Rattle.chess_cecp.specs.Commands.{command_of};
-ghost use Rattle.chess_arbiter.specs.Stub.{Gives, GivesAndFlushes, SaysRemarks, StubRan, beginning, moved, played_text, remark, reply, row, state_at, turn};
+ghost use Rattle.chess_arbiter.specs.Stub.{StubRan, beginning, moved, played_text, remark, reply, row, turn};
+ghost use Rattle.chess_arbiter.specs.ties.Serving.{Gives, GivesAndFlushes, SaysRemarks, state_at};
 
 use arrayvec::ArrayVec;
 use byte_devices::{Input, Output, WriteFault, put, put_parts};

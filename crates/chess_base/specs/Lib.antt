@@ -12,3 +12,4 @@ pub mod Before
 pub mod Letters
 pub mod Coordinates
 pub mod laws
+pub mod ties

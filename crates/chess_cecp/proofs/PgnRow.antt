@@ -5,8 +5,8 @@ use Rattle.chess_pgn.specs.GameText.{pgn}
 use Rattle.chess_cecp.specs.Commands.{command_of, argument_of}
 use Rattle.chess_cecp.specs.Held.{SessionSeen}
 use Rattle.chess_cecp.specs.Lines.{LineSeen}
-use Rattle.chess_cecp.specs.Session.{row, row_on, says, stands, shows_pgn, asks_for_pgn, next_state, answer_to, is_quit, is_quit_command}
-use Rattle.chess_cecp.specs.ties.Replies.{reply_to}
+use Rattle.chess_cecp.specs.Session.{row, row_on, says, stands, next_state, answer_to, is_quit, is_quit_command}
+use Rattle.chess_cecp.specs.ties.Replies.{reply_to, shows_pgn, asks_for_pgn}
 use Rattle.chess_cecp.specs.declared.session.Go.{Go as Further}
 use Rattle.chess_cecp.specs.declared.session.Go.TheVariants as further
 use Rattle.chess_cecp.specs.declared.session.Reply.TheVariants.{Text, Pgn}

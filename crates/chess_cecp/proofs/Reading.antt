@@ -6,8 +6,10 @@ use Rattle.std.specs.Io.KnownBytes.{Consumes}
 use Rattle.std.specs.Bool.{MatchBool}
 use Rattle.byte_devices.specs.Devices.{InputState, GavePiece, risen}
 use Rattle.byte_devices.proofs.DeviceLaws.{consumes_more, consumes_none}
-use Rattle.chess_cecp.specs.Lines.{LineSeen, Held, nothing_held, lines_from, lines_held, line_of, HasNoEnd}
-use Rattle.chess_cecp.specs.Next.{before_piece, Waits, work, NextLine, HeldLine}
+use Rattle.chess_cecp.specs.Lines.{LineSeen, Held, nothing_held, lines_from, lines_held, line_of}
+use Rattle.chess_cecp.specs.laws.Unended.{HasNoEnd}
+use Rattle.chess_cecp.specs.Next.{before_piece, Waits, work, NextLine}
+use Rattle.chess_cecp.specs.ties.Kept.{HeldLine}
 use Rattle.chess_cecp.specs.declared.lines.TheConstants.{PIECE_LEN}
 
 -- after some reads: what was given, and that what is held stands for it

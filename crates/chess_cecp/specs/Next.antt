@@ -2,9 +2,8 @@
 use Rattle.std.specs.Prelude.{◌≡◌, ℕ, ◌+◌, ◌-◌, ◌*◌, ◌<◌, ◌≤◌, ◌⊎◌, Bool, true, false, List, [], ◌∷◌, ◌++◌, length, take, Option, None, Some, Result, Ok, Err}
 use Rattle.std.specs.Bool.{MatchBool}
 use Rattle.std.specs.Io.KnownBytes.{Consumes, IsAtEnd}
-use Rattle.byte_devices.specs.Devices.{InputState, risen, GavePiece, FailedToRead}
-use Rattle.chess_cecp.specs.Lines.{LineSeen, Held, nothing_held, lines_from, lines_held}
-use Rattle.chess_cecp.specs.declared.lines.TheConstants.{PIECE_LEN}
+use Rattle.byte_devices.specs.Devices.{InputState, risen}
+use Rattle.chess_cecp.specs.Lines.{LineSeen, Held, nothing_held, lines_held}
 
 -- bytes less the last piece
 abbrev pub before_piece : ℕ → List ℕ → List ℕ
@@ -74,21 +73,3 @@ line_if false line = None
 abbrev pub line_read : {E : Type 0} → Result Bool E → LineSeen → Result (Option LineSeen) E
 line_read (Ok some) line = Ok (line_if some line)
 line_read (Err e) line = Err e
-
--- both stand for what has come of a line: whatever follows, the lines are the same
-abbrev pub SameLines : ℕ → List ℕ → List ℕ → Type 0
-SameLines n part part' = (told : Bool) (bytes : List ℕ) → lines_from n told part bytes ≡ lines_from n told part' bytes
-
--- the search of what is held for a line
-abbrev pub HeldLine : ℕ → Held → Held → Option LineSeen → Type 0
-HeldLine n held held' (Some line) =
-    (line.ended ≡ true) × (length held'.coming < length held.coming)
-    × ((told : Bool) (rest : List ℕ) → lines_held n told held rest ≡ line ∷ lines_held n told held' rest)
-HeldLine n held held' None =
-    (lines_held n false held [] ≡ []) × (held'.coming ≡ [])
-    × ((told : Bool) (rest : List ℕ) → lines_held n told held rest ≡ lines_held n told held' rest)
-
--- a piece was read into an empty window, or a read failed
-abbrev pub Filled : {E : Type 0} → InputState → InputState → Result ℕ E → List ℕ → Type 0
-Filled r r' (Ok n) coming = (n ≡ length coming) × (n ≤ PIECE_LEN) × GavePiece r r' coming
-Filled r r' (Err e) coming = (coming ≡ []) × FailedToRead r r'

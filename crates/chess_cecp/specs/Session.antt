@@ -214,15 +214,6 @@ abbrev pub is_quit_command : Command → Bool
 is_quit_command Quit = true
 is_quit_command command = false
 
--- the one command whose answer may be long: the game's text
-abbrev pub shows_pgn : Command → Bool
-shows_pgn ShowPgn = true
-shows_pgn command = false
-
--- the line asks for the game's text
-unfoldable pub asks_for_pgn : LineSeen → Bool
-asks_for_pgn line = not line.too_long && shows_pgn (command_of line.text)
-
 -- the line ends the session
 unfoldable pub is_quit : LineSeen → Bool
 is_quit line = not line.too_long && is_quit_command (command_of line.text)

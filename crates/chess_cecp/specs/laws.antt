@@ -2,3 +2,4 @@
 pub mod NormalGame
 pub mod NormalPgn
 pub mod Normal
+pub mod Unended

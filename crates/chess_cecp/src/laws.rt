@@ -7,7 +7,8 @@ ghost use Rattle.chess_game.specs.Game.{State};
 ghost use Rattle.chess_pgn.specs.declared.tags.Tags.{Tags};
 ghost use Rattle.chess_cecp.specs.declared.command.Command.{Command};
 ghost use Rattle.chess_cecp.specs.Held.{SessionSeen};
-ghost use Rattle.chess_cecp.specs.Lines.{LineSeen, lines_heard, line_of, HasNoEnd};
+ghost use Rattle.chess_cecp.specs.Lines.{LineSeen, lines_heard, line_of};
+ghost use Rattle.chess_cecp.specs.laws.Unended.{HasNoEnd};
 ghost use Rattle.chess_cecp.specs.laws.Normal.{normal_row_of, keeps_its_row};
 ghost use Rattle.chess_cecp.specs.Session.{row, next_state, answer_to, IsRefusal};
 

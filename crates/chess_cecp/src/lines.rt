@@ -3,7 +3,8 @@
 ghost use Rattle.std.specs.Prelude.{◌≡◌, ◌≢◌, ◌+◌, ◌≤◌, ◌==◌, [], ◌∷◌, ◌++◌, length, take, true, false, Ok, MatchOption, MatchResult};
 ghost use Rattle.byte_devices.specs.Devices.{GavePiece, FailedToRead};
 ghost use Rattle.chess_cecp.specs.Lines.{empty_line, line_of, nothing_held, trimmed};
-ghost use Rattle.chess_cecp.specs.Next.{NextLine, SameLines, HeldLine, Filled, line_if, line_read};
+ghost use Rattle.chess_cecp.specs.Next.{NextLine, line_if, line_read};
+ghost use Rattle.chess_cecp.specs.ties.Kept.{SameLines, HeldLine, Filled};
 
 use crate::trim::trim;
 use arrayvec::ArrayVec;

@@ -12,8 +12,8 @@ ghost use Rattle.chess_game.specs.Results.{cut_comment};
 ghost use Rattle.chess_text.specs.Moves.{reading, has_shape, shape, IsLegalReading};
 ghost use Rattle.chess_cecp.specs.Commands.{argument_of, unnamed_command};
 ghost use Rattle.chess_cecp.specs.Declaring.{declared_by};
-ghost use Rattle.chess_cecp.specs.Session.{row, move_row, undo_row, remove_row, result_row, draws, claim_row, setboard_row, normal_row, variant_row, stands, next_state, answer_to, is_quit, shows_pgn, asks_for_pgn, joined_line, moves_line, IsRefusal};
-ghost use Rattle.chess_cecp.specs.ties.Replies.{reply_of, reply_to};
+ghost use Rattle.chess_cecp.specs.Session.{row, move_row, undo_row, remove_row, result_row, draws, claim_row, setboard_row, normal_row, variant_row, stands, next_state, answer_to, is_quit, joined_line, moves_line, IsRefusal};
+ghost use Rattle.chess_cecp.specs.ties.Replies.{reply_of, reply_to, shows_pgn, asks_for_pgn};
 ghost use Rattle.chess_game.specs.declared.game.TheConstants.{MOST_MOVES};
 ghost use Rattle.chess_cecp.specs.declared.session.TheConstants.{COMMAND_LEN};
 
@@ -363,7 +363,7 @@ impl<B: Board> Session<B> {
     }
 
     // Does what the row of a line says, and puts the answer together unless it is the game's text.
-    #[tactic(auto, unfolding(crate::specs::Session::next_state, crate::specs::Session::answer_to, crate::specs::Session::is_quit, crate::specs::Session::asks_for_pgn, crate::specs::Commands::command_of))]
+    #[tactic(auto, unfolding(crate::specs::Session::next_state, crate::specs::Session::answer_to, crate::specs::Session::is_quit, crate::specs::ties::Replies::asks_for_pgn, crate::specs::Commands::command_of))]
     fn obey_line(&mut self, line: &Line<COMMAND_LEN>, answer: &mut Answer) -> Reply
         requires { answer.old.items ≡ [] }
         ensures next { self.new ≡ next_state self.old line.now }

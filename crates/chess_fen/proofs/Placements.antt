@@ -5,7 +5,8 @@ use Rattle.std.specs.List.{slice_split}
 use Rattle.std.proofs.lemmas.Bool.Decides.{nat_tests}
 use Rattle.std.proofs.lemmas.List.Splits.{length-slice_split}
 use Rattle.chess_base.specs.declared.man.Man.{Man}
-use Rattle.chess_fen.specs.Texts.{stacked, placement_of, parts_of}
+use Rattle.chess_fen.specs.Texts.{stacked, placement_of}
+use Rattle.chess_fen.specs.ties.Fields.{parts_of}
 
 abbrev ranks_of : List ℕ → List (List ℕ)
 ranks_of text = slice_split (λ c. eqb c 47) text

@@ -6,3 +6,4 @@ pub mod Reading
 pub mod Spelling
 pub mod FenFaults
 pub mod laws
+pub mod ties

@@ -2,7 +2,7 @@
 -- to the standard: the counters may be left out, and a fullmove number of 0 is read as 1. Spelling and FenFaults say
 -- the same as relations; that both agree is proved by the clauses `found`, `only`, `told` and `refused` of
 -- `read_fen_as`.
-use Rattle.std.specs.Prelude.{◌≡◌, ℕ, max, List, [], ◌∷◌, Option, Some, None, Result, Ok, Err, ◌==◌, if◌then◌else◌}
+use Rattle.std.specs.Prelude.{ℕ, max, List, [], ◌∷◌, Option, Some, None, Result, Ok, Err, ◌==◌, if◌then◌else◌}
 use Rattle.std.specs.Option.{ok_or}
 use Rattle.chess_base.specs.declared.man.Colour.{Colour}
 use Rattle.chess_base.specs.declared.man.Colour.TheVariants.{White, Black}
@@ -13,7 +13,6 @@ use Rattle.chess_base.specs.declared.man.Rights.{Rights}
 use Rattle.chess_base.specs.declared.setup.Setup.{Setup}
 use Rattle.chess_base.specs.Men.{Men}
 use Rattle.chess_base.specs.Faults.{setup_fault}
-use Rattle.chess_fen.specs.declared.reading.Described.{Described}
 use Rattle.chess_base.specs.declared.fault.FenFault.{FenFault}
 use Rattle.chess_base.specs.declared.fault.FenFault.TheVariants as faults
 use Rattle.chess_base.specs.Letters.{byte}
@@ -86,23 +85,6 @@ described_in v _ = Err faults.Fields
 -- what a text describes, or its first fault: of the number of its fields, or of what one denotes
 abbrev pub description_of : Variant → List ℕ → Result Description FenFault
 description_of v text = described_in v (fields_of text)
-
--- the same description, with the letters in the text
-abbrev pub description : Described → Description
-description d = record {
-  variant = d.variant;
-  men = d.men;
-  side = d.side;
-  letters = d.letters.now;
-  target = d.target;
-  halfmove = d.halfmove;
-  fullmove = d.fullmove;
-}
-
--- what the code gives says this: the same description, or the same fault
-abbrev pub IsDescribed : Result Described FenFault → Result Description FenFault → Type 0
-IsDescribed (Ok d) r = r ≡ Ok (description d)
-IsDescribed (Err f) r = r ≡ Err f
 
 -- ---- rights
 

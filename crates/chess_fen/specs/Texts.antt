@@ -1,10 +1,8 @@
 -- What the fields of a FEN stand for (PGN standard of 1994, section 16.1.3). This project's additions to the standard:
 -- several spaces between fields and at both ends, digits of empty squares one after the other, letters of rights in any
 -- order, leading zeros.
-use Rattle.std.specs.Prelude.{◌≡◌, ◌≢◌, ℕ, codes, count_by, ◌+◌, ◌-◌, ◌*◌, Bool, false, ◌&&◌, ◌||◌, List, [], ◌∷◌, ◌++◌, length, replicate, Option, Some, None, nat_lt, nat_le, ◌==◌, if◌then◌else◌, option_and_then}
+use Rattle.std.specs.Prelude.{ℕ, codes, count_by, ◌+◌, ◌-◌, ◌*◌, Bool, false, ◌&&◌, ◌||◌, List, [], ◌∷◌, ◌++◌, length, replicate, Option, Some, None, nat_lt, nat_le, ◌==◌, if◌then◌else◌, option_and_then}
 use Rattle.std.specs.List.{slice_split, list_all, list_any, filter}
-use Rattle.std.specs.Borrow.{Bor}
-use Rattle.chess_fen.specs.declared.fields.Fields.{Fields}
 use Rattle.std.specs.Option.{option_map}
 use Rattle.chess_base.specs.declared.man.Variant.{Variant}
 use Rattle.chess_base.specs.declared.man.Variant.TheVariants.{Normal, Fischerandom}
@@ -101,19 +99,3 @@ target_of (f ∷ r ∷ c ∷ cs) = None
 -- the pieces between spaces that aren't empty
 abbrev pub fields_of : List ℕ → List (List ℕ)
 fields_of text = filter (λ field. nat_lt 0 (length field)) (slice_split (λ c. c == space) text)
-
--- the parts after a separator
-abbrev pub parts_of : ℕ → Option (Bor (List ℕ)) → List (List ℕ)
-parts_of c None = []
-parts_of c (Some rest) = slice_split (λ b. b == c) rest.now
-
--- the fields of the counters, if they are there
-abbrev pub counter_fields : Option (Bor (List ℕ) × Bor (List ℕ)) → List (List ℕ)
-counter_fields None = []
-counter_fields (Some c) = c.0.now ∷ c.1.now ∷ []
-
--- the same fields, four or six of them
-abbrev pub FieldsAre : Option Fields → List (List ℕ) → Type 0
-FieldsAre None fields = (length fields ≢ 4) × (length fields ≢ 6)
-FieldsAre (Some f) fields = fields ≡ f.placement.now ∷ f.side.now ∷ f.castling.now ∷ f.target.now ∷ counter_fields
-    f.counters

@@ -3,7 +3,8 @@
 ghost use Rattle.std.specs.Prelude.{◌≡◌, ◌∷◌, [], IfSome, IfNone, not, position, drop, ◌==◌};
 ghost use Rattle.std.specs.List.{position_or_len, before_first, slice_split};
 ghost use Rattle.chess_base.specs.Letters.{space};
-ghost use Rattle.chess_fen.specs.Texts.{fields_of, FieldsAre, parts_of};
+ghost use Rattle.chess_fen.specs.Texts.{fields_of};
+ghost use Rattle.chess_fen.specs.ties.Fields.{FieldsAre, parts_of};
 
 // The offset of the first byte that is no space.
 fn first_other(text: &[u8]) -> Option<usize>

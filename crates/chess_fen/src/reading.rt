@@ -5,9 +5,10 @@ ghost use Rattle.chess_base.specs.declared.setup.Setup.{Setup};
 ghost use Rattle.chess_base.specs.Sound.{IsSound};
 ghost use Rattle.chess_base.specs.declared.fault.FenFault.{FenFault};
 ghost use Rattle.chess_fen.specs.FenFaults.{IsFault, IsFaultAs};
-ghost use Rattle.chess_fen.specs.Reading.{side_of, counters_of, description, IsDescribed, description_of, rights_named, setup_from, fen_reading, fen_reading_as};
+ghost use Rattle.chess_fen.specs.Reading.{side_of, counters_of, description_of, rights_named, setup_from, fen_reading, fen_reading_as};
+ghost use Rattle.chess_fen.specs.ties.Readings.{description, IsDescribed};
 ghost use Rattle.chess_fen.specs.Spelling.{SpellsFen, SpellsFenAs};
-ghost use Rattle.chess_fen.specs.Texts.{counter_fields};
+ghost use Rattle.chess_fen.specs.ties.Fields.{counter_fields};
 
 use crate::castling::{is_castling, right_told};
 use crate::fields::read_fields;

@@ -8,8 +8,8 @@ use Rattle.chess_base.specs.declared.man.ColourRights.{ColourRights}
 use Rattle.chess_base.specs.declared.setup.Setup.{Setup}
 use Rattle.chess_base.specs.Men.{Men, man_at, same_colour, same_kind}
 use Rattle.chess_base.specs.Squares.{each_square}
-use Rattle.chess_base.specs.Moves.{is_en_passant, is_legal}
-use Rattle.chess_base.specs.MoveList.{triple, moves}
+use Rattle.chess_base.specs.Moves.{is_en_passant}
+use Rattle.chess_base.specs.MoveList.{moves}
 use Rattle.chess_game.specs.Line.{line, last}
 
 -- pieces of the same kind and colour are there, or none is
@@ -39,10 +39,6 @@ same_rights r q = same_colour_rights r.white q.white && same_colour_rights r.bla
 -- the target, where some legal move captures en passant on it; else none
 unfoldable pub live_target : Setup → Option ℕ
 live_target p = if list_any (λ m. is_en_passant p m) (moves p) then p.target else None
-
--- the pawn on a captures en passant on b, and that is legal
-abbrev pub captures_legally : Setup → ℕ → ℕ → Bool
-captures_legally p b a = is_en_passant p (triple a b None) && is_legal p (triple a b None)
 
 -- the same side on move, the same pieces on the same squares, the same rights, and the same pawn to capture en passant;
 -- clock and number make no difference

@@ -2,3 +2,4 @@
 pub mod Places
 pub mod Buckets
 pub mod Packed
+pub mod Captures

@@ -4,7 +4,8 @@ ghost use Rattle.std.specs.Prelude.{◌≡◌, cond, true, false, Some};
 ghost use Rattle.std.specs.List.{list_any};
 ghost use Rattle.chess_base.specs.MoveList.{moves};
 ghost use Rattle.chess_base.specs.Moves.{is_en_passant};
-ghost use Rattle.chess_game.specs.Same.{captures_legally, same_square, same_colour_rights, same_rights, live_target, same};
+ghost use Rattle.chess_game.specs.Same.{same_square, same_colour_rights, same_rights, live_target, same};
+ghost use Rattle.chess_game.specs.ties.Captures.{captures_legally};
 ghost use Rattle.chess_game.specs.ties.Places.{IsKnown, HasWord, ShareWording};
 
 use crate::packed::PackedPosition;

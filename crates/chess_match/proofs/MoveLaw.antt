@@ -12,12 +12,12 @@ use Rattle.chess_base.specs.Men.{other, same_colour}
 use Rattle.chess_game.specs.declared.ends.Verdict.{Verdict}
 use Rattle.engine_lines.specs.EngineLines.{LineKind, kind_heard}
 use Rattle.engine_lines.specs.Items.{Item, takes}
-use Rattle.chess_match.specs.laws.Laws.{move_told, moves_told, texts_from, move_texts, owed_to, MovesAreTold, AllMovesAreTold}
+use Rattle.chess_match.specs.laws.Laws.{move_told, moves_told, texts_from, move_texts, owed_to, MovesAreTold, AllMovesAreTold, sent}
 use Rattle.chess_match.specs.Match.{Match, Event, Line, Opened, OutputEnds, FailsToRead, FailsToWrite, items_heard, seat, hear, start, over, enter, open_turn, played_by, after, clock, ping_number}
 use Rattle.chess_match.specs.Reasons.{fault_of}
 use Rattle.chess_match.specs.Rules.{Rules}
 use Rattle.chess_match.specs.Sent.{SentLine, Says, Time, Otim, block, entry, entry_to, is_same_phase, is_unwritten, setup_lines, variant_lines, start_lines, opening_lines, last_move, last_move_lines, clock_lines, end_lines, untold_lines, ping}
-use Rattle.chess_match.specs.Transcript.{is_on, reads, ending_in, match_of, match_from, fits, fits_next, fits_from, is_dropped, fails_at, blocks_from, joined_blocks, sent, has_write_failure}
+use Rattle.chess_match.specs.Transcript.{is_on, reads, ending_in, match_of, match_from, fits, fits_next, fits_from, is_dropped, fails_at, blocks_from, joined_blocks, has_write_failure}
 use Rattle.chess_base.specs.declared.man.Variant.{Variant}
 use Rattle.chess_base.specs.declared.man.Variant.TheVariants.{Normal, Fischerandom}
 use Rattle.chess_base.proofs.MenFacts.{same_colour-true}

@@ -5,10 +5,11 @@ use Rattle.chess_base.specs.declared.man.Colour.{Colour}
 use Rattle.chess_base.specs.declared.man.Colour.TheVariants.{White, Black}
 use Rattle.chess_base.specs.Men.{other, same_colour}
 use Rattle.chess_match.specs.Match.{Match, Event, start, after}
-use Rattle.chess_match.specs.Notes.{Note, Happened, Gives, given_note, both_notes, first_sent, lines_at, notes_from, notes_of, events_in, given_in}
+use Rattle.chess_match.specs.Notes.{Note, Happened, Gives, given_note, both_notes, first_sent, lines_at, notes_from, notes_of}
+use Rattle.chess_match.specs.laws.Laws.{events_in, given_in, sent}
 use Rattle.chess_match.specs.Rules.{Rules}
 use Rattle.chess_match.specs.Sent.{SentLine, block, entry, bytes_of}
-use Rattle.chess_match.specs.Transcript.{is_dropped, fails_at, blocks_from, joined_blocks, sent, side_of}
+use Rattle.chess_match.specs.Transcript.{is_dropped, fails_at, blocks_from, joined_blocks, side_of}
 use Rattle.chess_match.proofs.Sends.{bytes_of-append}
 
 -- ---- events

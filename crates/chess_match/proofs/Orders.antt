@@ -7,11 +7,11 @@ use Rattle.chess_base.specs.declared.man.Move.{Move}
 use Rattle.chess_base.specs.Men.{other, same_colour}
 use Rattle.engine_lines.specs.EngineLines.{LineKind, kind_heard}
 use Rattle.engine_lines.specs.Items.{Item, takes}
-use Rattle.chess_match.specs.laws.Laws.{moves_told, move_texts, texts_from, owed_to, MovesSentAreKnown}
+use Rattle.chess_match.specs.laws.Laws.{moves_told, move_texts, texts_from, owed_to, MovesSentAreKnown, sent}
 use Rattle.chess_match.specs.Match.{Match, Event, Line, Opened, OutputEnds, FailsToRead, FailsToWrite, items_heard, seat, hear, start, over, enter, open_turn, played_by, after}
 use Rattle.chess_match.specs.Rules.{Rules}
 use Rattle.chess_match.specs.Sent.{SentLine, entry}
-use Rattle.chess_match.specs.Transcript.{reads, match_of, fits, fits_next, sent, has_write_failure}
+use Rattle.chess_match.specs.Transcript.{reads, match_of, fits, fits_next, has_write_failure}
 use Rattle.chess_match.specs.declared.phase.Phase.{Phase}
 use Rattle.chess_match.specs.declared.phase.Phase.TheVariants.{Hello, Setup, Opening, Before, After, Over}
 use Rattle.chess_match.specs.declared.reason.MatchFault.TheVariants.{NoDone}

@@ -17,7 +17,8 @@ use Rattle.engine_lines.specs.Levels.{LevelSeen, level_text, sessions, allotted,
 use Rattle.chess_match.specs.Rules.{Rules}
 use Rattle.chess_match.specs.Match.{Event, Line, Opened, OutputEnds, FailsToRead, FailsToWrite, hello_line, setup_line, before_line, after_line}
 use Rattle.chess_match.specs.Sent.{block, bytes_of, setup_lines, last_move, clock_lines, opening_lines, end_lines}
-use Rattle.chess_match.specs.Transcript.{ending, fits, sent}
+use Rattle.chess_match.specs.Transcript.{ending, fits}
+use Rattle.chess_match.specs.laws.Laws.{sent}
 use Rattle.chess_match.specs.declared.reason.DrawClaim.TheVariants.{Threefold}
 use Rattle.chess_match.specs.declared.reason.MatchFault.TheVariants.{Ended, Flood}
 use Rattle.chess_base.specs.declared.man.Variant.TheVariants.{Normal}

@@ -8,11 +8,11 @@ use Rattle.chess_base.specs.Men.{other, same_colour}
 use Rattle.chess_game.specs.declared.ends.Verdict.{Verdict}
 use Rattle.engine_lines.specs.EngineLines.{kind_heard}
 use Rattle.engine_lines.specs.Items.{Item, has_done, takes}
-use Rattle.chess_match.specs.laws.Laws.{moves_told, owed_to, texts_from, items_said, ItemsAreSaid, EachIsToldTheOthers}
+use Rattle.chess_match.specs.laws.Laws.{moves_told, owed_to, texts_from, items_said, ItemsAreSaid, EachIsToldTheOthers, sent}
 use Rattle.chess_match.specs.Match.{Match, Event, Line, Opened, OutputEnds, FailsToRead, FailsToWrite, items_heard, seat, hear, start, over, enter, open_turn, played_by, after}
 use Rattle.chess_match.specs.Rules.{Rules}
 use Rattle.chess_match.specs.Sent.{SentLine, block, entry}
-use Rattle.chess_match.specs.Transcript.{is_on, reads, opens, ending, sent, match_of, match_from, fits_next, fits_from, lines_of, has_write_failure}
+use Rattle.chess_match.specs.Transcript.{is_on, reads, opens, ending, match_of, match_from, fits_next, fits_from, lines_of, has_write_failure}
 use Rattle.chess_match.specs.declared.phase.Phase.{Phase}
 use Rattle.chess_match.specs.declared.phase.Phase.TheVariants.{Hello, Setup, Opening, Before, After, Over}
 use Rattle.chess_match.specs.declared.reason.MatchFault.TheVariants.{NoDone}

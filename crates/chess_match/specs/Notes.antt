@@ -5,7 +5,7 @@ use Rattle.chess_base.specs.declared.man.Colour.TheVariants.{White}
 use Rattle.chess_base.specs.Men.{other}
 use Rattle.chess_match.specs.Match.{Match, Event, start, after}
 use Rattle.chess_match.specs.Rules.{Rules}
-use Rattle.chess_match.specs.Sent.{SentLine, block, entry, bytes_of, for}
+use Rattle.chess_match.specs.Sent.{SentLine, block, entry, bytes_of}
 use Rattle.chess_match.specs.Transcript.{is_on, side_of, is_dropped, fails_at}
 
 -- one note
@@ -44,20 +44,6 @@ notes_from r m (e ∷ es) =
 -- the notes of a transcript: before all events White's first lines
 abbrev pub notes_of : Rules → List Event → List Note
 notes_of r T = both_notes White (λ S. entry r start S) ++ notes_from r start T
-
--- ---- what notes hold
-
--- the events among notes
-abbrev pub events_in : List Note → List Event
-events_in [] = []
-events_in (Happened e ∷ notes) = e ∷ events_in notes
-events_in (Gives c text ∷ notes) = events_in notes
-
--- the bytes that S is sent by notes
-abbrev pub given_in : Colour → List Note → List ℕ
-given_in S [] = []
-given_in S (Happened e ∷ notes) = given_in S notes
-given_in S (Gives c text ∷ notes) = for c S text ++ given_in S notes
 
 -- ---- a witness
 

@@ -29,10 +29,6 @@ pub data SentLine : Type 0 where
 abbrev pub answer_words : List ℕ → List ℕ
 answer_words name = (if is_known name then codes "accepted " else codes "rejected ") ++ name
 
--- the line that answers an item of that name
-abbrev pub answer_line : List ℕ → List ℕ
-answer_line name = answer_words name ++ new_line ∷ []
-
 -- the text of a line, without the byte 10 at its end
 abbrev pub words_of : SentLine → List ℕ
 words_of (Says text) = text

@@ -108,10 +108,6 @@ blocks r S T = entry r start S ∷ blocks_from r S start T
 abbrev pub joined_blocks : List (List SentLine) → List SentLine
 joined_blocks bs = flat_map (λ b. b) bs
 
--- all lines that S is sent
-abbrev pub sent : Rules → Colour → List Event → List SentLine
-sent r S T = joined_blocks (blocks r S T)
-
 -- ---- what passed at the devices
 
 -- the line of S that an event is, if it is one

@@ -3,7 +3,8 @@ use Rattle.std.proofs.Common.{◌≡◌, ℕ, suc, ◌+◌, ◌<◌, ◌≤◌, 
 use Rattle.std.specs.List.{flat_map}
 use Rattle.std.proofs.lemmas.Bool.Decides.{nat_tests}
 use Rattle.std.proofs.lemmas.List.{append-nil, length-append}
-use Rattle.chess_pgn.specs.Written.{line_text, AreFilled, AreShort, tokens_in, IsMoveText, filled_from, move_text_of}
+use Rattle.chess_pgn.specs.Written.{filled_from, move_text_of}
+use Rattle.chess_pgn.specs.laws.Layout.{line_text, AreFilled, AreShort, tokens_in, IsMoveText}
 
 -- what follows a line that has some bytes
 abbrev behind : List ℕ → ℕ → List (List ℕ) → List ℕ

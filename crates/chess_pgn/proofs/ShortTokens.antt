@@ -19,7 +19,8 @@ use Rattle.chess_game.specs.declared.results.Outcome.TheVariants.{WhiteWins, Bla
 use Rattle.chess_pgn.specs.GameText.{number_token, move_tokens, game_tokens}
 use Rattle.chess_text.specs.laws.Laws.{SanIsShort}
 use Rattle.chess_text.specs.San.{san}
-use Rattle.chess_pgn.specs.Written.{AreShort, IsMoveText, move_text_of}
+use Rattle.chess_pgn.specs.Written.{move_text_of}
+use Rattle.chess_pgn.specs.laws.Layout.{AreShort, IsMoveText}
 use Rattle.chess_pgn.proofs.FilledLines.{filled-move_text}
 
 short_outcome : (o : Outcome) → AreShort (outcome_text o ∷ [])

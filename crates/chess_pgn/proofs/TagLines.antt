@@ -4,7 +4,7 @@ use Rattle.std.specs.List.{flat_map}
 use Rattle.byte_devices.specs.Devices.{OutputState, BreaksOff}
 use Rattle.chess_pgn.specs.ties.Waiting.{TookSome}
 use Rattle.chess_pgn.specs.Written.{tag_line, ended}
-use Rattle.chess_pgn.specs.Tags.{tag_lines_of}
+use Rattle.chess_pgn.specs.ties.Lines.{tag_lines_of}
 use Rattle.chess_pgn.specs.declared.tags.TagPair.{TagPair}
 use Rattle.chess_pgn.proofs.Added.{parts_more, parts_break}
 

@@ -17,7 +17,7 @@ use Rattle.chess_pgn.specs.declared.tags.Tags.{Tags}
 use Rattle.chess_pgn.specs.declared.termination.Termination.{Termination}
 use Rattle.chess_text.specs.San.{san}
 use Rattle.chess_pgn.specs.Terminations.{termination_text, termination_of}
-use Rattle.chess_pgn.specs.Written.{tag_line, ended, placed, column_behind, move_text_of}
+use Rattle.chess_pgn.specs.Written.{tag_line, ended, move_text_of}
 
 -- ---- tags
 
@@ -79,18 +79,6 @@ move_tokens is_first p (m ∷ ms) = tokens_of_move is_first p m ++ move_tokens f
 -- those of a game, the outcome last
 abbrev pub game_tokens : State → List (List ℕ)
 game_tokens s = move_tokens true s.start s.moves ++ outcome_text (outcome_now s) ∷ []
-
--- ---- tokens put into lines that go on: their text, and how many bytes the line has after them
-
--- what the tokens put into the text
-abbrev pub placed_all : List ℕ → ℕ → List (List ℕ) → List ℕ
-placed_all prefix column [] = []
-placed_all prefix column (t ∷ ts) = placed prefix column t ++ placed_all prefix (column_behind column t) ts
-
--- how many bytes the last line has after them
-abbrev pub column_behind_all : ℕ → List (List ℕ) → ℕ
-column_behind_all column [] = column
-column_behind_all column (t ∷ ts) = column_behind_all (column_behind column t) ts
 
 -- ---- the whole text: tags, an empty line, the moves in filled lines, an empty line; each line after a prefix
 

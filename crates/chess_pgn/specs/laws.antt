@@ -3,3 +3,4 @@ pub mod PgnLaw
 pub mod Places
 pub mod Retold
 pub mod Normal
+pub mod Layout

@@ -5,3 +5,4 @@ pub mod Waiting
 pub mod GameSteps
 pub mod Begins
 pub mod Braces
+pub mod Lines

@@ -7,7 +7,8 @@ ghost use Rattle.chess_pgn.specs.laws.Retold.{GamesAreOfTokens};
 ghost use Rattle.chess_pgn.specs.laws.Normal.{NormalIsKept};
 ghost use Rattle.chess_pgn.specs.laws.Places.{FaultsHavePlaces, HalfMovesHaveBytes};
 ghost use Rattle.chess_pgn.specs.laws.PgnLaw.{PgnIsReadBack};
-ghost use Rattle.chess_pgn.specs.Written.{AreShort, IsMoveText, move_text_of};
+ghost use Rattle.chess_pgn.specs.Written.{move_text_of};
+ghost use Rattle.chess_pgn.specs.laws.Layout.{AreShort, IsMoveText};
 
 use chess_base::{Position, Variant, after_is_sound};
 use chess_fen::written_is_spelled;

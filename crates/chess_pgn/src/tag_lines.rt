@@ -4,7 +4,7 @@ ghost use Rattle.std.specs.Prelude.{◌≡◌, ◌+◌, ◌*◌, ◌≤◌, ◌+
 ghost use Rattle.arrayvec.specs.ArrayVec.{array_vec_len};
 ghost use Rattle.chess_pgn.specs.ties.Waiting.{Adds};
 ghost use Rattle.chess_pgn.specs.Written.{escaped, tag_line, ended};
-ghost use Rattle.chess_pgn.specs.Tags.{tag_lines_of};
+ghost use Rattle.chess_pgn.specs.ties.Lines.{tag_lines_of};
 
 use crate::lines::LineWriter;
 use crate::tags::TagPair;

@@ -13,7 +13,7 @@ use Rattle.chess_base.specs.Squares.{from_below}
 use Rattle.chess_base.specs.MoveList.{promotions, triple, squares, all_triples, moves}
 use Rattle.chess_moves.proofs.Parts.{filter-flat_map}
 use Rattle.chess_moves.proofs.SomeMember.{any-filter, any-flat_map, any-square}
-use Rattle.chess_text.specs.Parts.{CanPromote}
+use Rattle.chess_text.specs.laws.Laws.{CanPromote}
 use Rattle.chess_text.proofs.Legal.{legal_move}
 
 -- ---- over lists

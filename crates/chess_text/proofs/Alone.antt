@@ -13,8 +13,8 @@ use Rattle.chess_text.specs.declared.described.Described.{Described}
 use Rattle.chess_text.specs.declared.parts.Parts.{Parts}
 use Rattle.chess_text.specs.declared.parts.Promotion.{Promotion}
 use Rattle.chess_text.specs.declared.reading.Reading.TheVariants as reads
-use Rattle.chess_text.specs.laws.Laws.{SpellsAlone, IsSpelled, IsShaped}
-use Rattle.chess_text.specs.Parts.{AreParts, unmarked, parts_at, parts_text, move_parts}
+use Rattle.chess_text.specs.laws.Laws.{SpellsAlone, IsSpelled, IsShaped, AreParts}
+use Rattle.chess_text.specs.Parts.{unmarked, parts_at, parts_text, move_parts}
 use Rattle.chess_text.specs.Moves.{is_castling_text, passes, is_form, fits, shape, spells_described, spells, one_of, reading, promotes_so}
 use Rattle.chess_text.specs.ties.Forms.{same_side}
 use Rattle.chess_text.proofs.AllMoves.{only-move}

@@ -21,7 +21,7 @@ use Rattle.chess_base.proofs.MenFacts.{same_colour-true, is_none-None}
 use Rattle.chess_base.proofs.Landing.{says_from_castling}
 use Rattle.chess_base.proofs.TakesBack.{castles_unpromoted}
 use Rattle.chess_text.specs.declared.described.Described.{Described}
-use Rattle.chess_text.specs.Parts.{CanPromote}
+use Rattle.chess_text.specs.laws.Laws.{CanPromote}
 use Rattle.chess_text.specs.ties.Forms.{castling_end}
 use Rattle.chess_text.specs.Moves.{captures, described, described_as}
 

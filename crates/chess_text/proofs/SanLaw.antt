@@ -27,8 +27,8 @@ use Rattle.chess_base.proofs.MenFacts.{is_none-None}
 use Rattle.chess_base.proofs.StaysSound.{one_king_of}
 use Rattle.chess_moves.proofs.SomeMember.{any-filter}
 use Rattle.chess_text.specs.declared.writing.ToldStart.{ToldStart}
-use Rattle.chess_text.specs.laws.Laws.{SpellsAlone, is_san_byte, begins_with_letter}
-use Rattle.chess_text.specs.Parts.{AreParts, IsOfficer, CanPromote, unmarked, parts_text}
+use Rattle.chess_text.specs.laws.Laws.{SpellsAlone, is_san_byte, begins_with_letter, AreParts, IsOfficer, CanPromote}
+use Rattle.chess_text.specs.Parts.{unmarked, parts_text}
 use Rattle.chess_text.specs.Moves.{captures, passes, admits, has_equals, promotes_so, is_form, fits, is_by_squares, is_by_letter, is_straight, is_from_file, shape, reading}
 use Rattle.chess_text.specs.ties.Forms.{same_side}
 use Rattle.chess_text.specs.San.{castling_text, told_start, if_said, pawn_parts, officer_parts, walk_parts, is_rival, rival_starts, text_by_castling, check_mark, san_as, san}

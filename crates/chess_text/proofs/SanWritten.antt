@@ -9,7 +9,8 @@ use Rattle.chess_base.specs.Moves.{is_legal, after}
 use Rattle.chess_base.specs.MoveList.{moves}
 use Rattle.chess_text.specs.declared.described.Described.{Described}
 use Rattle.chess_text.specs.Moves.{described}
-use Rattle.chess_text.specs.San.{promotes_as_a_pawn, rival_starts, unmarked_san, check_mark, san_as, san}
+use Rattle.chess_text.specs.San.{rival_starts, unmarked_san, check_mark, san_as, san}
+use Rattle.chess_text.specs.ties.Forms.{promotes_as_a_pawn}
 use Rattle.chess_text.proofs.Legal.{MovesAs, legal_move, described_is, told_of}
 
 by_kind : (p : Setup) (m : Move) (k : Kind) → MovesAs p m k → promotes_as_a_pawn (told_of p m k)

@@ -1,9 +1,9 @@
 -- The parts of a move's text: [letter][file][rank][x]square[[=]promotion], and the marks after it.
-use Rattle.std.specs.Prelude.{ℕ, ◌+◌, ◌-◌, ◌*◌, ◌<◌, ◌==◌, nat_le, Bool, true, false, ◌&&◌, ◌||◌, if◌then◌else◌, List, [], ◌∷◌, ◌++◌, length, take, find, Option, Some, None, IfSome}
+use Rattle.std.specs.Prelude.{ℕ, ◌+◌, ◌-◌, ◌*◌, ◌==◌, nat_le, Bool, true, false, ◌&&◌, ◌||◌, if◌then◌else◌, List, [], ◌∷◌, ◌++◌, length, take, find, Option, Some, None}
 use Rattle.std.specs.List.{suffix_len}
 use Rattle.std.specs.Option.{option_map}
 use Rattle.chess_base.specs.declared.man.Kind.{Kind}
-use Rattle.chess_base.specs.declared.man.Kind.TheVariants.{King, Queen, Rook, Bishop, Knight, Pawn}
+use Rattle.chess_base.specs.declared.man.Kind.TheVariants.{King, Queen, Rook, Bishop, Knight}
 use Rattle.chess_base.specs.Coordinates.{optional}
 use Rattle.chess_base.specs.Letters.{byte, white_letter, square_text}
 use Rattle.chess_text.specs.declared.parts.Parts.{Parts}
@@ -60,24 +60,6 @@ officers = King ∷ Queen ∷ Rook ∷ Bishop ∷ Knight ∷ []
 -- the pieces that a pawn may become (3.7)
 abbrev pub promoted : List Kind
 promoted = Queen ∷ Rook ∷ Bishop ∷ Knight ∷ []
-
--- a letter names pieces of this kind; a pawn may become one
-abbrev pub IsOfficer : Kind → Type 0
-IsOfficer Pawn = ⊥
-IsOfficer k = Unit {0}
-
-abbrev pub CanPromote : Kind → Type 0
-CanPromote Pawn = ⊥
-CanPromote King = ⊥
-CanPromote k = Unit {0}
-
--- parts that a text can have
-pub record AreParts (q : Parts) : Type 0 where
-  pub letter_is : IfSome q.letter IsOfficer
-  pub file_is : IfSome q.file (λ f. f < 8)
-  pub rank_is : IfSome q.rank (λ r. r < 8)
-  pub to_is : q.end.to < 64
-  pub promotion_is : IfSome q.end.promotion (λ p. CanPromote p.kind)
 
 -- ---- the parts of a text
 

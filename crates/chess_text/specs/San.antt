@@ -2,7 +2,7 @@
 -- move is for a capture its file and `x`, the end square, and for a promotion `=` and a letter; another piece's its
 -- letter, what distinguishes its start square from those of its rivals, `x` for a capture, and the end square. Last
 -- comes `#` for mate, else `+` for check.
-use Rattle.std.specs.Prelude.{ℕ, false, true, Bool, not, ◌&&◌, ◌||◌, ◌==◌, is_none, IsTrue, if◌then◌else◌, List, [], ◌∷◌, ◌++◌, length, map, Option, Some, None, codes}
+use Rattle.std.specs.Prelude.{ℕ, false, true, Bool, not, ◌&&◌, ◌==◌, if◌then◌else◌, List, [], ◌∷◌, ◌++◌, length, map, Option, Some, None, codes}
 use Rattle.std.specs.List.{list_any, filter}
 use Rattle.std.specs.Option.{option_map}
 use Rattle.chess_base.specs.declared.man.CastlingSide.{CastlingSide}
@@ -54,10 +54,6 @@ told_start from (other ∷ others) =
 -- the number, where it is written
 abbrev pub if_said : Bool → ℕ → Option ℕ
 if_said b n = if b then Some n else None
-
--- only a pawn's move has a promotion
-abbrev pub promotes_as_a_pawn : Described → Type 0
-promotes_as_a_pawn d = IsTrue (same_kind d.man Pawn || is_none d.promotion)
 
 -- the end square, and `=` with what the pawn becomes
 abbrev pub end_of : Described → End

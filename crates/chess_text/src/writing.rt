@@ -9,7 +9,8 @@ ghost use Rattle.chess_base.specs.MoveList.{moves};
 ghost use Rattle.chess_base.specs.Moves.{is_legal};
 ghost use Rattle.chess_moves.specs.Sets.{members};
 ghost use Rattle.chess_text.specs.Parts.{when, parts_text};
-ghost use Rattle.chess_text.specs.San.{castling_text, some_on_file, some_on_rank, said, told_start, pawn_parts, officer_parts, rival_starts, promotes_as_a_pawn, unmarked_san, check_mark, san};
+ghost use Rattle.chess_text.specs.San.{castling_text, some_on_file, some_on_rank, said, told_start, pawn_parts, officer_parts, rival_starts, unmarked_san, check_mark, san};
+ghost use Rattle.chess_text.specs.ties.Forms.{promotes_as_a_pawn};
 
 use crate::described::{Described, describe};
 use arrayvec::ArrayVec;

@@ -4,7 +4,8 @@ use Rattle.std.specs.Prelude.{if◌then◌else◌, ◌==◌}
 use Rattle.std.proofs.Math.Nat.{div-mul-le_self, mul-le-mul_left}
 use Rattle.std.proofs.lemmas.Nat.{le-div}
 use Rattle.engine_lines.specs.Levels.{LevelSeen, sessions, allotted, left}
-use Rattle.engine_lines.specs.Clocks.{Spent, IsWithin, spent_more}
+use Rattle.engine_lines.specs.Clocks.{Spent, spent_more}
+use Rattle.engine_lines.specs.ties.Bounds.{IsWithin}
 use Rattle.chess_game.specs.declared.game.TheConstants.{MOST_MOVES}
 
 div_grows : (m k : ℕ) → 0 < m → k / m ≤ (k + 1) / m

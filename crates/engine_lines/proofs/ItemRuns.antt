@@ -8,7 +8,8 @@ use Rattle.chess_cecp.specs.Lines.{without_front_blanks}
 use Rattle.chess_cecp.proofs.Parts.{wfb_short}
 use Rattle.chess_pgn.specs.Tokens.{is_name_byte}
 use Rattle.std.specs.List.{prefix_len}
-use Rattle.engine_lines.specs.Items.{Item, Value, Digits, Quoted, quoted, quote_at, value_of, is_apart, with_value, with_name, item_of, ends_hello, first_items, items_of, has_done, unquoted, last_said, takes, said_again, is_one, value_text, has_word, fischerandom_again, plays_fischerandom}
+use Rattle.engine_lines.specs.Items.{Item, Value, Digits, Quoted, quoted, quote_at, value_of, is_apart, with_value, with_name, item_of, ends_hello, first_items, items_of, has_done, unquoted, last_said, takes, is_one, value_text, has_word, plays_fischerandom}
+use Rattle.engine_lines.specs.ties.Taken.{said_again, fischerandom_again}
 use Rattle.engine_lines.specs.Seen.{features_of}
 use Rattle.engine_lines.specs.declared.features.Features.{Features}
 

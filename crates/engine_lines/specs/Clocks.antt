@@ -1,9 +1,8 @@
 -- The clocks of a game: of each side the number of its moves, and the sum of the times that they used.
-use Rattle.std.specs.Prelude.{ℕ, ◌+◌, ◌≤◌}
+use Rattle.std.specs.Prelude.{ℕ, ◌+◌}
 use Rattle.chess_base.specs.declared.man.Colour.{Colour}
 use Rattle.chess_base.specs.declared.man.Colour.TheVariants.{White, Black}
-use Rattle.engine_lines.specs.Levels.{LevelSeen, allotted, left}
-use Rattle.chess_game.specs.declared.game.TheConstants.{MOST_MOVES}
+use Rattle.engine_lines.specs.Levels.{LevelSeen, left}
 
 -- what a side spent: how many moves it made, and the time that they used
 pub record Spent : Type 0 where
@@ -42,8 +41,3 @@ spent_more s used = record { moves = s.moves + 1; used = s.used + used }
 abbrev pub charged : ClocksSeen → Colour → ℕ → ClocksSeen
 charged clocks White used = record clocks { white = spent_more clocks.white used }
 charged clocks Black used = record clocks { black = spent_more clocks.black used }
-
--- no side used more than it was given
-pub record IsWithin (level : LevelSeen) (s : Spent) : Type 0 where
-  pub moves : s.moves ≤ MOST_MOVES
-  pub used : s.used ≤ allotted level s.moves

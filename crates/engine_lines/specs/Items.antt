@@ -116,15 +116,6 @@ has_word word text = list_any (λ piece. bytes_eq piece word) (slice_split is_co
 unfoldable pub plays_fischerandom : List Item → Bool
 plays_fischerandom items = last_said (λ v. has_word (codes "fischerandom") (value_text v)) true (codes "variants") items
 
--- what an engine takes once it says an item more, and before whether it did
-abbrev pub said_again : List ℕ → Item → Bool → Bool
-said_again name i before = if bytes_eq i.name name then is_one i.value else before
-
--- whether an engine plays fischerandom once it says an item more, and before whether it did
-abbrev pub fischerandom_again : Item → Bool → Bool
-fischerandom_again i before = if bytes_eq i.name (codes "variants") then has_word (codes "fischerandom")
-    (value_text i.value) else before
-
 -- ---- the answer to an item
 
 -- the names of features that are accepted

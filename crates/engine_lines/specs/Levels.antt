@@ -1,5 +1,5 @@
 -- Levels of time, their spelling, and the time that a level gives (CECP, version 2: command `level`).
-use Rattle.std.specs.Prelude.{ℕ, ◌+◌, ◌-◌, ◌*◌, ◌/◌, ◌%◌, ◌==◌, ◌≤◌, ◌&&◌, nat_lt, nat_le, not, if◌then◌else◌, List, [], ◌∷◌, ◌++◌, length, take, drop, codes, decimal, Option, None, Some}
+use Rattle.std.specs.Prelude.{ℕ, ◌+◌, ◌-◌, ◌*◌, ◌/◌, ◌%◌, ◌==◌, ◌&&◌, nat_lt, nat_le, not, if◌then◌else◌, List, [], ◌∷◌, ◌++◌, length, take, drop, codes, decimal, Option, None, Some}
 use Rattle.std.specs.List.{list_all, position_or_len}
 use Rattle.std.specs.Option.{option_map}
 use Rattle.chess_base.specs.Letters.{byte, is_digit, value_after}
@@ -11,12 +11,6 @@ pub record LevelSeen : Type 0 where
   pub moves : ℕ
   pub base : ℕ
   pub increment : ℕ
-
--- no number of a level is greater than can be written
-pub record IsLevel (level : LevelSeen) : Type 0 where
-  pub moves : level.moves ≤ 999
-  pub base : level.base ≤ 59999
-  pub increment : level.increment ≤ 999
 
 -- ---- spelling
 

@@ -3,3 +3,4 @@ pub mod EngineLines
 pub mod Levels
 pub mod Clocks
 pub mod Seen
+pub mod ties

@@ -33,11 +33,6 @@ value_seen (Quoted text) = items.Quoted text.now
 abbrev pub item_seen : Item → items.Item
 item_seen i = record { name = i.name.now; value = value_seen i.value }
 
--- a value, and what follows it
-abbrev pub value_read : Option (Value × Bor (List ℕ)) → Option (items.Value × List ℕ)
-value_read None = None
-value_read (Some p) = Some (value_seen p.0, p.1.now)
-
 -- an item, and what follows it
 abbrev pub item_read : Option (Item × Bor (List ℕ)) → Option (items.Item × List ℕ)
 item_read None = None

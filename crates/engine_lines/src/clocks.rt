@@ -26,7 +26,8 @@ pub struct Clocks {
 }
 
 impl Model for Clocks {
-    ghost use Rattle.engine_lines.specs.Clocks.{ClocksSeen, IsWithin};
+    ghost use Rattle.engine_lines.specs.Clocks.{ClocksSeen};
+    ghost use Rattle.engine_lines.specs.ties.Bounds.{IsWithin};
 
     ghost Value = { ClocksSeen };
 

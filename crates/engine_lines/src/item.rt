@@ -2,8 +2,9 @@
 
 ghost use Rattle.std.specs.Prelude.{◌≡◌, ◌≤◌, ◌<◌, ◌++◌, ◌∷◌, [], length, drop, take, List, ℕ};
 ghost use Rattle.chess_base.specs.Letters.{is_digit};
-ghost use Rattle.engine_lines.specs.Items.{value_of, with_value, with_name, item_of, is_apart, is_one, ends_hello, quote_at, items_of, has_done, is_known, has_word, value_text, said_again, fischerandom_again, is_comma_or_blank};
-ghost use Rattle.engine_lines.specs.Seen.{value_seen, item_seen, value_read, item_read};
+ghost use Rattle.engine_lines.specs.Items.{value_of, with_value, with_name, item_of, is_apart, is_one, ends_hello, quote_at, items_of, has_done, is_known, has_word, value_text, is_comma_or_blank};
+ghost use Rattle.engine_lines.specs.ties.Taken.{said_again, fischerandom_again, value_read};
+ghost use Rattle.engine_lines.specs.Seen.{value_seen, item_seen, item_read};
 ghost use Rattle.chess_pgn.specs.Tokens.{is_name_byte};
 ghost use Rattle.std.specs.List.{prefix_len};
 

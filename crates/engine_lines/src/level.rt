@@ -17,7 +17,8 @@ pub struct Level {
 }
 
 impl Model for Level {
-    ghost use Rattle.engine_lines.specs.Levels.{LevelSeen, IsLevel};
+    ghost use Rattle.engine_lines.specs.Levels.{LevelSeen};
+    ghost use Rattle.engine_lines.specs.ties.Bounds.{IsLevel};
 
     ghost Value = { LevelSeen };
 

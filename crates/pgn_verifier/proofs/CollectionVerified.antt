@@ -13,9 +13,9 @@ use Rattle.pgn_pieces.proofs.Inputs.{nothing_read}
 use Rattle.pgn_verifier.specs.declared.options.VerifyOptions.{VerifyOptions}
 use Rattle.pgn_verifier.specs.declared.tally.Tally.{Tally}
 use Rattle.pgn_verifier.specs.declared.fault.VerifyFault.TheVariants.{WriteFailed}
-use Rattle.pgn_verifier.specs.Reports.{reports_in, reports_of, lines_of, counts_line, counted, counts_of, next_number, GrowsBy}
+use Rattle.pgn_verifier.specs.Reports.{reports_in, reports_of, lines_of, counts_line, counted, counts_of}
 use Rattle.pgn_verifier.specs.Collection.{collection_reports, collection_lines, VerifiesCollection}
-use Rattle.pgn_verifier.specs.ties.OnTheWay.{WritesCollection}
+use Rattle.pgn_verifier.specs.ties.OnTheWay.{WritesCollection, next_number, GrowsBy}
 use Rattle.pgn_verifier.specs.ties.Faults.{piece_fault}
 use Rattle.pgn_verifier.proofs.LinesWritten.{took_after, broke_after, lines_after, wrote_none, counted_after}
 

@@ -1,8 +1,7 @@
 -- The reports on the games of a text and of pieces, their lines and their counts.
-use Rattle.std.specs.Prelude.{◌≡◌, ◌≤◌, ℕ, zero, suc, ◌+◌, ◌==◌, Bool, true, not, if◌then◌else◌, List, [], ◌∷◌, ◌++◌, length, codes, decimal, Option, Some, None, Result, Ok, Err}
+use Rattle.std.specs.Prelude.{ℕ, zero, suc, ◌+◌, ◌==◌, Bool, true, not, if◌then◌else◌, List, [], ◌∷◌, ◌++◌, length, codes, decimal, Option, Some, None, Result, Ok, Err}
 use Rattle.std.specs.List.{flat_map}
 use Rattle.chess_base.specs.Letters.{new_line}
-use Rattle.byte_devices.specs.Devices.{OutputState, Took, BreaksOff}
 use Rattle.chess_game.specs.Results.{outcome_text}
 use Rattle.chess_pgn.specs.declared.read.PgnEnd.{PgnEnd}
 use Rattle.chess_pgn.specs.declared.read.PgnFaultKind.TheVariants.{TooLong}
@@ -115,21 +114,3 @@ counts_line t =
     ++ (decimal t.games
     ++ (codes " half-moves "
     ++ (decimal t.half_moves ++ (codes " faults " ++ (decimal t.faults ++ new_line ∷ [])))))
-
--- ---- writing reports, after others that were counted
-
--- the number of the next game
-abbrev pub next_number : Tally → ℕ
-next_number before = before.games + before.faults + 1
-
--- the lines of reports were written, and they were counted; where the writer failed, a beginning of the lines was
--- written
-abbrev pub Writes : {E : Type 0} → Bool → Tally → OutputState → OutputState → Result Tally E → List Report → Type 0
-Writes quiet before w w' (Ok after) reports =
-    Took w w' (lines_of quiet (next_number before) reports) × (after ≡ counted before reports)
-Writes quiet before w w' (Err e) reports = BreaksOff w w' (lines_of quiet (next_number before) reports)
-
--- a text of so many bytes has no more half-moves than bytes, and at most one report more
-pub record GrowsBy (len : ℕ) (before after : Tally) : Type 0 where
-  pub reports : after.games + after.faults ≤ before.games + before.faults + len + 1
-  pub half_moves : after.half_moves ≤ before.half_moves + len

@@ -3,9 +3,9 @@
 ghost use Rattle.std.specs.Prelude.{◌≡◌, ◌≤◌, ◌<◌, ◌+◌, ◌*◌, ◌^◌, length, IfOk};
 ghost use Rattle.byte_devices.specs.Devices.{Sends};
 ghost use Rattle.pgn_pieces.specs.Stream.{unread, current};
-ghost use Rattle.pgn_verifier.specs.Reports.{reports_in, counts_line, Writes, GrowsBy};
+ghost use Rattle.pgn_verifier.specs.Reports.{reports_in, counts_line};
 ghost use Rattle.pgn_verifier.specs.Collection.{VerifiesCollection};
-ghost use Rattle.pgn_verifier.specs.ties.OnTheWay.{WritesCollection};
+ghost use Rattle.pgn_verifier.specs.ties.OnTheWay.{WritesCollection, Writes, GrowsBy};
 ghost use Rattle.pgn_verifier.specs.ties.Faults.{piece_fault};
 ghost use Rattle.chess_game.specs.declared.game.TheConstants.{MOST_MOVES};
 

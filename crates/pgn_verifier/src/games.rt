@@ -4,7 +4,8 @@ ghost use Rattle.std.specs.Prelude.{◌≡◌, ◌≤◌, ◌<◌, ◌+◌, ◌^
 ghost use Rattle.std.specs.Option.{IfSome};
 ghost use Rattle.chess_game.specs.declared.game.TheConstants.{MOST_MOVES};
 ghost use Rattle.pgn_verifier.specs.GameFaults.{read_at, judged_at};
-ghost use Rattle.pgn_verifier.specs.Reports.{reports_on, Writes, GrowsBy};
+ghost use Rattle.pgn_verifier.specs.Reports.{reports_on};
+ghost use Rattle.pgn_verifier.specs.ties.OnTheWay.{Writes, GrowsBy};
 
 use crate::contradiction::contradiction;
 use crate::game_fault::GameFault;

@@ -1,6 +1,6 @@
 -- What the arguments ask for as they are written, on the way to a plan.
-use Rattle.std.specs.Prelude.{◌≡◌, ◌≤◌, List, [], codes, map, option_map, Some, None, Ok, Err, true, false, unwrap_or}
-use Rattle.clap.specs.Words.{Row, Text, all_of, first_of}
+use Rattle.std.specs.Prelude.{◌≡◌, ◌≤◌, List, [], codes, map, option_map, Some, None, Ok, Err, true, false, unwrap_or, ◌≢◌}
+use Rattle.clap.specs.Words.{Row, Text, all_of, first_of, kind_of}
 use Rattle.arbiter_words.specs.declared.plan.Plan.{Plan}
 use Rattle.arbiter_words.specs.declared.plan.Plan.TheVariants.{Session, Verify, Stub, Match}
 use Rattle.arbiter_words.specs.declared.plan.MatchPlan.{MatchPlan}
@@ -12,6 +12,8 @@ use Rattle.arbiter_words.specs.declared.spelled.Spelled.TheVariants as spelled
 use Rattle.chess_base.specs.declared.setup.Setup.{Setup}
 use Rattle.engine_lines.specs.Levels.{LevelSeen, level_of}
 use Rattle.arbiter_words.specs.Plans.{games_in, is_date, is_set, start_of, text_or, variant_in, verify_plan_of}
+use Rattle.clap.specs.declared.error.Error.{Error}
+use Rattle.clap.specs.declared.error.kind.ErrorKind.TheVariants.{OutOfMemory}
 
 -- these are the options of a match, as written or by default
 pub record IsMatchOf (rows : List Row) (m : MatchWords) : Type 0 where
@@ -64,3 +66,9 @@ IsPlanned (spelled.Match m) plan = (p : MatchPlan) × (plan ≡ Match p) × IsJu
 abbrev pub IsPlanFault : Spelled → WordsFault → Type 0
 IsPlanFault (spelled.Match m) f = IsJudgedFault m f
 IsPlanFault _ f = ⊥
+
+-- out of memory is reported as such, and what else `clap` gave is reported as it is
+abbrev pub Refuses : Error → WordsFault → Type 0
+Refuses e (Words told) = (kind_of e ≢ OutOfMemory) × (told ≡ e)
+Refuses e NoMemory = kind_of e ≡ OutOfMemory
+Refuses e _ = ⊥

@@ -12,7 +12,8 @@ use Rattle.chess_base.specs.declared.man.Variant.TheVariants.{Normal, Fischerand
 use Rattle.chess_base.specs.declared.setup.Setup.{Setup}
 use Rattle.chess_base.specs.Attacks.{is_clear, is_attacked}
 use Rattle.chess_base.specs.Castling.{home_square, castled_king_file, right_of, castle_of}
-use Rattle.chess_base.specs.Men.{Men, man_at, with_man, other, is_man, same_kind}
+use Rattle.chess_base.specs.Men.{Men, man_at, other, is_man, same_kind}
+use Rattle.chess_base.specs.ties.Changes.{with_man}
 use Rattle.chess_base.specs.MoveList.{triple}
 use Rattle.chess_base.specs.Moves.{has_pattern, is_legal, man_moves}
 use Rattle.chess_base.specs.Squares.{share_rank_or_file, share_diagonal}

@@ -1,7 +1,28 @@
 -- What is kept of a line that comes.
-use Rattle.std.specs.Prelude.{ℕ, Bool, true, false, List, [], ◌∷◌, ◌++◌}
+use Rattle.std.specs.Prelude.{ℕ, Bool, true, false, List, [], ◌∷◌, ◌++◌, ◌≡◌, ◌<◌, ◌≤◌, length, Option, None, Some, Result, Ok, Err}
+use Rattle.byte_devices.specs.Devices.{InputState, GavePiece, FailedToRead}
+use Rattle.chess_cecp.specs.Lines.{LineSeen, Held, lines_from, lines_held}
+use Rattle.chess_cecp.specs.declared.lines.TheConstants.{PIECE_LEN}
 
 -- of a line of more bytes than are kept, the bytes that are kept, and one more in place of the rest
 abbrev pub kept_part : List ℕ → Bool → List ℕ
 kept_part bytes true = bytes ++ 0 ∷ []
 kept_part bytes false = bytes
+
+-- both stand for what has come of a line: whatever follows, the lines are the same
+abbrev pub SameLines : ℕ → List ℕ → List ℕ → Type 0
+SameLines n part part' = (told : Bool) (bytes : List ℕ) → lines_from n told part bytes ≡ lines_from n told part' bytes
+
+-- the search of what is held for a line
+abbrev pub HeldLine : ℕ → Held → Held → Option LineSeen → Type 0
+HeldLine n held held' (Some line) =
+    (line.ended ≡ true) × (length held'.coming < length held.coming)
+    × ((told : Bool) (rest : List ℕ) → lines_held n told held rest ≡ line ∷ lines_held n told held' rest)
+HeldLine n held held' None =
+    (lines_held n false held [] ≡ []) × (held'.coming ≡ [])
+    × ((told : Bool) (rest : List ℕ) → lines_held n told held rest ≡ lines_held n told held' rest)
+
+-- a piece was read into an empty window, or a read failed
+abbrev pub Filled : {E : Type 0} → InputState → InputState → Result ℕ E → List ℕ → Type 0
+Filled r r' (Ok n) coming = (n ≡ length coming) × (n ≤ PIECE_LEN) × GavePiece r r' coming
+Filled r r' (Err e) coming = (coming ≡ []) × FailedToRead r r'

@@ -10,11 +10,12 @@ use Rattle.chess_match.specs.Match.{Match, Event, Line, OutputEnds, FailsToRead,
 use Rattle.chess_match.specs.Notes.{Noted, WasNoted, Happened, Note, both_notes, first_sent}
 use Rattle.chess_match.specs.Rules.{Rules}
 use Rattle.chess_match.specs.Run.{text_heard, Flushed}
-use Rattle.chess_match.specs.Sent.{SentLine, block, bytes_of}
+use Rattle.chess_match.specs.Sent.{SentLine, block, bytes_of, answer_words}
 use Rattle.chess_match.specs.ties.Stands.{Stands}
 use Rattle.chess_match.specs.ties.Told.{SendsIf}
 use Rattle.chess_match.specs.Transcript.{is_on}
 use Rattle.chess_match.specs.declared.state.Core.{Core}
+use Rattle.chess_base.specs.Letters.{new_line}
 
 -- what is White's, and what is Black's
 abbrev pub by_side : {A : Type 0} → A → A → Colour → A
@@ -83,3 +84,7 @@ Delivered r core played m due first w w' failed notes notes' =
 abbrev pub HasLast : Core → List Move → Type 0
 HasLast core played = (r : Rules) × (m : Match) × Stands r core played m
     × (is_some m.untold ≡ true → 0 < length m.played)
+
+-- the line that answers an item of that name
+abbrev pub answer_line : List ℕ → List ℕ
+answer_line name = answer_words name ++ new_line ∷ []

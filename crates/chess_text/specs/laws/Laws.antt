@@ -1,5 +1,5 @@
 -- The laws of the texts, each as one statement.
-use Rattle.std.specs.Prelude.{◌≡◌, ℕ, ◌≤◌, ◌==◌, Bool, false, ◌||◌, ◌⊎◌, ◌↔◌, List, [], ◌∷◌, length, Some, IsTrue}
+use Rattle.std.specs.Prelude.{◌≡◌, ℕ, ◌≤◌, ◌==◌, Bool, false, ◌||◌, ◌⊎◌, ◌↔◌, List, [], ◌∷◌, length, Some, IsTrue, ◌<◌, IfSome}
 use Rattle.chess_base.specs.Coordinates.{coordinate}
 use Rattle.chess_base.specs.Letters.{is_digit, is_letter, byte}
 use Rattle.std.specs.List.{list_all}
@@ -11,9 +11,29 @@ use Rattle.chess_base.specs.Sound.{IsSound}
 use Rattle.chess_text.specs.declared.described.Described.{Described}
 use Rattle.chess_text.specs.declared.parts.Parts.{Parts}
 use Rattle.chess_text.specs.declared.reading.Reading.TheVariants as reads
-use Rattle.chess_text.specs.Parts.{AreParts, unmarked, parts_at, parts_text}
+use Rattle.chess_text.specs.Parts.{unmarked, parts_at, parts_text}
 use Rattle.chess_text.specs.Moves.{is_castling_text, is_form, fits, spells_described, spells, shape, reading}
 use Rattle.chess_text.specs.San.{san, shown_move}
+use Rattle.chess_base.specs.declared.man.Kind.{Kind}
+use Rattle.chess_base.specs.declared.man.Kind.TheVariants.{King, Pawn}
+
+-- a letter names pieces of this kind; a pawn may become one
+abbrev pub IsOfficer : Kind → Type 0
+IsOfficer Pawn = ⊥
+IsOfficer k = Unit {0}
+
+abbrev pub CanPromote : Kind → Type 0
+CanPromote Pawn = ⊥
+CanPromote King = ⊥
+CanPromote k = Unit {0}
+
+-- parts that a text can have
+pub record AreParts (q : Parts) : Type 0 where
+  pub letter_is : IfSome q.letter IsOfficer
+  pub file_is : IfSome q.file (λ f. f < 8)
+  pub rank_is : IfSome q.rank (λ r. r < 8)
+  pub to_is : q.end.to < 64
+  pub promotion_is : IfSome q.end.promotion (λ p. CanPromote p.kind)
 
 -- the text denotes the move, and of the legal moves no other
 abbrev pub SpellsAlone : Setup → List ℕ → Move → Type 0

@@ -1,6 +1,6 @@
 -- What a text is read as, before any position is looked at: castling, or parts of a form. Then, in a position, the one
 -- square on which each move ends that it denotes.
-use Rattle.std.specs.Prelude.{Bool, is_some, is_none, not, ◌||◌, ◌==◌, ◌≡◌, ◌&&◌, ◌+◌, ◌*◌, nat_lt, if◌then◌else◌, List, [], ◌∷◌, ℕ, map, Option, Some, None}
+use Rattle.std.specs.Prelude.{Bool, is_some, is_none, not, ◌||◌, ◌==◌, ◌≡◌, ◌&&◌, ◌+◌, ◌*◌, nat_lt, if◌then◌else◌, List, [], ◌∷◌, ℕ, map, Option, Some, None, IsTrue}
 use Rattle.std.specs.List.{list_any, filter}
 use Rattle.std.specs.Str.{bytes_eq}
 use Rattle.chess_base.specs.declared.man.CastlingSide.{CastlingSide}
@@ -128,3 +128,7 @@ is_spelled_of q p k m = if is_some q.letter then is_spelled_by_letter q p k m el
 -- the move of a piece of that one kind from that square that the parts denote, if they denote it
 abbrev pub spelled_start : Parts → Setup → Kind → ℕ → List Move
 spelled_start q p k a = if is_spelled_of q p k (triple a q.end.to None) then triple a q.end.to None ∷ [] else []
+
+-- only a pawn's move has a promotion
+abbrev pub promotes_as_a_pawn : Described → Type 0
+promotes_as_a_pawn d = IsTrue (same_kind d.man Pawn || is_none d.promotion)

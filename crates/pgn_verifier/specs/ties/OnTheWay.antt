@@ -1,5 +1,5 @@
 -- What becomes of verifying on the way: of a text that is read as a whole, and of pieces before their counts are written.
-use Rattle.std.specs.Prelude.{◌≡◌, ◌<◌, ℕ, true, false, List, length, Result, Ok, Err}
+use Rattle.std.specs.Prelude.{◌≡◌, ◌<◌, ℕ, true, false, List, length, Result, Ok, Err, ◌≤◌, ◌+◌, Bool}
 use Rattle.byte_devices.specs.Devices.{InputState, OutputState, Took, Sent, BreaksOff}
 use Rattle.pgn_pieces.specs.Pieces.{HasRead, BrokeOff}
 use Rattle.pgn_pieces.specs.declared.pieces.TheConstants.{PIECE_LEN}
@@ -8,9 +8,10 @@ use Rattle.pgn_verifier.specs.declared.fault.VerifyFault.TheVariants.{ReadFailed
 use Rattle.pgn_verifier.specs.declared.options.VerifyOptions.{VerifyOptions}
 use Rattle.pgn_verifier.specs.declared.tally.Tally.{Tally}
 use Rattle.pgn_verifier.specs.declared.tally.Verified.{Verified}
-use Rattle.pgn_verifier.specs.Reports.{reports_on, counts_of, verified}
+use Rattle.pgn_verifier.specs.Reports.{reports_on, counts_of, verified, lines_of, counted}
 use Rattle.pgn_verifier.specs.Verify.{text_lines}
 use Rattle.pgn_verifier.specs.Collection.{collection_reports, collection_lines, VerifiesCollection}
+use Rattle.pgn_verifier.specs.declared.report.Report.{Report}
 
 -- why not all of the input was read: a read failed, there are more than 16,777,216 bytes, or we ran out of memory
 abbrev pub IsNotAll : InputState → InputState → VerifyFault → Type 0
@@ -32,3 +33,19 @@ WritesCollection options r r' w w' (Ok tally) =
     (text : List ℕ) × HasRead true r r' text × Took w w' (collection_lines options true text)
     × (tally ≡ counts_of (collection_reports options.strict true text))
 WritesCollection options r r' w w' (Err fault) = VerifiesCollection options r r' w w' (Err fault)
+
+-- the number of the next game
+abbrev pub next_number : Tally → ℕ
+next_number before = before.games + before.faults + 1
+
+-- the lines of reports were written, and they were counted; where the writer failed, a beginning of the lines was
+-- written
+abbrev pub Writes : {E : Type 0} → Bool → Tally → OutputState → OutputState → Result Tally E → List Report → Type 0
+Writes quiet before w w' (Ok after) reports =
+    Took w w' (lines_of quiet (next_number before) reports) × (after ≡ counted before reports)
+Writes quiet before w w' (Err e) reports = BreaksOff w w' (lines_of quiet (next_number before) reports)
+
+-- a text of so many bytes has no more half-moves than bytes, and at most one report more
+pub record GrowsBy (len : ℕ) (before after : Tally) : Type 0 where
+  pub reports : after.games + after.faults ≤ before.games + before.faults + len + 1
+  pub half_moves : after.half_moves ≤ before.half_moves + len

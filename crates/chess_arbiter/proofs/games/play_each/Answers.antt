@@ -1,7 +1,8 @@
 -- The games so far were played without a fault, written and logged, and the score counts them (GamesTold.SoFar): a game more keeps
 -- that (GamesTold.one_more), and one with a fault is the last (GamesTold.with_fault).
 use Rattle.std.proofs.Common.{◌≡◌, ◌∙◌, ◌≤◌, ◌<◌, ◌+◌, ◌++◌, ◌∷◌, [], Ok, None, Some, subst, sym, ap, arith, rules}
-use Rattle.chess_arbiter.specs.Games.{GameTold, HasPlayed, is_odd, scored}
+use Rattle.chess_arbiter.specs.Games.{GameTold, is_odd, scored}
+use Rattle.chess_arbiter.specs.ties.Playing.{HasPlayed}
 use Rattle.chess_arbiter.specs.Log.{log_seen}
 use Rattle.chess_arbiter.specs.declared.score.Score.{Score}
 use Rattle.chess_arbiter.proofs.GamesTold.{SoFar, start, one_more, with_fault, broke, all_played}

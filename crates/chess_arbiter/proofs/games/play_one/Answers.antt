@@ -4,7 +4,7 @@ use Rattle.std.proofs.Common.{[], Option, subst}
 use Rattle.byte_devices.specs.Devices.{BreaksOff, Sent}
 use Rattle.chess_base.specs.declared.man.Colour.{Colour}
 use Rattle.chess_pgn.specs.GameText.{pgn}
-use Rattle.chess_arbiter.specs.Games.{LogsGame}
+use Rattle.chess_arbiter.specs.ties.Playing.{LogsGame}
 use Rattle.chess_arbiter.specs.Log.{log_seen}
 use Rattle.chess_arbiter.proofs.games.play_one.Goals as goal
 

@@ -1,7 +1,7 @@
 -- A game that is not logged has notes too (GamesTold.relayed).
 use Rattle.std.proofs.Common.{◌≡◌, Option, None, Some, rules, subst, sym}
 use Rattle.chess_base.specs.declared.man.Colour.{Colour}
-use Rattle.chess_arbiter.specs.Games.{LogsGame}
+use Rattle.chess_arbiter.specs.ties.Playing.{LogsGame}
 use Rattle.chess_arbiter.specs.Log.{log_seen}
 use Rattle.chess_arbiter.proofs.GamesTold.{relayed}
 use Rattle.chess_arbiter.proofs.games.relay.Goals as goal

@@ -3,7 +3,8 @@
 use Rattle.std.proofs.Common.{[], subst, sym, rules}
 use Rattle.chess_cecp.specs.Lines.{Held}
 use Rattle.byte_devices.specs.declared.traits.ReadFault.{ReadFault}
-use Rattle.chess_arbiter.specs.Stub.{beginning, state_at}
+use Rattle.chess_arbiter.specs.Stub.{beginning}
+use Rattle.chess_arbiter.specs.ties.Serving.{state_at}
 use Rattle.chess_arbiter.proofs.StubRuns.{SoFar, start, reached, go_on, by_line, by_write, by_last, by_end, by_read, over_told, on_told}
 use Rattle.chess_arbiter.proofs.stub.run_stub.Goals as goal
 

@@ -1,7 +1,8 @@
 use Rattle.std.proofs.Common.{List, ℕ, ◌≤◌, length}
 use Rattle.chess_cecp.specs.Lines.{LineSeen}
 use Rattle.chess_cecp.specs.Next.{work}
-use Rattle.chess_arbiter.specs.Stub.{beginning, state_at}
+use Rattle.chess_arbiter.specs.Stub.{beginning}
+use Rattle.chess_arbiter.specs.ties.Serving.{state_at}
 use Rattle.chess_arbiter.proofs.StubRuns.{SoFar}
 use Rattle.chess_arbiter.proofs.stub.run_stub.Given as goal
 

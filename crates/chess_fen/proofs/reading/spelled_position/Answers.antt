@@ -1,4 +1,4 @@
-use Rattle.chess_fen.specs.Reading.{description}
+use Rattle.chess_fen.specs.ties.Readings.{description}
 use Rattle.chess_fen.proofs.SpelledFen.{judged-read}
 use Rattle.chess_fen.proofs.reading.spelled_position.Goals as goal
 

@@ -3,7 +3,7 @@ use Rattle.std.specs.List.{list_any}
 use Rattle.chess_base.specs.MoveList.{moves}
 use Rattle.chess_base.specs.Moves.{is_en_passant}
 use Rattle.chess_moves.specs.Sets.{members}
-use Rattle.chess_game.specs.Same.{captures_legally}
+use Rattle.chess_game.specs.ties.Captures.{captures_legally}
 use Rattle.chess_game.proofs.repetition.is_captured_on.Given as goal
 
 -- the squares that are left decide

@@ -1,7 +1,7 @@
 use Rattle.std.proofs.Common.{◌≡◌, take}
 use Rattle.chess_pgn.specs.ties.Waiting.{TookSome}
 use Rattle.chess_pgn.specs.Written.{ended}
-use Rattle.chess_pgn.specs.Tags.{tag_lines_of}
+use Rattle.chess_pgn.specs.ties.Lines.{tag_lines_of}
 use Rattle.chess_pgn.proofs.tag_lines.put_tags.Given as goal
 
 abbrev pub invariant-loop-tag : goal.invariant-loop-tag

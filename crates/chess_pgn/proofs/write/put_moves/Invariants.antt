@@ -1,6 +1,7 @@
 use Rattle.std.proofs.Common.{◌≡◌, take, true}
 use Rattle.chess_game.specs.Line.{last}
-use Rattle.chess_pgn.specs.GameText.{move_tokens, placed_all, column_behind_all}
+use Rattle.chess_pgn.specs.GameText.{move_tokens}
+use Rattle.chess_pgn.specs.ties.Lines.{placed_all, column_behind_all}
 use Rattle.chess_pgn.specs.ties.Waiting.{TookSome}
 use Rattle.chess_pgn.proofs.write.put_moves.Given as goal
 

@@ -1,5 +1,6 @@
 use Rattle.std.proofs.Common.{◌≡◌, ℕ, List, ◌++◌, drop}
-use Rattle.chess_arbiter.specs.Log.{Adds, ends_line, given_text, head}
+use Rattle.chess_arbiter.specs.Log.{ends_line, given_text, head}
+use Rattle.chess_arbiter.specs.ties.Logging.{Adds}
 use Rattle.chess_arbiter.proofs.log.Pending.add_given.Given as goal
 
 -- what was written, with what is left, is all of it

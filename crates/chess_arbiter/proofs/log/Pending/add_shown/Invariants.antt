@@ -1,5 +1,6 @@
 use Rattle.std.proofs.Common.{◌≡◌, ℕ, List, ◌++◌, drop, map}
-use Rattle.chess_arbiter.specs.Log.{Adds, shown}
+use Rattle.chess_arbiter.specs.Log.{shown}
+use Rattle.chess_arbiter.specs.ties.Logging.{Adds}
 use Rattle.chess_arbiter.proofs.log.Pending.add_shown.Given as goal
 
 -- what was written, with what is left, is all of it

@@ -1,5 +1,5 @@
 use Rattle.std.proofs.Common.{◌≡◌, ℕ, List, ◌++◌, drop}
-use Rattle.chess_arbiter.specs.Log.{Adds}
+use Rattle.chess_arbiter.specs.ties.Logging.{Adds}
 use Rattle.chess_arbiter.proofs.log.Pending.add_text.Given as goal
 
 -- what was written, with what is left, is all of it

@@ -3,7 +3,7 @@
 use Rattle.std.proofs.Common.{arith, sym, subst, None, ◌∙◌}
 use Rattle.byte_devices.specs.declared.traits.ReadFault.{ReadFault}
 use Rattle.chess_cecp.specs.Lines.{Held}
-use Rattle.chess_cecp.specs.Next.{HeldLine}
+use Rattle.chess_cecp.specs.ties.Kept.{HeldLine}
 use Rattle.chess_cecp.proofs.Reading.{piece_on, end_none, end_last, both_empty}
 use Rattle.chess_cecp.proofs.Trims.{empty_by_length}
 use Rattle.chess_cecp.proofs.lines.Lines.read_line.Goals as goal

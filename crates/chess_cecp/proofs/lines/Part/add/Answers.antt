@@ -1,6 +1,6 @@
 -- A byte past the last that is kept: whichever it is, the lines are the same (Parts.overflow_same).
 use Rattle.std.proofs.Common.{arith, ◌≡◌, ◌++◌, ◌∷◌, [], length, List, ℕ, subst}
-use Rattle.chess_cecp.specs.Next.{SameLines}
+use Rattle.chess_cecp.specs.ties.Kept.{SameLines}
 use Rattle.chess_cecp.proofs.Parts.{overflow_same}
 use Rattle.chess_cecp.proofs.lines.Part.add.Goals as goal
 

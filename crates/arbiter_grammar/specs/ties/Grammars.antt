@@ -1,0 +1,11 @@
+-- The grammars that code builds: each is that of the definitions, with some names of variants in memory.
+use Rattle.std.specs.Prelude.{◌≡◌}
+use Rattle.clap.specs.Words.{App}
+use Rattle.arbiter_grammar.specs.Grammar.{Lent, AreVariants, match_app, arbiter_app}
+
+-- a grammar is that of a match, or the whole one, with some such names
+abbrev pub GivesMatchApp : App → Type 0
+GivesMatchApp app = (names : Lent) × AreVariants names × (app ≡ match_app names)
+
+abbrev pub GivesArbiterApp : App → Type 0
+GivesArbiterApp app = (names : Lent) × AreVariants names × (app ≡ arbiter_app names)

@@ -1,0 +1,42 @@
+-- What arguments ask for, and which of them are refused.
+use Rattle.std.specs.Prelude.{◌≡◌, List, [], codes, false}
+use Rattle.std.specs.List.{list_any}
+use Rattle.clap.specs.Words.{Kinds, Row, Text}
+use Rattle.clap.specs.Facts.{explicit_source}
+use Rattle.arbiter_grammar.specs.Grammar.{Lent, asked, faults_in}
+use Rattle.arbiter_words.specs.declared.plan.Plan.{Plan}
+use Rattle.arbiter_words.specs.declared.plan.Plan.TheVariants.{Session, Verify, Stub, Match}
+use Rattle.arbiter_words.specs.declared.plan.VerifyPlan.{VerifyPlan}
+use Rattle.arbiter_words.specs.Plans.{verify_plan_of, IsPlanOf}
+
+-- the command that a plan is asked for by
+abbrev pub command_name : Plan → Text
+command_name Session = codes "session"
+command_name (Verify v) = codes "verify"
+command_name (Stub words) = codes "stub"
+command_name (Match plan) = codes "match"
+
+abbrev pub PlansAreNamed : Type 0
+PlansAreNamed = (p : Text × List Row) (plan : Plan) → IsPlanOf p plan → p.0 ≡ command_name plan
+
+-- a plan to verify has the flags that the arguments set
+abbrev pub VerifyIsAsSpelled : Type 0
+VerifyIsAsSpelled = (p : Text × List Row) (v : VerifyPlan) → IsPlanOf p (Verify v) → v ≡ verify_plan_of p.1
+
+-- the arguments are taken, and ask for the command of that name, with none of its own arguments given
+pub record AskFor (words : List Text) (name : Text) : Type 0 where
+  pub taken : (names : Lent) → faults_in names words ≡ []
+  pub named : (names : Lent) → (asked names words).0 ≡ name
+  pub bare : (names : Lent) → list_any (λ r. explicit_source r.source) (asked names words).1 ≡ false
+
+-- the arguments are refused, and by one of these kinds
+abbrev pub AreRefused : List Text → Kinds → Type 0
+AreRefused words kinds = (names : Lent) → faults_in names words ≡ kinds
+
+-- as `verify` alone verifies
+abbrev pub bare_plan : VerifyPlan
+bare_plan = record { keep_going = false; quiet = false; strict = false }
+
+-- the arguments ask for this
+abbrev pub VerifyAsBare : List Text → Type 0
+VerifyAsBare words = (names : Lent) → verify_plan_of (asked names words).1 ≡ bare_plan

@@ -1,0 +1,52 @@
+-- What code adds to a log, and a log before as a text.
+use Rattle.std.specs.Prelude.{◌≡◌, ℕ, ◌==◌, false, if◌then◌else◌, List, [], ◌∷◌, ◌++◌, Option, Some, None}
+use Rattle.chess_base.specs.declared.man.Colour.{Colour}
+use Rattle.chess_base.specs.declared.man.Colour.TheVariants.{White, Black}
+use Rattle.chess_base.specs.Men.{same_colour}
+use Rattle.byte_devices.specs.Devices.{OutputState}
+use Rattle.chess_match.specs.Notes.{Note}
+use Rattle.chess_arbiter.specs.declared.log.Pending.{Pending}
+use Rattle.chess_arbiter.specs.declared.log.LogState.{LogState}
+use Rattle.chess_arbiter.specs.Log.{after_note, log_start, log_text, LogSeen, Logs}
+
+abbrev pub after_notes : LogState → List Note → LogState
+after_notes s [] = s
+after_notes s (n ∷ notes) = after_notes (after_note s n) notes
+
+-- this text was logged after what was logged before
+pub record Adds (o o' : OutputState) (p p' : Pending) (more : List ℕ) : Type 0 where
+  pub after : (from : LogSeen) (text : List ℕ) → Logs from.broken p.broken from.output o p.bytes.items text
+      → Logs from.broken p'.broken from.output o' p'.bytes.items (text ++ more)
+
+-- from that on the log of these notes was logged, and the first engine has that side
+pub record IsLog (first : Colour) (from : LogSeen) (side : Colour) (o : OutputState) (p : Pending) (state : LogState)
+    (notes : List Note) : Type 0 where
+  pub sided : side ≡ first
+  pub written : Logs from.broken p.broken from.output o p.bytes.items (log_text first notes)
+  pub reached : state ≡ after_notes log_start notes
+
+-- ---- what a log began with, as a text: a witness is known by a text that it held before
+
+abbrev pub text_of_bytes : Option (List ℕ) → List ℕ
+text_of_bytes None = []
+text_of_bytes (Some bytes) = 0 ∷ bytes
+
+abbrev pub bytes_of_text : List ℕ → Option (List ℕ)
+bytes_of_text [] = None
+bytes_of_text (_ ∷ bytes) = Some bytes
+
+-- the side of the first engine, and the log before
+abbrev pub text_of_log : Colour → LogSeen → List ℕ
+text_of_log first l = (if same_colour first White then 1 else 0) ∷ (if l.broken then 1 else 0)
+    ∷ l.output.failure_count ∷ l.output.unflushed ∷ text_of_bytes l.output.known_bytes
+
+abbrev pub first_of_text : List ℕ → Colour
+first_of_text [] = White
+first_of_text (c ∷ _) = if c == 1 then White else Black
+
+abbrev pub log_of_text : List ℕ → LogSeen
+log_of_text (_ ∷ b ∷ failures ∷ unflushed ∷ rest) = record {
+  output = record { known_bytes = bytes_of_text rest; failure_count = failures; unflushed = unflushed };
+  broken = b == 1;
+}
+log_of_text _ = record { output = record { known_bytes = None; failure_count = 0; unflushed = 0 }; broken = false }

@@ -1,0 +1,66 @@
+-- What code does for one game of a match, and for all of them.
+use Rattle.std.specs.Prelude.{◌≡◌, ℕ, if◌then◌else◌, List, Option, None, Some, Result, Ok, Err}
+use Rattle.std.specs.Borrow.{Bor}
+use Rattle.arbiter_words.specs.declared.plan.MatchPlan.{MatchPlan}
+use Rattle.chess_base.specs.declared.man.Colour.{Colour}
+use Rattle.chess_base.specs.declared.setup.Setup.{Setup}
+use Rattle.byte_devices.specs.Devices.{OutputState, BreaksOff, Sent}
+use Rattle.chess_game.specs.Game.{Seen}
+use Rattle.engine_lines.specs.Levels.{LevelSeen}
+use Rattle.chess_match.specs.Notes.{Note}
+use Rattle.chess_match.specs.Run.{Ports, Flushed}
+use Rattle.chess_match.specs.declared.run.MatchEnd.{MatchEnd}
+use Rattle.chess_arbiter.specs.Log.{LogSeen, Logged, RanNoted, log_text}
+use Rattle.chess_arbiter.specs.declared.engine.StartFault.{StartFault}
+use Rattle.chess_arbiter.specs.declared.engine.StartFault.TheVariants as start
+use Rattle.chess_arbiter.specs.declared.games.GamesFault.{GamesFault}
+use Rattle.chess_arbiter.specs.declared.games.GamesFault.TheVariants.{WriteFailed, NoMemory, CanNotStart}
+use Rattle.chess_arbiter.specs.declared.games.Played.{Played}
+use Rattle.chess_arbiter.specs.Games.{first_side, GameTold, IsOfPlan, game_text, IsStartFault, game_texts, LogsGames, score_of, EndsGames, BrokeOff}
+
+-- the side of the first engine, where the plan asks for a log
+abbrev pub logged_side : MatchPlan → ℕ → Option Colour
+logged_side plan number = if plan.log then Some (first_side number) else None
+
+-- a game of these notes was logged, where a log is asked for; the first engine has that side
+abbrev pub LogsGame : Option Colour → LogSeen → LogSeen → List Note → Type 0
+LogsGame None l l' notes = l' ≡ l
+LogsGame (Some first) l l' notes = Logged l l' (log_text first notes)
+
+-- a match ran as `Ran` says, and was logged where a log is asked for
+abbrev pub Relayed : Option Colour → LogSeen → LogSeen → Setup → LevelSeen → Seen → Seen → MatchEnd → Ports → Ports
+    → (ℕ → Option ℕ) → (ℕ → Option ℕ) → Type 0
+Relayed first l l' start level g g' end w w' coming coming' =
+    (notes : List Note) × RanNoted notes start level g g' end w w' coming coming' × LogsGame first l l' notes
+
+-- these were White's and Black's engines, by their ports before; the game was logged where a log is asked for
+abbrev pub IsMatchEndOf : Option Colour → LogSeen → LogSeen → Setup → LevelSeen → Seen → Seen → MatchEnd → Ports
+    → Type 0
+IsMatchEndOf log l l' start level g g' end w =
+    (notes : List Note) × (w' : Ports) × (coming : ℕ → Option ℕ) × (coming' : ℕ → Option ℕ)
+    × RanNoted notes start level g g' end w w' coming coming' × LogsGame log l l' notes
+
+-- out of memory is reported as such, and all else by the engine's command
+abbrev pub TellsStart : StartFault → List ℕ → GamesFault → Type 0
+TellsStart start.NoMemory command fault = fault ≡ NoMemory
+TellsStart start.CanNotStart command fault = (c : Bor (List ℕ)) × (fault ≡ CanNotStart c) × (c.now ≡ command)
+
+-- the game with that number was played and logged, and its text was written and flushed; or its engines could not be
+-- started, and nothing was written; or a beginning of its text was
+abbrev pub PlayedOne : MatchPlan → ℕ → OutputState → OutputState → LogSeen → LogSeen → Result MatchEnd GamesFault
+    → Type 0
+PlayedOne plan number w w' l l' (Ok end) =
+    (game : Seen) × (notes : List Note) × IsOfPlan plan (record { game = game; end = end; notes = notes })
+    × Sent w w' (game_text plan number (record { game = game; end = end; notes = notes }))
+    × LogsGame (logged_side plan number) l l' notes
+PlayedOne plan number w w' l l' (Err WriteFailed) =
+    (told : GameTold) × IsOfPlan plan told × BreaksOff w w' (game_text plan number told)
+    × LogsGame (logged_side plan number) l l' told.notes
+PlayedOne plan number w w' l l' (Err fault) = IsStartFault plan number fault × (w' ≡ w) × (l' ≡ l)
+
+-- games were played, each was written and logged, and the score counts them
+abbrev pub HasPlayed : MatchPlan → OutputState → OutputState → LogSeen → LogSeen → Result Played GamesFault → Type 0
+HasPlayed plan w w' l l' (Ok played) =
+    (games : List GameTold) × EndsGames plan games played.fault × (played.score ≡ score_of games)
+    × Flushed w w' (game_texts plan 1 games) × LogsGames plan.log l l' games
+HasPlayed plan w w' l l' (Err fault) = BrokeOff plan w w' l l' fault

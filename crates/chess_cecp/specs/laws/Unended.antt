@@ -1,0 +1,8 @@
+-- Bytes that end no line.
+use Rattle.std.specs.Prelude.{◌≢◌, ℕ, List, [], ◌∷◌}
+use Rattle.chess_base.specs.Letters.{new_line}
+
+-- no byte is 10
+abbrev pub HasNoEnd : List ℕ → Type 0
+HasNoEnd [] = Unit {0}
+HasNoEnd (c ∷ cs) = (c ≢ new_line) × HasNoEnd cs

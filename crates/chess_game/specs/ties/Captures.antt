@@ -1,0 +1,9 @@
+-- Whether a pawn captures en passant, as code asks it.
+use Rattle.std.specs.Prelude.{ℕ, Bool, ◌&&◌, None}
+use Rattle.chess_base.specs.declared.setup.Setup.{Setup}
+use Rattle.chess_base.specs.Moves.{is_en_passant, is_legal}
+use Rattle.chess_base.specs.MoveList.{triple}
+
+-- the pawn on a captures en passant on b, and that is legal
+abbrev pub captures_legally : Setup → ℕ → ℕ → Bool
+captures_legally p b a = is_en_passant p (triple a b None) && is_legal p (triple a b None)

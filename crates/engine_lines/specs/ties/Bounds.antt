@@ -1,0 +1,16 @@
+-- How great the numbers of a level and of its clocks are.
+use Rattle.std.specs.Prelude.{◌≤◌}
+use Rattle.engine_lines.specs.Levels.{LevelSeen, allotted}
+use Rattle.chess_game.specs.declared.game.TheConstants.{MOST_MOVES}
+use Rattle.engine_lines.specs.Clocks.{Spent}
+
+-- no number of a level is greater than can be written
+pub record IsLevel (level : LevelSeen) : Type 0 where
+  pub moves : level.moves ≤ 999
+  pub base : level.base ≤ 59999
+  pub increment : level.increment ≤ 999
+
+-- no side used more than it was given
+pub record IsWithin (level : LevelSeen) (s : Spent) : Type 0 where
+  pub moves : s.moves ≤ MOST_MOVES
+  pub used : s.used ≤ allotted level s.moves
