@@ -5,7 +5,7 @@ ghost use Rattle.chess_base.specs.Castling.{home_square, king_home_file, rook_fi
 
 use crate::attack::{is_attacked, is_between, is_man};
 use crate::man::{CastlingSide, Colour, ColourRights, Kind, Man, Move, Rights, Variant};
-use crate::rules::first_rank;
+use crate::legality::first_rank;
 use crate::setup::Setup;
 use crate::square::Square;
 

@@ -6,7 +6,7 @@ ghost use Rattle.chess_base.specs.Moves.{promotion_fits, is_double_advance, is_e
 
 use crate::attack::{attacks, is_man, is_of};
 use crate::man::{Colour, Kind, Move};
-use crate::rules::{first_rank, man_on};
+use crate::legality::{first_rank, man_on};
 use crate::setup::Setup;
 use crate::square::is_square;
 

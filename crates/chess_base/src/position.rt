@@ -13,7 +13,7 @@ use crate::attack::is_attacked;
 use crate::fault::FenFault;
 use crate::initial::initial_men;
 use crate::man::{Colour, ColourRights, Man, Move, Rights, Variant};
-use crate::rules::is_legal;
+use crate::legality::is_legal;
 use crate::setup::Setup;
 use crate::sound::setup_fault;
 use crate::square::Square;

@@ -13,7 +13,7 @@ ghost use Rattle.chess_moves.specs.Sets.{has};
 use crate::bits::Bits;
 use crate::line::Line;
 use crate::table::Shape;
-use chess_base::for_boards::{Castle, Steps};
+use chess_base::rules::{Castle, Steps};
 use chess_base::{Kind, Man, Move, Square, Variant};
 use chess_moves::{Board, SquareSet};
 

@@ -15,7 +15,7 @@ ghost use Rattle.chess_moves.specs.Sets.{has, members};
 use crate::bits::Bits;
 use crate::table::Shape;
 use crate::targets::is_pawn;
-use chess_base::for_boards::{is_man, pawn_rank};
+use chess_base::rules::{is_man, pawn_rank};
 use chess_base::{Kind, Move, Square};
 use chess_moves::{Board, SquareSet, would_promote};
 

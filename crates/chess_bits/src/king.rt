@@ -11,7 +11,7 @@ ghost use Rattle.chess_moves.specs.Sets.{has};
 
 use crate::bits::Bits;
 use crate::placing::steps_made;
-use chess_base::for_boards::{Steps, is_man};
+use chess_base::rules::{Steps, is_man};
 use chess_base::{Kind, Move, Square};
 use chess_moves::SquareSet;
 

@@ -12,7 +12,7 @@ ghost use Rattle.chess_moves.specs.Sets.{has, HasLegalStarts};
 use crate::bits::Bits;
 use crate::reaching::reached_from;
 use crate::targets::{is_king, is_pawn};
-use chess_base::for_boards::{is_of, promotion_fits};
+use chess_base::rules::{is_of, promotion_fits};
 use chess_base::{Colour, Kind, Man, Move, Square};
 use chess_moves::{Board, SquareSet, would_promote};
 

@@ -15,7 +15,7 @@ ghost use Rattle.chess_moves.specs.Made.{IsMade};
 use crate::keys::KeyTable;
 use crate::sets::Sets;
 use crate::targets::is_pawn;
-use chess_base::for_boards::{
+use chess_base::rules::{
     Steps, fullmove_after, halfmove_after, is_man, man_that_lands, rights_after, saved_of,
     steps_back, steps_of, target_after,
 };

@@ -21,7 +21,7 @@ use crate::king::set_of;
 use crate::line::Line;
 use crate::reaching::reached_from;
 use crate::table::Shape;
-use chess_base::for_boards::{
+use chess_base::rules::{
     Castle, castle_of, castled_king_file, castled_rook_file, home_square, is_man, is_of, pawn_rank,
     right_of,
 };

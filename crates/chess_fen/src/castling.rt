@@ -5,7 +5,7 @@ ghost use Rattle.chess_fen.specs.Texts.{occurs, times, may_name_right, first_let
 ghost use Rattle.chess_fen.specs.RightNames.{side_letter, right_letter, right_named, edge_file, outer_rook, is_left_of, is_towards, named_square, only_one_of, right_after_letters, right_told};
 ghost use Rattle.chess_base.specs.Castling.{home_square, rook_file};
 
-use chess_base::for_boards::{home_square, is_man, king_square, rook_file};
+use chess_base::rules::{home_square, is_man, king_square, rook_file};
 use chess_base::{CastlingSide, Colour, Kind, Man, Square, Variant};
 
 // How often a letter occurs.

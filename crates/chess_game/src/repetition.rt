@@ -9,7 +9,7 @@ ghost use Rattle.chess_game.specs.ties.Captures.{captures_legally};
 ghost use Rattle.chess_game.specs.ties.Places.{IsKnown, HasWord, ShareWording};
 
 use crate::packed::PackedPosition;
-use chess_base::for_boards::is_en_passant;
+use chess_base::rules::is_en_passant;
 use chess_base::{ColourRights, Kind, Move, Rights, Square};
 use chess_moves::Board;
 

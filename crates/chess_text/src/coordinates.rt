@@ -6,7 +6,7 @@ ghost use Rattle.chess_base.specs.Coordinates.{small_letter_text, coordinate};
 ghost use Rattle.chess_text.specs.San.{castling_text, shown_move};
 
 use arrayvec::ArrayVec;
-use chess_base::for_boards::castling;
+use chess_base::rules::castling;
 use chess_base::{CastlingSide, Kind, Move, Position, Variant};
 
 /// The coordinate text of a move: four or five bytes.

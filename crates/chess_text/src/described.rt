@@ -4,7 +4,7 @@ ghost use Rattle.std.specs.Prelude.{◌≡◌, ◌==◌};
 ghost use Rattle.chess_text.specs.Moves.{captures, described, admits, names, tells_kind, promotes_so, has_equals, is_by_squares, is_by_letter, is_straight, is_from_file, fits, is_form};
 
 use crate::parts::{Parts, Promotion};
-use chess_base::for_boards::{castling, is_en_passant, is_of};
+use chess_base::rules::{castling, is_en_passant, is_of};
 use chess_base::{CastlingSide, Kind, Move, Setup, Square};
 
 /// A move of a position, as far as a text can describe it: its piece, squares and promotion, whether it captures, and

@@ -11,7 +11,7 @@ ghost use Rattle.chess_moves.specs.Sets.{members};
 use crate::described::{admits, captures, names};
 use crate::form::{Form, is_spelled, read_form};
 use crate::parts::Parts;
-use chess_base::for_boards::{castled_king_file, castling, home_square, right_of};
+use chess_base::rules::{castled_king_file, castling, home_square, right_of};
 use chess_base::{CastlingSide, Colour, Kind, Move, Setup, Square, Variant};
 use chess_moves::{Board, SquareSet, would_promote};
 
