@@ -11,7 +11,7 @@ use Rattle.chess_base.specs.declared.man.Move.{Move}
 use Rattle.chess_base.specs.declared.man.Variant.TheVariants.{Normal}
 use Rattle.chess_base.specs.declared.setup.Setup.{Setup}
 use Rattle.chess_base.specs.Men.{Men, man_at, is_man, same_colour, same_kind, other}
-use Rattle.chess_base.specs.Moves.{behind, is_en_passant, man_that_lands, castles_or_moves, moves_as, has_pattern, pawn_moves, second_square_emptied, men_after, rights_after, target_after, halfmove_after, fullmove_after, is_legal, after}
+use Rattle.chess_base.specs.Moves.{behind, is_en_passant, man_that_lands, castles_or_moves, moves_as, is_pseudo_legal, pawn_moves, second_square_emptied, men_after, rights_after, target_after, halfmove_after, fullmove_after, is_legal, after}
 use Rattle.chess_base.specs.Castling.{names_castling, says_castling, castling, castle_by, castle_of, mover_to, rook_from, rook_to, lands_on, castling_rook_to, castled_king_file, right_of, right_stands, right_stands_at, home_square, king_home_file}
 use Rattle.chess_base.specs.Steps.{men_stepped}
 use Rattle.chess_base.specs.laws.Normal.{normal_right_stands_at, normal_says_castling, normal_castling, normal_castle_of, normal_moves_as, normal_has_pattern, normal_men_after, normal_after, normal_is_legal, NormalIsKept}
@@ -52,8 +52,8 @@ moves_kept p e m None = refl
 moves_kept p e m (Some x) = ap (λ k. same_colour p.side x.colour
     && cond (same_kind Pawn x.kind) (pawn_moves p m) (castles_or_moves p m k)) (castle_kept p e m)
 
-pattern_kept : (p : Setup) → p.variant ≡ Normal → (m : Move) → has_pattern p m ≡ normal_has_pattern p m
-unfolding has_pattern normal_has_pattern
+pattern_kept : (p : Setup) → p.variant ≡ Normal → (m : Move) → is_pseudo_legal p m ≡ normal_has_pattern p m
+unfolding is_pseudo_legal normal_has_pattern
 pattern_kept p e m = ap (λ b. nat_lt m.from 64 && nat_lt m.to 64 && b) (moves_kept p e m (man_at p.men m.from))
 
 -- the steps of a move, by the castling that it is

@@ -17,7 +17,7 @@ use Rattle.chess_base.specs.Men.{Men, man_at, other, is_of, is_man, same_colour,
 use Rattle.chess_base.specs.Attacks.{is_rank_ahead, is_in_check}
 use Rattle.chess_base.specs.Sound.{IsSound, no_pawn_on_end_ranks, pawn_may_stand}
 use Rattle.chess_base.specs.Castling.{castle_from, lands_on, castles}
-use Rattle.chess_base.specs.Moves.{man_that_lands, man_moves, has_pattern, is_legal, men_after, halfmove_after, resets_clock, after}
+use Rattle.chess_base.specs.Moves.{man_that_lands, man_moves, is_pseudo_legal, is_legal, men_after, halfmove_after, resets_clock, after}
 use Rattle.chess_base.specs.laws.Reserve.{ranks_to_go, weight, reserve}
 use Rattle.chess_base.proofs.OverSquares.{each_square-at}
 use Rattle.chess_base.proofs.MenAfter.{length-from_below, get_or-from_below}
@@ -273,7 +273,7 @@ lands_by p m sound moves (PawnMoves man fits kind) = let less = pawn_lands p m s
 pub never_grows : (p : Setup) (m : Move) → IsSound p → is_legal p m ≡ true → reserve (after p m).men ≤ reserve p.men
 unfolding is_legal after Spends Lands
 never_grows p m sound legal =
-    let h = change_of p m sound (and_parts (has_pattern p m) (not (is_in_check (men_after p m) p.side)) legal).0 in
+    let h = change_of p m sound (and_parts (is_pseudo_legal p m) (not (is_in_check (men_after p m) p.side)) legal).0 in
     let spent = spends p m sound h in
     let lands = lands_by p m sound h.moves h.moves.kind in
     omega (arith, spent, lands)
@@ -312,7 +312,7 @@ pub falls_for_good : (p : Setup) (m : Move) → IsSound p → is_legal p m ≡ t
     → reserve (after p m).men < reserve p.men
 unfolding is_legal after resets_clock
 falls_for_good p m sound legal e =
-    let h = change_of p m sound (and_parts (has_pattern p m) (not (is_in_check (men_after p m) p.side)) legal).0 in
+    let h = change_of p m sound (and_parts (is_pseudo_legal p m) (not (is_in_check (men_after p m) p.side)) legal).0 in
     elim (or_cases (is_man p.side Pawn (man_at p.men m.from)) (is_of (other p.side) (man_at p.men m.to))
     (clock_was_reset p m e)) [
       | inl man ↦ pawn_falls p m sound h man h.moves.kind

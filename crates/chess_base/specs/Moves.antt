@@ -70,8 +70,8 @@ moves_as p m (Some x) =
 
 -- the move has the pattern of a piece's moves: it is pseudo-legal, legal unless it leaves its own king in check;
 -- of castling it is asked here already that no square on the king's way is attacked
-unfoldable pub has_pattern : Setup → Move → Bool
-has_pattern p m = nat_lt m.from 64 && nat_lt m.to 64 && moves_as p m (man_at p.men m.from)
+unfoldable pub is_pseudo_legal : Setup → Move → Bool
+is_pseudo_legal p m = nat_lt m.from 64 && nat_lt m.to 64 && moves_as p m (man_at p.men m.from)
 
 -- the piece that is on the end square: the mover, or what the pawn became
 abbrev pub man_that_lands : Option Man → Option Kind → Option Man
@@ -151,4 +151,4 @@ after p m = record {
 
 -- the move has a pattern and leaves the mover's king unattacked (3.9.2)
 unfoldable pub is_legal : Setup → Move → Bool
-is_legal p m = has_pattern p m && not (is_in_check (after p m).men p.side)
+is_legal p m = is_pseudo_legal p m && not (is_in_check (after p m).men p.side)

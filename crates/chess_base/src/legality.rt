@@ -4,7 +4,7 @@
 ghost use Rattle.std.specs.Prelude.{◌≡◌, Bool};
 ghost use Rattle.chess_base.specs.Men.{man_at, first_rank};
 ghost use Rattle.chess_base.specs.Sound.{IsSound};
-ghost use Rattle.chess_base.specs.Moves.{man_moves, has_pattern, is_legal};
+ghost use Rattle.chess_base.specs.Moves.{man_moves, is_pseudo_legal, is_legal};
 
 use crate::after::men_after;
 use crate::attack::{attacks, is_in_check, is_of};
@@ -45,9 +45,9 @@ fn man_moves(setup: &Setup, m: &Move) -> bool
 
 // Whether the move is pseudo-legal: its piece goes so, whatever becomes of the king (Laws of Chess 2023,
 // articles 3.1 to 3.8).
-#[tactic(auto, unfolding(crate::specs::Moves::has_pattern))]
-pub(crate) fn has_pattern(setup: &Setup, m: &Move) -> bool
-    ensures { result ≡ has_pattern setup.now m.now }
+#[tactic(auto, unfolding(crate::specs::Moves::is_pseudo_legal))]
+pub(crate) fn is_pseudo_legal(setup: &Setup, m: &Move) -> bool
+    ensures { result ≡ is_pseudo_legal setup.now m.now }
 {
     // The prover learns from its number that the end square is on the board.
     let _end = m.to.number();
@@ -72,5 +72,5 @@ pub fn is_legal(setup: &Setup, m: &Move) -> bool
     requires { IsSound setup.now }
     ensures { result ≡ is_legal setup.now m.now }
 {
-    has_pattern(setup, m) && !is_in_check(&men_after(setup, m), setup.side)
+    is_pseudo_legal(setup, m) && !is_in_check(&men_after(setup, m), setup.side)
 }

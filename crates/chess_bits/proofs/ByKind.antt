@@ -15,7 +15,7 @@ use Rattle.chess_base.specs.Attacks.{could_capture, is_in_check}
 use Rattle.chess_base.specs.Castling.{castle_of}
 use Rattle.chess_base.specs.Men.{man_at, is_of, is_man, kind_number, same_colour, same_kind}
 use Rattle.chess_base.specs.MoveList.{triple}
-use Rattle.chess_base.specs.Moves.{has_pattern, is_legal, after, castles_or_moves, man_moves, promotion_fits}
+use Rattle.chess_base.specs.Moves.{is_pseudo_legal, is_legal, after, castles_or_moves, man_moves, promotion_fits}
 use Rattle.chess_base.specs.Squares.{is_square}
 use Rattle.chess_base.proofs.MenFacts.{is_man-kind}
 use Rattle.chess_moves.specs.Sets.{has, HasOrigins}
@@ -30,7 +30,7 @@ use Rattle.chess_bits.proofs.TargetsOf.{man_told, no_king_says, none_castles, st
 -- a piece other than a pawn has the pattern of a move where it moves or castles
 pub man_pattern : (p : Setup) (kind : Kind) (a b : ℕ) → is_man p.side kind (man_at p.men a) ≡ true
     → same_kind Pawn kind ≡ false → a < 64 → b < 64
-    → castles_or_moves p (triple a b None) (castle_of p (triple a b None)) ≡ has_pattern p (triple a b None)
+    → castles_or_moves p (triple a b None) (castle_of p (triple a b None)) ≡ is_pseudo_legal p (triple a b None)
 man_pattern p kind a b man no_pawn low high =
     let at = man_told p.side kind (man_at p.men a) man in
     sym (officer_goes p a b _ at refl no_pawn low high)
@@ -40,7 +40,7 @@ man_pattern p kind a b man no_pawn low high =
 
 -- and an officer where it attacks what is no own piece
 pub officer_pattern : (p : Setup) (kind : Kind) (a b : ℕ) → IsOfficer p.side kind (man_at p.men a) → a < 64 → b < 64
-    → (could_capture p.men p.side kind a b && not (is_of p.side (man_at p.men b))) ≡ has_pattern p (triple a b None)
+    → (could_capture p.men p.side kind a b && not (is_of p.side (man_at p.men b))) ≡ is_pseudo_legal p (triple a b None)
 officer_pattern p kind a b h low high =
     let at = man_told p.side kind (man_at p.men a) h.man in
     let parts = or_parts (same_kind King kind) (same_kind Pawn kind) h.usual in
@@ -52,12 +52,12 @@ officer_pattern p kind a b h low high =
     ∙ sym (ap (castles_or_moves p (triple a b None)) none)
     ∙ man_pattern p kind a b h.man parts.1 low high
 
-pub no_pattern : (p : Setup) (m : Move) → has_pattern p m ≡ false → is_legal p m ≡ false
+pub no_pattern : (p : Setup) (m : Move) → is_pseudo_legal p m ≡ false → is_legal p m ≡ false
 unfolding is_legal
-no_pattern p m h = and_left (has_pattern p m) (not (is_in_check (after p m).men p.side)) h
+no_pattern p m h = and_left (is_pseudo_legal p m) (not (is_in_check (after p m).men p.side)) h
 
 pub officer_plain : (p : Setup) (kind : Kind) (a b : ℕ) → IsOfficer p.side kind (man_at p.men a)
-    → has_pattern p (triple a b None) ≡ true → StepsPlainly p a b
+    → is_pseudo_legal p (triple a b None) ≡ true → StepsPlainly p a b
 officer_plain p kind a b h goes_so =
     let parts = or_parts (same_kind King kind) (same_kind Pawn kind) h.usual in
     record {

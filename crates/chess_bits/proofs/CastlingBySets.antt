@@ -17,7 +17,7 @@ use Rattle.chess_base.specs.Attacks.{is_attacked}
 use Rattle.chess_base.specs.Castling.{home_square, king_home_file, rook_file, castled_king_file, castled_rook_file, right_of, king_square, is_to_side, is_beside, stand_for_castling, right_stands, names_castling_with, castling, castle_from, castle_of, castles, is_on_way, castling_crosses, castling_way_is_empty, castling_way_is_safe, castling_rook_to, lands_on}
 use Rattle.chess_base.specs.Men.{Men, man_at, other, is_man, first_rank}
 use Rattle.chess_base.specs.MoveList.{triple}
-use Rattle.chess_base.specs.Moves.{has_pattern, is_legal, castles_or_moves, promotion_fits, man_that_lands, second_square_emptied, steps_of}
+use Rattle.chess_base.specs.Moves.{is_pseudo_legal, is_legal, castles_or_moves, promotion_fits, man_that_lands, second_square_emptied, steps_of}
 use Rattle.chess_base.specs.Sound.{IsSound}
 use Rattle.chess_base.specs.Squares.{rank, is_between, each_below, some_below, each_square, some_square}
 use Rattle.chess_base.proofs.Castlings.{right_stands_of, right_that_stands}
@@ -191,7 +191,7 @@ fits_none : (t : Bool) → t ≡ false → promotion_fits t None ≡ true
 fits_none t e = rw e refl
 
 castle_pattern_by : (p : Setup) (a b : ℕ) (k : Castle) → IsSound p → b < 64 → castle_of p (triple a b None) ≡ Some k
-    → has_pattern p (triple a b None) ≡ (castling_way_is_empty p.men k && castling_way_is_safe p.men p.side k)
+    → is_pseudo_legal p (triple a b None) ≡ (castling_way_is_empty p.men k && castling_way_is_safe p.men p.side k)
 unfolding castles
 castle_pattern_by p a b k sound high e =
     let king = king_goes p (triple a b None) k e (castling p (triple a b None)) refl in
@@ -205,9 +205,9 @@ castle_pattern_by p a b k sound high e =
 
 pub castle_pattern : (p : Setup) (m : Move) (k : Castle) → IsSound p → m.to < 64 → m.promotion ≡ None
     → castle_of p m ≡ Some k
-    → has_pattern p m ≡ (castling_way_is_empty p.men k && castling_way_is_safe p.men p.side k)
+    → is_pseudo_legal p m ≡ (castling_way_is_empty p.men k && castling_way_is_safe p.men p.side k)
 castle_pattern p m k sound high none e =
-    ap (λ o. has_pattern p (triple m.from m.to o)) none
+    ap (λ o. is_pseudo_legal p (triple m.from m.to o)) none
     ∙ castle_pattern_by p m.from m.to k sound high (ap (λ o. castle_of p (triple m.from m.to o)) (sym none) ∙ e)
 
 -- and its steps
@@ -230,6 +230,6 @@ castle_steps p m k e none =
     ∙ ap (λ o. man_that_lands o None) (man_told p.side King (man_at p.men m.from) king) in
     rw (still, e, mover) refl
 
-pub not_castling : (p : Setup) (m : Move) → has_pattern p m ≡ false → false ≡ is_legal p m
+pub not_castling : (p : Setup) (m : Move) → is_pseudo_legal p m ≡ false → false ≡ is_legal p m
 unfolding is_legal
 not_castling p m h = rw h refl

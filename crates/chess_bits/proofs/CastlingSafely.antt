@@ -16,7 +16,7 @@ use Rattle.chess_base.specs.declared.setup.Setup.{Setup}
 use Rattle.chess_base.specs.Attacks.{is_clear, could_capture_as, attacks, is_attacked}
 use Rattle.chess_base.specs.Castling.{home_square, king_home_file, rook_file, castled_king_file, castled_rook_file, right_of, names_castling_with, stand_for_castling, right_stands, castling, castle_from, castle_of, is_on_way, castling_way_is_empty, castling_way_is_safe, lands_on, castling_rook_to, mover_to}
 use Rattle.chess_base.specs.Men.{Men, man_at, other, is_of, is_man}
-use Rattle.chess_base.specs.Moves.{has_pattern, is_legal, man_that_lands, men_after, second_square_emptied}
+use Rattle.chess_base.specs.Moves.{is_pseudo_legal, is_legal, man_that_lands, men_after, second_square_emptied}
 use Rattle.chess_base.specs.Sound.{IsSound}
 use Rattle.chess_base.specs.Squares.{is_between, is_between_on_file, is_between_on_rank, is_between_on_diagonal}
 use Rattle.chess_base.proofs.Castlings.{right_stands_of, right_that_stands}
@@ -202,7 +202,7 @@ home_starts p m w r sound normal says right =
 
 safe_by : (p : Setup) (m : Move) (w : CastlingSide) (r : ℕ) → IsSound p → p.variant ≡ Normal → castling p m ≡ Some w
     → right_of p.rights p.side w ≡ Some r
-    → castle_of p m ≡ Some (castle_from p.side w m.from r) → has_pattern p m ≡ true
+    → castle_of p m ≡ Some (castle_from p.side w m.from r) → is_pseudo_legal p m ≡ true
     → castling_way_is_safe p.men p.side (castle_from p.side w m.from r) ≡ true
     → is_attacked (men_after p m) (home_square p.side (castled_king_file w)) (other p.side) ≡ false
 safe_by p m w r sound normal says right e pattern safe =
@@ -218,7 +218,7 @@ safe_by p m w r sound normal says right e pattern safe =
     (way_end p.men p.side k safe (king_end p.side w))
 
 by_side : (p : Setup) (m : Move) (k : Castle) → IsSound p → p.variant ≡ Normal → castle_of p m ≡ Some k
-    → has_pattern p m ≡ true → castling_way_is_safe p.men p.side k ≡ true
+    → is_pseudo_legal p m ≡ true → castling_way_is_safe p.men p.side k ≡ true
     → (o : Option CastlingSide) → castling p m ≡ o → (is_attacked (men_after p m) k.king_to (other p.side) ≡ false)
     × (k.king_to < 64)
 by_side p m k sound normal e pattern safe None none = let gone = no_castle p m none in absurd cc
@@ -237,7 +237,7 @@ pub castles_safely : (p : Setup) (m : Move) (k : Castle) → IsSound p → p.var
     → (castling_way_is_empty p.men k && castling_way_is_safe p.men p.side k) ≡ true → true ≡ is_legal p m
 unfolding lands_on
 castles_safely p m k sound normal e high none free =
-    let pattern : has_pattern p m ≡ true = castle_pattern p m k sound high none e ∙ free in
+    let pattern : is_pseudo_legal p m ≡ true = castle_pattern p m k sound high none e ∙ free in
     let safe = (and_parts (castling_way_is_empty p.men k) (castling_way_is_safe p.men p.side k) free).1 in
     let told = by_side p m k sound normal e pattern safe (castling p m) refl in
     let king = king_goes p m k e (castling p m) refl in

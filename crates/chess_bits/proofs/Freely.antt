@@ -14,7 +14,7 @@ use Rattle.chess_base.specs.Attacks.{attacks, is_clear, is_in_check, is_attacked
 use Rattle.chess_base.specs.Castling.{castle_of, castling_rook_to}
 use Rattle.chess_base.specs.Men.{Men, man_at, same_kind, other, is_of, is_man, forward, first_rank, pawn_rank}
 use Rattle.chess_base.specs.MoveList.{triple}
-use Rattle.chess_base.specs.Moves.{has_pattern, is_legal, is_en_passant, men_after, second_square_emptied, pawn_advances, pawn_captures}
+use Rattle.chess_base.specs.Moves.{is_pseudo_legal, is_legal, is_en_passant, men_after, second_square_emptied, pawn_advances, pawn_captures}
 use Rattle.chess_base.specs.Sound.{IsSound, no_pawn_on_end_ranks}
 use Rattle.chess_base.specs.Squares.{rank, some_square, is_square, share_rank_or_file, share_diagonal}
 use Rattle.chess_base.proofs.Changes.{advance_goes, pawn_attack}
@@ -46,7 +46,7 @@ free_is_legal : (p : Setup) (a b king : ℕ) → IsSound p → IsFree p a → a 
 unfolding second_square_emptied castling_rook_to
 free_is_legal p a b king sound free low there one go stays no_passing =
     let m = triple a b None in
-    let pattern : has_pattern p m ≡ true = pattern_of p a b None go (rw stays refl) in
+    let pattern : is_pseudo_legal p m ≡ true = pattern_of p a b None go (rw stays refl) in
     let here : is_man p.side King (man_at p.men king) ≡ true = one king there ∙ eq-eqb king king refl in
     let no_king : is_man p.side King (man_at p.men a) ≡ false = one a low ∙ free.apart king there here in
     let no_castle : castle_of p m ≡ None = none_castles p m (no_king_says p m KingSide no_king)

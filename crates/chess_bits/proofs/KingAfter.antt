@@ -12,7 +12,7 @@ use Rattle.chess_base.specs.Men.{man_at, other, is_of, is_man}
 use Rattle.chess_base.specs.Attacks.{is_attacked, is_in_check}
 use Rattle.chess_base.specs.Squares.{is_square}
 use Rattle.chess_base.specs.Castling.{lands_on, castling_rook_to}
-use Rattle.chess_base.specs.Moves.{has_pattern, is_legal, after, man_that_lands, men_after, second_square_emptied}
+use Rattle.chess_base.specs.Moves.{is_pseudo_legal, is_legal, after, man_that_lands, men_after, second_square_emptied}
 use Rattle.chess_base.specs.Sound.{IsSound, has_one_king}
 use Rattle.chess_base.proofs.Castlings.{change_of}
 use Rattle.chess_base.proofs.CountsAfter.{one_king_after}
@@ -34,11 +34,11 @@ lands_own : (x : Man) (o : Option Kind) (c : Colour) → x.colour ≡ c → is_o
 lands_own x None c e = theirs_of c x e
 lands_own x (Some k) c e = theirs_of c (record { colour = x.colour; kind = k }) e
 
-pub mover_some : (p : Setup) (m : Move) → has_pattern p m ≡ true
+pub mover_some : (p : Setup) (m : Move) → is_pseudo_legal p m ≡ true
     → is_none (man_that_lands (man_at p.men m.from) m.promotion) ≡ false
 mover_some p m e = let moves = moves_from_pattern p m e in rw moves.at_from (lands_some moves.mover m.promotion)
 
-pub mover_own : (p : Setup) (m : Move) → has_pattern p m ≡ true
+pub mover_own : (p : Setup) (m : Move) → is_pseudo_legal p m ≡ true
     → is_of (other p.side) (man_that_lands (man_at p.men m.from) m.promotion) ≡ false
 mover_own p m e = let moves = moves_from_pattern p m e in
     rw moves.at_from (lands_own moves.mover m.promotion p.side moves.own)
@@ -72,12 +72,12 @@ elsewhere p m k mover none low =
     (is_square (second_square_emptied p m) k || (m.from == k))
     (man_that_lands (man_at p.men m.from) m.promotion) (man_at p.men k) p.side mover none)
 
-one_after : (p : Setup) (m : Move) → IsSound p → has_pattern p m ≡ true → has_one_king (men_after p m) p.side ≡ true
+one_after : (p : Setup) (m : Move) → IsSound p → is_pseudo_legal p m ≡ true → has_one_king (men_after p m) p.side ≡ true
 one_after p m sound pattern = one_king_after p m p.side sound.board (change_of p m sound pattern)
     (has_king p p.side sound)
 
 -- a king that does not move stays
-pub king_stays : (p : Setup) (m : Move) (king : ℕ) → IsSound p → has_pattern p m ≡ true
+pub king_stays : (p : Setup) (m : Move) (king : ℕ) → IsSound p → is_pseudo_legal p m ≡ true
     → ((k : ℕ) → k < 64 → is_man p.side King (man_at p.men k) ≡ (k == king))
     → is_man p.side King (man_that_lands (man_at p.men m.from) m.promotion) ≡ false
     → is_man p.side King (man_at (men_after p m) king) ≡ true
@@ -112,7 +112,7 @@ king_lands p m to there low mover =
     ∙ mover
 
 -- check is an attack on that square
-pub check_after : (p : Setup) (m : Move) (king : ℕ) → IsSound p → has_pattern p m ≡ true → king < 64
+pub check_after : (p : Setup) (m : Move) (king : ℕ) → IsSound p → is_pseudo_legal p m ≡ true → king < 64
     → is_man p.side King (man_at (men_after p m) king) ≡ true
     → is_in_check (men_after p m) p.side ≡ is_attacked (men_after p m) king (other p.side)
 check_after p m king sound pattern low here =
@@ -120,6 +120,6 @@ check_after p m king sound pattern low here =
     (alone (men_after p m) p.side king (length-men_after p m) (one_after p m sound pattern) here)
 
 -- so a move with a pattern is legal
-pub legal_is : (p : Setup) (m : Move) → has_pattern p m ≡ true → not (is_in_check (men_after p m) p.side) ≡ is_legal p m
+pub legal_is : (p : Setup) (m : Move) → is_pseudo_legal p m ≡ true → not (is_in_check (men_after p m) p.side) ≡ is_legal p m
 unfolding is_legal after
 legal_is p m e = rw e refl

@@ -19,7 +19,7 @@ use Rattle.chess_base.specs.Attacks.{is_clear, could_capture, could_capture_as, 
 use Rattle.chess_base.specs.Castling.{home_square, king_home_file, castled_king_file, right_of, names_castling, says_castling, castle_of, mover_to, lands_on, castling_rook_to}
 use Rattle.chess_base.specs.Men.{Men, man_at, other, is_of, is_man}
 use Rattle.chess_base.specs.MoveList.{triple, squares}
-use Rattle.chess_base.specs.Moves.{has_pattern, is_legal, is_en_passant, man_moves, men_after, second_square_emptied}
+use Rattle.chess_base.specs.Moves.{is_pseudo_legal, is_legal, is_en_passant, man_moves, men_after, second_square_emptied}
 use Rattle.chess_base.specs.Sound.{IsSound}
 use Rattle.chess_base.specs.Squares.{file, rank, gap, is_between, is_between_on_file, is_between_on_rank, is_between_on_diagonal}
 use Rattle.chess_base.proofs.Castlings.{right_stands_of, castling_rook_stands}
@@ -180,7 +180,7 @@ step_is p a b sound king moves low high =
     let go : goes p a b ≡ true = man_sound p a b _ at refl refl low high
     (ap (λ o. legal_or p m o (man_moves p m)) none ∙ moves) in
     let stays : would_promote p a b ≡ false = not_promoting p a b _ at refl in
-    let pattern : has_pattern p m ≡ true = pattern_of p a b None go (rw stays refl) in
+    let pattern : is_pseudo_legal p m ≡ true = pattern_of p a b None go (rw stays refl) in
     let lands : lands_on p m ≡ b = ap (mover_to m) none in
     let there : is_man p.side King (man_at (men_after p m) b) ≡ true =
     king_lands p m b (sym lands) high (ap (λ o. is_man p.side King o) (lands_same (man_at p.men a)) ∙ king) in

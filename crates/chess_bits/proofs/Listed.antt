@@ -10,7 +10,7 @@ use Rattle.chess_base.specs.declared.man.Move.{Move}
 use Rattle.chess_base.specs.declared.setup.Setup.{Setup}
 use Rattle.chess_base.specs.Men.{man_at, is_of}
 use Rattle.chess_base.specs.MoveList.{triple, squares, moves}
-use Rattle.chess_base.specs.Moves.{has_pattern, is_legal, promotion_fits}
+use Rattle.chess_base.specs.Moves.{is_pseudo_legal, is_legal, promotion_fits}
 use Rattle.chess_base.specs.Sound.{IsSound}
 use Rattle.chess_moves.specs.ties.Candidates.{moves_between, moves_from}
 use Rattle.chess_moves.specs.Promoting.{would_promote}
@@ -72,7 +72,7 @@ room_for g now whole ms s ns n e h fits =
 -- ---- legal moves
 
 pub pattern_of : (p : Setup) (a b : ℕ) (k : Option Kind) → goes p a b ≡ true → promotion_fits (would_promote p a b) k
-    ≡ true → has_pattern p (triple a b k) ≡ true
+    ≡ true → is_pseudo_legal p (triple a b k) ≡ true
 pattern_of p a b k g f = pattern_is p (triple a b k) ∙ and_from (goes p a b) (promotion_fits (would_promote p a b) k) g
     f
 

@@ -23,7 +23,7 @@ use Rattle.chess_base.specs.Before.{captured_square, man_on, saved_of}
 use Rattle.chess_base.specs.Castling.{castling_rook_to, home_square, is_beside, king_home_file, king_square, lands_on, right_of, right_stands, right_stands_at, rook_file, says_castling, stand_for_castling}
 use Rattle.chess_base.specs.Sound.{IsSound}
 use Rattle.chess_base.specs.Attacks.{is_in_check}
-use Rattle.chess_base.specs.Moves.{after, fullmove_after, halfmove_after, has_pattern, is_double_advance, is_legal, man_that_lands, men_after, resets_clock, right_after, rights_after, second_square_emptied, target_after}
+use Rattle.chess_base.specs.Moves.{after, fullmove_after, halfmove_after, is_pseudo_legal, is_double_advance, is_legal, man_that_lands, men_after, resets_clock, right_after, rights_after, second_square_emptied, target_after}
 use Rattle.chess_base.proofs.Castlings.{change_of}
 use Rattle.chess_base.proofs.Changes.{Change, Rest, Alone, WithCapture, WithRook}
 use Rattle.chess_base.proofs.MoveKinds.{is_of-mover}
@@ -225,7 +225,7 @@ shifts_from p m x e = shifts_by p m x (man_at p.men m.from) refl e
 change_legal : (p : Setup) (m : Move) → IsSound p → is_legal p m ≡ true → Change p m
 unfolding is_legal
 change_legal p m sound legal =
-    change_of p m sound (and_parts (has_pattern p m) (not (is_in_check (after p m).men p.side)) legal).0
+    change_of p m sound (and_parts (is_pseudo_legal p m) (not (is_in_check (after p m).men p.side)) legal).0
 
 not_own : (p : Setup) (m : Move) → IsPlainly p m → Rest p m → is_of p.side (man_at p.men m.to) ≡ false
 not_own p m h (Alone walk al ra) = walk.not_own

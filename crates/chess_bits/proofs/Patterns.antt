@@ -13,7 +13,7 @@ use Rattle.chess_base.specs.Attacks.{is_in_check}
 use Rattle.chess_base.specs.Castling.{castle_of, castles}
 use Rattle.chess_base.specs.Men.{man_at, other, same_colour, same_kind, is_man, is_of, first_rank}
 use Rattle.chess_base.specs.MoveList.{triple}
-use Rattle.chess_base.specs.Moves.{has_pattern, is_legal, after, moves_as, castles_or_moves, man_moves, pawn_moves, pawn_advances, pawn_captures, is_double_advance, promotion_fits}
+use Rattle.chess_base.specs.Moves.{is_pseudo_legal, is_legal, after, moves_as, castles_or_moves, man_moves, pawn_moves, pawn_advances, pawn_captures, is_double_advance, promotion_fits}
 use Rattle.chess_base.specs.Squares.{rank}
 use Rattle.chess_base.proofs.MenFacts.{same_colour-self}
 use Rattle.chess_moves.specs.Promoting.{would_promote}
@@ -82,8 +82,8 @@ and_joined true y z = refl
 and_joined false y z = refl
 
 pub pattern_by : (p : Setup) (a b : ℕ) (k : Option Kind)
-    → has_pattern p (triple a b k) ≡ (goes p a b && promotion_fits (would_promote p a b) k)
-unfolding has_pattern goes
+    → is_pseudo_legal p (triple a b k) ≡ (goes p a b && promotion_fits (would_promote p a b) k)
+unfolding is_pseudo_legal goes
 pattern_by p a b k =
     ap (λ v. (nat_lt a 64 && nat_lt b 64) && v) (by_man p a b k (man_at p.men a) refl)
     ∙ and_joined (nat_lt a 64 && nat_lt b 64) (moves_as p (triple a b (usual_promotion p a b)) (man_at p.men a))
@@ -91,19 +91,19 @@ pattern_by p a b k =
 
 -- a move has a pattern where its piece goes so and its promotion fits
 pub pattern_is : (p : Setup) (m : Move)
-    → has_pattern p m ≡ (goes p m.from m.to && promotion_fits (would_promote p m.from m.to) m.promotion)
+    → is_pseudo_legal p m ≡ (goes p m.from m.to && promotion_fits (would_promote p m.from m.to) m.promotion)
 pattern_is p m = pattern_by p m.from m.to m.promotion
 
 -- ---- by the piece
 
 goes_as : (p : Setup) (a b : ℕ) (o : Option Man) → man_at p.men a ≡ o → a < 64 → b < 64
     → goes p a b ≡ moves_as p (triple a b (usual_promotion p a b)) o
-unfolding goes has_pattern
+unfolding goes is_pseudo_legal
 goes_as p a b o at low high = rw (lt-ltb a 64 low, lt-ltb b 64 high, at) refl
 
 -- no piece, or an enemy, goes nowhere
 pub no_man_goes : (p : Setup) (a b : ℕ) → is_of p.side (man_at p.men a) ≡ false → goes p a b ≡ false
-unfolding goes has_pattern is_of
+unfolding goes is_pseudo_legal is_of
 no_man_goes p a b h =
     ap (λ v. (nat_lt a 64 && nat_lt b 64) && v) (by (man_at p.men a) h) ∙ and-false (nat_lt a 64 && nat_lt b 64)
   where
@@ -174,7 +174,7 @@ pub legal_goes : (p : Setup) (m : Move) → is_legal p m ≡ true → (goes p m.
     × (promotion_fits (would_promote p m.from m.to) m.promotion ≡ true)
 unfolding is_legal
 legal_goes p m h =
-    let pattern = (and_parts (has_pattern p m) (not (is_in_check (after p m).men p.side)) h).0 in
+    let pattern = (and_parts (is_pseudo_legal p m) (not (is_in_check (after p m).men p.side)) h).0 in
     and_parts (goes p m.from m.to) (promotion_fits (would_promote p m.from m.to) m.promotion)
     (sym (pattern_is p m) ∙ pattern)
 
@@ -224,6 +224,6 @@ not_fitting p m h = sym (false_from_ne_true (is_legal p m)
     (λ e. both_ways (promotion_fits (would_promote p m.from m.to) m.promotion) h (legal_goes p m e).1))
 
 pub pattern_from : (p : Setup) (m : Move) → goes p m.from m.to ≡ true
-    → promotion_fits (would_promote p m.from m.to) m.promotion ≡ true → has_pattern p m ≡ true
+    → promotion_fits (would_promote p m.from m.to) m.promotion ≡ true → is_pseudo_legal p m ≡ true
 pattern_from p m g f = pattern_is p m
     ∙ and_from (goes p m.from m.to) (promotion_fits (would_promote p m.from m.to) m.promotion) g f

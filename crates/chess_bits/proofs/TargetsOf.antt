@@ -21,7 +21,7 @@ use Rattle.chess_base.specs.Attacks.{attacks, could_capture, could_capture_as}
 use Rattle.chess_base.specs.Castling.{home_square, king_home_file, castled_king_file, right_of, names_castling, says_castling, castling, castle_of}
 use Rattle.chess_base.specs.Men.{man_at, other, is_of, is_man, same_kind, same_colour, kind_number, forward, pawn_rank}
 use Rattle.chess_base.specs.MoveList.{triple}
-use Rattle.chess_base.specs.Moves.{is_legal, has_pattern, man_moves, pawn_advances, pawn_captures, is_double_advance}
+use Rattle.chess_base.specs.Moves.{is_legal, is_pseudo_legal, man_moves, pawn_advances, pawn_captures, is_double_advance}
 use Rattle.chess_base.specs.Squares.{rank, is_square}
 use Rattle.chess_base.proofs.Landing.{no_castle}
 use Rattle.chess_base.proofs.MenFacts.{same_colour-self, same_colour-true}
@@ -266,7 +266,7 @@ none_begin p a w off m legal e =
     (ap (λ s. is_of p.side (man_at p.men s)) (sym e) ∙ own_man_moves p m legal))
 
 pub ends_below : (p : Setup) (m : Move) → is_legal p m ≡ true → m.to < 64
-unfolding is_legal has_pattern
+unfolding is_legal is_pseudo_legal
 ends_below p m h = grind (arith, nat_tests, h)
 
 pub pawn_sound : (p : Setup) (a w : ℕ) → is_man p.side Pawn (man_at p.men a) ≡ true → a < 64

@@ -4,7 +4,7 @@ ghost use Rattle.std.specs.Prelude.{◌≡◌, ◌<◌, ℕ, ◌&&◌, ◌||◌,
 ghost use Rattle.chess_base.specs.Attacks.{is_attacked};
 ghost use Rattle.chess_base.specs.Castling.{castle_of, is_on_way, castling_way_is_empty, castling_way_is_safe};
 ghost use Rattle.chess_base.specs.Men.{other};
-ghost use Rattle.chess_base.specs.Moves.{has_pattern, is_legal};
+ghost use Rattle.chess_base.specs.Moves.{is_pseudo_legal, is_legal};
 ghost use Rattle.chess_base.specs.Squares.{rank, is_between, each_square};
 ghost use Rattle.chess_bits.specs.ties.Rays.{is_on_ray};
 ghost use Rattle.chess_bits.specs.declared.line.Line.TheVariants.{Rank};
@@ -106,7 +106,7 @@ impl Bits<'_> {
     fn is_safe_castled(&self, m: &Move, castle: &Castle) -> bool
         requires castle { castle_of self.now m.now ≡ Some castle.now }
         requires none { m.now.promotion ≡ None }
-        requires pattern { IsTrue (has_pattern self.now m.now) }
+        requires pattern { IsTrue (is_pseudo_legal self.now m.now) }
         ensures { result ≡ is_legal self.now m.now }
     {
         let side = self.setup.side;

@@ -4,7 +4,7 @@ ghost use Rattle.std.specs.Prelude.{◌≡◌, ◌+◌, ◌≤◌, ◌<◌, ◌=
 ghost use Rattle.std.specs.List.{flat_map};
 ghost use Rattle.chess_base.specs.Men.{man_at, other, is_man, same_kind, pawn_rank};
 ghost use Rattle.chess_base.specs.MoveList.{moves, triple};
-ghost use Rattle.chess_base.specs.Moves.{has_pattern, is_legal, man_moves, promotion_fits};
+ghost use Rattle.chess_base.specs.Moves.{is_pseudo_legal, is_legal, man_moves, promotion_fits};
 ghost use Rattle.chess_base.specs.Squares.{rank};
 ghost use Rattle.chess_base.specs.declared.man.Kind.TheVariants.{King, Knight, Pawn};
 ghost use Rattle.chess_bits.specs.ties.Goes.{goes, aims_at, IsFree, AreFree};
@@ -22,7 +22,7 @@ use chess_moves::{Board, SquareSet, would_promote};
 impl Bits<'_> {
     // How often a move with a piece's pattern is legal: once or never.
     fn times_legal(&self, m: &Move) -> usize
-        requires { IsTrue (has_pattern self.now m.now) }
+        requires { IsTrue (is_pseudo_legal self.now m.now) }
         ensures value { result ≡ cond (is_legal self.now m.now) 1 0 }
         ensures few { result ≤ 1 }
     {

@@ -3,7 +3,7 @@
 ghost use Rattle.std.specs.Prelude.{◌≡◌, ◌==◌, ◌||◌, ◌<◌, ℕ, true, None, IsTrue};
 ghost use Rattle.chess_base.specs.Men.{man_at, is_man};
 ghost use Rattle.chess_base.specs.MoveList.{triple};
-ghost use Rattle.chess_base.specs.Moves.{has_pattern, is_legal, man_moves, men_after, steps_of};
+ghost use Rattle.chess_base.specs.Moves.{is_pseudo_legal, is_legal, man_moves, men_after, steps_of};
 ghost use Rattle.chess_base.specs.Squares.{is_square};
 ghost use Rattle.chess_base.specs.declared.man.Kind.TheVariants.{King};
 ghost use Rattle.chess_bits.specs.ties.Changes.{StepsPlainly, is_changed, is_filled};
@@ -46,7 +46,7 @@ fn emptied_by(steps: &Steps) -> SquareSet
 impl Bits<'_> {
     // The square of the king of the side on move after a move with a piece's pattern, whose steps these are.
     fn king_after(&self, m: &Move, steps: &Steps) -> Square
-        requires pattern { IsTrue (has_pattern self.now m.now) }
+        requires pattern { IsTrue (is_pseudo_legal self.now m.now) }
         requires steps { steps.now ≡ steps_of self.now m.now }
         ensures there { is_man (self.now).side King (man_at (men_after self.now m.now) result) ≡ true }
         ensures in_range { result < 64 }
@@ -64,7 +64,7 @@ impl Bits<'_> {
     // and these changed.
     #[inline(always)]
     fn is_safe_at(&self, king: Square, filled: SquareSet, changed: SquareSet) -> bool
-        ensures { (m : Move) → has_pattern self.now m ≡ true → king < 64
+        ensures { (m : Move) → is_pseudo_legal self.now m ≡ true → king < 64
             → is_man (self.now).side King (man_at (men_after self.now m) king) ≡ true
             → ((k : ℕ) → k < 64 → has filled k ≡ is_filled self.now m k)
             → ((k : ℕ) → k < 64 → has changed k ≡ is_changed self.now m k)
@@ -93,7 +93,7 @@ impl Bits<'_> {
 
     // Whether a move with a piece's pattern is legal: the king of the side on move is safe after it.
     pub(crate) fn is_safe_after(&self, m: &Move) -> bool
-        requires { IsTrue (has_pattern self.now m.now) }
+        requires { IsTrue (is_pseudo_legal self.now m.now) }
         ensures { result ≡ is_legal self.now m.now }
     {
         let steps = steps_made(&self.setup, m);
@@ -102,7 +102,7 @@ impl Bits<'_> {
 
     // The same, where the move's steps are known.
     pub(crate) fn is_safe_by(&self, m: &Move, steps: &Steps) -> bool
-        requires pattern { IsTrue (has_pattern self.now m.now) }
+        requires pattern { IsTrue (is_pseudo_legal self.now m.now) }
         requires steps { steps.now ≡ steps_of self.now m.now }
         ensures { result ≡ is_legal self.now m.now }
     {

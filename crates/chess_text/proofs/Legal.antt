@@ -13,7 +13,7 @@ use Rattle.chess_base.specs.declared.man.Move.{Move}
 use Rattle.chess_base.specs.declared.setup.Setup.{Setup}
 use Rattle.chess_base.specs.Attacks.{attacks, is_in_check}
 use Rattle.chess_base.specs.Men.{is_of, man_at, other, same_colour, same_kind, is_man, first_rank}
-use Rattle.chess_base.specs.Moves.{is_legal, has_pattern, after, moves_as, castles_or_moves, man_moves, pawn_moves, pawn_advances, pawn_captures, promotion_fits}
+use Rattle.chess_base.specs.Moves.{is_legal, is_pseudo_legal, after, moves_as, castles_or_moves, man_moves, pawn_moves, pawn_advances, pawn_captures, promotion_fits}
 use Rattle.chess_base.specs.declared.castling.Castle.{Castle}
 use Rattle.chess_base.specs.Castling.{castling, names_castling, says_castling, castled_king_file, castle_of, home_square, king_home_file, right_of}
 use Rattle.chess_base.specs.Squares.{rank}
@@ -142,7 +142,7 @@ move_by p m (Some x) at f t e =
     }
 
 pub legal_move : (p : Setup) (m : Move) → is_legal p m ≡ true → IsMove p m
-unfolding is_legal has_pattern
+unfolding is_legal is_pseudo_legal
 legal_move p m e =
     let legal = and_parts (nat_lt m.from 64 && nat_lt m.to 64 && moves_as p m (man_at p.men m.from))
     (not (is_in_check (after p m).men p.side)) e in

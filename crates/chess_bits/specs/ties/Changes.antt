@@ -11,7 +11,7 @@ use Rattle.chess_base.specs.declared.setup.TheConstants.{COUNTER_LIMIT}
 use Rattle.chess_base.specs.Castling.{castle_of, lands_on, castling_rook_to}
 use Rattle.chess_base.specs.Men.{man_at, is_man, same_kind}
 use Rattle.chess_base.specs.MoveList.{triple}
-use Rattle.chess_base.specs.Moves.{has_pattern, is_en_passant, second_square_emptied}
+use Rattle.chess_base.specs.Moves.{is_pseudo_legal, is_en_passant, second_square_emptied}
 use Rattle.chess_base.specs.Squares.{is_square}
 
 -- the squares that a move changes, and those that it fills
@@ -24,7 +24,7 @@ is_filled p m k = (lands_on p m == k) || is_square (castling_rook_to p m) k
 
 -- the piece on a, other than the king, has the pattern of a move to b without a promotion and not en passant
 pub record StepsPlainly (p : Setup) (a b : ℕ) : Type 0 where
-  pub pattern : has_pattern p (triple a b None) ≡ true
+  pub pattern : is_pseudo_legal p (triple a b None) ≡ true
   pub no_king : is_man p.side King (man_at p.men a) ≡ false
   pub no_passing : (is_man p.side Pawn (man_at p.men a) && is_square p.target b) ≡ false
 

@@ -15,7 +15,7 @@ use Rattle.chess_base.specs.Castling.{home_square, castled_king_file, right_of, 
 use Rattle.chess_base.specs.Men.{Men, man_at, other, is_man, same_kind}
 use Rattle.chess_base.specs.ties.Changes.{with_man}
 use Rattle.chess_base.specs.MoveList.{triple}
-use Rattle.chess_base.specs.Moves.{has_pattern, is_legal, man_moves}
+use Rattle.chess_base.specs.Moves.{is_pseudo_legal, is_legal, man_moves}
 use Rattle.chess_base.specs.Squares.{share_rank_or_file, share_diagonal}
 use Rattle.chess_bits.specs.declared.table.Shape.TheVariants as shape
 use Rattle.chess_bits.specs.ties.Shapes.{in_shape}
@@ -28,7 +28,7 @@ usual_promotion p a b = if would_promote p a b then Some Queen else None
 
 -- a piece of the side on move goes from a to b
 unfoldable pub goes : Setup → ℕ → ℕ → Bool
-goes p a b = has_pattern p (triple a b (usual_promotion p a b))
+goes p a b = is_pseudo_legal p (triple a b (usual_promotion p a b))
 
 -- b is the end square that names castling with that rook, if the right is there
 abbrev pub names_end : Variant → Colour → CastlingSide → Option ℕ → ℕ → Bool

@@ -3,7 +3,7 @@ use Rattle.std.proofs.Common.{◌≡◌, ◌<◌, true, false, sym, ap, ◌∙�
 use Rattle.chess_base.specs.declared.man.Kind.TheVariants.{King}
 use Rattle.chess_base.specs.declared.steps.Steps.{Steps}
 use Rattle.chess_base.specs.Men.{is_man}
-use Rattle.chess_base.specs.Moves.{has_pattern, steps_of}
+use Rattle.chess_base.specs.Moves.{is_pseudo_legal, steps_of}
 use Rattle.chess_bits.proofs.KingAfter.{king_stays, king_lands}
 use Rattle.chess_bits.proofs.bits.Bits.king_after.Goals as goal
 
@@ -22,7 +22,7 @@ returns-else-is_man-clause-there c =
     let p = c.self.inside.setup in
     let steps : c.args.steps.now ≡ steps_of p c.args.m.now = rw c.self.view_is c.requires.steps in
     let still : is_man p.side King c.args.steps.now.mover ≡ false = sym c.is_man.ensures ∙ c.if-is_man.false in
-    let pattern : has_pattern p c.args.m.now ≡ true = rw c.self.view_is c.requires.pattern in
+    let pattern : is_pseudo_legal p c.args.m.now ≡ true = rw c.self.view_is c.requires.pattern in
     let alone = rw (← c.self.view_is) at c.king.ensures.alone in
     rw (← c.self.view_is)
     (king_stays p c.args.m.now c.king.result c.self.invariant.0 pattern alone
