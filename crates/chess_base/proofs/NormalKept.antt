@@ -12,9 +12,9 @@ use Rattle.chess_base.specs.declared.man.Variant.TheVariants.{Normal}
 use Rattle.chess_base.specs.declared.setup.Setup.{Setup}
 use Rattle.chess_base.specs.Men.{Men, man_at, is_man, same_colour, same_kind, other}
 use Rattle.chess_base.specs.Moves.{behind, is_en_passant, man_that_lands, castles_or_moves, moves_as, is_pseudo_legal, pawn_moves, second_square_emptied, men_after, rights_after, target_after, halfmove_after, fullmove_after, is_legal, after}
-use Rattle.chess_base.specs.Castling.{names_castling, says_castling, castling, castle_by, castle_of, mover_to, rook_from, rook_to, lands_on, castling_rook_to, castled_king_file, right_of, right_stands, right_stands_at, home_square, king_home_file}
+use Rattle.chess_base.specs.Castling.{names_castling, says_castling, castling, castle_by, castle_of, mover_to, rook_from, rook_to, lands_on, castling_rook_to, castled_king_file, right_of, right_is_sound, right_is_sound_at, home_square, king_home_file}
 use Rattle.chess_base.specs.Steps.{men_stepped}
-use Rattle.chess_base.specs.laws.Normal.{normal_right_stands_at, normal_says_castling, normal_castling, normal_castle_of, normal_moves_as, normal_has_pattern, normal_men_after, normal_after, normal_is_legal, NormalIsKept}
+use Rattle.chess_base.specs.laws.Normal.{normal_right_is_sound_at, normal_says_castling, normal_castling, normal_castle_of, normal_moves_as, normal_has_pattern, normal_men_after, normal_after, normal_is_legal, NormalIsKept}
 
 in_turn : (a b c : Bool) → (a && (b && c)) ≡ (true && a && b && c)
 in_turn true true c = refl
@@ -99,14 +99,14 @@ unfolding is_legal normal_is_legal
 legal_kept p e m = rw (pattern_kept p e m, after_kept p e m) refl
 
 stands_by : (men : Men) (c : Colour) (w : CastlingSide) (o : Option ℕ)
-    → right_stands_at Normal men c w o ≡ normal_right_stands_at men c w o
+    → right_is_sound_at Normal men c w o ≡ normal_right_is_sound_at men c w o
 stands_by men c w None = refl
 stands_by men c w (Some s) = refl
 
 stands_kept : (p : Setup) → p.variant ≡ Normal → (c : Colour) (w : CastlingSide)
-    → right_stands p c w ≡ normal_right_stands_at p.men c w (right_of p.rights c w)
-unfolding right_stands
-stands_kept p e c w = ap (λ v. right_stands_at v p.men c w (right_of p.rights c w)) e
+    → right_is_sound p c w ≡ normal_right_is_sound_at p.men c w (right_of p.rights c w)
+unfolding right_is_sound
+stands_kept p e c w = ap (λ v. right_is_sound_at v p.men c w (right_of p.rights c w)) e
     ∙ stands_by p.men c w (right_of p.rights c w)
 
 pub normal_kept : (p : Setup) → p.variant ≡ Normal → NormalIsKept p

@@ -71,20 +71,20 @@ is_beside c w (Some k) s = (rank k == first_rank c) && (rank s == first_rank c) 
 
 -- king and rook, which is on s, are where castling to that side begins: in normal chess both at home, in Chess960
 -- both on the first rank, the rook on that side of the king
-abbrev pub stand_for_castling : Variant → Men → Colour → CastlingSide → ℕ → Bool
-stand_for_castling Normal men c w s =
+abbrev pub are_placed_for_castling : Variant → Men → Colour → CastlingSide → ℕ → Bool
+are_placed_for_castling Normal men c w s =
     (s == home_square c (rook_file w)) && is_man c King (man_at men (home_square c king_home_file))
     && is_man c Rook (man_at men s)
-stand_for_castling Fischerandom men c w s = is_beside c w (king_square men c) s && is_man c Rook (man_at men s)
+are_placed_for_castling Fischerandom men c w s = is_beside c w (king_square men c) s && is_man c Rook (man_at men s)
 
 -- king and rook are so for a right, given by its rook's square; where there is none nothing is asked
-abbrev pub right_stands_at : Variant → Men → Colour → CastlingSide → Option ℕ → Bool
-right_stands_at v men c w None = true
-right_stands_at v men c w (Some s) = stand_for_castling v men c w s
+abbrev pub right_is_sound_at : Variant → Men → Colour → CastlingSide → Option ℕ → Bool
+right_is_sound_at v men c w None = true
+right_is_sound_at v men c w (Some s) = are_placed_for_castling v men c w s
 
 -- the right, if it is there, has its king and its rook where they belong
-unfoldable pub right_stands : Setup → Colour → CastlingSide → Bool
-right_stands p c w = right_stands_at p.variant p.men c w (right_of p.rights c w)
+unfoldable pub right_is_sound : Setup → Colour → CastlingSide → Bool
+right_is_sound p c w = right_is_sound_at p.variant p.men c w (right_of p.rights c w)
 
 -- ---- which moves are castling
 

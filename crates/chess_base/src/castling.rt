@@ -1,7 +1,7 @@
 //! Castling: with which rook, between which squares, and when.
 
 ghost use Rattle.std.specs.Prelude.{◌≡◌, ◌<◌, IfSome, Option};
-ghost use Rattle.chess_base.specs.Castling.{home_square, king_home_file, rook_file, castled_king_file, castled_rook_file, right_on, right_of, king_square, is_to_side, is_beside, stand_for_castling, right_stands, names_castling, says_castling, castling, castle_from, castle_by, castle_of, mover_to, rook_from, rook_to, lands_on, castling_rook_to, is_on_way, castling_crosses, castling_way_is_empty, castling_way_is_safe, castles};
+ghost use Rattle.chess_base.specs.Castling.{home_square, king_home_file, rook_file, castled_king_file, castled_rook_file, right_on, right_of, king_square, is_to_side, is_beside, are_placed_for_castling, right_is_sound, names_castling, says_castling, castling, castle_from, castle_by, castle_of, mover_to, rook_from, rook_to, lands_on, castling_rook_to, is_on_way, castling_crosses, castling_way_is_empty, castling_way_is_safe, castles};
 
 use crate::attack::{is_attacked, is_between, is_man};
 use crate::man::{CastlingSide, Colour, ColourRights, Kind, Man, Move, Rights, Variant};
@@ -131,14 +131,14 @@ fn is_beside(colour: Colour, castling_side: CastlingSide, king: Option<Square>, 
 }
 
 // Whether king and rook, which is on that square, are where castling to that side begins.
-fn stand_for_castling(
+fn are_placed_for_castling(
     variant: Variant,
     men: &[Option<Man>; 64],
     colour: Colour,
     castling_side: CastlingSide,
     rook: Square,
 ) -> bool
-    ensures { result ≡ stand_for_castling variant men.now colour castling_side rook }
+    ensures { result ≡ are_placed_for_castling variant men.now colour castling_side rook }
 {
     match variant {
         Variant::Normal => {
@@ -159,13 +159,13 @@ fn stand_for_castling(
 }
 
 // Whether king and rook of that right, if it is there, are where castling to that side begins.
-#[tactic(auto, unfolding(crate::specs::Castling::right_stands))]
-pub(crate) fn right_stands(setup: &Setup, colour: Colour, castling_side: CastlingSide) -> bool
-    ensures { result ≡ right_stands setup.now colour castling_side }
+#[tactic(auto, unfolding(crate::specs::Castling::right_is_sound))]
+pub(crate) fn right_is_sound(setup: &Setup, colour: Colour, castling_side: CastlingSide) -> bool
+    ensures { result ≡ right_is_sound setup.now colour castling_side }
 {
     match right_of(setup.rights, colour, castling_side) {
         None => true,
-        Some(rook) => { stand_for_castling(setup.variant, &setup.men, colour, castling_side, rook) }
+        Some(rook) => { are_placed_for_castling(setup.variant, &setup.men, colour, castling_side, rook) }
     }
 }
 

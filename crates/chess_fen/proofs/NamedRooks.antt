@@ -12,7 +12,7 @@ use Rattle.chess_base.specs.declared.man.Variant.TheVariants.{Normal, Fischerand
 use Rattle.chess_base.specs.declared.setup.Setup.{Setup}
 use Rattle.chess_base.specs.Squares.{file, rank}
 use Rattle.chess_base.specs.Men.{Men, man_at, is_man, first_rank}
-use Rattle.chess_base.specs.Castling.{home_square, king_square, is_to_side, right_stands, right_stands_at, right_of}
+use Rattle.chess_base.specs.Castling.{home_square, king_square, is_to_side, right_is_sound, right_is_sound_at, right_of}
 use Rattle.chess_fen.specs.Texts.{first_letter, names_file}
 use Rattle.chess_fen.specs.RightNames.{side_letter, is_towards, nowhere, edge_file, rook_among, outer_rook, named_square, only_one_of, right_after_letters}
 use Rattle.chess_fen.specs.Spelling.{IsCastling, IsHeld, SpellsRights}
@@ -294,7 +294,7 @@ somewhere White s h e = absurd (omega (arith, h, e))
 somewhere Black s h e = absurd (omega (arith, h, e))
 
 named_by : (men : Men) (c : Colour) (w : CastlingSide) (text : List ℕ) (o : Option ℕ)
-    → right_stands_at Fischerandom men c w o ≡ true → o ≡ right_after_letters men c w None text
+    → right_is_sound_at Fischerandom men c w o ≡ true → o ≡ right_after_letters men c w None text
     → RightIsNamed text men c w o
 named_by men c w text None st e = all_none men c w text (none_named men c w text (sym e))
 named_by men c w text (Some s) st e =
@@ -303,7 +303,7 @@ named_by men c w text (Some s) st e =
     (r.0, r.1, r.2, r.3, some_says men c w r.1 s n r.4, all_none men c w r.0 r.5, all_none men c w r.2 r.6)
 
 told_by : (men : Men) (c : Colour) (w : CastlingSide) (text : List ℕ) (o : Option ℕ)
-    → right_stands_at Fischerandom men c w o ≡ true → RightIsNamed text men c w o
+    → right_is_sound_at Fischerandom men c w o ≡ true → RightIsNamed text men c w o
     → o ≡ right_after_letters men c w None text
 told_by men c w text None st h = sym (skipped men c w None text (all_unnamed men c w text h))
 told_by men c w text (Some s) st h =
@@ -326,9 +326,9 @@ of_held Normal men text c w o e h = absurd cc
 of_held Fischerandom men text c w o e h = h
 
 stands_of : (p : Setup) → p.variant ≡ Fischerandom → IsSound p → (c : Colour) (w : CastlingSide)
-    → right_stands_at Fischerandom p.men c w (right_of p.rights c w) ≡ true
-unfolding right_stands
-stands_of p e sound c w = subst (λ v. right_stands_at v p.men c w (right_of p.rights c w) ≡ true) e
+    → right_is_sound_at Fischerandom p.men c w (right_of p.rights c w) ≡ true
+unfolding right_is_sound
+stands_of p e sound c w = subst (λ v. right_is_sound_at v p.men c w (right_of p.rights c w) ≡ true) e
     (right_stands_of p sound c w)
 
 field_of : (text : List ℕ) (p : Setup) → SpellsRights text p → (c : Colour) (w : CastlingSide)

@@ -11,13 +11,13 @@ use Rattle.chess_base.specs.declared.man.CastlingSide.TheVariants.{KingSide, Que
 use Rattle.chess_base.specs.declared.man.Variant.TheVariants.{Normal}
 use Rattle.chess_base.specs.declared.setup.Setup.{Setup}
 use Rattle.chess_base.specs.Attacks.{is_in_check}
-use Rattle.chess_base.specs.Faults.{counters_fit, rights_stand, first_failing, setup_fault}
+use Rattle.chess_base.specs.Faults.{counters_fit, rights_are_sound, first_failing, setup_fault}
 use Rattle.chess_base.specs.Men.{Men, other}
 use Rattle.chess_base.specs.Sound.{has_one_king, no_pawn_on_end_ranks, has_at_most_16, target_is_behind_double_advance}
 use Rattle.chess_base.proofs.NormalKept.{normal_kept}
 use Rattle.chess_fen.specs.Reading.{◌>>=◌, Description, side_of, counters_of, letters_of, setup_from, sound_from, unless_fault, described_by, described_in, fen_reading_as}
 use Rattle.chess_fen.specs.Texts.{may_name_right, names_once, placement_of, target_of, fields_of, is_castling}
-use Rattle.chess_fen.specs.laws.Normal.{normal_names_once, normal_is_castling, normal_letters_of, normal_rights_named, normal_setup_by, normal_setup_in, normal_rights_stand, normal_fault, normal_sound, normal_fen_reading}
+use Rattle.chess_fen.specs.laws.Normal.{normal_names_once, normal_is_castling, normal_letters_of, normal_rights_named, normal_setup_by, normal_setup_in, normal_rights_are_sound, normal_fault, normal_sound, normal_fen_reading}
 
 castling_kept : (text : List ℕ) → is_castling Normal text ≡ normal_is_castling text
 unfolding may_name_right
@@ -27,8 +27,8 @@ castling_kept (c ∷ cs) = refl
 letters_kept : (text : List ℕ) → letters_of Normal text ≡ normal_letters_of text
 letters_kept text = ap (λ b. if b then Some text else None) (castling_kept text)
 
-stand_kept : (p : Setup) → p.variant ≡ Normal → rights_stand p ≡ normal_rights_stand p
-unfolding rights_stand
+stand_kept : (p : Setup) → p.variant ≡ Normal → rights_are_sound p ≡ normal_rights_are_sound p
+unfolding rights_are_sound
 stand_kept p e =
     let kept = normal_kept p e in
     rw (

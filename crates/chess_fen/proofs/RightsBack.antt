@@ -15,7 +15,7 @@ use Rattle.chess_base.specs.declared.man.Rights.{Rights}
 use Rattle.chess_base.specs.declared.man.Variant.TheVariants.{Fischerandom}
 use Rattle.chess_base.specs.Squares.{file, rank}
 use Rattle.chess_base.specs.Men.{Men, man_at, is_man, other, first_rank}
-use Rattle.chess_base.specs.Castling.{home_square, king_square, is_to_side, is_beside, right_stands_at, right_of}
+use Rattle.chess_base.specs.Castling.{home_square, king_square, is_to_side, is_beside, right_is_sound_at, right_of}
 use Rattle.chess_fen.specs.Texts.{times, first_letter, names_file, may_name_right}
 use Rattle.chess_fen.specs.RightNames.{side_letter, is_towards, named_square, only_one_of, right_after_letters}
 use Rattle.chess_fen.specs.Writing.{right_text, or_dash, rights_text}
@@ -44,7 +44,7 @@ beside_by men c w s (Some k) at e =
       side = two.1;
     }
 
-pub beside : (men : Men) (c : Colour) (w : CastlingSide) (s : ℕ) → right_stands_at Fischerandom men c w (Some s) ≡ true
+pub beside : (men : Men) (c : Colour) (w : CastlingSide) (s : ℕ) → right_is_sound_at Fischerandom men c w (Some s) ≡ true
     → Beside men c w s
 beside men c w s e = beside_by men c w s (king_square men c) refl
     (and_parts (is_beside c w (king_square men c) s) (is_man c Rook (man_at men s)) e).0
@@ -119,13 +119,13 @@ only-none None = refl
 only-none (Some s) = refl
 
 -- what a written right adds to what was found
-own_text : (men : Men) (c : Colour) (w : CastlingSide) (o : Option ℕ) → right_stands_at Fischerandom men c w o ≡ true
+own_text : (men : Men) (c : Colour) (w : CastlingSide) (o : Option ℕ) → right_is_sound_at Fischerandom men c w o ≡ true
     → right_after_letters men c w None (right_text Fischerandom c w o) ≡ o
 own_text men c w None e = refl
 own_text men c w (Some s) e = named_own men c w s (beside men c w s e)
 
 side_text : (men : Men) (c : Colour) (w : CastlingSide) (found o : Option ℕ)
-    → right_stands_at Fischerandom men c w o ≡ true
+    → right_is_sound_at Fischerandom men c w o ≡ true
     → right_after_letters men c (other_side w) found (right_text Fischerandom c w o) ≡ found
 side_text men c w found None e = refl
 side_text men c w found (Some s) e = ap (only_one_of found) (named_other_side men c w s (beside men c w s e))
@@ -152,10 +152,10 @@ after-dash men c w (x ∷ xs) = refl
 
 -- the rights are available
 pub record Stand (men : Men) (r : Rights) : Type 0 where
-  pub a : right_stands_at Fischerandom men White KingSide r.white.king_side ≡ true
-  pub b : right_stands_at Fischerandom men White QueenSide r.white.queen_side ≡ true
-  pub c : right_stands_at Fischerandom men Black KingSide r.black.king_side ≡ true
-  pub d : right_stands_at Fischerandom men Black QueenSide r.black.queen_side ≡ true
+  pub a : right_is_sound_at Fischerandom men White KingSide r.white.king_side ≡ true
+  pub b : right_is_sound_at Fischerandom men White QueenSide r.white.queen_side ≡ true
+  pub c : right_is_sound_at Fischerandom men Black KingSide r.black.king_side ≡ true
+  pub d : right_is_sound_at Fischerandom men Black QueenSide r.black.queen_side ≡ true
 
 abbrev A : Rights → List ℕ
 A r = right_text Fischerandom White KingSide r.white.king_side
@@ -287,7 +287,7 @@ occurs_by men c w l n p true e = let at = eqb-true l n e in inr (refl, rw (← a
 occurs_by men c w l n p false e = inl refl
 
 occurrence : (men : Men) (c : Colour) (w : CastlingSide) (o : Option ℕ) (n : ℕ)
-    → right_stands_at Fischerandom men c w o ≡ true → Occurs men c w n (times n (right_text Fischerandom c w o))
+    → right_is_sound_at Fischerandom men c w o ≡ true → Occurs men c w n (times n (right_text Fischerandom c w o))
 unfolding Occurs
 occurrence men c w None n e = inl refl
 occurrence men c w (Some s) n e = rw (times-cons n (first_letter c + file s) [])

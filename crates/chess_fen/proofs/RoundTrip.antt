@@ -27,7 +27,7 @@ use Rattle.chess_base.specs.declared.man.CastlingSide.{CastlingSide}
 use Rattle.chess_base.specs.declared.man.CastlingSide.TheVariants.{KingSide, QueenSide}
 use Rattle.chess_base.specs.Men.{Men, man_at, is_man, other, forward, crossed_rank}
 use Rattle.chess_base.specs.Sound.{IsSound, target_is_behind_double_advance_at, target_is_behind_double_advance}
-use Rattle.chess_base.specs.Castling.{home_square, rook_file, right_of, right_stands_at, right_stands}
+use Rattle.chess_base.specs.Castling.{home_square, rook_file, right_of, right_is_sound_at, right_is_sound}
 use Rattle.std.proofs.lemmas.Bool.{and_parts, eqb-true}
 use Rattle.std.proofs.Math.Seq.{take-add}
 use Rattle.chess_fen.specs.Reading.{Description, side_of, counters_of, letters_of, described_in, description_of, rights_named, setup_from}
@@ -138,7 +138,7 @@ tells None None None (Some d) = record { letters = refl; first = refl; second = 
 tells None None None None = record { letters = refl; first = refl; second = refl; third = refl; fourth = refl }
 
 -- an available right in normal chess has its rook on its corner
-on_corner : (men : Men) (c : Colour) (w : CastlingSide) (right : Option ℕ) → right_stands_at Normal men c w right ≡ true
+on_corner : (men : Men) (c : Colour) (w : CastlingSide) (right : Option ℕ) → right_is_sound_at Normal men c w right ≡ true
     → cond (is_some right) (Some (home_square c (rook_file w))) None ≡ right
 on_corner men c w None e = refl
 on_corner men c w (Some s) e =
@@ -154,10 +154,10 @@ record Told (v : Variant) (men : Men) (r : Rights) : Type 0 where
   rights : (c : Colour) (w : CastlingSide) → right_told v men (rights_text v r) c w ≡ right_of r c w
 
 record AllStand (v : Variant) (men : Men) (r : Rights) : Type 0 where
-  a : right_stands_at v men White KingSide r.white.king_side ≡ true
-  b : right_stands_at v men White QueenSide r.white.queen_side ≡ true
-  c : right_stands_at v men Black KingSide r.black.king_side ≡ true
-  d : right_stands_at v men Black QueenSide r.black.queen_side ≡ true
+  a : right_is_sound_at v men White KingSide r.white.king_side ≡ true
+  b : right_is_sound_at v men White QueenSide r.white.queen_side ≡ true
+  c : right_is_sound_at v men Black KingSide r.black.king_side ≡ true
+  d : right_is_sound_at v men Black QueenSide r.black.queen_side ≡ true
 
 told_right : (men : Men) (r : Rights) → AllStand Normal men r → (c : Colour) (w : CastlingSide)
     → right_told Normal men (rights_text Normal r) c w ≡ right_of r c w
@@ -188,7 +188,7 @@ are_told Fischerandom men r s =
     }
 
 told_of : (p : Setup) → IsSound p → Told p.variant p.men p.rights
-unfolding right_stands
+unfolding right_is_sound
 told_of p h = are_told p.variant p.men p.rights
     (record { a = h.white_king_side; b = h.white_queen_side; c = h.black_king_side; d = h.black_queen_side })
 

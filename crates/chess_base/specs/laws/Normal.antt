@@ -14,13 +14,13 @@ use Rattle.chess_base.specs.declared.man.Variant.TheVariants.{Normal}
 use Rattle.chess_base.specs.declared.setup.Setup.{Setup}
 use Rattle.chess_base.specs.Men.{Men, man_at, is_man, same_colour, same_kind, other}
 use Rattle.chess_base.specs.Attacks.{is_in_check}
-use Rattle.chess_base.specs.Castling.{right_of, rook_file, king_home_file, home_square, right_stands, castled_king_file, castle_by, mover_to, rook_from, rook_to}
+use Rattle.chess_base.specs.Castling.{right_of, rook_file, king_home_file, home_square, right_is_sound, castled_king_file, castle_by, mover_to, rook_from, rook_to}
 use Rattle.chess_base.specs.Steps.{men_stepped}
 use Rattle.chess_base.specs.Moves.{pawn_moves, is_en_passant, behind, castles_or_moves, man_that_lands, rights_after, target_after, halfmove_after, fullmove_after, is_legal, after}
 
-abbrev pub normal_right_stands_at : Men → Colour → CastlingSide → Option ℕ → Bool
-normal_right_stands_at men c w None = true
-normal_right_stands_at men c w (Some s) =
+abbrev pub normal_right_is_sound_at : Men → Colour → CastlingSide → Option ℕ → Bool
+normal_right_is_sound_at men c w None = true
+normal_right_is_sound_at men c w (Some s) =
     (s == home_square c (rook_file w)) && is_man c King (man_at men (home_square c king_home_file))
     && is_man c Rook (man_at men s)
 
@@ -77,6 +77,6 @@ normal_is_legal p m = normal_has_pattern p m && not (is_in_check (normal_after p
 -- on positions of normal chess the rules of both variants are these
 pub record NormalIsKept (p : Setup) : Type 0 where
   pub stands : (c : Colour) (w : CastlingSide)
-      → right_stands p c w ≡ normal_right_stands_at p.men c w (right_of p.rights c w)
+      → right_is_sound p c w ≡ normal_right_is_sound_at p.men c w (right_of p.rights c w)
   pub legal : (m : Move) → is_legal p m ≡ normal_is_legal p m
   pub after : (m : Move) → after p m ≡ normal_after p m

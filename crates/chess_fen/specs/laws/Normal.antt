@@ -16,7 +16,7 @@ use Rattle.chess_base.specs.Faults.{counters_fit, first_failing}
 use Rattle.chess_base.specs.Letters.{byte, space}
 use Rattle.chess_base.specs.Men.{other}
 use Rattle.chess_base.specs.Sound.{has_one_king, no_pawn_on_end_ranks, has_at_most_16, target_is_behind_double_advance}
-use Rattle.chess_base.specs.laws.Normal.{normal_right_stands_at}
+use Rattle.chess_base.specs.laws.Normal.{normal_right_is_sound_at}
 use Rattle.chess_fen.specs.ManLetters.{dash}
 use Rattle.chess_fen.specs.Reading.{◌>>=◌, side_of, counters_of, unless_fault}
 use Rattle.chess_fen.specs.RightNames.{right_named}
@@ -95,12 +95,12 @@ normal_setup_in (a ∷ b ∷ c ∷ d ∷ e ∷ f ∷ []) = normal_setup_by a b c
 normal_setup_in _ = Err faults.Fields
 
 -- each right that is there has king and rook at home
-abbrev pub normal_rights_stand : Setup → Bool
-normal_rights_stand p =
-    normal_right_stands_at p.men White KingSide p.rights.white.king_side
-    && normal_right_stands_at p.men White QueenSide p.rights.white.queen_side
-    && normal_right_stands_at p.men Black KingSide p.rights.black.king_side
-    && normal_right_stands_at p.men Black QueenSide p.rights.black.queen_side
+abbrev pub normal_rights_are_sound : Setup → Bool
+normal_rights_are_sound p =
+    normal_right_is_sound_at p.men White KingSide p.rights.white.king_side
+    && normal_right_is_sound_at p.men White QueenSide p.rights.white.queen_side
+    && normal_right_is_sound_at p.men Black KingSide p.rights.black.king_side
+    && normal_right_is_sound_at p.men Black QueenSide p.rights.black.queen_side
 
 -- the first condition of soundness that the position fails
 unfoldable pub normal_fault : Setup → Option FenFault
@@ -110,7 +110,7 @@ normal_fault p =
     ∷ (faults.Kings, has_one_king p.men White && has_one_king p.men Black)
     ∷ (faults.Pawns, no_pawn_on_end_ranks p.men)
     ∷ (faults.Men, has_at_most_16 p.men White && has_at_most_16 p.men Black)
-    ∷ (faults.Castling, normal_rights_stand p)
+    ∷ (faults.Castling, normal_rights_are_sound p)
     ∷ (faults.EnPassant, target_is_behind_double_advance p)
     ∷ (faults.Check, not (is_in_check p.men (other p.side)))
     ∷ [])
