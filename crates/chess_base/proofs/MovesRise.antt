@@ -10,7 +10,7 @@ use Rattle.chess_base.specs.declared.setup.Setup.{Setup}
 use Rattle.chess_base.specs.Squares.{from_below}
 use Rattle.chess_base.specs.Moves.{is_legal}
 use Rattle.chess_base.specs.MoveList.{promotions, triple, squares, all_triples, moves}
-use Rattle.chess_base.specs.laws.Laws.{promotion_place, ComesBefore, ByStart, ByEnd, ByPromotion}
+use Rattle.chess_base.specs.laws.Laws.{promotion_index, ComesBefore, ByStart, ByEnd, ByPromotion}
 
 -- ---- lists
 
@@ -46,7 +46,7 @@ pairs-over R P g holds each before (suc n) f rises =
 
 -- ---- moves
 
-place_at : (i : ℕ) (d : Option Kind) → i < 5 → promotion_place (slice_index_or promotions i d) ≡ i
+place_at : (i : ℕ) (d : Option Kind) → i < 5 → promotion_index (slice_index_or promotions i d) ≡ i
 place_at zero d h = refl
 place_at (suc zero) d h = refl
 place_at (suc (suc zero)) d h = refl
@@ -54,14 +54,14 @@ place_at (suc (suc (suc zero))) d h = refl
 place_at (suc (suc (suc (suc zero)))) d h = refl
 place_at (suc (suc (suc (suc (suc n))))) d h = absurd (omega arith)
 
-promotions_rise : AllPairs (λ j k. promotion_place j < promotion_place k) promotions
+promotions_rise : AllPairs (λ j k. promotion_index j < promotion_index k) promotions
 promotions_rise = λ i j d l h.
     let late : j < 5 = h in
     let early : i < 5 = omega arith in
     rw (place_at i d early, place_at j d late) l
 
 -- moves that differ by their promotion alone
-triples_rise : (a b : ℕ) (ks : List (Option Kind)) → AllPairs (λ j k. promotion_place j < promotion_place k) ks
+triples_rise : (a b : ℕ) (ks : List (Option Kind)) → AllPairs (λ j k. promotion_index j < promotion_index k) ks
     → AllPairs ComesBefore (map (triple a b) ks)
 triples_rise a b [] p = λ i j d l past. absurd (omega arith)
 triples_rise a b (k ∷ ks) p =

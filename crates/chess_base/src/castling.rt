@@ -89,7 +89,7 @@ pub fn right_of(rights: Rights, colour: Colour, castling_side: CastlingSide) -> 
 
 // The index of that colour's king among the pieces.
 #[tactic(auto, unfolding(crate::specs::Castling::king_square))]
-fn king_place(men: &[Option<Man>; 64], colour: Colour) -> Option<usize>
+fn king_index(men: &[Option<Man>; 64], colour: Colour) -> Option<usize>
     ensures value { result ≡ king_square men.now colour }
     ensures in_board { IfSome result (λ place. place < 64) }
 {
@@ -100,7 +100,7 @@ fn king_place(men: &[Option<Man>; 64], colour: Colour) -> Option<usize>
 pub fn king_square(men: &[Option<Man>; 64], colour: Colour) -> Option<Square>
     ensures { result ≡ king_square men.now colour }
 {
-    match king_place(men, colour) {
+    match king_index(men, colour) {
         None => None,
         Some(place) => Some(Square::new(place as u8)),
     }

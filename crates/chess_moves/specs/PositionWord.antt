@@ -39,21 +39,21 @@ key n =
 -- ---- which keys: twelve times 64 for the pieces on squares, one for Black on move, twice 8 for the rights
 
 -- the indices of colours and kinds among the keys of pieces
-abbrev pub colour_place : Colour → ℕ
-colour_place White = 0
-colour_place Black = 1
+abbrev pub colour_index : Colour → ℕ
+colour_index White = 0
+colour_index Black = 1
 
-abbrev pub kind_place : Kind → ℕ
-kind_place Pawn = 0
-kind_place Knight = 1
-kind_place Bishop = 2
-kind_place Rook = 3
-kind_place Queen = 4
-kind_place King = 5
+abbrev pub kind_index : Kind → ℕ
+kind_index Pawn = 0
+kind_index Knight = 1
+kind_index Bishop = 2
+kind_index Rook = 3
+kind_index Queen = 4
+kind_index King = 5
 
 -- the piece x on square s
 abbrev pub man_key : Man → ℕ → ℕ
-man_key x s = key (64 * (6 * colour_place x.colour + kind_place x.kind) + s)
+man_key x s = key (64 * (6 * colour_index x.colour + kind_index x.kind) + s)
 
 -- Black on move
 abbrev pub side_key : ℕ
@@ -61,7 +61,7 @@ side_key = key 768
 
 -- the right of colour c to castle with its rook on r
 abbrev pub right_key : Colour → ℕ → ℕ
-right_key c r = key (769 + 8 * colour_place c + file r)
+right_key c r = key (769 + 8 * colour_index c + file r)
 
 -- ---- the keys of a position's parts
 

@@ -1,7 +1,7 @@
 //! The position hash: the keys of pieces, side on move and castling rights, joined by exclusive or.
 
 ghost use Rattle.std.specs.Prelude.{◌≡◌, ◌<◌};
-ghost use Rattle.chess_moves.specs.PositionWord.{key, colour_place, kind_place, man_key, square_keys, men_keys, side_keys, right_keys, rights_keys, xor_of, position_word};
+ghost use Rattle.chess_moves.specs.PositionWord.{key, colour_index, kind_index, man_key, square_keys, men_keys, side_keys, right_keys, rights_keys, xor_of, position_word};
 
 use chess_base::{Colour, Kind, Man, Rights, Setup, Square};
 
@@ -33,8 +33,8 @@ impl Keys for ComputedKeys {
     }
 }
 
-fn colour_place(colour: Colour) -> u16
-    ensures value { result ≡ colour_place colour }
+fn colour_index(colour: Colour) -> u16
+    ensures value { result ≡ colour_index colour }
     ensures in_range { result < 2 }
 {
     match colour {
@@ -43,8 +43,8 @@ fn colour_place(colour: Colour) -> u16
     }
 }
 
-fn kind_place(kind: Kind) -> u16
-    ensures value { result ≡ kind_place kind }
+fn kind_index(kind: Kind) -> u16
+    ensures value { result ≡ kind_index kind }
     ensures in_range { result < 6 }
 {
     match kind {
@@ -62,7 +62,7 @@ fn kind_place(kind: Kind) -> u16
 pub fn man_key<K: Keys>(keys: &K, man: Man, square: Square) -> u64
     ensures { result ≡ man_key man square }
 {
-    let place = 6 * colour_place(man.colour) + kind_place(man.kind);
+    let place = 6 * colour_index(man.colour) + kind_index(man.kind);
     keys.key(64 * place + square.number() as u16)
 }
 
@@ -104,7 +104,7 @@ fn right_word<K: Keys>(keys: &K, colour: Colour, rook: Option<Square>) -> u64
 {
     match rook {
         None => 0,
-        Some(square) => keys.key(769 + 8 * colour_place(colour) + square.file() as u16),
+        Some(square) => keys.key(769 + 8 * colour_index(colour) + square.file() as u16),
     }
 }
 
