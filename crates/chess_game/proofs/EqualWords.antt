@@ -13,8 +13,8 @@ use Rattle.chess_base.specs.Sound.{IsSound}
 use Rattle.chess_base.proofs.MenFacts.{same_colour-true}
 use Rattle.chess_base.proofs.OverSquares.{each_square-at}
 use Rattle.chess_game.specs.Same.{same, same_man, same_men, same_square, same_colour_rights, same_rights, live_target}
-use Rattle.chess_game.specs.ties.Places.{Wording, HasWord}
-use Rattle.chess_game.specs.declared.repetition.Known.{Known}
+use Rattle.chess_game.specs.ties.Places.{Hashing, HasHash}
+use Rattle.chess_game.specs.declared.repetition.Hashed.{Hashed}
 
 -- ---- the same part by part
 
@@ -77,7 +77,7 @@ rights_equal r q e =
 
 -- ---- hashes
 
-pub equal_words : (f : Wording) (p q : Setup) → IsSound p → IsSound q → same p q ≡ true
+pub equal_words : (f : Hashing) (p q : Setup) → IsSound p → IsSound q → same p q ≡ true
     → f p.men p.side p.rights ≡ f q.men q.side q.rights
 unfolding same
 equal_words f p q this that e =
@@ -110,7 +110,7 @@ same_alike p q r this that e =
     && same_square (live_target p) (d i))
 
 -- so hashes that differ tell positions apart
-pub told_apart : (f : Wording) (x y : Known) → IsSound x.position → IsSound y.position → HasWord f x → HasWord f y
+pub told_apart : (f : Hashing) (x y : Hashed) → IsSound x.position → IsSound y.position → HasHash f x → HasHash f y
     → not (x.word == y.word) ≡ true → same x.position y.position ≡ false
 told_apart f x y this that has_word other_has differ =
     false_from_ne_true (same x.position y.position)

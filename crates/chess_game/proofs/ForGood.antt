@@ -23,7 +23,7 @@ use Rattle.chess_game.specs.Same.{same, same_man, same_men, same_rights, same_sq
 use Rattle.chess_game.specs.ties.Places.{moves_of, IsKnown, Follows}
 use Rattle.chess_game.specs.ties.Buckets.{known_at, is_same_at}
 use Rattle.chess_game.specs.declared.game.Place.{Place}
-use Rattle.chess_game.specs.declared.repetition.Known.{Known}
+use Rattle.chess_game.specs.declared.repetition.Hashed.{Hashed}
 use Rattle.chess_game.proofs.Kept.{follows_more, last-more}
 use Rattle.chess_game.proofs.Positions.{known_before}
 
@@ -87,7 +87,7 @@ never_grows law p (x ∷ xs) f =
     omega arith
 
 -- where the place k was reached by a capture or a pawn move, each position before it has more in reserve than the last
-fallen : ReserveNeverGrows → ReserveFallsForGood → (start : Known) (xs : List Place) (k j : ℕ) (d : Place)
+fallen : ReserveNeverGrows → ReserveFallsForGood → (start : Hashed) (xs : List Place) (k j : ℕ) (d : Place)
     → Follows start.position xs → k < length xs → (get_or xs k d).reached.position.halfmove ≡ 0 → j ≤ k
     → reserve (last start.position (moves_of xs)).men < reserve (known_at start xs j).position.men
 unfolding known_at
@@ -116,10 +116,10 @@ fallen grows falls start (y ∷ ys) (suc k) (suc j) d f h zeroed before =
 -- ---- a position that a move after those of a game reached
 
 -- the place of that move
-place_of : Move → Saved → Known → Place
+place_of : Move → Saved → Hashed → Place
 place_of m s now = record { made = m; saved = s; reached = now; entry = record { earlier = 0; count = 0 } }
 
-none_before : ReserveNeverGrows → ReserveFallsForGood → (start : Known) (xs : List Place) (now : Known)
+none_before : ReserveNeverGrows → ReserveFallsForGood → (start : Hashed) (xs : List Place) (now : Hashed)
     (m : Move) (s : Saved) → IsKnown now → Follows start.position xs
     → WasMade (last start.position (moves_of xs)) m s now.position
     → (k : ℕ) (d : Place) → k < suc (length xs)
@@ -140,7 +140,7 @@ none_before grows falls start xs now m s known follows made k d h zeroed j befor
     ∙ other_by_reserve (known_at start (xs ++ x ∷ []) j).position now.position end
 
 -- where that was a capture or a pawn move, it is the same as none of theirs
-pub none_is_same : ReserveNeverGrows → ReserveFallsForGood → (start : Known) (xs : List Place) (now : Known)
+pub none_is_same : ReserveNeverGrows → ReserveFallsForGood → (start : Hashed) (xs : List Place) (now : Hashed)
     (m : Move) (s : Saved) → IsKnown now → Follows start.position xs
     → WasMade (last start.position (moves_of xs)) m s now.position
     → now.position.halfmove ≡ 0 → (j : ℕ) → j < length xs + 1 → is_same_at start xs now.position j ≡ false
@@ -151,7 +151,7 @@ none_is_same grows falls start xs now m s known follows made zeroed j h =
     (ap (λ (v : Place). v.reached.position.halfmove) (get_or-append_seam xs x [] x) ∙ zeroed) j (omega (arith, h))
 
 -- where the place k was reached by one, it is the same as none before that
-pub none_is_same_before : ReserveNeverGrows → ReserveFallsForGood → (start : Known) (xs : List Place) (now : Known)
+pub none_is_same_before : ReserveNeverGrows → ReserveFallsForGood → (start : Hashed) (xs : List Place) (now : Hashed)
     (m : Move) (s : Saved) → IsKnown now → Follows start.position xs
     → WasMade (last start.position (moves_of xs)) m s now.position
     → (k : ℕ) (d : Place) → k < length xs → (get_or xs k d).reached.position.halfmove ≡ 0

@@ -8,11 +8,11 @@ use Rattle.chess_game.specs.Same.{same}
 use Rattle.chess_game.specs.ties.Buckets.{bucket, known_at, is_in, is_same_at, latest_below, count_below, HaveHeads, IsEmpty, HasEntry, HaveEntries, IsIndexed}
 use Rattle.chess_game.specs.declared.game.Place.{Place}
 use Rattle.chess_game.specs.declared.index.TheConstants.{BUCKETS}
-use Rattle.chess_game.specs.declared.repetition.Known.{Known}
+use Rattle.chess_game.specs.declared.repetition.Hashed.{Hashed}
 use Rattle.chess_game.proofs.Latest.{latest_alike, latest_fails, latest_here, count_alike}
 use Rattle.chess_game.proofs.Positions.{known_place, known_before, known_last}
 
-in_table : (table : List ℕ) (k : Known) → length table ≡ BUCKETS → bucket k < length table
+in_table : (table : List ℕ) (k : Hashed) → length table ≡ BUCKETS → bucket k < length table
 in_table table k len = omega (arith, len)
 
 differs : (b c : ℕ) → (b == c) ≡ false → c ≢ b
@@ -21,7 +21,7 @@ differs b c e = λ q. true≢false (sym (eq-eqb b c (sym q)) ∙ e)
 -- ---- the heads
 
 -- with the last position's link as the head of its bucket, the heads are those of the positions before it
-pub heads_fewer : (table : List ℕ) (start : Known) (xs : List Place) (m e : ℕ) → length table ≡ BUCKETS
+pub heads_fewer : (table : List ℕ) (start : Hashed) (xs : List Place) (m e : ℕ) → length table ≡ BUCKETS
     → HaveHeads table start xs (suc m) → e ≡ latest_below (is_in start xs (bucket (known_at start xs m))) m
     → HaveHeads (set table (bucket (known_at start xs m)) e) start xs m
 heads_fewer table start xs m e len heads is b h = by_test (is_in start xs b m) refl
@@ -38,7 +38,7 @@ heads_fewer table start xs m e len heads is b h = by_test (is_in start xs b m) r
         ∙ heads b h ∙ latest_fails (is_in start xs b) m other
 
 -- with a position itself as the head of its bucket, they are those of the positions up to it
-pub heads_more : (table : List ℕ) (start : Known) (xs : List Place) (m : ℕ) → length table ≡ BUCKETS
+pub heads_more : (table : List ℕ) (start : Hashed) (xs : List Place) (m : ℕ) → length table ≡ BUCKETS
     → HaveHeads table start xs m
     → HaveHeads (set table (bucket (known_at start xs m)) (suc m)) start xs (suc m)
 heads_more table start xs m len heads b h = by_test (is_in start xs b m) refl
@@ -57,26 +57,26 @@ heads_more table start xs m len heads b h = by_test (is_in start xs b m) refl
 
 -- ---- one place more or fewer
 
-latest_before : (start : Known) (xs : List Place) (y : Place) (b n : ℕ) → n ≤ suc (length xs)
+latest_before : (start : Hashed) (xs : List Place) (y : Place) (b n : ℕ) → n ≤ suc (length xs)
     → latest_below (is_in start (xs ++ y ∷ []) b) n ≡ latest_below (is_in start xs b) n
 latest_before start xs y b n h =
     latest_alike (is_in start (xs ++ y ∷ []) b) (is_in start xs b) n
     (λ k l. ap (λ v. bucket v == b) (known_before start xs y k (omega (arith, l, h))))
 
-count_before : (start : Known) (xs : List Place) (y : Place) (q : Setup) (n : ℕ) → n ≤ suc (length xs)
+count_before : (start : Hashed) (xs : List Place) (y : Place) (q : Setup) (n : ℕ) → n ≤ suc (length xs)
     → count_below (is_same_at start (xs ++ y ∷ []) q) n ≡ count_below (is_same_at start xs q) n
 count_before start xs y q n h =
     count_alike (is_same_at start (xs ++ y ∷ []) q) (is_same_at start xs q) n
     (λ k l. ap (λ v. same v.position q) (known_before start xs y k (omega (arith, l, h))))
 
-entry_behind : (start : Known) (xs : List Place) (y : Place) (k : ℕ) (x : Place) → k ≤ length xs
+entry_behind : (start : Hashed) (xs : List Place) (y : Place) (k : ℕ) (x : Place) → k ≤ length xs
     → HasEntry start xs k x → HasEntry start (xs ++ y ∷ []) k x
 entry_behind start xs y k x h entry = record {
   earlier = entry.earlier ∙ sym (latest_before start xs y (bucket x.reached) (suc k) (omega arith));
   count = entry.count ∙ ap suc (sym (count_before start xs y x.reached.position (suc k) (omega arith)));
 }
 
-entry_before : (start : Known) (xs : List Place) (y : Place) (k : ℕ) (x : Place) → k ≤ length xs
+entry_before : (start : Hashed) (xs : List Place) (y : Place) (k : ℕ) (x : Place) → k ≤ length xs
     → HasEntry start (xs ++ y ∷ []) k x → HasEntry start xs k x
 entry_before start xs y k x h entry = record {
   earlier = entry.earlier ∙ latest_before start xs y (bucket x.reached) (suc k) (omega arith);
@@ -86,7 +86,7 @@ entry_before start xs y k x h entry = record {
 long : (xs : List Place) (y : Place) → length (xs ++ y ∷ []) ≡ suc (length xs)
 long xs y = let e = length-append xs (y ∷ []) in omega (arith, e)
 
-entries_more : (start : Known) (xs : List Place) (y : Place) → HaveEntries start xs → HasEntry start xs (length xs) y
+entries_more : (start : Hashed) (xs : List Place) (y : Place) → HaveEntries start xs → HasEntry start xs (length xs) y
     → HaveEntries start (xs ++ y ∷ [])
 entries_more start xs y entries entry k d h = by_test (k == length xs) refl
   where
@@ -101,13 +101,13 @@ entries_more start xs y entries entry k d h = by_test (k == length xs) refl
         subst (HasEntry start (xs ++ y ∷ []) k) (sym (get_or_append_left xs (y ∷ []) d k low))
         (entry_behind start xs y k (get_or xs k d) (omega (arith, low)) (entries k d low))
 
-entries_fewer : (start : Known) (xs : List Place) (y : Place) → HaveEntries start (xs ++ y ∷ []) → HaveEntries start xs
+entries_fewer : (start : Hashed) (xs : List Place) (y : Place) → HaveEntries start (xs ++ y ∷ []) → HaveEntries start xs
 entries_fewer start xs y entries k d h =
     let l = long xs y in
     entry_before start xs y k (get_or xs k d) (omega (arith, h))
     (subst (HasEntry start (xs ++ y ∷ []) k) (get_or_append_left xs (y ∷ []) d k h) (entries k d (omega (arith, h, l))))
 
-entry_last : (start : Known) (xs : List Place) (y : Place) → HaveEntries start (xs ++ y ∷ [])
+entry_last : (start : Hashed) (xs : List Place) (y : Place) → HaveEntries start (xs ++ y ∷ [])
     → HasEntry start xs (length xs) y
 entry_last start xs y entries =
     let l = long xs y in
@@ -117,7 +117,7 @@ entry_last start xs y entries =
 
 -- ---- the index
 
-pub begun : (table : List ℕ) (start : Known) (b : ℕ) → IsEmpty table → b ≡ bucket start
+pub begun : (table : List ℕ) (start : Hashed) (b : ℕ) → IsEmpty table → b ≡ bucket start
     → IsIndexed (set table b 1) start []
 unfolding latest_below known_at
 begun table start b clean is = subst (λ v. IsIndexed (set table v 1) start []) (sym is) (record {
@@ -126,7 +126,7 @@ begun table start b clean is = subst (λ v. IsIndexed (set table v 1) start []) 
   entries = λ k d h. absurd (omega arith);
 })
 
-pub pushed_index : (table : List ℕ) (start : Known) (xs : List Place) (y : Place) (b n : ℕ) → IsIndexed table start xs
+pub pushed_index : (table : List ℕ) (start : Hashed) (xs : List Place) (y : Place) (b n : ℕ) → IsIndexed table start xs
     → b ≡ bucket y.reached → n ≡ suc (suc (length xs)) → y.entry.earlier ≡ get_or table (bucket y.reached) 0
     → y.entry.count ≡ suc (count_below (is_same_at start xs y.reached.position) (suc (length xs)))
     → IsIndexed (set table b n) start (xs ++ y ∷ [])
@@ -149,7 +149,7 @@ pushed_index table start xs y b n index is next earlier counted =
           (record { earlier = earlier ∙ index.heads (bucket y.reached) low; count = counted });
     }
 
-pub popped_index : (table : List ℕ) (start : Known) (xs : List Place) (y : Place) (b : ℕ)
+pub popped_index : (table : List ℕ) (start : Hashed) (xs : List Place) (y : Place) (b : ℕ)
     → IsIndexed table start (xs ++ y ∷ []) → b ≡ bucket y.reached
     → IsIndexed (set table b y.entry.earlier) start xs
 popped_index table start xs y b index is =
@@ -174,7 +174,7 @@ popped_index table start xs y b index is =
 -- ---- all forgotten
 
 -- one place fewer, going back
-pub heads_back : (table : List ℕ) (start : Known) (xs : List Place) (left : ℕ) (x : Place) (b : ℕ)
+pub heads_back : (table : List ℕ) (start : Hashed) (xs : List Place) (left : ℕ) (x : Place) (b : ℕ)
     → length table ≡ BUCKETS → HaveEntries start xs → HaveHeads table start xs (suc left) → 0 < left → left ≤ length xs
     → x ≡ get_or xs (left - 1) x → b ≡ bucket x.reached
     → HaveHeads (set table b x.entry.earlier) start xs (suc (left - 1))
@@ -191,7 +191,7 @@ heads_back table start xs left x b len entries heads some h place is =
     (heads_fewer table start xs (suc (left - 1)) x.entry.earlier len whole link)
 
 -- and at last the start
-pub cleared : (table : List ℕ) (start : Known) (xs : List Place) (left b : ℕ) → length table ≡ BUCKETS
+pub cleared : (table : List ℕ) (start : Hashed) (xs : List Place) (left b : ℕ) → length table ≡ BUCKETS
     → HaveHeads table start xs (suc left) → left ≤ 0 → b ≡ bucket start → IsEmpty (set table b 0)
 unfolding latest_below known_at
 cleared table start xs left b len heads none is =

@@ -10,10 +10,10 @@ use Rattle.chess_base.specs.declared.setup.Setup.{Setup}
 use Rattle.chess_base.specs.Moves.{after}
 use Rattle.chess_moves.specs.Made.{WasMade}
 use Rattle.chess_game.specs.Line.{last, IsLine}
-use Rattle.chess_game.specs.ties.Places.{moves_of, IsKnown, Wording, HasWord, HaveWords, Follows}
+use Rattle.chess_game.specs.ties.Places.{moves_of, IsKnown, Hashing, HasHash, HaveHashes, Follows}
 use Rattle.chess_game.specs.Game.{Seen, is_full}
 use Rattle.chess_game.specs.declared.game.Place.{Place}
-use Rattle.chess_game.specs.declared.repetition.Known.{Known}
+use Rattle.chess_game.specs.declared.repetition.Hashed.{Hashed}
 use Rattle.chess_game.specs.declared.results.Declared.{Declared}
 
 -- a place reached the position after the moves up to it
@@ -129,25 +129,25 @@ fewer p xs ys x f is = follows_fewer p ys x (subst (Follows p) is f)
 -- ---- hashes
 
 -- each place has its hash
-abbrev pub AllHave : Wording → List Place → Type 0
-AllHave f xs = AllByRecursion (λ (x : Place). HasWord f x.reached) xs
+abbrev pub AllHave : Hashing → List Place → Type 0
+AllHave f xs = AllByRecursion (λ (x : Place). HasHash f x.reached) xs
 
-all_more : (f : Wording) (xs : List Place) (x : Place) → AllHave f xs → HasWord f x.reached → AllHave f (xs ++ x ∷ [])
+all_more : (f : Hashing) (xs : List Place) (x : Place) → AllHave f xs → HasHash f x.reached → AllHave f (xs ++ x ∷ [])
 all_more f [] x all here = (here, tt)
 all_more f (y ∷ ys) x all here = (all.0, all_more f ys x all.1 here)
 
-pub words_more : (f : Wording) (start : Known) (xs : List Place) (x : Place) → HaveWords f start xs
-    → HasWord f x.reached
-    → HaveWords f start (xs ++ x ∷ [])
+pub words_more : (f : Hashing) (start : Hashed) (xs : List Place) (x : Place) → HaveHashes f start xs
+    → HasHash f x.reached
+    → HaveHashes f start (xs ++ x ∷ [])
 words_more f start xs x h here = record { start = h.start; behind = all_more f xs x h.behind here }
 
-all_fewer : (f : Wording) (xs : List Place) (x : Place) → AllHave f (xs ++ x ∷ []) → AllHave f xs
+all_fewer : (f : Hashing) (xs : List Place) (x : Place) → AllHave f (xs ++ x ∷ []) → AllHave f xs
 all_fewer f [] x all = tt
 all_fewer f (y ∷ ys) x all = (all.0, all_fewer f ys x all.1)
 
-pub words_fewer : (f : Wording) (start : Known) (xs ys : List Place) (x : Place) → HaveWords f start xs
+pub words_fewer : (f : Hashing) (start : Hashed) (xs ys : List Place) (x : Place) → HaveHashes f start xs
     → xs ≡ ys ++ x ∷ []
-    → HaveWords f start ys
+    → HaveHashes f start ys
 words_fewer f start xs ys x h is = record { start = h.start; behind = all_fewer f ys x (subst (AllHave f) is h.behind) }
 
 -- ---- room

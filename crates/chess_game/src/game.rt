@@ -11,11 +11,11 @@ ghost use Rattle.chess_game.specs.Ends.{verdict, claims};
 ghost use Rattle.chess_game.specs.Game.{at, from_start, with_declared, current, verdict_now, outcome_now, opened, is_over, is_full, play_refusal, unless_refused, after_play, last_move, after_take_back, declare_refusal, after_declare, IsPlayable};
 ghost use Rattle.chess_game.specs.ties.Places.{moves_of, Follows, IsKept};
 ghost use Rattle.chess_game.specs.ties.Buckets.{HaveEntries};
-ghost use Rattle.chess_game.specs.declared.repetition.Known.{Known};
+ghost use Rattle.chess_game.specs.declared.repetition.Hashed.{Hashed};
 
 use crate::ends::{Claims, Verdict, is_bare, mates};
 use crate::index::{Entry, Index};
-use crate::repetition::Known;
+use crate::repetition::Hashed;
 use crate::results::{Comment, Declared, Outcome};
 use chess_base::{Move, Position, Saved};
 use chess_moves::Board;
@@ -54,7 +54,7 @@ pub struct BoardSaysOtherwise;
 pub(crate) struct Place {
     pub(crate) made: Move,
     pub(crate) saved: Saved,
-    pub(crate) reached: Known,
+    pub(crate) reached: Hashed,
     pub(crate) entry: Entry,
 }
 
@@ -63,7 +63,7 @@ pub(crate) struct Place {
 #[derive(Drop)]
 pub struct Game<B: Board> {
     board: B,
-    start: Known,
+    start: Hashed,
     places: Vec<Place>,
     index: Index,
     declared: Option<Declared>,
@@ -92,7 +92,7 @@ impl<B: Board> Model for Game<B> {
 
 // How many positions from the start on are the same as the present one: the count of the last place.
 fn repetitions(places: &[Place]) -> u32
-    ensures { (start : Known) → Follows start.position places.now → HaveEntries start places.now
+    ensures { (start : Hashed) → Follows start.position places.now → HaveEntries start places.now
         → result ≡ rep start.position (moves_of places.now) }
 {
     if places.is_empty() {
@@ -106,7 +106,7 @@ fn repetitions(places: &[Place]) -> u32
 #[tactic(auto, unfolding(crate::specs::Ends::verdict))]
 fn verdict_of_moving<B: Board>(board: &B, places: &[Place]) -> Option<Verdict>
     requires { IsTrue (nat_lt 0 (length (moves (B.position board.now)))) }
-    ensures { (start : Known) → IsKept B.word_of start places.now (B.position board.now)
+    ensures { (start : Hashed) → IsKept B.word_of start places.now (B.position board.now)
         → HaveEntries start places.now → result ≡ verdict start.position (moves_of places.now) }
 {
     if is_bare(board) {
@@ -123,7 +123,7 @@ fn verdict_of_moving<B: Board>(board: &B, places: &[Place]) -> Option<Verdict>
 // The verdict on the game of that board and those places.
 #[tactic(auto, unfolding(crate::specs::Ends::verdict))]
 fn verdict_on<B: Board>(board: &B, places: &[Place]) -> Option<Verdict>
-    ensures { (start : Known) → IsKept B.word_of start places.now (B.position board.now)
+    ensures { (start : Hashed) → IsKept B.word_of start places.now (B.position board.now)
         → HaveEntries start places.now → result ≡ verdict start.position (moves_of places.now) }
 {
     if board.has_legal_move() {
@@ -146,7 +146,7 @@ impl<B: Board + Drop> Game<B> {
         ensures { IfOk result (λ g. g ≡ opened limit) }
     {
         board.set(&Position::initial());
-        let start = Known::on(&board);
+        let start = Hashed::on(&board);
         let places = Vec::with_capacity(alloc, limit as usize)?;
         let mut index = Index::open(alloc)?;
         index.begin(&start);
@@ -168,7 +168,7 @@ impl<B: Board> Game<B> {
     {
         self.board.set(start);
         self.index.clear(&self.start, self.places.as_slice());
-        self.start = Known::on(&self.board);
+        self.start = Hashed::on(&self.board);
         self.index.begin(&self.start);
         self.places.clear();
         self.declared = None;
@@ -219,7 +219,7 @@ impl<B: Board> Game<B> {
         let mut place = Place {
             made: m,
             saved,
-            reached: Known::on(&self.board),
+            reached: Hashed::on(&self.board),
             entry: Entry {
                 earlier: 0,
                 count: 1,

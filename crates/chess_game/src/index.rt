@@ -8,12 +8,12 @@ ghost use Rattle.std.specs.Prelude.{◌≡◌, ◌≤◌, ◌<◌, ◌+◌, ℕ,
 ghost use Rattle.chess_game.specs.declared.game.Place.{Place};
 ghost use Rattle.chess_game.specs.declared.game.TheConstants.{MOST_MOVES};
 ghost use Rattle.chess_game.specs.declared.index.TheConstants.{BUCKETS};
-ghost use Rattle.chess_game.specs.declared.repetition.Known.{Known};
-ghost use Rattle.chess_game.specs.ties.Places.{IsKnown, Wording, HasWord, HaveWords, Follows};
+ghost use Rattle.chess_game.specs.declared.repetition.Hashed.{Hashed};
+ghost use Rattle.chess_game.specs.ties.Places.{IsKnown, Hashing, HasHash, HaveHashes, Follows};
 ghost use Rattle.chess_game.specs.ties.Buckets.{bucket, is_in, is_same_at, latest_below, count_below, IsNext, IsEmpty, HaveEntries, IsIndexed};
 
 use crate::game::Place;
-use crate::repetition::Known;
+use crate::repetition::Hashed;
 use chess_base::reserve_never_grows;
 use std::alloc::{AllocError, Global};
 
@@ -36,7 +36,7 @@ pub(crate) struct Index {
 }
 
 // The number of a position's bucket.
-fn bucket(known: &Known) -> usize
+fn bucket(known: &Hashed) -> usize
     ensures value { result ≡ bucket known.now }
     ensures low { result < BUCKETS }
 {
@@ -45,9 +45,9 @@ fn bucket(known: &Known) -> usize
 
 // The number of the first position of a game that can be the same as the one that a further move gave: no position from
 // before the last capture or pawn move can.
-fn oldest(places: &[Place], now: &Known) -> usize
+fn oldest(places: &[Place], now: &Hashed) -> usize
     requires { IsKnown now.now }
-    ensures { (start : Known) → Follows start.position places.now → IsNext start places.now now.now → (k : ℕ)
+    ensures { (start : Hashed) → Follows start.position places.now → IsNext start places.now now.now → (k : ℕ)
         → k < result → is_same_at start places.now now.now.position k ≡ false }
 {
     // The prover wants this law: the reserve of the pieces falls with each capture and pawn move, and never grows.
@@ -70,12 +70,12 @@ fn oldest(places: &[Place], now: &Known) -> usize
 
 // How many positions are the same as the one that a further move of a game gave, itself among them. The search follows
 // the links from the head of its bucket to the latest position that is the same, whose place has the count up to it.
-fn count_same(head: u16, start: &Known, places: &[Place], now: &Known) -> u32
+fn count_same(head: u16, start: &Hashed, places: &[Place], now: &Hashed) -> u32
     requires start { IsKnown start.now }
     requires now { IsKnown now.now }
     requires follows { Follows start.now.position places.now }
     requires made { IsNext start.now places.now now.now }
-    requires words { (f : Wording) × HaveWords f start.now places.now × HasWord f now.now }
+    requires words { (f : Hashing) × HaveHashes f start.now places.now × HasHash f now.now }
     requires few { length places.now < MOST_MOVES }
     requires entries { HaveEntries start.now places.now }
     requires head { head ≡ latest_below (is_in start.now places.now (bucket now.now)) (suc (length places.now)) }
@@ -116,7 +116,7 @@ impl Index {
     }
 
     // Adds the start of a game to an empty index.
-    pub(crate) fn begin(&mut self, start: &Known)
+    pub(crate) fn begin(&mut self, start: &Hashed)
         requires { IsEmpty self.old.heads.items }
         ensures { IsIndexed self.new.heads.items start.now [] }
     {
@@ -124,12 +124,12 @@ impl Index {
     }
 
     // Adds the position that a further move of a game gave, and returns the entry of its place.
-    pub(crate) fn push(&mut self, start: &Known, places: &[Place], reached: &Known) -> Entry
+    pub(crate) fn push(&mut self, start: &Hashed, places: &[Place], reached: &Hashed) -> Entry
         requires start { IsKnown start.now }
         requires known { IsKnown reached.now }
         requires follows { Follows start.now.position places.now }
         requires made { IsNext start.now places.now reached.now }
-        requires words { (f : Wording) × HaveWords f start.now places.now × HasWord f reached.now }
+        requires words { (f : Hashing) × HaveHashes f start.now places.now × HasHash f reached.now }
         requires few { length places.now < MOST_MOVES }
         requires indexed { IsIndexed self.old.heads.items start.now places.now }
         ensures { (x : Place) → x.reached ≡ reached.now → x.entry ≡ result
@@ -155,15 +155,15 @@ impl Index {
 
     // Removes the last position of a game, which that place reached.
     pub(crate) fn pop(&mut self, place: &Place)
-        requires { (start : Known) × (xs : List Place) × IsIndexed self.old.heads.items start (xs ++ place.now ∷ []) }
-        ensures { (start : Known) (xs : List Place) → IsIndexed self.old.heads.items start (xs ++ place.now ∷ [])
+        requires { (start : Hashed) × (xs : List Place) × IsIndexed self.old.heads.items start (xs ++ place.now ∷ []) }
+        ensures { (start : Hashed) (xs : List Place) → IsIndexed self.old.heads.items start (xs ++ place.now ∷ [])
             → IsIndexed self.new.heads.items start xs }
     {
         self.remove(place);
     }
 
     // Removes all positions of a game: a step for each, however many buckets there are.
-    pub(crate) fn clear(&mut self, start: &Known, places: &[Place])
+    pub(crate) fn clear(&mut self, start: &Hashed, places: &[Place])
         requires { IsIndexed self.old.heads.items start.now places.now }
         ensures { IsEmpty self.new.heads.items }
     {

@@ -6,7 +6,7 @@ ghost use Rattle.chess_base.specs.MoveList.{moves};
 ghost use Rattle.chess_base.specs.Moves.{is_en_passant};
 ghost use Rattle.chess_game.specs.Same.{same_square, same_colour_rights, same_rights, live_target, same};
 ghost use Rattle.chess_game.specs.ties.Captures.{captures_legally};
-ghost use Rattle.chess_game.specs.ties.Places.{IsKnown, HasWord, ShareWording};
+ghost use Rattle.chess_game.specs.ties.Places.{IsKnown, HasHash, ShareHashing};
 
 use crate::packed::PackedPosition;
 use chess_base::rules::is_en_passant;
@@ -15,23 +15,23 @@ use chess_moves::Board;
 
 // A position, packed, with its live target and its hash, which are found once.
 #[derive(Drop)]
-pub(crate) struct Known {
+pub(crate) struct Hashed {
     pub(crate) position: PackedPosition,
     pub(crate) live_target: Option<Square>,
     pub(crate) word: u64,
 }
 
-impl Known {
+impl Hashed {
     // The position of a board. Its sets are packed last, since the target is rarely live: nothing is then kept through
     // the search for a capture.
     pub(crate) fn on<B: Board>(board: &B) -> Self
         ensures position { result.position ≡ B.position board.now }
         ensures known { IsKnown result }
-        ensures word { HasWord B.word_of result }
+        ensures word { HasHash B.word_of result }
     {
         let live_target = live_target(board);
         let word = board.word();
-        Known {
+        Hashed {
             position: PackedPosition::of(board),
             live_target,
             word,
@@ -39,8 +39,8 @@ impl Known {
     }
 
     // Whether the hashes of the two positions differ; then these are not the same.
-    fn is_told_apart(&self, other: &Known) -> bool
-        requires { ShareWording self.now other.now }
+    fn hash_differs(&self, other: &Hashed) -> bool
+        requires { ShareHashing self.now other.now }
         ensures { result ≡ true → same self.now.position other.now.position ≡ false }
     {
         // The prover wants this fact of both: a position is sound, so it has an element for each of the 64 squares.
@@ -51,14 +51,14 @@ impl Known {
 
     // Whether the two positions are the same (Laws of Chess 2023, article 9.2.3).
     #[tactic(auto, unfolding(crate::specs::Same::same))]
-    pub(crate) fn is_same(&self, other: &Known) -> bool
+    pub(crate) fn is_same(&self, other: &Hashed) -> bool
         requires this { IsKnown self.now }
         requires other { IsKnown other.now }
-        requires words { ShareWording self.now other.now }
+        requires words { ShareHashing self.now other.now }
         ensures { result ≡ same self.now.position other.now.position }
     {
         // Most positions differ in their hashes, so pieces and rights are seldom looked at.
-        if self.is_told_apart(other) {
+        if self.hash_differs(other) {
             return false;
         }
         let (this, that) = (&self.position, &other.position);
@@ -69,10 +69,10 @@ impl Known {
     }
 
     // 1 where the two positions are the same, else 0.
-    pub(crate) fn times_same(&self, other: &Known) -> u32
+    pub(crate) fn times_same(&self, other: &Hashed) -> u32
         requires this { IsKnown self.now }
         requires other { IsKnown other.now }
-        requires words { ShareWording self.now other.now }
+        requires words { ShareHashing self.now other.now }
         ensures { result ≡ cond (same self.now.position other.now.position) 1 0 }
     {
         if self.is_same(other) { 1 } else { 0 }

@@ -10,7 +10,7 @@ use Rattle.chess_moves.specs.Made.{WasMade}
 use Rattle.chess_game.specs.Line.{last}
 use Rattle.chess_game.specs.Same.{live_target}
 use Rattle.chess_game.specs.Ends.{verdict}
-use Rattle.chess_game.specs.declared.repetition.Known.{Known}
+use Rattle.chess_game.specs.declared.repetition.Hashed.{Hashed}
 use Rattle.chess_game.specs.declared.game.Place.{Place}
 use Rattle.chess_game.specs.declared.game.TheConstants.{MOST_MOVES}
 
@@ -19,25 +19,25 @@ abbrev pub moves_of : List Place → List Move
 moves_of places = map (λ x. x.made) places
 
 -- a position is kept with its live target
-abbrev pub IsKnown : Known → Type 0
+abbrev pub IsKnown : Hashed → Type 0
 IsKnown k = k.live_target ≡ live_target k.position
 
 -- a definition of position hashes, as a board has one
-abbrev pub Wording : Type 0
-Wording = Men → Colour → Rights → ℕ
+abbrev pub Hashing : Type 0
+Hashing = Men → Colour → Rights → ℕ
 
 -- a position is kept with its hash by that definition
-abbrev pub HasWord : Wording → Known → Type 0
-HasWord f k = k.word ≡ f k.position.men k.position.side k.position.rights
+abbrev pub HasHash : Hashing → Hashed → Type 0
+HasHash f k = k.word ≡ f k.position.men k.position.side k.position.rights
 
 -- two positions are kept with their hashes by one definition
-abbrev pub ShareWording : Known → Known → Type 0
-ShareWording x y = (f : Wording) × HasWord f x × HasWord f y
+abbrev pub ShareHashing : Hashed → Hashed → Type 0
+ShareHashing x y = (f : Hashing) × HasHash f x × HasHash f y
 
 -- the start and each position that a place reached are kept with their hashes by that definition
-pub record HaveWords (f : Wording) (first : Known) (places : List Place) : Type 0 where
-  pub start : HasWord f first
-  pub behind : AllByRecursion (λ (x : Place). HasWord f x.reached) places
+pub record HaveHashes (f : Hashing) (first : Hashed) (places : List Place) : Type 0 where
+  pub start : HasHash f first
+  pub behind : AllByRecursion (λ (x : Place). HasHash f x.reached) places
 
 -- each move was made in the position before it, and is kept with what that saved and the position that it gave
 abbrev pub Follows : Setup → List Place → Type 0
@@ -46,10 +46,10 @@ Follows p (x ∷ xs) = WasMade p x.made x.saved x.reached.position × IsKnown x.
 
 -- from this start the places follow, all with hashes by the board's definition, and the board is at the position at the
 -- end of the line
-pub record IsKept (f : Wording) (start : Known) (places : List Place) (board : Setup) : Type 0 where
+pub record IsKept (f : Hashing) (start : Hashed) (places : List Place) (board : Setup) : Type 0 where
   pub known : IsKnown start
   pub follows : Follows start.position places
-  pub words : HaveWords f start places
+  pub words : HaveHashes f start places
   pub at_end : board ≡ last start.position (moves_of places)
 
 -- no verdict came before the last move

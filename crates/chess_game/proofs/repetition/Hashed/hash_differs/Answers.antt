@@ -1,6 +1,6 @@
 -- Positions that are the same would have equal hashes (told_apart of EqualWords).
 use Rattle.chess_game.proofs.EqualWords.{told_apart}
-use Rattle.chess_game.proofs.repetition.Known.is_told_apart.Goals as goal
+use Rattle.chess_game.proofs.repetition.Hashed.hash_differs.Goals as goal
 
 pub returns : goal.returns
 returns c = λ differ. told_apart c.requires.0 c.args.self.now c.args.other.now
