@@ -13,7 +13,7 @@ use Rattle.chess_base.specs.Sound.{IsSound}
 use Rattle.chess_base.proofs.MenFacts.{same_colour-true}
 use Rattle.chess_base.proofs.OverSquares.{each_square-at}
 use Rattle.chess_game.specs.Same.{same, same_man, same_men, same_square, same_colour_rights, same_rights, live_target}
-use Rattle.chess_game.specs.ties.Places.{Hashing, HasHash}
+use Rattle.chess_game.specs.ties.PlayedMoves.{Hashing, HasHash}
 use Rattle.chess_game.specs.declared.repetition.Hashed.{Hashed}
 
 -- ---- the same part by part

@@ -20,9 +20,9 @@ use Rattle.chess_base.proofs.MenFacts.{same_colour-true}
 use Rattle.chess_moves.specs.Made.{WasMade}
 use Rattle.chess_game.specs.Line.{last}
 use Rattle.chess_game.specs.Same.{same, same_man, same_men, same_rights, same_square, live_target}
-use Rattle.chess_game.specs.ties.Places.{moves_of, IsKnown, Follows}
+use Rattle.chess_game.specs.ties.PlayedMoves.{moves_of, IsKnown, Follows}
 use Rattle.chess_game.specs.ties.Buckets.{known_at, is_same_at}
-use Rattle.chess_game.specs.declared.game.Place.{Place}
+use Rattle.chess_game.specs.declared.game.PlayedMove.{PlayedMove}
 use Rattle.chess_game.specs.declared.repetition.Hashed.{Hashed}
 use Rattle.chess_game.proofs.Kept.{follows_more, last-more}
 use Rattle.chess_game.proofs.Positions.{known_before}
@@ -73,10 +73,10 @@ other_by_reserve p q h =
           absurd (omega (arith, alike))
     ]
 
--- ---- along the places
+-- ---- along the played moves
 
 -- the reserve at the end is no more than at the start
-pub never_grows : ReserveNeverGrows → (p : Setup) (xs : List Place) → Follows p xs
+pub never_grows : ReserveNeverGrows → (p : Setup) (xs : List PlayedMove) → Follows p xs
     → reserve (last p (moves_of xs)).men ≤ reserve p.men
 never_grows law p [] f = omega arith
 never_grows law p (x ∷ xs) f =
@@ -86,8 +86,8 @@ never_grows law p (x ∷ xs) f =
     (never_grows law x.reached.position xs f.2) in
     omega arith
 
--- where the place k was reached by a capture or a pawn move, each position before it has more in reserve than the last
-fallen : ReserveNeverGrows → ReserveFallsForGood → (start : Hashed) (xs : List Place) (k j : ℕ) (d : Place)
+-- where the played move k was reached by a capture or a pawn move, each position before it has more in reserve than the last
+fallen : ReserveNeverGrows → ReserveFallsForGood → (start : Hashed) (xs : List PlayedMove) (k j : ℕ) (d : PlayedMove)
     → Follows start.position xs → k < length xs → (get_or xs k d).reached.position.halfmove ≡ 0 → j ≤ k
     → reserve (last start.position (moves_of xs)).men < reserve (known_at start xs j).position.men
 unfolding known_at
@@ -115,14 +115,14 @@ fallen grows falls start (y ∷ ys) (suc k) (suc j) d f h zeroed before =
 
 -- ---- a position that a move after those of a game reached
 
--- the place of that move
-place_of : Move → Saved → Hashed → Place
+-- the played move of that move
+place_of : Move → Saved → Hashed → PlayedMove
 place_of m s now = record { made = m; saved = s; reached = now; entry = record { earlier = 0; count = 0 } }
 
-none_before : ReserveNeverGrows → ReserveFallsForGood → (start : Hashed) (xs : List Place) (now : Hashed)
+none_before : ReserveNeverGrows → ReserveFallsForGood → (start : Hashed) (xs : List PlayedMove) (now : Hashed)
     (m : Move) (s : Saved) → IsKnown now → Follows start.position xs
     → WasMade (last start.position (moves_of xs)) m s now.position
-    → (k : ℕ) (d : Place) → k < suc (length xs)
+    → (k : ℕ) (d : PlayedMove) → k < suc (length xs)
     → (get_or (xs ++ place_of m s now ∷ []) k d).reached.position.halfmove ≡ 0 → (j : ℕ) → j ≤ k
     → is_same_at start xs now.position j ≡ false
 unfolding place_of
@@ -140,7 +140,7 @@ none_before grows falls start xs now m s known follows made k d h zeroed j befor
     ∙ other_by_reserve (known_at start (xs ++ x ∷ []) j).position now.position end
 
 -- where that was a capture or a pawn move, it is the same as none of theirs
-pub none_is_same : ReserveNeverGrows → ReserveFallsForGood → (start : Hashed) (xs : List Place) (now : Hashed)
+pub none_is_same : ReserveNeverGrows → ReserveFallsForGood → (start : Hashed) (xs : List PlayedMove) (now : Hashed)
     (m : Move) (s : Saved) → IsKnown now → Follows start.position xs
     → WasMade (last start.position (moves_of xs)) m s now.position
     → now.position.halfmove ≡ 0 → (j : ℕ) → j < length xs + 1 → is_same_at start xs now.position j ≡ false
@@ -148,16 +148,16 @@ unfolding place_of
 none_is_same grows falls start xs now m s known follows made zeroed j h =
     let x = place_of m s now in
     none_before grows falls start xs now m s known follows made (length xs) x (omega arith)
-    (ap (λ (v : Place). v.reached.position.halfmove) (get_or-append_seam xs x [] x) ∙ zeroed) j (omega (arith, h))
+    (ap (λ (v : PlayedMove). v.reached.position.halfmove) (get_or-append_seam xs x [] x) ∙ zeroed) j (omega (arith, h))
 
--- where the place k was reached by one, it is the same as none before that
-pub none_is_same_before : ReserveNeverGrows → ReserveFallsForGood → (start : Hashed) (xs : List Place) (now : Hashed)
+-- where the played move k was reached by one, it is the same as none before that
+pub none_is_same_before : ReserveNeverGrows → ReserveFallsForGood → (start : Hashed) (xs : List PlayedMove) (now : Hashed)
     (m : Move) (s : Saved) → IsKnown now → Follows start.position xs
     → WasMade (last start.position (moves_of xs)) m s now.position
-    → (k : ℕ) (d : Place) → k < length xs → (get_or xs k d).reached.position.halfmove ≡ 0
+    → (k : ℕ) (d : PlayedMove) → k < length xs → (get_or xs k d).reached.position.halfmove ≡ 0
     → (j : ℕ) → j < k + 1 → is_same_at start xs now.position j ≡ false
 none_is_same_before grows falls start xs now m s known follows made k d low zeroed j h =
     let x = place_of m s now in
     none_before grows falls start xs now m s known follows made k d (omega (arith, low))
-    (ap (λ (v : Place). v.reached.position.halfmove) (get_or_append_left xs (x ∷ []) d k low) ∙ zeroed) j
+    (ap (λ (v : PlayedMove). v.reached.position.halfmove) (get_or_append_left xs (x ∷ []) d k low) ∙ zeroed) j
     (omega (arith, h))

@@ -6,7 +6,7 @@ use Rattle.std.proofs.lemmas.List.{get_or-set_same, get_or-set_other, length-set
 use Rattle.chess_base.specs.declared.setup.Setup.{Setup}
 use Rattle.chess_game.specs.Same.{same}
 use Rattle.chess_game.specs.ties.Buckets.{bucket, known_at, is_in, is_same_at, latest_below, count_below, HaveHeads, IsEmpty, HasEntry, HaveEntries, IsIndexed}
-use Rattle.chess_game.specs.declared.game.Place.{Place}
+use Rattle.chess_game.specs.declared.game.PlayedMove.{PlayedMove}
 use Rattle.chess_game.specs.declared.index.TheConstants.{BUCKETS}
 use Rattle.chess_game.specs.declared.repetition.Hashed.{Hashed}
 use Rattle.chess_game.proofs.Latest.{latest_alike, latest_fails, latest_here, count_alike}
@@ -21,7 +21,7 @@ differs b c e = λ q. true≢false (sym (eq-eqb b c (sym q)) ∙ e)
 -- ---- the heads
 
 -- with the last position's link as the head of its bucket, the heads are those of the positions before it
-pub heads_fewer : (table : List ℕ) (start : Hashed) (xs : List Place) (m e : ℕ) → length table ≡ BUCKETS
+pub heads_fewer : (table : List ℕ) (start : Hashed) (xs : List PlayedMove) (m e : ℕ) → length table ≡ BUCKETS
     → HaveHeads table start xs (suc m) → e ≡ latest_below (is_in start xs (bucket (known_at start xs m))) m
     → HaveHeads (set table (bucket (known_at start xs m)) e) start xs m
 heads_fewer table start xs m e len heads is b h = by_test (is_in start xs b m) refl
@@ -38,7 +38,7 @@ heads_fewer table start xs m e len heads is b h = by_test (is_in start xs b m) r
         ∙ heads b h ∙ latest_fails (is_in start xs b) m other
 
 -- with a position itself as the head of its bucket, they are those of the positions up to it
-pub heads_more : (table : List ℕ) (start : Hashed) (xs : List Place) (m : ℕ) → length table ≡ BUCKETS
+pub heads_more : (table : List ℕ) (start : Hashed) (xs : List PlayedMove) (m : ℕ) → length table ≡ BUCKETS
     → HaveHeads table start xs m
     → HaveHeads (set table (bucket (known_at start xs m)) (suc m)) start xs (suc m)
 heads_more table start xs m len heads b h = by_test (is_in start xs b m) refl
@@ -55,38 +55,38 @@ heads_more table start xs m len heads b h = by_test (is_in start xs b m) refl
         (differs (bucket (known_at start xs m)) b other)
         ∙ heads b h ∙ sym (latest_fails (is_in start xs b) m other)
 
--- ---- one place more or fewer
+-- ---- one played move more or fewer
 
-latest_before : (start : Hashed) (xs : List Place) (y : Place) (b n : ℕ) → n ≤ suc (length xs)
+latest_before : (start : Hashed) (xs : List PlayedMove) (y : PlayedMove) (b n : ℕ) → n ≤ suc (length xs)
     → latest_below (is_in start (xs ++ y ∷ []) b) n ≡ latest_below (is_in start xs b) n
 latest_before start xs y b n h =
     latest_alike (is_in start (xs ++ y ∷ []) b) (is_in start xs b) n
     (λ k l. ap (λ v. bucket v == b) (known_before start xs y k (omega (arith, l, h))))
 
-count_before : (start : Hashed) (xs : List Place) (y : Place) (q : Setup) (n : ℕ) → n ≤ suc (length xs)
+count_before : (start : Hashed) (xs : List PlayedMove) (y : PlayedMove) (q : Setup) (n : ℕ) → n ≤ suc (length xs)
     → count_below (is_same_at start (xs ++ y ∷ []) q) n ≡ count_below (is_same_at start xs q) n
 count_before start xs y q n h =
     count_alike (is_same_at start (xs ++ y ∷ []) q) (is_same_at start xs q) n
     (λ k l. ap (λ v. same v.position q) (known_before start xs y k (omega (arith, l, h))))
 
-entry_behind : (start : Hashed) (xs : List Place) (y : Place) (k : ℕ) (x : Place) → k ≤ length xs
+entry_behind : (start : Hashed) (xs : List PlayedMove) (y : PlayedMove) (k : ℕ) (x : PlayedMove) → k ≤ length xs
     → HasEntry start xs k x → HasEntry start (xs ++ y ∷ []) k x
 entry_behind start xs y k x h entry = record {
   earlier = entry.earlier ∙ sym (latest_before start xs y (bucket x.reached) (suc k) (omega arith));
   count = entry.count ∙ ap suc (sym (count_before start xs y x.reached.position (suc k) (omega arith)));
 }
 
-entry_before : (start : Hashed) (xs : List Place) (y : Place) (k : ℕ) (x : Place) → k ≤ length xs
+entry_before : (start : Hashed) (xs : List PlayedMove) (y : PlayedMove) (k : ℕ) (x : PlayedMove) → k ≤ length xs
     → HasEntry start (xs ++ y ∷ []) k x → HasEntry start xs k x
 entry_before start xs y k x h entry = record {
   earlier = entry.earlier ∙ latest_before start xs y (bucket x.reached) (suc k) (omega arith);
   count = entry.count ∙ ap suc (count_before start xs y x.reached.position (suc k) (omega arith));
 }
 
-long : (xs : List Place) (y : Place) → length (xs ++ y ∷ []) ≡ suc (length xs)
+long : (xs : List PlayedMove) (y : PlayedMove) → length (xs ++ y ∷ []) ≡ suc (length xs)
 long xs y = let e = length-append xs (y ∷ []) in omega (arith, e)
 
-entries_more : (start : Hashed) (xs : List Place) (y : Place) → HaveEntries start xs → HasEntry start xs (length xs) y
+entries_more : (start : Hashed) (xs : List PlayedMove) (y : PlayedMove) → HaveEntries start xs → HasEntry start xs (length xs) y
     → HaveEntries start (xs ++ y ∷ [])
 entries_more start xs y entries entry k d h = by_test (k == length xs) refl
   where
@@ -101,13 +101,13 @@ entries_more start xs y entries entry k d h = by_test (k == length xs) refl
         subst (HasEntry start (xs ++ y ∷ []) k) (sym (get_or_append_left xs (y ∷ []) d k low))
         (entry_behind start xs y k (get_or xs k d) (omega (arith, low)) (entries k d low))
 
-entries_fewer : (start : Hashed) (xs : List Place) (y : Place) → HaveEntries start (xs ++ y ∷ []) → HaveEntries start xs
+entries_fewer : (start : Hashed) (xs : List PlayedMove) (y : PlayedMove) → HaveEntries start (xs ++ y ∷ []) → HaveEntries start xs
 entries_fewer start xs y entries k d h =
     let l = long xs y in
     entry_before start xs y k (get_or xs k d) (omega (arith, h))
     (subst (HasEntry start (xs ++ y ∷ []) k) (get_or_append_left xs (y ∷ []) d k h) (entries k d (omega (arith, h, l))))
 
-entry_last : (start : Hashed) (xs : List Place) (y : Place) → HaveEntries start (xs ++ y ∷ [])
+entry_last : (start : Hashed) (xs : List PlayedMove) (y : PlayedMove) → HaveEntries start (xs ++ y ∷ [])
     → HasEntry start xs (length xs) y
 entry_last start xs y entries =
     let l = long xs y in
@@ -126,7 +126,7 @@ begun table start b clean is = subst (λ v. IsIndexed (set table v 1) start []) 
   entries = λ k d h. absurd (omega arith);
 })
 
-pub pushed_index : (table : List ℕ) (start : Hashed) (xs : List Place) (y : Place) (b n : ℕ) → IsIndexed table start xs
+pub pushed_index : (table : List ℕ) (start : Hashed) (xs : List PlayedMove) (y : PlayedMove) (b n : ℕ) → IsIndexed table start xs
     → b ≡ bucket y.reached → n ≡ suc (suc (length xs)) → y.entry.earlier ≡ get_or table (bucket y.reached) 0
     → y.entry.count ≡ suc (count_below (is_same_at start xs y.reached.position) (suc (length xs)))
     → IsIndexed (set table b n) start (xs ++ y ∷ [])
@@ -149,7 +149,7 @@ pushed_index table start xs y b n index is next earlier counted =
           (record { earlier = earlier ∙ index.heads (bucket y.reached) low; count = counted });
     }
 
-pub popped_index : (table : List ℕ) (start : Hashed) (xs : List Place) (y : Place) (b : ℕ)
+pub popped_index : (table : List ℕ) (start : Hashed) (xs : List PlayedMove) (y : PlayedMove) (b : ℕ)
     → IsIndexed table start (xs ++ y ∷ []) → b ≡ bucket y.reached
     → IsIndexed (set table b y.entry.earlier) start xs
 popped_index table start xs y b index is =
@@ -173,16 +173,16 @@ popped_index table start xs y b index is =
 
 -- ---- all forgotten
 
--- one place fewer, going back
-pub heads_back : (table : List ℕ) (start : Hashed) (xs : List Place) (left : ℕ) (x : Place) (b : ℕ)
+-- one played move fewer, going back
+pub heads_back : (table : List ℕ) (start : Hashed) (xs : List PlayedMove) (left : ℕ) (x : PlayedMove) (b : ℕ)
     → length table ≡ BUCKETS → HaveEntries start xs → HaveHeads table start xs (suc left) → 0 < left → left ≤ length xs
     → x ≡ get_or xs (left - 1) x → b ≡ bucket x.reached
     → HaveHeads (set table b x.entry.earlier) start xs (suc (left - 1))
-heads_back table start xs left x b len entries heads some h place is =
-    let entry = subst (HasEntry start xs (left - 1)) (sym place) (entries (left - 1) x (omega (arith, some, h))) in
+heads_back table start xs left x b len entries heads some h played_move is =
+    let entry = subst (HasEntry start xs (left - 1)) (sym played_move) (entries (left - 1) x (omega (arith, some, h))) in
     let next : left ≡ suc (left - 1) = omega (arith, some) in
     let there : bucket (known_at start xs (suc (left - 1))) ≡ bucket x.reached = ap bucket
-    (known_place start xs (left - 1) x (omega (arith, some, h)) ∙ ap (λ v. v.reached) (sym place)) in
+    (known_place start xs (left - 1) x (omega (arith, some, h)) ∙ ap (λ v. v.reached) (sym played_move)) in
     let link : x.entry.earlier ≡ latest_below (is_in start xs (bucket (known_at start xs (suc (left - 1))))) (suc (left - 1)) =
     entry.earlier ∙ ap (λ v. latest_below (is_in start xs v) (suc (left - 1))) (sym there) in
     let whole : HaveHeads table start xs (suc (suc (left - 1))) =
@@ -191,7 +191,7 @@ heads_back table start xs left x b len entries heads some h place is =
     (heads_fewer table start xs (suc (left - 1)) x.entry.earlier len whole link)
 
 -- and at last the start
-pub cleared : (table : List ℕ) (start : Hashed) (xs : List Place) (left b : ℕ) → length table ≡ BUCKETS
+pub cleared : (table : List ℕ) (start : Hashed) (xs : List PlayedMove) (left b : ℕ) → length table ≡ BUCKETS
     → HaveHeads table start xs (suc left) → left ≤ 0 → b ≡ bucket start → IsEmpty (set table b 0)
 unfolding latest_below known_at
 cleared table start xs left b len heads none is =

@@ -6,9 +6,9 @@ use Rattle.chess_base.specs.declared.setup.Setup.{Setup}
 use Rattle.chess_base.specs.declared.man.Move.{Move}
 use Rattle.chess_game.specs.Ends.{verdict}
 use Rattle.chess_game.specs.Game.{State, last_move, is_over}
-use Rattle.chess_game.specs.ties.Places.{moves_of, IsUnended}
+use Rattle.chess_game.specs.ties.PlayedMoves.{moves_of, IsUnended}
 use Rattle.chess_game.specs.declared.ends.Verdict.{Verdict}
-use Rattle.chess_game.specs.declared.game.Place.{Place}
+use Rattle.chess_game.specs.declared.game.PlayedMove.{PlayedMove}
 
 last_or_below : (n k : ℕ) → k < n + 1 → (k ≡ n) ⊎ (k < n)
 last_or_below n k h = grind arith
@@ -25,12 +25,12 @@ more p ms m before now k h =
       | inr less ↦ ap (verdict p) (take-append-le k ms (m ∷ []) (omega arith)) ∙ before k less
     ]
 
-pub unended_more : (p : Setup) (xs : List Place) (x : Place) → IsUnended p (moves_of xs)
+pub unended_more : (p : Setup) (xs : List PlayedMove) (x : PlayedMove) → IsUnended p (moves_of xs)
     → verdict p (moves_of xs) ≡ None
     → IsUnended p (moves_of (xs ++ x ∷ []))
 unended_more p xs x unended none = record {
   before = subst (λ ms. (k : ℕ) → k < length ms → verdict p (take k ms) ≡ None)
-      (sym (map-append (λ (y : Place). y.made) xs (x ∷ [])))
+      (sym (map-append (λ (y : PlayedMove). y.made) xs (x ∷ [])))
       (more p (moves_of xs) x.made unended.before none);
 }
 
@@ -41,11 +41,11 @@ fewer p ms m before k h =
     let len : length (ms ++ m ∷ []) ≡ length ms + 1 = length-append ms (m ∷ []) in
     ap (verdict p) (sym (take-append-le k ms (m ∷ []) (omega arith))) ∙ before k (omega (arith, len))
 
-pub unended_fewer : (p : Setup) (xs ys : List Place) (x : Place) → IsUnended p (moves_of xs)
+pub unended_fewer : (p : Setup) (xs ys : List PlayedMove) (x : PlayedMove) → IsUnended p (moves_of xs)
     → xs ≡ ys ++ x ∷ [] → IsUnended p (moves_of ys)
 unended_fewer p xs ys x unended is =
     let all : moves_of xs ≡ moves_of ys ++ x.made ∷ [] = ap moves_of is
-    ∙ map-append (λ (y : Place). y.made) ys (x ∷ []) in
+    ∙ map-append (λ (y : PlayedMove). y.made) ys (x ∷ []) in
     let behind = fewer p (moves_of ys) x.made
     (subst (λ ms. (k : ℕ) → k < length ms → verdict p (take k ms) ≡ None) all unended.before) in
     record { before = λ k h. behind k (omega arith) }
@@ -54,11 +54,11 @@ at_the_end : (ms : List Move) (m : Move) → slice_get (ms ++ m ∷ []) (length 
 at_the_end [] m = refl
 at_the_end (n ∷ ms) m = at_the_end ms m
 
--- the last place holds the last move
-pub last_is : (xs ys : List Place) (x : Place) → xs ≡ ys ++ x ∷ [] → Ok x.made ≡ last_move (moves_of xs)
+-- the last played move holds the last move
+pub last_is : (xs ys : List PlayedMove) (x : PlayedMove) → xs ≡ ys ++ x ∷ [] → Ok x.made ≡ last_move (moves_of xs)
 last_is xs ys x is =
     let all : moves_of xs ≡ moves_of ys ++ x.made ∷ [] = ap moves_of is
-    ∙ map-append (λ (y : Place). y.made) ys (x ∷ []) in
+    ∙ map-append (λ (y : PlayedMove). y.made) ys (x ∷ []) in
     let len : length (moves_of ys ++ x.made ∷ []) - 1 ≡ length (moves_of ys) = let e =
     length-append (moves_of ys) (x.made ∷ []) in omega (arith, e) in
     let found : slice_get (moves_of ys ++ x.made ∷ []) (length (moves_of ys ++ x.made ∷ []) - 1) ≡ Some x.made =

@@ -1,4 +1,4 @@
--- The places of a game: what a move adds, and what taking one back leaves.
+-- The played moves of a game: what a move adds, and what taking one back leaves.
 use Rattle.std.proofs.Common.{◌≡◌, ◌∙◌, ℕ, zero, suc, ◌+◌, ◌-◌, ◌<◌, ◌≤◌, List, [], ◌∷◌, ◌++◌, length, take, get_or, Option, Result, Ok, Err, is_ok, is_err, Bool, false, if◌then◌else◌, sym, ap, subst, arith}
 use Rattle.std.proofs.Math.Seq.{take-length}
 use Rattle.std.proofs.lemmas.Bool.Decides.{nat_tests}
@@ -10,18 +10,18 @@ use Rattle.chess_base.specs.declared.setup.Setup.{Setup}
 use Rattle.chess_base.specs.Moves.{after}
 use Rattle.chess_moves.specs.Made.{WasMade}
 use Rattle.chess_game.specs.Line.{last, IsLine}
-use Rattle.chess_game.specs.ties.Places.{moves_of, IsKnown, Hashing, HasHash, HaveHashes, Follows}
+use Rattle.chess_game.specs.ties.PlayedMoves.{moves_of, IsKnown, Hashing, HasHash, HaveHashes, Follows}
 use Rattle.chess_game.specs.Game.{Seen, is_full}
-use Rattle.chess_game.specs.declared.game.Place.{Place}
+use Rattle.chess_game.specs.declared.game.PlayedMove.{PlayedMove}
 use Rattle.chess_game.specs.declared.repetition.Hashed.{Hashed}
 use Rattle.chess_game.specs.declared.results.Declared.{Declared}
 
--- a place reached the position after the moves up to it
-pub record IsAt (p : Setup) (xs : List Place) (k : ℕ) (x : Place) : Type 0 where
+-- a played move reached the position after the moves up to it
+pub record IsAt (p : Setup) (xs : List PlayedMove) (k : ℕ) (x : PlayedMove) : Type 0 where
   pub known : IsKnown x.reached
   pub reached : x.reached.position ≡ last p (take (k + 1) (moves_of xs))
 
-pub at_place : (p : Setup) (xs : List Place) (k : ℕ) (d : Place) → Follows p xs → k < length xs
+pub at_place : (p : Setup) (xs : List PlayedMove) (k : ℕ) (d : PlayedMove) → Follows p xs → k < length xs
     → IsAt p xs k (get_or xs k d)
 at_place p [] k d f h = absurd (omega arith)
 at_place p (y ∷ ys) zero d f h = record { known = f.1; reached = f.0.left }
@@ -35,24 +35,24 @@ at_place p (y ∷ ys) (suc k) d f h =
     }
 
 -- after some half-moves
-pub reached_by : (p : Setup) (xs : List Place) (ply : ℕ) (d : Place) → Follows p xs → 0 < ply
+pub reached_by : (p : Setup) (xs : List PlayedMove) (ply : ℕ) (d : PlayedMove) → Follows p xs → 0 < ply
     → ply ≤ length (moves_of xs) → (get_or xs (ply - 1) d).reached.position ≡ last p (take ply (moves_of xs))
 reached_by p xs ply d f some h =
-    let len = length-map xs (λ (x : Place). x.made) in
+    let len = length-map xs (λ (x : PlayedMove). x.made) in
     let again : ply - 1 + 1 ≡ ply = omega arith in
     (at_place p xs (ply - 1) d f (omega (arith, len))).reached ∙ ap (λ n. last p (take n (moves_of xs))) again
 
--- the last place is at the end of the line
-pub record IsAtEnd (p : Setup) (xs : List Place) (x : Place) : Type 0 where
+-- the last played move is at the end of the line
+pub record IsAtEnd (p : Setup) (xs : List PlayedMove) (x : PlayedMove) : Type 0 where
   pub known : IsKnown x.reached
   pub reached : x.reached.position ≡ last p (moves_of xs)
 
-pub at_end : (p : Setup) (xs : List Place) (d : Place) → Follows p xs → 0 < length xs
+pub at_end : (p : Setup) (xs : List PlayedMove) (d : PlayedMove) → Follows p xs → 0 < length xs
     → IsAtEnd p xs (get_or xs (length xs - 1) d)
 at_end p xs d f h =
     let at = at_place p xs (length xs - 1) d f (omega arith) in
     let all : length xs - 1 + 1 ≡ length (moves_of xs) = let e =
-    length-map xs (λ (x : Place). x.made) in omega (arith, e) in
+    length-map xs (λ (x : PlayedMove). x.made) in omega (arith, e) in
     record {
       known = at.known;
       reached = at.reached ∙ ap (λ n. last p (take n (moves_of xs))) all
@@ -60,12 +60,12 @@ at_end p xs d f h =
     }
 
 -- the moves that are kept are a line
-pub kept_line : (p : Setup) (xs : List Place) → Follows p xs → IsLine p (moves_of xs)
+pub kept_line : (p : Setup) (xs : List PlayedMove) → Follows p xs → IsLine p (moves_of xs)
 kept_line p [] f = tt
 kept_line p (x ∷ xs) f = (f.0.legal, subst (λ v. IsLine v (moves_of xs)) f.0.left (kept_line x.reached.position xs f.2))
 
 -- one more move
-pub follows_more : (p : Setup) (xs : List Place) (x : Place) → Follows p xs
+pub follows_more : (p : Setup) (xs : List PlayedMove) (x : PlayedMove) → Follows p xs
     → WasMade (last p (moves_of xs)) x.made x.saved x.reached.position → IsKnown x.reached → Follows p (xs ++ x ∷ [])
 follows_more p [] x f made known = (made, known, tt)
 follows_more p (y ∷ ys) x f made known =
@@ -77,18 +77,18 @@ follows_more p (y ∷ ys) x f made known =
           (subst (λ v. WasMade v x.made x.saved x.reached.position) at made) known,
     )
 
-pub last-more : (p : Setup) (xs : List Place) (x : Place)
+pub last-more : (p : Setup) (xs : List PlayedMove) (x : PlayedMove)
     → WasMade (last p (moves_of xs)) x.made x.saved x.reached.position
     → x.reached.position ≡ last p (moves_of (xs ++ x ∷ []))
 last-more p [] x made = made.left
 last-more p (y ∷ ys) x made = last-more (after p y.made) ys x made
 
 -- a move that was made and added
-pub record Added (p : Setup) (xs : List Place) (x : Place) (board : Setup) : Type 0 where
+pub record Added (p : Setup) (xs : List PlayedMove) (x : PlayedMove) (board : Setup) : Type 0 where
   pub follows : Follows p (xs ++ x ∷ [])
   pub at_end : board ≡ last p (moves_of (xs ++ x ∷ []))
 
-pub added : (p : Setup) (xs : List Place) (x : Place) (before after : Setup) → Follows p xs
+pub added : (p : Setup) (xs : List PlayedMove) (x : PlayedMove) (before after : Setup) → Follows p xs
     → before ≡ last p (moves_of xs) → WasMade before x.made x.saved after → x.reached.position ≡ after
     → IsKnown x.reached
     → Added p xs x after
@@ -99,71 +99,71 @@ added p xs x before after f at made reached known =
     record { follows = follows_more p xs x f here known; at_end = sym reached ∙ last-more p xs x here }
 
 -- the position of a move that was made at the end of the line
-pub made_at_end : (p : Setup) (xs ys : List Place) (m : Move) (s : Saved) (before after q : Setup) → ys ≡ xs
+pub made_at_end : (p : Setup) (xs ys : List PlayedMove) (m : Move) (s : Saved) (before after q : Setup) → ys ≡ xs
     → before ≡ last p (moves_of xs) → WasMade before m s after → q ≡ after → WasMade (last p (moves_of ys)) m s q
 made_at_end p xs ys m s before after q list at made reached =
-    subst (λ (zs : List Place). WasMade (last p (moves_of zs)) m s q) (sym list)
+    subst (λ (zs : List PlayedMove). WasMade (last p (moves_of zs)) m s q) (sym list)
     (subst (λ v. WasMade v m s q) at (subst (WasMade before m s) (sym reached) made))
 
 -- one fewer
-follows_fewer : (p : Setup) (xs : List Place) (x : Place) → Follows p (xs ++ x ∷ []) → Follows p xs
+follows_fewer : (p : Setup) (xs : List PlayedMove) (x : PlayedMove) → Follows p (xs ++ x ∷ []) → Follows p xs
 follows_fewer p [] x f = tt
 follows_fewer p (y ∷ ys) x f = (f.0, f.1, follows_fewer y.reached.position ys x f.2)
 
-made-last : (p : Setup) (xs : List Place) (x : Place) → Follows p (xs ++ x ∷ [])
+made-last : (p : Setup) (xs : List PlayedMove) (x : PlayedMove) → Follows p (xs ++ x ∷ [])
     → WasMade (last p (moves_of xs)) x.made x.saved (last p (moves_of (xs ++ x ∷ [])))
 made-last p [] x f = subst (WasMade p x.made x.saved) f.0.left f.0
 made-last p (y ∷ ys) x f = subst (λ v. WasMade (last v (moves_of ys)) x.made x.saved (last v (moves_of (ys ++ x ∷ []))))
     f.0.left (made-last y.reached.position ys x f.2)
 
--- the last place holds the position that was left
-pub taken : (p : Setup) (xs ys : List Place) (x : Place) (q : Setup) → Follows p xs → xs ≡ ys ++ x ∷ []
+-- the last played move holds the position that was left
+pub taken : (p : Setup) (xs ys : List PlayedMove) (x : PlayedMove) (q : Setup) → Follows p xs → xs ≡ ys ++ x ∷ []
     → q ≡ last p (moves_of xs) → WasMade (last p (moves_of ys)) x.made x.saved q
 taken p xs ys x q f is at =
     subst (WasMade (last p (moves_of ys)) x.made x.saved) (ap (λ v. last p (moves_of v)) (sym is) ∙ sym at)
     (made-last p ys x (subst (Follows p) is f))
 
-pub fewer : (p : Setup) (xs ys : List Place) (x : Place) → Follows p xs → xs ≡ ys ++ x ∷ [] → Follows p ys
+pub fewer : (p : Setup) (xs ys : List PlayedMove) (x : PlayedMove) → Follows p xs → xs ≡ ys ++ x ∷ [] → Follows p ys
 fewer p xs ys x f is = follows_fewer p ys x (subst (Follows p) is f)
 
 -- ---- hashes
 
--- each place has its hash
-abbrev pub AllHave : Hashing → List Place → Type 0
-AllHave f xs = AllByRecursion (λ (x : Place). HasHash f x.reached) xs
+-- each played move has its hash
+abbrev pub AllHave : Hashing → List PlayedMove → Type 0
+AllHave f xs = AllByRecursion (λ (x : PlayedMove). HasHash f x.reached) xs
 
-all_more : (f : Hashing) (xs : List Place) (x : Place) → AllHave f xs → HasHash f x.reached → AllHave f (xs ++ x ∷ [])
+all_more : (f : Hashing) (xs : List PlayedMove) (x : PlayedMove) → AllHave f xs → HasHash f x.reached → AllHave f (xs ++ x ∷ [])
 all_more f [] x all here = (here, tt)
 all_more f (y ∷ ys) x all here = (all.0, all_more f ys x all.1 here)
 
-pub words_more : (f : Hashing) (start : Hashed) (xs : List Place) (x : Place) → HaveHashes f start xs
+pub words_more : (f : Hashing) (start : Hashed) (xs : List PlayedMove) (x : PlayedMove) → HaveHashes f start xs
     → HasHash f x.reached
     → HaveHashes f start (xs ++ x ∷ [])
 words_more f start xs x h here = record { start = h.start; behind = all_more f xs x h.behind here }
 
-all_fewer : (f : Hashing) (xs : List Place) (x : Place) → AllHave f (xs ++ x ∷ []) → AllHave f xs
+all_fewer : (f : Hashing) (xs : List PlayedMove) (x : PlayedMove) → AllHave f (xs ++ x ∷ []) → AllHave f xs
 all_fewer f [] x all = tt
 all_fewer f (y ∷ ys) x all = (all.0, all_fewer f ys x all.1)
 
-pub words_fewer : (f : Hashing) (start : Hashed) (xs ys : List Place) (x : Place) → HaveHashes f start xs
+pub words_fewer : (f : Hashing) (start : Hashed) (xs ys : List PlayedMove) (x : PlayedMove) → HaveHashes f start xs
     → xs ≡ ys ++ x ∷ []
     → HaveHashes f start ys
 words_fewer f start xs ys x h is = record { start = h.start; behind = all_fewer f ys x (subst (AllHave f) is h.behind) }
 
 -- ---- room
 
--- a push that did not fail added its place
-pub pushed : {A E : Type 0} (r : Result A E) (xs ys zs : List Place) → is_err r ≡ false
+-- a push that did not fail added its played move
+pub pushed : {A E : Type 0} (r : Result A E) (xs ys zs : List PlayedMove) → is_err r ≡ false
     → zs ≡ (if is_ok r then ys else xs) → zs ≡ ys
 pushed (Ok v) xs ys zs h e = e
 pushed (Err v) xs ys zs h e = cc
 
 -- a game that is not full has a place
-pub room : (limit : ℕ) (p : Setup) (xs : List Place) (d : Option Declared) (g : Seen)
+pub room : (limit : ℕ) (p : Setup) (xs : List PlayedMove) (d : Option Declared) (g : Seen)
     → record { limit = limit; state = record { start = p; moves = moves_of xs; declared = d } } ≡ g
     → (full : Bool) → full ≡ is_full g → full ≡ false → length xs < limit
 room limit p xs d g view full is not_full =
     let told : is_full (record { limit = limit; state = record { start = p; moves = moves_of xs; declared = d } })
     ≡ false = ap is_full view ∙ sym is ∙ not_full in
-    let len = length-map xs (λ (x : Place). x.made) in
+    let len = length-map xs (λ (x : PlayedMove). x.made) in
     grind (arith, nat_tests, told, len)

@@ -2,22 +2,22 @@
 use Rattle.std.proofs.Common.{◌≡◌, ℕ, zero, suc, ◌<◌, List, [], ◌∷◌, ◌++◌, length, get_or, refl, sym, subst, arith}
 use Rattle.chess_base.specs.Sound.{IsSound}
 use Rattle.chess_game.specs.Line.{last}
-use Rattle.chess_game.specs.ties.Places.{moves_of, IsKnown, Hashing, HasHash, HaveHashes, Follows}
+use Rattle.chess_game.specs.ties.PlayedMoves.{moves_of, IsKnown, Hashing, HasHash, HaveHashes, Follows}
 use Rattle.chess_game.specs.ties.Buckets.{known_at}
-use Rattle.chess_game.specs.declared.game.Place.{Place}
+use Rattle.chess_game.specs.declared.game.PlayedMove.{PlayedMove}
 use Rattle.chess_game.specs.declared.repetition.Hashed.{Hashed}
 use Rattle.chess_game.proofs.Kept.{AllHave}
 
--- after the start they are those that the places reached
-pub known_place : (start : Hashed) (xs : List Place) (k : ℕ) (d : Place) → k < length xs
+-- after the start they are those that the played moves reached
+pub known_place : (start : Hashed) (xs : List PlayedMove) (k : ℕ) (d : PlayedMove) → k < length xs
     → known_at start xs (suc k) ≡ (get_or xs k d).reached
 unfolding known_at
 known_place start [] k d h = absurd (omega arith)
 known_place start (x ∷ xs) zero d h = refl
 known_place start (x ∷ xs) (suc k) d h = known_place x.reached xs k d (omega arith)
 
--- one more place leaves those before it
-pub known_before : (start : Hashed) (xs : List Place) (y : Place) (k : ℕ) → k < suc (length xs)
+-- one more played move leaves those before it
+pub known_before : (start : Hashed) (xs : List PlayedMove) (y : PlayedMove) (k : ℕ) → k < suc (length xs)
     → known_at start (xs ++ y ∷ []) k ≡ known_at start xs k
 unfolding known_at
 known_before start xs y zero h = refl
@@ -25,32 +25,32 @@ known_before start [] y (suc k) h = absurd (omega arith)
 known_before start (x ∷ xs) y (suc k) h = known_before x.reached xs y k (omega arith)
 
 -- and adds its own
-pub known_last : (start : Hashed) (xs : List Place) (y : Place)
+pub known_last : (start : Hashed) (xs : List PlayedMove) (y : PlayedMove)
     → known_at start (xs ++ y ∷ []) (suc (length xs)) ≡ y.reached
 unfolding known_at
 known_last start [] y = refl
 known_last start (x ∷ xs) y = known_last x.reached xs y
 
-pub known_is : (start : Hashed) (xs : List Place) (k : ℕ) → IsKnown start → Follows start.position xs
+pub known_is : (start : Hashed) (xs : List PlayedMove) (k : ℕ) → IsKnown start → Follows start.position xs
     → IsKnown (known_at start xs k)
 unfolding known_at
 known_is start xs zero known f = known
 known_is start [] (suc k) known f = known
 known_is start (x ∷ xs) (suc k) known f = known_is x.reached xs k f.1 f.2
 
-word_is : (f : Hashing) (start : Hashed) (xs : List Place) (k : ℕ) → HasHash f start → AllHave f xs
+word_is : (f : Hashing) (start : Hashed) (xs : List PlayedMove) (k : ℕ) → HasHash f start → AllHave f xs
     → HasHash f (known_at start xs k)
 unfolding known_at
 word_is f start xs zero here all = here
 word_is f start [] (suc k) here all = here
 word_is f start (x ∷ xs) (suc k) here all = word_is f x.reached xs k all.0 all.1
 
-pub word_of_known : (f : Hashing) (start : Hashed) (xs : List Place) (k : ℕ) → HaveHashes f start xs
+pub word_of_known : (f : Hashing) (start : Hashed) (xs : List PlayedMove) (k : ℕ) → HaveHashes f start xs
     → HasHash f (known_at start xs k)
 word_of_known f start xs k words = word_is f start xs k words.start words.behind
 
 -- all are sound, where the last one is
-pub sound_is : (start : Hashed) (xs : List Place) (k : ℕ) → Follows start.position xs
+pub sound_is : (start : Hashed) (xs : List PlayedMove) (k : ℕ) → Follows start.position xs
     → IsSound (last start.position (moves_of xs)) → k < suc (length xs) → IsSound (known_at start xs k).position
 unfolding known_at
 sound_is start [] zero f sound h = sound

@@ -1,4 +1,4 @@
--- A walk along the links of a bucket, and what the places keep.
+-- A walk along the links of a bucket, and what the played moves keep.
 use Rattle.std.proofs.Common.{◌≡◌, ◌∙◌, ℕ, suc, ◌+◌, ◌-◌, ◌%◌, ◌<◌, ◌≤◌, true, false, cond, List, [], ◌∷◌, length, get_or, count_by, refl, sym, ap, subst, arith}
 use Rattle.std.proofs.lemmas.Bool.{eq-eqb, eqb-true}
 use Rattle.std.proofs.lemmas.List.{nil_from_length}
@@ -7,9 +7,9 @@ use Rattle.chess_base.specs.declared.setup.Setup.{Setup}
 use Rattle.chess_base.specs.Sound.{IsSound}
 use Rattle.chess_game.specs.Line.{last}
 use Rattle.chess_game.specs.Same.{same, rep}
-use Rattle.chess_game.specs.ties.Places.{moves_of, Hashing, HasHash, HaveHashes, Follows}
+use Rattle.chess_game.specs.ties.PlayedMoves.{moves_of, Hashing, HasHash, HaveHashes, Follows}
 use Rattle.chess_game.specs.ties.Buckets.{bucket, known_at, is_in, is_same_at, latest_below, count_below, HasEntry, HaveEntries}
-use Rattle.chess_game.specs.declared.game.Place.{Place}
+use Rattle.chess_game.specs.declared.game.PlayedMove.{PlayedMove}
 use Rattle.chess_game.specs.declared.index.TheConstants.{BUCKETS}
 use Rattle.chess_game.specs.declared.repetition.Hashed.{Hashed}
 use Rattle.chess_game.proofs.Counting.{seen, counted, one_if}
@@ -20,14 +20,14 @@ use Rattle.chess_game.proofs.Positions.{known_place, word_of_known, sound_is}
 use Rattle.chess_game.proofs.SameSelf.{same_self}
 
 -- what a walk rests on: the positions of a game, and one that is looked for
-pub record IsSought (start : Hashed) (xs : List Place) (now : Hashed) : Type 0 where
+pub record IsSought (start : Hashed) (xs : List PlayedMove) (now : Hashed) : Type 0 where
   pub follows : Follows start.position xs
   pub words : (f : Hashing) × HaveHashes f start xs × HasHash f now
   pub sound : IsSound (last start.position (moves_of xs))
   pub sound_now : IsSound now.position
 
 -- what is the same is in the same bucket
-met_there : (start : Hashed) (xs : List Place) (now : Hashed) (k : ℕ) → IsSought start xs now → k < suc (length xs)
+met_there : (start : Hashed) (xs : List PlayedMove) (now : Hashed) (k : ℕ) → IsSought start xs now → k < suc (length xs)
     → is_same_at start xs now.position k ≡ true → is_in start xs (bucket now) k ≡ true
 met_there start xs now k s h met =
     let f = s.words.0 in
@@ -39,13 +39,13 @@ met_there start xs now k s h met =
     eq-eqb (bucket (known_at start xs k)) (bucket now) (ap (λ w. w % BUCKETS) words)
 
 -- a walk is at a position of the bucket, and none after it is the same
-pub record IsAlong (start : Hashed) (xs : List Place) (now : Hashed) (at : ℕ) : Type 0 where
+pub record IsAlong (start : Hashed) (xs : List PlayedMove) (now : Hashed) (at : ℕ) : Type 0 where
   pub low : at ≤ suc (length xs)
   pub there : (k : ℕ) → at ≡ suc k → is_in start xs (bucket now) k ≡ true
   pub rest : count_below (is_same_at start xs now.position) (suc (length xs)) ≡ count_below (is_same_at start xs now.position) at
 
 -- at the latest position of the bucket below n, where none from n on is the same
-along : (start : Hashed) (xs : List Place) (now : Hashed) (at n : ℕ) → IsSought start xs now → n ≤ suc (length xs)
+along : (start : Hashed) (xs : List PlayedMove) (now : Hashed) (at n : ℕ) → IsSought start xs now → n ≤ suc (length xs)
     → at ≡ latest_below (is_in start xs (bucket now)) n
     → count_below (is_same_at start xs now.position) (suc (length xs)) ≡ count_below (is_same_at start xs now.position) n
     → IsAlong start xs now at
@@ -60,18 +60,18 @@ along start xs now at n s h is rest =
           ∙ ap (count_below (is_same_at start xs now.position)) (sym is);
     }
 
-pub walk_begins : (start : Hashed) (xs : List Place) (now : Hashed) (head : ℕ) → IsSought start xs now
+pub walk_begins : (start : Hashed) (xs : List PlayedMove) (now : Hashed) (head : ℕ) → IsSought start xs now
     → head ≡ latest_below (is_in start xs (bucket now)) (suc (length xs)) → IsAlong start xs now head
 walk_begins start xs now head s is = along start xs now head (suc (length xs)) s (omega arith) is refl
 
--- where the walk is, by the place
-pub record IsPlace (start : Hashed) (xs : List Place) (at : ℕ) (x : Place) : Type 0 where
+-- where the walk is, by the played move
+pub record IsPlace (start : Hashed) (xs : List PlayedMove) (at : ℕ) (x : PlayedMove) : Type 0 where
   pub next : at ≡ suc (suc (at - 2))
   pub known : known_at start xs (suc (at - 2)) ≡ x.reached
   pub entry : HasEntry start xs (at - 2) x
   pub low : at - 2 < length xs
 
-is_place : (start : Hashed) (xs : List Place) (now : Hashed) (at : ℕ) (x : Place) → HaveEntries start xs
+is_place : (start : Hashed) (xs : List PlayedMove) (now : Hashed) (at : ℕ) (x : PlayedMove) → HaveEntries start xs
     → IsAlong start xs now at → 1 < at → x ≡ get_or xs (at - 2) x → IsPlace start xs at x
 is_place start xs now at x entries a some is =
     let few = a.low in
@@ -82,7 +82,7 @@ is_place start xs now at x entries a some is =
       low = omega (arith, some, few);
     }
 
-pub walk_goes_on : (start : Hashed) (xs : List Place) (now : Hashed) (at : ℕ) (x : Place) → IsSought start xs now
+pub walk_goes_on : (start : Hashed) (xs : List PlayedMove) (now : Hashed) (at : ℕ) (x : PlayedMove) → IsSought start xs now
     → HaveEntries start xs → IsAlong start xs now at → 1 < at → x ≡ get_or xs (at - 2) x
     → same x.reached.position now.position ≡ false
     → IsAlong start xs now x.entry.earlier
@@ -99,7 +99,7 @@ walk_goes_on start xs now at x s entries a some is other =
     (a.rest ∙ ap (count_below (is_same_at start xs now.position)) p.next
     ∙ count_fails (is_same_at start xs now.position) (suc (at - 2)) off)
 
-pub walk_smaller : (start : Hashed) (xs : List Place) (now : Hashed) (at : ℕ) (x : Place)
+pub walk_smaller : (start : Hashed) (xs : List PlayedMove) (now : Hashed) (at : ℕ) (x : PlayedMove)
     → HaveEntries start xs → IsAlong start xs now at → 1 < at → x ≡ get_or xs (at - 2) x → x.entry.earlier < at
 walk_smaller start xs now at x entries a some is =
     let p = is_place start xs now at x entries a some is in
@@ -107,7 +107,7 @@ walk_smaller start xs now at x entries a some is =
     let low = latest_low (is_in start xs (bucket x.reached)) (suc (at - 2)) in
     omega (arith, link, low, some)
 
-pub walk_found : (start : Hashed) (xs : List Place) (now : Hashed) (at : ℕ) (x : Place) → IsSought start xs now
+pub walk_found : (start : Hashed) (xs : List PlayedMove) (now : Hashed) (at : ℕ) (x : PlayedMove) → IsSought start xs now
     → HaveEntries start xs → IsAlong start xs now at → 1 < at → x ≡ get_or xs (at - 2) x
     → same x.reached.position now.position ≡ true
     → x.entry.count + 1 ≡ suc (count_below (is_same_at start xs now.position) (suc (length xs)))
@@ -130,7 +130,7 @@ walk_found start xs now at x s entries a some is met =
     omega (arith, kept, alike, all)
 
 -- no more than there are
-pub walk_few : (start : Hashed) (xs : List Place) (now : Hashed) (at : ℕ) (x : Place)
+pub walk_few : (start : Hashed) (xs : List PlayedMove) (now : Hashed) (at : ℕ) (x : PlayedMove)
     → HaveEntries start xs → IsAlong start xs now at → 1 < at → x ≡ get_or xs (at - 2) x → x.entry.count ≤ length xs + 1
 walk_few start xs now at x entries a some is =
     let p = is_place start xs now at x entries a some is in
@@ -139,12 +139,12 @@ walk_few start xs now at x entries a some is =
     let low = p.low in
     omega (arith, kept, few, low)
 
-pub walk_ends : (start : Hashed) (xs : List Place) (now : Hashed) (at : ℕ) → IsAlong start xs now at → at ≡ 0
+pub walk_ends : (start : Hashed) (xs : List PlayedMove) (now : Hashed) (at : ℕ) → IsAlong start xs now at → at ≡ 0
     → 1 ≡ suc (count_below (is_same_at start xs now.position) (suc (length xs)))
 unfolding count_below
 walk_ends start xs now at a none = ap suc (sym (a.rest ∙ ap (count_below (is_same_at start xs now.position)) none))
 
-pub walk_ends_at_start : (start : Hashed) (xs : List Place) (now : Hashed) (at : ℕ) → IsAlong start xs now at → at ≡ 1
+pub walk_ends_at_start : (start : Hashed) (xs : List PlayedMove) (now : Hashed) (at : ℕ) → IsAlong start xs now at → at ≡ 1
     → 1 + cond (same start.position now.position) 1 0
     ≡ suc (count_below (is_same_at start xs now.position) (suc (length xs)))
 unfolding count_below known_at
@@ -154,7 +154,7 @@ walk_ends_at_start start xs now at a one =
     omega (arith, all)
 
 -- a walk ends early where none of the older positions is the same
-pub walk_stops : (start : Hashed) (xs : List Place) (now : Hashed) (at oldest : ℕ) → IsAlong start xs now at
+pub walk_stops : (start : Hashed) (xs : List PlayedMove) (now : Hashed) (at oldest : ℕ) → IsAlong start xs now at
     → at ≤ oldest → ((k : ℕ) → k < oldest → is_same_at start xs now.position k ≡ false)
     → 1 ≡ suc (count_below (is_same_at start xs now.position) (suc (length xs)))
 walk_stops start xs now at oldest a h none =
@@ -162,7 +162,7 @@ walk_stops start xs now at oldest a h none =
 
 -- ---- what is kept is the number of repetitions
 
-seen-count_below : (start : Hashed) (xs : List Place) (q : Setup)
+seen-count_below : (start : Hashed) (xs : List PlayedMove) (q : Setup)
     → seen start.position xs q ≡ count_below (is_same_at start xs q) (suc (length xs))
 unfolding count_below known_at
 seen-count_below start [] q = omega arith
@@ -175,13 +175,13 @@ seen-count_below start (x ∷ xs) q =
     count_first (is_same_at start (x ∷ xs) q) (suc (length xs)) in
     omega (arith, behind, cons, first)
 
-rep_is : (start : Hashed) (xs : List Place) → Follows start.position xs
+rep_is : (start : Hashed) (xs : List PlayedMove) → Follows start.position xs
     → count_below (is_same_at start xs (last start.position (moves_of xs))) (suc (length xs)) ≡ rep start.position (moves_of xs)
 rep_is start xs f =
     sym (seen-count_below start xs (last start.position (moves_of xs)))
     ∙ counted start.position xs (last start.position (moves_of xs)) f refl
 
-pub rep_alone : (start : Hashed) (xs : List Place) → Follows start.position xs → length xs ≡ 0
+pub rep_alone : (start : Hashed) (xs : List PlayedMove) → Follows start.position xs → length xs ≡ 0
     → 1 ≡ rep start.position (moves_of xs)
 unfolding count_below known_at
 rep_alone start xs f none =
@@ -191,7 +191,7 @@ rep_alone start xs f none =
     count_here (is_same_at start [] start.position) 0 (same_self start.position) in
     sym one ∙ rep_is start [] tt)
 
-pub rep_kept : (start : Hashed) (xs : List Place) (d : Place) → Follows start.position xs → HaveEntries start xs
+pub rep_kept : (start : Hashed) (xs : List PlayedMove) (d : PlayedMove) → Follows start.position xs → HaveEntries start xs
     → 0 < length xs
     → (get_or xs (length xs - 1) d).entry.count ≡ rep start.position (moves_of xs)
 rep_kept start xs d f entries some =

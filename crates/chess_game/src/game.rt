@@ -9,7 +9,7 @@ ghost use Rattle.chess_game.specs.Line.{last};
 ghost use Rattle.chess_game.specs.Same.{rep};
 ghost use Rattle.chess_game.specs.Ends.{verdict, claims};
 ghost use Rattle.chess_game.specs.Game.{at, from_start, with_declared, current, verdict_now, outcome_now, opened, is_over, is_full, play_refusal, unless_refused, after_play, last_move, after_take_back, declare_refusal, after_declare, IsPlayable};
-ghost use Rattle.chess_game.specs.ties.Places.{moves_of, Follows, IsKept};
+ghost use Rattle.chess_game.specs.ties.PlayedMoves.{moves_of, Follows, IsKept};
 ghost use Rattle.chess_game.specs.ties.Buckets.{HaveEntries};
 ghost use Rattle.chess_game.specs.declared.repetition.Hashed.{Hashed};
 
@@ -51,7 +51,7 @@ pub struct BoardSaysOtherwise;
 
 // A move that was played: what it did not keep, the position that it gave, and the entry of that in the index.
 #[derive(Drop)]
-pub(crate) struct Place {
+pub(crate) struct PlayedMove {
     pub(crate) made: Move,
     pub(crate) saved: Saved,
     pub(crate) reached: Hashed,
@@ -64,7 +64,7 @@ pub(crate) struct Place {
 pub struct Game<B: Board> {
     board: B,
     start: Hashed,
-    places: Vec<Place>,
+    played_moves: Vec<PlayedMove>,
     index: Index,
     declared: Option<Declared>,
     limit: u32,
@@ -76,42 +76,42 @@ impl<B: Board> Model for Game<B> {
     ghost Value = { Seen };
 
     ghost use Rattle.std.specs.Prelude.{vec_len, vec_capacity};
-    ghost use Rattle.chess_game.specs.ties.Places.{moves_of, IsKept, IsUnended, HasRoom};
+    ghost use Rattle.chess_game.specs.ties.PlayedMoves.{moves_of, IsKept, IsUnended, HasRoom};
     ghost use Rattle.chess_game.specs.ties.Buckets.{IsIndexed};
 
     ghost view = { λ g. record {
       limit = g.limit;
-      state = record { start = g.start.position; moves = moves_of g.places.items; declared = g.declared };
+      state = record { start = g.start.position; moves = moves_of g.played_moves.items; declared = g.declared };
     } };
 
-    ghost invariant = { λ g. IsKept B.word_of g.start g.places.items (B.position g.board)
-        × IsUnended g.start.position (moves_of g.places.items)
-        × HasRoom (vec_len g.places) g.limit (vec_capacity g.places)
-        × IsIndexed g.index.heads.items g.start g.places.items };
+    ghost invariant = { λ g. IsKept B.word_of g.start g.played_moves.items (B.position g.board)
+        × IsUnended g.start.position (moves_of g.played_moves.items)
+        × HasRoom (vec_len g.played_moves) g.limit (vec_capacity g.played_moves)
+        × IsIndexed g.index.heads.items g.start g.played_moves.items };
 }
 
-// How many positions from the start on are the same as the present one: the count of the last place.
-fn repetitions(places: &[Place]) -> u32
-    ensures { (start : Hashed) → Follows start.position places.now → HaveEntries start places.now
-        → result ≡ rep start.position (moves_of places.now) }
+// How many positions from the start on are the same as the present one: the count of the last played move.
+fn repetitions(played_moves: &[PlayedMove]) -> u32
+    ensures { (start : Hashed) → Follows start.position played_moves.now → HaveEntries start played_moves.now
+        → result ≡ rep start.position (moves_of played_moves.now) }
 {
-    if places.is_empty() {
+    if played_moves.is_empty() {
         1
     } else {
-        places[places.len() - 1].entry.count
+        played_moves[played_moves.len() - 1].entry.count
     }
 }
 
-// The verdict on the game of that board and those places, where there is a legal move.
+// The verdict on the game of that board and those played moves, where there is a legal move.
 #[tactic(auto, unfolding(crate::specs::Ends::verdict))]
-fn verdict_of_moving<B: Board>(board: &B, places: &[Place]) -> Option<Verdict>
+fn verdict_of_moving<B: Board>(board: &B, played_moves: &[PlayedMove]) -> Option<Verdict>
     requires { IsTrue (nat_lt 0 (length (moves (B.position board.now)))) }
-    ensures { (start : Hashed) → IsKept B.word_of start places.now (B.position board.now)
-        → HaveEntries start places.now → result ≡ verdict start.position (moves_of places.now) }
+    ensures { (start : Hashed) → IsKept B.word_of start played_moves.now (B.position board.now)
+        → HaveEntries start played_moves.now → result ≡ verdict start.position (moves_of played_moves.now) }
 {
     if is_bare(board) {
         Some(Verdict::InsufficientMaterial)
-    } else if repetitions(places) >= 5 {
+    } else if repetitions(played_moves) >= 5 {
         Some(Verdict::FivefoldRepetition)
     } else if board.setup().halfmove >= 150 {
         Some(Verdict::SeventyFiveMoves)
@@ -120,14 +120,14 @@ fn verdict_of_moving<B: Board>(board: &B, places: &[Place]) -> Option<Verdict>
     }
 }
 
-// The verdict on the game of that board and those places.
+// The verdict on the game of that board and those played moves.
 #[tactic(auto, unfolding(crate::specs::Ends::verdict))]
-fn verdict_on<B: Board>(board: &B, places: &[Place]) -> Option<Verdict>
-    ensures { (start : Hashed) → IsKept B.word_of start places.now (B.position board.now)
-        → HaveEntries start places.now → result ≡ verdict start.position (moves_of places.now) }
+fn verdict_on<B: Board>(board: &B, played_moves: &[PlayedMove]) -> Option<Verdict>
+    ensures { (start : Hashed) → IsKept B.word_of start played_moves.now (B.position board.now)
+        → HaveEntries start played_moves.now → result ≡ verdict start.position (moves_of played_moves.now) }
 {
     if board.has_legal_move() {
-        verdict_of_moving(board, places)
+        verdict_of_moving(board, played_moves)
     } else if board.in_check() {
         Some(mates(board.setup().side.other()))
     } else {
@@ -147,13 +147,13 @@ impl<B: Board + Drop> Game<B> {
     {
         board.set(&Position::initial());
         let start = Hashed::on(&board);
-        let places = Vec::with_capacity(alloc, limit as usize)?;
+        let played_moves = Vec::with_capacity(alloc, limit as usize)?;
         let mut index = Index::open(alloc)?;
         index.begin(&start);
         Ok(Game {
             board,
             start,
-            places,
+            played_moves,
             index,
             declared: None,
             limit,
@@ -167,10 +167,10 @@ impl<B: Board> Game<B> {
         ensures { self.new ≡ at self.old (from_start start.now) }
     {
         self.board.set(start);
-        self.index.clear(&self.start, self.places.as_slice());
+        self.index.clear(&self.start, self.played_moves.as_slice());
         self.start = Hashed::on(&self.board);
         self.index.begin(&self.start);
-        self.places.clear();
+        self.played_moves.clear();
         self.declared = None;
     }
 
@@ -215,8 +215,8 @@ impl<B: Board> Game<B> {
         // The prover wants two variables here: one move is given to the board, and one is kept.
         let made = m;
         let saved = self.board.make(made);
-        // The entry is put in last, where the place already is: a half-move then copies its position once less.
-        let mut place = Place {
+        // The entry is put in last, where the played move already is: a half-move then copies its position once less.
+        let mut played_move = PlayedMove {
             made: m,
             saved,
             reached: Hashed::on(&self.board),
@@ -227,10 +227,10 @@ impl<B: Board> Game<B> {
         };
         let entry = self
             .index
-            .push(&self.start, self.places.as_slice(), &place.reached);
-        place.entry = entry;
+            .push(&self.start, self.played_moves.as_slice(), &played_move.reached);
+        played_move.entry = entry;
         // There is room: `open` took a place for each half-move that the limit allows.
-        if self.places.push(place).is_err() {
+        if self.played_moves.push(played_move).is_err() {
             unreachable!();
         }
     }
@@ -250,15 +250,15 @@ impl<B: Board> Game<B> {
         ensures undeclared { OnOk result (IsNone self.new.state.declared) }
         ensures kept { (self.new.limit ≡ self.old.limit) × (self.new.state.start ≡ self.old.state.start) }
     {
-        match self.places.pop() {
+        match self.played_moves.pop() {
             None => Err(NoMove),
-            Some(place) => {
-                self.index.pop(&place);
+            Some(played_move) => {
+                self.index.pop(&played_move);
                 // The prover wants two variables here: one move is given to the board, and one is returned.
-                let made = place.made;
-                self.board.take_back(made, place.saved);
+                let made = played_move.made;
+                self.board.take_back(made, played_move.saved);
                 self.declared = None;
-                Ok(place.made)
+                Ok(played_move.made)
             }
         }
     }
@@ -330,7 +330,7 @@ impl<B: Board> Game<B> {
         if ply == 0 {
             self.start.position.unpacked()
         } else {
-            self.places[ply - 1].reached.position.unpacked()
+            self.played_moves[ply - 1].reached.position.unpacked()
         }
     }
 
@@ -338,7 +338,7 @@ impl<B: Board> Game<B> {
     pub fn ply(&self) -> usize
         ensures { result ≡ length self.now.state.moves }
     {
-        self.places.len()
+        self.played_moves.len()
     }
 
     /// The half-move with that number, from 0 on.
@@ -346,7 +346,7 @@ impl<B: Board> Game<B> {
         requires { ply < length self.now.state.moves }
         ensures { slice_get self.now.state.moves ply ≡ Some result }
     {
-        self.places[ply].made
+        self.played_moves[ply].made
     }
 
     /// The board, at the present position.
@@ -361,7 +361,7 @@ impl<B: Board> Game<B> {
     pub fn repetitions(&self) -> u32
         ensures { result ≡ rep self.now.state.start self.now.state.moves }
     {
-        repetitions(self.places.as_slice())
+        repetitions(self.played_moves.as_slice())
     }
 
     /// What the player on move may claim a draw by.
@@ -378,7 +378,7 @@ impl<B: Board> Game<B> {
     pub fn verdict(&self) -> Option<Verdict>
         ensures { result ≡ verdict_now self.now.state }
     {
-        verdict_on(&self.board, self.places.as_slice())
+        verdict_on(&self.board, self.played_moves.as_slice())
     }
 
     /// The verdict, found with the help of a legal move: where there is one, there is neither mate nor stalemate.
@@ -386,7 +386,7 @@ impl<B: Board> Game<B> {
         requires { IsTrue (is_legal (current self.now.state) m.now) }
         ensures { result ≡ verdict_now self.now.state }
     {
-        verdict_of_moving(&self.board, self.places.as_slice())
+        verdict_of_moving(&self.board, self.played_moves.as_slice())
     }
 
     /// What was declared, if it still holds.
@@ -419,6 +419,6 @@ impl<B: Board> Game<B> {
         ensures value { result ≡ is_full self.now }
         ensures few { result ≡ false → length self.now.state.moves < MOST_MOVES }
     {
-        self.places.len() >= self.limit as usize
+        self.played_moves.len() >= self.limit as usize
     }
 }

@@ -1,18 +1,18 @@
 //! The index of a game's positions, which finds how often a position occurred with few comparisons.
 //!
-//! A position's hash puts it in one of 32,768 buckets. A bucket's head is the latest position in it. Each place has an
+//! A position's hash puts it in one of 32,768 buckets. A bucket's head is the latest position in it. Each played move has an
 //! entry: a link to the latest earlier position in the bucket of its own, and the count of its own. Positions are
 //! numbered from 0, the start, on; a head or a link is a number plus one, or 0 where there is no such position.
 
 ghost use Rattle.std.specs.Prelude.{◌≡◌, ◌≤◌, ◌<◌, ◌+◌, ℕ, suc, false, [], ◌∷◌, ◌++◌, List, length, set, IfOk, cond};
-ghost use Rattle.chess_game.specs.declared.game.Place.{Place};
+ghost use Rattle.chess_game.specs.declared.game.PlayedMove.{PlayedMove};
 ghost use Rattle.chess_game.specs.declared.game.TheConstants.{MOST_MOVES};
 ghost use Rattle.chess_game.specs.declared.index.TheConstants.{BUCKETS};
 ghost use Rattle.chess_game.specs.declared.repetition.Hashed.{Hashed};
-ghost use Rattle.chess_game.specs.ties.Places.{IsKnown, Hashing, HasHash, HaveHashes, Follows};
+ghost use Rattle.chess_game.specs.ties.PlayedMoves.{IsKnown, Hashing, HasHash, HaveHashes, Follows};
 ghost use Rattle.chess_game.specs.ties.Buckets.{bucket, is_in, is_same_at, latest_below, count_below, IsNext, IsEmpty, HaveEntries, IsIndexed};
 
-use crate::game::Place;
+use crate::game::PlayedMove;
 use crate::repetition::Hashed;
 use chess_base::reserve_never_grows;
 use std::alloc::{AllocError, Global};
@@ -20,7 +20,7 @@ use std::alloc::{AllocError, Global};
 // How many buckets there are.
 const BUCKETS: usize = 32_768;
 
-// What the index keeps of a place.
+// What the index keeps of a played move.
 #[derive(Clone, Copy, PartialEq, Eq)]
 pub(crate) struct Entry {
     // The latest earlier position in the bucket of this one.
@@ -45,22 +45,22 @@ fn bucket(known: &Hashed) -> usize
 
 // The number of the first position of a game that can be the same as the one that a further move gave: no position from
 // before the last capture or pawn move can.
-fn oldest(places: &[Place], now: &Hashed) -> usize
+fn oldest(played_moves: &[PlayedMove], now: &Hashed) -> usize
     requires { IsKnown now.now }
-    ensures { (start : Hashed) → Follows start.position places.now → IsNext start places.now now.now → (k : ℕ)
-        → k < result → is_same_at start places.now now.now.position k ≡ false }
+    ensures { (start : Hashed) → Follows start.position played_moves.now → IsNext start played_moves.now now.now → (k : ℕ)
+        → k < result → is_same_at start played_moves.now now.now.position k ≡ false }
 {
     // The prover wants this law: the reserve of the pieces falls with each capture and pawn move, and never grows.
     reserve_never_grows();
     let ago = now.position.halfmove() as usize;
     if ago == 0 {
-        return places.len() + 1;
+        return played_moves.len() + 1;
     }
-    if ago > places.len() {
+    if ago > played_moves.len() {
         return 0;
     }
-    let first = places.len() - ago;
-    let reached = &places[first].reached;
+    let first = played_moves.len() - ago;
+    let reached = &played_moves[first].reached;
     if reached.position.halfmove() == 0 {
         first + 1
     } else {
@@ -69,34 +69,34 @@ fn oldest(places: &[Place], now: &Hashed) -> usize
 }
 
 // How many positions are the same as the one that a further move of a game gave, itself among them. The search follows
-// the links from the head of its bucket to the latest position that is the same, whose place has the count up to it.
-fn count_same(head: u16, start: &Hashed, places: &[Place], now: &Hashed) -> u32
+// the links from the head of its bucket to the latest position that is the same, whose played move has the count up to it.
+fn count_same(head: u16, start: &Hashed, played_moves: &[PlayedMove], now: &Hashed) -> u32
     requires start { IsKnown start.now }
     requires now { IsKnown now.now }
-    requires follows { Follows start.now.position places.now }
-    requires made { IsNext start.now places.now now.now }
-    requires words { (f : Hashing) × HaveHashes f start.now places.now × HasHash f now.now }
-    requires few { length places.now < MOST_MOVES }
-    requires entries { HaveEntries start.now places.now }
-    requires head { head ≡ latest_below (is_in start.now places.now (bucket now.now)) (suc (length places.now)) }
-    ensures { result ≡ suc (count_below (is_same_at start.now places.now now.now.position) (suc (length places.now))) }
+    requires follows { Follows start.now.position played_moves.now }
+    requires made { IsNext start.now played_moves.now now.now }
+    requires words { (f : Hashing) × HaveHashes f start.now played_moves.now × HasHash f now.now }
+    requires few { length played_moves.now < MOST_MOVES }
+    requires entries { HaveEntries start.now played_moves.now }
+    requires head { head ≡ latest_below (is_in start.now played_moves.now (bucket now.now)) (suc (length played_moves.now)) }
+    ensures { result ≡ suc (count_below (is_same_at start.now played_moves.now now.now.position) (suc (length played_moves.now))) }
 {
     // The prover wants this fact: a position is sound, so it has an element for each of the 64 squares.
     let _sound = now.position.halfmove();
     if head == 0 {
         return 1;
     }
-    let oldest = oldest(places, now);
+    let oldest = oldest(played_moves, now);
     let mut at = head as usize;
     while at > 1 {
         if at <= oldest {
             return 1;
         }
-        let place = &places[at - 2];
-        if place.reached.is_same(now) {
-            return place.entry.count + 1;
+        let played_move = &played_moves[at - 2];
+        if played_move.reached.is_same(now) {
+            return played_move.entry.count + 1;
         }
-        at = place.entry.earlier as usize;
+        at = played_move.entry.earlier as usize;
     }
     if at == 0 {
         1
@@ -123,22 +123,22 @@ impl Index {
         self.heads[bucket(start)] = 1;
     }
 
-    // Adds the position that a further move of a game gave, and returns the entry of its place.
-    pub(crate) fn push(&mut self, start: &Hashed, places: &[Place], reached: &Hashed) -> Entry
+    // Adds the position that a further move of a game gave, and returns the entry of its played move.
+    pub(crate) fn push(&mut self, start: &Hashed, played_moves: &[PlayedMove], reached: &Hashed) -> Entry
         requires start { IsKnown start.now }
         requires known { IsKnown reached.now }
-        requires follows { Follows start.now.position places.now }
-        requires made { IsNext start.now places.now reached.now }
-        requires words { (f : Hashing) × HaveHashes f start.now places.now × HasHash f reached.now }
-        requires few { length places.now < MOST_MOVES }
-        requires indexed { IsIndexed self.old.heads.items start.now places.now }
-        ensures { (x : Place) → x.reached ≡ reached.now → x.entry ≡ result
-            → IsIndexed self.new.heads.items start.now (places.now ++ x ∷ []) }
+        requires follows { Follows start.now.position played_moves.now }
+        requires made { IsNext start.now played_moves.now reached.now }
+        requires words { (f : Hashing) × HaveHashes f start.now played_moves.now × HasHash f reached.now }
+        requires few { length played_moves.now < MOST_MOVES }
+        requires indexed { IsIndexed self.old.heads.items start.now played_moves.now }
+        ensures { (x : PlayedMove) → x.reached ≡ reached.now → x.entry ≡ result
+            → IsIndexed self.new.heads.items start.now (played_moves.now ++ x ∷ []) }
     {
         let number = bucket(reached);
         let head = self.heads[number];
-        let count = count_same(head, start, places, reached);
-        self.heads[number] = places.len() as u16 + 2;
+        let count = count_same(head, start, played_moves, reached);
+        self.heads[number] = played_moves.len() as u16 + 2;
         Entry {
             earlier: head,
             count,
@@ -146,31 +146,31 @@ impl Index {
     }
 
     // Removes the latest position from its bucket, whose head is then the one before it there.
-    fn remove(&mut self, place: &Place)
+    fn remove(&mut self, played_move: &PlayedMove)
         requires { length self.old.heads.items ≡ BUCKETS }
-        ensures { self.new.heads.items ≡ set self.old.heads.items (bucket place.now.reached) place.now.entry.earlier }
+        ensures { self.new.heads.items ≡ set self.old.heads.items (bucket played_move.now.reached) played_move.now.entry.earlier }
     {
-        self.heads[bucket(&place.reached)] = place.entry.earlier;
+        self.heads[bucket(&played_move.reached)] = played_move.entry.earlier;
     }
 
-    // Removes the last position of a game, which that place reached.
-    pub(crate) fn pop(&mut self, place: &Place)
-        requires { (start : Hashed) × (xs : List Place) × IsIndexed self.old.heads.items start (xs ++ place.now ∷ []) }
-        ensures { (start : Hashed) (xs : List Place) → IsIndexed self.old.heads.items start (xs ++ place.now ∷ [])
+    // Removes the last position of a game, which that played move reached.
+    pub(crate) fn pop(&mut self, played_move: &PlayedMove)
+        requires { (start : Hashed) × (xs : List PlayedMove) × IsIndexed self.old.heads.items start (xs ++ played_move.now ∷ []) }
+        ensures { (start : Hashed) (xs : List PlayedMove) → IsIndexed self.old.heads.items start (xs ++ played_move.now ∷ [])
             → IsIndexed self.new.heads.items start xs }
     {
-        self.remove(place);
+        self.remove(played_move);
     }
 
     // Removes all positions of a game: a step for each, however many buckets there are.
-    pub(crate) fn clear(&mut self, start: &Hashed, places: &[Place])
-        requires { IsIndexed self.old.heads.items start.now places.now }
+    pub(crate) fn clear(&mut self, start: &Hashed, played_moves: &[PlayedMove])
+        requires { IsIndexed self.old.heads.items start.now played_moves.now }
         ensures { IsEmpty self.new.heads.items }
     {
-        let mut left = places.len();
+        let mut left = played_moves.len();
         while left > 0 {
             left -= 1;
-            self.remove(&places[left]);
+            self.remove(&played_moves[left]);
         }
         self.heads[bucket(start)] = 0;
     }

@@ -6,7 +6,7 @@ ghost use Rattle.chess_base.specs.MoveList.{moves};
 ghost use Rattle.chess_base.specs.Moves.{is_en_passant};
 ghost use Rattle.chess_game.specs.Same.{same_square, same_colour_rights, same_rights, live_target, same};
 ghost use Rattle.chess_game.specs.ties.Captures.{captures_legally};
-ghost use Rattle.chess_game.specs.ties.Places.{IsKnown, HasHash, ShareHashing};
+ghost use Rattle.chess_game.specs.ties.PlayedMoves.{IsKnown, HasHash, ShareHashing};
 
 use crate::packed::PackedPosition;
 use chess_base::rules::is_en_passant;

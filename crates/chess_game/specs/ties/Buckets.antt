@@ -1,5 +1,5 @@
--- The index of a game's positions: the heads of its buckets, and the entry of each place. Positions are numbered from 0,
--- the start, on; number k + 1 is the one that place k reached.
+-- The index of a game's positions: the heads of its buckets, and the entry of each played move. Positions are numbered from 0,
+-- the start, on; number k + 1 is the one that played move k reached.
 use Rattle.std.specs.Prelude.{◌≡◌, ◌<◌, ◌+◌, ◌%◌, ◌==◌, ℕ, zero, suc, Bool, cond, if◌then◌else◌, List, [], ◌∷◌, length, get_or}
 use Rattle.chess_base.specs.declared.man.Move.{Move}
 use Rattle.chess_base.specs.declared.setup.Saved.{Saved}
@@ -7,9 +7,9 @@ use Rattle.chess_base.specs.declared.setup.Setup.{Setup}
 use Rattle.chess_moves.specs.Made.{WasMade}
 use Rattle.chess_game.specs.Line.{last}
 use Rattle.chess_game.specs.Same.{same}
-use Rattle.chess_game.specs.ties.Places.{moves_of}
+use Rattle.chess_game.specs.ties.PlayedMoves.{moves_of}
 use Rattle.chess_game.specs.declared.repetition.Hashed.{Hashed}
-use Rattle.chess_game.specs.declared.game.Place.{Place}
+use Rattle.chess_game.specs.declared.game.PlayedMove.{PlayedMove}
 use Rattle.chess_game.specs.declared.index.TheConstants.{BUCKETS}
 
 -- the number of a position's bucket
@@ -17,21 +17,21 @@ abbrev pub bucket : Hashed → ℕ
 bucket k = k.word % BUCKETS
 
 -- a move from the present position of a game gave this one
-abbrev pub IsNext : Hashed → List Place → Hashed → Type 0
+abbrev pub IsNext : Hashed → List PlayedMove → Hashed → Type 0
 IsNext start xs now = (m : Move) × (s : Saved) × WasMade (last start.position (moves_of xs)) m s now.position
 
 -- the position with that number
-unfoldable pub known_at : Hashed → List Place → ℕ → Hashed
+unfoldable pub known_at : Hashed → List PlayedMove → ℕ → Hashed
 known_at start xs zero = start
 known_at start [] (suc k) = start
 known_at start (x ∷ xs) (suc k) = known_at x.reached xs k
 
 -- whether the position with that number is in bucket b
-abbrev pub is_in : Hashed → List Place → ℕ → ℕ → Bool
+abbrev pub is_in : Hashed → List PlayedMove → ℕ → ℕ → Bool
 is_in start xs b k = bucket (known_at start xs k) == b
 
 -- whether the position with that number is the same as q
-abbrev pub is_same_at : Hashed → List Place → Setup → ℕ → Bool
+abbrev pub is_same_at : Hashed → List PlayedMove → Setup → ℕ → Bool
 is_same_at start xs q k = same (known_at start xs k).position q
 
 -- one more than the greatest number below n that passes the test, or 0 where none does
@@ -45,7 +45,7 @@ count_below t zero = zero
 count_below t (suc n) = count_below t n + cond (t n) 1 0
 
 -- the head of each bucket is the latest of the first n positions in it
-abbrev pub HaveHeads : List ℕ → Hashed → List Place → ℕ → Type 0
+abbrev pub HaveHeads : List ℕ → Hashed → List PlayedMove → ℕ → Type 0
 HaveHeads table start xs n = (b : ℕ) → b < BUCKETS → get_or table b 0 ≡ latest_below (is_in start xs b) n
 
 -- there is a head for each bucket, and no position in any
@@ -53,18 +53,18 @@ pub record IsEmpty (table : List ℕ) : Type 0 where
   pub buckets : length table ≡ BUCKETS
   pub none : (b : ℕ) → b < BUCKETS → get_or table b 0 ≡ 0
 
--- the entry of place k links to the latest earlier position in the bucket of its own, and has the count of its own: how
+-- the entry of played move k links to the latest earlier position in the bucket of its own, and has the count of its own: how
 -- many of the positions up to it, itself among them, are the same
-pub record HasEntry (start : Hashed) (xs : List Place) (k : ℕ) (x : Place) : Type 0 where
+pub record HasEntry (start : Hashed) (xs : List PlayedMove) (k : ℕ) (x : PlayedMove) : Type 0 where
   pub earlier : x.entry.earlier ≡ latest_below (is_in start xs (bucket x.reached)) (suc k)
   pub count : x.entry.count ≡ suc (count_below (is_same_at start xs x.reached.position) (suc k))
 
--- each place has its entry
-abbrev pub HaveEntries : Hashed → List Place → Type 0
-HaveEntries start xs = (k : ℕ) (d : Place) → k < length xs → HasEntry start xs k (get_or xs k d)
+-- each played move has its entry
+abbrev pub HaveEntries : Hashed → List PlayedMove → Type 0
+HaveEntries start xs = (k : ℕ) (d : PlayedMove) → k < length xs → HasEntry start xs k (get_or xs k d)
 
 -- the index is that of all positions of a game
-pub record IsIndexed (table : List ℕ) (start : Hashed) (xs : List Place) : Type 0 where
+pub record IsIndexed (table : List ℕ) (start : Hashed) (xs : List PlayedMove) : Type 0 where
   pub buckets : length table ≡ BUCKETS
   pub heads : HaveHeads table start xs (suc (length xs))
   pub entries : HaveEntries start xs

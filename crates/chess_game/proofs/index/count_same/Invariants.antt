@@ -2,7 +2,7 @@ use Rattle.chess_game.proofs.Walk.{IsAlong}
 use Rattle.chess_game.proofs.index.count_same.Given as goal
 
 abbrev pub invariant-loop-at : goal.invariant-loop-at
-invariant-loop-at l = IsAlong l.start l.places l.now l.at
+invariant-loop-at l = IsAlong l.start l.played_moves l.now l.at
 
 abbrev pub decreases-loop-at : goal.decreases-loop-at
 decreases-loop-at l = l.at

@@ -2,8 +2,8 @@
 -- makes a game playable is its invariant.
 use Rattle.std.proofs.Common.{◌≡◌, length, arith}
 use Rattle.std.proofs.lemmas.List.{length-map}
-use Rattle.chess_game.specs.ties.Places.{moves_of}
-use Rattle.chess_game.specs.declared.game.Place.{Place}
+use Rattle.chess_game.specs.ties.PlayedMoves.{moves_of}
+use Rattle.chess_game.specs.declared.game.PlayedMove.{PlayedMove}
 use Rattle.chess_game.proofs.Kept.{kept_line}
 use Rattle.chess_game.proofs.game.Game.position.Goals as goal
 
@@ -11,8 +11,8 @@ pub returns-clause-playable : goal.returns-clause-playable
 returns-clause-playable g c =
     rw (← c.self.view_is) (record {
       start = c.halfmove-sound.ensures.sound;
-      line = kept_line c.self.inside.start.position c.self.inside.places.items c.self.invariant.0.follows;
-      limit = (let e : length (moves_of c.self.inside.places.items) ≡ length c.self.inside.places.items =
-          length-map c.self.inside.places.items (λ (x : Place). x.made) in omega arith);
+      line = kept_line c.self.inside.start.position c.self.inside.played_moves.items c.self.invariant.0.follows;
+      limit = (let e : length (moves_of c.self.inside.played_moves.items) ≡ length c.self.inside.played_moves.items =
+          length-map c.self.inside.played_moves.items (λ (x : PlayedMove). x.made) in omega arith);
       unended = c.self.invariant.1.before;
     })

@@ -1,9 +1,9 @@
--- The last place holds the position that its move left, so the board goes back to that one (taken of Kept). No verdict
+-- The last played move holds the position that its move left, so the board goes back to that one (taken of Kept). No verdict
 -- came before the last move, so none before the one that is now the last (unended_fewer of Judged).
 use Rattle.std.proofs.Common.{subst, arith}
 use Rattle.chess_game.specs.Line.{last}
 use Rattle.chess_game.specs.ties.Buckets.{IsIndexed}
-use Rattle.chess_game.specs.ties.Places.{moves_of}
+use Rattle.chess_game.specs.ties.PlayedMoves.{moves_of}
 use Rattle.chess_game.proofs.Kept.{taken, fewer, words_fewer}
 use Rattle.chess_game.proofs.Judged.{unended_fewer, last_is}
 use Rattle.chess_game.proofs.game.Game.take_back.Goals as goal
@@ -11,7 +11,7 @@ use Rattle.chess_game.proofs.game.Game.take_back.Goals as goal
 pub take_back-requires : goal.take_back-requires
 take_back-requires g c = (
   last c.self.inside.start.position (moves_of c.pop.new.self.items),
-  taken c.self.inside.start.position c.self.inside.places.items c.pop.new.self.items c.in-Some.place _
+  taken c.self.inside.start.position c.self.inside.played_moves.items c.pop.new.self.items c.in-Some.played_move _
       c.self.invariant.0.follows c.in-Some.ensures.items c.self.invariant.0.at_end,
 )
 
@@ -19,15 +19,15 @@ pub invariant_of-self-in-Some : goal.invariant_of-self-in-Some
 invariant_of-self-in-Some g c = (
   record {
     known = c.self.invariant.0.known;
-    follows = fewer c.self.inside.start.position c.self.inside.places.items c.pop.new.self.items c.in-Some.place
+    follows = fewer c.self.inside.start.position c.self.inside.played_moves.items c.pop.new.self.items c.in-Some.played_move
         c.self.invariant.0.follows c.in-Some.ensures.items;
-    words = words_fewer g.B.Board.word_of c.self.inside.start c.self.inside.places.items c.pop.new.self.items
-        c.in-Some.place c.self.invariant.0.words c.in-Some.ensures.items;
+    words = words_fewer g.B.Board.word_of c.self.inside.start c.self.inside.played_moves.items c.pop.new.self.items
+        c.in-Some.played_move c.self.invariant.0.words c.in-Some.ensures.items;
     at_end = c.take_back.ensures.back (last c.self.inside.start.position (moves_of c.pop.new.self.items))
-        (taken c.self.inside.start.position c.self.inside.places.items c.pop.new.self.items c.in-Some.place _
+        (taken c.self.inside.start.position c.self.inside.played_moves.items c.pop.new.self.items c.in-Some.played_move _
         c.self.invariant.0.follows c.in-Some.ensures.items c.self.invariant.0.at_end);
   },
-  unended_fewer c.self.inside.start.position c.self.inside.places.items c.pop.new.self.items c.in-Some.place
+  unended_fewer c.self.inside.start.position c.self.inside.played_moves.items c.pop.new.self.items c.in-Some.played_move
       c.self.invariant.1 c.in-Some.ensures.items,
   record { few = omega arith; made = omega arith; bound = omega arith },
   c.pop-in-Some.ensures c.self.inside.start c.pop.new.self.items
@@ -46,4 +46,4 @@ pop-requires-in-Some g c = (
 pub returns-in-Some-clause-answer : goal.returns-in-Some-clause-answer
 returns-in-Some-clause-answer g c =
     rw (← c.self.view_is)
-    (last_is c.self.inside.places.items c.pop.new.self.items c.in-Some.place c.in-Some.ensures.items)
+    (last_is c.self.inside.played_moves.items c.pop.new.self.items c.in-Some.played_move c.in-Some.ensures.items)

@@ -1,4 +1,4 @@
--- Going back, each place's link becomes the head of its bucket (heads_back of Indexed), and at last the start's bucket
+-- Going back, each played move's link becomes the head of its bucket (heads_back of Indexed), and at last the start's bucket
 -- is empty (cleared).
 use Rattle.std.proofs.Common.{◌∙◌, ap, length, refl, arith}
 use Rattle.std.proofs.lemmas.List.{length-set}
@@ -10,17 +10,17 @@ pub loop-left-preserved : goal.loop-left-preserved
 loop-left-preserved c =
     let l = c.loop-left in
     let heads = l.invariant.heads in
-    let place = c.index-places-left.result in
+    let played_move = c.index-played_moves-left.result in
     record {
       in_range = omega arith;
       buckets = ap length c.remove.ensures
-          ∙ length-set l.self.heads.items (bucket place.reached) place.entry.earlier ∙ l.invariant.buckets;
+          ∙ length-set l.self.heads.items (bucket played_move.reached) played_move.entry.earlier ∙ l.invariant.buckets;
       heads = rw c.remove.ensures
-          (heads_back l.self.heads.items c.args.start.now c.args.places.now l.left place (bucket place.reached)
-          l.invariant.buckets c.requires.entries heads (omega arith) (omega arith) c.index-places-left.is refl);
+          (heads_back l.self.heads.items c.args.start.now c.args.played_moves.now l.left played_move (bucket played_move.reached)
+          l.invariant.buckets c.requires.entries heads (omega arith) (omega arith) c.index-played_moves-left.is refl);
     }
 
 pub returns : goal.returns
 returns c =
-    cleared c.loop-left.self.heads.items c.args.start.now c.args.places.now c.loop-left.left c.bucket.result
+    cleared c.loop-left.self.heads.items c.args.start.now c.args.played_moves.now c.loop-left.left c.bucket.result
     c.loop-left.invariant.buckets c.loop-left.invariant.heads (omega arith) c.bucket.ensures.value

@@ -3,12 +3,12 @@ use Rattle.chess_game.specs.ties.Buckets.{HaveHeads}
 use Rattle.chess_game.specs.declared.index.TheConstants.{BUCKETS}
 use Rattle.chess_game.proofs.index.Index.clear.Given as goal
 
--- the heads are those of the start and the places that are left
+-- the heads are those of the start and the played moves that are left
 abbrev pub invariant-loop-left : goal.invariant-loop-left
 invariant-loop-left l = record {
-  in_range : l.left ≤ length l.places;
+  in_range : l.left ≤ length l.played_moves;
   buckets : length l.self.heads.items ≡ BUCKETS;
-  heads : HaveHeads l.self.heads.items l.start l.places (suc l.left);
+  heads : HaveHeads l.self.heads.items l.start l.played_moves (suc l.left);
 }
 
 abbrev pub decreases-loop-left : goal.decreases-loop-left

@@ -8,7 +8,7 @@ use Rattle.chess_game.proofs.index.Index.push.Goals as goal
 pub returns : goal.returns
 returns c = λ x reached entry.
     let table = c.args.self.now.heads.items in
-    let xs = c.args.places.now in
+    let xs = c.args.played_moves.now in
     let at : c.bucket-number.result ≡ bucket x.reached = c.bucket-number.ensures.value ∙ ap bucket (sym reached) in
     let low : c.bucket-number.result < length table =
     omega (arith, c.requires.indexed.buckets, c.bucket-number.ensures.low) in

@@ -11,12 +11,12 @@ use Rattle.chess_game.specs.Line.{last}
 use Rattle.chess_game.specs.Same.{live_target}
 use Rattle.chess_game.specs.Ends.{verdict}
 use Rattle.chess_game.specs.declared.repetition.Hashed.{Hashed}
-use Rattle.chess_game.specs.declared.game.Place.{Place}
+use Rattle.chess_game.specs.declared.game.PlayedMove.{PlayedMove}
 use Rattle.chess_game.specs.declared.game.TheConstants.{MOST_MOVES}
 
 -- the current moves
-abbrev pub moves_of : List Place → List Move
-moves_of places = map (λ x. x.made) places
+abbrev pub moves_of : List PlayedMove → List Move
+moves_of played_moves = map (λ x. x.made) played_moves
 
 -- a position is kept with its live target
 abbrev pub IsKnown : Hashed → Type 0
@@ -34,23 +34,23 @@ HasHash f k = k.word ≡ f k.position.men k.position.side k.position.rights
 abbrev pub ShareHashing : Hashed → Hashed → Type 0
 ShareHashing x y = (f : Hashing) × HasHash f x × HasHash f y
 
--- the start and each position that a place reached are kept with their hashes by that definition
-pub record HaveHashes (f : Hashing) (first : Hashed) (places : List Place) : Type 0 where
+-- the start and each position that a played move reached are kept with their hashes by that definition
+pub record HaveHashes (f : Hashing) (first : Hashed) (played_moves : List PlayedMove) : Type 0 where
   pub start : HasHash f first
-  pub behind : AllByRecursion (λ (x : Place). HasHash f x.reached) places
+  pub behind : AllByRecursion (λ (x : PlayedMove). HasHash f x.reached) played_moves
 
 -- each move was made in the position before it, and is kept with what that saved and the position that it gave
-abbrev pub Follows : Setup → List Place → Type 0
+abbrev pub Follows : Setup → List PlayedMove → Type 0
 Follows p [] = Unit {0}
 Follows p (x ∷ xs) = WasMade p x.made x.saved x.reached.position × IsKnown x.reached × Follows x.reached.position xs
 
--- from this start the places follow, all with hashes by the board's definition, and the board is at the position at the
+-- from this start the played moves follow, all with hashes by the board's definition, and the board is at the position at the
 -- end of the line
-pub record IsKept (f : Hashing) (start : Hashed) (places : List Place) (board : Setup) : Type 0 where
+pub record IsKept (f : Hashing) (start : Hashed) (played_moves : List PlayedMove) (board : Setup) : Type 0 where
   pub known : IsKnown start
-  pub follows : Follows start.position places
-  pub words : HaveHashes f start places
-  pub at_end : board ≡ last start.position (moves_of places)
+  pub follows : Follows start.position played_moves
+  pub words : HaveHashes f start played_moves
+  pub at_end : board ≡ last start.position (moves_of played_moves)
 
 -- no verdict came before the last move
 pub record IsUnended (start : Setup) (moves : List Move) : Type 0 where
