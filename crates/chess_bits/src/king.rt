@@ -10,7 +10,7 @@ ghost use Rattle.chess_bits.specs.ties.Changes.{StepsPlainly, is_changed, is_fil
 ghost use Rattle.chess_moves.specs.Sets.{has};
 
 use crate::bits::Bits;
-use crate::placing::steps_made;
+use crate::placing::fast_steps_of;
 use chess_base::rules::{Steps, is_man};
 use chess_base::{Kind, Move, Square};
 use chess_moves::SquareSet;
@@ -96,7 +96,7 @@ impl Bits<'_> {
         requires { IsTrue (is_pseudo_legal self.now m.now) }
         ensures { result ≡ is_legal self.now m.now }
     {
-        let steps = steps_made(&self.setup, m);
+        let steps = fast_steps_of(&self.setup, m);
         self.is_safe_by(m, &steps)
     }
 

@@ -86,7 +86,7 @@ fn is_target(setup: &Setup, square: Square) -> bool
 /// What the move changes: but for a king's moves and captures en passant, its two squares alone.
 #[tactic(auto, using(crate::proofs::Quiet::plain_steps))]
 #[inline(always)]
-pub(crate) fn steps_made(setup: &Setup, m: &Move) -> Steps
+pub(crate) fn fast_steps_of(setup: &Setup, m: &Move) -> Steps
     requires { IsSound setup.now }
     ensures { result ≡ steps_of setup.now m.now }
 {
