@@ -13,7 +13,7 @@ use Rattle.chess_base.specs.Moves.{is_legal}
 use Rattle.chess_base.specs.MoveList.{all_triples, moves}
 use Rattle.chess_text.specs.declared.described.Described.{Described}
 use Rattle.chess_text.specs.declared.form.Form.{Form}
-use Rattle.chess_text.specs.declared.form.Form.TheVariants.{Walk}
+use Rattle.chess_text.specs.declared.form.Form.TheVariants.{Piece}
 use Rattle.chess_text.specs.declared.parts.Parts.{Parts}
 use Rattle.chess_text.specs.declared.parts.Promotion.{Promotion}
 use Rattle.chess_text.specs.declared.reading.Reading.{Reading}
@@ -31,7 +31,7 @@ shape_by_parts : (o : Option Parts) → passes is_form o ≡ is_some (form_of_pa
 shape_by_parts None = refl
 shape_by_parts (Some q) = by_test (is_form q)
   where
-    by_test : (t : Bool) → t ≡ is_some (cond t (Some (Walk q)) None)
+    by_test : (t : Bool) → t ≡ is_some (cond t (Some (Piece q)) None)
     by_test true = refl
     by_test false = refl
 
@@ -73,7 +73,7 @@ fits_by_form : (d : Described) (o : Option Parts)
 fits_by_form d None = refl
 fits_by_form d (Some q) = by_test (is_form q) refl
   where
-    by_test : (t : Bool) → is_form q ≡ t → fits q d ≡ passes (λ f. form_fits f d) (cond t (Some (Walk q)) None)
+    by_test : (t : Bool) → is_form q ≡ t → fits q d ≡ passes (λ f. form_fits f d) (cond t (Some (Piece q)) None)
     by_test true e = refl
     by_test false e = no_form q.letter q.file q.rank q.takes q.end.to q.end.promotion d e
 

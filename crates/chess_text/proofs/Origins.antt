@@ -20,7 +20,7 @@ use Rattle.chess_moves.specs.Sets.{has, members, HasOrigins}
 use Rattle.chess_moves.proofs.Members.{flat_map_members}
 use Rattle.chess_text.specs.declared.described.Described.{Described}
 use Rattle.chess_text.specs.declared.form.Form.{Form}
-use Rattle.chess_text.specs.declared.form.Form.TheVariants.{Castling, Walk}
+use Rattle.chess_text.specs.declared.form.Form.TheVariants.{Castling, Piece}
 use Rattle.chess_text.specs.declared.parts.Parts.{Parts}
 use Rattle.chess_text.specs.declared.reading.Reading.{Reading}
 use Rattle.chess_text.specs.declared.reading.Reading.TheVariants as reads
@@ -42,7 +42,7 @@ man_is p m h k e = rw h.at_from (by_colour p.side e)
     by_colour Black e = e
 
 -- what is described of a legal move that is denoted
-pub fits_told : (p : Setup) (q : Parts) (m : Move) (h : IsMove p m) → is_spelled (Walk q) p m ≡ true
+pub fits_told : (p : Setup) (q : Parts) (m : Move) (h : IsMove p m) → is_spelled (Piece q) p m ≡ true
     → fits q (told_of p m h.man) ≡ true
 unfolding is_spelled
 fits_told p q m h e = rw (described_is p m h) at e
@@ -113,11 +113,11 @@ no_letter q d at h =
 -- ---- the sets
 
 pub by_letter : (p : Setup) (q : Parts) (k : Kind) (w : ℕ) → q.letter ≡ Some k → HasOrigins p k q.end.to w
-    → IsStart p (Walk q) w
+    → IsStart p (Piece q) w
 by_letter p q k w at origins = λ m spelled legal.
     let h = legal_move p m legal in
     origins m legal (man_is p m h k (letter_fits q (told_of p m h.man) k at (fits_told p q m h spelled)))
-    (spelled_ends (Walk q) p m spelled)
+    (spelled_ends (Piece q) p m spelled)
 
 some_is : (f r : Option ℕ) (s t : ℕ) → named_square f r ≡ Some s → named_square f r ≡ Some t → s ≡ t
 some_is f r s t e g = cc
@@ -132,7 +132,7 @@ file_there None r s e n A = absurd cc
 file_there (Some f) r s e n A = absurd cc
 
 pub by_squares : (p : Setup) (q : Parts) (s w : ℕ) → q.letter ≡ None → named_square q.file q.rank ≡ Some s
-    → ((k : ℕ) → has w k ≡ (k == s)) → IsStart p (Walk q) w
+    → ((k : ℕ) → has w k ≡ (k == s)) → IsStart p (Piece q) w
 by_squares p q s w at square single = λ m spelled legal.
     let h = legal_move p m legal in
     let here : m.from ≡ s = from_square m.from h.from_in (told_of p m h.man) refl
@@ -158,12 +158,12 @@ pawn_named q d low at square told = by_form (no_letter q d at told)
     by_form (Straight n k) = k
 
 pub by_pawn : (p : Setup) (q : Parts) (w : ℕ) → q.letter ≡ None → named_square q.file q.rank ≡ None
-    → HasOrigins p Pawn q.end.to w → IsStart p (Walk q) w
+    → HasOrigins p Pawn q.end.to w → IsStart p (Piece q) w
 by_pawn p q w at square origins = λ m spelled legal.
     let h = legal_move p m legal in
     origins m legal (man_is p m h Pawn
     (pawn_named q (told_of p m h.man) h.from_in at square (fits_told p q m h spelled)))
-    (spelled_ends (Walk q) p m spelled)
+    (spelled_ends (Piece q) p m spelled)
 
 king_by : (v : CastlingSide) (p : Setup) (m : Move) (o : Option Man)
     → passes (form_fits (Castling v)) (described_as p m o) ≡ true → is_man p.side King (man_at p.men m.from) ≡ true

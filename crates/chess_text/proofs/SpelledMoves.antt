@@ -16,7 +16,7 @@ use Rattle.chess_base.specs.MoveList.{promotions, triple, squares, all_triples, 
 use Rattle.chess_moves.proofs.Parts.{filter-flat_map}
 use Rattle.chess_text.specs.declared.described.Described.{Described}
 use Rattle.chess_text.specs.declared.form.Form.{Form}
-use Rattle.chess_text.specs.declared.form.Form.TheVariants.{Castling, Walk}
+use Rattle.chess_text.specs.declared.form.Form.TheVariants.{Castling, Piece}
 use Rattle.chess_text.specs.declared.parts.Parts.{Parts}
 use Rattle.chess_text.specs.Moves.{described, described_as, is_by_squares, is_by_letter, is_straight, is_from_file, fits, passes}
 use Rattle.chess_text.specs.ties.Forms.{same_side, form_fits, is_spelled, castling_end, end_square, spelled_with}
@@ -65,7 +65,7 @@ same_side-true QueenSide KingSide h = cc
 form_ends : (form : Form) (p : Setup) (m : Move) (o : Option Man) → passes (form_fits form) (described_as p m o) ≡ true
     → m.to ≡ end_square form p
 form_ends form p m None h = cc
-form_ends (Walk q) p m (Some x) h = fitting_ends q _ h
+form_ends (Piece q) p m (Some x) h = fitting_ends q _ h
 form_ends (Castling w) p m (Some x) h =
     let c = castled (same_side w) _ h in
     names_end p.variant p.side m c.0 (right_of p.rights p.side c.0) (castling_says p m c.0 c.1).1

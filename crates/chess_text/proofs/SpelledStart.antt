@@ -16,7 +16,7 @@ use Rattle.chess_base.specs.Men.{kind_number, man_at, is_man, same_colour, same_
 use Rattle.chess_base.specs.Moves.{is_legal}
 use Rattle.chess_base.specs.Castling.{castling}
 use Rattle.chess_text.specs.declared.described.Described.{Described}
-use Rattle.chess_text.specs.declared.form.Form.TheVariants.{Walk}
+use Rattle.chess_text.specs.declared.form.Form.TheVariants.{Piece}
 use Rattle.chess_text.specs.declared.parts.Parts.{Parts}
 use Rattle.chess_text.specs.declared.parts.Promotion.{Promotion}
 use Rattle.chess_text.specs.Moves.{admits, captures, names, is_by_squares, is_by_letter, is_straight, is_from_file, fits}
@@ -166,7 +166,7 @@ pawn_fits_by (Some n) r takes captured a to o e = rw (e, eq-eqb to to refl)
 
 -- ---- as the parts are
 
-spelled_as : (p : Setup) (m : Move) (h : IsMove p m) (q : Parts) → is_spelled (Walk q) p m
+spelled_as : (p : Setup) (m : Move) (h : IsMove p m) (q : Parts) → is_spelled (Piece q) p m
     ≡ fits q (told_of p m h.man)
 unfolding is_spelled
 spelled_as p m h q = rw (described_is p m h) refl
@@ -269,7 +269,7 @@ by_kind q p k m (Some Knight) square None l s n e low to none man =
 
 pub spelled_of : (q : Parts) (p : Setup) (k : Kind) (m : Move) → one_kind q ≡ Some k → is_legal p m ≡ true
     → m.to ≡ q.end.to → m.promotion ≡ None → is_man p.side k (man_at p.men m.from) ≡ true
-    → is_spelled (Walk q) p m ≡ is_spelled_of q p k m
+    → is_spelled (Piece q) p m ≡ is_spelled_of q p k m
 spelled_of q p k m e legal to none man =
     let h = legal_move p m legal in
     spelled_as p m h q

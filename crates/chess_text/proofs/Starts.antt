@@ -15,7 +15,7 @@ use Rattle.chess_base.specs.MoveList.{promotions, triple, moves}
 use Rattle.chess_moves.specs.Sets.{has, members, HasLegalStarts}
 use Rattle.chess_moves.proofs.Members.{of_range}
 use Rattle.chess_text.specs.declared.described.Described.{Described}
-use Rattle.chess_text.specs.declared.form.Form.TheVariants.{Walk}
+use Rattle.chess_text.specs.declared.form.Form.TheVariants.{Piece}
 use Rattle.chess_text.specs.declared.parts.Parts.{Parts}
 use Rattle.chess_text.specs.declared.parts.Promotion.{Promotion}
 use Rattle.chess_text.specs.declared.reading.Reading.{Reading}
@@ -58,14 +58,14 @@ abbrev OfKind : Setup → Kind → Move → Type 0
 OfKind p k m = (is_man p.side k (man_at p.men m.from) ≡ true) × (m.promotion ≡ None)
 
 lettered : (p : Setup) (q : Parts) (k : Kind) (m : Move) → q.letter ≡ Some k → same_kind Pawn k ≡ false
-    → is_spelled (Walk q) p m ≡ true → is_legal p m ≡ true → OfKind p k m
+    → is_spelled (Piece q) p m ≡ true → is_legal p m ≡ true → OfKind p k m
 lettered p q k m at other spelled legal =
     let h = legal_move p m legal in
     let same : same_kind k h.man ≡ true = letter_fits q (told_of p m h.man) k at (fits_told p q m h spelled) in
     (man_is p m h k same, unpromoted p m k h.man h.moves_as same other)
 
 of_pawn : (p : Setup) (q : Parts) (m : Move) → q.letter ≡ None → named_square q.file q.rank ≡ None
-    → q.end.promotion ≡ None → is_spelled (Walk q) p m ≡ true → is_legal p m ≡ true → OfKind p Pawn m
+    → q.end.promotion ≡ None → is_spelled (Piece q) p m ≡ true → is_legal p m ≡ true → OfKind p Pawn m
 of_pawn p q m at square plain spelled legal =
     let h = legal_move p m legal in
     let told : fits q (told_of p m h.man) ≡ true = fits_told p q m h spelled in (
@@ -76,7 +76,7 @@ of_pawn p q m at square plain spelled legal =
 by_kind : (p : Setup) (q : Parts) (letter : Option Kind) (square : Option ℕ) (promotion : Option Promotion) (k : Kind)
     → q.letter ≡ letter → named_square q.file q.rank ≡ square → q.end.promotion ≡ promotion
     → cond (is_some promotion) None (kind_by letter square) ≡ Some k
-    → (m : Move) → is_spelled (Walk q) p m ≡ true → is_legal p m ≡ true → OfKind p k m
+    → (m : Move) → is_spelled (Piece q) p m ≡ true → is_legal p m ≡ true → OfKind p k m
 by_kind p q letter square (Some x) k l s n e m spelled legal = absurd cc
 by_kind p q None (Some s') None k l s n e m spelled legal = absurd cc
 by_kind p q None None None k l s n e m spelled legal =
@@ -94,7 +94,7 @@ by_kind p q (Some Knight) square None k l s n e m spelled legal = let is : Knigh
     subst (λ k. OfKind p k m) is (lettered p q Knight m l refl spelled legal)
 
 pub of_kind : (p : Setup) (q : Parts) (k : Kind) → one_kind q ≡ Some k
-    → (m : Move) → is_spelled (Walk q) p m ≡ true → is_legal p m ≡ true → OfKind p k m
+    → (m : Move) → is_spelled (Piece q) p m ≡ true → is_legal p m ≡ true → OfKind p k m
 of_kind p q k e = by_kind p q q.letter (named_square q.file q.rank) q.end.promotion k refl refl refl e
 
 -- ---- each such move begins on a square of the set
@@ -103,10 +103,10 @@ same_move : (m : Move) (b : ℕ) → m.to ≡ b → m.promotion ≡ None → m �
 same_move m b t n = rw (sym t, sym n) refl
 
 starts : (p : Setup) (q : Parts) (k : Kind) (w : ℕ) → one_kind q ≡ Some k → HasLegalStarts p k q.end.to w
-    → IsStart p (Walk q) w
+    → IsStart p (Piece q) w
 starts p q k w e legal_starts = λ m spelled legal.
     let of = of_kind p q k e m spelled legal in
-    let is : m ≡ triple m.from q.end.to None = same_move m q.end.to (spelled_ends (Walk q) p m spelled) of.1 in
+    let is : m ≡ triple m.from q.end.to None = same_move m q.end.to (spelled_ends (Piece q) p m spelled) of.1 in
     legal_starts m.from (legal_move p m legal).from_in
     ∙ and_from (is_man p.side k (man_at p.men m.from)) (is_legal p (triple m.from q.end.to None)) of.0
     (sym (ap (is_legal p) is) ∙ legal)
@@ -121,12 +121,12 @@ one_kept t a b true n x y z u = rw (n, x, y, z, u) refl
 one_kept t a b false n x y z u = rw (n, x, y, z, u) refl
 
 abbrev fit : Parts → Setup → Move → Bool
-fit q p m = is_spelled (Walk q) p m && is_legal p m
+fit q p m = is_spelled (Piece q) p m && is_legal p m
 
 no_other : (p : Setup) (q : Parts) (k : Kind) (a : ℕ) (x : Kind) → one_kind q ≡ Some k
     → fit q p (triple a q.end.to (Some x)) ≡ false
 no_other p q k a x e = false_from_ne_true (fit q p (triple a q.end.to (Some x))) (λ h.
-    let both = and_parts (is_spelled (Walk q) p (triple a q.end.to (Some x)))
+    let both = and_parts (is_spelled (Piece q) p (triple a q.end.to (Some x)))
     (is_legal p (triple a q.end.to (Some x))) h in
     let none : Some x ≡ None = (of_kind p q k e (triple a q.end.to (Some x)) both.0 both.1).1 in
     cc)
@@ -136,12 +136,12 @@ legal_one true l e = e
 legal_one false l e = refl
 
 one_start : (p : Setup) (q : Parts) (k : Kind) (w a : ℕ) → one_kind q ≡ Some k → HasLegalStarts p k q.end.to w
-    → a < 64 → has w a ≡ true → spelled_with (Walk q) p a q.end.to promotions ≡ spelled_start q p k a
+    → a < 64 → has w a ≡ true → spelled_with (Piece q) p a q.end.to promotions ≡ spelled_start q p k a
 one_start p q k w a e legal_starts low there =
     let both = and_parts (is_man p.side k (man_at p.men a)) (is_legal p (triple a q.end.to None))
     (sym (legal_starts a low) ∙ there) in
     one_kept (fit q p) a q.end.to (is_spelled_of q p k (triple a q.end.to None))
-    (legal_one (is_spelled (Walk q) p (triple a q.end.to None)) (is_legal p (triple a q.end.to None)) both.1
+    (legal_one (is_spelled (Piece q) p (triple a q.end.to None)) (is_legal p (triple a q.end.to None)) both.1
     ∙ spelled_of q p k (triple a q.end.to None) e both.1 refl refl both.0)
     (no_other p q k a Queen e) (no_other p q k a Rook e) (no_other p q k a Bishop e) (no_other p q k a Knight e)
 
@@ -165,8 +165,8 @@ flat_map-members f g w h = rw (of_range w) (flat_map-kept f g (λ k. has w k) 64
 
 pub by_starts : (p : Setup) (q : Parts) (k : Kind) (w : ℕ) (r : Reading) → one_kind q ≡ Some k
     → HasLegalStarts p k q.end.to w → r ≡ one_of (flat_map (spelled_start q p k) (members w))
-    → r ≡ one_of (filter (λ m. is_spelled (Walk q) p m) (moves p))
+    → r ≡ one_of (filter (λ m. is_spelled (Piece q) p m) (moves p))
 by_starts p q k w r e legal_starts is =
-    is ∙ ap one_of (sym (flat_map-members (λ a. spelled_with (Walk q) p a q.end.to promotions) (spelled_start q p k) w
+    is ∙ ap one_of (sym (flat_map-members (λ a. spelled_with (Piece q) p a q.end.to promotions) (spelled_start q p k) w
     (λ a low there. one_start p q k w a e legal_starts low there))
-    ∙ spelled_from (Walk q) p w (starts p q k w e legal_starts))
+    ∙ spelled_from (Piece q) p w (starts p q k w e legal_starts))

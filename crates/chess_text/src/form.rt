@@ -11,7 +11,7 @@ use chess_base::{CastlingSide, Move, Setup};
 #[derive(Clone, Copy, Debug, PartialEq, Eq)]
 pub enum Form {
     Castling(CastlingSide),
-    Walk(Parts),
+    Piece(Parts),
 }
 
 #[inline(always)]
@@ -37,7 +37,7 @@ pub(crate) fn read_form(text: &[u8]) -> Option<Form>
     }
     let parts = read_parts(text)?;
     if is_form(&parts) {
-        Some(Form::Walk(parts))
+        Some(Form::Piece(parts))
     } else {
         None
     }
@@ -48,7 +48,7 @@ fn form_fits(form: &Form, d: &Described) -> bool
 {
     match form {
         Form::Castling(castling_side) => d.castles == Some(*castling_side),
-        Form::Walk(parts) => fits(parts, d),
+        Form::Piece(parts) => fits(parts, d),
     }
 }
 

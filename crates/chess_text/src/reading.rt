@@ -4,7 +4,7 @@ ghost use Rattle.std.specs.Prelude.{◌≡◌, Some};
 ghost use Rattle.std.specs.List.{filter, flat_map};
 ghost use Rattle.chess_base.specs.MoveList.{promotions, moves};
 ghost use Rattle.chess_text.specs.Moves.{shape, one_of, reading, has_shape, IsLegalReading};
-ghost use Rattle.chess_text.specs.declared.form.Form.TheVariants.{Walk};
+ghost use Rattle.chess_text.specs.declared.form.Form.TheVariants.{Piece};
 ghost use Rattle.chess_text.specs.ties.Forms.{is_spelled, castling_end, end_square, spelled_with, with_move, with_moves, named_square, one_kind, is_spelled_by_letter, is_spelled_by_pawn, is_spelled_of, spelled_start, IsStart};
 ghost use Rattle.chess_moves.specs.Sets.{members};
 
@@ -64,7 +64,7 @@ fn end_square(form: &Form, setup: &Setup) -> Square
             *castling_side,
             right_of(setup.rights, setup.side, *castling_side),
         ),
-        Form::Walk(parts) => parts.end.to,
+        Form::Piece(parts) => parts.end.to,
     }
 }
 
@@ -84,7 +84,7 @@ fn named_square(file: Option<u8>, rank: Option<u8>) -> Option<Square>
 // Squares among which each legal move begins that the parts denote.
 #[tactic(auto, using(crate::proofs::Origins::by_letter, crate::proofs::Origins::by_squares, crate::proofs::Origins::by_pawn))]
 fn walk_origins<B: Board>(board: &B, parts: &Parts) -> SquareSet
-    ensures { IsStart (B.position board.now) (Walk parts.now) result }
+    ensures { IsStart (B.position board.now) (Piece parts.now) result }
 {
     if let Some(kind) = parts.letter {
         return board.origins(kind, parts.end.to);
@@ -103,7 +103,7 @@ fn form_origins<B: Board>(board: &B, form: &Form, to: Square) -> SquareSet
 {
     match form {
         Form::Castling(_) => board.origins(Kind::King, to),
-        Form::Walk(parts) => walk_origins(board, parts),
+        Form::Piece(parts) => walk_origins(board, parts),
     }
 }
 
@@ -245,7 +245,7 @@ fn spelled_among(setup: &Setup, parts: &Parts, kind: Kind, starts: SquareSet) ->
 fn spelled_by_kind<B: Board>(board: &B, parts: &Parts, kind: Kind) -> Reading
     requires { one_kind parts.now ≡ Some kind }
     ensures { result ≡ one_of
-        (filter (λ m. is_spelled (Walk parts.now) (B.position board.now) m) (moves (B.position board.now))) }
+        (filter (λ m. is_spelled (Piece parts.now) (B.position board.now) m) (moves (B.position board.now))) }
 {
     spelled_among(
         board.setup(),
@@ -276,7 +276,7 @@ fn spelled<B: Board>(board: &B, form: &Form) -> Reading
     ensures { result ≡ one_of
         (filter (λ m. is_spelled form.now (B.position board.now) m) (moves (B.position board.now))) }
 {
-    if let Form::Walk(parts) = form {
+    if let Form::Piece(parts) = form {
         if let Some(kind) = one_kind(parts) {
             return spelled_by_kind(board, parts, kind);
         }

@@ -19,7 +19,7 @@ use Rattle.chess_base.specs.Squares.{file, rank}
 use Rattle.chess_base.specs.MoveList.{triple}
 use Rattle.chess_text.specs.declared.described.Described.{Described}
 use Rattle.chess_text.specs.declared.form.Form.{Form}
-use Rattle.chess_text.specs.declared.form.Form.TheVariants.{Castling, Walk}
+use Rattle.chess_text.specs.declared.form.Form.TheVariants.{Castling, Piece}
 use Rattle.chess_text.specs.declared.parts.Parts.{Parts}
 use Rattle.chess_text.specs.Parts.{unmarked, parts_at}
 use Rattle.chess_moves.specs.Sets.{has}
@@ -36,7 +36,7 @@ castling_named text =
 -- the form of a text: of parts that are one; of castling or else of parts; of the text itself
 abbrev pub form_of_parts : Option Parts → Option Form
 form_of_parts None = None
-form_of_parts (Some q) = if is_form q then Some (Walk q) else None
+form_of_parts (Some q) = if is_form q then Some (Piece q) else None
 
 abbrev pub form_at : Option CastlingSide → List ℕ → Option Form
 form_at (Some w) text = Some (Castling w)
@@ -54,7 +54,7 @@ same_side _ _ = Bool.false
 -- the form is one of the move that is described
 abbrev pub form_fits : Form → Described → Bool
 form_fits (Castling w) d = passes (same_side w) d.castles
-form_fits (Walk q) d = fits q d
+form_fits (Piece q) d = fits q d
 
 -- the form denotes this move of the position
 unfoldable pub is_spelled : Form → Setup → Move → Bool
@@ -70,7 +70,7 @@ castling_end Fischerandom c w (Some rook) = rook
 -- every move ends here that the form denotes
 abbrev pub end_square : Form → Setup → ℕ
 end_square (Castling w) p = castling_end p.variant p.side w (right_of p.rights p.side w)
-end_square (Walk q) p = q.end.to
+end_square (Piece q) p = q.end.to
 
 -- the legal moves from a to b, with one of these promotions, that the form denotes
 abbrev pub spelled_with : Form → Setup → ℕ → ℕ → List (Option Kind) → List Move
