@@ -26,12 +26,12 @@ use mathlib.Core.Bool.{not-or_self}
 use Rattle.chess_base.proofs.MenFacts.{is_none-None}
 use Rattle.chess_base.proofs.StaysSound.{one_king_of}
 use Rattle.chess_moves.proofs.SomeMember.{any-filter}
-use Rattle.chess_text.specs.declared.writing.ToldStart.{ToldStart}
+use Rattle.chess_text.specs.declared.writing.Disambiguation.{Disambiguation}
 use Rattle.chess_text.specs.laws.Laws.{SpellsAlone, is_san_byte, begins_with_letter, AreParts, IsOfficer, CanPromote}
 use Rattle.chess_text.specs.Parts.{unmarked, parts_text}
 use Rattle.chess_text.specs.Moves.{captures, passes, admits, has_equals, promotes_so, is_form, fits, is_by_squares, is_by_letter, is_straight, is_from_file, shape, reading}
 use Rattle.chess_text.specs.ties.Forms.{same_side}
-use Rattle.chess_text.specs.San.{castling_text, told_start, if_said, pawn_parts, officer_parts, walk_parts, is_rival, rival_starts, text_by_castling, check_mark, san_as, san}
+use Rattle.chess_text.specs.San.{castling_text, disambiguate, if_said, pawn_parts, officer_parts, walk_parts, is_rival, rival_starts, text_by_castling, check_mark, san_as, san}
 use Rattle.chess_text.proofs.Alone.{read_alone, spelled_parts, shape_parts, spelled_castling, shape_castling, spells_move, same_kind-self, same_kind-true, move_is, written, promotes-self, promotes-same}
 use Rattle.chess_text.proofs.AllMoves.{any-move}
 use Rattle.chess_text.proofs.Castlings.{IsCastling, letters_kingside, letters_queenside}
@@ -268,7 +268,7 @@ pawn_on_file p m sound h is e =
 abbrev rivals : Setup → Move → Kind → List ℕ
 rivals p m k = rival_starts p (moves p) (told_of p m k)
 
-abbrev officer_named : Kind → ToldStart → Bool → ℕ → ℕ → Parts
+abbrev officer_named : Kind → Disambiguation → Bool → ℕ → ℕ → Parts
 officer_named k start c from to =
     record {
       letter = Some k;
@@ -279,9 +279,9 @@ officer_named k start c from to =
     }
 
 officer_is : (p : Setup) (m : Move) (k : Kind) (others : List ℕ) → m.promotion ≡ None
-    → officer_parts others (told_of p m k) ≡ officer_named k (told_start m.from others) (captures p m) m.from m.to
+    → officer_parts others (told_of p m k) ≡ officer_named k (disambiguate m.from others) (captures p m) m.from m.to
 officer_is p m k others none =
-    ap (λ (o : Option Kind). let start = told_start m.from others in
+    ap (λ (o : Option Kind). let start = disambiguate m.from others in
     let q : Parts = record {
       letter = Some k;
       file = if_said start.file (file m.from);
@@ -292,7 +292,7 @@ officer_is p m k others none =
     } in
     q) none
 
-officer_are_parts : (k : Kind) (start : ToldStart) (c : Bool) (from to : ℕ) → IsOfficer k → from < 64 → to < 64
+officer_are_parts : (k : Kind) (start : Disambiguation) (c : Bool) (from to : ℕ) → IsOfficer k → from < 64 → to < 64
     → AreParts (officer_named k start c from to)
 officer_are_parts k start c from to officer f t =
     record {
@@ -303,12 +303,12 @@ officer_are_parts k start c from to officer f t =
       promotion_is = tt;
     }
 
-officer_form : (k : Kind) (start : ToldStart) (c : Bool) (from to : ℕ)
+officer_form : (k : Kind) (start : Disambiguation) (c : Bool) (from to : ℕ)
     → is_form (officer_named k start c from to) ≡ true
 unfolding is_form
 officer_form k start c from to = refl
 
-officer_fits : (p : Setup) (m : Move) (k : Kind) (start : ToldStart) → castling p m ≡ None
+officer_fits : (p : Setup) (m : Move) (k : Kind) (start : Disambiguation) → castling p m ≡ None
     → fits (officer_named k start (captures p m) m.from m.to) (told_of p m k) ≡ true
 unfolding fits is_by_squares is_by_letter is_straight is_from_file
 officer_fits p m k start none =
@@ -319,14 +319,14 @@ officer_fits p m k start none =
     let e = eq-eqb m.to m.to refl in
     rw (none, a, b, c, d, e) refl
 
-record Goes (p : Setup) (m n : Move) (k l : Kind) (start : ToldStart) : Type 0 where
+record Goes (p : Setup) (m n : Move) (k l : Kind) (start : Disambiguation) : Type 0 where
   man : l ≡ k
   walks : castling p n ≡ None
   file_fits : admits (if_said start.file (file m.from)) (file n.from) ≡ true
   rank_fits : admits (if_said start.rank (rank m.from)) (rank n.from) ≡ true
   to : n.to ≡ m.to
 
-officer_goes : (p : Setup) (m n : Move) (k l : Kind) (start : ToldStart) (c : Bool)
+officer_goes : (p : Setup) (m n : Move) (k l : Kind) (start : Disambiguation) (c : Bool)
     → fits (officer_named k start c m.from m.to) (told_of p n l) ≡ true → Goes p m n k l start
 unfolding fits is_by_squares is_by_letter is_straight is_from_file
 officer_goes p m n k l start c e =
@@ -403,12 +403,12 @@ no_promotion p n Knight officer h = h
 
 officer_alone : (p : Setup) (m n : Move) (k : Kind) → IsOfficer k → m.promotion ≡ None → is_legal p n ≡ true
     → (g : IsMove p n)
-    → fits (officer_named k (told_start m.from (rivals p m k)) (captures p m) m.from m.to) (told_of p n g.man) ≡ true
+    → fits (officer_named k (disambiguate m.from (rivals p m k)) (captures p m) m.from m.to) (told_of p n g.man) ≡ true
     → n ≡ m
 officer_alone p m n k officer none legal g fit = by_start (n.from == m.from) refl
   where
-    goes : Goes p m n k g.man (told_start m.from (rivals p m k))
-    goes = officer_goes p m n k g.man (told_start m.from (rivals p m k)) (captures p m) fit
+    goes : Goes p m n k g.man (disambiguate m.from (rivals p m k))
+    goes = officer_goes p m n k g.man (disambiguate m.from (rivals p m k)) (captures p m) fit
 
     by_start : (t : Bool) → (n.from == m.from) ≡ t → n ≡ m
     by_start true e =
@@ -430,7 +430,7 @@ pawn_word true from to (Some k) = record { short = omega arith; long = omega ari
 pawn_word false from to None = record { short = omega arith; long = omega arith; letter = file_letter to }
 pawn_word false from to (Some k) = record { short = omega arith; long = omega arith; letter = file_letter to }
 
-officer_word : (k : Kind) (start : ToldStart) (c : Bool) (from to : ℕ)
+officer_word : (k : Kind) (start : Disambiguation) (c : Bool) (from to : ℕ)
     → IsWord (parts_text (officer_named k start c from to))
 officer_word k start c from to = by_said start.file start.rank c
   where
@@ -464,12 +464,12 @@ pawn_parts_of p m sound h is = record {
 
 officer_parts_of : (p : Setup) (m : Move) (k : Kind) → IsOfficer k → castling p m ≡ None → m.promotion ≡ None
     → m.from < 64 → m.to < 64
-    → HasParts p m k (officer_named k (told_start m.from (rivals p m k)) (captures p m) m.from m.to)
+    → HasParts p m k (officer_named k (disambiguate m.from (rivals p m k)) (captures p m) m.from m.to)
 officer_parts_of p m k officer walks none f t = record {
-  are = officer_are_parts k (told_start m.from (rivals p m k)) (captures p m) m.from m.to officer f t;
-  form = officer_form k (told_start m.from (rivals p m k)) (captures p m) m.from m.to;
-  word = officer_word k (told_start m.from (rivals p m k)) (captures p m) m.from m.to;
-  fits_it = officer_fits p m k (told_start m.from (rivals p m k)) walks;
+  are = officer_are_parts k (disambiguate m.from (rivals p m k)) (captures p m) m.from m.to officer f t;
+  form = officer_form k (disambiguate m.from (rivals p m k)) (captures p m) m.from m.to;
+  word = officer_word k (disambiguate m.from (rivals p m k)) (captures p m) m.from m.to;
+  fits_it = officer_fits p m k (disambiguate m.from (rivals p m k)) walks;
   alone = λ n legal g fit. officer_alone p m n k officer none legal g fit;
 }
 

@@ -3,7 +3,7 @@ use Rattle.std.proofs.Common.{◌≡◌, ◌≢◌, ℕ, Bool, true, false, not,
 use Rattle.std.proofs.lemmas.Bool.{eqb-true, eq-eqb}
 use Rattle.chess_base.specs.Squares.{file, rank}
 use Rattle.chess_text.specs.Moves.{admits}
-use Rattle.chess_text.specs.San.{some_on_file, some_on_rank, said, told_start, if_said}
+use Rattle.chess_text.specs.San.{some_on_file, some_on_rank, said, disambiguate, if_said}
 
 -- the start itself is as written
 pub told_admits : (b : Bool) (n : ℕ) → admits (if_said b n) n ≡ true
@@ -19,8 +19,8 @@ same_square a b f r = omega arith
 -- no other start among the others is
 pub told_apart : (from s : ℕ) (others : List ℕ) → some_on_file (file s) others ≡ true
     → some_on_rank (rank s) others ≡ true → s ≢ from
-    → admits (if_said (told_start from others).file (file from)) (file s) ≡ true
-    → admits (if_said (told_start from others).rank (rank from)) (rank s) ≡ true → ⊥
+    → admits (if_said (disambiguate from others).file (file from)) (file s) ≡ true
+    → admits (if_said (disambiguate from others).rank (rank from)) (rank s) ≡ true → ⊥
 told_apart from s [] f r differs a b = cc
 told_apart from s (o ∷ os) f r differs a b = by_tests (some_on_file (file from) (o ∷ os)) refl
     (some_on_rank (rank from) (o ∷ os)) refl a b

@@ -60,9 +60,9 @@ names None n = false
 names (Some told) n = told == n
 
 -- the text names this kind of piece
-abbrev pub tells_kind : Option Kind → Kind → Bool
-tells_kind None k = false
-tells_kind (Some told) k = same_kind told k
+abbrev pub names_kind : Option Kind → Kind → Bool
+names_kind None k = false
+names_kind (Some told) k = same_kind told k
 
 -- with a promotion only moves with that promotion are denoted, without one only moves without
 abbrev pub promotes_so : Option Promotion → Option Kind → Bool
@@ -85,7 +85,7 @@ is_by_squares q d =
 -- a piece that is no pawn, not castling; with `x` only a capture
 unfoldable pub is_by_letter : Parts → Described → Bool
 is_by_letter q d =
-    tells_kind q.letter d.man && is_none d.castles && admits q.file (file d.from) && admits q.rank (rank d.from)
+    names_kind q.letter d.man && is_none d.castles && admits q.file (file d.from) && admits q.rank (rank d.from)
     && (not q.takes || d.captures) && (q.end.to == d.to) && is_none q.end.promotion
 
 -- a pawn that goes straight to the square

@@ -22,7 +22,7 @@ use Rattle.chess_base.specs.Squares.{file, rank}
 use Rattle.chess_text.specs.declared.described.Described.{Described}
 use Rattle.chess_text.specs.declared.parts.End.{End}
 use Rattle.chess_text.specs.declared.parts.Parts.{Parts}
-use Rattle.chess_text.specs.declared.writing.ToldStart.{ToldStart}
+use Rattle.chess_text.specs.declared.writing.Disambiguation.{Disambiguation}
 use Rattle.chess_text.specs.Parts.{when, parts_text}
 use Rattle.chess_text.specs.Moves.{described, passes}
 
@@ -40,14 +40,14 @@ abbrev pub some_on_rank : ℕ → List ℕ → Bool
 some_on_rank r squares = list_any (λ s. rank s == r) squares
 
 -- whether the file is written, and whether the rank is
-abbrev pub said : Bool → Bool → ToldStart
+abbrev pub said : Bool → Bool → Disambiguation
 said f r = record { file = f; rank = r }
 
 -- what is written of the start square given other starts: nothing where there are none; the file where none is on it;
 -- else the rank where none is on it; else both
-abbrev pub told_start : ℕ → List ℕ → ToldStart
-told_start from [] = said false false
-told_start from (other ∷ others) =
+abbrev pub disambiguate : ℕ → List ℕ → Disambiguation
+disambiguate from [] = said false false
+disambiguate from (other ∷ others) =
     if not (some_on_file (file from) (other ∷ others)) then said true false
     else (if not (some_on_rank (rank from) (other ∷ others)) then said false true else said true true)
 
@@ -76,7 +76,7 @@ pawn_parts d = record {
 -- and of another piece's, where others of its kind start from these squares and go to the same
 abbrev pub officer_parts : List ℕ → Described → Parts
 officer_parts others d =
-    let start = told_start d.from others in
+    let start = disambiguate d.from others in
     record {
       letter = Some d.man;
       file = if_said start.file (file d.from);

@@ -1,7 +1,7 @@
 //! What a text can say of a move.
 
 ghost use Rattle.std.specs.Prelude.{◌≡◌, ◌==◌};
-ghost use Rattle.chess_text.specs.Moves.{captures, described, admits, names, tells_kind, promotes_so, has_equals, is_by_squares, is_by_letter, is_straight, is_from_file, fits, is_form};
+ghost use Rattle.chess_text.specs.Moves.{captures, described, admits, names, names_kind, promotes_so, has_equals, is_by_squares, is_by_letter, is_straight, is_from_file, fits, is_form};
 
 use crate::parts::{Parts, Promotion};
 use chess_base::rules::{castling, is_en_passant, is_of};
@@ -63,8 +63,8 @@ pub(crate) fn names(told: Option<u8>, number: u8) -> bool
     }
 }
 
-fn tells_kind(letter: Option<Kind>, kind: Kind) -> bool
-    ensures { result ≡ tells_kind letter kind }
+fn names_kind(letter: Option<Kind>, kind: Kind) -> bool
+    ensures { result ≡ names_kind letter kind }
 {
     match letter {
         None => false,
@@ -108,7 +108,7 @@ fn is_by_squares(parts: &Parts, d: &Described) -> bool
 fn is_by_letter(parts: &Parts, d: &Described) -> bool
     ensures { result ≡ is_by_letter parts.now d.now }
 {
-    tells_kind(parts.letter, d.man)
+    names_kind(parts.letter, d.man)
         && d.castles.is_none()
         && admits(parts.file, d.from.file())
         && admits(parts.rank, d.from.rank())

@@ -9,7 +9,7 @@ ghost use Rattle.chess_base.specs.MoveList.{moves};
 ghost use Rattle.chess_base.specs.Moves.{is_legal};
 ghost use Rattle.chess_moves.specs.Sets.{members};
 ghost use Rattle.chess_text.specs.Parts.{when, parts_text};
-ghost use Rattle.chess_text.specs.San.{castling_text, some_on_file, some_on_rank, said, told_start, pawn_parts, officer_parts, rival_starts, unmarked_san, check_mark, san};
+ghost use Rattle.chess_text.specs.San.{castling_text, some_on_file, some_on_rank, said, disambiguate, pawn_parts, officer_parts, rival_starts, unmarked_san, check_mark, san};
 ghost use Rattle.chess_text.specs.ties.Forms.{promotes_as_a_pawn};
 
 use crate::described::{Described, describe};
@@ -22,7 +22,7 @@ pub type SanText = ArrayVec<u8, 7>;
 
 /// What is said of a start square: its file, its rank, both or nothing.
 #[derive(Clone, Copy, Debug, PartialEq, Eq)]
-pub struct ToldStart {
+pub struct Disambiguation {
     pub file: bool,
     pub rank: bool,
 }
@@ -53,16 +53,16 @@ fn some_on_rank(rank: u8, squares: SquareSet) -> bool
     false
 }
 
-fn said(file: bool, rank: bool) -> ToldStart
+fn said(file: bool, rank: bool) -> Disambiguation
     ensures { result ≡ said file rank }
 {
-    ToldStart { file, rank }
+    Disambiguation { file, rank }
 }
 
 // What has to be said of a start square beside the starts of other moves that the text would denote without it.
 #[tactic(auto, using(crate::proofs::Rivals::alone, crate::proofs::Rivals::beside_others))]
-fn told_start(from: Square, others: SquareSet) -> ToldStart
-    ensures { result ≡ told_start from (members others) }
+fn disambiguate(from: Square, others: SquareSet) -> Disambiguation
+    ensures { result ≡ disambiguate from (members others) }
 {
     if others.is_empty() {
         said(false, false)
@@ -85,7 +85,7 @@ fn rival_starts<B: Board>(board: &B, d: &Described) -> SquareSet
 }
 
 // Adds a byte where it is to be said.
-fn write_if(text: &mut SanText, said: bool, byte: u8)
+fn push_if(text: &mut SanText, said: bool, byte: u8)
     requires room { array_vec_len text.old < 7 }
     ensures text { text.new.items ≡ text.old.items ++ when said (byte ∷ []) }
     ensures len { array_vec_len text.new ≤ array_vec_len text.old + 1 }
@@ -135,8 +135,8 @@ fn pawn_text(d: &Described) -> SanText
     ensures len { array_vec_len result ≤ 6 }
 {
     let mut text = SanText::new();
-    write_if(&mut text, d.captures, b'a' + d.from.file());
-    write_if(&mut text, d.captures, b'x');
+    push_if(&mut text, d.captures, b'a' + d.from.file());
+    push_if(&mut text, d.captures, b'x');
     write_square(&mut text, d.to);
     if let Some(kind) = d.promotion {
         text.push(b'=');
@@ -150,12 +150,12 @@ fn officer_text(others: SquareSet, d: &Described) -> SanText
     ensures text { result.items ≡ parts_text (officer_parts (members others) d.now) }
     ensures len { array_vec_len result ≤ 6 }
 {
-    let start = told_start(d.from, others);
+    let start = disambiguate(d.from, others);
     let mut text = SanText::new();
     text.push(letter(d.man));
-    write_if(&mut text, start.file, b'a' + d.from.file());
-    write_if(&mut text, start.rank, b'1' + d.from.rank());
-    write_if(&mut text, d.captures, b'x');
+    push_if(&mut text, start.file, b'a' + d.from.file());
+    push_if(&mut text, start.rank, b'1' + d.from.rank());
+    push_if(&mut text, d.captures, b'x');
     write_square(&mut text, d.to);
     text
 }

@@ -1,7 +1,7 @@
 -- Beside others the start is said by their files and ranks (beside_others of Rivals).
 use Rattle.std.proofs.Common.{◌∙◌}
 use Rattle.chess_text.proofs.Rivals.{file_said}
-use Rattle.chess_text.proofs.writing.told_start.Goals as goal
+use Rattle.chess_text.proofs.writing.disambiguate.Goals as goal
 
 pub returns-then-not-some_on_file : goal.returns-then-not-some_on_file
 returns-then-not-some_on_file c =
