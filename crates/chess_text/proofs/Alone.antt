@@ -15,7 +15,7 @@ use Rattle.chess_text.specs.declared.parts.Promotion.{Promotion}
 use Rattle.chess_text.specs.declared.reading.Reading.TheVariants as reads
 use Rattle.chess_text.specs.laws.Laws.{SpellsAlone, IsSpelled, IsShaped, AreParts}
 use Rattle.chess_text.specs.Parts.{unmarked, parts_at, parts_text, move_parts}
-use Rattle.chess_text.specs.Moves.{is_castling_text, passes, is_form, fits, shape, spells_described, spells, one_of, reading, promotes_so}
+use Rattle.chess_text.specs.Moves.{is_castling_text, passes, is_form, parts_fit, shape, spells_described, spells, one_of, reading, promotes_so}
 use Rattle.chess_text.specs.ties.Forms.{same_side}
 use Rattle.chess_text.proofs.AllMoves.{only-move}
 use Rattle.chess_text.proofs.Castlings.{IsCastling, names_side, castling_from_name}
@@ -46,12 +46,12 @@ read_parts : (text : List ℕ) (q : Parts) → unmarked text ≡ parts_text q �
 read_parts text q e h = ap parts_at e ∙ parts-spelled q h
 
 pub spelled_parts : (text : List ℕ) (q : Parts) (d : Described) → unmarked text ≡ parts_text q → AreParts q
-    → spells_described text d ≡ fits q d
+    → spells_described text d ≡ parts_fit q d
 unfolding spells_described is_castling_text move_parts
 spelled_parts text q d e h =
     let at = read_parts text q e h in
-    ap (λ t. t || passes (λ r. fits r d) (parts_at (unmarked text))) (no_side (unmarked text) q at d.castles)
-    ∙ ap (passes (λ r. fits r d)) at
+    ap (λ t. t || passes (λ r. parts_fit r d) (parts_at (unmarked text))) (no_side (unmarked text) q at d.castles)
+    ∙ ap (passes (λ r. parts_fit r d)) at
 
 pub shape_parts : (text : List ℕ) (q : Parts) → unmarked text ≡ parts_text q → AreParts q → is_form q ≡ true
     → shape text ≡ true
@@ -163,10 +163,10 @@ of_parts test (Some q) e = (q, refl, e)
 is_spelled_so : (text : List ℕ) (d : Described) → spells_described text d ≡ true → IsSpelled text d
 unfolding spells_described move_parts
 is_spelled_so text d e =
-    elim (or_cases (passes (is_castling_text text) d.castles) (passes (λ q. fits q d) (parts_at (unmarked text))) e) [
+    elim (or_cases (passes (is_castling_text text) d.castles) (passes (λ q. parts_fit q d) (parts_at (unmarked text))) e) [
       | inl h ↦ inl (castled (is_castling_text text) d.castles h)
       | inr h ↦
-          let of = of_parts (λ q. fits q d) (parts_at (unmarked text)) h in
+          let of = of_parts (λ q. parts_fit q d) (parts_at (unmarked text)) h in
           let is = spelled-parts (unmarked text) of.0 of.1 in
           inr (of.0, is.0, is.1, of.2)
     ]

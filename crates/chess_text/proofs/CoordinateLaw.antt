@@ -15,7 +15,7 @@ use Rattle.chess_text.specs.declared.parts.Parts.{Parts}
 use Rattle.chess_text.specs.declared.reading.Reading.TheVariants as reads
 use Rattle.chess_text.specs.laws.Laws.{SpellsAlone, AreParts, CanPromote}
 use Rattle.chess_text.specs.Parts.{unmarked, promotion_text, parts_text}
-use Rattle.chess_text.specs.Moves.{has_equals, promotes_so, is_form, fits, is_by_squares, is_by_letter, is_straight, is_from_file, shape, reading}
+use Rattle.chess_text.specs.Moves.{has_equals, promotes_so, is_form, parts_fit, is_by_squares, is_by_letter, is_straight, is_from_file, shape, reading}
 use Rattle.chess_text.proofs.Alone.{read_alone, spelled_parts, shape_parts, spells_move, move_is, written, promotes-self, promotes-same}
 use Rattle.chess_text.proofs.Legal.{IsMove, legal_move, told_of}
 use Rattle.chess_text.proofs.Solid.{bare_parts}
@@ -58,8 +58,8 @@ no_equals : (o : Option Kind) → not (has_equals (written false true o)) ≡ tr
 no_equals None = refl
 no_equals (Some k) = refl
 
-fits_itself : (p : Setup) (m : Move) (k : Kind) → fits (squares_named m) (told_of p m k) ≡ true
-unfolding fits is_by_squares
+fits_itself : (p : Setup) (m : Move) (k : Kind) → parts_fit (squares_named m) (told_of p m k) ≡ true
+unfolding parts_fit is_by_squares
 fits_itself p m k =
     let a = eq-eqb (file m.from) (file m.from) refl in
     let b = eq-eqb (rank m.from) (rank m.from) refl in
@@ -116,8 +116,8 @@ not_straight : (p : Setup) (m n : Move) (k : Kind) → is_straight (squares_name
 unfolding is_straight
 not_straight p m n k = refl
 
-fits_alone : (p : Setup) (m n : Move) (k : Kind) → fits (squares_named m) (told_of p n k) ≡ true → Same m n
-unfolding fits
+fits_alone : (p : Setup) (m n : Move) (k : Kind) → parts_fit (squares_named m) (told_of p n k) ≡ true → Same m n
+unfolding parts_fit
 fits_alone p m n k e =
     let a = not_by_letter p m n k in
     let b = not_straight p m n k in

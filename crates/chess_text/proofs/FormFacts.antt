@@ -20,7 +20,7 @@ use Rattle.chess_text.specs.declared.reading.Reading.{Reading}
 use Rattle.chess_text.specs.declared.reading.Reading.TheVariants as reads
 use mathlib.Core.Bool.{or-false}
 use Rattle.chess_text.specs.Parts.{unmarked, parts_at, move_parts}
-use Rattle.chess_text.specs.Moves.{castling_texts, is_castling_text, passes, is_form, fits, is_by_squares, is_by_letter, is_straight, is_from_file, shape, spells_described, spells, described, one_of, reading, IsLegalReading}
+use Rattle.chess_text.specs.Moves.{castling_texts, is_castling_text, passes, is_form, parts_fit, is_by_squares, is_by_letter, is_straight, is_from_file, shape, spells_described, spells, described, one_of, reading, IsLegalReading}
 use Rattle.chess_text.specs.ties.Forms.{form_of_parts, form_at, form_of, same_side, form_fits, is_spelled}
 use Rattle.chess_text.proofs.AllMoves.{filter-both}
 use Rattle.chess_text.proofs.Castlings.{IsCastling, castling_from_name}
@@ -53,14 +53,14 @@ no_form : (letter : Option Kind) (f r : Option ℕ) (takes : Bool) (to : ℕ) (p
     → is_form
     (record { letter = letter; file = f; rank = r; takes = takes; end = record { to = to; promotion = promotion } })
     ≡ false
-    → fits (record {
+    → parts_fit (record {
       letter = letter;
       file = f;
       rank = r;
       takes = takes;
       end = record { to = to; promotion = promotion };
     }) d ≡ false
-unfolding is_form fits is_by_squares is_by_letter is_straight is_from_file
+unfolding is_form parts_fit is_by_squares is_by_letter is_straight is_from_file
 no_form (Some k) f r takes to (Some x) d e = simp (and_right)
 no_form (Some k) f r takes to None d e = absurd cc
 no_form None (Some n) r takes to promotion d e = absurd cc
@@ -69,11 +69,11 @@ no_form None None None true to promotion d e = refl
 no_form None None None false to promotion d e = absurd cc
 
 fits_by_form : (d : Described) (o : Option Parts)
-    → passes (λ q. fits q d) o ≡ passes (λ f. form_fits f d) (form_of_parts o)
+    → passes (λ q. parts_fit q d) o ≡ passes (λ f. form_fits f d) (form_of_parts o)
 fits_by_form d None = refl
 fits_by_form d (Some q) = by_test (is_form q) refl
   where
-    by_test : (t : Bool) → is_form q ≡ t → fits q d ≡ passes (λ f. form_fits f d) (cond t (Some (Piece q)) None)
+    by_test : (t : Bool) → is_form q ≡ t → parts_fit q d ≡ passes (λ f. form_fits f d) (cond t (Some (Piece q)) None)
     by_test true e = refl
     by_test false e = no_form q.letter q.file q.rank q.takes q.end.to q.end.promotion d e
 
@@ -84,7 +84,7 @@ same_for test other h (Some v) = h v
 
 -- a text of castling denotes castling to its side
 pub spelled_castling : (text : List ℕ) (w : CastlingSide) (d : Described) → IsCastling text w
-    → (passes (λ v. list_any (bytes_eq text) (castling_texts v)) d.castles || passes (λ q. fits q d) (parts_at text))
+    → (passes (λ v. list_any (bytes_eq text) (castling_texts v)) d.castles || passes (λ q. parts_fit q d) (parts_at text))
     ≡ passes (same_side w) d.castles
 spelled_castling text w d h =
     rw h.no_parts (or-false _ ∙ same_for (λ v. list_any (bytes_eq text) (castling_texts v)) (same_side w) h.names
@@ -99,11 +99,11 @@ not_named text a b (Some QueenSide) = b
 
 spelled_by : (text : List ℕ) (d : Described) (a b : Bool) → list_any (bytes_eq text) (castling_texts KingSide) ≡ a
     → list_any (bytes_eq text) (castling_texts QueenSide) ≡ b
-    → (passes (λ v. list_any (bytes_eq text) (castling_texts v)) d.castles || passes (λ q. fits q d) (parts_at text))
+    → (passes (λ v. list_any (bytes_eq text) (castling_texts v)) d.castles || passes (λ q. parts_fit q d) (parts_at text))
     ≡ passes (λ f. form_fits f d) (form_at (cond a (Some KingSide) (cond b (Some QueenSide) None)) text)
 spelled_by text d true b ea eb = spelled_castling text KingSide d (castling_from_name text KingSide ea)
 spelled_by text d false true ea eb = spelled_castling text QueenSide d (castling_from_name text QueenSide eb)
-spelled_by text d false false ea eb = ap (λ t. t || passes (λ q. fits q d) (parts_at text))
+spelled_by text d false false ea eb = ap (λ t. t || passes (λ q. parts_fit q d) (parts_at text))
     (not_named text ea eb d.castles) ∙ fits_by_form d (parts_at text)
 
 pub spells-form : (text : List ℕ) (d : Described) → spells_described text d ≡ passes (λ f. form_fits f d) (form_of text)

@@ -24,7 +24,7 @@ use Rattle.chess_text.specs.declared.form.Form.TheVariants.{Castling, Piece}
 use Rattle.chess_text.specs.declared.parts.Parts.{Parts}
 use Rattle.chess_text.specs.declared.reading.Reading.{Reading}
 use Rattle.chess_text.specs.declared.reading.Reading.TheVariants as reads
-use Rattle.chess_text.specs.Moves.{one_of, described, described_as, names, admits, is_by_squares, is_by_letter, is_straight, is_from_file, fits, passes}
+use Rattle.chess_text.specs.Moves.{one_of, described, described_as, names, admits, is_by_squares, is_by_letter, is_straight, is_from_file, parts_fit, passes}
 use Rattle.chess_text.specs.ties.Forms.{same_side, form_fits, is_spelled, end_square, spelled_with, with_move, with_moves, named_square, IsStart}
 use Rattle.chess_text.proofs.Alone.{castled}
 use Rattle.chess_text.proofs.AllMoves.{none-kept}
@@ -43,7 +43,7 @@ man_is p m h k e = rw h.at_from (by_colour p.side e)
 
 -- what is described of a legal move that is denoted
 pub fits_told : (p : Setup) (q : Parts) (m : Move) (h : IsMove p m) → is_spelled (Piece q) p m ≡ true
-    → fits q (told_of p m h.man) ≡ true
+    → parts_fit q (told_of p m h.man) ≡ true
 unfolding is_spelled
 fits_told p q m h e = rw (described_is p m h) at e
 
@@ -65,8 +65,8 @@ named_is (Some f) (Some r) s h e g =
     rw (low, low') (ap Some (rw (f', r') (square_by s)))
 
 -- what the parts say where they name a letter, a square, or neither
-pub letter_fits : (q : Parts) (d : Described) (k : Kind) → q.letter ≡ Some k → fits q d ≡ true → same_kind k d.man ≡ true
-unfolding fits is_by_squares is_by_letter is_straight is_from_file
+pub letter_fits : (q : Parts) (d : Described) (k : Kind) → q.letter ≡ Some k → parts_fit q d ≡ true → same_kind k d.man ≡ true
+unfolding parts_fit is_by_squares is_by_letter is_straight is_from_file
 letter_fits q d k at h = grind (arith, nat_tests, at, h)
 
 -- without a letter: by its two coordinates, or as a pawn
@@ -96,8 +96,8 @@ letter_named : (q : Parts) (d : Described) → q.letter ≡ None → is_by_lette
 unfolding is_by_letter
 letter_named q d at h = absurd (grind (arith, nat_tests, at, h))
 
-no_letter : (q : Parts) (d : Described) → q.letter ≡ None → fits q d ≡ true → NoLetter q d
-unfolding fits
+no_letter : (q : Parts) (d : Described) → q.letter ≡ None → parts_fit q d ≡ true → NoLetter q d
+unfolding parts_fit
 no_letter q d at h =
     elim (or_cases (is_by_squares q d || is_by_letter q d || is_straight q d) (is_from_file q d) h) [
       | inr e ↦ file_named q d e
@@ -149,7 +149,7 @@ by_squares p q s w at square single = λ m spelled legal.
 
 -- with no letter and no square in full it is a pawn
 pub pawn_named : (q : Parts) (d : Described) → d.from < 64 → q.letter ≡ None → named_square q.file q.rank ≡ None
-    → fits q d ≡ true → same_kind Pawn d.man ≡ true
+    → parts_fit q d ≡ true → same_kind Pawn d.man ≡ true
 pawn_named q d low at square told = by_form (no_letter q d at told)
   where
     by_form : NoLetter q d → same_kind Pawn d.man ≡ true

@@ -29,7 +29,7 @@ use Rattle.chess_moves.proofs.SomeMember.{any-filter}
 use Rattle.chess_text.specs.declared.writing.Disambiguation.{Disambiguation}
 use Rattle.chess_text.specs.laws.Laws.{SpellsAlone, is_san_byte, begins_with_letter, AreParts, IsOfficer, CanPromote}
 use Rattle.chess_text.specs.Parts.{unmarked, parts_text}
-use Rattle.chess_text.specs.Moves.{captures, passes, admits, has_equals, promotes_so, is_form, fits, is_by_squares, is_by_letter, is_straight, is_from_file, shape, reading}
+use Rattle.chess_text.specs.Moves.{captures, passes, admits, has_equals, promotes_so, is_form, parts_fit, is_by_squares, is_by_letter, is_straight, is_from_file, shape, reading}
 use Rattle.chess_text.specs.ties.Forms.{same_side}
 use Rattle.chess_text.specs.San.{castling_text, disambiguate, if_said, pawn_parts, officer_parts, walk_parts, is_rival, rival_starts, text_by_castling, check_mark, san_as, san}
 use Rattle.chess_text.proofs.Alone.{read_alone, spelled_parts, shape_parts, spelled_castling, shape_castling, spells_move, same_kind-self, same_kind-true, move_is, written, promotes-self, promotes-same}
@@ -129,8 +129,8 @@ pawn_form true from to o = refl
 pawn_form false from to o = refl
 
 pawn_fits : (p : Setup) (m : Move) (c : Bool) → captures p m ≡ c → (c ≡ false → file m.from ≡ file m.to)
-    → fits (pawn_named c m.from m.to (written true false m.promotion)) (told_of p m Pawn) ≡ true
-unfolding fits is_by_squares is_by_letter is_straight is_from_file
+    → parts_fit (pawn_named c m.from m.to (written true false m.promotion)) (told_of p m Pawn) ≡ true
+unfolding parts_fit is_by_squares is_by_letter is_straight is_from_file
 pawn_fits p m true e on =
     let a = eq-eqb (file m.from) (file m.from) refl in
     let b = eq-eqb m.to m.to refl in
@@ -150,8 +150,8 @@ record GoesStraight (p : Setup) (m n : Move) (l : Kind) : Type 0 where
   promotion : n.promotion ≡ m.promotion
 
 straight_fits : (p : Setup) (m n : Move) (l : Kind)
-    → fits (pawn_named false m.from m.to (written true false m.promotion)) (told_of p n l) ≡ true → GoesStraight p m n l
-unfolding fits is_by_squares is_by_letter is_straight is_from_file
+    → parts_fit (pawn_named false m.from m.to (written true false m.promotion)) (told_of p n l) ≡ true → GoesStraight p m n l
+unfolding parts_fit is_by_squares is_by_letter is_straight is_from_file
 straight_fits p m n l e =
     let straight : (same_kind Pawn l && (file n.from == file n.to) && (m.to == n.to)
     && promotes_so (written true false m.promotion) n.promotion) ≡ true =
@@ -176,8 +176,8 @@ record Takes (p : Setup) (m n : Move) (l : Kind) : Type 0 where
   promotion : n.promotion ≡ m.promotion
 
 takes_fits : (p : Setup) (m n : Move) (l : Kind)
-    → fits (pawn_named true m.from m.to (written true false m.promotion)) (told_of p n l) ≡ true → Takes p m n l
-unfolding fits is_by_squares is_by_letter is_straight is_from_file
+    → parts_fit (pawn_named true m.from m.to (written true false m.promotion)) (told_of p n l) ≡ true → Takes p m n l
+unfolding parts_fit is_by_squares is_by_letter is_straight is_from_file
 takes_fits p m n l e =
     let e4 = and_parts ((file m.from == file n.from) && true && same_kind Pawn l && captures p n && (m.to == n.to))
     (promotes_so (written true false m.promotion) n.promotion) (by_squares e) in
@@ -197,7 +197,7 @@ takes_fits p m n l e =
     no_rank true b c d e = refl
     no_rank false b c d e = refl
 
-    by_squares : fits (pawn_named true m.from m.to (written true false m.promotion)) (told_of p n l) ≡ true
+    by_squares : parts_fit (pawn_named true m.from m.to (written true false m.promotion)) (told_of p n l) ≡ true
         → ((file m.from == file n.from) && true && same_kind Pawn l && captures p n && (m.to == n.to)
         && promotes_so (written true false m.promotion) n.promotion) ≡ true
     by_squares e =
@@ -238,7 +238,7 @@ as_pawn p n g is =
 
 pub pawn_alone : (p : Setup) (m n : Move) (c : Bool) → IsSound p → (h : IsMove p m) → h.man ≡ Pawn → (g : IsMove p n)
     → captures p m ≡ c
-    → fits (pawn_named c m.from m.to (written true false m.promotion)) (told_of p n g.man) ≡ true → n ≡ m
+    → parts_fit (pawn_named c m.from m.to (written true false m.promotion)) (told_of p n g.man) ≡ true → n ≡ m
 pawn_alone p m n true sound h is g e fit =
     let f = takes_fits p m n g.man fit in
     let a = as_pawn p m h is in
@@ -309,8 +309,8 @@ unfolding is_form
 officer_form k start c from to = refl
 
 officer_fits : (p : Setup) (m : Move) (k : Kind) (start : Disambiguation) → castling p m ≡ None
-    → fits (officer_named k start (captures p m) m.from m.to) (told_of p m k) ≡ true
-unfolding fits is_by_squares is_by_letter is_straight is_from_file
+    → parts_fit (officer_named k start (captures p m) m.from m.to) (told_of p m k) ≡ true
+unfolding parts_fit is_by_squares is_by_letter is_straight is_from_file
 officer_fits p m k start none =
     let a = same_kind-self k in
     let b = told_admits start.file (file m.from) in
@@ -327,8 +327,8 @@ record Goes (p : Setup) (m n : Move) (k l : Kind) (start : Disambiguation) : Typ
   to : n.to ≡ m.to
 
 officer_goes : (p : Setup) (m n : Move) (k l : Kind) (start : Disambiguation) (c : Bool)
-    → fits (officer_named k start c m.from m.to) (told_of p n l) ≡ true → Goes p m n k l start
-unfolding fits is_by_squares is_by_letter is_straight is_from_file
+    → parts_fit (officer_named k start c m.from m.to) (told_of p n l) ≡ true → Goes p m n k l start
+unfolding parts_fit is_by_squares is_by_letter is_straight is_from_file
 officer_goes p m n k l start c e =
     let by_letter : (same_kind k l && is_none (castling p n) && admits (if_said start.file (file m.from)) (file n.from)
     && admits (if_said start.rank (rank m.from)) (rank n.from) && (not c || captures p n) && (m.to == n.to) && true)
@@ -403,7 +403,7 @@ no_promotion p n Knight officer h = h
 
 officer_alone : (p : Setup) (m n : Move) (k : Kind) → IsOfficer k → m.promotion ≡ None → is_legal p n ≡ true
     → (g : IsMove p n)
-    → fits (officer_named k (disambiguate m.from (rivals p m k)) (captures p m) m.from m.to) (told_of p n g.man) ≡ true
+    → parts_fit (officer_named k (disambiguate m.from (rivals p m k)) (captures p m) m.from m.to) (told_of p n g.man) ≡ true
     → n ≡ m
 officer_alone p m n k officer none legal g fit = by_start (n.from == m.from) refl
   where
@@ -449,8 +449,8 @@ record HasParts (p : Setup) (m : Move) (k : Kind) (q : Parts) : Type 0 where
   are : AreParts q
   form : is_form q ≡ true
   word : IsWord (parts_text q)
-  fits_it : fits q (told_of p m k) ≡ true
-  alone : (n : Move) → is_legal p n ≡ true → (g : IsMove p n) → fits q (told_of p n g.man) ≡ true → n ≡ m
+  fits_it : parts_fit q (told_of p m k) ≡ true
+  alone : (n : Move) → is_legal p n ≡ true → (g : IsMove p n) → parts_fit q (told_of p n g.man) ≡ true → n ≡ m
 
 pawn_parts_of : (p : Setup) (m : Move) → IsSound p → (h : IsMove p m) → h.man ≡ Pawn
     → HasParts p m Pawn (pawn_named (captures p m) m.from m.to (written true false m.promotion))

@@ -18,7 +18,7 @@ use Rattle.chess_text.specs.declared.described.Described.{Described}
 use Rattle.chess_text.specs.declared.form.Form.{Form}
 use Rattle.chess_text.specs.declared.form.Form.TheVariants.{Castling, Piece}
 use Rattle.chess_text.specs.declared.parts.Parts.{Parts}
-use Rattle.chess_text.specs.Moves.{described, described_as, is_by_squares, is_by_letter, is_straight, is_from_file, fits, passes}
+use Rattle.chess_text.specs.Moves.{described, described_as, is_by_squares, is_by_letter, is_straight, is_from_file, parts_fit, passes}
 use Rattle.chess_text.specs.ties.Forms.{same_side, form_fits, is_spelled, castling_end, end_square, spelled_with}
 use Rattle.chess_text.proofs.Alone.{castled}
 use Rattle.chess_text.proofs.AllMoves.{filter-both, none-kept, kept, alone-square}
@@ -42,8 +42,8 @@ from_file_ends : (q : Parts) (d : Described) → is_from_file q d ≡ true → d
 unfolding is_from_file
 from_file_ends q d h = grind (arith, nat_tests, h)
 
-fitting_ends : (q : Parts) (d : Described) → fits q d ≡ true → d.to ≡ q.end.to
-unfolding fits
+fitting_ends : (q : Parts) (d : Described) → parts_fit q d ≡ true → d.to ≡ q.end.to
+unfolding parts_fit
 fitting_ends q d h =
     elim (or_cases (is_by_squares q d || is_by_letter q d || is_straight q d) (is_from_file q d) h) [
       | inr e ↦ from_file_ends q d e

@@ -19,7 +19,7 @@ use Rattle.chess_text.specs.declared.described.Described.{Described}
 use Rattle.chess_text.specs.declared.form.Form.TheVariants.{Piece}
 use Rattle.chess_text.specs.declared.parts.Parts.{Parts}
 use Rattle.chess_text.specs.declared.parts.Promotion.{Promotion}
-use Rattle.chess_text.specs.Moves.{admits, captures, names, is_by_squares, is_by_letter, is_straight, is_from_file, fits}
+use Rattle.chess_text.specs.Moves.{admits, captures, names, is_by_squares, is_by_letter, is_straight, is_from_file, parts_fit}
 use Rattle.chess_text.specs.ties.Forms.{is_spelled, is_spelled_by_letter, is_spelled_by_pawn, is_spelled_of, kind_by, named_square, one_kind}
 use Rattle.chess_text.proofs.Legal.{castling_says, legal_move, IsMove, told_of, described_is}
 use Rattle.chess_text.proofs.Origins.{named_is}
@@ -100,7 +100,7 @@ turned true f r t = sym (and-true (f && r && t))
 turned false f r t = sym (and-false (f && r && t))
 
 letter_fits : (k : Kind) (f r : Option ℕ) (takes captured : Bool) (a to : ℕ) (o : Option CastlingSide)
-    → fits (record {
+    → parts_fit (record {
       letter = Some k;
       file = f;
       rank = r;
@@ -108,7 +108,7 @@ letter_fits : (k : Kind) (f r : Option ℕ) (takes captured : Bool) (a to : ℕ)
       end = record { to = to; promotion = None };
     }) (record { man = k; from = a; to = to; promotion = None; captures = captured; castles = o })
     ≡ (admits f (file a) && admits r (rank a) && (not takes || captured) && is_none o)
-unfolding fits is_by_squares is_by_letter is_straight is_from_file
+unfolding parts_fit is_by_squares is_by_letter is_straight is_from_file
 letter_fits k f r takes captured a to o =
     rw (eq-eqb (kind_number k) (kind_number k) refl, eq-eqb to to refl)
     (last_two (is_none o && admits f (file a) && admits r (rank a) && (not takes || captured))
@@ -137,7 +137,7 @@ pawn_fits_by : (f r : Option ℕ) (takes captured : Bool) (a to : ℕ) (o : Opti
       takes = takes;
       end = record { to = to; promotion = None };
     }) (record { man = Pawn; from = a; to = to; promotion = None; captures = captured; castles = o }) ≡ false
-    → fits (record {
+    → parts_fit (record {
       letter = None;
       file = f;
       rank = r;
@@ -146,7 +146,7 @@ pawn_fits_by : (f r : Option ℕ) (takes captured : Bool) (a to : ℕ) (o : Opti
     }) (record { man = Pawn; from = a; to = to; promotion = None; captures = captured; castles = o })
     ≡ cond (is_none f) (is_none r && not takes && (file a == file to))
     (names f (file a) && admits r (rank a) && (not takes || captured))
-unfolding fits is_by_letter is_straight is_from_file
+unfolding parts_fit is_by_letter is_straight is_from_file
 pawn_fits_by None None takes captured a to o e = rw (e, eq-eqb to to refl)
     (straight (not takes) (file a == file to))
   where
@@ -167,7 +167,7 @@ pawn_fits_by (Some n) r takes captured a to o e = rw (e, eq-eqb to to refl)
 -- ---- as the parts are
 
 spelled_as : (p : Setup) (m : Move) (h : IsMove p m) (q : Parts) → is_spelled (Piece q) p m
-    ≡ fits q (told_of p m h.man)
+    ≡ parts_fit q (told_of p m h.man)
 unfolding is_spelled
 spelled_as p m h q = rw (described_is p m h) refl
 
@@ -182,11 +182,11 @@ lettered q letter promotion = record {
 
 of_letter : (q : Parts) (p : Setup) (k : Kind) (m : Move) → q.letter ≡ Some k → q.end.promotion ≡ None
     → m.to ≡ q.end.to → m.promotion ≡ None → is_man p.side k (man_at p.men m.from) ≡ true
-    → fits q (told_of p m k) ≡ is_spelled_by_letter q p k m
+    → parts_fit q (told_of p m k) ≡ is_spelled_by_letter q p k m
 of_letter q p k m letter plain to none man =
-    ap (λ l. fits (lettered q l q.end.promotion) (told_of p m k)) letter
-    ∙ ap (λ o. fits (lettered q (Some k) o) (told_of p m k)) plain
-    ∙ ap (λ o. fits (lettered q (Some k) None) (record {
+    ap (λ l. parts_fit (lettered q l q.end.promotion) (told_of p m k)) letter
+    ∙ ap (λ o. parts_fit (lettered q (Some k) o) (told_of p m k)) plain
+    ∙ ap (λ o. parts_fit (lettered q (Some k) None) (record {
       man = k;
       from = m.from;
       to = m.to;
@@ -194,7 +194,7 @@ of_letter q p k m letter plain to none man =
       captures = captures p m;
       castles = castling p m;
     })) none
-    ∙ ap (λ b. fits (lettered q (Some k) None) (record {
+    ∙ ap (λ b. parts_fit (lettered q (Some k) None) (record {
       man = k;
       from = m.from;
       to = b;
@@ -208,11 +208,11 @@ of_letter q p k m letter plain to none man =
 
 of_pawn : (q : Parts) (p : Setup) (m : Move) → q.letter ≡ None → q.end.promotion ≡ None
     → named_square q.file q.rank ≡ None → m.from < 64
-    → m.to ≡ q.end.to → m.promotion ≡ None → fits q (told_of p m Pawn) ≡ is_spelled_by_pawn q p m
+    → m.to ≡ q.end.to → m.promotion ≡ None → parts_fit q (told_of p m Pawn) ≡ is_spelled_by_pawn q p m
 of_pawn q p m letter plain square low to none =
-    ap (λ l. fits (lettered q l q.end.promotion) (told_of p m Pawn)) letter
-    ∙ ap (λ o. fits (lettered q None o) (told_of p m Pawn)) plain
-    ∙ ap (λ o. fits (lettered q None None) (record {
+    ap (λ l. parts_fit (lettered q l q.end.promotion) (told_of p m Pawn)) letter
+    ∙ ap (λ o. parts_fit (lettered q None o) (told_of p m Pawn)) plain
+    ∙ ap (λ o. parts_fit (lettered q None None) (record {
       man = Pawn;
       from = m.from;
       to = m.to;
@@ -220,7 +220,7 @@ of_pawn q p m letter plain square low to none =
       captures = captures p m;
       castles = castling p m;
     })) none
-    ∙ ap (λ b. fits (lettered q None None) (record {
+    ∙ ap (λ b. parts_fit (lettered q None None) (record {
       man = Pawn;
       from = m.from;
       to = b;
@@ -241,20 +241,20 @@ of_pawn q p m letter plain square low to none =
     (names q.file (file m.from) && admits q.rank (rank m.from) && (not q.takes || captures p m))) (sym to)
 
 abbrev Spelled : Parts → Setup → Kind → Move → Type 0
-Spelled q p k m = fits q (told_of p m k) ≡ is_spelled_of q p k m
+Spelled q p k m = parts_fit q (told_of p m k) ≡ is_spelled_of q p k m
 
 -- the letter's kind, or a pawn
 by_kind : (q : Parts) (p : Setup) (k : Kind) (m : Move) (letter : Option Kind) (square : Option ℕ)
     (promotion : Option Promotion) → q.letter ≡ letter → named_square q.file q.rank ≡ square
     → q.end.promotion ≡ promotion → cond (is_some promotion) None (kind_by letter square) ≡ Some k
     → m.from < 64 → m.to ≡ q.end.to → m.promotion ≡ None → is_man p.side k (man_at p.men m.from) ≡ true
-    → fits q (told_of p m k)
+    → parts_fit q (told_of p m k)
     ≡ cond (is_some letter) (is_spelled_by_letter q p k m) (is_spelled_by_pawn q p m)
 by_kind q p k m letter square (Some x) l s n e low to none man = absurd cc
 by_kind q p k m None (Some x) None l s n e low to none man = absurd cc
 by_kind q p k m None None None l s n e low to none man =
     let pawn : k ≡ Pawn = cc in
-    ap (λ j. fits q (told_of p m j)) pawn ∙ of_pawn q p m l n s low to none
+    ap (λ j. parts_fit q (told_of p m j)) pawn ∙ of_pawn q p m l n s low to none
 by_kind q p k m (Some Pawn) square None l s n e low to none man = absurd cc
 by_kind q p k m (Some King) square None l s n e low to none man =
     of_letter q p k m (l ∙ e) n to none man
@@ -273,6 +273,6 @@ pub spelled_of : (q : Parts) (p : Setup) (k : Kind) (m : Move) → one_kind q �
 spelled_of q p k m e legal to none man =
     let h = legal_move p m legal in
     spelled_as p m h q
-    ∙ ap (λ j. fits q (told_of p m j)) (sym (kind_there p.side k (man_at p.men m.from)
+    ∙ ap (λ j. parts_fit q (told_of p m j)) (sym (kind_there p.side k (man_at p.men m.from)
     (record { colour = p.side; kind = h.man }) h.at_from man))
     ∙ by_kind q p k m q.letter (named_square q.file q.rank) q.end.promotion refl refl refl e h.from_in to none man

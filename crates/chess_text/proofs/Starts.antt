@@ -19,7 +19,7 @@ use Rattle.chess_text.specs.declared.form.Form.TheVariants.{Piece}
 use Rattle.chess_text.specs.declared.parts.Parts.{Parts}
 use Rattle.chess_text.specs.declared.parts.Promotion.{Promotion}
 use Rattle.chess_text.specs.declared.reading.Reading.{Reading}
-use Rattle.chess_text.specs.Moves.{one_of, promotes_so, is_by_squares, is_by_letter, is_straight, is_from_file, fits}
+use Rattle.chess_text.specs.Moves.{one_of, promotes_so, is_by_squares, is_by_letter, is_straight, is_from_file, parts_fit}
 use Rattle.chess_text.specs.ties.Forms.{is_spelled, spelled_with, named_square, kind_by, one_kind, is_spelled_of, spelled_start, IsStart}
 use Rattle.chess_text.proofs.Legal.{legal_move, MovesAs, told_of}
 use Rattle.chess_text.proofs.Origins.{man_is, fits_told, letter_fits, pawn_named, spelled_from}
@@ -46,9 +46,9 @@ none_told : (o : Option Kind) → promotes_so None o ≡ true → o ≡ None
 none_told None e = refl
 none_told (Some k) e = absurd cc
 
-promotes_as : (q : Parts) (d : Described) → q.letter ≡ None → fits q d ≡ true
+promotes_as : (q : Parts) (d : Described) → q.letter ≡ None → parts_fit q d ≡ true
     → promotes_so q.end.promotion d.promotion ≡ true
-unfolding fits is_by_squares is_by_letter is_straight is_from_file
+unfolding parts_fit is_by_squares is_by_letter is_straight is_from_file
 promotes_as q d at h = grind (arith, nat_tests, at, h)
 
 -- ---- one kind
@@ -68,7 +68,7 @@ of_pawn : (p : Setup) (q : Parts) (m : Move) → q.letter ≡ None → named_squ
     → q.end.promotion ≡ None → is_spelled (Piece q) p m ≡ true → is_legal p m ≡ true → OfKind p Pawn m
 of_pawn p q m at square plain spelled legal =
     let h = legal_move p m legal in
-    let told : fits q (told_of p m h.man) ≡ true = fits_told p q m h spelled in (
+    let told : parts_fit q (told_of p m h.man) ≡ true = fits_told p q m h spelled in (
       man_is p m h Pawn (pawn_named q (told_of p m h.man) h.from_in at square told),
       none_told m.promotion (rw plain at (promotes_as q (told_of p m h.man) at told)),
     )

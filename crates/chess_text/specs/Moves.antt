@@ -102,8 +102,8 @@ is_from_file q d =
     && (not q.takes || d.captures) && (q.end.to == d.to) && promotes_so q.end.promotion d.promotion
 
 -- the parts fit the move in one of these four forms
-unfoldable pub fits : Parts → Described → Bool
-fits q d = is_by_squares q d || is_by_letter q d || is_straight q d || is_from_file q d
+unfoldable pub parts_fit : Parts → Described → Bool
+parts_fit q d = is_by_squares q d || is_by_letter q d || is_straight q d || is_from_file q d
 
 -- the parts are those of one of these forms: a letter and no promotion, or no letter and a file, or a square alone
 unfoldable pub is_form : Parts → Bool
@@ -129,7 +129,7 @@ shape text = is_castling_text text KingSide || is_castling_text text QueenSide |
 
 -- the text denotes the move that is described
 unfoldable pub spells_described : List ℕ → Described → Bool
-spells_described text d = passes (is_castling_text text) d.castles || passes (λ q. fits q d) (move_parts text)
+spells_described text d = passes (is_castling_text text) d.castles || passes (λ q. parts_fit q d) (move_parts text)
 
 -- the text denotes this move of the position
 unfoldable pub spells : Setup → List ℕ → Move → Bool

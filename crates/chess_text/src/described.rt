@@ -1,7 +1,7 @@
 //! What a text can say of a move.
 
 ghost use Rattle.std.specs.Prelude.{◌≡◌, ◌==◌};
-ghost use Rattle.chess_text.specs.Moves.{captures, described, admits, names, names_kind, promotes_so, has_equals, is_by_squares, is_by_letter, is_straight, is_from_file, fits, is_form};
+ghost use Rattle.chess_text.specs.Moves.{captures, described, admits, names, names_kind, promotes_so, has_equals, is_by_squares, is_by_letter, is_straight, is_from_file, parts_fit, is_form};
 
 use crate::parts::{Parts, Promotion};
 use chess_base::rules::{castling, is_en_passant, is_of};
@@ -145,9 +145,9 @@ fn is_from_file(parts: &Parts, d: &Described) -> bool
 }
 
 // Whether the parts denote the move in one of the forms of a text.
-#[tactic(auto, unfolding(crate::specs::Moves::fits))]
-pub(crate) fn fits(parts: &Parts, d: &Described) -> bool
-    ensures { result ≡ fits parts.now d.now }
+#[tactic(auto, unfolding(crate::specs::Moves::parts_fit))]
+pub(crate) fn parts_fit(parts: &Parts, d: &Described) -> bool
+    ensures { result ≡ parts_fit parts.now d.now }
 {
     is_by_squares(parts, d)
         || is_by_letter(parts, d)

@@ -3,7 +3,7 @@
 ghost use Rattle.std.specs.Prelude.{◌≡◌};
 ghost use Rattle.chess_text.specs.ties.Forms.{castling_named, form_of, same_side, form_fits, is_spelled};
 
-use crate::described::{Described, describe, fits, is_form};
+use crate::described::{Described, describe, parts_fit, is_form};
 use crate::parts::{Parts, read_parts, unmarked};
 use chess_base::{CastlingSide, Move, Setup};
 
@@ -48,7 +48,7 @@ fn form_fits(form: &Form, d: &Described) -> bool
 {
     match form {
         Form::Castling(castling_side) => d.castles == Some(*castling_side),
-        Form::Piece(parts) => fits(parts, d),
+        Form::Piece(parts) => parts_fit(parts, d),
     }
 }
 

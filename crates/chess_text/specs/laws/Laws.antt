@@ -12,7 +12,7 @@ use Rattle.chess_text.specs.declared.described.Described.{Described}
 use Rattle.chess_text.specs.declared.parts.Parts.{Parts}
 use Rattle.chess_text.specs.declared.reading.Reading.TheVariants as reads
 use Rattle.chess_text.specs.Parts.{unmarked, parts_at, parts_text}
-use Rattle.chess_text.specs.Moves.{is_castling_text, is_form, fits, spells_described, spells, shape, reading}
+use Rattle.chess_text.specs.Moves.{is_castling_text, is_form, parts_fit, spells_described, spells, shape, reading}
 use Rattle.chess_text.specs.San.{san, shown_move}
 use Rattle.chess_base.specs.declared.man.Kind.{Kind}
 use Rattle.chess_base.specs.declared.man.Kind.TheVariants.{King, Pawn}
@@ -108,7 +108,7 @@ PartsAreRead = (q : Parts) → AreParts q → parts_at (parts_text q) ≡ Some q
 abbrev pub IsSpelled : List ℕ → Described → Type 0
 IsSpelled text d =
     ((w : CastlingSide) × (d.castles ≡ Some w) × IsTrue (is_castling_text text w))
-    ⊎ ((q : Parts) × AreParts q × (unmarked text ≡ parts_text q) × IsTrue (fits q d))
+    ⊎ ((q : Parts) × AreParts q × (unmarked text ≡ parts_text q) × IsTrue (parts_fit q d))
 
 abbrev pub SpelledByText : Type 0
 SpelledByText = (text : List ℕ) → (d : Described) → IsTrue (spells_described text d) ↔ IsSpelled text d

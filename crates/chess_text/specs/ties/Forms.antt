@@ -25,7 +25,7 @@ use Rattle.chess_text.specs.Parts.{unmarked, parts_at}
 use Rattle.chess_moves.specs.Sets.{has}
 use Rattle.chess_text.specs.declared.reading.Reading.{Reading}
 use Rattle.chess_text.specs.declared.reading.Reading.TheVariants as reads
-use Rattle.chess_text.specs.Moves.{admits, captures, castling_texts, described, fits, is_form, names, passes}
+use Rattle.chess_text.specs.Moves.{admits, captures, castling_texts, described, parts_fit, is_form, names, passes}
 
 -- the side of the castling that a text without marks names
 abbrev pub castling_named : List ℕ → Option CastlingSide
@@ -54,7 +54,7 @@ same_side _ _ = Bool.false
 -- the form is one of the move that is described
 abbrev pub form_fits : Form → Described → Bool
 form_fits (Castling w) d = passes (same_side w) d.castles
-form_fits (Piece q) d = fits q d
+form_fits (Piece q) d = parts_fit q d
 
 -- the form denotes this move of the position
 unfoldable pub is_spelled : Form → Setup → Move → Bool
