@@ -24,7 +24,7 @@ pub fn read_games<B: Board>(text: &[u8], game: &mut Game<B>) -> Result<Tally, Pg
     while let Some(end) = read_pgn(text, at, game)? {
         tally.games = tally.games.saturating_add(1);
         tally.half_moves = tally.half_moves.saturating_add(game.ply() as u64);
-        at = end.place;
+        at = end.offset;
     }
     Ok(tally)
 }

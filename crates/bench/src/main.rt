@@ -100,7 +100,7 @@ fn time_games(rt: &HostRuntime, text: &[u8], game: &mut Game<Bits<'_>>) -> io::R
             Ok(ExitCode::SUCCESS)
         }
         Err(fault) => {
-            eprintln!(rt; "a fault at byte {}", fault.place)?;
+            eprintln!(rt; "a fault at byte {}", fault.offset)?;
             Ok(ExitCode::FAILURE)
         }
     }

@@ -20,7 +20,7 @@ use Rattle.chess_pgn.specs.declared.word.WordKind.{WordKind}
 use Rattle.chess_pgn.specs.declared.word.WordKind.TheVariants.{End, Number, Marks, Move}
 use Rattle.chess_pgn.specs.GameRead.{SoFar, GameRead, Step, On, Stop, unless_full, move_step, word_step, fen_step, tag_step, step, go_on, game_of, at_text_end, nothing_read, variant_told, pgn_read}
 use Rattle.chess_pgn.specs.ties.GameSteps.{IsWithin}
-use Rattle.chess_pgn.specs.laws.Places.{FaultsHavePlaces}
+use Rattle.chess_pgn.specs.laws.Offsets.{FaultsHaveOffsets}
 use Rattle.chess_pgn.specs.Tokens.{Token, Skip, Tag, Word, Bad_tag, Unclosed_comment, Unclosed_variation, Bad, token_at, tokens_of, first_place, begins_line, tokens_from}
 use Rattle.chess_pgn.specs.Words.{kind_of}
 use Rattle.chess_pgn.proofs.Cuts.{pick}
@@ -29,7 +29,7 @@ use Rattle.chess_pgn.proofs.Walk.{shorter}
 
 -- a fault has its offset from the first on and up to the last
 abbrev FaultIn : ℕ → ℕ → Result (Option PgnEnd) PgnFault → Type 0
-FaultIn first last r = IfErr r (λ f. (first ≤ f.place) × (f.place ≤ last))
+FaultIn first last r = IfErr r (λ f. (first ≤ f.offset) × (f.offset ≤ last))
 
 abbrev StopIn : ℕ → ℕ → Step → Type 0
 StopIn first last (On g) = Unit {0}
@@ -43,35 +43,35 @@ further first from last (Err f) h k = let low = k.0 in (omega (arith, h, low), k
 -- ---- a step
 
 module _ (limit first last : ℕ) (g : SoFar) where
-  unless_in : (place : ℕ) (next : Step) → first ≤ place → place ≤ last → StopIn first last next
-      → StopIn first last (unless_full limit g place next)
-  unless_in place next low high h =
+  unless_in : (offset : ℕ) (next : Step) → first ≤ offset → offset ≤ last → StopIn first last next
+      → StopIn first last (unless_full limit g offset next)
+  unless_in offset next low high h =
       pick (StopIn first last) (is_some (verdict_now g.state)) _ _ (λ _. (low, high)) (λ _.
       pick (StopIn first last) (nat_lt (length g.state.moves) limit) _ _ (λ _. h) (λ _. (low, high)))
 
-  move_in : (place : ℕ) (r : Reading) → first ≤ place → place ≤ last → StopIn first last (move_step limit g place r)
-  move_in place reads.NotAMove low high = (low, high)
-  move_in place (reads.Move m) low high = unless_in place _ low high tt
-  move_in place reads.Ambiguous low high = unless_in place _ low high (low, high)
-  move_in place reads.NoSuch low high = unless_in place _ low high (low, high)
+  move_in : (offset : ℕ) (r : Reading) → first ≤ offset → offset ≤ last → StopIn first last (move_step limit g offset r)
+  move_in offset reads.NotAMove low high = (low, high)
+  move_in offset (reads.Move m) low high = unless_in offset _ low high tt
+  move_in offset reads.Ambiguous low high = unless_in offset _ low high (low, high)
+  move_in offset reads.NoSuch low high = unless_in offset _ low high (low, high)
 
-  word_in : (place : ℕ) (word : List ℕ) (kind : WordKind) → first ≤ place → place ≤ last
-      → StopIn first last (word_step limit g place word kind)
-  word_in place word (End o) low high = tt
-  word_in place word Number low high = tt
-  word_in place word Marks low high = tt
-  word_in place word Move low high = move_in place (reading (current g.state) word) low high
+  word_in : (offset : ℕ) (word : List ℕ) (kind : WordKind) → first ≤ offset → offset ≤ last
+      → StopIn first last (word_step limit g offset word kind)
+  word_in offset word (End o) low high = tt
+  word_in offset word Number low high = tt
+  word_in offset word Marks low high = tt
+  word_in offset word Move low high = move_in offset (reading (current g.state) word) low high
 
-  fen_in : (place : ℕ) (r : Result Setup FenFault) → first ≤ place → place ≤ last
-      → StopIn first last (fen_step g place r)
-  fen_in place (Ok start) low high = tt
-  fen_in place (Err fault) low high = (low, high)
+  fen_in : (offset : ℕ) (r : Result Setup FenFault) → first ≤ offset → offset ≤ last
+      → StopIn first last (fen_step g offset r)
+  fen_in offset (Ok start) low high = tt
+  fen_in offset (Err fault) low high = (low, high)
 
-  tag_in : (name text : List ℕ) (place : ℕ) → first ≤ place → place ≤ last
-      → StopIn first last (tag_step g name text place)
-  tag_in name text place low high =
+  tag_in : (name text : List ℕ) (offset : ℕ) → first ≤ offset → offset ≤ last
+      → StopIn first last (tag_step g name text offset)
+  tag_in name text offset low high =
       pick (StopIn first last) (bytes_eq name (codes "FEN")) _ _
-      (λ _. fen_in place (fen_reading_as g.state.start.variant text) low high) (λ _. tt)
+      (λ _. fen_in offset (fen_reading_as g.state.start.variant text) low high) (λ _. tt)
 
 step_in : (limit total : ℕ) (g : SoFar) (left : ℕ) (t : Token) → IsWithin left t
     → StopIn (total - left) total (step limit total g left t)
@@ -127,15 +127,15 @@ behind text at h = pick (λ (n : ℕ). (at ≤ n) × (n ≤ length text))
         let few = length-take 3 text in
         (omega (arith, none), omega (arith, same, few))
 
-pub fault_in_place : FaultsHavePlaces
+pub fault_in_place : FaultsHaveOffsets
 unfolding pgn_read tokens_from
 fault_in_place limit text at h =
-    let place : ℕ = first_place text at in
-    let g : SoFar = nothing_read (variant_told Normal (tokens_from text place)) in
+    let offset : ℕ = first_place text at in
+    let g : SoFar = nothing_read (variant_told Normal (tokens_from text offset)) in
     let later = behind text at h in
     let low = later.0 in
     let high = later.1 in
-    let left = length-drop place text in
-    let near : at ≤ length text - length (drop place text) = omega (arith, low, high, left) in
-    further at (length text - length (drop place text)) (length text) _ near
-    (game_in limit (length text) (length text) (begins_line text place) g (drop place text))
+    let left = length-drop offset text in
+    let near : at ≤ length text - length (drop offset text) = omega (arith, low, high, left) in
+    further at (length text - length (drop offset text)) (length text) _ near
+    (game_in limit (length text) (length text) (begins_line text offset) g (drop offset text))

@@ -161,12 +161,12 @@ goes_on_behind prefix column [] rest h = let e : column + 0 ≡ column =
 goes_on_behind prefix column (u ∷ ts) rest h =
     let all : length (tail (u ∷ ts)) ≡ suc (length u) + length (tail ts) = length-append (32 ∷ u) (tail ts) in
     let fits : leb (column + 1 + length u) 79 ≡ true = grind (arith, nat_tests, all, h) in
-    let place : column + 1 + length u + length (tail ts) ≡ column + length (tail (u ∷ ts)) = omega (arith, all) in
+    let offset : column + 1 + length u + length (tail ts) ≡ column + length (tail (u ∷ ts)) = omega (arith, all) in
     let few : column + 1 + length u + length (tail ts) ≤ 79 = omega (arith, all, h) in
     ap (λ b. cond b (32 ∷ u ++ behind prefix (column + 1 + length u) (ts ++ rest))
     (10 ∷ prefix ++ u ++ behind prefix (length u) (ts ++ rest))) fits
     ∙ ap (λ xs. 32 ∷ u ++ xs) (goes_on_behind prefix (column + 1 + length u) ts rest few
-    ∙ ap (λ n. tail ts ++ behind prefix n rest) place)
+    ∙ ap (λ n. tail ts ++ behind prefix n rest) offset)
     ∙ sym (append_assoc (32 ∷ u) (tail ts) (behind prefix (column + length (tail (u ∷ ts))) rest))
 
 -- a line of tokens, and what follows it

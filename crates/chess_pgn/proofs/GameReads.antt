@@ -35,35 +35,35 @@ abbrev Undeclared : Step → Type 0
 Undeclared (On g) = g.state.declared ≡ None
 Undeclared (Stop read) = OnErr read.answer (read.state.declared ≡ None)
 
-unless_full_keeps : (limit : ℕ) (g : SoFar) (place : ℕ) (next : Step) → g.state.declared ≡ None → Undeclared next
-    → Undeclared (unless_full limit g place next)
-unless_full_keeps limit g place next h k =
+unless_full_keeps : (limit : ℕ) (g : SoFar) (offset : ℕ) (next : Step) → g.state.declared ≡ None → Undeclared next
+    → Undeclared (unless_full limit g offset next)
+unless_full_keeps limit g offset next h k =
     pick Undeclared (is_some (verdict_now g.state)) _ _ (λ _. h) (λ _.
     pick Undeclared (nat_lt (length g.state.moves) limit) _ _ (λ _. k) (λ _. h))
 
-move_keeps : (limit : ℕ) (g : SoFar) (place : ℕ) (r : Reading) → g.state.declared ≡ None
-    → Undeclared (move_step limit g place r)
-move_keeps limit g place reads.NotAMove h = h
-move_keeps limit g place (reads.Move m) h = unless_full_keeps limit g place _ h h
-move_keeps limit g place reads.Ambiguous h = unless_full_keeps limit g place _ h h
-move_keeps limit g place reads.NoSuch h = unless_full_keeps limit g place _ h h
+move_keeps : (limit : ℕ) (g : SoFar) (offset : ℕ) (r : Reading) → g.state.declared ≡ None
+    → Undeclared (move_step limit g offset r)
+move_keeps limit g offset reads.NotAMove h = h
+move_keeps limit g offset (reads.Move m) h = unless_full_keeps limit g offset _ h h
+move_keeps limit g offset reads.Ambiguous h = unless_full_keeps limit g offset _ h h
+move_keeps limit g offset reads.NoSuch h = unless_full_keeps limit g offset _ h h
 
-word_keeps : (limit : ℕ) (g : SoFar) (place : ℕ) (word : List ℕ) (kind : WordKind) → g.state.declared ≡ None
-    → Undeclared (word_step limit g place word kind)
-word_keeps limit g place word (End o) h = tt
-word_keeps limit g place word Number h = h
-word_keeps limit g place word Marks h = h
-word_keeps limit g place word Move h = move_keeps limit g place (reading (current g.state) word) h
+word_keeps : (limit : ℕ) (g : SoFar) (offset : ℕ) (word : List ℕ) (kind : WordKind) → g.state.declared ≡ None
+    → Undeclared (word_step limit g offset word kind)
+word_keeps limit g offset word (End o) h = tt
+word_keeps limit g offset word Number h = h
+word_keeps limit g offset word Marks h = h
+word_keeps limit g offset word Move h = move_keeps limit g offset (reading (current g.state) word) h
 
-fen_keeps : (g : SoFar) (place : ℕ) (r : Result Setup FenFault) → g.state.declared ≡ None
-    → Undeclared (fen_step g place r)
-fen_keeps g place (Ok start) h = refl
-fen_keeps g place (Err fault) h = h
+fen_keeps : (g : SoFar) (offset : ℕ) (r : Result Setup FenFault) → g.state.declared ≡ None
+    → Undeclared (fen_step g offset r)
+fen_keeps g offset (Ok start) h = refl
+fen_keeps g offset (Err fault) h = h
 
-tag_keeps : (g : SoFar) (name text : List ℕ) (place : ℕ) → g.state.declared ≡ None
-    → Undeclared (tag_step g name text place)
-tag_keeps g name text place h = pick Undeclared (bytes_eq name (codes "FEN")) _ _
-    (λ _. fen_keeps g place (fen_reading_as g.state.start.variant text) h) (λ _. h)
+tag_keeps : (g : SoFar) (name text : List ℕ) (offset : ℕ) → g.state.declared ≡ None
+    → Undeclared (tag_step g name text offset)
+tag_keeps g name text offset h = pick Undeclared (bytes_eq name (codes "FEN")) _ _
+    (λ _. fen_keeps g offset (fen_reading_as g.state.start.variant text) h) (λ _. h)
 
 keeps : (limit total : ℕ) (g : SoFar) (left : ℕ) (t : Token) → g.state.declared ≡ None
     → Undeclared (step limit total g left t)
@@ -98,7 +98,7 @@ termination_has_bytes (c ∷ word) o h = search rules
 
 pub record Reads (limit : ℕ) (text : List ℕ) (from : ℕ) (game : Seen) (progress : Progress) (here : ℕ) : Type 0 where
   pub behind : from ≤ here
-  pub place : here ≤ length text
+  pub offset : here ≤ length text
   pub undeclared : game.state.declared ≡ None
   pub same_limit : game.limit ≡ limit
   pub whole : game_of limit (length text) (so_far game.state progress) (tokens_from text here) ≡ pgn_read limit text
@@ -110,7 +110,7 @@ pub read_from : (limit : ℕ) (game : Seen) (p : Progress) (text : List ℕ) (fr
 unfolding pgn_read
 read_from limit game p text from begin here r same is behind = record {
   behind = (let before = r.behind in omega (arith, before, behind));
-  place = r.place;
+  offset = r.offset;
   undeclared = r.undeclared;
   same_limit = same;
   whole = r.whole ∙ ap (λ n. tokens_read limit (length text) (tokens_from text n)) is;
@@ -130,7 +130,7 @@ first old game start v p text here restarted initial variant none h =
     let state : game.state ≡ from_start (initial_setup_of v) = ap (λ g. g.state) restarted ∙ ap from_start initial in
     record {
       behind = omega arith;
-      place = h;
+      offset = h;
       undeclared = ap (λ s. s.declared) state;
       whole =
           ap (λ q. game_of old.limit (length text) (so_far game.state q) (tokens_from text here)) none
@@ -141,14 +141,14 @@ first old game start v p text here restarted initial variant none h =
 -- ---- the loop over tags: what is left gives the whole
 
 pub record Tells (text : List ℕ) (from : ℕ) (v : Variant) (here : ℕ) : Type 0 where
-  pub place : here ≤ length text
+  pub offset : here ≤ length text
   pub whole : variant_told v (tokens_from text here) ≡ variant_told Normal (tokens_from text from)
 
 pub told_more : (text : List ℕ) (from : ℕ) (v u : Variant) (here behind : ℕ) (t : Token) → Tells text from v here
     → tokens_from text here ≡ (length text - here, t) ∷ tokens_from text behind → behind ≤ length text
     → Some u ≡ told_by v t → Tells text from u behind
 told_more text from v u here behind t r is h told = record {
-  place = h;
+  offset = h;
   whole = ap (λ o. told_next v o (λ w. variant_told w (tokens_from text behind))) told ∙ ap (variant_told v) (sym is)
       ∙ r.whole;
 }
@@ -177,7 +177,7 @@ pub more : (limit : ℕ) (text : List ℕ) (from : ℕ) (game new : Seen) (p q :
     → Reads limit text from new q behind
 more limit text from game new p q here behind t r is later h same step_is = record {
   behind = (let before = r.behind in omega (arith, before, later));
-  place = h;
+  offset = h;
   undeclared = subst Undeclared (sym step_is)
       (keeps game.limit (length text) (so_far game.state p) (length text - here) t r.undeclared);
   same_limit = same ∙ r.same_limit;
@@ -205,7 +205,7 @@ first_normal old game start p text here restarted initial none h =
     in
     record {
       behind = omega arith;
-      tells = record { place = h; whole = refl };
+      tells = record { offset = h; whole = refl };
       undeclared = ap (λ s. s.declared) state;
       same_limit = ap (λ g. g.limit) restarted;
       whole =
@@ -239,7 +239,7 @@ pub normal_begun : (limit : ℕ) (text : List ℕ) (from : ℕ) (game : Seen) (p
     → IsReadOn limit text from game p here
 normal_begun limit text from game p here t ts r is told = record {
   behind = r.behind;
-  place = r.tells.place;
+  offset = r.tells.offset;
   undeclared = r.undeclared;
   whole = r.whole ∙ ap (λ u. game_of limit (length text) (nothing_read u) (tokens_from text from))
       (told_last text from Normal here t ts r.tells is told);
@@ -259,13 +259,13 @@ passed_at : (text : List ℕ) (at c : ℕ) (rest : List ℕ) → drop at text �
     → (is_white_space c || (c == 46)) ≡ true → ReadsAlike text at (at + 1)
 passed_at text at c rest is low h =
     let left : suc (length rest) ≡ length text - at = sym (ap length is) ∙ length-drop at text in
-    let place : length text - length rest ≡ at + 1 = omega (arith, left, low) in
+    let offset : length text - length rest ≡ at + 1 = omega (arith, left, low) in
     λ limit g.
     ap (game_of limit (length text) g) (token_more text at c rest is (omega (arith, low)))
     ∙ ap (λ (t : Token × List ℕ).
     game_of limit (length text) g ((length text - at, t.0) ∷ tokens_from text (length text - length t.1)))
     (passed_token (begins_line text at) c rest h)
-    ∙ ap (λ n. game_of limit (length text) g (tokens_from text n)) place
+    ∙ ap (λ n. game_of limit (length text) g (tokens_from text n)) offset
 
 -- one more
 pub passed : (text : List ℕ) (from at : ℕ) → ReadsAlike text from at → at < length text
@@ -303,7 +303,7 @@ pub alike : (limit : ℕ) (text : List ℕ) (from : ℕ) (game : Seen) (p : Prog
     → Reads limit text from game p there
 alike limit text from game p here there r same behind within = record {
   behind = (let before = r.behind in omega (arith, before, behind));
-  place = within;
+  offset = within;
   undeclared = r.undeclared;
   same_limit = r.same_limit;
   whole = sym (same limit (so_far game.state p)) ∙ r.whole;

@@ -17,7 +17,7 @@ use Rattle.chess_pgn.specs.declared.read.PgnFault.{PgnFault}
 use Rattle.chess_pgn.specs.declared.word.WordKind.{WordKind}
 use Rattle.chess_pgn.specs.declared.word.WordKind.TheVariants.{End, Number, Marks, Move}
 use Rattle.chess_pgn.specs.GameRead.{SoFar, GameRead, Step, On, Stop, unless_full, move_step, word_step, fen_step, tag_step, step, go_on, game_of, at_text_end, nothing_read, variant_told, pgn_read}
-use Rattle.chess_pgn.specs.laws.Places.{HalfMovesHaveBytes}
+use Rattle.chess_pgn.specs.laws.Offsets.{HalfMovesHaveBytes}
 use Rattle.chess_pgn.specs.Tokens.{Token, Skip, Tag, Word, Bad_tag, Unclosed_comment, Unclosed_variation, Bad, token_at, tokens_of, first_place, begins_line, tokens_from}
 use Rattle.chess_pgn.specs.Words.{kind_of}
 use Rattle.chess_pgn.proofs.Cuts.{pick}
@@ -26,7 +26,7 @@ use Rattle.chess_pgn.proofs.Walk.{shorter}
 
 -- from an offset on, after so many half-moves
 abbrev Fits : ℕ → ℕ → ℕ → Result (Option PgnEnd) PgnFault → Type 0
-Fits first done moves r = IfOk r (λ o. IfSome o (λ e. moves + first ≤ done + e.place))
+Fits first done moves r = IfOk r (λ o. IfSome o (λ e. moves + first ≤ done + e.offset))
 
 abbrev StepFits : ℕ → ℕ → Step → Type 0
 StepFits first done (On h) = length h.state.moves ≤ done + 1
@@ -36,34 +36,34 @@ module _ (limit first : ℕ) (g : SoFar) where
   abbrev FitsHere : Step → Type 0
   FitsHere s = StepFits first (length g.state.moves) s
 
-  unless_fits : (place : ℕ) (next : Step) → FitsHere next → FitsHere (unless_full limit g place next)
-  unless_fits place next h =
+  unless_fits : (offset : ℕ) (next : Step) → FitsHere next → FitsHere (unless_full limit g offset next)
+  unless_fits offset next h =
       pick FitsHere (is_some (verdict_now g.state)) _ _ (λ _. tt) (λ _.
       pick FitsHere (nat_lt (length g.state.moves) limit) _ _ (λ _. h) (λ _. tt))
 
-  move_fits : (place : ℕ) (r : Reading) → FitsHere (move_step limit g place r)
-  move_fits place reads.NotAMove = tt
-  move_fits place (reads.Move m) = unless_fits place _ (one_more m)
+  move_fits : (offset : ℕ) (r : Reading) → FitsHere (move_step limit g offset r)
+  move_fits offset reads.NotAMove = tt
+  move_fits offset (reads.Move m) = unless_fits offset _ (one_more m)
     where
       one_more : (m : Played) → length (g.state.moves ++ m ∷ []) ≤ length g.state.moves + 1
       one_more m = let sum = length-append g.state.moves (m ∷ []) in omega (arith, sum)
-  move_fits place reads.Ambiguous = unless_fits place _ tt
-  move_fits place reads.NoSuch = unless_fits place _ tt
+  move_fits offset reads.Ambiguous = unless_fits offset _ tt
+  move_fits offset reads.NoSuch = unless_fits offset _ tt
 
-  word_fits : (place : ℕ) (word : List ℕ) (kind : WordKind) → first ≤ place
-      → FitsHere (word_step limit g place word kind)
-  word_fits place word (End o) h = omega (arith, h)
-  word_fits place word Number h = omega arith
-  word_fits place word Marks h = omega arith
-  word_fits place word Move h = move_fits place (reading (current g.state) word)
+  word_fits : (offset : ℕ) (word : List ℕ) (kind : WordKind) → first ≤ offset
+      → FitsHere (word_step limit g offset word kind)
+  word_fits offset word (End o) h = omega (arith, h)
+  word_fits offset word Number h = omega arith
+  word_fits offset word Marks h = omega arith
+  word_fits offset word Move h = move_fits offset (reading (current g.state) word)
 
-  fen_fits : (place : ℕ) (r : Result Setup FenFault) → FitsHere (fen_step g place r)
-  fen_fits place (Ok start) = omega arith
-  fen_fits place (Err fault) = tt
+  fen_fits : (offset : ℕ) (r : Result Setup FenFault) → FitsHere (fen_step g offset r)
+  fen_fits offset (Ok start) = omega arith
+  fen_fits offset (Err fault) = tt
 
-  tag_fits : (name text : List ℕ) (place : ℕ) → FitsHere (tag_step g name text place)
-  tag_fits name text place = pick FitsHere (bytes_eq name (codes "FEN")) _ _
-      (λ _. fen_fits place (fen_reading_as g.state.start.variant text)) (λ _. omega arith)
+  tag_fits : (name text : List ℕ) (offset : ℕ) → FitsHere (tag_step g name text offset)
+  tag_fits name text offset = pick FitsHere (bytes_eq name (codes "FEN")) _ _
+      (λ _. fen_fits offset (fen_reading_as g.state.start.variant text)) (λ _. omega arith)
 
 step_fits : (limit total : ℕ) (g : SoFar) (left : ℕ) (t : Token)
     → StepFits (total - left) (length g.state.moves) (step limit total g left t)
@@ -110,7 +110,7 @@ game_fits limit total (suc n) begins g (c ∷ rest) h =
     (step_fits limit total g (suc (length rest)) t.0) (λ u. game_fits limit total n (eqb c 10) u t.1 few)
 
 sooner : (at first moves : ℕ) (r : Result (Option PgnEnd) PgnFault) → at ≤ first → Fits first 0 moves r
-    → IfOk r (λ o. IfSome o (λ e. moves + at ≤ e.place))
+    → IfOk r (λ o. IfSome o (λ e. moves + at ≤ e.offset))
 sooner at first moves (Ok None) h f = tt
 sooner at first moves (Ok (Some e)) h f = omega (arith, h, f)
 sooner at first moves (Err x) h f = tt
@@ -118,13 +118,13 @@ sooner at first moves (Err x) h f = tt
 pub half_moves_have_bytes : HalfMovesHaveBytes
 unfolding pgn_read tokens_from
 half_moves_have_bytes limit text at h =
-    let place : ℕ = first_place text at in
-    let g : SoFar = nothing_read (variant_told Normal (tokens_from text place)) in
+    let offset : ℕ = first_place text at in
+    let g : SoFar = nothing_read (variant_told Normal (tokens_from text offset)) in
     let inside = behind text at h in
     let low = inside.0 in
     let high = inside.1 in
-    let left = length-drop place text in
-    let few : length (drop place text) ≤ length text = omega (arith, left) in
-    let near : at ≤ length text - length (drop place text) = omega (arith, low, high, left) in
-    sooner at (length text - length (drop place text)) _ _ near
-    (game_fits limit (length text) (length text) (begins_line text place) g (drop place text) few)
+    let left = length-drop offset text in
+    let few : length (drop offset text) ≤ length text = omega (arith, left) in
+    let near : at ≤ length text - length (drop offset text) = omega (arith, low, high, left) in
+    sooner at (length text - length (drop offset text)) _ _ near
+    (game_fits limit (length text) (length text) (begins_line text offset) g (drop offset text) few)

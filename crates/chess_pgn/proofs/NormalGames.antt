@@ -55,31 +55,31 @@ IsNormal (On g) = g.state.start.variant ≡ Normal
 IsNormal (Stop read) = Unit {0}
 
 module _ (limit total : ℕ) (g : SoFar) (normal : g.state.start.variant ≡ Normal) where
-  full_keeps : (place : ℕ) (next : Step) → IsNormal next → IsNormal (unless_full limit g place next)
-  full_keeps place next h =
+  full_keeps : (offset : ℕ) (next : Step) → IsNormal next → IsNormal (unless_full limit g offset next)
+  full_keeps offset next h =
       pick IsNormal (is_some (verdict_now g.state)) _ _ (λ _. tt) (λ _.
       pick IsNormal (nat_lt (length g.state.moves) limit) _ _ (λ _. h) (λ _. tt))
 
-  move_keeps : (place : ℕ) (r : Reading) → IsNormal (move_step limit g place r)
-  move_keeps place reads.NotAMove = tt
-  move_keeps place (reads.Move m) = full_keeps place _ normal
-  move_keeps place reads.Ambiguous = full_keeps place _ tt
-  move_keeps place reads.NoSuch = full_keeps place _ tt
+  move_keeps : (offset : ℕ) (r : Reading) → IsNormal (move_step limit g offset r)
+  move_keeps offset reads.NotAMove = tt
+  move_keeps offset (reads.Move m) = full_keeps offset _ normal
+  move_keeps offset reads.Ambiguous = full_keeps offset _ tt
+  move_keeps offset reads.NoSuch = full_keeps offset _ tt
 
-  word_keeps : (place : ℕ) (word : List ℕ) (k : WordKind) → IsNormal (word_step limit g place word k)
-  word_keeps place word (End o) = tt
-  word_keeps place word Number = normal
-  word_keeps place word Marks = normal
-  word_keeps place word Move = move_keeps place (reading (current g.state) word)
+  word_keeps : (offset : ℕ) (word : List ℕ) (k : WordKind) → IsNormal (word_step limit g offset word k)
+  word_keeps offset word (End o) = tt
+  word_keeps offset word Number = normal
+  word_keeps offset word Marks = normal
+  word_keeps offset word Move = move_keeps offset (reading (current g.state) word)
 
-  fen_keeps : (place : ℕ) (text : List ℕ) (r : Result Setup FenFault) → fen_reading_as Normal text ≡ r
-      → IsNormal (fen_step g place r)
-  fen_keeps place text (Ok start) e = read_variant Normal text start e
-  fen_keeps place text (Err fault) e = tt
+  fen_keeps : (offset : ℕ) (text : List ℕ) (r : Result Setup FenFault) → fen_reading_as Normal text ≡ r
+      → IsNormal (fen_step g offset r)
+  fen_keeps offset text (Ok start) e = read_variant Normal text start e
+  fen_keeps offset text (Err fault) e = tt
 
-  tag_keeps : (name text : List ℕ) (place : ℕ) → IsNormal (normal_tag_step g name text place)
-  tag_keeps name text place = pick IsNormal (bytes_eq name (codes "FEN")) _ _
-      (λ _. fen_keeps place text (fen_reading_as Normal text) refl) (λ _. normal)
+  tag_keeps : (name text : List ℕ) (offset : ℕ) → IsNormal (normal_tag_step g name text offset)
+  tag_keeps name text offset = pick IsNormal (bytes_eq name (codes "FEN")) _ _
+      (λ _. fen_keeps offset text (fen_reading_as Normal text) refl) (λ _. normal)
 
   keeps : (left : ℕ) (t : Token) → IsNormal (normal_step limit total g left t)
   keeps left Skip = normal
@@ -90,9 +90,9 @@ module _ (limit total : ℕ) (g : SoFar) (normal : g.state.start.variant ≡ Nor
   keeps left Unclosed_variation = tt
   keeps left Bad = tt
 
-  same_tag : (name text : List ℕ) (place : ℕ) → tag_step g name text place ≡ normal_tag_step g name text place
-  same_tag name text place =
-      ap (λ v. cond (bytes_eq name (codes "FEN")) (fen_step g place (fen_reading_as v text))
+  same_tag : (name text : List ℕ) (offset : ℕ) → tag_step g name text offset ≡ normal_tag_step g name text offset
+  same_tag name text offset =
+      ap (λ v. cond (bytes_eq name (codes "FEN")) (fen_step g offset (fen_reading_as v text))
       (On (record {
         state = g.state;
         is_met = true;

@@ -172,10 +172,10 @@ module _ (limit total : ℕ) (v : Variant) where
   Leaves done t (On h) = IsSoFar (done ++ t ∷ []) h
   Leaves done t (Stop r) = IsStopped done t r
 
-  fault_leaves : (done : List (ℕ × Token)) (left : ℕ) (t : Token) (g : SoFar) (kind : PgnFaultKind) (place : ℕ)
+  fault_leaves : (done : List (ℕ × Token)) (left : ℕ) (t : Token) (g : SoFar) (kind : PgnFaultKind) (offset : ℕ)
       → IsSoFar done g → token_fault limit total v g.is_begun g.state left t
-      ≡ Some (record { kind = kind; place = place }) → Leaves done (left, t) (fails g kind place)
-  fault_leaves done left t g kind place s e = record {
+      ≡ Some (record { kind = kind; offset = offset }) → Leaves done (left, t) (fails g kind offset)
+  fault_leaves done left t g kind offset s e = record {
     can_be = s.can_be;
     start = s.start;
     moves = s.moves;
@@ -355,7 +355,7 @@ module _ (limit total : ℕ) (v : Variant) where
   }
     where
       at_end : (met : Bool) → list_any (λ t. counts t.1) done ≡ met
-          → StopsAt limit total v done [] g.state (cond met (Err (record { kind = NoResult; place = total })) (Ok None))
+          → StopsAt limit total v done [] g.state (cond met (Err (record { kind = NoResult; offset = total })) (Ok None))
       at_end true e = (s.undeclared, e, refl)
       at_end false e = (s.undeclared, e)
   of_tokens tokens done (t ∷ ts) g all s = by_step tokens done t ts all

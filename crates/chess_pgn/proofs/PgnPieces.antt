@@ -51,9 +51,9 @@ moved g m = record { state = played g.state m; is_met = true; is_begun = true; t
 
 -- ended by an outcome's word
 abbrev pub ended_game : Option Termination → State → Outcome → ℕ → GameRead
-ended_game t s o place = record {
+ended_game t s o offset = record {
   state = with_declared s (declared_behind (is_some (verdict_now s)) o);
-  answer = Ok (Some (record { outcome = o; termination = t; place = place }));
+  answer = Ok (Some (record { outcome = o; termination = t; offset = offset }));
 }
 
 -- ---- the termination that a tag names
@@ -136,7 +136,7 @@ module _ (limit total : ℕ) where
       → read_on limit total g begins (text ++ d ∷ rest) ≡ read_on limit total h false (d ∷ rest)
 
   word_takes : (g h : SoFar) (word : List ℕ) → 0 < length word → list_all is_word_byte word ≡ true
-      → ((place : ℕ) → word_step limit g place word (kind_of word) ≡ On h) → Takes g h word
+      → ((offset : ℕ) → word_step limit g offset word (kind_of word) ≡ On h) → Takes g h word
   word_takes g h [] some all next = absurd (omega arith)
   word_takes g h (c ∷ cs) some all next = λ begins d rest ends.
       let here = (and_parts (is_word_byte c) (list_all is_word_byte cs) all).0 in
@@ -149,7 +149,7 @@ module _ (limit total : ℕ) where
   number_takes g n h =
       let digits = decimal_digits n h in
       word_takes g (begun g) (decimal n) (decimal_some n h) (number_bytes (decimal n) digits)
-      (λ place. ap (word_step limit g place (decimal n)) (number_kind (decimal n) digits))
+      (λ offset. ap (word_step limit g offset (decimal n)) (number_kind (decimal n) digits))
 
   pub white_number : (g : SoFar) (n : ℕ) → n ≤ 999999 → Takes g (begun g) (decimal n ++ codes ".")
   white_number g n h = λ begins d rest ends.
@@ -166,13 +166,13 @@ module _ (limit total : ℕ) where
       ∙ skip_dot (begun g) false (d ∷ rest)
 
   -- a legal move, where there is no verdict and the limit admits one more
-  san_step : (g : SoFar) (place : ℕ) (p : Setup) (m : Move) → IsSound p → IsTrue (is_legal p m) → current g.state ≡ p
+  san_step : (g : SoFar) (offset : ℕ) (p : Setup) (m : Move) → IsSound p → IsTrue (is_legal p m) → current g.state ≡ p
       → verdict_now g.state ≡ None → length g.state.moves < limit
-      → move_step limit g place (reading (current g.state) (san p m)) ≡ On (moved g m)
-  san_step g place p m sound legal at none few =
+      → move_step limit g offset (reading (current g.state) (san p m)) ≡ On (moved g m)
+  san_step g offset p m sound legal at none few =
       let room : nat_lt (length g.state.moves) limit ≡ true = grind (arith, nat_tests) in
-      ap (λ q. move_step limit g place (reading q (san p m))) at
-      ∙ ap (move_step limit g place) (san_read p m sound legal)
+      ap (λ q. move_step limit g offset (reading q (san p m))) at
+      ∙ ap (move_step limit g offset) (san_read p m sound legal)
       ∙ rw (none, room) refl
 
   pub san_takes : (g : SoFar) (p : Setup) (m : Move) → IsSound p → IsTrue (is_legal p m) → current g.state ≡ p
@@ -180,8 +180,8 @@ module _ (limit total : ℕ) where
   san_takes g p m sound legal at none few =
       word_takes g (moved g m) (san p m) (omega (arith, (san_short p m sound legal).0))
       (san_bytes_in_word (san p m) (san_bytes p m sound legal))
-      (λ place. ap (word_step limit g place (san p m)) (move_kind (san p m) (san_letter p m sound legal))
-      ∙ san_step g place p m sound legal at none few)
+      (λ offset. ap (word_step limit g offset (san p m)) (move_kind (san p m) (san_letter p m sound legal))
+      ∙ san_step g offset p m sound legal at none few)
 
   -- ---- the termination
 

@@ -210,10 +210,10 @@ read_behind : (limit : ℕ) (before text : List ℕ) (v : Variant) → first_pla
     → pgn_read limit (before ++ text) (length before) ≡ read_on limit (length (before ++ text)) (nothing_read v)
     (begins_line (before ++ text) (length before)) text
 unfolding pgn_read tokens_from
-read_behind limit before text v place told =
+read_behind limit before text v offset told =
     let whole : List ℕ = before ++ text in
     let fewer : length text ≤ length whole = omega (arith, length-append before text) in
-    ap (λ at. tokens_read limit (length whole) (tokens_from whole at)) place
+    ap (λ at. tokens_read limit (length whole) (tokens_from whole at)) offset
     ∙ ap (λ xs. tokens_read limit (length whole) (tokens_of (length whole) (begins_line whole (length before)) xs))
     (drop_at before text (length before) refl)
     ∙ ap (tokens_read limit (length whole))
@@ -264,14 +264,14 @@ pgn_law after_law law initial limit tags s before rest texts h =
     let written : List ℕ = pgn [] tags s in
     let o : List ℕ = outcome_text (outcome_now s) in
     let total : ℕ = length (before ++ (written ++ rest)) in
-    let place : first_place (before ++ (written ++ rest)) (length before) ≡ length before =
+    let offset : first_place (before ++ (written ++ rest)) (length before) ≡ length before =
     rw (first_bytes tags s) (no_mark before 91 (drop 1 written ++ rest) refl) in
     let is : pgn_read limit (before ++ written ++ rest) (length before)
     ≡ ended_game (Some (termination_of tags.ended (outcome_now s)))
     (record { start = s.start; moves = s.moves; declared = None }) (outcome_now s)
     (total - length (o ++ 10 ∷ 10 ∷ rest) + length o) =
     ap (λ text. pgn_read limit text (length before)) (append_assoc before written rest)
-    ∙ read_behind limit before (written ++ rest) s.start.variant place
+    ∙ read_behind limit before (written ++ rest) s.start.variant offset
     (variant_is tags texts s h.start (begins_line (before ++ (written ++ rest)) (length before)) rest)
     ∙ text_read limit total after_law law initial tags texts s h
     (begins_line (before ++ (written ++ rest)) (length before)) rest in
@@ -279,7 +279,7 @@ pgn_law after_law law initial limit tags s before rest texts h =
       start = refl;
       moves = refl;
       outcome = same_outcome (verdict_now s) s.declared;
-      place = total - length (o ++ 10 ∷ 10 ∷ rest) + length o;
+      offset = total - length (o ++ 10 ∷ 10 ∷ rest) + length o;
       answer = refl;
       behind = omega (
         arith,

@@ -9,10 +9,10 @@ use Rattle.chess_pgn.specs.Tokens.{Token, Skip, Tag, Word, Bad_tag, Unclosed_com
 use Rattle.chess_pgn.proofs.Cuts.{pick}
 
 abbrev pub InText : ℕ → Option ResultTag → Type 0
-InText total tag = IfSome tag (λ t. t.place ≤ total)
+InText total tag = IfSome tag (λ t. t.offset ≤ total)
 
 pub record Reads (text : List ℕ) (from : ℕ) (last : Option ResultTag) (here : ℕ) : Type 0 where
-  pub place : here ≤ length text
+  pub offset : here ≤ length text
   pub within : InText (length text) last
   pub whole : last_result (length text) last (tokens_from text here)
       ≡ last_result (length text) None (tokens_from text from)
@@ -42,7 +42,7 @@ pub one_more : (text : List ℕ) (from : ℕ) (last next : Option ResultTag) (he
     → behind ≤ length text → true ≡ may_precede_tags t → next ≡ result_after (length text) last t
     → Reads text from next behind
 one_more text from last next here behind t r is within may after = record {
-  place = within;
+  offset = within;
   within = subst (InText (length text)) (sym after) (stays_within (length text) last t r.within);
   whole = ap (λ tag. last_result (length text) tag (tokens_from text behind)) after
       ∙ ap (λ b. if b then last_result (length text) (result_after (length text) last t) (tokens_from text behind)

@@ -66,48 +66,48 @@ not_it : {n m : ℕ} → n ≢ m → eqb n m ≡ false
 not_it {n} {m} h = grind (arith, nat_tests)
 
 -- one byte more
-at_place_more : (text : List ℕ) (place : ℕ) (b : Bool) → place < length text
-    → onto (take (place + 1) text) (string_behind b (drop (place + 1) text)) ≡ onto (take place text)
-    (onto (get_or text place 0 ∷ []) (string_behind b (drop (place + 1) text)))
-at_place_more text place b h = ap (λ front. onto front (string_behind b (drop (place + 1) text)))
-    (ap (λ n. take n text) (add-one place) ∙ take-suc text place 0 h)
-    ∙ onto-append (take place text) (get_or text place 0 ∷ []) (string_behind b (drop (place + 1) text))
+at_place_more : (text : List ℕ) (offset : ℕ) (b : Bool) → offset < length text
+    → onto (take (offset + 1) text) (string_behind b (drop (offset + 1) text)) ≡ onto (take offset text)
+    (onto (get_or text offset 0 ∷ []) (string_behind b (drop (offset + 1) text)))
+at_place_more text offset b h = ap (λ front. onto front (string_behind b (drop (offset + 1) text)))
+    (ap (λ n. take n text) (add-one offset) ∙ take-suc text offset 0 h)
+    ∙ onto-append (take offset text) (get_or text offset 0 ∷ []) (string_behind b (drop (offset + 1) text))
 
-pub place_kept : (text : List ℕ) (place : ℕ) (kept next : Bool) → place < length text → kept ≡ true → next ≡ false
-    → get_or text place 0 ≢ 10 → onto (take (place + 1) text) (string_behind next (drop (place + 1) text))
-    ≡ onto (take place text) (string_behind kept (drop place text))
-place_kept text place kept next h k n line =
-    rw (k, n) (at_place_more text place false h
-    ∙ ap (onto (take place text))
-    (sym (at_drop_more (string_behind true) text place 0 h
-    ∙ string_kept (get_or text place 0) (drop (place + 1) text) (not_it line))))
+pub place_kept : (text : List ℕ) (offset : ℕ) (kept next : Bool) → offset < length text → kept ≡ true → next ≡ false
+    → get_or text offset 0 ≢ 10 → onto (take (offset + 1) text) (string_behind next (drop (offset + 1) text))
+    ≡ onto (take offset text) (string_behind kept (drop offset text))
+place_kept text offset kept next h k n line =
+    rw (k, n) (at_place_more text offset false h
+    ∙ ap (onto (take offset text))
+    (sym (at_drop_more (string_behind true) text offset 0 h
+    ∙ string_kept (get_or text offset 0) (drop (offset + 1) text) (not_it line))))
 
-pub place_other : (text : List ℕ) (place : ℕ) (kept next : Bool) → place < length text → kept ≡ false
-    → next ≡ eqb (get_or text place 0) 92 → get_or text place 0 ≢ 10 → get_or text place 0 ≢ 34
-    → onto (take (place + 1) text) (string_behind next (drop (place + 1) text)) ≡ onto (take place text)
-    (string_behind kept (drop place text))
-place_other text place kept next h k n line quote =
-    rw (k, n) (at_place_more text place (eqb (get_or text place 0) 92) h
-    ∙ ap (onto (take place text))
-    (sym (at_drop_more string_at text place 0 h ∙ string_other (get_or text place 0) (drop (place + 1) text)
+pub place_other : (text : List ℕ) (offset : ℕ) (kept next : Bool) → offset < length text → kept ≡ false
+    → next ≡ eqb (get_or text offset 0) 92 → get_or text offset 0 ≢ 10 → get_or text offset 0 ≢ 34
+    → onto (take (offset + 1) text) (string_behind next (drop (offset + 1) text)) ≡ onto (take offset text)
+    (string_behind kept (drop offset text))
+place_other text offset kept next h k n line quote =
+    rw (k, n) (at_place_more text offset (eqb (get_or text offset 0) 92) h
+    ∙ ap (onto (take offset text))
+    (sym (at_drop_more string_at text offset 0 h ∙ string_other (get_or text offset 0) (drop (offset + 1) text)
     (not_it line) (not_it quote))))
 
-pub place_line : (text : List ℕ) (place : ℕ) (kept : Bool) → place < length text → get_or text place 0 ≡ 10
-    → onto (take place text) (string_behind kept (drop place text)) ≡ None
-place_line text place kept h line =
-    ap (onto (take place text))
-    (at_drop_more (string_behind kept) text place 0 h ∙ string_line kept (get_or text place 0) (drop (place + 1) text)
+pub place_line : (text : List ℕ) (offset : ℕ) (kept : Bool) → offset < length text → get_or text offset 0 ≡ 10
+    → onto (take offset text) (string_behind kept (drop offset text)) ≡ None
+place_line text offset kept h line =
+    ap (onto (take offset text))
+    (at_drop_more (string_behind kept) text offset 0 h ∙ string_line kept (get_or text offset 0) (drop (offset + 1) text)
     (it line) (grind (arith, nat_tests)))
 
-pub place_quote : (text : List ℕ) (place : ℕ) (kept : Bool) → place < length text → kept ≡ false
-    → get_or text place 0 ≡ 34 → onto (take place text) (string_behind kept (drop place text))
-    ≡ Some (take place text, take (length text - (place + 1)) (drop (place + 1) text))
-place_quote text place kept h k quote =
-    let front : take place text ++ [] ≡ take place text = append-nil (take place text) in
-    let rest : take (length text - (place + 1)) (drop (place + 1) text) ≡ drop (place + 1) text =
-    take_rest text (place + 1) in
-    rw k (ap (onto (take place text))
-    (at_drop_more string_at text place 0 h ∙ string_quote (get_or text place 0) (drop (place + 1) text) (it quote))
+pub place_quote : (text : List ℕ) (offset : ℕ) (kept : Bool) → offset < length text → kept ≡ false
+    → get_or text offset 0 ≡ 34 → onto (take offset text) (string_behind kept (drop offset text))
+    ≡ Some (take offset text, take (length text - (offset + 1)) (drop (offset + 1) text))
+place_quote text offset kept h k quote =
+    let front : take offset text ++ [] ≡ take offset text = append-nil (take offset text) in
+    let rest : take (length text - (offset + 1)) (drop (offset + 1) text) ≡ drop (offset + 1) text =
+    take_rest text (offset + 1) in
+    rw k (ap (onto (take offset text))
+    (at_drop_more string_at text offset 0 h ∙ string_quote (get_or text offset 0) (drop (offset + 1) text) (it quote))
     ∙ rw (front, rest) refl)
 
 -- a tag that isn't closed

@@ -72,13 +72,13 @@ no_token text at h = by_rest (drop at text) h
 at_cut : (before behind : List ℕ) (last : ℕ)
     → (drop (length (before ++ last ∷ behind) - length behind) (before ++ last ∷ behind) ≡ behind)
     × (begins_line (before ++ last ∷ behind) (length (before ++ last ∷ behind) - length behind) ≡ eqb last 10)
-at_cut before behind last = (ap (λ n. drop n text) place ∙ rest, ap (begins_line text) place ∙ line)
+at_cut before behind last = (ap (λ n. drop n text) offset ∙ rest, ap (begins_line text) offset ∙ line)
   where
     text : List ℕ
     text = before ++ last ∷ behind
 
-    place : length (before ++ last ∷ behind) - length behind ≡ suc (length before)
-    place = omega (arith, length-append before (last ∷ behind))
+    offset : length (before ++ last ∷ behind) - length behind ≡ suc (length before)
+    offset = omega (arith, length-append before (last ∷ behind))
 
     rest : drop (suc (length before)) (before ++ last ∷ behind) ≡ behind
     rest =
@@ -108,12 +108,12 @@ tokens_behind text at c rest behind is (inr k) =
     let before : List ℕ = take at text ++ k.front in
     let whole : text ≡ before ++ k.last ∷ behind = sym (take-append-drop at text)
     ∙ ap (λ xs. take at text ++ xs) (is ∙ k.is) ∙ sym (append_assoc (take at text) k.front (k.last ∷ behind)) in
-    let place : IsPlace behind k.last text = subst (IsPlace behind k.last) (sym whole) (at_cut before behind k.last) in
+    let offset : IsPlace behind k.last text = subst (IsPlace behind k.last) (sym whole) (at_cut before behind k.last) in
     let few : length behind ≤ length rest = omega (arith, simp length-append at (ap length k.is)) in
     let fewer : length behind ≤ length text = omega (arith, simp length-append at (ap length whole)) in
     enough (length rest) (length text) (eqb c 10) behind few fewer
-    ∙ ap (λ b. tokens_of (length text) b behind) (sym (place.1 ∙ k.ends))
-    ∙ ap (tokens_of (length text) (begins_line text (length text - length behind))) (sym place.0)
+    ∙ ap (λ b. tokens_of (length text) b behind) (sym (offset.1 ∙ k.ends))
+    ∙ ap (tokens_of (length text) (begins_line text (length text - length behind))) (sym offset.0)
 
 -- one token more, with its text as code meets it
 pub token_more : (text : List ℕ) (at c : ℕ) (rest : List ℕ) → drop at text ≡ c ∷ rest → at ≤ length text

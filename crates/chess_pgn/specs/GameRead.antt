@@ -47,7 +47,7 @@ pub data Step : Type 0 where
 
 -- reading ends at an offset that can't be read or played: the game holds the moves before it and nothing declared
 abbrev pub fails : SoFar → PgnFaultKind → ℕ → Step
-fails g kind place = Stop (record { state = g.state; answer = Err (record { kind = kind; place = place }) })
+fails g kind offset = Stop (record { state = g.state; answer = Err (record { kind = kind; offset = offset }) })
 
 -- ---- words
 
@@ -59,38 +59,38 @@ declared_behind false o = Some (record { outcome = o; comment = [] })
 
 -- the game ends with this outcome, at an offset after its text
 abbrev pub ends : SoFar → Outcome → ℕ → Step
-ends g o place = Stop (record {
+ends g o offset = Stop (record {
   state = with_declared g.state (declared_behind (is_some (verdict_now g.state)) o);
-  answer = Ok (Some (record { outcome = o; termination = g.termination; place = place }));
+  answer = Ok (Some (record { outcome = o; termination = g.termination; offset = offset }));
 })
 
 -- no move is played after a verdict, and none past the limit
 abbrev pub unless_full : ℕ → SoFar → ℕ → Step → Step
-unless_full limit g place next =
-    if is_some (verdict_now g.state) then fails g AfterEnd place
-    else (if nat_lt (length g.state.moves) limit then next else fails g TooLong place)
+unless_full limit g offset next =
+    if is_some (verdict_now g.state) then fails g AfterEnd offset
+    else (if nat_lt (length g.state.moves) limit then next else fails g TooLong offset)
 
 -- a word that is read as a move, at that offset
 abbrev pub move_step : ℕ → SoFar → ℕ → Reading → Step
-move_step limit g place reads.NotAMove = fails g BadToken place
-move_step limit g place (reads.Move m) = unless_full limit g place
+move_step limit g offset reads.NotAMove = fails g BadToken offset
+move_step limit g offset (reads.Move m) = unless_full limit g offset
     (On (record g { state = played g.state m; is_met = true; is_begun = true }))
-move_step limit g place reads.Ambiguous = unless_full limit g place (fails g AmbiguousMove place)
-move_step limit g place reads.NoSuch = unless_full limit g place (fails g IllegalMove place)
+move_step limit g offset reads.Ambiguous = unless_full limit g offset (fails g AmbiguousMove offset)
+move_step limit g offset reads.NoSuch = unless_full limit g offset (fails g IllegalMove offset)
 
 -- a word at that offset
 abbrev pub word_step : ℕ → SoFar → ℕ → List ℕ → WordKind → Step
-word_step limit g place word (End o) = ends g o (place + length word)
-word_step limit g place word Number = On (record g { is_met = true; is_begun = true })
-word_step limit g place word Marks = On g
-word_step limit g place word Move = move_step limit g place (reading (current g.state) word)
+word_step limit g offset word (End o) = ends g o (offset + length word)
+word_step limit g offset word Number = On (record g { is_met = true; is_begun = true })
+word_step limit g offset word Marks = On g
+word_step limit g offset word Move = move_step limit g offset (reading (current g.state) word)
 
 -- ---- tags
 
 -- a start that a FEN at that offset denotes
 abbrev pub fen_step : SoFar → ℕ → Result Setup FenFault → Step
-fen_step g place (Ok start) = On (record g { state = from_start start; is_met = true })
-fen_step g place (Err fault) = fails g BadFen place
+fen_step g offset (Ok start) = On (record g { state = from_start start; is_met = true })
+fen_step g offset (Err fault) = fails g BadFen offset
 
 -- what is known of the game's end after a tag: the last one counts
 abbrev pub told_behind : Option Termination → List ℕ → List ℕ → Option Termination
@@ -98,8 +98,8 @@ told_behind before name text = if bytes_eq name (codes "Termination") then termi
 
 -- a tag whose string begins at that offset
 abbrev pub tag_step : SoFar → List ℕ → List ℕ → ℕ → Step
-tag_step g name text place =
-    if bytes_eq name (codes "FEN") then fen_step g place (fen_reading_as g.state.start.variant text)
+tag_step g name text offset =
+    if bytes_eq name (codes "FEN") then fen_step g offset (fen_reading_as g.state.start.variant text)
     else On (record g { is_met = true; termination = told_behind g.termination name text })
 
 -- ---- tokens, in a text of so many bytes; each with how many bytes are left where it begins
@@ -120,7 +120,7 @@ abbrev pub at_text_end : ℕ → SoFar → GameRead
 at_text_end total g = record {
   state = g.state;
   answer = if g.is_met then Err
-      (record { kind = NoResult; place = total }) else Ok None;
+      (record { kind = NoResult; offset = total }) else Ok None;
 }
 
 -- what is read later, unless reading has ended

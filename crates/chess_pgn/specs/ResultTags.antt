@@ -22,7 +22,7 @@ may_precede_tags _ = false
 -- a tag Result of a text of so many bytes; a tag with another name leaves the one before it
 abbrev pub result_after_tag : ℕ → Option ResultTag → List ℕ → List ℕ → ℕ → Option ResultTag
 result_after_tag total before name text left =
-    if bytes_eq name (codes "Result") then Some (record { outcome = outcome_of text; place = total - left }) else before
+    if bytes_eq name (codes "Result") then Some (record { outcome = outcome_of text; offset = total - left }) else before
 
 -- the last tag Result after a token of such a text
 abbrev pub result_after : ℕ → Option ResultTag → Token → Option ResultTag

@@ -177,8 +177,8 @@ first_place text at = if (at == 0) && bytes_eq (take 3 text) (239 ∷ 187 ∷ 19
 
 -- the text's first byte is there, or byte 10 before it
 abbrev pub begins_line : List ℕ → ℕ → Bool
-begins_line text place = (place == 0) || (slice_index text (place - 1) == new_line)
+begins_line text offset = (offset == 0) || (slice_index text (offset - 1) == new_line)
 
 -- the tokens of a text from an offset on. A token takes at least a byte, so no text has more tokens than bytes
 unfoldable pub tokens_from : List ℕ → ℕ → List (ℕ × Token)
-tokens_from text place = tokens_of (length text) (begins_line text place) (drop place text)
+tokens_from text offset = tokens_of (length text) (begins_line text offset) (drop offset text)

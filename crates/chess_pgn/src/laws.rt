@@ -5,7 +5,7 @@ ghost use Rattle.chess_game.specs.Game.{State, IsPlayable};
 ghost use Rattle.chess_pgn.specs.GameText.{game_tokens};
 ghost use Rattle.chess_pgn.specs.laws.Retold.{GamesAreOfTokens};
 ghost use Rattle.chess_pgn.specs.laws.Normal.{NormalIsKept};
-ghost use Rattle.chess_pgn.specs.laws.Places.{FaultsHavePlaces, HalfMovesHaveBytes};
+ghost use Rattle.chess_pgn.specs.laws.Offsets.{FaultsHaveOffsets, HalfMovesHaveBytes};
 ghost use Rattle.chess_pgn.specs.laws.PgnLaw.{PgnIsReadBack};
 ghost use Rattle.chess_pgn.specs.Written.{move_text_of};
 ghost use Rattle.chess_pgn.specs.laws.Layout.{AreShort, IsMoveText};
@@ -64,8 +64,8 @@ pub fn normal_is_kept()
 {}
 
 /// A fault's offset is in the text, and not before the offset where reading began.
-pub fn faults_have_places()
-    ensures { FaultsHavePlaces }
+pub fn faults_have_offsets()
+    ensures { FaultsHaveOffsets }
 {}
 
 /// A half-move takes at least a byte of its game's text, so that a game has no more half-moves than bytes.

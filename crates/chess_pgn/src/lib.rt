@@ -3,9 +3,9 @@
 //! All games of a text, and the last one written anew:
 //!
 //! ```
-//! let mut place = 0;
-//! while let Some(end) = read_pgn(text, place, &mut game)? {
-//!     place = end.place;
+//! let mut offset = 0;
+//! while let Some(end) = read_pgn(text, offset, &mut game)? {
+//!     offset = end.offset;
 //! }
 //! write_pgn(&game, &mut scratch, &Tags::default(), b"", &mut output)?;
 //! ```
@@ -28,7 +28,7 @@ mod word;
 mod write;
 
 pub use laws::{
-    faults_have_places, games_are_in_filled_lines, games_are_of_tokens, half_moves_have_bytes,
+    faults_have_offsets, games_are_in_filled_lines, games_are_of_tokens, half_moves_have_bytes,
     lines_are_filled, normal_is_kept, pgn_is_read_back,
 };
 pub use read::{PgnEnd, PgnFault, PgnFaultKind, read_pgn};

@@ -34,7 +34,7 @@ pub struct PgnEnd {
     /// is not compared with the outcome.
     pub termination: Option<Termination>,
     /// The byte after the termination, from the text's first byte on.
-    pub place: usize,
+    pub offset: usize,
 }
 
 /// Why a game's text can't be read.
@@ -78,7 +78,7 @@ pub enum PgnFaultKind {
 pub struct PgnFault {
     pub kind: PgnFaultKind,
     /// The byte at which it is, from the text's first byte on.
-    pub place: usize,
+    pub offset: usize,
 }
 
 // How far a game was read.
@@ -163,7 +163,7 @@ fn is_decided<B: Board>(game: &Game<B>) -> bool
 fn play_move<B: Board>(
     game: &mut Game<B>,
     progress: Progress,
-    place: usize,
+    offset: usize,
     m: &Move,
 ) -> Result<Step, PgnFault>
     requires undeclared { game.old.state.declared ≡ None }
@@ -171,7 +171,7 @@ fn play_move<B: Board>(
     ensures limit { game.new.limit ≡ game.old.limit }
     ensures ended { EndsIn 0 0 result }
     ensures step { step_seen game.new.state result
-        ≡ move_step game.old.limit (so_far game.old.state progress) place (reads.Move m.now) }
+        ≡ move_step game.old.limit (so_far game.old.state progress) offset (reads.Move m.now) }
 {
     let kind = if game.verdict_of_moving(m).is_some() {
         PgnFaultKind::AfterEnd
@@ -181,7 +181,7 @@ fn play_move<B: Board>(
         game.play_legal(*m);
         return Ok(Step::On(progress.begun()));
     };
-    Err(PgnFault { kind, place })
+    Err(PgnFault { kind, offset })
 }
 
 // Plays the move that a word at an offset is read as.
@@ -189,24 +189,24 @@ fn play_move<B: Board>(
 fn play_word<B: Board>(
     game: &mut Game<B>,
     progress: Progress,
-    place: usize,
+    offset: usize,
     word: &[u8],
 ) -> Result<Step, PgnFault>
     requires { game.old.state.declared ≡ None }
     ensures limit { game.new.limit ≡ game.old.limit }
     ensures ended { EndsIn 0 0 result }
     ensures step { step_seen game.new.state result
-        ≡ move_step game.old.limit (so_far game.old.state progress) place (reading (current game.old.state) word.now) }
+        ≡ move_step game.old.limit (so_far game.old.state progress) offset (reading (current game.old.state) word.now) }
 {
     let kind = match read_move(game.board(), word) {
         Reading::NotAMove => PgnFaultKind::BadToken,
-        Reading::Move(m) => return play_move(game, progress, place, &m),
+        Reading::Move(m) => return play_move(game, progress, offset, &m),
         _ if is_decided(game) => PgnFaultKind::AfterEnd,
         _ if game.is_full() => PgnFaultKind::TooLong,
         Reading::Ambiguous => PgnFaultKind::AmbiguousMove,
         Reading::NoSuch => PgnFaultKind::IllegalMove,
     };
-    Err(PgnFault { kind, place })
+    Err(PgnFault { kind, offset })
 }
 
 // Declares the outcome of a termination, unless the board says one or it is `*`.
@@ -227,29 +227,29 @@ fn end_game<B: Board>(game: &mut Game<B>, outcome: Outcome)
 fn read_word<B: Board>(
     game: &mut Game<B>,
     progress: Progress,
-    place: usize,
+    offset: usize,
     word: &[u8],
 ) -> Result<Step, PgnFault>
     requires undeclared { game.old.state.declared ≡ None }
-    requires within { place + length word.now < 2 ^ 64 }
+    requires within { offset + length word.now < 2 ^ 64 }
     ensures limit { game.new.limit ≡ game.old.limit }
-    ensures ended { EndsIn place (place + length word.now) result }
+    ensures ended { EndsIn offset (offset + length word.now) result }
     ensures step { step_seen game.new.state result
-        ≡ word_step game.old.limit (so_far game.old.state progress) place word.now (kind_of word.now) }
+        ≡ word_step game.old.limit (so_far game.old.state progress) offset word.now (kind_of word.now) }
 {
     match word_kind(word) {
         WordKind::End(outcome) => {
             end_game(game, outcome);
-            let place = place + word.len();
+            let offset = offset + word.len();
             Ok(Step::Ended(PgnEnd {
                 outcome,
                 termination: progress.termination,
-                place,
+                offset,
             }))
         }
         WordKind::Number => Ok(Step::On(progress.begun())),
         WordKind::Marks => Ok(Step::On(progress)),
-        WordKind::Move => play_word(game, progress, place, word),
+        WordKind::Move => play_word(game, progress, offset, word),
     }
 }
 
@@ -258,12 +258,12 @@ fn read_tag<B: Board>(
     game: &mut Game<B>,
     progress: Progress,
     tag: &Tag<'_>,
-    place: usize,
+    offset: usize,
 ) -> Result<Step, PgnFault>
     ensures limit { game.new.limit ≡ game.old.limit }
     ensures ended { EndsIn 0 0 result }
     ensures step { step_seen game.new.state result
-        ≡ tag_step (so_far game.old.state progress) tag.now.name.now tag.now.text.now place }
+        ≡ tag_step (so_far game.old.state progress) tag.now.name.now tag.now.text.now offset }
 {
     if let b"FEN" = tag.name {
         match read_fen_as(game.start().variant(), tag.text) {
@@ -271,7 +271,7 @@ fn read_tag<B: Board>(
             Err(_) => {
                 return Err(PgnFault {
                     kind: PgnFaultKind::BadFen,
-                    place,
+                    offset,
                 });
             }
         }
@@ -285,55 +285,55 @@ fn read_token<B: Board>(
     game: &mut Game<B>,
     progress: Progress,
     len: usize,
-    place: usize,
+    offset: usize,
     token: &Token<'_>,
 ) -> Result<Step, PgnFault>
     requires undeclared { game.old.state.declared ≡ None }
-    requires within { IsWithin (len - place) (token_seen token.now) }
-    requires place { place ≤ len }
+    requires within { IsWithin (len - offset) (token_seen token.now) }
+    requires offset { offset ≤ len }
     ensures limit { game.new.limit ≡ game.old.limit }
-    ensures ended { EndsIn place len result }
+    ensures ended { EndsIn offset len result }
     ensures step { step_seen game.new.state result
-        ≡ step game.old.limit len (so_far game.old.state progress) (len - place) (token_seen token.now) }
+        ≡ step game.old.limit len (so_far game.old.state progress) (len - offset) (token_seen token.now) }
 {
     match token {
         Token::Skip => Ok(Step::On(progress)),
         Token::Tag(_) if progress.is_begun => Err(PgnFault {
             kind: PgnFaultKind::NoResult,
-            place,
+            offset,
         }),
         Token::Tag(tag) => read_tag(game, progress, tag, len - tag.left),
-        Token::Word(word) => read_word(game, progress, place, word),
+        Token::Word(word) => read_word(game, progress, offset, word),
     }
 }
 
 // What is reported where no token can be read at an offset of a text of so many bytes.
-fn told_fault(fault: TokenFault, progress: Progress, len: usize, place: usize) -> PgnFault
-    requires within { IsWithin (len - place) (fault_seen fault) }
-    requires place { place ≤ len }
+fn told_fault(fault: TokenFault, progress: Progress, len: usize, offset: usize) -> PgnFault
+    requires within { IsWithin (len - offset) (fault_seen fault) }
+    requires offset { offset ≤ len }
     ensures { (limit : ℕ) (s : State)
-        → step_seen s (Err result) ≡ step limit len (so_far s progress) (len - place) (fault_seen fault) }
+        → step_seen s (Err result) ≡ step limit len (so_far s progress) (len - offset) (fault_seen fault) }
 {
     match fault {
         TokenFault::BadTag if progress.is_begun => PgnFault {
             kind: PgnFaultKind::NoResult,
-            place,
+            offset,
         },
         TokenFault::BadTag => PgnFault {
             kind: PgnFaultKind::BadTag,
-            place,
+            offset,
         },
         TokenFault::UnclosedComment { left } => PgnFault {
             kind: PgnFaultKind::UnclosedComment,
-            place: len - left,
+            offset: len - left,
         },
         TokenFault::UnclosedVariation => PgnFault {
             kind: PgnFaultKind::UnclosedVariation,
-            place,
+            offset,
         },
         TokenFault::BadByte => PgnFault {
             kind: PgnFaultKind::BadToken,
-            place,
+            offset,
         },
     }
 }
@@ -377,16 +377,16 @@ fn told_variant(text: &[u8], at: usize) -> Variant
     requires { at ≤ length text.now }
     ensures { result ≡ variant_told Normal (tokens_from text.now at) }
 {
-    let mut place = at;
+    let mut offset = at;
     let mut variant = Variant::Normal;
     loop {
-        match next_token(text, place) {
+        match next_token(text, offset) {
             Ok(Some((token, behind))) => {
                 match told_by(variant, &token) {
                     Some(told) => variant = told,
                     None => return variant,
                 }
-                place = behind;
+                offset = behind;
             }
             Ok(None) | Err(_) => return variant,
         }
@@ -402,11 +402,11 @@ fn behind_blanks(text: &[u8], at: usize) -> usize
     ensures behind { at ≤ result }
     ensures within { result ≤ length text.now }
 {
-    let mut place = at;
-    while place < text.len() && is_passed(text[place]) {
-        place += 1;
+    let mut offset = at;
+    while offset < text.len() && is_passed(text[offset]) {
+        offset += 1;
     }
-    place
+    offset
 }
 
 // The offset after the comment at an offset, where one that is closed begins there.
@@ -437,11 +437,11 @@ fn behind_skipped(text: &[u8], at: usize) -> usize
     ensures within { result ≤ length text.now }
 {
     let first = behind_blanks(text, at);
-    let mut place = first;
-    while let Some(behind) = behind_comment(text, place) {
-        place = behind_blanks(text, behind);
+    let mut offset = first;
+    while let Some(behind) = behind_comment(text, offset) {
+        offset = behind_blanks(text, behind);
     }
-    place
+    offset
 }
 
 // Reads the tags from a place on as those of a game of normal chess, and returns the place of the first number, move or
@@ -457,22 +457,22 @@ fn read_normal_tags<B: Board>(
 {
     game.restart(&Position::initial());
     let mut progress = Progress::none();
-    let mut place = at;
+    let mut offset = at;
     loop {
-        let Ok(Some((token, behind))) = next_token(text, place) else {
+        let Ok(Some((token, behind))) = next_token(text, offset) else {
             return None;
         };
         match told_by(Variant::Normal, &token) {
-            None => return Some((progress, place)),
+            None => return Some((progress, offset)),
             Some(Variant::Fischerandom) => return None,
             Some(Variant::Normal) => {}
         }
-        match read_token(game, progress, text.len(), place, &token) {
+        match read_token(game, progress, text.len(), offset, &token) {
             Ok(Step::On(further)) => progress = further,
             Ok(Step::Ended(_)) => return None,
             Err(_) => return None,
         }
-        place = behind;
+        offset = behind;
     }
 }
 
@@ -508,29 +508,29 @@ pub fn read_pgn<B: Board>(
     requires { at ≤ length text.now }
     ensures answer { result ≡ (pgn_read game.old.limit text.now at).answer }
     ensures game { game.new ≡ left_at game.old (pgn_read game.old.limit text.now at).state }
-    ensures within { IfOk result (λ end. IfSome end (λ e. e.place ≤ length text.now)) }
-    ensures further { IfOk result (λ end. IfSome end (λ e. at < e.place)) }
+    ensures within { IfOk result (λ end. IfSome end (λ e. e.offset ≤ length text.now)) }
+    ensures further { IfOk result (λ end. IfSome end (λ e. at < e.offset)) }
     ensures undeclared { OnErr result (IsNone game.new.state.declared) }
     ensures limit { game.new.limit ≡ game.old.limit }
 {
-    let (mut progress, mut place) = begin_game(text, first_place(text, at), game);
+    let (mut progress, mut offset) = begin_game(text, first_place(text, at), game);
     loop {
-        match next_token(text, place) {
+        match next_token(text, offset) {
             Ok(Some((token, behind))) => {
-                match read_token(game, progress, text.len(), place, &token)? {
+                match read_token(game, progress, text.len(), offset, &token)? {
                     Step::On(further) => progress = further,
                     Step::Ended(end) => return Ok(Some(end)),
                 }
-                place = behind_skipped(text, behind);
+                offset = behind_skipped(text, behind);
             }
             Ok(None) if progress.is_met => {
                 return Err(PgnFault {
                     kind: PgnFaultKind::NoResult,
-                    place: text.len(),
+                    offset: text.len(),
                 })
             }
             Ok(None) => return Ok(None),
-            Err(fault) => return Err(told_fault(fault, progress, text.len(), place)),
+            Err(fault) => return Err(told_fault(fault, progress, text.len(), offset)),
         }
     }
 }

@@ -17,7 +17,7 @@ pub struct ResultTag {
     /// The outcome that its text denotes; `None` where it denotes none.
     pub outcome: Option<Outcome>,
     /// The first byte of its string, from the text's first byte on.
-    pub place: usize,
+    pub offset: usize,
 }
 
 // Whether more tags of a game may follow a token.
@@ -42,7 +42,7 @@ fn result_after_tag(before: Option<ResultTag>, len: usize, tag: &Tag<'_>) -> Opt
         let outcome = outcome_of(tag.text);
         Some(ResultTag {
             outcome,
-            place: len - tag.left,
+            offset: len - tag.left,
         })
     } else {
         before
@@ -65,18 +65,18 @@ fn result_after(before: Option<ResultTag>, len: usize, token: &Token<'_>) -> Opt
 pub fn result_tag(text: &[u8], at: usize) -> Option<ResultTag>
     requires { at ≤ length text.now }
     ensures tag { result ≡ result_tag_of text.now at }
-    ensures within { IfSome result (λ tag. tag.place ≤ length text.now) }
+    ensures within { IfSome result (λ tag. tag.offset ≤ length text.now) }
 {
-    let mut place = first_place(text, at);
+    let mut offset = first_place(text, at);
     let mut last = None;
     loop {
-        match next_token(text, place) {
+        match next_token(text, offset) {
             Ok(Some((token, behind))) => {
                 if !may_precede_tags(&token) {
                     return last;
                 }
                 last = result_after(last, text.len(), &token);
-                place = behind;
+                offset = behind;
             }
             Ok(None) | Err(_) => return last,
         }

@@ -46,14 +46,14 @@ pub(crate) fn split_string(text: &[u8]) -> Option<(&[u8], &[u8])>
     ensures { option_map (λ r. (r.0.now, r.1.now)) result ≡ string_at text.now }
 {
     let mut is_kept = false;
-    for (place, byte) in text.iter().enumerate() {
+    for (offset, byte) in text.iter().enumerate() {
         if *byte == b'\n' {
             return None;
         }
         if is_kept {
             is_kept = false;
         } else if *byte == b'"' {
-            return Some((&text[..place], &text[place + 1..]));
+            return Some((&text[..offset], &text[offset + 1..]));
         } else {
             is_kept = *byte == b'\\';
         }

@@ -152,7 +152,7 @@ pub(crate) fn next_token(text: &[u8], at: usize) -> Result<Option<(Token<'_>, us
 /// The offset where reading begins: after the bytes EF BB BF (a byte order mark) at offset 0, else the offset itself.
 pub(crate) fn first_place(text: &[u8], at: usize) -> usize
     requires { at ≤ length text.now }
-    ensures place { result ≡ first_place text.now at }
+    ensures offset { result ≡ first_place text.now at }
     ensures behind { at ≤ result }
     ensures within { result ≤ length text.now }
 {

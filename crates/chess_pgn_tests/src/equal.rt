@@ -9,7 +9,7 @@ pub fn is_equal<T: PartialEq + Debug>(rt: &impl Abort, found: &T, wanted: &T) {
 
 pub fn is_equal_at<T: PartialEq + Debug>(
     rt: &impl Abort,
-    place: usize,
+    offset: usize,
     text: &[u8],
     found: &T,
     wanted: &T,

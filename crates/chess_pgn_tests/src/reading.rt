@@ -21,17 +21,17 @@ enum Wanted {
 impl Wanted {
     fn answer(self) -> Result<Option<PgnEnd>, PgnFault> {
         match self {
-            Wanted::Ended(outcome, place) => Ok(Some(PgnEnd {
+            Wanted::Ended(outcome, offset) => Ok(Some(PgnEnd {
                 outcome,
                 termination: None,
-                place,
+                offset,
             })),
-            Wanted::EndedAs(outcome, termination, place) => Ok(Some(PgnEnd {
+            Wanted::EndedAs(outcome, termination, offset) => Ok(Some(PgnEnd {
                 outcome,
                 termination: Some(termination),
-                place,
+                offset,
             })),
-            Wanted::Fault(kind, place) => Err(PgnFault { kind, place }),
+            Wanted::Fault(kind, offset) => Err(PgnFault { kind, offset }),
             Wanted::NoGame => Ok(None),
         }
     }

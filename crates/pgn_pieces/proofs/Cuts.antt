@@ -8,20 +8,20 @@ use Rattle.pgn_pieces.specs.Stream.{pieces_from}
 
 -- ---- one byte
 
-pub goes_on : (ended : Bool) (place : ℕ) (part : List ℕ) (c : ℕ) (cs : List ℕ) → ends_piece c cs ≡ false
-    → pieces_from ended place part (c ∷ cs) ≡ pieces_from ended place (part ++ c ∷ []) cs
+pub goes_on : (ended : Bool) (offset : ℕ) (part : List ℕ) (c : ℕ) (cs : List ℕ) → ends_piece c cs ≡ false
+    → pieces_from ended offset part (c ∷ cs) ≡ pieces_from ended offset (part ++ c ∷ []) cs
 unfolding pieces_from
-goes_on ended place part c cs h =
-    ap (λ b. if b then piece_at place (part ++ c ∷ []) ∷ pieces_from ended (place + (length part + 1)) [] cs
-    else pieces_from ended place (part ++ c ∷ []) cs) h
+goes_on ended offset part c cs h =
+    ap (λ b. if b then piece_at offset (part ++ c ∷ []) ∷ pieces_from ended (offset + (length part + 1)) [] cs
+    else pieces_from ended offset (part ++ c ∷ []) cs) h
 
-pub ends_here : (ended : Bool) (place : ℕ) (part : List ℕ) (c : ℕ) (cs : List ℕ) → ends_piece c cs ≡ true
-    → pieces_from ended place part (c ∷ cs)
-    ≡ piece_at place (part ++ c ∷ []) ∷ pieces_from ended (place + (length part + 1)) [] cs
+pub ends_here : (ended : Bool) (offset : ℕ) (part : List ℕ) (c : ℕ) (cs : List ℕ) → ends_piece c cs ≡ true
+    → pieces_from ended offset part (c ∷ cs)
+    ≡ piece_at offset (part ++ c ∷ []) ∷ pieces_from ended (offset + (length part + 1)) [] cs
 unfolding pieces_from
-ends_here ended place part c cs h =
-    ap (λ b. if b then piece_at place (part ++ c ∷ []) ∷ pieces_from ended (place + (length part + 1)) [] cs
-    else pieces_from ended place (part ++ c ∷ []) cs) h
+ends_here ended offset part c cs h =
+    ap (λ b. if b then piece_at offset (part ++ c ∷ []) ∷ pieces_from ended (offset + (length part + 1)) [] cs
+    else pieces_from ended offset (part ++ c ∷ []) cs) h
 
 -- ---- a byte with seven after it
 
@@ -44,29 +44,29 @@ byte_at text rest k h = ap (λ xs. xs ++ rest) (drop-cons text k 0 h)
 
 pub passes : (text : List ℕ) (k : ℕ) → k + 7 < length text
     → ends_piece (get_or text k 0) (drop (k + 1) text) ≡ false
-    → (ended : Bool) (place : ℕ) (part rest : List ℕ)
-    → pieces_from ended place (part ++ take k text) (drop k text ++ rest)
-    ≡ pieces_from ended place (part ++ take (k + 1) text) (drop (k + 1) text ++ rest)
-passes text k h none ended place part rest =
+    → (ended : Bool) (offset : ℕ) (part rest : List ℕ)
+    → pieces_from ended offset (part ++ take k text) (drop k text ++ rest)
+    ≡ pieces_from ended offset (part ++ take (k + 1) text) (drop (k + 1) text ++ rest)
+passes text k h none ended offset part rest =
     let few : k < length text = omega (arith, h) in
-    ap (pieces_from ended place (part ++ take k text)) (byte_at text rest k few)
-    ∙ goes_on ended place (part ++ take k text) (get_or text k 0) (drop (k + 1) text ++ rest)
+    ap (pieces_from ended offset (part ++ take k text)) (byte_at text rest k few)
+    ∙ goes_on ended offset (part ++ take k text) (get_or text k 0) (drop (k + 1) text ++ rest)
     (same_end (get_or text k 0) (drop (k + 1) text) rest (seven text k h) ∙ none)
-    ∙ ap (λ xs. pieces_from ended place xs (drop (k + 1) text ++ rest)) (one_more text part k few)
+    ∙ ap (λ xs. pieces_from ended offset xs (drop (k + 1) text ++ rest)) (one_more text part k few)
 
 pub ends : (text : List ℕ) (k : ℕ) → k + 7 < length text
     → ends_piece (get_or text k 0) (drop (k + 1) text) ≡ true
-    → (ended : Bool) (place : ℕ) (part rest : List ℕ)
-    → pieces_from ended place (part ++ take k text) (drop k text ++ rest)
-    ≡ piece_at place (part ++ take (k + 1) text)
-    ∷ pieces_from ended (place + length (part ++ take (k + 1) text)) [] (drop (k + 1) text ++ rest)
-ends text k h is ended place part rest =
+    → (ended : Bool) (offset : ℕ) (part rest : List ℕ)
+    → pieces_from ended offset (part ++ take k text) (drop k text ++ rest)
+    ≡ piece_at offset (part ++ take (k + 1) text)
+    ∷ pieces_from ended (offset + length (part ++ take (k + 1) text)) [] (drop (k + 1) text ++ rest)
+ends text k h is ended offset part rest =
     let few : k < length text = omega (arith, h) in
     let front = part ++ take k text in
     let more = one_more text part k few in
-    ap (pieces_from ended place front) (byte_at text rest k few)
-    ∙ ends_here ended place front (get_or text k 0) (drop (k + 1) text ++ rest)
+    ap (pieces_from ended offset front) (byte_at text rest k few)
+    ∙ ends_here ended offset front (get_or text k 0) (drop (k + 1) text ++ rest)
     (same_end (get_or text k 0) (drop (k + 1) text) rest (seven text k h) ∙ is)
-    ∙ ap (λ n. piece_at place (front ++ get_or text k 0 ∷ [])
-    ∷ pieces_from ended (place + n) [] (drop (k + 1) text ++ rest)) (sym (length-append front (get_or text k 0 ∷ [])))
-    ∙ ap (λ xs. piece_at place xs ∷ pieces_from ended (place + length xs) [] (drop (k + 1) text ++ rest)) more
+    ∙ ap (λ n. piece_at offset (front ++ get_or text k 0 ∷ [])
+    ∷ pieces_from ended (offset + n) [] (drop (k + 1) text ++ rest)) (sym (length-append front (get_or text k 0 ∷ [])))
+    ∙ ap (λ xs. piece_at offset xs ∷ pieces_from ended (offset + length xs) [] (drop (k + 1) text ++ rest)) more

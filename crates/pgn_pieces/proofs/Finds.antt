@@ -10,14 +10,14 @@ keeps_all n s =
     let more = length-append s.part (take n s.coming) in
     let some = length-take n s.coming in
     let rest = length-drop n s.coming in
-    record { place = refl; ended = refl; all = omega (arith, more, some, rest) }
+    record { offset = refl; ended = refl; all = omega (arith, more, some, rest) }
 
 pub found : (s : State) (n : ℕ) → EndsAfter s.coming (Some n) → FindsEnd s (passed n s) true
 found s n h =
     let more = length-append s.part (take n s.coming) in
     let some = length-take-le n s.coming h.1 in (
       keeps_all n s,
-      λ ended rest. h.2 ended s.place s.part rest,
+      λ ended rest. h.2 ended s.offset s.part rest,
       omega (arith, more, some, h.0),
     )
 
@@ -25,7 +25,7 @@ pub not_found : (s : State) → EndsAfter s.coming None → FindsEnd s (passed (
 not_found s h =
     let rest = length-drop (length s.coming - 7) s.coming in (
       keeps_all (length s.coming - 7) s,
-      λ ended rest. h ended s.place s.part rest,
+      λ ended rest. h ended s.offset s.part rest,
       omega (arith, rest),
     )
 

@@ -9,32 +9,32 @@ use Rattle.pgn_pieces.specs.Stream.{pieces_from, pieces_held}
 too_long : (xs : List ℕ) → 16777216 < length xs → nat_le (length xs) 16777216 ≡ false
 too_long xs h = grind (arith, nat_tests, h)
 
-untold : (place : ℕ) (xs : List ℕ) → 16777216 < length xs → piece_at place xs ≡ record { place = place; bytes = None }
-untold place xs h = ap (λ b. record { place = place; bytes = if b then Some xs else None }) (too_long xs h)
+untold : (offset : ℕ) (xs : List ℕ) → 16777216 < length xs → piece_at offset xs ≡ record { offset = offset; bytes = None }
+untold offset xs h = ap (λ b. record { offset = offset; bytes = if b then Some xs else None }) (too_long xs h)
 
-same_piece : (place : ℕ) (p q : List ℕ) → length p ≡ length q → 16777216 < length p → piece_at place p ≡ piece_at place q
-same_piece place p q h k = untold place p k ∙ sym (untold place q (omega (arith, h, k)))
+same_piece : (offset : ℕ) (p q : List ℕ) → length p ≡ length q → 16777216 < length p → piece_at offset p ≡ piece_at offset q
+same_piece offset p q h k = untold offset p k ∙ sym (untold offset q (omega (arith, h, k)))
 
 both : {A : Type 0} (b : Bool) (x x' y y' : A) → x ≡ x' → y ≡ y' → (if b then x else y) ≡ (if b then x' else y')
 both b x x' y y' h k = cc (h, k)
 
-pub same_long : (ended : Bool) (place : ℕ) (p q rest : List ℕ) → length p ≡ length q → 16777216 < length p
-    → pieces_from ended place p rest ≡ pieces_from ended place q rest
+pub same_long : (ended : Bool) (offset : ℕ) (p q rest : List ℕ) → length p ≡ length q → 16777216 < length p
+    → pieces_from ended offset p rest ≡ pieces_from ended offset q rest
 unfolding pieces_from
-same_long ended place p q [] h k =
-    ap (λ n. if ended && nat_lt 0 n then piece_at place p ∷ [] else []) h
-    ∙ ap (λ x. if ended && nat_lt 0 (length q) then x ∷ [] else []) (same_piece place p q h k)
-same_long ended place p q (c ∷ cs) h k =
+same_long ended offset p q [] h k =
+    ap (λ n. if ended && nat_lt 0 n then piece_at offset p ∷ [] else []) h
+    ∙ ap (λ x. if ended && nat_lt 0 (length q) then x ∷ [] else []) (same_piece offset p q h k)
+same_long ended offset p q (c ∷ cs) h k =
     let lp = length-append p (c ∷ []) in
     let lq = length-append q (c ∷ []) in
     both (ends_piece c cs)
-    (piece_at place (p ++ c ∷ []) ∷ pieces_from ended (place + (length p + 1)) [] cs)
-    (piece_at place (q ++ c ∷ []) ∷ pieces_from ended (place + (length q + 1)) [] cs)
-    (pieces_from ended place (p ++ c ∷ []) cs) (pieces_from ended place (q ++ c ∷ []) cs)
-    (ap (λ x. x ∷ pieces_from ended (place + (length p + 1)) [] cs)
-    (same_piece place (p ++ c ∷ []) (q ++ c ∷ []) (omega (arith, lp, lq, h)) (omega (arith, lp, k)))
-    ∙ ap (λ n. piece_at place (q ++ c ∷ []) ∷ pieces_from ended (place + (n + 1)) [] cs) h)
-    (same_long ended place (p ++ c ∷ []) (q ++ c ∷ []) cs (omega (arith, lp, lq, h)) (omega (arith, lp, k)))
+    (piece_at offset (p ++ c ∷ []) ∷ pieces_from ended (offset + (length p + 1)) [] cs)
+    (piece_at offset (q ++ c ∷ []) ∷ pieces_from ended (offset + (length q + 1)) [] cs)
+    (pieces_from ended offset (p ++ c ∷ []) cs) (pieces_from ended offset (q ++ c ∷ []) cs)
+    (ap (λ x. x ∷ pieces_from ended (offset + (length p + 1)) [] cs)
+    (same_piece offset (p ++ c ∷ []) (q ++ c ∷ []) (omega (arith, lp, lq, h)) (omega (arith, lp, k)))
+    ∙ ap (λ n. piece_at offset (q ++ c ∷ []) ∷ pieces_from ended (offset + (n + 1)) [] cs) h)
+    (same_long ended offset (p ++ c ∷ []) (q ++ c ∷ []) cs (omega (arith, lp, lq, h)) (omega (arith, lp, k)))
 
 part_len : (gone at len : ℕ) (held : List ℕ) → at + len ≤ length held
     → length (replicate gone 0 ++ take len (drop at held)) ≡ gone + len
@@ -45,26 +45,26 @@ part_len gone at len held h =
     let some = length-take-le len (drop at held) (omega (arith, rest, h)) in
     omega (arith, all, zeros, some)
 
-pub let_gone : (held : List ℕ) (at len gone place : ℕ) (over ended : Bool) (rest : List ℕ) → at + len ≤ length held
+pub let_gone : (held : List ℕ) (at len gone offset : ℕ) (over ended : Bool) (rest : List ℕ) → at + len ≤ length held
     → 16777216 < gone + len
     → pieces_held ended (record {
-      place = place;
+      offset = offset;
       part = replicate gone 0 ++ take len (drop at held);
       coming = drop (at + len) held;
       ended = over;
     }) rest
     ≡ pieces_held ended (record {
-      place = place;
+      offset = offset;
       part = replicate (gone + len) 0 ++ take 0 (drop (at + len) held);
       coming = drop (at + len + 0) held;
       ended = over;
     }) rest
-let_gone held at len gone place over ended rest h k =
+let_gone held at len gone offset over ended rest h k =
     let old = part_len gone at len held h in
     let new = part_len (gone + len) (at + len) 0 held (omega (arith, h)) in
     let same : at + len + 0 ≡ at + len = omega arith in
-    same_long ended place (replicate gone 0 ++ take len (drop at held))
+    same_long ended offset (replicate gone 0 ++ take len (drop at held))
     (replicate (gone + len) 0 ++ take 0 (drop (at + len) held)) (drop (at + len) held ++ rest)
     (omega (arith, old, new)) (omega (arith, old, k))
-    ∙ ap (λ n. pieces_from ended place (replicate (gone + len) 0 ++ take 0 (drop (at + len) held)) (drop n held ++ rest))
+    ∙ ap (λ n. pieces_from ended offset (replicate (gone + len) 0 ++ take 0 (drop (at + len) held)) (drop n held ++ rest))
     (sym same)

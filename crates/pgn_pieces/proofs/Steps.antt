@@ -29,31 +29,31 @@ short_end c cs h = by_test (ends_piece c cs) refl
     by_test false e = e
 
 -- no piece ends in so few bytes
-pub short_rest : (ended : Bool) (place : ℕ) (part xs : List ℕ) → length xs ≤ 7
-    → pieces_from ended place part xs ≡ pieces_from ended place (part ++ xs) []
-short_rest ended place part [] h = ap (λ p. pieces_from ended place p []) (sym (append-nil part))
-short_rest ended place part (c ∷ cs) h =
-    goes_on ended place part c cs (short_end c cs (omega (arith, h)))
-    ∙ short_rest ended place (part ++ c ∷ []) cs (omega (arith, h))
-    ∙ ap (λ p. pieces_from ended place p []) (append_assoc part (c ∷ []) cs)
+pub short_rest : (ended : Bool) (offset : ℕ) (part xs : List ℕ) → length xs ≤ 7
+    → pieces_from ended offset part xs ≡ pieces_from ended offset (part ++ xs) []
+short_rest ended offset part [] h = ap (λ p. pieces_from ended offset p []) (sym (append-nil part))
+short_rest ended offset part (c ∷ cs) h =
+    goes_on ended offset part c cs (short_end c cs (omega (arith, h)))
+    ∙ short_rest ended offset (part ++ c ∷ []) cs (omega (arith, h))
+    ∙ ap (λ p. pieces_from ended offset p []) (append_assoc part (c ∷ []) cs)
 
-last_piece : (place : ℕ) (part : List ℕ) → nat_lt 0 (length part) ≡ true
-    → pieces_from true place part [] ≡ piece_at place part ∷ []
+last_piece : (offset : ℕ) (part : List ℕ) → nat_lt 0 (length part) ≡ true
+    → pieces_from true offset part [] ≡ piece_at offset part ∷ []
 unfolding pieces_from
-last_piece place part h = ap (λ b. if b then piece_at place part ∷ [] else []) h
+last_piece offset part h = ap (λ b. if b then piece_at offset part ∷ [] else []) h
 
-no_piece : (place : ℕ) (part : List ℕ) → nat_lt 0 (length part) ≡ false → pieces_from true place part [] ≡ []
+no_piece : (offset : ℕ) (part : List ℕ) → nat_lt 0 (length part) ≡ false → pieces_from true offset part [] ≡ []
 unfolding pieces_from
-no_piece place part h = ap (λ b. if b then piece_at place part ∷ [] else []) h
+no_piece offset part h = ap (λ b. if b then piece_at offset part ∷ [] else []) h
 
-not_whole : (place : ℕ) (part : List ℕ) → pieces_from false place part [] ≡ []
+not_whole : (offset : ℕ) (part : List ℕ) → pieces_from false offset part [] ≡ []
 unfolding pieces_from
-not_whole place part = refl
+not_whole offset part = refl
 
-nothing : (ended : Bool) (place : ℕ) → pieces_from ended place [] [] ≡ []
+nothing : (ended : Bool) (offset : ℕ) → pieces_from ended offset [] [] ≡ []
 unfolding pieces_from
-nothing true place = refl
-nothing false place = refl
+nothing true offset = refl
+nothing false offset = refl
 
 -- ---- what was looked through holds no piece's end
 
@@ -68,7 +68,7 @@ looked_none s r1 r text stands =
       [],
       record {
         read = subst (HasRead s.ended r r1) (sym (append-nil text)) stands.read;
-        all = subst (λ xs. s.place + length s.part + (0 + length s.coming) ≡ length xs) (sym (append-nil text))
+        all = subst (λ xs. s.offset + length s.part + (0 + length s.coming) ≡ length xs) (sym (append-nil text))
             (omega (arith, all));
       },
       λ h. (h, refl),
@@ -93,8 +93,8 @@ looked_on s s1 s2 s3 r1 r2 r3 gave looked going (kept, same, few) same' kept' re
     let all = found.1.all in
     let k1 = kept.all in
     let k2 = kept'.all in
-    let p1 = kept.place in
-    let p2 = kept'.place in
+    let p1 = kept.offset in
+    let p2 = kept'.offset in
     let l1 = length-append (text ++ m) gave in
     let l2 = length-append s3.coming gave in
     let front = subst (λ b. HasRead b r r2 (text ++ m)) going found.1.read in (
@@ -107,7 +107,7 @@ looked_on s s1 s2 s3 r1 r2 r3 gave looked going (kept, same, few) same' kept' re
       λ ended rest.
           ap (λ xs. pieces_held ended (past_piece s) xs) (append_assoc m gave rest)
           ∙ found.3 ended (gave ++ rest) ∙ same ended (gave ++ rest) ∙ same' ended (gave ++ rest)
-          ∙ ap (pieces_from ended s3.place s3.part) (sym (append_assoc s3.coming gave rest)),
+          ∙ ap (pieces_from ended s3.offset s3.part) (sym (append_assoc s3.coming gave rest)),
     )
 
 -- ---- what the call comes to
@@ -117,7 +117,7 @@ stands_on : (s s' : State) (r r' : InputState) (text : List ℕ) → IsStateOf s
 stands_on s s' r r' text stands kept =
     let all = stands.all in
     let k = kept.all in
-    let p = kept.place in
+    let p = kept.offset in
     record {
       read = subst (λ b. HasRead b r r' text) (sym kept.ended) stands.read;
       all = omega (arith, all, k, p);
@@ -134,10 +134,10 @@ next_found s s1 s2 r1 r2 looked (kept, next, some) r text stands =
     )
 
 held_last : (s1 s2 : State) (ended : Bool) → SamePieces s1 s2 → length s2.coming ≤ 7
-    → pieces_held ended s1 [] ≡ pieces_from ended s2.place (s2.part ++ s2.coming) []
+    → pieces_held ended s1 [] ≡ pieces_from ended s2.offset (s2.part ++ s2.coming) []
 held_last s1 s2 ended same few = same ended []
-    ∙ ap (pieces_from ended s2.place s2.part) (append-nil s2.coming)
-    ∙ short_rest ended s2.place s2.part s2.coming few
+    ∙ ap (pieces_from ended s2.offset s2.part) (append-nil s2.coming)
+    ∙ short_rest ended s2.offset s2.part s2.coming few
 
 pub next_last : (s s1 s2 s3 : State) (r1 r2 : InputState) (b : Bool) → Looked s s1 r1 r2 → FindsEnd s1 s2 false
     → s2.ended ≡ true → Keeps s2 s3 → s3 ≡ passed (length s2.coming) s2 → b ≡ nat_lt 0 (length s3.part)
@@ -151,12 +151,12 @@ next_last s s1 s2 s3 r1 r2 true looked (kept, same, few) over kept' is e r text 
     let ended' : s3.ended ≡ true = kept'.ended ∙ over in
     let all : pieces_held true (past_piece s) (m ++ []) ≡ current s3 ∷ pieces_held true (past_piece s3) [] =
     found.3 true [] ∙ held_last s1 s2 true same few
-    ∙ ap (λ xs. pieces_from true s2.place xs []) (sym part)
-    ∙ ap (λ n. pieces_from true n s3.part []) (sym kept'.place)
-    ∙ last_piece s3.place s3.part (sym e)
-    ∙ ap (λ xs. piece_at s3.place s3.part ∷ xs) (sym
-    (ap (λ xs. pieces_from true (s3.place + length s3.part) [] (xs ++ []))
-    coming ∙ nothing true (s3.place + length s3.part))) in (
+    ∙ ap (λ xs. pieces_from true s2.offset xs []) (sym part)
+    ∙ ap (λ n. pieces_from true n s3.part []) (sym kept'.offset)
+    ∙ last_piece s3.offset s3.part (sym e)
+    ∙ ap (λ xs. piece_at s3.offset s3.part ∷ xs) (sym
+    (ap (λ xs. pieces_from true (s3.offset + length s3.part) [] (xs ++ []))
+    coming ∙ nothing true (s3.offset + length s3.part))) in (
       m,
       stands_on s2 s3 r r2 (text ++ m) (stands_on s1 s2 r r2 (text ++ m) found.1 kept) kept',
       λ h. (ended', (found.2 h).1),
@@ -177,8 +177,8 @@ next_last s s1 s2 s3 r1 r2 false looked (kept, same, few) over kept' is e r text
       λ h. (found.2 h).1,
       ap (λ xs. pieces_held true (past_piece s) xs) (sym (append-nil m))
           ∙ found.3 true [] ∙ held_last s1 s2 true same few
-          ∙ ap (λ xs. pieces_from true s2.place xs []) (sym part)
-          ∙ no_piece s2.place s3.part (sym e),
+          ∙ ap (λ xs. pieces_from true s2.offset xs []) (sym part)
+          ∙ no_piece s2.offset s3.part (sym e),
     )
 
 pub next_stopped : (s s1 s2 s3 s4 s5 : State) (r1 r2 r3 : InputState) (fault : PieceFault) → Looked s s1 r1 r2
@@ -193,7 +193,7 @@ next_stopped s s1 s2 s3 s4 s5 r1 r2 r3 fault looked going (kept, same, few) kept
       cause fault front added,
       still_going s s1 m found.2 going,
       ap (λ xs. pieces_held false (past_piece s) xs) (sym (append-nil m))
-          ∙ found.3 false [] ∙ held_last s1 s2 false same few ∙ not_whole s2.place (s2.part ++ s2.coming),
+          ∙ found.3 false [] ∙ held_last s1 s2 false same few ∙ not_whole s2.offset (s2.part ++ s2.coming),
     )
   where
     cause : (e : PieceFault) → HasRead false r r2 (text ++ (looked r text stands).0) → Adds {A = Unit {0}} s4 s5 r2 r3 (Err e)
@@ -205,9 +205,9 @@ next_stopped s s1 s2 s3 s4 s5 r1 r2 r3 fault looked going (kept, same, few) kept
       (let all = (looked r text stands).1.all in
           let k1 = kept.all in
           let k2 = kept'.all in
-          let p1 = kept.place in
-          let p2 = kept'.place in
-          let many' : 2 ^ 63 ≤ s3.place + (length s3.part + length s3.coming) + 2 ^ 16 =
-          subst (λ (t : State). 2 ^ 63 ≤ t.place + (length t.part + length t.coming) + 2 ^ 16) slid many in
+          let p1 = kept.offset in
+          let p2 = kept'.offset in
+          let many' : 2 ^ 63 ≤ s3.offset + (length s3.part + length s3.coming) + 2 ^ 16 =
+          subst (λ (t : State). 2 ^ 63 ≤ t.offset + (length t.part + length t.coming) + 2 ^ 16) slid many in
           omega (arith, all, k1, k2, p1, p2, many')),
     )

@@ -7,22 +7,22 @@ use Rattle.pgn_pieces.specs.Stream.{State}
 use Rattle.pgn_pieces.specs.ties.Held.{passed}
 
 abbrev pub viewed : List ℕ → ℕ → ℕ → ℕ → ℕ → Bool → State
-viewed held at len gone place ended = record {
-  place = place;
+viewed held at len gone offset ended = record {
+  offset = offset;
   part = replicate gone 0 ++ take len (drop at held);
   coming = drop (at + len) held;
   ended = ended;
 }
 
-pub passed_on : (held : List ℕ) (at len n gone place : ℕ) (ended : Bool)
-    → viewed held at (len + n) gone place ended ≡ passed n (viewed held at len gone place ended)
-passed_on held at len n gone place ended =
-    ap (λ xs. record { place = place; part = replicate gone 0 ++ xs; coming = drop (at + (len + n)) held; ended = ended })
+pub passed_on : (held : List ℕ) (at len n gone offset : ℕ) (ended : Bool)
+    → viewed held at (len + n) gone offset ended ≡ passed n (viewed held at len gone offset ended)
+passed_on held at len n gone offset ended =
+    ap (λ xs. record { offset = offset; part = replicate gone 0 ++ xs; coming = drop (at + (len + n)) held; ended = ended })
     (take-add len n (drop at held) ∙ ap (λ xs. take len (drop at held) ++ take n xs) (drop-drop len at held))
-    ∙ ap (λ xs. record { place = place; part = xs; coming = drop (at + (len + n)) held; ended = ended })
+    ∙ ap (λ xs. record { offset = offset; part = xs; coming = drop (at + (len + n)) held; ended = ended })
     (sym (append_assoc (replicate gone 0) (take len (drop at held)) (take n (drop (at + len) held))))
     ∙ ap (λ xs. record {
-      place = place;
+      offset = offset;
       part = (replicate gone 0 ++ take len (drop at held)) ++ take n (drop (at + len) held);
       coming = xs;
       ended = ended;

@@ -59,39 +59,39 @@ kept_on false c (d ∷ ds) piece h =
     let next = has_piece d ds in
     ap (λ all. without_last (piece ∷ all)) next.2 ∙ ap (λ all. piece ∷ without_last all) (sym next.2)
 
-end_kept : (ended : Bool) (place : ℕ) (part : List ℕ) (b : Bool)
-    → (if ended && b then piece_at place part ∷ [] else []) ≡ placed place (kept ended (if b then part ∷ [] else []))
-end_kept true place part true = refl
-end_kept true place part false = refl
-end_kept false place part true = refl
-end_kept false place part false = refl
+end_kept : (ended : Bool) (offset : ℕ) (part : List ℕ) (b : Bool)
+    → (if ended && b then piece_at offset part ∷ [] else []) ≡ placed offset (kept ended (if b then part ∷ [] else []))
+end_kept true offset part true = refl
+end_kept true offset part false = refl
+end_kept false offset part true = refl
+end_kept false offset part false = refl
 
-at_end : (ended : Bool) (place : ℕ) (part : List ℕ)
-    → pieces_from ended place part [] ≡ placed place (kept ended (in_front part []))
+at_end : (ended : Bool) (offset : ℕ) (part : List ℕ)
+    → pieces_from ended offset part [] ≡ placed offset (kept ended (in_front part []))
 unfolding pieces_from
-at_end ended place part = end_kept ended place part (nat_lt 0 (length part))
+at_end ended offset part = end_kept ended offset part (nat_lt 0 (length part))
 
-all_cut : (ended : Bool) (place : ℕ) (part text : List ℕ)
-    → pieces_from ended place part text ≡ placed place (kept ended (in_front part (cut text)))
-all_cut ended place part [] = at_end ended place part
-all_cut ended place part (c ∷ cs) = by_test (ends_piece c cs) refl (all_cut ended place (part ++ c ∷ []) cs)
-    (all_cut ended (place + (length part + 1)) [] cs)
+all_cut : (ended : Bool) (offset : ℕ) (part text : List ℕ)
+    → pieces_from ended offset part text ≡ placed offset (kept ended (in_front part (cut text)))
+all_cut ended offset part [] = at_end ended offset part
+all_cut ended offset part (c ∷ cs) = by_test (ends_piece c cs) refl (all_cut ended offset (part ++ c ∷ []) cs)
+    (all_cut ended (offset + (length part + 1)) [] cs)
   where
     by_test : (b : Bool) → ends_piece c cs ≡ b
-        → pieces_from ended place (part ++ c ∷ []) cs ≡ placed place (kept ended (in_front (part ++ c ∷ []) (cut cs)))
-        → pieces_from ended (place + (length part + 1)) [] cs
-        ≡ placed (place + (length part + 1)) (kept ended (in_front [] (cut cs)))
-        → pieces_from ended place part (c ∷ cs) ≡ placed place (kept ended (in_front part (cut (c ∷ cs))))
+        → pieces_from ended offset (part ++ c ∷ []) cs ≡ placed offset (kept ended (in_front (part ++ c ∷ []) (cut cs)))
+        → pieces_from ended (offset + (length part + 1)) [] cs
+        ≡ placed (offset + (length part + 1)) (kept ended (in_front [] (cut cs)))
+        → pieces_from ended offset part (c ∷ cs) ≡ placed offset (kept ended (in_front part (cut (c ∷ cs))))
     by_test true e on next =
-        ends_here ended place part c cs e
-        ∙ ap (λ xs. piece_at place (part ++ c ∷ []) ∷ xs) (next
-        ∙ ap (λ xs. placed (place + (length part + 1)) (kept ended xs)) (none_in_front (cut cs))
-        ∙ ap (λ n. placed (place + n) (kept ended (cut cs))) (sym (length-append part (c ∷ []))))
-        ∙ sym (ap (λ xs. placed place (kept ended (in_front part xs))) (cut_here c cs e)
-        ∙ ap (placed place) (kept_on ended c cs (part ++ c ∷ []) e))
+        ends_here ended offset part c cs e
+        ∙ ap (λ xs. piece_at offset (part ++ c ∷ []) ∷ xs) (next
+        ∙ ap (λ xs. placed (offset + (length part + 1)) (kept ended xs)) (none_in_front (cut cs))
+        ∙ ap (λ n. placed (offset + n) (kept ended (cut cs))) (sym (length-append part (c ∷ []))))
+        ∙ sym (ap (λ xs. placed offset (kept ended (in_front part xs))) (cut_here c cs e)
+        ∙ ap (placed offset) (kept_on ended c cs (part ++ c ∷ []) e))
     by_test false e on next =
-        goes_on ended place part c cs e ∙ on
-        ∙ ap (λ xs. placed place (kept ended xs)) (byte_in_front part c (cut cs)
+        goes_on ended offset part c cs e ∙ on
+        ∙ ap (λ xs. placed offset (kept ended xs)) (byte_in_front part c (cut cs)
         ∙ ap (in_front part) (sym (cut_on c cs e)))
 
 pub pieces_are_cut : PiecesAreCut

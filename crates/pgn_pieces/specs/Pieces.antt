@@ -35,18 +35,18 @@ without_last (piece ∷ next ∷ rest) = piece ∷ without_last (next ∷ rest)
 
 -- a piece: the offset at which it begins in the text, and its bytes, unless it has more than 16,777,216
 pub record Piece : Type 0 where
-  pub place : ℕ
+  pub offset : ℕ
   pub bytes : Option (List ℕ)
 
 -- the piece of these bytes that begins there
 abbrev pub piece_at : ℕ → List ℕ → Piece
-piece_at place bytes =
-    record { place = place; bytes = if nat_le (length bytes) PIECE_LEN then Some bytes else None }
+piece_at offset bytes =
+    record { offset = offset; bytes = if nat_le (length bytes) PIECE_LEN then Some bytes else None }
 
 -- the pieces of these bytes, one after another, of which the first begins there
 abbrev pub placed : ℕ → List (List ℕ) → List Piece
-placed place [] = []
-placed place (bytes ∷ rest) = piece_at place bytes ∷ placed (place + length bytes) rest
+placed offset [] = []
+placed offset (bytes ∷ rest) = piece_at offset bytes ∷ placed (offset + length bytes) rest
 
 -- the pieces of a text of which this was read: how the last one goes on is known only once the text has ended
 unfoldable pub pieces : Bool → List ℕ → List Piece

@@ -7,33 +7,33 @@ use Rattle.pgn_pieces.specs.Pieces.{Piece, piece_at, ends_piece, HasRead, IsCaus
 -- what is held of an input: the offset at which a piece begins, the bytes of it, and the bytes after these; and whether
 -- the input has ended. Of a piece that is too long any bytes may be here, as many as it has
 pub record State : Type 0 where
-  pub place : ℕ
+  pub offset : ℕ
   pub part : List ℕ
   pub coming : List ℕ
   pub ended : Bool
 
 -- nothing was read yet
 abbrev pub unread : State
-unread = record { place = 0; part = []; coming = []; ended = false }
+unread = record { offset = 0; part = []; coming = []; ended = false }
 
 -- after the piece, with no byte of the next one
 abbrev pub past_piece : State → State
-past_piece s = record { place = s.place + length s.part; part = []; coming = s.coming; ended = s.ended }
+past_piece s = record { offset = s.offset + length s.part; part = []; coming = s.coming; ended = s.ended }
 
 -- the piece
 abbrev pub current : State → Piece
-current s = piece_at s.place s.part
+current s = piece_at s.offset s.part
 
 -- the pieces of a text of which these bytes are left: the first one begins at that offset, and this part of it is read
 unfoldable pub pieces_from : Bool → ℕ → List ℕ → List ℕ → List Piece
-pieces_from ended place part [] = if ended && nat_lt 0 (length part) then piece_at place part ∷ [] else []
-pieces_from ended place part (c ∷ cs) =
-    if ends_piece c cs then piece_at place (part ++ c ∷ []) ∷ pieces_from ended (place + (length part + 1)) [] cs
-    else pieces_from ended place (part ++ c ∷ []) cs
+pieces_from ended offset part [] = if ended && nat_lt 0 (length part) then piece_at offset part ∷ [] else []
+pieces_from ended offset part (c ∷ cs) =
+    if ends_piece c cs then piece_at offset (part ++ c ∷ []) ∷ pieces_from ended (offset + (length part + 1)) [] cs
+    else pieces_from ended offset (part ++ c ∷ []) cs
 
 -- the pieces of what is held and of these bytes after it
 abbrev pub pieces_held : Bool → State → List ℕ → List Piece
-pieces_held ended s rest = pieces_from ended s.place s.part (s.coming ++ rest)
+pieces_held ended s rest = pieces_from ended s.offset s.part (s.coming ++ rest)
 
 -- once a text has ended nothing may follow it
 abbrev pub MayFollow : Bool → Bool → List ℕ → Type 0
@@ -43,7 +43,7 @@ MayFollow true ended rest = (ended ≡ true) × (rest ≡ [])
 -- the state once this text was read
 pub record IsStateOf (s : State) (r r' : InputState) (text : List ℕ) : Type 0 where
   pub read : HasRead s.ended r r' text
-  pub all : s.place + (length s.part + length s.coming) ≡ length text
+  pub all : s.offset + (length s.part + length s.coming) ≡ length text
 
 -- a call for the next piece, once this text was read. More may be read, unless the text has ended; then the pieces that
 -- are left, however the text goes on, are the next one and those after it; or there is none

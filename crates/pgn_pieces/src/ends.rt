@@ -16,12 +16,12 @@ fn begins_event(text: &[u8]) -> bool
 }
 
 // Whether a piece ends with the byte before the offset.
-fn ends_before(text: &[u8], place: usize) -> bool
-    requires some { 0 < place }
-    requires within { place ≤ length text.now }
-    ensures { result ≡ ends_piece (slice_index text.now (place - 1)) (drop place text.now) }
+fn ends_before(text: &[u8], offset: usize) -> bool
+    requires some { 0 < offset }
+    requires within { offset ≤ length text.now }
+    ensures { result ≡ ends_piece (slice_index text.now (offset - 1)) (drop offset text.now) }
 {
-    text[place - 1] == b'\n' && begins_event(&text[place..])
+    text[offset - 1] == b'\n' && begins_event(&text[offset..])
 }
 
 // How many bytes of a text belong to its first piece, if that ends there: after the last seven it can't be seen.
@@ -29,11 +29,11 @@ pub(crate) fn first_end(text: &[u8]) -> Option<usize>
     ensures { EndsAfter text.now result }
 {
     let last = text.len().saturating_sub(EVENT_LEN);
-    let mut place = 0;
-    while place < last {
-        place += 1;
-        if ends_before(text, place) {
-            return Some(place);
+    let mut offset = 0;
+    while offset < last {
+        offset += 1;
+        if ends_before(text, offset) {
+            return Some(offset);
         }
     }
     None

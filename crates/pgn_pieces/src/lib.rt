@@ -5,8 +5,8 @@
 //! let mut pieces = PgnPieces::open(alloc)?;
 //! while pieces.next(&mut input)? {
 //!     match pieces.text() {
-//!         Some(text) => println!(rt; "{} bytes from byte {} on", text.len(), pieces.place())?,
-//!         None => println!(rt; "too long, from byte {} on", pieces.place())?,
+//!         Some(text) => println!(rt; "{} bytes from byte {} on", text.len(), pieces.offset())?,
+//!         None => println!(rt; "too long, from byte {} on", pieces.offset())?,
 //!     }
 //! }
 //! ```

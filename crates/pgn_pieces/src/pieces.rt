@@ -50,7 +50,7 @@ pub struct PgnPieces {
     // How many bytes of it were let go: none, unless it is too long.
     gone: usize,
     // Where in the input it begins.
-    place: usize,
+    offset: usize,
     // Whether the input has ended.
     ended: bool,
 }
@@ -63,7 +63,7 @@ impl Model for PgnPieces {
     ghost Value = { State };
 
     ghost view = { λ s. record {
-      place = s.place;
+      offset = s.offset;
       part = replicate s.gone 0 ++ take s.len (drop s.at s.held.items);
       coming = drop (s.at + s.len) s.held.items;
       ended = s.ended;
@@ -72,7 +72,7 @@ impl Model for PgnPieces {
     ghost invariant = { λ s. (length s.chunk.items ≡ CHUNK_LEN) × (vec_len s.chunk ≡ CHUNK_LEN)
         × (vec_len s.held ≡ length s.held.items)
         × (s.at + s.len ≤ length s.held.items) × (0 < s.gone → PIECE_LEN < s.gone)
-        × (s.place + s.gone + length s.held.items < s.at + 2 ^ 63) };
+        × (s.offset + s.gone + length s.held.items < s.at + 2 ^ 63) };
 }
 
 impl PgnPieces {
@@ -90,17 +90,17 @@ impl PgnPieces {
             at: 0,
             len: 0,
             gone: 0,
-            place: 0,
+            offset: 0,
             ended: false,
         })
     }
 
     /// Where in the input the piece begins.
-    pub fn place(&self) -> usize
-        ensures value { result ≡ self.now.place }
+    pub fn offset(&self) -> usize
+        ensures value { result ≡ self.now.offset }
         ensures small { result + length self.now.part < 2 ^ 63 }
     {
-        self.place
+        self.offset
     }
 
     /// The piece; `None` where it is too long.
@@ -117,7 +117,7 @@ impl PgnPieces {
     fn pass_piece(&mut self)
         ensures { self.new ≡ past_piece self.old }
     {
-        self.place += self.gone + self.len;
+        self.offset += self.gone + self.len;
         self.at += self.len;
         self.gone = 0;
         self.len = 0;
@@ -179,7 +179,7 @@ impl PgnPieces {
     fn read_more<R: Input>(&mut self, input: &mut R) -> Result<(), PieceFault>
         ensures { Adds self.old self.new (R.seen input.old) (R.seen input.new) result }
     {
-        if self.place + self.gone + (self.held.len() - self.at) > MOST_READ {
+        if self.offset + self.gone + (self.held.len() - self.at) > MOST_READ {
             return Err(PieceFault::InputTooLong);
         }
         if self.held.reserve(CHUNK_LEN).is_err() {
@@ -203,7 +203,7 @@ impl PgnPieces {
     pub fn next<R: Input>(&mut self, input: &mut R) -> Result<bool, PieceFault>
         ensures next { (r : InputState) (text : List ℕ) → IsStateOf self.old r (R.seen input.old) text
             → Next self.old self.new r (R.seen input.new) text result }
-        ensures place { IfOk result (λ _. self.new.place ≡ self.old.place + length self.old.part) }
+        ensures offset { IfOk result (λ _. self.new.offset ≡ self.old.offset + length self.old.part) }
         ensures some { IfOk result (λ more. more ≡ true → 0 < length self.new.part) }
     {
         self.pass_piece();

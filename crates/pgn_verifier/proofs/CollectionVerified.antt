@@ -33,9 +33,9 @@ pub record SoFar (options : VerifyOptions) (r r' : InputState) (w w' : OutputSta
       → pieces_from ended 0 [] (text ++ rest) ≡ done ++ pieces_held ended (past_piece s) rest
   pub took : Took w w' (lines_of options.quiet 1 (reports_of options.strict done))
   pub is : tally ≡ counted none (reports_of options.strict done)
-  pub few : tally.games + tally.faults ≤ 2 * (s.place + length s.part)
-  pub few_moves : tally.half_moves ≤ s.place + length s.part
-  pub small : s.place + length s.part ≤ 2 ^ 63
+  pub few : tally.games + tally.faults ≤ 2 * (s.offset + length s.part)
+  pub few_moves : tally.half_moves ≤ s.offset + length s.part
+  pub small : s.offset + length s.part ≤ 2 ^ 63
 
 pub begun : (options : VerifyOptions) (r : InputState) (w : OutputState) → SoFar options r r w w unread none
 begun options r w = record {
@@ -89,11 +89,11 @@ module _ (options : VerifyOptions) (r r' r'' : InputState) (w w' : OutputState) 
       ∙ ap (λ xs. reports_of options.strict so.done ++ xs) (append-nil (reports_in options.strict (current s')))
 
   pub written_on : (w'' : OutputState) (after : Tally) → Next s s' r r'' so.text (Ok true)
-      → s'.place ≡ s.place + length s.part → 0 < length s'.part → s'.place + length s'.part ≤ 2 ^ 63
+      → s'.offset ≡ s.offset + length s.part → 0 < length s'.part → s'.offset + length s'.part ≤ 2 ^ 63
       → Took w' w'' (lines_of options.quiet (next_number tally) (reports_in options.strict (current s')))
       → after ≡ counted tally (reports_in options.strict (current s')) → GrowsBy (length s'.part) tally after
       → SoFar options r r'' w w'' s' after
-  written_on w'' after next place some small took is grown =
+  written_on w'' after next offset some small took is grown =
       let few = so.few in
       let few_moves = so.few_moves in
       let grown_reports = grown.reports in
@@ -108,8 +108,8 @@ module _ (options : VerifyOptions) (r r' r'' : InputState) (w w' : OutputState) 
         is = is ∙ ap (λ (t : Tally). counted t (reports_in options.strict (current s'))) so.is
             ∙ counted_after none (reports_of options.strict so.done) (reports_in options.strict (current s')) ∙ ap
             (counted none) (sym reports_more);
-        few = omega (arith, few, grown_reports, place, some);
-        few_moves = omega (arith, few_moves, grown_moves, place);
+        few = omega (arith, few, grown_reports, offset, some);
+        few_moves = omega (arith, few_moves, grown_moves, offset);
         small = small;
       }
 

@@ -6,7 +6,7 @@ use Rattle.chess_game.specs.declared.ends.Verdict.{Verdict}
 use Rattle.chess_game.specs.declared.game.TheConstants.{MOST_MOVES}
 use Rattle.chess_pgn.specs.GameRead.{pgn_read}
 use Rattle.chess_pgn.specs.ResultTags.{result_tag_of}
-use Rattle.chess_pgn.specs.laws.Places.{FaultsHavePlaces, HalfMovesHaveBytes}
+use Rattle.chess_pgn.specs.laws.Offsets.{FaultsHaveOffsets, HalfMovesHaveBytes}
 use Rattle.chess_pgn.specs.declared.read.PgnEnd.{PgnEnd}
 use Rattle.chess_pgn.specs.declared.read.PgnFault.{PgnFault}
 use Rattle.chess_pgn.specs.declared.results.ResultTag.{ResultTag}
@@ -22,12 +22,12 @@ either : (P : Option GameFault → Type 0) (t : Bool) (x y : Option GameFault) �
 either P true x y p q = p
 either P false x y p q = q
 
-tag_within : (len : ℕ) (tag : Option ResultTag) (end : PgnEnd) → IfSome tag (λ t. t.place ≤ len)
+tag_within : (len : ℕ) (tag : Option ResultTag) (end : PgnEnd) → IfSome tag (λ t. t.offset ≤ len)
     → InText len (result_differs tag end)
 tag_within len None end h = tt
 tag_within len (Some tag) end h = either (InText len) (is_text_of end.outcome tag.outcome) None _ tt h
 
-board_within : (len : ℕ) (verdict : Option Verdict) (end : PgnEnd) → end.place ≤ len
+board_within : (len : ℕ) (verdict : Option Verdict) (end : PgnEnd) → end.offset ≤ len
     → InText len (board_says_otherwise verdict end)
 board_within len verdict end h = either (InText len) (is_other verdict end.outcome) _ None (omega (arith, h)) tt
 
@@ -37,7 +37,7 @@ first_within len (Some fault) second h k = h
 first_within len None second h k = k
 
 pub within : (len : ℕ) (tag : Option ResultTag) (verdict : Option Verdict) (end : PgnEnd)
-    → IfSome tag (λ t. t.place ≤ len) → end.place ≤ len
+    → IfSome tag (λ t. t.offset ≤ len) → end.offset ≤ len
     → InText len (first_fault (result_differs tag end) (board_says_otherwise verdict end))
 within len tag verdict end h k =
     first_within len (result_differs tag end) (board_says_otherwise verdict end) (tag_within len tag end h)
@@ -46,7 +46,7 @@ within len tag verdict end h k =
 -- the first of the two that were looked for
 pub first_found : (len : ℕ) (tag : Option ResultTag) (verdict : Option Verdict) (end : PgnEnd)
     (one other found : Option GameFault) → one ≡ result_differs tag end → other ≡ board_says_otherwise verdict end
-    → found ≡ first_fault one other → IfSome tag (λ t. t.place ≤ len) → end.place ≤ len → InText len found
+    → found ≡ first_fault one other → IfSome tag (λ t. t.offset ≤ len) → end.offset ≤ len → InText len found
 first_found len tag verdict end one other found p q h in_tag in_end =
     subst (InText len) (sym (h ∙ ap (λ x. first_fault x other) p ∙ ap (first_fault (result_differs tag end)) q))
     (within len tag verdict end in_tag in_end)
@@ -99,13 +99,13 @@ end_judged strict text at old new verdict end found few is says h answer =
 
 pub few_moves : HalfMovesHaveBytes → (text : List ℕ) (at : ℕ) (end : PgnEnd) (moves : ℕ) → at ≤ length text
     → (read_at text at).answer ≡ Ok (Some end) → moves ≡ length (read_at text at).state.moves
-    → moves + at ≤ end.place
+    → moves + at ≤ end.offset
 few_moves law text at end moves within answer is =
-    let h = subst (λ r. IfOk r (λ o. IfSome o (λ e. length (read_at text at).state.moves + at ≤ e.place))) answer
+    let h = subst (λ r. IfOk r (λ o. IfSome o (λ e. length (read_at text at).state.moves + at ≤ e.offset))) answer
     (law MOST_MOVES text at within) in
     omega (arith, h, is)
 
-pub fault_within : FaultsHavePlaces → (text : List ℕ) (at : ℕ) (fault : PgnFault) → at ≤ length text
-    → (read_at text at).answer ≡ Err fault → fault.place ≤ length text
+pub fault_within : FaultsHaveOffsets → (text : List ℕ) (at : ℕ) (fault : PgnFault) → at ≤ length text
+    → (read_at text at).answer ≡ Err fault → fault.offset ≤ length text
 fault_within law text at fault within answer =
-    (subst (λ r. IfErr r (λ f. (at ≤ f.place) × (f.place ≤ length text))) answer (law MOST_MOVES text at within)).1
+    (subst (λ r. IfErr r (λ f. (at ≤ f.offset) × (f.offset ≤ length text))) answer (law MOST_MOVES text at within)).1

@@ -76,10 +76,10 @@ module _ (options : VerifyOptions) (start : ℕ) (text : List ℕ) (before : Tal
       record { reports = omega (arith, few, within); half_moves = omega (arith, moves, within) }
 
   pub game_written : (end : PgnEnd) (plies : ℕ) → judged_at options.strict text at ≡ Ok (Some end)
-      → plies ≡ length (read_at text at).state.moves → plies + at ≤ end.place → at < end.place
-      → end.place ≤ length text
+      → plies ≡ length (read_at text at).state.moves → plies + at ≤ end.offset → at < end.offset
+      → end.offset ≤ length text
       → Took w' w'' (written_line options.quiet (next_number tally) (Game plies end.outcome end.termination))
-      → SoFar options start text before w w'' end.place
+      → SoFar options start text before w w'' end.offset
       (record { games = tally.games + 1; half_moves = tally.half_moves + plies; faults = tally.faults })
       (done ++ Game plies end.outcome end.termination ∷ [])
   game_written end plies h k moves further within took =
@@ -93,7 +93,7 @@ module _ (options : VerifyOptions) (start : ℕ) (text : List ℕ) (before : Tal
       more : (n : ℕ) → length text < at + suc n
           → reports_on options.strict start text ≡ done ++ report_then start (Ok (Some end)) plies
           (λ next. reports_from options.strict start n text next)
-          → SoFar options start text before w w'' end.place
+          → SoFar options start text before w w'' end.offset
           (record { games = tally.games + 1; half_moves = tally.half_moves + plies; faults = tally.faults })
           (done ++ Game plies end.outcome end.termination ∷ [])
       more zero enough longer = absurd (omega (arith, enough, further, within))
@@ -110,7 +110,7 @@ module _ (options : VerifyOptions) (start : ℕ) (text : List ℕ) (before : Tal
             n = m;
             enough = omega (arith, enough, further);
             all = longer
-                ∙ sym (append_assoc done (r ∷ []) (reports_from options.strict start (suc m) text end.place));
+                ∙ sym (append_assoc done (r ∷ []) (reports_from options.strict start (suc m) text end.offset));
           }
 
   pub game_broke : {E : Type 0} (e : E) (end : PgnEnd) (plies : ℕ) → judged_at options.strict text at ≡ Ok (Some end)
@@ -119,7 +119,7 @@ module _ (options : VerifyOptions) (start : ℕ) (text : List ℕ) (before : Tal
       → Writes options.quiet before w w'' (Err e) (reports_on options.strict start text)
   game_broke e end plies h k broke =
       let r = Game plies end.outcome end.termination in
-      let rest = reports_from options.strict start s.n text end.place in
+      let rest = reports_from options.strict start s.n text end.offset in
       subst (λ xs. BreaksOff w w'' (lines_of options.quiet (next_number before) xs))
       (sym (due (Ok (Some end)) plies h k))
       (broke_after options.quiet before tally w w' w'' done s.took s.is (r ∷ rest)

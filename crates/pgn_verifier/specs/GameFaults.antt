@@ -28,12 +28,12 @@ is_text_of outcome (Some denoted) = same_outcome denoted outcome
 abbrev pub result_differs : Option ResultTag → PgnEnd → Option GameFault
 result_differs None end = None
 result_differs (Some tag) end = if is_text_of end.outcome tag.outcome then None
-    else Some (record { kind = ResultDiffers; offset = tag.place })
+    else Some (record { kind = ResultDiffers; offset = tag.offset })
 
 -- the board has a verdict with another outcome than the termination; the offset is the termination's first byte
 abbrev pub board_says_otherwise : Option Verdict → PgnEnd → Option GameFault
 board_says_otherwise verdict end = if is_other verdict end.outcome
-    then Some (record { kind = BoardSaysOtherwise; offset = end.place - length (outcome_text end.outcome) }) else None
+    then Some (record { kind = BoardSaysOtherwise; offset = end.offset - length (outcome_text end.outcome) }) else None
 
 -- the first of two faults, if there is one
 abbrev pub first_fault : Option GameFault → Option GameFault → Option GameFault
@@ -49,7 +49,7 @@ contradiction strict tag verdict end =
 
 -- a fault of a game's text
 abbrev pub pgn_fault : PgnFault → GameFault
-pgn_fault fault = record { kind = Pgn fault.kind; offset = fault.place }
+pgn_fault fault = record { kind = Pgn fault.kind; offset = fault.offset }
 
 -- the fault, if there is one, else the game's end
 abbrev pub unless_fault : Option GameFault → PgnEnd → Result (Option PgnEnd) GameFault

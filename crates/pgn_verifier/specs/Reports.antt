@@ -26,7 +26,7 @@ moved start fault = record { kind = fault.kind; offset = start + fault.offset }
 -- the report on a game with so many half-moves, and then those on the games after its end; a fault is the last
 abbrev pub report_then : ℕ → Result (Option PgnEnd) GameFault → ℕ → (ℕ → List Report) → List Report
 report_then start (Ok None) plies later = []
-report_then start (Ok (Some end)) plies later = Game plies end.outcome end.termination ∷ later end.place
+report_then start (Ok (Some end)) plies later = Game plies end.outcome end.termination ∷ later end.offset
 report_then start (Err fault) plies later = Faulty (moved start fault) ∷ []
 
 -- the reports on the games of a text from an offset on, of which there are no more than n
@@ -49,7 +49,7 @@ reports_by strict start None = Faulty (record { kind = Pgn TooLong; offset = sta
 
 -- the reports on a piece
 abbrev pub reports_in : Bool → Piece → List Report
-reports_in strict piece = reports_by strict piece.place piece.bytes
+reports_in strict piece = reports_by strict piece.offset piece.bytes
 
 -- the reports on pieces: each is read as a text of its own
 abbrev pub reports_of : Bool → List Piece → List Report

@@ -49,7 +49,7 @@ fn verify_piece<W: Output>(
     ensures grown { IfOk result (λ after. GrowsBy (length pieces.now.part) before after) }
     ensures limit { game.new.limit ≡ MOST_MOVES }
 {
-    let start = pieces.place();
+    let start = pieces.offset();
     match pieces.text() {
         Some(text) => verify_text(options, start, text, game, output, before),
         None => {
@@ -87,7 +87,7 @@ fn verify_pieces<R: Input, W: Output>(
             Ok(false) => return Ok(tally),
             Err(fault) => return Err(piece_fault(fault)),
         }
-        let _place = pieces.place();
+        let _place = pieces.offset();
         match verify_piece(options, pieces, game, output, tally) {
             Ok(after) => tally = after,
             Err(_) => return Err(VerifyFault::WriteFailed),

@@ -31,7 +31,7 @@ fn result_differs(tag: Option<ResultTag>, end: PgnEnd) -> Option<GameFault>
     }
     Some(GameFault {
         kind: FaultKind::ResultDiffers,
-        offset: tag.place,
+        offset: tag.offset,
     })
 }
 
@@ -54,7 +54,7 @@ fn board_says_otherwise(verdict: Option<Verdict>, end: PgnEnd) -> Option<GameFau
     }
     Some(GameFault {
         kind: FaultKind::BoardSaysOtherwise,
-        offset: end.place.saturating_sub(end.outcome.text().len()),
+        offset: end.offset.saturating_sub(end.outcome.text().len()),
     })
 }
 
@@ -77,7 +77,7 @@ pub(crate) fn contradiction<B: Board>(
     end: PgnEnd,
 ) -> Option<GameFault>
     requires at { at ≤ length text.now }
-    requires end { end.place ≤ length text.now }
+    requires end { end.offset ≤ length text.now }
     ensures fault { result ≡ contradiction strict (result_tag_of text.now at) (verdict_now game.now.state) end }
     ensures within { IfSome result (λ fault. fault.offset ≤ length text.now) }
 {

@@ -33,7 +33,7 @@ impl GameFault {
     {
         GameFault {
             kind: FaultKind::Pgn(fault.kind),
-            offset: fault.place,
+            offset: fault.offset,
         }
     }
 

@@ -15,7 +15,7 @@ use crate::tally::Tally;
 use byte_devices::{Output, WriteFault};
 use chess_bits::{AttackTables, Bits};
 use chess_game::{Game, MOST_MOVES};
-use chess_pgn::{PgnEnd, faults_have_places, half_moves_have_bytes, read_pgn};
+use chess_pgn::{PgnEnd, faults_have_offsets, half_moves_have_bytes, read_pgn};
 use std::alloc::{AllocError, Global};
 
 // A game with its board, over those tables.
@@ -39,14 +39,14 @@ fn judge_game(
     requires limit { game.old.limit ≡ MOST_MOVES }
     ensures judged { result ≡ judged_at strict text.now at }
     ensures moves { length game.new.state.moves ≡ length (read_at text.now at).state.moves }
-    ensures further { IfOk result (λ end. IfSome end (λ e. at < e.place)) }
-    ensures within { IfOk result (λ end. IfSome end (λ e. e.place ≤ length text.now)) }
-    ensures few { IfOk result (λ end. IfSome end (λ e. length game.new.state.moves + at ≤ e.place)) }
+    ensures further { IfOk result (λ end. IfSome end (λ e. at < e.offset)) }
+    ensures within { IfOk result (λ end. IfSome end (λ e. e.offset ≤ length text.now)) }
+    ensures few { IfOk result (λ end. IfSome end (λ e. length game.new.state.moves + at ≤ e.offset)) }
     ensures fault { IfErr result (λ fault. fault.offset ≤ length text.now) }
     ensures limit { game.new.limit ≡ MOST_MOVES }
 {
     // The prover wants these laws: where faults are, and that a half-move has a byte.
-    faults_have_places();
+    faults_have_offsets();
     half_moves_have_bytes();
     match read_pgn(text, at, game) {
         Ok(None) => Ok(None),
@@ -94,7 +94,7 @@ pub(crate) fn verify_text<W: Output>(
                     Err(fault) => return Err(fault),
                 }
                 tally = tally.with_game(plies);
-                at = end.place;
+                at = end.offset;
             }
             Err(fault) => {
                 let report = Report::Faulty(fault.moved(start));

@@ -27,8 +27,8 @@ normal_further_lines start termination =
 -- ---- read
 
 abbrev pub normal_tag_step : SoFar → List ℕ → List ℕ → ℕ → Step
-normal_tag_step g name text place =
-    if bytes_eq name (codes "FEN") then fen_step g place (fen_reading text)
+normal_tag_step g name text offset =
+    if bytes_eq name (codes "FEN") then fen_step g offset (fen_reading text)
     else On (record {
       state = g.state;
       is_met = true;

@@ -23,9 +23,9 @@ pub record IsReadBack (s : State) (termination : Termination) (text_end : ℕ) (
   pub start : r.state.start ≡ s.start
   pub moves : r.state.moves ≡ s.moves
   pub outcome : outcome_now r.state ≡ outcome_now s
-  pub place : ℕ
-  pub answer : r.answer ≡ Ok (Some (record { outcome = outcome_now s; termination = Some termination; place = place }))
-  pub behind : place + 2 ≡ text_end
+  pub offset : ℕ
+  pub answer : r.answer ≡ Ok (Some (record { outcome = outcome_now s; termination = Some termination; offset = offset }))
+  pub behind : offset + 2 ≡ text_end
 
 -- the text of a game that the limit admits is read back at its offset, whatever is before and after it
 abbrev pub PgnIsReadBack : Type 0

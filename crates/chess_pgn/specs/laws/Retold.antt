@@ -165,7 +165,7 @@ word_fault limit s word Marks = None
 word_fault limit s word Move = move_fault limit s (reading (current s) word)
 
 abbrev pub fault_at : ℕ → Option PgnFaultKind → Option PgnFault
-fault_at place kind = option_map (λ k. record { kind = k; place = place }) kind
+fault_at offset kind = option_map (λ k. record { kind = k; offset = offset }) kind
 
 -- in a game of that variant, begun or not, at a token with so many bytes left of so many
 abbrev pub token_fault : ℕ → ℕ → Variant → Bool → State → ℕ → Token → Option PgnFault
@@ -188,12 +188,12 @@ abbrev pub StopsAt : ℕ → ℕ → Variant → List (ℕ × Token) → List (�
 StopsAt limit total v taken [] s (Ok None) = (s.declared ≡ None) × (list_any (λ t. counts t.1) taken ≡ false)
 StopsAt limit total v taken [] s (Ok (Some e)) = ⊥
 StopsAt limit total v taken [] s (Err f) =
-    (s.declared ≡ None) × (list_any (λ t. counts t.1) taken ≡ true) × (f ≡ record { kind = NoResult; place = total })
+    (s.declared ≡ None) × (list_any (λ t. counts t.1) taken ≡ true) × (f ≡ record { kind = NoResult; offset = total })
 StopsAt limit total v taken (t ∷ ts) s (Ok None) = ⊥
 StopsAt limit total v taken (t ∷ ts) s (Ok (Some e)) =
     (word : List ℕ) × (t.1 ≡ Word word) × (kind_of word ≡ End e.outcome)
     × (s.declared ≡ declared_behind (is_some (verdict_now s)) e.outcome)
-    × (e.termination ≡ termination_told None taken) × (e.place ≡ total - t.0 + length word)
+    × (e.termination ≡ termination_told None taken) × (e.offset ≡ total - t.0 + length word)
 StopsAt limit total v taken (t ∷ ts) s (Err f) =
     (s.declared ≡ None) × (token_fault limit total v (list_any (λ u. begins u.1) taken) s t.0 t.1 ≡ Some f)
 

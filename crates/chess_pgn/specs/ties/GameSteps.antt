@@ -21,7 +21,7 @@ step_seen s (Err fault) = Stop (record { state = s; answer = Err fault })
 -- a game that ended did so after the first offset, and not after the last
 abbrev pub EndsIn : ℕ → ℕ → Result code.Step PgnFault → Type 0
 EndsIn first last (Ok (does.On p)) = Unit {0}
-EndsIn first last (Ok (does.Ended end)) = (first < end.place) × (end.place ≤ last)
+EndsIn first last (Ok (does.Ended end)) = (first < end.offset) × (end.offset ≤ last)
 EndsIn first last (Err fault) = Unit {0}
 
 -- the offsets that a token gives are in the text: so many bytes are left where it begins
@@ -43,7 +43,7 @@ ReadsAlike text a b = (limit : ℕ) (g : SoFar)
 pub record IsReadOn (limit : ℕ) (text : List ℕ) (from : ℕ) (game : Seen) (progress : Progress) (here : ℕ)
     : Type 0 where
   pub behind : from ≤ here
-  pub place : here ≤ length text
+  pub offset : here ≤ length text
   pub undeclared : game.state.declared ≡ None
   pub whole : game_of limit (length text) (so_far game.state progress) (tokens_from text here)
       ≡ tokens_read limit (length text) (tokens_from text from)

@@ -9,7 +9,7 @@ use Rattle.pgn_pieces.specs.Stream.{State, past_piece, current, pieces_from, pie
 -- the first so many of the bytes that are held after the piece come to it
 abbrev pub passed : ℕ → State → State
 passed n s =
-    record { place = s.place; part = s.part ++ take n s.coming; coming = drop n s.coming; ended = s.ended }
+    record { offset = s.offset; part = s.part ++ take n s.coming; coming = drop n s.coming; ended = s.ended }
 
 -- however the text goes on, the pieces are the same
 abbrev pub SamePieces : State → State → Type 0
@@ -23,17 +23,17 @@ IsNext s s' = (ended : Bool) (rest : List ℕ)
 -- the first so many bytes of a text belong to its piece, which ends there; or all but the last seven do, and it goes on
 abbrev pub EndsAfter : List ℕ → Option ℕ → Type 0
 EndsAfter text (Some n) = (0 < n) × (n ≤ length text)
-    × ((ended : Bool) (place : ℕ) (part rest : List ℕ)
-    → pieces_from ended place part (text ++ rest)
-    ≡ piece_at place (part ++ take n text)
-    ∷ pieces_from ended (place + length (part ++ take n text)) [] (drop n text ++ rest))
-EndsAfter text None = (ended : Bool) (place : ℕ) (part rest : List ℕ)
-    → pieces_from ended place part (text ++ rest)
-    ≡ pieces_from ended place (part ++ take (length text - 7) text) (drop (length text - 7) text ++ rest)
+    × ((ended : Bool) (offset : ℕ) (part rest : List ℕ)
+    → pieces_from ended offset part (text ++ rest)
+    ≡ piece_at offset (part ++ take n text)
+    ∷ pieces_from ended (offset + length (part ++ take n text)) [] (drop n text ++ rest))
+EndsAfter text None = (ended : Bool) (offset : ℕ) (part rest : List ℕ)
+    → pieces_from ended offset part (text ++ rest)
+    ≡ pieces_from ended offset (part ++ take (length text - 7) text) (drop (length text - 7) text ++ rest)
 
 -- the piece begins where it began, and as many bytes are held
 pub record Keeps (s s' : State) : Type 0 where
-  pub place : s'.place ≡ s.place
+  pub offset : s'.offset ≡ s.offset
   pub ended : s'.ended ≡ s.ended
   pub all : length s'.part + length s'.coming ≡ length s.part + length s.coming
 
@@ -45,7 +45,7 @@ FindsEnd s s' false = Keeps s s' × SamePieces s s' × (length s'.coming ≤ 7)
 -- these bytes are held after the others; none where the input has ended
 abbrev pub with_more : List ℕ → State → State
 with_more more s =
-    record { place = s.place; part = s.part; coming = s.coming ++ more; ended = length more == 0 }
+    record { offset = s.offset; part = s.part; coming = s.coming ++ more; ended = length more == 0 }
 
 -- a read gave bytes, or there was none
 abbrev pub Adds : {A : Type 0} → State → State → InputState → InputState → Result A PieceFault → Type 0
@@ -53,4 +53,4 @@ Adds s s' r r' (Ok _) = (more : List ℕ) × GavePiece r r' more × (s' ≡ with
 Adds s s' r r' (Err ReadFailed) = FailedToRead r r' × (s' ≡ s)
 Adds s s' r r' (Err NoMemory) = (r' ≡ r) × (s' ≡ s)
 Adds s s' r r' (Err InputTooLong) = (r' ≡ r) × (s' ≡ s)
-    × (2 ^ 63 ≤ s.place + (length s.part + length s.coming) + 2 ^ 16)
+    × (2 ^ 63 ≤ s.offset + (length s.part + length s.coming) + 2 ^ 16)

@@ -4,11 +4,11 @@ use Rattle.std.proofs.Common.{sym, ◌∙◌, arith}
 use Rattle.chess_pgn.proofs.GameReads.{passed}
 use Rattle.chess_pgn.proofs.read.behind_blanks.Goals as goal
 
-pub loop-place-preserved : goal.loop-place-preserved
-loop-place-preserved c =
-    let behind = c.loop-place.invariant.behind in
+pub loop-offset-preserved : goal.loop-offset-preserved
+loop-offset-preserved c =
+    let behind = c.loop-offset.invariant.behind in
     record {
-      alike = passed c.args.text.now c.args.at c.loop-place.place c.loop-place.invariant.alike c.loop-place-test.true
+      alike = passed c.args.text.now c.args.at c.loop-offset.offset c.loop-offset.invariant.alike c.loop-offset-test.true
           (sym c.is_passed.ensures ∙ c.if-is_passed.true);
       behind = omega (arith, behind);
       within = omega arith;

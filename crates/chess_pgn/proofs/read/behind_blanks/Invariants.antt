@@ -3,12 +3,12 @@ use Rattle.chess_pgn.specs.ties.GameSteps.{ReadsAlike}
 use Rattle.chess_pgn.proofs.read.behind_blanks.Given as goal
 
 -- so far a game is read alike
-abbrev pub invariant-loop-place : goal.invariant-loop-place
-invariant-loop-place l = record {
-  alike : ReadsAlike l.text l.at l.place;
-  behind : l.at ≤ l.place;
-  within : l.place ≤ length l.text;
+abbrev pub invariant-loop-offset : goal.invariant-loop-offset
+invariant-loop-offset l = record {
+  alike : ReadsAlike l.text l.at l.offset;
+  behind : l.at ≤ l.offset;
+  within : l.offset ≤ length l.text;
 }
 
-abbrev pub decreases-loop-place : goal.decreases-loop-place
-decreases-loop-place l = length l.text - l.place
+abbrev pub decreases-loop-offset : goal.decreases-loop-offset
+decreases-loop-offset l = length l.text - l.offset

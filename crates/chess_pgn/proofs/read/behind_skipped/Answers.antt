@@ -7,9 +7,9 @@ pub loop-behind-preserved : goal.loop-behind-preserved
 loop-behind-preserved c =
     let before = c.loop-behind.invariant in
     let comment = c.in-Some.ensures in
-    let blanks = c.behind_blanks-place.ensures in
+    let blanks = c.behind_blanks-offset.ensures in
     record {
-      alike = alike_on c.args.text.now c.args.at c.loop-behind.place c.in-Some.behind c.behind_blanks-place.result
+      alike = alike_on c.args.text.now c.args.at c.loop-behind.offset c.in-Some.behind c.behind_blanks-offset.result
           before.alike comment.0 blanks.alike;
       behind = omega (arith, before.behind, comment.1, blanks.behind);
       within = blanks.within;

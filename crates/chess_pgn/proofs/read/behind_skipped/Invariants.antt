@@ -5,10 +5,10 @@ use Rattle.chess_pgn.proofs.read.behind_skipped.Given as goal
 -- so far a game is read alike
 abbrev pub invariant-loop-behind : goal.invariant-loop-behind
 invariant-loop-behind l = record {
-  alike : ReadsAlike l.text l.at l.place;
-  behind : l.at ≤ l.place;
-  within : l.place ≤ length l.text;
+  alike : ReadsAlike l.text l.at l.offset;
+  behind : l.at ≤ l.offset;
+  within : l.offset ≤ length l.text;
 }
 
 abbrev pub decreases-loop-behind : goal.decreases-loop-behind
-decreases-loop-behind l = length l.text - l.place
+decreases-loop-behind l = length l.text - l.offset

@@ -10,5 +10,5 @@ loop-token-init g c =
 
 pub read_token-requires-clause-within : goal.read_token-requires-clause-within
 read_token-requires-clause-within g c =
-    token_within c.args.text.now c.loop-token.place (token_seen c.in-Ok-Some.token) _
-    c.loop-token.invariant.tells.place (rw c.in-Ok-Some.field-0-is at c.in-Ok-Some.ensures).0
+    token_within c.args.text.now c.loop-token.offset (token_seen c.in-Ok-Some.token) _
+    c.loop-token.invariant.tells.offset (rw c.in-Ok-Some.field-0-is at c.in-Ok-Some.ensures).0

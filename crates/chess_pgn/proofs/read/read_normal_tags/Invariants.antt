@@ -3,7 +3,7 @@ use Rattle.chess_pgn.proofs.GameReads.{ReadsNormal}
 use Rattle.chess_pgn.proofs.read.read_normal_tags.Given as goal
 
 abbrev pub invariant-loop-token : goal.invariant-loop-token
-invariant-loop-token g l = ReadsNormal l.fn.game.limit l.text l.at l.game l.progress l.place
+invariant-loop-token g l = ReadsNormal l.fn.game.limit l.text l.at l.game l.progress l.offset
 
 abbrev pub decreases-loop-token : goal.decreases-loop-token
-decreases-loop-token g l = length l.text - l.place
+decreases-loop-token g l = length l.text - l.offset

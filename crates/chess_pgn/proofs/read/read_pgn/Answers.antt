@@ -9,7 +9,7 @@ use Rattle.chess_pgn.proofs.read.read_pgn.Goals as goal
 
 pub read_token-requires-clause-within : goal.read_token-requires-clause-within
 read_token-requires-clause-within g c =
-    token_within c.args.text.now c.loop-token.place (token_seen c.in-Ok-Some.token) _ c.loop-token.invariant.place
+    token_within c.args.text.now c.loop-token.offset (token_seen c.in-Ok-Some.token) _ c.loop-token.invariant.offset
     (rw c.in-Ok-Some.field-0-is at c.in-Ok-Some.ensures).0
 
 pub loop-token-preserved : goal.loop-token-preserved
@@ -17,15 +17,15 @@ loop-token-preserved g c =
     let next = rw c.in-Ok-Some.field-0-is at c.in-Ok-Some.ensures in
     let step_is = rw c.in-On.is at c.in_ok-further-in-Ok-Some.ensures.step in
     let before = more c.args.game.now.limit c.args.text.now c.args.at c.loop-token.game c.read_token.new.game
-    c.loop-token.progress c.in-On.further c.loop-token.place c.in-Ok-Some.behind (token_seen c.in-Ok-Some.token)
+    c.loop-token.progress c.in-On.further c.loop-token.offset c.in-Ok-Some.behind (token_seen c.in-Ok-Some.token)
     c.loop-token.invariant next.0 next.1 next.2 c.read_token.ensures.limit step_is in
     alike c.args.game.now.limit c.args.text.now c.args.at c.read_token.new.game c.in-On.further c.in-Ok-Some.behind
-    c.behind_skipped-place.result before c.behind_skipped-place.ensures.alike c.behind_skipped-place.ensures.behind
-    c.behind_skipped-place.ensures.within
+    c.behind_skipped-offset.result before c.behind_skipped-offset.ensures.alike c.behind_skipped-offset.ensures.behind
+    c.behind_skipped-offset.ensures.within
 
 pub told_fault-requires-clause-within : goal.told_fault-requires-clause-within
 told_fault-requires-clause-within g c =
-    token_within c.args.text.now c.loop-token.place (fault_seen c.in-Err.fault) _ c.loop-token.invariant.place
+    token_within c.args.text.now c.loop-token.offset (fault_seen c.in-Err.fault) _ c.loop-token.invariant.offset
     c.in-Err.ensures
 
 pub returns-in_err-further-in-Ok-Some-clause-undeclared : goal.returns-in_err-further-in-Ok-Some-clause-undeclared

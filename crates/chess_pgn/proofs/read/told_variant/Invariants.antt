@@ -3,7 +3,7 @@ use Rattle.chess_pgn.proofs.GameReads.{Tells}
 use Rattle.chess_pgn.proofs.read.told_variant.Given as goal
 
 abbrev pub invariant-loop-token : goal.invariant-loop-token
-invariant-loop-token l = Tells l.text l.at l.variant l.place
+invariant-loop-token l = Tells l.text l.at l.variant l.offset
 
 abbrev pub decreases-loop-token : goal.decreases-loop-token
-decreases-loop-token l = length l.text - l.place
+decreases-loop-token l = length l.text - l.offset

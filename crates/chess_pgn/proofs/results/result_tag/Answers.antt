@@ -6,7 +6,7 @@ use Rattle.chess_pgn.proofs.results.result_tag.Goals as goal
 
 pub result_after-last-requires : goal.result_after-last-requires
 result_after-last-requires c = record {
-  within = fewer _ c.loop-token.place (token_seen c.in-Ok-Some.token)
-      (token_within c.args.text.now c.loop-token.place (token_seen c.in-Ok-Some.token) _ c.loop-token.invariant.place
+  within = fewer _ c.loop-token.offset (token_seen c.in-Ok-Some.token)
+      (token_within c.args.text.now c.loop-token.offset (token_seen c.in-Ok-Some.token) _ c.loop-token.invariant.offset
       (rw c.in-Ok-Some.field-0-is at c.in-Ok-Some.ensures).0);
 }

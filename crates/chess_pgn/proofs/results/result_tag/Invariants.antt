@@ -4,7 +4,7 @@ use Rattle.chess_pgn.specs.Tokens.{first_place}
 use Rattle.chess_pgn.proofs.results.result_tag.Given as goal
 
 abbrev pub invariant-loop-token : goal.invariant-loop-token
-invariant-loop-token l = Reads l.text (first_place l.text l.at) l.last l.place
+invariant-loop-token l = Reads l.text (first_place l.text l.at) l.last l.offset
 
 abbrev pub decreases-loop-token : goal.decreases-loop-token
-decreases-loop-token l = length l.text - l.place
+decreases-loop-token l = length l.text - l.offset

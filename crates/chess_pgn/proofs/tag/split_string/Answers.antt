@@ -6,28 +6,28 @@ use Rattle.chess_pgn.proofs.Strings.{onto-nil, place_line, place_quote, place_ke
 use Rattle.chess_pgn.proofs.tag.split_string.Goals as goal
 use Rattle.chess_pgn.proofs.tag.split_string.Goals.{then-is_kept, else-is_kept+else-byte-eq34}
 
-pub loop-place-init : goal.loop-place-init
-loop-place-init c = onto-nil (string_at c.args.text.now)
+pub loop-offset-init : goal.loop-offset-init
+loop-offset-init c = onto-nil (string_at c.args.text.now)
 
 pub returns-then-byte-eq10 : goal.returns-then-byte-eq10
 returns-then-byte-eq10 c =
     let text = c.args.text.now in
-    sym (place_line text c.loop-place.place c.loop-place.is_kept c.loop-place-test.true c.if-byte-eq10.true)
-    ∙ c.loop-place.invariant
+    sym (place_line text c.loop-offset.offset c.loop-offset.is_kept c.loop-offset-test.true c.if-byte-eq10.true)
+    ∙ c.loop-offset.invariant
 
 pub returns-then-byte-eq34 : goal.returns-then-byte-eq34
 returns-then-byte-eq34 c =
     let text = c.args.text.now in
-    sym (place_quote text c.loop-place.place c.loop-place.is_kept c.loop-place-test.true c.if-is_kept.false
-    c.if-byte-eq34.true) ∙ c.loop-place.invariant
+    sym (place_quote text c.loop-offset.offset c.loop-offset.is_kept c.loop-offset-test.true c.if-is_kept.false
+    c.if-byte-eq34.true) ∙ c.loop-offset.invariant
 
-pub loop-place-preserved : goal.loop-place-preserved
-loop-place-preserved c =
+pub loop-offset-preserved : goal.loop-offset-preserved
+loop-offset-preserved c =
     let text = c.args.text.now in
     elim c.if-is_kept.branch [
-      | then-is_kept w ↦ place_kept text c.loop-place.place c.loop-place.is_kept c.if-is_kept.is_kept
-          c.loop-place-test.true w.if-is_kept.true w.is_kept-is c.if-byte-eq10.false ∙ c.loop-place.invariant
-      | else-is_kept+else-byte-eq34 w ↦ place_other text c.loop-place.place c.loop-place.is_kept c.if-is_kept.is_kept
-          c.loop-place-test.true w.if-is_kept.false w.is_kept-is c.if-byte-eq10.false w.if-byte-eq34.false
-          ∙ c.loop-place.invariant
+      | then-is_kept w ↦ place_kept text c.loop-offset.offset c.loop-offset.is_kept c.if-is_kept.is_kept
+          c.loop-offset-test.true w.if-is_kept.true w.is_kept-is c.if-byte-eq10.false ∙ c.loop-offset.invariant
+      | else-is_kept+else-byte-eq34 w ↦ place_other text c.loop-offset.offset c.loop-offset.is_kept c.if-is_kept.is_kept
+          c.loop-offset-test.true w.if-is_kept.false w.is_kept-is c.if-byte-eq10.false w.if-byte-eq34.false
+          ∙ c.loop-offset.invariant
     ]

@@ -14,17 +14,17 @@ pub returns-then-ends_before : goal.returns-then-ends_before
 returns-then-ends_before c = (
   omega arith,
   omega arith,
-  λ ended place part rest.
-      c.loop-place.invariant.same ended place part rest
-      ∙ ends c.args.text.now c.loop-place.place (omega arith)
-      (tested c.args.text.now c.loop-place.place _ _ c.ends_before.ensures c.if-ends_before.true) ended place part rest,
+  λ ended offset part rest.
+      c.loop-offset.invariant.same ended offset part rest
+      ∙ ends c.args.text.now c.loop-offset.offset (omega arith)
+      (tested c.args.text.now c.loop-offset.offset _ _ c.ends_before.ensures c.if-ends_before.true) ended offset part rest,
 )
 
-pub loop-place-preserved : goal.loop-place-preserved
-loop-place-preserved c = record {
+pub loop-offset-preserved : goal.loop-offset-preserved
+loop-offset-preserved c = record {
   within = omega arith;
-  same = λ ended place part rest.
-      c.loop-place.invariant.same ended place part rest
-      ∙ passes c.args.text.now c.loop-place.place (omega arith)
-      (tested c.args.text.now c.loop-place.place _ _ c.ends_before.ensures c.if-ends_before.false) ended place part rest;
+  same = λ ended offset part rest.
+      c.loop-offset.invariant.same ended offset part rest
+      ∙ passes c.args.text.now c.loop-offset.offset (omega arith)
+      (tested c.args.text.now c.loop-offset.offset _ _ c.ends_before.ensures c.if-ends_before.false) ended offset part rest;
 }

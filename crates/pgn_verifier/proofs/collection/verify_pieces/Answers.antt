@@ -21,24 +21,24 @@ loop-fault-init g c = (
 pub verify_piece-requires-clause-reports : goal.verify_piece-requires-clause-reports
 verify_piece-requires-clause-reports g c =
     let few = c.loop-fault.invariant.1.few in
-    let place = c.in-Ok-true.ensures.place in
+    let offset = c.in-Ok-true.ensures.offset in
     let some = c.in-Ok-true.ensures.some c.in-Ok-true.field-0-test in
-    let value = c.place-place.ensures.value in
-    let small = c.place-place.ensures.small in
-    omega (arith, few, place, some, value, small)
+    let value = c.offset-offset.ensures.value in
+    let small = c.offset-offset.ensures.small in
+    omega (arith, few, offset, some, value, small)
 
 pub loop-fault-preserved : goal.loop-fault-preserved
 loop-fault-preserved g c =
     let so = c.loop-fault.invariant.1 in
     let r = g.R.Input.seen c.args.input.now in
     let next = rw c.in-Ok-true.field-0-test at (c.in-Ok-true.ensures.next r so.text so.stands) in
-    let value = c.place-place.ensures.value in
-    let small = c.place-place.ensures.small in (
+    let value = c.offset-offset.ensures.value in
+    let small = c.offset-offset.ensures.small in (
       c.in-Ok.ensures.limit,
       written_on c.args.options r (g.R.Input.seen c.loop-fault.input) (g.R.Input.seen c.next.new.input)
           (g.W.Output.seen c.args.output.now) (g.W.Output.seen c.loop-fault.output) c.loop-fault.pieces c.next.new.self
           c.loop-fault.tally so (g.W.Output.seen c.verify_piece.new.output) c.in-Ok.after next
-          c.in-Ok-true.ensures.place
+          c.in-Ok-true.ensures.offset
           (c.in-Ok-true.ensures.some c.in-Ok-true.field-0-test) (omega (arith, value, small)) c.in-Ok.ensures.written.0
           c.in-Ok.ensures.written.1 c.in-Ok.ensures.grown,
     )

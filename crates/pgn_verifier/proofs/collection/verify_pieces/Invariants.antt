@@ -10,4 +10,4 @@ invariant-loop-fault g l = (l.game.limit ≡ MOST_MOVES)
     (g.W.Output.seen l.output) l.pieces l.tally
 
 abbrev pub decreases-loop-fault : goal.decreases-loop-fault
-decreases-loop-fault g l = 2 ^ 63 - (l.pieces.place + length l.pieces.part)
+decreases-loop-fault g l = 2 ^ 63 - (l.pieces.offset + length l.pieces.part)

@@ -67,6 +67,6 @@ returns-in-Err-clause-moves c = moves_are c.args.text.now c.args.at c.args.game.
 pub returns-in-Err-clause-fault : goal.returns-in-Err-clause-fault
 returns-in-Err-clause-fault c =
     subst (λ (f : GameFault). f.offset ≤ length c.args.text.now) (sym c.of_pgn.ensures)
-    (fault_within c.faults_have_places.ensures c.args.text.now c.args.at c.in-Err.fault c.requires.at
+    (fault_within c.faults_have_offsets.ensures c.args.text.now c.args.at c.in-Err.fault c.requires.at
     (answered c.args.game.now.limit c.args.text.now c.args.at (Err c.in-Err.fault) c.requires.limit
     c.in-Err.ensures.answer))

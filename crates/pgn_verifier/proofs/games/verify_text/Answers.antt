@@ -47,13 +47,13 @@ loop-end-preserved g c =
     let further = rw c.in-Ok-Some.field-0-is at c.in-Ok-Some.ensures.further in
     let within = rw c.in-Ok-Some.field-0-is at c.in-Ok-Some.ensures.within in
     let few = rw c.in-Ok-Some.field-0-is at c.in-Ok-Some.ensures.few in
-    let moves : plies + c.loop-end.at ≤ end.place = omega (arith, few, counted) in
+    let moves : plies + c.loop-end.at ≤ end.offset = omega (arith, few, counted) in
     let done = c.loop-end.invariant.1.0 ++ Game plies end.outcome end.termination ∷ [] in (
       c.in-Ok-Some.ensures.limit,
       (
         done,
         subst (λ (t : Tally). SoFar c.args.options c.args.start c.args.text.now c.args.before
-            (g.W.Output.seen c.args.output.now) (g.W.Output.seen c.write_line.new.output) end.place t done)
+            (g.W.Output.seen c.args.output.now) (g.W.Output.seen c.write_line.new.output) end.offset t done)
             (sym c.with_game-tally.ensures)
             (game_written c.args.options c.args.start c.args.text.now c.args.before (g.W.Output.seen c.args.output.now)
             (g.W.Output.seen c.loop-end.output) (g.W.Output.seen c.write_line.new.output) c.loop-end.at c.loop-end.tally

@@ -15,4 +15,4 @@ returns-then-self-gt0-clause-same c ended rest =
       | then-self-gt0-via-else-self-gt0+then-self-gt-PIECE_LEN w ↦ omega arith
     ] in
     ap (λ (t : State). pieces_held ended t rest) (sym c.self.view_is)
-    ∙ let_gone s.held.items s.at s.len s.gone s.place s.ended ended rest within many
+    ∙ let_gone s.held.items s.at s.len s.gone s.offset s.ended ended rest within many

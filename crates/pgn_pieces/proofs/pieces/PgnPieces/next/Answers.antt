@@ -32,7 +32,7 @@ loop-self-preserved g c =
           (sym is) (looked_on s s1 s2 s3 (g.R.Input.seen c.args.input.now) (g.R.Input.seen c.loop-self.input)
           (g.R.Input.seen c.read_more.new.input) gave c.loop-self.invariant.looked (sym kept.ended ∙ going)
           c.if-find_end.ensures c.let_go.ensures.same kept' c.in-Ok.ensures.1);
-      begins = ap (λ (t : State). t.place) is ∙ kept'.place ∙ kept.place ∙ c.loop-self.invariant.begins;
+      begins = ap (λ (t : State). t.offset) is ∙ kept'.offset ∙ kept.offset ∙ c.loop-self.invariant.begins;
     }
 
 pub returns-in-Err-clause-next : goal.returns-in-Err-clause-next

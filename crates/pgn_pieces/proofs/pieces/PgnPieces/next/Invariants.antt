@@ -6,7 +6,7 @@ use Rattle.pgn_pieces.proofs.pieces.PgnPieces.next.Given as goal
 abbrev pub invariant-loop-self : goal.invariant-loop-self
 invariant-loop-self g l = record {
   looked : Looked l.fn.self l.self (g.R.Input.seen l.fn.input) (g.R.Input.seen l.input);
-  begins : l.self.place ≡ l.fn.self.place + length l.fn.self.part;
+  begins : l.self.offset ≡ l.fn.self.offset + length l.fn.self.part;
 }
 
 abbrev pub decreases-loop-self : goal.decreases-loop-self

@@ -12,6 +12,6 @@ returns-clause-state c =
     let rest = length-drop (s.at + s.len) s.held.items in
     let n = length (drop (s.at + s.len) s.held.items) in
     let all : c.len.result - s.at ≡ s.len + n = omega (arith, rest, within) in
-    ap (λ k. viewed s.held.items s.at k s.gone s.place s.ended) all
-    ∙ passed_on s.held.items s.at s.len n s.gone s.place s.ended
+    ap (λ k. viewed s.held.items s.at k s.gone s.offset s.ended) all
+    ∙ passed_on s.held.items s.at s.len n s.gone s.offset s.ended
     ∙ ap (λ (t : State). passed (length t.coming) t) c.self.view_is

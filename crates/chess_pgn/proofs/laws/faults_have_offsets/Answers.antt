@@ -1,5 +1,5 @@
 use Rattle.chess_pgn.proofs.FaultPlaces.{fault_in_place}
-use Rattle.chess_pgn.proofs.laws.faults_have_places.Goals as goal
+use Rattle.chess_pgn.proofs.laws.faults_have_offsets.Goals as goal
 
 pub returns : goal.returns
 returns c = fault_in_place
