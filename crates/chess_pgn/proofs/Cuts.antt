@@ -4,7 +4,7 @@ use Rattle.std.specs.Prelude.{◌&&◌, ◌||◌}
 use Rattle.std.specs.List.{prefix_len, take_while}
 use Rattle.std.proofs.lemmas.Bool.Decides.{nat_tests}
 use Rattle.std.proofs.lemmas.List.{take-append-drop}
-use Rattle.chess_pgn.specs.Tokens.{Token, Plain, Brace, Line, Inside, is_white_space, is_word_byte, is_name_byte, behind_brace, behind_gap, string_at, onto, behind_byte, behind_next, closed, with_text, with_string, with_name, tag_at, variation_at, comment_at, token_at}
+use Rattle.chess_pgn.specs.Tokens.{Token, Plain, Brace, Line, Inside, is_white_space, is_word_byte, is_name_byte, after_brace, after_gap, string_at, onto, after_byte, after_next, closed, with_text, with_string, with_name, tag_at, variation_at, comment_at, token_at}
 use Rattle.chess_base.specs.Letters.{is_digit}
 
 -- the rest of a text after a byte other than 10
@@ -58,10 +58,10 @@ run_cut p ten c (d ∷ rest) e = by_test (p d) refl (λ k. run_cut p ten d rest 
         rw next (cut_more c (d ∷ rest) (drop (prefix_len p rest) rest) (more (passes_no_ten p ten d k)))
     by_test false k more = cut_here c (d ∷ rest) e
 
-pub brace_cut : (text : List ℕ) → IfSome (behind_brace text) (Cut text)
+pub brace_cut : (text : List ℕ) → IfSome (after_brace text) (Cut text)
 brace_cut [] = tt
-brace_cut (c ∷ rest) = pick (λ o. IfSome o (Cut (c ∷ rest))) (eqb c 125) (Some rest) (behind_brace rest)
-    (λ e. cut_here c rest (grind (arith, nat_tests, e))) (λ e. more (behind_brace rest) (brace_cut rest))
+brace_cut (c ∷ rest) = pick (λ o. IfSome o (Cut (c ∷ rest))) (eqb c 125) (Some rest) (after_brace rest)
+    (λ e. cut_here c rest (grind (arith, nat_tests, e))) (λ e. more (after_brace rest) (brace_cut rest))
   where
     more : (o : Option (List ℕ)) → IfSome o (Cut rest) → IfSome o (Cut (c ∷ rest))
     more None h = tt
@@ -136,7 +136,7 @@ cut_suffix text rest k = record {
   is = k.is ∙ sym (append_assoc k.front (k.last ∷ []) rest);
 }
 
-pub gap_suffix : (skips begins : Bool) (text : List ℕ) → Suffix text (behind_gap skips begins text)
+pub gap_suffix : (skips begins : Bool) (text : List ℕ) → Suffix text (after_gap skips begins text)
 gap_suffix skips begins [] = suffix_all []
 gap_suffix true begins (c ∷ rest) = suffix_more c rest _ (gap_suffix (not (eqb c 10)) true rest)
 gap_suffix false begins (c ∷ rest) =
@@ -171,17 +171,17 @@ string_suffix (c ∷ d ∷ rest) =
     onto_suffix (c ∷ []) (d ∷ rest) c (string_at (d ∷ rest)) (string_suffix (d ∷ rest)))))
 
 -- after a byte other than 10
-byte_cut : (b : ℕ) (text : List ℕ) → eqb b 10 ≡ false → IfSome (behind_byte b text) (Cut text)
+byte_cut : (b : ℕ) (text : List ℕ) → eqb b 10 ≡ false → IfSome (after_byte b text) (Cut text)
 byte_cut b [] e = tt
 byte_cut b (c ∷ rest) e = pick (λ (o : Option (List ℕ)). IfSome o (Cut (c ∷ rest))) (eqb c b) _ _
     (λ k. cut_here c rest (grind (arith, nat_tests, e, k))) (λ _. tt)
 
-pub next_cut : (b : ℕ) (text : List ℕ) → eqb b 10 ≡ false → IfSome (behind_next b text) (Cut text)
-next_cut b text e = by_option (behind_next b text) (byte_cut b (behind_gap false false text) e)
+pub next_cut : (b : ℕ) (text : List ℕ) → eqb b 10 ≡ false → IfSome (after_next b text) (Cut text)
+next_cut b text e = by_option (after_next b text) (byte_cut b (after_gap false false text) e)
   where
-    by_option : (o : Option (List ℕ)) → IfSome o (Cut (behind_gap false false text)) → IfSome o (Cut text)
+    by_option : (o : Option (List ℕ)) → IfSome o (Cut (after_gap false false text)) → IfSome o (Cut text)
     by_option None h = tt
-    by_option (Some rest) h = suffix_cut text (behind_gap false false text) rest (gap_suffix false false text) h
+    by_option (Some rest) h = suffix_cut text (after_gap false false text) rest (gap_suffix false false text) h
 
 closed_left : (name text from : List ℕ) (left : ℕ) (o : Option (List ℕ)) → IfSome o (Cut from)
     → LeavesOf from (closed name left text o)
@@ -192,7 +192,7 @@ text_left : (name from : List ℕ) (left : ℕ) (o : Option (List ℕ × List �
     → LeavesOf from (with_text name left o)
 text_left name from left None h = inl refl
 text_left name from left (Some f) h = suffix_left from f.1 _ h
-    (closed_left name f.0 f.1 left (behind_next 93 f.1) (next_cut 93 f.1 refl))
+    (closed_left name f.0 f.1 left (after_next 93 f.1) (next_cut 93 f.1 refl))
 
 string_left : (name from : List ℕ) (o : Option (List ℕ)) → IfSome o (Cut from) → LeavesOf from (with_string name o)
 string_left name from None h = inl refl
@@ -201,10 +201,10 @@ string_left name from (Some string) h = suffix_left from string _ (cut_suffix fr
 
 pub name_left : (name from : List ℕ) → LeavesOf from (with_name name from)
 name_left [] from = inl refl
-name_left (n ∷ ns) from = string_left (n ∷ ns) from (behind_next 34 from) (next_cut 34 from refl)
+name_left (n ∷ ns) from = string_left (n ∷ ns) from (after_next 34 from) (next_cut 34 from refl)
 
 tag_left : (text : List ℕ) → LeavesOf text (tag_at text)
-tag_left text = by_name (behind_gap false false text) (gap_suffix false false text)
+tag_left text = by_name (after_gap false false text) (gap_suffix false false text)
   where
     by_name : (inner : List ℕ) → Suffix text inner
         → LeavesOf text (with_name (take_while is_name_byte inner) (drop (prefix_len is_name_byte inner) inner))
@@ -234,7 +234,7 @@ token_left begins c rest e =
     pick (LeavesOf (c ∷ rest)) (begins && eqb c 37) _ _ (λ _. inr (run_cut (λ b. not (eqb b 10)) refl c rest e)) (λ _.
     pick (LeavesOf (c ∷ rest)) (is_white_space c || eqb c 46) _ _ (λ _. inr (cut_here c rest e)) (λ _.
     pick (LeavesOf (c ∷ rest)) (eqb c 123) _ _
-    (λ _. comment_left c (suc (length rest)) rest (behind_brace rest) (brace_cut rest)) (λ _.
+    (λ _. comment_left c (suc (length rest)) rest (after_brace rest) (brace_cut rest)) (λ _.
     pick (LeavesOf (c ∷ rest)) (eqb c 59) _ _ (λ _. inr (run_cut (λ b. not (eqb b 10)) refl c rest e)) (λ _.
     pick (LeavesOf (c ∷ rest)) (eqb c 36) _ _ (λ _. inr (run_cut is_digit refl c rest e)) (λ _.
     pick (LeavesOf (c ∷ rest)) (eqb c 40) _ _ (λ _. left_more c rest _ (variation_cut Plain false 0 rest)) (λ _.

@@ -23,7 +23,7 @@ use Rattle.chess_text.specs.declared.reading.Reading.{Reading}
 use Rattle.chess_text.specs.declared.reading.Reading.TheVariants as reads
 use Rattle.chess_text.specs.Moves.{reading}
 use Rattle.chess_pgn.specs.Words.{kind_of}
-use Rattle.chess_pgn.specs.Tokens.{Token, Skip, Tag, Word, Bad_tag, Unclosed_comment, Unclosed_variation, Bad, first_place, is_white_space, behind_brace, token_at, begins_line, tokens_from}
+use Rattle.chess_pgn.specs.Tokens.{Token, Skip, Tag, Word, Bad_tag, Unclosed_comment, Unclosed_variation, Bad, first_place, is_white_space, after_brace, token_at, begins_line, tokens_from}
 use Rattle.chess_pgn.specs.GameRead.{SoFar, Step, On, Stop, unless_full, move_step, word_step, fen_step, tag_step, step, go_on, game_of, nothing_read, told_by, told_next, variant_told, tokens_read, pgn_read}
 use Rattle.chess_pgn.specs.ties.GameSteps.{so_far, IsReadOn, ReadsAlike, step_seen}
 use Rattle.chess_pgn.proofs.Cuts.{pick}
@@ -275,7 +275,7 @@ passed text from at so low h = λ limit g. so limit g ∙ passed_at text at (get
 
 -- ---- comments, at which nothing counts
 
-comment_token : (begins : Bool) (c : ℕ) (rest behind : List ℕ) → c ≡ 123 → behind_brace rest ≡ Some behind
+comment_token : (begins : Bool) (c : ℕ) (rest behind : List ℕ) → c ≡ 123 → after_brace rest ≡ Some behind
     → (Skip, behind) ≡ token_at begins c rest
 unfolding token_at
 comment_token true c rest behind brace closed = rw (brace, closed) refl
@@ -284,7 +284,7 @@ comment_token false c rest behind brace closed = rw (brace, closed) refl
 -- a closed comment, with its text as code meets it
 pub commented : (text : List ℕ) (at : ℕ) (xs behind : List ℕ) → at ≤ length text
     → xs ≡ take (length text - at) (drop at text) → 1 ≤ length xs → get_or xs 0 0 ≡ 123
-    → behind_brace (take (length xs - 1) (drop 1 xs)) ≡ Some behind → NextToken text at Skip behind
+    → after_brace (take (length xs - 1) (drop 1 xs)) ≡ Some behind → NextToken text at Skip behind
 commented text at xs behind h is some brace closed =
     next_token text at (begins_line text at) xs h refl is some Skip behind
     (comment_token (begins_line text at) (get_or xs 0 0) (take (length xs - 1) (drop 1 xs)) behind brace closed)

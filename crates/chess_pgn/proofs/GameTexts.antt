@@ -18,10 +18,10 @@ use Rattle.chess_pgn.specs.declared.tags.Tags.{Tags}
 use Rattle.chess_pgn.specs.declared.termination.Termination.{Termination}
 use Rattle.chess_pgn.specs.Terminations.{termination_of}
 use Rattle.chess_pgn.specs.GameText.{roster_lines, start_lines_in, last_lines, further_lines, tag_lines, number_token, tokens_of_move, move_tokens, game_tokens, pgn}
-use Rattle.chess_pgn.specs.ties.Lines.{placed_all, column_behind_all}
+use Rattle.chess_pgn.specs.ties.Lines.{placed_all, column_after_all}
 use Rattle.chess_text.specs.San.{san}
 use Rattle.chess_pgn.specs.ties.Waiting.{TookSome, Adds}
-use Rattle.chess_pgn.specs.Written.{ended, placed, column_behind, line_close, filled_from, move_text_of}
+use Rattle.chess_pgn.specs.Written.{ended, placed, next_column, line_close, filled_from, move_text_of}
 use Rattle.chess_pgn.proofs.Added.{added_more, added_break, break_longer, adds_more, finished}
 
 -- a number of 32 bits has at most ten digits
@@ -124,31 +124,31 @@ game_written a b c r w x prefix before t s none is h k =
 
 pub placed_all-append : (prefix : List ℕ) (column : ℕ) (ts us : List (List ℕ))
     → placed_all prefix column (ts ++ us) ≡ placed_all prefix column ts
-    ++ placed_all prefix (column_behind_all column ts) us
+    ++ placed_all prefix (column_after_all column ts) us
 placed_all-append prefix column [] us = refl
 placed_all-append prefix column (t ∷ ts) us =
-    ap (λ v. placed prefix column t ++ v) (placed_all-append prefix (column_behind column t) ts us)
-    ∙ sym (append_assoc (placed prefix column t) (placed_all prefix (column_behind column t) ts)
-    (placed_all prefix (column_behind_all column (t ∷ ts)) us))
+    ap (λ v. placed prefix column t ++ v) (placed_all-append prefix (next_column column t) ts us)
+    ∙ sym (append_assoc (placed prefix column t) (placed_all prefix (next_column column t) ts)
+    (placed_all prefix (column_after_all column (t ∷ ts)) us))
 
-pub column_behind_all-append : (column : ℕ) (ts us : List (List ℕ))
-    → column_behind_all column (ts ++ us) ≡ column_behind_all (column_behind_all column ts) us
-column_behind_all-append column [] us = refl
-column_behind_all-append column (t ∷ ts) us = column_behind_all-append (column_behind column t) ts us
+pub column_after_all-append : (column : ℕ) (ts us : List (List ℕ))
+    → column_after_all column (ts ++ us) ≡ column_after_all (column_after_all column ts) us
+column_after_all-append column [] us = refl
+column_after_all-append column (t ∷ ts) us = column_after_all-append (next_column column t) ts us
 
 pub filled_from-append : (prefix : List ℕ) (column : ℕ) (ts us : List (List ℕ))
     → filled_from prefix column (ts ++ us) ≡ placed_all prefix column ts
-    ++ filled_from prefix (column_behind_all column ts) us
+    ++ filled_from prefix (column_after_all column ts) us
 filled_from-append prefix column [] us = refl
 filled_from-append prefix column (t ∷ ts) us =
-    ap (λ v. placed prefix column t ++ v) (filled_from-append prefix (column_behind column t) ts us)
-    ∙ sym (append_assoc (placed prefix column t) (placed_all prefix (column_behind column t) ts)
-    (filled_from prefix (column_behind_all column (t ∷ ts)) us))
+    ap (λ v. placed prefix column t ++ v) (filled_from-append prefix (next_column column t) ts us)
+    ∙ sym (append_assoc (placed prefix column t) (placed_all prefix (next_column column t) ts)
+    (filled_from prefix (column_after_all column (t ∷ ts)) us))
 
 -- the moves of a game, its outcome, and the end of the line
 pub moves_are : (prefix before outcome : List ℕ) (column col end : ℕ) (s : State) → column ≡ 0 → before ≡ prefix
-    → col ≡ column_behind_all column (move_tokens true s.start s.moves) → outcome ≡ outcome_text (outcome_now s)
-    → end ≡ column_behind col outcome
+    → col ≡ column_after_all column (move_tokens true s.start s.moves) → outcome ≡ outcome_text (outcome_now s)
+    → end ≡ next_column col outcome
     → HasParts (placed_all prefix column (move_tokens true s.start s.moves)) (placed before col outcome)
     (line_close end) (move_text_of prefix (game_tokens s))
 moves_are prefix before outcome column col end s none b is o e =
@@ -173,42 +173,42 @@ number_broke a b w prefix column f p q m same h =
     let number : List (List ℕ) = number_token p.side f p.fullmove in
     subst (λ text. BreaksOff a b (w ++ text)) (sym (placed_all-append prefix column number (san p m ∷ [])))
     (break_longer a b w (placed_all prefix column number)
-    (placed_all prefix (column_behind_all column number) (san p m ∷ []))
+    (placed_all prefix (column_after_all column number) (san p m ∷ []))
     (subst (λ (s : Setup). BreaksOff a b (w ++ placed_all prefix column (number_token s.side f s.fullmove))) same h))
 
 -- the move could not be put
 pub move_broke : (a b c : OutputState) (w x prefix before text : List ℕ) (column col : ℕ) (f : Bool) (p q : Setup)
-    (m : Move) → q ≡ p → before ≡ prefix → col ≡ column_behind_all column (number_token q.side f q.fullmove)
+    (m : Move) → q ≡ p → before ≡ prefix → col ≡ column_after_all column (number_token q.side f q.fullmove)
     → text ≡ san p m
     → TookSome a b w x (placed_all prefix column (number_token q.side f q.fullmove))
     → BreaksOff b c (x ++ placed before col text)
     → BreaksOff a c (w ++ placed_all prefix column (tokens_of_move f p m))
 move_broke a b c w x prefix before text column col f p q m same pre is said h k =
     let number : List (List ℕ) = number_token p.side f p.fullmove in
-    let here : col ≡ column_behind_all column number =
-    is ∙ ap (λ (s : Setup). column_behind_all column (number_token s.side f s.fullmove)) same in
+    let here : col ≡ column_after_all column number =
+    is ∙ ap (λ (s : Setup). column_after_all column (number_token s.side f s.fullmove)) same in
     subst (λ v. BreaksOff a c (w ++ v)) (sym (placed_all-append prefix column number (san p m ∷ [])))
     (added_break a b c w x (placed_all prefix column number)
-    (placed_all prefix (column_behind_all column number) (san p m ∷ []))
+    (placed_all prefix (column_after_all column number) (san p m ∷ []))
     (subst (λ (s : Setup). TookSome a b w x (placed_all prefix column (number_token s.side f s.fullmove))) same h)
-    (subst (λ v. BreaksOff b c (x ++ v)) (one_placed prefix before text (san p m) (column_behind_all column number) col
+    (subst (λ v. BreaksOff b c (x ++ v)) (one_placed prefix before text (san p m) (column_after_all column number) col
     pre here said) k))
 
 -- both were put
 pub move_put : (a b c : OutputState) (w x y prefix before text : List ℕ) (column col : ℕ) (f : Bool) (p q : Setup)
-    (m : Move) → q ≡ p → before ≡ prefix → col ≡ column_behind_all column (number_token q.side f q.fullmove)
+    (m : Move) → q ≡ p → before ≡ prefix → col ≡ column_after_all column (number_token q.side f q.fullmove)
     → text ≡ san p m
     → TookSome a b w x (placed_all prefix column (number_token q.side f q.fullmove))
     → TookSome b c x y (placed before col text) → TookSome a c w y (placed_all prefix column (tokens_of_move f p m))
 move_put a b c w x y prefix before text column col f p q m same pre is said h k =
     let number : List (List ℕ) = number_token p.side f p.fullmove in
-    let here : col ≡ column_behind_all column number =
-    is ∙ ap (λ (s : Setup). column_behind_all column (number_token s.side f s.fullmove)) same in
+    let here : col ≡ column_after_all column number =
+    is ∙ ap (λ (s : Setup). column_after_all column (number_token s.side f s.fullmove)) same in
     subst (TookSome a c w y) (sym (placed_all-append prefix column number (san p m ∷ [])))
     (added_more a b c w x y (placed_all prefix column number)
-    (placed_all prefix (column_behind_all column number) (san p m ∷ []))
+    (placed_all prefix (column_after_all column number) (san p m ∷ []))
     (subst (λ (s : Setup). TookSome a b w x (placed_all prefix column (number_token s.side f s.fullmove))) same h)
-    (subst (TookSome b c x y) (one_placed prefix before text (san p m) (column_behind_all column number) col pre here
+    (subst (TookSome b c x y) (one_placed prefix before text (san p m) (column_after_all column number) col pre here
     said) k))
 
 -- ---- the tokens of moves, one move after another
@@ -274,7 +274,7 @@ moves_split f p (x ∷ ms) (suc n) = by_rest (moves_split false (after p x) ms n
 pub record IsNext (prefix : List ℕ) (column : ℕ) (p : Setup) (ms : List Move) (i : ℕ) (before : List ℕ) (col : ℕ)
     (f : Bool) (q : Setup) (m : Move) : Type 0 where
   pub prefix_is : before ≡ prefix
-  pub column_is : col ≡ column_behind_all column (move_tokens true p (take i ms))
+  pub column_is : col ≡ column_after_all column (move_tokens true p (take i ms))
   pub first : f ≡ eqb i 0
   pub position : q ≡ last p (take i ms)
   pub move : slice_get ms i ≡ Some m
@@ -314,7 +314,7 @@ moves_broke a b c w x prefix before column col p q ms i f m n h k = by_rest (mov
     by_rest (rest, is) =
         let so_far : List ℕ = placed_all prefix column (move_tokens true p (take i ms)) in
         let text : List ℕ = placed_all prefix column (move_tokens true p (take (suc i) ms)) in
-        let behind : List ℕ = placed_all prefix (column_behind_all column (move_tokens true p (take (suc i) ms)))
+        let behind : List ℕ = placed_all prefix (column_after_all column (move_tokens true p (take (suc i) ms)))
         rest in
         let whole : placed_all prefix column (move_tokens true p ms) ≡ text ++ behind =
         ap (placed_all prefix column) is ∙ placed_all-append prefix column (move_tokens true p (take (suc i) ms))
@@ -326,17 +326,17 @@ moves_broke a b c w x prefix before column col p q ms i f m n h k = by_rest (mov
 
 pub columns_more : (prefix before : List ℕ) (column col new : ℕ) (p q : Setup) (ms : List Move) (i : ℕ) (f : Bool)
     (m : Move) → IsNext prefix column p ms i before col f q m
-    → new ≡ column_behind_all col (tokens_of_move f q m)
-    → new ≡ column_behind_all column (move_tokens true p (take (i + 1) ms))
+    → new ≡ column_after_all col (tokens_of_move f q m)
+    → new ≡ column_after_all column (move_tokens true p (take (i + 1) ms))
 columns_more prefix before column col new p q ms i f m n is =
     let so_far : List (List ℕ) = move_tokens true p (take i ms) in
     let next : List (List ℕ) = tokens_of_move (eqb i 0) (last p (take i ms)) m in
-    let here : column_behind_all col (tokens_of_move f q m) ≡ column_behind_all (column_behind_all column so_far) next =
+    let here : column_after_all col (tokens_of_move f q m) ≡ column_after_all (column_after_all column so_far) next =
     rw (n.column_is, n.first, n.position) refl in
-    let whole : column_behind_all column (move_tokens true p (take (i + 1) ms))
-    ≡ column_behind_all (column_behind_all column so_far) next =
-    ap (λ k. column_behind_all column (move_tokens true p (take k ms))) (add-one i)
-    ∙ ap (column_behind_all column) (moves_more p ms i m n.move) ∙ column_behind_all-append column so_far next in
+    let whole : column_after_all column (move_tokens true p (take (i + 1) ms))
+    ≡ column_after_all (column_after_all column so_far) next =
+    ap (λ k. column_after_all column (move_tokens true p (take k ms))) (add-one i)
+    ∙ ap (column_after_all column) (moves_more p ms i m n.move) ∙ column_after_all-append column so_far next in
     is ∙ here ∙ sym whole
 
 pub positions_more : (p q new : Setup) (ms : List Move) (i : ℕ) (m : Move) → q ≡ last p (take i ms)

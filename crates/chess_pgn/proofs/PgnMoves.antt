@@ -22,13 +22,13 @@ use Rattle.chess_pgn.specs.GameRead.{SoFar, GameRead}
 use Rattle.chess_pgn.specs.GameText.{number_token, move_tokens}
 use Rattle.chess_text.specs.San.{san}
 use Rattle.chess_pgn.specs.Tokens.{is_word_byte}
-use Rattle.chess_pgn.specs.Written.{placed, column_behind, line_close, filled_from}
+use Rattle.chess_pgn.specs.Written.{placed, next_column, line_close, filled_from}
 use Rattle.chess_pgn.proofs.PgnPieces.{read_on, Takes, begun, white_number, black_number, san_takes, skip_space, skip_line_end, ended_game, outcome_ends}
 use Rattle.chess_text.proofs.SanLaw.{san_short}
 
 -- ---- tokens in filled lines
 
-column_after : (column : ℕ) (t : List ℕ) → 0 < length t → 0 < column_behind column t
+column_after : (column : ℕ) (t : List ℕ) → 0 < length t → 0 < next_column column t
 column_after column t some = by_test (eqb column 0) (leb (column + 1 + length t) 79)
   where
     by_test : (a b : Bool) → 0 < cond a (length t) (cond b (column + 1 + length t) (length t))
@@ -56,7 +56,7 @@ filled_ends column [] rest some = record {
   off = refl;
 }
 filled_ends column (t ∷ ts) rest some = by_test (eqb column 0) (grind (arith, nat_tests))
-    (leb (column + 1 + length t) 79) (filled_from [] (column_behind column t) ts)
+    (leb (column + 1 + length t) 79) (filled_from [] (next_column column t) ts)
   where
     by_test : (a : Bool) → a ≡ false → (b : Bool) (more : List ℕ)
         → EndsWord ((cond a t (cond b (32 ∷ t) (10 ∷ t)) ++ more) ++ rest)
@@ -78,15 +78,15 @@ pub filled_long : (column : ℕ) (ts : List (List ℕ)) (t : List ℕ) → 0 < l
 filled_long column [] t some =
     omega (
       arith,
-      length-append (placed [] column t) (line_close (column_behind column t)),
+      length-append (placed [] column t) (line_close (next_column column t)),
       placed_long column t,
-      ap length (close_after (column_behind column t) (column_after column t some)),
+      ap length (close_after (next_column column t) (column_after column t some)),
     )
 filled_long column (u ∷ ts) t some =
     omega (
       arith,
-      length-append (placed [] column u) (filled_from [] (column_behind column u) (ts ++ t ∷ [])),
-      filled_long (column_behind column u) ts t some,
+      length-append (placed [] column u) (filled_from [] (next_column column u) (ts ++ t ∷ [])),
+      filled_long (next_column column u) ts t some,
     )
 
 pub outcome_some : (o : Outcome) → 0 < length (outcome_text o)
@@ -125,11 +125,11 @@ module _ (limit total : ℕ) where
   -- a token, and what follows it
   token_read : (g h : SoFar) (begins : Bool) (column : ℕ) (t : List ℕ) (ts : List (List ℕ)) (rest : List ℕ)
       (r : GameRead) → Takes limit total g h t → 0 < length t
-      → read_on limit total h false (filled_from [] (column_behind column t) ts ++ rest) ≡ r
+      → read_on limit total h false (filled_from [] (next_column column t) ts ++ rest) ≡ r
       → read_on limit total g begins (filled_from [] column (t ∷ ts) ++ rest) ≡ r
   token_read g h begins column t ts rest r takes some reads =
-      let more : List ℕ = filled_from [] (column_behind column t) ts in
-      let next = filled_ends (column_behind column t) ts rest (column_after column t some) in
+      let more : List ℕ = filled_from [] (next_column column t) ts in
+      let next = filled_ends (next_column column t) ts rest (column_after column t some) in
       ap (read_on limit total g begins) (append_assoc (placed [] column t) more rest)
       ∙ placed_read g begins column t (more ++ rest) r (λ b.
       ap (λ xs. read_on limit total g b (t ++ xs)) next.is ∙ takes b next.first next.rest next.off
@@ -141,10 +141,10 @@ module _ (limit total : ℕ) where
       ≡ ended_game g.termination g.state o (total - length (outcome_text o ++ 10 ∷ rest) + length (outcome_text o))
   outcome_read g begins column o rest =
       let t : List ℕ = outcome_text o in
-      ap (read_on limit total g begins) (append_assoc (placed [] column t) (line_close (column_behind column t)) rest)
-      ∙ placed_read g begins column t (line_close (column_behind column t) ++ rest) _ (λ b.
+      ap (read_on limit total g begins) (append_assoc (placed [] column t) (line_close (next_column column t)) rest)
+      ∙ placed_read g begins column t (line_close (next_column column t) ++ rest) _ (λ b.
       ap (λ xs. read_on limit total g b (t ++ (xs ++ rest)))
-      (close_after (column_behind column t) (column_after column t (outcome_some o)))
+      (close_after (next_column column t) (column_after column t (outcome_some o)))
       ∙ outcome_ends limit total g o b 10 rest refl)
 
   -- ---- the moves of a game
@@ -161,12 +161,12 @@ module _ (limit total : ℕ) where
       let g : SoFar = read_so_far told start done is_begun in
       let t : List ℕ = decimal n ++ codes "." in
       token_read g (begun g) begins column t ts rest r (white_number limit total g n h)
-      (omega (arith, length-append (decimal n) (codes "."))) (reads true false (column_behind column t))
+      (omega (arith, length-append (decimal n) (codes "."))) (reads true false (next_column column t))
   number_read told start done Black true n ts rest r h reads is_begun begins column =
       let g : SoFar = read_so_far told start done is_begun in
       let t : List ℕ = decimal n ++ codes "..." in
       token_read g (begun g) begins column t ts rest r (black_number limit total g n h)
-      (omega (arith, length-append (decimal n) (codes "..."))) (reads true false (column_behind column t))
+      (omega (arith, length-append (decimal n) (codes "..."))) (reads true false (next_column column t))
   number_read told start done Black false n ts rest r h reads is_begun begins column = reads is_begun begins column
 
   -- the whole game that is read
@@ -200,5 +200,5 @@ module _ (limit total : ℕ) where
       (leb-true _ _ sound.fullmove_high) (λ x b k.
       token_read (read_so_far told start done x) (read_so_far told start (done ++ m ∷ []) true) b k (san p m) more rest
       r (san_takes limit total (read_so_far told start done x) p m sound line.0 at open_yet room)
-      (omega (arith, (san_short p m sound line.0).0)) (behind true false (column_behind k (san p m)))) is_begun
+      (omega (arith, (san_short p m sound line.0).0)) (behind true false (next_column k (san p m)))) is_begun
       begins column

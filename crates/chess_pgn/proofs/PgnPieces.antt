@@ -19,7 +19,7 @@ use Rattle.chess_game.specs.declared.results.Outcome.TheVariants.{WhiteWins, Bla
 use Rattle.chess_pgn.specs.declared.termination.Termination.{Termination}
 use Rattle.chess_pgn.specs.declared.termination.Termination.TheVariants as ending
 use Rattle.chess_pgn.specs.Terminations.{termination_text, termination_named}
-use Rattle.chess_pgn.specs.GameRead.{SoFar, GameRead, On, Stop, declared_behind, move_step, word_step, fen_step, step, go_on, game_of}
+use Rattle.chess_pgn.specs.GameRead.{SoFar, GameRead, On, Stop, declared_after, move_step, word_step, fen_step, step, go_on, game_of}
 use Rattle.chess_text.specs.Moves.{reading}
 use Rattle.chess_text.specs.San.{san}
 use Rattle.chess_pgn.specs.Tokens.{Token, Skip, Tag, Word, is_word_byte, token_at, tokens_of}
@@ -52,7 +52,7 @@ moved g m = record { state = played g.state m; is_met = true; is_begun = true; t
 -- ended by an outcome's word
 abbrev pub ended_game : Option Termination → State → Outcome → ℕ → GameRead
 ended_game t s o offset = record {
-  state = with_declared s (declared_behind (is_some (verdict_now s)) o);
+  state = with_declared s (declared_after (is_some (verdict_now s)) o);
   answer = Ok (Some (record { outcome = o; termination = t; offset = offset }));
 }
 

@@ -3,7 +3,7 @@ use Rattle.std.proofs.Common.{◌≡◌, ℕ, ◌≤◌, Bool, true, false, not,
 use Rattle.std.specs.List.{list_all, prefix_len, take_while, AllByRecursion}
 use Rattle.std.proofs.lemmas.Bool.{and_parts, and_from, or_parts}
 use Rattle.std.proofs.lemmas.Bool.Decides.{nat_tests}
-use Rattle.chess_pgn.specs.Tokens.{Tag, is_name_byte, behind_gap, string_at, onto, with_text, with_name, tag_at, token_at}
+use Rattle.chess_pgn.specs.Tokens.{Tag, is_name_byte, after_gap, string_at, onto, with_text, with_name, tag_at, token_at}
 use Rattle.chess_pgn.specs.Written.{IsTagText, escaped, tag_line}
 use Rattle.chess_pgn.proofs.PgnWords.{whole_run, not_byte, no_percent}
 use Rattle.chess_pgn.proofs.Strings.{string_quote, string_other}
@@ -82,7 +82,7 @@ abbrev pub is_tag_name : List ℕ → Bool
 is_tag_name [] = false
 is_tag_name (n ∷ ns) = list_all is_name_byte (n ∷ ns)
 
-no_gap : (n : ℕ) (rest : List ℕ) → is_name_byte n ≡ true → behind_gap false false (n ∷ rest) ≡ n ∷ rest
+no_gap : (n : ℕ) (rest : List ℕ) → is_name_byte n ≡ true → after_gap false false (n ∷ rest) ≡ n ∷ rest
 no_gap n rest h =
     rw (
       not_byte is_name_byte 32 n refl h,

@@ -22,7 +22,7 @@ use Rattle.chess_game.specs.declared.results.Outcome.TheVariants.{WhiteWins, Bla
 use Rattle.chess_pgn.specs.declared.tags.Tags.{Tags}
 use Rattle.chess_pgn.specs.declared.termination.Termination.{Termination}
 use Rattle.chess_pgn.specs.Terminations.{termination_text, termination_of}
-use Rattle.chess_pgn.specs.GameRead.{SoFar, GameRead, declared_behind, game_of, nothing_read, tokens_read, pgn_read}
+use Rattle.chess_pgn.specs.GameRead.{SoFar, GameRead, declared_after, game_of, nothing_read, tokens_read, pgn_read}
 use Rattle.chess_pgn.specs.GameText.{is_initial, fen_lines, start_lines_in, last_lines, further_lines, tag_lines, move_tokens, game_tokens, pgn}
 use Rattle.chess_pgn.specs.laws.PgnLaw.{AreTagTexts, IsReadBack, PgnIsReadBack}
 use Rattle.chess_pgn.specs.Tokens.{first_place, begins_line, tokens_of, tokens_from}
@@ -247,14 +247,14 @@ pgn_long tags s =
 
 -- ---- the law
 
-declared_again : (o : Outcome) → outcome_by None (declared_behind false o) ≡ o
+declared_again : (o : Outcome) → outcome_by None (declared_after false o) ≡ o
 declared_again WhiteWins = refl
 declared_again BlackWins = refl
 declared_again Draw = refl
 declared_again Unfinished = refl
 
 -- the verdict is there again; where there is none, what the termination names is declared
-same_outcome : (v : Option Verdict) (d : Option Declared) → outcome_by v (declared_behind (is_some v) (outcome_by v d))
+same_outcome : (v : Option Verdict) (d : Option Declared) → outcome_by v (declared_after (is_some v) (outcome_by v d))
     ≡ outcome_by v d
 same_outcome (Some v) d = refl
 same_outcome None d = declared_again (outcome_by None d)

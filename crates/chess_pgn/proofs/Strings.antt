@@ -4,7 +4,7 @@ use Rattle.std.proofs.Math.Seq.{take-suc}
 use Rattle.std.proofs.lemmas.Bool.Decides.{nat_tests}
 use Rattle.std.proofs.lemmas.List.{at_drop_more, take_rest}
 use Rattle.std.specs.List.{prefix_len, take_while}
-use Rattle.chess_pgn.specs.Tokens.{Bad_tag, is_name_byte, behind_gap, onto, string_at, behind_next, closed, with_text, with_string, with_name, tag_at}
+use Rattle.chess_pgn.specs.Tokens.{Bad_tag, is_name_byte, after_gap, onto, string_at, after_next, closed, with_text, with_string, with_name, tag_at}
 
 -- a string whose first byte a backslash keeps, or not
 abbrev pub string_behind : Bool → List ℕ → Option (List ℕ × List ℕ)
@@ -111,16 +111,16 @@ place_quote text offset kept h k quote =
     ∙ rw (front, rest) refl)
 
 -- a tag that isn't closed
-unclosed : (name rest string text behind : List ℕ) → Some string ≡ behind_next 34 rest
-    → Some (text, behind) ≡ string_at string → None ≡ behind_next 93 behind → with_name name rest ≡ (Bad_tag, [])
+unclosed : (name rest string text behind : List ℕ) → Some string ≡ after_next 34 rest
+    → Some (text, behind) ≡ string_at string → None ≡ after_next 93 behind → with_name name rest ≡ (Bad_tag, [])
 unclosed [] rest string text behind a b e = refl
 unclosed (n ∷ ns) rest string text behind a b e =
     ap (with_string (n ∷ ns)) (sym a) ∙ ap (with_text (n ∷ ns) (length string)) (sym b)
     ∙ ap (closed (n ∷ ns) (length string) text) (sym e)
 
-pub tag_unclosed : (from inner name rest string text behind : List ℕ) → inner ≡ behind_gap false false from
+pub tag_unclosed : (from inner name rest string text behind : List ℕ) → inner ≡ after_gap false false from
     → name ≡ take_while is_name_byte inner → rest ≡ drop (prefix_len is_name_byte inner) inner
-    → Some string ≡ behind_next 34 rest → Some (text, behind) ≡ string_at string → None ≡ behind_next 93 behind
+    → Some string ≡ after_next 34 rest → Some (text, behind) ≡ string_at string → None ≡ after_next 93 behind
     → tag_at from ≡ (Bad_tag, [])
 tag_unclosed from inner name rest string text behind i n r a b e =
     ap (λ xs. with_name (take_while is_name_byte xs) (drop (prefix_len is_name_byte xs) xs)) (sym i)

@@ -3,7 +3,7 @@ use Rattle.std.proofs.Common.{◌≡◌, ℕ, zero, suc, ◌-◌, ◌≤◌, Boo
 use Rattle.std.specs.Prelude.{◌&&◌, ◌||◌}
 use Rattle.std.specs.List.{prefix_len, take_while}
 use Rattle.std.proofs.lemmas.List.{length-append, length-drop, take-append-drop}
-use Rattle.chess_pgn.specs.Tokens.{Token, Plain, Brace, Line, Inside, is_white_space, is_word_byte, is_name_byte, behind_brace, behind_gap, string_at, behind_next, closed, with_text, with_string, with_name, tag_at, variation_at, comment_at, token_at, begins_line, tokens_from}
+use Rattle.chess_pgn.specs.Tokens.{Token, Plain, Brace, Line, Inside, is_white_space, is_word_byte, is_name_byte, after_brace, after_gap, string_at, after_next, closed, with_text, with_string, with_name, tag_at, variation_at, comment_at, token_at, begins_line, tokens_from}
 use Rattle.chess_pgn.specs.ties.GameSteps.{IsWithin}
 use Rattle.chess_pgn.proofs.Cuts.{Cut, Suffix, pick, gap_suffix, next_cut}
 use Rattle.chess_pgn.proofs.Walk.{no_token, token_more}
@@ -53,7 +53,7 @@ closed_within n left name text (Some rest) h = h
 
 text_within : (n left : ℕ) (name : List ℕ) (o : Option (List ℕ × List ℕ)) → left ≤ n → Within n (with_text name left o)
 text_within n left name None h = tt
-text_within n left name (Some found) h = closed_within n left name found.0 (behind_next 93 found.1) h
+text_within n left name (Some found) h = closed_within n left name found.0 (after_next 93 found.1) h
 
 string_within : (n : ℕ) (name from : List ℕ) (o : Option (List ℕ)) → length from ≤ n → IfSome o (Cut from)
     → Within n (with_string name o)
@@ -63,10 +63,10 @@ string_within n name from (Some string) h cut = text_within n (length string) na
 
 name_within : (n : ℕ) (name from : List ℕ) → length from ≤ n → Within n (with_name name from)
 name_within n [] from h = tt
-name_within n (c ∷ cs) from h = string_within n (c ∷ cs) from (behind_next 34 from) h (next_cut 34 from refl)
+name_within n (c ∷ cs) from h = string_within n (c ∷ cs) from (after_next 34 from) h (next_cut 34 from refl)
 
 tag_within : (n : ℕ) (text : List ℕ) → length text ≤ n → Within n (tag_at text)
-tag_within n text h = by_name (behind_gap false false text) (gap_suffix false false text)
+tag_within n text h = by_name (after_gap false false text) (gap_suffix false false text)
   where
     by_name : (inner : List ℕ) → Suffix text inner
         → Within n (with_name (take_while is_name_byte inner) (drop (prefix_len is_name_byte inner) inner))
@@ -90,7 +90,7 @@ within begins c rest =
     let fewer : length rest ≤ n = omega arith in
     pick (Within n) (begins && eqb c 37) _ _ (λ _. tt) (λ _.
     pick (Within n) (is_white_space c || eqb c 46) _ _ (λ _. tt) (λ _.
-    pick (Within n) (eqb c 123) _ _ (λ _. comment_within n (behind_brace rest)) (λ _.
+    pick (Within n) (eqb c 123) _ _ (λ _. comment_within n (after_brace rest)) (λ _.
     pick (Within n) (eqb c 59) _ _ (λ _. tt) (λ _.
     pick (Within n) (eqb c 36) _ _ (λ _. tt) (λ _.
     pick (Within n) (eqb c 40) _ _ (λ _. variation_within n Plain false 0 rest fewer tt) (λ _.

@@ -27,7 +27,7 @@ use Rattle.chess_text.specs.San.{san}
 use Rattle.chess_base.specs.Moves.{after}
 use Rattle.chess_pgn.specs.Tokens.{Token, Skip, Tag, Word, is_word_byte, token_at, tokens_of}
 use Rattle.chess_pgn.specs.Words.{kind_of}
-use Rattle.chess_pgn.specs.Written.{escaped, tag_line, ended, column_behind, filled_from}
+use Rattle.chess_pgn.specs.Written.{escaped, tag_line, ended, next_column, filled_from}
 use Rattle.chess_pgn.proofs.PgnFen.{fen_bare}
 use Rattle.chess_pgn.proofs.PgnPieces.{termination_bare}
 use Rattle.chess_pgn.proofs.PgnTags.{is_in_line, bare_in_line, is_tag_name, tag_token, tag_line_bytes, tag_text_in_line}
@@ -233,12 +233,12 @@ moves_stop v begins p (m ∷ ms) o rest few = by_colour p.side
         (((number_token c true p.fullmove ++ san p m ∷ []) ++ move_tokens false (after p m) ms) ++ outcome_text o ∷ [])
         ++ 10 ∷ rest) ≡ v
     by_colour White =
-        let more : List ℕ = filled_from [] (column_behind 0 (decimal p.fullmove ++ codes "."))
+        let more : List ℕ = filled_from [] (next_column 0 (decimal p.fullmove ++ codes "."))
         ((san p m ∷ move_tokens false (after p m) ms) ++ outcome_text o ∷ []) in
         ap (told_on v begins) (dotted p.fullmove [] more (10 ∷ rest))
         ∙ number_stops v p.fullmove begins ([] ++ (more ++ 10 ∷ rest)) few
     by_colour Black =
-        let more : List ℕ = filled_from [] (column_behind 0 (decimal p.fullmove ++ codes "..."))
+        let more : List ℕ = filled_from [] (next_column 0 (decimal p.fullmove ++ codes "..."))
         ((san p m ∷ move_tokens false (after p m) ms) ++ outcome_text o ∷ []) in
         ap (told_on v begins) (dotted p.fullmove (46 ∷ 46 ∷ []) more (10 ∷ rest))
         ∙ number_stops v p.fullmove begins ((46 ∷ 46 ∷ []) ++ (more ++ 10 ∷ rest)) few

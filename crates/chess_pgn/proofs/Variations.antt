@@ -4,8 +4,8 @@ use Rattle.std.specs.Prelude.{◌&&◌}
 use Rattle.std.proofs.lemmas.Bool.Decides.{nat_tests}
 use Rattle.std.proofs.lemmas.Bool.{and_parts}
 use Rattle.std.proofs.lemmas.List.{take_rest}
-use Rattle.chess_pgn.specs.Tokens.{Token, Unclosed_comment, Skip, Plain, Brace, Line, line_end, behind_brace, variation_at}
-use Rattle.chess_pgn.specs.ties.VariationParts.{behind_part, one_fewer, depth_behind}
+use Rattle.chess_pgn.specs.Tokens.{Token, Unclosed_comment, Skip, Plain, Brace, Line, line_end, after_brace, variation_at}
+use Rattle.chess_pgn.specs.ties.VariationParts.{after_part, one_fewer, depth_after}
 use Rattle.chess_pgn.proofs.Skipped.{line_end-more}
 
 -- a line in a variation
@@ -33,13 +33,13 @@ unless_open left depth None = (Unclosed_comment left, [])
 unless_open left depth (Some rest) = variation_at Plain false (suc depth) rest
 
 in_brace : (left : ℕ) (begins : Bool) (depth : ℕ) (text : List ℕ) → variation_at (Brace left) begins (suc depth) text
-    ≡ unless_open left depth (behind_brace text)
+    ≡ unless_open left depth (after_brace text)
 in_brace left begins depth [] = refl
 in_brace left begins depth (c ∷ rest) = by_test (eqb c 125) (in_brace left false depth rest)
   where
-    by_test : (t : Bool) → variation_at (Brace left) false (suc depth) rest ≡ unless_open left depth (behind_brace rest)
+    by_test : (t : Bool) → variation_at (Brace left) false (suc depth) rest ≡ unless_open left depth (after_brace rest)
         → cond t (variation_at Plain false (suc depth) rest) (variation_at (Brace left) false (suc depth) rest)
-        ≡ unless_open left depth (cond t (Some rest) (behind_brace rest))
+        ≡ unless_open left depth (cond t (Some rest) (after_brace rest))
     by_test true more = refl
     by_test false more = more
 
@@ -60,10 +60,10 @@ by_close left (suc depth) rest = refl
 
 abbrev IsPart : Bool → ℕ → ℕ → List ℕ → Type 0
 IsPart begins depth c rest = variation_at Plain begins (suc depth) (c ∷ rest) ≡ behind (suc (length rest)) (eqb c 10)
-    (behind_part begins c rest) (depth_behind depth c)
+    (after_part begins c rest) (depth_after depth c)
 
 pub by_part : (begins : Bool) (depth c : ℕ) (rest : List ℕ) → variation_at Plain begins (suc depth) (c ∷ rest)
-    ≡ behind (suc (length rest)) (eqb c 10) (behind_part begins c rest) (depth_behind depth c)
+    ≡ behind (suc (length rest)) (eqb c 10) (after_part begins c rest) (depth_after depth c)
 by_part begins depth c rest = by_line (begins && eqb c 37) refl
   where
     by_closing : (t : Bool) → eqb c 41 ≡ t → (begins && eqb c 37) ≡ false → eqb c 123 ≡ false → eqb c 59 ≡ false
@@ -96,7 +96,7 @@ by_part begins depth c rest = by_line (begins && eqb c 37) refl
         let opens : eqb c 40 ≡ false = grind (arith, nat_tests) in
         let closes : eqb c 41 ≡ false = grind (arith, nat_tests) in
         rw (line, e, rest_line, opens, closes, ends)
-        (in_brace (suc (length rest)) false depth rest ∙ by_brace (suc (length rest)) depth (behind_brace rest))
+        (in_brace (suc (length rest)) false depth rest ∙ by_brace (suc (length rest)) depth (after_brace rest))
     by_opening_brace false e line = by_rest_line (eqb c 59) refl line e
 
     by_line : (t : Bool) → (begins && eqb c 37) ≡ t → IsPart begins depth c rest
@@ -111,33 +111,33 @@ by_part begins depth c rest = by_line (begins && eqb c 37) refl
 -- with its text as code meets it
 part_first : (begins : Bool) (depth : ℕ) (xs : List ℕ) → 1 ≤ length xs → variation_at Plain begins (suc depth) xs
     ≡ behind (length xs) (eqb (get_or xs 0 0) 10)
-    (behind_part begins (get_or xs 0 0) (take (length xs - 1) (drop 1 xs))) (depth_behind depth (get_or xs 0 0))
+    (after_part begins (get_or xs 0 0) (take (length xs - 1) (drop 1 xs))) (depth_after depth (get_or xs 0 0))
 part_first begins depth [] h = absurd (omega (arith, h))
 part_first begins depth (c ∷ rest) h =
     by_part begins depth c rest
-    ∙ ap (λ text. behind (suc (length rest)) (eqb c 10) (behind_part begins c text) (depth_behind depth c))
+    ∙ ap (λ text. behind (suc (length rest)) (eqb c 10) (after_part begins c text) (depth_after depth c))
     (sym (take_rest (c ∷ rest) 1))
 
 -- a comment in it has no end
 pub part_unclosed : (begins : Bool) (depth : ℕ) (xs : List ℕ) → 1 ≤ length xs
-    → None ≡ behind_part begins (get_or xs 0 0) (take (length xs - 1) (drop 1 xs))
+    → None ≡ after_part begins (get_or xs 0 0) (take (length xs - 1) (drop 1 xs))
     → variation_at Plain begins (suc depth) xs ≡ (Unclosed_comment (length xs), [])
 part_unclosed begins depth xs h part =
     part_first begins depth xs h
-    ∙ ap (λ o. behind (length xs) (eqb (get_or xs 0 0) 10) o (depth_behind depth (get_or xs 0 0))) (sym part)
+    ∙ ap (λ o. behind (length xs) (eqb (get_or xs 0 0) 10) o (depth_after depth (get_or xs 0 0))) (sym part)
 
 -- a part, after which the outermost variation is closed, or still open
 pub part_behind : (begins : Bool) (depth : ℕ) (xs rest : List ℕ) (inner : Option ℕ) → 1 ≤ length xs
-    → Some rest ≡ behind_part begins (get_or xs 0 0) (take (length xs - 1) (drop 1 xs))
-    → inner ≡ depth_behind depth (get_or xs 0 0) → variation_at Plain begins (suc depth) xs ≡ behind (length xs)
+    → Some rest ≡ after_part begins (get_or xs 0 0) (take (length xs - 1) (drop 1 xs))
+    → inner ≡ depth_after depth (get_or xs 0 0) → variation_at Plain begins (suc depth) xs ≡ behind (length xs)
     (eqb (get_or xs 0 0) 10) (Some rest) inner
 part_behind begins depth xs rest inner h part is =
     part_first begins depth xs h
-    ∙ ap (λ o. behind (length xs) (eqb (get_or xs 0 0) 10) o (depth_behind depth (get_or xs 0 0))) (sym part)
+    ∙ ap (λ o. behind (length xs) (eqb (get_or xs 0 0) 10) o (depth_after depth (get_or xs 0 0))) (sym part)
     ∙ ap (behind (length xs) (eqb (get_or xs 0 0) 10) (Some rest)) (sym is)
 
 -- a byte opens at most one
-pub depth_few : (depth c inner : ℕ) → Some inner ≡ depth_behind depth c → inner ≤ depth + 1
+pub depth_few : (depth c inner : ℕ) → Some inner ≡ depth_after depth c → inner ≤ depth + 1
 depth_few depth c inner is = by_tests (eqb c 40) (eqb c 41) depth is
   where
     by_tests : (opens closes : Bool) (depth : ℕ)

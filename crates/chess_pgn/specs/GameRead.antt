@@ -52,15 +52,15 @@ fails g kind offset = Stop (record { state = g.state; answer = Err (record { kin
 -- ---- words
 
 -- the outcome named at a game's end is declared where there is no verdict and it is not `*`
-abbrev pub declared_behind : Bool → Outcome → Option Declared
-declared_behind true o = None
-declared_behind false Unfinished = None
-declared_behind false o = Some (record { outcome = o; comment = [] })
+abbrev pub declared_after : Bool → Outcome → Option Declared
+declared_after true o = None
+declared_after false Unfinished = None
+declared_after false o = Some (record { outcome = o; comment = [] })
 
 -- the game ends with this outcome, at an offset after its text
 abbrev pub ends : SoFar → Outcome → ℕ → Step
 ends g o offset = Stop (record {
-  state = with_declared g.state (declared_behind (is_some (verdict_now g.state)) o);
+  state = with_declared g.state (declared_after (is_some (verdict_now g.state)) o);
   answer = Ok (Some (record { outcome = o; termination = g.termination; offset = offset }));
 })
 

@@ -45,17 +45,17 @@ abbrev pub line_end : List ℕ → List ℕ
 line_end text = drop (position_or_len (λ c. c == new_line) text) text
 
 -- the text after the first closing brace
-abbrev pub behind_brace : List ℕ → Option (List ℕ)
-behind_brace [] = None
-behind_brace (c ∷ rest) = if c == byte "}" then Some rest else behind_brace rest
+abbrev pub after_brace : List ℕ → Option (List ℕ)
+after_brace [] = None
+after_brace (c ∷ rest) = if c == byte "}" then Some rest else after_brace rest
 
 -- the text after white space and `%` lines: in such a line or not, where a line begins or not
-abbrev pub behind_gap : Bool → Bool → List ℕ → List ℕ
-behind_gap skips begins [] = []
-behind_gap true begins (c ∷ rest) = behind_gap (not (c == new_line)) true rest
-behind_gap false begins (c ∷ rest) = if begins
-    && c == byte "%" then behind_gap true false rest else
-    (if is_white_space c then behind_gap false (c == new_line) rest else c ∷ rest)
+abbrev pub after_gap : Bool → Bool → List ℕ → List ℕ
+after_gap skips begins [] = []
+after_gap true begins (c ∷ rest) = after_gap (not (c == new_line)) true rest
+after_gap false begins (c ∷ rest) = if begins
+    && c == byte "%" then after_gap true false rest else
+    (if is_white_space c then after_gap false (c == new_line) rest else c ∷ rest)
 
 -- ---- variations
 
@@ -104,13 +104,13 @@ string_at (c ∷ d ∷ rest) =
     else onto (c ∷ []) (string_at (d ∷ rest))))
 
 -- the text after this byte
-abbrev pub behind_byte : ℕ → List ℕ → Option (List ℕ)
-behind_byte b [] = None
-behind_byte b (c ∷ rest) = if c == b then Some rest else None
+abbrev pub after_byte : ℕ → List ℕ → Option (List ℕ)
+after_byte b [] = None
+after_byte b (c ∷ rest) = if c == b then Some rest else None
 
 -- the text after a gap and this byte
-abbrev pub behind_next : ℕ → List ℕ → Option (List ℕ)
-behind_next b text = behind_byte b (behind_gap false false text)
+abbrev pub after_next : ℕ → List ℕ → Option (List ℕ)
+after_next b text = after_byte b (after_gap false false text)
 
 -- a tag with what follows its bracket
 abbrev pub closed : List ℕ → ℕ → List ℕ → Option (List ℕ) → Token × List ℕ
@@ -120,7 +120,7 @@ closed name left text (Some rest) = (Tag name text left, rest)
 -- a tag with its string, if that is closed; its closing bracket comes after a gap
 abbrev pub with_text : List ℕ → ℕ → Option (List ℕ × List ℕ) → Token × List ℕ
 with_text name left None = (Bad_tag, [])
-with_text name left (Some found) = closed name left found.0 (behind_next (byte "]") found.1)
+with_text name left (Some found) = closed name left found.0 (after_next (byte "]") found.1)
 
 -- a tag with what follows its opening quote, if there is one
 abbrev pub with_string : List ℕ → Option (List ℕ) → Token × List ℕ
@@ -130,11 +130,11 @@ with_string name (Some string) = with_text name (length string) (string_at strin
 -- a tag with its name, which has a byte at least, and what follows that
 abbrev pub with_name : List ℕ → List ℕ → Token × List ℕ
 with_name [] rest = (Bad_tag, [])
-with_name (n ∷ ns) rest = with_string (n ∷ ns) (behind_next (byte "\"") rest)
+with_name (n ∷ ns) rest = with_string (n ∷ ns) (after_next (byte "\"") rest)
 
 -- a tag after its opening bracket: a name, a string and the closing bracket, with gaps before each
 abbrev pub tag_at : List ℕ → Token × List ℕ
-tag_at text = let inner = behind_gap false false text in with_name (take_while is_name_byte inner)
+tag_at text = let inner = after_gap false false text in with_name (take_while is_name_byte inner)
     (drop (prefix_len is_name_byte inner) inner)
 
 -- ---- tokens
@@ -150,7 +150,7 @@ unfoldable pub token_at : Bool → ℕ → List ℕ → Token × List ℕ
 token_at line_begins c rest =
     if line_begins && c == byte "%" then (Skip, line_end rest)
     else (if is_white_space c || c == byte "." then (Skip, rest)
-    else (if c == byte "{" then comment_at (length (c ∷ rest)) (behind_brace rest)
+    else (if c == byte "{" then comment_at (length (c ∷ rest)) (after_brace rest)
     else (if c == byte ";" then (Skip, line_end rest)
     else (if c == byte "$" then (Skip, drop (prefix_len is_digit rest) rest)
     else (if c == byte "(" then variation_at Plain false 1 rest

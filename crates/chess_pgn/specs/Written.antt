@@ -14,8 +14,8 @@ placed prefix column token =
     else new_line ∷ prefix ++ token)
 
 -- how many bytes the line has after it
-abbrev pub column_behind : ℕ → List ℕ → ℕ
-column_behind column token =
+abbrev pub next_column : ℕ → List ℕ → ℕ
+next_column column token =
     if column == 0 then length token
     else (if nat_le (column + 1 + length token) 79 then column + 1 + length token
     else length token)
@@ -27,7 +27,7 @@ line_close column = if column == 0 then [] else new_line ∷ []
 -- the text of tokens after a line of so many bytes
 abbrev pub filled_from : List ℕ → ℕ → List (List ℕ) → List ℕ
 filled_from prefix column [] = line_close column
-filled_from prefix column (t ∷ ts) = placed prefix column t ++ filled_from prefix (column_behind column t) ts
+filled_from prefix column (t ∷ ts) = placed prefix column t ++ filled_from prefix (next_column column t) ts
 
 -- the text of moves: the one that is a move text (the law `lines_are_filled`)
 abbrev pub move_text_of : List ℕ → List (List ℕ) → List ℕ

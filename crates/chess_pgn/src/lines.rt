@@ -5,7 +5,7 @@ ghost use Rattle.std.specs.Prelude.{◌≡◌, ◌+◌, ◌≤◌, ◌<◌, [], 
 ghost use Rattle.byte_devices.specs.Devices.{Puts};
 ghost use Rattle.chess_base.specs.Letters.{new_line};
 ghost use Rattle.chess_pgn.specs.ties.Waiting.{Adds};
-ghost use Rattle.chess_pgn.specs.Written.{placed, column_behind, line_close};
+ghost use Rattle.chess_pgn.specs.Written.{placed, next_column, line_close};
 
 use crate::buffer::TextBuffer;
 use byte_devices::{Output, WriteFault};
@@ -67,7 +67,7 @@ impl<'a> LineWriter<'a> {
         requires short { length token.now ≤ LINE_LEN }
         ensures added { Adds (W.seen writer.old) (W.seen writer.new) self.old.waiting self.new.waiting result
             (placed self.old.prefix.now self.old.column token.now) }
-        ensures column { self.new.column ≡ column_behind self.old.column token.now }
+        ensures column { self.new.column ≡ next_column self.old.column token.now }
         ensures prefix { self.new.prefix.now ≡ self.old.prefix.now }
     {
         if self.column == 0 {

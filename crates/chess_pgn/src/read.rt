@@ -9,12 +9,12 @@ ghost use Rattle.chess_text.specs.Moves.{reading};
 ghost use Rattle.chess_text.specs.declared.reading.Reading.TheVariants as reads;
 ghost use Rattle.chess_pgn.specs.Words.{kind_of};
 ghost use Rattle.chess_pgn.specs.ties.Seen.{token_seen, fault_seen};
-ghost use Rattle.chess_pgn.specs.GameRead.{declared_behind, told_behind, move_step, word_step, tag_step, step, variant_named, told_by, variant_told, pgn_read};
+ghost use Rattle.chess_pgn.specs.GameRead.{declared_after, told_behind, move_step, word_step, tag_step, step, variant_named, told_by, variant_told, pgn_read};
 ghost use Rattle.chess_pgn.specs.Tokens.{tokens_from};
 ghost use Rattle.chess_pgn.specs.ties.GameSteps.{EndsIn, so_far, step_seen, IsWithin, IsReadOn, ReadsAlike};
 
 use crate::bytes::is_passed;
-use crate::skips::behind_brace;
+use crate::skips::after_brace;
 use crate::tag::Tag;
 use crate::termination::Termination;
 use crate::token::{Token, TokenFault, first_place, next_token};
@@ -116,7 +116,7 @@ impl Progress {
     }
 
     // The progress after a tag.
-    fn behind_tag(self, tag: &Tag<'_>) -> Self
+    fn after_tag(self, tag: &Tag<'_>) -> Self
         ensures { result ≡ record {
           is_met = true;
           is_begun = self.is_begun;
@@ -214,7 +214,7 @@ fn end_game<B: Board>(game: &mut Game<B>, outcome: Outcome)
     requires { game.old.state.declared ≡ None }
     ensures { game.new
         ≡ left_at game.old
-        (with_declared game.old.state (declared_behind (is_some (verdict_now game.old.state)) outcome)) }
+        (with_declared game.old.state (declared_after (is_some (verdict_now game.old.state)) outcome)) }
 {
     if outcome != Outcome::Unfinished && !is_decided(game) {
         game.declare_open(outcome, Comment::cut(b""));
@@ -276,7 +276,7 @@ fn read_tag<B: Board>(
             }
         }
     }
-    Ok(Step::On(progress.behind_tag(tag)))
+    Ok(Step::On(progress.after_tag(tag)))
 }
 
 // Reads a token at an offset of a text of so many bytes.
@@ -396,7 +396,7 @@ fn told_variant(text: &[u8], at: usize) -> Variant
 // The offset after the white space and dots from an offset on. They are tokens too, but a game is read alike without
 // them.
 #[inline(always)]
-fn behind_blanks(text: &[u8], at: usize) -> usize
+fn after_blanks(text: &[u8], at: usize) -> usize
     requires { at ≤ length text.now }
     ensures alike { ReadsAlike text.now at result }
     ensures behind { at ≤ result }
@@ -411,7 +411,7 @@ fn behind_blanks(text: &[u8], at: usize) -> usize
 
 // The offset after the comment at an offset, where one that is closed begins there.
 #[inline(always)]
-fn behind_comment(text: &[u8], at: usize) -> Option<usize>
+fn after_comment(text: &[u8], at: usize) -> Option<usize>
     requires { at ≤ length text.now }
     ensures { IfSome result (λ behind.
         ReadsAlike text.now at behind × (at < behind) × (behind ≤ length text.now)) }
@@ -422,7 +422,7 @@ fn behind_comment(text: &[u8], at: usize) -> Option<usize>
     if *first != b'{' {
         return None;
     }
-    match behind_brace(rest) {
+    match after_brace(rest) {
         Some(behind) => Some(text.len() - behind.len()),
         None => None,
     }
@@ -430,16 +430,16 @@ fn behind_comment(text: &[u8], at: usize) -> Option<usize>
 
 // The offset after the white space, dots and comments from an offset on. A game is read alike without them.
 #[inline(always)]
-fn behind_skipped(text: &[u8], at: usize) -> usize
+fn after_skipped(text: &[u8], at: usize) -> usize
     requires { at ≤ length text.now }
     ensures alike { ReadsAlike text.now at result }
     ensures behind { at ≤ result }
     ensures within { result ≤ length text.now }
 {
-    let first = behind_blanks(text, at);
+    let first = after_blanks(text, at);
     let mut offset = first;
-    while let Some(behind) = behind_comment(text, offset) {
-        offset = behind_blanks(text, behind);
+    while let Some(behind) = after_comment(text, offset) {
+        offset = after_blanks(text, behind);
     }
     offset
 }
@@ -521,7 +521,7 @@ pub fn read_pgn<B: Board>(
                     Step::On(further) => progress = further,
                     Step::Ended(end) => return Ok(Some(end)),
                 }
-                offset = behind_skipped(text, behind);
+                offset = after_skipped(text, behind);
             }
             Ok(None) if progress.is_met => {
                 return Err(PgnFault {

@@ -2,7 +2,7 @@
 
 ghost use Rattle.std.specs.Prelude.{◌≡◌, ◌≤◌, ◌<◌, length, false, Option, IfSome};
 ghost use Rattle.std.specs.Option.{option_map};
-ghost use Rattle.chess_pgn.specs.Tokens.{line_end, behind_brace, behind_gap};
+ghost use Rattle.chess_pgn.specs.Tokens.{line_end, after_brace, after_gap};
 ghost use Rattle.chess_pgn.specs.ties.Braces.{has_brace};
 
 use crate::bytes::is_white_space;
@@ -39,7 +39,7 @@ fn has_brace(piece: &[u8]) -> bool
 #[inline(always)]
 fn near_brace(len: usize, text: &[u8]) -> &[u8]
     requires { 0 < len }
-    ensures rest { behind_brace result.now ≡ behind_brace text.now }
+    ensures rest { after_brace result.now ≡ after_brace text.now }
     ensures shorter { length result.now ≤ length text.now }
 {
     let mut rest = text;
@@ -55,8 +55,8 @@ fn near_brace(len: usize, text: &[u8]) -> &[u8]
 
 // The text after the first closing brace. Pieces of 8 bytes go fast over long comments, and those of 4 end a clock's.
 #[inline(always)]
-pub(crate) fn behind_brace(text: &[u8]) -> Option<&[u8]>
-    ensures rest { option_map (λ r. r.now) result ≡ behind_brace text.now }
+pub(crate) fn after_brace(text: &[u8]) -> Option<&[u8]>
+    ensures rest { option_map (λ r. r.now) result ≡ after_brace text.now }
     ensures shorter { IfSome result (λ r. length r.now < length text.now) }
 {
     let near = near_brace(8, text);
@@ -71,8 +71,8 @@ pub(crate) fn behind_brace(text: &[u8]) -> Option<&[u8]>
 }
 
 // The text after white space and `%` lines, where no line begins at the text's first byte.
-pub(crate) fn behind_gap(text: &[u8]) -> &[u8]
-    ensures { result.now ≡ behind_gap false false text.now }
+pub(crate) fn after_gap(text: &[u8]) -> &[u8]
+    ensures { result.now ≡ after_gap false false text.now }
 {
     let mut rest = text;
     let mut line_begins = false;

@@ -3,11 +3,11 @@
 ghost use Rattle.std.specs.Prelude.{◌≡◌, drop, take_while, Option};
 ghost use Rattle.std.specs.List.{prefix_len};
 ghost use Rattle.std.specs.Option.{option_map};
-ghost use Rattle.chess_pgn.specs.Tokens.{is_name_byte, behind_next, string_at, tag_at};
+ghost use Rattle.chess_pgn.specs.Tokens.{is_name_byte, after_next, string_at, tag_at};
 ghost use Rattle.chess_pgn.specs.ties.Seen.{tag_seen};
 
 use crate::bytes::is_name_byte;
-use crate::skips::behind_gap;
+use crate::skips::after_gap;
 
 /// A tag: its name, the bytes between its quotes as they are, and how many bytes of the text are left at the first of
 /// these.
@@ -31,10 +31,10 @@ pub(crate) fn split_name(text: &[u8]) -> (&[u8], &[u8])
 }
 
 // The text after a gap and this byte, if it is there.
-pub(crate) fn behind_next(byte: u8, text: &[u8]) -> Option<&[u8]>
-    ensures { option_map (λ r. r.now) result ≡ behind_next byte text.now }
+pub(crate) fn after_next(byte: u8, text: &[u8]) -> Option<&[u8]>
+    ensures { option_map (λ r. r.now) result ≡ after_next byte text.now }
 {
-    match behind_gap(text) {
+    match after_gap(text) {
         [first, rest @ ..] if *first == byte => Some(rest),
         _ => None,
     }
@@ -65,13 +65,13 @@ pub(crate) fn split_string(text: &[u8]) -> Option<(&[u8], &[u8])>
 pub(crate) fn read_tag(text: &[u8]) -> Option<(Tag<'_>, &[u8])>
     ensures { tag_seen result ≡ tag_at text.now }
 {
-    let (name, rest) = split_name(behind_gap(text));
+    let (name, rest) = split_name(after_gap(text));
     if name.is_empty() {
         return None;
     }
-    let string = behind_next(b'"', rest)?;
+    let string = after_next(b'"', rest)?;
     let (text, rest) = split_string(string)?;
-    let rest = behind_next(b']', rest)?;
+    let rest = after_next(b']', rest)?;
     let left = string.len();
     Some((Tag { name, text, left }, rest))
 }

@@ -2,14 +2,14 @@
 
 ghost use Rattle.std.specs.Prelude.{◌≡◌, ◌≤◌, ◌∷◌, length, drop, false};
 ghost use Rattle.std.specs.List.{prefix_len, take_while};
-ghost use Rattle.chess_pgn.specs.Tokens.{is_word_byte, token_at, comment_at, behind_brace, variation_at, Plain, tag_at, begins_line, first_place};
+ghost use Rattle.chess_pgn.specs.Tokens.{is_word_byte, token_at, comment_at, after_brace, variation_at, Plain, tag_at, begins_line, first_place};
 ghost use Rattle.chess_base.specs.Letters.{is_digit};
 ghost use Rattle.chess_pgn.specs.ties.Seen.{first_seen, IsNextToken};
 
 use crate::bytes::{is_digit, is_passed, is_word_byte};
-use crate::skips::{behind_brace, line_end};
+use crate::skips::{after_brace, line_end};
 use crate::tag::{Tag, read_tag};
-use crate::variation::behind_variation;
+use crate::variation::after_variation;
 
 /// What was read.
 #[derive(Clone, Copy)]
@@ -35,7 +35,7 @@ pub(crate) enum TokenFault {
     BadByte,
 }
 
-fn behind_digits(text: &[u8]) -> &[u8]
+fn after_digits(text: &[u8]) -> &[u8]
     ensures { result.now ≡ drop (prefix_len is_digit text.now) text.now }
 {
     let mut end = 0;
@@ -61,9 +61,9 @@ fn split_word(text: &[u8]) -> (&[u8], &[u8])
 // A comment after its brace, where so many bytes are left at that.
 #[inline(never)]
 fn read_comment(left: usize, text: &[u8]) -> Result<(Token<'_>, &[u8]), TokenFault>
-    ensures { first_seen result ≡ comment_at left (behind_brace text.now) }
+    ensures { first_seen result ≡ comment_at left (after_brace text.now) }
 {
-    match behind_brace(text) {
+    match after_brace(text) {
         Some(rest) => Ok((Token::Skip, rest)),
         None => Err(TokenFault::UnclosedComment { left }),
     }
@@ -74,7 +74,7 @@ fn read_comment(left: usize, text: &[u8]) -> Result<(Token<'_>, &[u8]), TokenFau
 fn read_variation(text: &[u8]) -> Result<(Token<'_>, &[u8]), TokenFault>
     ensures { first_seen result ≡ variation_at Plain false 1 text.now }
 {
-    match behind_variation(text) {
+    match after_variation(text) {
         Ok(rest) => Ok((Token::Skip, rest)),
         Err(fault) => Err(fault),
     }
@@ -110,7 +110,7 @@ fn read_token<'a>(
         _ if is_passed(first) => Ok((Token::Skip, rest)),
         b'{' => read_comment(text.len(), rest),
         b';' => Ok((Token::Skip, line_end(rest))),
-        b'$' => Ok((Token::Skip, behind_digits(rest))),
+        b'$' => Ok((Token::Skip, after_digits(rest))),
         b'(' => read_variation(rest),
         b'[' => read_bracket(rest),
         b'*' => Ok((Token::Word(&text[..1]), rest)),

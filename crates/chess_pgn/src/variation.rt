@@ -3,29 +3,29 @@
 ghost use Rattle.std.specs.Prelude.{◌≡◌, ◌+◌, ◌≤◌, ◌<◌, ◌^◌, length, false, IfSome, Option, Result};
 ghost use Rattle.std.specs.Option.{option_map};
 ghost use Rattle.chess_pgn.specs.Tokens.{variation_at, Plain};
-ghost use Rattle.chess_pgn.specs.ties.VariationParts.{behind_part, depth_behind};
+ghost use Rattle.chess_pgn.specs.ties.VariationParts.{after_part, depth_after};
 ghost use Rattle.chess_pgn.specs.ties.Seen.{variation_seen};
 
-use crate::skips::{behind_brace, line_end};
+use crate::skips::{after_brace, line_end};
 use crate::token::TokenFault;
 
 // The text after a byte, or after the `%` line or comment that it begins.
-fn behind_part(line_begins: bool, byte: u8, rest: &[u8]) -> Option<&[u8]>
-    ensures behind { option_map (λ r. r.now) result ≡ behind_part line_begins byte rest.now }
+fn after_part(line_begins: bool, byte: u8, rest: &[u8]) -> Option<&[u8]>
+    ensures behind { option_map (λ r. r.now) result ≡ after_part line_begins byte rest.now }
     ensures shorter { IfSome result (λ r. length r.now ≤ length rest.now) }
 {
     match byte {
         b'%' if line_begins => Some(line_end(rest)),
         b';' => Some(line_end(rest)),
-        b'{' => behind_brace(rest),
+        b'{' => after_brace(rest),
         _ => Some(rest),
     }
 }
 
 // How many variations are open in the outermost one after a byte, or `None` where that is closed.
-fn depth_behind(depth: usize, byte: u8) -> Option<usize>
+fn depth_after(depth: usize, byte: u8) -> Option<usize>
     requires { depth + 1 < 2 ^ 64 }
-    ensures { result ≡ depth_behind depth byte }
+    ensures { result ≡ depth_after depth byte }
 {
     match byte {
         b'(' => Some(depth + 1),
@@ -35,17 +35,17 @@ fn depth_behind(depth: usize, byte: u8) -> Option<usize>
 }
 
 // The text after a variation, whose `(` comes before the text.
-pub(crate) fn behind_variation(text: &[u8]) -> Result<&[u8], TokenFault>
+pub(crate) fn after_variation(text: &[u8]) -> Result<&[u8], TokenFault>
     ensures { variation_seen result ≡ variation_at Plain false 1 text.now }
 {
     let mut rest = text;
     let mut line_begins = false;
     let mut depth = 0;
     while let [byte, others @ ..] = rest {
-        let Some(behind) = behind_part(line_begins, *byte, others) else {
+        let Some(behind) = after_part(line_begins, *byte, others) else {
             return Err(TokenFault::UnclosedComment { left: rest.len() });
         };
-        let Some(open) = depth_behind(depth, *byte) else {
+        let Some(open) = depth_after(depth, *byte) else {
             return Ok(behind);
         };
         line_begins = *byte == b'\n';

@@ -6,7 +6,7 @@ ghost use Rattle.byte_devices.specs.Devices.{Puts};
 ghost use Rattle.chess_base.specs.Moves.{is_legal, after};
 ghost use Rattle.chess_game.specs.Game.{outcome_now};
 ghost use Rattle.chess_pgn.specs.GameText.{roster_lines, is_initial, fen_lines, start_lines_in, last_lines, further_lines, tag_lines, number_token, tokens_of_move, move_tokens, game_tokens, pgn};
-ghost use Rattle.chess_pgn.specs.ties.Lines.{placed_all, column_behind_all};
+ghost use Rattle.chess_pgn.specs.ties.Lines.{placed_all, column_after_all};
 ghost use Rattle.chess_pgn.specs.ties.Waiting.{Adds};
 ghost use Rattle.chess_pgn.specs.Written.{ended, move_text_of};
 
@@ -253,7 +253,7 @@ fn put_moves<B: Board, W: Output>(
         (move_tokens true game.now.state.start game.now.state.moves)) }
     ensures column { OnOk result
         (lines.new.column
-        ≡ column_behind_all lines.old.column (move_tokens true game.now.state.start game.now.state.moves)) }
+        ≡ column_after_all lines.old.column (move_tokens true game.now.state.start game.now.state.moves)) }
     ensures prefix { lines.new.prefix.now ≡ lines.old.prefix.now }
 {
     // The prover wants this fact: each move of a game is legal in the position before it.
@@ -277,7 +277,7 @@ fn put_move<B: Board, W: Output>(
     ensures added { Adds (W.seen writer.old) (W.seen writer.new) lines.old.waiting lines.new.waiting result
         (placed_all lines.old.prefix.now lines.old.column (tokens_of_move is_first (B.position board.old) m)) }
     ensures column { OnOk result
-        (lines.new.column ≡ column_behind_all lines.old.column (tokens_of_move is_first (B.position board.old) m)) }
+        (lines.new.column ≡ column_after_all lines.old.column (tokens_of_move is_first (B.position board.old) m)) }
     ensures prefix { lines.new.prefix.now ≡ lines.old.prefix.now }
     ensures position { OnOk result (B.position board.new ≡ after (B.position board.old) m) }
 {
@@ -303,7 +303,7 @@ fn put_number<W: Output>(
     ensures added { Adds (W.seen writer.old) (W.seen writer.new) lines.old.waiting lines.new.waiting result
         (placed_all lines.old.prefix.now lines.old.column (number_token setup.now.side is_first setup.now.fullmove)) }
     ensures column { lines.new.column
-        ≡ column_behind_all lines.old.column (number_token setup.now.side is_first setup.now.fullmove) }
+        ≡ column_after_all lines.old.column (number_token setup.now.side is_first setup.now.fullmove) }
     ensures prefix { lines.new.prefix.now ≡ lines.old.prefix.now }
 {
     let dots = match (setup.side, is_first) {

@@ -25,7 +25,7 @@ use Rattle.chess_pgn.specs.declared.read.PgnFaultKind.TheVariants.{BadTag, BadFe
 use Rattle.chess_pgn.specs.declared.termination.Termination.{Termination}
 use Rattle.chess_pgn.specs.declared.word.WordKind.{WordKind}
 use Rattle.chess_pgn.specs.declared.word.WordKind.TheVariants.{End, Number, Marks, Move}
-use Rattle.chess_pgn.specs.GameRead.{GameRead, declared_behind, told_behind, variant_told, pgn_read}
+use Rattle.chess_pgn.specs.GameRead.{GameRead, declared_after, told_behind, variant_told, pgn_read}
 use Rattle.chess_pgn.specs.Tokens.{Token, Skip, Tag, Word, Bad_tag, Unclosed_comment, Unclosed_variation, Bad, first_place, tokens_from}
 use Rattle.chess_pgn.specs.Words.{kind_of}
 
@@ -192,7 +192,7 @@ StopsAt limit total v taken [] s (Err f) =
 StopsAt limit total v taken (t ∷ ts) s (Ok None) = ⊥
 StopsAt limit total v taken (t ∷ ts) s (Ok (Some e)) =
     (word : List ℕ) × (t.1 ≡ Word word) × (kind_of word ≡ End e.outcome)
-    × (s.declared ≡ declared_behind (is_some (verdict_now s)) e.outcome)
+    × (s.declared ≡ declared_after (is_some (verdict_now s)) e.outcome)
     × (e.termination ≡ termination_told None taken) × (e.offset ≡ total - t.0 + length word)
 StopsAt limit total v taken (t ∷ ts) s (Err f) =
     (s.declared ≡ None) × (token_fault limit total v (list_any (λ u. begins u.1) taken) s t.0 t.1 ≡ Some f)

@@ -1,18 +1,18 @@
 -- A variation by the parts that are skipped at once, where a line begins or not.
 use Rattle.std.specs.Prelude.{ℕ, zero, suc, ◌+◌, Bool, ◌&&◌, ◌||◌, List, Option, Some, None, ◌==◌, if◌then◌else◌}
 use Rattle.chess_base.specs.Letters.{byte}
-use Rattle.chess_pgn.specs.Tokens.{line_end, behind_brace}
+use Rattle.chess_pgn.specs.Tokens.{line_end, after_brace}
 
 -- the text after a byte, or after the `%` line or comment that it begins
-abbrev pub behind_part : Bool → ℕ → List ℕ → Option (List ℕ)
-behind_part line_begins c rest = if line_begins && c == byte "%"
-    || c == byte ";" then Some (line_end rest) else (if c == byte "{" then behind_brace rest else Some rest)
+abbrev pub after_part : Bool → ℕ → List ℕ → Option (List ℕ)
+after_part line_begins c rest = if line_begins && c == byte "%"
+    || c == byte ";" then Some (line_end rest) else (if c == byte "{" then after_brace rest else Some rest)
 
 abbrev pub one_fewer : ℕ → Option ℕ
 one_fewer zero = None
 one_fewer (suc n) = Some n
 
 -- how many variations are open in the outermost one after a byte, if that is still open
-abbrev pub depth_behind : ℕ → ℕ → Option ℕ
-depth_behind depth c = if c == byte "(" then Some (depth + 1) else
+abbrev pub depth_after : ℕ → ℕ → Option ℕ
+depth_after depth c = if c == byte "(" then Some (depth + 1) else
     (if c == byte ")" then one_fewer depth else Some depth)

@@ -20,8 +20,8 @@ loop-token-preserved g c =
     c.loop-token.progress c.in-On.further c.loop-token.offset c.in-Ok-Some.behind (token_seen c.in-Ok-Some.token)
     c.loop-token.invariant next.0 next.1 next.2 c.read_token.ensures.limit step_is in
     alike c.args.game.now.limit c.args.text.now c.args.at c.read_token.new.game c.in-On.further c.in-Ok-Some.behind
-    c.behind_skipped-offset.result before c.behind_skipped-offset.ensures.alike c.behind_skipped-offset.ensures.behind
-    c.behind_skipped-offset.ensures.within
+    c.after_skipped-offset.result before c.after_skipped-offset.ensures.alike c.after_skipped-offset.ensures.behind
+    c.after_skipped-offset.ensures.within
 
 pub told_fault-requires-clause-within : goal.told_fault-requires-clause-within
 told_fault-requires-clause-within g c =

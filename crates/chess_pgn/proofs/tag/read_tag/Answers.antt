@@ -9,6 +9,6 @@ pub returns-in_err-rest : goal.returns-in_err-rest
 returns-in_err-rest c =
     let name = c.split_name.ensures in
     ap tag_seen c.from_residual-in_err-rest.ensures
-    ∙ sym (tag_unclosed c.args.text.now c.behind_gap.result.now c.split_name.result.0.now c.split_name.result.1.now
-    c.in_ok-string.string.now c.in_ok-text.text.now c.in_ok-text.rest.now c.behind_gap.ensures name.name name.rest
+    ∙ sym (tag_unclosed c.args.text.now c.after_gap.result.now c.split_name.result.0.now c.split_name.result.1.now
+    c.in_ok-string.string.now c.in_ok-text.text.now c.in_ok-text.rest.now c.after_gap.ensures name.name name.rest
     c.in_ok-string.ensures c.in_ok-text.ensures c.in_err-rest.ensures)

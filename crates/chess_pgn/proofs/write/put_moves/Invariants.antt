@@ -1,7 +1,7 @@
 use Rattle.std.proofs.Common.{◌≡◌, take, true}
 use Rattle.chess_game.specs.Line.{last}
 use Rattle.chess_pgn.specs.GameText.{move_tokens}
-use Rattle.chess_pgn.specs.ties.Lines.{placed_all, column_behind_all}
+use Rattle.chess_pgn.specs.ties.Lines.{placed_all, column_after_all}
 use Rattle.chess_pgn.specs.ties.Waiting.{TookSome}
 use Rattle.chess_pgn.proofs.write.put_moves.Given as goal
 
@@ -12,7 +12,7 @@ invariant-loop-ply g l =
     record {
       added : TookSome (seen l.fn.writer) (seen l.writer) l.fn.lines.waiting l.lines.waiting
           (placed_all l.fn.lines.prefix.now l.fn.lines.column tokens);
-      column : l.lines.column ≡ column_behind_all l.fn.lines.column tokens;
+      column : l.lines.column ≡ column_after_all l.fn.lines.column tokens;
       prefix : l.lines.prefix.now ≡ l.fn.lines.prefix.now;
       position : g.B.Board.position l.scratch ≡ last l.game.state.start (take l.ply l.game.state.moves);
     }

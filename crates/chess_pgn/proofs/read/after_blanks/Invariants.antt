@@ -1,6 +1,6 @@
 use Rattle.std.proofs.Common.{◌≤◌, ◌-◌, length}
 use Rattle.chess_pgn.specs.ties.GameSteps.{ReadsAlike}
-use Rattle.chess_pgn.proofs.read.behind_blanks.Given as goal
+use Rattle.chess_pgn.proofs.read.after_blanks.Given as goal
 
 -- so far a game is read alike
 abbrev pub invariant-loop-offset : goal.invariant-loop-offset

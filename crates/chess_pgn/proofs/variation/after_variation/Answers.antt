@@ -2,26 +2,26 @@
 -- step of the definition (Variations.part_behind), and a byte opens at most one more.
 use Rattle.std.proofs.Common.{sym, ◌∙◌, get_or, Some, arith}
 use Rattle.chess_pgn.proofs.Variations.{part_unclosed, part_behind, depth_few}
-use Rattle.chess_pgn.proofs.variation.behind_variation.Goals as goal
+use Rattle.chess_pgn.proofs.variation.after_variation.Goals as goal
 
-pub returns-in_default-behind_part : goal.returns-in_default-behind_part
-returns-in_default-behind_part c =
+pub returns-in_default-after_part : goal.returns-in_default-after_part
+returns-in_default-after_part c =
     let l = c.loop-rest in
     sym (part_unclosed l.line_begins l.depth l.rest.now c.in-len1-up.len_at_least
-    c.in_default-behind_part.ensures.behind) ∙ l.invariant.left
+    c.in_default-after_part.ensures.behind) ∙ l.invariant.left
 
 pub loop-rest-preserved : goal.loop-rest-preserved
 loop-rest-preserved c =
     let l = c.loop-rest in
-    let inner = c.in-Some-depth_behind.open in
+    let inner = c.in-Some-depth_after.open in
     record {
       left = sym (part_behind l.line_begins l.depth l.rest.now c.in-Some.behind.now (Some inner)
-          c.in-len1-up.len_at_least c.in-Some.ensures.behind c.in-Some-depth_behind.ensures) ∙ l.invariant.left;
+          c.in-len1-up.len_at_least c.in-Some.ensures.behind c.in-Some-depth_after.ensures) ∙ l.invariant.left;
       few = omega (
         arith,
         c.in-Some.ensures.shorter,
         depth_few l.depth (get_or l.rest.now 0 0) inner
-            c.in-Some-depth_behind.ensures,
+            c.in-Some-depth_after.ensures,
         l.invariant.few,
       );
     }

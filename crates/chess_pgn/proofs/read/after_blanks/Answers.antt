@@ -2,7 +2,7 @@
 -- (GameReads.passed).
 use Rattle.std.proofs.Common.{sym, ◌∙◌, arith}
 use Rattle.chess_pgn.proofs.GameReads.{passed}
-use Rattle.chess_pgn.proofs.read.behind_blanks.Goals as goal
+use Rattle.chess_pgn.proofs.read.after_blanks.Goals as goal
 
 pub loop-offset-preserved : goal.loop-offset-preserved
 loop-offset-preserved c =

@@ -1,6 +1,6 @@
 use Rattle.std.proofs.Common.{◌≡◌, ◌+◌, ◌≤◌, suc, false, length}
 use Rattle.chess_pgn.specs.Tokens.{variation_at, Plain}
-use Rattle.chess_pgn.proofs.variation.behind_variation.Given as goal
+use Rattle.chess_pgn.proofs.variation.after_variation.Given as goal
 
 abbrev pub invariant-loop-rest : goal.invariant-loop-rest
 invariant-loop-rest l = record {

@@ -1,7 +1,7 @@
 use Rattle.std.proofs.Common.{◌≡◌, ◌+◌, ◌-◌, ◌≤◌, length, drop}
 use Rattle.std.specs.List.{prefix_len}
 use Rattle.chess_base.specs.Letters.{is_digit}
-use Rattle.chess_pgn.proofs.token.behind_digits.Given as goal
+use Rattle.chess_pgn.proofs.token.after_digits.Given as goal
 
 abbrev pub invariant-loop-end : goal.invariant-loop-end
 invariant-loop-end l = (l.end ≤ length l.text)

@@ -1,9 +1,0 @@
-use Rattle.std.proofs.Common.{◌≡◌, ◌≤◌, length}
-use Rattle.chess_pgn.specs.Tokens.{behind_brace}
-use Rattle.chess_pgn.proofs.skips.behind_brace.Given as goal
-
-abbrev pub invariant-loop-rest : goal.invariant-loop-rest
-invariant-loop-rest l = (behind_brace l.rest ≡ behind_brace l.text) × (length l.rest ≤ length l.text)
-
-abbrev pub decreases-loop-rest : goal.decreases-loop-rest
-decreases-loop-rest l = length l.rest
