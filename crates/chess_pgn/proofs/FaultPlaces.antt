@@ -18,7 +18,7 @@ use Rattle.chess_pgn.specs.declared.read.PgnEnd.{PgnEnd}
 use Rattle.chess_pgn.specs.declared.read.PgnFault.{PgnFault}
 use Rattle.chess_pgn.specs.declared.word.WordKind.{WordKind}
 use Rattle.chess_pgn.specs.declared.word.WordKind.TheVariants.{End, Number, Marks, Move}
-use Rattle.chess_pgn.specs.GameRead.{SoFar, GameRead, Step, On, Stop, unless_full, move_step, word_step, fen_step, tag_step, step, go_on, game_of, at_text_end, nothing_read, variant_told, pgn_read}
+use Rattle.chess_pgn.specs.GameRead.{SoFar, GameRead, Step, On, Stop, unless_full, move_step, word_step, fen_step, tag_step, step, go_on, game_of, at_text_end, nothing_read, tagged_variant, pgn_read}
 use Rattle.chess_pgn.specs.ties.GameSteps.{IsWithin}
 use Rattle.chess_pgn.specs.laws.Offsets.{FaultsHaveOffsets}
 use Rattle.chess_pgn.specs.Tokens.{Token, Skip, Tag, Word, Bad_tag, Unclosed_comment, Unclosed_variation, Bad, token_at, tokens_of, first_place, begins_line, tokens_from}
@@ -131,7 +131,7 @@ pub fault_in_place : FaultsHaveOffsets
 unfolding pgn_read tokens_from
 fault_in_place limit text at h =
     let offset : ℕ = first_place text at in
-    let g : SoFar = nothing_read (variant_told Normal (tokens_from text offset)) in
+    let g : SoFar = nothing_read (tagged_variant Normal (tokens_from text offset)) in
     let later = behind text at h in
     let low = later.0 in
     let high = later.1 in

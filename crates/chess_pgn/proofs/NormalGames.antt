@@ -14,7 +14,7 @@ use Rattle.chess_text.specs.Moves.{reading}
 use Rattle.chess_pgn.specs.declared.read.PgnFaultKind.TheVariants.{NoResult}
 use Rattle.chess_pgn.specs.declared.word.WordKind.{WordKind}
 use Rattle.chess_pgn.specs.declared.word.WordKind.TheVariants.{End, Number, Marks, Move}
-use Rattle.chess_pgn.specs.GameRead.{SoFar, Step, On, Stop, fails, fen_step, tag_step, move_step, word_step, step, unless_full, go_on, game_of, nothing_read, behind_word, told_next, variant_told, pgn_read, told_behind}
+use Rattle.chess_pgn.specs.GameRead.{SoFar, Step, On, Stop, fails, fen_step, tag_step, move_step, word_step, step, unless_full, go_on, game_of, nothing_read, variant_after_word, variant_then, tagged_variant, pgn_read, termination_after}
 use Rattle.chess_pgn.specs.GameText.{start_lines_in, last_lines}
 use Rattle.chess_pgn.specs.laws.Normal.{normal_tag_step, normal_step, normal_game_of, normal_read, is_mark_word, names_no_variant, NormalIsKept}
 use Rattle.chess_pgn.specs.Tokens.{Token, Skip, Tag, Word, Bad_tag, Unclosed_comment, Unclosed_variation, Bad, first_place, tokens_from}
@@ -28,7 +28,7 @@ both : (a b : Bool) → (not a && b) ≡ true → (a ≡ false) × (b ≡ true)
 both true b e = absurd (cc)
 both false b e = (refl, e)
 
-normal_told : (ts : List (ℕ × Token)) → names_no_variant ts ≡ true → variant_told Normal ts ≡ Normal
+normal_told : (ts : List (ℕ × Token)) → names_no_variant ts ≡ true → tagged_variant Normal ts ≡ Normal
 normal_told [] h = refl
 normal_told ((left, Skip) ∷ ts) h = normal_told ts h
 normal_told ((left, Tag name text string) ∷ ts) h =
@@ -36,9 +36,9 @@ normal_told ((left, Tag name text string) ∷ ts) h =
     rw none.0 (normal_told ts none.1)
 normal_told ((left, Word word) ∷ ts) h = by_kind (λ e. normal_told ts e) (kind_of word) h
   where
-    by_kind : (names_no_variant ts ≡ true → variant_told Normal ts ≡ Normal) → (k : WordKind)
+    by_kind : (names_no_variant ts ≡ true → tagged_variant Normal ts ≡ Normal) → (k : WordKind)
         → cond (not (is_mark_word k)) true (not false && names_no_variant ts) ≡ true
-        → told_next Normal (behind_word Normal k) (λ u. variant_told u ts) ≡ Normal
+        → variant_then Normal (variant_after_word Normal k) (λ u. tagged_variant u ts) ≡ Normal
     by_kind later (End o) e = refl
     by_kind later Number e = refl
     by_kind later Marks e = later e
@@ -97,7 +97,7 @@ module _ (limit total : ℕ) (g : SoFar) (normal : g.state.start.variant ≡ Nor
         state = g.state;
         is_met = true;
         is_begun = g.is_begun;
-        termination = told_behind g.termination name text;
+        termination = termination_after g.termination name text;
       }))) normal
 
   same_step : (left : ℕ) (t : Token) → step limit total g left t ≡ normal_step limit total g left t

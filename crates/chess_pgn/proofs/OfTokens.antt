@@ -27,8 +27,8 @@ use Rattle.chess_pgn.specs.declared.read.PgnFaultKind.TheVariants.{BadFen, BadTo
 use Rattle.chess_pgn.specs.declared.termination.Termination.{Termination}
 use Rattle.chess_pgn.specs.declared.word.WordKind.{WordKind}
 use Rattle.chess_pgn.specs.declared.word.WordKind.TheVariants.{End, Number, Marks, Move}
-use Rattle.chess_pgn.specs.GameRead.{SoFar, GameRead, Step, On, Stop, game_of, go_on, step, nothing_read, variant_told, pgn_read, move_step, word_step, tag_step, fen_step, fails, unless_full, told_behind}
-use Rattle.chess_pgn.specs.laws.Retold.{begins, counts, is_fen, can_be_taken, can_all_be_taken, if_move, move_words_of, move_words, start_by, start_told, termination_by_token, termination_told, AreReadAs, unless_closed, move_fault, word_fault, fault_at, token_fault, StopsAt, IsOfTokens, is_number_or_move, is_outcome}
+use Rattle.chess_pgn.specs.GameRead.{SoFar, GameRead, Step, On, Stop, game_of, go_on, step, nothing_read, tagged_variant, pgn_read, move_step, word_step, tag_step, fen_step, fails, unless_full, termination_after}
+use Rattle.chess_pgn.specs.laws.Retold.{begins, counts, is_fen, can_be_taken, can_all_be_taken, if_move, move_words_of, move_words, start_by, tagged_start, termination_by_token, tagged_termination, AreReadAs, unless_closed, move_fault, word_fault, fault_at, token_fault, StopsAt, IsOfTokens, is_number_or_move, is_outcome}
 use Rattle.chess_pgn.specs.Tokens.{Token, Skip, Tag, Word, Bad_tag, Unclosed_comment, Unclosed_variation, Bad, first_place, tokens_from}
 use Rattle.chess_pgn.specs.Words.{kind_of}
 use Rattle.chess_pgn.proofs.FenVariants.{read_variant, initial_variant}
@@ -68,12 +68,12 @@ read_more limit start done (v ∷ ws) (n ∷ ms) w m h none few k =
     )
 
 start_more : (v : Variant) (p : Setup) (ts : List (ℕ × Token)) (t : ℕ × Token)
-    → start_told v p (ts ++ t ∷ []) ≡ start_by v (start_told v p ts) t.1
+    → tagged_start v p (ts ++ t ∷ []) ≡ start_by v (tagged_start v p ts) t.1
 start_more v p [] t = refl
 start_more v p (u ∷ ts) t = start_more v (start_by v p u.1) ts t
 
 termination_more : (o : Option Termination) (ts : List (ℕ × Token)) (t : ℕ × Token)
-    → termination_told o (ts ++ t ∷ []) ≡ termination_by_token (termination_told o ts) t.1
+    → tagged_termination o (ts ++ t ∷ []) ≡ termination_by_token (tagged_termination o ts) t.1
 termination_more o [] t = refl
 termination_more o (u ∷ ts) t = termination_more (termination_by_token o u.1) ts t
 
@@ -103,13 +103,13 @@ module _ (limit total : ℕ) (v : Variant) where
   -- the game of these tokens
   record IsSoFar (done : List (ℕ × Token)) (g : SoFar) : Type 0 where
     can_be : can_all_be_taken v false done ≡ true
-    start : g.state.start ≡ start_told v (initial_setup_of v) done
+    start : g.state.start ≡ tagged_start v (initial_setup_of v) done
     variant : g.state.start.variant ≡ v
     moves : AreReadAs limit g.state.start [] (move_words done) g.state.moves
     undeclared : g.state.declared ≡ None
     met : list_any (λ t. counts t.1) done ≡ g.is_met
     begun : list_any (λ t. begins t.1) done ≡ g.is_begun
-    told : termination_told None done ≡ g.termination
+    told : tagged_termination None done ≡ g.termination
     fresh : g.is_begun ≡ false → (g.state.moves ≡ []) × (move_words done ≡ [])
 
   -- what one token more leaves
@@ -164,7 +164,7 @@ module _ (limit total : ℕ) (v : Variant) where
 
   record IsStopped (done : List (ℕ × Token)) (t : ℕ × Token) (r : GameRead) : Type 0 where
     can_be : can_all_be_taken v false done ≡ true
-    start : r.state.start ≡ start_told v (initial_setup_of v) done
+    start : r.state.start ≡ tagged_start v (initial_setup_of v) done
     moves : AreReadAs limit r.state.start [] (move_words done) r.state.moves
     stop : (ts : List (ℕ × Token)) → StopsAt limit total v done (t ∷ ts) r.state r.answer
 
@@ -313,12 +313,12 @@ module _ (limit total : ℕ) (v : Variant) where
           state = g.state;
           is_met = true;
           is_begun = g.is_begun;
-          termination = told_behind g.termination name text;
+          termination = termination_after g.termination name text;
         })))
     tag_leaves true e = fen_leaves e (fen_reading_as g.state.start.variant text) (same _ refl)
     tag_leaves false e =
         more done left (Tag name text string) g _ s
-        (quiet done (Tag name text string) g true g.is_begun (told_behind g.termination name text) s refl (rw e refl)
+        (quiet done (Tag name text string) g true g.is_begun (termination_after g.termination name text) s refl (rw e refl)
         (rw (open_yet, e) refl) (or-true g.is_met) (or-false g.is_begun) refl)
 
   -- ---- all tokens
@@ -378,12 +378,12 @@ module _ (limit total : ℕ) (v : Variant) where
       by_step tokens done t ts all later (On k) l = later k l
 
 pub game_of_tokens : (limit : ℕ) (text : List ℕ) (at : ℕ)
-    → IsOfTokens limit (length text) (variant_told Normal (tokens_from text (first_place text at)))
+    → IsOfTokens limit (length text) (tagged_variant Normal (tokens_from text (first_place text at)))
     (tokens_from text (first_place text at)) (pgn_read limit text at)
 unfolding pgn_read
 game_of_tokens limit text at =
     let tokens : List (ℕ × Token) = tokens_from text (first_place text at) in
-    let v : Variant = variant_told Normal tokens in
+    let v : Variant = tagged_variant Normal tokens in
     of_tokens limit (length text) v tokens [] tokens (nothing_read v) refl
     (record {
       can_be = refl;

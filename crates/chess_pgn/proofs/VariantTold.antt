@@ -20,7 +20,7 @@ use Rattle.chess_pgn.specs.declared.tags.Tags.{Tags}
 use Rattle.chess_pgn.specs.declared.word.WordKind.TheVariants.{Number}
 use Rattle.chess_pgn.specs.declared.termination.Termination.{Termination}
 use Rattle.chess_pgn.specs.Terminations.{termination_text, termination_of}
-use Rattle.chess_pgn.specs.GameRead.{behind_word, told_by, told_next, variant_told}
+use Rattle.chess_pgn.specs.GameRead.{variant_after_word, variant_after, variant_then, tagged_variant}
 use Rattle.chess_pgn.specs.GameText.{is_initial, fen_lines, start_lines_in, last_lines, further_lines, tag_lines, number_token, move_tokens, game_tokens}
 use Rattle.chess_pgn.specs.laws.PgnLaw.{AreTagTexts}
 use Rattle.chess_text.specs.San.{san}
@@ -36,28 +36,28 @@ use Rattle.chess_pgn.proofs.Walk.{enough, shorter}
 
 -- the variant named from a text on
 abbrev pub told_on : Variant → Bool → List ℕ → Variant
-told_on v begins text = variant_told v (tokens_of (length text) begins text)
+told_on v begins text = tagged_variant v (tokens_of (length text) begins text)
 
 behind : Variant → ℕ → Token × List ℕ → ℕ → Variant
-behind v c t most = told_next v (told_by v t.0) (λ u. variant_told u (tokens_of most (eqb c 10) t.1))
+behind v c t most = variant_then v (variant_after v t.0) (λ u. tagged_variant u (tokens_of most (eqb c 10) t.1))
 
 token_tells : (v u : Variant) (begins : Bool) (c : ℕ) (rest : List ℕ) (token : Token) (more : List ℕ)
-    → token_at begins c rest ≡ (token, more) → told_by v token ≡ Some u
+    → token_at begins c rest ≡ (token, more) → variant_after v token ≡ Some u
     → told_on v begins (c ∷ rest) ≡ told_on u (eqb c 10) more
 unfolding tokens_of behind
 token_tells v u begins c rest token more is told =
     let few : length more ≤ length rest = subst (λ (t : Token × List ℕ). length t.1 ≤ length rest) is
     (shorter begins c rest) in
     ap (λ (t : Token × List ℕ). behind v c t (length rest)) is
-    ∙ ap (λ o. told_next v o (λ w. variant_told w (tokens_of (length rest) (eqb c 10) more))) told
-    ∙ ap (variant_told u) (enough (length rest) (length more) (eqb c 10) more few (omega arith))
+    ∙ ap (λ o. variant_then v o (λ w. tagged_variant w (tokens_of (length rest) (eqb c 10) more))) told
+    ∙ ap (tagged_variant u) (enough (length rest) (length more) (eqb c 10) more few (omega arith))
 
 token_stops : (v : Variant) (begins : Bool) (c : ℕ) (rest : List ℕ) (token : Token) (more : List ℕ)
-    → token_at begins c rest ≡ (token, more) → told_by v token ≡ None → told_on v begins (c ∷ rest) ≡ v
+    → token_at begins c rest ≡ (token, more) → variant_after v token ≡ None → told_on v begins (c ∷ rest) ≡ v
 unfolding tokens_of behind
 token_stops v begins c rest token more is told =
     ap (λ (t : Token × List ℕ). behind v c t (length rest)) is
-    ∙ ap (λ o. told_next v o (λ w. variant_told w (tokens_of (length rest) (eqb c 10) more))) told
+    ∙ ap (λ o. variant_then v o (λ w. tagged_variant w (tokens_of (length rest) (eqb c 10) more))) told
 
 line_end_tells : (v : Variant) (begins : Bool) (rest : List ℕ) → told_on v begins (10 ∷ rest) ≡ told_on v true rest
 unfolding token_at
@@ -70,7 +70,7 @@ abbrev TellsLine : Variant → Variant → List ℕ → Type 0
 TellsLine v u line = (begins : Bool) (rest : List ℕ) → told_on v begins (line ++ 10 ∷ rest) ≡ told_on u true rest
 
 tag_tells : (v u : Variant) (name text : List ℕ) → is_tag_name name ≡ true → list_all is_in_line text ≡ true
-    → ((string : ℕ) → told_by v (Tag name (escaped text) string) ≡ Some u) → TellsLine v u (tag_line name text)
+    → ((string : ℕ) → variant_after v (Tag name (escaped text) string) ≡ Some u) → TellsLine v u (tag_line name text)
 tag_tells v u name text named line next begins rest =
     let string : List ℕ = escaped text ++ 34 ∷ 93 ∷ 10 ∷ rest in
     ap (told_on v begins) (tag_line_bytes name text (10 ∷ rest))
@@ -203,7 +203,7 @@ digits_stop : (v : Variant) (word : List ℕ) (begins : Bool) (rest : List ℕ) 
     → list_all is_word_byte word ≡ true → kind_of word ≡ Number → told_on v begins (word ++ 46 ∷ rest) ≡ v
 digits_stop v [] begins rest some all kind = absurd (omega arith)
 digits_stop v (c ∷ cs) begins rest some all kind = token_stops v begins c (cs ++ 46 ∷ rest) (Word (c ∷ cs)) (46 ∷ rest)
-    (word_token begins c cs 46 rest all refl) (ap (behind_word v) kind)
+    (word_token begins c cs 46 rest all refl) (ap (variant_after_word v) kind)
 
 number_stops : (v : Variant) (n : ℕ) (begins : Bool) (rest : List ℕ) → n ≤ 999999
     → told_on v begins (decimal n ++ 46 ∷ rest) ≡ v

@@ -93,14 +93,14 @@ fen_step g offset (Ok start) = On (record g { state = from_start start; is_met =
 fen_step g offset (Err fault) = fails g BadFen offset
 
 -- what is known of the game's end after a tag: the last one counts
-abbrev pub told_behind : Option Termination → List ℕ → List ℕ → Option Termination
-told_behind before name text = if bytes_eq name (codes "Termination") then termination_named text else before
+abbrev pub termination_after : Option Termination → List ℕ → List ℕ → Option Termination
+termination_after before name text = if bytes_eq name (codes "Termination") then termination_named text else before
 
 -- a tag whose string begins at that offset
 abbrev pub tag_step : SoFar → List ℕ → List ℕ → ℕ → Step
 tag_step g name text offset =
     if bytes_eq name (codes "FEN") then fen_step g offset (fen_reading_as g.state.start.variant text)
-    else On (record g { is_met = true; termination = told_behind g.termination name text })
+    else On (record g { is_met = true; termination = termination_after g.termination name text })
 
 -- ---- tokens, in a text of so many bytes; each with how many bytes are left where it begins
 
@@ -153,32 +153,32 @@ variant_named text =
     else Normal
 
 -- the variant after a word, if more tags may follow it: after marks alone
-abbrev pub behind_word : Variant → WordKind → Option Variant
-behind_word v Marks = Some v
-behind_word v _ = None
+abbrev pub variant_after_word : Variant → WordKind → Option Variant
+variant_after_word v Marks = Some v
+variant_after_word v _ = None
 
 -- the variant after a token, if more tags may follow it
-abbrev pub told_by : Variant → Token → Option Variant
-told_by v Skip = Some v
-told_by v (Tag name text left) = Some (if bytes_eq name (codes "Variant") then variant_named text else v)
-told_by v (Word word) = behind_word v (kind_of word)
-told_by v _ = None
+abbrev pub variant_after : Variant → Token → Option Variant
+variant_after v Skip = Some v
+variant_after v (Tag name text left) = Some (if bytes_eq name (codes "Variant") then variant_named text else v)
+variant_after v (Word word) = variant_after_word v (kind_of word)
+variant_after v _ = None
 
 -- the variant so far where no more tags may follow, else what `later` gives
-abbrev pub told_next : Variant → Option Variant → (Variant → Variant) → Variant
-told_next v None later = v
-told_next v (Some u) later = later u
+abbrev pub variant_then : Variant → Option Variant → (Variant → Variant) → Variant
+variant_then v None later = v
+variant_then v (Some u) later = later u
 
 -- the variant that tokens name
-abbrev pub variant_told : Variant → List (ℕ × Token) → Variant
-variant_told v [] = v
-variant_told v (t ∷ ts) = told_next v (told_by v t.1) (λ u. variant_told u ts)
+abbrev pub tagged_variant : Variant → List (ℕ × Token) → Variant
+tagged_variant v [] = v
+tagged_variant v (t ∷ ts) = variant_then v (variant_after v t.1) (λ u. tagged_variant u ts)
 
 -- ---- the game
 
 -- what tokens of a text of so many bytes are read as, for a game of at most so many half-moves
 abbrev pub tokens_read : ℕ → ℕ → List (ℕ × Token) → GameRead
-tokens_read limit total tokens = game_of limit total (nothing_read (variant_told Normal tokens)) tokens
+tokens_read limit total tokens = game_of limit total (nothing_read (tagged_variant Normal tokens)) tokens
 
 -- what a text is read as from an offset on
 unfoldable pub pgn_read : ℕ → List ℕ → ℕ → GameRead

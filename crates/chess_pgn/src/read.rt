@@ -9,7 +9,7 @@ ghost use Rattle.chess_text.specs.Moves.{reading};
 ghost use Rattle.chess_text.specs.declared.reading.Reading.TheVariants as reads;
 ghost use Rattle.chess_pgn.specs.Words.{kind_of};
 ghost use Rattle.chess_pgn.specs.ties.Seen.{token_seen, fault_seen};
-ghost use Rattle.chess_pgn.specs.GameRead.{declared_after, told_behind, move_step, word_step, tag_step, step, variant_named, told_by, variant_told, pgn_read};
+ghost use Rattle.chess_pgn.specs.GameRead.{declared_after, termination_after, move_step, word_step, tag_step, step, variant_named, variant_after, tagged_variant, pgn_read};
 ghost use Rattle.chess_pgn.specs.Tokens.{tokens_from};
 ghost use Rattle.chess_pgn.specs.ties.GameSteps.{EndsIn, so_far, step_seen, IsWithin, IsReadOn, ReadsAlike};
 
@@ -120,20 +120,20 @@ impl Progress {
         ensures { result ≡ record {
           is_met = true;
           is_begun = self.is_begun;
-          termination = told_behind self.termination tag.now.name.now tag.now.text.now;
+          termination = termination_after self.termination tag.now.name.now tag.now.text.now;
         } }
     {
         Progress {
             is_met: true,
-            termination: told_behind(self.termination, tag),
+            termination: termination_after(self.termination, tag),
             ..self
         }
     }
 }
 
 // What is known of the game's end after a tag: the last tag Termination counts.
-fn told_behind(before: Option<Termination>, tag: &Tag<'_>) -> Option<Termination>
-    ensures { result ≡ told_behind before tag.now.name.now tag.now.text.now }
+fn termination_after(before: Option<Termination>, tag: &Tag<'_>) -> Option<Termination>
+    ensures { result ≡ termination_after before tag.now.name.now tag.now.text.now }
 {
     if tag.name == b"Termination".as_slice() {
         Termination::named(tag.text)
@@ -308,7 +308,7 @@ fn read_token<B: Board>(
 }
 
 // What is reported where no token can be read at an offset of a text of so many bytes.
-fn told_fault(fault: TokenFault, progress: Progress, len: usize, offset: usize) -> PgnFault
+fn reported_fault(fault: TokenFault, progress: Progress, len: usize, offset: usize) -> PgnFault
     requires within { IsWithin (len - offset) (fault_seen fault) }
     requires offset { offset ≤ len }
     ensures { (limit : ℕ) (s : State)
@@ -353,8 +353,8 @@ fn variant_named(text: &[u8]) -> Variant
 }
 
 // The variant after a token, if more tags may follow it.
-pub(crate) fn told_by(variant: Variant, token: &Token<'_>) -> Option<Variant>
-    ensures { result ≡ told_by variant (token_seen token.now) }
+pub(crate) fn variant_after(variant: Variant, token: &Token<'_>) -> Option<Variant>
+    ensures { result ≡ variant_after variant (token_seen token.now) }
 {
     match token {
         Token::Skip => Some(variant),
@@ -373,16 +373,16 @@ pub(crate) fn told_by(variant: Variant, token: &Token<'_>) -> Option<Variant>
 }
 
 // The variant that the tags name from an offset on: the last that they name before a number, move or termination.
-fn told_variant(text: &[u8], at: usize) -> Variant
+fn tagged_variant(text: &[u8], at: usize) -> Variant
     requires { at ≤ length text.now }
-    ensures { result ≡ variant_told Normal (tokens_from text.now at) }
+    ensures { result ≡ tagged_variant Normal (tokens_from text.now at) }
 {
     let mut offset = at;
     let mut variant = Variant::Normal;
     loop {
         match next_token(text, offset) {
             Ok(Some((token, behind))) => {
-                match told_by(variant, &token) {
+                match variant_after(variant, &token) {
                     Some(told) => variant = told,
                     None => return variant,
                 }
@@ -462,7 +462,7 @@ fn read_normal_tags<B: Board>(
         let Ok(Some((token, behind))) = next_token(text, offset) else {
             return None;
         };
-        match told_by(Variant::Normal, &token) {
+        match variant_after(Variant::Normal, &token) {
             None => return Some((progress, offset)),
             Some(Variant::Fischerandom) => return None,
             Some(Variant::Normal) => {}
@@ -487,7 +487,7 @@ fn begin_game<B: Board>(text: &[u8], at: usize, game: &mut Game<B>) -> (Progress
     if let Some(read) = read_normal_tags(text, at, game) {
         return read;
     }
-    game.restart(&Position::initial_of(told_variant(text, at)));
+    game.restart(&Position::initial_of(tagged_variant(text, at)));
     (Progress::none(), at)
 }
 
@@ -530,7 +530,7 @@ pub fn read_pgn<B: Board>(
                 })
             }
             Ok(None) => return Ok(None),
-            Err(fault) => return Err(told_fault(fault, progress, text.len(), offset)),
+            Err(fault) => return Err(reported_fault(fault, progress, text.len(), offset)),
         }
     }
 }

@@ -25,7 +25,7 @@ use Rattle.chess_pgn.specs.declared.read.PgnFaultKind.TheVariants.{BadTag, BadFe
 use Rattle.chess_pgn.specs.declared.termination.Termination.{Termination}
 use Rattle.chess_pgn.specs.declared.word.WordKind.{WordKind}
 use Rattle.chess_pgn.specs.declared.word.WordKind.TheVariants.{End, Number, Marks, Move}
-use Rattle.chess_pgn.specs.GameRead.{GameRead, declared_after, told_behind, variant_told, pgn_read}
+use Rattle.chess_pgn.specs.GameRead.{GameRead, declared_after, termination_after, tagged_variant, pgn_read}
 use Rattle.chess_pgn.specs.Tokens.{Token, Skip, Tag, Word, Bad_tag, Unclosed_comment, Unclosed_variation, Bad, first_place, tokens_from}
 use Rattle.chess_pgn.specs.Words.{kind_of}
 
@@ -117,13 +117,13 @@ start_by v p (Unclosed_comment left) = p
 start_by v p Unclosed_variation = p
 start_by v p Bad = p
 
-abbrev pub start_told : Variant → Setup → List (ℕ × Token) → Setup
-start_told v p [] = p
-start_told v p (t ∷ ts) = start_told v (start_by v p t.1) ts
+abbrev pub tagged_start : Variant → Setup → List (ℕ × Token) → Setup
+tagged_start v p [] = p
+tagged_start v p (t ∷ ts) = tagged_start v (start_by v p t.1) ts
 
 -- what the last tag Termination names
 abbrev pub termination_by_token : Option Termination → Token → Option Termination
-termination_by_token o (Tag name text left) = told_behind o name text
+termination_by_token o (Tag name text left) = termination_after o name text
 termination_by_token o Skip = o
 termination_by_token o (Word word) = o
 termination_by_token o Bad_tag = o
@@ -131,9 +131,9 @@ termination_by_token o (Unclosed_comment left) = o
 termination_by_token o Unclosed_variation = o
 termination_by_token o Bad = o
 
-abbrev pub termination_told : Option Termination → List (ℕ × Token) → Option Termination
-termination_told o [] = o
-termination_told o (t ∷ ts) = termination_told (termination_by_token o t.1) ts
+abbrev pub tagged_termination : Option Termination → List (ℕ × Token) → Option Termination
+tagged_termination o [] = o
+tagged_termination o (t ∷ ts) = tagged_termination (termination_by_token o t.1) ts
 
 -- after some moves each word is read as its move, in the position reached, where no verdict holds and fewer moves
 -- are current than the limit
@@ -193,7 +193,7 @@ StopsAt limit total v taken (t ∷ ts) s (Ok None) = ⊥
 StopsAt limit total v taken (t ∷ ts) s (Ok (Some e)) =
     (word : List ℕ) × (t.1 ≡ Word word) × (kind_of word ≡ End e.outcome)
     × (s.declared ≡ declared_after (is_some (verdict_now s)) e.outcome)
-    × (e.termination ≡ termination_told None taken) × (e.offset ≡ total - t.0 + length word)
+    × (e.termination ≡ tagged_termination None taken) × (e.offset ≡ total - t.0 + length word)
 StopsAt limit total v taken (t ∷ ts) s (Err f) =
     (s.declared ≡ None) × (token_fault limit total v (list_any (λ u. begins u.1) taken) s t.0 t.1 ≡ Some f)
 
@@ -204,12 +204,12 @@ pub record IsOfTokens (limit total : ℕ) (v : Variant) (tokens : List (ℕ × T
   pub others : List (ℕ × Token)
   pub all : taken ++ others ≡ tokens
   pub can_be : can_all_be_taken v false taken ≡ true
-  pub start : r.state.start ≡ start_told v (initial_setup_of v) taken
+  pub start : r.state.start ≡ tagged_start v (initial_setup_of v) taken
   pub moves : AreReadAs limit r.state.start [] (move_words taken) r.state.moves
   pub stop : StopsAt limit total v taken others r.state r.answer
 
 abbrev pub GamesAreOfTokens : Type 0
 GamesAreOfTokens =
     (limit : ℕ) (text : List ℕ) (at : ℕ) → let tokens =
-    tokens_from text (first_place text at) in IsOfTokens limit (length text) (variant_told Normal tokens) tokens
+    tokens_from text (first_place text at) in IsOfTokens limit (length text) (tagged_variant Normal tokens) tokens
     (pgn_read limit text at)

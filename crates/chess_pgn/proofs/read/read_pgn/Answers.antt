@@ -23,8 +23,8 @@ loop-token-preserved g c =
     c.after_skipped-offset.result before c.after_skipped-offset.ensures.alike c.after_skipped-offset.ensures.behind
     c.after_skipped-offset.ensures.within
 
-pub told_fault-requires-clause-within : goal.told_fault-requires-clause-within
-told_fault-requires-clause-within g c =
+pub reported_fault-requires-clause-within : goal.reported_fault-requires-clause-within
+reported_fault-requires-clause-within g c =
     token_within c.args.text.now c.loop-token.offset (fault_seen c.in-Err.fault) _ c.loop-token.invariant.offset
     c.in-Err.ensures
 
