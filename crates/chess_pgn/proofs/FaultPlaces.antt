@@ -21,7 +21,7 @@ use Rattle.chess_pgn.specs.declared.word.WordKind.TheVariants.{End, Number, Mark
 use Rattle.chess_pgn.specs.GameRead.{SoFar, GameRead, Step, On, Stop, unless_full, move_step, word_step, fen_step, tag_step, step, go_on, game_of, at_text_end, nothing_read, tagged_variant, pgn_read}
 use Rattle.chess_pgn.specs.ties.GameSteps.{IsWithin}
 use Rattle.chess_pgn.specs.laws.Offsets.{FaultsHaveOffsets}
-use Rattle.chess_pgn.specs.Tokens.{Token, Skip, Tag, Word, Bad_tag, Unclosed_comment, Unclosed_variation, Bad, token_at, tokens_of, first_place, begins_line, tokens_from}
+use Rattle.chess_pgn.specs.Tokens.{Token, Skip, Tag, Word, Bad_tag, Unclosed_comment, Unclosed_variation, Bad, token_at, tokens_of, after_byte_order_mark, begins_line, tokens_from}
 use Rattle.chess_pgn.specs.Words.{kind_of}
 use Rattle.chess_pgn.proofs.Cuts.{pick}
 use Rattle.chess_pgn.proofs.TokenPlaces.{within}
@@ -113,8 +113,8 @@ game_in limit total (suc n) begins g (c ∷ rest) =
 
 -- ---- the offset where reading begins
 
-pub behind : (text : List ℕ) (at : ℕ) → at ≤ length text → (at ≤ first_place text at)
-    × (first_place text at ≤ length text)
+pub behind : (text : List ℕ) (at : ℕ) → at ≤ length text → (at ≤ after_byte_order_mark text at)
+    × (after_byte_order_mark text at ≤ length text)
 behind text at h = pick (λ (n : ℕ). (at ≤ n) × (n ≤ length text))
     (eqb at 0 && bytes_eq (take 3 text) (239 ∷ 187 ∷ 191 ∷ [])) _ _ (λ e. mark (and_parts (eqb at 0) _ e))
     (λ _. (omega arith, h))
@@ -130,7 +130,7 @@ behind text at h = pick (λ (n : ℕ). (at ≤ n) × (n ≤ length text))
 pub fault_in_place : FaultsHaveOffsets
 unfolding pgn_read tokens_from
 fault_in_place limit text at h =
-    let offset : ℕ = first_place text at in
+    let offset : ℕ = after_byte_order_mark text at in
     let g : SoFar = nothing_read (tagged_variant Normal (tokens_from text offset)) in
     let later = behind text at h in
     let low = later.0 in

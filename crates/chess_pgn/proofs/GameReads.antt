@@ -23,7 +23,7 @@ use Rattle.chess_text.specs.declared.reading.Reading.{Reading}
 use Rattle.chess_text.specs.declared.reading.Reading.TheVariants as reads
 use Rattle.chess_text.specs.Moves.{reading}
 use Rattle.chess_pgn.specs.Words.{kind_of}
-use Rattle.chess_pgn.specs.Tokens.{Token, Skip, Tag, Word, Bad_tag, Unclosed_comment, Unclosed_variation, Bad, first_place, is_white_space, after_brace, token_at, begins_line, tokens_from}
+use Rattle.chess_pgn.specs.Tokens.{Token, Skip, Tag, Word, Bad_tag, Unclosed_comment, Unclosed_variation, Bad, after_byte_order_mark, is_white_space, after_brace, token_at, begins_line, tokens_from}
 use Rattle.chess_pgn.specs.GameRead.{SoFar, Step, On, Stop, unless_full, move_step, word_step, fen_step, tag_step, step, go_on, game_of, nothing_read, variant_after, variant_then, tagged_variant, tokens_read, pgn_read}
 use Rattle.chess_pgn.specs.ties.GameSteps.{so_far, IsReadOn, ReadsAlike, step_seen}
 use Rattle.chess_pgn.proofs.Cuts.{pick}
@@ -105,7 +105,7 @@ pub record Reads (limit : ℕ) (text : List ℕ) (from : ℕ) (game : Seen) (pro
       from
 
 pub read_from : (limit : ℕ) (game : Seen) (p : Progress) (text : List ℕ) (from begin here : ℕ)
-    → IsReadOn limit text begin game p here → game.limit ≡ limit → begin ≡ first_place text from → from ≤ begin
+    → IsReadOn limit text begin game p here → game.limit ≡ limit → begin ≡ after_byte_order_mark text from → from ≤ begin
     → Reads limit text from game p here
 unfolding pgn_read
 read_from limit game p text from begin here r same is behind = record {

@@ -18,7 +18,7 @@ use Rattle.chess_pgn.specs.declared.word.WordKind.{WordKind}
 use Rattle.chess_pgn.specs.declared.word.WordKind.TheVariants.{End, Number, Marks, Move}
 use Rattle.chess_pgn.specs.GameRead.{SoFar, GameRead, Step, On, Stop, unless_full, move_step, word_step, fen_step, tag_step, step, go_on, game_of, at_text_end, nothing_read, tagged_variant, pgn_read}
 use Rattle.chess_pgn.specs.laws.Offsets.{HalfMovesHaveBytes}
-use Rattle.chess_pgn.specs.Tokens.{Token, Skip, Tag, Word, Bad_tag, Unclosed_comment, Unclosed_variation, Bad, token_at, tokens_of, first_place, begins_line, tokens_from}
+use Rattle.chess_pgn.specs.Tokens.{Token, Skip, Tag, Word, Bad_tag, Unclosed_comment, Unclosed_variation, Bad, token_at, tokens_of, after_byte_order_mark, begins_line, tokens_from}
 use Rattle.chess_pgn.specs.Words.{kind_of}
 use Rattle.chess_pgn.proofs.Cuts.{pick}
 use Rattle.chess_pgn.proofs.FaultPlaces.{behind}
@@ -118,7 +118,7 @@ sooner at first moves (Err x) h f = tt
 pub half_moves_have_bytes : HalfMovesHaveBytes
 unfolding pgn_read tokens_from
 half_moves_have_bytes limit text at h =
-    let offset : ℕ = first_place text at in
+    let offset : ℕ = after_byte_order_mark text at in
     let g : SoFar = nothing_read (tagged_variant Normal (tokens_from text offset)) in
     let inside = behind text at h in
     let low = inside.0 in

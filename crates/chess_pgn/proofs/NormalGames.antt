@@ -17,7 +17,7 @@ use Rattle.chess_pgn.specs.declared.word.WordKind.TheVariants.{End, Number, Mark
 use Rattle.chess_pgn.specs.GameRead.{SoFar, Step, On, Stop, fails, fen_step, tag_step, move_step, word_step, step, unless_full, go_on, game_of, nothing_read, variant_after_word, variant_then, tagged_variant, pgn_read, termination_after}
 use Rattle.chess_pgn.specs.GameText.{start_lines_in, last_lines}
 use Rattle.chess_pgn.specs.laws.Normal.{normal_tag_step, normal_step, normal_game_of, normal_read, is_mark_word, names_no_variant, NormalIsKept}
-use Rattle.chess_pgn.specs.Tokens.{Token, Skip, Tag, Word, Bad_tag, Unclosed_comment, Unclosed_variation, Bad, first_place, tokens_from}
+use Rattle.chess_pgn.specs.Tokens.{Token, Skip, Tag, Word, Bad_tag, Unclosed_comment, Unclosed_variation, Bad, after_byte_order_mark, tokens_from}
 use Rattle.chess_pgn.specs.Words.{kind_of}
 use Rattle.chess_pgn.proofs.Cuts.{pick}
 use Rattle.chess_pgn.proofs.FenVariants.{read_variant, initial_variant}
@@ -128,11 +128,11 @@ initial_is : initial_setup_of Normal ≡ initial_setup
 unfolding initial_setup
 initial_is = refl
 
-read_so : (limit : ℕ) (text : List ℕ) (at : ℕ) → names_no_variant (tokens_from text (first_place text at)) ≡ true
-    → pgn_read limit text at ≡ normal_read limit (length text) (tokens_from text (first_place text at))
+read_so : (limit : ℕ) (text : List ℕ) (at : ℕ) → names_no_variant (tokens_from text (after_byte_order_mark text at)) ≡ true
+    → pgn_read limit text at ≡ normal_read limit (length text) (tokens_from text (after_byte_order_mark text at))
 unfolding pgn_read
 read_so limit text at none =
-    let tokens : List (ℕ × Token) = tokens_from text (first_place text at) in
+    let tokens : List (ℕ × Token) = tokens_from text (after_byte_order_mark text at) in
     ap (λ v. game_of limit (length text) (nothing_read v) tokens) (normal_told tokens none)
     ∙ same_game limit (length text) (nothing_read Normal) tokens (initial_variant Normal)
     ∙ ap (λ p. normal_game_of limit (length text)

@@ -29,7 +29,7 @@ use Rattle.chess_pgn.specs.declared.word.WordKind.{WordKind}
 use Rattle.chess_pgn.specs.declared.word.WordKind.TheVariants.{End, Number, Marks, Move}
 use Rattle.chess_pgn.specs.GameRead.{SoFar, GameRead, Step, On, Stop, game_of, go_on, step, nothing_read, tagged_variant, pgn_read, move_step, word_step, tag_step, fen_step, fails, unless_full, termination_after}
 use Rattle.chess_pgn.specs.laws.Retold.{begins, counts, is_fen, can_be_taken, can_all_be_taken, if_move, move_words_of, move_words, start_by, tagged_start, termination_by_token, tagged_termination, AreReadAs, unless_closed, move_fault, word_fault, fault_at, token_fault, StopsAt, IsOfTokens, is_number_or_move, is_outcome}
-use Rattle.chess_pgn.specs.Tokens.{Token, Skip, Tag, Word, Bad_tag, Unclosed_comment, Unclosed_variation, Bad, first_place, tokens_from}
+use Rattle.chess_pgn.specs.Tokens.{Token, Skip, Tag, Word, Bad_tag, Unclosed_comment, Unclosed_variation, Bad, after_byte_order_mark, tokens_from}
 use Rattle.chess_pgn.specs.Words.{kind_of}
 use Rattle.chess_pgn.proofs.FenVariants.{read_variant, initial_variant}
 
@@ -378,11 +378,11 @@ module _ (limit total : ℕ) (v : Variant) where
       by_step tokens done t ts all later (On k) l = later k l
 
 pub game_of_tokens : (limit : ℕ) (text : List ℕ) (at : ℕ)
-    → IsOfTokens limit (length text) (tagged_variant Normal (tokens_from text (first_place text at)))
-    (tokens_from text (first_place text at)) (pgn_read limit text at)
+    → IsOfTokens limit (length text) (tagged_variant Normal (tokens_from text (after_byte_order_mark text at)))
+    (tokens_from text (after_byte_order_mark text at)) (pgn_read limit text at)
 unfolding pgn_read
 game_of_tokens limit text at =
-    let tokens : List (ℕ × Token) = tokens_from text (first_place text at) in
+    let tokens : List (ℕ × Token) = tokens_from text (after_byte_order_mark text at) in
     let v : Variant = tagged_variant Normal tokens in
     of_tokens limit (length text) v tokens [] tokens (nothing_read v) refl
     (record {

@@ -25,7 +25,7 @@ use Rattle.chess_pgn.specs.Terminations.{termination_text, termination_of}
 use Rattle.chess_pgn.specs.GameRead.{SoFar, GameRead, declared_after, game_of, nothing_read, tokens_read, pgn_read}
 use Rattle.chess_pgn.specs.GameText.{is_initial, fen_lines, start_lines_in, last_lines, further_lines, tag_lines, move_tokens, game_tokens, pgn}
 use Rattle.chess_pgn.specs.laws.PgnLaw.{AreTagTexts, IsReadBack, PgnIsReadBack}
-use Rattle.chess_pgn.specs.Tokens.{first_place, begins_line, tokens_of, tokens_from}
+use Rattle.chess_pgn.specs.Tokens.{after_byte_order_mark, begins_line, tokens_of, tokens_from}
 use Rattle.chess_pgn.specs.Written.{tag_line, ended, filled_from}
 use Rattle.chess_pgn.proofs.PgnMoves.{outcome_some, filled_long, outcome_read, read_so_far, moves_read}
 use Rattle.chess_pgn.proofs.PgnPieces.{read_on, TakesLine, empty_line, tagged, ended_game, plain_tag, termination_tag, fen_tag}
@@ -199,13 +199,13 @@ module _ (limit total : ℕ) where
 
 -- a text that begins so has no byte order mark
 no_mark : (before : List ℕ) (c : ℕ) (rest : List ℕ) → eqb c 239 ≡ false
-    → first_place (before ++ c ∷ rest) (length before) ≡ length before
+    → after_byte_order_mark (before ++ c ∷ rest) (length before) ≡ length before
 no_mark [] c rest e = rw e refl
 no_mark (b ∷ before) c rest e = let some : eqb (suc (length before)) 0 ≡ false = grind (arith, nat_tests) in
     rw some refl
 
 -- reading from the offset after `before` on
-read_behind : (limit : ℕ) (before text : List ℕ) (v : Variant) → first_place (before ++ text) (length before)
+read_behind : (limit : ℕ) (before text : List ℕ) (v : Variant) → after_byte_order_mark (before ++ text) (length before)
     ≡ length before → told_on Normal (begins_line (before ++ text) (length before)) text ≡ v
     → pgn_read limit (before ++ text) (length before) ≡ read_on limit (length (before ++ text)) (nothing_read v)
     (begins_line (before ++ text) (length before)) text
@@ -264,7 +264,7 @@ pgn_law after_law law initial limit tags s before rest texts h =
     let written : List ℕ = pgn [] tags s in
     let o : List ℕ = outcome_text (outcome_now s) in
     let total : ℕ = length (before ++ (written ++ rest)) in
-    let offset : first_place (before ++ (written ++ rest)) (length before) ≡ length before =
+    let offset : after_byte_order_mark (before ++ (written ++ rest)) (length before) ≡ length before =
     rw (first_bytes tags s) (no_mark before 91 (drop 1 written ++ rest) refl) in
     let is : pgn_read limit (before ++ written ++ rest) (length before)
     ≡ ended_game (Some (termination_of tags.ended (outcome_now s)))

@@ -5,7 +5,7 @@ use Rattle.std.specs.Str.{bytes_eq}
 use Rattle.chess_pgn.specs.declared.results.ResultTag.{ResultTag}
 use Rattle.chess_pgn.specs.ties.GameSteps.{IsWithin}
 use Rattle.chess_pgn.specs.ResultTags.{may_precede_tags, result_after, last_result, result_tag_of}
-use Rattle.chess_pgn.specs.Tokens.{Token, Skip, Tag, Word, Bad_tag, Unclosed_comment, Unclosed_variation, Bad, first_place, tokens_from}
+use Rattle.chess_pgn.specs.Tokens.{Token, Skip, Tag, Word, Bad_tag, Unclosed_comment, Unclosed_variation, Bad, after_byte_order_mark, tokens_from}
 use Rattle.chess_pgn.proofs.Cuts.{pick}
 
 abbrev pub InText : ℕ → Option ResultTag → Type 0

@@ -24,7 +24,7 @@ use Rattle.chess_pgn.specs.declared.word.WordKind.TheVariants.{End, Number, Mark
 use Rattle.chess_pgn.specs.declared.termination.Termination.{Termination}
 use Rattle.chess_text.specs.Moves.{reading}
 use Rattle.chess_pgn.specs.Terminations.{termination_named}
-use Rattle.chess_pgn.specs.Tokens.{Token, Skip, Tag, Word, Bad_tag, Unclosed_comment, Unclosed_variation, Bad, first_place, tokens_from}
+use Rattle.chess_pgn.specs.Tokens.{Token, Skip, Tag, Word, Bad_tag, Unclosed_comment, Unclosed_variation, Bad, after_byte_order_mark, tokens_from}
 use Rattle.chess_pgn.specs.Words.{kind_of}
 
 -- the game so far. It is met where it had a tag, number or move, and begun where it had a number or move; the
@@ -182,4 +182,4 @@ tokens_read limit total tokens = game_of limit total (nothing_read (tagged_varia
 
 -- what a text is read as from an offset on
 unfoldable pub pgn_read : ℕ → List ℕ → ℕ → GameRead
-pgn_read limit text at = tokens_read limit (length text) (tokens_from text (first_place text at))
+pgn_read limit text at = tokens_read limit (length text) (tokens_from text (after_byte_order_mark text at))

@@ -4,7 +4,7 @@ use Rattle.std.specs.Str.{bytes_eq}
 use Rattle.chess_pgn.specs.declared.results.ResultTag.{ResultTag}
 use Rattle.chess_pgn.specs.declared.word.WordKind.{WordKind}
 use Rattle.chess_pgn.specs.declared.word.WordKind.TheVariants.{End, Number, Marks, Move}
-use Rattle.chess_pgn.specs.Tokens.{Token, Skip, Tag, Word, Bad_tag, Unclosed_comment, Unclosed_variation, Bad, first_place, tokens_from}
+use Rattle.chess_pgn.specs.Tokens.{Token, Skip, Tag, Word, Bad_tag, Unclosed_comment, Unclosed_variation, Bad, after_byte_order_mark, tokens_from}
 use Rattle.chess_pgn.specs.Words.{outcome_of, kind_of}
 
 -- a game's tags may go on after marks, and after no other word
@@ -37,4 +37,4 @@ last_result total before (t ∷ ts) =
 
 -- the tag Result of the game that is read from an offset on
 abbrev pub result_tag_of : List ℕ → ℕ → Option ResultTag
-result_tag_of text at = last_result (length text) None (tokens_from text (first_place text at))
+result_tag_of text at = last_result (length text) None (tokens_from text (after_byte_order_mark text at))

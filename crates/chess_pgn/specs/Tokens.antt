@@ -172,8 +172,8 @@ tokens_of (suc most) line_begins (c ∷ rest) = let t =
 -- ---- a text from an offset on
 
 -- the bytes EF BB BF at offset 0 are skipped
-abbrev pub first_place : List ℕ → ℕ → ℕ
-first_place text at = if (at == 0) && bytes_eq (take 3 text) (239 ∷ 187 ∷ 191 ∷ []) then 3 else at
+abbrev pub after_byte_order_mark : List ℕ → ℕ → ℕ
+after_byte_order_mark text at = if (at == 0) && bytes_eq (take 3 text) (239 ∷ 187 ∷ 191 ∷ []) then 3 else at
 
 -- the text's first byte is there, or byte 10 before it
 abbrev pub begins_line : List ℕ → ℕ → Bool

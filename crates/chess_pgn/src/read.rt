@@ -17,7 +17,7 @@ use crate::bytes::is_passed;
 use crate::skips::after_brace;
 use crate::tag::Tag;
 use crate::termination::Termination;
-use crate::token::{Token, TokenFault, first_place, next_token};
+use crate::token::{Token, TokenFault, after_byte_order_mark, next_token};
 use crate::word::{WordKind, word_kind};
 use chess_base::{Move, Position, Variant};
 use chess_fen::read_fen_as;
@@ -513,7 +513,7 @@ pub fn read_pgn<B: Board>(
     ensures undeclared { OnErr result (IsNone game.new.state.declared) }
     ensures limit { game.new.limit ≡ game.old.limit }
 {
-    let (mut progress, mut offset) = begin_game(text, first_place(text, at), game);
+    let (mut progress, mut offset) = begin_game(text, after_byte_order_mark(text, at), game);
     loop {
         match next_token(text, offset) {
             Ok(Some((token, behind))) => {

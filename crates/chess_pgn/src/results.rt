@@ -7,7 +7,7 @@ ghost use Rattle.chess_pgn.specs.ties.GameSteps.{IsWithin};
 ghost use Rattle.chess_pgn.specs.ResultTags.{may_precede_tags, result_after_tag, result_after, result_tag_of};
 
 use crate::tag::Tag;
-use crate::token::{Token, first_place, next_token};
+use crate::token::{Token, after_byte_order_mark, next_token};
 use crate::word::{WordKind, outcome_of, word_kind};
 use chess_game::Outcome;
 
@@ -67,7 +67,7 @@ pub fn result_tag(text: &[u8], at: usize) -> Option<ResultTag>
     ensures tag { result ≡ result_tag_of text.now at }
     ensures within { IfSome result (λ tag. tag.offset ≤ length text.now) }
 {
-    let mut offset = first_place(text, at);
+    let mut offset = after_byte_order_mark(text, at);
     let mut last = None;
     loop {
         match next_token(text, offset) {

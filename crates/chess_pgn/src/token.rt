@@ -2,7 +2,7 @@
 
 ghost use Rattle.std.specs.Prelude.{◌≡◌, ◌≤◌, ◌∷◌, length, drop, false};
 ghost use Rattle.std.specs.List.{prefix_len, take_while};
-ghost use Rattle.chess_pgn.specs.Tokens.{is_word_byte, token_at, comment_at, after_brace, variation_at, Plain, tag_at, begins_line, first_place};
+ghost use Rattle.chess_pgn.specs.Tokens.{is_word_byte, token_at, comment_at, after_brace, variation_at, Plain, tag_at, begins_line, after_byte_order_mark};
 ghost use Rattle.chess_base.specs.Letters.{is_digit};
 ghost use Rattle.chess_pgn.specs.ties.Seen.{first_seen, IsNextToken};
 
@@ -150,9 +150,9 @@ pub(crate) fn next_token(text: &[u8], at: usize) -> Result<Option<(Token<'_>, us
 }
 
 /// The offset where reading begins: after the bytes EF BB BF (a byte order mark) at offset 0, else the offset itself.
-pub(crate) fn first_place(text: &[u8], at: usize) -> usize
+pub(crate) fn after_byte_order_mark(text: &[u8], at: usize) -> usize
     requires { at ≤ length text.now }
-    ensures offset { result ≡ first_place text.now at }
+    ensures offset { result ≡ after_byte_order_mark text.now at }
     ensures behind { at ≤ result }
     ensures within { result ≤ length text.now }
 {

@@ -13,7 +13,7 @@ use Rattle.chess_pgn.specs.declared.word.WordKind.TheVariants.{End, Number, Mark
 use Rattle.chess_pgn.specs.GameRead.{SoFar, GameRead, Step, On, fails, fen_step, termination_after, word_step, step, at_text_end, go_on, pgn_read}
 use Rattle.chess_pgn.specs.GameText.{is_initial, fen_lines, further_lines}
 use Rattle.chess_pgn.specs.Terminations.{termination_text}
-use Rattle.chess_pgn.specs.Tokens.{Token, Skip, Tag, Word, Bad_tag, Unclosed_comment, Unclosed_variation, Bad, first_place, tokens_from}
+use Rattle.chess_pgn.specs.Tokens.{Token, Skip, Tag, Word, Bad_tag, Unclosed_comment, Unclosed_variation, Bad, after_byte_order_mark, tokens_from}
 use Rattle.chess_pgn.specs.Words.{kind_of}
 use Rattle.chess_pgn.specs.Written.{tag_line}
 
@@ -91,5 +91,5 @@ names_no_variant (t ∷ ts) = if ends_tags t.1 then true else not (names_variant
 pub record NormalIsKept : Type 0 where
   pub written : (start : Setup) (termination : Termination) → start.variant ≡ Normal
       → further_lines start termination ≡ normal_further_lines start termination
-  pub read : (limit : ℕ) (text : List ℕ) (at : ℕ) → IsTrue (names_no_variant (tokens_from text (first_place text at)))
-      → pgn_read limit text at ≡ normal_read limit (length text) (tokens_from text (first_place text at))
+  pub read : (limit : ℕ) (text : List ℕ) (at : ℕ) → IsTrue (names_no_variant (tokens_from text (after_byte_order_mark text at)))
+      → pgn_read limit text at ≡ normal_read limit (length text) (tokens_from text (after_byte_order_mark text at))

@@ -26,7 +26,7 @@ use Rattle.chess_pgn.specs.declared.termination.Termination.{Termination}
 use Rattle.chess_pgn.specs.declared.word.WordKind.{WordKind}
 use Rattle.chess_pgn.specs.declared.word.WordKind.TheVariants.{End, Number, Marks, Move}
 use Rattle.chess_pgn.specs.GameRead.{GameRead, declared_after, termination_after, tagged_variant, pgn_read}
-use Rattle.chess_pgn.specs.Tokens.{Token, Skip, Tag, Word, Bad_tag, Unclosed_comment, Unclosed_variation, Bad, first_place, tokens_from}
+use Rattle.chess_pgn.specs.Tokens.{Token, Skip, Tag, Word, Bad_tag, Unclosed_comment, Unclosed_variation, Bad, after_byte_order_mark, tokens_from}
 use Rattle.chess_pgn.specs.Words.{kind_of}
 
 -- ---- kinds of tokens
@@ -211,5 +211,5 @@ pub record IsOfTokens (limit total : ℕ) (v : Variant) (tokens : List (ℕ × T
 abbrev pub GamesAreOfTokens : Type 0
 GamesAreOfTokens =
     (limit : ℕ) (text : List ℕ) (at : ℕ) → let tokens =
-    tokens_from text (first_place text at) in IsOfTokens limit (length text) (tagged_variant Normal tokens) tokens
+    tokens_from text (after_byte_order_mark text at) in IsOfTokens limit (length text) (tagged_variant Normal tokens) tokens
     (pgn_read limit text at)
