@@ -14,7 +14,7 @@ fn first_other(text: &[u8]) -> Option<usize>
 }
 
 // The offset of the first separator.
-fn first_place(text: &[u8], separator: u8) -> Option<usize>
+fn separator_at(text: &[u8], separator: u8) -> Option<usize>
     ensures { result ≡ position (λ b. b == separator) text.now }
 {
     text.iter().position(|byte| *byte == separator)
@@ -35,7 +35,7 @@ fn split_before(text: &[u8], separator: u8) -> (&[u8], &[u8])
     ensures front { result.0.now ≡ before_first (λ b. b == separator) text.now }
     ensures back { result.1.now ≡ drop (position_or_len (λ b. b == separator) text.now) text.now }
 {
-    let end = first_place(text, separator).unwrap_or(text.len());
+    let end = separator_at(text, separator).unwrap_or(text.len());
     text.split_at(end)
 }
 
