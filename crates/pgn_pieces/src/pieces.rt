@@ -163,7 +163,7 @@ impl PgnPieces {
     }
 
     // Lets go of what is done with.
-    fn slide(&mut self)
+    fn compact(&mut self)
         ensures { self.new ≡ self.old }
     {
         let at = self.at;
@@ -215,7 +215,7 @@ impl PgnPieces {
                 return Ok(self.take_rest());
             }
             self.let_go();
-            self.slide();
+            self.compact();
             match self.read_more(input) {
                 Ok(()) => {}
                 Err(fault) => return Err(fault),

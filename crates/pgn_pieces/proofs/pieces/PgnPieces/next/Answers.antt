@@ -25,7 +25,7 @@ loop-self-preserved g c =
     let gave = c.in-Ok.ensures.0 in
     let going : s2.ended ≡ false = ap (λ (s : State). s.ended) (sym c.self.view_is) ∙ c.if-self.false in
     let is : c.read_more.new.self ≡ with_more gave s3 =
-    c.in-Ok.ensures.2 ∙ ap (λ (t : State). with_more gave t) c.slide.ensures in
+    c.in-Ok.ensures.2 ∙ ap (λ (t : State). with_more gave t) c.compact.ensures in
     let kept = c.if-find_end.ensures.0 in
     let kept' = c.let_go.ensures.keeps in record {
       looked = subst (λ (t : State). Looked s t (g.R.Input.seen c.args.input.now) (g.R.Input.seen c.read_more.new.input))
@@ -40,7 +40,7 @@ returns-in-Err-clause-next g c r text stands =
     let s2 = c.find_end.new.self in
     let going : s2.ended ≡ false = ap (λ (s : State). s.ended) (sym c.self.view_is) ∙ c.if-self.false in
     let kept = c.if-find_end.ensures.0 in
-    next_stopped c.args.self.now c.loop-self.self s2 c.let_go.new.self c.slide.new.self c.read_more.new.self
+    next_stopped c.args.self.now c.loop-self.self s2 c.let_go.new.self c.compact.new.self c.read_more.new.self
     (g.R.Input.seen c.args.input.now) (g.R.Input.seen c.loop-self.input) (g.R.Input.seen c.read_more.new.input)
     c.in-Err.fault c.loop-self.invariant.looked (sym kept.ended ∙ going) c.if-find_end.ensures c.let_go.ensures.keeps
-    c.slide.ensures c.in-Err.ensures r text stands
+    c.compact.ensures c.in-Err.ensures r text stands
