@@ -22,10 +22,10 @@ mod games;
 mod options;
 mod report;
 mod tally;
-mod whole;
+mod buffered;
 
 pub use collection::verify_collection;
 pub use fault::VerifyFault;
 pub use options::VerifyOptions;
 pub use tally::Verified;
-pub use whole::verify;
+pub use buffered::verify;

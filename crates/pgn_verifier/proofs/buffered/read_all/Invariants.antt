@@ -1,7 +1,7 @@
 use Rattle.std.proofs.Common.{◌≤◌, false, length}
 use Rattle.pgn_pieces.specs.Pieces.{HasRead}
 use Rattle.pgn_pieces.specs.declared.pieces.TheConstants.{PIECE_LEN}
-use Rattle.pgn_verifier.proofs.whole.read_all.Given as goal
+use Rattle.pgn_verifier.proofs.buffered.read_all.Given as goal
 
 -- the text is what was read so far
 abbrev pub invariant-loop-count : goal.invariant-loop-count

@@ -4,7 +4,7 @@ use Rattle.byte_devices.specs.Devices.{Took, BreaksOff}
 use Rattle.byte_devices.proofs.DeviceLaws.{sent_on}
 use Rattle.pgn_verifier.specs.Verify.{text_lines}
 use Rattle.pgn_verifier.proofs.Finished.{whole_lines, whole_counted, not_flushed}
-use Rattle.pgn_verifier.proofs.whole.finish.Goals as goal
+use Rattle.pgn_verifier.proofs.buffered.finish.Goals as goal
 
 pub returns-in-Err : goal.returns-in-Err
 returns-in-Err g c =
