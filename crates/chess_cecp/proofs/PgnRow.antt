@@ -5,7 +5,7 @@ use Rattle.chess_pgn.specs.GameText.{pgn}
 use Rattle.chess_cecp.specs.Commands.{command_of, argument_of}
 use Rattle.chess_cecp.specs.Held.{SessionSeen}
 use Rattle.chess_cecp.specs.Lines.{LineSeen}
-use Rattle.chess_cecp.specs.Session.{row, row_on, says, stands, next_state, answer_to, is_quit, is_quit_command}
+use Rattle.chess_cecp.specs.Session.{row, row_on, says, after_row, next_state, answer_to, is_quit, is_quit_command}
 use Rattle.chess_cecp.specs.ties.Replies.{reply_to, shows_pgn, asks_for_pgn}
 use Rattle.chess_cecp.specs.declared.session.Go.{Go as Further}
 use Rattle.chess_cecp.specs.declared.session.Go.TheVariants as further
@@ -49,7 +49,7 @@ pgn_row seen line asks =
     let command : command_of line.text ≡ ShowPgn = is_show_pgn (command_of line.text) both.1 in
     let at : row_on seen line ≡ says seen.state (pgn (codes "# ") seen.tags seen.state) =
     rw short (ap (row seen.tags seen.limit seen.state line.text (argument_of line.text)) command) in
-    record { next = ap (stands seen) at; text = ap (λ r. r.text) at; no_quit = rw short (ap is_quit_command command) }
+    record { next = ap (after_row seen) at; text = ap (λ r. r.text) at; no_quit = rw short (ap is_quit_command command) }
 
 -- a line that is answered by the game's text, once it is obeyed
 pub record IsPgnReply (seen obeyed : SessionSeen) (line : LineSeen) : Type 0 where

@@ -39,29 +39,29 @@ is_named word names = list_any (bytes_eq word) names
 
 -- commands to an engine that plays, which an arbiter accepts and ignores: of the protocol, and of how the engine is to
 -- play (`?` is: at once)
-abbrev pub engine_words : List (List ℕ)
-engine_words =
+abbrev pub engine_commands : List (List ℕ)
+engine_commands =
     codes "xboard" ∷ codes "accepted" ∷ codes "rejected" ∷ codes "force" ∷ codes "random" ∷ codes "hard" ∷ codes "easy"
     ∷ codes "post" ∷ codes "nopost" ∷ codes "?" ∷ []
 
 -- and of its opponent, who may offer a draw, and of the clocks and the depth
-abbrev pub opponent_and_clock_words : List (List ℕ)
-opponent_and_clock_words =
+abbrev pub opponent_and_clock_commands : List (List ℕ)
+opponent_and_clock_commands =
     codes "computer" ∷ codes "name" ∷ codes "rating" ∷ codes "ics" ∷ codes "draw" ∷ codes "level" ∷ codes "st"
     ∷ codes "sd" ∷ codes "time" ∷ codes "otim" ∷ []
 
 -- it says to an engine how to play
-unfoldable pub is_told_of_engine : List ℕ → Bool
-is_told_of_engine word = is_named word engine_words
+unfoldable pub is_engine_command : List ℕ → Bool
+is_engine_command word = is_named word engine_commands
 
 -- it informs an engine of its opponent or of the clocks
-unfoldable pub is_told_of_opponent_or_clocks : List ℕ → Bool
-is_told_of_opponent_or_clocks word = is_named word opponent_and_clock_words
+unfoldable pub is_opponent_or_clock_command : List ℕ → Bool
+is_opponent_or_clock_command word = is_named word opponent_and_clock_commands
 
 -- the command that a first word names, with this argument; none where it is no command's name
 unfoldable pub named_command : List ℕ → List ℕ → Option Command
 named_command word argument =
-    if bytes_eq word [] || is_told_of_engine word || is_told_of_opponent_or_clocks word then Some Silent
+    if bytes_eq word [] || is_engine_command word || is_opponent_or_clock_command word then Some Silent
     else if bytes_eq word (codes "new") then Some New
     else if bytes_eq word (codes "setboard") then Some SetBoard
     else if bytes_eq word (codes "usermove") then (if length argument == 0 then Some Unknown else Some UserMove)

@@ -27,8 +27,8 @@ abbrev pub inside_braces : List ℕ → List ℕ
 inside_braces text = take (length text - 2) (drop 1 text)
 
 -- the comment after an outcome: none, or a text in braces
-unfoldable pub comment_told : List ℕ → Option (List ℕ)
-comment_told text =
+unfoldable pub result_comment : List ℕ → Option (List ℕ)
+result_comment text =
     if length text == 0 then Some []
     else if nat_le 2 (length text) && (slice_index_or text 0 0 == byte "{")
     && (slice_index_or text (length text - 1) 0 == byte "}") then Some (inside_braces text)
@@ -43,7 +43,7 @@ declared_as (Some o) (Some comment) = Some (record { outcome = o; comment = cut_
 -- the result that the argument of `result` declares, if it declares one: an outcome, and after it nothing or a text
 -- from a brace to a last brace, of which the game keeps what a comment can hold
 unfoldable pub declared_by : List ℕ → Option Declared
-declared_by argument = declared_as (outcome_named (word_of argument)) (comment_told (argument_of argument))
+declared_by argument = declared_as (outcome_named (word_of argument)) (result_comment (argument_of argument))
 
 -- an outcome and its comment in braces
 unfoldable pub result_text : Outcome → List ℕ → List ℕ

@@ -193,12 +193,12 @@ row_on seen line =
     else row seen.tags seen.limit seen.state line.text (argument_of line.text) (command_of line.text)
 
 -- the session after a row: its tags and its limit stay
-abbrev pub stands : SessionSeen → Row → SessionSeen
-stands seen r = record { tags = seen.tags; limit = seen.limit; state = r.next }
+abbrev pub after_row : SessionSeen → Row → SessionSeen
+after_row seen r = record { tags = seen.tags; limit = seen.limit; state = r.next }
 
 -- the session after a line
 unfoldable pub next_state : SessionSeen → LineSeen → SessionSeen
-next_state seen line = stands seen (row_on seen line)
+next_state seen line = after_row seen (row_on seen line)
 
 -- the answer to a line
 unfoldable pub answer_to : SessionSeen → LineSeen → List ℕ

@@ -2,7 +2,7 @@
 
 ghost use Rattle.std.specs.Prelude.{◌≡◌, ◌+◌, ◌≤◌, ◌++◌, length};
 ghost use Rattle.chess_cecp.specs.Lines.{is_blank};
-ghost use Rattle.chess_cecp.specs.Commands.{command_of, named_command, word_of, argument_of, command_number, ping_of, protover_of, is_told_of_engine, is_told_of_opponent_or_clocks};
+ghost use Rattle.chess_cecp.specs.Commands.{command_of, named_command, word_of, argument_of, command_number, ping_of, protover_of, is_engine_command, is_opponent_or_clock_command};
 
 use crate::trim::is_blank;
 use chess_text::has_move_shape;
@@ -124,9 +124,9 @@ fn protover(argument: &[u8]) -> Command
 
 // Whether the word is one that an arbiter accepts and ignores, of the protocol or of how an engine is to play; `?` is:
 // at once.
-#[tactic(auto, unfolding(crate::specs::Commands::is_told_of_engine))]
-fn is_told_of_engine(word: &[u8]) -> bool
-    ensures { result ≡ is_told_of_engine word.now }
+#[tactic(auto, unfolding(crate::specs::Commands::is_engine_command))]
+fn is_engine_command(word: &[u8]) -> bool
+    ensures { result ≡ is_engine_command word.now }
 {
     word == b"xboard".as_slice()
         || word == b"accepted".as_slice()
@@ -141,9 +141,9 @@ fn is_told_of_engine(word: &[u8]) -> bool
 }
 
 // Whether the word is one of the others: of the opponent, who may offer a draw, of the clocks and the depth.
-#[tactic(auto, unfolding(crate::specs::Commands::is_told_of_opponent_or_clocks))]
-fn is_told_of_opponent_or_clocks(word: &[u8]) -> bool
-    ensures { result ≡ is_told_of_opponent_or_clocks word.now }
+#[tactic(auto, unfolding(crate::specs::Commands::is_opponent_or_clock_command))]
+fn is_opponent_or_clock_command(word: &[u8]) -> bool
+    ensures { result ≡ is_opponent_or_clock_command word.now }
 {
     word == b"computer".as_slice()
         || word == b"name".as_slice()
@@ -162,7 +162,7 @@ fn is_told_of_opponent_or_clocks(word: &[u8]) -> bool
 pub(crate) fn named_command(word: &[u8], argument: &[u8]) -> Option<Command>
     ensures { result ≡ named_command word.now argument.now }
 {
-    if word.is_empty() || is_told_of_engine(word) || is_told_of_opponent_or_clocks(word) {
+    if word.is_empty() || is_engine_command(word) || is_opponent_or_clock_command(word) {
         Some(Command::Silent)
     } else if word == b"new".as_slice() {
         Some(Command::New)

@@ -2,7 +2,7 @@
 
 ghost use Rattle.std.specs.Prelude.{◌≡◌, ◌≤◌, length};
 ghost use Rattle.std.specs.Option.{option_map};
-ghost use Rattle.chess_cecp.specs.Declaring.{outcome_named, comment_told, declared_by, claims_text};
+ghost use Rattle.chess_cecp.specs.Declaring.{outcome_named, result_comment, declared_by, claims_text};
 
 use crate::command::{argument, first_word};
 use chess_game::{Claims, Comment, Declared, Outcome};
@@ -26,9 +26,9 @@ fn outcome_named(word: &[u8]) -> Option<Outcome>
 }
 
 // The comment after an outcome: none, or a text in braces.
-#[tactic(auto, unfolding(crate::specs::Declaring::comment_told))]
-fn comment_told(text: &[u8]) -> Option<&[u8]>
-    ensures { option_map (λ c. c.now) result ≡ comment_told text.now }
+#[tactic(auto, unfolding(crate::specs::Declaring::result_comment))]
+fn result_comment(text: &[u8]) -> Option<&[u8]>
+    ensures { option_map (λ c. c.now) result ≡ result_comment text.now }
 {
     let len = text.len();
     if len == 0 {
@@ -46,7 +46,7 @@ pub(crate) fn declared_by(text: &[u8]) -> Option<Declared>
     ensures { result ≡ declared_by text.now }
 {
     let outcome = outcome_named(first_word(text))?;
-    match comment_told(argument(text)) {
+    match result_comment(argument(text)) {
         Some(comment) => Some(Declared {
             outcome,
             comment: Comment::cut(comment),

@@ -12,7 +12,7 @@ ghost use Rattle.chess_game.specs.Results.{cut_comment};
 ghost use Rattle.chess_text.specs.Moves.{reading, has_shape, shape, IsLegalReading};
 ghost use Rattle.chess_cecp.specs.Commands.{argument_of, unnamed_command};
 ghost use Rattle.chess_cecp.specs.Declaring.{declared_by};
-ghost use Rattle.chess_cecp.specs.Session.{row, move_row, undo_row, remove_row, result_row, draws, claim_row, setboard_row, normal_row, variant_row, stands, next_state, answer_to, is_quit, joined_line, moves_line, IsRefusal};
+ghost use Rattle.chess_cecp.specs.Session.{row, move_row, undo_row, remove_row, result_row, draws, claim_row, setboard_row, normal_row, variant_row, after_row, next_state, answer_to, is_quit, joined_line, moves_line, IsRefusal};
 ghost use Rattle.chess_cecp.specs.ties.Replies.{reply_of, reply_to, shows_pgn, asks_for_pgn};
 ghost use Rattle.chess_game.specs.declared.game.TheConstants.{MOST_MOVES};
 ghost use Rattle.chess_cecp.specs.declared.session.TheConstants.{COMMAND_LEN};
@@ -131,7 +131,7 @@ impl<B: Board> Session<B> {
         requires legal { IsLegalReading (current self.old.state) read }
         requires short { length text.now ≤ COMMAND_LEN }
         requires empty { answer.old.items ≡ [] }
-        ensures next { self.new ≡ stands self.old (move_row self.old.limit self.old.state text.now) }
+        ensures next { self.new ≡ after_row self.old (move_row self.old.limit self.old.state text.now) }
         ensures text { answer.new.items ≡ (move_row self.old.limit self.old.state text.now).text }
     {
         if self.is_over(&read) {
@@ -156,7 +156,7 @@ impl<B: Board> Session<B> {
     fn play_text(&mut self, text: &[u8], answer: &mut Answer)
         requires short { length text.now ≤ COMMAND_LEN }
         requires empty { answer.old.items ≡ [] }
-        ensures next { self.new ≡ stands self.old (move_row self.old.limit self.old.state text.now) }
+        ensures next { self.new ≡ after_row self.old (move_row self.old.limit self.old.state text.now) }
         ensures text { answer.new.items ≡ (move_row self.old.limit self.old.state text.now).text }
     {
         let read = self.read(text);
@@ -167,7 +167,7 @@ impl<B: Board> Session<B> {
     fn set_board(&mut self, fen: &[u8], answer: &mut Answer)
         requires { answer.old.items ≡ [] }
         ensures next { self.new
-            ≡ stands self.old (setboard_row self.old.state (fen_reading_as self.old.state.start.variant fen.now)) }
+            ≡ after_row self.old (setboard_row self.old.state (fen_reading_as self.old.state.start.variant fen.now)) }
         ensures text { answer.new.items
             ≡ (setboard_row self.old.state (fen_reading_as self.old.state.start.variant fen.now)).text }
     {
@@ -184,7 +184,7 @@ impl<B: Board> Session<B> {
     fn change_variant(&mut self, text: &[u8], argument: &[u8], answer: &mut Answer)
         requires short { length text.now ≤ COMMAND_LEN }
         requires empty { answer.old.items ≡ [] }
-        ensures next { self.new ≡ stands self.old (variant_row self.old.state text.now argument.now) }
+        ensures next { self.new ≡ after_row self.old (variant_row self.old.state text.now argument.now) }
         ensures text { answer.new.items ≡ (variant_row self.old.state text.now argument.now).text }
     {
         if argument == b"fischerandom".as_slice() {
@@ -201,7 +201,7 @@ impl<B: Board> Session<B> {
 
     // A game of Chess960 starts anew as one of normal chess.
     fn leave_chess960(&mut self)
-        ensures { self.new ≡ stands self.old (normal_row self.old.state self.old.state.start.variant) }
+        ensures { self.new ≡ after_row self.old (normal_row self.old.state self.old.state.start.variant) }
     {
         match self.game.start().variant() {
             Variant::Normal => {}
@@ -211,7 +211,7 @@ impl<B: Board> Session<B> {
 
     fn undo(&mut self, answer: &mut Answer)
         requires { answer.old.items ≡ [] }
-        ensures next { self.new ≡ stands self.old (undo_row self.old.state) }
+        ensures next { self.new ≡ after_row self.old (undo_row self.old.state) }
         ensures text { answer.new.items ≡ (undo_row self.old.state).text }
     {
         if self.game.take_back().is_err() {
@@ -222,7 +222,7 @@ impl<B: Board> Session<B> {
     // Takes two half-moves back.
     fn remove(&mut self, answer: &mut Answer)
         requires { answer.old.items ≡ [] }
-        ensures next { self.new ≡ stands self.old (remove_row self.old.state) }
+        ensures next { self.new ≡ after_row self.old (remove_row self.old.state) }
         ensures text { answer.new.items ≡ (remove_row self.old.state).text }
     {
         if self.game.ply() < 2 {
@@ -237,7 +237,7 @@ impl<B: Board> Session<B> {
     fn declare(&mut self, text: &[u8], argument: &[u8], answer: &mut Answer)
         requires short { length text.now ≤ COMMAND_LEN }
         requires empty { answer.old.items ≡ [] }
-        ensures next { self.new ≡ stands self.old (result_row self.old.state text.now (declared_by argument.now)) }
+        ensures next { self.new ≡ after_row self.old (result_row self.old.state text.now (declared_by argument.now)) }
         ensures text { answer.new.items ≡ (result_row self.old.state text.now (declared_by argument.now)).text }
     {
         let Some(declared) = declared_by(argument) else {
@@ -259,7 +259,7 @@ impl<B: Board> Session<B> {
         requires clean { cut_comment comment.now ≡ comment.now }
         requires short { length comment.now ≤ 60 }
         requires empty { answer.old.items ≡ [] }
-        ensures next { self.new ≡ stands self.old (draws self.old.state comment.now) }
+        ensures next { self.new ≡ after_row self.old (draws self.old.state comment.now) }
         ensures text { answer.new.items ≡ (draws self.old.state comment.now).text }
     {
         self.game.declare_open(Outcome::Draw, Comment::cut(comment));
@@ -269,7 +269,7 @@ impl<B: Board> Session<B> {
     // Judges a claim of a draw in the present position.
     fn claim(&mut self, answer: &mut Answer)
         requires { answer.old.items ≡ [] }
-        ensures next { self.new ≡ stands self.old (claim_row self.old.state) }
+        ensures next { self.new ≡ after_row self.old (claim_row self.old.state) }
         ensures text { answer.new.items ≡ (claim_row self.old.state).text }
     {
         if self.game.is_over() {
@@ -310,7 +310,7 @@ impl<B: Board> Session<B> {
         requires short_argument { length argument.now ≤ COMMAND_LEN }
         requires empty { answer.old.items ≡ [] }
         ensures next { self.new
-            ≡ stands self.old (row self.old.tags self.old.limit self.old.state text.now argument.now command) }
+            ≡ after_row self.old (row self.old.tags self.old.limit self.old.state text.now argument.now command) }
         ensures text { shows_pgn command ≡ false → answer.new.items
             ≡ (row self.old.tags self.old.limit self.old.state text.now argument.now command).text }
     {
@@ -346,7 +346,7 @@ impl<B: Board> Session<B> {
         requires short { length text.now ≤ COMMAND_LEN }
         requires empty { answer.old.items ≡ [] }
         ensures next { self.new
-            ≡ stands self.old
+            ≡ after_row self.old
             (row self.old.tags self.old.limit self.old.state text.now (argument_of text.now)
             (unnamed_command text.now)) }
         ensures text { answer.new.items
