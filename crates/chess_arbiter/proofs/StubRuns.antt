@@ -4,7 +4,7 @@ use Rattle.std.proofs.Math.Seq.{take-append-add}
 use Rattle.std.specs.Io.KnownBytes.{Consumes}
 use Rattle.byte_devices.specs.Devices.{InputState, OutputState, Sent, BreaksOff, risen}
 use Rattle.byte_devices.proofs.DeviceLaws.{consumes_more, consumes_none}
-use Rattle.chess_cecp.specs.Lines.{LineSeen, Held, nothing_held, lines_heard, lines_held, whole}
+use Rattle.chess_cecp.specs.Lines.{LineSeen, Held, nothing_held, stream_lines, lines_held, whole}
 use Rattle.chess_cecp.specs.Next.{before_piece, Waits, GotLine, GotLast, NextLine}
 use Rattle.chess_cecp.specs.Run.{risen_if}
 use Rattle.chess_cecp.proofs.RunLemmas.{SentAll, sent_none, sent_more, sent_some, no_bytes, nothing_whole, of_true, of_false}
@@ -80,7 +80,7 @@ pub record SoFar (r r' : InputState) (w w' : OutputState) (s s' : StubState) (he
   pub state : s' ≡ (replies s done).state
   pub goes_on : (replies s done).ends ≡ false
   pub lines : (told : Bool) (rest : List ℕ)
-      → lines_heard COMMAND_LEN told (given ++ rest) ≡ done ++ lines_held COMMAND_LEN told held rest
+      → stream_lines COMMAND_LEN told (given ++ rest) ≡ done ++ lines_held COMMAND_LEN told held rest
   pub on_demand : length (whole COMMAND_LEN (before_piece r'.last_len given)) ≤ length done
   pub failures : r'.failure_count ≡ r.failure_count
   pub ends : r'.end_count ≡ r.end_count
@@ -123,7 +123,7 @@ waited r r' r'' w w' s s' held given more done f (inr (few, none)) =
 pub record Reached (r r' : InputState) (given : List ℕ) (told : Bool) (done : List LineSeen) (line : LineSeen)
     (behind : List LineSeen) : Type 0 where
   pub bytes : Consumes r.known_bytes r'.known_bytes given
-  pub lines : lines_heard COMMAND_LEN told given ≡ done ++ line ∷ behind
+  pub lines : stream_lines COMMAND_LEN told given ≡ done ++ line ∷ behind
   pub on_demand : length (whole COMMAND_LEN (before_piece r'.last_len given)) ≤ length done
   pub failures : r'.failure_count ≡ r.failure_count
   pub ends : r'.end_count ≡ risen_if told r.end_count
@@ -210,7 +210,7 @@ go_on E r r' r'' w w' w'' s s' s'' held held' given done line f (more, bytes, wa
             (sent_more w w' w'' (replies s done).text (reply s' line).text f.took took);
         state = next ∙ ap (λ (v : Reply). v.state) all;
         goes_on = ap (λ (v : Reply). v.ends) (sym all) ∙ on;
-        lines = λ told rest. ap (lines_heard COMMAND_LEN told) (append_assoc given more rest)
+        lines = λ told rest. ap (stream_lines COMMAND_LEN told) (append_assoc given more rest)
             ∙ f.lines told (more ++ rest) ∙ ap (λ v. done ++ v) (g.lines told rest)
             ∙ sym (append_assoc done (line ∷ []) (lines_held COMMAND_LEN told held' rest));
         on_demand = (let a = waited r r' r'' w w' s s' held given more done f waits in omega
@@ -231,7 +231,7 @@ by_line r r' r'' w w' w'' s s' held given done line f (all, told, behind, at) to
     let both = sent_more w w' w'' (replies s done).text (reply s' line).text f.took took in
     let last = (replies s done).state in
     let here : (reply last line).ends ≡ true = ap (λ v. (reply v line).ends) (sym f.state) ∙ over in
-    let is : (replies s done).text ++ (reply s' line).text ≡ (replies s (lines_heard COMMAND_LEN told all)).text =
+    let is : (replies s done).text ++ (reply s' line).text ≡ (replies s (stream_lines COMMAND_LEN told all)).text =
     sym (ap (λ (v : Reply). v.text) (ap (replies s) at.lines ∙ replies_on s done (line ∷ behind) f.goes_on
     ∙ ap (with_front (replies s done).text) (stops (reply last line) (replies (reply last line).state behind) here
     ∙ ap (λ v. reply v line) (sym f.state)))) in (
@@ -274,7 +274,7 @@ by_last E r r' r'' w w' w'' s s' held held' given done line f (more, bytes, wait
     let at : Reached r r'' (given ++ more) true done line [] =
     reached_last r r' r'' w w' s s' held held' given more done line f bytes waits g in
     let both = sent_more w w' w'' (replies s done).text (reply s' line).text f.took took in
-    let all : replies s (lines_heard COMMAND_LEN true (given ++ more))
+    let all : replies s (stream_lines COMMAND_LEN true (given ++ more))
     ≡ with_front (replies s done).text (reply s' line) =
     ap (replies s) at.lines ∙ one_more s s' done line f.state f.goes_on in (
       record { given = given ++ more; told = true; taken = (replies s done).text ++ (reply s' line).text },
@@ -294,7 +294,7 @@ pub by_end : (E : Type 0) (r r' r'' : InputState) (w w' : OutputState) (s s' : S
     → SoFar r r' w w' s s' held given done → NextLine {E = E} COMMAND_LEN r' r'' held held' (Ok None)
     → StubRan {A = Unit {0}} r r'' w w' s (Ok (tt {0}))
 by_end E r r' r'' w w' s s' held held' given done f (more, bytes, waits, got) =
-    let is : lines_heard COMMAND_LEN true (given ++ more) ≡ done =
+    let is : stream_lines COMMAND_LEN true (given ++ more) ≡ done =
     f.lines true more ∙ ap (λ v. done ++ v) (got.lines true) ∙ append-nil done in (
       record { given = given ++ more; told = true; taken = (replies s done).text },
       record {
@@ -315,7 +315,7 @@ pub by_read : {E : Type 0} (e : E) (r r' r'' : InputState) (w w' : OutputState) 
     → SoFar r r' w w' s s' held given done → NextLine {E = E} COMMAND_LEN r' r'' held held' (Err e)
     → StubRan {A = Unit {0}} r r'' w w' s (Err Read)
 by_read e r r' r'' w w' s s' held held' given done f (more, bytes, waits, got) =
-    let is : lines_heard COMMAND_LEN false (given ++ more) ≡ done =
+    let is : stream_lines COMMAND_LEN false (given ++ more) ≡ done =
     f.lines false more ∙ ap (λ v. done ++ v) got.whole ∙ append-nil done in (
       record { given = given ++ more; told = false; taken = (replies s done).text },
       record {

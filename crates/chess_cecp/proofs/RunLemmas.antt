@@ -11,7 +11,7 @@ use Rattle.std.specs.Bool.{MatchBool}
 use Rattle.std.proofs.lemmas.Grind.{common_steps}
 use Rattle.byte_devices.specs.Devices.{InputState, OutputState, Sent, TookThenFailed, BreaksOff, risen, raised}
 use Rattle.byte_devices.proofs.DeviceLaws.{consumes_more, consumes_none, appends_more, appends_none}
-use Rattle.chess_cecp.specs.Lines.{LineSeen, Held, nothing_held, lines_heard, lines_held, lines, whole}
+use Rattle.chess_cecp.specs.Lines.{LineSeen, Held, nothing_held, stream_lines, lines_held, lines, whole}
 use Rattle.chess_cecp.specs.Next.{before_piece, Waits, GotLine, GotLast, NextLine}
 use Rattle.chess_cecp.specs.Held.{SessionSeen}
 use Rattle.chess_cecp.specs.Session.{next_state, answer_to, is_quit, standing, answers, has_quit}
@@ -120,7 +120,7 @@ pub record SoFar (r r' : InputState) (w w' : OutputState) (s s' : SessionSeen) (
   pub state : s' ≡ standing s done
   pub no_quit : has_quit done ≡ false
   pub lines : (told : Bool) (rest : List ℕ)
-      → lines_heard COMMAND_LEN told (given ++ rest) ≡ done ++ lines_held COMMAND_LEN told held rest
+      → stream_lines COMMAND_LEN told (given ++ rest) ≡ done ++ lines_held COMMAND_LEN told held rest
   pub on_demand : length (whole COMMAND_LEN (before_piece r'.last_len given)) ≤ length done
   pub failures : r'.failure_count ≡ r.failure_count
   pub ends : r'.end_count ≡ r.end_count
@@ -180,7 +180,7 @@ known_front (Some x) (Some y) bs P p h = subst P (sym p) (h y)
 pub record Reached (r r' : InputState) (given : List ℕ) (told : Bool) (done : List LineSeen) (line : LineSeen)
     (after : List LineSeen) : Type 0 where
   pub bytes : Consumes r.known_bytes r'.known_bytes given
-  pub lines : lines_heard COMMAND_LEN told given ≡ done ++ line ∷ after
+  pub lines : stream_lines COMMAND_LEN told given ≡ done ++ line ∷ after
   pub known : IfSome r.known_bytes (BeginsWith done line)
   pub on_demand : length (whole COMMAND_LEN (before_piece r'.last_len given)) ≤ length done
   pub failures : r'.failure_count ≡ r.failure_count
@@ -207,7 +207,7 @@ reached_ended r r' r'' w w' s s' held held' given more done line f bytes waits g
       (consumes_more r.known_bytes r'.known_bytes r''.known_bytes given more f.bytes bytes)
       (λ rest. (
         lines_held COMMAND_LEN true held' rest,
-        ap (lines_heard COMMAND_LEN true) (append_assoc given more rest)
+        ap (stream_lines COMMAND_LEN true) (append_assoc given more rest)
             ∙ f.lines true (more ++ rest) ∙ ap (λ v. done ++ v) (got.lines true rest),
       ));
   on_demand = waited r r' r'' w w' s s' held given more done f waits;
@@ -286,7 +286,7 @@ go_on E {r} {r'} {r''} {w} {w'} {w''} {s} {s'} {s''} {held} {held'} {given} {don
         state = state_on s s' s'' done line f.state next ∙ sym (standing_last (standing s done) line)
             ∙ sym (standing_on s done (line ∷ []) f.no_quit);
         no_quit = no_quit_on done line f.no_quit on;
-        lines = λ told rest. ap (lines_heard COMMAND_LEN told) (append_assoc given more rest)
+        lines = λ told rest. ap (stream_lines COMMAND_LEN told) (append_assoc given more rest)
             ∙ f.lines told (more ++ rest) ∙ ap (λ v. done ++ v) (g.lines told rest)
             ∙ sym (append_assoc done (line ∷ []) (lines_held COMMAND_LEN told held' rest));
         on_demand = (let a = waited r r' r'' w w' s s' held given more done f waits in omega
@@ -424,7 +424,7 @@ pub by_end : (E : Type 0) {r r' r'' : InputState} {w w' : OutputState} {s s' : S
     → SoFar r r' w w' s s' held given done → NextLine {E = E} COMMAND_LEN r' r'' held held' (Ok None)
     → (t : Transcript) × Ran r r'' w w' s s' t (Ok InputEnded)
 by_end E {r} {r'} {r''} {s} {s'} {given} {done} f (more, bytes, waits, got) =
-    let is : lines_heard COMMAND_LEN true (given ++ more) ≡ done =
+    let is : stream_lines COMMAND_LEN true (given ++ more) ≡ done =
     f.lines true more ∙ ap (λ v. done ++ v) (got.lines true) ∙ append-nil done in
     let both : Consumes r.known_bytes r''.known_bytes (given ++ more) =
     consumes_more r.known_bytes r'.known_bytes r''.known_bytes given more f.bytes bytes in
@@ -476,7 +476,7 @@ by_read e {r} {r'} {r''} {s} {held'} {given} {done} f (more, bytes, waits, got) 
           first = known_front r.known_bytes r''.known_bytes (given ++ more) P both
               (λ rest. (
                 lines_held COMMAND_LEN true held' rest,
-                ap (lines_heard COMMAND_LEN true) (append_assoc given more rest) ∙ f.lines true (more ++ rest)
+                ap (stream_lines COMMAND_LEN true) (append_assoc given more rest) ∙ f.lines true (more ++ rest)
                     ∙ ap (λ v. done ++ v) (got.lines true rest)
                     ∙ ap (λ v. v ++ lines_held COMMAND_LEN true held' rest) (sym is),
               ));

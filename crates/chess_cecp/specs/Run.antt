@@ -4,7 +4,7 @@ use Rattle.std.specs.Prelude.{◌≡◌, ℕ, ◌≤◌, Bool, true, false, List
 use Rattle.std.specs.Option.{IfSome}
 use Rattle.std.specs.Io.KnownBytes.{Consumes, Appends, IsAtEnd}
 use Rattle.byte_devices.specs.Devices.{InputState, OutputState, risen, raised, Begins}
-use Rattle.chess_cecp.specs.Lines.{LineSeen, lines_heard, lines, whole}
+use Rattle.chess_cecp.specs.Lines.{LineSeen, stream_lines, lines, whole}
 use Rattle.chess_cecp.specs.Next.{before_piece}
 use Rattle.chess_cecp.specs.Held.{SessionSeen}
 use Rattle.chess_cecp.specs.Session.{answer_to, is_quit, standing, answers, has_quit}
@@ -54,7 +54,7 @@ LeavesUnflushed w w' text = w.unflushed ≡ 0 → w'.unflushed ≡ raised 0 text
 
 -- the lines that were given: an unended last one counts where the end was reported
 abbrev pub lines_given : Transcript → List LineSeen
-lines_given t = lines_heard COMMAND_LEN t.told t.given
+lines_given t = stream_lines COMMAND_LEN t.told t.given
 
 -- these lines were answered by this text, up to a `quit`, and the state is the one after them
 pub record Answered (s s' : SessionSeen) (text : List ℕ) (ls : List LineSeen) : Type 0 where

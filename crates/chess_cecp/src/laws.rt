@@ -7,7 +7,7 @@ ghost use Rattle.chess_game.specs.Game.{State};
 ghost use Rattle.chess_pgn.specs.declared.tags.Tags.{Tags};
 ghost use Rattle.chess_cecp.specs.declared.command.Command.{Command};
 ghost use Rattle.chess_cecp.specs.Held.{SessionSeen};
-ghost use Rattle.chess_cecp.specs.Lines.{LineSeen, lines_heard, line_of};
+ghost use Rattle.chess_cecp.specs.Lines.{LineSeen, stream_lines, line_of};
 ghost use Rattle.chess_cecp.specs.laws.Unended.{HasNoEnd};
 ghost use Rattle.chess_cecp.specs.laws.Normal.{normal_row_of, keeps_its_row};
 ghost use Rattle.chess_cecp.specs.Session.{row, next_state, answer_to, IsRefusal};
@@ -15,12 +15,12 @@ ghost use Rattle.chess_cecp.specs.Session.{row, next_state, answer_to, IsRefusal
 /// The lines are the pieces that byte 10 ends, and what follows the last one, if it isn't empty and the end was
 /// reported.
 pub fn lines_are_pieces()
-    ensures empty { (n : ℕ) (told : Bool) → lines_heard n told [] ≡ [] }
+    ensures empty { (n : ℕ) (told : Bool) → stream_lines n told [] ≡ [] }
     ensures ended { (n : ℕ) (told : Bool) (piece rest : List ℕ) → HasNoEnd piece →
-        lines_heard n told (piece ++ new_line ∷ rest) ≡ line_of n true piece ∷ lines_heard n told rest }
+        stream_lines n told (piece ++ new_line ∷ rest) ≡ line_of n true piece ∷ stream_lines n told rest }
     ensures last { (n : ℕ) (piece : List ℕ) → HasNoEnd piece → 0 < length piece →
-        lines_heard n true piece ≡ line_of n false piece ∷ [] }
-    ensures not_told { (n : ℕ) (piece : List ℕ) → HasNoEnd piece → lines_heard n false piece ≡ [] }
+        stream_lines n true piece ≡ line_of n false piece ∷ [] }
+    ensures not_told { (n : ℕ) (piece : List ℕ) → HasNoEnd piece → stream_lines n false piece ≡ [] }
 {}
 
 /// A line whose answer is a refusal leaves start, moves and declared result as they were.

@@ -4,7 +4,7 @@ use Rattle.std.specs.Bool.{MatchBool}
 use Rattle.std.specs.Io.KnownBytes.{Consumes, IsAtEnd}
 use Rattle.chess_base.specs.declared.man.Colour.{Colour}
 use Rattle.byte_devices.specs.Devices.{InputState, risen}
-use Rattle.chess_cecp.specs.Lines.{LineSeen, Held, lines_heard, lines_held}
+use Rattle.chess_cecp.specs.Lines.{LineSeen, Held, stream_lines, lines_held}
 use Rattle.chess_cecp.specs.Run.{risen_if}
 use Rattle.chess_match.proofs.Hearing.{Hearing, HeardAll, is_heard_of, Tells, HearsAt}
 use Rattle.chess_match.specs.Match.{Event, Line, Opened, OutputEnds, FailsToRead, FailsToWrite}
@@ -28,7 +28,7 @@ first_lines : (r r' : InputState) (h : Held) (given : List ℕ) (texts : List (O
     (s : Hearing r r' h given texts) → engine_lines given ≡ texts
     ++ map text_heard (lines_held ENGINE_LINE_LEN false h [])
 first_lines r r' h given texts s =
-    ap (λ bytes. map text_heard (lines_heard ENGINE_LINE_LEN false bytes)) (sym (append-nil given))
+    ap (λ bytes. map text_heard (stream_lines ENGINE_LINE_LEN false bytes)) (sym (append-nil given))
     ∙ ap (λ ls. map text_heard ls) (s.lines.2 false [])
     ∙ map_both s.lines.0 (lines_held ENGINE_LINE_LEN false h [])
     ∙ ap (λ ls. ls ++ map text_heard (lines_held ENGINE_LINE_LEN false h [])) s.lines.1

@@ -5,7 +5,7 @@ use Rattle.std.specs.Io.KnownBytes.{Consumes}
 use Rattle.byte_devices.specs.Devices.{InputState}
 use Rattle.chess_base.specs.declared.man.Colour.{Colour}
 use Rattle.chess_base.specs.Men.{same_colour}
-use Rattle.chess_cecp.specs.Lines.{LineSeen, Held, lines_heard, lines_held}
+use Rattle.chess_cecp.specs.Lines.{LineSeen, Held, stream_lines, lines_held}
 use Rattle.chess_cecp.specs.Next.{GotLine, GotLast, GotNone, GotFault}
 use Rattle.chess_match.specs.Match.{Event, Line, Opened, OutputEnds, FailsToRead, FailsToWrite}
 use Rattle.chess_match.specs.Run.{text_heard}
@@ -15,7 +15,7 @@ use Rattle.chess_match.specs.declared.run.TheConstants.{ENGINE_LINE_LEN}
 pub record Hearing (old new : InputState) (held : Held) (given : List ℕ) (texts : List (Option (List ℕ))) : Type 0 where
   pub bytes : Consumes old.known_bytes new.known_bytes given
   pub lines : (heard : List LineSeen) × (map text_heard heard ≡ texts)
-      × ((told : Bool) (rest : List ℕ) → lines_heard ENGINE_LINE_LEN told (given ++ rest) ≡ heard
+      × ((told : Bool) (rest : List ℕ) → stream_lines ENGINE_LINE_LEN told (given ++ rest) ≡ heard
       ++ lines_held ENGINE_LINE_LEN told held rest)
   pub ends : new.end_count ≡ old.end_count
   pub failures : new.failure_count ≡ old.failure_count
@@ -24,7 +24,7 @@ pub record Hearing (old new : InputState) (held : Held) (given : List ℕ) (text
 pub record HeardAll (old new : InputState) (given : List ℕ) (texts : List (Option (List ℕ))) : Type 0 where
   pub bytes : Consumes old.known_bytes new.known_bytes given
   pub lines : (heard : List LineSeen) × (map text_heard heard ≡ texts)
-      × (lines_heard ENGINE_LINE_LEN false given ≡ heard)
+      × (stream_lines ENGINE_LINE_LEN false given ≡ heard)
 
 -- ---- one event more
 
