@@ -6,7 +6,7 @@ use Rattle.chess_cecp.specs.declared.run.Fault.{Fault}
 use Rattle.chess_cecp.specs.declared.run.Fault.TheVariants.{Read, Write}
 use Rattle.chess_cecp.specs.Held.{SessionSeen, opened_session}
 use Rattle.chess_pgn.specs.Tags.{default_tags}
-use Rattle.chess_cecp.specs.Run.{Transcript, Ran}
+use Rattle.chess_cecp.specs.Run.{Transcript, SessionRan}
 use Rattle.chess_arbiter.specs.Program.{RanSession, status_of}
 use Rattle.chess_arbiter.specs.ties.Outcomes.{Served}
 use Rattle.chess_arbiter.specs.declared.fault.ProgramFault.{ProgramFault}
@@ -15,14 +15,14 @@ use Rattle.chess_game.specs.declared.game.TheConstants.{MOST_MOVES}
 
 pub served : (r r' : InputState) (w w' : OutputState) (s s' : SessionSeen) (end : End)
     → s ≡ opened_session default_tags MOST_MOVES
-    → (t : Transcript) × Ran r r' w w' s s' t (Ok end) → Served r r' w w' (Ok end)
-served r r' w w' s s' end is (t, ran) = (s', t, subst (λ v. Ran r r' w w' v s' t (Ok end)) is ran)
+    → (t : Transcript) × SessionRan r r' w w' s s' t (Ok end) → Served r r' w w' (Ok end)
+served r r' w w' s s' end is (t, ran) = (s', t, subst (λ v. SessionRan r r' w w' v s' t (Ok end)) is ran)
 
 pub served_to_write : (r r' : InputState) (w w' : OutputState) (s s' : SessionSeen) (fault : Fault)
-    → s ≡ opened_session default_tags MOST_MOVES → fault ≡ Write → (t : Transcript) × Ran r r' w w' s s' t (Err fault)
+    → s ≡ opened_session default_tags MOST_MOVES → fault ≡ Write → (t : Transcript) × SessionRan r r' w w' s s' t (Err fault)
     → Served r r' w w' (Err WriteFailed)
 served_to_write r r' w w' s s' fault is write (t, ran) =
-    (s', t, subst (λ v. Ran r r' w w' v s' t (Err Write)) is (subst (λ v. Ran r r' w w' s s' t (Err v)) write ran))
+    (s', t, subst (λ v. SessionRan r r' w w' v s' t (Err Write)) is (subst (λ v. SessionRan r r' w w' s s' t (Err v)) write ran))
 
 -- ---- the status
 

@@ -12,7 +12,7 @@ use Rattle.chess_cecp.specs.declared.run.End.{End}
 use Rattle.chess_cecp.specs.declared.run.Fault.{Fault}
 use Rattle.chess_cecp.specs.Held.{SessionSeen, opened_session}
 use Rattle.chess_pgn.specs.Tags.{default_tags}
-use Rattle.chess_cecp.specs.Run.{Transcript, Ran}
+use Rattle.chess_cecp.specs.Run.{Transcript, SessionRan}
 use Rattle.chess_arbiter.specs.declared.fault.ProgramFault.{ProgramFault}
 use Rattle.arbiter_words.specs.declared.plan.MatchPlan.{MatchPlan}
 use Rattle.arbiter_words.specs.declared.plan.VerifyPlan.{VerifyPlan}
@@ -45,7 +45,7 @@ fault_status _ = 1
 abbrev pub RanSession : InputState → InputState → OutputState → OutputState → ℕ → Type 0
 RanSession r r' w w' status =
     ((outcome : Result End Fault) × (s : SessionSeen) × (t : Transcript)
-    × Ran r r' w w' (opened_session default_tags MOST_MOVES) s t outcome × (status ≡ status_of outcome))
+    × SessionRan r r' w w' (opened_session default_tags MOST_MOVES) s t outcome × (status ≡ status_of outcome))
     ⊎ ((r' ≡ r) × (w' ≡ w) × (status ≡ 1))
 
 -- what the flags of `verify` ask for

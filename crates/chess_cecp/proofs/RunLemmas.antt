@@ -15,7 +15,7 @@ use Rattle.chess_cecp.specs.Lines.{LineSeen, Held, nothing_held, stream_lines, l
 use Rattle.chess_cecp.specs.Next.{before_piece, Waits, GotLine, GotLast, NextLine}
 use Rattle.chess_cecp.specs.Held.{SessionSeen}
 use Rattle.chess_cecp.specs.Session.{next_state, answer_to, is_quit, standing, answers, has_quit}
-use Rattle.chess_cecp.specs.Run.{Transcript, LeavesUnflushed, Ran, Answered, AnsweredKnown, risen_if}
+use Rattle.chess_cecp.specs.Run.{Transcript, LeavesUnflushed, SessionRan, Answered, AnsweredKnown, risen_if}
 use Rattle.chess_cecp.specs.declared.session.Go.{Go}
 use Rattle.chess_cecp.specs.declared.session.Go.TheVariants as goes
 use Rattle.chess_cecp.specs.declared.run.End.TheVariants.{Quit, InputEnded}
@@ -331,7 +331,7 @@ pub by_quit : {r r' r'' : InputState} {w w' w'' : OutputState} {s s' s'' : Sessi
     {done : List LineSeen} (line : LineSeen)
     → SoFar r r' w w' s s' held given done → IsReached r r'' done line
     → Sent w' w'' (answer_to s' line) → s'' ≡ next_state s' line → is_quit line ≡ true
-    → (t : Transcript) × Ran r r'' w w'' s s'' t (Ok Quit)
+    → (t : Transcript) × SessionRan r r'' w w'' s s'' t (Ok Quit)
 by_quit {r} {r'} {w} {w'} {w''} {s} {s'} {s''} {held} {given} {done} line f (all, told, after, at) took next on =
     let both : SentAll w w'' (answers s done ++ answer_to s' line) =
     sent_more w w' w'' (answers s done) (answer_to s' line) f.took took in (
@@ -360,7 +360,7 @@ pub by_write : {r r' r'' : InputState} {w w' w'' : OutputState} {s s' s'' : Sess
     {done : List LineSeen} (line : LineSeen)
     → SoFar r r' w w' s s' held given done → IsReached r r'' done line
     → BreaksOff w' w'' (answer_to s' line) → s'' ≡ next_state s' line
-    → (t : Transcript) × Ran r r'' w w'' s s'' t (Err Write)
+    → (t : Transcript) × SessionRan r r'' w w'' s s'' t (Err Write)
 by_write {r} {w} {w'} {w''} {s} {s'} {s''} {given} {done} line f (all, told, after, at)
     (start, (rest, is), broke) next =
     let both : SentSome w w'' (answers s done) start = sent_some w w' w'' (answers s done) start f.took broke in (
@@ -390,7 +390,7 @@ pub by_last : (E : Type 0) {r r' r'' : InputState} {w w' w'' : OutputState} {s s
     → SoFar r r' w w' s s' held given done → NextLine {E = E} COMMAND_LEN r' r'' held held' (Ok (Some line))
     → line.ended ≡ false
     → Sent w' w'' (answer_to s' line) → s'' ≡ next_state s' line → is_quit line ≡ false
-    → (t : Transcript) × Ran r r'' w w'' s s'' t (Ok InputEnded)
+    → (t : Transcript) × SessionRan r r'' w w'' s s'' t (Ok InputEnded)
 by_last E {r} {r'} {r''} {w} {w'} {w''} {s} {s'} {s''} {held} held' {given} {done} line f
     (more, bytes, waits, got) ended took next on =
     let g : GotLast COMMAND_LEN r' r'' held held' more line = of_false line.ended _ _ ended got in
@@ -422,7 +422,7 @@ by_last E {r} {r'} {r''} {w} {w'} {w''} {s} {s'} {s''} {held} held' {given} {don
 pub by_end : (E : Type 0) {r r' r'' : InputState} {w w' : OutputState} {s s' : SessionSeen} {held held' : Held}
     {given : List ℕ} {done : List LineSeen}
     → SoFar r r' w w' s s' held given done → NextLine {E = E} COMMAND_LEN r' r'' held held' (Ok None)
-    → (t : Transcript) × Ran r r'' w w' s s' t (Ok InputEnded)
+    → (t : Transcript) × SessionRan r r'' w w' s s' t (Ok InputEnded)
 by_end E {r} {r'} {r''} {s} {s'} {given} {done} f (more, bytes, waits, got) =
     let is : stream_lines COMMAND_LEN true (given ++ more) ≡ done =
     f.lines true more ∙ ap (λ v. done ++ v) (got.lines true) ∙ append-nil done in
@@ -451,7 +451,7 @@ by_end E {r} {r'} {r''} {s} {s'} {given} {done} f (more, bytes, waits, got) =
 pub by_read : {E : Type 0} (e : E) {r r' r'' : InputState} {w w' : OutputState} {s s' : SessionSeen} {held held' : Held}
     {given : List ℕ} {done : List LineSeen}
     → SoFar r r' w w' s s' held given done → NextLine {E = E} COMMAND_LEN r' r'' held held' (Err e)
-    → (t : Transcript) × Ran r r'' w w' s s' t (Err Read)
+    → (t : Transcript) × SessionRan r r'' w w' s s' t (Err Read)
 by_read e {r} {r'} {r''} {s} {held'} {given} {done} f (more, bytes, waits, got) =
     let is : whole COMMAND_LEN (given ++ more) ≡ done =
     f.lines false more ∙ ap (λ v. done ++ v) got.whole ∙ append-nil done in

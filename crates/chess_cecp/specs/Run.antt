@@ -118,11 +118,11 @@ ByWrite r w w' s s' t last_len =
 
 -- the whole promise: what was answered, of the session, the devices and the transcript. Each answer was flushed before
 -- more was read: at all ends but that by a failed write nothing is unflushed
-abbrev pub Ran : InputState → InputState → OutputState → OutputState → SessionSeen → SessionSeen → Transcript
+abbrev pub SessionRan : InputState → InputState → OutputState → OutputState → SessionSeen → SessionSeen → Transcript
     → Result End Fault → Type 0
-Ran r r' w w' s s' t (Ok Quit) = FitsUnfailed r r' w w' t × ByQuit s s' t r'.last_len
+SessionRan r r' w w' s s' t (Ok Quit) = FitsUnfailed r r' w w' t × ByQuit s s' t r'.last_len
     × AnsweredKnown r s s' t true × LeavesUnflushed w w' []
-Ran r r' w w' s s' t (Ok InputEnded) = FitsUnfailed r r' w w' t × ByEnd s s' t r'
+SessionRan r r' w w' s s' t (Ok InputEnded) = FitsUnfailed r r' w w' t × ByEnd s s' t r'
     × AnsweredKnown r s s' t false × LeavesUnflushed w w' []
-Ran r r' w w' s s' t (Err Read) = FitsFailedRead r r' w w' t × ByRead r s s' t × LeavesUnflushed w w' []
-Ran r r' w w' s s' t (Err Write) = FitsFailedWrite r r' w w' t × ByWrite r w w' s s' t r'.last_len
+SessionRan r r' w w' s s' t (Err Read) = FitsFailedRead r r' w w' t × ByRead r s s' t × LeavesUnflushed w w' []
+SessionRan r r' w w' s s' t (Err Write) = FitsFailedWrite r r' w w' t × ByWrite r w w' s s' t r'.last_len

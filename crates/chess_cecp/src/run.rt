@@ -1,7 +1,7 @@
 //! A session over a reader and a writer.
 
 ghost use Rattle.chess_game.specs.Game.{IsPlayable};
-ghost use Rattle.chess_cecp.specs.Run.{Transcript, Ran};
+ghost use Rattle.chess_cecp.specs.Run.{Transcript, SessionRan};
 
 use crate::lines::{Line, Lines};
 use crate::session::{COMMAND_LEN, Go, Session};
@@ -37,7 +37,7 @@ pub fn run_session<R: Input, W: Output, B: Board>(
     writer: &mut W,
     session: &mut Session<B>,
 ) -> Result<End, Fault>
-    ensures { (t : Transcript) × Ran (R.seen reader.old) (R.seen reader.new) (W.seen writer.old) (W.seen writer.new)
+    ensures { (t : Transcript) × SessionRan (R.seen reader.old) (R.seen reader.new) (W.seen writer.old) (W.seen writer.new)
         session.old session.new t result }
 {
     let mut lines: Lines<COMMAND_LEN> = Lines::new();

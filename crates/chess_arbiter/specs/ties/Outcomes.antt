@@ -4,7 +4,7 @@ use Rattle.byte_devices.specs.Devices.{InputState, OutputState, BreaksOff, Sent}
 use Rattle.chess_cecp.specs.declared.run.End.{End}
 use Rattle.chess_cecp.specs.declared.run.Fault.TheVariants.{Read, Write}
 use Rattle.chess_cecp.specs.Held.{SessionSeen, opened_session}
-use Rattle.chess_cecp.specs.Run.{Transcript, Ran}
+use Rattle.chess_cecp.specs.Run.{Transcript, SessionRan}
 use Rattle.chess_game.specs.declared.game.TheConstants.{MOST_MOVES}
 use Rattle.chess_pgn.specs.Tags.{default_tags}
 use Rattle.chess_arbiter.specs.declared.fault.ProgramFault.{ProgramFault}
@@ -13,11 +13,11 @@ use Rattle.chess_arbiter.specs.declared.fault.ProgramFault.TheVariants.{ReadFail
 -- a session ran to this end, or we ran out of memory for one, and nothing was read or written
 abbrev pub Served : InputState → InputState → OutputState → OutputState → Result End ProgramFault → Type 0
 Served r r' w w' (Ok end) = (s : SessionSeen) × (t : Transcript)
-    × Ran r r' w w' (opened_session default_tags MOST_MOVES) s t (Ok end)
+    × SessionRan r r' w w' (opened_session default_tags MOST_MOVES) s t (Ok end)
 Served r r' w w' (Err ReadFailed) = (s : SessionSeen) × (t : Transcript)
-    × Ran r r' w w' (opened_session default_tags MOST_MOVES) s t (Err Read)
+    × SessionRan r r' w w' (opened_session default_tags MOST_MOVES) s t (Err Read)
 Served r r' w w' (Err WriteFailed) = (s : SessionSeen) × (t : Transcript)
-    × Ran r r' w w' (opened_session default_tags MOST_MOVES) s t (Err Write)
+    × SessionRan r r' w w' (opened_session default_tags MOST_MOVES) s t (Err Write)
 Served r r' w w' (Err NoMemory) = (r' ≡ r) × (w' ≡ w)
 Served r r' w w' (Err _) = ⊥
 
