@@ -11,7 +11,7 @@ use Rattle.engine_lines.specs.Levels.{LevelSeen}
 use Rattle.chess_match.specs.Reasons.{comment_of}
 use Rattle.chess_match.specs.Notes.{Note, notes_of}
 use Rattle.chess_match.specs.Rules.{rules_of}
-use Rattle.chess_match.specs.Run.{Flushed, Ports, Ran}
+use Rattle.chess_match.specs.Run.{Flushed, Ports, MatchRan}
 use Rattle.chess_match.specs.declared.reason.MatchFault.{MatchFault}
 use Rattle.chess_match.specs.declared.reason.Reason.TheVariants.{Faulted}
 use Rattle.chess_match.specs.declared.run.MatchEnd.{MatchEnd}
@@ -45,7 +45,7 @@ limit_kept notes start level g g' end w w' coming coming' (T, are, by) = ap (λ 
 -- ---- a game that is not logged
 
 pub relayed : (l : LogSeen) (start : Setup) (level : LevelSeen) (g g' : Seen) (end : MatchEnd) (w w' : Ports)
-    (coming coming' : ℕ → Option ℕ) → Ran start level g g' end w w' coming coming'
+    (coming coming' : ℕ → Option ℕ) → MatchRan start level g g' end w w' coming coming'
     → Relayed None l l start level g g' end w w' coming coming'
 relayed l start level g g' end w w' coming coming' (T, by) =
     (notes_of (rules_of start level g.limit) T, (T, refl, by), refl)

@@ -14,7 +14,7 @@ ghost use Rattle.chess_match.specs.Match.{Match, FailsToWrite, after};
 ghost use Rattle.chess_match.specs.Notes.{WasNoted, Happened, given_note, both_notes};
 ghost use Rattle.chess_match.specs.Reasons.{declared_at};
 ghost use Rattle.chess_match.specs.Rules.{Rules};
-ghost use Rattle.chess_match.specs.Run.{Ports, Ran, RanBefore, Asked, text_heard};
+ghost use Rattle.chess_match.specs.Run.{Ports, MatchRan, RanBefore, Asked, text_heard};
 ghost use Rattle.engine_lines.specs.Seen.{seen};
 ghost use Rattle.chess_match.specs.Sent.{block, bytes_of, answers_to};
 ghost use Rattle.chess_match.specs.ties.Stands.{Stands, Goes, given_block, items_to};
@@ -96,7 +96,7 @@ pub fn run_match<R: Input, W: Output, M: Moments, B: Board>(
     game: &mut Game<B>,
     scratch: &mut B,
 ) -> MatchEnd
-    ensures ran { Ran setup.now.start setup.now.level game.old game.new result
+    ensures ran { MatchRan setup.now.start setup.now.level game.old game.new result
         (record {
           white_reader = R.seen white.old.reader;
           white_writer = W.seen white.old.writer;
