@@ -4,7 +4,7 @@ use Rattle.std.specs.Prelude.{sum}
 use Rattle.chess_base.specs.declared.man.Colour.{Colour}
 use Rattle.chess_base.specs.declared.man.Colour.TheVariants.{White, Black}
 use Rattle.chess_base.specs.declared.man.Move.{Move}
-use Rattle.engine_lines.specs.EngineLines.{LineKind, kind_heard}
+use Rattle.engine_lines.specs.EngineLines.{LineKind, line_kind}
 use Rattle.engine_lines.specs.Items.{Item}
 use Rattle.chess_match.specs.laws.Laws.{ClocksDoNotUnderflow}
 use Rattle.engine_lines.specs.Levels.{LevelSeen, allotted, left}
@@ -68,11 +68,11 @@ step r due m e f w =
         setup_next = λ p s k. w;
         setup_done = λ p s k. w;
         before = λ p. record {
-          row = in_turn r S (kind_heard text) m w;
+          row = in_turn r S (line_kind text) m w;
           plays = λ text' move k rd room timely. played r S move _ m timely w;
           decides = λ text' move v k rd room timely. played r S move _ m timely w;
         };
-        behind = λ p. record { row = in_turn r S (kind_heard text) m w; passes = λ k. w };
+        behind = λ p. record { row = in_turn r S (line_kind text) m w; passes = λ k. w };
       };
       opened = λ S moment is p. w;
       faulted = λ S x on u. w;

@@ -4,7 +4,7 @@ use Rattle.chess_base.specs.declared.man.Colour.{Colour}
 use Rattle.chess_base.specs.declared.man.Colour.TheVariants.{White, Black}
 use Rattle.chess_base.specs.declared.man.Move.{Move}
 use Rattle.chess_base.specs.Men.{other}
-use Rattle.engine_lines.specs.EngineLines.{LineKind, kind_heard}
+use Rattle.engine_lines.specs.EngineLines.{LineKind, line_kind}
 use Rattle.engine_lines.specs.Items.{Item}
 use Rattle.chess_match.specs.laws.Laws.{LinesAreFew, line_count}
 use Rattle.chess_match.specs.Match.{Match, Event, items_heard, Line, Opened, OutputEnds, FailsToRead, FailsToWrite, seat, hear, start, over, enter, open_turn, played_by, after}
@@ -220,7 +220,7 @@ few r due m [] k f w = let h : k ≤ 22000 + 10002 * (r.limit + 1) = few_over r 
 few r due m (Line S t n ∷ T) k f w =
     let here : reads m.phase S ≡ true = and_first (reads m.phase S) _ f in
     let next : Few r (k + 1) (after r m (Line S t n)) =
-    line_outcome r S (kind_heard t) n m (λ m'. Few r (k + 1) m') here (lines r k S (kind_heard t) n m w) in
+    line_outcome r S (line_kind t) n m (λ m'. Few r (k + 1) m') here (lines r k S (line_kind t) n m w) in
     let h : k + 1 + line_count T ≤ 22000 + 10002 * (r.limit + 1) =
     few r (block r m (after r m (Line S t n))) (after r m (Line S t n)) T (k + 1)
     (and_second (reads m.phase S) _ f) next in

@@ -10,7 +10,7 @@ use Rattle.chess_base.specs.declared.man.Colour.TheVariants.{White, Black}
 use Rattle.chess_base.specs.declared.man.Move.{Move}
 use Rattle.chess_base.specs.Men.{other, same_colour}
 use Rattle.chess_game.specs.declared.ends.Verdict.{Verdict}
-use Rattle.engine_lines.specs.EngineLines.{LineKind, kind_heard}
+use Rattle.engine_lines.specs.EngineLines.{LineKind, line_kind}
 use Rattle.engine_lines.specs.Items.{Item, takes}
 use Rattle.chess_match.specs.laws.Laws.{move_told, moves_told, texts_from, move_texts, owed_to, MovesAreTold, AllMovesAreTold, sent}
 use Rattle.chess_match.specs.Match.{Match, Event, Line, Opened, OutputEnds, FailsToRead, FailsToWrite, items_heard, seat, hear, start, over, enter, open_turn, played_by, after, clock, ping_number}
@@ -529,7 +529,7 @@ step_goes : (r : Rules) (X : List (List ℕ)) (O : Colour) (due : Colour → Lis
     → fits_next due m e ≡ true → Orderly r m → Sofar r X O m
     → Told r X O (fails_at e O) m.phase (after r m e) × Orderly r (after r m e)
 step_goes r X O due m (Line S t n) f o h =
-    line_outcome r S (kind_heard t) n m (λ m'. Goes r X O m m') f (lines_go r X S O (kind_heard t) n m f o h)
+    line_outcome r S (line_kind t) n m (λ m'. Goes r X O m m') f (lines_go r X S O (line_kind t) n m f o h)
 step_goes r X O due m (Opened S n) f o h = (
   quiet_told r X O m.phase (record m { phase = Before S; opened = n }) refl refl
       (carried r X O m (record m { phase = Before S; opened = n }) refl refl refl refl h),
@@ -627,7 +627,7 @@ dropped_line : (r : Rules) (O S d : Colour) (t : Option (List ℕ)) (n : ℕ) (d
     → fits_next (block r m (after r m (Line S t n))) (after r m (Line S t n)) (FailsToWrite d) ≡ true → Orderly r m
     → same_colour S d ≡ true → told_now r m (after r m (Line S t n)) O ≡ []
 dropped_line r O S d t n due m T f g o e =
-    line_outcome r S (kind_heard t) n m (λ m'. TellsNone r S O m m') f (lines_none r S O (kind_heard t) n m f o)
+    line_outcome r S (line_kind t) n m (λ m'. TellsNone r S O m m') f (lines_none r S O (line_kind t) n m f o)
     (and_first (is_on (after r m (Line S t n)).phase) _ g)
     (rw (same_colour-true S d e) (ltb-true 0 (length (block r m (after r m (Line S t n)) d))
     (and_second (is_on (after r m (Line S t n)).phase) _ g)))

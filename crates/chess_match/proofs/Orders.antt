@@ -5,7 +5,7 @@ use Rattle.chess_base.specs.declared.man.Colour.{Colour}
 use Rattle.chess_base.specs.declared.man.Colour.TheVariants.{White, Black}
 use Rattle.chess_base.specs.declared.man.Move.{Move}
 use Rattle.chess_base.specs.Men.{other, same_colour}
-use Rattle.engine_lines.specs.EngineLines.{LineKind, kind_heard}
+use Rattle.engine_lines.specs.EngineLines.{LineKind, line_kind}
 use Rattle.engine_lines.specs.Items.{Item, takes}
 use Rattle.chess_match.specs.laws.Laws.{moves_told, move_texts, texts_from, owed_to, MovesSentAreKnown, sent}
 use Rattle.chess_match.specs.Match.{Match, Event, Line, Opened, OutputEnds, FailsToRead, FailsToWrite, items_heard, seat, hear, start, over, enter, open_turn, played_by, after}
@@ -156,8 +156,8 @@ lines_kept r S kind moment m k = record {
 
 pub step : (r : Rules) (due : Colour → List SentLine) (m : Match) (e : Event) → fits_next due m e ≡ true → Kept r m
     → Kept r (after r m e)
-step r due m (Line S t n) f k = line_outcome r S (kind_heard t) n m (λ m'. Kept r m') f
-    (lines_kept r S (kind_heard t) n m k)
+step r due m (Line S t n) f k = line_outcome r S (line_kind t) n m (λ m'. Kept r m') f
+    (lines_kept r S (line_kind t) n m k)
 step r due m (Opened S n) f k = (orderly_in r m (Opening S) (opens_at m.phase S f) k.0, k.1, k.2)
 step r due m (OutputEnds S) f k = (tt, k.1, k.2)
 step r due m (FailsToRead S) f k = (tt, k.1, k.2)

@@ -7,7 +7,7 @@ use Rattle.chess_base.specs.declared.man.Colour.TheVariants.{White, Black}
 use Rattle.chess_base.specs.declared.man.Move.{Move}
 use Rattle.chess_base.specs.Men.{other, same_colour}
 use Rattle.chess_game.specs.declared.ends.Verdict.{Verdict}
-use Rattle.engine_lines.specs.EngineLines.{kind_heard, LineKind, Features, Moves, Resigns, OffersDraw, ClaimsDraw, ClaimsWin, Rejects, Answers, SaysElse}
+use Rattle.engine_lines.specs.EngineLines.{line_kind, LineKind, Features, Moves, Resigns, OffersDraw, ClaimsDraw, ClaimsWin, Rejects, Answers, SaysElse}
 use Rattle.engine_lines.specs.Items.{Item, has_done}
 use Rattle.chess_match.specs.laws.Laws.{move_said}
 use Rattle.chess_match.specs.Match.{Match, Event, Line, Opened, OutputEnds, FailsToRead, FailsToWrite, after, after_kind, items_heard, seat, clock, over, ignore, enter, open_turn, hear, greeted, hello_line, judged, lack, ready, unless_decided, is_pong, setup_line, played_by, move_row, offer_row, draw_row, was_told, either_way, before_row, before_line, after_line, ping_number}
@@ -232,7 +232,7 @@ line_outcome r S kind moment m P h l = at m.phase S refl h l
 -- whatever an event is
 pub record Events (r : Rules) (m : Match) (e : Event) (P : Match → Type 0) : Type 0 where
   pub line : (S : Colour) (text : Option (List ℕ)) (moment : ℕ) → e ≡ Line S text moment → reads m.phase S ≡ true
-      → Lines r S (kind_heard text) moment m P
+      → Lines r S (line_kind text) moment m P
   pub opened : (S : Colour) (moment : ℕ) → e ≡ Opened S moment → m.phase ≡ Opening S
       → P (record m { phase = Before S; opened = moment })
   pub faulted : (S : Colour) (f : MatchFault) → is_on m.phase ≡ true
@@ -264,7 +264,7 @@ not_other Black = refl
 pub event_outcome : (r : Rules) (due : Colour → List SentLine) (m : Match) (e : Event) (P : Match → Type 0)
     → fits_next due m e ≡ true → Events r m e P → P (after r m e)
 event_outcome r due m (Line S text moment) P h v =
-    line_outcome r S (kind_heard text) moment m P h (v.line S text moment refl h)
+    line_outcome r S (line_kind text) moment m P h (v.line S text moment refl h)
 event_outcome r due m (Opened S moment) P h v = v.opened S moment refl (opens_at m.phase S h)
 event_outcome r due m (OutputEnds S) P h v = v.faulted S Ended (reads_on m.phase S h) (λ O. refl)
 event_outcome r due m (FailsToRead S) P h v = v.faulted S Read (reads_on m.phase S h) (λ O. refl)

@@ -6,7 +6,7 @@ use Rattle.chess_base.specs.declared.man.Colour.TheVariants.{White, Black}
 use Rattle.chess_base.specs.declared.man.Move.{Move}
 use Rattle.chess_base.specs.Men.{other}
 use Rattle.chess_game.specs.declared.ends.Verdict.{Verdict}
-use Rattle.engine_lines.specs.EngineLines.{LineKind, kind_heard, Features, Moves, Resigns, OffersDraw, ClaimsDraw, ClaimsWin, Rejects, Answers, SaysElse}
+use Rattle.engine_lines.specs.EngineLines.{LineKind, line_kind, Features, Moves, Resigns, OffersDraw, ClaimsDraw, ClaimsWin, Rejects, Answers, SaysElse}
 use Rattle.engine_lines.specs.Items.{Item, has_done}
 use Rattle.chess_match.specs.laws.Laws.{move_said, moves_said, behind_hello, behind_pong, moves_of, AreRead, MovesAreRead}
 use Rattle.chess_match.specs.Match.{Match, Event, Line, Opened, OutputEnds, FailsToRead, FailsToWrite, items_heard, is_pong, hear, start, over, enter, open_turn, played_by, after}
@@ -76,7 +76,7 @@ reads_on r m m' final d t lines p same next c e =
 -- the side on move plays
 reads_move : (r : Rules) (m m' final : Match) (d : Colour) (t : Option (List ℕ)) (text : List ℕ) (move : Move)
     (lines : Colour → List (Option (List ℕ))) → m.phase ≡ Before d → m'.phase ≡ After d
-    → mover r.first m.played ≡ d → m'.played ≡ m.played ++ move ∷ [] → kind_heard t ≡ Moves text
+    → mover r.first m.played ≡ d → m'.played ≡ m.played ++ move ∷ [] → line_kind t ≡ Moves text
     → r.reading m.played text ≡ Some move → Reads r m' final lines
     → Reads r m final (with_line d t lines)
 reads_move r m m' final d t text move lines p p' turn played kind reading next c e =
@@ -87,7 +87,7 @@ reads_move r m m' final d t text move lines p p' turn played kind reading next c
     longer : (n : List Move) → final.played ≡ m'.played ++ n → final.played ≡ m.played ++ (move ∷ n)
     longer n h = h ∙ ap (λ (ms : List Move). ms ++ n) played ∙ append_assoc m.played (move ∷ []) n
 
-    by_side : (d : Colour) → m.phase ≡ Before d → m'.phase ≡ After d → mover r.first m.played ≡ d → kind_heard t
+    by_side : (d : Colour) → m.phase ≡ Before d → m'.phase ≡ After d → mover r.first m.played ≡ d → line_kind t
         ≡ Moves text
         → ((n : List Move) × (final.played ≡ m'.played ++ n)
         × AreRead r m'.played n (ahead m'.phase (other d) (lines (other d)))
@@ -151,15 +151,15 @@ none_behind_hello kind = at (has_done (items_heard kind))
     at false = omega arith
 
 few_ahead : (p : Phase) (d : Colour) (t : Option (List ℕ)) → length (ahead p d (t ∷ [])) ≤ 1
-few_ahead (Hello White) d t = none_behind_hello (kind_heard t)
-few_ahead (Hello Black) White t = none_behind_pong (kind_heard t)
-few_ahead (Hello Black) Black t = none_behind_hello (kind_heard t)
-few_ahead (Setup White) d t = none_behind_pong (kind_heard t)
-few_ahead (Setup Black) White t = one_said (kind_heard t)
-few_ahead (Setup Black) Black t = none_behind_pong (kind_heard t)
-few_ahead (Opening c) d t = one_said (kind_heard t)
-few_ahead (Before c) d t = one_said (kind_heard t)
-few_ahead (After c) d t = one_said (kind_heard t)
+few_ahead (Hello White) d t = none_behind_hello (line_kind t)
+few_ahead (Hello Black) White t = none_behind_pong (line_kind t)
+few_ahead (Hello Black) Black t = none_behind_hello (line_kind t)
+few_ahead (Setup White) d t = none_behind_pong (line_kind t)
+few_ahead (Setup Black) White t = one_said (line_kind t)
+few_ahead (Setup Black) Black t = none_behind_pong (line_kind t)
+few_ahead (Opening c) d t = one_said (line_kind t)
+few_ahead (Before c) d t = one_said (line_kind t)
+few_ahead (After c) d t = one_said (line_kind t)
 few_ahead (Over x) d t = omega arith
 
 abbrev pub no_lines : Colour → List (Option (List ℕ))
@@ -182,11 +182,11 @@ reads_end r m final d t p c e = ([], p ∙ sym (append-nil m.played), few_left m
 
 reads_decided : (r : Rules) (m final : Match) (d : Colour) (t : Option (List ℕ)) (text : List ℕ) (move : Move) → m.phase
     ≡ Before d → mover r.first m.played ≡ d
-    → final.played ≡ m.played ++ move ∷ [] → kind_heard t ≡ Moves text → r.reading m.played text ≡ Some move
+    → final.played ≡ m.played ++ move ∷ [] → line_kind t ≡ Moves text → r.reading m.played text ≡ Some move
     → Reads r m final (with_line d t no_lines)
 reads_decided r m final d t text move p turn played kind reading c e = rw (sym e ∙ turn) (by_side d p kind)
   where
-    by_side : (d : Colour) → m.phase ≡ Before d → kind_heard t ≡ Moves text
+    by_side : (d : Colour) → m.phase ≡ Before d → line_kind t ≡ Moves text
         → (more : List Move) × (final.played ≡ m.played ++ more)
         × AreRead r m.played more (ahead m.phase d (with_line d t no_lines d))
         (ahead m.phase (other d) (with_line d t no_lines (other d)))
@@ -216,7 +216,7 @@ over_steps : (r : Rules) (d : Colour) (t : Option (List ℕ)) (m m' : Match) →
 over_steps r d t m m' off p = ((λ final lines on next. not_on (sym off ∙ on)), (λ off'. reads_end r m m' d t p))
 
 hello_same : (d : Colour) (t : Option (List ℕ)) (lines : Colour → List (Option (List ℕ))) (S : Colour)
-    → has_done (items_heard (kind_heard t)) ≡ false
+    → has_done (items_heard (line_kind t)) ≡ false
     → ahead (Hello d) S (with_line d t lines S) ≡ ahead (Hello d) S (lines S)
 hello_same White t lines White h = rw h refl
 hello_same White t lines Black h = refl
@@ -224,7 +224,7 @@ hello_same Black t lines White h = refl
 hello_same Black t lines Black h = rw h refl
 
 setup_same : (d : Colour) (t : Option (List ℕ)) (lines : Colour → List (Option (List ℕ))) (S : Colour)
-    → is_pong 1 (kind_heard t) ≡ false
+    → is_pong 1 (line_kind t) ≡ false
     → ahead (Setup d) S (with_line d t lines S) ≡ ahead (Setup d) S (lines S)
 setup_same White t lines White h = rw h refl
 setup_same White t lines Black h = refl
@@ -232,28 +232,28 @@ setup_same Black t lines White h = refl
 setup_same Black t lines Black h = rw h refl
 
 hello_next : (d : Colour) (t : Option (List ℕ)) (lines : Colour → List (Option (List ℕ))) (S : Colour) → d ≡ White
-    → has_done (items_heard (kind_heard t)) ≡ true
+    → has_done (items_heard (line_kind t)) ≡ true
     → ahead (Hello White) S (with_line d t lines S) ≡ ahead (Hello Black) S (lines S)
 hello_next White t lines White e h = rw h refl
 hello_next White t lines Black e h = refl
 hello_next Black t lines S e h = cc
 
 hello_done : (d : Colour) (t : Option (List ℕ)) (lines : Colour → List (Option (List ℕ))) (S : Colour) → d ≡ Black
-    → has_done (items_heard (kind_heard t)) ≡ true
+    → has_done (items_heard (line_kind t)) ≡ true
     → ahead (Hello Black) S (with_line d t lines S) ≡ ahead (Setup White) S (lines S)
 hello_done Black t lines White e h = refl
 hello_done Black t lines Black e h = rw h refl
 hello_done White t lines S e h = cc
 
 setup_next : (d : Colour) (t : Option (List ℕ)) (lines : Colour → List (Option (List ℕ))) (S : Colour) → d ≡ White
-    → is_pong 1 (kind_heard t) ≡ true
+    → is_pong 1 (line_kind t) ≡ true
     → ahead (Setup White) S (with_line d t lines S) ≡ ahead (Setup Black) S (lines S)
 setup_next White t lines White e h = rw h refl
 setup_next White t lines Black e h = refl
 setup_next Black t lines S e h = cc
 
 setup_done : (d c : Colour) (t : Option (List ℕ)) (lines : Colour → List (Option (List ℕ))) (S : Colour) → d ≡ Black
-    → is_pong 1 (kind_heard t) ≡ true
+    → is_pong 1 (line_kind t) ≡ true
     → ahead (Setup Black) S (with_line d t lines S) ≡ ahead (Opening c) S (lines S)
 setup_done Black c t lines White e h = refl
 setup_done Black c t lines Black e h = rw h refl
@@ -261,14 +261,14 @@ setup_done White c t lines S e h = cc
 
 -- a line that says no move
 turn_same : (d : Colour) (t : Option (List ℕ)) (lines : Colour → List (Option (List ℕ))) (S : Colour)
-    → move_said (kind_heard t) ≡ [] → moves_said (with_line d t lines S) ≡ moves_said (lines S)
+    → move_said (line_kind t) ≡ [] → moves_said (with_line d t lines S) ≡ moves_said (lines S)
 turn_same White t lines White h = rw h refl
 turn_same White t lines Black h = refl
 turn_same Black t lines White h = refl
 turn_same Black t lines Black h = rw h refl
 
 hello_counts : (r : Rules) (d : Colour) (t : Option (List ℕ)) (items : List Item) (n : ℕ) (m : Match) → m.phase
-    ≡ Hello d → has_done (items_heard (kind_heard t)) ≡ false
+    ≡ Hello d → has_done (items_heard (line_kind t)) ≡ false
     → (let m' = hear d items m in Steps r d t m (record m' { count = n }))
 hello_counts r White t items n m p h = let m' = hear White items m in on_steps r White t m (record m' { count = n })
     (rw p refl) refl (λ lines S. rw p (hello_same White t lines S h))
@@ -276,11 +276,11 @@ hello_counts r Black t items n m p h = let m' = hear Black items m in on_steps r
     (rw p refl) refl (λ lines S. rw p (hello_same Black t lines S h))
 
 before_same : (r : Rules) (d : Colour) (t : Option (List ℕ)) (m m' : Match) → m.phase ≡ Before d → m'.phase ≡ m.phase
-    → m'.played ≡ m.played → move_said (kind_heard t) ≡ [] → Steps r d t m m'
+    → m'.played ≡ m.played → move_said (line_kind t) ≡ [] → Steps r d t m m'
 before_same r d t m m' p e q h = on_steps r d t m m' (rw (e, p) refl) q (λ lines S. rw (e, p) (turn_same d t lines S h))
 
 after_same : (r : Rules) (d : Colour) (t : Option (List ℕ)) (m m' : Match) → m.phase ≡ After d → m'.phase ≡ m.phase
-    → m'.played ≡ m.played → move_said (kind_heard t) ≡ [] → Steps r d t m m'
+    → m'.played ≡ m.played → move_said (line_kind t) ≡ [] → Steps r d t m m'
 after_same r d t m m' p e q h = on_steps r d t m m' (rw (e, p) refl) q (λ lines S. rw (e, p) (turn_same d t lines S h))
 
 offered_phase : (d : Colour) (m : Match) → ((offered d m).phase ≡ m.phase) × ((offered d m).played ≡ m.played)
@@ -293,7 +293,7 @@ played_phase White move used m = (refl, refl)
 played_phase Black move used m = (refl, refl)
 
 lines_step : (r : Rules) (d : Colour) (t : Option (List ℕ)) (n : ℕ) (m : Match) → Orderly r m
-    → Lines r d (kind_heard t) n m (λ m'. Steps r d t m m')
+    → Lines r d (line_kind t) n m (λ m'. Steps r d t m m')
 lines_step r d t n m o = record {
   hello_ends = λ p h. over_steps r d t m (over (Faulted d NoDone) (hear d items m)) refl (hear_played d items m);
   hello_counts = λ p h few. hello_counts r d t items (m.count + 1) m p h;
@@ -332,9 +332,9 @@ lines_step r d t n m o = record {
 }
   where
     items : List Item
-    items = items_heard (kind_heard t)
+    items = items_heard (line_kind t)
 
-    plays : (text : List ℕ) (move : Move) → m.phase ≡ Before d → kind_heard t ≡ Moves text → r.reading m.played text
+    plays : (text : List ℕ) (move : Move) → m.phase ≡ Before d → line_kind t ≡ Moves text → r.reading m.played text
         ≡ Some move → Steps r d t m (played_by d move (n - m.opened) m)
     plays text move p is reading = (
       (λ final lines on next. reads_move r m (played_by d move (n - m.opened) m) final d t text move lines p
@@ -343,7 +343,7 @@ lines_step r d t n m o = record {
       (λ off. not_on (sym off ∙ ap is_on (played_phase d move (n - m.opened) m).0)),
     )
 
-    decides : (text : List ℕ) (move : Move) (v : Verdict) → m.phase ≡ Before d → kind_heard t ≡ Moves text
+    decides : (text : List ℕ) (move : Move) (v : Verdict) → m.phase ≡ Before d → line_kind t ≡ Moves text
         → r.reading m.played text ≡ Some move
         → Steps r d t m (over (Decided v) (played_by d move (n - m.opened) m))
     decides text move v p is reading = (
@@ -383,7 +383,7 @@ reads_from r due m [] f k = λ c e. ([], sym (append-nil m.played), nothing_left
 reads_from r due m (Line d t n ∷ T) f k =
     line_goes_on r m (after r m (Line d t n)) d t n (block r m (after r m (Line d t n))) T
     (and_second (reads m.phase d) _ f)
-    (line_outcome r d (kind_heard t) n m (λ m'. Steps r d t m m') (and_first (reads m.phase d) _ f)
+    (line_outcome r d (line_kind t) n m (λ m'. Steps r d t m m') (and_first (reads m.phase d) _ f)
     (lines_step r d t n m k.0))
     (reads_from r (block r m (after r m (Line d t n))) (after r m (Line d t n)) T (and_second (reads m.phase d) _ f)
     (step r due m (Line d t n) (and_first (reads m.phase d) _ f) k))

@@ -10,7 +10,7 @@ use Rattle.chess_base.specs.declared.man.Colour.TheVariants.{White, Black}
 use Rattle.chess_base.specs.declared.man.Move.{Move}
 use Rattle.chess_base.specs.Men.{other, same_colour}
 use Rattle.chess_base.proofs.MenFacts.{same_colour-true}
-use Rattle.engine_lines.specs.EngineLines.{LineKind, kind_heard}
+use Rattle.engine_lines.specs.EngineLines.{LineKind, line_kind}
 use Rattle.chess_match.specs.Match.{Match, Event, Line, Opened, OutputEnds, FailsToRead, FailsToWrite, items_heard, hear, over, open_turn, played_by, after}
 use Rattle.chess_match.specs.Rules.{Rules}
 use Rattle.chess_match.specs.Sent.{SentLine, Says, block, entry, entry_to, is_same_phase}
@@ -166,8 +166,8 @@ unsent f r S i due m (Line c t n) (FailsToWrite d ∷ T) fits h =
         let same : c ≡ d = same_colour-true c d (and_first (same_colour c d) _ h) in
         let apart : S ≡ other d = other_is d S (not-true (same_colour d S) (and_second (same_colour c d) _ h)) in
         let is : S ≡ other c = apart ∙ ap other (sym same) in
-        rw is (line_outcome r c (kind_heard t) n m (λ m''. TellsNone f r c m m'') here
-        (lines_none f r c (kind_heard t) n m i here)
+        rw is (line_outcome r c (line_kind t) n m (λ m''. TellsNone f r c m m'') here
+        (lines_none f r c (line_kind t) n m i here)
         (and_first (is_on (after r m (Line c t n)).phase) _ g)
         (rw same (ltb-true 0 (length (block r m (after r m (Line c t n)) d))
         (and_second (is_on (after r m (Line c t n)).phase) _ g))))

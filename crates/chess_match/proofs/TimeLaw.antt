@@ -11,7 +11,7 @@ use Rattle.chess_base.specs.declared.man.Variant.{Variant}
 use Rattle.chess_base.specs.declared.man.Variant.TheVariants.{Normal, Fischerandom}
 use Rattle.chess_base.specs.Men.{other, same_colour}
 use Rattle.chess_game.specs.declared.ends.Verdict.{Verdict}
-use Rattle.engine_lines.specs.EngineLines.{LineKind, kind_heard}
+use Rattle.engine_lines.specs.EngineLines.{LineKind, line_kind}
 use Rattle.engine_lines.specs.Items.{Item, takes}
 use Rattle.chess_match.specs.laws.Laws.{centiseconds, time_told, otim_told, TimesAreClocks, OtherTimesAreClocks, sent}
 use Rattle.engine_lines.specs.Levels.{LevelSeen, left, level_text}
@@ -565,8 +565,8 @@ lines_go own r S c X kind moment m here h = record {
 
 step : (own : Bool) (r : Rules) (S : Colour) (due : Colour → List SentLine) (m : Match) (e : Event) (X : List ℕ)
     → fits_next due m e ≡ true → Times own r S X m → Goes own r S X m (after r m e)
-step own r S due m (Line c t n) X f h = line_outcome r c (kind_heard t) n m (λ m'. Goes own r S X m m') f
-    (lines_go own r S c X (kind_heard t) n m f h)
+step own r S due m (Line c t n) X f h = line_outcome r c (line_kind t) n m (λ m'. Goes own r S X m m') f
+    (lines_go own r S c X (line_kind t) n m f h)
 step own r S due m (Opened c n) X f h =
     quiet_goes own r S X m (record m { phase = Before c; opened = n }) refl
     (carried own r S (Before c) X m (record m { phase = Before c; opened = n }) refl refl refl refl

@@ -5,7 +5,7 @@ use Rattle.chess_base.specs.declared.man.Colour.{Colour}
 use Rattle.chess_base.specs.declared.man.Colour.TheVariants.{White, Black}
 use Rattle.chess_base.specs.declared.man.Move.{Move}
 use Rattle.chess_base.specs.Men.{other, same_colour}
-use Rattle.engine_lines.specs.EngineLines.{LineKind, kind_heard, Features, Moves, Resigns, OffersDraw, ClaimsDraw, ClaimsWin, Rejects, Answers, SaysElse}
+use Rattle.engine_lines.specs.EngineLines.{LineKind, line_kind, Features, Moves, Resigns, OffersDraw, ClaimsDraw, ClaimsWin, Rejects, Answers, SaysElse}
 use Rattle.engine_lines.specs.Items.{Item}
 use Rattle.chess_match.specs.laws.Laws.{is_move, move_said, turn_times, UsedTimesAreDifferences}
 use Rattle.chess_match.specs.Match.{Match, Event, Line, Opened, OutputEnds, FailsToRead, FailsToWrite, items_heard, seat, hear, start, over, enter, open_turn, played_by, after}
@@ -193,10 +193,10 @@ own_line S opened n T false = refl
 before_line_times : (S c d : Colour) (opened : ℕ) (text : Option (List ℕ)) (n : ℕ) (T : List Event) → same_colour d c
     ≡ true
     → turn_times S (awaited S (Before d) opened) (Line c text n ∷ T)
-    ≡ taken (awaited S (Before d) opened) (kind_heard text) n
-    ++ turn_times S (awaited_then (awaited S (Before d) opened) (kind_heard text)) T
-before_line_times White White White opened text n T h = own_line White opened n T (is_move (kind_heard text))
-before_line_times Black Black Black opened text n T h = own_line Black opened n T (is_move (kind_heard text))
+    ≡ taken (awaited S (Before d) opened) (line_kind text) n
+    ++ turn_times S (awaited_then (awaited S (Before d) opened) (line_kind text)) T
+before_line_times White White White opened text n T h = own_line White opened n T (is_move (line_kind text))
+before_line_times Black Black Black opened text n T h = own_line Black opened n T (is_move (line_kind text))
 before_line_times White Black Black opened text n T h = refl
 before_line_times Black White White opened text n T h = refl
 before_line_times S White Black opened text n T h = cc
@@ -205,8 +205,8 @@ before_line_times S Black White opened text n T h = cc
 -- a line that a turn reads is S's, if S's move is awaited
 line_times : (S c : Colour) (p : Phase) (opened : ℕ) (text : Option (List ℕ)) (n : ℕ) (T : List Event) → reads p c
     ≡ true
-    → turn_times S (awaited S p opened) (Line c text n ∷ T) ≡ taken (awaited S p opened) (kind_heard text) n
-    ++ turn_times S (awaited_then (awaited S p opened) (kind_heard text)) T
+    → turn_times S (awaited S p opened) (Line c text n ∷ T) ≡ taken (awaited S p opened) (line_kind text) n
+    ++ turn_times S (awaited_then (awaited S p opened) (line_kind text)) T
 line_times S c (Before d) opened text n T h = before_line_times S c d opened text n T h
 line_times S c (Hello d) opened text n T h = refl
 line_times S c (Setup d) opened text n T h = refl
@@ -216,7 +216,7 @@ line_times S c (Over x) opened text n T h = refl
 
 line_goes_on : (r : Rules) (S c : Colour) (text : Option (List ℕ)) (n : ℕ) (due : Colour → List SentLine) (m m' : Match)
     (T : List Event) → reads m.phase c ≡ true → fits_from r due m' T ≡ true
-    → Grows S (kind_heard text) n m m' → Ends r S m' T (seat m' S).used
+    → Grows S (line_kind text) n m m' → Ends r S m' T (seat m' S).used
     → (rest : List ℕ) × (length rest ≤ 1) × ((seat m S).used
     ++ turn_times S (awaited S m.phase m.opened) (Line c text n ∷ T) ≡ (seat (match_from r m' T) S).used ++ rest)
     × (is_on (match_from r m' T).phase ≡ true → rest ≡ [])
@@ -229,9 +229,9 @@ line_goes_on r S c text n due m m' T here f g e = at (is_on m'.phase) refl
       e.0,
       e.1,
       ap (λ (l : List ℕ). (seat m S).used ++ l) (line_times S c m.phase m.opened text n T here)
-          ∙ sym (append_assoc (seat m S).used (taken (awaited S m.phase m.opened) (kind_heard text) n)
-          (turn_times S (awaited_then (awaited S m.phase m.opened) (kind_heard text)) T))
-          ∙ ap (λ (l : List ℕ). l ++ turn_times S (awaited_then (awaited S m.phase m.opened) (kind_heard text)) T)
+          ∙ sym (append_assoc (seat m S).used (taken (awaited S m.phase m.opened) (line_kind text) n)
+          (turn_times S (awaited_then (awaited S m.phase m.opened) (line_kind text)) T))
+          ∙ ap (λ (l : List ℕ). l ++ turn_times S (awaited_then (awaited S m.phase m.opened) (line_kind text)) T)
           (g.2 ∙ ap (λ (l : List ℕ). (seat m' S).used ++ l) (g.3 on).0 ∙ append-nil (seat m' S).used)
           ∙ ap (λ (o : Option ℕ). (seat m' S).used ++ turn_times S o T) (sym (g.3 on).1)
           ∙ e.2,
@@ -242,7 +242,7 @@ line_goes_on r S c text n due m m' T here f g e = at (is_on m'.phase) refl
       g.1,
       ap (λ (l : List ℕ). (seat m S).used ++ l)
           (line_times S c m.phase m.opened text n [] here
-          ∙ append-nil (taken (awaited S m.phase m.opened) (kind_heard text) n)) ∙ g.2,
+          ∙ append-nil (taken (awaited S m.phase m.opened) (line_kind text) n)) ∙ g.2,
       λ on. not_on (sym off ∙ on),
     )
 
@@ -273,8 +273,8 @@ used_from r S due m [] f = ([], omega arith, refl, λ on. refl)
 used_from r S due m (Line c t n ∷ T) f =
     line_goes_on r S c t n (block r m (after r m (Line c t n))) m (after r m (Line c t n)) T
     (and_first (reads m.phase c) _ f) (and_second (reads m.phase c) _ f)
-    (line_outcome r c (kind_heard t) n m (λ m'. Grows S (kind_heard t) n m m') (and_first (reads m.phase c) _ f)
-    (lines_grow r S c (kind_heard t) n m))
+    (line_outcome r c (line_kind t) n m (λ m'. Grows S (line_kind t) n m m') (and_first (reads m.phase c) _ f)
+    (lines_grow r S c (line_kind t) n m))
     (used_from r S (block r m (after r m (Line c t n))) (after r m (Line c t n)) T (and_second (reads m.phase c) _ f))
 used_from r S due m (Opened c n ∷ T) f =
     opened_goes_on r S c n m T (opens_at m.phase c (and_first (opens m.phase c) _ f))

@@ -5,7 +5,7 @@ use Rattle.chess_base.specs.declared.man.Colour.TheVariants.{White, Black}
 use Rattle.chess_base.specs.declared.man.Move.{Move}
 use Rattle.chess_base.specs.Men.{other, same_colour}
 use Rattle.chess_game.specs.declared.ends.Verdict.{Verdict}
-use Rattle.engine_lines.specs.EngineLines.{LineKind, Features, Moves, Resigns, OffersDraw, ClaimsDraw, ClaimsWin, Rejects, Answers, kind_heard}
+use Rattle.engine_lines.specs.EngineLines.{LineKind, Features, Moves, Resigns, OffersDraw, ClaimsDraw, ClaimsWin, Rejects, Answers, line_kind}
 use Rattle.engine_lines.specs.Items.{Item, items_of, has_done, takes, plays_fischerandom}
 use Rattle.engine_lines.specs.Levels.{left}
 use Rattle.chess_match.specs.Rules.{Rules, is_fischerandom}
@@ -243,7 +243,7 @@ after_kind r _ kind moment m = m
 
 -- the match after an event
 abbrev pub after : Rules → Match → Event → Match
-after r m (Line S text moment) = after_kind r m.phase (kind_heard text) moment m
+after r m (Line S text moment) = after_kind r m.phase (line_kind text) moment m
 after r m (Opened S moment) = record m { phase = Before S; opened = moment }
 after r m (OutputEnds S) = over (over_by.Faulted S Ended) m
 after r m (FailsToRead S) = over (over_by.Faulted S Read) m

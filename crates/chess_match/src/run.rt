@@ -8,7 +8,7 @@ ghost use Rattle.chess_cecp.specs.Next.{NextLine, line_read};
 ghost use Rattle.chess_game.specs.Game.{at, outcome_now, with_declared, verdict_now};
 ghost use Rattle.chess_match.specs.ties.Awaits.{IsAwaited};
 ghost use Rattle.chess_match.specs.ties.Delivering.{by_side, by_turn, event_heard, line_event, Delivered, HasLast};
-ghost use Rattle.engine_lines.specs.EngineLines.{kind_heard, Features};
+ghost use Rattle.engine_lines.specs.EngineLines.{line_kind, Features};
 ghost use Rattle.engine_lines.specs.Items.{Item};
 ghost use Rattle.chess_match.specs.Match.{Match, FailsToWrite, after};
 ghost use Rattle.chess_match.specs.Notes.{WasNoted, Happened, given_note, both_notes};
@@ -517,7 +517,7 @@ fn is_heard(line: &Line<ENGINE_LINE_LEN>) -> bool
 
 // What a line says; of one that is too long nothing.
 fn said(line: &Line<ENGINE_LINE_LEN>) -> EngineLine<'_>
-    ensures said { seen result ≡ kind_heard (text_heard line.now) }
+    ensures said { seen result ≡ line_kind (text_heard line.now) }
     ensures short { (text : List ℕ) → seen result ≡ Features text → length text ≤ ENGINE_LINE_LEN }
 {
     if line.is_too_long() {
