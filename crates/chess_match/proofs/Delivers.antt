@@ -19,19 +19,19 @@ use Rattle.chess_match.specs.ties.Steps.{IsSane, in_turn}
 use Rattle.chess_match.specs.ties.Told.{SendsIf}
 use Rattle.chess_match.specs.Run.{Asked, text_heard}
 use Rattle.chess_match.specs.Transcript.{is_on, reads, moment_in}
-use Rattle.chess_match.specs.declared.state.Core.{Core}
+use Rattle.chess_match.specs.declared.state.MatchState.{MatchState}
 use Rattle.chess_match.specs.declared.state.Given.{Given}
 use Rattle.chess_match.proofs.Flushes.{flushed_none}
 use Rattle.chess_match.proofs.Going.{goes_with, nothing_to}
 use Rattle.chess_match.proofs.Runs.{asked_none}
 
 -- where the last move is still to be sent, there is one
-pub last_told : (r : Rules) (core : Core) (played : List Move) (m : Match) → Stands r core played m
+pub last_told : (r : Rules) (core : MatchState) (played : List Move) (m : Match) → Stands r core played m
     → (is_some m.untold ≡ true → 0 < length m.played) → is_some core.untold ≡ true → 0 < length played
 last_told r core played m s some h = subst (λ (ms : List Move). 0 < length ms) (sym s.moves)
     (some (ap (λ (o : Option Colour). is_some o) (sym s.untold) ∙ h))
 
-pub on_too : (r : Rules) (core : Core) (played : List Move) (m : Match) → Stands r core played m
+pub on_too : (r : Rules) (core : MatchState) (played : List Move) (m : Match) → Stands r core played m
     → is_on core.phase ≡ true → is_on m.phase ≡ true
 on_too r core played m s h = ap is_on (sym s.phase) ∙ h
 
@@ -44,7 +44,7 @@ sends_if o o' b b' text text' e t p = subst (λ (x : List ℕ). SendsIf b' o o' 
 
 -- ---- two calls, in turn
 
-pub first_failed : (r : Rules) (core : Core) (played : List Move) (m : Match) (due : Colour → List SentLine)
+pub first_failed : (r : Rules) (core : MatchState) (played : List Move) (m : Match) (due : Colour → List SentLine)
     (S : Colour) (o o' x x' : OutputState) (f : Bool) (notes notes' : Noted) → is_on m.phase ≡ true
     → 0 < length (due S)
     → Stands r core played (after r m (FailsToWrite S))
@@ -78,7 +78,7 @@ first_failed r core played m due Black o o' x x' f notes notes' on some s b p t 
   },
 )
 
-pub second_failed : (r : Rules) (core : Core) (played : List Move) (m : Match) (due : Colour → List SentLine)
+pub second_failed : (r : Rules) (core : MatchState) (played : List Move) (m : Match) (due : Colour → List SentLine)
     (S : Colour) (o v o' x x' : OutputState) (f : Bool) (notes notes' : Noted) → is_on m.phase ≡ true
     → 0 < length (due (other S))
     → Stands r core played (after r m (FailsToWrite (other S)))
@@ -121,7 +121,7 @@ turn_noted : (m : Match) (S : Colour) (due : Colour → List SentLine) (notes no
 turn_noted m S due notes notes' on t =
     subst (λ (b : Bool). WasNoted notes notes' (both_notes (if b then S else White) due)) (sym on) t
 
-pub none_failed : (r : Rules) (core : Core) (played : List Move) (m : Match) (due : Colour → List SentLine) (S : Colour)
+pub none_failed : (r : Rules) (core : MatchState) (played : List Move) (m : Match) (due : Colour → List SentLine) (S : Colour)
     (o o' x x' : OutputState) (notes notes' : Noted) → Stands r core played m
     → SendsIf false o o' (bytes_of (due S)) → SendsIf false x x' (bytes_of (due (other S)))
     → is_on m.phase ≡ true → WasNoted notes notes' (both_notes S due)
@@ -148,7 +148,7 @@ is_off true e = cc
 is_off false e = refl
 
 -- at the end each engine is sent its block, whatever became of the other's
-pub both_sent : (r : Rules) (core : Core) (played : List Move) (m : Match) (due : Colour → List SentLine) (S : Colour)
+pub both_sent : (r : Rules) (core : MatchState) (played : List Move) (m : Match) (due : Colour → List SentLine) (S : Colour)
     (w w' b b' : OutputState) (f g : Bool) (notes notes' : Noted) → Stands r core played m
     → true ≡ not (is_on core.phase)
     → SendsIf f w w' (bytes_of (due White)) → SendsIf g b b' (bytes_of (due Black)) → WasNoted notes notes' (both_notes White due)
@@ -163,14 +163,14 @@ both_sent r core played m due S w w' b b' f g notes notes' s o x y t = inl (reco
 
 -- ---- which writer is whose
 
-pub turn_white : (r : Rules) (core : Core) (played : List Move) (m : Match) (due : Colour → List SentLine) (S : Colour)
+pub turn_white : (r : Rules) (core : MatchState) (played : List Move) (m : Match) (due : Colour → List SentLine) (S : Colour)
     (o o' x x' : OutputState) (f g : Bool) (notes notes' : Noted) → S ≡ White
     → Delivered r core played m due S (by_turn S o x) (by_turn S o' x') (by_turn S f g) notes notes'
     → Delivered r core played m due S (by_side o x) (by_side o' x') (by_side f g) notes notes'
 turn_white r core played m due White o o' x x' f g notes notes' e d = d
 turn_white r core played m due Black o o' x x' f g notes notes' e d = absurd cc
 
-pub turn_black : (r : Rules) (core : Core) (played : List Move) (m : Match) (due : Colour → List SentLine) (S : Colour)
+pub turn_black : (r : Rules) (core : MatchState) (played : List Move) (m : Match) (due : Colour → List SentLine) (S : Colour)
     (o o' x x' : OutputState) (f g : Bool) (notes notes' : Noted) → S ≡ Black
     → Delivered r core played m due S (by_turn S o x) (by_turn S o' x') (by_turn S f g) notes notes'
     → Delivered r core played m due S (by_side x o) (by_side x' o') (by_side g f) notes notes'
@@ -179,7 +179,7 @@ turn_black r core played m due White o o' x x' f g notes notes' e d = absurd cc
 
 -- ---- what a line asks of the core
 
-pub counted : (r : Rules) (core : Core) (played : List Move) (m : Match) → Stands r core played m → IsSane r m
+pub counted : (r : Rules) (core : MatchState) (played : List Move) (m : Match) → Stands r core played m → IsSane r m
     → core.count < 10000
 counted r core played m s sane = omega (arith, s.count, sane.count)
 
@@ -188,14 +188,14 @@ few_moves : (r : Rules) (m : Match) → IsSane r m → (S : Colour)
 few_moves r m sane White = sane.white
 few_moves r m sane Black = sane.black
 
-pub few : (r : Rules) (core : Core) (played : List Move) (m : Match) → Stands r core played m → IsSane r m
+pub few : (r : Rules) (core : MatchState) (played : List Move) (m : Match) → Stands r core played m → IsSane r m
     → (S : Colour) → (spent_by core.clocks S).moves ≤ length played
 few r core played m s sane S =
     subst (λ (c : ClocksSeen). (spent_by c S).moves ≤ length played) (sym s.clocks)
     (subst (λ (ms : List Move). (spent_by (clocks_of r.level m) S).moves ≤ length ms) (sym s.moves)
     (few_moves r m sane S))
 
-pub undecided : (r : Rules) (core : Core) (played : List Move) (m : Match) → Stands r core played m → IsSane r m
+pub undecided : (r : Rules) (core : MatchState) (played : List Move) (m : Match) → Stands r core played m → IsSane r m
     → in_turn core.phase ≡ true → r.verdict played ≡ None
 undecided r core played m s sane h = ap (λ (ms : List Move). r.verdict ms) s.moves
     ∙ sane.undecided (ap in_turn (sym s.phase) ∙ h)
@@ -203,7 +203,7 @@ undecided r core played m s sane h = ap (λ (ms : List Move). r.verdict ms) s.mo
 -- ---- what was parsed, and what it is noted as
 
 -- an event is noted: its moment was asked for, the answers to its items wait, and the core goes on by it
-abbrev pub IsNoted : (Rules → Type 0) → Core → List Move → Core → List Move → Given → List ℕ → Colour → (ℕ → Option ℕ)
+abbrev pub IsNoted : (Rules → Type 0) → MatchState → List Move → MatchState → List Move → Given → List ℕ → Colour → (ℕ → Option ℕ)
     → (ℕ → Option ℕ) → Noted → Noted → Event → Type 0
 IsNoted plays core played core' played' given text S coming coming' notes notes' e =
     (items : List Item) × Asked coming coming' (moment_in e)
@@ -213,7 +213,7 @@ IsNoted plays core played core' played' given text S coming coming' notes notes'
     → Goes r core' played' given (items_to S items) m (after r m e))
 
 -- an event at which no items are said
-pub noted_bare : (plays : Rules → Type 0) (core : Core) (played : List Move) (core' : Core) (played' : List Move)
+pub noted_bare : (plays : Rules → Type 0) (core : MatchState) (played : List Move) (core' : MatchState) (played' : List Move)
     (given : Given) (text : List ℕ) (S : Colour) (coming : ℕ → Option ℕ) (notes notes' : Noted) (e : Event)
     → moment_in e ≡ [] → text ≡ [] → WasNoted notes notes' (Happened e ∷ [])
     → ((r : Rules) (m : Match) → plays r → reads m.phase S ≡ true → Stands r core played m

@@ -26,7 +26,7 @@ use Rattle.chess_match.specs.declared.phase.Phase.TheVariants.{Over}
 use Rattle.chess_match.specs.declared.reason.Reason.{Reason}
 use Rattle.chess_match.specs.declared.run.Failed.{Failed}
 use Rattle.chess_match.specs.declared.run.MatchEnd.{MatchEnd}
-use Rattle.chess_match.specs.declared.state.Core.{Core}
+use Rattle.chess_match.specs.declared.state.MatchState.{MatchState}
 use Rattle.chess_match.proofs.Delivers.{both_sides}
 
 name_kept : (r : Rules) (T : List Event) (S : Colour) (name : List ℕ) → name ≡ name_by (seat (match_of r T) S).items
@@ -66,7 +66,7 @@ told_outcome h h' reason outcome e o none =
     undecided None is = sym o
     undecided (Some v) is = cc
 
-pub ran : (g h h' : game.Seen) (start : Setup) (level : LevelSeen) (T : List Event) (core : Core) (reason : Reason)
+pub ran : (g h h' : game.Seen) (start : Setup) (level : LevelSeen) (T : List Event) (core : MatchState) (reason : Reason)
     (failed : Failed) (end : MatchEnd) (nw nb nw' nb' : InputState) (held : Colour → Held) (ow ob ow' ob' : OutputState)
     (coming coming' : ℕ → Option ℕ) (notes notes' : Noted)
     → IsUnderWay (rules_of start level g.limit) T core h.state.moves (by_side failed.white failed.black) (by_side nw nb)

@@ -23,7 +23,7 @@ use Rattle.chess_match.specs.Transcript.{reads, opens, is_on, fits_next}
 use Rattle.chess_match.proofs.UnderWay.{steps_left}
 use Rattle.chess_match.specs.declared.phase.Phase.{Phase}
 use Rattle.chess_match.specs.declared.phase.Phase.TheVariants.{Hello, Setup, Opening, Before, After, Over}
-use Rattle.chess_match.specs.declared.state.Core.{Core}
+use Rattle.chess_match.specs.declared.state.MatchState.{MatchState}
 use Rattle.chess_match.proofs.Runs.{nothing_due}
 use Rattle.chess_match.proofs.Sane.{sane_over, sane_line}
 use Rattle.chess_match.proofs.Outcomes.{not_other}
@@ -149,13 +149,13 @@ one_less : (S : Colour) (f f' : Colour → ℕ) → f' S < f S → f' (other S) 
 one_less White f f' l e = omega (arith, l, e)
 one_less Black f f' l e = omega (arith, l, e)
 
-over_after : (r : Rules) (core : Core) (played : List Move) (m : Match) (due : Colour → List SentLine) (first : Colour)
+over_after : (r : Rules) (core : MatchState) (played : List Move) (m : Match) (due : Colour → List SentLine) (first : Colour)
     (w w' : Colour → OutputState) (failed : Colour → Bool) (notes notes' : Noted) → is_on m.phase ≡ false
     → Delivered r core played m due first w w' failed notes notes' → is_on core.phase ≡ false
 over_after r core played m due first w w' failed notes notes' o (inl s) = ap is_on s.stands.phase ∙ o
 over_after r core played m due first w w' failed notes notes' o (inr (c, s)) = ap is_on s.stands.phase
 
-pub heard_less : {E : Type 0} (r : Rules) (p : Phase) (core : Core) (played : List Move) (m : Match) (S : Colour)
+pub heard_less : {E : Type 0} (r : Rules) (p : Phase) (core : MatchState) (played : List Move) (m : Match) (S : Colour)
     (moment : ℕ) (result : Result (Option LineSeen) E) (due : Colour → List SentLine) (n n' : Colour → InputState)
     (h h' : Colour → Held) (w w' : Colour → OutputState) (failed : Colour → Bool)
     (notes notes' : Noted)

@@ -24,7 +24,7 @@ use Rattle.chess_match.specs.Transcript.{match_of, reads, opens, moment_in}
 use Rattle.chess_match.proofs.UnderWay.{IsUnderWay, steps_left}
 use Rattle.chess_match.specs.declared.phase.Phase.{Phase}
 use Rattle.chess_match.specs.declared.phase.Phase.TheVariants.{Before}
-use Rattle.chess_match.specs.declared.state.Core.{Core}
+use Rattle.chess_match.specs.declared.state.MatchState.{MatchState}
 use Rattle.chess_match.proofs.Going.{reads_on}
 use Rattle.chess_match.proofs.LinesRead.{heard_of, heard_of_none, heard_fits, heard_sane, own_hears, others_hear_none, opened_less}
 use Rattle.chess_match.proofs.UnderWays.{by_either, delivered_by, started, event_step}
@@ -55,7 +55,7 @@ entry_given : (r : Rules) (S : Colour)
 unfolding given_block
 entry_given r S = refl
 
-pub begun : (r : Rules) (core : Core) (played : List Move) (failed : Colour → Bool)
+pub begun : (r : Rules) (core : MatchState) (played : List Move) (failed : Colour → Bool)
     (n : Colour → InputState) (held : Colour → Held) (w w' : Colour → OutputState) (coming : ℕ → Option ℕ)
     (notes notes' : Noted) → ((S : Colour) → held S ≡ nothing_held)
     → Delivered r core played start (given_block r (record { draw = None; entered = true }) nothing_said start)
@@ -70,7 +70,7 @@ begun r core played failed n held w w' coming notes notes' none d =
 -- ---- a line, an end, or a read that failed
 
 pub heard_on : {E : Type 0} (r : Rules) (T : List Event) (S : Colour) (moment : ℕ) (result : Result (Option LineSeen) E)
-    (core core' : Core) (played played' : List Move) (failed failed' : Colour → Bool) (n n' n'' : Colour → InputState)
+    (core core' : MatchState) (played played' : List Move) (failed failed' : Colour → Bool) (n n' n'' : Colour → InputState)
     (held held' : Colour → Held)
     (w w' w'' : Colour → OutputState) (coming coming' coming'' : ℕ → Option ℕ)
     (notes notes' between notes'' : Noted)
@@ -100,7 +100,7 @@ heard_on r T S moment result core core' played played' failed failed' n n' n'' h
 
 -- ---- what is left to do
 
-pub opened_left : (core core' : Core) (S : Colour) (n : ℕ) → opens core.phase S ≡ true → core'.phase ≡ Before S
+pub opened_left : (core core' : MatchState) (S : Colour) (n : ℕ) → opens core.phase S ≡ true → core'.phase ≡ Before S
     → steps_left core'.phase n < steps_left core.phase n
 opened_left core core' S n h e = subst (λ (p : Phase). steps_left p n < steps_left core.phase n) (sym e)
     (opened_less core.phase S n h)

@@ -14,7 +14,7 @@ use Rattle.chess_match.specs.ties.Steps.{IsSane}
 use Rattle.chess_match.specs.Transcript.{match_of, fits, blocks, lines_of, moments_of, has_end, has_read_failure, has_write_failure, is_on}
 use Rattle.chess_match.specs.declared.phase.Phase.{Phase}
 use Rattle.chess_match.specs.declared.phase.Phase.TheVariants.{Hello, Setup, Opening, Before, After, Over}
-use Rattle.chess_match.specs.declared.state.Core.{Core}
+use Rattle.chess_match.specs.declared.state.MatchState.{MatchState}
 
 -- S's engine is still read
 pub record IsHearing (S : Colour) (T : List Event) (r r' : InputState) (held : Held) (given : List ℕ) : Type 0 where
@@ -27,7 +27,7 @@ abbrev pub HeardSoFar : Colour → List Event → Bool → InputState → InputS
 HeardSoFar S T on r r' held = (given : List ℕ) × Heard S T r r' given × (on ≡ true → IsHearing S T r r' held given)
 
 -- core, game, devices and witness agree with the transcript T
-pub record IsUnderWay (r : Rules) (T : List Event) (core : Core) (played : List Move) (failed : Colour → Bool)
+pub record IsUnderWay (r : Rules) (T : List Event) (core : MatchState) (played : List Move) (failed : Colour → Bool)
     (n n' : Colour → InputState) (held : Colour → Held) (w w' : Colour → OutputState)
     (coming coming' : ℕ → Option ℕ) (notes notes' : Noted) : Type 0 where
   pub fitting : fits r T ≡ true

@@ -22,7 +22,7 @@ use Rattle.chess_match.specs.Transcript.{match_of, fits_next, is_on, opens, bloc
 use Rattle.chess_match.proofs.UnderWay.{IsHearing, HeardSoFar, IsUnderWay}
 use Rattle.chess_match.specs.declared.phase.Phase.{Phase}
 use Rattle.chess_match.specs.declared.phase.Phase.TheVariants.{Hello, Setup, Opening, Before, After, Over}
-use Rattle.chess_match.specs.declared.state.Core.{Core}
+use Rattle.chess_match.specs.declared.state.MatchState.{MatchState}
 use Rattle.chess_match.proofs.Flushes.{flushed_none, flushed_more}
 use Rattle.chess_match.proofs.HeardOn.{is_stop, heard_still, heard_more, not_both}
 use Rattle.chess_match.proofs.Hears.{hearing_start}
@@ -64,7 +64,7 @@ no_failure_yet S T U failed failed' none old new h =
     by_first false e k = new k
 
 -- an event at which no write fails before the end
-pub all_step : (r : Rules) (T : List Event) (e : Event) (core core' : Core) (played played' : List Move)
+pub all_step : (r : Rules) (T : List Event) (e : Event) (core core' : MatchState) (played played' : List Move)
     (failed failed' : Colour → Bool) (n n' n'' : Colour → InputState) (held held' : Colour → Held)
     (w w' w'' : Colour → OutputState) (coming coming' coming'' : ℕ → Option ℕ)
     (notes notes' between notes'' : Noted)
@@ -172,7 +172,7 @@ own_fails White failed h Black e = absurd cc
 own_fails Black failed h White e = absurd cc
 
 -- a line of d, and then a write that fails
-pub failed_step : (r : Rules) (T : List Event) (d : Colour) (text : Option (List ℕ)) (k : ℕ) (core core' : Core)
+pub failed_step : (r : Rules) (T : List Event) (d : Colour) (text : Option (List ℕ)) (k : ℕ) (core core' : MatchState)
     (played played' : List Move) (failed failed' : Colour → Bool) (n n' n'' : Colour → InputState)
     (held held' : Colour → Held)
     (w w' w'' : Colour → OutputState) (coming coming' coming'' : ℕ → Option ℕ)
@@ -223,7 +223,7 @@ failed_step r T d text k core core' played played' failed failed' n n' n'' held 
 
 -- ---- the blocks that are due
 
-all_by : (r : Rules) (core : Core) (played : List Move) (m : Match) (due due' : Colour → List SentLine)
+all_by : (r : Rules) (core : MatchState) (played : List Move) (m : Match) (due due' : Colour → List SentLine)
     (first : Colour) (w w' : Colour → OutputState) (failed : Colour → Bool) (notes notes' : Noted)
     → ((S : Colour) → due S ≡ due' S)
     → AllSent r core played m due first w w' failed notes notes'
@@ -235,7 +235,7 @@ all_by r core played m due due' first w w' failed notes notes' e s = record {
   told = noted_as notes notes' _ _ (both_by (first_sent m first) due due' e) s.told;
 }
 
-one_by : (r : Rules) (core : Core) (played : List Move) (m : Match) (due due' : Colour → List SentLine) (first : Colour)
+one_by : (r : Rules) (core : MatchState) (played : List Move) (m : Match) (due due' : Colour → List SentLine) (first : Colour)
     (w w' : Colour → OutputState) (failed : Colour → Bool) (notes notes' : Noted) (c : Colour)
     → ((S : Colour) → due S ≡ due' S)
     → OneFailed r core played m due first w w' failed notes notes' c
@@ -255,7 +255,7 @@ one_by r core played m due due' first w w' failed notes notes' c e s = record {
   told = noted_as notes notes' _ _ (broken_by r m due due' first c e) s.told;
 }
 
-pub delivered_by : (r : Rules) (core : Core) (played : List Move) (m : Match) (due due' : Colour → List SentLine)
+pub delivered_by : (r : Rules) (core : MatchState) (played : List Move) (m : Match) (due due' : Colour → List SentLine)
     (first : Colour) (w w' : Colour → OutputState) (failed : Colour → Bool) (notes notes' : Noted)
     → ((S : Colour) → due S ≡ due' S) → Delivered r core played m due first w w' failed notes notes'
     → Delivered r core played m due' first w w' failed notes notes'
@@ -283,7 +283,7 @@ first_block : (f : Bool) (w w' : OutputState) (b : List SentLine) → SendsIf f 
 unfolding bytes_of
 first_block f w w' b p = written_more f w w w' [] b (flushed_none w) p
 
-all_started : (r : Rules) (core : Core) (played : List Move) (failed : Colour → Bool) (n : Colour → InputState)
+all_started : (r : Rules) (core : MatchState) (played : List Move) (failed : Colour → Bool) (n : Colour → InputState)
     (held : Colour → Held) (w w' : Colour → OutputState) (coming : ℕ → Option ℕ) (notes notes' : Noted)
     → ((S : Colour) → held S ≡ nothing_held)
     → AllSent r core played start (λ S. entry r start S) White w w' failed notes notes'
@@ -309,7 +309,7 @@ other_start : (r : Rules) (f : Bool) (w w' : OutputState) (b : List SentLine)
     → ((v : OutputState) × Flushed w v (bytes_of []) × SendsIf f v w' (bytes_of b)) → Written f w w' ([] ∷ b ∷ [])
 other_start r f w w' b (v, t, p) = written_more f w v w' ([] ∷ []) b t p
 
-one_started : (r : Rules) (core : Core) (played : List Move) (failed : Colour → Bool) (n : Colour → InputState)
+one_started : (r : Rules) (core : MatchState) (played : List Move) (failed : Colour → Bool) (n : Colour → InputState)
     (held : Colour → Held) (w w' : Colour → OutputState) (coming : ℕ → Option ℕ) (notes notes' : Noted)
     (c : Colour) → ((S : Colour) → held S ≡ nothing_held)
     → OneFailed r core played start (λ S. entry r start S) White w w' failed notes notes' c
@@ -330,7 +330,7 @@ one_started r core played failed n held w w' coming notes notes' White none s = 
 }
 
 -- the first lines of White's handshake were sent
-pub started : (r : Rules) (core : Core) (played : List Move) (failed : Colour → Bool) (n : Colour → InputState)
+pub started : (r : Rules) (core : MatchState) (played : List Move) (failed : Colour → Bool) (n : Colour → InputState)
     (held : Colour → Held) (w w' : Colour → OutputState) (coming : ℕ → Option ℕ) (notes notes' : Noted)
     → ((S : Colour) → held S ≡ nothing_held)
     → Delivered r core played start (λ S. entry r start S) White w w' failed notes notes'
@@ -342,13 +342,13 @@ started r core played failed n held w w' coming notes notes' none (inr (c, s)) =
 
 -- ---- one event of d's output
 
-sent_by : (r : Rules) (core : Core) (played : List Move) (m : Match) (due : Colour → List SentLine) (d c : Colour)
+sent_by : (r : Rules) (core : MatchState) (played : List Move) (m : Match) (due : Colour → List SentLine) (d c : Colour)
     (w w' : Colour → OutputState) (failed : Colour → Bool) (notes notes' : Noted) → c ≡ d
     → AllSent r core played m due d w w' failed notes notes' → AllSent r core played m due c w w' failed notes notes'
 sent_by r core played m due d c w w' failed notes notes' e s =
     subst (λ (x : Colour). AllSent r core played m due x w w' failed notes notes') (sym e) s
 
-pub event_step : (r : Rules) (T : List Event) (e : Event) (d : Colour) (core core' : Core) (played played' : List Move)
+pub event_step : (r : Rules) (T : List Event) (e : Event) (d : Colour) (core core' : MatchState) (played played' : List Move)
     (failed failed' : Colour → Bool) (n n' n'' : Colour → InputState) (held held' : Colour → Held)
     (w w' w'' : Colour → OutputState) (coming coming' coming'' : ℕ → Option ℕ)
     (notes notes' between notes'' : Noted)
@@ -424,7 +424,7 @@ nothing_noted : (S : Colour) (due : Colour → List SentLine) → ((X : Colour) 
 unfolding bytes_of
 nothing_noted S due e = both_by S (λ X. []) due e
 
-pub opened_step : (r : Rules) (T : List Event) (d : Colour) (k : ℕ) (core core' : Core) (played : List Move)
+pub opened_step : (r : Rules) (T : List Event) (d : Colour) (k : ℕ) (core core' : MatchState) (played : List Move)
     (failed : Colour → Bool) (n n' : Colour → InputState) (held : Colour → Held) (w w' : Colour → OutputState)
     (coming coming' coming'' : ℕ → Option ℕ) (notes notes' notes'' : Noted)
     → IsUnderWay r T core played failed n n' held w w' coming coming' notes notes'

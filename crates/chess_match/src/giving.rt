@@ -16,7 +16,7 @@ ghost use Rattle.chess_match.specs.ties.Told.{SendsIf};
 use crate::block::Block;
 use crate::played::Played;
 use crate::sending::{add_entered, add_offer, put_and_flush};
-use crate::state::{Core, Given};
+use crate::state::{MatchState, Given};
 use crate::witness::Witness;
 use byte_devices::{Output, WriteFault};
 use chess_base::Colour;
@@ -25,7 +25,7 @@ use chess_moves::Board;
 // What a block has after its answers: an offer, and what the phase gives.
 fn add_rest<G: Played, S: Board>(
     block: &mut Block,
-    core: &Core,
+    core: &MatchState,
     game: &G,
     scratch: &mut S,
     given: Given,
@@ -63,7 +63,7 @@ fn note_and_put<W: Output, L: Witness>(
 pub(crate) fn note_and_send<W: Output, L: Witness, G: Played, S: Board>(
     writer: &mut W,
     witness: &mut L,
-    core: &Core,
+    core: &MatchState,
     game: &G,
     scratch: &mut S,
     given: Given,

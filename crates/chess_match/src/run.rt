@@ -30,7 +30,7 @@ use crate::moments::Moments;
 use crate::phase::Phase;
 use crate::played::Played;
 use crate::reason::{MatchFault, Reason, first_fault};
-use crate::state::{Core, ENTRY, Given};
+use crate::state::{MatchState, ENTRY, Given};
 use crate::witness::{Silent, Witness};
 use byte_devices::{Input, Output, ReadFault};
 use chess_base::{Colour, Position};
@@ -154,7 +154,7 @@ pub fn run_match_watched<R: Input, W: Output, M: Moments, B: Board, L: Witness>(
     ensures outcome { verdict_now game.new.state ≡ None → outcome_now game.new.state ≡ result.outcome }
 {
     game.restart(&setup.start);
-    let mut core = Core::new(setup.level);
+    let mut core = MatchState::new(setup.level);
     let mut white_lines: Lines<ENGINE_LINE_LEN> = Lines::new();
     let mut black_lines: Lines<ENGINE_LINE_LEN> = Lines::new();
     let mut line = Line::new();
@@ -272,7 +272,7 @@ fn send_both<W: Output, L: Witness, G: Played, S: Board>(
     white: &mut W,
     black: &mut W,
     witness: &mut L,
-    core: &Core,
+    core: &MatchState,
     game: &G,
     scratch: &mut S,
     given: Given,
@@ -327,7 +327,7 @@ fn send_both<W: Output, L: Witness, G: Played, S: Board>(
 fn end_for_other<W: Output, L: Witness, G: Played, S: Board>(
     others: &mut W,
     witness: &mut L,
-    core: &mut Core,
+    core: &mut MatchState,
     game: &G,
     scratch: &mut S,
     waiting: &mut Block,
@@ -365,7 +365,7 @@ fn send_in_turn<W: Output, L: Witness, G: Played, S: Board>(
     own: &mut W,
     others: &mut W,
     witness: &mut L,
-    core: &mut Core,
+    core: &mut MatchState,
     game: &G,
     scratch: &mut S,
     given: Given,
@@ -440,7 +440,7 @@ fn deliver<W: Output, L: Witness, G: Played, S: Board>(
     white: &mut W,
     black: &mut W,
     witness: &mut L,
-    core: &mut Core,
+    core: &mut MatchState,
     game: &G,
     scratch: &mut S,
     given: Given,
@@ -530,7 +530,7 @@ fn said(line: &Line<ENGINE_LINE_LEN>) -> EngineLine<'_>
 // Takes a line of a side's engine, and then asks for the moment. Returns what is to be sent; the answers to the
 // line's items are added to an empty block.
 fn hear_line<M: Moments, L: Witness, G: Played>(
-    core: &mut Core,
+    core: &mut MatchState,
     moments: &mut M,
     witness: &mut L,
     game: &mut G,
@@ -560,7 +560,7 @@ fn hear_line<M: Moments, L: Witness, G: Played>(
 // Takes what reading the next line of a side's engine gave. Returns what is to be sent; the answers to the line's items
 // are added to an empty block.
 fn hear<M: Moments, L: Witness, G: Played>(
-    core: &mut Core,
+    core: &mut MatchState,
     moments: &mut M,
     witness: &mut L,
     game: &mut G,
@@ -618,7 +618,7 @@ fn declare<B: Board>(game: &mut Game<B>, reason: Reason)
 }
 
 // The report of the end; the end is declared where the game has no verdict.
-fn end_of<B: Board>(core: Core, game: &mut Game<B>, reason: Reason, failed: Failed) -> MatchEnd
+fn end_of<B: Board>(core: MatchState, game: &mut Game<B>, reason: Reason, failed: Failed) -> MatchEnd
     requires { game.old.state.declared ≡ None }
     ensures told { IsTold reason failed result }
     ensures white_name { result.white_name ≡ core.white.name }

@@ -15,13 +15,13 @@ use crate::block::{Block, add, add_end, add_level, add_ping, add_times};
 use crate::phase::Phase;
 use crate::played::Played;
 use crate::reason::{MatchFault, Reason};
-use crate::state::{Core, Given, is_side};
+use crate::state::{MatchState, Given, is_side};
 use byte_devices::{Output, WriteFault, put, put_parts};
 use chess_base::{Colour, Variant};
 use chess_moves::Board;
 use engine_lines::{Features, is_known, next_item};
 
-impl Core {
+impl MatchState {
     // What that side's engine takes.
     fn features(&self, side: Colour) -> Features
         ensures { result ≡ (player self.now side).features }
@@ -36,7 +36,7 @@ impl Core {
 // The last move, as that side's engine takes it.
 fn add_last<G: Played, S: Board>(
     block: &mut Block,
-    core: &Core,
+    core: &MatchState,
     game: &G,
     scratch: &mut S,
     side: Colour,
@@ -54,7 +54,7 @@ fn add_last<G: Played, S: Board>(
 // The last move, if there is one.
 fn add_last_if<G: Played, S: Board>(
     block: &mut Block,
-    core: &Core,
+    core: &MatchState,
     game: &G,
     scratch: &mut S,
     side: Colour,
@@ -71,7 +71,7 @@ fn add_last_if<G: Played, S: Board>(
 }
 
 // Both clocks, for an engine that takes them.
-fn add_clocks(block: &mut Block, core: &Core, side: Colour)
+fn add_clocks(block: &mut Block, core: &MatchState, side: Colour)
     requires { array_vec_len block.old + 60 ≤ BLOCK_LEN }
     ensures text { (r : Rules) (played : List Move) (m : Match) → Stands r core.now played m
         → block.new.items ≡ block.old.items ++ bytes_of (clock_lines r m side) }
@@ -87,7 +87,7 @@ fn add_clocks(block: &mut Block, core: &Core, side: Colour)
 // The opening of a later turn: both clocks, and then the last move.
 fn add_later_opening<G: Played, S: Board>(
     block: &mut Block,
-    core: &Core,
+    core: &MatchState,
     game: &G,
     scratch: &mut S,
     mover: Colour,
@@ -104,7 +104,7 @@ fn add_later_opening<G: Played, S: Board>(
 // The opening of a side's turn.
 fn add_opening<G: Played, S: Board>(
     block: &mut Block,
-    core: &Core,
+    core: &MatchState,
     game: &G,
     scratch: &mut S,
     side: Colour,
@@ -137,7 +137,7 @@ fn add_variant(block: &mut Block, variant: Variant)
 }
 
 // The setup of an engine.
-fn add_setup<G: Played>(block: &mut Block, core: &Core, game: &G)
+fn add_setup<G: Played>(block: &mut Block, core: &MatchState, game: &G)
     requires { array_vec_len block.old + 300 ≤ BLOCK_LEN }
     ensures text { (r : Rules) (m : Match) → G.plays game.now r → Stands r core.now (G.played game.now) m
         → block.new.items ≡ block.old.items ++ bytes_of (setup_lines r) }
@@ -154,7 +154,7 @@ fn add_setup<G: Played>(block: &mut Block, core: &Core, game: &G)
 // The last move, if the side is still to be sent it.
 fn add_untold<G: Played, S: Board>(
     block: &mut Block,
-    core: &Core,
+    core: &MatchState,
     game: &G,
     scratch: &mut S,
     side: Colour,
@@ -178,7 +178,7 @@ fn add_untold<G: Played, S: Board>(
 // The lines at the end.
 fn add_end_lines<G: Played, S: Board>(
     block: &mut Block,
-    core: &Core,
+    core: &MatchState,
     game: &G,
     scratch: &mut S,
     side: Colour,
@@ -226,7 +226,7 @@ fn is_unwritten(reason: Reason, side: Colour) -> bool
 // What a side's engine is sent where the match came into its phase.
 fn add_entry<G: Played, S: Board>(
     block: &mut Block,
-    core: &Core,
+    core: &MatchState,
     game: &G,
     scratch: &mut S,
     side: Colour,
@@ -288,7 +288,7 @@ pub(crate) fn add_offer(block: &mut Block, given: Given, side: Colour)
 #[tactic(auto, using(crate::proofs::Sends::same_end))]
 pub(crate) fn add_entered<G: Played, S: Board>(
     block: &mut Block,
-    core: &Core,
+    core: &MatchState,
     game: &G,
     scratch: &mut S,
     given: Given,

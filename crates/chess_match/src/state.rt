@@ -36,7 +36,7 @@ pub(crate) struct Given {
 
 /// The state of a match, but for the game.
 #[derive(Drop)]
-pub(crate) struct Core {
+pub(crate) struct MatchState {
     pub phase: Phase,
     pub white: Player,
     pub black: Player,
@@ -100,12 +100,12 @@ impl Player {
     }
 }
 
-impl Core {
+impl MatchState {
     /// Before any line: White's handshake.
     pub(crate) fn new(level: Level) -> Self
         ensures { (r : Rules) → r.level ≡ level → Stands r result [] start }
     {
-        Core {
+        MatchState {
             phase: Phase::Hello(Colour::White),
             white: Player::new(),
             black: Player::new(),

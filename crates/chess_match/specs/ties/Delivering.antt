@@ -14,7 +14,7 @@ use Rattle.chess_match.specs.Sent.{SentLine, block, bytes_of, answer_words}
 use Rattle.chess_match.specs.ties.Stands.{Stands}
 use Rattle.chess_match.specs.ties.Told.{SendsIf}
 use Rattle.chess_match.specs.Transcript.{is_on}
-use Rattle.chess_match.specs.declared.state.Core.{Core}
+use Rattle.chess_match.specs.declared.state.MatchState.{MatchState}
 use Rattle.chess_base.specs.Letters.{new_line}
 
 -- what is White's, and what is Black's
@@ -43,7 +43,7 @@ line_event S line moment = Line S (text_heard line) moment
 
 -- no write failed before the end: each engine was sent what is due to it, and at the end a beginning where a write
 -- failed
-pub record AllSent (r : Rules) (core : Core) (played : List Move) (m : Match) (due : Colour → List SentLine)
+pub record AllSent (r : Rules) (core : MatchState) (played : List Move) (m : Match) (due : Colour → List SentLine)
     (first : Colour) (w w' : Colour → OutputState) (failed : Colour → Bool) (notes notes' : Noted) : Type 0 where
   pub stands : Stands r core played m
   pub puts : (S : Colour) → SendsIf (failed S) (w S) (w' S) (bytes_of (due S))
@@ -59,7 +59,7 @@ broken_notes r m due first c =
 
 -- a write to c failed, which ended the match. The other engine was sent what is due to it, unless it comes after, and
 -- its end lines
-pub record OneFailed (r : Rules) (core : Core) (played : List Move) (m : Match) (due : Colour → List SentLine)
+pub record OneFailed (r : Rules) (core : MatchState) (played : List Move) (m : Match) (due : Colour → List SentLine)
     (first : Colour) (w w' : Colour → OutputState) (failed : Colour → Bool) (notes notes' : Noted)
     (c : Colour) : Type 0 where
   pub on : is_on m.phase ≡ true
@@ -74,14 +74,14 @@ pub record OneFailed (r : Rules) (core : Core) (played : List Move) (m : Match) 
 
 -- the blocks that are due were sent, first to that side, and no write failed before the end, or the first that failed
 -- ended the match; a witness was given notes of them
-abbrev pub Delivered : Rules → Core → List Move → Match → (Colour → List SentLine) → Colour → (Colour → OutputState)
+abbrev pub Delivered : Rules → MatchState → List Move → Match → (Colour → List SentLine) → Colour → (Colour → OutputState)
     → (Colour → OutputState) → (Colour → Bool) → Noted → Noted → Type 0
 Delivered r core played m due first w w' failed notes notes' =
     AllSent r core played m due first w w' failed notes notes'
     ⊎ ((c : Colour) × OneFailed r core played m due first w w' failed notes notes' c)
 
 -- core and game stand for a match in which there is a last move, if someone is still to be sent it
-abbrev pub HasLast : Core → List Move → Type 0
+abbrev pub HasLast : MatchState → List Move → Type 0
 HasLast core played = (r : Rules) × (m : Match) × Stands r core played m
     × (is_some m.untold ≡ true → 0 < length m.played)
 

@@ -17,7 +17,7 @@ use Rattle.chess_match.specs.declared.phase.Phase.{Phase}
 use Rattle.chess_match.specs.declared.phase.Phase.TheVariants.{Hello, After}
 use Rattle.chess_match.specs.declared.state.Player.{Player}
 use Rattle.chess_match.specs.declared.state.Given.{Given}
-use Rattle.chess_match.specs.declared.state.Core.{Core}
+use Rattle.chess_match.specs.declared.state.MatchState.{MatchState}
 
 -- the name of an engine, by the items that it said
 unfoldable pub name_by : List Item → List ℕ
@@ -38,7 +38,7 @@ abbrev pub clocks_of : LevelSeen → Match → ClocksSeen
 clocks_of level m = record { level = level; white = spent_of m.white; black = spent_of m.black }
 
 -- the core, and the moves that were played, stand for the match m
-pub record Stands (r : Rules) (core : Core) (played : List Move) (m : Match) : Type 0 where
+pub record Stands (r : Rules) (core : MatchState) (played : List Move) (m : Match) : Type 0 where
   pub phase : core.phase ≡ m.phase
   pub white : Keeps core.white m.white
   pub black : Keeps core.black m.black
@@ -69,25 +69,25 @@ unfoldable pub given_block : Rules → Given → (Colour → List Item) → Matc
 given_block r given items m S = answers_to (items S) ++ behind_answers r given m S
 
 -- from m to m' the core goes on to stand for m', and gives the blocks between them
-pub record Goes (r : Rules) (core : Core) (played : List Move) (given : Given) (items : Colour → List Item)
+pub record Goes (r : Rules) (core : MatchState) (played : List Move) (given : Given) (items : Colour → List Item)
     (m m' : Match) : Type 0 where
   pub stands : Stands r core played m'
   pub gives : (S : Colour) → given_block r given items m' S ≡ block r m m' S
 
 -- what the core keeps of that side's engine
-abbrev pub player : Core → Colour → Player
+abbrev pub player : MatchState → Colour → Player
 player core White = core.white
 player core Black = core.black
 
 -- the core once S's offer is open
-abbrev pub offered_core : Core → Colour → Core
+abbrev pub offered_core : MatchState → Colour → MatchState
 offered_core core White =
     record core { white = record { features = core.white.features; name = core.white.name; offers = true } }
 offered_core core Black =
     record core { black = record { features = core.black.features; name = core.black.name; offers = true } }
 
 -- the core once S's move is played
-abbrev pub played_core : Core → Colour → ℕ → Core
+abbrev pub played_core : MatchState → Colour → ℕ → MatchState
 played_core core White used = record core {
   phase = After White;
   untold = Some Black;

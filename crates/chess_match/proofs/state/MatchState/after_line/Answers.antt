@@ -1,0 +1,79 @@
+-- The core and its game stand for the match, and so does what each row of the definition leaves; the side's clock knows
+-- its moves, and so the number of the ping that it is to answer (Going.clocks_moves).
+use Rattle.std.proofs.Common.{◌≡◌, true, false, refl, ◌∙◌, arith, length, eq-eqb, ne_eqb}
+use Rattle.std.specs.Prelude.{◌==◌}
+use Rattle.chess_match.specs.Match.{seat, ping_number, after_line}
+use Rattle.chess_match.specs.Sent.{is_same_phase}
+use Rattle.chess_match.specs.Transcript.{reads, is_on}
+use Rattle.chess_match.specs.declared.phase.Phase.TheVariants.{Opening}
+use Rattle.chess_match.proofs.Going.{clocks_moves}
+use Rattle.chess_match.proofs.state.MatchState.after_line.Goals as goal
+use Rattle.chess_base.proofs.MenFacts.{same_colour-self}
+
+pub returns-in-Move : goal.returns-in-Move
+unfolding after_line
+returns-in-Move g c r m p at s =
+    let on : is_on m.phase ≡ true = rw at refl in
+    rw c.in-Move.is (c.finish.ensures r _ m on s)
+
+pub returns-then-number-moves : goal.returns-then-number-moves
+unfolding after_line
+returns-then-number-moves g c r m p at s =
+    let moved : c.moves.result ≡ length (seat m c.args.side).used = c.moves.ensures.value
+    ∙ clocks_moves r _ _ m s c.args.side in
+    let answered : (c.in-Pong.number == ping_number m c.args.side) ≡ true =
+    eq-eqb c.in-Pong.number _ (omega (arith, moved)) in
+    let differs : is_same_phase m.phase (Opening c.other.result) ≡ false = rw at refl in
+    rw (c.in-Pong.is, answered, ← c.other.ensures) (c.open_turn.ensures r _ m differs s)
+
+pub returns-else-number-moves : goal.returns-else-number-moves
+unfolding after_line
+returns-else-number-moves g c r m p at s =
+    let moved : c.moves.result ≡ length (seat m c.args.side).used = c.moves.ensures.value
+    ∙ clocks_moves r _ _ m s c.args.side in
+    let unanswered : (c.in-Pong.number == ping_number m c.args.side) ≡ false =
+    ne_eqb c.in-Pong.number _ (omega (arith, moved)) in
+    let h : reads m.phase c.args.side ≡ true = rw at (same_colour-self c.args.side) in
+    rw (c.in-Pong.is, unanswered) (c.ignore.ensures r _ m h s)
+
+pub returns-in-Features : goal.returns-in-Features
+unfolding after_line
+returns-in-Features g c r m p at s =
+    let h : reads m.phase c.args.side ≡ true = rw at (same_colour-self c.args.side) in
+    rw c.in-Features.is (c.either_way.ensures r m p h s)
+
+pub returns-in-Resign : goal.returns-in-Resign
+unfolding after_line
+returns-in-Resign g c r m p at s =
+    let h : reads m.phase c.args.side ≡ true = rw at (same_colour-self c.args.side) in
+    rw c.in-Resign.is (c.either_way-in-Resign.ensures r m p h s)
+
+pub returns-in-Offer : goal.returns-in-Offer
+unfolding after_line
+returns-in-Offer g c r m p at s =
+    let h : reads m.phase c.args.side ≡ true = rw at (same_colour-self c.args.side) in
+    rw c.in-Offer.is (c.either_way-in-Offer.ensures r m p h s)
+
+pub returns-in-Draw : goal.returns-in-Draw
+unfolding after_line
+returns-in-Draw g c r m p at s =
+    let h : reads m.phase c.args.side ≡ true = rw at (same_colour-self c.args.side) in
+    rw c.in-Draw.is (c.either_way-in-Draw.ensures r m p h s)
+
+pub returns-in-Win : goal.returns-in-Win
+unfolding after_line
+returns-in-Win g c r m p at s =
+    let h : reads m.phase c.args.side ≡ true = rw at (same_colour-self c.args.side) in
+    rw c.in-Win.is (c.either_way-in-Win.ensures r m p h s)
+
+pub returns-in-Rejection : goal.returns-in-Rejection
+unfolding after_line
+returns-in-Rejection g c r m p at s =
+    let h : reads m.phase c.args.side ≡ true = rw at (same_colour-self c.args.side) in
+    rw c.in-Rejection.is (c.either_way-in-Rejection.ensures r m p h s)
+
+pub returns-in-Other : goal.returns-in-Other
+unfolding after_line
+returns-in-Other g c r m p at s =
+    let h : reads m.phase c.args.side ≡ true = rw at (same_colour-self c.args.side) in
+    rw c.in-Other.is (c.either_way-in-Other.ensures r m p h s)

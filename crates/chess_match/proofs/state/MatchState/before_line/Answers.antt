@@ -1,0 +1,140 @@
+-- The clock and the opening's moment are those of the match (Going.clocks_left), so the flag falls here where it falls
+-- there. In time, `move_line` and `either_way` go on as the table says for the line.
+use Rattle.std.proofs.Common.{◌≡◌, ◌-◌, ℕ, Bool, true, false, refl, sym, ◌∙◌}
+use Rattle.std.specs.Prelude.{nat_lt}
+use Rattle.chess_base.specs.Men.{other}
+use Rattle.engine_lines.specs.Clocks.{remaining}
+use Rattle.chess_match.specs.Match.{clock, before_line}
+use Rattle.chess_match.specs.Transcript.{reads, is_on}
+use Rattle.chess_match.proofs.Going.{clocks_left}
+use Rattle.chess_match.proofs.state.MatchState.before_line.Goals as goal
+use Rattle.chess_base.proofs.MenFacts.{same_colour-self}
+
+-- the flag falls in the core where it falls in the match
+flag_kept : (left used clock elapsed : ℕ) (b : Bool) → left ≡ clock → used ≡ elapsed → nat_lt left used ≡ b
+    → nat_lt clock elapsed ≡ b
+flag_kept left used clock elapsed b e f h = rw (← e, ← f) h
+
+pub returns-then-is_bare-clause-goes : goal.returns-then-is_bare-clause-goes
+unfolding before_line
+returns-then-is_bare-clause-goes g c r m p at s =
+    let left : remaining c.args.self.now.clocks c.args.side ≡ clock r m c.args.side = clocks_left r _ _ m s c.args.side in
+    let used : c.saturating_sub-used.result ≡ c.args.moment - m.opened =
+    rw (← s.opened) c.saturating_sub-used.ensures in
+    let on : is_on m.phase ≡ true = rw at refl in
+    let flag : nat_lt (clock r m c.args.side) (c.args.moment - m.opened) ≡ true =
+    flag_kept _ _ _ _ true left used (sym c.is_flagged.ensures ∙ c.if-is_flagged.true) in
+    let bare : r.is_bare m.played (other c.args.side) ≡ true =
+    rw (← s.moves, ← c.other.ensures) (sym (c.if-is_bare.ensures r p)) in
+    rw (flag, bare) (c.finish.ensures r _ m on s)
+
+pub returns-else-is_bare-clause-goes : goal.returns-else-is_bare-clause-goes
+unfolding before_line
+returns-else-is_bare-clause-goes g c r m p at s =
+    let left : remaining c.args.self.now.clocks c.args.side ≡ clock r m c.args.side = clocks_left r _ _ m s c.args.side in
+    let used : c.saturating_sub-used.result ≡ c.args.moment - m.opened =
+    rw (← s.opened) c.saturating_sub-used.ensures in
+    let on : is_on m.phase ≡ true = rw at refl in
+    let flag : nat_lt (clock r m c.args.side) (c.args.moment - m.opened) ≡ true =
+    flag_kept _ _ _ _ true left used (sym c.is_flagged.ensures ∙ c.if-is_flagged.true) in
+    let bare : r.is_bare m.played (other c.args.side) ≡ false =
+    rw (← s.moves, ← c.other.ensures) (sym (c.if-is_bare.ensures r p)) in
+    rw (flag, bare) (c.finish-else-is_bare.ensures r _ m on s)
+
+pub returns-in-Move-clause-goes : goal.returns-in-Move-clause-goes
+unfolding before_line
+returns-in-Move-clause-goes g c r m p at s =
+    let left : remaining c.args.self.now.clocks c.args.side ≡ clock r m c.args.side = clocks_left r _ _ m s c.args.side in
+    let used : c.saturating_sub-used.result ≡ c.args.moment - m.opened =
+    rw (← s.opened) c.saturating_sub-used.ensures in
+    let flag : nat_lt (clock r m c.args.side) (c.args.moment - m.opened) ≡ false =
+    flag_kept _ _ _ _ false left used (sym c.is_flagged.ensures ∙ c.if-is_flagged.false) in
+    rw (c.in-Move.is, flag) (c.move_line.ensures.goes r m c.args.moment p at used s)
+
+pub returns-in-Features-clause-goes : goal.returns-in-Features-clause-goes
+unfolding before_line
+returns-in-Features-clause-goes g c r m p at s =
+    let left : remaining c.args.self.now.clocks c.args.side ≡ clock r m c.args.side = clocks_left r _ _ m s c.args.side in
+    let used : c.saturating_sub-used.result ≡ c.args.moment - m.opened =
+    rw (← s.opened) c.saturating_sub-used.ensures in
+    let flag : nat_lt (clock r m c.args.side) (c.args.moment - m.opened) ≡ false =
+    flag_kept _ _ _ _ false left used (sym c.is_flagged.ensures ∙ c.if-is_flagged.false) in
+    let h : reads m.phase c.args.side ≡ true = rw at (same_colour-self c.args.side) in
+    rw (c.in-Features.is, flag) (c.either_way.ensures r m p h s)
+
+pub returns-in-Resign-clause-goes : goal.returns-in-Resign-clause-goes
+unfolding before_line
+returns-in-Resign-clause-goes g c r m p at s =
+    let left : remaining c.args.self.now.clocks c.args.side ≡ clock r m c.args.side = clocks_left r _ _ m s c.args.side in
+    let used : c.saturating_sub-used.result ≡ c.args.moment - m.opened =
+    rw (← s.opened) c.saturating_sub-used.ensures in
+    let flag : nat_lt (clock r m c.args.side) (c.args.moment - m.opened) ≡ false =
+    flag_kept _ _ _ _ false left used (sym c.is_flagged.ensures ∙ c.if-is_flagged.false) in
+    let h : reads m.phase c.args.side ≡ true = rw at (same_colour-self c.args.side) in
+    rw (c.in-Resign.is, flag) (c.either_way-in-Resign.ensures r m p h s)
+
+pub returns-in-Offer-clause-goes : goal.returns-in-Offer-clause-goes
+unfolding before_line
+returns-in-Offer-clause-goes g c r m p at s =
+    let left : remaining c.args.self.now.clocks c.args.side ≡ clock r m c.args.side = clocks_left r _ _ m s c.args.side in
+    let used : c.saturating_sub-used.result ≡ c.args.moment - m.opened =
+    rw (← s.opened) c.saturating_sub-used.ensures in
+    let flag : nat_lt (clock r m c.args.side) (c.args.moment - m.opened) ≡ false =
+    flag_kept _ _ _ _ false left used (sym c.is_flagged.ensures ∙ c.if-is_flagged.false) in
+    let h : reads m.phase c.args.side ≡ true = rw at (same_colour-self c.args.side) in
+    rw (c.in-Offer.is, flag) (c.either_way-in-Offer.ensures r m p h s)
+
+pub returns-in-Draw-clause-goes : goal.returns-in-Draw-clause-goes
+unfolding before_line
+returns-in-Draw-clause-goes g c r m p at s =
+    let left : remaining c.args.self.now.clocks c.args.side ≡ clock r m c.args.side = clocks_left r _ _ m s c.args.side in
+    let used : c.saturating_sub-used.result ≡ c.args.moment - m.opened =
+    rw (← s.opened) c.saturating_sub-used.ensures in
+    let flag : nat_lt (clock r m c.args.side) (c.args.moment - m.opened) ≡ false =
+    flag_kept _ _ _ _ false left used (sym c.is_flagged.ensures ∙ c.if-is_flagged.false) in
+    let h : reads m.phase c.args.side ≡ true = rw at (same_colour-self c.args.side) in
+    rw (c.in-Draw.is, flag) (c.either_way-in-Draw.ensures r m p h s)
+
+pub returns-in-Win-clause-goes : goal.returns-in-Win-clause-goes
+unfolding before_line
+returns-in-Win-clause-goes g c r m p at s =
+    let left : remaining c.args.self.now.clocks c.args.side ≡ clock r m c.args.side = clocks_left r _ _ m s c.args.side in
+    let used : c.saturating_sub-used.result ≡ c.args.moment - m.opened =
+    rw (← s.opened) c.saturating_sub-used.ensures in
+    let flag : nat_lt (clock r m c.args.side) (c.args.moment - m.opened) ≡ false =
+    flag_kept _ _ _ _ false left used (sym c.is_flagged.ensures ∙ c.if-is_flagged.false) in
+    let h : reads m.phase c.args.side ≡ true = rw at (same_colour-self c.args.side) in
+    rw (c.in-Win.is, flag) (c.either_way-in-Win.ensures r m p h s)
+
+pub returns-in-Rejection-clause-goes : goal.returns-in-Rejection-clause-goes
+unfolding before_line
+returns-in-Rejection-clause-goes g c r m p at s =
+    let left : remaining c.args.self.now.clocks c.args.side ≡ clock r m c.args.side = clocks_left r _ _ m s c.args.side in
+    let used : c.saturating_sub-used.result ≡ c.args.moment - m.opened =
+    rw (← s.opened) c.saturating_sub-used.ensures in
+    let flag : nat_lt (clock r m c.args.side) (c.args.moment - m.opened) ≡ false =
+    flag_kept _ _ _ _ false left used (sym c.is_flagged.ensures ∙ c.if-is_flagged.false) in
+    let h : reads m.phase c.args.side ≡ true = rw at (same_colour-self c.args.side) in
+    rw (c.in-Rejection.is, flag) (c.either_way-in-Rejection.ensures r m p h s)
+
+pub returns-in-Pong-clause-goes : goal.returns-in-Pong-clause-goes
+unfolding before_line
+returns-in-Pong-clause-goes g c r m p at s =
+    let left : remaining c.args.self.now.clocks c.args.side ≡ clock r m c.args.side = clocks_left r _ _ m s c.args.side in
+    let used : c.saturating_sub-used.result ≡ c.args.moment - m.opened =
+    rw (← s.opened) c.saturating_sub-used.ensures in
+    let flag : nat_lt (clock r m c.args.side) (c.args.moment - m.opened) ≡ false =
+    flag_kept _ _ _ _ false left used (sym c.is_flagged.ensures ∙ c.if-is_flagged.false) in
+    let h : reads m.phase c.args.side ≡ true = rw at (same_colour-self c.args.side) in
+    rw (c.in-Pong.is, flag) (c.either_way-in-Pong.ensures r m p h s)
+
+pub returns-in-Other-clause-goes : goal.returns-in-Other-clause-goes
+unfolding before_line
+returns-in-Other-clause-goes g c r m p at s =
+    let left : remaining c.args.self.now.clocks c.args.side ≡ clock r m c.args.side = clocks_left r _ _ m s c.args.side in
+    let used : c.saturating_sub-used.result ≡ c.args.moment - m.opened =
+    rw (← s.opened) c.saturating_sub-used.ensures in
+    let flag : nat_lt (clock r m c.args.side) (c.args.moment - m.opened) ≡ false =
+    flag_kept _ _ _ _ false left used (sym c.is_flagged.ensures ∙ c.if-is_flagged.false) in
+    let h : reads m.phase c.args.side ≡ true = rw at (same_colour-self c.args.side) in
+    rw (c.in-Other.is, flag) (c.either_way-in-Other.ensures r m p h s)

@@ -1,0 +1,65 @@
+-- The game's claim, the offers and the count of moves are those of the match that core and game stand for, so each
+-- kind of line has here the row that it has there; an end needs only that the match is on (Going.reads_on).
+use Rattle.std.proofs.Common.{◌≡◌, true, false, sym, ◌∙◌, Some, None, arith, length, lt-ltb, le-ltb}
+use Rattle.chess_base.specs.Men.{other, same_colour}
+use Rattle.chess_match.specs.Match.{seat, was_told}
+use Rattle.chess_match.proofs.Going.{reads_on, clocks_moves}
+use Rattle.chess_match.proofs.state.MatchState.either_way.Goals as goal
+
+pub returns-in-Resign : goal.returns-in-Resign
+returns-in-Resign g c r m p h s =
+    rw c.in-Resign.is (c.finish.ensures r _ m (reads_on m.phase c.args.side h) s)
+
+pub returns-in-Offer : goal.returns-in-Offer
+returns-in-Offer g c r m p h s =
+    rw c.in-Offer.is (c.offer.ensures r _ m h s)
+
+pub returns-in-Some : goal.returns-in-Some
+returns-in-Some g c r m p h s =
+    let says : r.claim m.played ≡ Some c.in-Some.claim = rw (← s.moves) (sym (c.in-Some.ensures r p)) in
+    rw (c.in-Draw.is, says) (c.finish-in-Some.ensures r _ m (reads_on m.phase c.args.side h) s)
+
+pub returns-in-None : goal.returns-in-None
+returns-in-None g c r m p h s =
+    let says : r.claim m.played ≡ None = rw (← s.moves) (sym (c.in-None.ensures r p)) in
+    rw (c.in-Draw.is, says) (c.offer-in-None.ensures r _ m h s)
+
+pub returns-then-is_side : goal.returns-then-is_side
+returns-then-is_side g c r m p h s =
+    let same : same_colour c.in-Win.winner c.args.side ≡ true = sym c.if-is_side.ensures in
+    rw (c.in-Win.is, same) (c.finish-then-is_side.ensures r _ m (reads_on m.phase c.args.side h) s)
+
+pub returns-else-is_side : goal.returns-else-is_side
+returns-else-is_side g c r m p h s =
+    let differs : same_colour c.in-Win.winner c.args.side ≡ false = sym c.if-is_side.ensures in
+    rw (c.in-Win.is, differs) (c.finish-else-is_side.ensures r _ m (reads_on m.phase c.args.side h) s)
+
+pub returns-then-moves-gt0 : goal.returns-then-moves-gt0
+returns-then-moves-gt0 g c r m p h s =
+    let moved : c.moves.result ≡ length (seat m (other c.args.side)).used = c.moves.ensures.value
+    ∙ rw c.other.ensures (clocks_moves r _ _ m s (other c.args.side)) in
+    let told : was_told m c.args.side ≡ true = lt-ltb 0 _ (omega (arith, moved)) in
+    rw (c.in-Rejection.is, told) (c.finish-then-moves-gt0.ensures r _ m (reads_on m.phase c.args.side h) s)
+
+pub returns-else-moves-gt0 : goal.returns-else-moves-gt0
+returns-else-moves-gt0 g c r m p h s =
+    let moved : c.moves.result ≡ length (seat m (other c.args.side)).used = c.moves.ensures.value
+    ∙ rw c.other.ensures (clocks_moves r _ _ m s (other c.args.side)) in
+    let told : was_told m c.args.side ≡ false = le-ltb 0 _ (omega (arith, moved)) in
+    rw (c.in-Rejection.is, told) (c.ignore.ensures r _ m h s)
+
+pub returns-in-Features : goal.returns-in-Features
+returns-in-Features g c r m p h s =
+    rw c.in-Features.is (c.ignore-in-Features.ensures r _ m h s)
+
+pub returns-in-Move : goal.returns-in-Move
+returns-in-Move g c r m p h s =
+    rw c.in-Move.is (c.ignore-in-Move.ensures r _ m h s)
+
+pub returns-in-Pong : goal.returns-in-Pong
+returns-in-Pong g c r m p h s =
+    rw c.in-Pong.is (c.ignore-in-Pong.ensures r _ m h s)
+
+pub returns-in-Other : goal.returns-in-Other
+returns-in-Other g c r m p h s =
+    rw c.in-Other.is (c.ignore-in-Other.ensures r _ m h s)

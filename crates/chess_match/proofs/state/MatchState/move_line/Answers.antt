@@ -1,0 +1,50 @@
+-- The moves of the game are those of the match, so both find the game full, the text illegal or the verdict. A move
+-- that is played leaves a core that stands for the match with that move (Going.played_goes, played_over_goes).
+use Rattle.std.proofs.Common.{◌≡◌, [], ◌∷◌, ◌++◌, true, false, refl, sym, Some, None, length}
+use Rattle.std.specs.Prelude.{nat_le}
+use Rattle.chess_match.specs.Sent.{is_same_phase}
+use Rattle.chess_match.specs.Transcript.{is_on}
+use Rattle.chess_match.specs.declared.phase.Phase.TheVariants.{After}
+use Rattle.chess_match.proofs.Going.{played_goes, played_over_goes}
+use Rattle.chess_match.proofs.state.MatchState.move_line.Goals as goal
+
+pub returns-then-is_full-clause-goes : goal.returns-then-is_full-clause-goes
+returns-then-is_full-clause-goes g c r m moment p at u s =
+    let on : is_on m.phase ≡ true = rw at refl in
+    let full : nat_le r.limit (length m.played) ≡ true = rw (← s.moves) (sym (c.if-is_full.ensures.value r p)) in
+    rw full (c.finish.ensures r _ m on s)
+
+pub returns-in-None-clause-goes : goal.returns-in-None-clause-goes
+returns-in-None-clause-goes g c r m moment p at u s =
+    let on : is_on m.phase ≡ true = rw at refl in
+    let full : nat_le r.limit (length m.played) ≡ false = rw (← s.moves) (sym (c.if-is_full.ensures.value r p)) in
+    let says : r.reading m.played c.args.text.now ≡ None = rw (← s.moves) (sym (c.in-None.ensures r p)) in
+    rw (full, says) (c.finish-in-None.ensures r _ m on s)
+
+pub returns-in-Some-verdict-clause-goes : goal.returns-in-Some-verdict-clause-goes
+returns-in-Some-verdict-clause-goes g c r m moment p at u s =
+    let on : is_on m.phase ≡ true = rw at refl in
+    let full : nat_le r.limit (length m.played) ≡ false = rw (← s.moves) (sym (c.if-is_full.ensures.value r p)) in
+    let says : r.reading m.played c.args.text.now ≡ Some c.in-Some.chosen =
+    rw (← s.moves) (sym (c.in-Some.ensures r p)) in
+    let now : g.G.Played.played c.play.new.self ≡ m.played ++ c.in-Some.chosen ∷ [] =
+    rw (← s.moves) c.play.ensures.moves in
+    let decided : r.verdict (m.played ++ c.in-Some.chosen ∷ []) ≡ Some c.in-Some-verdict.verdict =
+    rw (← now) (sym (c.in-Some-verdict.ensures r (c.play.ensures.rules r p))) in
+    rw (full, says, decided, ← u, c.play.ensures.moves)
+    (played_over_goes r c.args.self.now _ (g.G.Played.played c.args.game.now) c.args.side c.in-Some.chosen c.args.used m
+    _ on s (rw c.note_move.ensures refl))
+
+pub returns-in-None-verdict-clause-goes : goal.returns-in-None-verdict-clause-goes
+returns-in-None-verdict-clause-goes g c r m moment p at u s =
+    let differs : is_same_phase m.phase (After c.args.side) ≡ false = rw at refl in
+    let full : nat_le r.limit (length m.played) ≡ false = rw (← s.moves) (sym (c.if-is_full.ensures.value r p)) in
+    let says : r.reading m.played c.args.text.now ≡ Some c.in-Some.chosen =
+    rw (← s.moves) (sym (c.in-Some.ensures r p)) in
+    let now : g.G.Played.played c.play.new.self ≡ m.played ++ c.in-Some.chosen ∷ [] =
+    rw (← s.moves) c.play.ensures.moves in
+    let open_still : r.verdict (m.played ++ c.in-Some.chosen ∷ []) ≡ None =
+    rw (← now) (sym (c.in-None-verdict.ensures r (c.play.ensures.rules r p))) in
+    rw (full, says, open_still, ← u, c.play.ensures.moves)
+    (played_goes r c.args.self.now _ (g.G.Played.played c.args.game.now) c.args.side c.in-Some.chosen c.args.used m
+    differs s c.note_move.ensures)
