@@ -20,7 +20,7 @@ use Rattle.chess_match.specs.ties.Told.{SendsIf}
 use Rattle.chess_match.specs.Run.{Asked, text_heard}
 use Rattle.chess_match.specs.Transcript.{is_on, reads, moment_in}
 use Rattle.chess_match.specs.declared.state.MatchState.{MatchState}
-use Rattle.chess_match.specs.declared.state.Given.{Given}
+use Rattle.chess_match.specs.declared.state.Actions.{Actions}
 use Rattle.chess_match.proofs.Flushes.{flushed_none}
 use Rattle.chess_match.proofs.Going.{goes_with, nothing_to}
 use Rattle.chess_match.proofs.Runs.{asked_none}
@@ -203,7 +203,7 @@ undecided r core played m s sane h = ap (λ (ms : List Move). r.verdict ms) s.mo
 -- ---- what was parsed, and what it is noted as
 
 -- an event is noted: its moment was asked for, the answers to its items wait, and the core goes on by it
-abbrev pub IsNoted : (Rules → Type 0) → MatchState → List Move → MatchState → List Move → Given → List ℕ → Colour → (ℕ → Option ℕ)
+abbrev pub IsNoted : (Rules → Type 0) → MatchState → List Move → MatchState → List Move → Actions → List ℕ → Colour → (ℕ → Option ℕ)
     → (ℕ → Option ℕ) → Noted → Noted → Event → Type 0
 IsNoted plays core played core' played' given text S coming coming' notes notes' e =
     (items : List Item) × Asked coming coming' (moment_in e)
@@ -214,7 +214,7 @@ IsNoted plays core played core' played' given text S coming coming' notes notes'
 
 -- an event at which no items are said
 pub noted_bare : (plays : Rules → Type 0) (core : MatchState) (played : List Move) (core' : MatchState) (played' : List Move)
-    (given : Given) (text : List ℕ) (S : Colour) (coming : ℕ → Option ℕ) (notes notes' : Noted) (e : Event)
+    (given : Actions) (text : List ℕ) (S : Colour) (coming : ℕ → Option ℕ) (notes notes' : Noted) (e : Event)
     → moment_in e ≡ [] → text ≡ [] → WasNoted notes notes' (Happened e ∷ [])
     → ((r : Rules) (m : Match) → plays r → reads m.phase S ≡ true → Stands r core played m
     → Goes r core' played' given nothing_said m (after r m e))

@@ -16,7 +16,7 @@ ghost use Rattle.chess_match.specs.ties.Told.{SendsIf};
 use crate::block::Block;
 use crate::played::Played;
 use crate::sending::{add_entered, add_offer, put_and_flush};
-use crate::state::{MatchState, Given};
+use crate::state::{MatchState, Actions};
 use crate::witness::Witness;
 use byte_devices::{Output, WriteFault};
 use chess_base::Colour;
@@ -28,7 +28,7 @@ fn add_rest<G: Played, S: Board>(
     core: &MatchState,
     game: &G,
     scratch: &mut S,
-    given: Given,
+    given: Actions,
     side: Colour,
 )
     requires untold { is_some core.now.untold ≡ true → 0 < length (G.played game.now) }
@@ -66,7 +66,7 @@ pub(crate) fn note_and_send<W: Output, L: Witness, G: Played, S: Board>(
     core: &MatchState,
     game: &G,
     scratch: &mut S,
-    given: Given,
+    given: Actions,
     block: &mut Block,
     side: Colour,
 ) -> Result<(), WriteFault>

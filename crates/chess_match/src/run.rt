@@ -30,7 +30,7 @@ use crate::moments::Moments;
 use crate::phase::Phase;
 use crate::played::Played;
 use crate::reason::{MatchFault, Reason, first_fault};
-use crate::state::{MatchState, ENTRY, Given};
+use crate::state::{MatchState, ENTRY, Actions};
 use crate::witness::{Silent, Witness};
 use byte_devices::{Input, Output, ReadFault};
 use chess_base::{Colour, Position};
@@ -275,7 +275,7 @@ fn send_both<W: Output, L: Witness, G: Played, S: Board>(
     core: &MatchState,
     game: &G,
     scratch: &mut S,
-    given: Given,
+    given: Actions,
     white_block: &mut Block,
     black_block: &mut Block,
 ) -> Failed
@@ -368,7 +368,7 @@ fn send_in_turn<W: Output, L: Witness, G: Played, S: Board>(
     core: &mut MatchState,
     game: &G,
     scratch: &mut S,
-    given: Given,
+    given: Actions,
     blocks: &mut Blocks,
     side: Colour,
 ) -> (bool, bool)
@@ -443,7 +443,7 @@ fn deliver<W: Output, L: Witness, G: Played, S: Board>(
     core: &mut MatchState,
     game: &G,
     scratch: &mut S,
-    given: Given,
+    given: Actions,
     blocks: &mut Blocks,
     side: Colour,
 ) -> Failed
@@ -537,7 +537,7 @@ fn hear_line<M: Moments, L: Witness, G: Played>(
     line: &Line<ENGINE_LINE_LEN>,
     side: Colour,
     block: &mut Block,
-) -> Given
+) -> Actions
     requires sane { (r : Rules) × (m : Match) × (G.plays game.old r) × Stands r core.old (G.played game.old) m
         × IsSane r m × (reads m.phase side ≡ true) }
     requires empty { block.old.items ≡ [] }
@@ -568,7 +568,7 @@ fn hear<M: Moments, L: Witness, G: Played>(
     line: &Line<ENGINE_LINE_LEN>,
     side: Colour,
     block: &mut Block,
-) -> Given
+) -> Actions
     requires sane { (r : Rules) × (m : Match) × (G.plays game.old r) × Stands r core.old (G.played game.old) m
         × IsSane r m × (reads m.phase side ≡ true) }
     requires empty { block.old.items ≡ [] }

@@ -15,7 +15,7 @@ use crate::block::{Block, add, add_end, add_level, add_ping, add_times};
 use crate::phase::Phase;
 use crate::played::Played;
 use crate::reason::{MatchFault, Reason};
-use crate::state::{MatchState, Given, is_side};
+use crate::state::{MatchState, Actions, is_side};
 use byte_devices::{Output, WriteFault, put, put_parts};
 use chess_base::{Colour, Variant};
 use chess_moves::Board;
@@ -269,7 +269,7 @@ fn add_entry<G: Played, S: Board>(
 
 // The offer of a draw, if that side is sent one.
 #[tactic(auto, unfolding(crate::specs::Sent::bytes_of))]
-pub(crate) fn add_offer(block: &mut Block, given: Given, side: Colour)
+pub(crate) fn add_offer(block: &mut Block, given: Actions, side: Colour)
     requires { array_vec_len block.old + 10 ≤ BLOCK_LEN }
     ensures text { block.new.items ≡ block.old.items ++ bytes_of (to given.draw side (Says (codes "draw") ∷ [])) }
     ensures len { array_vec_len block.new ≤ array_vec_len block.old + 10 }
@@ -291,7 +291,7 @@ pub(crate) fn add_entered<G: Played, S: Board>(
     core: &MatchState,
     game: &G,
     scratch: &mut S,
-    given: Given,
+    given: Actions,
     side: Colour,
 )
     requires untold { is_some core.now.untold ≡ true → 0 < length (G.played game.now) }

@@ -29,7 +29,7 @@ pub(crate) struct Player {
 
 /// What is to be sent beside answers to items: an offer, and what the phase that was entered gives.
 #[derive(Clone, Copy)]
-pub(crate) struct Given {
+pub(crate) struct Actions {
     pub draw: Option<Colour>,
     pub entered: bool,
 }
@@ -49,12 +49,12 @@ pub(crate) struct MatchState {
     pub opened: u64,
 }
 
-pub(crate) const NOTHING: Given = Given {
+pub(crate) const NOTHING: Actions = Actions {
     draw: None,
     entered: false,
 };
 
-pub(crate) const ENTRY: Given = Given {
+pub(crate) const ENTRY: Actions = Actions {
     draw: None,
     entered: true,
 };

@@ -16,7 +16,7 @@ use Rattle.chess_match.specs.Sent.{SentLine, Says, answers_to, entry, block}
 use Rattle.chess_match.specs.declared.phase.Phase.{Phase}
 use Rattle.chess_match.specs.declared.phase.Phase.TheVariants.{Hello, After}
 use Rattle.chess_match.specs.declared.state.Player.{Player}
-use Rattle.chess_match.specs.declared.state.Given.{Given}
+use Rattle.chess_match.specs.declared.state.Actions.{Actions}
 use Rattle.chess_match.specs.declared.state.MatchState.{MatchState}
 
 -- the name of an engine, by the items that it said
@@ -61,15 +61,15 @@ abbrev pub nothing_said : Colour → List Item
 nothing_said S = []
 
 -- what is given after the answers: the offer, and what the phase gives
-abbrev pub behind_answers : Rules → Given → Match → Colour → List SentLine
+abbrev pub behind_answers : Rules → Actions → Match → Colour → List SentLine
 behind_answers r given m S = to given.draw S (Says (codes "draw") ∷ []) ++ (if given.entered then entry r m S else [])
 
 -- the block that is given for S: answers to its items, an offer, and what the phase gives
-unfoldable pub given_block : Rules → Given → (Colour → List Item) → Match → Colour → List SentLine
+unfoldable pub given_block : Rules → Actions → (Colour → List Item) → Match → Colour → List SentLine
 given_block r given items m S = answers_to (items S) ++ behind_answers r given m S
 
 -- from m to m' the core goes on to stand for m', and gives the blocks between them
-pub record Goes (r : Rules) (core : MatchState) (played : List Move) (given : Given) (items : Colour → List Item)
+pub record Goes (r : Rules) (core : MatchState) (played : List Move) (given : Actions) (items : Colour → List Item)
     (m m' : Match) : Type 0 where
   pub stands : Stands r core played m'
   pub gives : (S : Colour) → given_block r given items m' S ≡ block r m m' S

@@ -10,11 +10,11 @@ use Rattle.chess_match.specs.Sent.{is_same_phase}
 use Rattle.chess_match.specs.ties.Stands.{Goes, nothing_said}
 use Rattle.chess_match.specs.Transcript.{is_on}
 use Rattle.chess_match.specs.declared.state.MatchState.{MatchState}
-use Rattle.chess_match.specs.declared.state.Given.{Given}
+use Rattle.chess_match.specs.declared.state.Actions.{Actions}
 use Rattle.chess_match.specs.declared.phase.Phase.TheVariants.{Setup, Opening}
 use Rattle.chess_match.proofs.state.MatchState.ready.Goals as goal
 
-first_goes : (r : Rules) (core : MatchState) (played : List Move) (given : Given) (m : Match) (x y : Colour) → x ≡ y
+first_goes : (r : Rules) (core : MatchState) (played : List Move) (given : Actions) (m : Match) (x y : Colour) → x ≡ y
     → Goes r core played given nothing_said m (open_turn x m) → Goes r core played given nothing_said m (open_turn y m)
 first_goes r core played given m x y e h = let P : Colour
     → Type 0 = λ q. Goes r core played given nothing_said m (open_turn q m) in subst P e h
