@@ -13,7 +13,7 @@ ghost use Rattle.chess_text.specs.Moves.{reading};
 ghost use Rattle.chess_match.specs.Rules.{rules_of, has_bare_king, is_king_or_other, move_read, claim_by, fen_told};
 
 use crate::block::{Block, add, add_move};
-use crate::played::Played;
+use crate::match_game::MatchGame;
 use crate::reason::DrawClaim;
 use chess_base::{Colour, Kind, Man, Move, Position, Variant};
 use chess_fen::{FenText, write_fen};
@@ -86,7 +86,7 @@ fn move_read(reading: Reading) -> Option<Move>
     }
 }
 
-impl<B: Board> Played for Game<B> {
+impl<B: Board> MatchGame for Game<B> {
     ghost use Rattle.chess_match.specs.ties.Chess.{Plays};
 
     ghost plays = { λ g r. Plays g r };

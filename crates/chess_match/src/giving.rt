@@ -14,7 +14,7 @@ ghost use Rattle.chess_match.specs.ties.Stands.{Stands, behind_answers, given_bl
 ghost use Rattle.chess_match.specs.ties.Told.{SendsIf};
 
 use crate::block::Block;
-use crate::played::Played;
+use crate::match_game::MatchGame;
 use crate::sending::{add_entered, add_offer, put_and_flush};
 use crate::state::{MatchState, Actions};
 use crate::witness::Witness;
@@ -23,7 +23,7 @@ use chess_base::Colour;
 use chess_moves::Board;
 
 // What a block has after its answers: an offer, and what the phase gives.
-fn add_rest<G: Played, S: Board>(
+fn add_rest<G: MatchGame, S: Board>(
     block: &mut Block,
     core: &MatchState,
     game: &G,
@@ -60,7 +60,7 @@ fn note_and_put<W: Output, L: Witness>(
 
 /// Adds to the answers that wait for a side what else it is given, notes the block that this makes, and sends it by one
 /// write. An empty block is neither noted nor sent.
-pub(crate) fn note_and_send<W: Output, L: Witness, G: Played, S: Board>(
+pub(crate) fn note_and_send<W: Output, L: Witness, G: MatchGame, S: Board>(
     writer: &mut W,
     witness: &mut L,
     core: &MatchState,

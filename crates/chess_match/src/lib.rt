@@ -20,7 +20,7 @@ mod hello;
 mod laws;
 mod moments;
 mod phase;
-mod played;
+mod match_game;
 mod reason;
 mod run;
 mod sending;

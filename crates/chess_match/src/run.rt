@@ -28,7 +28,7 @@ use crate::block::{Block, Blocks};
 use crate::giving::note_and_send;
 use crate::moments::Moments;
 use crate::phase::Phase;
-use crate::played::Played;
+use crate::match_game::MatchGame;
 use crate::reason::{MatchFault, Reason, first_fault};
 use crate::state::{MatchState, ENTRY, Actions};
 use crate::witness::{Silent, Witness};
@@ -268,7 +268,7 @@ pub(crate) struct Failed {
 }
 
 // Sends each side its block of an end, White first.
-fn send_both<W: Output, L: Witness, G: Played, S: Board>(
+fn send_both<W: Output, L: Witness, G: MatchGame, S: Board>(
     white: &mut W,
     black: &mut W,
     witness: &mut L,
@@ -324,7 +324,7 @@ fn send_both<W: Output, L: Witness, G: Played, S: Board>(
 
 // A write to a side's engine failed, which ends the match: the other is sent its end lines. Whether a
 // write to it fails too.
-fn end_for_other<W: Output, L: Witness, G: Played, S: Board>(
+fn end_for_other<W: Output, L: Witness, G: MatchGame, S: Board>(
     others: &mut W,
     witness: &mut L,
     core: &mut MatchState,
@@ -361,7 +361,7 @@ fn end_for_other<W: Output, L: Witness, G: Played, S: Board>(
 
 // Sends the blocks of an event in a match that is on, first to the side of which it came. Whether a write to that side
 // failed, and whether one to the other.
-fn send_in_turn<W: Output, L: Witness, G: Played, S: Board>(
+fn send_in_turn<W: Output, L: Witness, G: MatchGame, S: Board>(
     own: &mut W,
     others: &mut W,
     witness: &mut L,
@@ -436,7 +436,7 @@ fn send_in_turn<W: Output, L: Witness, G: Played, S: Board>(
 
 // Sends the blocks of an event: first to the side of which it came, and at the end to White and then to Black. A write
 // that fails ends the match. The answers to the items of a line wait in the block of its side.
-fn deliver<W: Output, L: Witness, G: Played, S: Board>(
+fn deliver<W: Output, L: Witness, G: MatchGame, S: Board>(
     white: &mut W,
     black: &mut W,
     witness: &mut L,
@@ -529,7 +529,7 @@ fn said(line: &Line<ENGINE_LINE_LEN>) -> EngineLine<'_>
 
 // Takes a line of a side's engine, and then asks for the moment. Returns what is to be sent; the answers to the
 // line's items are added to an empty block.
-fn hear_line<M: Moments, L: Witness, G: Played>(
+fn hear_line<M: Moments, L: Witness, G: MatchGame>(
     core: &mut MatchState,
     moments: &mut M,
     witness: &mut L,
@@ -559,7 +559,7 @@ fn hear_line<M: Moments, L: Witness, G: Played>(
 
 // Takes what reading the next line of a side's engine gave. Returns what is to be sent; the answers to the line's items
 // are added to an empty block.
-fn hear<M: Moments, L: Witness, G: Played>(
+fn hear<M: Moments, L: Witness, G: MatchGame>(
     core: &mut MatchState,
     moments: &mut M,
     witness: &mut L,

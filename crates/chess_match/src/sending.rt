@@ -13,7 +13,7 @@ ghost use Rattle.chess_match.specs.ties.Stands.{Stands, player, to};
 
 use crate::block::{Block, add, add_end, add_level, add_ping, add_times};
 use crate::phase::Phase;
-use crate::played::Played;
+use crate::match_game::MatchGame;
 use crate::reason::{MatchFault, Reason};
 use crate::state::{MatchState, Actions, is_side};
 use byte_devices::{Output, WriteFault, put, put_parts};
@@ -34,7 +34,7 @@ impl MatchState {
 }
 
 // The last move, as that side's engine takes it.
-fn add_last<G: Played, S: Board>(
+fn add_last<G: MatchGame, S: Board>(
     block: &mut Block,
     core: &MatchState,
     game: &G,
@@ -52,7 +52,7 @@ fn add_last<G: Played, S: Board>(
 }
 
 // The last move, if there is one.
-fn add_last_if<G: Played, S: Board>(
+fn add_last_if<G: MatchGame, S: Board>(
     block: &mut Block,
     core: &MatchState,
     game: &G,
@@ -85,7 +85,7 @@ fn add_clocks(block: &mut Block, core: &MatchState, side: Colour)
 }
 
 // The opening of a later turn: both clocks, and then the last move.
-fn add_later_opening<G: Played, S: Board>(
+fn add_later_opening<G: MatchGame, S: Board>(
     block: &mut Block,
     core: &MatchState,
     game: &G,
@@ -102,7 +102,7 @@ fn add_later_opening<G: Played, S: Board>(
 }
 
 // The opening of a side's turn.
-fn add_opening<G: Played, S: Board>(
+fn add_opening<G: MatchGame, S: Board>(
     block: &mut Block,
     core: &MatchState,
     game: &G,
@@ -137,7 +137,7 @@ fn add_variant(block: &mut Block, variant: Variant)
 }
 
 // The setup of an engine.
-fn add_setup<G: Played>(block: &mut Block, core: &MatchState, game: &G)
+fn add_setup<G: MatchGame>(block: &mut Block, core: &MatchState, game: &G)
     requires { array_vec_len block.old + 300 ≤ BLOCK_LEN }
     ensures text { (r : Rules) (m : Match) → G.plays game.now r → Stands r core.now (G.played game.now) m
         → block.new.items ≡ block.old.items ++ bytes_of (setup_lines r) }
@@ -152,7 +152,7 @@ fn add_setup<G: Played>(block: &mut Block, core: &MatchState, game: &G)
 }
 
 // The last move, if the side is still to be sent it.
-fn add_untold<G: Played, S: Board>(
+fn add_untold<G: MatchGame, S: Board>(
     block: &mut Block,
     core: &MatchState,
     game: &G,
@@ -176,7 +176,7 @@ fn add_untold<G: Played, S: Board>(
 }
 
 // The lines at the end.
-fn add_end_lines<G: Played, S: Board>(
+fn add_end_lines<G: MatchGame, S: Board>(
     block: &mut Block,
     core: &MatchState,
     game: &G,
@@ -224,7 +224,7 @@ fn is_unwritten(reason: Reason, side: Colour) -> bool
 }
 
 // What a side's engine is sent where the match came into its phase.
-fn add_entry<G: Played, S: Board>(
+fn add_entry<G: MatchGame, S: Board>(
     block: &mut Block,
     core: &MatchState,
     game: &G,
@@ -286,7 +286,7 @@ pub(crate) fn add_offer(block: &mut Block, given: Actions, side: Colour)
 
 // What the phase gives, if it was entered.
 #[tactic(auto, using(crate::proofs::Sends::same_end))]
-pub(crate) fn add_entered<G: Played, S: Board>(
+pub(crate) fn add_entered<G: MatchGame, S: Board>(
     block: &mut Block,
     core: &MatchState,
     game: &G,

@@ -8,8 +8,8 @@ use Rattle.chess_match.proofs.run.hear.Goals as goal
 
 pub returns-in-Err-clause-heard : goal.returns-in-Err-clause-heard
 returns-in-Err-clause-heard g c =
-    let n = heard_failed (IsNoted (g.G.Played.plays c.args.game.now) c.args.core.now (g.G.Played.played c.args.game.now)
-    c.read_fails-in-Err.new.self (g.G.Played.played c.args.game.now) c.read_fails-in-Err.result c.args.block.now.items
+    let n = heard_failed (IsNoted (g.G.MatchGame.plays c.args.game.now) c.args.core.now (g.G.MatchGame.played c.args.game.now)
+    c.read_fails-in-Err.new.self (g.G.MatchGame.played c.args.game.now) c.read_fails-in-Err.result c.args.block.now.items
     c.args.side (g.M.Moments.coming c.args.moments.now) (g.M.Moments.coming c.args.moments.now)
     (g.L.Witness.told c.args.witness.now) (g.L.Witness.told c.read_fails.new.self))
     c.args.side 0 (line_read c.args.heard c.args.line.now) c.in-Err.field-0
@@ -20,8 +20,8 @@ returns-in-Err-clause-heard g c =
 
 pub returns-in-Ok-false-clause-heard : goal.returns-in-Ok-false-clause-heard
 returns-in-Ok-false-clause-heard g c =
-    let n = heard_none (IsNoted (g.G.Played.plays c.args.game.now) c.args.core.now (g.G.Played.played c.args.game.now)
-    c.output_ends-in-Ok-false-2.new.self (g.G.Played.played c.args.game.now) c.output_ends-in-Ok-false-2.result
+    let n = heard_none (IsNoted (g.G.MatchGame.plays c.args.game.now) c.args.core.now (g.G.MatchGame.played c.args.game.now)
+    c.output_ends-in-Ok-false-2.new.self (g.G.MatchGame.played c.args.game.now) c.output_ends-in-Ok-false-2.result
     c.args.block.now.items
     c.args.side (g.M.Moments.coming c.args.moments.now) (g.M.Moments.coming c.args.moments.now)
     (g.L.Witness.told c.args.witness.now) (g.L.Witness.told c.output_ends-in-Ok-false.new.self))
@@ -34,8 +34,8 @@ returns-in-Ok-false-clause-heard g c =
 
 pub returns-else-is_heard-clause-heard : goal.returns-else-is_heard-clause-heard
 returns-else-is_heard-clause-heard g c =
-    let n = heard_last (IsNoted (g.G.Played.plays c.args.game.now) c.args.core.now (g.G.Played.played c.args.game.now)
-    c.output_ends-else-is_heard.new.self (g.G.Played.played c.args.game.now) c.output_ends-else-is_heard.result
+    let n = heard_last (IsNoted (g.G.MatchGame.plays c.args.game.now) c.args.core.now (g.G.MatchGame.played c.args.game.now)
+    c.output_ends-else-is_heard.new.self (g.G.MatchGame.played c.args.game.now) c.output_ends-else-is_heard.result
     c.args.block.now.items c.args.side (g.M.Moments.coming c.args.moments.now)
     (g.M.Moments.coming c.args.moments.now) (g.L.Witness.told c.args.witness.now)
     (g.L.Witness.told c.output_ends.new.self))

@@ -18,7 +18,7 @@ use Rattle.chess_base.proofs.MenFacts.{same_colour-self}
 pub returns-then-done-clause-goes : goal.returns-then-done-clause-goes
 unfolding hello_line
 returns-then-done-clause-goes g c r m p at s =
-    let st : Stands r c.hear-done.new.self (g.G.Played.played c.args.game.now)
+    let st : Stands r c.hear-done.new.self (g.G.MatchGame.played c.args.game.now)
     (hear c.args.side (items_heard (seen c.args.line)) m) = c.hear-done.ensures.heard r _ m s in
     let done : has_done (items_heard (seen c.args.line)) ≡ true = sym c.hear-done.ensures.done ∙ c.if-done.true in
     let on : greeted r c.args.side (hear c.args.side (items_heard (seen c.args.line)) m)
@@ -31,7 +31,7 @@ returns-then-done-clause-goes g c r m p at s =
 pub returns-then-self-ge1000-clause-goes : goal.returns-then-self-ge1000-clause-goes
 unfolding hello_line
 returns-then-self-ge1000-clause-goes g c r m p at s =
-    let st : Stands r c.hear-done.new.self (g.G.Played.played c.args.game.now)
+    let st : Stands r c.hear-done.new.self (g.G.MatchGame.played c.args.game.now)
     (hear c.args.side (items_heard (seen c.args.line)) m) = c.hear-done.ensures.heard r _ m s in
     let done : has_done (items_heard (seen c.args.line)) ≡ false = sym c.hear-done.ensures.done ∙ c.if-done.false in
     let many : nat_le 1000 (m.count + 1) ≡ true =
@@ -45,7 +45,7 @@ returns-then-self-ge1000-clause-goes g c r m p at s =
 pub returns-else-self-ge1000-clause-goes : goal.returns-else-self-ge1000-clause-goes
 unfolding hello_line
 returns-else-self-ge1000-clause-goes g c r m p at s =
-    let st : Stands r c.hear-done.new.self (g.G.Played.played c.args.game.now)
+    let st : Stands r c.hear-done.new.self (g.G.MatchGame.played c.args.game.now)
     (hear c.args.side (items_heard (seen c.args.line)) m) = c.hear-done.ensures.heard r _ m s in
     let done : has_done (items_heard (seen c.args.line)) ≡ false = sym c.hear-done.ensures.done ∙ c.if-done.false in
     let few : nat_le 1000 (m.count + 1) ≡ false =

@@ -27,12 +27,12 @@ returns-in-Some-verdict-clause-goes g c r m moment p at u s =
     let full : nat_le r.limit (length m.played) ≡ false = rw (← s.moves) (sym (c.if-is_full.ensures.value r p)) in
     let says : r.reading m.played c.args.text.now ≡ Some c.in-Some.chosen =
     rw (← s.moves) (sym (c.in-Some.ensures r p)) in
-    let now : g.G.Played.played c.play.new.self ≡ m.played ++ c.in-Some.chosen ∷ [] =
+    let now : g.G.MatchGame.played c.play.new.self ≡ m.played ++ c.in-Some.chosen ∷ [] =
     rw (← s.moves) c.play.ensures.moves in
     let decided : r.verdict (m.played ++ c.in-Some.chosen ∷ []) ≡ Some c.in-Some-verdict.verdict =
     rw (← now) (sym (c.in-Some-verdict.ensures r (c.play.ensures.rules r p))) in
     rw (full, says, decided, ← u, c.play.ensures.moves)
-    (played_over_goes r c.args.self.now _ (g.G.Played.played c.args.game.now) c.args.side c.in-Some.chosen c.args.used m
+    (played_over_goes r c.args.self.now _ (g.G.MatchGame.played c.args.game.now) c.args.side c.in-Some.chosen c.args.used m
     _ on s (rw c.note_move.ensures refl))
 
 pub returns-in-None-verdict-clause-goes : goal.returns-in-None-verdict-clause-goes
@@ -41,10 +41,10 @@ returns-in-None-verdict-clause-goes g c r m moment p at u s =
     let full : nat_le r.limit (length m.played) ≡ false = rw (← s.moves) (sym (c.if-is_full.ensures.value r p)) in
     let says : r.reading m.played c.args.text.now ≡ Some c.in-Some.chosen =
     rw (← s.moves) (sym (c.in-Some.ensures r p)) in
-    let now : g.G.Played.played c.play.new.self ≡ m.played ++ c.in-Some.chosen ∷ [] =
+    let now : g.G.MatchGame.played c.play.new.self ≡ m.played ++ c.in-Some.chosen ∷ [] =
     rw (← s.moves) c.play.ensures.moves in
     let open_still : r.verdict (m.played ++ c.in-Some.chosen ∷ []) ≡ None =
     rw (← now) (sym (c.in-None-verdict.ensures r (c.play.ensures.rules r p))) in
     rw (full, says, open_still, ← u, c.play.ensures.moves)
-    (played_goes r c.args.self.now _ (g.G.Played.played c.args.game.now) c.args.side c.in-Some.chosen c.args.used m
+    (played_goes r c.args.self.now _ (g.G.MatchGame.played c.args.game.now) c.args.side c.in-Some.chosen c.args.used m
     differs s c.note_move.ensures)

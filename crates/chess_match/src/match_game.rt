@@ -14,7 +14,7 @@ use chess_game::Verdict;
 use chess_moves::Board;
 
 /// A game that is being played.
-pub(crate) trait Played {
+pub(crate) trait MatchGame {
     ghost use Rattle.std.specs.Prelude.{List, ℕ};
     ghost use Rattle.chess_base.specs.declared.man.Move.{Move};
     ghost use Rattle.chess_base.specs.declared.setup.Setup.{Setup};
