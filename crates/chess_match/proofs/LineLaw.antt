@@ -12,7 +12,7 @@ use Rattle.chess_match.specs.Rules.{Rules}
 use Rattle.chess_match.specs.Sent.{SentLine, entry, block}
 use Rattle.chess_match.specs.Transcript.{reads, opens, fits_next, fits_from}
 use Rattle.chess_match.specs.declared.phase.Phase.{Phase}
-use Rattle.chess_match.specs.declared.phase.Phase.TheVariants.{Hello, Setup, Opening, Before, After, Over}
+use Rattle.chess_match.specs.declared.phase.Phase.TheVariants.{Hello, Setup, SendTurn, AwaitMove, AwaitPong, Over}
 use Rattle.chess_match.specs.declared.reason.Reason.{Reason}
 use Rattle.chess_match.specs.declared.reason.Reason.TheVariants.{Agreed, Decided}
 use Rattle.chess_match.proofs.Outcomes.{Lines, line_outcome, opens_at, and_first, and_second}
@@ -29,10 +29,10 @@ AreFew limit k (Hello White) count n offers = (k ≤ count) × (count < 1000) ×
 AreFew limit k (Hello Black) count n offers = (k ≤ 1000 + count) × (count < 1000) × (n ≡ 0)
 AreFew limit k (Setup White) count n offers = (k ≤ 2000 + count) × (count < 10000) × (n ≡ 0)
 AreFew limit k (Setup Black) count n offers = (k ≤ 12000 + count) × (count < 10000) × (n ≡ 0)
-AreFew limit k (Opening c) count n offers = (k ≤ 22000 + 10002 * n) × (count < 10000) × (n ≤ limit)
-AreFew limit k (Before c) count n offers = (k ≤ 22000 + 10002 * n + count + one_if (offers c)) × (count < 10000)
+AreFew limit k (SendTurn c) count n offers = (k ≤ 22000 + 10002 * n) × (count < 10000) × (n ≤ limit)
+AreFew limit k (AwaitMove c) count n offers = (k ≤ 22000 + 10002 * n + count + one_if (offers c)) × (count < 10000)
     × (n ≤ limit)
-AreFew limit k (After c) count n offers = (k + 10001 ≤ 22000 + 10002 * n + count + one_if (offers c)) × (count < 10000)
+AreFew limit k (AwaitPong c) count n offers = (k + 10001 ≤ 22000 + 10002 * n + count + one_if (offers c)) × (count < 10000)
     × (n ≤ limit)
 AreFew limit k (Over reason) count n offers = k ≤ 22000 + 10002 * (limit + 1)
 
@@ -94,15 +94,15 @@ setup_more r k White m e w few = from_phase r (k + 1) (record m { count = m.coun
 setup_more r k Black m e w few = from_phase r (k + 1) (record m { count = m.count + 1 }) (Setup Black) e
     (omega (arith, w.0), few, w.2)
 
-before_over : (r : Rules) (k : ℕ) (S : Colour) (reason : Reason) (m : Match) → FewIn r k (Before S) m
+before_over : (r : Rules) (k : ℕ) (S : Colour) (reason : Reason) (m : Match) → FewIn r k (AwaitMove S) m
     → Few r (k + 1) (over reason m)
 before_over r k S reason m w = omega (arith, w.0, w.1, w.2, at_most_one (seat m S).offers)
 
-before_more : (r : Rules) (k : ℕ) (S : Colour) (m : Match) → m.phase ≡ Before S → FewIn r k (Before S) m
+before_more : (r : Rules) (k : ℕ) (S : Colour) (m : Match) → m.phase ≡ AwaitMove S → FewIn r k (AwaitMove S) m
     → m.count + 1 < 10000 → Few r (k + 1) (record m { count = m.count + 1 })
-before_more r k White m e w few = from_phase r (k + 1) (record m { count = m.count + 1 }) (Before White) e
+before_more r k White m e w few = from_phase r (k + 1) (record m { count = m.count + 1 }) (AwaitMove White) e
     (omega (arith, w.0), few, w.2)
-before_more r k Black m e w few = from_phase r (k + 1) (record m { count = m.count + 1 }) (Before Black) e
+before_more r k Black m e w few = from_phase r (k + 1) (record m { count = m.count + 1 }) (AwaitMove Black) e
     (omega (arith, w.0), few, w.2)
 
 offer_more : (limit k n count : ℕ) (o : Bool) → o ≡ false → k ≤ 22000 + 10002 * n + count + one_if o
@@ -110,14 +110,14 @@ offer_more : (limit k n count : ℕ) (o : Bool) → o ≡ false → k ≤ 22000 
 offer_more limit k n count true e h = cc
 offer_more limit k n count false e h = omega (arith, h)
 
-before_offers : (r : Rules) (k : ℕ) (S : Colour) (m : Match) → m.phase ≡ Before S → FewIn r k (Before S) m
+before_offers : (r : Rules) (k : ℕ) (S : Colour) (m : Match) → m.phase ≡ AwaitMove S → FewIn r k (AwaitMove S) m
     → (seat m S).offers ≡ false → Few r (k + 1) (offered S m)
-before_offers r k White m e w none = from_phase r (k + 1) (offered White m) (Before White) e
+before_offers r k White m e w none = from_phase r (k + 1) (offered White m) (AwaitMove White) e
     (offer_more r.limit k (length m.played) m.count m.white.offers none w.0, w.1, w.2)
-before_offers r k Black m e w none = from_phase r (k + 1) (offered Black m) (Before Black) e
+before_offers r k Black m e w none = from_phase r (k + 1) (offered Black m) (AwaitMove Black) e
     (offer_more r.limit k (length m.played) m.count m.black.offers none w.0, w.1, w.2)
 
-plays_more : (r : Rules) (k : ℕ) (S : Colour) (move : Move) (used : ℕ) (m : Match) → FewIn r k (Before S) m
+plays_more : (r : Rules) (k : ℕ) (S : Colour) (move : Move) (used : ℕ) (m : Match) → FewIn r k (AwaitMove S) m
     → length m.played < r.limit → Few r (k + 1) (played_by S move used m)
 plays_more r k White move used m w room =
     let l : length (m.played ++ move ∷ []) ≡ length m.played + 1 =
@@ -126,15 +126,15 @@ plays_more r k Black move used m w room =
     let l : length (m.played ++ move ∷ []) ≡ length m.played + 1 =
     length-append m.played (move ∷ []) in (omega (arith, w.0, l), w.1, omega (arith, l, room))
 
-after_over : (r : Rules) (k : ℕ) (S : Colour) (reason : Reason) (m : Match) → FewIn r k (After S) m
+after_over : (r : Rules) (k : ℕ) (S : Colour) (reason : Reason) (m : Match) → FewIn r k (AwaitPong S) m
     → Few r (k + 1) (over reason m)
 after_over r k S reason m w = omega (arith, w.0, w.1, w.2, at_most_one (seat m S).offers)
 
-after_more : (r : Rules) (k : ℕ) (S : Colour) (m : Match) → m.phase ≡ After S → FewIn r k (After S) m
+after_more : (r : Rules) (k : ℕ) (S : Colour) (m : Match) → m.phase ≡ AwaitPong S → FewIn r k (AwaitPong S) m
     → m.count + 1 < 10000 → Few r (k + 1) (record m { count = m.count + 1 })
-after_more r k White m e w few = from_phase r (k + 1) (record m { count = m.count + 1 }) (After White) e
+after_more r k White m e w few = from_phase r (k + 1) (record m { count = m.count + 1 }) (AwaitPong White) e
     (omega (arith, w.0), few, w.2)
-after_more r k Black m e w few = from_phase r (k + 1) (record m { count = m.count + 1 }) (After Black) e
+after_more r k Black m e w few = from_phase r (k + 1) (record m { count = m.count + 1 }) (AwaitPong Black) e
     (omega (arith, w.0), few, w.2)
 
 offer_after : (k n count : ℕ) (o : Bool) → o ≡ false → k + 10001 ≤ 22000 + 10002 * n + count + one_if o
@@ -142,14 +142,14 @@ offer_after : (k n count : ℕ) (o : Bool) → o ≡ false → k + 10001 ≤ 220
 offer_after k n count true e h = cc
 offer_after k n count false e h = omega (arith, h)
 
-after_offers : (r : Rules) (k : ℕ) (S : Colour) (m : Match) → m.phase ≡ After S → FewIn r k (After S) m
+after_offers : (r : Rules) (k : ℕ) (S : Colour) (m : Match) → m.phase ≡ AwaitPong S → FewIn r k (AwaitPong S) m
     → (seat m S).offers ≡ false → Few r (k + 1) (offered S m)
-after_offers r k White m e w none = from_phase r (k + 1) (offered White m) (After White) e
+after_offers r k White m e w none = from_phase r (k + 1) (offered White m) (AwaitPong White) e
     (offer_after k (length m.played) m.count m.white.offers none w.0, w.1, w.2)
-after_offers r k Black m e w none = from_phase r (k + 1) (offered Black m) (After Black) e
+after_offers r k Black m e w none = from_phase r (k + 1) (offered Black m) (AwaitPong Black) e
     (offer_after k (length m.played) m.count m.black.offers none w.0, w.1, w.2)
 
-after_passes : (r : Rules) (k : ℕ) (S : Colour) (m : Match) → FewIn r k (After S) m
+after_passes : (r : Rules) (k : ℕ) (S : Colour) (m : Match) → FewIn r k (AwaitPong S) m
     → Few r (k + 1) (open_turn (other S) m)
 after_passes r k S m w = (omega (arith, w.0, w.1, at_most_one (seat m S).offers), omega arith, w.2)
 
@@ -162,9 +162,9 @@ few_over r k reason m w = at m.phase w
     at (Hello Black) w = omega (arith, w.0, w.1)
     at (Setup White) w = omega (arith, w.0, w.1)
     at (Setup Black) w = omega (arith, w.0, w.1)
-    at (Opening c) w = omega (arith, w.0, w.1, w.2)
-    at (Before c) w = omega (arith, w.0, w.1, w.2, at_most_one (seat m c).offers)
-    at (After c) w = omega (arith, w.0, w.1, w.2, at_most_one (seat m c).offers)
+    at (SendTurn c) w = omega (arith, w.0, w.1, w.2)
+    at (AwaitMove c) w = omega (arith, w.0, w.1, w.2, at_most_one (seat m c).offers)
+    at (AwaitPong c) w = omega (arith, w.0, w.1, w.2, at_most_one (seat m c).offers)
     at (Over x) w = w
 
 lines : (r : Rules) (k : ℕ) (S : Colour) (kind : LineKind) (moment : ℕ) (m : Match) → Few r k m
@@ -181,20 +181,20 @@ lines r k S kind moment m w = record {
   setup_done = λ p s pong. setup_done (into_phase r k m (Setup Black) p w);
   before = λ p. record {
     row = record {
-      ends = λ reason n. before_over r k S reason m (into_phase r k m (Before S) p w);
-      counts = λ none few. before_more r k S m p (into_phase r k m (Before S) p w) few;
-      offers = λ none own theirs. before_offers r k S m p (into_phase r k m (Before S) p w) own;
+      ends = λ reason n. before_over r k S reason m (into_phase r k m (AwaitMove S) p w);
+      counts = λ none few. before_more r k S m p (into_phase r k m (AwaitMove S) p w) few;
+      offers = λ none own theirs. before_offers r k S m p (into_phase r k m (AwaitMove S) p w) own;
     };
-    plays = λ text move is reading room timely. plays_more r k S move _ m (into_phase r k m (Before S) p w) room;
-    decides = λ text move v is reading room timely. before_over r k S (Decided v) m (into_phase r k m (Before S) p w);
+    plays = λ text move is reading room timely. plays_more r k S move _ m (into_phase r k m (AwaitMove S) p w) room;
+    decides = λ text move v is reading room timely. before_over r k S (Decided v) m (into_phase r k m (AwaitMove S) p w);
   };
   behind = λ p. record {
     row = record {
-      ends = λ reason n. after_over r k S reason m (into_phase r k m (After S) p w);
-      counts = λ none few. after_more r k S m p (into_phase r k m (After S) p w) few;
-      offers = λ none own theirs. after_offers r k S m p (into_phase r k m (After S) p w) own;
+      ends = λ reason n. after_over r k S reason m (into_phase r k m (AwaitPong S) p w);
+      counts = λ none few. after_more r k S m p (into_phase r k m (AwaitPong S) p w) few;
+      offers = λ none own theirs. after_offers r k S m p (into_phase r k m (AwaitPong S) p w) own;
     };
-    passes = λ none. after_passes r k S m (into_phase r k m (After S) p w);
+    passes = λ none. after_passes r k S m (into_phase r k m (AwaitPong S) p w);
   };
 }
   where
@@ -204,14 +204,14 @@ lines r k S kind moment m w = record {
     setup_done : FewIn r k (Setup Black) m → Few r (k + 1) (open_turn r.first m)
     setup_done w = (omega (arith, w.0, w.1, w.2), omega arith, omega (arith, w.2))
 
-opened : (r : Rules) (k : ℕ) (S : Colour) (moment : ℕ) (m : Match) → FewIn r k (Opening S) m
-    → Few r k (record m { phase = Before S; opened = moment })
+opened : (r : Rules) (k : ℕ) (S : Colour) (moment : ℕ) (m : Match) → FewIn r k (SendTurn S) m
+    → Few r k (record m { phase = AwaitMove S; opened = moment })
 opened r k White moment m w = (omega (arith, w.0), w.1, w.2)
 opened r k Black moment m w = (omega (arith, w.0), w.1, w.2)
 
 few_opened : (r : Rules) (k : ℕ) (S : Colour) (moment : ℕ) (m : Match) → opens m.phase S ≡ true → Few r k m
-    → Few r k (record m { phase = Before S; opened = moment })
-few_opened r k S moment m o w = opened r k S moment m (into_phase r k m (Opening S) (opens_at m.phase S o) w)
+    → Few r k (record m { phase = AwaitMove S; opened = moment })
+few_opened r k S moment m o w = opened r k S moment m (into_phase r k m (SendTurn S) (opens_at m.phase S o) w)
 
 -- after so many lines a match goes on for few more
 few : (r : Rules) (due : Colour → List SentLine) (m : Match) (T : List Event) (k : ℕ) → fits_from r due m T ≡ true

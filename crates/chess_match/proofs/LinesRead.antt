@@ -22,7 +22,7 @@ use Rattle.chess_match.specs.ties.Steps.{IsSane}
 use Rattle.chess_match.specs.Transcript.{reads, opens, is_on, fits_next}
 use Rattle.chess_match.proofs.UnderWay.{steps_left}
 use Rattle.chess_match.specs.declared.phase.Phase.{Phase}
-use Rattle.chess_match.specs.declared.phase.Phase.TheVariants.{Hello, Setup, Opening, Before, After, Over}
+use Rattle.chess_match.specs.declared.phase.Phase.TheVariants.{Hello, Setup, SendTurn, AwaitMove, AwaitPong, Over}
 use Rattle.chess_match.specs.declared.state.MatchState.{MatchState}
 use Rattle.chess_match.proofs.Runs.{nothing_due}
 use Rattle.chess_match.proofs.Sane.{sane_over, sane_line}
@@ -107,28 +107,28 @@ others_hear_none S e r r' h h' is same kept =
 a_step : (p : Phase) (S : Colour) (n : ℕ) → reads p S ≡ true → steps_left p n ≡ 3 * n + 1
 a_step (Hello c) S n h = refl
 a_step (Setup c) S n h = refl
-a_step (Before c) S n h = refl
-a_step (After c) S n h = refl
-a_step (Opening c) S n h = absurd cc
+a_step (AwaitMove c) S n h = refl
+a_step (AwaitPong c) S n h = refl
+a_step (SendTurn c) S n h = absurd cc
 a_step (Over x) S n h = absurd cc
 
 two_steps : (p : Phase) (S : Colour) (n : ℕ) → opens p S ≡ true → steps_left p n ≡ 3 * n + 2
-two_steps (Opening c) S n h = refl
+two_steps (SendTurn c) S n h = refl
 two_steps (Hello c) S n h = absurd cc
 two_steps (Setup c) S n h = absurd cc
-two_steps (Before c) S n h = absurd cc
-two_steps (After c) S n h = absurd cc
+two_steps (AwaitMove c) S n h = absurd cc
+two_steps (AwaitPong c) S n h = absurd cc
 two_steps (Over x) S n h = absurd cc
 
 few_steps : (p : Phase) (n : ℕ) → steps_left p n ≤ 3 * n + 2
 few_steps (Hello c) n = omega arith
 few_steps (Setup c) n = omega arith
-few_steps (Opening c) n = omega arith
-few_steps (Before c) n = omega arith
-few_steps (After c) n = omega arith
+few_steps (SendTurn c) n = omega arith
+few_steps (AwaitMove c) n = omega arith
+few_steps (AwaitPong c) n = omega arith
 few_steps (Over x) n = omega arith
 
-pub opened_less : (p : Phase) (S : Colour) (n : ℕ) → opens p S ≡ true → steps_left (Before S) n < steps_left p n
+pub opened_less : (p : Phase) (S : Colour) (n : ℕ) → opens p S ≡ true → steps_left (AwaitMove S) n < steps_left p n
 opened_less p S n h = omega (arith, two_steps p S n h)
 
 line_less : (p p' : Phase) (S : Colour) (n n' : ℕ) → reads p S ≡ true → n' < n → steps_left p' n' < steps_left p n
@@ -139,9 +139,9 @@ over_less : (p p' : Phase) (S : Colour) (n n' : ℕ) → reads p S ≡ true → 
 over_less p (Over x) S n n' h o = omega (arith, a_step p S n h)
 over_less p (Hello c) S n n' h o = absurd cc
 over_less p (Setup c) S n n' h o = absurd cc
-over_less p (Opening c) S n n' h o = absurd cc
-over_less p (Before c) S n n' h o = absurd cc
-over_less p (After c) S n n' h o = absurd cc
+over_less p (SendTurn c) S n n' h o = absurd cc
+over_less p (AwaitMove c) S n n' h o = absurd cc
+over_less p (AwaitPong c) S n n' h o = absurd cc
 
 -- of what one engine can still give, a line takes something
 one_less : (S : Colour) (f f' : Colour → ℕ) → f' S < f S → f' (other S) ≡ f (other S)

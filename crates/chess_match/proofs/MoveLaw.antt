@@ -22,7 +22,7 @@ use Rattle.chess_base.specs.declared.man.Variant.{Variant}
 use Rattle.chess_base.specs.declared.man.Variant.TheVariants.{Normal, Fischerandom}
 use Rattle.chess_base.proofs.MenFacts.{same_colour-true}
 use Rattle.chess_match.specs.declared.phase.Phase.{Phase}
-use Rattle.chess_match.specs.declared.phase.Phase.TheVariants.{Hello, Setup, Opening, Before, After, Over}
+use Rattle.chess_match.specs.declared.phase.Phase.TheVariants.{Hello, Setup, SendTurn, AwaitMove, AwaitPong, Over}
 use Rattle.chess_match.specs.declared.reason.Reason.{Reason}
 use Rattle.chess_match.specs.declared.reason.Reason.TheVariants.{Decided, Faulted}
 use Rattle.chess_match.specs.declared.reason.MatchFault.{MatchFault}
@@ -64,9 +64,9 @@ texts-snoc r as_san S c before (x ∷ ms) m =
 abbrev pub OrderlyIn : Colour → Phase → List Move → Option Colour → Type 0
 OrderlyIn first (Hello c) played untold = (played ≡ []) × (untold ≡ None)
 OrderlyIn first (Setup c) played untold = (played ≡ []) × (untold ≡ None)
-OrderlyIn first (Opening c) played untold = (mover first played ≡ c) × (untold ≡ None)
-OrderlyIn first (Before c) played untold = (mover first played ≡ c) × (untold ≡ None)
-OrderlyIn first (After c) played untold = (mover first played ≡ other c) × (untold ≡ Some (other c))
+OrderlyIn first (SendTurn c) played untold = (mover first played ≡ c) × (untold ≡ None)
+OrderlyIn first (AwaitMove c) played untold = (mover first played ≡ c) × (untold ≡ None)
+OrderlyIn first (AwaitPong c) played untold = (mover first played ≡ other c) × (untold ≡ Some (other c))
     × (0 < length played)
 OrderlyIn first (Over reason) played untold = Unit {0}
 
@@ -91,10 +91,10 @@ untold_text r m O untold = untold_by r O (seat m O).items m.played untold
 abbrev entry_moves : Rules → Match → Colour → Phase → List (List ℕ)
 entry_moves r m O (Hello c) = []
 entry_moves r m O (Setup c) = []
-entry_moves r m O (Opening c) = if same_colour c O then (if nat_lt 0 (length m.played) then last_text r m O else [])
+entry_moves r m O (SendTurn c) = if same_colour c O then (if nat_lt 0 (length m.played) then last_text r m O else [])
     else []
-entry_moves r m O (Before c) = []
-entry_moves r m O (After c) = []
+entry_moves r m O (AwaitMove c) = []
+entry_moves r m O (AwaitPong c) = []
 entry_moves r m O (Over reason) = if is_unwritten (fault_of reason) O then [] else untold_text r m O m.untold
 
 setup_moves : (r : Rules) → moves_told (setup_lines r) ≡ []
@@ -172,14 +172,14 @@ entry_told r m O (Setup c) = at (same_colour c O)
     at : (b : Bool) → flat_map move_told (if b then setup_lines r else []) ≡ []
     at true = setup_moves r
     at false = refl
-entry_told r m O (Opening c) = at (same_colour c O)
+entry_told r m O (SendTurn c) = at (same_colour c O)
   where
     at : (b : Bool) → flat_map move_told (if b then opening_lines r m O else [])
         ≡ (if b then (if nat_lt 0 (length m.played) then last_text r m O else []) else [])
     at true = opening_moves r m O
     at false = refl
-entry_told r m O (Before c) = refl
-entry_told r m O (After c) = at (same_colour c O)
+entry_told r m O (AwaitMove c) = refl
+entry_told r m O (AwaitPong c) = at (same_colour c O)
   where
     at : (b : Bool) → flat_map move_told (if b then ping (ping_number m O) ∷ [] else []) ≡ []
     at true = refl
@@ -313,21 +313,21 @@ some_move ms move = let l : length (ms ++ move ∷ []) ≡ length ms + 1 = lengt
 abbrev Goes : Rules → List (List ℕ) → Colour → Match → Match → Type 0
 Goes r X O m m' = Told r X O false m.phase m' × Orderly r m'
 
-played_goes : (r : Rules) (X : List (List ℕ)) (S O : Colour) (move : Move) (used : ℕ) (m : Match) → m.phase ≡ Before S
+played_goes : (r : Rules) (X : List (List ℕ)) (S O : Colour) (move : Move) (used : ℕ) (m : Match) → m.phase ≡ AwaitMove S
     → Orderly r m → Sofar r X O m
     → Sofar r X O (played_by S move used m)
 played_goes r X White White move used m p o h =
-    moved r X White White m.white.items m.played move (orderly_in r m (Before White) p o).0
-    (rw (orderly_in r m (Before White) p o).1 at h)
+    moved r X White White m.white.items m.played move (orderly_in r m (AwaitMove White) p o).0
+    (rw (orderly_in r m (AwaitMove White) p o).1 at h)
 played_goes r X White Black move used m p o h =
-    moved r X White Black m.black.items m.played move (orderly_in r m (Before White) p o).0
-    (rw (orderly_in r m (Before White) p o).1 at h)
+    moved r X White Black m.black.items m.played move (orderly_in r m (AwaitMove White) p o).0
+    (rw (orderly_in r m (AwaitMove White) p o).1 at h)
 played_goes r X Black White move used m p o h =
-    moved r X Black White m.white.items m.played move (orderly_in r m (Before Black) p o).0
-    (rw (orderly_in r m (Before Black) p o).1 at h)
+    moved r X Black White m.white.items m.played move (orderly_in r m (AwaitMove Black) p o).0
+    (rw (orderly_in r m (AwaitMove Black) p o).1 at h)
 played_goes r X Black Black move used m p o h =
-    moved r X Black Black m.black.items m.played move (orderly_in r m (Before Black) p o).0
-    (rw (orderly_in r m (Before Black) p o).1 at h)
+    moved r X Black Black m.black.items m.played move (orderly_in r m (AwaitMove Black) p o).0
+    (rw (orderly_in r m (AwaitMove Black) p o).1 at h)
 
 ends_goes : (r : Rules) (X : List (List ℕ)) (O : Colour) (reason : Reason) (m : Match) → is_on m.phase ≡ true
     → is_unwritten (fault_of reason) O ≡ false → Sofar r X O m
@@ -359,19 +359,19 @@ offers_goes r X Black O m here o h = (
   o,
 )
 
-plays_goes : (r : Rules) (X : List (List ℕ)) (S O : Colour) (move : Move) (used : ℕ) (m : Match) → m.phase ≡ Before S
+plays_goes : (r : Rules) (X : List (List ℕ)) (S O : Colour) (move : Move) (used : ℕ) (m : Match) → m.phase ≡ AwaitMove S
     → Orderly r m → Sofar r X O m → Goes r X O m (played_by S move used m)
 plays_goes r X White O move used m p o h = (
   quiet_told r X O m.phase (played_by White move used m) refl refl (played_goes r X White O move used m p o h),
-  (mover-snoc r.first m.played move ∙ ap other (orderly_in r m (Before White) p o).0, refl, some_move m.played move),
+  (mover-snoc r.first m.played move ∙ ap other (orderly_in r m (AwaitMove White) p o).0, refl, some_move m.played move),
 )
 plays_goes r X Black O move used m p o h = (
   quiet_told r X O m.phase (played_by Black move used m) refl refl (played_goes r X Black O move used m p o h),
-  (mover-snoc r.first m.played move ∙ ap other (orderly_in r m (Before Black) p o).0, refl, some_move m.played move),
+  (mover-snoc r.first m.played move ∙ ap other (orderly_in r m (AwaitMove Black) p o).0, refl, some_move m.played move),
 )
 
 decides_goes : (r : Rules) (X : List (List ℕ)) (S O : Colour) (move : Move) (used : ℕ) (v : Verdict) (m : Match)
-    → m.phase ≡ Before S → Orderly r m → Sofar r X O m
+    → m.phase ≡ AwaitMove S → Orderly r m → Sofar r X O m
     → Goes r X O m (over (Decided v) (played_by S move used m))
 decides_goes r X S O move used v m p o h = (
   over_told r X O false m.phase (Decided v) (played_by S move used m) (rw p refl) refl
@@ -388,8 +388,8 @@ opening_told : (r : Rules) (X : List (List ℕ)) (O c : Colour) (items : List It
 opening_told r X O c items ms some h = rw (lt-ltb 0 (length ms) some) h
 
 passes_told : (r : Rules) (X : List (List ℕ)) (O c : Colour) (items : List Item) (m m' : Match) → (seat m' O).items
-    ≡ items → m'.played ≡ m.played → m'.untold ≡ None → m'.phase ≡ Opening c
-    → 0 < length m.played → is_same_phase m.phase (Opening c) ≡ false → SofarBy r X O items m.played (Some c)
+    ≡ items → m'.played ≡ m.played → m'.untold ≡ None → m'.phase ≡ SendTurn c
+    → 0 < length m.played → is_same_phase m.phase (SendTurn c) ≡ false → SofarBy r X O items m.played (Some c)
     → Told r X O false m.phase m'
 passes_told r X O c items m m' i p u e some out h =
     rw (e, u, p, i, out) (append-nil (X ++ (if same_colour c O
@@ -397,10 +397,10 @@ passes_told r X O c items m m' i p u e some out h =
     else []))
     ∙ opening_told r X O c items m.played some h)
 
-passes_goes : (r : Rules) (X : List (List ℕ)) (S O : Colour) (m : Match) → m.phase ≡ After S → Orderly r m
+passes_goes : (r : Rules) (X : List (List ℕ)) (S O : Colour) (m : Match) → m.phase ≡ AwaitPong S → Orderly r m
     → Sofar r X O m → Goes r X O m (open_turn (other S) m)
 passes_goes r X S O m p o h =
-    let known = orderly_in r m (After S) p o in (
+    let known = orderly_in r m (AwaitPong S) p o in (
       passes_told r X O (other S) (seat m O).items m (open_turn (other S) m)
           (items_same m (open_turn (other S) m) refl refl O) refl refl refl known.2 (rw p refl) (rw known.1 at h),
       (known.0, refl),
@@ -531,9 +531,9 @@ step_goes : (r : Rules) (X : List (List ℕ)) (O : Colour) (due : Colour → Lis
 step_goes r X O due m (Line S t n) f o h =
     line_outcome r S (line_kind t) n m (λ m'. Goes r X O m m') f (lines_go r X S O (line_kind t) n m f o h)
 step_goes r X O due m (Opened S n) f o h = (
-  quiet_told r X O m.phase (record m { phase = Before S; opened = n }) refl refl
-      (carried r X O m (record m { phase = Before S; opened = n }) refl refl refl refl h),
-  orderly_in r m (Opening S) (opens_at m.phase S f) o,
+  quiet_told r X O m.phase (record m { phase = AwaitMove S; opened = n }) refl refl
+      (carried r X O m (record m { phase = AwaitMove S; opened = n }) refl refl refl refl h),
+  orderly_in r m (SendTurn S) (opens_at m.phase S f) o,
 )
 step_goes r X O due m (OutputEnds S) f o h = faulted (Faulted S Ended) (reads_on m.phase S f) refl
   where
@@ -572,17 +572,17 @@ same_tells_none : (r : Rules) (S O : Colour) (m m' : Match) → m'.phase ≡ m.p
     → TellsNone r S O m m'
 same_tells_none r S O m m' e here on some = rw (e, reads_stays m.phase S here) refl
 
-opening_apart : (r : Rules) (S : Colour) (m : Match) → m.phase ≡ After S → block r m (open_turn (other S) m) S ≡ []
+opening_apart : (r : Rules) (S : Colour) (m : Match) → m.phase ≡ AwaitPong S → block r m (open_turn (other S) m) S ≡ []
 opening_apart r White m p = plain_block r m (open_turn Black m) false refl refl (rw p refl) White
 opening_apart r Black m p = plain_block r m (open_turn White m) false refl refl (rw p refl) Black
 
-passes_none : (r : Rules) (S O : Colour) (m : Match) → m.phase ≡ After S → TellsNone r S O m (open_turn (other S) m)
+passes_none : (r : Rules) (S O : Colour) (m : Match) → m.phase ≡ AwaitPong S → TellsNone r S O m (open_turn (other S) m)
 passes_none r S O m p on some = let none : 0 < 0 = rw (opening_apart r S m p) at some in absurd (omega (arith, none))
 
 plays_none : (r : Rules) (S O : Colour) (move : Move) (used : ℕ) (m : Match)
     → TellsNone r S O m (played_by S move used m)
-plays_none r White O move used m on some = if_nil (is_same_phase m.phase (After White)) [] refl
-plays_none r Black O move used m on some = if_nil (is_same_phase m.phase (After Black)) [] refl
+plays_none r White O move used m on some = if_nil (is_same_phase m.phase (AwaitPong White)) [] refl
+plays_none r Black O move used m on some = if_nil (is_same_phase m.phase (AwaitPong Black)) [] refl
 
 offers_none : (r : Rules) (S O : Colour) (m : Match) → reads m.phase S ≡ true → TellsNone r S O m (offered S m)
 offers_none r White O m here on some = rw (reads_stays m.phase White here) refl
@@ -618,8 +618,8 @@ lines_none r S O kind moment m here o = record {
     }
 
     opens_none : m.played ≡ [] → told_now r m (open_turn r.first m) O ≡ []
-    opens_none e = if_nil (is_same_phase m.phase (Opening r.first))
-        (entry_moves r (open_turn r.first m) O (Opening r.first))
+    opens_none e = if_nil (is_same_phase m.phase (SendTurn r.first))
+        (entry_moves r (open_turn r.first m) O (SendTurn r.first))
         (none_told r.first O (last_text r (open_turn r.first m) O) m.played e)
 
 dropped_line : (r : Rules) (O S d : Colour) (t : Option (List ℕ)) (n : ℕ) (due : Colour → List SentLine) (m : Match)
@@ -744,9 +744,9 @@ nothing_owed r m O (Some c) h = at m.phase (same_colour c O) h
     at (Over x) false h = refl
     at (Hello c) b h = cc
     at (Setup c) b h = cc
-    at (Opening c) b h = cc
-    at (Before c) b h = cc
-    at (After c) b h = cc
+    at (SendTurn c) b h = cc
+    at (AwaitMove c) b h = cc
+    at (AwaitPong c) b h = cc
 
 pub all_moves_are_told : AllMovesAreTold
 all_moves_are_told r T O f ended quiet =

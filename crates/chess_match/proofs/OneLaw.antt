@@ -13,7 +13,7 @@ use Rattle.chess_match.specs.Rules.{Rules}
 use Rattle.chess_match.specs.Sent.{SentLine, block, entry}
 use Rattle.chess_match.specs.Transcript.{reads, opens, is_on, ending_in, match_from, fits_next, fits_from, lines_of, line_in, moments_of, has_end, has_read_failure, has_write_failure, is_end_of, is_read_failure_of, fails_at}
 use Rattle.chess_match.specs.declared.phase.Phase.{Phase}
-use Rattle.chess_match.specs.declared.phase.Phase.TheVariants.{Hello, Setup, Opening, Before, After, Over}
+use Rattle.chess_match.specs.declared.phase.Phase.TheVariants.{Hello, Setup, SendTurn, AwaitMove, AwaitPong, Over}
 use Rattle.chess_match.proofs.MoveLaw.{fits_on, not_on}
 use Rattle.chess_match.proofs.Outcomes.{and_first, and_second}
 
@@ -29,26 +29,26 @@ or_first false b h = refl
 one_reads : (p : Phase) (c d : Colour) → reads p c ≡ true → reads p d ≡ true → c ≡ d
 one_reads (Hello x) c d h k = sym (same_colour-true x c h) ∙ same_colour-true x d k
 one_reads (Setup x) c d h k = sym (same_colour-true x c h) ∙ same_colour-true x d k
-one_reads (Before x) c d h k = sym (same_colour-true x c h) ∙ same_colour-true x d k
-one_reads (After x) c d h k = sym (same_colour-true x c h) ∙ same_colour-true x d k
-one_reads (Opening x) c d h k = cc
+one_reads (AwaitMove x) c d h k = sym (same_colour-true x c h) ∙ same_colour-true x d k
+one_reads (AwaitPong x) c d h k = sym (same_colour-true x c h) ∙ same_colour-true x d k
+one_reads (SendTurn x) c d h k = cc
 one_reads (Over x) c d h k = cc
 
 one_opens : (p : Phase) (c d : Colour) → opens p c ≡ true → opens p d ≡ true → c ≡ d
-one_opens (Opening x) c d h k = sym (same_colour-true x c h) ∙ same_colour-true x d k
+one_opens (SendTurn x) c d h k = sym (same_colour-true x c h) ∙ same_colour-true x d k
 one_opens (Hello x) c d h k = cc
 one_opens (Setup x) c d h k = cc
-one_opens (Before x) c d h k = cc
-one_opens (After x) c d h k = cc
+one_opens (AwaitMove x) c d h k = cc
+one_opens (AwaitPong x) c d h k = cc
 one_opens (Over x) c d h k = cc
 
 -- a phase that reads opens no turn
 reads_or_opens : {A : Type 0} (p : Phase) (c d : Colour) → reads p c ≡ true → opens p d ≡ true → A
-reads_or_opens (Opening x) c d h k = cc
+reads_or_opens (SendTurn x) c d h k = cc
 reads_or_opens (Hello x) c d h k = cc
 reads_or_opens (Setup x) c d h k = cc
-reads_or_opens (Before x) c d h k = cc
-reads_or_opens (After x) c d h k = cc
+reads_or_opens (AwaitMove x) c d h k = cc
+reads_or_opens (AwaitPong x) c d h k = cc
 reads_or_opens (Over x) c d h k = cc
 
 -- ---- the streams after an event
@@ -205,9 +205,9 @@ over_not_on : {A : Type 0} (p : Phase) → is_some (ending_in p) ≡ true → is
 over_not_on (Over x) h on = not_on on
 over_not_on (Hello c) h on = not_on h
 over_not_on (Setup c) h on = not_on h
-over_not_on (Opening c) h on = not_on h
-over_not_on (Before c) h on = not_on h
-over_not_on (After c) h on = not_on h
+over_not_on (SendTurn c) h on = not_on h
+over_not_on (AwaitMove c) h on = not_on h
+over_not_on (AwaitPong c) h on = not_on h
 
 one_from : (r : Rules) (s : Streams) (due due' : Colour → List SentLine) (m : Match) (T U : List Event)
     → fits_from r due m T ≡ true → fits_from r due' m U ≡ true

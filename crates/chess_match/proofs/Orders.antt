@@ -13,7 +13,7 @@ use Rattle.chess_match.specs.Rules.{Rules}
 use Rattle.chess_match.specs.Sent.{SentLine, entry}
 use Rattle.chess_match.specs.Transcript.{reads, match_of, fits, fits_next, has_write_failure}
 use Rattle.chess_match.specs.declared.phase.Phase.{Phase}
-use Rattle.chess_match.specs.declared.phase.Phase.TheVariants.{Hello, Setup, Opening, Before, After, Over}
+use Rattle.chess_match.specs.declared.phase.Phase.TheVariants.{Hello, Setup, SendTurn, AwaitMove, AwaitPong, Over}
 use Rattle.chess_match.specs.declared.reason.MatchFault.TheVariants.{NoDone}
 use Rattle.chess_match.specs.declared.reason.Reason.TheVariants.{Faulted}
 use Rattle.chess_match.proofs.MoveLaw.{mover, mover-snoc, OrderlyIn, Orderly, orderly_in, some_move, moves_are_told}
@@ -78,17 +78,17 @@ used_as_was r C T ms move xs e s h =
     nothing : (n : ℕ) → n + 0 ≡ n
     nothing n = omega arith
 
-plays_kept : (r : Rules) (S : Colour) (move : Move) (used : ℕ) (m : Match) → m.phase ≡ Before S → Kept r m
+plays_kept : (r : Rules) (S : Colour) (move : Move) (used : ℕ) (m : Match) → m.phase ≡ AwaitMove S → Kept r m
     → Kept r (played_by S move used m)
 plays_kept r White move used m p k =
-    let e = (orderly_in r m (Before White) p k.0).0 in (
+    let e = (orderly_in r m (AwaitMove White) p k.0).0 in (
       (mover-snoc r.first m.played move ∙ ap other e, refl, some_move m.played move),
       used_more r White White m.played
           move m.white.used used e refl k.1,
       used_as_was r Black White m.played move m.black.used e refl k.2,
     )
 plays_kept r Black move used m p k =
-    let e = (orderly_in r m (Before Black) p k.0).0 in (
+    let e = (orderly_in r m (AwaitMove Black) p k.0).0 in (
       (mover-snoc r.first m.played move ∙ ap other e, refl, some_move m.played move),
       used_as_was r White Black m.played
           move m.white.used e refl k.1,
@@ -140,7 +140,7 @@ lines_kept r S kind moment m k = record {
     decides = λ text move v is reading room timely.
         (tt, (plays_kept r S move (moment - m.opened) m p k).1, (plays_kept r S move (moment - m.opened) m p k).2);
   };
-  behind = λ p. record { row = row; passes = λ none. (((orderly_in r m (After S) p k.0).0, refl), k.1, k.2) };
+  behind = λ p. record { row = row; passes = λ none. (((orderly_in r m (AwaitPong S) p k.0).0, refl), k.1, k.2) };
 }
   where
     row : InTurn r S kind m (λ m'. Kept r m')
@@ -158,7 +158,7 @@ pub step : (r : Rules) (due : Colour → List SentLine) (m : Match) (e : Event) 
     → Kept r (after r m e)
 step r due m (Line S t n) f k = line_outcome r S (line_kind t) n m (λ m'. Kept r m') f
     (lines_kept r S (line_kind t) n m k)
-step r due m (Opened S n) f k = (orderly_in r m (Opening S) (opens_at m.phase S f) k.0, k.1, k.2)
+step r due m (Opened S n) f k = (orderly_in r m (SendTurn S) (opens_at m.phase S f) k.0, k.1, k.2)
 step r due m (OutputEnds S) f k = (tt, k.1, k.2)
 step r due m (FailsToRead S) f k = (tt, k.1, k.2)
 step r due m (FailsToWrite S) f k = (tt, k.1, k.2)
@@ -182,9 +182,9 @@ nothing_owed r m S failed here o = at m.phase m.untold here o
         → owed_to r m S untold failed ≡ []
     at (Hello c) untold h o = rw o.1 refl
     at (Setup c) untold h o = rw o.1 refl
-    at (Before c) untold h o = rw o.1 refl
-    at (After c) untold h o = rw (o.1, own c S h) refl
-    at (Opening c) untold h o = cc
+    at (AwaitMove c) untold h o = rw o.1 refl
+    at (AwaitPong c) untold h o = rw (o.1, own c S h) refl
+    at (SendTurn c) untold h o = cc
     at (Over x) untold h o = cc
 
 used_length : (r : Rules) (m : Match) (C : Colour) → Kept r m → length (seat m C).used ≡ turns_of C r.first m.played

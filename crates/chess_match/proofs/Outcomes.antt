@@ -16,7 +16,7 @@ use Rattle.chess_match.specs.Sent.{SentLine, block, is_unwritten}
 use Rattle.chess_match.specs.Transcript.{reads, opens, is_on, fails_at, fits_next, fits_from, match_from}
 use Rattle.chess_match.specs.Reasons.{fault_of}
 use Rattle.chess_match.specs.declared.phase.Phase.{Phase}
-use Rattle.chess_match.specs.declared.phase.Phase.TheVariants.{Hello, Setup, Opening, Before, After, Over}
+use Rattle.chess_match.specs.declared.phase.Phase.TheVariants.{Hello, Setup, SendTurn, AwaitMove, AwaitPong, Over}
 use Rattle.chess_match.specs.declared.reason.DrawClaim.{DrawClaim}
 use Rattle.chess_match.specs.declared.reason.MatchFault.{MatchFault}
 use Rattle.chess_match.specs.declared.reason.MatchFault.TheVariants.{Flood, NoDone, Ended, Read, Write}
@@ -195,8 +195,8 @@ pub record Lines (r : Rules) (S : Colour) (kind : LineKind) (moment : ℕ) (m : 
       → P (record m { count = m.count + 1 })
   pub setup_next : m.phase ≡ Setup White → S ≡ White → is_pong 1 kind ≡ true → P (enter (Setup Black) m)
   pub setup_done : m.phase ≡ Setup Black → S ≡ Black → is_pong 1 kind ≡ true → P (open_turn r.first m)
-  pub before : m.phase ≡ Before S → BeforeMove r S kind moment m P
-  pub behind : m.phase ≡ After S → AfterMove r S kind m P
+  pub before : m.phase ≡ AwaitMove S → BeforeMove r S kind moment m P
+  pub behind : m.phase ≡ AwaitPong S → AfterMove r S kind m P
 
 pub line_outcome : (r : Rules) (S : Colour) (kind : LineKind) (moment : ℕ) (m : Match) (P : Match → Type 0)
     → reads m.phase S ≡ true → Lines r S kind moment m P
@@ -218,35 +218,35 @@ line_outcome r S kind moment m P h l = at m.phase S refl h l
         (λ pong. begun_outcome r m P (λ v. l.setup_ends e (Decided v) (λ O. refl)) (l.setup_done e refl pong))
     at (Setup White) Black e h l = cc
     at (Setup Black) White e h l = cc
-    at (Before White) White e h l = before_outcome r White kind moment m P (l.before e)
-    at (Before Black) Black e h l = before_outcome r Black kind moment m P (l.before e)
-    at (Before White) Black e h l = cc
-    at (Before Black) White e h l = cc
-    at (After White) White e h l = after_outcome r White kind m P (l.behind e)
-    at (After Black) Black e h l = after_outcome r Black kind m P (l.behind e)
-    at (After White) Black e h l = cc
-    at (After Black) White e h l = cc
-    at (Opening c) S e h l = cc
+    at (AwaitMove White) White e h l = before_outcome r White kind moment m P (l.before e)
+    at (AwaitMove Black) Black e h l = before_outcome r Black kind moment m P (l.before e)
+    at (AwaitMove White) Black e h l = cc
+    at (AwaitMove Black) White e h l = cc
+    at (AwaitPong White) White e h l = after_outcome r White kind m P (l.behind e)
+    at (AwaitPong Black) Black e h l = after_outcome r Black kind m P (l.behind e)
+    at (AwaitPong White) Black e h l = cc
+    at (AwaitPong Black) White e h l = cc
+    at (SendTurn c) S e h l = cc
     at (Over x) S e h l = cc
 
 -- whatever an event is
 pub record Events (r : Rules) (m : Match) (e : Event) (P : Match → Type 0) : Type 0 where
   pub line : (S : Colour) (text : Option (List ℕ)) (moment : ℕ) → e ≡ Line S text moment → reads m.phase S ≡ true
       → Lines r S (line_kind text) moment m P
-  pub opened : (S : Colour) (moment : ℕ) → e ≡ Opened S moment → m.phase ≡ Opening S
-      → P (record m { phase = Before S; opened = moment })
+  pub opened : (S : Colour) (moment : ℕ) → e ≡ Opened S moment → m.phase ≡ SendTurn S
+      → P (record m { phase = AwaitMove S; opened = moment })
   pub faulted : (S : Colour) (f : MatchFault) → is_on m.phase ≡ true
       → ((O : Colour) → is_unwritten (Some (S, f)) O ≡ fails_at e O) → P (over (Faulted S f) m)
 
-pub opens_at : (p : Phase) (S : Colour) → opens p S ≡ true → p ≡ Opening S
-opens_at (Opening White) White h = refl
-opens_at (Opening Black) Black h = refl
-opens_at (Opening White) Black h = cc
-opens_at (Opening Black) White h = cc
+pub opens_at : (p : Phase) (S : Colour) → opens p S ≡ true → p ≡ SendTurn S
+opens_at (SendTurn White) White h = refl
+opens_at (SendTurn Black) Black h = refl
+opens_at (SendTurn White) Black h = cc
+opens_at (SendTurn Black) White h = cc
 opens_at (Hello c) S h = cc
 opens_at (Setup c) S h = cc
-opens_at (Before c) S h = cc
-opens_at (After c) S h = cc
+opens_at (AwaitMove c) S h = cc
+opens_at (AwaitPong c) S h = cc
 opens_at (Over x) S h = cc
 
 pub and_first : (a b : Bool) → a && b ≡ true → a ≡ true

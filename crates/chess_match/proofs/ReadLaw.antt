@@ -14,7 +14,7 @@ use Rattle.chess_match.specs.Rules.{Rules}
 use Rattle.chess_match.specs.Sent.{SentLine, block, entry}
 use Rattle.chess_match.specs.Transcript.{is_on, reads, opens, match_of, match_from, fits_next, fits_from, lines_of, line_in}
 use Rattle.chess_match.specs.declared.phase.Phase.{Phase}
-use Rattle.chess_match.specs.declared.phase.Phase.TheVariants.{Hello, Setup, Opening, Before, After, Over}
+use Rattle.chess_match.specs.declared.phase.Phase.TheVariants.{Hello, Setup, SendTurn, AwaitMove, AwaitPong, Over}
 use Rattle.chess_match.specs.declared.reason.MatchFault.TheVariants.{NoDone}
 use Rattle.chess_match.specs.declared.reason.Reason.TheVariants.{Decided, Faulted}
 use Rattle.chess_match.proofs.MoveLaw.{not_on, mover, mover-snoc, Orderly, orderly_in}
@@ -32,9 +32,9 @@ ahead (Hello Black) Black ls = moves_said (behind_pong (behind_hello ls))
 ahead (Setup White) S ls = moves_said (behind_pong ls)
 ahead (Setup Black) White ls = moves_said ls
 ahead (Setup Black) Black ls = moves_said (behind_pong ls)
-ahead (Opening c) S ls = moves_said ls
-ahead (Before c) S ls = moves_said ls
-ahead (After c) S ls = moves_said ls
+ahead (SendTurn c) S ls = moves_said ls
+ahead (AwaitMove c) S ls = moves_said ls
+ahead (AwaitPong c) S ls = moves_said ls
 ahead (Over x) S ls = []
 
 ahead_nil : (p : Phase) (S : Colour) → ahead p S [] ≡ []
@@ -44,9 +44,9 @@ ahead_nil (Hello Black) Black = refl
 ahead_nil (Setup White) S = refl
 ahead_nil (Setup Black) White = refl
 ahead_nil (Setup Black) Black = refl
-ahead_nil (Opening c) S = refl
-ahead_nil (Before c) S = refl
-ahead_nil (After c) S = refl
+ahead_nil (SendTurn c) S = refl
+ahead_nil (AwaitMove c) S = refl
+ahead_nil (AwaitPong c) S = refl
 ahead_nil (Over x) S = refl
 
 -- from here on the moves of a match are read off these lines
@@ -75,7 +75,7 @@ reads_on r m m' final d t lines p same next c e =
 
 -- the side on move plays
 reads_move : (r : Rules) (m m' final : Match) (d : Colour) (t : Option (List ℕ)) (text : List ℕ) (move : Move)
-    (lines : Colour → List (Option (List ℕ))) → m.phase ≡ Before d → m'.phase ≡ After d
+    (lines : Colour → List (Option (List ℕ))) → m.phase ≡ AwaitMove d → m'.phase ≡ AwaitPong d
     → mover r.first m.played ≡ d → m'.played ≡ m.played ++ move ∷ [] → line_kind t ≡ Moves text
     → r.reading m.played text ≡ Some move → Reads r m' final lines
     → Reads r m final (with_line d t lines)
@@ -87,7 +87,7 @@ reads_move r m m' final d t text move lines p p' turn played kind reading next c
     longer : (n : List Move) → final.played ≡ m'.played ++ n → final.played ≡ m.played ++ (move ∷ n)
     longer n h = h ∙ ap (λ (ms : List Move). ms ++ n) played ∙ append_assoc m.played (move ∷ []) n
 
-    by_side : (d : Colour) → m.phase ≡ Before d → m'.phase ≡ After d → mover r.first m.played ≡ d → line_kind t
+    by_side : (d : Colour) → m.phase ≡ AwaitMove d → m'.phase ≡ AwaitPong d → mover r.first m.played ≡ d → line_kind t
         ≡ Moves text
         → ((n : List Move) × (final.played ≡ m'.played ++ n)
         × AreRead r m'.played n (ahead m'.phase (other d) (lines (other d)))
@@ -157,9 +157,9 @@ few_ahead (Hello Black) Black t = none_behind_hello (line_kind t)
 few_ahead (Setup White) d t = none_behind_pong (line_kind t)
 few_ahead (Setup Black) White t = one_said (line_kind t)
 few_ahead (Setup Black) Black t = none_behind_pong (line_kind t)
-few_ahead (Opening c) d t = one_said (line_kind t)
-few_ahead (Before c) d t = one_said (line_kind t)
-few_ahead (After c) d t = one_said (line_kind t)
+few_ahead (SendTurn c) d t = one_said (line_kind t)
+few_ahead (AwaitMove c) d t = one_said (line_kind t)
+few_ahead (AwaitPong c) d t = one_said (line_kind t)
 few_ahead (Over x) d t = omega arith
 
 abbrev pub no_lines : Colour → List (Option (List ℕ))
@@ -181,12 +181,12 @@ reads_end : (r : Rules) (m final : Match) (d : Colour) (t : Option (List ℕ)) �
 reads_end r m final d t p c e = ([], p ∙ sym (append-nil m.played), few_left m.phase d c t)
 
 reads_decided : (r : Rules) (m final : Match) (d : Colour) (t : Option (List ℕ)) (text : List ℕ) (move : Move) → m.phase
-    ≡ Before d → mover r.first m.played ≡ d
+    ≡ AwaitMove d → mover r.first m.played ≡ d
     → final.played ≡ m.played ++ move ∷ [] → line_kind t ≡ Moves text → r.reading m.played text ≡ Some move
     → Reads r m final (with_line d t no_lines)
 reads_decided r m final d t text move p turn played kind reading c e = rw (sym e ∙ turn) (by_side d p kind)
   where
-    by_side : (d : Colour) → m.phase ≡ Before d → line_kind t ≡ Moves text
+    by_side : (d : Colour) → m.phase ≡ AwaitMove d → line_kind t ≡ Moves text
         → (more : List Move) × (final.played ≡ m.played ++ more)
         × AreRead r m.played more (ahead m.phase d (with_line d t no_lines d))
         (ahead m.phase (other d) (with_line d t no_lines (other d)))
@@ -254,7 +254,7 @@ setup_next Black t lines S e h = cc
 
 setup_done : (d c : Colour) (t : Option (List ℕ)) (lines : Colour → List (Option (List ℕ))) (S : Colour) → d ≡ Black
     → is_pong 1 (line_kind t) ≡ true
-    → ahead (Setup Black) S (with_line d t lines S) ≡ ahead (Opening c) S (lines S)
+    → ahead (Setup Black) S (with_line d t lines S) ≡ ahead (SendTurn c) S (lines S)
 setup_done Black c t lines White e h = refl
 setup_done Black c t lines Black e h = rw h refl
 setup_done White c t lines S e h = cc
@@ -275,11 +275,11 @@ hello_counts r White t items n m p h = let m' = hear White items m in on_steps r
 hello_counts r Black t items n m p h = let m' = hear Black items m in on_steps r Black t m (record m' { count = n })
     (rw p refl) refl (λ lines S. rw p (hello_same Black t lines S h))
 
-before_same : (r : Rules) (d : Colour) (t : Option (List ℕ)) (m m' : Match) → m.phase ≡ Before d → m'.phase ≡ m.phase
+before_same : (r : Rules) (d : Colour) (t : Option (List ℕ)) (m m' : Match) → m.phase ≡ AwaitMove d → m'.phase ≡ m.phase
     → m'.played ≡ m.played → move_said (line_kind t) ≡ [] → Steps r d t m m'
 before_same r d t m m' p e q h = on_steps r d t m m' (rw (e, p) refl) q (λ lines S. rw (e, p) (turn_same d t lines S h))
 
-after_same : (r : Rules) (d : Colour) (t : Option (List ℕ)) (m m' : Match) → m.phase ≡ After d → m'.phase ≡ m.phase
+after_same : (r : Rules) (d : Colour) (t : Option (List ℕ)) (m m' : Match) → m.phase ≡ AwaitPong d → m'.phase ≡ m.phase
     → m'.played ≡ m.played → move_said (line_kind t) ≡ [] → Steps r d t m m'
 after_same r d t m m' p e q h = on_steps r d t m m' (rw (e, p) refl) q (λ lines S. rw (e, p) (turn_same d t lines S h))
 
@@ -287,7 +287,7 @@ offered_phase : (d : Colour) (m : Match) → ((offered d m).phase ≡ m.phase) �
 offered_phase White m = (refl, refl)
 offered_phase Black m = (refl, refl)
 
-played_phase : (d : Colour) (move : Move) (used : ℕ) (m : Match) → ((played_by d move used m).phase ≡ After d)
+played_phase : (d : Colour) (move : Move) (used : ℕ) (m : Match) → ((played_by d move used m).phase ≡ AwaitPong d)
     × ((played_by d move used m).played ≡ m.played ++ move ∷ [])
 played_phase White move used m = (refl, refl)
 played_phase Black move used m = (refl, refl)
@@ -334,22 +334,22 @@ lines_step r d t n m o = record {
     items : List Item
     items = items_heard (line_kind t)
 
-    plays : (text : List ℕ) (move : Move) → m.phase ≡ Before d → line_kind t ≡ Moves text → r.reading m.played text
+    plays : (text : List ℕ) (move : Move) → m.phase ≡ AwaitMove d → line_kind t ≡ Moves text → r.reading m.played text
         ≡ Some move → Steps r d t m (played_by d move (n - m.opened) m)
     plays text move p is reading = (
       (λ final lines on next. reads_move r m (played_by d move (n - m.opened) m) final d t text move lines p
-          (played_phase d move (n - m.opened) m).0 (orderly_in r m (Before d) p o).0
+          (played_phase d move (n - m.opened) m).0 (orderly_in r m (AwaitMove d) p o).0
           (played_phase d move (n - m.opened) m).1 is reading next),
       (λ off. not_on (sym off ∙ ap is_on (played_phase d move (n - m.opened) m).0)),
     )
 
-    decides : (text : List ℕ) (move : Move) (v : Verdict) → m.phase ≡ Before d → line_kind t ≡ Moves text
+    decides : (text : List ℕ) (move : Move) (v : Verdict) → m.phase ≡ AwaitMove d → line_kind t ≡ Moves text
         → r.reading m.played text ≡ Some move
         → Steps r d t m (over (Decided v) (played_by d move (n - m.opened) m))
     decides text move v p is reading = (
       (λ final lines on next. not_on on),
       (λ off. reads_decided r m (over (Decided v) (played_by d move (n - m.opened) m)) d t text move p
-          (orderly_in r m (Before d) p o).0 (played_phase d move (n - m.opened) m).1 is reading),
+          (orderly_in r m (AwaitMove d) p o).0 (played_phase d move (n - m.opened) m).1 is reading),
     )
 
 -- ---- the transcript
@@ -373,8 +373,8 @@ stopped r m m' due T off p f = rw (over_stops r due m' T off f)
     (λ c e. ([], p ∙ sym (append-nil m.played), nothing_left m.phase c))
 
 opened_on : (r : Rules) (m : Match) (d : Colour) (n : ℕ) (final : Match) (lines : Colour → List (Option (List ℕ)))
-    → m.phase ≡ Opening d
-    → (let m' : Match = record m { phase = Before d; opened = n } in Reads r m' final lines) → Reads r m final lines
+    → m.phase ≡ SendTurn d
+    → (let m' : Match = record m { phase = AwaitMove d; opened = n } in Reads r m' final lines) → Reads r m final lines
 opened_on r m d n final lines p next = rw p next
 
 reads_from : (r : Rules) (due : Colour → List SentLine) (m : Match) (T : List Event) → fits_from r due m T ≡ true

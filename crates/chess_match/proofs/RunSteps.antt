@@ -23,7 +23,7 @@ use Rattle.chess_match.specs.ties.Stands.{given_block, nothing_said}
 use Rattle.chess_match.specs.Transcript.{match_of, reads, opens, moment_in}
 use Rattle.chess_match.proofs.UnderWay.{IsUnderWay, steps_left}
 use Rattle.chess_match.specs.declared.phase.Phase.{Phase}
-use Rattle.chess_match.specs.declared.phase.Phase.TheVariants.{Before}
+use Rattle.chess_match.specs.declared.phase.Phase.TheVariants.{AwaitMove}
 use Rattle.chess_match.specs.declared.state.MatchState.{MatchState}
 use Rattle.chess_match.proofs.Going.{reads_on}
 use Rattle.chess_match.proofs.LinesRead.{heard_of, heard_of_none, heard_fits, heard_sane, own_hears, others_hear_none, opened_less}
@@ -100,7 +100,7 @@ heard_on r T S moment result core core' played played' failed failed' n n' n'' h
 
 -- ---- what is left to do
 
-pub opened_left : (core core' : MatchState) (S : Colour) (n : ℕ) → opens core.phase S ≡ true → core'.phase ≡ Before S
+pub opened_left : (core core' : MatchState) (S : Colour) (n : ℕ) → opens core.phase S ≡ true → core'.phase ≡ AwaitMove S
     → steps_left core'.phase n < steps_left core.phase n
 opened_left core core' S n h e = subst (λ (p : Phase). steps_left p n < steps_left core.phase n) (sym e)
     (opened_less core.phase S n h)

@@ -16,7 +16,7 @@ use Rattle.chess_match.specs.Rules.{Rules}
 use Rattle.chess_match.specs.Sent.{SentLine, Says, block, entry, entry_to, is_same_phase}
 use Rattle.chess_match.specs.Transcript.{is_on, reads, match_from, fits_next, fits_from, is_dropped, fails_at, blocks_from, joined_blocks}
 use Rattle.chess_match.specs.declared.phase.Phase.{Phase}
-use Rattle.chess_match.specs.declared.phase.Phase.TheVariants.{Opening, Over}
+use Rattle.chess_match.specs.declared.phase.Phase.TheVariants.{SendTurn, Over}
 use Rattle.chess_match.specs.declared.reason.MatchFault.TheVariants.{Write}
 use Rattle.chess_match.specs.declared.reason.Reason.TheVariants.{Faulted}
 use Rattle.chess_match.proofs.Blocks.{if_nil, of_block, joined_at}
@@ -84,7 +84,7 @@ quiet_tells_none : {A : Type 0} (f : SentLine → List A) (r : Rules) (S : Colou
 quiet_tells_none f r S m m' i e on some =
     if_nil (is_same_phase m.phase m'.phase) (flat_map f (entry r m' (other S))) (i r m' (other S) m'.phase e)
 
-opening_apart : (r : Rules) (S c : Colour) (m : Match) → same_colour c S ≡ false → is_same_phase m.phase (Opening c)
+opening_apart : (r : Rules) (S c : Colour) (m : Match) → same_colour c S ≡ false → is_same_phase m.phase (SendTurn c)
     ≡ false → block r m (open_turn c m) S ≡ []
 opening_apart r S c m apart out = plain_block r m (open_turn c m) false refl refl out S ∙ rw apart refl
 
@@ -94,7 +94,7 @@ sends_nothing (x ∷ xs) e some = cc
 
 -- of an opening: it is the other's, and S is sent nothing; or it is of S, and the other is sent nothing
 opens_tells_none : {A : Type 0} (f : SentLine → List A) (r : Rules) (S c : Colour) (m : Match)
-    → is_same_phase m.phase (Opening c) ≡ false → TellsNone f r S m (open_turn c m)
+    → is_same_phase m.phase (SendTurn c) ≡ false → TellsNone f r S m (open_turn c m)
 opens_tells_none f r White White m out on some = rw out refl
 opens_tells_none f r Black Black m out on some = rw out refl
 opens_tells_none f r White Black m out on some =

@@ -21,7 +21,7 @@ use Rattle.chess_match.specs.Rules.{Rules}
 use Rattle.chess_match.specs.Sent.{SentLine, Says, Time, Otim, entry, entry_to, is_same_phase, is_unwritten, setup_lines, variant_lines, start_lines, opening_lines, last_move, last_move_lines, clock_lines, end_lines, untold_lines, ping}
 use Rattle.chess_match.specs.Transcript.{reads, match_of, fits, fits_next, blocks_from, joined_blocks}
 use Rattle.chess_match.specs.declared.phase.Phase.{Phase}
-use Rattle.chess_match.specs.declared.phase.Phase.TheVariants.{Hello, Setup, Opening, Before, After, Over}
+use Rattle.chess_match.specs.declared.phase.Phase.TheVariants.{Hello, Setup, SendTurn, AwaitMove, AwaitPong, Over}
 use Rattle.chess_match.specs.declared.reason.MatchFault.TheVariants.{NoDone, Ended, Read, Write}
 use Rattle.chess_match.specs.declared.reason.Reason.{Reason}
 use Rattle.chess_match.specs.declared.reason.Reason.TheVariants.{Decided, Faulted}
@@ -150,8 +150,8 @@ in_openings own r m S (Setup c) e = at (same_colour c S)
     at : (b : Bool) → flat_map (numbers own) (if b then setup_lines r else []) ≡ []
     at true = setup_times own r
     at false = refl
-in_openings own r m S (Before c) e = refl
-in_openings own r m S (After c) e = at own (same_colour c S)
+in_openings own r m S (AwaitMove c) e = refl
+in_openings own r m S (AwaitPong c) e = at own (same_colour c S)
   where
     at : (own b : Bool) → flat_map (numbers own) (if b then ping (ping_number m S) ∷ [] else []) ≡ []
     at true true = refl
@@ -163,9 +163,9 @@ in_openings own r m S (Over reason) e = at (is_unwritten (fault_of reason) S)
     at : (b : Bool) → flat_map (numbers own) (if b then [] else end_lines r m S reason) ≡ []
     at true = refl
     at false = end_times own r m S reason
-in_openings own r m S (Opening c) e = cc
+in_openings own r m S (SendTurn c) e = cc
 
-opening_told : (own : Bool) (r : Rules) (m : Match) (S c : Colour) → flat_map (numbers own) (entry_to r m S (Opening c))
+opening_told : (own : Bool) (r : Rules) (m : Match) (S c : Colour) → flat_map (numbers own) (entry_to r m S (SendTurn c))
     ≡ (if same_colour c S then clock_told own r m S else [])
 opening_told own r m S c = at (same_colour c S)
   where
@@ -201,10 +201,10 @@ last_told r takes used = if takes then left r.level (length used) (sum used) / 1
 
 -- what is still to be sent in this phase: the last, where S's turn wasn't opened since the clock changed
 abbrev pending : Bool → Phase → Colour → List ℕ → List ℕ
-pending true (Opening c) S t = if same_colour c S then [] else t
-pending true (Before c) S t = if same_colour c S then [] else t
-pending true (After c) S t = t
-pending false (After c) S t = if same_colour c S then [] else t
+pending true (SendTurn c) S t = if same_colour c S then [] else t
+pending true (AwaitMove c) S t = if same_colour c S then [] else t
+pending true (AwaitPong c) S t = t
+pending false (AwaitPong c) S t = if same_colour c S then [] else t
 pending own p S t = []
 
 abbrev is_whole : Bool → Rules → Colour → Bool
@@ -213,11 +213,11 @@ is_whole own r S = own || same_colour S r.first
 abbrev TimesIn : Bool → Rules → Colour → Phase → List ℕ → Bool → List ℕ → Type 0
 TimesIn own r S (Hello c) X takes used = (X ≡ []) × (used ≡ [])
 TimesIn own r S (Setup c) X takes used = (X ≡ []) × (used ≡ [])
-TimesIn own r S (Opening c) X takes used = X ++ pending own (Opening c) S (last_told r takes used)
+TimesIn own r S (SendTurn c) X takes used = X ++ pending own (SendTurn c) S (last_told r takes used)
     ≡ all_told (is_whole own r S) r takes used
-TimesIn own r S (Before c) X takes used = X ++ pending own (Before c) S (last_told r takes used)
+TimesIn own r S (AwaitMove c) X takes used = X ++ pending own (AwaitMove c) S (last_told r takes used)
     ≡ all_told (is_whole own r S) r takes used
-TimesIn own r S (After c) X takes used = X ++ pending own (After c) S (last_told r takes used)
+TimesIn own r S (AwaitPong c) X takes used = X ++ pending own (AwaitPong c) S (last_told r takes used)
     ≡ all_told (is_whole own r S) r takes used
 TimesIn own r S (Over reason) X takes used = (rest : List ℕ) × (length rest ≤ 1)
     × (X ++ rest ≡ all_told (is_whole own r S) r takes used)
@@ -243,17 +243,17 @@ if_short true t h = omega arith
 if_short false t h = h
 
 pending_short : (own : Bool) (p : Phase) (S : Colour) (t : List ℕ) → length t ≤ 1 → length (pending own p S t) ≤ 1
-pending_short true (Opening c) S t h = if_short (same_colour c S) t h
-pending_short true (Before c) S t h = if_short (same_colour c S) t h
-pending_short true (After c) S t h = h
-pending_short false (After c) S t h = if_short (same_colour c S) t h
+pending_short true (SendTurn c) S t h = if_short (same_colour c S) t h
+pending_short true (AwaitMove c) S t h = if_short (same_colour c S) t h
+pending_short true (AwaitPong c) S t h = h
+pending_short false (AwaitPong c) S t h = if_short (same_colour c S) t h
 pending_short true (Hello c) S t h = omega arith
 pending_short true (Setup c) S t h = omega arith
 pending_short true (Over x) S t h = omega arith
 pending_short false (Hello c) S t h = omega arith
 pending_short false (Setup c) S t h = omega arith
-pending_short false (Opening c) S t h = omega arith
-pending_short false (Before c) S t h = omega arith
+pending_short false (SendTurn c) S t h = omega arith
+pending_short false (AwaitMove c) S t h = omega arith
 pending_short false (Over x) S t h = omega arith
 
 all_short : (whole : Bool) (r : Rules) (takes : Bool) → length (all_told whole r takes []) ≤ 1
@@ -272,29 +272,29 @@ over_times : (own : Bool) (r : Rules) (S : Colour) (X : List ℕ) (takes : Bool)
     → (rest : List ℕ) × (length rest ≤ 1) × (X ++ rest ≡ all_told (is_whole own r S) r takes used)
 over_times own r S X takes used (Hello c) h = empty_over own r S X takes used h.0 h.1
 over_times own r S X takes used (Setup c) h = empty_over own r S X takes used h.0 h.1
-over_times own r S X takes used (Opening c) h = (
-  pending own (Opening c) S (last_told r takes used),
-  pending_short own (Opening c) S (last_told r takes used)
+over_times own r S X takes used (SendTurn c) h = (
+  pending own (SendTurn c) S (last_told r takes used),
+  pending_short own (SendTurn c) S (last_told r takes used)
       (last_short r takes used),
   h,
 )
-over_times own r S X takes used (Before c) h = (
-  pending own (Before c) S (last_told r takes used),
-  pending_short own (Before c) S (last_told r takes used)
+over_times own r S X takes used (AwaitMove c) h = (
+  pending own (AwaitMove c) S (last_told r takes used),
+  pending_short own (AwaitMove c) S (last_told r takes used)
       (last_short r takes used),
   h,
 )
-over_times own r S X takes used (After c) h = (
-  pending own (After c) S (last_told r takes used),
-  pending_short own (After c) S (last_told r takes used)
+over_times own r S X takes used (AwaitPong c) h = (
+  pending own (AwaitPong c) S (last_told r takes used),
+  pending_short own (AwaitPong c) S (last_told r takes used)
       (last_short r takes used),
   h,
 )
 over_times own r S X takes used (Over reason) h = h
 
 -- the turn passes
-passes_times : (own : Bool) (c S : Colour) (X t A : List ℕ) → X ++ pending own (After c) S t ≡ A
-    → (X ++ (if same_colour (other c) S then t else [])) ++ pending own (Opening (other c)) S t ≡ A
+passes_times : (own : Bool) (c S : Colour) (X t A : List ℕ) → X ++ pending own (AwaitPong c) S t ≡ A
+    → (X ++ (if same_colour (other c) S then t else [])) ++ pending own (SendTurn (other c)) S t ≡ A
 passes_times true White White X t A h = rw (append-nil X) h
 passes_times true Black Black X t A h = rw (append-nil X) h
 passes_times true White Black X t A h = append-nil (X ++ t) ∙ h
@@ -306,7 +306,7 @@ passes_times false Black White X t A h = append-nil (X ++ t) ∙ h
 
 -- the first turn is opened
 opens_times : (own : Bool) (r : Rules) (S c : Colour) (takes : Bool)
-    → (if same_colour c S then last_told r takes [] else []) ++ pending own (Opening c) S (last_told r takes [])
+    → (if same_colour c S then last_told r takes [] else []) ++ pending own (SendTurn c) S (last_told r takes [])
     ≡ all_told (own || same_colour S c) r takes []
 opens_times true r White White true = refl
 opens_times true r Black Black true = refl
@@ -343,8 +343,8 @@ all_more whole r true used u =
 
 -- the side whose clock it is has moved
 charged_times : (own : Bool) (r : Rules) (S : Colour) (X : List ℕ) (takes : Bool) (used : List ℕ) (u : ℕ)
-    → TimesIn own r S (Before (told_of own S)) X takes used
-    → TimesIn own r S (After (told_of own S)) X takes (used ++ u ∷ [])
+    → TimesIn own r S (AwaitMove (told_of own S)) X takes used
+    → TimesIn own r S (AwaitPong (told_of own S)) X takes (used ++ u ∷ [])
 charged_times true r White X takes used u h = told_more X _ _ _ h (all_more true r takes used u)
 charged_times true r Black X takes used u h = told_more X _ _ _ h (all_more true r takes used u)
 charged_times false r White X takes used u h = told_more X _ _ _ h (all_more (same_colour White r.first) r takes used u)
@@ -352,8 +352,8 @@ charged_times false r Black X takes used u h = told_more X _ _ _ h (all_more (sa
 
 -- the other has
 still_times : (own : Bool) (r : Rules) (S : Colour) (X : List ℕ) (takes : Bool) (used : List ℕ)
-    → TimesIn own r S (Before (other (told_of own S))) X takes used
-    → TimesIn own r S (After (other (told_of own S))) X takes used
+    → TimesIn own r S (AwaitMove (other (told_of own S))) X takes used
+    → TimesIn own r S (AwaitPong (other (told_of own S))) X takes used
 still_times true r White X takes used h = h
 still_times true r Black X takes used h = h
 still_times false r White X takes used h = h
@@ -381,9 +381,9 @@ quiet_goes own r S X m m' e h = rw (quiet_now own r S m m' e, append-nil X) h
 not_opening : (p : Phase) (S : Colour) → reads p S ≡ true → is_opening p ≡ false
 not_opening (Hello c) S h = refl
 not_opening (Setup c) S h = refl
-not_opening (Before c) S h = refl
-not_opening (After c) S h = refl
-not_opening (Opening c) S h = cc
+not_opening (AwaitMove c) S h = refl
+not_opening (AwaitPong c) S h = refl
+not_opening (SendTurn c) S h = cc
 not_opening (Over x) S h = cc
 
 over_goes : (own : Bool) (r : Rules) (S : Colour) (X : List ℕ) (reason : Reason) (m : Match) → Times own r S X m
@@ -409,7 +409,7 @@ offers_goes own r S Black X m here h =
     (carried own r S m.phase X m (offered Black m) refl refl refl refl h)
 
 played_times : (own : Bool) (r : Rules) (S c : Colour) (X : List ℕ) (move : Move) (used : ℕ) (m : Match)
-    → TimesOf own r S (Before c) X m → TimesOf own r S (After c) X (played_by c move used m)
+    → TimesOf own r S (AwaitMove c) X m → TimesOf own r S (AwaitPong c) X (played_by c move used m)
 played_times true r White White X move used m h =
     charged_times true r White X (takes (codes "time") m.white.items) m.white.used used h
 played_times true r Black Black X move used m h =
@@ -428,24 +428,24 @@ played_times false r Black Black X move used m h =
     still_times false r Black X (takes (codes "time") m.black.items) m.white.used h
 
 plays_goes : (own : Bool) (r : Rules) (S c : Colour) (X : List ℕ) (move : Move) (used : ℕ) (m : Match)
-    → TimesOf own r S (Before c) X m → Goes own r S X m (played_by c move used m)
+    → TimesOf own r S (AwaitMove c) X m → Goes own r S X m (played_by c move used m)
 plays_goes own r S White X move used m h =
     quiet_goes own r S X m (played_by White move used m) refl (played_times own r S White X move used m h)
 plays_goes own r S Black X move used m h =
     quiet_goes own r S X m (played_by Black move used m) refl (played_times own r S Black X move used m h)
 
 decides_goes : (own : Bool) (r : Rules) (S c : Colour) (X : List ℕ) (move : Move) (used : ℕ) (v : Verdict) (m : Match)
-    → TimesOf own r S (Before c) X m
+    → TimesOf own r S (AwaitMove c) X m
     → Goes own r S X m (over (Decided v) (played_by c move used m))
 decides_goes own r S c X move used v m h =
     let m' = played_by c move used m in
     quiet_goes own r S X m (over (Decided v) m') refl
     (carried own r S (Over (Decided v)) X m' (over (Decided v) m') refl refl refl refl
-    (over_times own r S X (takes (codes "time") (seat m' S).items) (seat m' (told_of own S)).used (After c)
+    (over_times own r S X (takes (codes "time") (seat m' S).items) (seat m' (told_of own S)).used (AwaitPong c)
     (played_times own r S c X move used m h)))
 
-turn_goes : (own : Bool) (r : Rules) (S c : Colour) (X : List ℕ) (m : Match) → is_same_phase m.phase (Opening c) ≡ false
-    → (X ++ (if same_colour c S then clock_told own r m S else [])) ++ pending own (Opening c) S (clock_told own r m S)
+turn_goes : (own : Bool) (r : Rules) (S c : Colour) (X : List ℕ) (m : Match) → is_same_phase m.phase (SendTurn c) ≡ false
+    → (X ++ (if same_colour c S then clock_told own r m S else [])) ++ pending own (SendTurn c) S (clock_told own r m S)
     ≡ all_told (is_whole own r S) r (takes (codes "time") (seat m S).items) (seat m (told_of own S)).used
     → Goes own r S X m (open_turn c m)
 turn_goes own r S c X m out h =
@@ -454,7 +454,7 @@ turn_goes own r S c X m out h =
   where
     carried_turn : (seat (open_turn c m) S).items ≡ (seat m S).items → (seat (open_turn c m) (told_of own S)).used
         ≡ (seat m (told_of own S)).used
-        → TimesOf own r S (Opening c) (X ++ (if same_colour c S then clock_told own r (open_turn c m) S else []))
+        → TimesOf own r S (SendTurn c) (X ++ (if same_colour c S then clock_told own r (open_turn c m) S else []))
         (open_turn c m)
     carried_turn i u = rw (i, u) h
 
@@ -496,7 +496,7 @@ hello_counts own r S Black X items n m p h =
 
 first_turn : (own : Bool) (r : Rules) (S : Colour) (X : List ℕ) (takes : Bool) (used : List ℕ) → X ≡ [] → used ≡ []
     → (X ++ (if same_colour r.first S then last_told r takes used else []))
-    ++ pending own (Opening r.first) S (last_told r takes used) ≡ all_told (is_whole own r S) r takes used
+    ++ pending own (SendTurn r.first) S (last_told r takes used) ≡ all_told (is_whole own r S) r takes used
 first_turn own r S X takes used x u = rw (x, u) (opens_times own r S r.first takes)
 
 lines_go : (own : Bool) (r : Rules) (S c : Colour) (X : List ℕ) (kind : LineKind) (moment : ℕ) (m : Match)
@@ -523,14 +523,14 @@ lines_go own r S c X kind moment m here h = record {
   before = λ p. record {
     row = row;
     plays = λ text move is reading room timely. plays_goes own r S c X move (moment - m.opened) m
-        (times_in own r S X m (Before c) p h);
+        (times_in own r S X m (AwaitMove c) p h);
     decides = λ text move v is reading room timely. decides_goes own r S c X move (moment - m.opened) v m
-        (times_in own r S X m (Before c) p h);
+        (times_in own r S X m (AwaitMove c) p h);
   };
   behind = λ p. record {
     row = row;
     passes = λ none. turn_goes own r S (other c) X m (rw p refl)
-        (passes_times own c S X (clock_told own r m S) _ (times_in own r S X m (After c) p h));
+        (passes_times own c S X (clock_told own r m S) _ (times_in own r S X m (AwaitPong c) p h));
   };
 }
   where
@@ -568,11 +568,11 @@ step : (own : Bool) (r : Rules) (S : Colour) (due : Colour → List SentLine) (m
 step own r S due m (Line c t n) X f h = line_outcome r c (line_kind t) n m (λ m'. Goes own r S X m m') f
     (lines_go own r S c X (line_kind t) n m f h)
 step own r S due m (Opened c n) X f h =
-    quiet_goes own r S X m (record m { phase = Before c; opened = n }) refl
-    (carried own r S (Before c) X m (record m { phase = Before c; opened = n }) refl refl refl refl
-    (opened own (times_in own r S X m (Opening c) (opens_at m.phase c f) h)))
+    quiet_goes own r S X m (record m { phase = AwaitMove c; opened = n }) refl
+    (carried own r S (AwaitMove c) X m (record m { phase = AwaitMove c; opened = n }) refl refl refl refl
+    (opened own (times_in own r S X m (SendTurn c) (opens_at m.phase c f) h)))
   where
-    opened : (own : Bool) → TimesOf own r S (Opening c) X m → TimesOf own r S (Before c) X m
+    opened : (own : Bool) → TimesOf own r S (SendTurn c) X m → TimesOf own r S (AwaitMove c) X m
     opened true h = h
     opened false h = h
 step own r S due m (OutputEnds c) X f h = over_goes own r S X (Faulted c Ended) m h

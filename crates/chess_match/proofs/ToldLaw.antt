@@ -14,7 +14,7 @@ use Rattle.chess_match.specs.Rules.{Rules}
 use Rattle.chess_match.specs.Sent.{SentLine, block, entry}
 use Rattle.chess_match.specs.Transcript.{is_on, reads, opens, ending, match_of, match_from, fits_next, fits_from, lines_of, has_write_failure}
 use Rattle.chess_match.specs.declared.phase.Phase.{Phase}
-use Rattle.chess_match.specs.declared.phase.Phase.TheVariants.{Hello, Setup, Opening, Before, After, Over}
+use Rattle.chess_match.specs.declared.phase.Phase.TheVariants.{Hello, Setup, SendTurn, AwaitMove, AwaitPong, Over}
 use Rattle.chess_match.specs.declared.reason.MatchFault.TheVariants.{NoDone}
 use Rattle.chess_match.specs.declared.reason.Reason.TheVariants.{Decided, Faulted}
 use Rattle.chess_match.proofs.MoveLaw.{not_on, nothing_owed, moves_are_told}
@@ -30,9 +30,9 @@ said_ahead (Hello White) S ls = items_said ls
 said_ahead (Hello Black) Black ls = items_said ls
 said_ahead (Hello Black) White ls = []
 said_ahead (Setup c) S ls = []
-said_ahead (Opening c) S ls = []
-said_ahead (Before c) S ls = []
-said_ahead (After c) S ls = []
+said_ahead (SendTurn c) S ls = []
+said_ahead (AwaitMove c) S ls = []
+said_ahead (AwaitPong c) S ls = []
 said_ahead (Over x) S ls = []
 
 ahead_nil : (p : Phase) (S : Colour) → said_ahead p S [] ≡ []
@@ -40,9 +40,9 @@ ahead_nil (Hello White) S = refl
 ahead_nil (Hello Black) White = refl
 ahead_nil (Hello Black) Black = refl
 ahead_nil (Setup c) S = refl
-ahead_nil (Opening c) S = refl
-ahead_nil (Before c) S = refl
-ahead_nil (After c) S = refl
+ahead_nil (SendTurn c) S = refl
+ahead_nil (AwaitMove c) S = refl
+ahead_nil (AwaitPong c) S = refl
 ahead_nil (Over x) S = refl
 
 -- a line of d takes from m to m', and the items are what was said: with what more is to come, where the match goes on
@@ -57,17 +57,17 @@ Says d t m m' =
 abbrev is_greeted : Phase → Bool
 is_greeted (Hello c) = false
 is_greeted (Setup c) = true
-is_greeted (Opening c) = true
-is_greeted (Before c) = true
-is_greeted (After c) = true
+is_greeted (SendTurn c) = true
+is_greeted (AwaitMove c) = true
+is_greeted (AwaitPong c) = true
 is_greeted (Over x) = true
 
 none_ahead : (p : Phase) (S : Colour) (ls : List (Option (List ℕ))) → is_greeted p ≡ true → said_ahead p S ls ≡ []
 none_ahead (Hello c) S ls h = cc
 none_ahead (Setup c) S ls h = refl
-none_ahead (Opening c) S ls h = refl
-none_ahead (Before c) S ls h = refl
-none_ahead (After c) S ls h = refl
+none_ahead (SendTurn c) S ls h = refl
+none_ahead (AwaitMove c) S ls h = refl
+none_ahead (AwaitPong c) S ls h = refl
 none_ahead (Over x) S ls h = refl
 
 -- after the handshakes nothing is said
@@ -222,12 +222,12 @@ stopped r m m' due T off w b f =
     rw (over_stops r due m' T off f) (λ S. ap (λ (is : List Item). (seat m S).items ++ is) (ahead_nil m.phase S)
     ∙ append-nil (seat m S).items ∙ sym (items_same m m' w b S))
 
-opened_on : (r : Rules) (m : Match) (d : Colour) (n : ℕ) (T : List Event) (final : Match) → m.phase ≡ Opening d
-    → (let m' : Match = record m { phase = Before d; opened = n } in Said r m' T final)
+opened_on : (r : Rules) (m : Match) (d : Colour) (n : ℕ) (T : List Event) (final : Match) → m.phase ≡ SendTurn d
+    → (let m' : Match = record m { phase = AwaitMove d; opened = n } in Said r m' T final)
     → Said r m T final
 opened_on r m d n T final p next S =
     rw p (ap (λ (is : List Item). is ++ []) (sym
-    (items_same m (let m' : Match = record m { phase = Before d; opened = n } in m') refl refl S)) ∙ next S)
+    (items_same m (let m' : Match = record m { phase = AwaitMove d; opened = n } in m') refl refl S)) ∙ next S)
 
 said_from : (r : Rules) (due : Colour → List SentLine) (m : Match) (T : List Event) → fits_from r due m T ≡ true
     → Said r m T (match_from r m T)

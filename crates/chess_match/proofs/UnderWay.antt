@@ -13,7 +13,7 @@ use Rattle.chess_match.specs.ties.Stands.{Stands}
 use Rattle.chess_match.specs.ties.Steps.{IsSane}
 use Rattle.chess_match.specs.Transcript.{match_of, fits, blocks, lines_of, moments_of, has_end, has_read_failure, has_write_failure, is_on}
 use Rattle.chess_match.specs.declared.phase.Phase.{Phase}
-use Rattle.chess_match.specs.declared.phase.Phase.TheVariants.{Hello, Setup, Opening, Before, After, Over}
+use Rattle.chess_match.specs.declared.phase.Phase.TheVariants.{Hello, Setup, SendTurn, AwaitMove, AwaitPong, Over}
 use Rattle.chess_match.specs.declared.state.MatchState.{MatchState}
 
 -- S's engine is still read
@@ -44,7 +44,7 @@ pub record IsUnderWay (r : Rules) (T : List Event) (core : MatchState) (played :
 abbrev pub steps_left : Phase → ℕ → ℕ
 steps_left (Hello c) n = 3 * n + 1
 steps_left (Setup c) n = 3 * n + 1
-steps_left (Opening c) n = 3 * n + 2
-steps_left (Before c) n = 3 * n + 1
-steps_left (After c) n = 3 * n + 1
+steps_left (SendTurn c) n = 3 * n + 2
+steps_left (AwaitMove c) n = 3 * n + 1
+steps_left (AwaitPong c) n = 3 * n + 1
 steps_left (Over reason) n = 0

@@ -21,7 +21,7 @@ use Rattle.chess_match.specs.ties.Told.{SendsIf}
 use Rattle.chess_match.specs.Transcript.{match_of, fits_next, is_on, opens, blocks, blocks_from, joined_blocks, lines_of, moments_of, moment_in, has_end, has_read_failure, has_write_failure, fails_at, side_of}
 use Rattle.chess_match.proofs.UnderWay.{IsHearing, HeardSoFar, IsUnderWay}
 use Rattle.chess_match.specs.declared.phase.Phase.{Phase}
-use Rattle.chess_match.specs.declared.phase.Phase.TheVariants.{Hello, Setup, Opening, Before, After, Over}
+use Rattle.chess_match.specs.declared.phase.Phase.TheVariants.{Hello, Setup, SendTurn, AwaitMove, AwaitPong, Over}
 use Rattle.chess_match.specs.declared.state.MatchState.{MatchState}
 use Rattle.chess_match.proofs.Flushes.{flushed_none, flushed_more}
 use Rattle.chess_match.proofs.HeardOn.{is_stop, heard_still, heard_more, not_both}
@@ -407,11 +407,11 @@ nothing_put true o b e n = absurd cc
 nothing_put false o b e n = subst (λ (ls : List SentLine). Flushed o o (bytes_of ls)) n (flushed_none o)
 
 pub opens_on : (p : Phase) (S : Colour) → opens p S ≡ true → is_on p ≡ true
-opens_on (Opening c) S h = refl
+opens_on (SendTurn c) S h = refl
 opens_on (Hello c) S h = refl
 opens_on (Setup c) S h = refl
-opens_on (Before c) S h = refl
-opens_on (After c) S h = refl
+opens_on (AwaitMove c) S h = refl
+opens_on (AwaitPong c) S h = refl
 opens_on (Over x) S h = absurd cc
 
 none_given : (r : Rules) (m : Match) (S : Colour)

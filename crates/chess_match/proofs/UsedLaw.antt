@@ -13,7 +13,7 @@ use Rattle.chess_match.specs.Rules.{Rules}
 use Rattle.chess_match.specs.Sent.{SentLine, block, entry}
 use Rattle.chess_match.specs.Transcript.{is_on, reads, opens, match_from, fits_next, fits_from}
 use Rattle.chess_match.specs.declared.phase.Phase.{Phase}
-use Rattle.chess_match.specs.declared.phase.Phase.TheVariants.{Hello, Setup, Opening, Before, After, Over}
+use Rattle.chess_match.specs.declared.phase.Phase.TheVariants.{Hello, Setup, SendTurn, AwaitMove, AwaitPong, Over}
 use Rattle.chess_match.specs.declared.reason.MatchFault.TheVariants.{NoDone}
 use Rattle.chess_match.specs.declared.reason.Reason.{Reason}
 use Rattle.chess_match.specs.declared.reason.Reason.TheVariants.{Decided, Faulted}
@@ -25,11 +25,11 @@ use Rattle.chess_match.proofs.Seats.{hear_used, used_same}
 
 -- the moment of the opening, where a move of S is awaited
 abbrev awaited : Colour → Phase → ℕ → Option ℕ
-awaited S (Before c) opened = if same_colour c S then Some opened else None
+awaited S (AwaitMove c) opened = if same_colour c S then Some opened else None
 awaited S (Hello c) opened = None
 awaited S (Setup c) opened = None
-awaited S (Opening c) opened = None
-awaited S (After c) opened = None
+awaited S (SendTurn c) opened = None
+awaited S (AwaitPong c) opened = None
 awaited S (Over x) opened = None
 
 -- the time that a line of S takes, where it is a move that is awaited
@@ -108,7 +108,7 @@ apart_grow : (S : Colour) (kind : LineKind) (n : ℕ) (m m' : Match) (p : Phase)
 apart_grow S kind n m m' p e a w b t =
     rw (e, a) ([], omega arith, ap (λ (l : List ℕ). l ++ []) (sym (used_same m m' w b S)), λ on. (refl, t))
 
-plays_grow : (S c : Colour) (text : List ℕ) (move : Move) (n : ℕ) (m : Match) → m.phase ≡ Before c
+plays_grow : (S c : Colour) (text : List ℕ) (move : Move) (n : ℕ) (m : Match) → m.phase ≡ AwaitMove c
     → Grows S (Moves text) n m (played_by c move (n - m.opened) m)
 plays_grow White White text move n m p = rw p
     ([], omega arith, sym (append-nil (m.white.used ++ (n - m.opened) ∷ [])), λ on. (refl, refl))
@@ -117,7 +117,7 @@ plays_grow Black Black text move n m p = rw p
 plays_grow White Black text move n m p = rw p ([], omega arith, refl, λ on. (refl, refl))
 plays_grow Black White text move n m p = rw p ([], omega arith, refl, λ on. (refl, refl))
 
-decides_grow : (S c : Colour) (text : List ℕ) (move : Move) (n : ℕ) (m : Match) (reason : Reason) → m.phase ≡ Before c
+decides_grow : (S c : Colour) (text : List ℕ) (move : Move) (n : ℕ) (m : Match) (reason : Reason) → m.phase ≡ AwaitMove c
     → Grows S (Moves text) n m (over reason (played_by c move (n - m.opened) m))
 decides_grow White White text move n m reason p =
     rw p ([], omega arith, sym (append-nil (m.white.used ++ (n - m.opened) ∷ [])), λ on. not_on on)
@@ -165,7 +165,7 @@ lines_grow r S c kind n m = record {
   behind = λ p. record {
     row = row;
     passes =
-        λ none. apart_grow S kind n m (open_turn (other c) m) (After c) p refl refl refl refl;
+        λ none. apart_grow S kind n m (open_turn (other c) m) (AwaitPong c) p refl refl refl refl;
   };
 }
   where
@@ -192,9 +192,9 @@ own_line S opened n T false = refl
 
 before_line_times : (S c d : Colour) (opened : ℕ) (text : Option (List ℕ)) (n : ℕ) (T : List Event) → same_colour d c
     ≡ true
-    → turn_times S (awaited S (Before d) opened) (Line c text n ∷ T)
-    ≡ taken (awaited S (Before d) opened) (line_kind text) n
-    ++ turn_times S (awaited_then (awaited S (Before d) opened) (line_kind text)) T
+    → turn_times S (awaited S (AwaitMove d) opened) (Line c text n ∷ T)
+    ≡ taken (awaited S (AwaitMove d) opened) (line_kind text) n
+    ++ turn_times S (awaited_then (awaited S (AwaitMove d) opened) (line_kind text)) T
 before_line_times White White White opened text n T h = own_line White opened n T (is_move (line_kind text))
 before_line_times Black Black Black opened text n T h = own_line Black opened n T (is_move (line_kind text))
 before_line_times White Black Black opened text n T h = refl
@@ -207,11 +207,11 @@ line_times : (S c : Colour) (p : Phase) (opened : ℕ) (text : Option (List ℕ)
     ≡ true
     → turn_times S (awaited S p opened) (Line c text n ∷ T) ≡ taken (awaited S p opened) (line_kind text) n
     ++ turn_times S (awaited_then (awaited S p opened) (line_kind text)) T
-line_times S c (Before d) opened text n T h = before_line_times S c d opened text n T h
+line_times S c (AwaitMove d) opened text n T h = before_line_times S c d opened text n T h
 line_times S c (Hello d) opened text n T h = refl
 line_times S c (Setup d) opened text n T h = refl
-line_times S c (After d) opened text n T h = refl
-line_times S c (Opening d) opened text n T h = refl
+line_times S c (AwaitPong d) opened text n T h = refl
+line_times S c (SendTurn d) opened text n T h = refl
 line_times S c (Over x) opened text n T h = refl
 
 line_goes_on : (r : Rules) (S c : Colour) (text : Option (List ℕ)) (n : ℕ) (due : Colour → List SentLine) (m m' : Match)
@@ -254,11 +254,11 @@ stopped : (r : Rules) (S : Colour) (due : Colour → List SentLine) (o : Option 
 stopped r S due o m m' T w b off f = rw (over_stops r due m' T off f)
     ([], omega arith, ap (λ (l : List ℕ). l ++ []) (sym (used_same m m' w b S)), λ on. refl)
 
-opened_goes_on : (r : Rules) (S c : Colour) (n : ℕ) (m : Match) (T : List Event) → m.phase ≡ Opening c
-    → (let m' : Match = record m { phase = Before c; opened = n } in Ends r S m' T (seat m' S).used)
+opened_goes_on : (r : Rules) (S c : Colour) (n : ℕ) (m : Match) (T : List Event) → m.phase ≡ SendTurn c
+    → (let m' : Match = record m { phase = AwaitMove c; opened = n } in Ends r S m' T (seat m' S).used)
     → Ends r S m (Opened c n ∷ T) (seat m S).used
 opened_goes_on r S c n m T p e =
-    let m' : Match = record m { phase = Before c; opened = n } in
+    let m' : Match = record m { phase = AwaitMove c; opened = n } in
     rw p (
       e.0,
       e.1,

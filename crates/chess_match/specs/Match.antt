@@ -10,7 +10,7 @@ use Rattle.engine_lines.specs.Items.{Item, items_of, has_done, takes, plays_fisc
 use Rattle.engine_lines.specs.Levels.{left}
 use Rattle.chess_match.specs.Rules.{Rules, is_fischerandom}
 use Rattle.chess_match.specs.declared.phase.Phase.{Phase}
-use Rattle.chess_match.specs.declared.phase.Phase.TheVariants.{Hello, Setup, Opening, Before, After, Over}
+use Rattle.chess_match.specs.declared.phase.Phase.TheVariants.{Hello, Setup, SendTurn, AwaitMove, AwaitPong, Over}
 use Rattle.chess_match.specs.declared.reason.DrawClaim.{DrawClaim}
 use Rattle.chess_match.specs.declared.reason.MatchFault.{MatchFault}
 use Rattle.chess_match.specs.declared.reason.MatchFault.TheVariants.{Ended, Read, Write, NoDone, NoPing, NoSetboard, Flood, NoVariant}
@@ -89,7 +89,7 @@ enter phase m = record m { phase = phase; count = 0 }
 
 -- that side's turn: its opening has the last move
 abbrev pub open_turn : Colour → Match → Match
-open_turn S m = record m { phase = Opening S; count = 0; untold = None }
+open_turn S m = record m { phase = SendTurn S; count = 0; untold = None }
 
 -- the line counts as ignored, and the 10,000th is too many
 abbrev pub ignore : Colour → Match → Match
@@ -171,7 +171,7 @@ with_offer S offers m = with_seat m S (record (seat m S) { offers = offers })
 abbrev pub played_by : Colour → Move → ℕ → Match → Match
 played_by S move used m =
     let m' = with_offer (other S) false (charge S used m) in
-    record m' { phase = After S; played = m.played ++ move ∷ []; untold = Some (other S) }
+    record m' { phase = AwaitPong S; played = m.played ++ move ∷ []; untold = Some (other S) }
 
 -- a text that doesn't denote one legal move loses; a legal move is played, and the verdict after it, if there is one,
 -- ends the match
@@ -237,14 +237,14 @@ after_line r S kind m = either_way r S kind m
 abbrev pub after_kind : Rules → Phase → LineKind → ℕ → Match → Match
 after_kind r (Hello S) kind moment m = hello_line r S (items_heard kind) m
 after_kind r (Setup S) kind moment m = setup_line r S kind m
-after_kind r (Before S) kind moment m = before_line r S kind moment m
-after_kind r (After S) kind moment m = after_line r S kind m
+after_kind r (AwaitMove S) kind moment m = before_line r S kind moment m
+after_kind r (AwaitPong S) kind moment m = after_line r S kind m
 after_kind r _ kind moment m = m
 
 -- the match after an event
 abbrev pub after : Rules → Match → Event → Match
 after r m (Line S text moment) = after_kind r m.phase (line_kind text) moment m
-after r m (Opened S moment) = record m { phase = Before S; opened = moment }
+after r m (Opened S moment) = record m { phase = AwaitMove S; opened = moment }
 after r m (OutputEnds S) = over (over_by.Faulted S Ended) m
 after r m (FailsToRead S) = over (over_by.Faulted S Read) m
 after r m (FailsToWrite S) = over (over_by.Faulted S Write) m

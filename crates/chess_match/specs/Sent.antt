@@ -10,7 +10,7 @@ use Rattle.chess_match.specs.Match.{Match, Seat, seat, clock, ping_number}
 use Rattle.chess_match.specs.Reasons.{outcome_of, comment_of, fault_of}
 use Rattle.chess_match.specs.Rules.{Rules, is_fischerandom}
 use Rattle.chess_match.specs.declared.phase.Phase.{Phase}
-use Rattle.chess_match.specs.declared.phase.Phase.TheVariants.{Hello, Setup, Opening, Before, After, Over}
+use Rattle.chess_match.specs.declared.phase.Phase.TheVariants.{Hello, Setup, SendTurn, AwaitMove, AwaitPong, Over}
 use Rattle.chess_match.specs.declared.reason.MatchFault.{MatchFault}
 use Rattle.chess_match.specs.declared.reason.MatchFault.TheVariants.{Write}
 use Rattle.chess_match.specs.declared.reason.Reason.{Reason}
@@ -113,9 +113,9 @@ is_unwritten _ S = false
 abbrev pub entry_to : Rules → Match → Colour → Phase → List SentLine
 entry_to r m S (Hello c) = for c S (Says (codes "xboard") ∷ Says (codes "protover 2") ∷ [])
 entry_to r m S (Setup c) = for c S (setup_lines r)
-entry_to r m S (Opening c) = for c S (opening_lines r m S)
-entry_to r m S (Before c) = []
-entry_to r m S (After c) = for c S (ping (ping_number m S) ∷ [])
+entry_to r m S (SendTurn c) = for c S (opening_lines r m S)
+entry_to r m S (AwaitMove c) = []
+entry_to r m S (AwaitPong c) = for c S (ping (ping_number m S) ∷ [])
 entry_to r m S (Over reason) = if is_unwritten (fault_of reason) S then [] else end_lines r m S reason
 
 -- what S is sent where the match comes into the phase that it is in
@@ -128,8 +128,8 @@ entry r m S = entry_to r m S m.phase
 abbrev pub is_same_phase : Phase → Phase → Bool
 is_same_phase (Hello c) (Hello d) = same_colour c d
 is_same_phase (Setup c) (Setup d) = same_colour c d
-is_same_phase (Before c) (Before d) = same_colour c d
-is_same_phase (After c) (After d) = same_colour c d
+is_same_phase (AwaitMove c) (AwaitMove d) = same_colour c d
+is_same_phase (AwaitPong c) (AwaitPong d) = same_colour c d
 is_same_phase (Over c) d = true
 is_same_phase _ _ = false
 

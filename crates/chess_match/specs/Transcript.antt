@@ -9,7 +9,7 @@ use Rattle.chess_match.specs.Match.{Match, Event, Line, Opened, OutputEnds, Fail
 use Rattle.chess_match.specs.Rules.{Rules}
 use Rattle.chess_match.specs.Sent.{SentLine, block, entry, for}
 use Rattle.chess_match.specs.declared.phase.Phase.{Phase}
-use Rattle.chess_match.specs.declared.phase.Phase.TheVariants.{Hello, Setup, Opening, Before, After, Over}
+use Rattle.chess_match.specs.declared.phase.Phase.TheVariants.{Hello, Setup, SendTurn, AwaitMove, AwaitPong, Over}
 use Rattle.chess_match.specs.declared.reason.Reason.{Reason}
 use Rattle.std.specs.List.{flat_map, fold, list_any}
 
@@ -40,13 +40,13 @@ name_of r T S = cut_tag (told (codes "myname") (seat (match_of r T) S).items)
 abbrev pub reads : Phase → Colour → Bool
 reads (Hello c) S = same_colour c S
 reads (Setup c) S = same_colour c S
-reads (Before c) S = same_colour c S
-reads (After c) S = same_colour c S
+reads (AwaitMove c) S = same_colour c S
+reads (AwaitPong c) S = same_colour c S
 reads _ S = false
 
 -- that side's turn opens in this phase
 abbrev pub opens : Phase → Colour → Bool
-opens (Opening c) S = same_colour c S
+opens (SendTurn c) S = same_colour c S
 opens _ S = false
 
 -- a match in this phase isn't over

@@ -230,9 +230,9 @@ fn awaited_in(phase: Phase) -> Awaited
     match phase {
         Phase::Hello(side) => Awaited::Line(side),
         Phase::Setup(side) => Awaited::Line(side),
-        Phase::Before(side) => Awaited::Line(side),
-        Phase::After(side) => Awaited::Line(side),
-        Phase::Opening(side) => Awaited::Moment(side),
+        Phase::AwaitMove(side) => Awaited::Line(side),
+        Phase::AwaitPong(side) => Awaited::Line(side),
+        Phase::SendTurn(side) => Awaited::Moment(side),
         Phase::Over(reason) => Awaited::Nothing(reason),
     }
 }

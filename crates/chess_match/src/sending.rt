@@ -247,13 +247,13 @@ fn add_entry<G: MatchGame, S: Board>(
                 add_setup(block, core, game);
             }
         }
-        Phase::Opening(on) => {
+        Phase::SendTurn(on) => {
             if is_side(on, side) {
                 add_opening(block, core, game, scratch, side);
             }
         }
-        Phase::Before(_) => {}
-        Phase::After(on) => {
+        Phase::AwaitMove(_) => {}
+        Phase::AwaitPong(on) => {
             if is_side(on, side) {
                 add_ping(block, core.clocks.moves(side) + 1);
             }

@@ -14,7 +14,7 @@ use Rattle.chess_match.specs.Match.{Match, Seat, items_heard}
 use Rattle.chess_match.specs.Rules.{Rules}
 use Rattle.chess_match.specs.Sent.{SentLine, Says, answers_to, entry, block}
 use Rattle.chess_match.specs.declared.phase.Phase.{Phase}
-use Rattle.chess_match.specs.declared.phase.Phase.TheVariants.{Hello, After}
+use Rattle.chess_match.specs.declared.phase.Phase.TheVariants.{Hello, AwaitPong}
 use Rattle.chess_match.specs.declared.state.Player.{Player}
 use Rattle.chess_match.specs.declared.state.Actions.{Actions}
 use Rattle.chess_match.specs.declared.state.MatchState.{MatchState}
@@ -89,13 +89,13 @@ offered_core core Black =
 -- the core once S's move is played
 abbrev pub played_core : MatchState → Colour → ℕ → MatchState
 played_core core White used = record core {
-  phase = After White;
+  phase = AwaitPong White;
   untold = Some Black;
   clocks = charged core.clocks White used;
   black = record { features = core.black.features; name = core.black.name; offers = false };
 }
 played_core core Black used = record core {
-  phase = After Black;
+  phase = AwaitPong Black;
   untold = Some White;
   clocks = charged core.clocks Black used;
   white = record { features = core.white.features; name = core.white.name; offers = false };

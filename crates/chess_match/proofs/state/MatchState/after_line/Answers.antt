@@ -5,7 +5,7 @@ use Rattle.std.specs.Prelude.{◌==◌}
 use Rattle.chess_match.specs.Match.{seat, ping_number, after_line}
 use Rattle.chess_match.specs.Sent.{is_same_phase}
 use Rattle.chess_match.specs.Transcript.{reads, is_on}
-use Rattle.chess_match.specs.declared.phase.Phase.TheVariants.{Opening}
+use Rattle.chess_match.specs.declared.phase.Phase.TheVariants.{SendTurn}
 use Rattle.chess_match.proofs.Going.{clocks_moves}
 use Rattle.chess_match.proofs.state.MatchState.after_line.Goals as goal
 use Rattle.chess_base.proofs.MenFacts.{same_colour-self}
@@ -23,7 +23,7 @@ returns-then-number-moves g c r m p at s =
     ∙ clocks_moves r _ _ m s c.args.side in
     let answered : (c.in-Pong.number == ping_number m c.args.side) ≡ true =
     eq-eqb c.in-Pong.number _ (omega (arith, moved)) in
-    let differs : is_same_phase m.phase (Opening c.other.result) ≡ false = rw at refl in
+    let differs : is_same_phase m.phase (SendTurn c.other.result) ≡ false = rw at refl in
     rw (c.in-Pong.is, answered, ← c.other.ensures) (c.open_turn.ensures r _ m differs s)
 
 pub returns-else-number-moves : goal.returns-else-number-moves

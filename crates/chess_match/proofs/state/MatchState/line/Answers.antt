@@ -2,7 +2,7 @@
 -- (Going.goes_in); in an opening or at the end no line is read.
 use Rattle.std.proofs.Common.{◌≡◌, true, false, ap, sym, ◌∙◌}
 use Rattle.engine_lines.specs.Seen.{seen}
-use Rattle.chess_match.specs.declared.phase.Phase.TheVariants.{Hello, Setup, Opening, Before, After, Over}
+use Rattle.chess_match.specs.declared.phase.Phase.TheVariants.{Hello, Setup, SendTurn, AwaitMove, AwaitPong, Over}
 use Rattle.chess_match.specs.Transcript.{reads}
 use Rattle.chess_match.specs.declared.phase.Phase.{Phase}
 use Rattle.chess_match.specs.ties.Stands.{items_in}
@@ -23,21 +23,21 @@ returns-in-Setup-clause-goes g c r m side text p h k s =
     rw k (goes_in r _ _ _ _ side (seen c.args.line) c.args.moment m
     (Setup c.in-Setup.side) at (nothing_to side) (c.setup_line.ensures r m p at s))
 
-pub returns-in-After-clause-goes : goal.returns-in-After-clause-goes
-returns-in-After-clause-goes g c r m side text p h k s =
-    let at : m.phase ≡ After c.in-After.side = sym s.phase ∙ c.in-After.is in
+pub returns-in-AwaitPong-clause-goes : goal.returns-in-AwaitPong-clause-goes
+returns-in-AwaitPong-clause-goes g c r m side text p h k s =
+    let at : m.phase ≡ AwaitPong c.in-AwaitPong.side = sym s.phase ∙ c.in-AwaitPong.is in
     rw k (goes_in r _ _ _ _ side (seen c.args.line) c.args.moment m
-    (After c.in-After.side) at (nothing_to side) (c.after_line.ensures r m p at s))
+    (AwaitPong c.in-AwaitPong.side) at (nothing_to side) (c.after_line.ensures r m p at s))
 
-pub returns-in-Before-clause-goes : goal.returns-in-Before-clause-goes
-returns-in-Before-clause-goes g c r m side text p h k s =
-    let at : m.phase ≡ Before c.in-Before.side = sym s.phase ∙ c.in-Before.is in
+pub returns-in-AwaitMove-clause-goes : goal.returns-in-AwaitMove-clause-goes
+returns-in-AwaitMove-clause-goes g c r m side text p h k s =
+    let at : m.phase ≡ AwaitMove c.in-AwaitMove.side = sym s.phase ∙ c.in-AwaitMove.is in
     rw k (goes_in r _ _ _ _ side (seen c.args.line) c.args.moment m
-    (Before c.in-Before.side) at (nothing_to side) (c.before_line.ensures.goes r m p at s))
+    (AwaitMove c.in-AwaitMove.side) at (nothing_to side) (c.before_line.ensures.goes r m p at s))
 
-pub returns-in-Opening-clause-goes : goal.returns-in-Opening-clause-goes
-returns-in-Opening-clause-goes g c r m side text p h k s =
-    let at : m.phase ≡ Opening c.in-Opening.field-0 = sym s.phase ∙ c.in-Opening.is in
+pub returns-in-SendTurn-clause-goes : goal.returns-in-SendTurn-clause-goes
+returns-in-SendTurn-clause-goes g c r m side text p h k s =
+    let at : m.phase ≡ SendTurn c.in-SendTurn.field-0 = sym s.phase ∙ c.in-SendTurn.is in
     let no : false ≡ true = rw at at h in
     cc
 
@@ -51,17 +51,17 @@ pub returns-in-Setup-clause-answers : goal.returns-in-Setup-clause-answers
 returns-in-Setup-clause-answers g c = no_answers_of _ (items_in c.args.self.now.phase (seen c.args.line)) c.requires.empty
     (ap (λ (p : Phase). items_in p (seen c.args.line)) c.in-Setup.is)
 
-pub returns-in-Before-clause-answers : goal.returns-in-Before-clause-answers
-returns-in-Before-clause-answers g c = no_answers_of _ (items_in c.args.self.now.phase (seen c.args.line)) c.requires.empty
-    (ap (λ (p : Phase). items_in p (seen c.args.line)) c.in-Before.is)
+pub returns-in-AwaitMove-clause-answers : goal.returns-in-AwaitMove-clause-answers
+returns-in-AwaitMove-clause-answers g c = no_answers_of _ (items_in c.args.self.now.phase (seen c.args.line)) c.requires.empty
+    (ap (λ (p : Phase). items_in p (seen c.args.line)) c.in-AwaitMove.is)
 
-pub returns-in-After-clause-answers : goal.returns-in-After-clause-answers
-returns-in-After-clause-answers g c = no_answers_of _ (items_in c.args.self.now.phase (seen c.args.line)) c.requires.empty
-    (ap (λ (p : Phase). items_in p (seen c.args.line)) c.in-After.is)
+pub returns-in-AwaitPong-clause-answers : goal.returns-in-AwaitPong-clause-answers
+returns-in-AwaitPong-clause-answers g c = no_answers_of _ (items_in c.args.self.now.phase (seen c.args.line)) c.requires.empty
+    (ap (λ (p : Phase). items_in p (seen c.args.line)) c.in-AwaitPong.is)
 
-pub returns-in-Opening-clause-answers : goal.returns-in-Opening-clause-answers
-returns-in-Opening-clause-answers g c = no_answers_of _ (items_in c.args.self.now.phase (seen c.args.line)) c.requires.empty
-    (ap (λ (p : Phase). items_in p (seen c.args.line)) c.in-Opening.is)
+pub returns-in-SendTurn-clause-answers : goal.returns-in-SendTurn-clause-answers
+returns-in-SendTurn-clause-answers g c = no_answers_of _ (items_in c.args.self.now.phase (seen c.args.line)) c.requires.empty
+    (ap (λ (p : Phase). items_in p (seen c.args.line)) c.in-SendTurn.is)
 
 pub returns-in-Over-clause-answers : goal.returns-in-Over-clause-answers
 returns-in-Over-clause-answers g c = no_answers_of _ (items_in c.args.self.now.phase (seen c.args.line)) c.requires.empty

@@ -4,7 +4,7 @@ use Rattle.std.proofs.Common.{◌≡◌, [], ◌∷◌, ◌++◌, true, false, r
 use Rattle.std.specs.Prelude.{nat_le}
 use Rattle.chess_match.specs.Sent.{is_same_phase}
 use Rattle.chess_match.specs.Transcript.{is_on}
-use Rattle.chess_match.specs.declared.phase.Phase.TheVariants.{After}
+use Rattle.chess_match.specs.declared.phase.Phase.TheVariants.{AwaitPong}
 use Rattle.chess_match.proofs.Going.{played_goes, played_over_goes}
 use Rattle.chess_match.proofs.state.MatchState.move_line.Goals as goal
 
@@ -37,7 +37,7 @@ returns-in-Some-verdict-clause-goes g c r m moment p at u s =
 
 pub returns-in-None-verdict-clause-goes : goal.returns-in-None-verdict-clause-goes
 returns-in-None-verdict-clause-goes g c r m moment p at u s =
-    let differs : is_same_phase m.phase (After c.args.side) ≡ false = rw at refl in
+    let differs : is_same_phase m.phase (AwaitPong c.args.side) ≡ false = rw at refl in
     let full : nat_le r.limit (length m.played) ≡ false = rw (← s.moves) (sym (c.if-is_full.ensures.value r p)) in
     let says : r.reading m.played c.args.text.now ≡ Some c.in-Some.chosen =
     rw (← s.moves) (sym (c.in-Some.ensures r p)) in

@@ -11,7 +11,7 @@ use Rattle.chess_match.specs.ties.Stands.{Goes, nothing_said}
 use Rattle.chess_match.specs.Transcript.{is_on}
 use Rattle.chess_match.specs.declared.state.MatchState.{MatchState}
 use Rattle.chess_match.specs.declared.state.Actions.{Actions}
-use Rattle.chess_match.specs.declared.phase.Phase.TheVariants.{Setup, Opening}
+use Rattle.chess_match.specs.declared.phase.Phase.TheVariants.{Setup, SendTurn}
 use Rattle.chess_match.proofs.state.MatchState.ready.Goals as goal
 
 first_goes : (r : Rules) (core : MatchState) (played : List Move) (given : Actions) (m : Match) (x y : Colour) → x ≡ y
@@ -32,7 +32,7 @@ returns-in-Some g c r m p at s =
 
 pub returns-in-None : goal.returns-in-None
 returns-in-None g c r m p at s =
-    let differs : is_same_phase m.phase (Opening c.first.result) ≡ false = rw at refl in
+    let differs : is_same_phase m.phase (SendTurn c.first.result) ≡ false = rw at refl in
     let says : r.verdict m.played ≡ None = rw (← s.moves) (sym (c.in-None.ensures r p)) in
     let goes = c.open_turn.ensures r _ m differs s in
     rw (c.in-Black.is, says) (first_goes r _ _ _ m _ _ (c.first.ensures r p) goes)
