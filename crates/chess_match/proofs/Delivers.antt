@@ -16,7 +16,7 @@ use Rattle.chess_match.specs.Rules.{Rules}
 use Rattle.chess_match.specs.Sent.{SentLine, answers_to, block, bytes_of}
 use Rattle.chess_match.specs.ties.Stands.{Stands, Goes, clocks_of, items_to, nothing_said}
 use Rattle.chess_match.specs.ties.Steps.{IsSane, in_turn}
-use Rattle.chess_match.specs.ties.Told.{SendsIf}
+use Rattle.chess_match.specs.ties.Reported.{SendsIf}
 use Rattle.chess_match.specs.Run.{Asked, text_heard}
 use Rattle.chess_match.specs.Transcript.{is_on, reads, moment_in}
 use Rattle.chess_match.specs.declared.state.MatchState.{MatchState}
@@ -27,9 +27,9 @@ use Rattle.chess_match.proofs.Runs.{asked_none}
 
 -- where the last move is still to be sent, there is one
 pub last_told : (r : Rules) (core : MatchState) (played : List Move) (m : Match) → Stands r core played m
-    → (is_some m.untold ≡ true → 0 < length m.played) → is_some core.untold ≡ true → 0 < length played
+    → (is_some m.unsent_to ≡ true → 0 < length m.played) → is_some core.unsent_to ≡ true → 0 < length played
 last_told r core played m s some h = subst (λ (ms : List Move). 0 < length ms) (sym s.moves)
-    (some (ap (λ (o : Option Colour). is_some o) (sym s.untold) ∙ h))
+    (some (ap (λ (o : Option Colour). is_some o) (sym s.unsent_to) ∙ h))
 
 pub on_too : (r : Rules) (core : MatchState) (played : List Move) (m : Match) → Stands r core played m
     → is_on core.phase ≡ true → is_on m.phase ≡ true

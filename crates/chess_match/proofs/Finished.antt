@@ -19,7 +19,7 @@ use Rattle.chess_match.specs.Notes.{Noted}
 use Rattle.chess_match.specs.Rules.{Rules, rules_of}
 use Rattle.chess_match.specs.Run.{Ports, reader_at, writer_at, Heard, Written, game_after, RanBefore}
 use Rattle.chess_match.specs.ties.Stands.{name_by}
-use Rattle.chess_match.specs.ties.Told.{IsTold}
+use Rattle.chess_match.specs.ties.Reported.{IsReported}
 use Rattle.chess_match.specs.Transcript.{match_of, ending_in, name_of, blocks}
 use Rattle.chess_match.proofs.UnderWay.{IsUnderWay}
 use Rattle.chess_match.specs.declared.phase.Phase.TheVariants.{Over}
@@ -71,7 +71,7 @@ pub ran : (g h h' : game.Seen) (start : Setup) (level : LevelSeen) (T : List Eve
     (coming coming' : ℕ → Option ℕ) (notes notes' : Noted)
     → IsUnderWay (rules_of start level g.limit) T core h.state.moves (by_side failed.white failed.black) (by_side nw nb)
     (by_side nw' nb') held (by_side ow ob) (by_side ow' ob') coming coming' notes notes'
-    → core.phase ≡ Over reason → IsTold reason failed end → end.white_name ≡ core.white.name
+    → core.phase ≡ Over reason → IsReported reason failed end → end.white_name ≡ core.white.name
     → end.black_name ≡ core.black.name
     → h.state.start ≡ start → h.limit ≡ g.limit
     → h' ≡ game.at h (with_declared h.state (declared_at (verdict_now h.state) reason))

@@ -4,7 +4,7 @@ use Rattle.std.specs.Result.{is_err}
 use Rattle.byte_devices.specs.Devices.{OutputState, TookThenFailed, Sends, raised, risen}
 use Rattle.byte_devices.proofs.DeviceLaws.{appends_more, appends_none}
 use Rattle.chess_match.specs.Run.{Flushed, FlushedThenFailed}
-use Rattle.chess_match.specs.ties.Told.{SendsIf}
+use Rattle.chess_match.specs.ties.Reported.{SendsIf}
 
 pub flushed_none : (o : OutputState) → Flushed o o []
 flushed_none o = record { bytes = appends_none o.known_bytes; failures = refl; unflushed = λ e. e }

@@ -12,11 +12,11 @@ use Rattle.chess_base.specs.Men.{other, same_colour}
 use Rattle.chess_game.specs.declared.ends.Verdict.{Verdict}
 use Rattle.engine_lines.specs.EngineLines.{LineKind, line_kind}
 use Rattle.engine_lines.specs.Items.{Item, takes}
-use Rattle.chess_match.specs.laws.Laws.{move_told, moves_told, texts_from, move_texts, owed_to, MovesAreTold, AllMovesAreTold, sent}
+use Rattle.chess_match.specs.laws.Laws.{move_sent, moves_sent, texts_from, move_texts, owed_to, MovesAreSent, AllMovesAreSent, sent}
 use Rattle.chess_match.specs.Match.{Match, Event, Line, Opened, OutputEnds, FailsToRead, FailsToWrite, items_heard, seat, hear, start, over, enter, open_turn, played_by, after, clock, ping_number}
 use Rattle.chess_match.specs.Reasons.{fault_of}
 use Rattle.chess_match.specs.Rules.{Rules}
-use Rattle.chess_match.specs.Sent.{SentLine, Says, Time, Otim, block, entry, entry_to, is_same_phase, is_unwritten, setup_lines, variant_lines, start_lines, opening_lines, last_move, last_move_lines, clock_lines, end_lines, untold_lines, ping}
+use Rattle.chess_match.specs.Sent.{SentLine, Says, Time, Otim, block, entry, entry_to, is_same_phase, is_unwritten, setup_lines, variant_lines, start_lines, opening_lines, last_move, last_move_lines, clock_lines, end_lines, unsent_lines, ping}
 use Rattle.chess_match.specs.Transcript.{is_on, reads, ending_in, match_of, match_from, fits, fits_next, fits_from, is_dropped, fails_at, blocks_from, joined_blocks, has_write_failure}
 use Rattle.chess_base.specs.declared.man.Variant.{Variant}
 use Rattle.chess_base.specs.declared.man.Variant.TheVariants.{Normal, Fischerandom}
@@ -62,19 +62,19 @@ texts-snoc r as_san S c before (x ∷ ms) m =
 -- no move is played before the first turn; a turn is of the side on move, which was sent the last move in its opening,
 -- and whose move is still to be sent to the other once it has moved
 abbrev pub OrderlyIn : Colour → Phase → List Move → Option Colour → Type 0
-OrderlyIn first (Hello c) played untold = (played ≡ []) × (untold ≡ None)
-OrderlyIn first (Setup c) played untold = (played ≡ []) × (untold ≡ None)
-OrderlyIn first (SendTurn c) played untold = (mover first played ≡ c) × (untold ≡ None)
-OrderlyIn first (AwaitMove c) played untold = (mover first played ≡ c) × (untold ≡ None)
-OrderlyIn first (AwaitPong c) played untold = (mover first played ≡ other c) × (untold ≡ Some (other c))
+OrderlyIn first (Hello c) played unsent_to = (played ≡ []) × (unsent_to ≡ None)
+OrderlyIn first (Setup c) played unsent_to = (played ≡ []) × (unsent_to ≡ None)
+OrderlyIn first (SendTurn c) played unsent_to = (mover first played ≡ c) × (unsent_to ≡ None)
+OrderlyIn first (AwaitMove c) played unsent_to = (mover first played ≡ c) × (unsent_to ≡ None)
+OrderlyIn first (AwaitPong c) played unsent_to = (mover first played ≡ other c) × (unsent_to ≡ Some (other c))
     × (0 < length played)
-OrderlyIn first (Over reason) played untold = Unit {0}
+OrderlyIn first (Over reason) played unsent_to = Unit {0}
 
 abbrev pub Orderly : Rules → Match → Type 0
-Orderly r m = OrderlyIn r.first m.phase m.played m.untold
+Orderly r m = OrderlyIn r.first m.phase m.played m.unsent_to
 
-pub orderly_in : (r : Rules) (m : Match) (p : Phase) → m.phase ≡ p → Orderly r m → OrderlyIn r.first p m.played m.untold
-orderly_in r m p e o = subst (λ (q : Phase). OrderlyIn r.first q m.played m.untold) e o
+pub orderly_in : (r : Rules) (m : Match) (p : Phase) → m.phase ≡ p → Orderly r m → OrderlyIn r.first p m.played m.unsent_to
+orderly_in r m p e o = subst (λ (q : Phase). OrderlyIn r.first q m.played m.unsent_to) e o
 
 -- ---- what a phase says of moves
 
@@ -86,7 +86,7 @@ untold_by r O items ms None = []
 untold_by r O items ms (Some c) = if same_colour c O then r.move_text (takes (codes "san") items) ms ∷ [] else []
 
 abbrev untold_text : Rules → Match → Colour → Option Colour → List (List ℕ)
-untold_text r m O untold = untold_by r O (seat m O).items m.played untold
+untold_text r m O unsent_to = untold_by r O (seat m O).items m.played unsent_to
 
 abbrev entry_moves : Rules → Match → Colour → Phase → List (List ℕ)
 entry_moves r m O (Hello c) = []
@@ -95,14 +95,14 @@ entry_moves r m O (SendTurn c) = if same_colour c O then (if nat_lt 0 (length m.
     else []
 entry_moves r m O (AwaitMove c) = []
 entry_moves r m O (AwaitPong c) = []
-entry_moves r m O (Over reason) = if is_unwritten (fault_of reason) O then [] else untold_text r m O m.untold
+entry_moves r m O (Over reason) = if is_unwritten (fault_of reason) O then [] else untold_text r m O m.unsent_to
 
-setup_moves : (r : Rules) → moves_told (setup_lines r) ≡ []
+setup_moves : (r : Rules) → moves_sent (setup_lines r) ≡ []
 unfolding setup_lines
 setup_moves r = at r.variant r.start_fen
   where
     at : (v : Variant) (fen : Option (List ℕ))
-        → flat_map move_told (variant_lines v ++ (Says (codes "level "
+        → flat_map move_sent (variant_lines v ++ (Says (codes "level "
         ++ level_text r.level) ∷ Says (codes "nopost") ∷ Says (codes "easy") ∷ Says (codes "force")
         ∷ (start_lines fen ++ ping 1 ∷ []))) ≡ []
     at Normal None = refl
@@ -110,90 +110,90 @@ setup_moves r = at r.variant r.start_fen
     at Fischerandom None = refl
     at Fischerandom (Some fen) = refl
 
-clock_moves : (r : Rules) (m : Match) (O : Colour) → moves_told (clock_lines r m O) ≡ []
+clock_moves : (r : Rules) (m : Match) (O : Colour) → moves_sent (clock_lines r m O) ≡ []
 unfolding clock_lines
 clock_moves r m O = at (takes (codes "time") (seat m O).items)
   where
-    at : (b : Bool) → flat_map move_told (if b then Time (clock r m O / 10) ∷ Otim (clock r m (other O) / 10) ∷ []
+    at : (b : Bool) → flat_map move_sent (if b then Time (clock r m O / 10) ∷ Otim (clock r m (other O) / 10) ∷ []
         else []) ≡ []
     at true = refl
     at false = refl
 
-last_moves : (r : Rules) (m : Match) (O : Colour) → moves_told (last_move_lines r m O)
+last_moves : (r : Rules) (m : Match) (O : Colour) → moves_sent (last_move_lines r m O)
     ≡ (if nat_lt 0 (length m.played) then last_text r m O else [])
 unfolding last_move
 last_moves r m O = at (nat_lt 0 (length m.played))
   where
-    at : (b : Bool) → flat_map move_told (if b then last_move r m O ∷ [] else []) ≡ (if b then last_text r m O else [])
+    at : (b : Bool) → flat_map move_sent (if b then last_move r m O ∷ [] else []) ≡ (if b then last_text r m O else [])
     at true = refl
     at false = refl
 
-opening_moves : (r : Rules) (m : Match) (O : Colour) → moves_told (opening_lines r m O)
+opening_moves : (r : Rules) (m : Match) (O : Colour) → moves_sent (opening_lines r m O)
     ≡ (if nat_lt 0 (length m.played) then last_text r m O else [])
 unfolding opening_lines
 opening_moves r m O = at (nat_lt 0 (length (seat m O).used))
   where
-    at : (b : Bool) → flat_map move_told (if b then clock_lines r m O
+    at : (b : Bool) → flat_map move_sent (if b then clock_lines r m O
         ++ last_move_lines r m O else last_move_lines r m O ++ (clock_lines r m O ++ Says (codes "go") ∷ []))
         ≡ (if nat_lt 0 (length m.played) then last_text r m O else [])
-    at true = rw (flat_map-append move_told (clock_lines r m O) (last_move_lines r m O), clock_moves r m O)
+    at true = rw (flat_map-append move_sent (clock_lines r m O) (last_move_lines r m O), clock_moves r m O)
         (last_moves r m O)
     at false = rw (
-      flat_map-append move_told (last_move_lines r m O) (clock_lines r m O ++ Says (codes "go") ∷ []),
-      flat_map-append move_told (clock_lines r m O) (Says (codes "go") ∷ []),
+      flat_map-append move_sent (last_move_lines r m O) (clock_lines r m O ++ Says (codes "go") ∷ []),
+      flat_map-append move_sent (clock_lines r m O) (Says (codes "go") ∷ []),
       clock_moves r m O,
-      append-nil (flat_map move_told (last_move_lines r m O)),
+      append-nil (flat_map move_sent (last_move_lines r m O)),
     ) (last_moves r m O)
 
-untold_moves : (r : Rules) (m : Match) (O : Colour) (untold : Option Colour) → moves_told (untold_lines r m O untold)
-    ≡ untold_text r m O untold
+untold_moves : (r : Rules) (m : Match) (O : Colour) (unsent_to : Option Colour) → moves_sent (unsent_lines r m O unsent_to)
+    ≡ untold_text r m O unsent_to
 unfolding last_move
 untold_moves r m O None = refl
 untold_moves r m O (Some c) = at (same_colour c O)
   where
-    at : (b : Bool) → flat_map move_told (if b then last_move r m O ∷ [] else []) ≡ (if b then last_text r m O else [])
+    at : (b : Bool) → flat_map move_sent (if b then last_move r m O ∷ [] else []) ≡ (if b then last_text r m O else [])
     at true = refl
     at false = refl
 
-end_moves : (r : Rules) (m : Match) (O : Colour) (reason : Reason) → moves_told (end_lines r m O reason)
-    ≡ untold_text r m O m.untold
+end_moves : (r : Rules) (m : Match) (O : Colour) (reason : Reason) → moves_sent (end_lines r m O reason)
+    ≡ untold_text r m O m.unsent_to
 unfolding end_lines
-end_moves r m O reason = flat_map-append move_told (untold_lines r m O m.untold) _
-    ∙ append-nil (flat_map move_told (untold_lines r m O m.untold)) ∙ untold_moves r m O m.untold
+end_moves r m O reason = flat_map-append move_sent (unsent_lines r m O m.unsent_to) _
+    ∙ append-nil (flat_map move_sent (unsent_lines r m O m.unsent_to)) ∙ untold_moves r m O m.unsent_to
 
-entry_told : (r : Rules) (m : Match) (O : Colour) (p : Phase) → moves_told (entry_to r m O p) ≡ entry_moves r m O p
+entry_told : (r : Rules) (m : Match) (O : Colour) (p : Phase) → moves_sent (entry_to r m O p) ≡ entry_moves r m O p
 entry_told r m O (Hello c) = at (same_colour c O)
   where
-    at : (b : Bool) → flat_map move_told (if b then Says (codes "xboard") ∷ Says (codes "protover 2") ∷ [] else []) ≡ []
+    at : (b : Bool) → flat_map move_sent (if b then Says (codes "xboard") ∷ Says (codes "protover 2") ∷ [] else []) ≡ []
     at true = refl
     at false = refl
 entry_told r m O (Setup c) = at (same_colour c O)
   where
-    at : (b : Bool) → flat_map move_told (if b then setup_lines r else []) ≡ []
+    at : (b : Bool) → flat_map move_sent (if b then setup_lines r else []) ≡ []
     at true = setup_moves r
     at false = refl
 entry_told r m O (SendTurn c) = at (same_colour c O)
   where
-    at : (b : Bool) → flat_map move_told (if b then opening_lines r m O else [])
+    at : (b : Bool) → flat_map move_sent (if b then opening_lines r m O else [])
         ≡ (if b then (if nat_lt 0 (length m.played) then last_text r m O else []) else [])
     at true = opening_moves r m O
     at false = refl
 entry_told r m O (AwaitMove c) = refl
 entry_told r m O (AwaitPong c) = at (same_colour c O)
   where
-    at : (b : Bool) → flat_map move_told (if b then ping (ping_number m O) ∷ [] else []) ≡ []
+    at : (b : Bool) → flat_map move_sent (if b then ping (ping_number m O) ∷ [] else []) ≡ []
     at true = refl
     at false = refl
 entry_told r m O (Over reason) = at (is_unwritten (fault_of reason) O)
   where
-    at : (b : Bool) → flat_map move_told (if b then [] else end_lines r m O reason)
-        ≡ (if b then [] else untold_text r m O m.untold)
+    at : (b : Bool) → flat_map move_sent (if b then [] else end_lines r m O reason)
+        ≡ (if b then [] else untold_text r m O m.unsent_to)
     at true = refl
     at false = end_moves r m O reason
 
-told_block : (r : Rules) (m m' : Match) (O : Colour) → moves_told (block r m m' O)
+told_block : (r : Rules) (m m' : Match) (O : Colour) → moves_sent (block r m m' O)
     ≡ (if is_same_phase m.phase m'.phase then [] else entry_moves r m' O m'.phase)
-told_block r m m' O = of_block move_told (λ text. refl) r m m' O
+told_block r m m' O = of_block move_sent (λ text. refl) r m m' O
     ∙ ap (λ (l : List (List ℕ)). if is_same_phase m.phase m'.phase then [] else l) (entry_told r m' O m'.phase)
 
 -- ---- one event
@@ -205,10 +205,10 @@ all_texts r m O = move_texts r m O (other O)
 -- moves
 abbrev Told : Rules → List (List ℕ) → Colour → Bool → Phase → Match → Type 0
 Told r X O failed p m' = (X ++ (if is_same_phase p m'.phase then [] else entry_moves r m' O m'.phase))
-    ++ owed_to r m' O m'.untold failed ≡ all_texts r m' O
+    ++ owed_to r m' O m'.unsent_to failed ≡ all_texts r m' O
 
-owed_on : (r : Rules) (m : Match) (O : Colour) (untold : Option Colour) (failed : Bool) → is_on m.phase ≡ true
-    → owed_to r m O untold failed ≡ untold_text r m O untold
+owed_on : (r : Rules) (m : Match) (O : Colour) (unsent_to : Option Colour) (failed : Bool) → is_on m.phase ≡ true
+    → owed_to r m O unsent_to failed ≡ untold_text r m O unsent_to
 owed_on r m O None failed on = refl
 owed_on r m O (Some c) failed on = rw on (at (same_colour c O))
   where
@@ -219,25 +219,25 @@ owed_on r m O (Some c) failed on = rw on (at (same_colour c O))
 -- the match stays in its phase
 stays_told : (r : Rules) (X : List (List ℕ)) (O : Colour) (p : Phase) (m' : Match) → is_same_phase p m'.phase ≡ true
     → is_on m'.phase ≡ true
-    → X ++ untold_text r m' O m'.untold ≡ all_texts r m' O → Told r X O false p m'
-stays_told r X O p m' same on h = rw (same, append-nil X, owed_on r m' O m'.untold false on) h
+    → X ++ untold_text r m' O m'.unsent_to ≡ all_texts r m' O → Told r X O false p m'
+stays_told r X O p m' same on h = rw (same, append-nil X, owed_on r m' O m'.unsent_to false on) h
 
 -- nothing is sent on the way into this phase
 quiet_told : (r : Rules) (X : List (List ℕ)) (O : Colour) (p : Phase) (m' : Match) → entry_moves r m' O m'.phase ≡ []
     → is_on m'.phase ≡ true
-    → X ++ untold_text r m' O m'.untold ≡ all_texts r m' O → Told r X O false p m'
+    → X ++ untold_text r m' O m'.unsent_to ≡ all_texts r m' O → Told r X O false p m'
 quiet_told r X O p m' none on h = rw (
   if_nil (is_same_phase p m'.phase) (entry_moves r m' O m'.phase) none,
   append-nil
       X,
-  owed_on r m' O m'.untold false on,
+  owed_on r m' O m'.unsent_to false on,
 ) h
 
 -- what is owed is sent where the match is over, unless a write failed
 ended_told : (r : Rules) (X A : List (List ℕ)) (O : Colour) (failed : Bool) (reason : Reason) (m : Match)
-    (untold : Option Colour) → X ++ untold_text r (over reason m) O untold ≡ A
-    → (X ++ (if failed then [] else untold_text r (over reason m) O untold))
-    ++ owed_to r (over reason m) O untold failed ≡ A
+    (unsent_to : Option Colour) → X ++ untold_text r (over reason m) O unsent_to ≡ A
+    → (X ++ (if failed then [] else untold_text r (over reason m) O unsent_to))
+    ++ owed_to r (over reason m) O unsent_to failed ≡ A
 ended_told r X A O true reason m None h = append-nil (X ++ []) ∙ h
 ended_told r X A O false reason m None h = append-nil (X ++ []) ∙ h
 ended_told r X A O failed reason m (Some c) h = at (same_colour c O) failed h
@@ -255,37 +255,37 @@ ended_told r X A O failed reason m (Some c) h = at (same_colour c O) failed h
 
 over_told : (r : Rules) (X : List (List ℕ)) (O : Colour) (failed : Bool) (p : Phase) (reason : Reason) (m : Match)
     → is_same_phase p (Over reason) ≡ false
-    → is_unwritten (fault_of reason) O ≡ failed → X ++ untold_text r (over reason m) O m.untold
+    → is_unwritten (fault_of reason) O ≡ failed → X ++ untold_text r (over reason m) O m.unsent_to
     ≡ all_texts r (over reason m) O → Told r X O failed p (over reason m)
 over_told r X O failed p reason m out u h =
-    rw (out, u) (ended_told r X (all_texts r (over reason m) O) O failed reason m m.untold h)
+    rw (out, u) (ended_told r X (all_texts r (over reason m) O) O failed reason m m.unsent_to h)
 
 -- ---- what was sent before is carried on
 
 abbrev SofarBy : Rules → List (List ℕ) → Colour → List Item → List Move → Option Colour → Type 0
-SofarBy r X O items ms untold = X ++ untold_by r O items ms untold
+SofarBy r X O items ms unsent_to = X ++ untold_by r O items ms unsent_to
     ≡ texts_from r (takes (codes "san") items) (other O) r.first [] ms
 
 abbrev Sofar : Rules → List (List ℕ) → Colour → Match → Type 0
-Sofar r X O m = SofarBy r X O (seat m O).items m.played m.untold
+Sofar r X O m = SofarBy r X O (seat m O).items m.played m.unsent_to
 
-carried : (r : Rules) (X : List (List ℕ)) (O : Colour) (m m' : Match) → m'.played ≡ m.played → m'.untold ≡ m.untold
+carried : (r : Rules) (X : List (List ℕ)) (O : Colour) (m m' : Match) → m'.played ≡ m.played → m'.unsent_to ≡ m.unsent_to
     → m'.white.items ≡ m.white.items → m'.black.items ≡ m.black.items
     → Sofar r X O m → Sofar r X O m'
 carried r X O m m' p u w b h =
     rw (p, u, items_same m m' w b O) h
 
 -- nothing is sent, and nothing was, where no move is current
-fresh : (r : Rules) (X : List (List ℕ)) (O : Colour) (m m' : Match) → m.played ≡ [] → m.untold ≡ None → m'.played ≡ []
-    → m'.untold ≡ None → Sofar r X O m → Sofar r X O m'
+fresh : (r : Rules) (X : List (List ℕ)) (O : Colour) (m m' : Match) → m.played ≡ [] → m.unsent_to ≡ None → m'.played ≡ []
+    → m'.unsent_to ≡ None → Sofar r X O m → Sofar r X O m'
 fresh r X O m m' p u p' u' h =
-    let none : X ++ [] ≡ [] = at m.played m.untold p u h in rw (p', u') none
+    let none : X ++ [] ≡ [] = at m.played m.unsent_to p u h in rw (p', u') none
   where
-    at : (ms : List Move) (untold : Option Colour) → ms ≡ [] → untold ≡ None → SofarBy r X O (seat m O).items ms untold
+    at : (ms : List Move) (unsent_to : Option Colour) → ms ≡ [] → unsent_to ≡ None → SofarBy r X O (seat m O).items ms unsent_to
         → X ++ [] ≡ []
     at [] None p u h = h
     at [] (Some c) p u h = cc
-    at (x ∷ ms) untold p u h = cc
+    at (x ∷ ms) unsent_to p u h = cc
 
 texts_more : (r : Rules) (as_san : Bool) (S T : Colour) (ms : List Move) (move : Move) → mover r.first ms ≡ T
     → texts_from r as_san S r.first [] (ms ++ move ∷ []) ≡ texts_from r as_san S r.first [] ms
@@ -388,7 +388,7 @@ opening_told : (r : Rules) (X : List (List ℕ)) (O c : Colour) (items : List It
 opening_told r X O c items ms some h = rw (lt-ltb 0 (length ms) some) h
 
 passes_told : (r : Rules) (X : List (List ℕ)) (O c : Colour) (items : List Item) (m m' : Match) → (seat m' O).items
-    ≡ items → m'.played ≡ m.played → m'.untold ≡ None → m'.phase ≡ SendTurn c
+    ≡ items → m'.played ≡ m.played → m'.unsent_to ≡ None → m'.phase ≡ SendTurn c
     → 0 < length m.played → is_same_phase m.phase (SendTurn c) ≡ false → SofarBy r X O items m.played (Some c)
     → Told r X O false m.phase m'
 passes_told r X O c items m m' i p u e some out h =
@@ -410,7 +410,7 @@ passes_goes r X S O m p o h =
 
 hello_over : (r : Rules) (X : List (List ℕ)) (S O : Colour) (items : List Item) (reason : Reason) (m : Match)
     → is_on m.phase ≡ true → is_unwritten (fault_of reason) O ≡ false
-    → (m.played ≡ []) × (m.untold ≡ None) → Sofar r X O m → Goes r X O m (over reason (hear S items m))
+    → (m.played ≡ []) × (m.unsent_to ≡ None) → Sofar r X O m → Goes r X O m (over reason (hear S items m))
 hello_over r X S O items reason m on n k h = (
   over_told r X O false m.phase reason (hear S items m) (leaves m.phase reason on) n
       (fresh r X O m (over reason (hear S items m)) k.0 k.1 (hear_played S items m ∙ k.0) (hear_untold S items m ∙ k.1)
@@ -419,7 +419,7 @@ hello_over r X S O items reason m on n k h = (
 )
 
 hello_counts : (r : Rules) (X : List (List ℕ)) (S O : Colour) (items : List Item) (m : Match) → reads m.phase S ≡ true
-    → (m.played ≡ []) × (m.untold ≡ None) → Orderly r m → Sofar r X O m
+    → (m.played ≡ []) × (m.unsent_to ≡ None) → Orderly r m → Sofar r X O m
     → (let m' = hear S items m in Goes r X O m (record m' { count = m.count + 1 }))
 hello_counts r X White O items m here k o h = (
   stays_told r X O m.phase (let m' = hear White items m in record m' { count = m.count + 1 })
@@ -435,7 +435,7 @@ hello_counts r X Black O items m here k o h = (
 )
 
 hello_enters : (r : Rules) (X : List (List ℕ)) (S O : Colour) (items : List Item) (m : Match) → (m.played ≡ [])
-    × (m.untold ≡ None) → Sofar r X O m
+    × (m.unsent_to ≡ None) → Sofar r X O m
     → (Goes r X O m (enter (Hello Black) (hear S items m))) × (Goes r X O m (enter (Setup White) (hear S items m)))
 hello_enters r X S O items m k h = (
   (
@@ -452,7 +452,7 @@ hello_enters r X S O items m k h = (
   ),
 )
 
-setup_enters : (r : Rules) (X : List (List ℕ)) (O : Colour) (m : Match) → (m.played ≡ []) × (m.untold ≡ None)
+setup_enters : (r : Rules) (X : List (List ℕ)) (O : Colour) (m : Match) → (m.played ≡ []) × (m.unsent_to ≡ None)
     → Sofar r X O m → Goes r X O m (enter (Setup Black) m)
 setup_enters r X O m k h = (
   quiet_told r X O m.phase (enter (Setup Black) m) refl refl
@@ -464,7 +464,7 @@ none_told : (c O : Colour) (t : List (List ℕ)) (ms : List Move) → ms ≡ []
     → (if same_colour c O then (if nat_lt 0 (length ms) then t else []) else []) ≡ []
 none_told c O t ms e = rw e (if_nil (same_colour c O) [] refl)
 
-setup_opens : (r : Rules) (X : List (List ℕ)) (O : Colour) (m : Match) → (m.played ≡ []) × (m.untold ≡ None)
+setup_opens : (r : Rules) (X : List (List ℕ)) (O : Colour) (m : Match) → (m.played ≡ []) × (m.unsent_to ≡ None)
     → Sofar r X O m → Goes r X O m (open_turn r.first m)
 setup_opens r X O m k h = (
   quiet_told r X O m.phase (open_turn r.first m)
@@ -473,7 +473,7 @@ setup_opens r X O m k h = (
   (rw (k.0) refl, refl),
 )
 
-judged_told : (r : Rules) (X : List (List ℕ)) (O c : Colour) (f : MatchFault) (p : Phase) (m : Match) → m.untold ≡ None
+judged_told : (r : Rules) (X : List (List ℕ)) (O c : Colour) (f : MatchFault) (p : Phase) (m : Match) → m.unsent_to ≡ None
     → Sofar r X O (enter (Over (Faulted c f)) m)
     → Told r X O false p (enter (Over (Faulted c f)) m)
 judged_told r X O c f p m u h = rw u (at (is_same_phase p (Over (Faulted c f))) (is_unwritten (Some (c, f)) O)
@@ -516,7 +516,7 @@ lines_go r X S O kind moment m here o h =
       offers = λ none own theirs. offers_goes r X S O m here o h;
     }
 
-    hello_judged : (c : Colour) (f : MatchFault) → (m.played ≡ []) × (m.untold ≡ None)
+    hello_judged : (c : Colour) (f : MatchFault) → (m.played ≡ []) × (m.unsent_to ≡ None)
         → Goes r X O m (enter (Over (Faulted c f)) (hear S (items_heard kind) m))
     hello_judged c f k = (
       judged_told r X O c f m.phase (hear S (items_heard kind) m) (hear_untold S (items_heard kind) m ∙ k.1)
@@ -661,17 +661,17 @@ unsent_none r O due m (FailsToRead S) T f o h = cc
 -- what the block of an event holds, if it is sent
 told_at : (r : Rules) (O : Colour) (due : Colour → List SentLine) (m : Match) (e : Event) (T : List Event)
     → fits_from r due m (e ∷ T) ≡ true → Orderly r m
-    → moves_told (joined_blocks (blocks_from r O m (e ∷ T))) ≡ told_now r m (after r m e) O
-    ++ moves_told (joined_blocks (blocks_from r O (after r m e) T))
+    → moves_sent (joined_blocks (blocks_from r O m (e ∷ T))) ≡ told_now r m (after r m e) O
+    ++ moves_sent (joined_blocks (blocks_from r O (after r m e) T))
 told_at r O due m e T f o =
-    ap (λ (ls : List SentLine). moves_told ls)
+    ap (λ (ls : List SentLine). moves_sent ls)
     (joined_at (is_dropped e T O || fails_at e O) (block r m (after r m e) O) (blocks_from r O (after r m e) T))
-    ∙ flat_map-append move_told (if is_dropped e T O || fails_at e O then [] else block r m (after r m e) O)
+    ∙ flat_map-append move_sent (if is_dropped e T O || fails_at e O then [] else block r m (after r m e) O)
     (joined_blocks (blocks_from r O (after r m e) T))
-    ∙ ap (λ (l : List (List ℕ)). l ++ moves_told (joined_blocks (blocks_from r O (after r m e) T)))
+    ∙ ap (λ (l : List (List ℕ)). l ++ moves_sent (joined_blocks (blocks_from r O (after r m e) T)))
     (at (is_dropped e T O || fails_at e O) refl)
   where
-    at : (b : Bool) → is_dropped e T O || fails_at e O ≡ b → moves_told (if b then [] else block r m (after r m e) O)
+    at : (b : Bool) → is_dropped e T O || fails_at e O ≡ b → moves_sent (if b then [] else block r m (after r m e) O)
         ≡ told_now r m (after r m e) O
     at true h = sym (unsent_none r O due m e T f o h)
     at false h = told_block r m (after r m e) O
@@ -697,9 +697,9 @@ joined_more X t M R o A e h = rw (e, append_assoc t R o, ← append_assoc X t (R
 
 told_from : (r : Rules) (O : Colour) (due : Colour → List SentLine) (m : Match) (T : List Event) (X : List (List ℕ))
     (failed : Bool) → fits_from r due m T ≡ true → Orderly r m
-    → (is_on m.phase ≡ true → failed ≡ false) → X ++ owed_to r m O m.untold failed ≡ all_texts r m O
-    → (X ++ (moves_told (joined_blocks (blocks_from r O m T))
-    ++ owed_to r (match_from r m T) O (match_from r m T).untold (failed || has_write_failure O T))
+    → (is_on m.phase ≡ true → failed ≡ false) → X ++ owed_to r m O m.unsent_to failed ≡ all_texts r m O
+    → (X ++ (moves_sent (joined_blocks (blocks_from r O m T))
+    ++ owed_to r (match_from r m T) O (match_from r m T).unsent_to (failed || has_write_failure O T))
     ≡ all_texts r (match_from r m T) O)
     × Orderly r (match_from r m T)
 told_from r O due m [] X failed f o quiet h = (rw (or-false failed) h, o)
@@ -707,34 +707,34 @@ told_from r O due m (e ∷ T) X failed f o quiet h =
     let here : fits_next due m e ≡ true = and_first (fits_next due m e) _ f in
     let on : is_on m.phase ≡ true = fits_on due m e here in
     let s : Told r X O (fails_at e O) m.phase (after r m e) × Orderly r (after r m e) =
-    step_goes r X O due m e here o (rw (owed_on r m O m.untold failed on) at h) in
+    step_goes r X O due m e here o (rw (owed_on r m O m.unsent_to failed on) at h) in
     let rest = told_from r O (block r m (after r m e)) (after r m e) T (X ++ told_now r m (after r m e) O)
     (fails_at e O) (and_second (fits_next due m e) _ f) s.1 (calm r m e O) s.0 in (
       rw (quiet on) (joined_more X (told_now r m (after r m e) O)
-          (moves_told (joined_blocks (blocks_from r O m (e ∷ T))))
-          (moves_told (joined_blocks (blocks_from r O (after r m e) T)))
-          (owed_to r (match_from r (after r m e) T) O (match_from r (after r m e) T).untold
+          (moves_sent (joined_blocks (blocks_from r O m (e ∷ T))))
+          (moves_sent (joined_blocks (blocks_from r O (after r m e) T)))
+          (owed_to r (match_from r (after r m e) T) O (match_from r (after r m e) T).unsent_to
           (fails_at e O || has_write_failure O T)) (all_texts r (match_from r (after r m e) T) O)
           (told_at r O due m e T f o) rest.0),
       rest.1,
     )
 
-pub moves_are_told : MovesAreTold
+pub moves_are_told : MovesAreSent
 moves_are_told r T O f =
-    ap (λ (l : List (List ℕ)). l ++ owed_to r (match_of r T) O (match_of r T).untold (has_write_failure O T)) first
+    ap (λ (l : List (List ℕ)). l ++ owed_to r (match_of r T) O (match_of r T).unsent_to (has_write_failure O T)) first
     ∙ (told_from r O (entry r start) start T [] false f (refl, refl) (λ on. refl) refl).0
   where
-    first : moves_told (sent r O T) ≡ moves_told (joined_blocks (blocks_from r O start T))
-    first = flat_map-append move_told (entry r start O) (joined_blocks (blocks_from r O start T))
-        ∙ ap (λ (l : List (List ℕ)). l ++ moves_told (joined_blocks (blocks_from r O start T)))
+    first : moves_sent (sent r O T) ≡ moves_sent (joined_blocks (blocks_from r O start T))
+    first = flat_map-append move_sent (entry r start O) (joined_blocks (blocks_from r O start T))
+        ∙ ap (λ (l : List (List ℕ)). l ++ moves_sent (joined_blocks (blocks_from r O start T)))
         (entry_told r start O (Hello White))
 
 -- every match is orderly
 pub orderly : (r : Rules) (T : List Event) → fits r T ≡ true → Orderly r (match_of r T)
 orderly r T f = (told_from r White (entry r start) start T [] false f (refl, refl) (λ on. refl) refl).1
 
-pub nothing_owed : (r : Rules) (m : Match) (O : Colour) (untold : Option Colour) → is_some (ending_in m.phase) ≡ true
-    → owed_to r m O untold false ≡ []
+pub nothing_owed : (r : Rules) (m : Match) (O : Colour) (unsent_to : Option Colour) → is_some (ending_in m.phase) ≡ true
+    → owed_to r m O unsent_to false ≡ []
 nothing_owed r m O None h = refl
 nothing_owed r m O (Some c) h = at m.phase (same_colour c O) h
   where
@@ -748,9 +748,9 @@ nothing_owed r m O (Some c) h = at m.phase (same_colour c O) h
     at (AwaitMove c) b h = cc
     at (AwaitPong c) b h = cc
 
-pub all_moves_are_told : AllMovesAreTold
+pub all_moves_are_told : AllMovesAreSent
 all_moves_are_told r T O f ended quiet =
-    sym (append-nil (moves_told (sent r O T)))
-    ∙ ap (λ (l : List (List ℕ)). moves_told (sent r O T) ++ l)
-    (sym (rw quiet (nothing_owed r (match_of r T) O (match_of r T).untold ended)))
+    sym (append-nil (moves_sent (sent r O T)))
+    ∙ ap (λ (l : List (List ℕ)). moves_sent (sent r O T) ++ l)
+    (sym (rw quiet (nothing_owed r (match_of r T) O (match_of r T).unsent_to ended)))
     ∙ moves_are_told r T O f

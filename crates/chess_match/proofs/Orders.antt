@@ -7,7 +7,7 @@ use Rattle.chess_base.specs.declared.man.Move.{Move}
 use Rattle.chess_base.specs.Men.{other, same_colour}
 use Rattle.engine_lines.specs.EngineLines.{LineKind, line_kind}
 use Rattle.engine_lines.specs.Items.{Item, takes}
-use Rattle.chess_match.specs.laws.Laws.{moves_told, move_texts, texts_from, owed_to, MovesSentAreKnown, sent}
+use Rattle.chess_match.specs.laws.Laws.{moves_sent, move_texts, texts_from, owed_to, MovesSentAreKnown, sent}
 use Rattle.chess_match.specs.Match.{Match, Event, Line, Opened, OutputEnds, FailsToRead, FailsToWrite, items_heard, seat, hear, start, over, enter, open_turn, played_by, after}
 use Rattle.chess_match.specs.Rules.{Rules}
 use Rattle.chess_match.specs.Sent.{SentLine, entry}
@@ -102,7 +102,7 @@ heard_kept r White items m m' w b p o k = kept_over r m m' w b p o k
 heard_kept r Black items m m' w b p o k = kept_over r m m' w b p o k
 
 none_yet : (r : Rules) (S d : Colour) (items : List Item) (m : Match) → m.phase ≡ Hello d → Kept r m
-    → ((hear S items m).played ≡ []) × ((hear S items m).untold ≡ None)
+    → ((hear S items m).played ≡ []) × ((hear S items m).unsent_to ≡ None)
 none_yet r S d items m p k = let o = orderly_in r m (Hello d) p k.0 in (
   hear_played S items m
       ∙ o.0,
@@ -151,7 +151,7 @@ lines_kept r S kind moment m k = record {
           λ none own theirs. offers_kept r S m k;
     }
 
-    first_turn : m.played ≡ [] → (mover r.first m.played ≡ r.first) × ((open_turn r.first m).untold ≡ None)
+    first_turn : m.played ≡ [] → (mover r.first m.played ≡ r.first) × ((open_turn r.first m).unsent_to ≡ None)
     first_turn e = (rw e refl, refl)
 
 pub step : (r : Rules) (due : Colour → List SentLine) (m : Match) (e : Event) → fits_next due m e ≡ true → Kept r m
@@ -169,8 +169,8 @@ kept r T f = kept_by r (λ m. Kept r m) (step r) (entry r start) start T f ((ref
 -- ---- a move was ever sent
 
 nothing_owed : (r : Rules) (m : Match) (S : Colour) (failed : Bool) → reads m.phase S ≡ true → Orderly r m
-    → owed_to r m S m.untold failed ≡ []
-nothing_owed r m S failed here o = at m.phase m.untold here o
+    → owed_to r m S m.unsent_to failed ≡ []
+nothing_owed r m S failed here o = at m.phase m.unsent_to here o
   where
     own : (c S : Colour) → same_colour c S ≡ true → same_colour (other c) S ≡ false
     own White White h = refl
@@ -178,14 +178,14 @@ nothing_owed r m S failed here o = at m.phase m.untold here o
     own White Black h = cc
     own Black White h = cc
 
-    at : (p : Phase) (untold : Option Colour) → reads p S ≡ true → OrderlyIn r.first p m.played untold
-        → owed_to r m S untold failed ≡ []
-    at (Hello c) untold h o = rw o.1 refl
-    at (Setup c) untold h o = rw o.1 refl
-    at (AwaitMove c) untold h o = rw o.1 refl
-    at (AwaitPong c) untold h o = rw (o.1, own c S h) refl
-    at (SendTurn c) untold h o = cc
-    at (Over x) untold h o = cc
+    at : (p : Phase) (unsent_to : Option Colour) → reads p S ≡ true → OrderlyIn r.first p m.played unsent_to
+        → owed_to r m S unsent_to failed ≡ []
+    at (Hello c) unsent_to h o = rw o.1 refl
+    at (Setup c) unsent_to h o = rw o.1 refl
+    at (AwaitMove c) unsent_to h o = rw o.1 refl
+    at (AwaitPong c) unsent_to h o = rw (o.1, own c S h) refl
+    at (SendTurn c) unsent_to h o = cc
+    at (Over x) unsent_to h o = cc
 
 used_length : (r : Rules) (m : Match) (C : Colour) → Kept r m → length (seat m C).used ≡ turns_of C r.first m.played
 used_length r m White k = k.1
@@ -195,9 +195,9 @@ pub moves_sent_are_known : MovesSentAreKnown
 moves_sent_are_known r T S f here =
     let m = match_of r T in
     let k = kept r T f in
-    let told : moves_told (sent r S T) ≡ move_texts r m S (other S) =
-    sym (append-nil (moves_told (sent r S T)))
-    ∙ ap (λ (l : List (List ℕ)). moves_told (sent r S T) ++ l)
+    let told : moves_sent (sent r S T) ≡ move_texts r m S (other S) =
+    sym (append-nil (moves_sent (sent r S T)))
+    ∙ ap (λ (l : List (List ℕ)). moves_sent (sent r S T) ++ l)
     (sym (nothing_owed r m S (has_write_failure S T) here k.0))
     ∙ moves_are_told r T S f in
     ap (λ (n : ℕ). nat_lt 0 n) (used_length r m (other S) k

@@ -10,7 +10,7 @@ use Rattle.chess_game.specs.declared.ends.Verdict.{Verdict}
 use Rattle.engine_lines.specs.EngineLines.{line_kind, LineKind, Features, Moves, Resigns, OffersDraw, ClaimsDraw, ClaimsWin, Rejects, Answers, SaysElse}
 use Rattle.engine_lines.specs.Items.{Item, has_done}
 use Rattle.chess_match.specs.laws.Laws.{move_said}
-use Rattle.chess_match.specs.Match.{Match, Event, Line, Opened, OutputEnds, FailsToRead, FailsToWrite, after, after_kind, items_heard, seat, clock, over, ignore, enter, open_turn, hear, greeted, hello_line, judged, lack, ready, unless_decided, is_pong, setup_line, played_by, move_row, offer_row, draw_row, was_told, either_way, before_row, before_line, after_line, ping_number}
+use Rattle.chess_match.specs.Match.{Match, Event, Line, Opened, OutputEnds, FailsToRead, FailsToWrite, after, after_kind, items_heard, seat, clock, over, ignore, enter, open_turn, hear, greeted, hello_line, judged, lack, ready, unless_decided, is_pong, setup_line, played_by, move_row, offer_row, draw_row, was_sent_move, either_way, before_row, before_line, after_line, ping_number}
 use Rattle.chess_match.specs.Rules.{Rules}
 use Rattle.chess_match.specs.Sent.{SentLine, block, is_unwritten}
 use Rattle.chess_match.specs.Transcript.{reads, opens, is_on, fails_at, fits_next, fits_from, match_from}
@@ -73,7 +73,7 @@ either_outcome r S OffersDraw m P none i = offer_outcome r S OffersDraw m P none
 either_outcome r S ClaimsDraw m P none i = draw_outcome r S ClaimsDraw m P (r.claim m.played) none i
 either_outcome r S (ClaimsWin c) m P none i =
     by_test P (same_colour c S) (λ h. i.ends (ClaimsFalsely S) (λ O. refl)) (λ h. i.ends (ResignsBy S) (λ O. refl))
-either_outcome r S Rejects m P none i = by_test P (was_told m S) (λ h. i.ends (RejectsLegalMove S) (λ O. refl))
+either_outcome r S Rejects m P none i = by_test P (was_sent_move m S) (λ h. i.ends (RejectsLegalMove S) (λ O. refl))
     (λ h. ignore_outcome S m P i.ends (i.counts none))
 either_outcome r S (Features t) m P none i = ignore_outcome S m P i.ends (i.counts none)
 either_outcome r S (Moves t) m P none i = ignore_outcome S m P i.ends (i.counts none)

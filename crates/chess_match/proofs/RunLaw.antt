@@ -7,7 +7,7 @@ use Rattle.std.proofs.lemmas.List.{append_cancel_right}
 use Rattle.chess_base.specs.declared.man.Colour.{Colour}
 use Rattle.byte_devices.specs.Devices.{InputState, OutputState, risen}
 use Rattle.chess_cecp.specs.Run.{risen_if}
-use Rattle.chess_match.specs.laws.Laws.{Streams, IsOf, TellsAll, OnlyOneOfARun}
+use Rattle.chess_match.specs.laws.Laws.{Streams, IsOf, ShowsAll, OnlyOneOfARun}
 use Rattle.chess_match.specs.Match.{Match, Event, Line, Opened, OutputEnds, FailsToRead, FailsToWrite, start, after}
 use Rattle.chess_match.specs.Rules.{Rules}
 use Rattle.chess_match.specs.Run.{Ports, reader_at, writer_at, engine_lines, Heard, Written, IsTranscript}
@@ -89,7 +89,7 @@ given_by T given coming = record {
 
 is_of : (r : Rules) (T U : List Event) (reason : Reason) (failed : Colour → Bool) (w w' : Ports)
     (coming coming' : ℕ → Option ℕ) (given : Colour → List ℕ)
-    → IsTranscript r U reason failed w w' coming coming' → TellsAll w w' coming
+    → IsTranscript r U reason failed w w' coming coming' → ShowsAll w w' coming
     → ((S : Colour) → Heard S U (reader_at w S) (reader_at w' S) (given S))
     → ((S : Colour) → has_read_failure S T ≡ has_read_failure S U) → IsOf (given_by T given coming) U
 is_of r T U reason failed w w' coming coming' given i t heard same = record {

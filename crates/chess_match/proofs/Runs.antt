@@ -9,7 +9,7 @@ use Rattle.chess_match.specs.Match.{Match, Event, Line, Opened, OutputEnds, Fail
 use Rattle.chess_match.specs.Rules.{Rules}
 use Rattle.chess_match.specs.Run.{Flushed, Written, Asked}
 use Rattle.chess_match.specs.Sent.{SentLine, block, entry, bytes_of}
-use Rattle.chess_match.specs.ties.Told.{SendsIf}
+use Rattle.chess_match.specs.ties.Reported.{SendsIf}
 use Rattle.chess_match.specs.Transcript.{match_from, match_of, fits_from, fits_next, fits, is_dropped, fails_at, block_at, blocks_from, blocks, joined_blocks, line_in, lines_of, moment_in, moments_of, is_end_of, has_end, is_read_failure_of, has_read_failure, has_write_failure}
 use Rattle.chess_match.proofs.Flushes.{flushed_more, failed_behind}
 use Rattle.chess_match.proofs.Sends.{bytes_of-append}

@@ -25,6 +25,6 @@ pub hear_played : (S : Colour) (items : List Item) (m : Match) → (hear S items
 hear_played White items m = refl
 hear_played Black items m = refl
 
-pub hear_untold : (S : Colour) (items : List Item) (m : Match) → (hear S items m).untold ≡ m.untold
+pub hear_untold : (S : Colour) (items : List Item) (m : Match) → (hear S items m).unsent_to ≡ m.unsent_to
 hear_untold White items m = refl
 hear_untold Black items m = refl

@@ -13,12 +13,12 @@ use Rattle.chess_base.specs.Men.{other, same_colour}
 use Rattle.chess_game.specs.declared.ends.Verdict.{Verdict}
 use Rattle.engine_lines.specs.EngineLines.{LineKind, line_kind}
 use Rattle.engine_lines.specs.Items.{Item, takes}
-use Rattle.chess_match.specs.laws.Laws.{centiseconds, time_told, otim_told, TimesAreClocks, OtherTimesAreClocks, sent}
+use Rattle.chess_match.specs.laws.Laws.{centiseconds, time_sent, otim_sent, TimesAreClocks, OtherTimesAreClocks, sent}
 use Rattle.engine_lines.specs.Levels.{LevelSeen, left, level_text}
 use Rattle.chess_match.specs.Match.{Match, Event, Line, Opened, OutputEnds, FailsToRead, FailsToWrite, items_heard, seat, hear, start, over, enter, open_turn, played_by, after, clock, ping_number}
 use Rattle.chess_match.specs.Reasons.{fault_of}
 use Rattle.chess_match.specs.Rules.{Rules}
-use Rattle.chess_match.specs.Sent.{SentLine, Says, Time, Otim, entry, entry_to, is_same_phase, is_unwritten, setup_lines, variant_lines, start_lines, opening_lines, last_move, last_move_lines, clock_lines, end_lines, untold_lines, ping}
+use Rattle.chess_match.specs.Sent.{SentLine, Says, Time, Otim, entry, entry_to, is_same_phase, is_unwritten, setup_lines, variant_lines, start_lines, opening_lines, last_move, last_move_lines, clock_lines, end_lines, unsent_lines, ping}
 use Rattle.chess_match.specs.Transcript.{reads, match_of, fits, fits_next, blocks_from, joined_blocks}
 use Rattle.chess_match.specs.declared.phase.Phase.{Phase}
 use Rattle.chess_match.specs.declared.phase.Phase.TheVariants.{Hello, Setup, SendTurn, AwaitMove, AwaitPong, Over}
@@ -36,8 +36,8 @@ use Rattle.chess_match.proofs.Blocks.{told_more}
 
 -- the numbers of `time` lines, or of `otim` lines
 abbrev numbers : Bool → SentLine → List ℕ
-numbers true = time_told
-numbers false = otim_told
+numbers true = time_sent
+numbers false = otim_sent
 
 -- whose clock they show to S
 abbrev told_of : Bool → Colour → Colour
@@ -75,8 +75,8 @@ last_times own r m S = at own (nat_lt 0 (length m.played))
     at true false = refl
     at false false = refl
 
-untold_times : (own : Bool) (r : Rules) (m : Match) (S : Colour) (untold : Option Colour)
-    → flat_map (numbers own) (untold_lines r m S untold) ≡ []
+untold_times : (own : Bool) (r : Rules) (m : Match) (S : Colour) (unsent_to : Option Colour)
+    → flat_map (numbers own) (unsent_lines r m S unsent_to) ≡ []
 unfolding last_move
 untold_times true r m S None = refl
 untold_times false r m S None = refl
@@ -91,10 +91,10 @@ untold_times own r m S (Some c) = at own (same_colour c S)
 end_times : (own : Bool) (r : Rules) (m : Match) (S : Colour) (reason : Reason)
     → flat_map (numbers own) (end_lines r m S reason) ≡ []
 unfolding end_lines
-end_times true r m S reason = flat_map-append time_told (untold_lines r m S m.untold) _
-    ∙ append-nil (flat_map time_told (untold_lines r m S m.untold)) ∙ untold_times true r m S m.untold
-end_times false r m S reason = flat_map-append otim_told (untold_lines r m S m.untold) _
-    ∙ append-nil (flat_map otim_told (untold_lines r m S m.untold)) ∙ untold_times false r m S m.untold
+end_times true r m S reason = flat_map-append time_sent (unsent_lines r m S m.unsent_to) _
+    ∙ append-nil (flat_map time_sent (unsent_lines r m S m.unsent_to)) ∙ untold_times true r m S m.unsent_to
+end_times false r m S reason = flat_map-append otim_sent (unsent_lines r m S m.unsent_to) _
+    ∙ append-nil (flat_map otim_sent (unsent_lines r m S m.unsent_to)) ∙ untold_times false r m S m.unsent_to
 
 -- the clock that is sent in an opening, where the engine takes `time`
 abbrev clock_told : Bool → Rules → Match → Colour → List ℕ
@@ -599,20 +599,20 @@ times_so own r S T f =
     none Black false = refl
 
 pub times_are_clocks : TimesAreClocks
-times_are_clocks r T S f = over_times true r S (flat_map time_told (sent r S T))
+times_are_clocks r T S f = over_times true r S (flat_map time_sent (sent r S T))
     (takes (codes "time") (seat (match_of r T) S).items) (seat (match_of r T) S).used (match_of r T).phase
     (times_so true r S T f)
 
 pub other_times_are_clocks : OtherTimesAreClocks
 other_times_are_clocks r T S f =
-    at (same_colour S r.first) (over_times false r S (flat_map otim_told (sent r S T))
+    at (same_colour S r.first) (over_times false r S (flat_map otim_sent (sent r S T))
     (takes (codes "time") (seat (match_of r T) S).items) (seat (match_of r T) (other S)).used (match_of r T).phase
     (times_so false r S T f))
   where
     at : (whole : Bool) → (rest : List ℕ) × (length rest ≤ 1)
-        × (flat_map otim_told (sent r S T) ++ rest
+        × (flat_map otim_sent (sent r S T) ++ rest
         ≡ all_told whole r (takes (codes "time") (seat (match_of r T) S).items) (seat (match_of r T) (other S)).used)
-        → (rest : List ℕ) × (length rest ≤ 1) × (flat_map otim_told (sent r S T) ++ rest
+        → (rest : List ℕ) × (length rest ≤ 1) × (flat_map otim_sent (sent r S T) ++ rest
         ≡ (if takes (codes "time") (seat (match_of r T) S).items
         then (if whole then centiseconds r.level 0 0 (seat (match_of r T) (other S)).used else drop 1
         (centiseconds r.level 0 0 (seat (match_of r T) (other S)).used)) else []))

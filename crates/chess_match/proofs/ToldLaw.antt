@@ -8,7 +8,7 @@ use Rattle.chess_base.specs.Men.{other, same_colour}
 use Rattle.chess_game.specs.declared.ends.Verdict.{Verdict}
 use Rattle.engine_lines.specs.EngineLines.{line_kind}
 use Rattle.engine_lines.specs.Items.{Item, has_done, takes}
-use Rattle.chess_match.specs.laws.Laws.{moves_told, owed_to, texts_from, items_said, ItemsAreSaid, EachIsToldTheOthers, sent}
+use Rattle.chess_match.specs.laws.Laws.{moves_sent, owed_to, texts_from, items_said, ItemsAreSaid, EachIsSentTheOthers, sent}
 use Rattle.chess_match.specs.Match.{Match, Event, Line, Opened, OutputEnds, FailsToRead, FailsToWrite, items_heard, seat, hear, start, over, enter, open_turn, played_by, after}
 use Rattle.chess_match.specs.Rules.{Rules}
 use Rattle.chess_match.specs.Sent.{SentLine, block, entry}
@@ -254,8 +254,8 @@ pub items_are_said : ItemsAreSaid
 items_are_said r T White f = sym (said_from r (entry r start) start T f White)
 items_are_said r T Black f = sym (said_from r (entry r start) start T f Black)
 
-owed_short : (r : Rules) (m : Match) (O : Colour) (untold : Option Colour) (failed : Bool)
-    → length (owed_to r m O untold failed) ≤ 1
+owed_short : (r : Rules) (m : Match) (O : Colour) (unsent_to : Option Colour) (failed : Bool)
+    → length (owed_to r m O unsent_to failed) ≤ 1
 owed_short r m O None failed = omega arith
 owed_short r m O (Some c) failed = at (same_colour c O && (is_on m.phase || failed))
   where
@@ -263,20 +263,20 @@ owed_short r m O (Some c) failed = at (same_colour c O && (is_on m.phase || fail
     at true = omega arith
     at false = omega arith
 
-pub each_is_told_the_others : EachIsToldTheOthers
-each_is_told_the_others r T f = ((match_of r T).played, moves_are_read r T f, told)
+pub each_is_sent_the_others : EachIsSentTheOthers
+each_is_sent_the_others r T f = ((match_of r T).played, moves_are_read r T f, told)
   where
     all_told : (O : Colour) → is_some (ending r T) ≡ true → has_write_failure O T ≡ false
-        → owed_to r (match_of r T) O (match_of r T).untold (has_write_failure O T) ≡ []
-    all_told O ended quiet = rw quiet (nothing_owed r (match_of r T) O (match_of r T).untold ended)
+        → owed_to r (match_of r T) O (match_of r T).unsent_to (has_write_failure O T) ≡ []
+    all_told O ended quiet = rw quiet (nothing_owed r (match_of r T) O (match_of r T).unsent_to ended)
 
     told : (O : Colour) → (rest : List (List ℕ)) × (length rest ≤ 1)
         × (is_some (ending r T) ≡ true → has_write_failure O T ≡ false → rest ≡ [])
-        × (moves_told (sent r O T) ++ rest
+        × (moves_sent (sent r O T) ++ rest
         ≡ texts_from r (takes (codes "san") (items_said (lines_of O T))) (other O) r.first [] (match_of r T).played)
     told O = (
-      owed_to r (match_of r T) O (match_of r T).untold (has_write_failure O T),
-      owed_short r (match_of r T) O (match_of r T).untold (has_write_failure O T),
+      owed_to r (match_of r T) O (match_of r T).unsent_to (has_write_failure O T),
+      owed_short r (match_of r T) O (match_of r T).unsent_to (has_write_failure O T),
       all_told O,
       moves_are_told r T O f
           ∙ ap (λ (is : List Item). texts_from r (takes (codes "san") is) (other O) r.first [] (match_of r T).played)

@@ -17,7 +17,7 @@ use Rattle.chess_match.specs.Run.{Flushed, Written, Asked}
 use Rattle.chess_match.specs.Sent.{SentLine, block, entry, bytes_of}
 use Rattle.chess_match.specs.ties.Stands.{Stands, Goes, given_block, nothing_said}
 use Rattle.chess_match.specs.ties.Steps.{IsSane}
-use Rattle.chess_match.specs.ties.Told.{SendsIf}
+use Rattle.chess_match.specs.ties.Reported.{SendsIf}
 use Rattle.chess_match.specs.Transcript.{match_of, fits_next, is_on, opens, blocks, blocks_from, joined_blocks, lines_of, moments_of, moment_in, has_end, has_read_failure, has_write_failure, fails_at, side_of}
 use Rattle.chess_match.proofs.UnderWay.{IsHearing, HeardSoFar, IsUnderWay}
 use Rattle.chess_match.specs.declared.phase.Phase.{Phase}

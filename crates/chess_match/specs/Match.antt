@@ -45,7 +45,7 @@ pub record Match : Type 0 where
   pub black : Seat
   pub played : List Move
   -- who is still to be sent the last move
-  pub untold : Option Colour
+  pub unsent_to : Option Colour
   -- the lines of a handshake, or the ignored ones of a setup or a turn
   pub count : ℕ
   -- the moment at the end of the turn's opening
@@ -72,7 +72,7 @@ start = record {
   white = new_seat;
   black = new_seat;
   played = [];
-  untold = None;
+  unsent_to = None;
   count = 0;
   opened = 0;
 }
@@ -89,7 +89,7 @@ enter phase m = record m { phase = phase; count = 0 }
 
 -- that side's turn: its opening has the last move
 abbrev pub open_turn : Colour → Match → Match
-open_turn S m = record m { phase = SendTurn S; count = 0; untold = None }
+open_turn S m = record m { phase = SendTurn S; count = 0; unsent_to = None }
 
 -- the line counts as ignored, and the 10,000th is too many
 abbrev pub ignore : Colour → Match → Match
@@ -171,7 +171,7 @@ with_offer S offers m = with_seat m S (record (seat m S) { offers = offers })
 abbrev pub played_by : Colour → Move → ℕ → Match → Match
 played_by S move used m =
     let m' = with_offer (other S) false (charge S used m) in
-    record m' { phase = AwaitPong S; played = m.played ++ move ∷ []; untold = Some (other S) }
+    record m' { phase = AwaitPong S; played = m.played ++ move ∷ []; unsent_to = Some (other S) }
 
 -- a text that doesn't denote one legal move loses; a legal move is played, and the verdict after it, if there is one,
 -- ends the match
@@ -193,8 +193,8 @@ draw_row (Some c) S m = over (over_by.Claimed c) m
 draw_row None S m = offer_row S m
 
 -- a move was ever sent to S: the other has moved, since S's opening has the other's last move
-abbrev pub was_told : Match → Colour → Bool
-was_told m S = nat_lt 0 (length (seat m (other S)).used)
+abbrev pub was_sent_move : Match → Colour → Bool
+was_sent_move m S = nat_lt 0 (length (seat m (other S)).used)
 
 -- the rows that are alike before the move and after it
 abbrev pub either_way : Rules → Colour → LineKind → Match → Match
@@ -203,7 +203,7 @@ either_way r S OffersDraw m = offer_row S m
 either_way r S ClaimsDraw m = draw_row (r.claim m.played) S m
 either_way r S (ClaimsWin c) m = if same_colour c S then over (over_by.ClaimsFalsely S) m else over (over_by.Resigns S)
     m
-either_way r S Rejects m = if was_told m S then over (over_by.RejectsLegalMove S) m else ignore S m
+either_way r S Rejects m = if was_sent_move m S then over (over_by.RejectsLegalMove S) m else ignore S m
 either_way r S _ m = ignore S m
 
 -- a line before the move, in time: where the limit allows no more half-moves a move ends the match

@@ -77,14 +77,14 @@ is_fischerandom Fischerandom = true
 
 -- a start as it is sent, if it is: its FEN. Normal chess begins from its initial position if nothing is said; of
 -- Chess960 each start is sent
-abbrev pub fen_told : Setup → Option (List ℕ)
-fen_told start = if is_initial start && not (is_fischerandom start.variant) then None else Some (fen start)
+abbrev pub fen_sent : Setup → Option (List ℕ)
+fen_sent start = if is_initial start && not (is_fischerandom start.variant) then None else Some (fen start)
 
 -- chess from this start, at this level, of at most so many half-moves
 unfoldable pub rules_of : Setup → LevelSeen → ℕ → Rules
 rules_of start level limit = record {
   variant = start.variant;
-  start_fen = fen_told start;
+  start_fen = fen_sent start;
   first = start.side;
   level = level;
   limit = limit;

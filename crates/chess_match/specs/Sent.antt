@@ -21,7 +21,7 @@ use Rattle.chess_base.specs.declared.man.Variant.{Variant}
 -- a line that is sent: a move, the times of both clocks in centiseconds, or any other text
 pub data SentLine : Type 0 where
   Says : (text : List ℕ) → SentLine
-  MoveTold : (prefixed : Bool) → (text : List ℕ) → SentLine
+  MoveSent : (prefixed : Bool) → (text : List ℕ) → SentLine
   Time : (centiseconds : ℕ) → SentLine
   Otim : (centiseconds : ℕ) → SentLine
 
@@ -32,8 +32,8 @@ answer_words name = (if is_known name then codes "accepted " else codes "rejecte
 -- the text of a line, without the byte 10 at its end
 abbrev pub words_of : SentLine → List ℕ
 words_of (Says text) = text
-words_of (MoveTold true text) = codes "usermove " ++ text
-words_of (MoveTold false text) = text
+words_of (MoveSent true text) = codes "usermove " ++ text
+words_of (MoveSent false text) = text
 words_of (Time n) = codes "time " ++ decimal n
 words_of (Otim n) = codes "otim " ++ decimal n
 
@@ -70,7 +70,7 @@ setup_lines r =
 
 -- the last move, as S takes it
 unfoldable pub last_move : Rules → Match → Colour → SentLine
-last_move r m S = MoveTold (takes (codes "usermove") (seat m S).items)
+last_move r m S = MoveSent (takes (codes "usermove") (seat m S).items)
     (r.move_text (takes (codes "san") (seat m S).items) m.played)
 
 -- the last move, as S takes it, if there is one
@@ -94,14 +94,14 @@ abbrev pub for : {A : Type 0} → Colour → Colour → List A → List A
 for c S xs = if same_colour c S then xs else []
 
 -- the last move, if S wasn't sent it
-abbrev pub untold_lines : Rules → Match → Colour → Option Colour → List SentLine
-untold_lines r m S None = []
-untold_lines r m S (Some c) = for c S (last_move r m S ∷ [])
+abbrev pub unsent_lines : Rules → Match → Colour → Option Colour → List SentLine
+unsent_lines r m S None = []
+unsent_lines r m S (Some c) = for c S (last_move r m S ∷ [])
 
 -- the last move, if S wasn't sent it, and then the result and `quit`
 unfoldable pub end_lines : Rules → Match → Colour → Reason → List SentLine
 end_lines r m S reason =
-    untold_lines r m S m.untold ++ (Says (codes "result " ++ result_text (outcome_of reason) (comment_of reason))
+    unsent_lines r m S m.unsent_to ++ (Says (codes "result " ++ result_text (outcome_of reason) (comment_of reason))
     ∷ Says (codes "quit") ∷ [])
 
 -- a write to S ended the match

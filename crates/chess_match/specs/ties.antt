@@ -2,6 +2,6 @@
 pub mod Stands
 pub mod Chess
 pub mod Steps
-pub mod Told
+pub mod Reported
 pub mod Awaits
 pub mod Delivering

@@ -10,7 +10,7 @@ ghost use Rattle.chess_game.specs.Game.{current, verdict_now, State};
 ghost use Rattle.chess_game.specs.Ends.{verdict, claims};
 ghost use Rattle.chess_pgn.specs.GameText.{is_initial};
 ghost use Rattle.chess_text.specs.Moves.{reading};
-ghost use Rattle.chess_match.specs.Rules.{rules_of, has_bare_king, is_king_or_other, move_read, claim_by, fen_told};
+ghost use Rattle.chess_match.specs.Rules.{rules_of, has_bare_king, is_king_or_other, move_read, claim_by, fen_sent};
 
 use crate::block::{Block, add, add_move};
 use crate::match_game::MatchGame;
@@ -60,7 +60,7 @@ fn is_initial(start: &Position) -> bool
 
 // The start of a match as it is sent: as FEN, unless it is the initial position of normal chess.
 fn start_text(start: &Position) -> Option<FenText>
-    ensures text { option_map (λ t. t.items) result ≡ fen_told start.now }
+    ensures text { option_map (λ t. t.items) result ≡ fen_sent start.now }
     ensures short { IfSome result (λ t. array_vec_len t ≤ 100) }
 {
     match start.variant() {

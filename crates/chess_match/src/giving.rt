@@ -11,7 +11,7 @@ ghost use Rattle.chess_match.specs.Notes.{WasNoted, given_note};
 ghost use Rattle.chess_match.specs.Rules.{Rules};
 ghost use Rattle.chess_match.specs.Sent.{answers_to, bytes_of};
 ghost use Rattle.chess_match.specs.ties.Stands.{Stands, behind_answers, given_block};
-ghost use Rattle.chess_match.specs.ties.Told.{SendsIf};
+ghost use Rattle.chess_match.specs.ties.Reported.{SendsIf};
 
 use crate::block::Block;
 use crate::match_game::MatchGame;
@@ -31,7 +31,7 @@ fn add_rest<G: MatchGame, S: Board>(
     given: Actions,
     side: Colour,
 )
-    requires untold { is_some core.now.untold ≡ true → 0 < length (G.played game.now) }
+    requires unsent_to { is_some core.now.unsent_to ≡ true → 0 < length (G.played game.now) }
     requires room { array_vec_len block.old + 310 ≤ BLOCK_LEN }
     ensures { (r : Rules) (m : Match) → G.plays game.now r → Stands r core.now (G.played game.now) m
         → block.new.items ≡ block.old.items ++ bytes_of (behind_answers r given m side) }
@@ -70,7 +70,7 @@ pub(crate) fn note_and_send<W: Output, L: Witness, G: MatchGame, S: Board>(
     block: &mut Block,
     side: Colour,
 ) -> Result<(), WriteFault>
-    requires untold { is_some core.now.untold ≡ true → 0 < length (G.played game.now) }
+    requires unsent_to { is_some core.now.unsent_to ≡ true → 0 < length (G.played game.now) }
     requires room { array_vec_len block.old ≤ ANSWERS_LEN }
     ensures sends { (r : Rules) (m : Match) (items : Colour → List Item) → G.plays game.now r
         → Stands r core.now (G.played game.now) m → block.old.items ≡ bytes_of (answers_to (items side))

@@ -4,7 +4,7 @@ ghost use Rattle.chess_match.specs.declared.block.TheConstants.{BLOCK_LEN};
 ghost use Rattle.std.specs.Prelude.{◌≡◌, ◌<◌, ◌≤◌, ◌+◌, ◌==◌, ◌++◌, ◌∷◌, [], List, ℕ, length, nat_le, is_some, Some, None, false};
 ghost use Rattle.arrayvec.specs.ArrayVec.{array_vec_len};
 ghost use Rattle.chess_match.specs.Rules.{Rules};
-ghost use Rattle.chess_match.specs.Sent.{bytes_of, start_lines, MoveTold};
+ghost use Rattle.chess_match.specs.Sent.{bytes_of, start_lines, MoveSent};
 ghost use Rattle.chess_game.specs.declared.game.TheConstants.{MOST_MOVES};
 
 use crate::block::Block;
@@ -86,7 +86,7 @@ pub(crate) trait MatchGame {
         requires room { array_vec_len block.old + 20 ≤ BLOCK_LEN }
         ensures text { (r : Rules) → plays self.now r
             → block.new.items
-            ≡ block.old.items ++ bytes_of (MoveTold prefixed (r.move_text as_san (played self.now)) ∷ []) }
+            ≡ block.old.items ++ bytes_of (MoveSent prefixed (r.move_text as_san (played self.now)) ∷ []) }
         ensures len { array_vec_len block.new ≤ array_vec_len block.old + 20 };
 
     /// Whether no move was played.

@@ -19,7 +19,7 @@ ghost use Rattle.engine_lines.specs.Seen.{seen};
 ghost use Rattle.chess_match.specs.Sent.{block, bytes_of, answers_to};
 ghost use Rattle.chess_match.specs.ties.Stands.{Stands, Goes, given_block, items_to};
 ghost use Rattle.chess_match.specs.ties.Steps.{IsSane};
-ghost use Rattle.chess_match.specs.ties.Told.{SendsIf, IsTold};
+ghost use Rattle.chess_match.specs.ties.Reported.{SendsIf, IsReported};
 ghost use Rattle.chess_match.specs.Transcript.{is_on, reads, moment_in};
 ghost use Rattle.chess_match.specs.declared.block.TheConstants.{ANSWERS_LEN};
 ghost use Rattle.chess_match.specs.declared.run.TheConstants.{ENGINE_LINE_LEN};
@@ -279,7 +279,7 @@ fn send_both<W: Output, L: Witness, G: MatchGame, S: Board>(
     white_block: &mut Block,
     black_block: &mut Block,
 ) -> Failed
-    requires untold { is_some core.now.untold ≡ true → 0 < length (G.played game.now) }
+    requires unsent_to { is_some core.now.unsent_to ≡ true → 0 < length (G.played game.now) }
     requires white_room { array_vec_len white_block.old ≤ ANSWERS_LEN }
     requires black_room { array_vec_len black_block.old ≤ ANSWERS_LEN }
     ensures sent { (r : Rules) (m : Match) (items : Colour → List Item) → G.plays game.now r
@@ -620,7 +620,7 @@ fn declare<B: Board>(game: &mut Game<B>, reason: Reason)
 // The report of the end; the end is declared where the game has no verdict.
 fn end_of<B: Board>(core: MatchState, game: &mut Game<B>, reason: Reason, failed: Failed) -> MatchEnd
     requires { game.old.state.declared ≡ None }
-    ensures told { IsTold reason failed result }
+    ensures told { IsReported reason failed result }
     ensures white_name { result.white_name ≡ core.white.name }
     ensures black_name { result.black_name ≡ core.black.name }
     ensures game { game.new

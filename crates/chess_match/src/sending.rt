@@ -7,7 +7,7 @@ ghost use Rattle.byte_devices.specs.Devices.{Sends};
 ghost use Rattle.chess_match.specs.Match.{Match};
 ghost use Rattle.chess_match.specs.Rules.{Rules};
 ghost use Rattle.chess_base.specs.declared.man.Move.{Move};
-ghost use Rattle.chess_match.specs.Sent.{Says, bytes_of, last_move, last_move_lines, clock_lines, opening_lines, setup_lines, end_lines, entry, untold_lines, variant_lines, is_unwritten};
+ghost use Rattle.chess_match.specs.Sent.{Says, bytes_of, last_move, last_move_lines, clock_lines, opening_lines, setup_lines, end_lines, entry, unsent_lines, variant_lines, is_unwritten};
 ghost use Rattle.chess_match.specs.Reasons.{fault_of};
 ghost use Rattle.chess_match.specs.ties.Stands.{Stands, player, to};
 
@@ -152,23 +152,23 @@ fn add_setup<G: MatchGame>(block: &mut Block, core: &MatchState, game: &G)
 }
 
 // The last move, if the side is still to be sent it.
-fn add_untold<G: MatchGame, S: Board>(
+fn add_unsent<G: MatchGame, S: Board>(
     block: &mut Block,
     core: &MatchState,
     game: &G,
     scratch: &mut S,
     side: Colour,
 )
-    requires untold { is_some core.now.untold ≡ true → 0 < length (G.played game.now) }
+    requires unsent_to { is_some core.now.unsent_to ≡ true → 0 < length (G.played game.now) }
     requires room { array_vec_len block.old + 20 ≤ BLOCK_LEN }
     ensures text { (r : Rules) (m : Match) → G.plays game.now r → Stands r core.now (G.played game.now) m
-        → block.new.items ≡ block.old.items ++ bytes_of (untold_lines r m side m.untold) }
+        → block.new.items ≡ block.old.items ++ bytes_of (unsent_lines r m side m.unsent_to) }
     ensures len { array_vec_len block.new ≤ array_vec_len block.old + 20 }
 {
-    match core.untold {
+    match core.unsent_to {
         None => {}
-        Some(untold) => {
-            if is_side(untold, side) {
+        Some(unsent_to) => {
+            if is_side(unsent_to, side) {
                 add_last(block, core, game, scratch, side);
             }
         }
@@ -184,13 +184,13 @@ fn add_end_lines<G: MatchGame, S: Board>(
     side: Colour,
     reason: Reason,
 )
-    requires untold { is_some core.now.untold ≡ true → 0 < length (G.played game.now) }
+    requires unsent_to { is_some core.now.unsent_to ≡ true → 0 < length (G.played game.now) }
     requires room { array_vec_len block.old + 120 ≤ BLOCK_LEN }
     ensures text { (r : Rules) (m : Match) → G.plays game.now r → Stands r core.now (G.played game.now) m
         → block.new.items ≡ block.old.items ++ bytes_of (end_lines r m side reason) }
     ensures len { array_vec_len block.new ≤ array_vec_len block.old + 120 }
 {
-    add_untold(block, core, game, scratch, side);
+    add_unsent(block, core, game, scratch, side);
     add_end(block, reason.outcome(), reason.comment());
 }
 
@@ -231,7 +231,7 @@ fn add_entry<G: MatchGame, S: Board>(
     scratch: &mut S,
     side: Colour,
 )
-    requires untold { is_some core.now.untold ≡ true → 0 < length (G.played game.now) }
+    requires unsent_to { is_some core.now.unsent_to ≡ true → 0 < length (G.played game.now) }
     requires room { array_vec_len block.old + 300 ≤ BLOCK_LEN }
     ensures { (r : Rules) (m : Match) → G.plays game.now r → Stands r core.now (G.played game.now) m
         → block.new.items ≡ block.old.items ++ bytes_of (entry r m side) }
@@ -294,7 +294,7 @@ pub(crate) fn add_entered<G: MatchGame, S: Board>(
     given: Actions,
     side: Colour,
 )
-    requires untold { is_some core.now.untold ≡ true → 0 < length (G.played game.now) }
+    requires unsent_to { is_some core.now.unsent_to ≡ true → 0 < length (G.played game.now) }
     requires room { array_vec_len block.old + 300 ≤ BLOCK_LEN }
     ensures { (r : Rules) (m : Match) → G.plays game.now r → Stands r core.now (G.played game.now) m
         → block.new.items ≡ block.old.items ++ bytes_of (if given.entered then entry r m side else []) }

@@ -42,7 +42,7 @@ pub(crate) struct MatchState {
     pub black: Player,
     pub clocks: Clocks,
     /// Who is still to be sent the last move.
-    pub untold: Option<Colour>,
+    pub unsent_to: Option<Colour>,
     /// The lines of a handshake, or the ignored ones of a setup or a turn.
     pub count: u32,
     /// The moment at the end of the turn's opening.
@@ -110,7 +110,7 @@ impl MatchState {
             white: Player::new(),
             black: Player::new(),
             clocks: Clocks::new(level),
-            untold: None,
+            unsent_to: None,
             count: 0,
             opened: 0,
         }

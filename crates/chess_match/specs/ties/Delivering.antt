@@ -12,7 +12,7 @@ use Rattle.chess_match.specs.Rules.{Rules}
 use Rattle.chess_match.specs.Run.{text_heard, Flushed}
 use Rattle.chess_match.specs.Sent.{SentLine, block, bytes_of, answer_words}
 use Rattle.chess_match.specs.ties.Stands.{Stands}
-use Rattle.chess_match.specs.ties.Told.{SendsIf}
+use Rattle.chess_match.specs.ties.Reported.{SendsIf}
 use Rattle.chess_match.specs.Transcript.{is_on}
 use Rattle.chess_match.specs.declared.state.MatchState.{MatchState}
 use Rattle.chess_base.specs.Letters.{new_line}
@@ -83,7 +83,7 @@ Delivered r core played m due first w w' failed notes notes' =
 -- core and game stand for a match in which there is a last move, if someone is still to be sent it
 abbrev pub HasLast : MatchState → List Move → Type 0
 HasLast core played = (r : Rules) × (m : Match) × Stands r core played m
-    × (is_some m.untold ≡ true → 0 < length m.played)
+    × (is_some m.unsent_to ≡ true → 0 < length m.played)
 
 -- the line that answers an item of that name
 abbrev pub answer_line : List ℕ → List ℕ

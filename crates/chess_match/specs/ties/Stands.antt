@@ -44,7 +44,7 @@ pub record Stands (r : Rules) (core : MatchState) (played : List Move) (m : Matc
   pub black : Keeps core.black m.black
   pub clocks : core.clocks ≡ clocks_of r.level m
   pub moves : played ≡ m.played
-  pub untold : core.untold ≡ m.untold
+  pub unsent_to : core.unsent_to ≡ m.unsent_to
   pub count : core.count ≡ m.count
   pub opened : core.opened ≡ m.opened
 
@@ -90,13 +90,13 @@ offered_core core Black =
 abbrev pub played_core : MatchState → Colour → ℕ → MatchState
 played_core core White used = record core {
   phase = AwaitPong White;
-  untold = Some Black;
+  unsent_to = Some Black;
   clocks = charged core.clocks White used;
   black = record { features = core.black.features; name = core.black.name; offers = false };
 }
 played_core core Black used = record core {
   phase = AwaitPong Black;
-  untold = Some White;
+  unsent_to = Some White;
   clocks = charged core.clocks Black used;
   white = record { features = core.white.features; name = core.white.name; offers = false };
 }

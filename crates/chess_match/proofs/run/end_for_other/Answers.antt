@@ -11,8 +11,8 @@ use Rattle.chess_match.proofs.Delivers.{last_told, on_too, sends_if}
 use Rattle.chess_match.proofs.Sends.{no_answers}
 use Rattle.chess_match.proofs.run.end_for_other.Goals as goal
 
-pub note_and_send-requires-clause-untold : goal.note_and_send-requires-clause-untold
-note_and_send-requires-clause-untold g c =
+pub note_and_send-requires-clause-unsent_to : goal.note_and_send-requires-clause-unsent_to
+note_and_send-requires-clause-unsent_to g c =
     let l = c.requires.last in
     let goes = c.write_fails-given.ensures l.0 _ l.1 (on_too l.0 _ _ l.1 l.2 c.requires.on) l.2 in
     last_told l.0 _ _ (after l.0 l.1 (FailsToWrite c.args.side)) goes.stands l.3

@@ -126,7 +126,7 @@ deliver-failed-requires-in-Line-clause-last g c =
       r,
       after r m (event_heard S h.0 heard),
       (h.5 r m plays reading i.1.stands).stands,
-      (heard_sane r m S h.0 heard i.1.sane).untold,
+      (heard_sane r m S h.0 heard i.1.sane).unsent_to,
     )
 
 pub hear-given-requires-clause-empty : goal.hear-given-requires-clause-empty

@@ -6,7 +6,7 @@ use Rattle.chess_match.specs.Match.{FailsToWrite, after}
 use Rattle.chess_match.specs.Notes.{WasNoted, Happened, given_note}
 use Rattle.chess_match.specs.Sent.{SentLine, block, bytes_of}
 use Rattle.chess_match.specs.ties.Stands.{Stands, given_block}
-use Rattle.chess_match.specs.ties.Told.{SendsIf}
+use Rattle.chess_match.specs.ties.Reported.{SendsIf}
 use Rattle.chess_match.proofs.Delivers.{on_too, sends_if, first_failed, second_failed, none_failed}
 use Rattle.chess_match.proofs.Notings.{noted_more, noted_as, first_noted, second_noted}
 use Rattle.chess_match.proofs.Sends.{no_answers_of}

@@ -3,7 +3,7 @@ use Rattle.std.proofs.Common.{◌≡◌, ◌+◌, ◌-◌, ◌++◌, ◌∷◌, 
 use Rattle.chess_base.specs.declared.setup.Setup.{Setup}
 use Rattle.chess_text.specs.San.{san, shown_move}
 use Rattle.chess_match.specs.Rules.{Rules, rules_of, text_of_last}
-use Rattle.chess_match.specs.Sent.{bytes_of, MoveTold}
+use Rattle.chess_match.specs.Sent.{bytes_of, MoveSent}
 use Rattle.chess_match.proofs.LastMoves.{as_san_last, shown_last}
 use Rattle.chess_match.proofs.chess.GamePlayed.add_last_move.Goals as goal
 use Rattle.chess_pgn.proofs.GameTexts.{legal_next}
@@ -26,7 +26,7 @@ returns-then-as_san-clause-text g c r p =
     ∙ as_san_last start c.args.self.now.state.moves i c.move_at-made.result n c.move_at-made.ensures
     ∙ ap (λ b. text_of_last b start c.args.self.now.state.moves) (sym c.if-as_san.true)
     ∙ ap (λ (x : Rules). x.move_text c.args.as_san c.args.self.now.state.moves) (sym p.1) in
-    c.add_move.ensures.text ∙ ap (λ (t : List ℕ). c.args.block.now.items ++ bytes_of (MoveTold c.args.prefixed t ∷ []))
+    c.add_move.ensures.text ∙ ap (λ (t : List ℕ). c.args.block.now.items ++ bytes_of (MoveSent c.args.prefixed t ∷ []))
     told
 
 pub returns-else-as_san-clause-text : goal.returns-else-as_san-clause-text
@@ -42,4 +42,4 @@ returns-else-as_san-clause-text g c r p =
     ∙ ap (λ b. text_of_last b start c.args.self.now.state.moves) (sym c.if-as_san.false)
     ∙ ap (λ (x : Rules). x.move_text c.args.as_san c.args.self.now.state.moves) (sym p.1) in
     c.add_move-else-as_san.ensures.text
-    ∙ ap (λ (t : List ℕ). c.args.block.now.items ++ bytes_of (MoveTold c.args.prefixed t ∷ [])) told
+    ∙ ap (λ (t : List ℕ). c.args.block.now.items ++ bytes_of (MoveSent c.args.prefixed t ∷ [])) told

@@ -1,6 +1,6 @@
 -- The start that is sent is that of the rules, and its line is put in three parts.
 use Rattle.std.proofs.Common.{◌≡◌, ℕ, List, [], ◌∷◌, ◌++◌, ap, sym, ◌∙◌, append_assoc, Some}
-use Rattle.chess_match.specs.Rules.{Rules, rules_of, fen_told}
+use Rattle.chess_match.specs.Rules.{Rules, rules_of, fen_sent}
 use Rattle.chess_match.specs.Sent.{bytes_of}
 use Rattle.chess_match.proofs.chess.GamePlayed.add_start.Goals as goal
 
@@ -12,7 +12,7 @@ pub returns-in-Some-clause-text : goal.returns-in-Some-clause-text
 unfolding rules_of bytes_of
 returns-in-Some-clause-text g c r p =
     let told : Some c.in-Some.text.items ≡ r.start_fen =
-    c.in-Some.ensures.text ∙ ap fen_told c.start.ensures ∙ ap (λ (x : Rules). x.start_fen) (sym p.1) in
+    c.in-Some.ensures.text ∙ ap fen_sent c.start.ensures ∙ ap (λ (x : Rules). x.start_fen) (sym p.1) in
     rw (
       ← told,
       c.add-in-Some-2.ensures.text,

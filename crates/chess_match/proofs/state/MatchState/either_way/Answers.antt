@@ -2,7 +2,7 @@
 -- kind of line has here the row that it has there; an end needs only that the match is on (Going.reads_on).
 use Rattle.std.proofs.Common.{◌≡◌, true, false, sym, ◌∙◌, Some, None, arith, length, lt-ltb, le-ltb}
 use Rattle.chess_base.specs.Men.{other, same_colour}
-use Rattle.chess_match.specs.Match.{seat, was_told}
+use Rattle.chess_match.specs.Match.{seat, was_sent_move}
 use Rattle.chess_match.proofs.Going.{reads_on, clocks_moves}
 use Rattle.chess_match.proofs.state.MatchState.either_way.Goals as goal
 
@@ -38,14 +38,14 @@ pub returns-then-moves-gt0 : goal.returns-then-moves-gt0
 returns-then-moves-gt0 g c r m p h s =
     let moved : c.moves.result ≡ length (seat m (other c.args.side)).used = c.moves.ensures.value
     ∙ rw c.other.ensures (clocks_moves r _ _ m s (other c.args.side)) in
-    let told : was_told m c.args.side ≡ true = lt-ltb 0 _ (omega (arith, moved)) in
+    let told : was_sent_move m c.args.side ≡ true = lt-ltb 0 _ (omega (arith, moved)) in
     rw (c.in-Rejection.is, told) (c.finish-then-moves-gt0.ensures r _ m (reads_on m.phase c.args.side h) s)
 
 pub returns-else-moves-gt0 : goal.returns-else-moves-gt0
 returns-else-moves-gt0 g c r m p h s =
     let moved : c.moves.result ≡ length (seat m (other c.args.side)).used = c.moves.ensures.value
     ∙ rw c.other.ensures (clocks_moves r _ _ m s (other c.args.side)) in
-    let told : was_told m c.args.side ≡ false = le-ltb 0 _ (omega (arith, moved)) in
+    let told : was_sent_move m c.args.side ≡ false = le-ltb 0 _ (omega (arith, moved)) in
     rw (c.in-Rejection.is, told) (c.ignore.ensures r _ m h s)
 
 pub returns-in-Features : goal.returns-in-Features

@@ -1,0 +1,8 @@
+use Rattle.chess_match.proofs.ToldLaw.{items_are_said, each_is_sent_the_others}
+use Rattle.chess_match.proofs.laws.each_is_sent_the_others.Goals as goal
+
+pub returns-clause-said : goal.returns-clause-said
+returns-clause-said c = items_are_said
+
+pub returns-clause-told : goal.returns-clause-told
+returns-clause-told c = each_is_sent_the_others
