@@ -5,7 +5,7 @@ ghost use Rattle.arrayvec.specs.ArrayVec.{array_vec_len};
 ghost use Rattle.byte_devices.specs.Devices.{OutputState};
 ghost use Rattle.chess_base.specs.Letters.{new_line};
 ghost use Rattle.chess_base.specs.Men.{same_colour};
-ghost use Rattle.chess_match.specs.Run.{Ports, text_heard};
+ghost use Rattle.chess_match.specs.Run.{Ports, text_read};
 ghost use Rattle.chess_arbiter.specs.Log.{Logs, RanLogged, ends_line, engine_text, given_text, head, heard_text, log_line, log_seen, log_start, shown};
 ghost use Rattle.chess_arbiter.specs.ties.Logging.{Adds, IsLog};
 
@@ -176,7 +176,7 @@ impl Pending {
         line: &Line<ENGINE_LINE_LEN>,
     )
         ensures { Adds (E.seen output.old) (E.seen output.new) self.old self.new
-            (heard_text moment is_first (text_heard line.now)) }
+            (heard_text moment is_first (text_read line.now)) }
     {
         if line.is_too_long() {
             self.add_line(output, moment, b'!', is_first, b"line too long");

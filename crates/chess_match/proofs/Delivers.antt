@@ -8,7 +8,7 @@ use Rattle.byte_devices.specs.Devices.{OutputState}
 use Rattle.chess_base.specs.Men.{other}
 use Rattle.engine_lines.specs.Clocks.{ClocksSeen, spent_by}
 use Rattle.chess_cecp.specs.Lines.{LineSeen}
-use Rattle.chess_match.specs.ties.Delivering.{Delivered, broken_notes, by_side, by_turn, event_heard}
+use Rattle.chess_match.specs.ties.Delivering.{Delivered, broken_notes, by_side, by_turn, event_read}
 use Rattle.engine_lines.specs.Items.{Item}
 use Rattle.chess_match.specs.Match.{Match, Event, Line, OutputEnds, FailsToRead, FailsToWrite, after}
 use Rattle.chess_match.specs.Notes.{Noted, WasNoted, Happened, both_notes, first_sent}
@@ -17,7 +17,7 @@ use Rattle.chess_match.specs.Sent.{SentLine, answers_to, block, bytes_of}
 use Rattle.chess_match.specs.ties.Stands.{Stands, Goes, clocks_of, items_to, nothing_said}
 use Rattle.chess_match.specs.ties.Steps.{IsSane, in_turn}
 use Rattle.chess_match.specs.ties.Reported.{SendsIf}
-use Rattle.chess_match.specs.Run.{Asked, text_heard}
+use Rattle.chess_match.specs.Run.{Asked, text_read}
 use Rattle.chess_match.specs.Transcript.{is_on, reads, moment_in}
 use Rattle.chess_match.specs.declared.state.MatchState.{MatchState}
 use Rattle.chess_match.specs.declared.state.Actions.{Actions}
@@ -230,16 +230,16 @@ noted_bare plays core played core' played' given text S coming notes notes' e no
 )
 
 pub heard_failed : {E : Type 0} (P : Event → Type 0) (S : Colour) (moment : ℕ) (result : Result (Option LineSeen) E)
-    (x : E) → result ≡ Err x → P (FailsToRead S) → P (event_heard S moment result)
-heard_failed P S moment result x e p = subst (λ v. P (event_heard S moment v)) (sym e) p
+    (x : E) → result ≡ Err x → P (FailsToRead S) → P (event_read S moment result)
+heard_failed P S moment result x e p = subst (λ v. P (event_read S moment v)) (sym e) p
 
 pub heard_none : {E : Type 0} (P : Event → Type 0) (S : Colour) (moment : ℕ) (result : Result (Option LineSeen) E)
-    → result ≡ Ok None → P (OutputEnds S) → P (event_heard S moment result)
-heard_none P S moment result e p = subst (λ v. P (event_heard S moment v)) (sym e) p
+    → result ≡ Ok None → P (OutputEnds S) → P (event_read S moment result)
+heard_none P S moment result e p = subst (λ v. P (event_read S moment v)) (sym e) p
 
 pub heard_last : {E : Type 0} (P : Event → Type 0) (S : Colour) (moment : ℕ) (result : Result (Option LineSeen) E)
     (line : LineSeen) → result ≡ Ok (Some line) → line.ended ≡ false → P (OutputEnds S)
-    → P (event_heard S moment result)
+    → P (event_read S moment result)
 heard_last P S moment result line e f p =
-    subst (λ v. P (event_heard S moment v)) (sym e)
-    (subst (λ (b : Bool). P (if b then Line S (text_heard line) moment else OutputEnds S)) (sym f) p)
+    subst (λ v. P (event_read S moment v)) (sym e)
+    (subst (λ (b : Bool). P (if b then Line S (text_read line) moment else OutputEnds S)) (sym f) p)

@@ -17,7 +17,7 @@ use Rattle.chess_match.specs.Match.{Event, seat}
 use Rattle.chess_match.specs.Reasons.{declared_at, outcome_of}
 use Rattle.chess_match.specs.Notes.{Noted}
 use Rattle.chess_match.specs.Rules.{Rules, rules_of}
-use Rattle.chess_match.specs.Run.{Ports, reader_at, writer_at, Heard, Written, game_after, RanBefore}
+use Rattle.chess_match.specs.Run.{Ports, reader_at, writer_at, ReadFrom, Written, game_after, RanBefore}
 use Rattle.chess_match.specs.ties.Stands.{name_by}
 use Rattle.chess_match.specs.ties.Reported.{IsReported}
 use Rattle.chess_match.specs.Transcript.{match_of, ending_in, name_of, blocks}
@@ -90,7 +90,7 @@ ran g h h' start level T core reason failed end nw nb nw' nb' held ow ob ow' ob'
         record {
           fitting = u.fitting;
           ending = ap ending_in (sym u.stands.phase ∙ over);
-          heard = both_sides (λ S. (given : List ℕ) × Heard S T (reader_at w S) (reader_at w' S) given)
+          heard = both_sides (λ S. (given : List ℕ) × ReadFrom S T (reader_at w S) (reader_at w' S) given)
               ((u.heard White).0, (u.heard White).1) ((u.heard Black).0, (u.heard Black).1);
           written = both_sides (λ S. Written (by_side failed.white failed.black S) (writer_at w S) (writer_at w' S)
               (blocks r S T)) (u.written White) (u.written Black);

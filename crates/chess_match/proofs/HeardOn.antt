@@ -8,7 +8,7 @@ use Rattle.chess_cecp.specs.Lines.{LineSeen, Held, stream_lines, lines_held}
 use Rattle.chess_cecp.specs.Run.{risen_if}
 use Rattle.chess_match.proofs.Hearing.{Hearing, HeardAll, is_heard_of, Tells, HearsAt}
 use Rattle.chess_match.specs.Match.{Event, Line, Opened, OutputEnds, FailsToRead, FailsToWrite}
-use Rattle.chess_match.specs.Run.{text_heard, engine_lines, Heard}
+use Rattle.chess_match.specs.Run.{text_read, engine_lines, ReadFrom}
 use Rattle.chess_match.specs.Transcript.{line_in, lines_of, is_end_of, has_end, is_read_failure_of, has_read_failure}
 use Rattle.chess_match.proofs.UnderWay.{IsHearing, HeardSoFar}
 use Rattle.chess_match.proofs.Hears.{hearing_more, heard_last, heard_none, heard_fault}
@@ -16,9 +16,9 @@ use Rattle.chess_match.proofs.Runs.{IsTail, lines_more, end_more, failure_more}
 use Rattle.chess_match.specs.declared.run.TheConstants.{ENGINE_LINE_LEN}
 use Rattle.std.specs.Prelude.{if◌then◌else◌}
 
-map_both : (xs ys : List LineSeen) → map text_heard (xs ++ ys) ≡ map text_heard xs ++ map text_heard ys
+map_both : (xs ys : List LineSeen) → map text_read (xs ++ ys) ≡ map text_read xs ++ map text_read ys
 map_both [] ys = refl
-map_both (x ∷ xs) ys = ap (λ ls. text_heard x ∷ ls) (map_both xs ys)
+map_both (x ∷ xs) ys = ap (λ ls. text_read x ∷ ls) (map_both xs ys)
 
 pub not_both : (b : Bool) {P : Type 0} → b ≡ false → b ≡ true → P
 not_both true e h = absurd cc
@@ -26,19 +26,19 @@ not_both false e h = absurd cc
 
 first_lines : (r r' : InputState) (h : Held) (given : List ℕ) (texts : List (Option (List ℕ)))
     (s : Hearing r r' h given texts) → engine_lines given ≡ texts
-    ++ map text_heard (lines_held ENGINE_LINE_LEN false h [])
+    ++ map text_read (lines_held ENGINE_LINE_LEN false h [])
 first_lines r r' h given texts s =
-    ap (λ bytes. map text_heard (stream_lines ENGINE_LINE_LEN false bytes)) (sym (append-nil given))
-    ∙ ap (λ ls. map text_heard ls) (s.lines.2 false [])
+    ap (λ bytes. map text_read (stream_lines ENGINE_LINE_LEN false bytes)) (sym (append-nil given))
+    ∙ ap (λ ls. map text_read ls) (s.lines.2 false [])
     ∙ map_both s.lines.0 (lines_held ENGINE_LINE_LEN false h [])
-    ∙ ap (λ ls. ls ++ map text_heard (lines_held ENGINE_LINE_LEN false h [])) s.lines.1
+    ∙ ap (λ ls. ls ++ map text_read (lines_held ENGINE_LINE_LEN false h [])) s.lines.1
 
 -- while an engine is read, its lines so far are the first of all
 pub heard_still : (S : Colour) (T : List Event) (r r' : InputState) (h : Held) (given : List ℕ)
-    → IsHearing S T r r' h given → Heard S T r r' given
+    → IsHearing S T r r' h given → ReadFrom S T r r' given
 heard_still S T r r' h given s = record {
   bytes = s.hearing.bytes;
-  lines = (map text_heard (lines_held ENGINE_LINE_LEN false h []), first_lines r r' h given (lines_of S T) s.hearing);
+  lines = (map text_read (lines_held ENGINE_LINE_LEN false h []), first_lines r r' h given (lines_of S T) s.hearing);
   ends = s.hearing.ends ∙ ap (λ b. risen_if b r.end_count) (sym s.unended);
   failures = s.hearing.failures ∙ ap (λ b. risen_if b r.failure_count) (sym s.unfailed);
   at_end = λ e. not_both (has_end S T) s.unended e;
@@ -47,12 +47,12 @@ heard_still S T r r' h given s = record {
 
 all_lines : (r r' : InputState) (given : List ℕ) (texts : List (Option (List ℕ))) → HeardAll r r' given texts
     → engine_lines given ≡ texts
-all_lines r r' given texts s = ap (λ ls. map text_heard ls) s.lines.2 ∙ s.lines.1
+all_lines r r' given texts s = ap (λ ls. map text_read ls) s.lines.2 ∙ s.lines.1
 
 heard_to_end : (S : Colour) (T : List Event) (r r' : InputState) (given : List ℕ) (texts : List (Option (List ℕ)))
     → HeardAll r r' given texts × (r'.end_count ≡ risen r.end_count) × (r'.failure_count ≡ r.failure_count)
     × IsAtEnd r'.known_bytes
-    → lines_of S T ≡ texts → has_end S T ≡ true → has_read_failure S T ≡ false → Heard S T r r' given
+    → lines_of S T ≡ texts → has_end S T ≡ true → has_read_failure S T ≡ false → ReadFrom S T r r' given
 heard_to_end S T r r' given texts (s, ends, failures, at_end) l e f =
     let all : engine_lines given ≡ lines_of S T = all_lines r r' given texts s ∙ sym l in
     record {
@@ -66,7 +66,7 @@ heard_to_end S T r r' given texts (s, ends, failures, at_end) l e f =
 
 heard_to_fault : (S : Colour) (T : List Event) (r r' : InputState) (given : List ℕ) (texts : List (Option (List ℕ)))
     → HeardAll r r' given texts × (r'.end_count ≡ r.end_count) × (r'.failure_count ≡ risen r.failure_count)
-    → lines_of S T ≡ texts → has_end S T ≡ false → has_read_failure S T ≡ true → Heard S T r r' given
+    → lines_of S T ≡ texts → has_end S T ≡ false → has_read_failure S T ≡ true → ReadFrom S T r r' given
 heard_to_fault S T r r' given texts (s, ends, failures) l e f =
     let all : engine_lines given ≡ lines_of S T = all_lines r r' given texts s ∙ sym l in
     record {
@@ -136,7 +136,7 @@ own_heard : (S : Colour) (T : List Event) (e : Event) (U : List Event) (on : Boo
     → Consumes r'.known_bytes r''.known_bytes more → Tells e r' r'' h h' more → IsHearing S T r r' h given
     → HeardSoFar S (T ++ e ∷ U) on r r'' h'
 own_heard S T (Line c text n) U on r r' r'' h h' given more t is stop b (line, got, same) s =
-    let texts : lines_of S T ++ text_heard line ∷ [] ≡ lines_of S (T ++ Line c text n ∷ U) =
+    let texts : lines_of S T ++ text_read line ∷ [] ≡ lines_of S (T ++ Line c text n ∷ U) =
     sym (lines_more S T (Line c text n) U t ∙ ap (λ (ls : List (Option (List ℕ))). lines_of S T ++ ls)
     (ap (λ (b : Bool). if b then text ∷ [] else []) is ∙ ap (λ (x : Option (List ℕ)). x ∷ []) same)) in
     still S (T ++ Line c text n ∷ U) on r r'' h' (given ++ more) (record {

@@ -8,13 +8,13 @@ use Rattle.chess_base.specs.Men.{same_colour}
 use Rattle.chess_cecp.specs.Lines.{LineSeen, Held, stream_lines, lines_held}
 use Rattle.chess_cecp.specs.Next.{GotLine, GotLast, GotNone, GotFault}
 use Rattle.chess_match.specs.Match.{Event, Line, Opened, OutputEnds, FailsToRead, FailsToWrite}
-use Rattle.chess_match.specs.Run.{text_heard}
+use Rattle.chess_match.specs.Run.{text_read}
 use Rattle.chess_match.specs.declared.run.TheConstants.{ENGINE_LINE_LEN}
 
 -- these bytes came, of them these lines were given, and the rest is held; no end was reported, and no read failed
 pub record Hearing (old new : InputState) (held : Held) (given : List ℕ) (texts : List (Option (List ℕ))) : Type 0 where
   pub bytes : Consumes old.known_bytes new.known_bytes given
-  pub lines : (heard : List LineSeen) × (map text_heard heard ≡ texts)
+  pub lines : (heard : List LineSeen) × (map text_read heard ≡ texts)
       × ((told : Bool) (rest : List ℕ) → stream_lines ENGINE_LINE_LEN told (given ++ rest) ≡ heard
       ++ lines_held ENGINE_LINE_LEN told held rest)
   pub ends : new.end_count ≡ old.end_count
@@ -23,7 +23,7 @@ pub record Hearing (old new : InputState) (held : Held) (given : List ℕ) (text
 -- the end was reported, and all lines were given
 pub record HeardAll (old new : InputState) (given : List ℕ) (texts : List (Option (List ℕ))) : Type 0 where
   pub bytes : Consumes old.known_bytes new.known_bytes given
-  pub lines : (heard : List LineSeen) × (map text_heard heard ≡ texts)
+  pub lines : (heard : List LineSeen) × (map text_read heard ≡ texts)
       × (stream_lines ENGINE_LINE_LEN false given ≡ heard)
 
 -- ---- one event more
@@ -39,7 +39,7 @@ is_heard_of S (FailsToWrite c) = false
 -- the bytes that came with an event, and what reported it
 abbrev pub Tells : Event → InputState → InputState → Held → Held → List ℕ → Type 0
 Tells (Line c text moment) r r' held held' more =
-    (line : LineSeen) × GotLine ENGINE_LINE_LEN r r' held held' more line × (text ≡ text_heard line)
+    (line : LineSeen) × GotLine ENGINE_LINE_LEN r r' held held' more line × (text ≡ text_read line)
 Tells (OutputEnds c) r r' held held' more =
     ((line : LineSeen) × GotLast ENGINE_LINE_LEN r r' held held' more line)
     ⊎ GotNone ENGINE_LINE_LEN r r' held held' more

@@ -7,7 +7,7 @@ use Rattle.chess_base.specs.Men.{other}
 use Rattle.engine_lines.specs.EngineLines.{LineKind, line_kind}
 use Rattle.engine_lines.specs.Items.{Item}
 use Rattle.chess_match.specs.laws.Laws.{LinesAreFew, line_count}
-use Rattle.chess_match.specs.Match.{Match, Event, items_heard, Line, Opened, OutputEnds, FailsToRead, FailsToWrite, seat, hear, start, over, enter, open_turn, played_by, after}
+use Rattle.chess_match.specs.Match.{Match, Event, items_of_line, Line, Opened, OutputEnds, FailsToRead, FailsToWrite, seat, hear, start, over, enter, open_turn, played_by, after}
 use Rattle.chess_match.specs.Rules.{Rules}
 use Rattle.chess_match.specs.Sent.{SentLine, entry, block}
 use Rattle.chess_match.specs.Transcript.{reads, opens, fits_next, fits_from}
@@ -170,11 +170,11 @@ few_over r k reason m w = at m.phase w
 lines : (r : Rules) (k : ℕ) (S : Colour) (kind : LineKind) (moment : ℕ) (m : Match) → Few r k m
     → Lines r S kind moment m (λ m'. Few r (k + 1) m')
 lines r k S kind moment m w = record {
-  hello_ends = λ p d. heard_ends r k S (items_heard kind) Agreed m (into_phase r k m (Hello S) p w);
-  hello_counts = λ p d few. heard_counts r k S (items_heard kind) m p (into_phase r k m (Hello S) p w) few;
-  hello_next = λ p s d. heard_next r k S (items_heard kind) m s (into_phase r k m (Hello White) p w);
-  hello_judged = λ p s d c x. heard_judged r k S (items_heard kind) Agreed m s (into_phase r k m (Hello Black) p w);
-  hello_done = λ p s d. heard_done r k S (items_heard kind) m s (into_phase r k m (Hello Black) p w);
+  hello_ends = λ p d. heard_ends r k S (items_of_line kind) Agreed m (into_phase r k m (Hello S) p w);
+  hello_counts = λ p d few. heard_counts r k S (items_of_line kind) m p (into_phase r k m (Hello S) p w) few;
+  hello_next = λ p s d. heard_next r k S (items_of_line kind) m s (into_phase r k m (Hello White) p w);
+  hello_judged = λ p s d c x. heard_judged r k S (items_of_line kind) Agreed m s (into_phase r k m (Hello Black) p w);
+  hello_done = λ p s d. heard_done r k S (items_of_line kind) m s (into_phase r k m (Hello Black) p w);
   setup_ends = λ p reason n. setup_over r k S reason m (into_phase r k m (Setup S) p w);
   setup_counts = λ p pong few. setup_more r k S m p (into_phase r k m (Setup S) p w) few;
   setup_next = λ p s pong. setup_next (into_phase r k m (Setup White) p w);

@@ -11,12 +11,12 @@ use Rattle.chess_base.specs.Men.{other}
 use Rattle.chess_base.proofs.MenFacts.{same_colour-self}
 use Rattle.chess_cecp.specs.Lines.{LineSeen, Held}
 use Rattle.chess_cecp.specs.Next.{NextLine, GotLine, GotLast, work}
-use Rattle.chess_match.specs.ties.Delivering.{event_heard, Delivered}
+use Rattle.chess_match.specs.ties.Delivering.{event_read, Delivered}
 use Rattle.chess_match.proofs.Hearing.{is_heard_of, Tells, HearsAt}
 use Rattle.chess_match.specs.Match.{Match, Event, Line, OutputEnds, FailsToRead, after}
 use Rattle.chess_match.specs.Notes.{Noted}
 use Rattle.chess_match.specs.Rules.{Rules}
-use Rattle.chess_match.specs.Run.{text_heard}
+use Rattle.chess_match.specs.Run.{text_read}
 use Rattle.chess_match.specs.Sent.{SentLine}
 use Rattle.chess_match.specs.ties.Steps.{IsSane}
 use Rattle.chess_match.specs.Transcript.{reads, opens, is_on, fits_next}
@@ -32,40 +32,40 @@ use Rattle.chess_match.specs.declared.run.TheConstants.{ENGINE_LINE_LEN}
 -- ---- by whether byte 10 ended the line
 
 by_ended : (P : Event → Type 0) (S : Colour) (line : LineSeen) (moment : ℕ) (b : Bool) → line.ended ≡ b
-    → P (if b then Line S (text_heard line) moment else OutputEnds S)
-    → P (if line.ended then Line S (text_heard line) moment else OutputEnds S)
-by_ended P S line moment b e p = subst (λ (x : Bool). P (if x then Line S (text_heard line) moment else OutputEnds S))
+    → P (if b then Line S (text_read line) moment else OutputEnds S)
+    → P (if line.ended then Line S (text_read line) moment else OutputEnds S)
+by_ended P S line moment b e p = subst (λ (x : Bool). P (if x then Line S (text_read line) moment else OutputEnds S))
     (sym e) p
 
 -- a property of lines, ends and failures is one of what is read
 pub heard_is : {E : Type 0} (P : Event → Type 0) (S : Colour) (moment : ℕ) (result : Result (Option LineSeen) E)
     → ((text : Option (List ℕ)) → P (Line S text moment)) → P (OutputEnds S) → P (FailsToRead S)
-    → P (event_heard S moment result)
+    → P (event_read S moment result)
 heard_is P S moment (Err x) l e f = f
 heard_is P S moment (Ok None) l e f = e
 heard_is P S moment (Ok (Some line)) l e f = by_either line.ended refl
   where
-    by_either : (b : Bool) → line.ended ≡ b → P (if line.ended then Line S (text_heard line) moment else OutputEnds S)
-    by_either true h = by_ended P S line moment true h (l (text_heard line))
+    by_either : (b : Bool) → line.ended ≡ b → P (if line.ended then Line S (text_read line) moment else OutputEnds S)
+    by_either true h = by_ended P S line moment true h (l (text_read line))
     by_either false h = by_ended P S line moment false h e
 
 pub heard_of : {E : Type 0} (S : Colour) (moment : ℕ) (result : Result (Option LineSeen) E)
-    → is_heard_of S (event_heard S moment result) ≡ true
+    → is_heard_of S (event_read S moment result) ≡ true
 heard_of S moment result =
     heard_is (λ e. is_heard_of S e ≡ true) S moment result (λ text. same_colour-self S) (same_colour-self S)
     (same_colour-self S)
 
 pub heard_of_none : {E : Type 0} (S : Colour) (moment : ℕ) (result : Result (Option LineSeen) E)
-    → is_heard_of (other S) (event_heard S moment result) ≡ false
+    → is_heard_of (other S) (event_read S moment result) ≡ false
 heard_of_none S moment result = heard_is (λ e. is_heard_of (other S) e ≡ false) S moment result (λ text. not_other S)
     (not_other S) (not_other S)
 
 pub heard_fits : {E : Type 0} (m : Match) (S : Colour) (moment : ℕ) (result : Result (Option LineSeen) E)
-    → reads m.phase S ≡ true → fits_next nothing_due m (event_heard S moment result) ≡ true
+    → reads m.phase S ≡ true → fits_next nothing_due m (event_read S moment result) ≡ true
 heard_fits m S moment result h = heard_is (λ e. fits_next nothing_due m e ≡ true) S moment result (λ text. h) h h
 
 pub heard_sane : {E : Type 0} (r : Rules) (m : Match) (S : Colour) (moment : ℕ) (result : Result (Option LineSeen) E)
-    → IsSane r m → IsSane r (after r m (event_heard S moment result))
+    → IsSane r m → IsSane r (after r m (event_read S moment result))
 heard_sane r m S moment result s = heard_is (λ e. IsSane r (after r m e)) S moment result
     (λ text. sane_line r m S text moment s) (sane_over r m _ s) (sane_over r m _ s)
 
@@ -80,7 +80,7 @@ hears_as S e r r' h h' more is b t =
 
 pub own_hears : {E : Type 0} (S : Colour) (moment : ℕ) (r r' : InputState) (h h' : Held)
     (result : Result (Option LineSeen) E) → NextLine ENGINE_LINE_LEN r r' h h' result
-    → HearsAt S (event_heard S moment result) r r' h h'
+    → HearsAt S (event_read S moment result) r r' h h'
 own_hears S moment r r' h h' (Err x) (more, b, w, got) =
     hears_as S (FailsToRead S) r r' h h' more (same_colour-self S) b got
 own_hears S moment r r' h h' (Ok None) (more, b, w, got) =
@@ -89,9 +89,9 @@ own_hears S moment r r' h h' (Ok (Some line)) (more, b, w, got) = by_whether lin
   where
     by_whether : (x : Bool) → line.ended ≡ x
         → MatchBool x (GotLine ENGINE_LINE_LEN r r' h h' more line) (GotLast ENGINE_LINE_LEN r r' h h' more line)
-        → HearsAt S (if line.ended then Line S (text_heard line) moment else OutputEnds S) r r' h h'
+        → HearsAt S (if line.ended then Line S (text_read line) moment else OutputEnds S) r r' h h'
     by_whether true e g = by_ended (λ v. HearsAt S v r r' h h') S line moment true e
-        (hears_as S (Line S (text_heard line) moment) r r' h h' more (same_colour-self S) b (line, g, refl))
+        (hears_as S (Line S (text_read line) moment) r r' h h' more (same_colour-self S) b (line, g, refl))
     by_whether false e g = by_ended (λ v. HearsAt S v r r' h h') S line moment false e
         (hears_as S (OutputEnds S) r r' h h' more (same_colour-self S) b (inl (line, g)))
 
@@ -161,7 +161,7 @@ pub heard_less : {E : Type 0} (r : Rules) (p : Phase) (core : MatchState) (playe
     (notes notes' : Noted)
     → reads p S ≡ true → NextLine ENGINE_LINE_LEN (n S) (n' S) (h S) (h' S) result → n' (other S) ≡ n (other S)
     → h' (other S) ≡ h (other S)
-    → Delivered r core played (after r m (event_heard S moment result)) due S w w' failed
+    → Delivered r core played (after r m (event_read S moment result)) due S w w' failed
     notes notes'
     → steps_left core.phase (work (n' White) (h' White) + work (n' Black) (h' Black)) < steps_left p
     (work (n White) (h White) + work (n Black) (h Black))
@@ -184,5 +184,5 @@ heard_less r p core played m S moment (Ok (Some line)) due n n' h h' w w' failed
         over_less p core.phase S _ _ reading
         (over_after r core played _ due S w w' failed notes notes' refl
         (subst (λ (v : Bool).
-        Delivered r core played (after r m (if v then Line S (text_heard line) moment else OutputEnds S)) due S w w'
+        Delivered r core played (after r m (if v then Line S (text_read line) moment else OutputEnds S)) due S w w'
         failed notes notes') e d))

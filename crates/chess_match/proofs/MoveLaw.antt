@@ -13,7 +13,7 @@ use Rattle.chess_game.specs.declared.ends.Verdict.{Verdict}
 use Rattle.engine_lines.specs.EngineLines.{LineKind, line_kind}
 use Rattle.engine_lines.specs.Items.{Item, takes}
 use Rattle.chess_match.specs.laws.Laws.{move_sent, moves_sent, texts_from, move_texts, owed_to, MovesAreSent, AllMovesAreSent, sent}
-use Rattle.chess_match.specs.Match.{Match, Event, Line, Opened, OutputEnds, FailsToRead, FailsToWrite, items_heard, seat, hear, start, over, enter, open_turn, played_by, after, clock, ping_number}
+use Rattle.chess_match.specs.Match.{Match, Event, Line, Opened, OutputEnds, FailsToRead, FailsToWrite, items_of_line, seat, hear, start, over, enter, open_turn, played_by, after, clock, ping_number}
 use Rattle.chess_match.specs.Reasons.{fault_of}
 use Rattle.chess_match.specs.Rules.{Rules}
 use Rattle.chess_match.specs.Sent.{SentLine, Says, Time, Otim, block, entry, entry_to, is_same_phase, is_unwritten, setup_lines, variant_lines, start_lines, opening_lines, last_move, last_move_lines, clock_lines, end_lines, unsent_lines, ping}
@@ -491,12 +491,12 @@ lines_go : (r : Rules) (X : List (List ℕ)) (S O : Colour) (kind : LineKind) (m
 lines_go r X S O kind moment m here o h =
     let on : is_on m.phase ≡ true = reads_on m.phase S here in
     record {
-      hello_ends = λ p d. hello_over r X S O (items_heard kind) (Faulted S NoDone) m on refl
+      hello_ends = λ p d. hello_over r X S O (items_of_line kind) (Faulted S NoDone) m on refl
           (orderly_in r m (Hello S) p o) h;
-      hello_counts = λ p d few. hello_counts r X S O (items_heard kind) m here (orderly_in r m (Hello S) p o) o h;
-      hello_next = λ p s d. (hello_enters r X S O (items_heard kind) m (orderly_in r m (Hello White) p o) h).0;
+      hello_counts = λ p d few. hello_counts r X S O (items_of_line kind) m here (orderly_in r m (Hello S) p o) o h;
+      hello_next = λ p s d. (hello_enters r X S O (items_of_line kind) m (orderly_in r m (Hello White) p o) h).0;
       hello_judged = λ p s d c f. hello_judged c f (orderly_in r m (Hello Black) p o);
-      hello_done = λ p s d. (hello_enters r X S O (items_heard kind) m (orderly_in r m (Hello Black) p o) h).1;
+      hello_done = λ p s d. (hello_enters r X S O (items_of_line kind) m (orderly_in r m (Hello Black) p o) h).1;
       setup_ends = λ p reason n. ends_goes r X O reason m on (n O) h;
       setup_counts = λ p pong few. counts_goes r X S O (m.count + 1) m here o h;
       setup_next = λ p s pong. setup_enters r X O m (orderly_in r m (Setup White) p o) h;
@@ -517,11 +517,11 @@ lines_go r X S O kind moment m here o h =
     }
 
     hello_judged : (c : Colour) (f : MatchFault) → (m.played ≡ []) × (m.unsent_to ≡ None)
-        → Goes r X O m (enter (Over (Faulted c f)) (hear S (items_heard kind) m))
+        → Goes r X O m (enter (Over (Faulted c f)) (hear S (items_of_line kind) m))
     hello_judged c f k = (
-      judged_told r X O c f m.phase (hear S (items_heard kind) m) (hear_untold S (items_heard kind) m ∙ k.1)
-          (fresh r X O m (enter (Over (Faulted c f)) (hear S (items_heard kind) m)) k.0 k.1
-          (hear_played S (items_heard kind) m ∙ k.0) (hear_untold S (items_heard kind) m ∙ k.1) h),
+      judged_told r X O c f m.phase (hear S (items_of_line kind) m) (hear_untold S (items_of_line kind) m ∙ k.1)
+          (fresh r X O m (enter (Over (Faulted c f)) (hear S (items_of_line kind) m)) k.0 k.1
+          (hear_played S (items_of_line kind) m ∙ k.0) (hear_untold S (items_of_line kind) m ∙ k.1) h),
       tt,
     )
 
@@ -593,7 +593,7 @@ lines_none : (r : Rules) (S O : Colour) (kind : LineKind) (moment : ℕ) (m : Ma
 lines_none r S O kind moment m here o = record {
   hello_ends = λ p d on some. not_on on;
   hello_counts = λ p d few. same_tells_none r S O m
-      (let m' = hear S (items_heard kind) m in record m' { count = m.count + 1 }) (hear_phase S (items_heard kind) m)
+      (let m' = hear S (items_of_line kind) m in record m' { count = m.count + 1 }) (hear_phase S (items_of_line kind) m)
       here;
   hello_next = λ p s d on some. if_nil (is_same_phase m.phase (Hello Black)) [] refl;
   hello_judged = λ p s d c f on some. not_on on;

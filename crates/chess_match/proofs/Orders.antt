@@ -8,7 +8,7 @@ use Rattle.chess_base.specs.Men.{other, same_colour}
 use Rattle.engine_lines.specs.EngineLines.{LineKind, line_kind}
 use Rattle.engine_lines.specs.Items.{Item, takes}
 use Rattle.chess_match.specs.laws.Laws.{moves_sent, move_texts, texts_from, owed_to, MovesSentAreKnown, sent}
-use Rattle.chess_match.specs.Match.{Match, Event, Line, Opened, OutputEnds, FailsToRead, FailsToWrite, items_heard, seat, hear, start, over, enter, open_turn, played_by, after}
+use Rattle.chess_match.specs.Match.{Match, Event, Line, Opened, OutputEnds, FailsToRead, FailsToWrite, items_of_line, seat, hear, start, over, enter, open_turn, played_by, after}
 use Rattle.chess_match.specs.Rules.{Rules}
 use Rattle.chess_match.specs.Sent.{SentLine, entry}
 use Rattle.chess_match.specs.Transcript.{reads, match_of, fits, fits_next, has_write_failure}
@@ -121,15 +121,15 @@ offers_kept r Black m k = k
 lines_kept : (r : Rules) (S : Colour) (kind : LineKind) (moment : ℕ) (m : Match) → Kept r m
     → Lines r S kind moment m (λ m'. Kept r m')
 lines_kept r S kind moment m k = record {
-  hello_ends = λ p d. heard_kept r S (items_heard kind) m (over (Faulted S NoDone) (hear S (items_heard kind) m)) refl
+  hello_ends = λ p d. heard_kept r S (items_of_line kind) m (over (Faulted S NoDone) (hear S (items_of_line kind) m)) refl
       refl refl tt k;
-  hello_counts = λ p d few. hello_kept r S (items_heard kind) (m.count + 1) m k;
-  hello_next = λ p s d. heard_kept r S (items_heard kind) m (enter (Hello Black) (hear S (items_heard kind) m)) refl
-      refl refl (none_yet r S White (items_heard kind) m p k) k;
-  hello_judged = λ p s d c f. heard_kept r S (items_heard kind) m
-      (enter (Over (Faulted c f)) (hear S (items_heard kind) m)) refl refl refl tt k;
-  hello_done = λ p s d. heard_kept r S (items_heard kind) m (enter (Setup White) (hear S (items_heard kind) m)) refl
-      refl refl (none_yet r S Black (items_heard kind) m p k) k;
+  hello_counts = λ p d few. hello_kept r S (items_of_line kind) (m.count + 1) m k;
+  hello_next = λ p s d. heard_kept r S (items_of_line kind) m (enter (Hello Black) (hear S (items_of_line kind) m)) refl
+      refl refl (none_yet r S White (items_of_line kind) m p k) k;
+  hello_judged = λ p s d c f. heard_kept r S (items_of_line kind) m
+      (enter (Over (Faulted c f)) (hear S (items_of_line kind) m)) refl refl refl tt k;
+  hello_done = λ p s d. heard_kept r S (items_of_line kind) m (enter (Setup White) (hear S (items_of_line kind) m)) refl
+      refl refl (none_yet r S Black (items_of_line kind) m p k) k;
   setup_ends = λ p reason n. (tt, k.1, k.2);
   setup_counts = λ p pong few. k;
   setup_next = λ p s pong. (orderly_in r m (Setup White) p k.0, k.1, k.2);

@@ -10,7 +10,7 @@ use Rattle.chess_game.specs.declared.ends.Verdict.{Verdict}
 use Rattle.engine_lines.specs.EngineLines.{line_kind, LineKind, Features, Moves, Resigns, OffersDraw, ClaimsDraw, ClaimsWin, Rejects, Answers, SaysElse}
 use Rattle.engine_lines.specs.Items.{Item, has_done}
 use Rattle.chess_match.specs.laws.Laws.{move_said}
-use Rattle.chess_match.specs.Match.{Match, Event, Line, Opened, OutputEnds, FailsToRead, FailsToWrite, after, after_kind, items_heard, seat, clock, over, ignore, enter, open_turn, hear, greeted, hello_line, judged, lack, ready, unless_decided, is_pong, setup_line, played_by, move_row, offer_row, draw_row, was_sent_move, either_way, before_row, before_line, after_line, ping_number}
+use Rattle.chess_match.specs.Match.{Match, Event, Line, Opened, OutputEnds, FailsToRead, FailsToWrite, after, after_kind, items_of_line, seat, clock, over, ignore, enter, open_turn, hear, greeted, hello_line, judged, lack, ready, unless_decided, is_pong, setup_line, played_by, move_row, offer_row, draw_row, was_sent_move, either_way, before_row, before_line, after_line, ping_number}
 use Rattle.chess_match.specs.Rules.{Rules}
 use Rattle.chess_match.specs.Sent.{SentLine, block, is_unwritten}
 use Rattle.chess_match.specs.Transcript.{reads, opens, is_on, fails_at, fits_next, fits_from, match_from}
@@ -180,16 +180,16 @@ begun_outcome r m P ends on = at (r.verdict m.played)
 
 -- whatever a line of S says, in each phase that reads it
 pub record Lines (r : Rules) (S : Colour) (kind : LineKind) (moment : ℕ) (m : Match) (P : Match → Type 0) : Type 0 where
-  pub hello_ends : m.phase ≡ Hello S → has_done (items_heard kind) ≡ false
-      → P (over (Faulted S NoDone) (hear S (items_heard kind) m))
-  pub hello_counts : m.phase ≡ Hello S → has_done (items_heard kind) ≡ false → m.count + 1 < 1000
-      → (let m' = hear S (items_heard kind) m in P (record m' { count = m.count + 1 }))
-  pub hello_next : m.phase ≡ Hello White → S ≡ White → has_done (items_heard kind) ≡ true
-      → P (enter (Hello Black) (hear S (items_heard kind) m))
-  pub hello_judged : m.phase ≡ Hello Black → S ≡ Black → has_done (items_heard kind) ≡ true
-      → (c : Colour) (f : MatchFault) → P (enter (Over (Faulted c f)) (hear S (items_heard kind) m))
-  pub hello_done : m.phase ≡ Hello Black → S ≡ Black → has_done (items_heard kind) ≡ true
-      → P (enter (Setup White) (hear S (items_heard kind) m))
+  pub hello_ends : m.phase ≡ Hello S → has_done (items_of_line kind) ≡ false
+      → P (over (Faulted S NoDone) (hear S (items_of_line kind) m))
+  pub hello_counts : m.phase ≡ Hello S → has_done (items_of_line kind) ≡ false → m.count + 1 < 1000
+      → (let m' = hear S (items_of_line kind) m in P (record m' { count = m.count + 1 }))
+  pub hello_next : m.phase ≡ Hello White → S ≡ White → has_done (items_of_line kind) ≡ true
+      → P (enter (Hello Black) (hear S (items_of_line kind) m))
+  pub hello_judged : m.phase ≡ Hello Black → S ≡ Black → has_done (items_of_line kind) ≡ true
+      → (c : Colour) (f : MatchFault) → P (enter (Over (Faulted c f)) (hear S (items_of_line kind) m))
+  pub hello_done : m.phase ≡ Hello Black → S ≡ Black → has_done (items_of_line kind) ≡ true
+      → P (enter (Setup White) (hear S (items_of_line kind) m))
   pub setup_ends : m.phase ≡ Setup S → (reason : Reason) → IsNoWrite reason → P (over reason m)
   pub setup_counts : m.phase ≡ Setup S → is_pong 1 kind ≡ false → m.count + 1 < 10000
       → P (record m { count = m.count + 1 })
@@ -205,10 +205,10 @@ line_outcome r S kind moment m P h l = at m.phase S refl h l
   where
     at : (p : Phase) (S : Colour) → m.phase ≡ p → reads p S ≡ true → Lines r S kind moment m P
         → P (after_kind r p kind moment m)
-    at (Hello White) White e h l = hello_outcome r White (items_heard kind) m P (l.hello_ends e) (l.hello_counts e)
+    at (Hello White) White e h l = hello_outcome r White (items_of_line kind) m P (l.hello_ends e) (l.hello_counts e)
         (l.hello_next e refl)
-    at (Hello Black) Black e h l = hello_outcome r Black (items_heard kind) m P (l.hello_ends e) (l.hello_counts e)
-        (λ done. judged_outcome r (hear Black (items_heard kind) m) P (l.hello_judged e refl done)
+    at (Hello Black) Black e h l = hello_outcome r Black (items_of_line kind) m P (l.hello_ends e) (l.hello_counts e)
+        (λ done. judged_outcome r (hear Black (items_of_line kind) m) P (l.hello_judged e refl done)
         (l.hello_done e refl done))
     at (Hello White) Black e h l = cc
     at (Hello Black) White e h l = cc

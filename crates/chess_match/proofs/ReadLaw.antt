@@ -8,8 +8,8 @@ use Rattle.chess_base.specs.Men.{other}
 use Rattle.chess_game.specs.declared.ends.Verdict.{Verdict}
 use Rattle.engine_lines.specs.EngineLines.{LineKind, line_kind, Features, Moves, Resigns, OffersDraw, ClaimsDraw, ClaimsWin, Rejects, Answers, SaysElse}
 use Rattle.engine_lines.specs.Items.{Item, has_done}
-use Rattle.chess_match.specs.laws.Laws.{move_said, moves_said, behind_hello, behind_pong, moves_of, AreRead, MovesAreRead}
-use Rattle.chess_match.specs.Match.{Match, Event, Line, Opened, OutputEnds, FailsToRead, FailsToWrite, items_heard, is_pong, hear, start, over, enter, open_turn, played_by, after}
+use Rattle.chess_match.specs.laws.Laws.{move_said, moves_said, lines_after_hello, lines_after_pong, moves_of, AreRead, MovesAreRead}
+use Rattle.chess_match.specs.Match.{Match, Event, Line, Opened, OutputEnds, FailsToRead, FailsToWrite, items_of_line, is_pong, hear, start, over, enter, open_turn, played_by, after}
 use Rattle.chess_match.specs.Rules.{Rules}
 use Rattle.chess_match.specs.Sent.{SentLine, block, entry}
 use Rattle.chess_match.specs.Transcript.{is_on, reads, opens, match_of, match_from, fits_next, fits_from, lines_of, line_in}
@@ -26,12 +26,12 @@ use Rattle.chess_match.proofs.Seats.{hear_played}
 
 -- the `move` lines to come of an engine, in this phase
 abbrev ahead : Phase → Colour → List (Option (List ℕ)) → List (List ℕ)
-ahead (Hello White) S ls = moves_said (behind_pong (behind_hello ls))
-ahead (Hello Black) White ls = moves_said (behind_pong ls)
-ahead (Hello Black) Black ls = moves_said (behind_pong (behind_hello ls))
-ahead (Setup White) S ls = moves_said (behind_pong ls)
+ahead (Hello White) S ls = moves_said (lines_after_pong (lines_after_hello ls))
+ahead (Hello Black) White ls = moves_said (lines_after_pong ls)
+ahead (Hello Black) Black ls = moves_said (lines_after_pong (lines_after_hello ls))
+ahead (Setup White) S ls = moves_said (lines_after_pong ls)
 ahead (Setup Black) White ls = moves_said ls
-ahead (Setup Black) Black ls = moves_said (behind_pong ls)
+ahead (Setup Black) Black ls = moves_said (lines_after_pong ls)
 ahead (SendTurn c) S ls = moves_said ls
 ahead (AwaitMove c) S ls = moves_said ls
 ahead (AwaitPong c) S ls = moves_said ls
@@ -143,10 +143,10 @@ none_behind_pong kind = at (is_pong 1 kind)
     at false = omega arith
 
 none_behind_hello : (kind : LineKind) → length
-    (moves_said (behind_pong (if has_done (items_heard kind) then [] else []))) ≤ 1
-none_behind_hello kind = at (has_done (items_heard kind))
+    (moves_said (lines_after_pong (if has_done (items_of_line kind) then [] else []))) ≤ 1
+none_behind_hello kind = at (has_done (items_of_line kind))
   where
-    at : (b : Bool) → length (moves_said (behind_pong (if b then [] else []))) ≤ 1
+    at : (b : Bool) → length (moves_said (lines_after_pong (if b then [] else []))) ≤ 1
     at true = omega arith
     at false = omega arith
 
@@ -216,7 +216,7 @@ over_steps : (r : Rules) (d : Colour) (t : Option (List ℕ)) (m m' : Match) →
 over_steps r d t m m' off p = ((λ final lines on next. not_on (sym off ∙ on)), (λ off'. reads_end r m m' d t p))
 
 hello_same : (d : Colour) (t : Option (List ℕ)) (lines : Colour → List (Option (List ℕ))) (S : Colour)
-    → has_done (items_heard (line_kind t)) ≡ false
+    → has_done (items_of_line (line_kind t)) ≡ false
     → ahead (Hello d) S (with_line d t lines S) ≡ ahead (Hello d) S (lines S)
 hello_same White t lines White h = rw h refl
 hello_same White t lines Black h = refl
@@ -232,14 +232,14 @@ setup_same Black t lines White h = refl
 setup_same Black t lines Black h = rw h refl
 
 hello_next : (d : Colour) (t : Option (List ℕ)) (lines : Colour → List (Option (List ℕ))) (S : Colour) → d ≡ White
-    → has_done (items_heard (line_kind t)) ≡ true
+    → has_done (items_of_line (line_kind t)) ≡ true
     → ahead (Hello White) S (with_line d t lines S) ≡ ahead (Hello Black) S (lines S)
 hello_next White t lines White e h = rw h refl
 hello_next White t lines Black e h = refl
 hello_next Black t lines S e h = cc
 
 hello_done : (d : Colour) (t : Option (List ℕ)) (lines : Colour → List (Option (List ℕ))) (S : Colour) → d ≡ Black
-    → has_done (items_heard (line_kind t)) ≡ true
+    → has_done (items_of_line (line_kind t)) ≡ true
     → ahead (Hello Black) S (with_line d t lines S) ≡ ahead (Setup White) S (lines S)
 hello_done Black t lines White e h = refl
 hello_done Black t lines Black e h = rw h refl
@@ -268,7 +268,7 @@ turn_same Black t lines White h = refl
 turn_same Black t lines Black h = rw h refl
 
 hello_counts : (r : Rules) (d : Colour) (t : Option (List ℕ)) (items : List Item) (n : ℕ) (m : Match) → m.phase
-    ≡ Hello d → has_done (items_heard (line_kind t)) ≡ false
+    ≡ Hello d → has_done (items_of_line (line_kind t)) ≡ false
     → (let m' = hear d items m in Steps r d t m (record m' { count = n }))
 hello_counts r White t items n m p h = let m' = hear White items m in on_steps r White t m (record m' { count = n })
     (rw p refl) refl (λ lines S. rw p (hello_same White t lines S h))
@@ -332,7 +332,7 @@ lines_step r d t n m o = record {
 }
   where
     items : List Item
-    items = items_heard (line_kind t)
+    items = items_of_line (line_kind t)
 
     plays : (text : List ℕ) (move : Move) → m.phase ≡ AwaitMove d → line_kind t ≡ Moves text → r.reading m.played text
         ≡ Some move → Steps r d t m (played_by d move (n - m.opened) m)

@@ -10,7 +10,7 @@ use Rattle.chess_cecp.specs.Run.{risen_if}
 use Rattle.chess_match.specs.laws.Laws.{Streams, IsOf, ShowsAll, OnlyOneOfARun}
 use Rattle.chess_match.specs.Match.{Match, Event, Line, Opened, OutputEnds, FailsToRead, FailsToWrite, start, after}
 use Rattle.chess_match.specs.Rules.{Rules}
-use Rattle.chess_match.specs.Run.{Ports, reader_at, writer_at, engine_lines, Heard, Written, IsTranscript}
+use Rattle.chess_match.specs.Run.{Ports, reader_at, writer_at, engine_lines, ReadFrom, Written, IsTranscript}
 use Rattle.chess_match.specs.Sent.{SentLine, block, entry}
 use Rattle.chess_match.specs.Transcript.{fits_next, fits_from, blocks, moments_of, has_end, has_read_failure, has_write_failure}
 use Rattle.chess_match.specs.declared.reason.Reason.{Reason}
@@ -90,7 +90,7 @@ given_by T given coming = record {
 is_of : (r : Rules) (T U : List Event) (reason : Reason) (failed : Colour → Bool) (w w' : Ports)
     (coming coming' : ℕ → Option ℕ) (given : Colour → List ℕ)
     → IsTranscript r U reason failed w w' coming coming' → ShowsAll w w' coming
-    → ((S : Colour) → Heard S U (reader_at w S) (reader_at w' S) (given S))
+    → ((S : Colour) → ReadFrom S U (reader_at w S) (reader_at w' S) (given S))
     → ((S : Colour) → has_read_failure S T ≡ has_read_failure S U) → IsOf (given_by T given coming) U
 is_of r T U reason failed w w' coming coming' given i t heard same = record {
   lines = λ S. (heard S).lines;
@@ -103,9 +103,9 @@ is_of r T U reason failed w w' coming coming' given i t heard same = record {
 }
 
 heard_alike : (S : Colour) (T U : List Event) (old new : InputState) (a b : List ℕ) → is_some old.known_bytes ≡ true
-    → Heard S T old new a → Heard S U old new b → Heard S U old new a
+    → ReadFrom S T old new a → ReadFrom S U old new b → ReadFrom S U old new a
 heard_alike S T U old new a b known h k =
-    subst (λ (given : List ℕ). Heard S U old new given)
+    subst (λ (given : List ℕ). ReadFrom S U old new given)
     (sym (one_given old.known_bytes new.known_bytes a b known h.bytes k.bytes)) k
 
 pub only_one_of_a_run : OnlyOneOfARun

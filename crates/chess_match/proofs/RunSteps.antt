@@ -11,7 +11,7 @@ use Rattle.chess_cecp.specs.Next.{NextLine}
 use Rattle.chess_game.specs.Game as game
 use Rattle.chess_game.specs.Game.{from_start}
 use Rattle.chess_match.specs.ties.Chess.{Plays}
-use Rattle.chess_match.specs.ties.Delivering.{Delivered, event_heard}
+use Rattle.chess_match.specs.ties.Delivering.{Delivered, event_read}
 use Rattle.chess_match.proofs.Hearing.{HearsAt}
 use Rattle.engine_lines.specs.Levels.{LevelSeen}
 use Rattle.chess_match.specs.Match.{Match, Event, start, after}
@@ -77,15 +77,15 @@ pub heard_on : {E : Type 0} (r : Rules) (T : List Event) (S : Colour) (moment : 
     → IsUnderWay r T core played failed n n' held w w' coming coming' notes notes' → reads core.phase S ≡ true
     → NextLine ENGINE_LINE_LEN (n' S) (n'' S) (held S) (held' S) result → n'' (other S) ≡ n' (other S)
     → held' (other S) ≡ held (other S)
-    → Asked coming' coming'' (moment_in (event_heard S moment result))
-    → WasNoted notes' between (Happened (event_heard S moment result) ∷ [])
-    → Delivered r core' played' (after r (match_of r T) (event_heard S moment result))
-    (block r (match_of r T) (after r (match_of r T) (event_heard S moment result))) S w' w'' failed'
+    → Asked coming' coming'' (moment_in (event_read S moment result))
+    → WasNoted notes' between (Happened (event_read S moment result) ∷ [])
+    → Delivered r core' played' (after r (match_of r T) (event_read S moment result))
+    (block r (match_of r T) (after r (match_of r T) (event_read S moment result))) S w' w'' failed'
     between notes''
     → (T' : List Event) × IsUnderWay r T' core' played' failed' n n'' held' w w'' coming coming'' notes notes''
 heard_on r T S moment result core core' played played' failed failed' n n' n'' held held' w w' w'' coming coming'
     coming'' notes notes' between notes'' u reading next same kept asked line d =
-    let e : Event = event_heard S moment result in
+    let e : Event = event_read S moment result in
     let m : Match = match_of r T in
     let reading' : reads m.phase S ≡ true = ap (λ (p : Phase). reads p S) (sym u.stands.phase) ∙ reading in
     event_step r T e S core core' played played' failed failed' n n' n'' held held' w w' w'' coming coming' coming''

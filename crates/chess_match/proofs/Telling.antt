@@ -11,7 +11,7 @@ use Rattle.chess_base.specs.declared.man.Move.{Move}
 use Rattle.chess_base.specs.Men.{other, same_colour}
 use Rattle.chess_base.proofs.MenFacts.{same_colour-true}
 use Rattle.engine_lines.specs.EngineLines.{LineKind, line_kind}
-use Rattle.chess_match.specs.Match.{Match, Event, Line, Opened, OutputEnds, FailsToRead, FailsToWrite, items_heard, hear, over, open_turn, played_by, after}
+use Rattle.chess_match.specs.Match.{Match, Event, Line, Opened, OutputEnds, FailsToRead, FailsToWrite, items_of_line, hear, over, open_turn, played_by, after}
 use Rattle.chess_match.specs.Rules.{Rules}
 use Rattle.chess_match.specs.Sent.{SentLine, Says, block, entry, entry_to, is_same_phase}
 use Rattle.chess_match.specs.Transcript.{is_on, reads, match_from, fits_next, fits_from, is_dropped, fails_at, blocks_from, joined_blocks}
@@ -118,7 +118,7 @@ lines_none : {A : Type 0} (f : SentLine → List A) (r : Rules) (S : Colour) (ki
 lines_none f r S kind moment m i here = record {
   hello_ends = λ p d on some. not_on on;
   hello_counts = λ p d few. same_tells_none f r S m
-      (let m' = hear S (items_heard kind) m in record m' { count = m.count + 1 }) (hear_phase S (items_heard kind) m)
+      (let m' = hear S (items_of_line kind) m in record m' { count = m.count + 1 }) (hear_phase S (items_of_line kind) m)
       here;
   hello_next = λ p s d. quiet_tells_none f r S m _ i refl;
   hello_judged = λ p s d c x on some. not_on on;

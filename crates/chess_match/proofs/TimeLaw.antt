@@ -15,7 +15,7 @@ use Rattle.engine_lines.specs.EngineLines.{LineKind, line_kind}
 use Rattle.engine_lines.specs.Items.{Item, takes}
 use Rattle.chess_match.specs.laws.Laws.{centiseconds, time_sent, otim_sent, TimesAreClocks, OtherTimesAreClocks, sent}
 use Rattle.engine_lines.specs.Levels.{LevelSeen, left, level_text}
-use Rattle.chess_match.specs.Match.{Match, Event, Line, Opened, OutputEnds, FailsToRead, FailsToWrite, items_heard, seat, hear, start, over, enter, open_turn, played_by, after, clock, ping_number}
+use Rattle.chess_match.specs.Match.{Match, Event, Line, Opened, OutputEnds, FailsToRead, FailsToWrite, items_of_line, seat, hear, start, over, enter, open_turn, played_by, after, clock, ping_number}
 use Rattle.chess_match.specs.Reasons.{fault_of}
 use Rattle.chess_match.specs.Rules.{Rules}
 use Rattle.chess_match.specs.Sent.{SentLine, Says, Time, Otim, entry, entry_to, is_same_phase, is_unwritten, setup_lines, variant_lines, start_lines, opening_lines, last_move, last_move_lines, clock_lines, end_lines, unsent_lines, ping}
@@ -503,14 +503,14 @@ lines_go : (own : Bool) (r : Rules) (S c : Colour) (X : List ℕ) (kind : LineKi
     → reads m.phase c ≡ true → Times own r S X m
     → Lines r c kind moment m (λ m'. Goes own r S X m m')
 lines_go own r S c X kind moment m here h = record {
-  hello_ends = λ p d. quiet_goes own r S X m (over (Faulted c NoDone) (hear c (items_heard kind) m)) refl
+  hello_ends = λ p d. quiet_goes own r S X m (over (Faulted c NoDone) (hear c (items_of_line kind) m)) refl
       (hello p (Faulted c NoDone)).3;
-  hello_counts = λ p d few. hello_counts own r S c X (items_heard kind) (m.count + 1) m p
+  hello_counts = λ p d few. hello_counts own r S c X (items_of_line kind) (m.count + 1) m p
       (times_in own r S X m (Hello c) p h);
-  hello_next = λ p s d. quiet_goes own r S X m (enter (Hello Black) (hear c (items_heard kind) m)) refl (hello_at p).0;
-  hello_judged = λ p s d b f. quiet_goes own r S X m (enter (Over (Faulted b f)) (hear c (items_heard kind) m)) refl
+  hello_next = λ p s d. quiet_goes own r S X m (enter (Hello Black) (hear c (items_of_line kind) m)) refl (hello_at p).0;
+  hello_judged = λ p s d b f. quiet_goes own r S X m (enter (Over (Faulted b f)) (hear c (items_of_line kind) m)) refl
       (hello_judged p (Faulted b f)).2;
-  hello_done = λ p s d. quiet_goes own r S X m (enter (Setup White) (hear c (items_heard kind) m)) refl
+  hello_done = λ p s d. quiet_goes own r S X m (enter (Setup White) (hear c (items_of_line kind) m)) refl
       (hello_judged p (Faulted c NoDone)).1;
   setup_ends = λ p reason n. over_goes own r S X reason m h;
   setup_counts = λ p pong few. counts_goes own r S c X (m.count + 1) m here h;
@@ -542,25 +542,25 @@ lines_go own r S c X kind moment m here h = record {
     }
 
     hello : m.phase ≡ Hello c → (reason : Reason)
-        → (Times own r S X (enter (Hello Black) (hear c (items_heard kind) m)))
-        × (Times own r S X (enter (Setup White) (hear c (items_heard kind) m)))
-        × (Times own r S X (enter (Over reason) (hear c (items_heard kind) m)))
-        × (Times own r S X (over reason (hear c (items_heard kind) m)))
-    hello p reason = hello_goes own r S c c X (items_heard kind) 0 m.phase m (times_in own r S X m (Hello c) p h) reason
+        → (Times own r S X (enter (Hello Black) (hear c (items_of_line kind) m)))
+        × (Times own r S X (enter (Setup White) (hear c (items_of_line kind) m)))
+        × (Times own r S X (enter (Over reason) (hear c (items_of_line kind) m)))
+        × (Times own r S X (over reason (hear c (items_of_line kind) m)))
+    hello p reason = hello_goes own r S c c X (items_of_line kind) 0 m.phase m (times_in own r S X m (Hello c) p h) reason
 
-    hello_at : m.phase ≡ Hello White → (Times own r S X (enter (Hello Black) (hear c (items_heard kind) m)))
-        × (Times own r S X (enter (Setup White) (hear c (items_heard kind) m)))
-        × (Times own r S X (enter (Over (Faulted c NoDone)) (hear c (items_heard kind) m)))
-        × (Times own r S X (over (Faulted c NoDone) (hear c (items_heard kind) m)))
-    hello_at p = hello_goes own r S c White X (items_heard kind) 0 m.phase m (times_in own r S X m (Hello White) p h)
+    hello_at : m.phase ≡ Hello White → (Times own r S X (enter (Hello Black) (hear c (items_of_line kind) m)))
+        × (Times own r S X (enter (Setup White) (hear c (items_of_line kind) m)))
+        × (Times own r S X (enter (Over (Faulted c NoDone)) (hear c (items_of_line kind) m)))
+        × (Times own r S X (over (Faulted c NoDone) (hear c (items_of_line kind) m)))
+    hello_at p = hello_goes own r S c White X (items_of_line kind) 0 m.phase m (times_in own r S X m (Hello White) p h)
         (Faulted c NoDone)
 
     hello_judged : m.phase ≡ Hello Black → (reason : Reason)
-        → (Times own r S X (enter (Hello Black) (hear c (items_heard kind) m)))
-        × (Times own r S X (enter (Setup White) (hear c (items_heard kind) m)))
-        × (Times own r S X (enter (Over reason) (hear c (items_heard kind) m)))
-        × (Times own r S X (over reason (hear c (items_heard kind) m)))
-    hello_judged p reason = hello_goes own r S c Black X (items_heard kind) 0 m.phase m
+        → (Times own r S X (enter (Hello Black) (hear c (items_of_line kind) m)))
+        × (Times own r S X (enter (Setup White) (hear c (items_of_line kind) m)))
+        × (Times own r S X (enter (Over reason) (hear c (items_of_line kind) m)))
+        × (Times own r S X (over reason (hear c (items_of_line kind) m)))
+    hello_judged p reason = hello_goes own r S c Black X (items_of_line kind) 0 m.phase m
         (times_in own r S X m (Hello Black) p h) reason
 
 step : (own : Bool) (r : Rules) (S : Colour) (due : Colour → List SentLine) (m : Match) (e : Event) (X : List ℕ)

@@ -9,7 +9,7 @@ use Rattle.chess_game.specs.declared.ends.Verdict.{Verdict}
 use Rattle.engine_lines.specs.EngineLines.{line_kind}
 use Rattle.engine_lines.specs.Items.{Item, has_done, takes}
 use Rattle.chess_match.specs.laws.Laws.{moves_sent, owed_to, texts_from, items_said, ItemsAreSaid, EachIsSentTheOthers, sent}
-use Rattle.chess_match.specs.Match.{Match, Event, Line, Opened, OutputEnds, FailsToRead, FailsToWrite, items_heard, seat, hear, start, over, enter, open_turn, played_by, after}
+use Rattle.chess_match.specs.Match.{Match, Event, Line, Opened, OutputEnds, FailsToRead, FailsToWrite, items_of_line, seat, hear, start, over, enter, open_turn, played_by, after}
 use Rattle.chess_match.specs.Rules.{Rules}
 use Rattle.chess_match.specs.Sent.{SentLine, block, entry}
 use Rattle.chess_match.specs.Transcript.{is_on, reads, opens, ending, match_of, match_from, fits_next, fits_from, lines_of, has_write_failure}
@@ -89,80 +89,80 @@ joined_items xs is ys = sym (append_assoc xs is ys)
 
 -- a line of a handshake that isn't ended by it
 hello_on : (d : Colour) (t : Option (List ℕ)) (n : ℕ) (m : Match) → m.phase ≡ Hello d
-    → has_done (items_heard (line_kind t)) ≡ false
-    → (let m' = hear d (items_heard (line_kind t)) m in Says d t m (record m' { count = n }))
+    → has_done (items_of_line (line_kind t)) ≡ false
+    → (let m' = hear d (items_of_line (line_kind t)) m in Says d t m (record m' { count = n }))
 hello_on White t n m p h = ((λ on lines S. at lines S), (λ off. not_on (sym off ∙ rw p refl)))
   where
     at : (lines : Colour → List (Option (List ℕ))) (S : Colour) → (seat m S).items
         ++ said_ahead m.phase S (with_line White t lines S)
-        ≡ (let m' = hear White (items_heard (line_kind t)) m in (seat (record m' { count = n }) S).items
+        ≡ (let m' = hear White (items_of_line (line_kind t)) m in (seat (record m' { count = n }) S).items
         ++ said_ahead m.phase S (lines S))
-    at lines White = rw (p, h) (joined_items m.white.items (items_heard (line_kind t)) (items_said (lines White)))
+    at lines White = rw (p, h) (joined_items m.white.items (items_of_line (line_kind t)) (items_said (lines White)))
     at lines Black = refl
 hello_on Black t n m p h = ((λ on lines S. at lines S), (λ off. not_on (sym off ∙ rw p refl)))
   where
     at : (lines : Colour → List (Option (List ℕ))) (S : Colour) → (seat m S).items
         ++ said_ahead m.phase S (with_line Black t lines S)
-        ≡ (let m' = hear Black (items_heard (line_kind t)) m in (seat (record m' { count = n }) S).items
+        ≡ (let m' = hear Black (items_of_line (line_kind t)) m in (seat (record m' { count = n }) S).items
         ++ said_ahead m.phase S (lines S))
-    at lines Black = rw (p, h) (joined_items m.black.items (items_heard (line_kind t)) (items_said (lines Black)))
+    at lines Black = rw (p, h) (joined_items m.black.items (items_of_line (line_kind t)) (items_said (lines Black)))
     at lines White = rw p refl
 
 -- one that ends the match
 hello_over : (d : Colour) (t : Option (List ℕ)) (m m' : Match) → m.phase ≡ Hello d → is_on m'.phase ≡ false
-    → m'.white.items ≡ (hear d (items_heard (line_kind t)) m).white.items → m'.black.items
-    ≡ (hear d (items_heard (line_kind t)) m).black.items → Says d t m m'
+    → m'.white.items ≡ (hear d (items_of_line (line_kind t)) m).white.items → m'.black.items
+    ≡ (hear d (items_of_line (line_kind t)) m).black.items → Says d t m m'
 hello_over d t m m' p off w b = (
   (λ on. not_on (sym off ∙ on)),
-  (λ off' S. at d p S ∙ sym (items_same (hear d (items_heard (line_kind t)) m) m' w b S)),
+  (λ off' S. at d p S ∙ sym (items_same (hear d (items_of_line (line_kind t)) m) m' w b S)),
 )
   where
-    last : (b : Bool) → items_heard (line_kind t) ++ (if b then [] else []) ≡ items_heard (line_kind t)
-    last true = append-nil (items_heard (line_kind t))
-    last false = append-nil (items_heard (line_kind t))
+    last : (b : Bool) → items_of_line (line_kind t) ++ (if b then [] else []) ≡ items_of_line (line_kind t)
+    last true = append-nil (items_of_line (line_kind t))
+    last false = append-nil (items_of_line (line_kind t))
 
     at : (d : Colour) → m.phase ≡ Hello d → (S : Colour) → (seat m S).items
-        ++ said_ahead m.phase S (with_line d t no_lines S) ≡ (seat (hear d (items_heard (line_kind t)) m) S).items
+        ++ said_ahead m.phase S (with_line d t no_lines S) ≡ (seat (hear d (items_of_line (line_kind t)) m) S).items
     at White p White = rw p (ap (λ (is : List Item). m.white.items ++ is)
-        (last (has_done (items_heard (line_kind t)))))
+        (last (has_done (items_of_line (line_kind t)))))
     at White p Black = rw p (append-nil m.black.items)
     at Black p Black = rw p (ap (λ (is : List Item). m.black.items ++ is)
-        (last (has_done (items_heard (line_kind t)))))
+        (last (has_done (items_of_line (line_kind t)))))
     at Black p White = rw p (append-nil m.white.items)
 
 hello_next : (d : Colour) (t : Option (List ℕ)) (m : Match) → m.phase ≡ Hello White → d ≡ White
-    → has_done (items_heard (line_kind t)) ≡ true
-    → Says d t m (enter (Hello Black) (hear d (items_heard (line_kind t)) m))
+    → has_done (items_of_line (line_kind t)) ≡ true
+    → Says d t m (enter (Hello Black) (hear d (items_of_line (line_kind t)) m))
 hello_next White t m p s h = ((λ on lines S. at lines S), (λ off. not_on (sym off)))
   where
     at : (lines : Colour → List (Option (List ℕ))) (S : Colour) → (seat m S).items
         ++ said_ahead m.phase S (with_line White t lines S)
-        ≡ (seat (enter (Hello Black) (hear White (items_heard (line_kind t)) m)) S).items
+        ≡ (seat (enter (Hello Black) (hear White (items_of_line (line_kind t)) m)) S).items
         ++ said_ahead (Hello Black) S (lines S)
-    at lines White = rw (p, h) (joined_items m.white.items (items_heard (line_kind t)) [])
+    at lines White = rw (p, h) (joined_items m.white.items (items_of_line (line_kind t)) [])
     at lines Black = rw p refl
 hello_next Black t m p s h = cc
 
 hello_done : (d : Colour) (t : Option (List ℕ)) (m : Match) → m.phase ≡ Hello Black → d ≡ Black
-    → has_done (items_heard (line_kind t)) ≡ true
-    → Says d t m (enter (Setup White) (hear d (items_heard (line_kind t)) m))
+    → has_done (items_of_line (line_kind t)) ≡ true
+    → Says d t m (enter (Setup White) (hear d (items_of_line (line_kind t)) m))
 hello_done Black t m p s h = ((λ on lines S. at lines S), (λ off. not_on (sym off)))
   where
     at : (lines : Colour → List (Option (List ℕ))) (S : Colour) → (seat m S).items
         ++ said_ahead m.phase S (with_line Black t lines S)
-        ≡ (seat (enter (Setup White) (hear Black (items_heard (line_kind t)) m)) S).items ++ []
-    at lines Black = rw (p, h) (joined_items m.black.items (items_heard (line_kind t)) [])
+        ≡ (seat (enter (Setup White) (hear Black (items_of_line (line_kind t)) m)) S).items ++ []
+    at lines Black = rw (p, h) (joined_items m.black.items (items_of_line (line_kind t)) [])
     at lines White = rw p refl
 hello_done White t m p s h = cc
 
 lines_say : (r : Rules) (d : Colour) (t : Option (List ℕ)) (n : ℕ) (m : Match)
     → Lines r d (line_kind t) n m (λ m'. Says d t m m')
 lines_say r d t n m = record {
-  hello_ends = λ p h. hello_over d t m (over (Faulted d NoDone) (hear d (items_heard (line_kind t)) m)) p refl refl
+  hello_ends = λ p h. hello_over d t m (over (Faulted d NoDone) (hear d (items_of_line (line_kind t)) m)) p refl refl
       refl;
   hello_counts = λ p h few. hello_on d t (m.count + 1) m p h;
   hello_next = λ p s h. hello_next d t m p s h;
-  hello_judged = λ p s h b f. hello_over d t m (enter (Over (Faulted b f)) (hear d (items_heard (line_kind t)) m))
+  hello_judged = λ p s h b f. hello_over d t m (enter (Over (Faulted b f)) (hear d (items_of_line (line_kind t)) m))
       (p ∙ ap Hello (sym s)) refl refl refl;
   hello_done = λ p s h. hello_done d t m p s h;
   setup_ends = λ p reason w. greeted_says d t m (over reason m) (rw p refl) refl refl refl;

@@ -8,7 +8,7 @@ use Rattle.chess_match.proofs.Hearing.{Hearing}
 use Rattle.chess_match.specs.Match.{Event}
 use Rattle.chess_match.specs.Notes.{Noted, WasNoted, notes_of}
 use Rattle.chess_match.specs.Rules.{Rules}
-use Rattle.chess_match.specs.Run.{Heard, Written, Asked}
+use Rattle.chess_match.specs.Run.{ReadFrom, Written, Asked}
 use Rattle.chess_match.specs.ties.Stands.{Stands}
 use Rattle.chess_match.specs.ties.Steps.{IsSane}
 use Rattle.chess_match.specs.Transcript.{match_of, fits, blocks, lines_of, moments_of, has_end, has_read_failure, has_write_failure, is_on}
@@ -24,7 +24,7 @@ pub record IsHearing (S : Colour) (T : List Event) (r r' : InputState) (held : H
 
 -- these bytes came from S's engine, and while the match is on it is still read
 abbrev pub HeardSoFar : Colour → List Event → Bool → InputState → InputState → Held → Type 0
-HeardSoFar S T on r r' held = (given : List ℕ) × Heard S T r r' given × (on ≡ true → IsHearing S T r r' held given)
+HeardSoFar S T on r r' held = (given : List ℕ) × ReadFrom S T r r' given × (on ≡ true → IsHearing S T r r' held given)
 
 -- core, game, devices and witness agree with the transcript T
 pub record IsUnderWay (r : Rules) (T : List Event) (core : MatchState) (played : List Move) (failed : Colour → Bool)

@@ -8,7 +8,7 @@ use Rattle.chess_base.specs.Men.{other, same_colour}
 use Rattle.engine_lines.specs.EngineLines.{LineKind, line_kind, Features, Moves, Resigns, OffersDraw, ClaimsDraw, ClaimsWin, Rejects, Answers, SaysElse}
 use Rattle.engine_lines.specs.Items.{Item}
 use Rattle.chess_match.specs.laws.Laws.{is_move, move_said, turn_times, UsedTimesAreDifferences}
-use Rattle.chess_match.specs.Match.{Match, Event, Line, Opened, OutputEnds, FailsToRead, FailsToWrite, items_heard, seat, hear, start, over, enter, open_turn, played_by, after}
+use Rattle.chess_match.specs.Match.{Match, Event, Line, Opened, OutputEnds, FailsToRead, FailsToWrite, items_of_line, seat, hear, start, over, enter, open_turn, played_by, after}
 use Rattle.chess_match.specs.Rules.{Rules}
 use Rattle.chess_match.specs.Sent.{SentLine, block, entry}
 use Rattle.chess_match.specs.Transcript.{is_on, reads, opens, match_from, fits_next, fits_from}
@@ -143,15 +143,15 @@ offers_grow S Black kind n m none = stays_grow S kind n m (offered Black m) refl
 lines_grow : (r : Rules) (S c : Colour) (kind : LineKind) (n : ℕ) (m : Match)
     → Lines r c kind n m (λ m'. Grows S kind n m m')
 lines_grow r S c kind n m = record {
-  hello_ends = λ p d. ends_grow S kind n m (over (Faulted c NoDone) (hear c (items_heard kind) m))
-      (hear_used c (items_heard kind) m).0 (hear_used c (items_heard kind) m).1 refl;
-  hello_counts = λ p d few. hello_counts S c (items_heard kind) (m.count + 1) kind n m p;
-  hello_next = λ p s d. apart_grow S kind n m (enter (Hello Black) (hear c (items_heard kind) m)) (Hello White) p refl
-      (hear_used c (items_heard kind) m).0 (hear_used c (items_heard kind) m).1 refl;
-  hello_judged = λ p s d b f. ends_grow S kind n m (enter (Over (Faulted b f)) (hear c (items_heard kind) m))
-      (hear_used c (items_heard kind) m).0 (hear_used c (items_heard kind) m).1 refl;
-  hello_done = λ p s d. apart_grow S kind n m (enter (Setup White) (hear c (items_heard kind) m)) (Hello Black) p refl
-      (hear_used c (items_heard kind) m).0 (hear_used c (items_heard kind) m).1 refl;
+  hello_ends = λ p d. ends_grow S kind n m (over (Faulted c NoDone) (hear c (items_of_line kind) m))
+      (hear_used c (items_of_line kind) m).0 (hear_used c (items_of_line kind) m).1 refl;
+  hello_counts = λ p d few. hello_counts S c (items_of_line kind) (m.count + 1) kind n m p;
+  hello_next = λ p s d. apart_grow S kind n m (enter (Hello Black) (hear c (items_of_line kind) m)) (Hello White) p refl
+      (hear_used c (items_of_line kind) m).0 (hear_used c (items_of_line kind) m).1 refl;
+  hello_judged = λ p s d b f. ends_grow S kind n m (enter (Over (Faulted b f)) (hear c (items_of_line kind) m))
+      (hear_used c (items_of_line kind) m).0 (hear_used c (items_of_line kind) m).1 refl;
+  hello_done = λ p s d. apart_grow S kind n m (enter (Setup White) (hear c (items_of_line kind) m)) (Hello Black) p refl
+      (hear_used c (items_of_line kind) m).0 (hear_used c (items_of_line kind) m).1 refl;
   setup_ends = λ p reason n'. ends_grow S kind n m (over reason m) refl refl refl;
   setup_counts = λ p pong few. apart_grow S kind n m (record m { count = m.count + 1 }) (Setup c) p refl refl refl
       (rw p refl);

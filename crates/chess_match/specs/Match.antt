@@ -98,9 +98,9 @@ ignore S m = if nat_le 10000 (m.count + 1) then over (over_by.Faulted S Flood) m
 -- ---- handshake
 
 -- the items of a line: those of a `feature` line alone
-abbrev pub items_heard : LineKind → List Item
-items_heard (Features text) = items_of text
-items_heard _ = []
+abbrev pub items_of_line : LineKind → List Item
+items_of_line (Features text) = items_of text
+items_of_line _ = []
 
 -- S's engine said these items more
 abbrev pub hear : Colour → List Item → Match → Match
@@ -235,7 +235,7 @@ after_line r S kind m = either_way r S kind m
 
 -- the match after a line of that kind, by its phase; in an opening or at the end nothing is read
 abbrev pub after_kind : Rules → Phase → LineKind → ℕ → Match → Match
-after_kind r (Hello S) kind moment m = hello_line r S (items_heard kind) m
+after_kind r (Hello S) kind moment m = hello_line r S (items_of_line kind) m
 after_kind r (Setup S) kind moment m = setup_line r S kind m
 after_kind r (AwaitMove S) kind moment m = before_line r S kind moment m
 after_kind r (AwaitPong S) kind moment m = after_line r S kind m

@@ -10,7 +10,7 @@ ghost use Rattle.chess_match.specs.Match.{Match};
 ghost use Rattle.chess_match.specs.Notes.{WasNoted, given_note};
 ghost use Rattle.chess_match.specs.Rules.{Rules};
 ghost use Rattle.chess_match.specs.Sent.{answers_to, bytes_of};
-ghost use Rattle.chess_match.specs.ties.Stands.{Stands, behind_answers, given_block};
+ghost use Rattle.chess_match.specs.ties.Stands.{Stands, after_answers, given_block};
 ghost use Rattle.chess_match.specs.ties.Reported.{SendsIf};
 
 use crate::block::Block;
@@ -34,7 +34,7 @@ fn add_rest<G: MatchGame, S: Board>(
     requires unsent_to { is_some core.now.unsent_to ≡ true → 0 < length (G.played game.now) }
     requires room { array_vec_len block.old + 310 ≤ BLOCK_LEN }
     ensures { (r : Rules) (m : Match) → G.plays game.now r → Stands r core.now (G.played game.now) m
-        → block.new.items ≡ block.old.items ++ bytes_of (behind_answers r given m side) }
+        → block.new.items ≡ block.old.items ++ bytes_of (after_answers r given m side) }
 {
     add_offer(block, given, side);
     add_entered(block, core, game, scratch, given, side);

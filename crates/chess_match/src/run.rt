@@ -7,14 +7,14 @@ ghost use Rattle.chess_base.specs.declared.man.Colour.{Colour};
 ghost use Rattle.chess_cecp.specs.Next.{NextLine, line_read};
 ghost use Rattle.chess_game.specs.Game.{at, outcome_now, with_declared, verdict_now};
 ghost use Rattle.chess_match.specs.ties.Awaits.{IsAwaited};
-ghost use Rattle.chess_match.specs.ties.Delivering.{by_side, by_turn, event_heard, line_event, Delivered, HasLast};
+ghost use Rattle.chess_match.specs.ties.Delivering.{by_side, by_turn, event_read, line_event, Delivered, HasLast};
 ghost use Rattle.engine_lines.specs.EngineLines.{line_kind, Features};
 ghost use Rattle.engine_lines.specs.Items.{Item};
 ghost use Rattle.chess_match.specs.Match.{Match, FailsToWrite, after};
 ghost use Rattle.chess_match.specs.Notes.{WasNoted, Happened, given_note, both_notes};
 ghost use Rattle.chess_match.specs.Reasons.{declared_at};
 ghost use Rattle.chess_match.specs.Rules.{Rules};
-ghost use Rattle.chess_match.specs.Run.{Ports, MatchRan, RanBefore, Asked, text_heard};
+ghost use Rattle.chess_match.specs.Run.{Ports, MatchRan, RanBefore, Asked, text_read};
 ghost use Rattle.engine_lines.specs.Seen.{seen};
 ghost use Rattle.chess_match.specs.Sent.{block, bytes_of, answers_to};
 ghost use Rattle.chess_match.specs.ties.Stands.{Stands, Goes, given_block, items_to};
@@ -509,7 +509,7 @@ fn deliver<W: Output, L: Witness, G: MatchGame, S: Board>(
 }
 
 // Whether a line is parsed: byte 10 ends it. What comes after the last byte 10 is the end of the output.
-fn is_heard(line: &Line<ENGINE_LINE_LEN>) -> bool
+fn is_parsed(line: &Line<ENGINE_LINE_LEN>) -> bool
     ensures { result ≡ line.now.ended }
 {
     line.is_ended()
@@ -517,7 +517,7 @@ fn is_heard(line: &Line<ENGINE_LINE_LEN>) -> bool
 
 // What a line says; of one that is too long nothing.
 fn said(line: &Line<ENGINE_LINE_LEN>) -> EngineLine<'_>
-    ensures said { seen result ≡ line_kind (text_heard line.now) }
+    ensures said { seen result ≡ line_kind (text_read line.now) }
     ensures short { (text : List ℕ) → seen result ≡ Features text → length text ≤ ENGINE_LINE_LEN }
 {
     if line.is_too_long() {
@@ -576,14 +576,14 @@ fn hear<M: Moments, L: Witness, G: MatchGame>(
     ensures origin { G.origin game.new ≡ G.origin game.old }
     ensures heard { (moment : ℕ) × (items : List Item)
         × Asked (M.coming moments.old) (M.coming moments.new)
-        (moment_in (event_heard side moment (line_read heard line.now)))
+        (moment_in (event_read side moment (line_read heard line.now)))
         × WasNoted (L.told witness.old) (L.told witness.new)
-        (Happened (event_heard side moment (line_read heard line.now)) ∷ [])
+        (Happened (event_read side moment (line_read heard line.now)) ∷ [])
         × (block.new.items ≡ bytes_of (answers_to items))
         × ((r : Rules) (m : Match) → G.plays game.old r → reads m.phase side ≡ true
         → Stands r core.old (G.played game.old) m
         → Goes r core.new (G.played game.new) result (items_to side items) m
-        (after r m (event_heard side moment (line_read heard line.now)))) }
+        (after r m (event_read side moment (line_read heard line.now)))) }
     ensures room { array_vec_len block.new ≤ ANSWERS_LEN }
 {
     match heard {
@@ -596,7 +596,7 @@ fn hear<M: Moments, L: Witness, G: MatchGame>(
             core.output_ends(side)
         }
         Ok(true) => {
-            if is_heard(line) {
+            if is_parsed(line) {
                 hear_line(core, moments, witness, game, line, side, block)
             } else {
                 witness.output_ends(side);

@@ -3,7 +3,7 @@
 ghost use Rattle.std.specs.Prelude.{◌∷◌, []};
 ghost use Rattle.chess_match.specs.Match as events;
 ghost use Rattle.chess_match.specs.Notes.{Happened, Gives, WasNoted};
-ghost use Rattle.chess_match.specs.Run.{text_heard};
+ghost use Rattle.chess_match.specs.Run.{text_read};
 
 use crate::run::ENGINE_LINE_LEN;
 use chess_base::Colour;
@@ -21,7 +21,7 @@ pub trait Witness {
     /// A side's engine sent a line; the moment was asked for after it.
     fn line(&mut self, side: Colour, line: &Line<ENGINE_LINE_LEN>, moment: u64)
         ensures { WasNoted (told self.old) (told self.new)
-            (Happened (events.Line side (text_heard line.now) moment) ∷ []) };
+            (Happened (events.Line side (text_read line.now) moment) ∷ []) };
 
     /// The opening of that side's turn was sent; the moment at its end.
     fn opened(&mut self, side: Colour, moment: u64)

@@ -9,7 +9,7 @@ use Rattle.chess_cecp.specs.Lines.{LineSeen}
 use Rattle.chess_match.specs.Match.{Match, Event, Line, OutputEnds, FailsToRead, FailsToWrite, after}
 use Rattle.chess_match.specs.Notes.{Noted, WasNoted, Happened, Note, both_notes, first_sent}
 use Rattle.chess_match.specs.Rules.{Rules}
-use Rattle.chess_match.specs.Run.{text_heard, Flushed}
+use Rattle.chess_match.specs.Run.{text_read, Flushed}
 use Rattle.chess_match.specs.Sent.{SentLine, block, bytes_of, answer_words}
 use Rattle.chess_match.specs.ties.Stands.{Stands}
 use Rattle.chess_match.specs.ties.Reported.{SendsIf}
@@ -30,14 +30,14 @@ by_turn Black own others = by_side others own
 -- ---- what is parsed
 
 -- the event that a call for the next line of S is; a last line that byte 10 doesn't end is the end
-abbrev pub event_heard : {E : Type 0} → Colour → ℕ → Result (Option LineSeen) E → Event
-event_heard S moment (Ok (Some line)) = if line.ended then Line S (text_heard line) moment else OutputEnds S
-event_heard S moment (Ok None) = OutputEnds S
-event_heard S moment (Err e) = FailsToRead S
+abbrev pub event_read : {E : Type 0} → Colour → ℕ → Result (Option LineSeen) E → Event
+event_read S moment (Ok (Some line)) = if line.ended then Line S (text_read line) moment else OutputEnds S
+event_read S moment (Ok None) = OutputEnds S
+event_read S moment (Err e) = FailsToRead S
 
 -- a line of S that byte 10 ended
 abbrev pub line_event : Colour → LineSeen → ℕ → Event
-line_event S line moment = Line S (text_heard line) moment
+line_event S line moment = Line S (text_read line) moment
 
 -- ---- what is sent
 

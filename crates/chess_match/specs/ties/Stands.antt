@@ -10,7 +10,7 @@ use Rattle.engine_lines.specs.EngineLines.{LineKind}
 use Rattle.engine_lines.specs.Items.{Item, told}
 use Rattle.engine_lines.specs.Seen.{features_of}
 use Rattle.engine_lines.specs.Levels.{LevelSeen}
-use Rattle.chess_match.specs.Match.{Match, Seat, items_heard}
+use Rattle.chess_match.specs.Match.{Match, Seat, items_of_line}
 use Rattle.chess_match.specs.Rules.{Rules}
 use Rattle.chess_match.specs.Sent.{SentLine, Says, answers_to, entry, block}
 use Rattle.chess_match.specs.declared.phase.Phase.{Phase}
@@ -61,12 +61,12 @@ abbrev pub nothing_said : Colour → List Item
 nothing_said S = []
 
 -- what is given after the answers: the offer, and what the phase gives
-abbrev pub behind_answers : Rules → Actions → Match → Colour → List SentLine
-behind_answers r given m S = to given.draw S (Says (codes "draw") ∷ []) ++ (if given.entered then entry r m S else [])
+abbrev pub after_answers : Rules → Actions → Match → Colour → List SentLine
+after_answers r given m S = to given.draw S (Says (codes "draw") ∷ []) ++ (if given.entered then entry r m S else [])
 
 -- the block that is given for S: answers to its items, an offer, and what the phase gives
 unfoldable pub given_block : Rules → Actions → (Colour → List Item) → Match → Colour → List SentLine
-given_block r given items m S = answers_to (items S) ++ behind_answers r given m S
+given_block r given items m S = answers_to (items S) ++ after_answers r given m S
 
 -- from m to m' the core goes on to stand for m', and gives the blocks between them
 pub record Goes (r : Rules) (core : MatchState) (played : List Move) (given : Actions) (items : Colour → List Item)
@@ -103,5 +103,5 @@ played_core core Black used = record core {
 
 -- the items of a line: those of a handshake alone
 abbrev pub items_in : Phase → LineKind → List Item
-items_in (Hello c) kind = items_heard kind
+items_in (Hello c) kind = items_of_line kind
 items_in _ kind = []

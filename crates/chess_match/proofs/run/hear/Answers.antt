@@ -32,17 +32,17 @@ returns-in-Ok-false-clause-heard g c =
     (λ r m p h s. c.output_ends-in-Ok-false-2.ensures r _ m (reads_on m.phase c.args.side h) s)) in
     (0, n.0, n.1, n.2, n.3, n.4)
 
-pub returns-else-is_heard-clause-heard : goal.returns-else-is_heard-clause-heard
-returns-else-is_heard-clause-heard g c =
+pub returns-else-is_parsed-clause-heard : goal.returns-else-is_parsed-clause-heard
+returns-else-is_parsed-clause-heard g c =
     let n = heard_last (IsNoted (g.G.MatchGame.plays c.args.game.now) c.args.core.now (g.G.MatchGame.played c.args.game.now)
-    c.output_ends-else-is_heard.new.self (g.G.MatchGame.played c.args.game.now) c.output_ends-else-is_heard.result
+    c.output_ends-else-is_parsed.new.self (g.G.MatchGame.played c.args.game.now) c.output_ends-else-is_parsed.result
     c.args.block.now.items c.args.side (g.M.Moments.coming c.args.moments.now)
     (g.M.Moments.coming c.args.moments.now) (g.L.Witness.told c.args.witness.now)
     (g.L.Witness.told c.output_ends.new.self))
     c.args.side 0 (line_read c.args.heard c.args.line.now) c.args.line.now
     (ap (λ v. line_read v c.args.line.now) (c.in-Ok-true.is ∙ ap (λ o. Ok o) c.in-Ok-true.field-0-test))
-    (sym c.is_heard.ensures ∙ c.if-is_heard.false)
+    (sym c.is_parsed.ensures ∙ c.if-is_parsed.false)
     (noted_bare _ _ _ _ _ _ _ c.args.side _ _ _ (OutputEnds c.args.side) refl c.requires.empty
     c.output_ends.ensures
-    (λ r m p h s. c.output_ends-else-is_heard.ensures r _ m (reads_on m.phase c.args.side h) s)) in
+    (λ r m p h s. c.output_ends-else-is_parsed.ensures r _ m (reads_on m.phase c.args.side h) s)) in
     (0, n.0, n.1, n.2, n.3, n.4)

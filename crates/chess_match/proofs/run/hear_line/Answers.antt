@@ -3,7 +3,7 @@ use Rattle.std.proofs.Common.{ap, sym}
 use Rattle.engine_lines.specs.Seen.{seen}
 use Rattle.chess_match.specs.ties.Stands.{items_in}
 use Rattle.chess_match.specs.declared.phase.Phase.{Phase}
-use Rattle.chess_match.specs.Run.{text_heard}
+use Rattle.chess_match.specs.Run.{text_read}
 use Rattle.chess_match.proofs.Delivers.{counted, few, undecided}
 use Rattle.chess_match.proofs.Going.{goes_as}
 use Rattle.chess_match.proofs.Runs.{asked_one}
@@ -30,5 +30,5 @@ returns-clause-heard g c = (
   λ r m p reading s.
       goes_as r _ _ _ c.args.side (items_in m.phase (seen c.said.result)) _ m _
       (ap (λ (x : Phase). items_in x (seen c.said.result)) (sym s.phase))
-      (c.line-2.ensures.goes r m c.args.side (text_heard c.args.line.now) p reading (sym c.said.ensures.said) s),
+      (c.line-2.ensures.goes r m c.args.side (text_read c.args.line.now) p reading (sym c.said.ensures.said) s),
 )
