@@ -14,7 +14,7 @@ use Rattle.chess_match.specs.Match.{Match, Event, Line, OutputEnds, FailsToRead,
 use Rattle.chess_match.specs.Notes.{Noted, WasNoted, Happened, both_notes, first_sent}
 use Rattle.chess_match.specs.Rules.{Rules}
 use Rattle.chess_match.specs.Sent.{SentLine, answers_to, block, bytes_of}
-use Rattle.chess_match.specs.ties.Stands.{Stands, Goes, clocks_of, items_to, nothing_said}
+use Rattle.chess_match.specs.ties.Represents.{Represents, Goes, clocks_of, items_to, nothing_said}
 use Rattle.chess_match.specs.ties.Steps.{IsSane, in_turn}
 use Rattle.chess_match.specs.ties.Reported.{SendsIf}
 use Rattle.chess_match.specs.Run.{Asked, text_read}
@@ -26,12 +26,12 @@ use Rattle.chess_match.proofs.Going.{goes_with, nothing_to}
 use Rattle.chess_match.proofs.Runs.{asked_none}
 
 -- where the last move is still to be sent, there is one
-pub last_told : (r : Rules) (core : MatchState) (played : List Move) (m : Match) → Stands r core played m
+pub last_told : (r : Rules) (core : MatchState) (played : List Move) (m : Match) → Represents r core played m
     → (is_some m.unsent_to ≡ true → 0 < length m.played) → is_some core.unsent_to ≡ true → 0 < length played
 last_told r core played m s some h = subst (λ (ms : List Move). 0 < length ms) (sym s.moves)
     (some (ap (λ (o : Option Colour). is_some o) (sym s.unsent_to) ∙ h))
 
-pub on_too : (r : Rules) (core : MatchState) (played : List Move) (m : Match) → Stands r core played m
+pub on_too : (r : Rules) (core : MatchState) (played : List Move) (m : Match) → Represents r core played m
     → is_on core.phase ≡ true → is_on m.phase ≡ true
 on_too r core played m s h = ap is_on (sym s.phase) ∙ h
 
@@ -47,7 +47,7 @@ sends_if o o' b b' text text' e t p = subst (λ (x : List ℕ). SendsIf b' o o' 
 pub first_failed : (r : Rules) (core : MatchState) (played : List Move) (m : Match) (due : Colour → List SentLine)
     (S : Colour) (o o' x x' : OutputState) (f : Bool) (notes notes' : Noted) → is_on m.phase ≡ true
     → 0 < length (due S)
-    → Stands r core played (after r m (FailsToWrite S))
+    → Represents r core played (after r m (FailsToWrite S))
     → SendsIf true o o' (bytes_of (due S))
     → SendsIf f x x' (bytes_of (block r m (after r m (FailsToWrite S)) (other S)))
     → WasNoted notes notes' (broken_notes r m due S S)
@@ -81,7 +81,7 @@ first_failed r core played m due Black o o' x x' f notes notes' on some s b p t 
 pub second_failed : (r : Rules) (core : MatchState) (played : List Move) (m : Match) (due : Colour → List SentLine)
     (S : Colour) (o v o' x x' : OutputState) (f : Bool) (notes notes' : Noted) → is_on m.phase ≡ true
     → 0 < length (due (other S))
-    → Stands r core played (after r m (FailsToWrite (other S)))
+    → Represents r core played (after r m (FailsToWrite (other S)))
     → SendsIf false o v (bytes_of (due S)) → SendsIf true x x' (bytes_of (due (other S)))
     → SendsIf f v o' (bytes_of (block r m (after r m (FailsToWrite (other S))) (other (other S))))
     → WasNoted notes notes' (broken_notes r m due S (other S))
@@ -122,7 +122,7 @@ turn_noted m S due notes notes' on t =
     subst (λ (b : Bool). WasNoted notes notes' (both_notes (if b then S else White) due)) (sym on) t
 
 pub none_failed : (r : Rules) (core : MatchState) (played : List Move) (m : Match) (due : Colour → List SentLine) (S : Colour)
-    (o o' x x' : OutputState) (notes notes' : Noted) → Stands r core played m
+    (o o' x x' : OutputState) (notes notes' : Noted) → Represents r core played m
     → SendsIf false o o' (bytes_of (due S)) → SendsIf false x x' (bytes_of (due (other S)))
     → is_on m.phase ≡ true → WasNoted notes notes' (both_notes S due)
     → Delivered r core played m due S (by_turn S o x) (by_turn S o' x') (by_turn S false false) notes notes'
@@ -149,7 +149,7 @@ is_off false e = refl
 
 -- at the end each engine is sent its block, whatever became of the other's
 pub both_sent : (r : Rules) (core : MatchState) (played : List Move) (m : Match) (due : Colour → List SentLine) (S : Colour)
-    (w w' b b' : OutputState) (f g : Bool) (notes notes' : Noted) → Stands r core played m
+    (w w' b b' : OutputState) (f g : Bool) (notes notes' : Noted) → Represents r core played m
     → true ≡ not (is_on core.phase)
     → SendsIf f w w' (bytes_of (due White)) → SendsIf g b b' (bytes_of (due Black)) → WasNoted notes notes' (both_notes White due)
     → Delivered r core played m due S (by_side w b) (by_side w' b') (by_side f g) notes notes'
@@ -179,7 +179,7 @@ turn_black r core played m due White o o' x x' f g notes notes' e d = absurd cc
 
 -- ---- what a line asks of the core
 
-pub counted : (r : Rules) (core : MatchState) (played : List Move) (m : Match) → Stands r core played m → IsSane r m
+pub counted : (r : Rules) (core : MatchState) (played : List Move) (m : Match) → Represents r core played m → IsSane r m
     → core.count < 10000
 counted r core played m s sane = omega (arith, s.count, sane.count)
 
@@ -188,14 +188,14 @@ few_moves : (r : Rules) (m : Match) → IsSane r m → (S : Colour)
 few_moves r m sane White = sane.white
 few_moves r m sane Black = sane.black
 
-pub few : (r : Rules) (core : MatchState) (played : List Move) (m : Match) → Stands r core played m → IsSane r m
+pub few : (r : Rules) (core : MatchState) (played : List Move) (m : Match) → Represents r core played m → IsSane r m
     → (S : Colour) → (spent_by core.clocks S).moves ≤ length played
 few r core played m s sane S =
     subst (λ (c : ClocksSeen). (spent_by c S).moves ≤ length played) (sym s.clocks)
     (subst (λ (ms : List Move). (spent_by (clocks_of r.level m) S).moves ≤ length ms) (sym s.moves)
     (few_moves r m sane S))
 
-pub undecided : (r : Rules) (core : MatchState) (played : List Move) (m : Match) → Stands r core played m → IsSane r m
+pub undecided : (r : Rules) (core : MatchState) (played : List Move) (m : Match) → Represents r core played m → IsSane r m
     → in_turn core.phase ≡ true → r.verdict played ≡ None
 undecided r core played m s sane h = ap (λ (ms : List Move). r.verdict ms) s.moves
     ∙ sane.undecided (ap in_turn (sym s.phase) ∙ h)
@@ -209,14 +209,14 @@ IsNoted plays core played core' played' given text S coming coming' notes notes'
     (items : List Item) × Asked coming coming' (moment_in e)
     × WasNoted notes notes' (Happened e ∷ [])
     × (text ≡ bytes_of (answers_to items))
-    × ((r : Rules) (m : Match) → plays r → reads m.phase S ≡ true → Stands r core played m
+    × ((r : Rules) (m : Match) → plays r → reads m.phase S ≡ true → Represents r core played m
     → Goes r core' played' given (items_to S items) m (after r m e))
 
 -- an event at which no items are said
 pub noted_bare : (plays : Rules → Type 0) (core : MatchState) (played : List Move) (core' : MatchState) (played' : List Move)
     (given : Actions) (text : List ℕ) (S : Colour) (coming : ℕ → Option ℕ) (notes notes' : Noted) (e : Event)
     → moment_in e ≡ [] → text ≡ [] → WasNoted notes notes' (Happened e ∷ [])
-    → ((r : Rules) (m : Match) → plays r → reads m.phase S ≡ true → Stands r core played m
+    → ((r : Rules) (m : Match) → plays r → reads m.phase S ≡ true → Represents r core played m
     → Goes r core' played' given nothing_said m (after r m e))
     → IsNoted plays core played core' played' given text S coming coming notes notes' e
 unfolding bytes_of

@@ -18,7 +18,7 @@ use Rattle.chess_match.specs.Reasons.{declared_at, outcome_of}
 use Rattle.chess_match.specs.Notes.{Noted}
 use Rattle.chess_match.specs.Rules.{Rules, rules_of}
 use Rattle.chess_match.specs.Run.{Ports, reader_at, writer_at, ReadFrom, Written, game_after, RanBefore}
-use Rattle.chess_match.specs.ties.Stands.{name_by}
+use Rattle.chess_match.specs.ties.Represents.{name_by}
 use Rattle.chess_match.specs.ties.Reported.{IsReported}
 use Rattle.chess_match.specs.Transcript.{match_of, ending_in, name_of, blocks}
 use Rattle.chess_match.proofs.UnderWay.{IsUnderWay}

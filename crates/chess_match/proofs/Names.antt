@@ -5,7 +5,7 @@ use Rattle.std.specs.Str.{bytes_eq}
 use Rattle.chess_pgn.specs.Written.{cut_tag}
 use Rattle.engine_lines.specs.Items.{Item, told, value_text}
 use Rattle.engine_lines.proofs.ItemRuns.{last_said-snoc}
-use Rattle.chess_match.specs.ties.Stands.{name_by}
+use Rattle.chess_match.specs.ties.Represents.{name_by}
 
 pub name_said : (items : List Item) (i : Item) → bytes_eq i.name (codes "myname") ≡ true
     → name_by (items ++ i ∷ []) ≡ cut_tag (value_text i.value)

@@ -19,7 +19,7 @@ use Rattle.chess_match.specs.Notes.{Noted, WasNoted, Happened}
 use Rattle.chess_match.specs.Rules.{Rules, rules_of}
 use Rattle.chess_match.specs.Run.{Asked}
 use Rattle.chess_match.specs.Sent.{block, entry}
-use Rattle.chess_match.specs.ties.Stands.{given_block, nothing_said}
+use Rattle.chess_match.specs.ties.Represents.{given_block, nothing_said}
 use Rattle.chess_match.specs.Transcript.{match_of, reads, opens, moment_in}
 use Rattle.chess_match.proofs.UnderWay.{IsUnderWay, steps_left}
 use Rattle.chess_match.specs.declared.phase.Phase.{Phase}

@@ -9,7 +9,7 @@ use Rattle.chess_match.specs.Match.{Event}
 use Rattle.chess_match.specs.Notes.{Noted, WasNoted, notes_of}
 use Rattle.chess_match.specs.Rules.{Rules}
 use Rattle.chess_match.specs.Run.{ReadFrom, Written, Asked}
-use Rattle.chess_match.specs.ties.Stands.{Stands}
+use Rattle.chess_match.specs.ties.Represents.{Represents}
 use Rattle.chess_match.specs.ties.Steps.{IsSane}
 use Rattle.chess_match.specs.Transcript.{match_of, fits, blocks, lines_of, moments_of, has_end, has_read_failure, has_write_failure, is_on}
 use Rattle.chess_match.specs.declared.phase.Phase.{Phase}
@@ -31,7 +31,7 @@ pub record IsUnderWay (r : Rules) (T : List Event) (core : MatchState) (played :
     (n n' : Colour → InputState) (held : Colour → Held) (w w' : Colour → OutputState)
     (coming coming' : ℕ → Option ℕ) (notes notes' : Noted) : Type 0 where
   pub fitting : fits r T ≡ true
-  pub stands : Stands r core played (match_of r T)
+  pub stands : Represents r core played (match_of r T)
   pub sane : IsSane r (match_of r T)
   pub heard : (S : Colour) → HeardSoFar S T (is_on (match_of r T).phase) (n S) (n' S) (held S)
   pub written : (S : Colour) → Written (failed S) (w S) (w' S) (blocks r S T)

@@ -15,7 +15,7 @@ use Rattle.chess_match.specs.Notes.{Noted, WasNoted, Happened, both_notes, first
 use Rattle.chess_match.specs.Rules.{Rules}
 use Rattle.chess_match.specs.Run.{Flushed, Written, Asked}
 use Rattle.chess_match.specs.Sent.{SentLine, block, entry, bytes_of}
-use Rattle.chess_match.specs.ties.Stands.{Stands, Goes, given_block, nothing_said}
+use Rattle.chess_match.specs.ties.Represents.{Represents, Goes, given_block, nothing_said}
 use Rattle.chess_match.specs.ties.Steps.{IsSane}
 use Rattle.chess_match.specs.ties.Reported.{SendsIf}
 use Rattle.chess_match.specs.Transcript.{match_of, fits_next, is_on, opens, blocks, blocks_from, joined_blocks, lines_of, moments_of, moment_in, has_end, has_read_failure, has_write_failure, fails_at, side_of}
@@ -81,7 +81,7 @@ all_step r T e core core' played played' failed failed' n n' n'' held held' w w'
     let now : match_of r (T ++ e ∷ []) ≡ after r (match_of r T) e = match_of-append r T (e ∷ []) in
     record {
       fitting = fits-append r T e [] sound u.fitting (ap (λ b. b && true) fit);
-      stands = subst (λ (x : Match). Stands r core' played' x) (sym now) all.stands;
+      stands = subst (λ (x : Match). Represents r core' played' x) (sym now) all.stands;
       sane = subst (λ (x : Match). IsSane r x) (sym now) sane;
       heard = λ S. subst (λ (x : Match). HeardSoFar S (T ++ e ∷ []) (is_on x.phase) (n S) (n'' S) (held' S)) (sym now)
           (so_far_on S T e [] (is_on (match_of r T).phase) (is_on (after r (match_of r T) e).phase) (n S) (n' S) (n'' S)
@@ -197,7 +197,7 @@ failed_step r T d text k core core' played played' failed failed' n n' n'' held 
           ap (λ b. b && ((is_on (after r m e).phase && nat_lt 0 (length (block r m (after r m e) c))) && true)) fit
           ∙ ap (λ b. (b && nat_lt 0 (length (block r m (after r m e) c))) && true) one.on
           ∙ ap (λ b. b && true) (lt-ltb 0 (length (block r m (after r m e) c)) one.some));
-      stands = subst (λ (x : Match). Stands r core' played' x) (sym now) one.stands;
+      stands = subst (λ (x : Match). Represents r core' played' x) (sym now) one.stands;
       sane = subst (λ (x : Match). IsSane r x) (sym now) (sane_over r (after r m e) _ sane);
       heard = λ S. subst (λ (x : Match). HeardSoFar S (T ++ e ∷ U) (is_on x.phase) (n S) (n'' S) (held' S)) (sym now)
           (so_far_on S T e U (is_on m.phase) false (n S) (n' S) (n'' S) (held S) (held' S) (failed_tail c) on

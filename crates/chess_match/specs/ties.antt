@@ -1,5 +1,5 @@
 -- What only joins code to the definitions: no claim rests on it.
-pub mod Stands
+pub mod Represents
 pub mod Chess
 pub mod Steps
 pub mod Reported

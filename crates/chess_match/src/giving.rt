@@ -10,7 +10,7 @@ ghost use Rattle.chess_match.specs.Match.{Match};
 ghost use Rattle.chess_match.specs.Notes.{WasNoted, given_note};
 ghost use Rattle.chess_match.specs.Rules.{Rules};
 ghost use Rattle.chess_match.specs.Sent.{answers_to, bytes_of};
-ghost use Rattle.chess_match.specs.ties.Stands.{Stands, after_answers, given_block};
+ghost use Rattle.chess_match.specs.ties.Represents.{Represents, after_answers, given_block};
 ghost use Rattle.chess_match.specs.ties.Reported.{SendsIf};
 
 use crate::block::Block;
@@ -33,7 +33,7 @@ fn add_rest<G: MatchGame, S: Board>(
 )
     requires unsent_to { is_some core.now.unsent_to ≡ true → 0 < length (G.played game.now) }
     requires room { array_vec_len block.old + 310 ≤ BLOCK_LEN }
-    ensures { (r : Rules) (m : Match) → G.plays game.now r → Stands r core.now (G.played game.now) m
+    ensures { (r : Rules) (m : Match) → G.plays game.now r → Represents r core.now (G.played game.now) m
         → block.new.items ≡ block.old.items ++ bytes_of (after_answers r given m side) }
 {
     add_offer(block, given, side);
@@ -73,13 +73,13 @@ pub(crate) fn note_and_send<W: Output, L: Witness, G: MatchGame, S: Board>(
     requires unsent_to { is_some core.now.unsent_to ≡ true → 0 < length (G.played game.now) }
     requires room { array_vec_len block.old ≤ ANSWERS_LEN }
     ensures sends { (r : Rules) (m : Match) (items : Colour → List Item) → G.plays game.now r
-        → Stands r core.now (G.played game.now) m → block.old.items ≡ bytes_of (answers_to (items side))
+        → Represents r core.now (G.played game.now) m → block.old.items ≡ bytes_of (answers_to (items side))
         → SendsIf (is_err result) (W.seen writer.old) (W.seen writer.new) (bytes_of (given_block r given items m side)) }
     ensures due { (r : Rules) (m : Match) (items : Colour → List Item) → G.plays game.now r
-        → Stands r core.now (G.played game.now) m → block.old.items ≡ bytes_of (answers_to (items side))
+        → Represents r core.now (G.played game.now) m → block.old.items ≡ bytes_of (answers_to (items side))
         → IsErr result → 0 < length (given_block r given items m side) }
     ensures told { (r : Rules) (m : Match) (items : Colour → List Item) → G.plays game.now r
-        → Stands r core.now (G.played game.now) m → block.old.items ≡ bytes_of (answers_to (items side))
+        → Represents r core.now (G.played game.now) m → block.old.items ≡ bytes_of (answers_to (items side))
         → WasNoted (L.told witness.old) (L.told witness.new)
         (given_note side (bytes_of (given_block r given items m side))) }
     ensures empty { block.new.items ≡ [] }

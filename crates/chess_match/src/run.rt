@@ -17,7 +17,7 @@ ghost use Rattle.chess_match.specs.Rules.{Rules};
 ghost use Rattle.chess_match.specs.Run.{Ports, MatchRan, RanBefore, Asked, text_read};
 ghost use Rattle.engine_lines.specs.Seen.{seen};
 ghost use Rattle.chess_match.specs.Sent.{block, bytes_of, answers_to};
-ghost use Rattle.chess_match.specs.ties.Stands.{Stands, Goes, given_block, items_to};
+ghost use Rattle.chess_match.specs.ties.Represents.{Represents, Goes, given_block, items_to};
 ghost use Rattle.chess_match.specs.ties.Steps.{IsSane};
 ghost use Rattle.chess_match.specs.ties.Reported.{SendsIf, IsReported};
 ghost use Rattle.chess_match.specs.Transcript.{is_on, reads, moment_in};
@@ -283,7 +283,7 @@ fn send_both<W: Output, L: Witness, G: MatchGame, S: Board>(
     requires white_room { array_vec_len white_block.old ≤ ANSWERS_LEN }
     requires black_room { array_vec_len black_block.old ≤ ANSWERS_LEN }
     ensures sent { (r : Rules) (m : Match) (items : Colour → List Item) → G.plays game.now r
-        → Stands r core.now (G.played game.now) m
+        → Represents r core.now (G.played game.now) m
         → white_block.old.items ≡ bytes_of (answers_to (items Colour.White))
         → black_block.old.items ≡ bytes_of (answers_to (items Colour.Black))
         → SendsIf result.white (W.seen white.old) (W.seen white.new)
@@ -336,8 +336,8 @@ fn end_for_other<W: Output, L: Witness, G: MatchGame, S: Board>(
     requires last { HasLast core.old (G.played game.now) }
     requires on { is_on core.old.phase ≡ true }
     requires empty { waiting.old.items ≡ [] }
-    ensures ended { (r : Rules) (m : Match) → G.plays game.now r → Stands r core.old (G.played game.now) m
-        → Stands r core.new (G.played game.now) (after r m (FailsToWrite side))
+    ensures ended { (r : Rules) (m : Match) → G.plays game.now r → Represents r core.old (G.played game.now) m
+        → Represents r core.new (G.played game.now) (after r m (FailsToWrite side))
         × SendsIf result (W.seen others.old) (W.seen others.new)
         (bytes_of (block r m (after r m (FailsToWrite side)) (other side)))
         × WasNoted (L.told witness.old) (L.told witness.new) (Happened (FailsToWrite side)
@@ -377,7 +377,7 @@ fn send_in_turn<W: Output, L: Witness, G: MatchGame, S: Board>(
     requires room { array_vec_len blocks.old.own ≤ ANSWERS_LEN }
     requires empty { blocks.old.others.items ≡ [] }
     ensures delivered { (r : Rules) (m : Match) (items : Colour → List Item) → G.plays game.now r
-        → Stands r core.old (G.played game.now) m → blocks.old.own.items ≡ bytes_of (answers_to (items side))
+        → Represents r core.old (G.played game.now) m → blocks.old.own.items ≡ bytes_of (answers_to (items side))
         → items (other side) ≡ []
         → Delivered r core.new (G.played game.now) m (given_block r given items m) side
         (by_turn side (W.seen own.old) (W.seen others.old)) (by_turn side (W.seen own.new) (W.seen others.new))
@@ -451,7 +451,7 @@ fn deliver<W: Output, L: Witness, G: MatchGame, S: Board>(
     requires room { array_vec_len blocks.old.own ≤ ANSWERS_LEN }
     requires empty { blocks.old.others.items ≡ [] }
     ensures delivered { (r : Rules) (m : Match) (items : Colour → List Item) → G.plays game.now r
-        → Stands r core.old (G.played game.now) m → blocks.old.own.items ≡ bytes_of (answers_to (items side))
+        → Represents r core.old (G.played game.now) m → blocks.old.own.items ≡ bytes_of (answers_to (items side))
         → items (other side) ≡ []
         → Delivered r core.new (G.played game.now) m (given_block r given items m) side
         (by_side (W.seen white.old) (W.seen black.old)) (by_side (W.seen white.new) (W.seen black.new))
@@ -538,7 +538,7 @@ fn hear_line<M: Moments, L: Witness, G: MatchGame>(
     side: Colour,
     block: &mut Block,
 ) -> Actions
-    requires sane { (r : Rules) × (m : Match) × (G.plays game.old r) × Stands r core.old (G.played game.old) m
+    requires sane { (r : Rules) × (m : Match) × (G.plays game.old r) × Represents r core.old (G.played game.old) m
         × IsSane r m × (reads m.phase side ≡ true) }
     requires empty { block.old.items ≡ [] }
     ensures rules { (r : Rules) → G.plays game.old r → G.plays game.new r }
@@ -548,7 +548,7 @@ fn hear_line<M: Moments, L: Witness, G: MatchGame>(
         × WasNoted (L.told witness.old) (L.told witness.new) (Happened (line_event side line.now moment) ∷ [])
         × (block.new.items ≡ bytes_of (answers_to items))
         × ((r : Rules) (m : Match) → G.plays game.old r → reads m.phase side ≡ true
-        → Stands r core.old (G.played game.old) m
+        → Represents r core.old (G.played game.old) m
         → Goes r core.new (G.played game.new) result (items_to side items) m (after r m (line_event side line.now moment))) }
     ensures room { array_vec_len block.new ≤ ANSWERS_LEN }
 {
@@ -569,7 +569,7 @@ fn hear<M: Moments, L: Witness, G: MatchGame>(
     side: Colour,
     block: &mut Block,
 ) -> Actions
-    requires sane { (r : Rules) × (m : Match) × (G.plays game.old r) × Stands r core.old (G.played game.old) m
+    requires sane { (r : Rules) × (m : Match) × (G.plays game.old r) × Represents r core.old (G.played game.old) m
         × IsSane r m × (reads m.phase side ≡ true) }
     requires empty { block.old.items ≡ [] }
     ensures rules { (r : Rules) → G.plays game.old r → G.plays game.new r }
@@ -581,7 +581,7 @@ fn hear<M: Moments, L: Witness, G: MatchGame>(
         (Happened (event_read side moment (line_read heard line.now)) ∷ [])
         × (block.new.items ≡ bytes_of (answers_to items))
         × ((r : Rules) (m : Match) → G.plays game.old r → reads m.phase side ≡ true
-        → Stands r core.old (G.played game.old) m
+        → Represents r core.old (G.played game.old) m
         → Goes r core.new (G.played game.new) result (items_to side items) m
         (after r m (event_read side moment (line_read heard line.now)))) }
     ensures room { array_vec_len block.new ≤ ANSWERS_LEN }

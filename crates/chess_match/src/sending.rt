@@ -9,7 +9,7 @@ ghost use Rattle.chess_match.specs.Rules.{Rules};
 ghost use Rattle.chess_base.specs.declared.man.Move.{Move};
 ghost use Rattle.chess_match.specs.Sent.{Says, bytes_of, last_move, last_move_lines, clock_lines, opening_lines, setup_lines, end_lines, entry, unsent_lines, variant_lines, is_unwritten};
 ghost use Rattle.chess_match.specs.Reasons.{fault_of};
-ghost use Rattle.chess_match.specs.ties.Stands.{Stands, player, to};
+ghost use Rattle.chess_match.specs.ties.Represents.{Represents, player, to};
 
 use crate::block::{Block, add, add_end, add_level, add_ping, add_times};
 use crate::phase::Phase;
@@ -43,7 +43,7 @@ fn add_last<G: MatchGame, S: Board>(
 )
     requires some { 0 < length (G.played game.now) }
     requires room { array_vec_len block.old + 20 ≤ BLOCK_LEN }
-    ensures text { (r : Rules) (m : Match) → G.plays game.now r → Stands r core.now (G.played game.now) m
+    ensures text { (r : Rules) (m : Match) → G.plays game.now r → Represents r core.now (G.played game.now) m
         → block.new.items ≡ block.old.items ++ bytes_of (last_move r m side ∷ []) }
     ensures len { array_vec_len block.new ≤ array_vec_len block.old + 20 }
 {
@@ -60,7 +60,7 @@ fn add_last_if<G: MatchGame, S: Board>(
     side: Colour,
 )
     requires { array_vec_len block.old + 20 ≤ BLOCK_LEN }
-    ensures text { (r : Rules) (m : Match) → G.plays game.now r → Stands r core.now (G.played game.now) m
+    ensures text { (r : Rules) (m : Match) → G.plays game.now r → Represents r core.now (G.played game.now) m
         → block.new.items ≡ block.old.items ++ bytes_of (last_move_lines r m side) }
     ensures len { array_vec_len block.new ≤ array_vec_len block.old + 20 }
 {
@@ -73,7 +73,7 @@ fn add_last_if<G: MatchGame, S: Board>(
 // Both clocks, for an engine that takes them.
 fn add_clocks(block: &mut Block, core: &MatchState, side: Colour)
     requires { array_vec_len block.old + 60 ≤ BLOCK_LEN }
-    ensures text { (r : Rules) (played : List Move) (m : Match) → Stands r core.now played m
+    ensures text { (r : Rules) (played : List Move) (m : Match) → Represents r core.now played m
         → block.new.items ≡ block.old.items ++ bytes_of (clock_lines r m side) }
     ensures len { array_vec_len block.new ≤ array_vec_len block.old + 60 }
 {
@@ -93,7 +93,7 @@ fn add_later_opening<G: MatchGame, S: Board>(
     mover: Colour,
 )
     requires { array_vec_len block.old + 100 ≤ BLOCK_LEN }
-    ensures text { (r : Rules) (m : Match) → G.plays game.now r → Stands r core.now (G.played game.now) m
+    ensures text { (r : Rules) (m : Match) → G.plays game.now r → Represents r core.now (G.played game.now) m
         → block.new.items ≡ block.old.items ++ bytes_of (clock_lines r m mover ++ last_move_lines r m mover) }
     ensures len { array_vec_len block.new ≤ array_vec_len block.old + 100 }
 {
@@ -110,7 +110,7 @@ fn add_opening<G: MatchGame, S: Board>(
     side: Colour,
 )
     requires { array_vec_len block.old + 100 ≤ BLOCK_LEN }
-    ensures text { (r : Rules) (m : Match) → G.plays game.now r → Stands r core.now (G.played game.now) m
+    ensures text { (r : Rules) (m : Match) → G.plays game.now r → Represents r core.now (G.played game.now) m
         → block.new.items ≡ block.old.items ++ bytes_of (opening_lines r m side) }
     ensures len { array_vec_len block.new ≤ array_vec_len block.old + 100 }
 {
@@ -139,7 +139,7 @@ fn add_variant(block: &mut Block, variant: Variant)
 // The setup of an engine.
 fn add_setup<G: MatchGame>(block: &mut Block, core: &MatchState, game: &G)
     requires { array_vec_len block.old + 300 ≤ BLOCK_LEN }
-    ensures text { (r : Rules) (m : Match) → G.plays game.now r → Stands r core.now (G.played game.now) m
+    ensures text { (r : Rules) (m : Match) → G.plays game.now r → Represents r core.now (G.played game.now) m
         → block.new.items ≡ block.old.items ++ bytes_of (setup_lines r) }
     ensures len { array_vec_len block.new ≤ array_vec_len block.old + 300 }
 {
@@ -161,7 +161,7 @@ fn add_unsent<G: MatchGame, S: Board>(
 )
     requires unsent_to { is_some core.now.unsent_to ≡ true → 0 < length (G.played game.now) }
     requires room { array_vec_len block.old + 20 ≤ BLOCK_LEN }
-    ensures text { (r : Rules) (m : Match) → G.plays game.now r → Stands r core.now (G.played game.now) m
+    ensures text { (r : Rules) (m : Match) → G.plays game.now r → Represents r core.now (G.played game.now) m
         → block.new.items ≡ block.old.items ++ bytes_of (unsent_lines r m side m.unsent_to) }
     ensures len { array_vec_len block.new ≤ array_vec_len block.old + 20 }
 {
@@ -186,7 +186,7 @@ fn add_end_lines<G: MatchGame, S: Board>(
 )
     requires unsent_to { is_some core.now.unsent_to ≡ true → 0 < length (G.played game.now) }
     requires room { array_vec_len block.old + 120 ≤ BLOCK_LEN }
-    ensures text { (r : Rules) (m : Match) → G.plays game.now r → Stands r core.now (G.played game.now) m
+    ensures text { (r : Rules) (m : Match) → G.plays game.now r → Represents r core.now (G.played game.now) m
         → block.new.items ≡ block.old.items ++ bytes_of (end_lines r m side reason) }
     ensures len { array_vec_len block.new ≤ array_vec_len block.old + 120 }
 {
@@ -233,7 +233,7 @@ fn add_entry<G: MatchGame, S: Board>(
 )
     requires unsent_to { is_some core.now.unsent_to ≡ true → 0 < length (G.played game.now) }
     requires room { array_vec_len block.old + 300 ≤ BLOCK_LEN }
-    ensures { (r : Rules) (m : Match) → G.plays game.now r → Stands r core.now (G.played game.now) m
+    ensures { (r : Rules) (m : Match) → G.plays game.now r → Represents r core.now (G.played game.now) m
         → block.new.items ≡ block.old.items ++ bytes_of (entry r m side) }
 {
     match core.phase {
@@ -296,7 +296,7 @@ pub(crate) fn add_entered<G: MatchGame, S: Board>(
 )
     requires unsent_to { is_some core.now.unsent_to ≡ true → 0 < length (G.played game.now) }
     requires room { array_vec_len block.old + 300 ≤ BLOCK_LEN }
-    ensures { (r : Rules) (m : Match) → G.plays game.now r → Stands r core.now (G.played game.now) m
+    ensures { (r : Rules) (m : Match) → G.plays game.now r → Represents r core.now (G.played game.now) m
         → block.new.items ≡ block.old.items ++ bytes_of (if given.entered then entry r m side else []) }
 {
     if given.entered {

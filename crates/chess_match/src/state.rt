@@ -7,7 +7,7 @@ ghost use Rattle.chess_base.specs.Men.{same_colour};
 ghost use Rattle.engine_lines.specs.Seen.{item_seen, features_of};
 ghost use Rattle.engine_lines.specs.Items as told;
 ghost use Rattle.engine_lines.specs.Items.{items_of, has_done};
-ghost use Rattle.chess_match.specs.ties.Stands.{name_by, Stands};
+ghost use Rattle.chess_match.specs.ties.Represents.{name_by, Represents};
 ghost use Rattle.chess_match.specs.Match.{start};
 ghost use Rattle.chess_match.specs.Rules.{Rules};
 ghost use Rattle.chess_match.specs.Sent.{answers_to, bytes_of};
@@ -61,7 +61,7 @@ pub(crate) const ENTRY: Actions = Actions {
 
 impl Player {
     // Nothing was said yet.
-    #[tactic(auto, unfolding(crate::specs::ties::Stands::name_by, engine_lines::specs::Items::told))]
+    #[tactic(auto, unfolding(crate::specs::ties::Represents::name_by, engine_lines::specs::Items::told))]
     fn new() -> Self
         ensures features { result.features ≡ features_of [] }
         ensures name { result.name ≡ name_by [] }
@@ -103,7 +103,7 @@ impl Player {
 impl MatchState {
     /// Before any line: White's handshake.
     pub(crate) fn new(level: Level) -> Self
-        ensures { (r : Rules) → r.level ≡ level → Stands r result [] start }
+        ensures { (r : Rules) → r.level ≡ level → Represents r result [] start }
     {
         MatchState {
             phase: Phase::Hello(Colour::White),
@@ -130,7 +130,7 @@ pub(crate) fn is_side(side: Colour, other: Colour) -> bool
 }
 
 // Takes over the name that an item says.
-#[tactic(auto, unfolding(crate::specs::ties::Stands::name_by, engine_lines::specs::Items::told))]
+#[tactic(auto, unfolding(crate::specs::ties::Represents::name_by, engine_lines::specs::Items::told))]
 fn note_name(name: &mut TagText, item: &Item<'_>)
     ensures { (items : List told.Item) → name.old ≡ name_by items
         → name.new ≡ name_by (items ++ item_seen item.now ∷ []) }

@@ -11,7 +11,7 @@ use Rattle.chess_match.specs.Notes.{Noted, WasNoted, Happened, Note, both_notes,
 use Rattle.chess_match.specs.Rules.{Rules}
 use Rattle.chess_match.specs.Run.{text_read, Flushed}
 use Rattle.chess_match.specs.Sent.{SentLine, block, bytes_of, answer_words}
-use Rattle.chess_match.specs.ties.Stands.{Stands}
+use Rattle.chess_match.specs.ties.Represents.{Represents}
 use Rattle.chess_match.specs.ties.Reported.{SendsIf}
 use Rattle.chess_match.specs.Transcript.{is_on}
 use Rattle.chess_match.specs.declared.state.MatchState.{MatchState}
@@ -45,7 +45,7 @@ line_event S line moment = Line S (text_read line) moment
 -- failed
 pub record AllSent (r : Rules) (core : MatchState) (played : List Move) (m : Match) (due : Colour → List SentLine)
     (first : Colour) (w w' : Colour → OutputState) (failed : Colour → Bool) (notes notes' : Noted) : Type 0 where
-  pub stands : Stands r core played m
+  pub stands : Represents r core played m
   pub puts : (S : Colour) → SendsIf (failed S) (w S) (w' S) (bytes_of (due S))
   pub fine : is_on m.phase ≡ true → (S : Colour) → failed S ≡ false
   pub told : WasNoted notes notes' (both_notes (first_sent m first) due)
@@ -64,7 +64,7 @@ pub record OneFailed (r : Rules) (core : MatchState) (played : List Move) (m : M
     (c : Colour) : Type 0 where
   pub on : is_on m.phase ≡ true
   pub some : 0 < length (due c)
-  pub stands : Stands r core played (after r m (FailsToWrite c))
+  pub stands : Represents r core played (after r m (FailsToWrite c))
   pub fails : failed c ≡ true
   pub broke : BreaksOff (w c) (w' c) (bytes_of (due c))
   pub others : (v : OutputState) × Flushed (w (other c)) v
@@ -82,7 +82,7 @@ Delivered r core played m due first w w' failed notes notes' =
 
 -- core and game stand for a match in which there is a last move, if someone is still to be sent it
 abbrev pub HasLast : MatchState → List Move → Type 0
-HasLast core played = (r : Rules) × (m : Match) × Stands r core played m
+HasLast core played = (r : Rules) × (m : Match) × Represents r core played m
     × (is_some m.unsent_to ≡ true → 0 < length m.played)
 
 -- the line that answers an item of that name

@@ -5,7 +5,7 @@ use Rattle.chess_base.specs.Men.{other}
 use Rattle.chess_match.specs.Match.{Match, FailsToWrite, after}
 use Rattle.chess_match.specs.Notes.{Happened, given_note}
 use Rattle.chess_match.specs.Sent.{SentLine, block, bytes_of}
-use Rattle.chess_match.specs.ties.Stands.{given_block, nothing_said}
+use Rattle.chess_match.specs.ties.Represents.{given_block, nothing_said}
 use Rattle.chess_match.proofs.Notings.{noted_more, noted_as}
 use Rattle.chess_match.proofs.Delivers.{last_told, on_too, sends_if}
 use Rattle.chess_match.proofs.Sends.{no_answers}

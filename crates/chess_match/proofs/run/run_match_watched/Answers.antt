@@ -10,7 +10,7 @@ use Rattle.chess_match.specs.ties.Delivering.{by_side, event_read}
 use Rattle.chess_match.specs.Match.{Match, Opened, start, after}
 use Rattle.chess_match.specs.Rules.{Rules, rules_of}
 use Rattle.chess_match.specs.Sent.{answers_to, block, bytes_of}
-use Rattle.chess_match.specs.ties.Stands.{Stands, items_to, nothing_said}
+use Rattle.chess_match.specs.ties.Represents.{Represents, items_to, nothing_said}
 use Rattle.engine_lines.specs.Items.{Item}
 use Rattle.chess_match.specs.Transcript.{match_of, reads, opens}
 use Rattle.chess_match.specs.declared.phase.Phase.{Phase}
@@ -29,7 +29,7 @@ deliver-failed-requires-clause-last g c =
     let r : Rules = rules_of c.args.setup.now.start c.args.setup.now.level c.args.game.now.limit in (
       r,
       start,
-      subst (λ (ms : List Move). Stands r c.new-core.result ms start)
+      subst (λ (ms : List Move). Represents r c.new-core.result ms start)
           (sym (ap (λ (x : game.Seen). x.state.moves) c.restart.ensures))
           (c.new-core.ensures r (rules_level c.args.setup.now.start c.args.setup.now.level c.args.game.now.limit)),
       λ h. cc,
@@ -38,7 +38,7 @@ deliver-failed-requires-clause-last g c =
 pub events-init : goal.events-init
 events-init g c =
     let r : Rules = rules_of c.args.setup.now.start c.args.setup.now.level c.args.game.now.limit in
-    let stands = subst (λ (ms : List Move). Stands r c.new-core.result ms start)
+    let stands = subst (λ (ms : List Move). Represents r c.new-core.result ms start)
     (sym (ap (λ (x : game.Seen). x.state.moves) c.restart.ensures))
     (c.new-core.ensures r (rules_level c.args.setup.now.start c.args.setup.now.level c.args.game.now.limit)) in
     let d = c.deliver-failed.ensures.delivered r start nothing_said

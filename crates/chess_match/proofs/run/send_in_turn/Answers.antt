@@ -5,7 +5,7 @@ use Rattle.chess_base.specs.Men.{other}
 use Rattle.chess_match.specs.Match.{FailsToWrite, after}
 use Rattle.chess_match.specs.Notes.{WasNoted, Happened, given_note}
 use Rattle.chess_match.specs.Sent.{SentLine, block, bytes_of}
-use Rattle.chess_match.specs.ties.Stands.{Stands, given_block}
+use Rattle.chess_match.specs.ties.Represents.{Represents, given_block}
 use Rattle.chess_match.specs.ties.Reported.{SendsIf}
 use Rattle.chess_match.proofs.Delivers.{on_too, sends_if, first_failed, second_failed, none_failed}
 use Rattle.chess_match.proofs.Notings.{noted_more, noted_as, first_noted, second_noted}
@@ -30,7 +30,7 @@ returns-then-is_err-2-clause-delivered g c r m items p s own none =
     let due : Colour → List SentLine = given_block r c.args.given items m in
     let others = no_answers_of _ (items c.other.result) c.requires.empty
     (ap items c.other.ensures ∙ none) in
-    let end = subst (λ (X : Colour). Stands r c.end_for_other-own_failed.new.core (g.G.MatchGame.played c.args.game.now)
+    let end = subst (λ (X : Colour). Represents r c.end_for_other-own_failed.new.core (g.G.MatchGame.played c.args.game.now)
     (after r m (FailsToWrite X))
     × SendsIf c.end_for_other-own_failed.result (g.W.Output.seen c.note_and_send.new.writer)
     (g.W.Output.seen c.end_for_other-own_failed.new.others)

@@ -7,7 +7,7 @@ use Rattle.engine_lines.specs.Items.{has_done}
 use Rattle.chess_match.specs.Match.{hear, items_of_line, greeted, enter, hello_line}
 use Rattle.engine_lines.specs.Seen.{seen}
 use Rattle.chess_match.specs.Sent.{is_same_phase}
-use Rattle.chess_match.specs.ties.Stands.{Stands}
+use Rattle.chess_match.specs.ties.Represents.{Represents}
 use Rattle.chess_match.specs.declared.reason.MatchFault.TheVariants.{NoDone}
 use Rattle.chess_match.specs.declared.reason.Reason.TheVariants.{Faulted}
 use Rattle.chess_match.specs.declared.phase.Phase.TheVariants.{Over}
@@ -18,7 +18,7 @@ use Rattle.chess_base.proofs.MenFacts.{same_colour-self}
 pub returns-then-done-clause-goes : goal.returns-then-done-clause-goes
 unfolding hello_line
 returns-then-done-clause-goes g c r m p at s =
-    let st : Stands r c.hear-done.new.self (g.G.MatchGame.played c.args.game.now)
+    let st : Represents r c.hear-done.new.self (g.G.MatchGame.played c.args.game.now)
     (hear c.args.side (items_of_line (seen c.args.line)) m) = c.hear-done.ensures.heard r _ m s in
     let done : has_done (items_of_line (seen c.args.line)) ≡ true = sym c.hear-done.ensures.done ∙ c.if-done.true in
     let on : greeted r c.args.side (hear c.args.side (items_of_line (seen c.args.line)) m)
@@ -31,7 +31,7 @@ returns-then-done-clause-goes g c r m p at s =
 pub returns-then-self-ge1000-clause-goes : goal.returns-then-self-ge1000-clause-goes
 unfolding hello_line
 returns-then-self-ge1000-clause-goes g c r m p at s =
-    let st : Stands r c.hear-done.new.self (g.G.MatchGame.played c.args.game.now)
+    let st : Represents r c.hear-done.new.self (g.G.MatchGame.played c.args.game.now)
     (hear c.args.side (items_of_line (seen c.args.line)) m) = c.hear-done.ensures.heard r _ m s in
     let done : has_done (items_of_line (seen c.args.line)) ≡ false = sym c.hear-done.ensures.done ∙ c.if-done.false in
     let many : nat_le 1000 (m.count + 1) ≡ true =
@@ -45,7 +45,7 @@ returns-then-self-ge1000-clause-goes g c r m p at s =
 pub returns-else-self-ge1000-clause-goes : goal.returns-else-self-ge1000-clause-goes
 unfolding hello_line
 returns-else-self-ge1000-clause-goes g c r m p at s =
-    let st : Stands r c.hear-done.new.self (g.G.MatchGame.played c.args.game.now)
+    let st : Represents r c.hear-done.new.self (g.G.MatchGame.played c.args.game.now)
     (hear c.args.side (items_of_line (seen c.args.line)) m) = c.hear-done.ensures.heard r _ m s in
     let done : has_done (items_of_line (seen c.args.line)) ≡ false = sym c.hear-done.ensures.done ∙ c.if-done.false in
     let few : nat_le 1000 (m.count + 1) ≡ false =

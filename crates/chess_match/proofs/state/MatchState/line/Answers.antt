@@ -5,7 +5,7 @@ use Rattle.engine_lines.specs.Seen.{seen}
 use Rattle.chess_match.specs.declared.phase.Phase.TheVariants.{Hello, Setup, SendTurn, AwaitMove, AwaitPong, Over}
 use Rattle.chess_match.specs.Transcript.{reads}
 use Rattle.chess_match.specs.declared.phase.Phase.{Phase}
-use Rattle.chess_match.specs.ties.Stands.{items_in}
+use Rattle.chess_match.specs.ties.Represents.{items_in}
 use Rattle.chess_match.proofs.Going.{goes_in, nothing_to, same_to}
 use Rattle.chess_match.proofs.Sends.{no_answers_of}
 use Rattle.chess_match.proofs.state.MatchState.line.Goals as goal

@@ -5,7 +5,7 @@ use Rattle.std.specs.Prelude.{codes}
 use Rattle.chess_base.specs.Men.{other}
 use Rattle.engine_lines.specs.Items.{takes}
 use Rattle.chess_match.specs.Match.{seat}
-use Rattle.chess_match.specs.ties.Stands.{Keeps, player}
+use Rattle.chess_match.specs.ties.Represents.{Keeps, player}
 use Rattle.engine_lines.specs.declared.features.Features.{Features}
 use Rattle.chess_match.proofs.Going.{kept, reads_on, offered_goes, features-draw}
 use Rattle.chess_match.proofs.state.MatchState.offer.Goals as goal

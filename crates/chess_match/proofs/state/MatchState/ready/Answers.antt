@@ -7,7 +7,7 @@ use Rattle.chess_base.specs.declared.man.Move.{Move}
 use Rattle.chess_match.specs.Match.{Match, open_turn}
 use Rattle.chess_match.specs.Rules.{Rules}
 use Rattle.chess_match.specs.Sent.{is_same_phase}
-use Rattle.chess_match.specs.ties.Stands.{Goes, nothing_said}
+use Rattle.chess_match.specs.ties.Represents.{Goes, nothing_said}
 use Rattle.chess_match.specs.Transcript.{is_on}
 use Rattle.chess_match.specs.declared.state.MatchState.{MatchState}
 use Rattle.chess_match.specs.declared.state.Actions.{Actions}

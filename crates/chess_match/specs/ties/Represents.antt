@@ -38,7 +38,7 @@ abbrev pub clocks_of : LevelSeen → Match → ClocksSeen
 clocks_of level m = record { level = level; white = spent_of m.white; black = spent_of m.black }
 
 -- the core, and the moves that were played, stand for the match m
-pub record Stands (r : Rules) (core : MatchState) (played : List Move) (m : Match) : Type 0 where
+pub record Represents (r : Rules) (core : MatchState) (played : List Move) (m : Match) : Type 0 where
   pub phase : core.phase ≡ m.phase
   pub white : Keeps core.white m.white
   pub black : Keeps core.black m.black
@@ -71,7 +71,7 @@ given_block r given items m S = answers_to (items S) ++ after_answers r given m 
 -- from m to m' the core goes on to stand for m', and gives the blocks between them
 pub record Goes (r : Rules) (core : MatchState) (played : List Move) (given : Actions) (items : Colour → List Item)
     (m m' : Match) : Type 0 where
-  pub stands : Stands r core played m'
+  pub stands : Represents r core played m'
   pub gives : (S : Colour) → given_block r given items m' S ≡ block r m m' S
 
 -- what the core keeps of that side's engine
