@@ -52,16 +52,16 @@ module _ (rows : List Row) (m : MatchWords) (is : IsMatchOf rows m) where
   start_is = ap₂ start_of (sym is.variant) (sym is.fen)
 
   match_judged : (plan : MatchPlan) → IsJudged m plan → IsMatchPlan rows plan
-  match_judged plan judged = record {
-    white = is.white ∙ ap (λ (t : Bor Text). Some t.now) (sym judged.white);
-    black = is.black ∙ ap (λ (t : Bor Text). Some t.now) (sym judged.black);
-    level = level_is ∙ judged.level;
-    start = start_is ∙ judged.start;
-    games = judged.games ∙ is.games;
-    games_range = subst (λ n. (1 ≤ n) × (n ≤ 1000)) (sym judged.games) is.games_range;
-    date = ap (λ (t : Bor Text). t.now) judged.date ∙ is.date;
-    good_date = ap (λ (t : Bor Text). is_date t.now) judged.date ∙ judged.good_date;
-    log = judged.log ∙ is.log;
+  match_judged plan validate = record {
+    white = is.white ∙ ap (λ (t : Bor Text). Some t.now) (sym validate.white);
+    black = is.black ∙ ap (λ (t : Bor Text). Some t.now) (sym validate.black);
+    level = level_is ∙ validate.level;
+    start = start_is ∙ validate.start;
+    games = validate.games ∙ is.games;
+    games_range = subst (λ n. (1 ≤ n) × (n ≤ 1000)) (sym validate.games) is.games_range;
+    date = ap (λ (t : Bor Text). t.now) validate.date ∙ is.date;
+    good_date = ap (λ (t : Bor Text). is_date t.now) validate.date ∙ validate.good_date;
+    log = validate.log ∙ is.log;
   }
 
   judged_fault : (f : WordsFault) → IsJudgedFault m f → IsMatchFault rows f

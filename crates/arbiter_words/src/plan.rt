@@ -80,7 +80,7 @@ fn start_of(variant: Variant, fen: Option<&str>) -> Result<Position, FenFault>
 }
 
 // What a match is played by, where level, FEN and date are in their form; else the first of them that isn't.
-fn judged<'a>(words: &MatchWords<'a>) -> Result<MatchPlan<'a>, WordsFault>
+fn validate<'a>(words: &MatchWords<'a>) -> Result<MatchPlan<'a>, WordsFault>
     ensures plan { IfOk result (IsJudged words.now) }
     ensures fault { IfErr result (IsJudgedFault words.now) }
 {
@@ -114,7 +114,7 @@ pub(crate) fn planned<'a>(spelled: Spelled<'a>) -> Result<Plan<'a>, WordsFault>
         Spelled::Session => Ok(Plan::Session),
         Spelled::Verify(plan) => Ok(Plan::Verify(plan)),
         Spelled::Stub(words) => Ok(Plan::Stub(words)),
-        Spelled::Match(words) => match judged(&words) {
+        Spelled::Match(words) => match validate(&words) {
             Ok(plan) => Ok(Plan::Match(plan)),
             Err(fault) => Err(fault),
         },
