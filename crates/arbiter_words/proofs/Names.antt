@@ -1,5 +1,5 @@
 -- A plan is that of the command that was asked for.
-use Rattle.arbiter_words.specs.laws.Laws.{PlansAreNamed, VerifyIsAsSpelled}
+use Rattle.arbiter_words.specs.laws.Laws.{PlansAreNamed, VerifyIsAsAsked}
 use Rattle.arbiter_words.specs.declared.plan.Plan.TheVariants.{Session, Verify, Stub, Match}
 
 pub plan_named : PlansAreNamed
@@ -9,5 +9,5 @@ plan_named p (Stub words) is = is.0
 plan_named p (Match plan) is = is.0
 
 -- a plan to verify has the flags that the arguments set
-pub verify_spelled : VerifyIsAsSpelled
+pub verify_spelled : VerifyIsAsAsked
 verify_spelled p v is = is.1

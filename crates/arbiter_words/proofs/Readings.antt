@@ -5,15 +5,15 @@ use Rattle.clap.specs.declared.error.Error.{Error}
 use Rattle.clap.specs.declared.parser.matches.ArgMatches.{ArgMatches}
 use Rattle.arbiter_grammar.specs.Grammar.{AreVariants, IsComplete, IsParsed, Lent, arbiter_app, asked, faults_in}
 use Rattle.arbiter_words.specs.Plans.{IsMatchFault, IsMatchPlan, IsPlanOf, IsReadBy, IsReading, is_date, level_asked, start_asked, start_of}
-use Rattle.arbiter_words.specs.ties.Spelling.{IsJudged, IsJudgedFault, IsMatchOf, IsPlanFault, IsPlanned, IsSpelledOf, Refuses}
+use Rattle.arbiter_words.specs.ties.Requests.{IsJudged, IsJudgedFault, IsMatchOf, IsPlanFault, IsPlanned, IsRequestOf, Refuses}
 use Rattle.engine_lines.specs.Levels.{level_of}
 use Rattle.arbiter_words.specs.declared.plan.MatchPlan.{MatchPlan}
 use Rattle.arbiter_words.specs.declared.fault.WordsFault.{WordsFault}
 use Rattle.arbiter_words.specs.declared.fault.WordsFault.TheVariants.{Words, NoMemory, BadLevel, BadFen, BadDate}
 use Rattle.arbiter_words.specs.declared.plan.Plan.{Plan}
-use Rattle.arbiter_words.specs.declared.spelled.MatchWords.{MatchWords}
-use Rattle.arbiter_words.specs.declared.spelled.Spelled.{Spelled}
-use Rattle.arbiter_words.specs.declared.spelled.Spelled.TheVariants as spelled
+use Rattle.arbiter_words.specs.declared.request.MatchRequest.{MatchRequest}
+use Rattle.arbiter_words.specs.declared.request.Request.{Request}
+use Rattle.arbiter_words.specs.declared.request.Request.TheVariants as request
 
 -- `clap` gave no matches
 abbrev IsRefusalBy : Kinds → WordsFault → Type 0
@@ -44,7 +44,7 @@ refused_reading texts e f p fits =
     (p.0, p.1, refused_by p.0 texts f (refusal_by (faults_in p.0 texts) e f p.2 fits))
 
 -- a match that was taken as written and then judged is played by what its options denote
-module _ (rows : List Row) (m : MatchWords) (is : IsMatchOf rows m) where
+module _ (rows : List Row) (m : MatchRequest) (is : IsMatchOf rows m) where
   level_is : level_asked rows ≡ level_of m.level.now
   level_is = ap level_of (sym is.level)
 
@@ -80,24 +80,24 @@ match_fault names texts BadLevel none name h = (none, (name, h))
 match_fault names texts (BadFen x) none name h = (none, (name, h))
 match_fault names texts BadDate none name h = (none, (name, h))
 
-planned_plan : (p : Text × List Row) (s : Spelled) (plan : Plan) → IsSpelledOf p s → IsPlanned s plan → IsPlanOf p plan
-planned_plan p spelled.Session plan is e = subst (IsPlanOf p) (sym e) is
-planned_plan p (spelled.Verify v) plan is e = subst (IsPlanOf p) (sym e) is
-planned_plan p (spelled.Stub words) plan is e = subst (IsPlanOf p) (sym e) is
-planned_plan p (spelled.Match m) plan is e =
+planned_plan : (p : Text × List Row) (s : Request) (plan : Plan) → IsRequestOf p s → IsPlanned s plan → IsPlanOf p plan
+planned_plan p request.Session plan is e = subst (IsPlanOf p) (sym e) is
+planned_plan p (request.Verify v) plan is e = subst (IsPlanOf p) (sym e) is
+planned_plan p (request.Stub words) plan is e = subst (IsPlanOf p) (sym e) is
+planned_plan p (request.Match m) plan is e =
     subst (IsPlanOf p) (sym e.1) (is.0, match_judged p.1 m is.1 e.0 e.2)
 
-plan_fault : (names : Lent) (texts : List Text) (s : Spelled) (f : WordsFault) → faults_in names texts ≡ []
-    → IsSpelledOf (asked names texts) s → IsPlanFault s f → IsReadBy names texts (Err f)
-plan_fault names texts spelled.Session f none is h = absurd h
-plan_fault names texts (spelled.Verify v) f none is h = absurd h
-plan_fault names texts (spelled.Stub words) f none is h = absurd h
-plan_fault names texts (spelled.Match m) f none is h =
+plan_fault : (names : Lent) (texts : List Text) (s : Request) (f : WordsFault) → faults_in names texts ≡ []
+    → IsRequestOf (asked names texts) s → IsPlanFault s f → IsReadBy names texts (Err f)
+plan_fault names texts request.Session f none is h = absurd h
+plan_fault names texts (request.Verify v) f none is h = absurd h
+plan_fault names texts (request.Stub words) f none is h = absurd h
+plan_fault names texts (request.Match m) f none is h =
     match_fault names texts f none is.0 (judged_fault (asked names texts).1 m is.1 f h)
 
 -- what was taken as written was planned
 pub planned_reading : (names : Lent) (texts : List Text) → AreVariants names → faults_in names texts ≡ []
-    → (s : Spelled) → IsSpelledOf (asked names texts) s
+    → (s : Request) → IsRequestOf (asked names texts) s
     → (r : Result Plan WordsFault) → IfOk r (IsPlanned s) → IfErr r (IsPlanFault s) → IsReading texts r
 planned_reading names texts are none s is (Ok plan) p f = (names, are, (none, planned_plan (asked names texts) s plan is p))
 planned_reading names texts are none s is (Err e) p f = (names, are, plan_fault names texts s e none is f)

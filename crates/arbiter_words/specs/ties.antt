@@ -1,2 +1,2 @@
 -- What only joins code to the definitions: no claim rests on it.
-pub mod Spelling
+pub mod Requests

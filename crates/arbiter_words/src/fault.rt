@@ -1,6 +1,6 @@
 //! Why arguments ask for nothing.
 
-ghost use Rattle.arbiter_words.specs.ties.Spelling.{Refuses};
+ghost use Rattle.arbiter_words.specs.ties.Requests.{Refuses};
 
 use chess_base::FenFault;
 use chess_cecp::fen_fault_name;

@@ -2,7 +2,7 @@
 
 ghost use Rattle.std.specs.Prelude.{[], ◌∷◌, codes};
 ghost use Rattle.clap.specs.declared.error.kind.ErrorKind.TheVariants.{DisplayHelp, DisplayVersion, MissingRequiredArgument};
-ghost use Rattle.arbiter_words.specs.laws.Laws.{AreRefused, AskFor, PlansAreNamed, VerifyAsBare, VerifyIsAsSpelled};
+ghost use Rattle.arbiter_words.specs.laws.Laws.{AreRefused, AskFor, PlansAreNamed, VerifyAsBare, VerifyIsAsAsked};
 
 /// No arguments, `session` alone and `verify` alone are taken, and ask for what they say; `verify` alone sets none of
 /// its flags.
@@ -26,6 +26,6 @@ pub fn plans_are_named()
 {}
 
 /// A plan to verify has the flags that the arguments after `verify` set.
-pub fn verify_is_as_spelled()
-    ensures { VerifyIsAsSpelled }
+pub fn verify_is_as_asked()
+    ensures { VerifyIsAsAsked }
 {}

@@ -12,11 +12,11 @@ mod fault;
 mod laws;
 mod plan;
 mod reading;
-mod spelled;
+mod request;
 
 pub use fault::WordsFault;
 pub use laws::{
-    plain_words_are_refused, plain_words_are_taken, plans_are_named, verify_is_as_spelled,
+    plain_words_are_refused, plain_words_are_taken, plans_are_named, verify_is_as_asked,
 };
 pub use plan::{MatchPlan, Plan, VerifyPlan};
 pub use reading::read_words;

@@ -3,10 +3,10 @@
 ghost use Rattle.std.specs.Prelude.{◌≡◌, ◌&&◌, IfErr, IfOk, nat_le, option_map};
 ghost use Rattle.std.specs.List.{list_all};
 ghost use Rattle.arbiter_words.specs.Plans.{is_date as date_test, start_of};
-ghost use Rattle.arbiter_words.specs.ties.Spelling.{IsJudged, IsJudgedFault, IsPlanFault, IsPlanned};
+ghost use Rattle.arbiter_words.specs.ties.Requests.{IsJudged, IsJudgedFault, IsPlanFault, IsPlanned};
 
 use crate::fault::WordsFault;
-use crate::spelled::{MatchWords, Spelled};
+use crate::request::{MatchRequest, Request};
 use chess_base::{FenFault, Position, Variant};
 use chess_fen::read_fen_as;
 use engine_lines::Level;
@@ -80,7 +80,7 @@ fn start_of(variant: Variant, fen: Option<&str>) -> Result<Position, FenFault>
 }
 
 // What a match is played by, where level, FEN and date are in their form; else the first of them that isn't.
-fn validate<'a>(words: &MatchWords<'a>) -> Result<MatchPlan<'a>, WordsFault>
+fn validate<'a>(words: &MatchRequest<'a>) -> Result<MatchPlan<'a>, WordsFault>
     ensures plan { IfOk result (IsJudged words.now) }
     ensures fault { IfErr result (IsJudgedFault words.now) }
 {
@@ -106,15 +106,15 @@ fn validate<'a>(words: &MatchWords<'a>) -> Result<MatchPlan<'a>, WordsFault>
 }
 
 // The plan, where each argument is in its form.
-pub(crate) fn planned<'a>(spelled: Spelled<'a>) -> Result<Plan<'a>, WordsFault>
+pub(crate) fn planned<'a>(spelled: Request<'a>) -> Result<Plan<'a>, WordsFault>
     ensures plan { IfOk result (IsPlanned spelled.entry) }
     ensures fault { IfErr result (IsPlanFault spelled.entry) }
 {
     match spelled {
-        Spelled::Session => Ok(Plan::Session),
-        Spelled::Verify(plan) => Ok(Plan::Verify(plan)),
-        Spelled::Stub(words) => Ok(Plan::Stub(words)),
-        Spelled::Match(words) => match validate(&words) {
+        Request::Session => Ok(Plan::Session),
+        Request::Verify(plan) => Ok(Plan::Verify(plan)),
+        Request::Stub(words) => Ok(Plan::Stub(words)),
+        Request::Match(words) => match validate(&words) {
             Ok(plan) => Ok(Plan::Match(plan)),
             Err(fault) => Err(fault),
         },

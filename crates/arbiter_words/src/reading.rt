@@ -6,7 +6,7 @@ ghost use Rattle.arbiter_words.specs.Plans.{IsReading};
 
 use crate::fault::{WordsFault, refusal};
 use crate::plan::{Plan, planned};
-use crate::spelled::{Spelled, spelled_in};
+use crate::request::{Request, request_in};
 use arbiter_grammar::parse;
 use clap::ArgMatches;
 use std::alloc::{AllocError, Global};
@@ -32,8 +32,8 @@ pub fn read_words<'a>(alloc: Global, words: &'a [&'a str]) -> Result<Plan<'a>, W
         Err(error) => return Err(refusal(error)),
     };
     let spelled = match entered(&matches) {
-        None => Spelled::Session,
-        Some((name, found)) => match spelled_in(alloc, name, found) {
+        None => Request::Session,
+        Some((name, found)) => match request_in(alloc, name, found) {
             Ok(spelled) => spelled,
             Err(AllocError) => return Err(WordsFault::NoMemory),
         },

@@ -3,7 +3,7 @@ use Rattle.std.proofs.Common.{◌≡◌, ◌∙◌, ◌<◌, ℕ, List, [], leng
 use Rattle.clap.specs.Words.{IsAmong, Text, kind_of}
 use Rattle.arbiter_grammar.specs.Grammar.{asked}
 use Rattle.arbiter_words.specs.Plans.{IsReading}
-use Rattle.arbiter_words.specs.laws.Laws.{AskFor, PlansAreNamed, VerifyAsBare, VerifyIsAsSpelled, bare_plan, command_name}
+use Rattle.arbiter_words.specs.laws.Laws.{AskFor, PlansAreNamed, VerifyAsBare, VerifyIsAsAsked, bare_plan, command_name}
 use Rattle.arbiter_words.specs.declared.fault.WordsFault.{WordsFault}
 use Rattle.arbiter_words.specs.declared.fault.WordsFault.TheVariants as words
 use Rattle.arbiter_words.specs.declared.plan.Plan.{Plan}
@@ -91,11 +91,11 @@ serves named ws a (Err fault) is r r' w w' l l' status ran =
     session_or_want fault r r' w w' l l' status (refused_word ws (codes "session") fault a no_match_by_session is) ran
 
 -- `verify` alone sets none of its flags
-without_flags : VerifyIsAsSpelled → (words : List Text) (v : VerifyPlan) → VerifyAsBare words
+without_flags : VerifyIsAsAsked → (words : List Text) (v : VerifyPlan) → VerifyAsBare words
     → IsReading words (Ok (Verify v)) → v ≡ bare_plan
 without_flags spelled ws v bare (names, are, (none, is)) = spelled (asked names ws) v is ∙ bare names
 
-verifies : PlansAreNamed → VerifyIsAsSpelled → (words : List Text) → AskFor words (codes "verify") → VerifyAsBare words
+verifies : PlansAreNamed → VerifyIsAsAsked → (words : List Text) → AskFor words (codes "verify") → VerifyAsBare words
     → (read : Result Plan WordsFault) → IsReading words read
     → (r r' : InputState) (w w' : OutputState) (l l' : LogSeen) (status : ℕ) → RanPlan read r r' w w' l l' status
     → RanVerify bare_plan r r' w w' status
@@ -113,7 +113,7 @@ verifies named spelled ws a bare (Err fault) is r r' w w' l l' status ran =
 pub serves_session : PlansAreNamed → (words : List Text) → AskFor words (codes "session") → ServesSession words
 serves_session named ws a r r' w w' l l' status (read, is, ran) = serves named ws a read is r r' w w' l l' status ran
 
-pub verifies_games : PlansAreNamed → VerifyIsAsSpelled → (words : List Text) → AskFor words (codes "verify")
+pub verifies_games : PlansAreNamed → VerifyIsAsAsked → (words : List Text) → AskFor words (codes "verify")
     → VerifyAsBare words → VerifiesGames words
 verifies_games named spelled ws a bare r r' w w' l l' status (read, is, ran) = verifies named spelled ws a bare read is r r'
     w w' l l' status ran

@@ -9,7 +9,7 @@ ghost use Rattle.pgn_pieces.specs.declared.pieces.TheConstants.{PIECE_LEN};
 ghost use Rattle.chess_arbiter.specs.laws.Laws.{RefusesWords, ServesSession, ShowsHelp, VerifiesGames};
 
 use arbiter_words::{
-    plain_words_are_refused, plain_words_are_taken, plans_are_named, verify_is_as_spelled,
+    plain_words_are_refused, plain_words_are_taken, plans_are_named, verify_is_as_asked,
 };
 
 /// No arguments, or `session` alone, serve a session, and `verify` alone verifies games: such arguments are never
@@ -22,7 +22,7 @@ pub fn plain_words_do_what_they_say()
     // The prover wants these laws of the arguments: these are taken, and what they ask for is what is planned.
     plain_words_are_taken();
     plans_are_named();
-    verify_is_as_spelled();
+    verify_is_as_asked();
 }
 
 /// `--help` and `--version` show a text of help, and `match` without its two programs is refused.

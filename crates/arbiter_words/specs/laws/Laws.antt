@@ -20,8 +20,8 @@ abbrev pub PlansAreNamed : Type 0
 PlansAreNamed = (p : Text × List Row) (plan : Plan) → IsPlanOf p plan → p.0 ≡ command_name plan
 
 -- a plan to verify has the flags that the arguments set
-abbrev pub VerifyIsAsSpelled : Type 0
-VerifyIsAsSpelled = (p : Text × List Row) (v : VerifyPlan) → IsPlanOf p (Verify v) → v ≡ verify_plan_of p.1
+abbrev pub VerifyIsAsAsked : Type 0
+VerifyIsAsAsked = (p : Text × List Row) (v : VerifyPlan) → IsPlanOf p (Verify v) → v ≡ verify_plan_of p.1
 
 -- the arguments are taken, and ask for the command of that name, with none of its own arguments given
 pub record AskFor (words : List Text) (name : Text) : Type 0 where

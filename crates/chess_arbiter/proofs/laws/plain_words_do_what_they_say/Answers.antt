@@ -12,5 +12,5 @@ returns-clause-session c = serves_session c.plans_are_named.ensures (codes "sess
     c.plain_words_are_taken.ensures.session
 
 pub returns-clause-verify : goal.returns-clause-verify
-returns-clause-verify c = verifies_games c.plans_are_named.ensures c.verify_is_as_spelled.ensures (codes "verify" ∷ [])
+returns-clause-verify c = verifies_games c.plans_are_named.ensures c.verify_is_as_asked.ensures (codes "verify" ∷ [])
     c.plain_words_are_taken.ensures.verify c.plain_words_are_taken.ensures.bare

@@ -6,9 +6,9 @@ use Rattle.arbiter_words.specs.declared.plan.Plan.TheVariants.{Session, Verify, 
 use Rattle.arbiter_words.specs.declared.plan.MatchPlan.{MatchPlan}
 use Rattle.arbiter_words.specs.declared.fault.WordsFault.{WordsFault}
 use Rattle.arbiter_words.specs.declared.fault.WordsFault.TheVariants.{Words, NoMemory, BadLevel, BadFen, BadDate}
-use Rattle.arbiter_words.specs.declared.spelled.MatchWords.{MatchWords}
-use Rattle.arbiter_words.specs.declared.spelled.Spelled.{Spelled}
-use Rattle.arbiter_words.specs.declared.spelled.Spelled.TheVariants as spelled
+use Rattle.arbiter_words.specs.declared.request.MatchRequest.{MatchRequest}
+use Rattle.arbiter_words.specs.declared.request.Request.{Request}
+use Rattle.arbiter_words.specs.declared.request.Request.TheVariants as request
 use Rattle.chess_base.specs.declared.setup.Setup.{Setup}
 use Rattle.engine_lines.specs.Levels.{LevelSeen, level_of}
 use Rattle.arbiter_words.specs.Plans.{games_in, is_date, is_set, start_of, text_or, variant_in, verify_plan_of}
@@ -16,7 +16,7 @@ use Rattle.clap.specs.declared.error.Error.{Error}
 use Rattle.clap.specs.declared.error.kind.ErrorKind.TheVariants.{OutOfMemory}
 
 -- these are the options of a match, as written or by default
-pub record IsMatchOf (rows : List Row) (m : MatchWords) : Type 0 where
+pub record IsMatchOf (rows : List Row) (m : MatchRequest) : Type 0 where
   pub white : first_of (codes "white") rows ≡ Some m.white.now
   pub black : first_of (codes "black") rows ≡ Some m.black.now
   pub level : m.level.now ≡ text_or (codes "level") rows (codes "40 5 0")
@@ -28,15 +28,15 @@ pub record IsMatchOf (rows : List Row) (m : MatchWords) : Type 0 where
   pub log : m.log ≡ is_set (codes "log") rows
 
 -- what the arguments ask for, as written
-abbrev pub IsSpelledOf : Text × List Row → Spelled → Type 0
-IsSpelledOf p spelled.Session = p.0 ≡ codes "session"
-IsSpelledOf p (spelled.Verify v) = (p.0 ≡ codes "verify") × (v ≡ verify_plan_of p.1)
-IsSpelledOf p (spelled.Stub words) = (p.0 ≡ codes "stub")
+abbrev pub IsRequestOf : Text × List Row → Request → Type 0
+IsRequestOf p request.Session = p.0 ≡ codes "session"
+IsRequestOf p (request.Verify v) = (p.0 ≡ codes "verify") × (v ≡ verify_plan_of p.1)
+IsRequestOf p (request.Stub words) = (p.0 ≡ codes "stub")
     × (map (λ w. w.now) words.items ≡ unwrap_or (all_of (codes "words") p.1) [])
-IsSpelledOf p (spelled.Match m) = (p.0 ≡ codes "match") × IsMatchOf p.1 m
+IsRequestOf p (request.Match m) = (p.0 ≡ codes "match") × IsMatchOf p.1 m
 
 -- a match is played by what its options, as written, denote
-pub record IsJudged (m : MatchWords) (plan : MatchPlan) : Type 0 where
+pub record IsJudged (m : MatchRequest) (plan : MatchPlan) : Type 0 where
   pub white : plan.white ≡ m.white
   pub black : plan.black ≡ m.black
   pub level : level_of m.level.now ≡ Some plan.level
@@ -47,7 +47,7 @@ pub record IsJudged (m : MatchWords) (plan : MatchPlan) : Type 0 where
   pub good_date : is_date m.date.now ≡ true
 
 -- the fault is that of the first of level, FEN and date that isn't in its form
-abbrev pub IsJudgedFault : MatchWords → WordsFault → Type 0
+abbrev pub IsJudgedFault : MatchRequest → WordsFault → Type 0
 IsJudgedFault m (Words e) = ⊥
 IsJudgedFault m NoMemory = ⊥
 IsJudgedFault m BadLevel = level_of m.level.now ≡ None
@@ -57,14 +57,14 @@ IsJudgedFault m BadDate = (l : LevelSeen) × (p : Setup) × (level_of m.level.no
     × (start_of m.variant (option_map (λ t. t.now) m.fen) ≡ Ok p) × (is_date m.date.now ≡ false)
 
 -- the plan is what was written; a match has its level, FEN and date read
-abbrev pub IsPlanned : Spelled → Plan → Type 0
-IsPlanned spelled.Session plan = plan ≡ Session
-IsPlanned (spelled.Verify v) plan = plan ≡ Verify v
-IsPlanned (spelled.Stub words) plan = plan ≡ Stub words
-IsPlanned (spelled.Match m) plan = (p : MatchPlan) × (plan ≡ Match p) × IsJudged m p
+abbrev pub IsPlanned : Request → Plan → Type 0
+IsPlanned request.Session plan = plan ≡ Session
+IsPlanned (request.Verify v) plan = plan ≡ Verify v
+IsPlanned (request.Stub words) plan = plan ≡ Stub words
+IsPlanned (request.Match m) plan = (p : MatchPlan) × (plan ≡ Match p) × IsJudged m p
 
-abbrev pub IsPlanFault : Spelled → WordsFault → Type 0
-IsPlanFault (spelled.Match m) f = IsJudgedFault m f
+abbrev pub IsPlanFault : Request → WordsFault → Type 0
+IsPlanFault (request.Match m) f = IsJudgedFault m f
 IsPlanFault _ f = ⊥
 
 -- out of memory is reported as such, and what else `clap` gave is reported as it is

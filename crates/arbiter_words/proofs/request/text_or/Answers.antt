@@ -4,7 +4,7 @@ use Rattle.std.proofs.Common.{rules, ◌≡◌, ◌∙◌, ap, Option, Some, Non
 use Rattle.clap.specs.Words.{Text, first_value, found_of}
 use Rattle.clap.proofs.WalkLemmas.{first_value-rows}
 use Rattle.arbiter_words.proofs.FoundTexts.{text_of}
-use Rattle.arbiter_words.proofs.spelled.text_or.Goals as goal
+use Rattle.arbiter_words.proofs.request.text_or.Goals as goal
 
 pub returns-in-Some : goal.returns-in-Some
 returns-in-Some c =

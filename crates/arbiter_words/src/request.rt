@@ -4,7 +4,7 @@ ghost use Rattle.std.specs.Prelude.{◌≡◌, ◌≤◌, [], IfOk, IfSome, IsSo
 ghost use Rattle.clap.specs.Words.{all_of, first_of, found_of, rows_of, subcommand_rows_of};
 ghost use Rattle.arbiter_grammar.specs.Grammar.{HasGames, IsCommand, NamesBoth};
 ghost use Rattle.arbiter_words.specs.Plans.{games_in, is_set, text_or, variant_in, variant_named, verify_plan_of};
-ghost use Rattle.arbiter_words.specs.ties.Spelling.{IsMatchOf, IsSpelledOf};
+ghost use Rattle.arbiter_words.specs.ties.Requests.{IsMatchOf, IsRequestOf};
 
 use crate::plan::VerifyPlan;
 use chess_base::Variant;
@@ -13,7 +13,7 @@ use std::alloc::{AllocError, Global};
 
 /// What a match is played by, as written.
 #[derive(Clone, Copy, Debug)]
-pub(crate) struct MatchWords<'a> {
+pub(crate) struct MatchRequest<'a> {
     pub white: &'a str,
     pub black: &'a str,
     pub level: &'a str,
@@ -26,11 +26,11 @@ pub(crate) struct MatchWords<'a> {
 
 /// What the arguments ask for, as written.
 #[derive(Drop)]
-pub(crate) enum Spelled<'a> {
+pub(crate) enum Request<'a> {
     Session,
     Verify(VerifyPlan),
     Stub(Vec<&'a str>),
-    Match(MatchWords<'a>),
+    Match(MatchRequest<'a>),
 }
 
 // The value of an option, or its default.
@@ -62,7 +62,7 @@ fn verify_plan(found: &ArgMatches<'_>) -> VerifyPlan
 }
 
 // The arguments after `stub`.
-fn stub_words<'a>(alloc: Global, found: &ArgMatches<'a>) -> Result<Vec<&'a str>, AllocError>
+fn stub_arguments<'a>(alloc: Global, found: &ArgMatches<'a>) -> Result<Vec<&'a str>, AllocError>
     ensures { IfOk result (λ v. map (λ w. w.now) v.items
         ≡ unwrap_or (all_of (codes "words") (rows_of (found_of found.now))) []) }
 {
@@ -105,7 +105,7 @@ fn variant_of(found: &ArgMatches<'_>) -> Variant
     variant_named(text_or(found, "variant", "normal"))
 }
 
-fn match_words<'a>(found: &ArgMatches<'a>) -> Option<MatchWords<'a>>
+fn match_request<'a>(found: &ArgMatches<'a>) -> Option<MatchRequest<'a>>
     requires { HasGames (rows_of (found_of found.now)) }
     ensures given { IfSome result (IsMatchOf (rows_of (found_of found.now))) }
     ensures needed { (is_some (first_of (codes "white") (rows_of (found_of found.now))) ≡ true)
@@ -113,7 +113,7 @@ fn match_words<'a>(found: &ArgMatches<'a>) -> Option<MatchWords<'a>>
 {
     let white = found.get_str("white")?;
     let black = found.get_str("black")?;
-    Some(MatchWords {
+    Some(MatchRequest {
         white,
         black,
         level: text_or(found, "level", "40 5 0"),
@@ -126,28 +126,28 @@ fn match_words<'a>(found: &ArgMatches<'a>) -> Option<MatchWords<'a>>
 }
 
 // What a command's matches ask for, as written.
-pub(crate) fn spelled_in<'a>(
+pub(crate) fn request_in<'a>(
     alloc: Global,
     name: &str,
     found: &ArgMatches<'a>,
-) -> Result<Spelled<'a>, AllocError>
+) -> Result<Request<'a>, AllocError>
     requires known { IsCommand name.now }
     requires both { NamesBoth (name.now, rows_of (found_of found.now)) }
     requires games { HasGames (rows_of (found_of found.now)) }
-    ensures { IfOk result (IsSpelledOf (name.now, rows_of (found_of found.now))) }
+    ensures { IfOk result (IsRequestOf (name.now, rows_of (found_of found.now))) }
 {
     if name == "verify" {
-        return Ok(Spelled::Verify(verify_plan(found)));
+        return Ok(Request::Verify(verify_plan(found)));
     }
     if name == "stub" {
-        let words = stub_words(alloc, found)?;
-        return Ok(Spelled::Stub(words));
+        let words = stub_arguments(alloc, found)?;
+        return Ok(Request::Stub(words));
     }
     if name == "match" {
-        return match match_words(found) {
-            Some(words) => Ok(Spelled::Match(words)),
+        return match match_request(found) {
+            Some(words) => Ok(Request::Match(words)),
             None => unreachable!(),
         };
     }
-    Ok(Spelled::Session)
+    Ok(Request::Session)
 }

@@ -4,7 +4,7 @@ use Rattle.std.proofs.Common.{rules, ◌≡◌, ◌∙◌, ap, List, [], Option,
 use Rattle.std.proofs.lemmas.Result.{IfOk-weaker}
 use Rattle.clap.specs.Words.{Text, found_of, matched_of, raw_values}
 use Rattle.clap.proofs.WalkLemmas.{raw_values-rows}
-use Rattle.arbiter_words.proofs.spelled.stub_words.Goals as goal
+use Rattle.arbiter_words.proofs.request.stub_arguments.Goals as goal
 
 abbrev texts_of : Option (Bor (List (Bor Text))) → Option (List Text)
 texts_of = option_map (λ s. map (λ v. v.now) s.now)

@@ -8,7 +8,7 @@ use Rattle.clap.specs.declared.builder.value_parser.ValueParser.TheVariants as v
 use Rattle.clap.proofs.WalkLemmas.{first_value-rows}
 use Rattle.clap.proofs.ValueTestLemmas.{accepts-Accepts}
 use Rattle.arbiter_words.proofs.FoundTexts.{text_of}
-use Rattle.arbiter_words.proofs.spelled.games_of.Goals as goal
+use Rattle.arbiter_words.proofs.request.games_of.Goals as goal
 
 abbrev number : Text → ℕ
 number t = digits_value 10 (without_leading_plus t)

@@ -4,7 +4,7 @@ use Rattle.std.proofs.Common.{rules, ◌≡◌, ◌∙◌, ap, codes, Option, So
 use Rattle.clap.specs.Words.{Text, first_value, found_of}
 use Rattle.clap.proofs.WalkLemmas.{first_value-rows}
 use Rattle.arbiter_words.proofs.FoundTexts.{text_of}
-use Rattle.arbiter_words.proofs.spelled.match_words.Goals as goal
+use Rattle.arbiter_words.proofs.request.match_request.Goals as goal
 
 gone : (o : Option Text) → o ≡ None → is_some o ≡ true → ⊥
 gone o e s = true≢false (sym s ∙ ap is_some e)
