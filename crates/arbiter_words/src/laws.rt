@@ -6,7 +6,7 @@ ghost use Rattle.arbiter_words.specs.laws.Laws.{AreRefused, AskFor, PlansAreName
 
 /// No arguments, `session` alone and `verify` alone are taken, and ask for what they say; `verify` alone sets none of
 /// its flags.
-pub fn plain_words_are_taken()
+pub fn plain_arguments_are_taken()
     ensures none { AskFor [] (codes "session") }
     ensures session { AskFor (codes "session" ∷ []) (codes "session") }
     ensures verify { AskFor (codes "verify" ∷ []) (codes "verify") }
@@ -14,7 +14,7 @@ pub fn plain_words_are_taken()
 {}
 
 /// `--help` and `--version` ask for what they say, and `match` alone lacks its two programs.
-pub fn plain_words_are_refused()
+pub fn plain_arguments_are_refused()
     ensures help { AreRefused (codes "--help" ∷ []) (DisplayHelp ∷ []) }
     ensures version { AreRefused (codes "--version" ∷ []) (DisplayVersion ∷ []) }
     ensures bare_match { AreRefused (codes "match" ∷ []) (MissingRequiredArgument ∷ []) }

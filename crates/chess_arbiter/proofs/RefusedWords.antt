@@ -10,7 +10,7 @@ use Rattle.arbiter_words.specs.declared.fault.WordsFault.TheVariants as words
 use Rattle.arbiter_words.specs.declared.plan.Plan.{Plan}
 use Rattle.byte_devices.specs.Devices.{OutputState}
 use Rattle.chess_arbiter.specs.laws.Laws.{RefusesWords, ShowsHelp}
-use Rattle.chess_arbiter.specs.Program.{RanHelp, ToldWords}
+use Rattle.chess_arbiter.specs.Program.{RanHelp, ReportsArguments}
 
 no_fault : (k : ErrorKind) (kinds : Kinds) → kinds ≡ [] → kinds ≡ k ∷ [] → ⊥
 no_fault k kinds none one = absurd (cc)
@@ -42,7 +42,7 @@ no_plan ws k plan one (names, are, (none, is)) = no_fault k _ none (one names)
 -- ---- help and the version
 
 shown : (k : ErrorKind) (fault : WordsFault) (w w' : OutputState) (status : ℕ)
-    → (k ≡ DisplayHelp) ⊎ (k ≡ DisplayVersion) → IsRefusal k fault → ToldWords fault w w' status
+    → (k ≡ DisplayHelp) ⊎ (k ≡ DisplayVersion) → IsRefusal k fault → ReportsArguments fault w w' status
     → RanHelp w w' status
 shown k (words.Words e) w w' status help is told =
     told.1 (subst (λ x. (x ≡ DisplayHelp) ⊎ (x ≡ DisplayVersion)) (sym is) help)
@@ -60,7 +60,7 @@ shows_help ws k help one r r' w w' l l' status (Err fault, is, (same, told)) =
 -- ---- other kinds
 
 refused : (k : ErrorKind) (fault : WordsFault) (w w' : OutputState) (status : ℕ) → k ≢ DisplayHelp → k ≢ DisplayVersion
-    → IsRefusal k fault → ToldWords fault w w' status → (w' ≡ w) × ((status ≡ 2) ⊎ (status ≡ 1))
+    → IsRefusal k fault → ReportsArguments fault w w' status → (w' ≡ w) × ((status ≡ 2) ⊎ (status ≡ 1))
 refused k (words.Words e) w w' status help version is told =
     let t = told.0 (λ x. help (sym is ∙ x)) (λ x. version (sym is ∙ x)) in (t.0, inl t.1)
 refused k words.NoMemory w w' status help version is (same, ends) = (same, inr ends)

@@ -74,12 +74,12 @@ RanHelp w w' status = ((text : List ℕ) × Sent w w' text × (status ≡ 0))
     ⊎ ((text : List ℕ) × BreaksOff w w' text × (status ≡ 1)) ⊎ ((w' ≡ w) × (status ≡ 1))
 
 -- what is reported of arguments that ask for nothing: help and the version on the output, all else on the error output
-abbrev pub ToldWords : WordsFault → OutputState → OutputState → ℕ → Type 0
-ToldWords (words.Words e) w w' status =
+abbrev pub ReportsArguments : WordsFault → OutputState → OutputState → ℕ → Type 0
+ReportsArguments (words.Words e) w w' status =
     ((kind_of e ≢ DisplayHelp) → (kind_of e ≢ DisplayVersion) → (w' ≡ w) × (status ≡ 2))
     × ((kind_of e ≡ DisplayHelp) ⊎ (kind_of e ≡ DisplayVersion) → RanHelp w w' status)
-ToldWords words.NoMemory w w' status = (w' ≡ w) × (status ≡ 1)
-ToldWords fault w w' status = (w' ≡ w) × (status ≡ 2)
+ReportsArguments words.NoMemory w w' status = (w' ≡ w) × (status ≡ 1)
+ReportsArguments fault w w' status = (w' ≡ w) × (status ≡ 2)
 
 -- a stub ran, and the status says whether a device failed
 abbrev pub RanStub : Words → InputState → InputState → OutputState → OutputState → ℕ → Type 0
@@ -100,7 +100,7 @@ RanPlan (Ok Session) r r' w w' l l' status = RanSession r r' w w' status
 RanPlan (Ok (Verify plan)) r r' w w' l l' status = RanVerify plan r r' w w' status
 RanPlan (Ok (Stub words)) r r' w w' l l' status = RanStub words.items r r' w w' status
 RanPlan (Ok (Match plan)) r r' w w' l l' status = (r' ≡ r) × RanMatch plan w w' l l' status
-RanPlan (Err fault) r r' w w' l l' status = (r' ≡ r) × ToldWords fault w w' status
+RanPlan (Err fault) r r' w w' l l' status = (r' ≡ r) × ReportsArguments fault w w' status
 
 -- the arguments were read, and what they ask for was done
 abbrev pub RanProgram : List Text → InputState → InputState → OutputState → OutputState → LogSeen → LogSeen → ℕ

@@ -9,35 +9,35 @@ ghost use Rattle.pgn_pieces.specs.declared.pieces.TheConstants.{PIECE_LEN};
 ghost use Rattle.chess_arbiter.specs.laws.Laws.{RefusesWords, ServesSession, ShowsHelp, VerifiesGames};
 
 use arbiter_words::{
-    plain_words_are_refused, plain_words_are_taken, plans_are_named, verify_is_as_asked,
+    plain_arguments_are_refused, plain_arguments_are_taken, plans_are_named, verify_is_as_asked,
 };
 
 /// No arguments, or `session` alone, serve a session, and `verify` alone verifies games: such arguments are never
 /// refused, whatever else the grammar of the arguments has.
-pub fn plain_words_do_what_they_say()
+pub fn plain_arguments_do_what_they_say()
     ensures none { ServesSession [] }
     ensures session { ServesSession (codes "session" ∷ []) }
     ensures verify { VerifiesGames (codes "verify" ∷ []) }
 {
     // The prover wants these laws of the arguments: these are taken, and what they ask for is what is planned.
-    plain_words_are_taken();
+    plain_arguments_are_taken();
     plans_are_named();
     verify_is_as_asked();
 }
 
 /// `--help` and `--version` show a text of help, and `match` without its two programs is refused.
-pub fn refused_words_are_told()
+pub fn refused_arguments_are_reported()
     ensures help { ShowsHelp (codes "--help" ∷ []) }
     ensures version { ShowsHelp (codes "--version" ∷ []) }
     ensures bare_match { RefusesWords (codes "match" ∷ []) }
 {
     // The prover wants this law of the arguments: how each of them is refused.
-    plain_words_are_refused();
+    plain_arguments_are_refused();
 }
 
 /// The limits that definitions name by their constants: 20,000 half-moves of a game, 999,999 of a FEN's counters, 1,024
 /// bytes of a session's line, 8,192 of an engine's, and 16,777,216 of a piece of a collection.
-pub fn limits_are_as_told()
+pub fn limits_are_as_stated()
     ensures moves { MOST_MOVES ≡ 20000 }
     ensures counters { COUNTER_LIMIT ≡ 999999 }
     ensures commands { COMMAND_LEN ≡ 1024 }

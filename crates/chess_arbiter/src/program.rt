@@ -4,7 +4,7 @@ ghost use Rattle.std.specs.Prelude.{◌≡◌, IfOk, Ok, Err, map};
 ghost use Rattle.chess_cecp.specs.Held.{opened_session};
 ghost use Rattle.chess_pgn.specs.Tags.{default_tags};
 ghost use Rattle.chess_arbiter.specs.Log.{log_seen};
-ghost use Rattle.chess_arbiter.specs.Program.{RanHelp, RanMatch, RanProgram, RanSession, RanStub, RanVerify, ToldWords, VerifiesAs, options_of, verify_status};
+ghost use Rattle.chess_arbiter.specs.Program.{RanHelp, RanMatch, RanProgram, RanSession, RanStub, RanVerify, ReportsArguments, VerifiesAs, options_of, verify_status};
 ghost use Rattle.chess_arbiter.specs.ties.Outcomes.{Served, Shown};
 ghost use Rattle.chess_game.specs.declared.game.TheConstants.{MOST_MOVES};
 
@@ -157,13 +157,13 @@ fn help<W: Output, E: Output, D: Display>(
 }
 
 // Reports why the arguments ask for nothing: help and the version on the output, all else on the error output.
-fn told_words<W: Output, E: Output>(
+fn report_arguments<W: Output, E: Output>(
     alloc: Global,
     fault: &WordsFault,
     output: &mut W,
     errors: &mut E,
 ) -> u8
-    ensures { ToldWords fault.now (W.seen output.old) (W.seen output.new) result }
+    ensures { ReportsArguments fault.now (W.seen output.old) (W.seen output.new) result }
 {
     match fault {
         WordsFault::Words(error) => {
@@ -250,7 +250,7 @@ pub fn run_program<'a, P: Processes + Clock, R: Input, W: Output, E: Output>(
 {
     let plan = match read_words(alloc, words) {
         Ok(plan) => plan,
-        Err(fault) => return told_words(alloc, &fault, output, &mut errors.output),
+        Err(fault) => return report_arguments(alloc, &fault, output, &mut errors.output),
     };
     match plan {
         Plan::Session => session(alloc, input, output, &mut errors.output),

@@ -1,5 +1,5 @@
 use Rattle.arbiter_words.proofs.Literals.{none_asked, session_asked, verify_asked, verify_bare}
-use Rattle.arbiter_words.proofs.laws.plain_words_are_taken.Goals as goal
+use Rattle.arbiter_words.proofs.laws.plain_arguments_are_taken.Goals as goal
 
 pub returns-clause-none : goal.returns-clause-none
 returns-clause-none c = none_asked

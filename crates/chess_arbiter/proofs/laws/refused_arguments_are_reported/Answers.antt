@@ -3,17 +3,17 @@
 use Rattle.std.proofs.Common.{[], ◌∷◌, codes, inl, inr, refl}
 use Rattle.clap.specs.declared.error.kind.ErrorKind.TheVariants.{DisplayHelp, DisplayVersion, MissingRequiredArgument}
 use Rattle.chess_arbiter.proofs.RefusedWords.{refuses_words, shows_help}
-use Rattle.chess_arbiter.proofs.laws.refused_words_are_told.Goals as goal
+use Rattle.chess_arbiter.proofs.laws.refused_arguments_are_reported.Goals as goal
 
 pub returns-clause-help : goal.returns-clause-help
 returns-clause-help c =
-    shows_help (codes "--help" ∷ []) DisplayHelp (inl refl) c.plain_words_are_refused.ensures.help
+    shows_help (codes "--help" ∷ []) DisplayHelp (inl refl) c.plain_arguments_are_refused.ensures.help
 
 pub returns-clause-version : goal.returns-clause-version
 returns-clause-version c =
-    shows_help (codes "--version" ∷ []) DisplayVersion (inr refl) c.plain_words_are_refused.ensures.version
+    shows_help (codes "--version" ∷ []) DisplayVersion (inr refl) c.plain_arguments_are_refused.ensures.version
 
 pub returns-clause-bare_match : goal.returns-clause-bare_match
 returns-clause-bare_match c =
     refuses_words (codes "match" ∷ []) MissingRequiredArgument (λ e. absurd (cc)) (λ e. absurd (cc))
-    c.plain_words_are_refused.ensures.bare_match
+    c.plain_arguments_are_refused.ensures.bare_match

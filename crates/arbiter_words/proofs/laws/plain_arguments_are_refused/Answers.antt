@@ -1,5 +1,5 @@
 use Rattle.arbiter_words.proofs.Literals.{help_refused, version_refused, bare_match_refused}
-use Rattle.arbiter_words.proofs.laws.plain_words_are_refused.Goals as goal
+use Rattle.arbiter_words.proofs.laws.plain_arguments_are_refused.Goals as goal
 
 pub returns-clause-help : goal.returns-clause-help
 returns-clause-help c = help_refused
