@@ -16,13 +16,13 @@ use Rattle.chess_match.specs.declared.reason.MatchFault.{MatchFault}
 use Rattle.chess_match.specs.declared.reason.Reason.TheVariants.{Faulted}
 use Rattle.chess_match.specs.declared.run.MatchEnd.{MatchEnd}
 use Rattle.chess_match.proofs.Flushes.{flushed_none, failed_behind}
-use Rattle.chess_arbiter.specs.Games.{EndsGames, GameTold, IsOfPlan, IsStartFault, LogsGames, RanGames, SoundGames, first_side, game_logs, game_text, game_texts, is_odd, match_text, no_score, score_line, score_of, score_on, scored}
+use Rattle.chess_arbiter.specs.Games.{EndsGames, GameRecord, IsOfPlan, IsStartFault, LogsGames, RanGames, SoundGames, first_side, game_logs, game_text, game_texts, is_odd, match_text, no_score, score_line, score_of, score_on, scored}
 use Rattle.chess_arbiter.specs.ties.Playing.{HasPlayed, LogsGame, PlayedOne, Relayed, logged_side}
 use Rattle.chess_arbiter.specs.Log.{LogSeen, Logged, RanNoted, log_text}
 use Rattle.chess_arbiter.proofs.Logged.{logged_more, logs_none}
 use Rattle.chess_arbiter.specs.declared.games.GamesFault.{GamesFault}
 use Rattle.chess_arbiter.specs.declared.games.GamesFault.TheVariants.{WriteFailed, NoMemory, CanNotStart, Game}
-use Rattle.chess_arbiter.specs.declared.games.Played.{Played}
+use Rattle.chess_arbiter.specs.declared.games.GamesPlayed.{GamesPlayed}
 use Rattle.chess_arbiter.specs.declared.score.Score.{Score}
 
 -- ---- the output
@@ -52,7 +52,7 @@ relayed l start level g g' end w w' coming coming' (T, by) =
 
 -- ---- logs of games
 
-logs_more : (n : ℕ) (games : List GameTold) (g : GameTold)
+logs_more : (n : ℕ) (games : List GameRecord) (g : GameRecord)
     → game_logs n (games ++ g ∷ []) ≡ game_logs n games ++ log_text (first_side (n + length games)) g.notes
 logs_more n [] g =
     append-nil (log_text (first_side n) g.notes) ∙ ap (λ k. log_text (first_side k) g.notes) (omega arith)
@@ -62,7 +62,7 @@ logs_more n (x ∷ games) g =
     ∙ sym (append_assoc here (game_logs (n + 1) games) (log_text (first_side (n + 1 + length games)) g.notes))
     ∙ ap (λ k. (here ++ game_logs (n + 1) games) ++ log_text (first_side k) g.notes) (omega arith)
 
-logs_if : (asked : Bool) (l l' l'' : LogSeen) (games : List GameTold) (g : GameTold) → LogsGames asked l l' games
+logs_if : (asked : Bool) (l l' l'' : LogSeen) (games : List GameRecord) (g : GameRecord) → LogsGames asked l l' games
     → LogsGame (if asked then Some (first_side (1 + length games)) else None) l' l'' g.notes
     → LogsGames asked l l'' (games ++ g ∷ [])
 logs_if false l l' l'' games g h k = k ∙ h
@@ -76,7 +76,7 @@ log_none true l = logs_none l.broken l.output
 
 -- ---- one game more
 
-texts_more : (plan : MatchPlan) (n : ℕ) (games : List GameTold) (g : GameTold)
+texts_more : (plan : MatchPlan) (n : ℕ) (games : List GameRecord) (g : GameRecord)
     → game_texts plan n (games ++ g ∷ []) ≡ game_texts plan n games ++ game_text plan (n + length games) g
 texts_more plan n [] g = append-nil (game_text plan n g) ∙ ap (λ k. game_text plan k g) (omega arith)
 texts_more plan n (x ∷ games) g =
@@ -84,14 +84,14 @@ texts_more plan n (x ∷ games) g =
     ∙ sym (append_assoc (game_text plan n x) (game_texts plan (n + 1) games) (game_text plan (n + 1 + length games) g))
     ∙ ap (λ k. (game_text plan n x ++ game_texts plan (n + 1) games) ++ game_text plan k g) (omega arith)
 
-score_more : (n : ℕ) (games : List GameTold) (g : GameTold) (s : Score)
+score_more : (n : ℕ) (games : List GameRecord) (g : GameRecord) (s : Score)
     → score_on n (games ++ g ∷ []) s ≡ scored (is_odd (n + length games)) g.end.outcome (score_on n games s)
 score_more n [] g s = ap (λ k. scored (is_odd k) g.end.outcome s) (omega arith)
 score_more n (x ∷ games) g s =
     let s' = scored (is_odd n) x.end.outcome s in
     score_more (n + 1) games g s' ∙ ap (λ k. scored (is_odd k) g.end.outcome (score_on (n + 1) games s')) (omega arith)
 
-sound_more : (plan : MatchPlan) (games : List GameTold) (g : GameTold) → SoundGames plan games → IsOfPlan plan g
+sound_more : (plan : MatchPlan) (games : List GameRecord) (g : GameRecord) → SoundGames plan games → IsOfPlan plan g
     → g.end.fault ≡ None → SoundGames plan (games ++ g ∷ [])
 sound_more plan [] g h of none = (of, none, tt)
 sound_more plan (x ∷ games) g h of none = (h.0, h.1, sound_more plan games g h.2 of none)
@@ -100,7 +100,7 @@ sound_more plan (x ∷ games) g h of none = (h.0, h.1, sound_more plan games g h
 
 -- games without a fault were played, written and logged
 pub record SoFar (plan : MatchPlan) (w w' : OutputState) (l l' : LogSeen) (number : ℕ) (score : Score)
-    (games : List GameTold) : Type 0
+    (games : List GameRecord) : Type 0
   where
     pub games_sound : SoundGames plan games
     pub numbered : number ≡ 1 + length games
@@ -120,27 +120,27 @@ start plan w l = record {
 }
 
 module _ (plan : MatchPlan) (w w' w'' : OutputState) (l l' l'' : LogSeen) (number : ℕ) (score : Score)
-    (games : List GameTold) (s : SoFar plan w w' l l' number score games) where
-  logged_on : (g : GameTold) → LogsGame (logged_side plan number) l' l'' g.notes
+    (games : List GameRecord) (s : SoFar plan w w' l l' number score games) where
+  logged_on : (g : GameRecord) → LogsGame (logged_side plan number) l' l'' g.notes
       → LogsGames plan.log l l'' (games ++ g ∷ [])
   logged_on g log =
       logs_if plan.log l l' l'' games g s.logged
       (subst (λ n. LogsGame (logged_side plan n) l' l'' g.notes) s.numbered log)
 
-  told_more : (g : GameTold) → Sent w' w'' (game_text plan number g)
+  told_more : (g : GameRecord) → Sent w' w'' (game_text plan number g)
       → Flushed w w'' (game_texts plan 1 (games ++ g ∷ []))
   told_more g sent =
       rw (texts_more plan 1 games g) (flushed_more w w' w'' (game_texts plan 1 games)
       (game_text plan (1 + length games) g) s.told
       (subst (λ n. Sent w' w'' (game_text plan n g)) s.numbered sent))
 
-  counted_more : (g : GameTold) → scored (is_odd number) g.end.outcome score ≡ score_of (games ++ g ∷ [])
+  counted_more : (g : GameRecord) → scored (is_odd number) g.end.outcome score ≡ score_of (games ++ g ∷ [])
   counted_more g =
       ap (λ n. scored (is_odd n) g.end.outcome score) s.numbered
       ∙ ap (λ v. scored (is_odd (1 + length games)) g.end.outcome v) s.counted
       ∙ sym (score_more 1 games g no_score)
 
-  pub one_more : (g : GameTold) → number ≤ plan.games → IsOfPlan plan g → g.end.fault ≡ None
+  pub one_more : (g : GameRecord) → number ≤ plan.games → IsOfPlan plan g → g.end.fault ≡ None
       → Sent w' w'' (game_text plan number g) → LogsGame (logged_side plan number) l' l'' g.notes
       → SoFar plan w w'' l l'' (number + 1) (scored (is_odd number) g.end.outcome score) (games ++ g ∷ [])
   one_more g le of none sent log =
@@ -155,7 +155,7 @@ module _ (plan : MatchPlan) (w w' w'' : OutputState) (l l' l'' : LogSeen) (numbe
         logged = logged_on g log;
       }
 
-  pub with_fault : (g : GameTold) (side : Colour) (fault : MatchFault) → number ≤ plan.games → IsOfPlan plan g
+  pub with_fault : (g : GameRecord) (side : Colour) (fault : MatchFault) → number ≤ plan.games → IsOfPlan plan g
       → g.end.fault ≡ Some (side, fault) → Sent w' w'' (game_text plan number g)
       → LogsGame (logged_side plan number) l' l'' g.notes
       → HasPlayed plan w w'' l l''
@@ -210,7 +210,7 @@ module _ (plan : MatchPlan) (w w' w'' : OutputState) (l l' l'' : LogSeen) (numbe
   ]
 
 pub all_played : (plan : MatchPlan) (w w' : OutputState) (l l' : LogSeen) (number : ℕ) (score : Score)
-    (games : List GameTold) → SoFar plan w w' l l' number score games → plan.games < number
+    (games : List GameRecord) → SoFar plan w w' l l' number score games → plan.games < number
     → HasPlayed plan w w' l l' (Ok (record { score = score; fault = None }))
 all_played plan w w' l l' number score games s past =
     let n = s.numbered in
@@ -230,7 +230,7 @@ pub is_broken : {A E : Type 0} (w w' : OutputState) (r : Result A E) (text : Lis
 is_broken w w' (Ok v) text h k = cc
 is_broken w w' (Err e) text h k = h
 
-module _ (plan : MatchPlan) (w w' w'' : OutputState) (l l' : LogSeen) (played : Played)
+module _ (plan : MatchPlan) (w w' w'' : OutputState) (l l' : LogSeen) (played : GamesPlayed)
     (h : HasPlayed plan w w' l l' (Ok played)) where
   score_sent : Sent w' w'' (score_line played.score) → Flushed w w'' (match_text plan h.0)
   score_sent sent =

@@ -91,20 +91,20 @@ abbrev pub first_side : ℕ → Colour
 first_side number = if is_odd number then White else Black
 
 -- a game as it is written: its moves, how it ended, and what a log of it holds
-pub record GameTold : Type 0 where
+pub record GameRecord : Type 0 where
   pub game : Seen
   pub end : MatchEnd
   pub notes : List Note
 
 -- it was played from the plan's start at its level, with at most 20,000 half-moves, between some two engines, whatever
 -- these sent
-abbrev pub IsOfPlan : MatchPlan → GameTold → Type 0
+abbrev pub IsOfPlan : MatchPlan → GameRecord → Type 0
 IsOfPlan plan told = (before : Seen) × (before.limit ≡ MOST_MOVES)
     × (w : Ports) × (w' : Ports) × (coming : ℕ → Option ℕ) × (coming' : ℕ → Option ℕ)
     × RanNoted told.notes plan.start plan.level before told.game told.end w w' coming coming'
 
 -- its text, where it has that number
-abbrev pub game_text : MatchPlan → ℕ → GameTold → List ℕ
+abbrev pub game_text : MatchPlan → ℕ → GameRecord → List ℕ
 game_text plan number told = pgn [] (tags_of plan number told.end) told.game.state
 
 -- an engine of that command could not be started, or there was no memory
@@ -122,39 +122,39 @@ IsStartFault plan number fault = FailsToStart (white_command plan number) fault
 -- ---- the games
 
 -- each of these games is one of the plan, and none has a fault
-abbrev pub SoundGames : MatchPlan → List GameTold → Type 0
+abbrev pub SoundGames : MatchPlan → List GameRecord → Type 0
 SoundGames plan [] = Unit {0}
 SoundGames plan (told ∷ rest) = IsOfPlan plan told × (told.end.fault ≡ None) × SoundGames plan rest
 
 -- the texts of games with numbers from there on
-abbrev pub game_texts : MatchPlan → ℕ → List GameTold → List ℕ
+abbrev pub game_texts : MatchPlan → ℕ → List GameRecord → List ℕ
 game_texts plan number [] = []
 game_texts plan number (told ∷ rest) = game_text plan number told ++ game_texts plan (number + 1) rest
 
 -- the logs of games with numbers from there on
-abbrev pub game_logs : ℕ → List GameTold → List ℕ
+abbrev pub game_logs : ℕ → List GameRecord → List ℕ
 game_logs number [] = []
 game_logs number (told ∷ rest) = log_text (first_side number) told.notes ++ game_logs (number + 1) rest
 
 -- these games were logged where a log is asked for; otherwise nothing was
-abbrev pub LogsGames : Bool → LogSeen → LogSeen → List GameTold → Type 0
+abbrev pub LogsGames : Bool → LogSeen → LogSeen → List GameRecord → Type 0
 LogsGames false l l' games = l' ≡ l
 LogsGames true l l' games = Logged l l' (game_logs 1 games)
 
 -- the score after these games, with numbers from there on, counted on from s
-abbrev pub score_on : ℕ → List GameTold → Score → Score
+abbrev pub score_on : ℕ → List GameRecord → Score → Score
 score_on number [] s = s
 score_on number (told ∷ rest) s = score_on (number + 1) rest (scored (is_odd number) told.end.outcome s)
 
 -- the score after these games, the first of which has number 1
-abbrev pub score_of : List GameTold → Score
+abbrev pub score_of : List GameRecord → Score
 score_of games = score_on 1 games no_score
 
 -- where all were played, or one more with a fault
-abbrev pub EndsGames : MatchPlan → List GameTold → Option (ℕ × Colour × MatchFault) → Type 0
+abbrev pub EndsGames : MatchPlan → List GameRecord → Option (ℕ × Colour × MatchFault) → Type 0
 EndsGames plan games None = SoundGames plan games × (length games ≡ plan.games)
 EndsGames plan games (Some (number, side, fault)) =
-    (before : List GameTold) × (last : GameTold)
+    (before : List GameRecord) × (last : GameRecord)
     × (games ≡ before ++ last ∷ []) × SoundGames plan before × IsOfPlan plan last
     × (last.end.fault ≡ Some (side, fault))
     × (number ≡ length before + 1) × (length before < plan.games)
@@ -162,22 +162,22 @@ EndsGames plan games (Some (number, side, fault)) =
 -- the games before were played and written, and the next could not be started; or a beginning of its text was written
 abbrev pub BrokeOff : MatchPlan → OutputState → OutputState → LogSeen → LogSeen → GamesFault → Type 0
 BrokeOff plan w w' l l' WriteFailed =
-    (games : List GameTold) × (next : GameTold) × (start : List ℕ)
+    (games : List GameRecord) × (next : GameRecord) × (start : List ℕ)
     × SoundGames plan games × (length games < plan.games) × IsOfPlan plan next
     × Begins start (game_text plan (length games + 1) next) × FlushedThenFailed w w' (game_texts plan 1 games) start
     × LogsGames plan.log l l' (games ++ next ∷ [])
 BrokeOff plan w w' l l' fault =
-    (games : List GameTold) × SoundGames plan games × (length games < plan.games)
+    (games : List GameRecord) × SoundGames plan games × (length games < plan.games)
     × IsStartFault plan (length games + 1) fault × Flushed w w' (game_texts plan 1 games) × LogsGames plan.log l l' games
 
 -- the text of a match: each game, and then the score
-abbrev pub match_text : MatchPlan → List GameTold → List ℕ
+abbrev pub match_text : MatchPlan → List GameRecord → List ℕ
 match_text plan games = game_texts plan 1 games ++ score_line (score_of games)
 
 -- the games were written, and then a beginning of the score was
 abbrev pub BrokeOffAtScore : MatchPlan → OutputState → OutputState → LogSeen → LogSeen → Type 0
 BrokeOffAtScore plan w w' l l' =
-    (games : List GameTold) × (last : Option (ℕ × Colour × MatchFault)) × (start : List ℕ)
+    (games : List GameRecord) × (last : Option (ℕ × Colour × MatchFault)) × (start : List ℕ)
     × EndsGames plan games last × Begins start (score_line (score_of games))
     × FlushedThenFailed w w' (game_texts plan 1 games) start × LogsGames plan.log l l' games
 
@@ -185,10 +185,10 @@ BrokeOffAtScore plan w w' l l' =
 -- the fault is reported as in the game's comment. Where something broke off, the games before were written
 abbrev pub RanGames : {A : Type 0} → MatchPlan → OutputState → OutputState → LogSeen → LogSeen → Result A GamesFault
     → Type 0
-RanGames plan w w' l l' (Ok _) = (games : List GameTold) × EndsGames plan games None
+RanGames plan w w' l l' (Ok _) = (games : List GameRecord) × EndsGames plan games None
     × Flushed w w' (match_text plan games) × LogsGames plan.log l l' games
 RanGames plan w w' l l' (Err (Game number text)) =
-    (games : List GameTold) × (side : Colour) × (fault : MatchFault)
+    (games : List GameRecord) × (side : Colour) × (fault : MatchFault)
     × EndsGames plan games (Some (number, side, fault)) × (text.now ≡ comment_of (Faulted side fault))
     × Flushed w w' (match_text plan games) × LogsGames plan.log l l' games
 RanGames plan w w' l l' (Err WriteFailed) = BrokeOff plan w w' l l' WriteFailed ⊎ BrokeOffAtScore plan w w' l l'

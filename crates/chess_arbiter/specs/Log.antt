@@ -49,13 +49,13 @@ ends_line at_start (b ∷ bs) = ends_line (b == new_line) bs
 -- ---- notes
 
 -- what is written of a line that an engine sends
-abbrev pub heard_text : ℕ → Bool → Option (List ℕ) → List ℕ
-heard_text moment is_first (Some text) = log_line moment 60 is_first text
-heard_text moment is_first None = log_line moment 33 is_first (codes "line too long")
+abbrev pub received_text : ℕ → Bool → Option (List ℕ) → List ℕ
+received_text moment is_first (Some text) = log_line moment 60 is_first text
+received_text moment is_first None = log_line moment 33 is_first (codes "line too long")
 
 -- what is written of an event: `<` marks what an engine sends, and `!` all else
 abbrev pub event_text : Colour → ℕ → Event → List ℕ
-event_text first moment (Line c text now) = heard_text now (same_colour c first) text
+event_text first moment (Line c text now) = received_text now (same_colour c first) text
 event_text first moment (Opened c now) = []
 event_text first moment (OutputEnds c) = log_line moment 33 (same_colour c first) (codes "output ended")
 event_text first moment (FailsToRead c) = log_line moment 33 (same_colour c first) (codes "read failed")

@@ -50,7 +50,7 @@ impl<W: Output> fmt::Write for TextOn<'_, W> {
 }
 
 /// Writes a text to the error output. A failed one is passed over.
-pub(crate) fn tell_text<E: Output, D: Display>(errors: &mut E, text: &D) {
+pub(crate) fn report_text<E: Output, D: Display>(errors: &mut E, text: &D) {
     let mut output = TextOn { output: errors };
     if write!(output, "{text}").is_ok() {
         let _ = errors.flush();
@@ -58,7 +58,7 @@ pub(crate) fn tell_text<E: Output, D: Display>(errors: &mut E, text: &D) {
 }
 
 /// Writes a fault as the line `arbiter: FAULT`. A failed error output is passed over.
-pub(crate) fn tell<E: Output, D: Display>(errors: &mut E, fault: &D) {
+pub(crate) fn report<E: Output, D: Display>(errors: &mut E, fault: &D) {
     let mut output = TextOn { output: errors };
     if writeln!(output, "arbiter: {fault}").is_ok() {
         let _ = errors.flush();
@@ -66,9 +66,9 @@ pub(crate) fn tell<E: Output, D: Display>(errors: &mut E, fault: &D) {
 }
 
 // Writes a fault, and returns that status.
-pub(crate) fn told<E: Output, D: Display>(errors: &mut E, fault: &D, status: u8) -> u8
+pub(crate) fn reported<E: Output, D: Display>(errors: &mut E, fault: &D, status: u8) -> u8
     ensures { result ≡ status }
 {
-    tell(errors, fault);
+    report(errors, fault);
     status
 }

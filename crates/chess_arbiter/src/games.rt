@@ -7,7 +7,7 @@ ghost use Rattle.chess_match.specs.Run.{Ports};
 ghost use Rattle.chess_match.specs.declared.reason.Reason.TheVariants.{Faulted};
 ghost use Rattle.chess_pgn.specs.GameText.{pgn};
 ghost use Rattle.chess_arbiter.specs.Games.{FailsToStart, RanGames, black_command, first_side, is_odd, name_of, score_line, tags_of, white_command};
-ghost use Rattle.chess_arbiter.specs.ties.Playing.{HasPlayed, IsMatchEndOf, PlayedOne, Relayed, TellsStart, logged_side};
+ghost use Rattle.chess_arbiter.specs.ties.Playing.{HasPlayed, IsMatchEndOf, PlayedOne, Relayed, ReportsStart, logged_side};
 ghost use Rattle.chess_arbiter.specs.Log.{log_seen};
 ghost use Rattle.chess_game.specs.declared.game.TheConstants.{MOST_MOVES};
 
@@ -251,7 +251,7 @@ fn write_score<W: Output>(score: Score, output: &mut W) -> Result<(), WriteFault
 // How a fault at the start of an engine is reported.
 fn start_fault<'a>(fault: StartFault, command: &'a str) -> GamesFault<'a>
     ensures fails { FailsToStart command.entry.now result }
-    ensures told { TellsStart fault command.entry.now result }
+    ensures told { ReportsStart fault command.entry.now result }
 {
     match fault {
         StartFault::NoMemory => GamesFault::NoMemory,
@@ -323,7 +323,7 @@ fn play_one<'a, 't, P: Processes + Clock, M: Moments, W: Output, E: Output>(
 
 // The score of the games that were played, and the fault that ended them.
 #[derive(Clone, Copy)]
-struct Played {
+struct GamesPlayed {
     score: Score,
     fault: Option<(u32, Colour, MatchFault)>,
 }
@@ -338,7 +338,7 @@ fn play_each<'a, 't, P: Processes + Clock, M: Moments, W: Output, E: Output>(
     scratch: &mut Bits<'t>,
     output: &mut W,
     log: &mut Log<E>,
-) -> Result<Played, GamesFault<'a>>
+) -> Result<GamesPlayed, GamesFault<'a>>
     requires { game.old.limit ≡ MOST_MOVES }
     ensures { HasPlayed plan.now (W.seen output.old) (W.seen output.new)
         (log_seen (E.seen log.old.output) log.old.pending) (log_seen (E.seen log.new.output) log.new.pending)
@@ -354,13 +354,13 @@ fn play_each<'a, 't, P: Processes + Clock, M: Moments, W: Output, E: Output>(
         };
         score = score.after(is_odd(number), end.outcome);
         if let Some((side, fault)) = end.fault {
-            return Ok(Played {
+            return Ok(GamesPlayed {
                 score,
                 fault: Some((number, side, fault)),
             });
         }
     }
-    Ok(Played { score, fault: None })
+    Ok(GamesPlayed { score, fault: None })
 }
 
 // A game with its board, over those tables.

@@ -6,7 +6,7 @@ ghost use Rattle.byte_devices.specs.Devices.{OutputState};
 ghost use Rattle.chess_base.specs.Letters.{new_line};
 ghost use Rattle.chess_base.specs.Men.{same_colour};
 ghost use Rattle.chess_match.specs.Run.{Ports, text_read};
-ghost use Rattle.chess_arbiter.specs.Log.{Logs, RanLogged, ends_line, engine_text, given_text, head, heard_text, log_line, log_seen, log_start, shown};
+ghost use Rattle.chess_arbiter.specs.Log.{Logs, RanLogged, ends_line, engine_text, given_text, head, received_text, log_line, log_seen, log_start, shown};
 ghost use Rattle.chess_arbiter.specs.ties.Logging.{Adds, IsLog};
 
 use crate::output::send;
@@ -168,7 +168,7 @@ impl Pending {
     }
 
     // Adds a line that an engine sent.
-    fn add_heard<E: Output>(
+    fn add_received<E: Output>(
         &mut self,
         output: &mut E,
         moment: u64,
@@ -176,7 +176,7 @@ impl Pending {
         line: &Line<ENGINE_LINE_LEN>,
     )
         ensures { Adds (E.seen output.old) (E.seen output.new) self.old self.new
-            (heard_text moment is_first (text_read line.now)) }
+            (received_text moment is_first (text_read line.now)) }
     {
         if line.is_too_long() {
             self.add_line(output, moment, b'!', is_first, b"line too long");
@@ -351,7 +351,7 @@ impl<E: Output> Witness for Log<E> {
     fn line(&mut self, side: Colour, line: &Line<ENGINE_LINE_LEN>, moment: u64) {
         let is_first = is_side(side, self.first);
         self.pending
-            .add_heard(&mut self.output, moment, is_first, line);
+            .add_received(&mut self.output, moment, is_first, line);
         self.state = LogState {
             moment,
             at_start: true,

@@ -8,7 +8,7 @@ ghost use Rattle.chess_arbiter.specs.Program.{RanHelp, RanMatch, RanProgram, Ran
 ghost use Rattle.chess_arbiter.specs.ties.Outcomes.{Served, Shown};
 ghost use Rattle.chess_game.specs.declared.game.TheConstants.{MOST_MOVES};
 
-use crate::fault::{ProgramFault, tell_text, told};
+use crate::fault::{ProgramFault, report_text, reported};
 use crate::games::play_games;
 use crate::log::Log;
 use crate::output::send;
@@ -69,7 +69,7 @@ fn session<R: Input, W: Output, E: Output>(
 {
     match serve(alloc, input, output) {
         Ok(_) => 0,
-        Err(fault) => told(errors, &fault, 1),
+        Err(fault) => reported(errors, &fault, 1),
     }
 }
 
@@ -123,7 +123,7 @@ fn verified<R: Input, W: Output, E: Output>(
 {
     match verify_as(alloc, plan, input, output) {
         Ok(verified) => verified_status(verified),
-        Err(fault) => told(errors, &fault, 1),
+        Err(fault) => reported(errors, &fault, 1),
     }
 }
 
@@ -152,7 +152,7 @@ fn help<W: Output, E: Output, D: Display>(
 {
     match show(alloc, help, output) {
         Ok(()) => 0,
-        Err(fault) => told(errors, &fault, 1),
+        Err(fault) => reported(errors, &fault, 1),
     }
 }
 
@@ -168,14 +168,14 @@ fn report_arguments<W: Output, E: Output>(
     match fault {
         WordsFault::Words(error) => {
             if error.use_stderr() {
-                tell_text(errors, error);
+                report_text(errors, error);
                 return 2;
             }
             help(alloc, error, output, errors)
         }
-        WordsFault::NoMemory => told(errors, fault, 1),
+        WordsFault::NoMemory => reported(errors, fault, 1),
         WordsFault::BadLevel | WordsFault::BadFen(_) | WordsFault::BadDate => {
-            told(errors, fault, 2)
+            reported(errors, fault, 2)
         }
     }
 }
@@ -191,8 +191,8 @@ fn stubbed<R: Input, W: Output, E: Output>(
 {
     match run_stub(words, input, output) {
         Ok(()) => 0,
-        Err(StubFault::Read) => told(errors, &ProgramFault::ReadFailed, 1),
-        Err(StubFault::Write) => told(errors, &ProgramFault::WriteFailed, 1),
+        Err(StubFault::Read) => reported(errors, &ProgramFault::ReadFailed, 1),
+        Err(StubFault::Write) => reported(errors, &ProgramFault::WriteFailed, 1),
     }
 }
 
@@ -210,7 +210,7 @@ fn matched<P: Processes + Clock, W: Output, E: Output>(
 {
     match play_games(rt, alloc, plan, output, log) {
         Ok(()) => 0,
-        Err(fault) => told(&mut log.output, &fault, 1),
+        Err(fault) => reported(&mut log.output, &fault, 1),
     }
 }
 

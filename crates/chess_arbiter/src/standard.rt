@@ -3,7 +3,7 @@
 ghost use Rattle.std.specs.Prelude.{◌≡◌, ◌≢◌};
 ghost use Rattle.std.specs.IoError.{error_kind};
 
-use crate::fault::{ProgramFault, tell};
+use crate::fault::{ProgramFault, report};
 use crate::log::Log;
 use crate::program::run_program;
 use byte_devices::Counted;
@@ -57,7 +57,7 @@ pub fn run(rt: &HostRuntime) -> ExitCode {
         Ok(status) => ExitCode::from(status),
         Err(error) => {
             let fault = words_fault(&error);
-            tell(&mut Counted::writing(rt.stderr()), &fault);
+            report(&mut Counted::writing(rt.stderr()), &fault);
             ExitCode::from(fault.status())
         }
     }

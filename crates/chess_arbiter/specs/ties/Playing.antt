@@ -15,8 +15,8 @@ use Rattle.chess_arbiter.specs.declared.engine.StartFault.{StartFault}
 use Rattle.chess_arbiter.specs.declared.engine.StartFault.TheVariants as start
 use Rattle.chess_arbiter.specs.declared.games.GamesFault.{GamesFault}
 use Rattle.chess_arbiter.specs.declared.games.GamesFault.TheVariants.{WriteFailed, NoMemory, CanNotStart}
-use Rattle.chess_arbiter.specs.declared.games.Played.{Played}
-use Rattle.chess_arbiter.specs.Games.{first_side, GameTold, IsOfPlan, game_text, IsStartFault, game_texts, LogsGames, score_of, EndsGames, BrokeOff}
+use Rattle.chess_arbiter.specs.declared.games.GamesPlayed.{GamesPlayed}
+use Rattle.chess_arbiter.specs.Games.{first_side, GameRecord, IsOfPlan, game_text, IsStartFault, game_texts, LogsGames, score_of, EndsGames, BrokeOff}
 
 -- the side of the first engine, where the plan asks for a log
 abbrev pub logged_side : MatchPlan → ℕ → Option Colour
@@ -41,9 +41,9 @@ IsMatchEndOf log l l' start level g g' end w =
     × RanNoted notes start level g g' end w w' coming coming' × LogsGame log l l' notes
 
 -- out of memory is reported as such, and all else by the engine's command
-abbrev pub TellsStart : StartFault → List ℕ → GamesFault → Type 0
-TellsStart start.NoMemory command fault = fault ≡ NoMemory
-TellsStart start.CanNotStart command fault = (c : Bor (List ℕ)) × (fault ≡ CanNotStart c) × (c.now ≡ command)
+abbrev pub ReportsStart : StartFault → List ℕ → GamesFault → Type 0
+ReportsStart start.NoMemory command fault = fault ≡ NoMemory
+ReportsStart start.CanNotStart command fault = (c : Bor (List ℕ)) × (fault ≡ CanNotStart c) × (c.now ≡ command)
 
 -- the game with that number was played and logged, and its text was written and flushed; or its engines could not be
 -- started, and nothing was written; or a beginning of its text was
@@ -54,13 +54,13 @@ PlayedOne plan number w w' l l' (Ok end) =
     × Sent w w' (game_text plan number (record { game = game; end = end; notes = notes }))
     × LogsGame (logged_side plan number) l l' notes
 PlayedOne plan number w w' l l' (Err WriteFailed) =
-    (told : GameTold) × IsOfPlan plan told × BreaksOff w w' (game_text plan number told)
+    (told : GameRecord) × IsOfPlan plan told × BreaksOff w w' (game_text plan number told)
     × LogsGame (logged_side plan number) l l' told.notes
 PlayedOne plan number w w' l l' (Err fault) = IsStartFault plan number fault × (w' ≡ w) × (l' ≡ l)
 
 -- games were played, each was written and logged, and the score counts them
-abbrev pub HasPlayed : MatchPlan → OutputState → OutputState → LogSeen → LogSeen → Result Played GamesFault → Type 0
+abbrev pub HasPlayed : MatchPlan → OutputState → OutputState → LogSeen → LogSeen → Result GamesPlayed GamesFault → Type 0
 HasPlayed plan w w' l l' (Ok played) =
-    (games : List GameTold) × EndsGames plan games played.fault × (played.score ≡ score_of games)
+    (games : List GameRecord) × EndsGames plan games played.fault × (played.score ≡ score_of games)
     × Flushed w w' (game_texts plan 1 games) × LogsGames plan.log l l' games
 HasPlayed plan w w' l l' (Err fault) = BrokeOff plan w w' l l' fault

@@ -15,8 +15,8 @@ onward_of true = Over
 onward_of false = On
 
 -- the stub is in the state that the reply gives, and goes on as it says
-abbrev pub Stands : Words → Reply → Stub × Onward → Type 0
-Stands words r (stub, onward) = (stub.at ≤ length words) × (state_at words stub ≡ r.state) × (onward ≡ onward_of r.ends)
+abbrev pub StubStands : Words → Reply → Stub × Onward → Type 0
+StubStands words r (stub, onward) = (stub.at ≤ length words) × (state_at words stub ≡ r.state) × (onward ≡ onward_of r.ends)
 
 -- the remarks from there on were said, or a beginning of them
 abbrev pub SaysRemarks : {E : Type 0} → Words → ℕ → OutputState → OutputState → Result ℕ E → Type 0
@@ -26,11 +26,11 @@ SaysRemarks words from w w' (Err e) = BreaksOff w w' (remarks (drop from words))
 
 -- a reply was given, or a beginning of it
 abbrev pub Gives : {E : Type 0} → Words → Reply → OutputState → OutputState → Result (Stub × Onward) E → Type 0
-Gives words r w w' (Ok next) = Took w w' r.text × Stands words r next
+Gives words r w w' (Ok next) = Took w w' r.text × StubStands words r next
 Gives words r w w' (Err e) = BreaksOff w w' r.text
 
 -- and then flushed
 abbrev pub GivesAndFlushes : {E : Type 0} → Words → Reply → OutputState → OutputState → Result (Stub × Onward) E
     → Type 0
-GivesAndFlushes words r w w' (Ok next) = Sent w w' r.text × Stands words r next
+GivesAndFlushes words r w w' (Ok next) = Sent w w' r.text × StubStands words r next
 GivesAndFlushes words r w w' (Err e) = BreaksOff w w' r.text

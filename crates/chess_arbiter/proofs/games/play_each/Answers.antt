@@ -1,7 +1,7 @@
 -- The games so far were played without a fault, written and logged, and the score counts them (GamesTold.SoFar): a game more keeps
 -- that (GamesTold.one_more), and one with a fault is the last (GamesTold.with_fault).
 use Rattle.std.proofs.Common.{◌≡◌, ◌∙◌, ◌≤◌, ◌<◌, ◌+◌, ◌++◌, ◌∷◌, [], Ok, None, Some, subst, sym, ap, arith, rules}
-use Rattle.chess_arbiter.specs.Games.{GameTold, is_odd, scored}
+use Rattle.chess_arbiter.specs.Games.{GameRecord, is_odd, scored}
 use Rattle.chess_arbiter.specs.ties.Playing.{HasPlayed}
 use Rattle.chess_arbiter.specs.Log.{log_seen}
 use Rattle.chess_arbiter.specs.declared.score.Score.{Score}
@@ -43,7 +43,7 @@ returns-in-Some g c =
     let number = c.loop-number.number + 1 in
     let le : number ≤ plan.games = (let t = c.loop-number-test.true in let e = c.from.ensures in omega (arith, t, e)) in
     let one = c.in-Ok.ensures.played in
-    let told : GameTold = record { game = one.0; end = c.in-Ok.end; notes = one.1 } in
+    let told : GameRecord = record { game = one.0; end = c.in-Ok.end; notes = one.1 } in
     let is : c.in-Ok.end.fault ≡ Some (c.in-Some.side, c.in-Some.fault) = search rules in
     let counted : c.after-score.result ≡ scored (is_odd number) c.in-Ok.end.outcome c.loop-number.score =
     c.after-score.ensures ∙ ap (λ b. scored b c.in-Ok.end.outcome c.loop-number.score) c.is_odd.ensures in
@@ -65,7 +65,7 @@ loop-number-preserved g c =
     let number = c.loop-number.number + 1 in
     let le : number ≤ plan.games = (let t = c.loop-number-test.true in let e = c.from.ensures in omega (arith, t, e)) in
     let one = c.in-Ok.ensures.played in
-    let told : GameTold = record { game = one.0; end = c.in-Ok.end; notes = one.1 } in
+    let told : GameRecord = record { game = one.0; end = c.in-Ok.end; notes = one.1 } in
     let is : c.in-Ok.end.fault ≡ None = search rules in
     let counted : c.after-score.result ≡ scored (is_odd number) c.in-Ok.end.outcome c.loop-number.score =
     c.after-score.ensures ∙ ap (λ b. scored b c.in-Ok.end.outcome c.loop-number.score) c.is_odd.ensures in

@@ -11,6 +11,6 @@ returns-in-Err g c = (
   Err c.in-Err.fault,
   log_seen (g.E.Output.seen c.play_games.new.log.output) c.play_games.new.log.pending,
   c.in-Err.ensures,
-  c.told.ensures,
+  c.reported.ensures,
   λ e. absurd (cc),
 )

@@ -7,4 +7,4 @@ pub returns-in-Ok : goal.returns-in-Ok
 returns-in-Ok g c = session_ran _ _ _ _ (Ok c.in-Ok.field-0) 0 c.in-Ok.ensures refl
 
 pub returns-in-Err : goal.returns-in-Err
-returns-in-Err g c = session_ran _ _ _ _ (Err c.in-Err.fault) c.told.result c.in-Err.ensures c.told.ensures
+returns-in-Err g c = session_ran _ _ _ _ (Err c.in-Err.fault) c.reported.result c.in-Err.ensures c.reported.ensures

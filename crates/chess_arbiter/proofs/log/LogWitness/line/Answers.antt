@@ -3,12 +3,12 @@ use Rattle.std.proofs.Common.{Bool, ap, refl}
 use Rattle.chess_match.specs.Match.{Line}
 use Rattle.chess_match.specs.Notes.{Happened}
 use Rattle.chess_match.specs.Run.{text_read}
-use Rattle.chess_arbiter.specs.Log.{heard_text}
+use Rattle.chess_arbiter.specs.Log.{received_text}
 use Rattle.chess_arbiter.proofs.Logged.{adds_as, logged}
 use Rattle.chess_arbiter.proofs.log.LogWitness.line.Goals as goal
 
 pub returns : goal.returns
 returns g c = logged _ _ _ _ _ _ _ _ (Happened (Line c.args.side (text_read c.args.line.now) c.args.moment)) refl
     (adds_as _ _ _ _ _ _
-    (ap (λ (b : Bool). heard_text c.args.moment b (text_read c.args.line.now)) c.is_side-is_first.ensures) c.add_heard.ensures)
+    (ap (λ (b : Bool). received_text c.args.moment b (text_read c.args.line.now)) c.is_side-is_first.ensures) c.add_received.ensures)
     refl
