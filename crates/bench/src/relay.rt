@@ -31,7 +31,7 @@ impl Moments for Standing {
 }
 
 // What comes after a number in a sequence that looks like dice.
-fn next_number(number: u32) -> u32 {
+fn next_random(number: u32) -> u32 {
     number.wrapping_mul(1_664_525).wrapping_add(1_013_904_223)
 }
 
@@ -92,7 +92,7 @@ pub fn write_script<B: Board>(
     };
     let mut number: u32 = 1;
     for half_move in 0..half_moves {
-        number = next_number(number);
+        number = next_random(number);
         let place = (number >> 16) as usize % game.board().legal_move_count().max(1);
         let Some(m) = next_move(game.board(), place) else {
             return Ok(script);
