@@ -21,7 +21,9 @@ mod standard;
 mod stub;
 
 pub use fault::ProgramFault;
-pub use laws::{limits_are_as_stated, plain_arguments_do_what_they_say, refused_arguments_are_reported};
+pub use laws::{
+    limits_are_as_stated, plain_arguments_do_what_they_say, refused_arguments_are_reported,
+};
 pub use log::{Log, run_match_logged};
 pub use moments::SinceStart;
 pub use program::run_program;

@@ -4,8 +4,8 @@ ghost use Rattle.std.specs.Prelude.{◌≡◌, ◌<◌, IfSome, Option};
 ghost use Rattle.chess_base.specs.Castling.{home_square, king_home_file, rook_file, castled_king_file, castled_rook_file, right_on, right_of, king_square, is_to_side, is_beside, are_placed_for_castling, right_is_sound, names_castling, says_castling, castling, castle_from, castle_by, castle_of, mover_to, rook_from, rook_to, lands_on, castling_rook_to, is_on_way, castling_crosses, castling_way_is_empty, castling_way_is_safe, castles};
 
 use crate::attack::{is_attacked, is_between, is_man};
-use crate::man::{CastlingSide, Colour, ColourRights, Kind, Man, Move, Rights, Variant};
 use crate::legality::first_rank;
+use crate::man::{CastlingSide, Colour, ColourRights, Kind, Man, Move, Rights, Variant};
 use crate::setup::Setup;
 use crate::square::Square;
 
@@ -165,7 +165,9 @@ pub(crate) fn right_is_sound(setup: &Setup, colour: Colour, castling_side: Castl
 {
     match right_of(setup.rights, colour, castling_side) {
         None => true,
-        Some(rook) => { are_placed_for_castling(setup.variant, &setup.men, colour, castling_side, rook) }
+        Some(rook) => {
+            are_placed_for_castling(setup.variant, &setup.men, colour, castling_side, rook)
+        }
     }
 }
 

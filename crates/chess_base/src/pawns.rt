@@ -5,8 +5,8 @@ ghost use Rattle.chess_base.specs.Men.{forward, pawn_rank};
 ghost use Rattle.chess_base.specs.Moves.{promotion_fits, is_double_advance, is_en_passant, pawn_advances, pawn_captures, pawn_moves};
 
 use crate::attack::{attacks, is_man, is_of};
-use crate::man::{Colour, Kind, Move};
 use crate::legality::{first_rank, man_on};
+use crate::man::{Colour, Kind, Move};
 use crate::setup::Setup;
 use crate::square::is_square;
 

@@ -12,8 +12,8 @@ use crate::after::{fullmove_after, halfmove_after, men_after, rights_after, targ
 use crate::attack::is_attacked;
 use crate::fault::FenFault;
 use crate::initial::initial_men;
-use crate::man::{Colour, ColourRights, Man, Move, Rights, Variant};
 use crate::legality::is_legal;
+use crate::man::{Colour, ColourRights, Man, Move, Rights, Variant};
 use crate::setup::Setup;
 use crate::sound::setup_fault;
 use crate::square::Square;

@@ -225,9 +225,11 @@ impl<B: Board> Game<B> {
                 count: 1,
             },
         };
-        let entry = self
-            .index
-            .push(&self.start, self.played_moves.as_slice(), &played_move.reached);
+        let entry = self.index.push(
+            &self.start,
+            self.played_moves.as_slice(),
+            &played_move.reached,
+        );
         played_move.entry = entry;
         // There is room: `open` took a place for each half-move that the limit allows.
         if self.played_moves.push(played_move).is_err() {

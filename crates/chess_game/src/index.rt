@@ -124,7 +124,12 @@ impl Index {
     }
 
     // Adds the position that a further move of a game gave, and returns the entry of its played move.
-    pub(crate) fn push(&mut self, start: &Hashed, played_moves: &[PlayedMove], reached: &Hashed) -> Entry
+    pub(crate) fn push(
+        &mut self,
+        start: &Hashed,
+        played_moves: &[PlayedMove],
+        reached: &Hashed,
+    ) -> Entry
         requires start { IsKnown start.now }
         requires known { IsKnown reached.now }
         requires follows { Follows start.now.position played_moves.now }

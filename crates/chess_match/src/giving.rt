@@ -16,7 +16,7 @@ ghost use Rattle.chess_match.specs.ties.Reported.{SendsIf};
 use crate::block::Block;
 use crate::match_game::MatchGame;
 use crate::sending::{add_entered, add_offer, put_and_flush};
-use crate::state::{MatchState, Actions};
+use crate::state::{Actions, MatchState};
 use crate::witness::Witness;
 use byte_devices::{Output, WriteFault};
 use chess_base::Colour;

@@ -26,11 +26,11 @@ ghost use Rattle.chess_match.specs.declared.run.TheConstants.{ENGINE_LINE_LEN};
 
 use crate::block::{Block, Blocks};
 use crate::giving::note_and_send;
+use crate::match_game::MatchGame;
 use crate::moments::Moments;
 use crate::phase::Phase;
-use crate::match_game::MatchGame;
 use crate::reason::{MatchFault, Reason, first_fault};
-use crate::state::{MatchState, ENTRY, Actions};
+use crate::state::{Actions, ENTRY, MatchState};
 use crate::witness::{Silent, Witness};
 use byte_devices::{Input, Output, ReadFault};
 use chess_base::{Colour, Position};
@@ -618,7 +618,12 @@ fn declare<B: Board>(game: &mut Game<B>, reason: Reason)
 }
 
 // The report of the end; the end is declared where the game has no verdict.
-fn end_of<B: Board>(core: MatchState, game: &mut Game<B>, reason: Reason, failed: Failed) -> MatchEnd
+fn end_of<B: Board>(
+    core: MatchState,
+    game: &mut Game<B>,
+    reason: Reason,
+    failed: Failed,
+) -> MatchEnd
     requires { game.old.state.declared ≡ None }
     ensures told { IsReported reason failed result }
     ensures white_name { result.white_name ≡ core.white.name }

@@ -12,10 +12,10 @@ ghost use Rattle.chess_match.specs.Reasons.{fault_of};
 ghost use Rattle.chess_match.specs.ties.Represents.{Represents, player, to};
 
 use crate::block::{Block, add, add_end, add_level, add_ping, add_times};
-use crate::phase::Phase;
 use crate::match_game::MatchGame;
+use crate::phase::Phase;
 use crate::reason::{MatchFault, Reason};
-use crate::state::{MatchState, Actions, is_side};
+use crate::state::{Actions, MatchState, is_side};
 use byte_devices::{Output, WriteFault, put, put_parts};
 use chess_base::{Colour, Variant};
 use chess_moves::Board;

@@ -3,7 +3,7 @@
 ghost use Rattle.std.specs.Prelude.{◌≡◌};
 ghost use Rattle.chess_text.specs.ties.Forms.{castling_named, form_of, same_side, form_fits, is_spelled};
 
-use crate::described::{Described, describe, parts_fit, is_form};
+use crate::described::{Described, describe, is_form, parts_fit};
 use crate::parts::{Parts, read_parts, unmarked};
 use chess_base::{CastlingSide, Move, Setup};
 

@@ -14,6 +14,7 @@
 //! on after faults, piece by piece.
 #![tactic(auto)]
 
+mod buffered;
 mod collection;
 mod contradiction;
 mod fault;
@@ -22,10 +23,9 @@ mod games;
 mod options;
 mod report;
 mod tally;
-mod buffered;
 
+pub use buffered::verify;
 pub use collection::verify_collection;
 pub use fault::VerifyFault;
 pub use options::VerifyOptions;
 pub use tally::Verified;
-pub use buffered::verify;
