@@ -43,6 +43,9 @@ in-flat_map : {A B : Type 0} (g : A → List B) (xs : List A) (x : A) (y : B) �
     → IsIn B (flat_map g xs) y
 in-flat_map g xs x y h k t e = any-flat_map t g xs ∙ h (λ z. list_any t (g z)) (k t e)
 
+in-one : {A B : Type 0} (g : A → B) (xs : List A) (x : A) → IsIn A xs x → IsIn B (flat_map (λ y. g y ∷ []) xs) (g x)
+in-one g xs x h = in-flat_map (λ y. g y ∷ []) xs x (g x) h (here (g x) [])
+
 in-below : {A : Type 0} (n : ℕ) (f : ℕ → A) (k : ℕ) → k < n → IsIn A (from_below n f) (f k)
 in-below zero f k h t e = absurd (omega arith)
 in-below (suc n) f zero h t e = or_left (t (f 0)) _ e
@@ -76,6 +79,10 @@ each-flat_map : {A B : Type 0} (P : A → Type 0) (Q : B → Type 0) (g : A → 
 each-flat_map P Q g xs h k t e =
     let f = h (λ x. list_any t (g x)) (sym (any-flat_map t g xs) ∙ e) in
     k f.0 f.1 t f.2
+
+each-one : {A B : Type 0} (P : A → Type 0) (Q : B → Type 0) (g : A → B) (xs : List A) → Each A P xs
+    → ((x : A) → P x → Q (g x)) → Each B Q (flat_map (λ y. g y ∷ []) xs)
+each-one P Q g xs h k = each-flat_map P Q (λ y. g y ∷ []) xs h (λ x p. each-cons Q (g x) [] (k x p) (each-nil Q))
 
 each-below : {A : Type 0} (P : A → Type 0) (n : ℕ) (f : ℕ → A) → ((k : ℕ) → k < n → P (f k))
     → Each A P (from_below n f)
@@ -144,7 +151,7 @@ abbrev of_small : Kind → Bool → Bool → Promotion
 of_small k equals small = record { kind = k; equals = equals; small = small }
 
 abbrev of_equals : Kind → Bool → List Promotion
-of_equals k equals = map (of_small k equals) both
+of_equals k equals = flat_map (λ small. of_small k equals small ∷ []) both
 
 abbrev of_kind : Kind → List Promotion
 of_kind k = flat_map (of_equals k) both
@@ -156,13 +163,13 @@ promotion_in : (p : Promotion) → Promotes p → IsIn Promotion all_promotions 
 unfolding all_promotions
 promotion_in p h = in-flat_map of_kind promoted p.kind p (promoted_in p.kind h)
     (in-flat_map (of_equals p.kind) both p.equals p (both_in p.equals)
-    (in-map (of_small p.kind p.equals) both p.small (both_in p.small)))
+    (in-one (of_small p.kind p.equals) both p.small (both_in p.small)))
 
 each_promotion : Each Promotion Promotes all_promotions
 unfolding all_promotions
 each_promotion = each-flat_map CanPromote Promotes of_kind promoted each_promoted
     (λ k h. each-flat_map Any Promotes (of_equals k) both each_both
-    (λ equals u. each-map Any Promotes (of_small k equals) both each_both (λ small v. h)))
+    (λ equals u. each-one Any Promotes (of_small k equals) both each_both (λ small v. h)))
 
 -- ---- ends
 
@@ -170,7 +177,7 @@ abbrev of_promotion : ℕ → Option Promotion → End
 of_promotion s p = record { to = s; promotion = p }
 
 abbrev of_square : ℕ → List End
-of_square s = map (of_promotion s) (None ∷ map Some all_promotions)
+of_square s = flat_map (λ p. of_promotion s p ∷ []) (None ∷ map Some all_promotions)
 
 record IsEnd (e : End) : Type 0 where
   to_is : e.to < 64
@@ -179,13 +186,13 @@ record IsEnd (e : End) : Type 0 where
 end_in : (e : End) → IsEnd e → IsIn End all_ends e
 unfolding all_ends squares
 end_in e h = in-flat_map of_square squares e.to e (in-below 64 (λ s. s) e.to h.to_is)
-    (in-map (of_promotion e.to) (None ∷ map Some all_promotions) e.promotion
+    (in-one (of_promotion e.to) (None ∷ map Some all_promotions) e.promotion
     (in-or_none Promotes all_promotions promotion_in e.promotion h.promotion_is))
 
 each_end : Each End IsEnd all_ends
 unfolding all_ends squares
 each_end = each-flat_map (λ s. s < 64) IsEnd of_square squares (each-below (λ s. s < 64) 64 (λ s. s) (λ k l. l))
-    (λ s h. each-map (λ o. IfSome o Promotes) IsEnd (of_promotion s) (None ∷ map Some all_promotions)
+    (λ s h. each-one (λ o. IfSome o Promotes) IsEnd (of_promotion s) (None ∷ map Some all_promotions)
     (each-or_none Promotes all_promotions each_promotion) (λ p k. record { to_is = h; promotion_is = k }))
 
 -- ---- parts
@@ -203,7 +210,7 @@ abbrev of_end : Option Kind → Option ℕ → Option ℕ → Bool → End → P
 of_end k f r t e = record { letter = k; file = f; rank = r; takes = t; end = e }
 
 abbrev of_takes : Option Kind → Option ℕ → Option ℕ → Bool → List Parts
-of_takes k f r t = map (of_end k f r t) all_ends
+of_takes k f r t = flat_map (λ e. of_end k f r t e ∷ []) all_ends
 
 abbrev of_rank : Option Kind → Option ℕ → Option ℕ → List Parts
 of_rank k f r = flat_map (of_takes k f r) both
@@ -230,7 +237,7 @@ parts_in q h =
     (in-flat_map (of_file q.letter) numbers q.file q (number_in q.file h.file_is)
     (in-flat_map (of_rank q.letter q.file) numbers q.rank q (number_in q.rank h.rank_is)
     (in-flat_map (of_takes q.letter q.file q.rank) both q.takes q (both_in q.takes)
-    (in-map (of_end q.letter q.file q.rank q.takes) all_ends q.end (end_in q.end e)))))
+    (in-one (of_end q.letter q.file q.rank q.takes) all_ends q.end (end_in q.end e)))))
 
 each_parts : Each Parts AreParts all_parts
 unfolding all_parts
@@ -239,7 +246,7 @@ each_parts = each-flat_map (λ o. IfSome o IsOfficer) AreParts of_letter letters
     (λ k letter. each-flat_map (λ o. IfSome o IsBelow8) AreParts (of_file k) numbers each_number
     (λ f file. each-flat_map (λ o. IfSome o IsBelow8) AreParts (of_rank k f) numbers each_number
     (λ r rank. each-flat_map Any AreParts (of_takes k f r) both each_both
-    (λ t u. each-map IsEnd AreParts (of_end k f r t) all_ends each_end
+    (λ t u. each-one IsEnd AreParts (of_end k f r t) all_ends each_end
     (λ e h. record {
       letter_is = letter;
       file_is = file;

@@ -19,7 +19,7 @@ use Rattle.chess_text.specs.declared.parts.Promotion.{Promotion}
 use Rattle.chess_text.specs.declared.reading.Reading.{Reading}
 use Rattle.chess_text.specs.declared.reading.Reading.TheVariants as reads
 use mathlib.Core.Bool.{or-false}
-use Rattle.chess_text.specs.Parts.{unmarked, has_parts}
+use Rattle.chess_text.specs.Parts.{unmarked}
 use Rattle.chess_text.specs.ties.Reader.{parts_at, move_parts}
 use Rattle.chess_text.specs.Moves.{castling_texts, is_castling_text, passes, is_form, fits, is_by_squares, is_by_letter, is_straight, is_from_file, shape, spells_described, spells, described, one_of, reading, IsLegalReading}
 use Rattle.chess_text.specs.ties.Forms.{form_of_parts, form_at, form_of, same_side, form_fits, is_spelled}

@@ -1,5 +1,5 @@
 -- The parts of a move's text: [letter][file][rank][x]square[[=]promotion], and the marks after it.
-use Rattle.std.specs.Prelude.{ℕ, ◌+◌, ◌-◌, ◌<◌, ◌==◌, Bool, true, false, ◌&&◌, ◌||◌, if◌then◌else◌, List, [], ◌∷◌, ◌++◌, length, take, map, flat_map, Option, Some, None, IfSome}
+use Rattle.std.specs.Prelude.{ℕ, ◌+◌, ◌-◌, ◌<◌, ◌==◌, Bool, true, false, ◌&&◌, ◌||◌, if◌then◌else◌, List, [], ◌∷◌, ◌++◌, length, take, map, flat_map, Some, None, IfSome}
 use Rattle.std.specs.List.{list_any, suffix_len}
 use Rattle.std.specs.Str.{bytes_eq}
 use Rattle.chess_base.specs.declared.man.Kind.{Kind}
@@ -83,24 +83,35 @@ pub record AreParts (q : Parts) : Type 0 where
 
 -- ---- the parts of a text
 
--- said, or not
+-- what f gives for each of these, joined
+abbrev pub for_each : {A B : Type 0} → List A → (A → List B) → List B
+for_each xs f = flat_map f xs
+
+-- not there, or there
 abbrev pub both : List Bool
 both = false ∷ true ∷ []
 
--- all promotions that a text can name
+-- all promotions that a text can name: the letter's kind, after `=` or not, in a capital or a small letter
 unfoldable pub all_promotions : List Promotion
-all_promotions = flat_map
-    (λ k. flat_map (λ equals. map (λ small. record { kind = k; equals = equals; small = small }) both) both) promoted
+all_promotions =
+    for_each promoted (λ kind. for_each both (λ equals. for_each both (λ small.
+    record { kind = kind; equals = equals; small = small } ∷ [])))
 
 -- all ends that a text can have
 unfoldable pub all_ends : List End
-all_ends = flat_map (λ s. map (λ p. record { to = s; promotion = p }) (None ∷ map Some all_promotions)) squares
+all_ends =
+    for_each squares (λ to. for_each (None ∷ map Some all_promotions) (λ promotion.
+    record { to = to; promotion = promotion } ∷ []))
 
--- all parts that a text can have
+-- all parts that a text can have: a letter or none, a file or none, a rank or none, `x` or none, and an end
 unfoldable pub all_parts : List Parts
-all_parts = flat_map (λ k. flat_map (λ f. flat_map (λ r. flat_map (λ t. map (λ e.
-    record { letter = k; file = f; rank = r; takes = t; end = e }) all_ends) both)
-    (None ∷ from_below 8 Some)) (None ∷ from_below 8 Some)) (None ∷ map Some officers)
+all_parts =
+    for_each (None ∷ map Some officers) (λ letter.
+    for_each (None ∷ from_below 8 Some) (λ file.
+    for_each (None ∷ from_below 8 Some) (λ rank.
+    for_each both (λ takes.
+    for_each all_ends (λ end.
+    record { letter = letter; file = file; rank = rank; takes = takes; end = end } ∷ [])))))
 
 -- without its marks, the text is the text of parts that pass the test
 unfoldable pub has_parts : (Parts → Bool) → List ℕ → Bool
