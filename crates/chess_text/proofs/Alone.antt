@@ -14,10 +14,12 @@ use Rattle.chess_text.specs.declared.parts.Parts.{Parts}
 use Rattle.chess_text.specs.declared.parts.Promotion.{Promotion}
 use Rattle.chess_text.specs.declared.reading.Reading.TheVariants as reads
 use Rattle.chess_text.specs.laws.Laws.{SpellsAlone, IsSpelled, IsShaped, AreParts}
-use Rattle.chess_text.specs.Parts.{unmarked, parts_at, parts_text, move_parts}
+use Rattle.chess_text.specs.Parts.{unmarked, parts_text, has_parts}
+use Rattle.chess_text.specs.ties.Reader.{parts_at, move_parts}
 use Rattle.chess_text.specs.Moves.{is_castling_text, passes, is_form, parts_fit, shape, spells_described, spells, one_of, reading, promotes_so}
 use Rattle.chess_text.specs.ties.Forms.{same_side}
 use Rattle.chess_text.proofs.AllMoves.{only-move}
+use Rattle.chess_text.proofs.AllParts.{has-read}
 use Rattle.chess_text.proofs.Castlings.{IsCastling, names_side, castling_from_name}
 use Rattle.chess_text.proofs.FormFacts.{spelled_castling as castling_spelled}
 use Rattle.chess_text.proofs.Grammar.{spelled-parts, parts-spelled}
@@ -50,8 +52,8 @@ pub spelled_parts : (text : List ℕ) (q : Parts) (d : Described) → unmarked t
 unfolding spells_described is_castling_text move_parts
 spelled_parts text q d e h =
     let at = read_parts text q e h in
-    ap (λ t. t || passes (λ r. parts_fit r d) (parts_at (unmarked text))) (no_side (unmarked text) q at d.castles)
-    ∙ ap (passes (λ r. parts_fit r d)) at
+    ap (λ t. t || has_parts (λ r. parts_fit r d) text) (no_side (unmarked text) q at d.castles)
+    ∙ has-read (λ r. parts_fit r d) text ∙ ap (passes (λ r. parts_fit r d)) at
 
 pub shape_parts : (text : List ℕ) (q : Parts) → unmarked text ≡ parts_text q → AreParts q → is_form q ≡ true
     → shape text ≡ true
@@ -60,14 +62,15 @@ shape_parts text q e h form =
     let at = read_parts text q e h in
     let king = no_name (unmarked text) q at KingSide in
     let queen = no_name (unmarked text) q at QueenSide in
-    rw (king, queen) (ap (passes is_form) at ∙ form)
+    rw (king, queen) (has-read is_form text ∙ ap (passes is_form) at ∙ form)
 
 -- ---- the text of castling
 
 pub spelled_castling : (text : List ℕ) (w : CastlingSide) (d : Described) → IsCastling (unmarked text) w
     → spells_described text d ≡ passes (same_side w) d.castles
 unfolding spells_described is_castling_text move_parts
-spelled_castling text w d h = castling_spelled (unmarked text) w d h
+spelled_castling text w d h = ap (λ t. passes (is_castling_text text) d.castles || t) (has-read (λ q. parts_fit q d) text)
+    ∙ castling_spelled (unmarked text) w d h
 
 pub shape_castling : (text : List ℕ) (w : CastlingSide) → IsCastling (unmarked text) w → shape text ≡ true
 unfolding shape is_castling_text
@@ -163,10 +166,10 @@ of_parts test (Some q) e = (q, refl, e)
 is_spelled_so : (text : List ℕ) (d : Described) → spells_described text d ≡ true → IsSpelled text d
 unfolding spells_described move_parts
 is_spelled_so text d e =
-    elim (or_cases (passes (is_castling_text text) d.castles) (passes (λ q. parts_fit q d) (parts_at (unmarked text))) e) [
+    elim (or_cases (passes (is_castling_text text) d.castles) (has_parts (λ q. parts_fit q d) text) e) [
       | inl h ↦ inl (castled (is_castling_text text) d.castles h)
       | inr h ↦
-          let of = of_parts (λ q. parts_fit q d) (parts_at (unmarked text)) h in
+          let of = of_parts (λ q. parts_fit q d) (parts_at (unmarked text)) (sym (has-read (λ q. parts_fit q d) text) ∙ h) in
           let is = spelled-parts (unmarked text) of.0 of.1 in
           inr (of.0, is.0, is.1, of.2)
     ]
@@ -196,11 +199,10 @@ either_side text e =
 is_shaped_so : (text : List ℕ) → shape text ≡ true → IsShaped text
 unfolding shape move_parts
 is_shaped_so text e =
-    elim (or_cases (is_castling_text text KingSide || is_castling_text text QueenSide)
-    (passes is_form (parts_at (unmarked text))) e) [
+    elim (or_cases (is_castling_text text KingSide || is_castling_text text QueenSide) (has_parts is_form text) e) [
       | inl h ↦ inl (either_side text h)
       | inr h ↦
-          let of = of_parts is_form (parts_at (unmarked text)) h in
+          let of = of_parts is_form (parts_at (unmarked text)) (sym (has-read is_form text) ∙ h) in
           let is = spelled-parts (unmarked text) of.0 of.1 in
           inr (of.0, is.0, is.1, of.2)
     ]
@@ -210,7 +212,7 @@ unfolding shape
 castling_shapes text KingSide h = rw h refl
 castling_shapes text QueenSide h = rw h (by_king (is_castling_text text KingSide))
   where
-    by_king : (b : Bool) → ((b || true) || passes is_form (move_parts text)) ≡ true
+    by_king : (b : Bool) → ((b || true) || has_parts is_form text) ≡ true
     by_king true = refl
     by_king false = refl
 

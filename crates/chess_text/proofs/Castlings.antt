@@ -6,7 +6,7 @@ use Rattle.std.specs.List.{list_any}
 use Rattle.std.specs.Str.{bytes_eq}
 use Rattle.chess_base.specs.declared.man.CastlingSide.{CastlingSide}
 use Rattle.chess_base.specs.declared.man.CastlingSide.TheVariants.{KingSide, QueenSide}
-use Rattle.chess_text.specs.Parts.{parts_at}
+use Rattle.chess_text.specs.ties.Reader.{parts_at}
 use Rattle.chess_text.specs.Moves.{castling_texts}
 use Rattle.chess_text.specs.ties.Forms.{same_side}
 

@@ -1,5 +1,6 @@
 pub mod SpelledMoves
 pub mod Grammar
+pub mod AllParts
 pub mod Castlings
 pub mod FormFacts
 pub mod Legal

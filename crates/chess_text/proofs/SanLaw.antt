@@ -1,5 +1,5 @@
 -- The SAN of a legal move denotes it alone.
-use Rattle.std.proofs.Common.{◌≡◌, ℕ, ◌<◌, ◌≤◌, inl, inr, Bool, true, false, not, ◌&&◌, ◌||◌, List, [], ◌∷◌, ◌++◌, length, map, Option, Some, None, is_none, refl, sym, ap, subst, ◌∙◌, arith, ◌==◌}
+use Rattle.std.proofs.Common.{◌≡◌, ℕ, ◌<◌, ◌≤◌, inl, inr, Bool, true, false, not, ◌&&◌, ◌||◌, List, ◌++◌, length, Option, Some, None, is_none, refl, sym, ap, subst, ◌∙◌, arith, ◌==◌}
 use Rattle.std.specs.Prelude.{IfSome, IsTrue}
 use Rattle.std.specs.Option.{option_map}
 use Rattle.std.proofs.lemmas.Bool.{and_parts, and_from, or_cases, eqb-true, eq-eqb, both_ways}
@@ -34,6 +34,7 @@ use Rattle.chess_text.specs.ties.Forms.{same_side}
 use Rattle.chess_text.specs.San.{castling_text, disambiguate, if_said, pawn_parts, officer_parts, walk_parts, is_rival, rival_starts, text_by_castling, check_mark, san_as, san}
 use Rattle.chess_text.proofs.Alone.{read_alone, spelled_parts, shape_parts, spelled_castling, shape_castling, spells_move, same_kind-self, same_kind-true, move_is, written, promotes-self, promotes-same}
 use Rattle.chess_text.proofs.AllMoves.{any-move}
+use Rattle.chess_text.proofs.AllParts.{any-map}
 use Rattle.chess_text.proofs.Castlings.{IsCastling, letters_kingside, letters_queenside}
 use Rattle.chess_text.proofs.Legal.{MovesAs, IsMove, legal_move, told_of, described_is, castling_says, names_end}
 use Rattle.chess_text.proofs.Pawns.{pawn_of, pawn_stands, advances_on_file, same_advance, advances_without, advances_straight, captures_ahead, same_ahead}
@@ -369,10 +370,6 @@ officer_goes p m n k l start c e =
       rank_fits = e2.1;
       to = sym (eqb-true m.to n.to e4.1);
     }
-
-any-map : {A B : Type 0} (t : B → Bool) (g : A → B) (xs : List A) → list_any t (map g xs) ≡ list_any (λ x. t (g x)) xs
-any-map t g [] = refl
-any-map t g (x ∷ xs) = ap (λ b. t (g x) || b) (any-map t g xs)
 
 -- a rival's start is among the rivals'
 rival_stands : (p : Setup) (m n : Move) (k : Kind) (t : ℕ → Bool) → is_legal p n ≡ true

@@ -21,7 +21,7 @@ use Rattle.chess_text.specs.declared.parts.Parts.{Parts}
 use Rattle.chess_text.specs.declared.parts.Promotion.{Promotion}
 use Rattle.chess_text.specs.declared.reading.Reading.{Reading}
 use Rattle.chess_text.specs.declared.reading.Reading.TheVariants as reads
-use Rattle.chess_text.specs.Parts.{unmarked, move_parts}
+use Rattle.chess_text.specs.Parts.{unmarked, has_parts}
 
 -- ---- what a text can say of a move
 
@@ -123,13 +123,13 @@ abbrev pub passes : {A : Type 0} → (A → Bool) → Option A → Bool
 passes test None = false
 passes test (Some x) = test x
 
--- the text has a move's shape
+-- the text has a move's shape: castling's, or that of parts of a form
 unfoldable pub shape : List ℕ → Bool
-shape text = is_castling_text text KingSide || is_castling_text text QueenSide || passes is_form (move_parts text)
+shape text = is_castling_text text KingSide || is_castling_text text QueenSide || has_parts is_form text
 
--- the text denotes the move that is described
+-- the text denotes the move that is described: as castling, or by parts that fit it
 unfoldable pub spells_described : List ℕ → Described → Bool
-spells_described text d = passes (is_castling_text text) d.castles || passes (λ q. parts_fit q d) (move_parts text)
+spells_described text d = passes (is_castling_text text) d.castles || has_parts (λ q. parts_fit q d) text
 
 -- the text denotes this move of the position
 unfoldable pub spells : Setup → List ℕ → Move → Bool

@@ -1,7 +1,8 @@
 //! The parts of a move's text.
 
 ghost use Rattle.std.specs.Prelude.{◌≡◌};
-ghost use Rattle.chess_text.specs.Parts.{is_mark, unmarked, promotion_by, promotion_at, end_at, takes_at, rank_at, file_at, parts_at};
+ghost use Rattle.chess_text.specs.Parts.{is_mark, unmarked};
+ghost use Rattle.chess_text.specs.ties.Reader.{promotion_by, promotion_at, end_at, takes_at, rank_at, file_at, parts_at};
 
 use chess_base::{Kind, Square};
 

@@ -11,7 +11,8 @@ use Rattle.chess_base.specs.Sound.{IsSound}
 use Rattle.chess_text.specs.declared.described.Described.{Described}
 use Rattle.chess_text.specs.declared.parts.Parts.{Parts}
 use Rattle.chess_text.specs.declared.reading.Reading.TheVariants as reads
-use Rattle.chess_text.specs.Parts.{unmarked, parts_at, parts_text}
+use Rattle.chess_text.specs.Parts.{unmarked, parts_text}
+use Rattle.chess_text.specs.ties.Reader.{parts_at}
 use Rattle.chess_text.specs.Moves.{is_castling_text, is_form, parts_fit, spells_described, spells, shape, reading}
 use Rattle.chess_text.specs.San.{san, shown_move}
 use Rattle.chess_base.specs.declared.man.Kind.{Kind}

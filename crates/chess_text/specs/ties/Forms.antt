@@ -21,7 +21,8 @@ use Rattle.chess_text.specs.declared.described.Described.{Described}
 use Rattle.chess_text.specs.declared.form.Form.{Form}
 use Rattle.chess_text.specs.declared.form.Form.TheVariants.{Castling, Piece}
 use Rattle.chess_text.specs.declared.parts.Parts.{Parts}
-use Rattle.chess_text.specs.Parts.{unmarked, parts_at}
+use Rattle.chess_text.specs.Parts.{unmarked}
+use Rattle.chess_text.specs.ties.Reader.{parts_at}
 use Rattle.chess_moves.specs.Sets.{has}
 use Rattle.chess_text.specs.declared.reading.Reading.{Reading}
 use Rattle.chess_text.specs.declared.reading.Reading.TheVariants as reads

@@ -1,0 +1,87 @@
+-- The parts of a text as code reads them, from the front: each shows by its first byte, but for a file, which is one of
+-- the start only where a square follows.
+use Rattle.std.specs.Prelude.{ℕ, ◌+◌, ◌-◌, ◌*◌, ◌==◌, nat_le, Bool, true, false, ◌&&◌, if◌then◌else◌, List, [], ◌∷◌, find, Option, Some, None}
+use Rattle.std.specs.Option.{option_map}
+use Rattle.chess_base.specs.declared.man.Kind.{Kind}
+use Rattle.chess_base.specs.Letters.{byte, white_letter}
+use Rattle.chess_text.specs.declared.parts.Parts.{Parts}
+use Rattle.chess_text.specs.declared.parts.End.{End}
+use Rattle.chess_text.specs.declared.parts.Promotion.{Promotion}
+use Rattle.chess_text.specs.Parts.{officers, promoted, unmarked}
+
+-- the kind of this letter
+abbrev pub kind_from : List Kind → ℕ → Option Kind
+kind_from kinds c = find (λ k. white_letter k == c) kinds
+
+-- from `a` to `h`
+abbrev pub is_file_letter : ℕ → Bool
+is_file_letter c = nat_le (byte "a") c && nat_le c (byte "h")
+
+-- from `1` to `8`
+abbrev pub is_rank_digit : ℕ → Bool
+is_rank_digit c = nat_le (byte "1") c && nat_le c (byte "8")
+
+-- the first that is there
+abbrev pub or_else : {A : Type 0} → Option A → Option A → Option A
+or_else (Some x) o = Some x
+or_else None o = o
+
+-- the promotion that a letter names, capital or small, after `=` or not
+abbrev pub promotion_by : Bool → ℕ → Option Promotion
+promotion_by equals c =
+    or_else (option_map (λ k. record { kind = k; equals = equals; small = false }) (kind_from promoted c))
+    (option_map (λ k. record { kind = k; equals = equals; small = true }) (kind_from promoted (c - 32)))
+
+-- what the pawn becomes, where that is all that is left: some or none
+abbrev pub promotion_at : List ℕ → Option (Option Promotion)
+promotion_at [] = Some None
+promotion_at (c ∷ []) = option_map Some (promotion_by false c)
+promotion_at (c ∷ d ∷ []) = if c == byte "=" then option_map Some (promotion_by true d) else None
+promotion_at (c ∷ d ∷ e ∷ cs) = None
+
+-- the end square, and what the pawn becomes after it
+abbrev pub end_at : List ℕ → Option End
+end_at [] = None
+end_at (f ∷ []) = None
+end_at (f ∷ r ∷ rest) =
+    if is_file_letter f && is_rank_digit r
+    then option_map (λ p. record { to = 8 * (r - byte "1") + (f - byte "a"); promotion = p }) (promotion_at rest)
+    else None
+
+-- an `x` or none, and the end
+abbrev pub takes_at : List ℕ → Option (Bool × End)
+takes_at [] = None
+takes_at (c ∷ rest) = if c == byte "x" then option_map (λ e. (true, e)) (end_at rest) else option_map (λ e. (false, e))
+    (end_at (c ∷ rest))
+
+-- a rank or none, and what follows
+abbrev pub rank_at : List ℕ → Option (Option ℕ × Bool × End)
+rank_at [] = None
+rank_at (c ∷ rest) =
+    if is_rank_digit c then option_map (λ (x : Bool × End). (Some (c - byte "1"), x.0, x.1)) (takes_at rest)
+    else option_map (λ (x : Bool × End). (None, x.0, x.1)) (takes_at (c ∷ rest))
+
+-- these parts, together
+abbrev pub with_parts : Option Kind → Option ℕ → Option ℕ × Bool × End → Parts
+with_parts letter file x = record { letter = letter; file = file; rank = x.0; takes = x.1; end = x.2 }
+
+-- a file is one of the start only where a square follows
+abbrev pub file_at : Option Kind → List ℕ → Option Parts
+file_at letter [] = None
+file_at letter (c ∷ rest) =
+    or_else (option_map (with_parts letter None) (rank_at (c ∷ rest)))
+    (if is_file_letter c then option_map (with_parts letter (Some (c - byte "a"))) (rank_at rest) else None)
+
+-- the parts after a piece's letter, or where there is none
+abbrev pub at_letter : Option Kind → ℕ → List ℕ → Option Parts
+at_letter None c rest = file_at None (c ∷ rest)
+at_letter (Some k) c rest = file_at (Some k) rest
+
+-- the parts whose text it is, if there are such
+abbrev pub parts_at : List ℕ → Option Parts
+parts_at [] = None
+parts_at (c ∷ rest) = at_letter (kind_from officers c) c rest
+
+-- those of a text without its marks
+unfoldable pub move_parts : List ℕ → Option Parts
+move_parts text = parts_at (unmarked text)
