@@ -17,7 +17,7 @@ use Rattle.chess_text.specs.declared.parts.Promotion.{Promotion}
 use Rattle.chess_text.specs.Parts.{unmarked, parts_text, officers, promoted, both, all_promotions, all_ends, all_parts, has_parts}
 use Rattle.chess_text.specs.laws.Laws.{AreParts, CanPromote, IsOfficer}
 use Rattle.chess_text.specs.Moves.{passes}
-use Rattle.chess_text.specs.ties.Reader.{parts_at, move_parts}
+use Rattle.chess_text.specs.ties.Reader.{parts_at}
 use Rattle.chess_text.proofs.Grammar.{spelled-parts, parts-spelled}
 
 -- ---- an element of a list
@@ -288,6 +288,6 @@ by_parts test text (Some q) e = by_test (test q) refl
         let same : read.0 ≡ q = cc in
         absurd cc)
 
-pub has-read : (test : Parts → Bool) (text : List ℕ) → has_parts test text ≡ passes test (move_parts text)
-unfolding has_parts move_parts
+pub has-read : (test : Parts → Bool) (text : List ℕ) → has_parts test text ≡ passes test (parts_at (unmarked text))
+unfolding has_parts
 has-read test text = by_parts test (unmarked text) (parts_at (unmarked text)) refl

@@ -15,7 +15,7 @@ use Rattle.chess_text.specs.declared.parts.Promotion.{Promotion}
 use Rattle.chess_text.specs.declared.reading.Reading.TheVariants as reads
 use Rattle.chess_text.specs.laws.Laws.{SpellsAlone, IsSpelled, IsShaped, AreParts}
 use Rattle.chess_text.specs.Parts.{unmarked, parts_text, has_parts}
-use Rattle.chess_text.specs.ties.Reader.{parts_at, move_parts}
+use Rattle.chess_text.specs.ties.Reader.{parts_at}
 use Rattle.chess_text.specs.Moves.{is_castling_text, passes, is_form, parts_fit, shape, spells_described, spells, one_of, reading, promotes_so}
 use Rattle.chess_text.specs.ties.Forms.{same_side}
 use Rattle.chess_text.proofs.AllMoves.{only-move}
@@ -49,7 +49,7 @@ read_parts text q e h = ap parts_at e ∙ parts-spelled q h
 
 pub spelled_parts : (text : List ℕ) (q : Parts) (d : Described) → unmarked text ≡ parts_text q → AreParts q
     → spells_described text d ≡ parts_fit q d
-unfolding spells_described is_castling_text move_parts
+unfolding spells_described is_castling_text
 spelled_parts text q d e h =
     let at = read_parts text q e h in
     ap (λ t. t || has_parts (λ r. parts_fit r d) text) (no_side (unmarked text) q at d.castles)
@@ -57,7 +57,7 @@ spelled_parts text q d e h =
 
 pub shape_parts : (text : List ℕ) (q : Parts) → unmarked text ≡ parts_text q → AreParts q → is_form q ≡ true
     → shape text ≡ true
-unfolding shape is_castling_text move_parts
+unfolding shape is_castling_text
 shape_parts text q e h form =
     let at = read_parts text q e h in
     let king = no_name (unmarked text) q at KingSide in
@@ -68,7 +68,7 @@ shape_parts text q e h form =
 
 pub spelled_castling : (text : List ℕ) (w : CastlingSide) (d : Described) → IsCastling (unmarked text) w
     → spells_described text d ≡ passes (same_side w) d.castles
-unfolding spells_described is_castling_text move_parts
+unfolding spells_described is_castling_text
 spelled_castling text w d h = ap (λ t. passes (is_castling_text text) d.castles || t) (has-read (λ q. parts_fit q d) text)
     ∙ castling_spelled (unmarked text) w d h
 
@@ -151,7 +151,7 @@ promotes-same equals small None (Some k) e = absurd cc
 promotes-same equals small (Some k) None e = absurd cc
 promotes-same equals small (Some k) (Some l) e = ap Some (sym (same_kind-true k l e))
 
--- ---- what a text denotes, with no reader
+-- ---- what a text denotes, with no list of parts
 
 pub castled : (test : CastlingSide → Bool) (o : Option CastlingSide) → passes test o ≡ true → (w : CastlingSide)
     × (o ≡ Some w) × (test w ≡ true)
@@ -164,7 +164,7 @@ of_parts test None e = absurd cc
 of_parts test (Some q) e = (q, refl, e)
 
 is_spelled_so : (text : List ℕ) (d : Described) → spells_described text d ≡ true → IsSpelled text d
-unfolding spells_described move_parts
+unfolding spells_described
 is_spelled_so text d e =
     elim (or_cases (passes (is_castling_text text) d.castles) (has_parts (λ q. parts_fit q d) text) e) [
       | inl h ↦ inl (castled (is_castling_text text) d.castles h)
@@ -186,7 +186,7 @@ spelled_so text d (inr h) = spelled_parts text h.0 d h.2 h.1 ∙ h.3
 pub spelled_by_text : (text : List ℕ) (d : Described) → IsTrue (spells_described text d) ↔ IsSpelled text d
 spelled_by_text text d = (is_spelled_so text d, spelled_so text d)
 
--- ---- which texts have a move's shape, with no reader
+-- ---- which texts have a move's shape, with no list of parts
 
 either_side : (text : List ℕ) → (is_castling_text text KingSide || is_castling_text text QueenSide) ≡ true
     → (w : CastlingSide) × (is_castling_text text w ≡ true)
@@ -197,7 +197,7 @@ either_side text e =
     ]
 
 is_shaped_so : (text : List ℕ) → shape text ≡ true → IsShaped text
-unfolding shape move_parts
+unfolding shape
 is_shaped_so text e =
     elim (or_cases (is_castling_text text KingSide || is_castling_text text QueenSide) (has_parts is_form text) e) [
       | inl h ↦ inl (either_side text h)

@@ -20,7 +20,7 @@ use Rattle.chess_text.specs.declared.reading.Reading.{Reading}
 use Rattle.chess_text.specs.declared.reading.Reading.TheVariants as reads
 use mathlib.Core.Bool.{or-false}
 use Rattle.chess_text.specs.Parts.{unmarked}
-use Rattle.chess_text.specs.ties.Reader.{parts_at, move_parts}
+use Rattle.chess_text.specs.ties.Reader.{parts_at}
 use Rattle.chess_text.specs.Moves.{castling_texts, is_castling_text, passes, is_form, parts_fit, is_by_squares, is_by_letter, is_straight, is_from_file, shape, spells_described, spells, described, one_of, reading, IsLegalReading}
 use Rattle.chess_text.specs.ties.Forms.{form_of_parts, form_at, form_of, same_side, form_fits, is_spelled}
 use Rattle.chess_text.proofs.AllMoves.{filter-both}
@@ -44,7 +44,7 @@ shape_by text false true = refl
 shape_by text false false = shape_by_parts (parts_at text)
 
 pub shape-form : (text : List ℕ) → shape text ≡ is_some (form_of text)
-unfolding shape form_of is_castling_text move_parts
+unfolding shape form_of is_castling_text
 shape-form text = rw (has-read is_form text) (shape_by (unmarked text) (list_any (bytes_eq (unmarked text)) (castling_texts KingSide))
     (list_any (bytes_eq (unmarked text)) (castling_texts QueenSide)))
 
@@ -109,7 +109,7 @@ spelled_by text d false false ea eb = ap (λ t. t || passes (λ q. parts_fit q d
     (not_named text ea eb d.castles) ∙ fits_by_form d (parts_at text)
 
 pub spells-form : (text : List ℕ) (d : Described) → spells_described text d ≡ passes (λ f. form_fits f d) (form_of text)
-unfolding spells_described form_of is_castling_text move_parts
+unfolding spells_described form_of is_castling_text
 spells-form text d = rw (has-read (λ q. parts_fit q d) text)
     (spelled_by (unmarked text) d (list_any (bytes_eq (unmarked text)) (castling_texts KingSide))
     (list_any (bytes_eq (unmarked text)) (castling_texts QueenSide)) refl refl)

@@ -98,14 +98,14 @@ abbrev pub ShownMoveIsReadBack : Type 0
 ShownMoveIsReadBack = (p : Setup) → (m : Move) → IsSound p → IsTrue (is_legal p m)
     → reading p (shown_move p m) ≡ reads.Move m
 
--- parts are read of a text exactly where it is the text of these
+-- the code reads parts of a text exactly where it is the text of these
 abbrev pub PartsAreTheTexts : Type 0
 PartsAreTheTexts = (text : List ℕ) → (q : Parts) → parts_at text ≡ Some q → AreParts q × (text ≡ parts_text q)
 
 abbrev pub PartsAreRead : Type 0
 PartsAreRead = (q : Parts) → AreParts q → parts_at (parts_text q) ≡ Some q
 
--- a text denotes what its castling names, or what the parts fit whose text it is without marks: defined with no reader
+-- a text denotes what its castling names, or what parts fit whose text it is without marks: said with no list of parts
 abbrev pub IsSpelled : List ℕ → Described → Type 0
 IsSpelled text d =
     ((w : CastlingSide) × (d.castles ≡ Some w) × IsTrue (is_castling_text text w))

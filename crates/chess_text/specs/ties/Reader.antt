@@ -7,7 +7,7 @@ use Rattle.chess_base.specs.Letters.{byte, white_letter}
 use Rattle.chess_text.specs.declared.parts.Parts.{Parts}
 use Rattle.chess_text.specs.declared.parts.End.{End}
 use Rattle.chess_text.specs.declared.parts.Promotion.{Promotion}
-use Rattle.chess_text.specs.Parts.{officers, promoted, unmarked}
+use Rattle.chess_text.specs.Parts.{officers, promoted}
 
 -- the kind of this letter
 abbrev pub kind_from : List Kind → ℕ → Option Kind
@@ -81,7 +81,3 @@ at_letter (Some k) c rest = file_at (Some k) rest
 abbrev pub parts_at : List ℕ → Option Parts
 parts_at [] = None
 parts_at (c ∷ rest) = at_letter (kind_from officers c) c rest
-
--- those of a text without its marks
-unfoldable pub move_parts : List ℕ → Option Parts
-move_parts text = parts_at (unmarked text)
