@@ -20,24 +20,16 @@ use crate::state::{Core, Given};
 use crate::witness::Witness;
 use byte_devices::{Output, WriteFault};
 use chess_base::Colour;
-use chess_moves::Board;
 
 // What a block has after its answers: an offer, and what the phase gives.
-fn add_rest<G: Played, S: Board>(
-    block: &mut Block,
-    core: &Core,
-    game: &G,
-    scratch: &mut S,
-    given: Given,
-    side: Colour,
-)
-    requires untold { is_some core.now.untold ≡ true → 0 < length (G.played game.now) }
+fn add_rest<G: Played>(block: &mut Block, core: &Core, game: &G, given: Given, side: Colour)
+    requires untold { is_some core.now.untold ≡ true → is_some core.now.last ≡ true }
     requires room { array_vec_len block.old + 310 ≤ BLOCK_LEN }
     ensures { (r : Rules) (m : Match) → G.plays game.now r → Stands r core.now (G.played game.now) m
         → block.new.items ≡ block.old.items ++ bytes_of (behind_answers r given m side) }
 {
     add_offer(block, given, side);
-    add_entered(block, core, game, scratch, given, side);
+    add_entered(block, core, game, given, side);
 }
 
 // Notes a text that is not empty, and then sends it.
@@ -60,17 +52,16 @@ fn note_and_put<W: Output, L: Witness>(
 
 /// Adds to the answers that wait for a side what else it is given, notes the block that this makes, and sends it by one
 /// write. An empty block is neither noted nor sent.
-pub(crate) fn note_and_send<W: Output, L: Witness, G: Played, S: Board>(
+pub(crate) fn note_and_send<W: Output, L: Witness, G: Played>(
     writer: &mut W,
     witness: &mut L,
     core: &Core,
     game: &G,
-    scratch: &mut S,
     given: Given,
     block: &mut Block,
     side: Colour,
 ) -> Result<(), WriteFault>
-    requires untold { is_some core.now.untold ≡ true → 0 < length (G.played game.now) }
+    requires untold { is_some core.now.untold ≡ true → is_some core.now.last ≡ true }
     requires room { array_vec_len block.old ≤ ANSWERS_LEN }
     ensures sends { (r : Rules) (m : Match) (items : Colour → List Item) → G.plays game.now r
         → Stands r core.now (G.played game.now) m → block.old.items ≡ bytes_of (answers_to (items side))
@@ -84,7 +75,7 @@ pub(crate) fn note_and_send<W: Output, L: Witness, G: Played, S: Board>(
         (given_note side (bytes_of (given_block r given items m side))) }
     ensures empty { block.new.items ≡ [] }
 {
-    add_rest(block, core, game, scratch, given, side);
+    add_rest(block, core, game, given, side);
     let sent = note_and_put(writer, witness, block.as_slice(), side);
     block.clear();
     sent

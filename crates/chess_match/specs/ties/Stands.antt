@@ -18,6 +18,8 @@ use Rattle.chess_match.specs.declared.phase.Phase.TheVariants.{Hello, After}
 use Rattle.chess_match.specs.declared.state.Player.{Player}
 use Rattle.chess_match.specs.declared.state.Given.{Given}
 use Rattle.chess_match.specs.declared.state.Core.{Core}
+use Rattle.chess_match.specs.declared.texts.MoveTexts.{MoveTexts}
+use Rattle.chess_match.specs.ties.Texts.{AreOfLast}
 
 -- the name of an engine, by the items that it said
 unfoldable pub name_by : List Item → List ℕ
@@ -44,6 +46,7 @@ pub record Stands (r : Rules) (core : Core) (played : List Move) (m : Match) : T
   pub black : Keeps core.black m.black
   pub clocks : core.clocks ≡ clocks_of r.level m
   pub moves : played ≡ m.played
+  pub last : AreOfLast r core.last m.played
   pub untold : core.untold ≡ m.untold
   pub count : core.count ≡ m.count
   pub opened : core.opened ≡ m.opened
@@ -86,16 +89,18 @@ offered_core core White =
 offered_core core Black =
     record core { black = record { features = core.black.features; name = core.black.name; offers = true } }
 
--- the core once S's move is played
-abbrev pub played_core : Core → Colour → ℕ → Core
-played_core core White used = record core {
+-- the core once S's move is played, which has these texts
+abbrev pub played_core : Core → Colour → ℕ → MoveTexts → Core
+played_core core White used texts = record core {
   phase = After White;
+  last = Some texts;
   untold = Some Black;
   clocks = charged core.clocks White used;
   black = record { features = core.black.features; name = core.black.name; offers = false };
 }
-played_core core Black used = record core {
+played_core core Black used texts = record core {
   phase = After Black;
+  last = Some texts;
   untold = Some White;
   clocks = charged core.clocks Black used;
   white = record { features = core.white.features; name = core.white.name; offers = false };
