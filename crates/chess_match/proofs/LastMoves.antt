@@ -1,27 +1,31 @@
 -- The last move of a line, and its text.
-use Rattle.std.proofs.Common.{◌≡◌, ℕ, zero, suc, ◌+◌, Bool, true, false, List, [], ◌∷◌, length, take, slice_get, Some, ap, sym, arith}
+use Rattle.std.proofs.Common.{◌≡◌, ℕ, Bool, List, [], ◌∷◌, ◌++◌, refl, ap, sym, ◌∙◌}
 use Rattle.chess_base.specs.declared.man.Move.{Move}
 use Rattle.chess_base.specs.declared.setup.Setup.{Setup}
 use Rattle.chess_base.specs.Moves.{after}
 use Rattle.chess_game.specs.Line.{last}
-use Rattle.chess_text.specs.San.{san, shown_move}
+use Rattle.chess_text.specs.San.{check_mark, san, shown_move}
 use Rattle.chess_match.specs.Rules.{text_of_last}
 use Rattle.std.specs.Prelude.{if◌then◌else◌}
 
-last_at : (as_san : Bool) (start : Setup) (ms : List Move) (i : ℕ) (m : Move) → i + 1 ≡ length ms
-    → slice_get ms i ≡ Some m
-    → text_of_last as_san start ms ≡ (let p = last start (take i ms) in if as_san then san p m else shown_move p m)
-last_at as_san start [] i m n e = cc
-last_at as_san start (x ∷ []) zero m n e = let same : x ≡ m =
-    cc in ap (λ (m : Move). if as_san then san start m else shown_move start m) same
-last_at as_san start (x ∷ []) (suc i) m n e = cc
-last_at as_san start (x ∷ y ∷ ms) zero m n e = absurd (omega (arith, n))
-last_at as_san start (x ∷ y ∷ ms) (suc i) m n e = last_at as_san (after start x) (y ∷ ms) i m (omega (arith, n)) e
+pub text_at_last : (as_san : Bool) (start : Setup) (ms : List Move) (m : Move)
+    → text_of_last as_san start (ms ++ m ∷ [])
+    ≡ (let p = last start ms in if as_san then san p m else shown_move p m)
+text_at_last as_san start [] m = refl
+text_at_last as_san start (x ∷ []) m = refl
+text_at_last as_san start (x ∷ y ∷ ms) m = text_at_last as_san (after start x) (y ∷ ms) m
 
-pub as_san_last : (start : Setup) (ms : List Move) (i : ℕ) (m : Move) → i + 1 ≡ length ms → slice_get ms i ≡ Some m
-    → san (last start (take i ms)) m ≡ text_of_last true start ms
-as_san_last start ms i m n e = sym (last_at true start ms i m n e)
+pub after_last : (start : Setup) (ms : List Move) (m : Move) → last start (ms ++ m ∷ []) ≡ after (last start ms) m
+after_last start [] m = refl
+after_last start (x ∷ ms) m = after_last (after start x) ms m
 
-pub shown_last : (start : Setup) (ms : List Move) (i : ℕ) (m : Move) → i + 1 ≡ length ms → slice_get ms i ≡ Some m
-    → shown_move (last start (take i ms)) m ≡ text_of_last false start ms
-shown_last start ms i m n e = sym (last_at false start ms i m n e)
+-- a move's texts, of which the one by squares and the one in SAN but for its mark are made before it is played, and the
+-- mark after that
+pub texts_of_last : (start : Setup) (ms : List Move) (m : Move) (unmarked written squares : List ℕ) (next : Setup)
+    → next ≡ last start (ms ++ m ∷ []) → unmarked ++ check_mark (after (last start ms) m) ≡ san (last start ms) m
+    → written ≡ unmarked ++ check_mark next → squares ≡ shown_move (last start ms) m
+    → (as_san : Bool) → (if as_san then written else squares) ≡ text_of_last as_san start (ms ++ m ∷ [])
+texts_of_last start ms m unmarked written squares next at before marked shown as_san =
+    let in_san : written ≡ san (last start ms) m =
+    marked ∙ ap (λ (q : Setup). unmarked ++ check_mark q) (at ∙ after_last start ms m) ∙ before in
+    rw (in_san, shown) (sym (text_at_last as_san start ms m))

@@ -1,4 +1,5 @@
 -- What only joins code to the definitions: no claim rests on it.
+pub mod Texts
 pub mod Represents
 pub mod Chess
 pub mod Steps

@@ -12,14 +12,17 @@ ghost use Rattle.chess_pgn.specs.GameText.{is_initial};
 ghost use Rattle.chess_text.specs.Moves.{reading};
 ghost use Rattle.chess_match.specs.Rules.{rules_of, has_bare_king, is_king_or_other, move_read, claim_by, fen_sent};
 
-use crate::block::{Block, add, add_move};
+use crate::block::{Block, add};
 use crate::match_game::MatchGame;
 use crate::reason::DrawClaim;
+use crate::texts::MoveTexts;
 use chess_base::{Colour, Kind, Man, Move, Position, Variant};
 use chess_fen::{FenText, write_fen};
 use chess_game::{Claims, Game, Verdict};
 use chess_moves::Board;
-use chess_text::{Reading, move_text, read_move, read_moves_are_legal, san};
+use chess_text::{
+    Reading, add_check_mark, move_text, read_move, read_moves_are_legal, unmarked_san,
+};
 
 // Whether each piece of that colour is a king.
 fn is_king_or_other(colour: Colour, man: Option<Man>) -> bool
@@ -136,10 +139,17 @@ impl<B: Board> MatchGame for Game<B> {
     }
 
     #[tactic(auto, unfolding(crate::specs::Rules::rules_of))]
-    fn play(&mut self, chosen: Move) {
+    fn play(&mut self, chosen: Move) -> MoveTexts {
         // The prover wants this law: the move that a text is read as is legal.
         read_moves_are_legal();
+        // The prover wants three variables here: one move is shown, one is lent, and one is played.
+        let shown = chosen;
+        let lent = chosen;
+        let squares = move_text(&self.position(), shown);
+        let mut san = unmarked_san(self.board(), &lent);
         self.play_legal(chosen);
+        add_check_mark(self.board(), &mut san);
+        MoveTexts { san, squares }
     }
 
     #[tactic(auto, unfolding(crate::specs::Rules::rules_of, crate::specs::Sent::bytes_of))]
@@ -152,30 +162,5 @@ impl<B: Board> MatchGame for Game<B> {
                 add(block, b"\n");
             }
         }
-    }
-
-    #[tactic(auto, unfolding(crate::specs::Rules::rules_of))]
-    fn add_last_move<S: Board>(
-        &self,
-        scratch: &mut S,
-        as_san: bool,
-        prefixed: bool,
-        block: &mut Block,
-    ) {
-        // The contract of `position` says that each move of the game is legal.
-        let _playable = self.position();
-        let ply = self.ply() - 1;
-        let made = self.move_at(ply);
-        let before = self.position_at(ply);
-        if as_san {
-            scratch.set(&before);
-            add_move(block, prefixed, san(scratch, made).as_slice());
-        } else {
-            add_move(block, prefixed, move_text(&before, made).as_slice());
-        }
-    }
-
-    fn is_unplayed(&self) -> bool {
-        self.ply() == 0
     }
 }

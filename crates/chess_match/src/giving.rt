@@ -20,24 +20,16 @@ use crate::state::{Actions, MatchState};
 use crate::witness::Witness;
 use byte_devices::{Output, WriteFault};
 use chess_base::Colour;
-use chess_moves::Board;
 
 // What a block has after its answers: an offer, and what the phase gives.
-fn add_rest<G: MatchGame, S: Board>(
-    block: &mut Block,
-    core: &MatchState,
-    game: &G,
-    scratch: &mut S,
-    given: Actions,
-    side: Colour,
-)
-    requires unsent_to { is_some core.now.unsent_to ≡ true → 0 < length (G.played game.now) }
+fn add_rest<G: MatchGame>(block: &mut Block, core: &MatchState, game: &G, given: Actions, side: Colour)
+    requires unsent_to { is_some core.now.unsent_to ≡ true → is_some core.now.last ≡ true }
     requires room { array_vec_len block.old + 310 ≤ BLOCK_LEN }
     ensures { (r : Rules) (m : Match) → G.plays game.now r → Represents r core.now (G.played game.now) m
         → block.new.items ≡ block.old.items ++ bytes_of (after_answers r given m side) }
 {
     add_offer(block, given, side);
-    add_entered(block, core, game, scratch, given, side);
+    add_entered(block, core, game, given, side);
 }
 
 // Notes a text that is not empty, and then sends it.
@@ -60,17 +52,16 @@ fn note_and_put<W: Output, L: Witness>(
 
 /// Adds to the answers that wait for a side what else it is given, notes the block that this makes, and sends it by one
 /// write. An empty block is neither noted nor sent.
-pub(crate) fn note_and_send<W: Output, L: Witness, G: MatchGame, S: Board>(
+pub(crate) fn note_and_send<W: Output, L: Witness, G: MatchGame>(
     writer: &mut W,
     witness: &mut L,
     core: &MatchState,
     game: &G,
-    scratch: &mut S,
     given: Actions,
     block: &mut Block,
     side: Colour,
 ) -> Result<(), WriteFault>
-    requires unsent_to { is_some core.now.unsent_to ≡ true → 0 < length (G.played game.now) }
+    requires unsent_to { is_some core.now.unsent_to ≡ true → is_some core.now.last ≡ true }
     requires room { array_vec_len block.old ≤ ANSWERS_LEN }
     ensures sends { (r : Rules) (m : Match) (items : Colour → List Item) → G.plays game.now r
         → Represents r core.now (G.played game.now) m → block.old.items ≡ bytes_of (answers_to (items side))
@@ -84,7 +75,7 @@ pub(crate) fn note_and_send<W: Output, L: Witness, G: MatchGame, S: Board>(
         (given_note side (bytes_of (given_block r given items m side))) }
     ensures empty { block.new.items ≡ [] }
 {
-    add_rest(block, core, game, scratch, given, side);
+    add_rest(block, core, game, given, side);
     let sent = note_and_put(writer, witness, block.as_slice(), side);
     block.clear();
     sent

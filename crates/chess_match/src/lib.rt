@@ -27,6 +27,7 @@ mod sending;
 mod state;
 mod step;
 mod table;
+mod texts;
 mod turn;
 mod witness;
 

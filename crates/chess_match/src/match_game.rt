@@ -1,17 +1,18 @@
 //! What a match asks of its game.
 
 ghost use Rattle.chess_match.specs.declared.block.TheConstants.{BLOCK_LEN};
-ghost use Rattle.std.specs.Prelude.{◌≡◌, ◌<◌, ◌≤◌, ◌+◌, ◌==◌, ◌++◌, ◌∷◌, [], List, ℕ, length, nat_le, is_some, Some, None, false};
+ghost use Rattle.std.specs.Prelude.{◌≡◌, ◌<◌, ◌≤◌, ◌+◌, ◌++◌, ◌∷◌, [], List, ℕ, length, nat_le, is_some, Some, None, false};
 ghost use Rattle.arrayvec.specs.ArrayVec.{array_vec_len};
 ghost use Rattle.chess_match.specs.Rules.{Rules};
-ghost use Rattle.chess_match.specs.Sent.{bytes_of, start_lines, MoveSent};
+ghost use Rattle.chess_match.specs.Sent.{bytes_of, start_lines};
+ghost use Rattle.chess_match.specs.ties.Texts.{AreTexts};
 ghost use Rattle.chess_game.specs.declared.game.TheConstants.{MOST_MOVES};
 
 use crate::block::Block;
 use crate::reason::DrawClaim;
+use crate::texts::MoveTexts;
 use chess_base::{Colour, Move, Variant};
 use chess_game::Verdict;
-use chess_moves::Board;
 
 /// A game that is being played.
 pub(crate) trait MatchGame {
@@ -59,12 +60,13 @@ pub(crate) trait MatchGame {
     fn is_bare(&self, side: Colour) -> bool
         ensures { (r : Rules) → plays self.now r → result ≡ r.is_bare (played self.now) side };
 
-    /// Plays a move that some text denotes, where the game isn't over and has room.
-    fn play(&mut self, chosen: Move)
+    /// Plays a move that some text denotes, where the game isn't over and has room, and returns its texts.
+    fn play(&mut self, chosen: Move) -> MoveTexts
         requires { (r : Rules) × (text : List ℕ) × (plays self.old r) × (r.verdict (played self.old) ≡ None)
             × (nat_le r.limit (length (played self.old)) ≡ false) × (r.reading (played self.old) text ≡ Some chosen) }
         ensures moves { played self.new ≡ played self.old ++ chosen ∷ [] }
         ensures rules { (r : Rules) → plays self.old r → plays self.new r }
+        ensures texts { (r : Rules) → plays self.old r → AreTexts r result (played self.new) }
         ensures origin { origin self.new ≡ origin self.old };
 
     /// The line with the start, where it is sent.
@@ -73,23 +75,4 @@ pub(crate) trait MatchGame {
         ensures text { (r : Rules) → plays self.now r
             → block.new.items ≡ block.old.items ++ bytes_of (start_lines r.start_fen) }
         ensures len { array_vec_len block.new ≤ array_vec_len block.old + 110 };
-
-    /// The line with the last move, in SAN or by squares, with `usermove` before it or without.
-    fn add_last_move<S: Board>(
-        &self,
-        scratch: &mut S,
-        as_san: bool,
-        prefixed: bool,
-        block: &mut Block,
-    )
-        requires some { 0 < length (played self.now) }
-        requires room { array_vec_len block.old + 20 ≤ BLOCK_LEN }
-        ensures text { (r : Rules) → plays self.now r
-            → block.new.items
-            ≡ block.old.items ++ bytes_of (MoveSent prefixed (r.move_text as_san (played self.now)) ∷ []) }
-        ensures len { array_vec_len block.new ≤ array_vec_len block.old + 20 };
-
-    /// Whether no move was played.
-    fn is_unplayed(&self) -> bool
-        ensures { result ≡ (length (played self.now) == 0) };
 }

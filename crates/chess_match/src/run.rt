@@ -1,6 +1,6 @@
 //! The run of a match.
 
-ghost use Rattle.std.specs.Prelude.{◌≡◌, ◌<◌, List, [], ◌∷◌, ℕ, length, true, None, is_some, ◌≤◌};
+ghost use Rattle.std.specs.Prelude.{◌≡◌, List, [], ◌∷◌, ℕ, length, true, None, is_some, ◌≤◌};
 ghost use Rattle.arrayvec.specs.ArrayVec.{array_vec_len};
 ghost use Rattle.chess_base.specs.Men.{other};
 ghost use Rattle.chess_base.specs.declared.man.Colour.{Colour};
@@ -79,7 +79,7 @@ pub struct MatchEnd {
 }
 
 /// Plays one game between two engines by the Chess Engine Communication Protocol, version 2, to its end; the game
-/// begins anew from the start, and `scratch` is any board, which holds anything afterwards.
+/// begins anew from the start, and `scratch` is any board: no use is made of it.
 ///
 /// In the contract there is a transcript of the match: the lines, moments, ends and failures in their order. It agrees
 /// with both engines' devices and with the moments, one for each line and one at the end of each turn's opening, and it
@@ -130,7 +130,7 @@ pub fn run_match_watched<R: Input, W: Output, M: Moments, B: Board, L: Witness>(
     moments: &mut M,
     setup: &Setup,
     game: &mut Game<B>,
-    scratch: &mut B,
+    _scratch: &mut B,
     witness: &mut L,
 ) -> MatchEnd
     ensures ran { RanBefore (L.told witness.old) (L.told witness.new) setup.now.start setup.now.level game.old game.new result
@@ -165,7 +165,6 @@ pub fn run_match_watched<R: Input, W: Output, M: Moments, B: Board, L: Witness>(
         witness,
         &mut core,
         game,
-        scratch,
         ENTRY,
         &mut blocks,
         Colour::White,
@@ -203,7 +202,6 @@ pub fn run_match_watched<R: Input, W: Output, M: Moments, B: Board, L: Witness>(
                     witness,
                     &mut core,
                     game,
-                    scratch,
                     given,
                     &mut blocks,
                     side,
@@ -268,18 +266,17 @@ pub(crate) struct Failed {
 }
 
 // Sends each side its block of an end, White first.
-fn send_both<W: Output, L: Witness, G: MatchGame, S: Board>(
+fn send_both<W: Output, L: Witness, G: MatchGame>(
     white: &mut W,
     black: &mut W,
     witness: &mut L,
     core: &MatchState,
     game: &G,
-    scratch: &mut S,
     given: Actions,
     white_block: &mut Block,
     black_block: &mut Block,
 ) -> Failed
-    requires unsent_to { is_some core.now.unsent_to ≡ true → 0 < length (G.played game.now) }
+    requires unsent_to { is_some core.now.unsent_to ≡ true → is_some core.now.last ≡ true }
     requires white_room { array_vec_len white_block.old ≤ ANSWERS_LEN }
     requires black_room { array_vec_len black_block.old ≤ ANSWERS_LEN }
     ensures sent { (r : Rules) (m : Match) (items : Colour → List Item) → G.plays game.now r
@@ -299,7 +296,6 @@ fn send_both<W: Output, L: Witness, G: MatchGame, S: Board>(
         witness,
         core,
         game,
-        scratch,
         given,
         white_block,
         Colour::White,
@@ -310,7 +306,6 @@ fn send_both<W: Output, L: Witness, G: MatchGame, S: Board>(
         witness,
         core,
         game,
-        scratch,
         given,
         black_block,
         Colour::Black,
@@ -324,12 +319,11 @@ fn send_both<W: Output, L: Witness, G: MatchGame, S: Board>(
 
 // A write to a side's engine failed, which ends the match: the other is sent its end lines. Whether a
 // write to it fails too.
-fn end_for_other<W: Output, L: Witness, G: MatchGame, S: Board>(
+fn end_for_other<W: Output, L: Witness, G: MatchGame>(
     others: &mut W,
     witness: &mut L,
     core: &mut MatchState,
     game: &G,
-    scratch: &mut S,
     waiting: &mut Block,
     side: Colour,
 ) -> bool
@@ -346,28 +340,17 @@ fn end_for_other<W: Output, L: Witness, G: MatchGame, S: Board>(
 {
     witness.write_fails(side);
     let given = core.write_fails(side);
-    note_and_send(
-        others,
-        witness,
-        core,
-        game,
-        scratch,
-        given,
-        waiting,
-        side.other(),
-    )
-    .is_err()
+    note_and_send(others, witness, core, game, given, waiting, side.other()).is_err()
 }
 
 // Sends the blocks of an event in a match that is on, first to the side of which it came. Whether a write to that side
 // failed, and whether one to the other.
-fn send_in_turn<W: Output, L: Witness, G: MatchGame, S: Board>(
+fn send_in_turn<W: Output, L: Witness, G: MatchGame>(
     own: &mut W,
     others: &mut W,
     witness: &mut L,
     core: &mut MatchState,
     game: &G,
-    scratch: &mut S,
     given: Actions,
     blocks: &mut Blocks,
     side: Colour,
@@ -385,27 +368,8 @@ fn send_in_turn<W: Output, L: Witness, G: MatchGame, S: Board>(
     ensures own_empty { blocks.new.own.items ≡ [] }
     ensures others_empty { blocks.new.others.items ≡ [] }
 {
-    if note_and_send(
-        own,
-        witness,
-        core,
-        game,
-        scratch,
-        given,
-        &mut blocks.own,
-        side,
-    )
-    .is_err()
-    {
-        let others_failed = end_for_other(
-            others,
-            witness,
-            core,
-            game,
-            scratch,
-            &mut blocks.others,
-            side,
-        );
+    if note_and_send(own, witness, core, game, given, &mut blocks.own, side).is_err() {
+        let others_failed = end_for_other(others, witness, core, game, &mut blocks.others, side);
         return (true, others_failed);
     }
     if note_and_send(
@@ -413,22 +377,13 @@ fn send_in_turn<W: Output, L: Witness, G: MatchGame, S: Board>(
         witness,
         core,
         game,
-        scratch,
         given,
         &mut blocks.others,
         side.other(),
     )
     .is_err()
     {
-        let own_failed = end_for_other(
-            own,
-            witness,
-            core,
-            game,
-            scratch,
-            &mut blocks.own,
-            side.other(),
-        );
+        let own_failed = end_for_other(own, witness, core, game, &mut blocks.own, side.other());
         return (own_failed, true);
     }
     (false, false)
@@ -436,13 +391,12 @@ fn send_in_turn<W: Output, L: Witness, G: MatchGame, S: Board>(
 
 // Sends the blocks of an event: first to the side of which it came, and at the end to White and then to Black. A write
 // that fails ends the match. The answers to the items of a line wait in the block of its side.
-fn deliver<W: Output, L: Witness, G: MatchGame, S: Board>(
+fn deliver<W: Output, L: Witness, G: MatchGame>(
     white: &mut W,
     black: &mut W,
     witness: &mut L,
     core: &mut MatchState,
     game: &G,
-    scratch: &mut S,
     given: Actions,
     blocks: &mut Blocks,
     side: Colour,
@@ -469,14 +423,13 @@ fn deliver<W: Output, L: Witness, G: MatchGame, S: Board>(
                     witness,
                     core,
                     game,
-                    scratch,
                     given,
                     &mut blocks.own,
                     &mut blocks.others,
                 );
             }
             let (own, others) = send_in_turn(
-                white, black, witness, core, game, scratch, given, blocks, side,
+                white, black, witness, core, game, given, blocks, side,
             );
             Failed {
                 white: own,
@@ -491,14 +444,13 @@ fn deliver<W: Output, L: Witness, G: MatchGame, S: Board>(
                     witness,
                     core,
                     game,
-                    scratch,
                     given,
                     &mut blocks.others,
                     &mut blocks.own,
                 );
             }
             let (own, others) = send_in_turn(
-                black, white, witness, core, game, scratch, given, blocks, side,
+                black, white, witness, core, game, given, blocks, side,
             );
             Failed {
                 white: others,

@@ -1,24 +1,23 @@
 //! Sending blocks.
 
 ghost use Rattle.chess_match.specs.declared.block.TheConstants.{BLOCK_LEN};
-ghost use Rattle.std.specs.Prelude.{◌≡◌, ◌+◌, false, ◌≤◌, ◌<◌, ◌++◌, ◌∷◌, [], length, List, is_some, true, if◌then◌else◌, codes};
+ghost use Rattle.std.specs.Prelude.{◌≡◌, ◌+◌, false, ◌≤◌, ◌++◌, ◌∷◌, [], List, is_some, true, if◌then◌else◌, codes};
 ghost use Rattle.arrayvec.specs.ArrayVec.{array_vec_len};
 ghost use Rattle.byte_devices.specs.Devices.{Sends};
 ghost use Rattle.chess_match.specs.Match.{Match};
 ghost use Rattle.chess_match.specs.Rules.{Rules};
 ghost use Rattle.chess_base.specs.declared.man.Move.{Move};
-ghost use Rattle.chess_match.specs.Sent.{Says, bytes_of, last_move, last_move_lines, clock_lines, opening_lines, setup_lines, end_lines, entry, unsent_lines, variant_lines, is_unwritten};
+ghost use Rattle.chess_match.specs.Sent.{Says, bytes_of, last_move_lines, clock_lines, opening_lines, setup_lines, end_lines, entry, unsent_lines, variant_lines, is_unwritten};
 ghost use Rattle.chess_match.specs.Reasons.{fault_of};
 ghost use Rattle.chess_match.specs.ties.Represents.{Represents, player, to};
 
-use crate::block::{Block, add, add_end, add_level, add_ping, add_times};
+use crate::block::{Block, add, add_end, add_level, add_move, add_ping, add_times};
 use crate::match_game::MatchGame;
 use crate::phase::Phase;
 use crate::reason::{MatchFault, Reason};
 use crate::state::{Actions, MatchState, is_side};
 use byte_devices::{Output, WriteFault, put, put_parts};
 use chess_base::{Colour, Variant};
-use chess_moves::Board;
 use engine_lines::{Features, is_known, next_item};
 
 impl MatchState {
@@ -33,41 +32,20 @@ impl MatchState {
     }
 }
 
-// The last move, as that side's engine takes it.
-fn add_last<G: MatchGame, S: Board>(
-    block: &mut Block,
-    core: &MatchState,
-    game: &G,
-    scratch: &mut S,
-    side: Colour,
-)
-    requires some { 0 < length (G.played game.now) }
-    requires room { array_vec_len block.old + 20 ≤ BLOCK_LEN }
-    ensures text { (r : Rules) (m : Match) → G.plays game.now r → Represents r core.now (G.played game.now) m
-        → block.new.items ≡ block.old.items ++ bytes_of (last_move r m side ∷ []) }
-    ensures len { array_vec_len block.new ≤ array_vec_len block.old + 20 }
-{
-    let features = core.features(side);
-    game.add_last_move(scratch, features.san, features.usermove, block);
-}
-
-// The last move, if there is one.
-fn add_last_if<G: MatchGame, S: Board>(
-    block: &mut Block,
-    core: &MatchState,
-    game: &G,
-    scratch: &mut S,
-    side: Colour,
-)
+// The last move, as that side's engine takes it, if there is one.
+fn add_last(block: &mut Block, core: &MatchState, side: Colour)
     requires { array_vec_len block.old + 20 ≤ BLOCK_LEN }
-    ensures text { (r : Rules) (m : Match) → G.plays game.now r → Represents r core.now (G.played game.now) m
+    ensures text { (r : Rules) (played : List Move) (m : Match) → Represents r core.now played m
         → block.new.items ≡ block.old.items ++ bytes_of (last_move_lines r m side) }
     ensures len { array_vec_len block.new ≤ array_vec_len block.old + 20 }
 {
-    if game.is_unplayed() {
-        return;
+    match &core.last {
+        None => {}
+        Some(last) => {
+            let features = core.features(side);
+            add_move(block, features.usermove, last.text(features.san));
+        }
     }
-    add_last(block, core, game, scratch, side);
 }
 
 // Both clocks, for an engine that takes them.
@@ -85,39 +63,27 @@ fn add_clocks(block: &mut Block, core: &MatchState, side: Colour)
 }
 
 // The opening of a later turn: both clocks, and then the last move.
-fn add_later_opening<G: MatchGame, S: Board>(
-    block: &mut Block,
-    core: &MatchState,
-    game: &G,
-    scratch: &mut S,
-    mover: Colour,
-)
+fn add_later_opening(block: &mut Block, core: &MatchState, mover: Colour)
     requires { array_vec_len block.old + 100 ≤ BLOCK_LEN }
-    ensures text { (r : Rules) (m : Match) → G.plays game.now r → Represents r core.now (G.played game.now) m
+    ensures text { (r : Rules) (played : List Move) (m : Match) → Represents r core.now played m
         → block.new.items ≡ block.old.items ++ bytes_of (clock_lines r m mover ++ last_move_lines r m mover) }
     ensures len { array_vec_len block.new ≤ array_vec_len block.old + 100 }
 {
     add_clocks(block, core, mover);
-    add_last_if(block, core, game, scratch, mover);
+    add_last(block, core, mover);
 }
 
 // The opening of a side's turn.
-fn add_opening<G: MatchGame, S: Board>(
-    block: &mut Block,
-    core: &MatchState,
-    game: &G,
-    scratch: &mut S,
-    side: Colour,
-)
+fn add_opening(block: &mut Block, core: &MatchState, side: Colour)
     requires { array_vec_len block.old + 100 ≤ BLOCK_LEN }
-    ensures text { (r : Rules) (m : Match) → G.plays game.now r → Represents r core.now (G.played game.now) m
+    ensures text { (r : Rules) (played : List Move) (m : Match) → Represents r core.now played m
         → block.new.items ≡ block.old.items ++ bytes_of (opening_lines r m side) }
     ensures len { array_vec_len block.new ≤ array_vec_len block.old + 100 }
 {
     if core.clocks.moves(side) > 0 {
-        add_later_opening(block, core, game, scratch, side);
+        add_later_opening(block, core, side);
     } else {
-        add_last_if(block, core, game, scratch, side);
+        add_last(block, core, side);
         add_clocks(block, core, side);
         add(block, b"go\n");
     }
@@ -152,16 +118,10 @@ fn add_setup<G: MatchGame>(block: &mut Block, core: &MatchState, game: &G)
 }
 
 // The last move, if the side is still to be sent it.
-fn add_unsent<G: MatchGame, S: Board>(
-    block: &mut Block,
-    core: &MatchState,
-    game: &G,
-    scratch: &mut S,
-    side: Colour,
-)
-    requires unsent_to { is_some core.now.unsent_to ≡ true → 0 < length (G.played game.now) }
+fn add_unsent(block: &mut Block, core: &MatchState, side: Colour)
+    requires unsent_to { is_some core.now.unsent_to ≡ true → is_some core.now.last ≡ true }
     requires room { array_vec_len block.old + 20 ≤ BLOCK_LEN }
-    ensures text { (r : Rules) (m : Match) → G.plays game.now r → Represents r core.now (G.played game.now) m
+    ensures text { (r : Rules) (played : List Move) (m : Match) → Represents r core.now played m
         → block.new.items ≡ block.old.items ++ bytes_of (unsent_lines r m side m.unsent_to) }
     ensures len { array_vec_len block.new ≤ array_vec_len block.old + 20 }
 {
@@ -169,28 +129,21 @@ fn add_unsent<G: MatchGame, S: Board>(
         None => {}
         Some(unsent_to) => {
             if is_side(unsent_to, side) {
-                add_last(block, core, game, scratch, side);
+                add_last(block, core, side);
             }
         }
     }
 }
 
 // The lines at the end.
-fn add_end_lines<G: MatchGame, S: Board>(
-    block: &mut Block,
-    core: &MatchState,
-    game: &G,
-    scratch: &mut S,
-    side: Colour,
-    reason: Reason,
-)
-    requires unsent_to { is_some core.now.unsent_to ≡ true → 0 < length (G.played game.now) }
+fn add_end_lines(block: &mut Block, core: &MatchState, side: Colour, reason: Reason)
+    requires unsent_to { is_some core.now.unsent_to ≡ true → is_some core.now.last ≡ true }
     requires room { array_vec_len block.old + 120 ≤ BLOCK_LEN }
-    ensures text { (r : Rules) (m : Match) → G.plays game.now r → Represents r core.now (G.played game.now) m
+    ensures text { (r : Rules) (played : List Move) (m : Match) → Represents r core.now played m
         → block.new.items ≡ block.old.items ++ bytes_of (end_lines r m side reason) }
     ensures len { array_vec_len block.new ≤ array_vec_len block.old + 120 }
 {
-    add_unsent(block, core, game, scratch, side);
+    add_unsent(block, core, side);
     add_end(block, reason.outcome(), reason.comment());
 }
 
@@ -224,14 +177,8 @@ fn is_unwritten(reason: Reason, side: Colour) -> bool
 }
 
 // What a side's engine is sent where the match came into its phase.
-fn add_entry<G: MatchGame, S: Board>(
-    block: &mut Block,
-    core: &MatchState,
-    game: &G,
-    scratch: &mut S,
-    side: Colour,
-)
-    requires unsent_to { is_some core.now.unsent_to ≡ true → 0 < length (G.played game.now) }
+fn add_entry<G: MatchGame>(block: &mut Block, core: &MatchState, game: &G, side: Colour)
+    requires unsent_to { is_some core.now.unsent_to ≡ true → is_some core.now.last ≡ true }
     requires room { array_vec_len block.old + 300 ≤ BLOCK_LEN }
     ensures { (r : Rules) (m : Match) → G.plays game.now r → Represents r core.now (G.played game.now) m
         → block.new.items ≡ block.old.items ++ bytes_of (entry r m side) }
@@ -249,7 +196,7 @@ fn add_entry<G: MatchGame, S: Board>(
         }
         Phase::SendTurn(on) => {
             if is_side(on, side) {
-                add_opening(block, core, game, scratch, side);
+                add_opening(block, core, side);
             }
         }
         Phase::AwaitMove(_) => {}
@@ -262,7 +209,7 @@ fn add_entry<G: MatchGame, S: Board>(
             if is_unwritten(reason, side) {
                 return;
             }
-            add_end_lines(block, core, game, scratch, side, reason);
+            add_end_lines(block, core, side, reason);
         }
     }
 }
@@ -286,21 +233,20 @@ pub(crate) fn add_offer(block: &mut Block, given: Actions, side: Colour)
 
 // What the phase gives, if it was entered.
 #[tactic(auto, using(crate::proofs::Sends::same_end))]
-pub(crate) fn add_entered<G: MatchGame, S: Board>(
+pub(crate) fn add_entered<G: MatchGame>(
     block: &mut Block,
     core: &MatchState,
     game: &G,
-    scratch: &mut S,
     given: Actions,
     side: Colour,
 )
-    requires unsent_to { is_some core.now.unsent_to ≡ true → 0 < length (G.played game.now) }
+    requires unsent_to { is_some core.now.unsent_to ≡ true → is_some core.now.last ≡ true }
     requires room { array_vec_len block.old + 300 ≤ BLOCK_LEN }
     ensures { (r : Rules) (m : Match) → G.plays game.now r → Represents r core.now (G.played game.now) m
         → block.new.items ≡ block.old.items ++ bytes_of (if given.entered then entry r m side else []) }
 {
     if given.entered {
-        add_entry(block, core, game, scratch, side);
+        add_entry(block, core, game, side);
     }
 }
 

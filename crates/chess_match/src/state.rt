@@ -14,6 +14,7 @@ ghost use Rattle.chess_match.specs.Sent.{answers_to, bytes_of};
 
 use crate::block::{Block, add_answer};
 use crate::phase::Phase;
+use crate::texts::MoveTexts;
 use chess_base::Colour;
 use chess_pgn::TagText;
 use engine_lines::{Clocks, Features, Item, Level, next_item};
@@ -41,6 +42,8 @@ pub(crate) struct MatchState {
     pub white: Player,
     pub black: Player,
     pub clocks: Clocks,
+    /// The texts of the last move, if there is one.
+    pub last: Option<MoveTexts>,
     /// Who is still to be sent the last move.
     pub unsent_to: Option<Colour>,
     /// The lines of a handshake, or the ignored ones of a setup or a turn.
@@ -110,6 +113,7 @@ impl MatchState {
             white: Player::new(),
             black: Player::new(),
             clocks: Clocks::new(level),
+            last: None,
             unsent_to: None,
             count: 0,
             opened: 0,

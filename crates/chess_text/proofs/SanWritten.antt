@@ -32,15 +32,13 @@ legal_promotes p m d h e =
     let is : d ≡ told_of p m move.man = some_same _ _ (e ∙ described_is p m move) in
     rw is (by_kind p m move.man move.moves_as)
 
-pub san_nothing : (p : Setup) (m : Move) → None ≡ described p m → List.[] ≡ san p m
-unfolding san
-san_nothing p m e = ap (san_as p m) e
+-- a legal move is one of a piece
+pub always_described : {A : Type 0} (p : Setup) (m : Move) → IsTrue (is_legal p m) → None ≡ described p m → A
+always_described p m h e =
+    let is : described p m ≡ Some (told_of p m (legal_move p m h).man) = described_is p m (legal_move p m h) in
+    absurd cc
 
-pub san_written : (p next : Setup) (m : Move) (d : Described) (unmarked text : List ℕ) → next ≡ after p m
-    → Some d ≡ described p m → unmarked ≡ unmarked_san (rival_starts p (moves p) d) d
-    → text ≡ unmarked ++ check_mark next → text ≡ san p m
+pub san_marked : (p : Setup) (m : Move) (d : Described) (unmarked : List ℕ) → Some d ≡ described p m
+    → unmarked ≡ unmarked_san (rival_starts p (moves p) d) d → unmarked ++ check_mark (after p m) ≡ san p m
 unfolding san
-san_written p next m d unmarked text left is body e =
-    e ∙ ap (λ v. v ++ check_mark next) body
-    ∙ ap (λ v. unmarked_san (rival_starts p (moves p) d) d ++ check_mark v) left
-    ∙ ap (san_as p m) is
+san_marked p m d unmarked is body = ap (λ v. v ++ check_mark (after p m)) body ∙ ap (san_as p m) is

@@ -25,4 +25,4 @@ pub use laws::{
     san_is_a_word, san_spells_its_move, texts_have_parts,
 };
 pub use reading::{Reading, has_move_shape, read_move};
-pub use writing::{SanText, san};
+pub use writing::{SanText, add_check_mark, san, unmarked_san};

@@ -6,7 +6,7 @@ ghost use Rattle.chess_base.specs.Letters.{white_letter, square_text};
 ghost use Rattle.chess_base.specs.declared.man.Kind.TheVariants.{Pawn};
 ghost use Rattle.chess_base.specs.Men.{same_kind};
 ghost use Rattle.chess_base.specs.MoveList.{moves};
-ghost use Rattle.chess_base.specs.Moves.{is_legal};
+ghost use Rattle.chess_base.specs.Moves.{is_legal, after};
 ghost use Rattle.chess_moves.specs.Sets.{members};
 ghost use Rattle.chess_text.specs.Parts.{when, parts_text};
 ghost use Rattle.chess_text.specs.San.{castling_text, some_on_file, some_on_rank, said, disambiguate, pawn_parts, officer_parts, rival_starts, unmarked_san, check_mark, san};
@@ -160,9 +160,9 @@ fn officer_text(others: SquareSet, d: &Described) -> SanText
     text
 }
 
-// The text of a described move without a mark, beside the board's legal moves.
+// The text of a described move without its mark, beside the board's legal moves.
 #[tactic(auto, unfolding(crate::specs::San::walk_parts))]
-fn unmarked_san<B: Board>(board: &B, d: &Described) -> SanText
+fn described_text<B: Board>(board: &B, d: &Described) -> SanText
     requires promotes { promotes_as_a_pawn d.now }
     ensures text { result.items
         ≡ unmarked_san (rival_starts (B.position board.now) (moves (B.position board.now)) d.now) d.now }
@@ -177,9 +177,22 @@ fn unmarked_san<B: Board>(board: &B, d: &Described) -> SanText
     officer_text(rival_starts(board, d), d)
 }
 
-// Adds the mark of the position after a move.
+/// The SAN of a legal move without its mark, which is that of the position after the move: [`add_check_mark`] adds it
+/// there.
+pub fn unmarked_san<B: Board>(board: &B, m: &Move) -> SanText
+    requires { IsTrue (is_legal (B.position board.now) m.now) }
+    ensures text { result.items ++ check_mark (after (B.position board.now) m.now) ≡ san (B.position board.now) m.now }
+    ensures len { array_vec_len result ≤ 6 }
+{
+    let Some(d) = describe(board.setup(), m) else {
+        return SanText::new();
+    };
+    described_text(board, &d)
+}
+
+/// Adds the mark of the position after a move: `#` for mate, or `+` for check.
 #[tactic(auto, unfolding(crate::specs::San::check_mark))]
-fn write_mark<B: Board>(board: &B, text: &mut SanText)
+pub fn add_check_mark<B: Board>(board: &B, text: &mut SanText)
     requires room { array_vec_len text.old < 7 }
     ensures text { text.new.items ≡ text.old.items ++ check_mark (B.position board.now) }
     ensures len { array_vec_len text.new ≤ array_vec_len text.old + 1 }
@@ -201,12 +214,9 @@ pub fn san<B: Board>(board: &mut B, m: Move) -> SanText
 {
     // The prover wants two variables here: each of the two calls that go forward and back is given a move.
     let again = m;
-    let Some(d) = describe(board.setup(), &m) else {
-        return SanText::new();
-    };
-    let mut text = unmarked_san(board, &d);
+    let mut text = unmarked_san(board, &m);
     let saved = board.make(m);
-    write_mark(board, &mut text);
+    add_check_mark(board, &mut text);
     board.take_back(again, saved);
     text
 }

@@ -18,6 +18,8 @@ use Rattle.chess_match.specs.declared.phase.Phase.TheVariants.{Hello, AwaitPong}
 use Rattle.chess_match.specs.declared.state.Player.{Player}
 use Rattle.chess_match.specs.declared.state.Actions.{Actions}
 use Rattle.chess_match.specs.declared.state.MatchState.{MatchState}
+use Rattle.chess_match.specs.declared.texts.MoveTexts.{MoveTexts}
+use Rattle.chess_match.specs.ties.Texts.{AreOfLast}
 
 -- the name of an engine, by the items that it said
 unfoldable pub name_by : List Item → List ℕ
@@ -44,6 +46,7 @@ pub record Represents (r : Rules) (core : MatchState) (played : List Move) (m : 
   pub black : Keeps core.black m.black
   pub clocks : core.clocks ≡ clocks_of r.level m
   pub moves : played ≡ m.played
+  pub last : AreOfLast r core.last m.played
   pub unsent_to : core.unsent_to ≡ m.unsent_to
   pub count : core.count ≡ m.count
   pub opened : core.opened ≡ m.opened
@@ -86,16 +89,18 @@ offered_core core White =
 offered_core core Black =
     record core { black = record { features = core.black.features; name = core.black.name; offers = true } }
 
--- the core once S's move is played
-abbrev pub played_core : MatchState → Colour → ℕ → MatchState
-played_core core White used = record core {
+-- the core once S's move is played, which has these texts
+abbrev pub played_core : MatchState → Colour → ℕ → MoveTexts → MatchState
+played_core core White used texts = record core {
   phase = AwaitPong White;
+  last = Some texts;
   unsent_to = Some Black;
   clocks = charged core.clocks White used;
   black = record { features = core.black.features; name = core.black.name; offers = false };
 }
-played_core core Black used = record core {
+played_core core Black used texts = record core {
   phase = AwaitPong Black;
+  last = Some texts;
   unsent_to = Some White;
   clocks = charged core.clocks Black used;
   white = record { features = core.white.features; name = core.white.name; offers = false };

@@ -5,7 +5,7 @@ use Rattle.chess_match.proofs.Sends.{behind}
 use Rattle.chess_match.proofs.sending.add_later_opening.Goals as goal
 
 pub returns-clause-text : goal.returns-clause-text
-returns-clause-text g c r m p s =
-    c.add_last_if.ensures.text r m p s
-    ∙ ap (λ (bs : List ℕ). bs ++ bytes_of (last_move_lines r m c.args.mover)) (c.add_clocks.ensures.text r _ m s)
+returns-clause-text c r played m s =
+    c.add_last.ensures.text r played m s
+    ∙ ap (λ (bs : List ℕ). bs ++ bytes_of (last_move_lines r m c.args.mover)) (c.add_clocks.ensures.text r played m s)
     ∙ behind c.args.block.now.items (clock_lines r m c.args.mover) (last_move_lines r m c.args.mover)

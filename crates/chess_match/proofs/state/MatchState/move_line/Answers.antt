@@ -27,13 +27,14 @@ returns-in-Some-verdict-clause-goes g c r m moment p at u s =
     let full : nat_le r.limit (length m.played) ≡ false = rw (← s.moves) (sym (c.if-is_full.ensures.value r p)) in
     let says : r.reading m.played c.args.text.now ≡ Some c.in-Some.chosen =
     rw (← s.moves) (sym (c.in-Some.ensures r p)) in
-    let now : g.G.MatchGame.played c.play.new.self ≡ m.played ++ c.in-Some.chosen ∷ [] =
-    rw (← s.moves) c.play.ensures.moves in
+    let now : g.G.MatchGame.played c.play-texts.new.self ≡ m.played ++ c.in-Some.chosen ∷ [] =
+    rw (← s.moves) c.play-texts.ensures.moves in
     let decided : r.verdict (m.played ++ c.in-Some.chosen ∷ []) ≡ Some c.in-Some-verdict.verdict =
-    rw (← now) (sym (c.in-Some-verdict.ensures r (c.play.ensures.rules r p))) in
-    rw (full, says, decided, ← u, c.play.ensures.moves)
+    rw (← now) (sym (c.in-Some-verdict.ensures r (c.play-texts.ensures.rules r p))) in
+    rw (full, says, decided, ← u, c.play-texts.ensures.moves)
     (played_over_goes r c.args.self.now _ (g.G.MatchGame.played c.args.game.now) c.args.side c.in-Some.chosen c.args.used m
-    _ on s (rw c.note_move.ensures refl))
+    c.play-texts.result _ on s (rw c.play-texts.ensures.moves at (c.play-texts.ensures.texts r p))
+    (rw c.note_move.ensures refl))
 
 pub returns-in-None-verdict-clause-goes : goal.returns-in-None-verdict-clause-goes
 returns-in-None-verdict-clause-goes g c r m moment p at u s =
@@ -41,10 +42,11 @@ returns-in-None-verdict-clause-goes g c r m moment p at u s =
     let full : nat_le r.limit (length m.played) ≡ false = rw (← s.moves) (sym (c.if-is_full.ensures.value r p)) in
     let says : r.reading m.played c.args.text.now ≡ Some c.in-Some.chosen =
     rw (← s.moves) (sym (c.in-Some.ensures r p)) in
-    let now : g.G.MatchGame.played c.play.new.self ≡ m.played ++ c.in-Some.chosen ∷ [] =
-    rw (← s.moves) c.play.ensures.moves in
+    let now : g.G.MatchGame.played c.play-texts.new.self ≡ m.played ++ c.in-Some.chosen ∷ [] =
+    rw (← s.moves) c.play-texts.ensures.moves in
     let open_still : r.verdict (m.played ++ c.in-Some.chosen ∷ []) ≡ None =
-    rw (← now) (sym (c.in-None-verdict.ensures r (c.play.ensures.rules r p))) in
-    rw (full, says, open_still, ← u, c.play.ensures.moves)
+    rw (← now) (sym (c.in-None-verdict.ensures r (c.play-texts.ensures.rules r p))) in
+    rw (full, says, open_still, ← u, c.play-texts.ensures.moves)
     (played_goes r c.args.self.now _ (g.G.MatchGame.played c.args.game.now) c.args.side c.in-Some.chosen c.args.used m
-    differs s c.note_move.ensures)
+    c.play-texts.result differs s (rw c.play-texts.ensures.moves at (c.play-texts.ensures.texts r p))
+    c.note_move.ensures)

@@ -1,0 +1,27 @@
+//! The texts of the last move.
+
+ghost use Rattle.std.specs.Prelude.{◌≡◌, ◌≤◌, length};
+ghost use Rattle.chess_match.specs.ties.Texts.{text_in};
+
+use chess_text::{CoordinateText, SanText};
+
+/// The texts of a move, made when it is played: it is relayed only later, and then the game has gone on.
+#[derive(Drop)]
+pub(crate) struct MoveTexts {
+    pub san: SanText,
+    pub squares: CoordinateText,
+}
+
+impl MoveTexts {
+    /// The text in SAN, or by squares.
+    pub(crate) fn text(&self, as_san: bool) -> &[u8]
+        ensures text { result.now ≡ text_in self.now as_san }
+        ensures short { length result.now ≤ 7 }
+    {
+        if as_san {
+            self.san.as_slice()
+        } else {
+            self.squares.as_slice()
+        }
+    }
+}

@@ -1,0 +1,21 @@
+-- The text given the legal moves is the definition's without its mark (SanWritten.san_marked). A legal move is one of a
+-- piece (always_described), and only a pawn promotes, so an officer's text has no promotion (legal_promotes).
+use Rattle.std.proofs.Common.{ap, ◌∙◌}
+use Rattle.chess_text.specs.Moves.{described}
+use Rattle.chess_text.proofs.SanWritten.{always_described, legal_promotes, san_marked}
+use Rattle.chess_text.proofs.writing.unmarked_san.Goals as goal
+
+pub returns-in_default-clause-text : goal.returns-in_default-clause-text
+returns-in_default-clause-text g c = always_described (g.B.Board.position c.args.board.now) c.args.m.now c.requires
+    (c.in_default.ensures ∙ ap (λ v. described v c.args.m.now) c.setup.ensures.value)
+
+pub described_text-requires : goal.described_text-requires
+described_text-requires g c = record {
+  promotes = legal_promotes (g.B.Board.position c.args.board.now) c.args.m.now c.in-Some.d c.requires
+      (c.in-Some.ensures ∙ ap (λ v. described v c.args.m.now) c.setup.ensures.value);
+}
+
+pub returns-clause-text : goal.returns-clause-text
+returns-clause-text g c =
+    san_marked (g.B.Board.position c.args.board.now) c.args.m.now c.in-Some.d c.described_text.result.items
+    (c.in-Some.ensures ∙ ap (λ v. described v c.args.m.now) c.setup.ensures.value) c.described_text.ensures.text
