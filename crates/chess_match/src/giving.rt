@@ -22,7 +22,13 @@ use byte_devices::{Output, WriteFault};
 use chess_base::Colour;
 
 // What a block has after its answers: an offer, and what the phase gives.
-fn add_rest<G: MatchGame>(block: &mut Block, core: &MatchState, game: &G, given: Actions, side: Colour)
+fn add_rest<G: MatchGame>(
+    block: &mut Block,
+    core: &MatchState,
+    game: &G,
+    given: Actions,
+    side: Colour,
+)
     requires unsent_to { is_some core.now.unsent_to ≡ true → is_some core.now.last ≡ true }
     requires room { array_vec_len block.old + 310 ≤ BLOCK_LEN }
     ensures { (r : Rules) (m : Match) → G.plays game.now r → Represents r core.now (G.played game.now) m
